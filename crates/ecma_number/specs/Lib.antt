@@ -1,0 +1,3 @@
+pub mod JsNumber
+pub mod Numeral
+pub mod SafeInt
