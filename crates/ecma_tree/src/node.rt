@@ -1,0 +1,62 @@
+ghost use Rattle.std.specs.Prelude.{◌≡◌, []};
+
+use crate::kind::Kind;
+use crate::span::{DUMMY_SP, Span};
+use item_list::ItemList;
+use std::alloc::Global;
+
+/// A node of the tree.
+#[derive(Debug, Drop)]
+pub struct Node {
+    /// Where it stands, from its first token to its last.
+    pub span: Span,
+    pub kind: Kind,
+    pub children: Nodes,
+}
+
+/// Nodes, which contracts see as a list.
+pub type Nodes = ItemList<Node>;
+
+/// A node of the kind [`Kind::Module`].
+pub type Module = Node;
+
+/// A node that stands in the body of a module: a statement or a module declaration.
+pub type ModuleItem = Node;
+
+/// A node that is a statement or a declaration.
+pub type Stmt = Node;
+
+/// A node that is an expression.
+pub type Expr = Node;
+
+/// A node that is a binding pattern.
+pub type Pat = Node;
+
+impl Node {
+    ghost use Rattle.ecma_tree.specs.Nodes.{node_of};
+
+    /// A node of these parts.
+    pub fn new(span: Span, kind: Kind, children: Nodes) -> Node
+        ensures { result ≡ node_of span kind children }
+    {
+        Node {
+            span,
+            kind,
+            children,
+        }
+    }
+
+    /// The missing child.
+    pub fn absent(alloc: Global) -> Node
+        ensures { result ≡ node_of DUMMY_SP Kind.Absent [] }
+    {
+        Node::new(DUMMY_SP, Kind::Absent, Nodes::new(alloc))
+    }
+
+    /// A list of nodes, as one child.
+    pub fn list(items: Nodes) -> Node
+        ensures { result ≡ node_of DUMMY_SP Kind.List items }
+    {
+        Node::new(DUMMY_SP, Kind::List, items)
+    }
+}

@@ -1,0 +1,84 @@
+ghost use Rattle.std.specs.Prelude.{◌≡◌, ◌↔◌, ◌-◌, ◌<◌, ◌≤◌, IsErr, IfOk, OnErr, slice_get, slice_set, length, replicate, None, Some};
+
+use crate::context::{Mark, SyntaxContext};
+use crate::error::Spent;
+use std::marker::Model;
+
+const SLOTS: usize = 5;
+
+/// Gives marks, each once, as long as some are left; and keeps for each of the five helpers
+/// whether it is used, and in which context.
+///
+/// It was made with a number. The marks that it has given are those with a number above
+/// `left()` and at most that one.
+#[derive(Debug, Drop)]
+pub struct Session {
+    total: u32,
+    left: u32,
+    slots: [Option<(SyntaxContext, bool)>; SLOTS],
+}
+
+impl Model for Session {
+    ghost use Rattle.std.specs.Prelude.{◌≤◌};
+    ghost use Rattle.ecma_tree.specs.Sessions.{SessionState};
+
+    ghost Value = { SessionState };
+
+    ghost view = { λ session. record { total = session.total; left = session.left; slots = session.slots } };
+
+    ghost invariant = { λ session. session.left ≤ session.total };
+}
+
+impl Session {
+    ghost use Rattle.ecma_tree.specs.Sessions.{fresh_session, drawn, with_slot, HasGiven};
+
+    /// A session with so many marks, and nothing in its slots.
+    pub fn new(left: u32) -> Session
+        ensures { result ≡ fresh_session left }
+    {
+        Session {
+            total: left,
+            left,
+            slots: [None; SLOTS],
+        }
+    }
+
+    /// How many marks are left.
+    pub fn left(&self) -> u32
+        ensures { result ≡ self.now.left }
+    {
+        self.left
+    }
+
+    /// Gives the mark whose number is how many are left, and has one less then.
+    /// `Spent` comes exactly where none is left, and changes nothing.
+    pub fn fresh_mark(&mut self) -> Result<Mark, Spent>
+        ensures spent { IsErr result ↔ (self.old.left ≡ 0) }
+        ensures mark { IfOk result (λ mark. mark ≡ self.old.left) }
+        ensures session { self.new ≡ drawn self.old }
+    {
+        if self.left == 0 {
+            return Err(Spent);
+        }
+        let mark = Mark::new(self.left);
+        self.left -= 1;
+        Ok(mark)
+    }
+
+    /// What [`Session::set_slot`] last put into the slot `n`, counted from 0; none where nothing was put there.
+    pub fn slot(&self, n: usize) -> Option<(SyntaxContext, bool)>
+        requires { n < 5 }
+        ensures { slice_get self.now.slots n ≡ Some result }
+    {
+        self.slots[n]
+    }
+
+    /// Puts a context that this session gave the mark of into the slot `n`, and whether it is used.
+    pub fn set_slot(&mut self, n: usize, ctxt: SyntaxContext, used: bool)
+        requires slot { n < 5 }
+        requires given { HasGiven self.old ctxt }
+        ensures { self.new ≡ with_slot self.old n ctxt used }
+    {
+        self.slots[n] = Some((ctxt, used));
+    }
+}
