@@ -1,0 +1,6 @@
+pub mod Text
+pub mod Blanks
+pub mod Keys
+pub mod Punctuators
+pub mod Numerals
+pub mod Tokens

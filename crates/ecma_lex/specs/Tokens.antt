@@ -1,0 +1,57 @@
+-- Terminals: skip blanks and comments, then take the longest token of a kind.
+use Rattle.std.specs.Prelude.{◌≤◌, ℕ, Bool, ◌&&◌, ◌||◌, List, length, if◌then◌else◌, ◌==◌, Option, Some, None, is_some, Result, Ok, Err, codes}
+use Rattle.ecma_lex.specs.Text.{IsPiece}
+use Rattle.ecma_lex.specs.Blanks.{skipped}
+use Rattle.ecma_lex.specs.Keys.{key_end, name_end, word_end}
+use Rattle.ecma_lex.specs.Punctuators.{punct_end}
+use Rattle.ecma_lex.specs.Numerals.{num_end}
+use Rattle.ecma_lex.specs.declared.blanks.Skipped.{Skipped}
+use Rattle.ecma_lex.specs.declared.tokens.Token.{Token}
+use Rattle.ecma_lex.specs.declared.tokens.NoToken.{NoToken}
+
+-- the token that ends there, or none behind what was skipped
+abbrev pub found : Skipped → Option ℕ → Result Token NoToken
+found before None = Err (record { at = before.to })
+found before (Some next) = Ok (record { start = before.to; next = next; new_line = before.new_line })
+
+-- what stands at a place behind blanks and comments, where `find` says where a token ends
+abbrev pub term : (List ℕ → ℕ → Option ℕ) → List ℕ → ℕ → Result Token NoToken
+term find text i = let before = skipped text i in found before (if before.closed then find text before.to else None)
+
+unfoldable pub key : List ℕ → ℕ → Result Token NoToken
+key text i = term key_end text i
+
+unfoldable pub name : List ℕ → ℕ → Result Token NoToken
+name text i = term name_end text i
+
+unfoldable pub word : List ℕ → ℕ → List ℕ → Result Token NoToken
+word text i wanted = term (word_end wanted) text i
+
+unfoldable pub punct : List ℕ → ℕ → List ℕ → Result Token NoToken
+punct text i punctuator = term (punct_end punctuator) text i
+
+unfoldable pub num : List ℕ → ℕ → Result Token NoToken
+num text i = term num_end text i
+
+-- the end of a text is an empty token there
+abbrev pub text_end : List ℕ → ℕ → Option ℕ
+text_end text i = if i == length text then Some i else None
+
+unfoldable pub end_of_text : List ℕ → ℕ → Result Token NoToken
+end_of_text text i = term text_end text i
+
+-- whether a statement may end with no `;` there: before a new line, the end of the text or `}`
+abbrev pub may_end : List ℕ → Skipped → Bool
+may_end text before = before.closed && (before.new_line || (before.to == length text || is_some (punct_end (codes "}") text before.to)))
+
+abbrev pub or_nothing : List ℕ → ℕ → Skipped → Result Token NoToken → Result Token NoToken
+or_nothing text i before (Ok token) = Ok token
+or_nothing text i before (Err e) = if may_end text before then Ok (record { start = i; next = i; new_line = before.new_line }) else Err e
+
+-- the end of a statement: `;`, or nothing where it may end (ECMAScript, 12.10 Automatic Semicolon Insertion)
+unfoldable pub end : List ℕ → ℕ → Result Token NoToken
+end text i = or_nothing text i (skipped text i) (punct text i (codes ";"))
+
+-- a token stands in the text behind the place where its reading began, and the text may be cut round it
+abbrev pub Stands : List ℕ → ℕ → Token → Type 0
+Stands text i token = (i ≤ token.start) × IsPiece text token.start token.next
