@@ -1,0 +1,5 @@
+pub mod Reading
+pub mod Agreement
+pub mod Trees
+pub mod Grammar
+pub mod Modules
