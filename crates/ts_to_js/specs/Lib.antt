@@ -1,0 +1,4 @@
+pub mod Erasure
+pub mod Conversion
+pub mod Refusals
+pub mod Answer

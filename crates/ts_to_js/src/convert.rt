@@ -1,0 +1,59 @@
+ghost use Rattle.std.specs.Prelude.{◌≡◌, ◌≤◌, length, true, false, MatchOption};
+ghost use Rattle.std.specs.Str.{is_utf8};
+ghost use Rattle.ecma_text.specs.Modules.{reads, deepest};
+ghost use Rattle.ts_to_js.specs.Conversion.{converted, printed};
+ghost use Rattle.ts_to_js.specs.Answer.{Answers};
+
+use crate::erase::erase_types;
+use crate::error::TsError;
+use ecma_print::print_module;
+use ecma_text::read_module;
+use ecma_tree::Session;
+use std::alloc::Global;
+
+/// How many bytes a module may have.
+pub const LIMIT: usize = 4_194_304;
+
+/// What is asked of a conversion beside the module. There is nothing to choose yet.
+#[derive(Clone, Copy, Debug, PartialEq, Eq)]
+pub struct Options {}
+
+/// Converts the bytes of a TypeScript module to those of a JavaScript module.
+/// Nothing is drawn from the session.
+pub fn ts_to_js(
+    alloc: Global,
+    session: &mut Session,
+    src: &[u8],
+    options: &Options,
+) -> Result<Vec<u8>, TsError>
+    ensures text { Answers result (converted src.now) }
+    ensures session { session.new ≡ session.old }
+{
+    if src.len() > LIMIT {
+        return Err(TsError::TooLong);
+    }
+    match decoded(src) {
+        None => Err(TsError::NotUtf8),
+        Some(text) => convert_text(alloc, text),
+    }
+}
+
+/// The bytes as a text, if they are UTF-8.
+#[tactic(auto, using(crate::proofs::Utf8::tests))]
+fn decoded(src: &[u8]) -> Option<&str>
+    ensures { MatchOption result (is_utf8 src.now ≡ false) (λ text. (is_utf8 src.now ≡ true) × (text.now ≡ src.now)) }
+{
+    match str::from_utf8(src) {
+        Ok(text) => Some(text),
+        Err(_) => None,
+    }
+}
+
+fn convert_text(alloc: Global, text: &str) -> Result<Vec<u8>, TsError>
+    requires { length text.now ≤ LIMIT }
+    ensures { Answers result (printed (reads text.now deepest)) }
+{
+    let mut tree = read_module(alloc, text)?;
+    erase_types(alloc, &mut tree);
+    Ok(print_module(alloc, &tree)?)
+}
