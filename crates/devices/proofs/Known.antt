@@ -7,10 +7,6 @@ use Rattle.std.specs.Io.KnownBytes.{append_known}
 use Rattle.devices.specs.Sink.{TakesFirst}
 use Rattle.devices.specs.Source.{HandsOut, rest_after}
 
-pub append_known-nil : (known : Option (List ℕ)) → append_known known [] ≡ known
-append_known-nil None = refl
-append_known-nil (Some xs) = ap Some (append-nil xs)
-
 -- the first n bytes, and then m more of the same
 pub append_known-take-drop : (known : Option (List ℕ)) (bytes : List ℕ) (n m : ℕ) →
     append_known (append_known known (take n bytes)) (take m (drop n bytes)) ≡ append_known known (take (n + m) bytes)
@@ -41,20 +37,19 @@ pub record HasReadUpTo (before after : Option (List ℕ)) (bytes : List ℕ) (li
   pub given : IfSome before (λ left. bytes ≡ take limit left)
   pub rest : after ≡ rest_after before limit
 
-pub has_read-nothing : (before : Option (List ℕ)) → HasRead before before []
-has_read-nothing None = record { given = tt; rest = refl }
-has_read-nothing (Some left) = record { given = refl; rest = refl }
-
+-- where the bytes before are known, so are those that one more read hands out
 read_on : (before after : Option (List ℕ)) (bytes buffer : List ℕ) (n : ℕ) →
     IfSome before (λ left. bytes ≡ take (length bytes) left) →
     HandsOut (rest_after before (length bytes)) after buffer n →
     HasRead before after (bytes ++ take n buffer)
 read_on None after bytes buffer n given out = record { given = tt; rest = out.rest }
 read_on (Some left) after bytes buffer n given out =
+    let front : bytes ≡ take (length bytes) left = given in
+    let more : take n buffer ≡ take n (drop (length bytes) left) = out.given in
     let count : length (bytes ++ take n buffer) ≡ length bytes + n =
     length-append bytes (take n buffer) ∙ ap (λ k. length bytes + k) (length-take-le n buffer out.bound) in
     record {
-      given = rw (count, take-add) (let front : bytes ≡ take (length bytes) left = given in let more : take n buffer ≡ take n (drop (length bytes) left) = out.given in cc);
+      given = rw (count, take-add) cc;
       rest = rw count (out.rest ∙ ap Some (drop-drop n (length bytes) left));
     }
 
@@ -64,6 +59,7 @@ pub has_read-more : {before mid after : Option (List ℕ)} {bytes buffer : List 
 has_read-more {before} {mid} {after} {bytes} {buffer} {n} read out =
     read_on before after bytes buffer n read.given (subst (λ known. HandsOut known after buffer n) read.rest out)
 
+-- where the bytes before are known and a read hands out nothing, they are all of them
 read_end : (before after : Option (List ℕ)) (bytes buffer : List ℕ) (limit : ℕ) →
     IfSome before (λ left. bytes ≡ take (length bytes) left) →
     HandsOut (rest_after before (length bytes)) after buffer 0 →
@@ -89,9 +85,3 @@ has_read-end {before} {mid} {after} {bytes} {more} {buffer} {n} {limit} read out
     let same : bytes ≡ more = sym (appended ∙ ap (λ k. bytes ++ take k buffer) none ∙ append-nil bytes) in
     subst (λ ys. HasReadUpTo before after ys limit) same
     (read_end before after bytes buffer limit read.given (subst (λ known. HandsOut known after buffer 0) read.rest at_end) within)
-
--- and so does the limit
-pub has_read-limit : {before after : Option (List ℕ)} {bytes : List ℕ} {limit : ℕ} →
-    HasRead before after bytes → length bytes ≡ limit → HasReadUpTo before after bytes limit
-has_read-limit {before} {after} {bytes} {limit} read full =
-    subst (λ k. HasReadUpTo before after bytes k) full (record { given = read.given; rest = read.rest })

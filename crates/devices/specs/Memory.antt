@@ -2,7 +2,7 @@
 use Rattle.std.specs.Prelude.{ℕ, List}
 
 -- a source that never fails
-pub record SliceState : Type 0 where
+pub record SliceSourceState : Type 0 where
   pub left : List ℕ
   pub calls : ℕ
 

@@ -146,7 +146,8 @@ impl Sink for MemSink {
         ensures call { Counted self.old.calls self.new.calls }
 
         // As the list and the bound say.
-        ensures fails { (result ≡ Err SinkError.Failed) ↔ Contains self.old.fail_at (next_count self.old.calls) }
+        ensures fails { (result ≡ Err SinkError.Failed)
+            ↔ Contains self.old.fail_at (next_count self.old.calls) }
         ensures count { IfOk result (λ n. n ≡ min (length piece.now) self.old.at_most) }
         ensures ok { IfOk result (λ n. self.new ≡ record self.old {
           taken = self.old.taken ++ take n piece.now;

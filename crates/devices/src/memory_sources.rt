@@ -15,9 +15,9 @@ pub struct SliceSource {
 }
 
 impl Model for SliceSource {
-    ghost use Rattle.devices.specs.Memory.{SliceState};
+    ghost use Rattle.devices.specs.Memory.{SliceSourceState};
 
-    ghost Value = { SliceState };
+    ghost Value = { SliceSourceState };
 
     ghost view = { λ source. record { left = source.unread; calls = source.calls } };
 }
@@ -79,7 +79,12 @@ impl Model for MemSource {
 
 impl MemSource {
     pub fn new(bytes: Vec<u8>, fail_at: Vec<u64>) -> Self
-        ensures { result ≡ record { left = bytes.items; fail_at = fail_at.items; faults = 0; calls = 0 } }
+        ensures { result ≡ record {
+          left = bytes.items;
+          fail_at = fail_at.items;
+          faults = 0;
+          calls = 0;
+        } }
     {
         MemSource {
             unread: Unread::new(bytes),

@@ -55,8 +55,10 @@ impl<R: Read> Source for StdSource<R> {
         ensures call { Counted self.old.calls self.new.calls }
 
         // As the reader says.
-        ensures reader { ReadConsumes (R.remaining self.old.reader) (R.remaining self.new.reader) result buffer.new }
-        ensures fault { self.new.faults ≡ (if is_err result then next_count self.old.faults else self.old.faults) }
+        ensures reader { ReadConsumes (R.remaining self.old.reader) (R.remaining self.new.reader)
+            result buffer.new }
+        ensures fault { self.new.faults
+            ≡ (if is_err result then next_count self.old.faults else self.old.faults) }
     {
         self.calls = self.calls.saturating_add(1);
         match self.reader.read(buffer) {
@@ -114,9 +116,11 @@ impl<W: Write> Sink for StdSink<W> {
         ensures call { Counted self.old.calls self.new.calls }
 
         // As the writer says.
-        ensures writer { WriteAppends (W.contents self.old.writer) (W.contents self.new.writer) result piece.now }
+        ensures writer { WriteAppends (W.contents self.old.writer) (W.contents self.new.writer)
+            result piece.now }
         ensures failed { IfErr result (λ error. error ≡ SinkError.Failed) }
-        ensures fault { self.new.faults ≡ (if is_err result then next_count self.old.faults else self.old.faults) }
+        ensures fault { self.new.faults
+            ≡ (if is_err result then next_count self.old.faults else self.old.faults) }
     {
         self.calls = self.calls.saturating_add(1);
         match self.writer.write(piece) {

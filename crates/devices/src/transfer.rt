@@ -46,10 +46,12 @@ pub fn read_up_to<S: Source>(
     source: &mut S,
     limit: usize,
 ) -> Result<Vec<u8>, ReadFault>
-    ensures bytes { IfOk result (λ bytes. IfSome (S.left source.old) (λ left. bytes.items ≡ take limit left)) }
+    ensures bytes { IfOk result (λ bytes. IfSome (S.left source.old)
+        (λ left. bytes.items ≡ take limit left)) }
     ensures rest { OnOk result (S.left source.new ≡ rest_after (S.left source.old) limit) }
     ensures bound { IfOk result (λ bytes. vec_len bytes ≤ limit) }
-    ensures cause { HasCause (S.faults source.old) (S.faults source.new) (result ≡ Err ReadFault.SourceFailed) }
+    ensures cause { HasCause (S.faults source.old) (S.faults source.new)
+        (result ≡ Err ReadFault.SourceFailed) }
     ensures calls { CountedAtMost (S.calls source.old) (S.calls source.new) limit }
 {
     let mut bytes = Vec::new(alloc);
@@ -73,7 +75,8 @@ fn read_more<S: Source>(
     ensures handed_out { IfOk result (HandsOut (S.left source.old) (S.left source.new) buffer.new) }
     ensures appended { IfOk result (λ n. bytes.new.items ≡ bytes.old.items ++ take n buffer.new) }
     ensures len { IfOk result (λ n. vec_len bytes.new ≡ vec_len bytes.old + n) }
-    ensures cause { HasCause (S.faults source.old) (S.faults source.new) (result ≡ Err ReadFault.SourceFailed) }
+    ensures cause { HasCause (S.faults source.old) (S.faults source.new)
+        (result ≡ Err ReadFault.SourceFailed) }
     ensures call { Counted (S.calls source.old) (S.calls source.new) }
 {
     let count = source.read(buffer)?;
@@ -85,7 +88,8 @@ fn read_more<S: Source>(
 pub fn write_all<K: Sink>(sink: &mut K, bytes: &[u8]) -> Result<(), SinkError>
     ensures ok { OnOk result (K.taken sink.new ≡ append_known (K.taken sink.old) bytes.now) }
     ensures err { OnErr result (TakesPart (K.taken sink.old) (K.taken sink.new) bytes.now) }
-    ensures cause { HasCause (K.faults sink.old) (K.faults sink.new) (result ≡ Err SinkError.Failed) }
+    ensures cause { HasCause (K.faults sink.old) (K.faults sink.new)
+        (result ≡ Err SinkError.Failed) }
     ensures calls { CountedAtMost (K.calls sink.old) (K.calls sink.new) (length bytes.now) }
     ensures empty { bytes.now ≡ [] → sink.new ≡ sink.old }
 {

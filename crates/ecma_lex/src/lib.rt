@@ -1,7 +1,8 @@
 //! The tokens of a text, one call for each terminal of the grammar, exactly.
 //!
 //! A place is a byte offset from 0. Each call skips blanks and comments from a place, and then takes the longest token of the kind that
-//! is asked for, or says at which place there is none.
+//! is asked for, or says behind what it skipped that there is none. Within a character and beyond the text nothing is skipped, and no
+//! token stands.
 #![tactic(auto)]
 
 mod blanks;

@@ -1,71 +1,103 @@
 use super::*;
+use std::process::Abort;
 use std::test::*;
 
-fn token(start: u32, next: u32, new_line: bool) -> Result<Token, NoToken> {
-    Ok(Token {
-        start,
-        next,
-        new_line,
-    })
+#[derive(Clone, Copy)]
+enum Terminal {
+    Key,
+    Name,
+    Word(&'static str),
+    Punct(&'static str),
+    Num,
+    End,
+    EndOfText,
 }
 
-fn none(at: u32) -> Result<Token, NoToken> {
-    Err(NoToken { at })
+type Row = (Terminal, &'static str, u32, Result<(u32, u32, bool), u32>);
+
+// A terminal, a text, a place, and what is read there: start, next and new line, or the failed place.
+const ROWS: [Row; 48] = [
+    (Terminal::Key, " größe=", 0, Ok((1, 8, false))),
+    (Terminal::Key, "x1", 0, Ok((0, 2, false))),
+    (Terminal::Key, "1x", 0, Err(0)),
+    (Terminal::Key, "größe", 3, Err(3)),
+    (Terminal::Key, "\u{300}a", 0, Err(0)),
+    (Terminal::Key, "a//c\nb", 1, Ok((5, 6, true))),
+    (Terminal::Key, "a//c\u{2028}b", 1, Ok((7, 8, true))),
+    (
+        Terminal::Key,
+        "/*\u{2028}*/\u{feff}b /*",
+        0,
+        Ok((10, 11, true)),
+    ),
+    (Terminal::Key, "/* / **/b", 0, Ok((8, 9, false))),
+    (Terminal::Key, "a /*/ b", 1, Err(2)),
+    (Terminal::Key, "a", 9, Err(9)),
+    (Terminal::Key, "while", 0, Ok((0, 5, false))),
+    (Terminal::Name, "while", 0, Err(0)),
+    (Terminal::Name, " whiles", 0, Ok((1, 7, false))),
+    (Terminal::Name, "async", 0, Ok((0, 5, false))),
+    (Terminal::Word("as"), "as", 0, Ok((0, 2, false))),
+    (Terminal::Word("as"), "asserts", 0, Err(0)),
+    (Terminal::Word("as"), "a s", 0, Err(0)),
+    (Terminal::Punct("="), "==", 0, Err(0)),
+    (Terminal::Punct("="), "= =", 0, Ok((0, 1, false))),
+    (Terminal::Punct(">>>="), " >>>=1", 0, Ok((1, 5, false))),
+    (Terminal::Punct("?"), "a?.5", 1, Ok((1, 2, false))),
+    (Terminal::Punct("?."), "a?.5", 1, Err(1)),
+    (Terminal::Punct("?."), "a?.b", 1, Ok((1, 3, false))),
+    (Terminal::Punct("."), "..", 0, Ok((0, 1, false))),
+    (Terminal::Punct(".."), "..", 0, Err(0)),
+    (Terminal::Punct(""), "a", 0, Err(0)),
+    (Terminal::Punct("/"), "/ /", 0, Ok((0, 1, false))),
+    (Terminal::Num, "\t120;", 0, Ok((1, 4, false))),
+    (Terminal::Num, "0", 0, Ok((0, 1, false))),
+    (Terminal::Num, "01", 0, Err(0)),
+    (Terminal::Num, "1.5", 0, Err(0)),
+    (Terminal::Num, "3in", 0, Err(0)),
+    (Terminal::Num, "3ö", 0, Err(0)),
+    (Terminal::Num, ".5", 0, Err(0)),
+    (Terminal::End, "a ;", 1, Ok((2, 3, false))),
+    (Terminal::End, "a\n;", 1, Ok((2, 3, true))),
+    (Terminal::End, "a b", 1, Err(2)),
+    (Terminal::End, "a /*\r*/ b", 1, Ok((1, 1, true))),
+    (Terminal::End, "a }", 1, Ok((1, 1, false))),
+    (Terminal::End, "a // b", 1, Ok((1, 1, false))),
+    (Terminal::End, "a\n/*", 1, Err(2)),
+    (Terminal::End, "a", 5, Err(5)),
+    (Terminal::End, "ä\n", 1, Err(1)),
+    (Terminal::EndOfText, " // b", 0, Ok((5, 5, false))),
+    (Terminal::EndOfText, "\n/* b", 0, Err(1)),
+    (Terminal::EndOfText, "b", 0, Err(0)),
+    (Terminal::EndOfText, "b", 2, Err(2)),
+];
+
+fn read(rt: &impl Abort, terminal: Terminal, text: &str, at: u32) -> Result<(u32, u32, bool), u32> {
+    assert!(rt; text.len() < 100);
+    let read = match terminal {
+        Terminal::Key => key(text, at),
+        Terminal::Name => name(text, at),
+        Terminal::Word(wanted) => word(text, at, wanted),
+        Terminal::Punct(punctuator) => punct(text, at, punctuator),
+        Terminal::Num => num(text, at),
+        Terminal::End => end(text, at),
+        Terminal::EndOfText => end_of_text(text, at),
+    };
+    match read {
+        Ok(token) => Ok((token.start, token.next, token.new_line)),
+        Err(none) => Err(none.at),
+    }
 }
 
 #[test]
 fn terminals(rt: HostRuntime) {
-    assert_eq!(rt; key(" größe=", 0), token(1, 8, false));
-    assert_eq!(rt; key("x1", 0), token(0, 2, false));
-    assert_eq!(rt; key("1x", 0), none(0));
-    assert_eq!(rt; key("größe", 3), none(3));
-    assert_eq!(rt; key("a//c\nb", 1), token(5, 6, true));
-    assert_eq!(rt; key("a//c\u{2028}b", 1), token(7, 8, true));
-    assert_eq!(rt; key("/*\u{2028}*/\u{feff}b /*", 0), token(10, 11, true));
-    assert_eq!(rt; key("/* / **/b", 0), token(8, 9, false));
-    assert_eq!(rt; key("a /*/ b", 1), none(2));
-    assert_eq!(rt; key("a", 9), none(9));
-    assert_eq!(rt; key("while", 0), token(0, 5, false));
-    assert_eq!(rt; name("while", 0), none(0));
-    assert_eq!(rt; name(" whiles", 0), token(1, 7, false));
-    assert_eq!(rt; name("async", 0), token(0, 5, false));
-    assert_eq!(rt; word("as", 0, "as"), token(0, 2, false));
-    assert_eq!(rt; word("asserts", 0, "as"), none(0));
-    assert_eq!(rt; word("a s", 0, "as"), none(0));
-    assert_eq!(rt; punct("==", 0, "="), none(0));
-    assert_eq!(rt; punct("= =", 0, "="), token(0, 1, false));
-    assert_eq!(rt; punct(" >>>=1", 0, ">>>="), token(1, 5, false));
-    assert_eq!(rt; punct("a?.5", 1, "?"), token(1, 2, false));
-    assert_eq!(rt; punct("a?.5", 1, "?."), none(1));
-    assert_eq!(rt; punct("a?.b", 1, "?."), token(1, 3, false));
-    assert_eq!(rt; punct("..", 0, "."), token(0, 1, false));
-    assert_eq!(rt; punct("..", 0, ".."), none(0));
-    assert_eq!(rt; punct("a", 0, ""), none(0));
-    assert_eq!(rt; punct("/ /", 0, "/"), token(0, 1, false));
-    assert_eq!(rt; num("\t120;", 0), token(1, 4, false));
-    assert_eq!(rt; num("0", 0), token(0, 1, false));
-    assert_eq!(rt; num("01", 0), none(0));
-    assert_eq!(rt; num("1.5", 0), none(0));
-    assert_eq!(rt; num("3in", 0), none(0));
-    assert_eq!(rt; num("3ö", 0), none(0));
-    assert_eq!(rt; num(".5", 0), none(0));
+    for (terminal, text, at, wanted) in ROWS {
+        assert_eq!(rt; read(&rt, terminal, text, at), wanted, "{text} at {at}");
+    }
 }
 
 #[test]
-fn ends(rt: HostRuntime) {
-    assert_eq!(rt; end("a ;", 1), token(2, 3, false));
-    assert_eq!(rt; end("a\n;", 1), token(2, 3, true));
-    assert_eq!(rt; end("a b", 1), none(2));
-    assert_eq!(rt; end("a /*\r*/ b", 1), token(1, 1, true));
-    assert_eq!(rt; end("a }", 1), token(1, 1, false));
-    assert_eq!(rt; end("a // b", 1), token(1, 1, false));
-    assert_eq!(rt; end("a\n/*", 1), none(2));
-    assert_eq!(rt; end("a", 5), none(5));
-    assert_eq!(rt; end("ä\n", 1), none(1));
-    assert_eq!(rt; end_of_text(" // b", 0), token(5, 5, false));
-    assert_eq!(rt; end_of_text("\n/* b", 0), none(1));
-    assert_eq!(rt; end_of_text("b", 0), none(0));
-    assert_eq!(rt; end_of_text("b", 2), none(2));
+fn parts(rt: HostRuntime) {
     assert_eq!(rt;
         skip(" \n/* c", 0),
         Skipped {
@@ -76,4 +108,6 @@ fn ends(rt: HostRuntime) {
     );
     assert_eq!(rt; piece("größe", 2, 4), "ö");
     assert_eq!(rt; piece("größe", 2, 3), "");
+    assert!(rt; is_valid_start('ö') && !is_valid_start('1') && !is_valid_start('\u{300}'));
+    assert!(rt; is_valid_continue('1') && is_valid_continue('\u{300}') && !is_valid_continue('-'));
 }

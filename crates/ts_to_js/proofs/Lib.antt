@@ -1,1 +1,3 @@
 pub mod Utf8
+pub mod Pieces
+pub mod Runs

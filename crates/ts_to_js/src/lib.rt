@@ -4,6 +4,12 @@
 mod convert;
 mod erase;
 mod error;
+mod report;
+mod program;
 
 pub use convert::{LIMIT, Options, ts_to_js};
+pub use devices::{
+    Failed, MemSink, MemSource, Sink, SinkError, SliceSource, Source, StdSink, StdSource, VecSink,
+};
 pub use error::TsError;
+pub use program::{BAD_WORD, DONE, NO_MEMORY, READ_FAULT, REFUSED, WRITE_FAULT, run};

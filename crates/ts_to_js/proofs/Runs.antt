@@ -1,0 +1,144 @@
+-- Runs that came to an end, one lemma for each way.
+use Rattle.std.proofs.Common.{◌≡◌, ◌⊎◌, ◌≢◌, ◌≤◌, ◌+◌, ℕ, List, [], length, take, Some, None, Ok, Err, inl, inr, refl, sym, ◌∙◌, ap, arith, subst}
+use Rattle.std.specs.Prelude.{Option, Result, OnOk, OnErr, IfSome}
+use Rattle.std.proofs.lemmas.List.{append-nil, take_all}
+use Rattle.std.specs.Io.KnownBytes.{append_known}
+use Rattle.devices.specs.declared.sink.SinkError.{SinkError}
+use Rattle.devices.specs.declared.sink.SinkError.TheVariants.{Failed, NoMemory}
+use Rattle.devices.specs.Counts.{Rose, CountedAtMost, HasCause}
+use Rattle.devices.specs.Sink.{TakesPart}
+use Rattle.ts_to_js.specs.declared.program.TheConstants.{DONE, REFUSED, BAD_WORD, READ_FAULT, WRITE_FAULT, NO_MEMORY}
+use Rattle.ts_to_js.specs.declared.error.TsError.{TsError}
+use Rattle.ts_to_js.specs.Running.{Expected, Seen, EndsWith, TakesFront, TakesAll, Ran, Refuses, reported_status, expected_of, first_read}
+use Rattle.ts_to_js.specs.Lines.{fault_line}
+use Rattle.ts_to_js.specs.Answer.{Answers}
+use Rattle.ts_to_js.specs.declared.error.TsError.TheVariants as error
+
+append_known-nil : (known : Option (List ℕ)) → append_known known [] ≡ known
+append_known-nil None = refl
+append_known-nil (Some xs) = ap Some (append-nil xs)
+
+counted-none : (count most : ℕ) → CountedAtMost count count most
+counted-none count most = record { later = omega arith; at_most = omega arith }
+
+-- a sink that was not called took nothing
+takes_front-none : (sink : Seen) (bytes : List ℕ) → TakesFront sink sink bytes
+takes_front-none sink bytes = record { front = (0, sym (append_known-nil sink.taken)); calls = counted-none sink.calls (length bytes) }
+
+takes_front-all : (before after : Seen) (bytes : List ℕ) → TakesAll before after bytes → CountedAtMost before.calls after.calls (length bytes) → TakesFront before after bytes
+takes_front-all before after bytes all calls =
+    record { front = (length bytes, all ∙ ap (append_known before.taken) (sym (take_all (length bytes) bytes (omega arith)))); calls = calls }
+
+takes_front-part : (before after : Seen) (bytes : List ℕ) → TakesPart before.taken after.taken bytes → CountedAtMost before.calls after.calls (length bytes) → TakesFront before after bytes
+takes_front-part before after bytes (n, short, taken) calls = record { front = (n, taken); calls = calls }
+
+-- want of memory may come before anything was written
+pub ran-no_memory : (x : Expected) (out err : Seen) → Ran x NO_MEMORY out out err err
+ran-no_memory x out err = record {
+  ends = inr (inr (inr refl));
+  out_front = takes_front-none out x.text;
+  out_all = λ done. absurd (omega arith);
+  out_same = λ _. refl;
+  err_front = takes_front-none err x.line;
+  err_all = λ told _. absurd (elim told [ inl e ↦ omega arith | inr e ↦ omega arith ]);
+  err_same = λ _. refl;
+}
+
+-- the source failed
+pub ran-read_fault : (x : Expected) (out err : Seen) → x.status ≢ BAD_WORD → Ran x READ_FAULT out out err err
+ran-read_fault x out err known = record {
+  ends = inr (inl (refl, known));
+  out_front = takes_front-none out x.text;
+  out_all = λ done. absurd (omega arith);
+  out_same = λ _. refl;
+  err_front = takes_front-none err x.line;
+  err_all = λ told _. absurd (elim told [ inl e ↦ omega arith | inr e ↦ omega arith ]);
+  err_same = λ _. refl;
+}
+
+not_same : (status : ℕ) → (status ≡ REFUSED) ⊎ (status ≡ BAD_WORD) → (status ≡ DONE) ⊎ (status ≡ READ_FAULT) ⊎ (status ≡ WRITE_FAULT) → ⊥
+not_same status (inl told) (inl e) = omega (arith, told, e)
+not_same status (inl told) (inr (inl e)) = omega (arith, told, e)
+not_same status (inl told) (inr (inr e)) = omega (arith, told, e)
+not_same status (inr told) (inl e) = omega (arith, told, e)
+not_same status (inr told) (inr (inl e)) = omega (arith, told, e)
+not_same status (inr told) (inr (inr e)) = omega (arith, told, e)
+
+-- a line was to be written: the status stays where that failed
+pub ran-reported : {T : Type 0} (status : ℕ) (line : List ℕ) (out err err' : Seen) (writing : Result T SinkError) → (status ≡ REFUSED) ⊎ (status ≡ BAD_WORD)
+    → OnOk writing (TakesAll err err' line) → OnErr writing (TakesPart err.taken err'.taken line)
+    → HasCause err.faults err'.faults (writing ≡ Err Failed) → CountedAtMost err.calls err'.calls (length line)
+    → Ran (record { status = status; text = []; line = line }) (reported_status writing status) out out err err'
+ran-reported status line out err err' (Ok written) told whole part cause calls = record {
+  ends = inl refl;
+  out_front = takes_front-none out [];
+  out_all = λ done. absurd (elim told [ inl e ↦ omega (arith, done, e) | inr e ↦ omega (arith, done, e) ]);
+  out_same = λ _. refl;
+  err_front = takes_front-all err err' line whole calls;
+  err_all = λ _ _. whole;
+  err_same = λ same. absurd (not_same status told same);
+}
+ran-reported status line out err err' (Err Failed) told whole part cause calls = record {
+  ends = inl refl;
+  out_front = takes_front-none out [];
+  out_all = λ done. absurd (elim told [ inl e ↦ omega (arith, done, e) | inr e ↦ omega (arith, done, e) ]);
+  out_same = λ _. refl;
+  err_front = takes_front-part err err' line part calls;
+  err_all = λ _ silent. absurd (silent (cause.failed refl));
+  err_same = λ same. absurd (not_same status told same);
+}
+ran-reported status line out err err' (Err NoMemory) told whole part cause calls = record {
+  ends = inr (inr (inr refl));
+  out_front = takes_front-none out [];
+  out_all = λ done. absurd (omega (arith, done));
+  out_same = λ _. refl;
+  err_front = takes_front-part err err' line part calls;
+  err_all = λ told _. absurd (elim told [ inl e ↦ omega (arith, e) | inr e ↦ omega (arith, e) ]);
+  err_same = λ same. absurd (elim same [ inl e ↦ omega (arith, e) | inr later ↦ elim later [ inl e ↦ omega (arith, e) | inr e ↦ omega (arith, e) ] ]);
+}
+
+-- the bytes that are read of what a source tells
+abbrev pub src_of : Option (List ℕ) → List ℕ
+src_of None = []
+src_of (Some left) = first_read left
+
+pub src_of-first_read : (left : Option (List ℕ)) → IfSome left (λ all. src_of left ≡ first_read all)
+src_of-first_read None = tt
+src_of-first_read (Some left) = refl
+
+-- no module is refused as a bad word
+pub expected_of-known : (answer : Result (List ℕ) TsError) → (expected_of answer).status ≢ BAD_WORD
+expected_of-known (Ok text) = λ e. omega (arith, e)
+expected_of-known (Err refusal) = λ e. omega (arith, e)
+
+-- the line of a refusal was to be written
+pub refuses-reported : {T : Type 0} (refusal : TsError) (err err' : Seen) (writing : Result T SinkError) → (refusal ≢ error.NoMemory)
+    → OnOk writing (TakesAll err err' (fault_line refusal)) → OnErr writing (TakesPart err.taken err'.taken (fault_line refusal))
+    → HasCause err.faults err'.faults (writing ≡ Err Failed) → CountedAtMost err.calls err'.calls (length (fault_line refusal))
+    → Refuses refusal (reported_status writing REFUSED) err err'
+refuses-reported error.TooLong err err' writing other whole part cause calls = λ out. ran-reported REFUSED (fault_line error.TooLong) out err err' writing (inl refl) whole part cause calls
+refuses-reported error.NotUtf8 err err' writing other whole part cause calls = λ out. ran-reported REFUSED (fault_line error.NotUtf8) out err err' writing (inl refl) whole part cause calls
+refuses-reported (error.TooDeep at) err err' writing other whole part cause calls = λ out. ran-reported REFUSED (fault_line (error.TooDeep at)) out err err' writing (inl refl) whole part cause calls
+refuses-reported (error.Syntax at) err err' writing other whole part cause calls = λ out. ran-reported REFUSED (fault_line (error.Syntax at)) out err err' writing (inl refl) whole part cause calls
+refuses-reported error.NoMemory err err' writing other whole part cause calls = absurd (other refl)
+
+-- a run that was refused is the one that is expected
+pub ran-refused : (refusal : TsError) (answer : Result (List ℕ) TsError) (status : ℕ) (out err err' : Seen) → Answers (Err refusal) answer → Refuses refusal status err err'
+    → Ran (expected_of answer) status out out err err'
+ran-refused error.TooLong answer status out err err' is told = subst (λ a. Ran (expected_of a) status out out err err') (sym is) (told out)
+ran-refused error.NotUtf8 answer status out err err' is told = subst (λ a. Ran (expected_of a) status out out err err') (sym is) (told out)
+ran-refused (error.TooDeep at) answer status out err err' is told = subst (λ a. Ran (expected_of a) status out out err err') (sym is) (told out)
+ran-refused (error.Syntax at) answer status out err err' is told = subst (λ a. Ran (expected_of a) status out out err err') (sym is) (told out)
+ran-refused error.NoMemory answer status out err err' is told =
+    subst (λ s. Ran (expected_of answer) s out out err err') (sym told.0) (subst (λ e. Ran (expected_of answer) NO_MEMORY out out err e) (sym told.1) (ran-no_memory (expected_of answer) out err))
+
+-- a line that was to be written ends the run with its status, or without memory
+pub reported_status-either : {T : Type 0} (writing : Result T SinkError) (status : ℕ) → (reported_status writing status ≡ status) ⊎ (reported_status writing status ≡ NO_MEMORY)
+reported_status-either (Ok written) status = inl refl
+reported_status-either (Err Failed) status = inl refl
+reported_status-either (Err NoMemory) status = inr refl
+
+-- a run that was refused has no fault of the source or the output
+pub no_fault : (status : ℕ) → (status ≡ REFUSED) ⊎ (status ≡ NO_MEMORY) → (status ≢ WRITE_FAULT) × (status ≢ READ_FAULT)
+no_fault status (inl refused) = (λ e. omega (arith, e, refused), λ e. omega (arith, e, refused))
+no_fault status (inr none) = (λ e. omega (arith, e, none), λ e. omega (arith, e, none))

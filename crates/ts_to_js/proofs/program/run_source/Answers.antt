@@ -1,0 +1,18 @@
+use Rattle.std.proofs.Common.{sym, ap, subst}
+use Rattle.ts_to_js.specs.Conversion.{converted}
+use Rattle.ts_to_js.specs.Running.{expected_of, seen, Ran}
+use Rattle.ts_to_js.proofs.Runs.{ran-no_memory, ran-read_fault, src_of, src_of-first_read, expected_of-known}
+use Rattle.ts_to_js.proofs.program.run_source.Goals as goal
+
+pub returns-in-Ok-clause-run : goal.returns-in-Ok-clause-run
+returns-in-Ok-clause-run g c = (c.deref.result.now, rw c.deref.ensures.value c.in-Ok.ensures.bytes, c.convert.ensures.run)
+
+pub returns-in-Err-SourceFailed-clause-run : goal.returns-in-Err-SourceFailed-clause-run
+returns-in-Err-SourceFailed-clause-run g c =
+    let src = src_of (g.S.Source.left c.args.source.now) in
+    (src, src_of-first_read (g.S.Source.left c.args.source.now), ran-read_fault (expected_of (converted src)) _ _ (expected_of-known (converted src)))
+
+pub returns-in-Err-NoMemory-clause-run : goal.returns-in-Err-NoMemory-clause-run
+returns-in-Err-NoMemory-clause-run g c =
+    let src = src_of (g.S.Source.left c.args.source.now) in
+    (src, src_of-first_read (g.S.Source.left c.args.source.now), ran-no_memory (expected_of (converted src)) _ _)

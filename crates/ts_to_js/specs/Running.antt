@@ -1,0 +1,88 @@
+-- What a run of the program does: its status, and what standard output and standard error take.
+use Rattle.std.specs.Prelude.{◌≡◌, ◌⊎◌, ℕ, ◌≢◌, List, [], ◌∷◌, length, take, Option, Some, None, Result, Ok, Err, ◌+◌}
+use Rattle.std.specs.Io.KnownBytes.{append_known}
+use Rattle.std.specs.declared.rc.RcStr.{RcStr}
+use Rattle.std.specs.declared.alloc.Global.{Global}
+use Rattle.std.specs.Rc.{rc_str_bytes}
+use Rattle.devices.specs.declared.sink.SinkError.{SinkError}
+use Rattle.devices.specs.declared.sink.SinkError.TheVariants.{Failed, NoMemory}
+use Rattle.devices.specs.Counts.{Rose, CountedAtMost}
+use Rattle.ts_to_js.specs.declared.error.TsError.{TsError}
+use Rattle.ts_to_js.specs.declared.error.TsError.TheVariants as error
+use Rattle.ts_to_js.specs.declared.program.TheConstants.{DONE, REFUSED, BAD_WORD, READ_FAULT, WRITE_FAULT, NO_MEMORY}
+use Rattle.ts_to_js.specs.Conversion.{byte_limit, converted}
+use Rattle.ts_to_js.specs.Lines.{fault_line, bad_word_line}
+
+-- what a run comes to where no device fails and memory is there: its status, the text for standard output, the line for standard error
+pub record Expected : Type 0 where
+  pub status : ℕ
+  pub text : List ℕ
+  pub line : List ℕ
+
+abbrev pub expected_of : Result (List ℕ) TsError → Expected
+expected_of (Ok text) = record { status = DONE; text = text; line = [] }
+expected_of (Err refusal) = record { status = REFUSED; text = []; line = fault_line refusal }
+
+-- the first word that is not known: no word is known yet
+abbrev pub bad_word : List (RcStr Global) → Option (List ℕ)
+bad_word [] = None
+bad_word (word ∷ words) = Some (rc_str_bytes word)
+
+-- of a bad word, if there is one, and the bytes that are read
+abbrev pub expected : Option (List ℕ) → List ℕ → Expected
+expected None src = expected_of (converted src)
+expected (Some word) src = record { status = BAD_WORD; text = []; line = bad_word_line word }
+
+-- the bytes that a run reads of those that a source has left: one more than a module may have, if there are so many
+abbrev pub first_read : List ℕ → List ℕ
+first_read left = take (byte_limit + 1) left
+
+-- what a sink shows: the bytes that it has taken, where it tells them, and how often it has failed and was called
+pub record Seen : Type 0 where
+  pub taken : Option (List ℕ)
+  pub faults : ℕ
+  pub calls : ℕ
+
+abbrev pub seen : {K : Type 0} → (K → Option (List ℕ)) → (K → ℕ) → (K → ℕ) → K → Seen
+seen taken faults calls sink = record { taken = taken sink; faults = faults sink; calls = calls sink }
+
+-- the status is the expected one, but for a fault or want of memory
+abbrev pub EndsWith : ℕ → ℕ → Type 0
+EndsWith expected status =
+    (status ≡ expected) ⊎ ((status ≡ READ_FAULT) × (expected ≢ BAD_WORD)) ⊎ ((status ≡ WRITE_FAULT) × (expected ≡ DONE)) ⊎ (status ≡ NO_MEMORY)
+
+-- the status of a run that wrote its text
+abbrev pub written_status : {T : Type 0} → Result T SinkError → ℕ
+written_status (Ok x) = DONE
+written_status (Err Failed) = WRITE_FAULT
+written_status (Err NoMemory) = NO_MEMORY
+
+-- the status of a run that wrote its line
+abbrev pub reported_status : {T : Type 0} → Result T SinkError → ℕ → ℕ
+reported_status (Ok x) status = status
+reported_status (Err Failed) status = status
+reported_status (Err NoMemory) status = NO_MEMORY
+
+-- a sink was called at most so often as there are bytes for it, and took these from the front
+pub record TakesFront (before after : Seen) (bytes : List ℕ) : Type 0 where
+  pub front : (n : ℕ) × (after.taken ≡ append_known before.taken (take n bytes))
+  pub calls : CountedAtMost before.calls after.calls (length bytes)
+
+-- it took all of them
+abbrev pub TakesAll : Seen → Seen → List ℕ → Type 0
+TakesAll before after bytes = after.taken ≡ append_known before.taken bytes
+
+-- A run ended with a status; `out` and `err` are the sinks as they were, `out'` and `err'` as they are then.
+pub record Ran (x : Expected) (status : ℕ) (out out' err err' : Seen) : Type 0 where
+  pub ends : EndsWith x.status status
+  pub out_front : TakesFront out out' x.text
+  pub out_all : status ≡ DONE → TakesAll out out' x.text
+  pub out_same : (status ≡ REFUSED) ⊎ (status ≡ BAD_WORD) ⊎ (status ≡ READ_FAULT) → out' ≡ out
+  pub err_front : TakesFront err err' x.line
+  pub err_all : (status ≡ REFUSED) ⊎ (status ≡ BAD_WORD) → ¬ (Rose err.faults err'.faults) → TakesAll err err' x.line
+  pub err_same : (status ≡ DONE) ⊎ (status ≡ READ_FAULT) ⊎ (status ≡ WRITE_FAULT) → err' ≡ err
+
+-- a refusal was told on `err`: a line, and the status of a refused run, or for want of memory nothing
+abbrev pub Refuses : TsError → ℕ → Seen → Seen → Type 0
+Refuses error.NoMemory status err err' = (status ≡ NO_MEMORY) × (err' ≡ err)
+Refuses refusal status err err' = (out : Seen) → Ran (expected_of (Err refusal)) status out out err err'

@@ -1,0 +1,131 @@
+ghost use Rattle.std.specs.Prelude.{◌≡◌, ◌≢◌, ◌⊎◌, ◌+◌, ℕ, List, IfSome, IsSome};
+ghost use Rattle.std.specs.Option.{option_copied};
+ghost use Rattle.devices.specs.Counts.{CountedAtMost, HasCause};
+ghost use Rattle.ts_to_js.specs.Conversion.{converted};
+ghost use Rattle.ts_to_js.specs.Running.{bad_word, expected, expected_of, first_read, seen, written_status, reported_status, Refuses, Ran};
+
+use crate::convert::{LIMIT, Options, ts_to_js};
+use crate::error::TsError;
+use crate::report::{write_fault, write_line};
+use devices::{ReadFault, Sink, SinkError, Source, read_up_to, write_all};
+use ecma_tree::Session;
+use std::alloc::Global;
+use std::rc::RcStr;
+
+/// The status of a run that wrote the whole text.
+pub const DONE: u8 = 0;
+/// The status of a run whose module was refused for another cause than memory.
+pub const REFUSED: u8 = 1;
+/// The status of a run with a word that is not known.
+pub const BAD_WORD: u8 = 2;
+/// The status of a run whose source failed.
+pub const READ_FAULT: u8 = 3;
+/// The status of a run whose output failed.
+pub const WRITE_FAULT: u8 = 4;
+/// The status of a run that lacked memory.
+pub const NO_MEMORY: u8 = 5;
+
+/// All that the program does. It takes the words behind its name, reads the source to its end, or its
+/// first `LIMIT + 1` bytes where there are more, converts them, and writes the text to `out` or the
+/// line of the refusal to `err`. No word is known yet.
+pub fn run<S: Source, O: Sink, E: Sink>(
+    alloc: Global,
+    words: &[RcStr],
+    source: &mut S,
+    out: &mut O,
+    err: &mut E,
+) -> u8
+    // With a bad word nothing is read.
+    ensures unread { IsSome (bad_word words.now) → source.new ≡ source.old }
+    ensures source_calls { CountedAtMost (S.calls source.old) (S.calls source.new) (LIMIT + 2) }
+
+    // A fault is answered only where the device counted it.
+    ensures read_fault { HasCause (S.faults source.old) (S.faults source.new) (result ≡ READ_FAULT) }
+    ensures write_fault { HasCause (O.faults out.old) (O.faults out.new) (result ≡ WRITE_FAULT) }
+
+    // The run is that of the words and the bytes that were read: those of the source, where it tells them.
+    ensures run { (src : List ℕ) × IfSome (S.left source.old) (λ left. src ≡ first_read left)
+        × Ran (expected (bad_word words.now) src) result (seen O.taken O.faults O.calls out.old) (seen O.taken O.faults O.calls out.new)
+            (seen E.taken E.faults E.calls err.old) (seen E.taken E.faults E.calls err.new) }
+{
+    match bad_word(words) {
+        Some(word) => reported(write_line(err, "error: bad word ", word), BAD_WORD),
+        None => run_source(alloc, source, out, err),
+    }
+}
+
+fn bad_word(words: &[RcStr]) -> Option<&str>
+    ensures { option_copied result ≡ bad_word words.now }
+{
+    match words {
+        [] => None,
+        [word, ..] => Some(word.as_str()),
+    }
+}
+
+/// Reads the source, converts its bytes, and writes what comes of them.
+fn run_source<S: Source, O: Sink, E: Sink>(
+    alloc: Global,
+    source: &mut S,
+    out: &mut O,
+    err: &mut E,
+) -> u8
+    ensures source_calls { CountedAtMost (S.calls source.old) (S.calls source.new) (LIMIT + 2) }
+    ensures read_fault { HasCause (S.faults source.old) (S.faults source.new) (result ≡ READ_FAULT) }
+    ensures write_fault { HasCause (O.faults out.old) (O.faults out.new) (result ≡ WRITE_FAULT) }
+    ensures run { (src : List ℕ) × IfSome (S.left source.old) (λ left. src ≡ first_read left)
+        × Ran (expected_of (converted src)) result (seen O.taken O.faults O.calls out.old) (seen O.taken O.faults O.calls out.new)
+            (seen E.taken E.faults E.calls err.old) (seen E.taken E.faults E.calls err.new) }
+{
+    match read_up_to(alloc, source, LIMIT + 1) {
+        Ok(src) => convert(alloc, &src, out, err),
+        Err(ReadFault::SourceFailed) => READ_FAULT,
+        Err(ReadFault::NoMemory) => NO_MEMORY,
+    }
+}
+
+/// Converts the bytes, and writes the text or the line of the refusal.
+fn convert<O: Sink, E: Sink>(alloc: Global, src: &[u8], out: &mut O, err: &mut E) -> u8
+    ensures write_fault { HasCause (O.faults out.old) (O.faults out.new) (result ≡ WRITE_FAULT) }
+    ensures no_read_fault { result ≢ READ_FAULT }
+    ensures run { Ran (expected_of (converted src.now)) result (seen O.taken O.faults O.calls out.old) (seen O.taken O.faults O.calls out.new)
+        (seen E.taken E.faults E.calls err.old) (seen E.taken E.faults E.calls err.new) }
+{
+    let mut session = Session::new(u32::MAX);
+    match ts_to_js(alloc, &mut session, src, &Options {}) {
+        Ok(text) => written(write_all(out, &text)),
+        Err(refusal) => refuse(err, refusal),
+    }
+}
+
+/// Writes the line of a refusal; want of memory has none.
+fn refuse<E: Sink>(err: &mut E, refusal: TsError) -> u8
+    ensures status { (result ≡ REFUSED) ⊎ (result ≡ NO_MEMORY) }
+    ensures line { Refuses refusal result (seen E.taken E.faults E.calls err.old) (seen E.taken E.faults E.calls err.new) }
+{
+    match refusal {
+        TsError::NoMemory => NO_MEMORY,
+        _ => reported(write_fault(err, refusal), REFUSED),
+    }
+}
+
+/// The status of a run that wrote its text.
+fn written(writing: Result<(), SinkError>) -> u8
+    ensures { result ≡ written_status writing }
+{
+    match writing {
+        Ok(()) => DONE,
+        Err(SinkError::Failed) => WRITE_FAULT,
+        Err(SinkError::NoMemory) => NO_MEMORY,
+    }
+}
+
+/// The status of a run that wrote its line: it stays, though the line may not have been taken.
+fn reported(writing: Result<(), SinkError>, status: u8) -> u8
+    ensures { result ≡ reported_status writing status }
+{
+    match writing {
+        Ok(()) | Err(SinkError::Failed) => status,
+        Err(SinkError::NoMemory) => NO_MEMORY,
+    }
+}

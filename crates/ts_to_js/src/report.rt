@@ -1,0 +1,81 @@
+//! The line that says why a run came to nothing. It is written piece by piece, and takes no memory.
+ghost use Rattle.std.specs.Prelude.{◌≡◌, ◌++◌, ◌∷◌, [], length, OnOk, OnErr, codes};
+ghost use Rattle.std.specs.Io.KnownBytes.{append_known};
+ghost use Rattle.devices.specs.Counts.{CountedAtMost, HasCause};
+ghost use Rattle.devices.specs.Sink.{TakesPart};
+ghost use Rattle.ts_to_js.specs.Lines.{line, fault_head, fault_place, fault_line};
+
+use crate::error::TsError;
+use devices::{Sink, SinkError, write_all};
+
+/// Writes a text.
+fn write_text<K: Sink>(sink: &mut K, text: &str) -> Result<(), SinkError>
+    ensures ok { OnOk result (K.taken sink.new ≡ append_known (K.taken sink.old) text.now) }
+    ensures err { OnErr result (TakesPart (K.taken sink.old) (K.taken sink.new) text.now) }
+    ensures cause { HasCause (K.faults sink.old) (K.faults sink.new) (result ≡ Err SinkError.Failed) }
+    ensures calls { CountedAtMost (K.calls sink.old) (K.calls sink.new) (length text.now) }
+{
+    write_all(sink, text.as_bytes())
+}
+
+/// Writes two texts, one behind the other.
+#[tactic(auto, using(crate::proofs::Pieces::pieces))]
+fn write_both<K: Sink>(sink: &mut K, first: &str, second: &str) -> Result<(), SinkError>
+    ensures ok { OnOk result (K.taken sink.new ≡ append_known (K.taken sink.old) (first.now ++ second.now)) }
+    ensures err { OnErr result (TakesPart (K.taken sink.old) (K.taken sink.new) (first.now ++ second.now)) }
+    ensures cause { HasCause (K.faults sink.old) (K.faults sink.new) (result ≡ Err SinkError.Failed) }
+    ensures calls { CountedAtMost (K.calls sink.old) (K.calls sink.new) (length (first.now ++ second.now)) }
+{
+    write_text(sink, first)?;
+    write_text(sink, second)
+}
+
+/// Writes a line of two texts.
+#[tactic(auto, using(crate::proofs::Pieces::pieces))]
+pub(crate) fn write_line<K: Sink>(sink: &mut K, head: &str, tail: &str) -> Result<(), SinkError>
+    ensures ok { OnOk result (K.taken sink.new ≡ append_known (K.taken sink.old) (line head.now tail.now)) }
+    ensures err { OnErr result (TakesPart (K.taken sink.old) (K.taken sink.new) (line head.now tail.now)) }
+    ensures cause { HasCause (K.faults sink.old) (K.faults sink.new) (result ≡ Err SinkError.Failed) }
+    ensures calls { CountedAtMost (K.calls sink.old) (K.calls sink.new) (length (line head.now tail.now)) }
+{
+    write_text(sink, head)?;
+    write_both(sink, tail, "\n")
+}
+
+/// Writes the line of a refusal: its name, and its place if it has one.
+pub(crate) fn write_fault<K: Sink>(sink: &mut K, refusal: TsError) -> Result<(), SinkError>
+    ensures ok { OnOk result (K.taken sink.new ≡ append_known (K.taken sink.old) (fault_line refusal)) }
+    ensures err { OnErr result (TakesPart (K.taken sink.old) (K.taken sink.new) (fault_line refusal)) }
+    ensures cause { HasCause (K.faults sink.old) (K.faults sink.new) (result ≡ Err SinkError.Failed) }
+    ensures calls { CountedAtMost (K.calls sink.old) (K.calls sink.new) (length (fault_line refusal)) }
+{
+    let head = fault_head(refusal);
+    match fault_place(refusal) {
+        None => write_line(sink, head, ""),
+        Some(at) => {
+            let mut digits = itoa::Buffer::new();
+            write_line(sink, head, digits.format(at))
+        }
+    }
+}
+
+fn fault_head(refusal: TsError) -> &'static str
+    ensures { result.now ≡ fault_head refusal }
+{
+    match refusal {
+        TsError::TooLong => "error: TooLong",
+        TsError::NotUtf8 => "error: NotUtf8",
+        TsError::TooDeep { .. } => "error: TooDeep at ",
+        TsError::Syntax { .. } => "error: Syntax at ",
+        TsError::NoMemory => "error: NoMemory",
+    }
+}
+
+fn fault_place(refusal: TsError) -> Option<u32>
+    ensures { result ≡ fault_place refusal }
+{
+    match refusal {
+        TsError::TooDeep { at } | TsError::Syntax { at } => Some(at),
+        TsError::TooLong | TsError::NotUtf8 | TsError::NoMemory => None,
+    }
+}
