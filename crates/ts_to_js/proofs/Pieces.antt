@@ -18,8 +18,10 @@ TakesPart-front before after xs ys (n, short, taken) =
 
 -- all of the first, and a part of the second
 pub TakesPart-behind : (before mid after : Option (List ℕ)) (xs ys : List ℕ) → mid ≡ append_known before xs → TakesPart mid after ys → TakesPart before after (xs ++ ys)
-TakesPart-behind before mid after xs ys whole (n, short, taken) =
-    (length xs + n, omega (arith, length-append xs ys),
-      taken ∙ ap (λ known. append_known known (take n ys)) whole ∙ append_known-append before xs (take n ys) ∙ ap (append_known before) (sym (take-append-add xs ys n)))
+TakesPart-behind before mid after xs ys whole (n, short, taken) = (
+  length xs + n,
+  omega (arith, length-append xs ys),
+  taken ∙ ap (λ known. append_known known (take n ys)) whole ∙ append_known-append before xs (take n ys) ∙ ap (append_known before) (sym (take-append-add xs ys n)),
+)
 
 pub ruleset pieces = (append_known-append, TakesPart-front, TakesPart-behind)

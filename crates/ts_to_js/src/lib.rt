@@ -4,8 +4,8 @@
 mod convert;
 mod erase;
 mod error;
-mod report;
 mod program;
+mod report;
 
 pub use convert::{LIMIT, Options, ts_to_js};
 pub use devices::{
@@ -13,3 +13,6 @@ pub use devices::{
 };
 pub use error::TsError;
 pub use program::{BAD_WORD, DONE, NO_MEMORY, READ_FAULT, REFUSED, WRITE_FAULT, run};
+
+#[cfg(test)]
+mod tests;

@@ -46,7 +46,7 @@ pub fn run<S: Source, O: Sink, E: Sink>(
     // The run is that of the words and the bytes that were read: those of the source, where it tells them.
     ensures run { (src : List ℕ) × IfSome (S.left source.old) (λ left. src ≡ first_read left)
         × Ran (expected (bad_word words.now) src) result (seen O.taken O.faults O.calls out.old) (seen O.taken O.faults O.calls out.new)
-            (seen E.taken E.faults E.calls err.old) (seen E.taken E.faults E.calls err.new) }
+        (seen E.taken E.faults E.calls err.old) (seen E.taken E.faults E.calls err.new) }
 {
     match bad_word(words) {
         Some(word) => reported(write_line(err, "error: bad word ", word), BAD_WORD),
@@ -75,7 +75,7 @@ fn run_source<S: Source, O: Sink, E: Sink>(
     ensures write_fault { HasCause (O.faults out.old) (O.faults out.new) (result ≡ WRITE_FAULT) }
     ensures run { (src : List ℕ) × IfSome (S.left source.old) (λ left. src ≡ first_read left)
         × Ran (expected_of (converted src)) result (seen O.taken O.faults O.calls out.old) (seen O.taken O.faults O.calls out.new)
-            (seen E.taken E.faults E.calls err.old) (seen E.taken E.faults E.calls err.new) }
+        (seen E.taken E.faults E.calls err.old) (seen E.taken E.faults E.calls err.new) }
 {
     match read_up_to(alloc, source, LIMIT + 1) {
         Ok(src) => convert(alloc, &src, out, err),

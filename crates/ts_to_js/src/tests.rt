@@ -1,0 +1,182 @@
+use super::*;
+use devices::VecSink;
+use std::alloc::{AllocError, Global};
+use std::process::Abort;
+use std::rc::RcStr;
+use std::test::Fail;
+
+/// A run over devices in memory.
+struct Row {
+    word: &'static str,
+    src: &'static str,
+    status: u8,
+    out: &'static str,
+    err: &'static str,
+}
+
+const ROWS: [Row; 9] = [
+    Row {
+        word: "",
+        src: "let x: number = f(1);",
+        status: DONE,
+        out: "let x = f(1);\n",
+        err: "",
+    },
+    Row {
+        word: "",
+        src: "",
+        status: DONE,
+        out: "",
+        err: "",
+    },
+    Row {
+        word: "",
+        src: "// all of it\nlet größe, y : T = 10\nf(a, g(),)(größe)",
+        status: DONE,
+        out: "let größe, y = 10;\nf(a, g())(größe);\n",
+        err: "",
+    },
+    Row {
+        word: "-x",
+        src: "let x = 1;",
+        status: BAD_WORD,
+        out: "",
+        err: "error: bad word -x\n",
+    },
+    Row {
+        word: "",
+        src: "enum E {}",
+        status: REFUSED,
+        out: "",
+        err: "error: Syntax at 0\n",
+    },
+    Row {
+        word: "",
+        src: "f(1, 2",
+        status: REFUSED,
+        out: "",
+        err: "error: Syntax at 6\n",
+    },
+    Row {
+        word: "",
+        src: "f /* left open",
+        status: REFUSED,
+        out: "",
+        err: "error: Syntax at 2\n",
+    },
+    Row {
+        word: "",
+        src: "let let = 1;",
+        status: REFUSED,
+        out: "",
+        err: "error: Syntax at 4\n",
+    },
+    Row {
+        word: "",
+        src: "a == b",
+        status: REFUSED,
+        out: "",
+        err: "error: Syntax at 2\n",
+    },
+];
+
+fn words(alloc: Global, word: &str) -> Result<Vec<RcStr>, AllocError> {
+    let mut words = Vec::new(alloc);
+    if !word.is_empty() {
+        words.push(RcStr::from_str(alloc, word)?)?;
+    }
+    Ok(words)
+}
+
+fn check(rt: &impl Abort, alloc: Global, row: &Row) -> Result<(), AllocError> {
+    let words = words(alloc, row.word)?;
+    let mut source = SliceSource::new(row.src.as_bytes().to_vec(alloc)?);
+    let mut out = VecSink::new(alloc);
+    let mut err = VecSink::new(alloc);
+    let status = run(alloc, &words, &mut source, &mut out, &mut err);
+    assert_eq!(rt; status, row.status, "for {:?}", row.src);
+    assert_eq!(rt; out.taken(), row.out.as_bytes());
+    assert_eq!(rt; err.taken(), row.err.as_bytes());
+    Ok(())
+}
+
+#[test]
+fn modules_are_converted_or_refused(rt: HostRuntime) -> Result<(), Fail> {
+    for row in &ROWS {
+        check(&rt, rt.alloc(), row)?;
+    }
+    Ok(())
+}
+
+/// The status of a run on bytes, and the line that it wrote.
+fn refused(rt: &impl Abort, alloc: Global, src: Vec<u8>, line: &str) {
+    let mut source = SliceSource::new(src);
+    let mut out = VecSink::new(alloc);
+    let mut err = VecSink::new(alloc);
+    let status = run(alloc, &[], &mut source, &mut out, &mut err);
+    assert_eq!(rt; status, REFUSED);
+    assert!(rt; out.taken().is_empty());
+    assert_eq!(rt; err.taken(), line.as_bytes());
+}
+
+#[test]
+fn bytes_past_the_limits_are_refused(rt: HostRuntime) -> Result<(), Fail> {
+    let alloc = rt.alloc();
+    refused(
+        &rt,
+        alloc,
+        vec![in alloc; b' '; LIMIT + 1]?,
+        "error: TooLong\n",
+    );
+    refused(&rt, alloc, vec![in alloc; 0xFF; 1]?, "error: NotUtf8\n");
+    let mut deep = Vec::new(alloc);
+    for _ in 0..513 {
+        deep.extend_from_slice(b"f(")?;
+    }
+    refused(&rt, alloc, deep, "error: TooDeep at 511\n");
+    Ok(())
+}
+
+/// The status of the first row over a source and sinks that fail at these calls.
+fn failing(
+    alloc: Global,
+    source_fails: Vec<u64>,
+    out: &mut MemSink,
+    err: &mut MemSink,
+    src: &str,
+) -> Result<u8, AllocError> {
+    let mut source = MemSource::new(src.as_bytes().to_vec(alloc)?, source_fails);
+    Ok(run(alloc, &[], &mut source, out, err))
+}
+
+#[test]
+fn faults_are_answered(rt: HostRuntime) -> Result<(), Fail> {
+    let alloc = rt.alloc();
+    let row = "let x: number = f(1);";
+    let mut out = MemSink::new(alloc, Vec::new(alloc));
+    let mut err = MemSink::new(alloc, Vec::new(alloc));
+    let status = failing(alloc, vec![in alloc; 1]?, &mut out, &mut err, row)?;
+    assert_eq!(rt; status, READ_FAULT);
+
+    let mut out = MemSink::new(alloc, vec![in alloc; 1]?);
+    let status = failing(alloc, Vec::new(alloc), &mut out, &mut err, row)?;
+    assert_eq!(rt; status, WRITE_FAULT);
+    assert!(rt; out.taken().is_empty());
+
+    let mut out = MemSink::taking_at_most(alloc, 3, vec![in alloc; 3]?);
+    let status = failing(alloc, Vec::new(alloc), &mut out, &mut err, row)?;
+    assert_eq!(rt; status, WRITE_FAULT);
+    assert_eq!(rt; out.taken(), b"let x ".as_slice());
+    Ok(())
+}
+
+#[test]
+fn the_status_of_a_refusal_stays_where_its_line_fails(rt: HostRuntime) -> Result<(), Fail> {
+    let alloc = rt.alloc();
+    let mut out = MemSink::new(alloc, Vec::new(alloc));
+    let mut err = MemSink::taking_at_most(alloc, 7, vec![in alloc; 2]?);
+    let status = failing(alloc, Vec::new(alloc), &mut out, &mut err, "1 2")?;
+    assert_eq!(rt; status, REFUSED);
+    assert_eq!(rt; err.taken(), b"error: ".as_slice());
+    Ok(())
+}
