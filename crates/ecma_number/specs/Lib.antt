@@ -1,3 +1,12 @@
+pub mod Arithmetic
+pub mod Bits
+pub mod Blanks
+pub mod Equality
 pub mod JsNumber
 pub mod Numeral
 pub mod SafeInt
+pub mod Saturated
+pub mod StringToNumber
+pub mod Text
+pub mod Types
+pub mod Value

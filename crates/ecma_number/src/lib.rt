@@ -1,13 +1,28 @@
-//! ECMAScript's Numbers, cut to the whole numbers that a double holds exactly and the four special values.
+//! ECMAScript's Numbers, cut to the whole numbers that a double holds exactly and the four special
+//! values, and what is known of values before a program runs.
 #![tactic(auto)]
 
+mod arithmetic;
+mod bits;
+mod equality;
+mod error;
 mod js_number;
-mod numeral;
+mod numerals;
 mod safe_int;
+mod string_to_number;
+mod text;
+mod types;
+mod value;
 
+pub use bits::to_int32;
+pub use error::NoMemory;
 pub use js_number::JsNumber;
-pub use numeral::numeral_value;
+pub use numerals::numeral_value;
 pub use safe_int::SafeInt;
+pub use string_to_number::num_from_str;
+pub use text::{JsText, ToJsString};
+pub use types::{JsType, Purity};
+pub use value::{BoolValue, UnknownError, Value};
 
 #[cfg(test)]
 mod tests;

@@ -1,6 +1,13 @@
 ghost use Rattle.std.specs.Prelude.{◌≡◌, ◌↔◌, IsTrue};
 
-use crate::{JsNumber, SafeInt, numeral_value};
+mod grid;
+mod rows;
+
+use crate::{
+    JsNumber, JsType, NoMemory, Purity, SafeInt, ToJsString, UnknownError, Value, num_from_str,
+    numeral_value, to_int32,
+};
+use std::process::Abort;
 use std::test::Fail;
 
 // A copy equals what it copies, and `==` tells any two apart: proved of every Number.
@@ -14,6 +21,140 @@ fn is_same(left: &JsNumber, right: &JsNumber) -> bool
     ensures { IsTrue result ↔ (left.now ≡ right.now) }
 {
     *left == *right
+}
+
+// So does `==` of what is known, of types and of purities.
+fn is_same_value(left: &Value<u32>, right: &Value<u32>) -> bool
+    ensures { IsTrue result ↔ (left.now ≡ right.now) }
+{
+    *left == *right
+}
+
+fn is_same_type(left: &JsType, right: &JsType) -> bool
+    ensures { IsTrue result ↔ (left.now ≡ right.now) }
+{
+    *left == *right
+}
+
+fn is_same_purity(left: &Purity, right: &Purity) -> bool
+    ensures { IsTrue result ↔ (left.now ≡ right.now) }
+{
+    *left == *right
+}
+
+// The Number that a word of a table stands for.
+fn number(word: &str) -> Result<JsNumber, Fail> {
+    Ok(match word {
+        "NaN" => JsNumber::NaN,
+        "-0" => JsNumber::NegZero,
+        "Infinity" => JsNumber::Infinity,
+        "-Infinity" => JsNumber::NegInfinity,
+        _ => JsNumber::Whole(SafeInt::new(word.parse::<i64>()?).ok_or("outside the domain")?),
+    })
+}
+
+fn answer(word: &str) -> Result<Option<JsNumber>, Fail> {
+    if word == "none" {
+        return Ok(None);
+    }
+    Ok(Some(number(word)?))
+}
+
+fn check_pairs<F: Fn(JsNumber, JsNumber) -> Option<JsNumber>>(
+    rt: &impl Abort,
+    operator: F,
+    table: &str,
+) -> Result<(), Fail>
+    requires { F.IsAlwaysCallable operator }
+{
+    let mut wanted = table.split_whitespace();
+    for left in grid::GRID.split_whitespace() {
+        for right in grid::GRID.split_whitespace() {
+            let result = operator(number(left)?, number(right)?);
+            let wanted = answer(wanted.next().ok_or("the table is too short")?)?;
+            assert_eq!(rt; result, wanted, "{left} and {right}");
+        }
+    }
+    assert!(rt; wanted.next().is_none());
+    Ok(())
+}
+
+#[test]
+fn operators(rt: HostRuntime) -> Result<(), Fail> {
+    check_pairs(&rt, JsNumber::add, grid::ADD)?;
+    check_pairs(&rt, JsNumber::sub, grid::SUB)?;
+    check_pairs(&rt, JsNumber::mul, grid::MUL)?;
+    check_pairs(&rt, JsNumber::div, grid::DIV)?;
+    check_pairs(&rt, JsNumber::rem, grid::REM)?;
+    check_pairs(&rt, JsNumber::pow, grid::POW)?;
+    check_pairs(&rt, JsNumber::shl, grid::SHL)?;
+    check_pairs(&rt, JsNumber::shr, grid::SHR)?;
+    check_pairs(&rt, JsNumber::unsigned_shr, grid::UNSIGNED_SHR)?;
+    check_pairs(&rt, JsNumber::bit_and, grid::BIT_AND)?;
+    check_pairs(&rt, JsNumber::bit_or, grid::BIT_OR)?;
+    check_pairs(&rt, JsNumber::bit_xor, grid::BIT_XOR)?;
+    check_pairs(
+        &rt,
+        |left, right| Some(JsNumber::from(i32::from(left.num_eq(&right)))),
+        grid::NUM_EQ,
+    )
+}
+
+#[test]
+fn unary_operators(rt: HostRuntime) -> Result<(), Fail> {
+    let mut negations = grid::NEG.split_whitespace();
+    let mut complements = grid::NOT.split_whitespace();
+    let mut signed = grid::AS_INT32.split_whitespace();
+    let mut unsigned = grid::AS_UINT32.split_whitespace();
+    for word in grid::GRID.split_whitespace() {
+        let value = number(word)?;
+        assert_eq!(rt;
+            value.neg(),
+            answer(negations.next().ok_or("neg")?)?,
+            "-{word}"
+        );
+        assert_eq!(rt;
+            value.not(),
+            answer(complements.next().ok_or("not")?)?,
+            "~{word}"
+        );
+        assert_eq!(rt;
+            JsNumber::from(value.as_int32()),
+            number(signed.next().ok_or("i32")?)?,
+            "{word}"
+        );
+        assert_eq!(rt;
+            JsNumber::from(value.as_uint32()),
+            number(unsigned.next().ok_or("u32")?)?,
+            "{word}"
+        );
+        assert_eq!(rt; to_int32(value), value.as_int32());
+    }
+    Ok(())
+}
+
+#[test]
+fn kinds_and_texts(rt: HostRuntime) -> Result<(), Fail> {
+    assert_eq!(rt; NoMemory.to_string(rt.alloc())?.as_str(), "out of memory");
+    let rows = [
+        ("0", "0", "zero"),
+        ("-0", "0", "zero"),
+        ("5", "5", ""),
+        ("-5", "-5", ""),
+        ("9007199254740991", "9007199254740991", ""),
+        ("-9007199254740991", "-9007199254740991", ""),
+        ("NaN", "NaN", "NaN"),
+        ("Infinity", "Infinity", "infinite"),
+        ("-Infinity", "-Infinity", "infinite"),
+    ];
+    for (word, text, kind) in rows {
+        let value = number(word)?;
+        assert_eq!(rt; value.to_js_string(rt.alloc())?.as_str(), text);
+        assert_eq!(rt; value.is_zero(), kind == "zero", "{word}");
+        assert_eq!(rt; value.is_nan(), kind == "NaN", "{word}");
+        assert_eq!(rt; value.is_infinite(), kind == "infinite", "{word}");
+    }
+    Ok(())
 }
 
 #[test]
@@ -36,59 +177,100 @@ fn safe_integers(rt: HostRuntime) {
 
 #[test]
 fn numerals(rt: HostRuntime) -> Result<(), Fail> {
-    let rows = [
-        ("0", Some(0)),
-        ("7", Some(7)),
-        ("10", Some(10)),
-        ("907", Some(907)),
-        ("0000000000000000000000000001", Some(1)),
-        ("9007199254740991", Some(9007199254740991)),
-        ("9007199254740992", None),
-        ("90071992547409910", None),
-        ("18446744073709551617", None),
-        ("", None),
-        ("-1", None),
-        ("+1", None),
-        ("1a", None),
-        ("a1", None),
-        ("1 ", None),
-        ("1_0", None),
-        ("١", None),
-    ];
-    for (text, wanted) in rows {
-        let wanted = wanted.and_then(SafeInt::new).map(JsNumber::Whole);
-        assert_eq!(rt; numeral_value(text), wanted, "{text}");
+    for row in rows::NUMERALS.split(';') {
+        let (text, wanted) = row.split_once('|').ok_or("a row")?;
+        assert_eq!(rt; numeral_value(text), answer(wanted)?, "{text}");
     }
 
-    let mut zeros_and_five = String::new(rt.alloc());
-    let mut nines = String::new(rt.alloc());
+    // A number of 401 digits behind as many zeros, and an exponent that takes them all back.
+    let mut long = String::from_str(rt.alloc(), "0.")?;
     for _ in 0..400 {
-        zeros_and_five.push('0')?;
-        nines.push('9')?;
+        long.push('0')?;
     }
-    zeros_and_five.push('5')?;
-    let five = SafeInt::new(5).map(JsNumber::Whole);
-    assert_eq!(rt; numeral_value(zeros_and_five.as_str()), five);
-    assert_eq!(rt; numeral_value(nines.as_str()), None);
+    long.push_str("5e401")?;
+    assert_eq!(rt; numeral_value(long.as_str()), answer("5")?);
+    Ok(())
+}
+
+#[test]
+fn texts_to_numbers(rt: HostRuntime) -> Result<(), Fail> {
+    for row in rows::TEXTS.split(';') {
+        let (text, wanted) = row.split_once('|').ok_or("a row")?;
+        let wanted = match answer(wanted)? {
+            Some(number) => Value::Known(number),
+            None => Value::Unknown,
+        };
+        assert_eq!(rt; num_from_str(text), wanted, "{text}");
+    }
     Ok(())
 }
 
 #[test]
 fn numbers_are_told_apart(rt: HostRuntime) -> Result<(), Fail> {
-    let one = SafeInt::new(1).ok_or("1")?;
-    let zero = SafeInt::new(0).ok_or("0")?;
-    let numbers = [
-        JsNumber::Whole(zero),
-        JsNumber::Whole(one),
-        JsNumber::NegZero,
-        JsNumber::NaN,
-        JsNumber::Infinity,
-        JsNumber::NegInfinity,
-    ];
-    for (i, left) in numbers.iter().enumerate() {
-        for (k, right) in numbers.iter().enumerate() {
-            assert_eq!(rt; is_same(&copy(left), right), i == k);
+    let words = ["0", "1", "-0", "NaN", "Infinity", "-Infinity"];
+    for left in words {
+        for right in words {
+            assert_eq!(rt;
+                is_same(&copy(&number(left)?), &number(right)?),
+                left == right
+            );
         }
     }
     Ok(())
+}
+
+#[test]
+fn three_valued_logic(rt: HostRuntime) {
+    let (yes, no, unknown) = (Value::Known(true), Value::Known(false), Value::Unknown);
+    let rows = [
+        (yes, yes, yes, yes),
+        (yes, no, no, yes),
+        (yes, unknown, unknown, yes),
+        (no, no, no, no),
+        (no, unknown, no, unknown),
+        (unknown, unknown, unknown, unknown),
+    ];
+    for (left, right, both, either) in rows {
+        assert_eq!(rt; left.and(right), both);
+        assert_eq!(rt; right.and(left), both);
+        assert_eq!(rt; left.or(right), either);
+        assert_eq!(rt; right.or(left), either);
+    }
+    assert_eq!(rt; !yes, no);
+    assert_eq!(rt; !unknown, unknown);
+    assert!(rt; yes.is_known() && unknown.is_unknown());
+    assert_eq!(rt; no.into_result(), Ok(false));
+    assert_eq!(rt; unknown.into_result(), Err(UnknownError));
+    assert!(rt; no < yes && yes < unknown);
+    assert!(rt; is_same_value(&Value::Known(1), &Value::Known(1)));
+    assert!(rt; !is_same_value(&Value::Known(1), &Value::Unknown));
+}
+
+#[test]
+fn types_and_purity(rt: HostRuntime) {
+    let rows = [
+        (JsType::Undefined, true),
+        (JsType::Null, true),
+        (JsType::Bool, true),
+        (JsType::Str, false),
+        (JsType::Symbol, false),
+        (JsType::Num, true),
+        (JsType::Obj, false),
+    ];
+    for (kind, is_added) in rows {
+        assert_eq!(rt; Value::Known(kind).casted_to_number_on_add(), is_added);
+    }
+    assert!(rt; !Value::<JsType>::Unknown.casted_to_number_on_add());
+    assert!(rt; JsType::Undefined < JsType::Obj);
+
+    for left in [Purity::Pure, Purity::MayBeImpure] {
+        for right in [Purity::Pure, Purity::MayBeImpure] {
+            assert_eq!(rt; (left + right).is_pure(), left.is_pure() && right.is_pure());
+        }
+    }
+    assert!(rt; Purity::MayBeImpure < Purity::Pure);
+    assert!(rt;
+        is_same_type(&JsType::Num, &JsType::Num) && !is_same_type(&JsType::Num, &JsType::Obj)
+    );
+    assert!(rt; is_same_purity(&Purity::Pure, &Purity::Pure));
 }

@@ -1,0 +1,113 @@
+//! The Number that a text stands for (ECMAScript, 7.1.4.1.1 StringToNumber).
+ghost use Rattle.std.specs.Prelude.{◌≡◌};
+ghost use Rattle.ecma_number.specs.Blanks.{is_space_separator, is_white_space, is_line_terminator, is_blank, front_trimmed, end_trimmed};
+ghost use Rattle.ecma_number.specs.StringToNumber.{known_of, unsigned_text_number_of, trimmed_text_number_of, text_number_of};
+
+use crate::numerals::{
+    NumeralForm, are_digits, decimal, has_minus, integer, is_decimal, prefix_radix, unsigned_part,
+};
+use crate::{JsNumber, Value};
+
+/// The Number of a text, with white space and line terminators round it left out: 0 for no text, a
+/// decimal numeral with or without a sign, `Infinity` with or without one, or digits behind `0x`,
+/// `0o` or `0b`; NaN for any other text. Unknown exactly where the exact value is no whole number
+/// within 2^53 - 1.
+pub fn num_from_str(text: &str) -> Value<JsNumber>
+    ensures { result ≡ text_number_of text.now }
+{
+    trimmed_text_number(end_trimmed(front_trimmed(text)).as_bytes())
+}
+
+#[tactic(auto, unfolding(crate::specs::StringToNumber::trimmed_text_number_of))]
+fn trimmed_text_number(text: &[u8]) -> Value<JsNumber>
+    ensures { result ≡ trimmed_text_number_of text.now }
+{
+    if text.is_empty() {
+        return Value::Known(JsNumber::zero(false));
+    }
+    let radix = prefix_radix(text);
+    if radix == 10 {
+        return unsigned_text_number(has_minus(text), unsigned_part(text));
+    }
+    if are_digits(NumeralForm::Text, radix, &text[2..]) {
+        return known(integer(radix, &text[2..]));
+    }
+    Value::Known(JsNumber::NaN)
+}
+
+#[tactic(auto, unfolding(crate::specs::StringToNumber::unsigned_text_number_of))]
+fn unsigned_text_number(is_negative: bool, text: &[u8]) -> Value<JsNumber>
+    ensures { result ≡ unsigned_text_number_of is_negative text.now }
+{
+    if text == b"Infinity".as_slice() {
+        return Value::Known(JsNumber::infinity(is_negative));
+    }
+    if is_decimal(NumeralForm::Text, text) {
+        return known(decimal(is_negative, text));
+    }
+    Value::Known(JsNumber::NaN)
+}
+
+fn known(number: Option<JsNumber>) -> Value<JsNumber>
+    ensures { result ≡ known_of number }
+{
+    match number {
+        Some(number) => Value::Known(number),
+        None => Value::Unknown,
+    }
+}
+
+fn front_trimmed(text: &str) -> &str
+    ensures { result.now ≡ front_trimmed text.now }
+{
+    let mut kept = text;
+    let mut characters = text.chars();
+    while let Some(character) = characters.next() {
+        if !is_blank(character) {
+            return kept;
+        }
+        kept = characters.as_str();
+    }
+    kept
+}
+
+fn end_trimmed(text: &str) -> &str
+    ensures { result.now ≡ end_trimmed text.now }
+{
+    let mut kept = text;
+    let mut characters = text.chars();
+    while let Some(character) = characters.next_back() {
+        if !is_blank(character) {
+            return kept;
+        }
+        kept = characters.as_str();
+    }
+    kept
+}
+
+fn is_blank(character: char) -> bool
+    ensures { result ≡ is_blank character }
+{
+    is_white_space(character) || is_line_terminator(character)
+}
+
+fn is_white_space(character: char) -> bool
+    ensures { result ≡ is_white_space character }
+{
+    matches!(character, '\t' | '\u{B}' | '\u{C}' | '\u{FEFF}') || is_space_separator(character)
+}
+
+fn is_space_separator(character: char) -> bool
+    ensures { result ≡ is_space_separator character }
+{
+    matches!(
+        character,
+        ' ' | '\u{A0}' | '\u{1680}' | '\u{2000}'..='\u{200A}' | '\u{202F}' | '\u{205F}' | '\u{3000}'
+    )
+}
+
+fn is_line_terminator(character: char) -> bool
+    ensures { result ≡ is_line_terminator character }
+{
+    matches!(character, '\n' | '\r' | '\u{2028}' | '\u{2029}')
+}
