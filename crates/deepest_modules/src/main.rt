@@ -15,7 +15,7 @@ struct Nest {
     times: usize,
 }
 
-const NESTS: [Nest; 4] = [
+const NESTS: [Nest; 8] = [
     Nest {
         name: "calls in arguments",
         opening: "f(",
@@ -42,6 +42,34 @@ const NESTS: [Nest; 4] = [
         opening: "",
         middle: "f",
         closing: "()",
+        times: 510,
+    },
+    Nest {
+        name: "members of members",
+        opening: "",
+        middle: "a",
+        closing: ".b",
+        times: 510,
+    },
+    Nest {
+        name: "one member of a member more",
+        opening: "",
+        middle: "a",
+        closing: ".b",
+        times: 511,
+    },
+    Nest {
+        name: "types of types",
+        opening: "",
+        middle: "a",
+        closing: " as T",
+        times: 509,
+    },
+    Nest {
+        name: "one type of a type more",
+        opening: "",
+        middle: "a",
+        closing: " as T",
         times: 510,
     },
 ];

@@ -1,3 +1,6 @@
 pub mod Steps
 pub mod Tables
 pub mod Pieces
+pub mod Suffixes
+pub mod Spelled
+pub mod Ahead

@@ -43,3 +43,18 @@ if_word word text i (Some next) = if bytes_eq (piece text i next) word then Some
 -- where the key that begins at a place ends, if it is this word
 unfoldable pub word_end : List ℕ → List ℕ → ℕ → Option ℕ
 word_end word text i = if_word word text i (key_end text i)
+
+-- the names that begin a type of their own: the TypeScript handbook, "Keyof Type Operator", "Unique Symbols", "Readonly Arrays", "Inferring Within Conditional Types"
+unfoldable pub type_operators : List (List ℕ)
+type_operators = words (codes "infer keyof readonly unique")
+
+unfoldable pub is_type_operator : List ℕ → Bool
+is_type_operator word = list_any (λ operator. bytes_eq operator word) type_operators
+
+abbrev pub if_type_name : List ℕ → ℕ → Option ℕ → Option ℕ
+if_type_name text i None = None
+if_type_name text i (Some next) = if is_type_operator (piece text i next) then None else Some next
+
+-- where the name that begins at a place ends, if it names a type: it begins no other type
+unfoldable pub type_name_end : List ℕ → ℕ → Option ℕ
+type_name_end text i = if_type_name text i (name_end text i)

@@ -3,4 +3,5 @@ pub mod Blanks
 pub mod Keys
 pub mod Punctuators
 pub mod Numerals
+pub mod Strings
 pub mod Tokens

@@ -1,10 +1,11 @@
 -- Terminals: skip blanks and comments, then take the longest token of a kind.
-use Rattle.std.specs.Prelude.{◌≤◌, ℕ, Bool, ◌&&◌, ◌||◌, List, length, if◌then◌else◌, ◌==◌, Option, Some, None, is_some, Result, Ok, Err, codes}
+use Rattle.std.specs.Prelude.{◌≤◌, ℕ, ◌+◌, ◌-◌, Bool, ◌&&◌, ◌||◌, List, length, if◌then◌else◌, ◌==◌, Option, Some, None, is_some, Result, Ok, Err, codes}
 use Rattle.ecma_lex.specs.Text.{IsPiece}
 use Rattle.ecma_lex.specs.Blanks.{skipped}
-use Rattle.ecma_lex.specs.Keys.{key_end, name_end, word_end}
+use Rattle.ecma_lex.specs.Keys.{key_end, name_end, type_name_end, word_end}
 use Rattle.ecma_lex.specs.Punctuators.{punct_end}
 use Rattle.ecma_lex.specs.Numerals.{num_end}
+use Rattle.ecma_lex.specs.Strings.{str_end}
 use Rattle.ecma_lex.specs.declared.blanks.Skipped.{Skipped}
 use Rattle.ecma_lex.specs.declared.tokens.Token.{Token}
 use Rattle.ecma_lex.specs.declared.tokens.NoToken.{NoToken}
@@ -24,6 +25,9 @@ key text i = term key_end text i
 unfoldable pub name : List ℕ → ℕ → Result Token NoToken
 name text i = term name_end text i
 
+unfoldable pub type_name : List ℕ → ℕ → Result Token NoToken
+type_name text i = term type_name_end text i
+
 unfoldable pub word : List ℕ → ℕ → List ℕ → Result Token NoToken
 word text i wanted = term (word_end wanted) text i
 
@@ -32,6 +36,9 @@ punct text i punctuator = term (punct_end punctuator) text i
 
 unfoldable pub num : List ℕ → ℕ → Result Token NoToken
 num text i = term num_end text i
+
+unfoldable pub str_lit : List ℕ → ℕ → Result Token NoToken
+str_lit text i = term str_end text i
 
 -- the end of a text is an empty token there
 abbrev pub text_end : List ℕ → ℕ → Option ℕ
@@ -55,3 +62,7 @@ end text i = or_nothing text i (skipped text i) (punct text i (codes ";"))
 -- a token stands in the text behind the place where its reading began, and the text may be cut round it
 abbrev pub Stands : List ℕ → ℕ → Token → Type 0
 Stands text i token = (i ≤ token.start) × IsPiece text token.start token.next
+
+-- what stands between the first and the last character of a token, each of one byte, is a piece of the text
+abbrev pub HasInside : List ℕ → Token → Type 0
+HasInside text token = IsPiece text (token.start + 1) (token.next - 1)

@@ -1,6 +1,6 @@
 ghost use Rattle.std.specs.Prelude.{◌≡◌, ◌^◌, ◌<◌, ◌≤◌, length, IfSome, bytes_eq, true};
 ghost use Rattle.std.specs.List.{list_any};
-ghost use Rattle.ecma_lex.specs.Keys.{is_reserved, is_valid_continue, is_valid_start, key_end, name_end, word_end};
+ghost use Rattle.ecma_lex.specs.Keys.{is_reserved, is_type_operator, is_valid_continue, is_valid_start, key_end, name_end, type_name_end, word_end};
 ghost use Rattle.ecma_lex.specs.Text.{IsPiece, after, cuts, run_end};
 
 use crate::chars::{char_at, piece};
@@ -54,6 +54,8 @@ const RESERVED_WORDS: [&str; 46] = [
     "yield",
 ];
 
+const TYPE_OPERATORS: [&str; 4] = ["infer", "keyof", "readonly", "unique"];
+
 /// Whether a key may begin with the character: `$`, `_` or one with the Unicode property XID_Start.
 pub fn is_valid_start(c: char) -> bool
     ensures { result ≡ is_valid_start c }
@@ -85,6 +87,14 @@ fn is_reserved(word: &str) -> bool
     ensures { result ≡ is_reserved word.now }
 {
     let words: [&str; 46] = RESERVED_WORDS;
+    is_among(word, words.as_slice())
+}
+
+#[tactic(auto, unfolding(crate::specs::Keys::is_type_operator), using(crate::proofs::Tables::any_type_operator))]
+fn is_type_operator(word: &str) -> bool
+    ensures { result ≡ is_type_operator word.now }
+{
+    let words: [&str; 4] = TYPE_OPERATORS;
     is_among(word, words.as_slice())
 }
 
@@ -129,6 +139,20 @@ pub(crate) fn name_end(text: &str, from: u32) -> Option<u32>
 {
     let next = key_end(text, from)?;
     if is_reserved(piece(text, from, next)) {
+        return None;
+    }
+    Some(next)
+}
+
+/// Where the name that begins at a place ends, if it begins no type but its own.
+#[tactic(auto, unfolding(crate::specs::Keys::type_name_end))]
+pub(crate) fn type_name_end(text: &str, from: u32) -> Option<u32>
+    requires { length text.now < 2 ^ 32 }
+    ensures value { result ≡ type_name_end text.now from }
+    ensures piece { IfSome result (IsPiece text.now from) }
+{
+    let next = name_end(text, from)?;
+    if is_type_operator(piece(text, from, next)) {
         return None;
     }
     Some(next)

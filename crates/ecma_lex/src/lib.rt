@@ -10,6 +10,7 @@ mod chars;
 mod keys;
 mod numerals;
 mod punctuators;
+mod strings;
 #[cfg(test)]
 mod tests;
 mod tokens;
@@ -17,4 +18,6 @@ mod tokens;
 pub use blanks::{Skipped, skip};
 pub use chars::piece;
 pub use keys::{is_valid_continue, is_valid_start};
-pub use tokens::{NoToken, Token, end, end_of_text, key, name, num, punct, word};
+pub use tokens::{
+    NoToken, Token, end, end_of_text, key, name, num, punct, str_lit, type_name, word,
+};

@@ -6,9 +6,11 @@ use std::test::*;
 enum Terminal {
     Key,
     Name,
+    TypeName,
     Word(&'static str),
     Punct(&'static str),
     Num,
+    StrLit,
     End,
     EndOfText,
 }
@@ -16,7 +18,7 @@ enum Terminal {
 type Row = (Terminal, &'static str, u32, Result<(u32, u32, bool), u32>);
 
 // A terminal, a text, a place, and what is read there: start, next and new line, or the failed place.
-const ROWS: [Row; 48] = [
+const ROWS: [Row; 63] = [
     (Terminal::Key, " größe=", 0, Ok((1, 8, false))),
     (Terminal::Key, "x1", 0, Ok((0, 2, false))),
     (Terminal::Key, "1x", 0, Err(0)),
@@ -37,6 +39,13 @@ const ROWS: [Row; 48] = [
     (Terminal::Name, "while", 0, Err(0)),
     (Terminal::Name, " whiles", 0, Ok((1, 7, false))),
     (Terminal::Name, "async", 0, Ok((0, 5, false))),
+    (Terminal::TypeName, "number", 0, Ok((0, 6, false))),
+    (Terminal::TypeName, "keyofs", 0, Ok((0, 6, false))),
+    (Terminal::TypeName, " keyof", 0, Err(1)),
+    (Terminal::TypeName, "unique", 0, Err(0)),
+    (Terminal::TypeName, "readonly", 0, Err(0)),
+    (Terminal::TypeName, "infer", 0, Err(0)),
+    (Terminal::TypeName, "typeof", 0, Err(0)),
     (Terminal::Word("as"), "as", 0, Ok((0, 2, false))),
     (Terminal::Word("as"), "asserts", 0, Err(0)),
     (Terminal::Word("as"), "a s", 0, Err(0)),
@@ -57,6 +66,14 @@ const ROWS: [Row; 48] = [
     (Terminal::Num, "3in", 0, Err(0)),
     (Terminal::Num, "3ö", 0, Err(0)),
     (Terminal::Num, ".5", 0, Err(0)),
+    (Terminal::StrLit, " 'a\"b' ", 0, Ok((1, 6, false))),
+    (Terminal::StrLit, "\"\"\"", 0, Ok((0, 2, false))),
+    (Terminal::StrLit, "'\u{2028}ö'", 0, Ok((0, 7, false))),
+    (Terminal::StrLit, "'a\\'b'", 0, Err(0)),
+    (Terminal::StrLit, "'a\nb'", 0, Err(0)),
+    (Terminal::StrLit, "'a\rb'", 0, Err(0)),
+    (Terminal::StrLit, "'a\"", 0, Err(0)),
+    (Terminal::StrLit, "a'b'", 0, Err(0)),
     (Terminal::End, "a ;", 1, Ok((2, 3, false))),
     (Terminal::End, "a\n;", 1, Ok((2, 3, true))),
     (Terminal::End, "a b", 1, Err(2)),
@@ -77,9 +94,11 @@ fn read(rt: &impl Abort, terminal: Terminal, text: &str, at: u32) -> Result<(u32
     let read = match terminal {
         Terminal::Key => key(text, at),
         Terminal::Name => name(text, at),
+        Terminal::TypeName => type_name(text, at),
         Terminal::Word(wanted) => word(text, at, wanted),
         Terminal::Punct(punctuator) => punct(text, at, punctuator),
         Terminal::Num => num(text, at),
+        Terminal::StrLit => str_lit(text, at),
         Terminal::End => end(text, at),
         Terminal::EndOfText => end_of_text(text, at),
     };

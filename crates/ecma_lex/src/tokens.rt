@@ -2,12 +2,13 @@ ghost use Rattle.std.specs.Prelude.{◌≡◌, ◌^◌, ◌<◌, ◌≤◌, leng
 ghost use Rattle.std.specs.Bool.{OnTrue};
 ghost use Rattle.ecma_lex.specs.Blanks.{skipped};
 ghost use Rattle.ecma_lex.specs.Text.{IsPiece};
-ghost use Rattle.ecma_lex.specs.Tokens.{Stands, end, end_of_text, found, key, may_end, name, num, punct, text_end, word};
+ghost use Rattle.ecma_lex.specs.Tokens.{HasInside, Stands, end, end_of_text, found, key, may_end, name, num, punct, str_lit, text_end, type_name, word};
 
 use crate::blanks::{Skipped, skip};
-use crate::keys::{key_end, name_end, word_end};
+use crate::keys::{key_end, name_end, type_name_end, word_end};
 use crate::numerals::num_end;
 use crate::punctuators::punct_end;
+use crate::strings::str_end;
 
 /// A token.
 #[derive(Clone, Copy, Debug, PartialEq, Eq)]
@@ -77,6 +78,17 @@ pub fn name(text: &str, at: u32) -> Result<Token, NoToken>
     found(before, name_end(text, before.to))
 }
 
+/// Reads a name that may name a type: none of `infer`, `keyof`, `readonly` and `unique`, which begin types of their own.
+#[tactic(auto, unfolding(crate::specs::Tokens::type_name))]
+pub fn type_name(text: &str, at: u32) -> Result<Token, NoToken>
+    requires { length text.now < 2 ^ 32 }
+    ensures value { result ≡ type_name text.now at }
+    ensures stands { IfOk result (Stands text.now at) }
+{
+    let before = skip_closed(text, at)?;
+    found(before, type_name_end(text, before.to))
+}
+
 /// Reads a key with exactly this text.
 #[tactic(auto, unfolding(crate::specs::Tokens::word))]
 pub fn word(text: &str, at: u32, wanted: &str) -> Result<Token, NoToken>
@@ -109,6 +121,18 @@ pub fn num(text: &str, at: u32) -> Result<Token, NoToken>
 {
     let before = skip_closed(text, at)?;
     found(before, num_end(text, before.to))
+}
+
+/// Reads a string literal: a text in `"` or `'`, with no backslash, no line feed, no carriage return and not its own quote in it.
+#[tactic(auto, unfolding(crate::specs::Tokens::str_lit))]
+pub fn str_lit(text: &str, at: u32) -> Result<Token, NoToken>
+    requires { length text.now < 2 ^ 32 }
+    ensures value { result ≡ str_lit text.now at }
+    ensures stands { IfOk result (Stands text.now at) }
+    ensures inside { IfOk result (HasInside text.now) }
+{
+    let before = skip_closed(text, at)?;
+    found(before, str_end(text, before.to))
 }
 
 fn text_end(text: &str, at: u32) -> Option<u32>

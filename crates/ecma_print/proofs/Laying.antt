@@ -2,7 +2,6 @@
 use Rattle.std.proofs.Common.{◌≡◌, ℕ, List, map, ap}
 use Rattle.ecma_tree.specs.declared.node.Node.{Node, fold_out-Node, out-Node}
 use Rattle.ecma_print.specs.declared.place.Place.{Place}
-use Rattle.ecma_print.specs.Texts.{Text}
 use Rattle.ecma_print.specs.Layout.{Laid, laid, lay_step, in_place}
 
 -- a node is laid out by its kind and what its children are laid out as

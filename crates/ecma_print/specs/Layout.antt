@@ -1,13 +1,13 @@
 -- The layout of a module: one statement a line, with a line feed at each end; literals print their source text.
-use Rattle.std.specs.Prelude.{ℕ, List, [], ◌∷◌, ◌++◌, Option, Some, None, codes, map}
+use Rattle.std.specs.Prelude.{ℕ, Bool, true, false, List, [], ◌∷◌, ◌++◌, Option, Some, None, codes}
 use Rattle.ecma_tree.specs.declared.kind.VarDeclKind.{VarDeclKind}
 use Rattle.ecma_tree.specs.declared.kind.VarDeclKind.TheVariants.{Var, Let, Const}
 use Rattle.ecma_tree.specs.declared.kind.Kind.{Kind}
-use Rattle.ecma_tree.specs.declared.kind.Kind.TheVariants.{Absent, List as ListKind, Module, ExprStmt, VarDecl, VarDeclarator, BindingIdent, Ident, Number, CallExpr, TsTypeAnn, TsType}
+use Rattle.ecma_tree.specs.declared.kind.Kind.TheVariants.{Absent, List as ListKind, Module, ExprStmt, VarDecl, VarDeclarator, BindingIdent, Ident, IdentName, Str, Number, Bool as BoolKind, Null, MemberExpr, CallExpr, TsTypeAnn}
 use Rattle.ecma_tree.specs.declared.node.Node.{Node, Node-F, fold-Node}
 use Rattle.ecma_print.specs.declared.place.Place.{Place}
 use Rattle.ecma_print.specs.declared.place.Place.TheVariants.{Whole, Lines, Commas, Initializer}
-use Rattle.ecma_print.specs.Texts.{Text, nothing}
+use Rattle.ecma_print.specs.Texts.{Text}
 
 -- how a child is laid out, by its place
 abbrev pub Laid : Type 0
@@ -37,6 +37,10 @@ abbrev pub source_text : Option (List ℕ) → List ℕ
 source_text None = []
 source_text (Some raw) = raw
 
+abbrev pub bool_word : Bool → List ℕ
+bool_word true = codes "true"
+bool_word false = codes "false"
+
 abbrev pub parenthesized : Text → Text
 parenthesized inside rest = codes "(" ++ inside (codes ")" ++ rest)
 
@@ -48,7 +52,12 @@ whole (VarDecl kind declare) (declarators ∷ []) rest = keyword kind ++ codes "
 whole (VarDeclarator definite) (name ∷ init ∷ []) rest = name Whole (init Initializer rest)
 whole BindingIdent (id ∷ annotation ∷ []) rest = id Whole (annotation Whole rest)
 whole (Ident sym ctxt optional) [] rest = sym ++ rest
+whole (IdentName sym) [] rest = sym ++ rest
+whole (Str value raw) [] rest = source_text raw ++ rest
 whole (Number value raw) [] rest = source_text raw ++ rest
+whole (BoolKind value) [] rest = bool_word value ++ rest
+whole Null [] rest = codes "null" ++ rest
+whole MemberExpr (object ∷ key ∷ []) rest = object Whole (codes "." ++ key Whole rest)
 whole CallExpr (callee ∷ args ∷ type_args ∷ []) rest = callee Whole (parenthesized (args Commas) rest)
 whole TsTypeAnn (type ∷ []) rest = codes ": " ++ type Whole rest
 whole kind children rest = rest

@@ -1,5 +1,5 @@
 -- Texts as they are written: each as what it puts in front of the text that follows it.
-use Rattle.std.specs.Prelude.{◌≡◌, ℕ, List, [], ◌∷◌, ◌++◌}
+use Rattle.std.specs.Prelude.{◌≡◌, ℕ, List, ◌++◌}
 
 abbrev pub Text : Type 0
 Text = List ℕ → List ℕ

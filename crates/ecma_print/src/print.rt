@@ -1,7 +1,7 @@
 ghost use Rattle.std.specs.Prelude.{◌≡◌, ◌++◌, IfOk, OnOk, map};
 ghost use Rattle.ecma_tree.specs.declared.node.Node.{out-Node};
 ghost use Rattle.ecma_print.specs.Texts.{Writes};
-ghost use Rattle.ecma_print.specs.Layout.{layout, laid, lines, commas, more_commas, whole, parenthesized, keyword, source_text};
+ghost use Rattle.ecma_print.specs.Layout.{layout, laid, lines, commas, more_commas, whole, parenthesized, keyword, source_text, bool_word};
 
 use crate::place::Place;
 use ecma_tree::{JsWord, Kind, Module, NoMemory, Node, VarDeclKind};
@@ -40,6 +40,12 @@ fn source_text(raw: &Option<JsWord>) -> &str
         None => "",
         Some(raw) => raw.as_str(),
     }
+}
+
+fn bool_word(value: bool) -> &'static str
+    ensures { result.now ≡ bool_word value }
+{
+    if value { "true" } else { "false" }
 }
 
 /// Prints a node in its place.
@@ -118,8 +124,15 @@ fn print_whole(out: &mut Vec<u8>, node: &Node) -> Result<(), NoMemory>
             print(out, ident, Place::Whole)?;
             print(out, annotation, Place::Whole)
         }
-        (Kind::Ident { sym, .. }, []) => write(out, sym.as_str()),
-        (Kind::Number { raw, .. }, []) => write(out, source_text(raw)),
+        (Kind::Ident { sym, .. } | Kind::IdentName { sym }, []) => write(out, sym.as_str()),
+        (Kind::Str { raw, .. } | Kind::Number { raw, .. }, []) => write(out, source_text(raw)),
+        (Kind::Bool { value }, []) => write(out, bool_word(*value)),
+        (Kind::Null, []) => write(out, "null"),
+        (Kind::MemberExpr, [object, key]) => {
+            print(out, object, Place::Whole)?;
+            write(out, ".")?;
+            print(out, key, Place::Whole)
+        }
         (Kind::CallExpr, [callee, args, type_args]) => {
             print(out, callee, Place::Whole)?;
             print_arguments(out, args)

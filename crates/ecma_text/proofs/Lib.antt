@@ -1,1 +1,2 @@
 pub mod Repetition
+pub mod Repeats

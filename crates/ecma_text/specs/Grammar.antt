@@ -1,21 +1,25 @@
 -- The grammar, a production each. What stands inside a use that raises the level is read by the productions of the level further in.
+-- Parts marked T are TypeScript, and absent in plain reading.
 --
 --   Module = Stmt* EndOfText
---   Stmt = 'let' Declr (',' Declr)* End / Expr End
---   Declr = Name (':' Type)? ('=' Expr)?      Type = TypeOperator      TypeOperator = Name
---   Expr = Name Call* / Num                   Call = '(' (Expr (',' Expr)* ','?)? ')'
+--   Stmt = ('let' / 'const') Declr (',' Declr)* End / T 'type' ~Name '=' Type End / Expr End
+--   Declr = Name T(':' Type)? ('=' Expr)?     Type = TypeOperator      TypeOperator = TypeName ('.' Key)*
+--   Expr = Head (T ~'as' Type)*               Head = Name Link* / Str / Num / 'null' / 'true' / 'false'
+--   Link = '.' Key / '(' (Expr (',' Expr)* ','?)? ')'
 --
+-- A TypeName is a Name other than keyof, unique, readonly and infer. ~A fails behind a line break.
 -- Each use of Stmt, Expr, Type and TypeOperator raises the level by one, wherever it is tried.
--- The k-th Call of an Expr stands k levels deeper than the Expr, with its arguments; it is used only where its `(` was read.
-use Rattle.std.specs.Prelude.{ℕ, zero, suc, Bool, true, false, List, [], ◌∷◌, Option, Some, None, codes}
+-- The k-th Link of an Expr stands k levels deeper than the Expr, with its arguments, and so does the k-th `as` with its type;
+-- a link or an `as` is used only where its first token was read.
+use Rattle.std.specs.Prelude.{ℕ, zero, suc, ◌+◌, ◌-◌, Bool, true, false, List, [], ◌∷◌, Some, codes}
 use Rattle.ecma_number.specs.Numeral.{numeral_of}
 use Rattle.ecma_lex.specs.Text.{piece}
 use Rattle.ecma_lex.specs.declared.tokens.Token.{Token}
-use Rattle.ecma_tree.specs.declared.kind.VarDeclKind.TheVariants.{Let}
-use Rattle.ecma_tree.specs.declared.kind.Kind.TheVariants.{Module, ExprStmt, VarDecl, VarDeclarator, BindingIdent, Ident, Number, CallExpr, TsTypeAnn, TsType}
+use Rattle.ecma_tree.specs.declared.kind.VarDeclKind.{VarDeclKind}
+use Rattle.ecma_tree.specs.declared.kind.VarDeclKind.TheVariants.{Let, Const}
+use Rattle.ecma_tree.specs.declared.kind.Kind.TheVariants.{Module, ExprStmt, VarDecl, VarDeclarator, BindingIdent, Ident, IdentName, Str, Number, Bool as BoolKind, Null, MemberExpr, CallExpr, TsAsExpr, TsTypeAnn, TsType, TsTypeAliasDecl}
 use Rattle.ecma_tree.specs.declared.node.Node.{Node}
-use Rattle.ecma_tree.specs.Nodes.{node_of}
-use Rattle.ecma_text.specs.Reading.{Position, Outcome, read, fails, too_deep, Reading, ◌>>=◌, ◌//◌, pure, maybe, punct, word, name, num, end, end_of_text, many}
+use Rattle.ecma_text.specs.Reading.{too_deep, Reading, ◌>>=◌, ◌//◌, pure, maybe, marked, punct, word, name, key, num, str_lit, same_line, end, end_of_text, type_name, many}
 use Rattle.ecma_text.specs.Trees.{lo, at_token, made, absent, list, first_lo}
 
 -- what is read one level further in
@@ -28,26 +32,57 @@ pub record Level : Type 0 where
   pub type_operator : Reading Node
   -- the arguments of a call, behind its `(`
   pub arguments : Reading (List Node)
-  -- the calls of what was read so far
-  pub calls : Node → Reading Node
+  -- the links of what was read so far
+  pub links : Node → Reading Node
+  -- each `as` of what was read so far
+  pub casts : Node → Reading Node
 
-module _ (text : List ℕ) where
+module _ (text : List ℕ) (ts : Bool) where
   -- the source text of a token
   abbrev pub source : Token → List ℕ
   source token = piece text token.start token.next
 
+  -- what stands between its first and its last character, each of one byte
+  abbrev pub inside : Token → List ℕ
+  inside token = piece text (token.start + 1) (token.next - 1)
+
   unfoldable pub ident : Reading Node
   ident = name text >>= λ t. pure (at_token t (Ident (source t) 0 false))
+
+  unfoldable pub ident_name : Reading Node
+  ident_name = key text >>= λ t. pure (at_token t (IdentName (source t)))
+
+  unfoldable pub string : Reading Node
+  string = str_lit text >>= λ t. pure (at_token t (Str (inside t) (Some (source t))))
 
   unfoldable pub number : Reading Node
   number = num text >>= λ t. pure (at_token t (Number (numeral_of (source t)) (Some (source t))))
 
+  unfoldable pub null_literal : Reading Node
+  null_literal = word text (codes "null") >>= λ t. pure (at_token t Null)
+
+  unfoldable pub true_literal : Reading Node
+  true_literal = word text (codes "true") >>= λ t. pure (at_token t (BoolKind true))
+
+  unfoldable pub false_literal : Reading Node
+  false_literal = word text (codes "false") >>= λ t. pure (at_token t (BoolKind false))
+
+  unfoldable pub literal : Reading Node
+  literal = string // number // null_literal // true_literal // false_literal
+
+  unfoldable pub next_key : Reading Token
+  next_key = punct text (codes ".") >>= λ _. key text
+
   unfoldable pub type_operator_body : Reading Node
-  type_operator_body = name text >>= λ t. pure (at_token t TsType)
+  type_operator_body = type_name text >>= λ t. many text next_key >>= λ _. made t.start TsType []
+
+  -- `let` or `const`, and where it begins
+  unfoldable pub declaration_word : Reading (VarDeclKind × ℕ)
+  declaration_word = (word text (codes "let") >>= λ t. pure (Let, t.start)) // (word text (codes "const") >>= λ t. pure (Const, t.start))
 
   module _ (inner : Level) where
     unfoldable pub annotation : Reading Node
-    annotation = punct text (codes ":") >>= λ t. inner.type >>= λ ty. made t.start TsTypeAnn (ty ∷ [])
+    annotation = marked ts (punct text (codes ":") >>= λ t. inner.type >>= λ ty. made t.start TsTypeAnn (ty ∷ []))
 
     unfoldable pub next_expression : Reading Node
     next_expression = punct text (codes ",") >>= λ _. inner.expression
@@ -65,14 +100,29 @@ module _ (text : List ℕ) where
     unfoldable pub call : Reading (List Node)
     call = punct text (codes "(") >>= λ t. inner.enter t.start >>= λ _. inner.arguments
 
-    unfoldable pub calls_body : Node → Reading Node
-    calls_body e = (call >>= λ es. made (lo e) CallExpr (e ∷ list es ∷ absent ∷ []) >>= λ c. inner.calls c) // pure e
+    unfoldable pub member : Reading Node
+    member = punct text (codes ".") >>= λ t. inner.enter t.start >>= λ _. ident_name
+
+    unfoldable pub links_body : Node → Reading Node
+    links_body e =
+        (member >>= λ k. made (lo e) MemberExpr (e ∷ k ∷ []) >>= λ x. inner.links x)
+        // (call >>= λ es. made (lo e) CallExpr (e ∷ list es ∷ absent ∷ []) >>= λ x. inner.links x)
+        // pure e
 
     unfoldable pub chain : Reading Node
-    chain = ident >>= λ e. calls_body e
+    chain = ident >>= λ e. links_body e
+
+    unfoldable pub head : Reading Node
+    head = chain // literal
+
+    unfoldable pub cast : Reading Node
+    cast = marked ts (same_line text >>= λ _. word text (codes "as") >>= λ t. inner.enter t.start >>= λ _. inner.type)
+
+    unfoldable pub casts_body : Node → Reading Node
+    casts_body e = (cast >>= λ ty. made (lo e) TsAsExpr (e ∷ ty ∷ []) >>= λ x. inner.casts x) // pure e
 
     unfoldable pub expression_body : Reading Node
-    expression_body = chain // number
+    expression_body = head >>= λ e. casts_body e
 
     unfoldable pub initializer : Reading Node
     initializer = punct text (codes "=") >>= λ _. inner.expression
@@ -88,14 +138,19 @@ module _ (text : List ℕ) where
 
     unfoldable pub declaration : Reading Node
     declaration =
-        word text (codes "let") >>= λ w. declarator >>= λ d. many text next_declarator >>= λ ds.
-        end text >>= λ _. made w.start (VarDecl Let false) (list (d ∷ ds) ∷ [])
+        declaration_word >>= λ w. declarator >>= λ d. many text next_declarator >>= λ ds.
+        end text >>= λ _. made w.1 (VarDecl w.0 false) (list (d ∷ ds) ∷ [])
+
+    unfoldable pub alias : Reading Node
+    alias =
+        marked ts (word text (codes "type") >>= λ w. same_line text >>= λ _. ident >>= λ id. punct text (codes "=") >>= λ _. inner.type >>= λ _.
+        end text >>= λ _. made w.start (TsTypeAliasDecl false) (id ∷ []))
 
     unfoldable pub expression_statement : Reading Node
     expression_statement = inner.expression >>= λ e. end text >>= λ _. made (lo e) ExprStmt (e ∷ [])
 
     unfoldable pub statement_body : Reading Node
-    statement_body = declaration // expression_statement
+    statement_body = declaration // alias // expression_statement
 
   -- no level is left
   abbrev pub no_level : Level
@@ -106,7 +161,8 @@ module _ (text : List ℕ) where
     type = λ s. too_deep s.place;
     type_operator = λ s. too_deep s.place;
     arguments = λ s. too_deep s.place;
-    calls = λ e. pure e;
+    links = λ e. pure e;
+    casts = λ e. pure e;
   }
 
   -- a level whose uses are read with what is further in
@@ -118,7 +174,8 @@ module _ (text : List ℕ) where
     type = inner.type_operator;
     type_operator = type_operator_body;
     arguments = arguments_body inner;
-    calls = calls_body inner;
+    links = links_body inner;
+    casts = casts_body inner;
   }
 
   -- what is read where so many levels more are allowed

@@ -1,8 +1,10 @@
 -- The words in which the grammar is written.
 -- A reading goes on from a position: a place in the text, and the greatest place at which a terminal has failed so far.
-use Rattle.std.specs.Prelude.{ℕ, zero, suc, ◌+◌, max, Bool, true, false, List, [], ◌∷◌, ◌++◌, length, Option, Some, None, Result, Ok, Err}
+use Rattle.std.specs.Prelude.{ℕ, zero, suc, ◌+◌, max, Bool, true, false, List, [], ◌∷◌, ◌++◌, length, Option, Some, None, Result, Ok, Err, if◌then◌else◌}
 use Rattle.ecma_lex.specs.declared.tokens.Token.{Token}
 use Rattle.ecma_lex.specs.declared.tokens.NoToken.{NoToken}
+use Rattle.ecma_lex.specs.declared.blanks.Skipped.{Skipped}
+use Rattle.ecma_lex.specs.Blanks.{skipped}
 use Rattle.ecma_lex.specs.Tokens as lex
 
 pub record Position : Type 0 where
@@ -62,6 +64,11 @@ unfoldable pub many_up_to : {A : Type 0} → Reading A → ℕ → Reading (List
 many_up_to p zero s = read [] s
 many_up_to p (suc n) s = many_on s (many_up_to p n) (p s)
 
+-- a part marked as TypeScript: in plain reading it is absent, and fails without a terminal
+abbrev pub marked : {A : Type 0} → Bool → Reading A → Reading A
+marked true p s = p s
+marked false p s = fails s.failed
+
 -- a terminal: it alone raises the greatest failed place
 abbrev pub terminal_on : Position → Result Token NoToken → Outcome Token
 terminal_on s (Ok token) = read token (record { place = token.next; failed = s.failed })
@@ -85,6 +92,22 @@ module _ (text : List ℕ) where
 
   abbrev pub end_of_text : Reading Token
   end_of_text s = terminal_on s (lex.end_of_text text s.place)
+
+  abbrev pub key : Reading Token
+  key s = terminal_on s (lex.key text s.place)
+
+  abbrev pub type_name : Reading Token
+  type_name s = terminal_on s (lex.type_name text s.place)
+
+  abbrev pub str_lit : Reading Token
+  str_lit s = terminal_on s (lex.str_lit text s.place)
+
+  -- no line break stands before what follows; one fails as a terminal, behind it
+  abbrev pub same_line_on : Position → Skipped → Outcome Bool
+  same_line_on s before = if before.new_line then fails (max s.failed before.to) else read true s
+
+  abbrev pub same_line : Reading Bool
+  same_line s = same_line_on s (skipped text s.place)
 
   -- a repetition in the text
   abbrev pub many : {A : Type 0} → Reading A → Reading (List A)

@@ -1,8 +1,11 @@
 //! The reader: where it stands in a text, and how it goes on from there.
 ghost use Rattle.std.specs.Prelude.{◌<◌, ◌^◌, length};
 
-mod productions;
+mod expressions;
+mod literals;
+mod statements;
 mod terminals;
+mod types;
 
 use std::alloc::Global;
 
@@ -11,6 +14,8 @@ use std::alloc::Global;
 pub(crate) struct Reader<'a> {
     alloc: Global,
     text: &'a str,
+    /// Whether the parts of the grammar that are marked as TypeScript are read.
+    typescript: bool,
     /// Where the reading goes on.
     place: u32,
     /// The greatest place at which a terminal has failed.
@@ -22,14 +27,16 @@ impl<'a> Reader<'a> {
     ghost use Rattle.std.specs.Prelude.{◌≡◌, ◌<◌, ◌^◌, length};
     ghost use Rattle.ecma_text.specs.Agreement.{position};
 
-    pub(crate) fn new(alloc: Global, text: &'a str) -> Reader<'a>
+    pub(crate) fn new(alloc: Global, text: &'a str, typescript: bool) -> Reader<'a>
         requires { length text.now < 2 ^ 32 }
         ensures text { result.text.now ≡ text.now }
+        ensures typescript { result.typescript ≡ typescript }
         ensures position { position result ≡ record { place = 0; failed = 0 } }
     {
         Reader {
             alloc,
             text,
+            typescript,
             place: 0,
             failed: 0,
         }

@@ -39,6 +39,21 @@ fn texts_are_read_or_refused_at_their_place(rt: HostRuntime) -> Result<(), Fail>
         ("f(1.5)", syntax(2)),
         ("a b", syntax(2)),
         ("a\nb", None),
+        ("const a = 1, b: T.U = 'x';", None),
+        ("a.b.let(true, null, \"x\").c", None),
+        ("a.", syntax(2)),
+        ("'a'.b", syntax(3)),
+        ("'a\\n'", syntax(0)),
+        ("a\nas\nb", None),
+        ("a as\nT.U as V", None),
+        ("a as 1", syntax(5)),
+        ("type T = a.b; let T;", None),
+        ("type\nT = a;", syntax(7)),
+        ("let a = keyof", None),
+        ("let a: keyof", syntax(7)),
+        ("let a; let a;", syntax(11)),
+        ("let a, b, a, b;", syntax(10)),
+        ("const c = f(c); let C, c", syntax(23)),
     ];
     for (text, expected) in table {
         assert!(rt; is_short(text));
@@ -48,29 +63,56 @@ fn texts_are_read_or_refused_at_their_place(rt: HostRuntime) -> Result<(), Fail>
     Ok(())
 }
 
-/// `f(` so many times.
-fn calls(alloc: Global, count: usize) -> Result<String, Fail> {
-    let mut text = String::new(alloc);
+#[test]
+fn plain_reading_has_no_types(rt: HostRuntime) -> Result<(), Fail> {
+    let table = [
+        ("const a = b.c('x');", None),
+        ("let a: T", syntax(5)),
+        ("x as T", syntax(2)),
+        ("type T = a;", syntax(5)),
+        ("let a; let a;", syntax(11)),
+    ];
+    for (text, expected) in table {
+        assert!(rt; is_short(text));
+        for keep_assign in [false, true] {
+            let read = read_plain(rt.alloc(), text, keep_assign);
+            assert_eq!(rt; read.err(), expected, "for {text:?}");
+        }
+    }
+    Ok(())
+}
+
+/// A text, with a part so many times behind it.
+fn with_parts(alloc: Global, front: &str, part: &str, count: usize) -> Result<String, Fail> {
+    let mut text = String::from_str(alloc, front)?;
     for _ in 0..count {
-        text.push_str("f(")?;
+        text.push_str(part)?;
     }
     Ok(text)
 }
 
 #[test]
 fn a_level_above_the_deepest_is_too_deep(rt: HostRuntime) -> Result<(), Fail> {
-    let mut deepest = calls(rt.alloc(), 255)?;
+    let mut deepest = with_parts(rt.alloc(), "", "f(", 255)?;
     deepest.push_str("1")?;
     for _ in 0..255 {
         deepest.push_str(")")?;
     }
     assert!(rt; is_short(deepest.as_str()));
     assert!(rt; read_module(rt.alloc(), deepest.as_str()).is_ok());
-    for count in [256, 300, 513] {
-        let text = calls(rt.alloc(), count)?;
+    let table = [
+        ("", "f(", 256, too_deep(511)),
+        ("", "f(", 513, too_deep(511)),
+        ("a", ".b", 510, None),
+        ("a", ".b", 511, too_deep(1021)),
+        ("a", " as T", 509, None),
+        ("a", " as T", 510, too_deep(2549)),
+    ];
+    for (front, part, count, expected) in table {
+        let text = with_parts(rt.alloc(), front, part, count)?;
         assert!(rt; is_short(text.as_str()));
         let read = read_module(rt.alloc(), text.as_str());
-        assert_eq!(rt; read.err(), too_deep(511), "for {count} calls");
+        assert_eq!(rt; read.err(), expected, "for {count} of {part:?}");
     }
     Ok(())
 }

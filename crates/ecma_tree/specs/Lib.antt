@@ -1,3 +1,5 @@
 pub mod Sessions
 pub mod Nodes
 pub mod Rewritten
+pub mod Spans
+pub mod Erasure

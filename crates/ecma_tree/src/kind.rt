@@ -40,16 +40,39 @@ pub enum Kind {
         ctxt: SyntaxContext,
         optional: bool,
     },
+    /// A name that is no variable, as the key of a member. No children.
+    IdentName {
+        sym: JsWord,
+    },
+    /// A text: what it says, and its source text if it has one. No children.
+    Str {
+        value: JsWord,
+        raw: Option<JsWord>,
+    },
     /// A numeral: its value where that is in the number domain, and its source text if it has one.
     /// No children.
     Number {
         value: Option<JsNumber>,
         raw: Option<JsWord>,
     },
+    /// `true` or `false`. No children.
+    Bool {
+        value: bool,
+    },
+    /// `null`. No children.
+    Null,
+    /// A member of an object. The object, the key.
+    MemberExpr,
     /// A call. The callee, the arguments, a list, the type arguments or `Absent`.
     CallExpr,
+    /// An expression as a type. The expression, the type.
+    TsAsExpr,
     /// A type annotation. The type.
     TsTypeAnn,
     /// A type; what it says is not kept. No children.
     TsType,
+    /// A type alias; what it stands for is not kept. The identifier.
+    TsTypeAliasDecl {
+        declare: bool,
+    },
 }

@@ -1,5 +1,7 @@
 ghost use Rattle.std.specs.Prelude.{◌≡◌, [], ◌∷◌, ◌++◌, ◌<◌, length, slice_get, slice_set, remove, ◌↔◌, IsTrue, IfOk, MatchOption, OnOk, OnErr, OnSome};
 ghost use Rattle.std.specs.Option.{option_copied};
+ghost use Rattle.std.specs.Fn.{CalledAt};
+ghost use Rattle.std.specs.List.Retain.{IsFiltered};
 
 use std::alloc::{AllocError, Global};
 use std::marker::Model;
@@ -129,6 +131,14 @@ impl<T: Drop> ItemList<T> {
     {
         let ItemList { mut items } = more;
         self.items.append(&mut items)
+    }
+
+    /// Keeps the items of which `keeps` says so, in their order, and lets go of the others. It takes no memory.
+    pub fn retain<F: FnMut(&T) -> bool>(&mut self, keeps: F)
+        requires { F.IsAlwaysCallable keeps }
+        ensures { IsFiltered (CalledAt F.FnMut) keeps self.old self.new }
+    {
+        self.items.retain(keeps)
     }
 
     /// Writes an item in the place of another.

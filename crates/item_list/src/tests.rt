@@ -13,7 +13,8 @@ fn a_list_keeps_its_items(rt: HostRuntime) -> Result<(), Fail> {
     assert_eq!(rt; list.get(5).copied(), None);
     assert!(rt; 1 < list.len());
     *list.get_mut(1) = 9;
-    assert_eq!(rt; list.into_vec().as_slice(), [1, 9, 3, 4, 5].as_slice());
+    list.retain(|item| *item > 3);
+    assert_eq!(rt; list.into_vec().as_slice(), [9, 4, 5].as_slice());
     assert!(rt; ItemList::<u8>::new(rt.alloc()).is_empty());
     Ok(())
 }

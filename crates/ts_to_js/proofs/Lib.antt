@@ -1,3 +1,6 @@
 pub mod Utf8
 pub mod Pieces
 pub mod Runs
+pub mod Erasing
+pub mod Conversions
+pub mod Outcomes

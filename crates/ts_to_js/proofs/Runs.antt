@@ -1,15 +1,15 @@
 -- Runs that came to an end, one lemma for each way.
-use Rattle.std.proofs.Common.{◌≡◌, ◌⊎◌, ◌≢◌, ◌≤◌, ◌+◌, ℕ, List, [], length, take, Some, None, Ok, Err, inl, inr, refl, sym, ◌∙◌, ap, arith, subst}
+use Rattle.std.proofs.Common.{◌≡◌, ◌⊎◌, ◌≢◌, ℕ, List, [], length, Some, None, Ok, Err, inl, inr, refl, sym, ◌∙◌, ap, arith, subst}
 use Rattle.std.specs.Prelude.{Option, Result, OnOk, OnErr, IfSome}
 use Rattle.std.proofs.lemmas.List.{append-nil, take_all}
 use Rattle.std.specs.Io.KnownBytes.{append_known}
 use Rattle.devices.specs.declared.sink.SinkError.{SinkError}
 use Rattle.devices.specs.declared.sink.SinkError.TheVariants.{Failed, NoMemory}
-use Rattle.devices.specs.Counts.{Rose, CountedAtMost, HasCause}
+use Rattle.devices.specs.Counts.{CountedAtMost, HasCause}
 use Rattle.devices.specs.Sink.{TakesPart}
 use Rattle.ts_to_js.specs.declared.program.TheConstants.{DONE, REFUSED, BAD_WORD, READ_FAULT, WRITE_FAULT, NO_MEMORY}
 use Rattle.ts_to_js.specs.declared.error.TsError.{TsError}
-use Rattle.ts_to_js.specs.Running.{Expected, Seen, EndsWith, TakesFront, TakesAll, Ran, Refuses, reported_status, expected_of, first_read}
+use Rattle.ts_to_js.specs.Running.{Expected, Seen, TakesFront, TakesAll, Ran, Refuses, reported_status, expected_of, first_read}
 use Rattle.ts_to_js.specs.Lines.{fault_line}
 use Rattle.ts_to_js.specs.Answer.{Answers}
 use Rattle.ts_to_js.specs.declared.error.TsError.TheVariants as error
@@ -142,3 +142,18 @@ reported_status-either (Err NoMemory) status = inr refl
 pub no_fault : (status : ℕ) → (status ≡ REFUSED) ⊎ (status ≡ NO_MEMORY) → (status ≢ WRITE_FAULT) × (status ≢ READ_FAULT)
 no_fault status (inl refused) = (λ e. omega (arith, e, refused), λ e. omega (arith, e, refused))
 no_fault status (inr none) = (λ e. omega (arith, e, none), λ e. omega (arith, e, none))
+
+-- and one that told a line has none
+pub told-no_read_fault : {T : Type 0} (writing : Result T SinkError) (status : ℕ) → (status ≡ REFUSED) ⊎ (status ≡ BAD_WORD) → reported_status writing status ≢ READ_FAULT
+told-no_read_fault (Ok written) status (inl told) = λ fault. omega (arith, told, fault)
+told-no_read_fault (Ok written) status (inr told) = λ fault. omega (arith, told, fault)
+told-no_read_fault (Err Failed) status (inl told) = λ fault. omega (arith, told, fault)
+told-no_read_fault (Err Failed) status (inr told) = λ fault. omega (arith, told, fault)
+told-no_read_fault (Err NoMemory) status told = λ fault. omega (arith, fault)
+
+pub told-no_write_fault : {T : Type 0} (writing : Result T SinkError) (status : ℕ) → (status ≡ REFUSED) ⊎ (status ≡ BAD_WORD) → reported_status writing status ≢ WRITE_FAULT
+told-no_write_fault (Ok written) status (inl told) = λ fault. omega (arith, told, fault)
+told-no_write_fault (Ok written) status (inr told) = λ fault. omega (arith, told, fault)
+told-no_write_fault (Err Failed) status (inl told) = λ fault. omega (arith, told, fault)
+told-no_write_fault (Err Failed) status (inr told) = λ fault. omega (arith, told, fault)
+told-no_write_fault (Err NoMemory) status told = λ fault. omega (arith, fault)

@@ -1,5 +1,5 @@
 -- What a run of the program does: its status, and what standard output and standard error take.
-use Rattle.std.specs.Prelude.{◌≡◌, ◌⊎◌, ℕ, ◌≢◌, List, [], ◌∷◌, length, take, Option, Some, None, Result, Ok, Err, ◌+◌}
+use Rattle.std.specs.Prelude.{◌≡◌, ◌⊎◌, ℕ, ◌≢◌, List, [], ◌∷◌, length, take, Option, Some, None, Result, Ok, Err, IfSome, ◌+◌}
 use Rattle.std.specs.Io.KnownBytes.{append_known}
 use Rattle.std.specs.declared.rc.RcStr.{RcStr}
 use Rattle.std.specs.declared.alloc.Global.{Global}
@@ -11,6 +11,7 @@ use Rattle.ts_to_js.specs.declared.error.TsError.{TsError}
 use Rattle.ts_to_js.specs.declared.error.TsError.TheVariants as error
 use Rattle.ts_to_js.specs.declared.program.TheConstants.{DONE, REFUSED, BAD_WORD, READ_FAULT, WRITE_FAULT, NO_MEMORY}
 use Rattle.ts_to_js.specs.Conversion.{byte_limit, converted}
+use Rattle.ts_to_js.specs.Headline.{IsValid, IsConversion}
 use Rattle.ts_to_js.specs.Lines.{fault_line, bad_word_line}
 
 -- what a run comes to where no device fails and memory is there: its status, the text for standard output, the line for standard error
@@ -86,3 +87,17 @@ pub record Ran (x : Expected) (status : ℕ) (out out' err err' : Seen) : Type 0
 abbrev pub Refuses : TsError → ℕ → Seen → Seen → Type 0
 Refuses error.NoMemory status err err' = (status ≡ NO_MEMORY) × (err' ≡ err)
 Refuses refusal status err err' = (out : Seen) → Ran (expected_of (Err refusal)) status out out err err'
+
+-- A run of the program: of a bad word, if there is one, and a source with these bytes left, where it tells them.
+-- The faults are those that the source and the output counted in the run.
+pub record IsRun (bad : Option (List ℕ)) (left : Option (List ℕ)) (status : ℕ) (read_fault write_fault : Type 0) (out out' err err' : Seen) : Type 0 where
+  -- the bytes that are read: all that the source had left, or the first of them
+  pub src : List ℕ
+  pub is_read : IfSome left (λ all. src ≡ first_read all)
+  -- status, output and errors are those expected of the word and these bytes
+  pub ran : Ran (expected bad src) status out out' err err'
+  -- where the run is done, what the output took is a conversion of these bytes
+  pub converts : status ≡ DONE → IsConversion src (expected bad src).text
+  -- a valid module is not refused, and without a bad word and a fault it is converted, unless memory runs out
+  pub refuses : status ≡ REFUSED → IsValid src → ⊥
+  pub complete : bad ≡ None → IsValid src → ¬ read_fault → ¬ write_fault → (status ≡ DONE) ⊎ (status ≡ NO_MEMORY)

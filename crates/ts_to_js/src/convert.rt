@@ -1,8 +1,9 @@
-ghost use Rattle.std.specs.Prelude.{◌≡◌, ◌≤◌, length, true, false, MatchOption};
+ghost use Rattle.std.specs.Prelude.{◌≡◌, ◌≤◌, ◌⊎◌, length, true, false, MatchOption, IfOk, IsOk};
 ghost use Rattle.std.specs.Str.{is_utf8};
-ghost use Rattle.ecma_text.specs.Modules.{reads, deepest};
+ghost use Rattle.ecma_text.specs.Modules.{answer_of, reads, deepest};
 ghost use Rattle.ts_to_js.specs.Conversion.{converted, printed};
 ghost use Rattle.ts_to_js.specs.Answer.{Answers};
+ghost use Rattle.ts_to_js.specs.Headline.{IsConversion, IsValid};
 
 use crate::erase::erase_types;
 use crate::error::TsError;
@@ -19,15 +20,25 @@ pub const LIMIT: usize = 4_194_304;
 pub struct Options {}
 
 /// Converts the bytes of a TypeScript module to those of a JavaScript module.
-/// Nothing is drawn from the session.
 pub fn ts_to_js(
     alloc: Global,
     session: &mut Session,
     src: &[u8],
     options: &Options,
 ) -> Result<Vec<u8>, TsError>
+    // The text is the layout of the tree without its types; else the first refusal that holds is answered.
     ensures text { Answers result (converted src.now) }
+    // It is a plain module that does what the source does.
+    ensures conversion { IfOk result (λ text. IsConversion src.now text.items) }
+    ensures valid { IsValid src.now → (IsOk result) ⊎ (result ≡ Err TsError.NoMemory) }
+    // Nothing is drawn.
     ensures session { session.new ≡ session.old }
+{
+    convert_bytes(alloc, src)
+}
+
+fn convert_bytes(alloc: Global, src: &[u8]) -> Result<Vec<u8>, TsError>
+    ensures { Answers result (converted src.now) }
 {
     if src.len() > LIMIT {
         return Err(TsError::TooLong);
@@ -51,7 +62,7 @@ fn decoded(src: &[u8]) -> Option<&str>
 
 fn convert_text(alloc: Global, text: &str) -> Result<Vec<u8>, TsError>
     requires { length text.now ≤ LIMIT }
-    ensures { Answers result (printed (reads text.now deepest)) }
+    ensures { Answers result (printed (answer_of (reads true text.now deepest))) }
 {
     let mut tree = read_module(alloc, text)?;
     erase_types(alloc, &mut tree);

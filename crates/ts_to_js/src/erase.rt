@@ -1,12 +1,13 @@
-ghost use Rattle.std.specs.Prelude.{◌≡◌, ◌↔◌, IsTrue};
-ghost use Rattle.ecma_tree.specs.declared.kind.Kind.TheVariants.{TsTypeAnn};
+ghost use Rattle.std.specs.Prelude.{◌≡◌, filter};
+ghost use Rattle.ecma_tree.specs.Nodes.{node_of};
+ghost use Rattle.ecma_tree.specs.declared.kind.Kind.TheVariants.{TsAsExpr};
 ghost use Rattle.ecma_tree.specs.declared.node.Node.{out-Node};
-ghost use Rattle.ts_to_js.specs.Erasure.{erased, without_types};
+ghost use Rattle.ecma_tree.specs.Erasure.{erased, erased_by, stays, without_types};
 
 use ecma_tree::{Kind, Node};
 use std::alloc::Global;
 
-/// Takes every type annotation out of the tree.
+/// Takes the types out of a tree: annotations, `as` with its type, and type aliases.
 pub(crate) fn erase_types(alloc: Global, node: &mut Node)
     ensures { node.new ≡ without_types node.old }
 {
@@ -17,16 +18,38 @@ pub(crate) fn erase_types(alloc: Global, node: &mut Node)
     erase_here(alloc, node);
 }
 
+/// Takes the types out of a node whose children have none any more.
 fn erase_here(alloc: Global, node: &mut Node)
     ensures { node.new ≡ erased (out-Node node.old) }
 {
-    if is_annotation(&node.kind) {
-        *node = Node::absent(alloc);
+    match &node.kind {
+        Kind::TsTypeAnn => *node = Node::absent(alloc),
+        Kind::TsAsExpr => keep_operand(alloc, node),
+        Kind::List => drop_aliases(node),
+        _ => {}
     }
 }
 
-fn is_annotation(kind: &Kind) -> bool
-    ensures { IsTrue result ↔ (kind.now ≡ TsTypeAnn) }
+/// Puts the expression in the place of an expression as a type.
+#[tactic(auto, using(crate::proofs::Erasing::operand))]
+fn keep_operand(alloc: Global, node: &mut Node)
+    ensures { node.new ≡ erased_by TsAsExpr (out-Node node.old).children (out-Node node.old) }
 {
-    matches!(kind, Kind::TsTypeAnn)
+    if node.children.len() == 2 {
+        let operand = node.children.replace(0, Node::absent(alloc));
+        *node = operand;
+    }
+}
+
+/// Takes the type aliases out of a list.
+fn drop_aliases(node: &mut Node)
+    ensures { node.new ≡ node_of (out-Node node.old).span (out-Node node.old).kind (filter stays (out-Node node.old).children) }
+{
+    node.children.retain(|item| stays(item));
+}
+
+fn stays(item: &Node) -> bool
+    ensures { result ≡ stays item.now }
+{
+    !matches!(item.kind, Kind::TsTypeAliasDecl { .. })
 }

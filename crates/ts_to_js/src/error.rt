@@ -17,7 +17,8 @@ pub enum TsError {
     /// A use above the deepest level begins at this place.
     #[error("too deep at {at}")]
     TooDeep { at: u32 },
-    /// The grammar reads no module there. The place is the greatest one at which a terminal failed.
+    /// The grammar reads no module there, and the place is the greatest one at which a terminal failed; or the module declares a name that
+    /// it declared before, and the place is where the first such name stands.
     #[error("syntax error at {at}")]
     Syntax { at: u32 },
     /// There was no memory. This alone has no cause in the source.

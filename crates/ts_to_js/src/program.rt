@@ -1,8 +1,8 @@
 ghost use Rattle.std.specs.Prelude.{◌≡◌, ◌≢◌, ◌⊎◌, ◌+◌, ℕ, List, IfSome, IsSome};
 ghost use Rattle.std.specs.Option.{option_copied};
-ghost use Rattle.devices.specs.Counts.{CountedAtMost, HasCause};
+ghost use Rattle.devices.specs.Counts.{CountedAtMost, HasCause, Rose};
 ghost use Rattle.ts_to_js.specs.Conversion.{converted};
-ghost use Rattle.ts_to_js.specs.Running.{bad_word, expected, expected_of, first_read, seen, written_status, reported_status, Refuses, Ran};
+ghost use Rattle.ts_to_js.specs.Running.{bad_word, expected_of, first_read, seen, written_status, reported_status, Refuses, Ran, IsRun};
 
 use crate::convert::{LIMIT, Options, ts_to_js};
 use crate::error::TsError;
@@ -43,9 +43,11 @@ pub fn run<S: Source, O: Sink, E: Sink>(
     ensures read_fault { HasCause (S.faults source.old) (S.faults source.new) (result ≡ READ_FAULT) }
     ensures write_fault { HasCause (O.faults out.old) (O.faults out.new) (result ≡ WRITE_FAULT) }
 
-    // The run is that of the words and the bytes that were read: those of the source, where it tells them.
-    ensures run { (src : List ℕ) × IfSome (S.left source.old) (λ left. src ≡ first_read left)
-        × Ran (expected (bad_word words.now) src) result (seen O.taken O.faults O.calls out.old) (seen O.taken O.faults O.calls out.new)
+    // Status, output and errors are those of the words and the bytes that were read; what is written is
+    // a conversion of them.
+    ensures run { IsRun (bad_word words.now) (S.left source.old) result
+        (Rose (S.faults source.old) (S.faults source.new)) (Rose (O.faults out.old) (O.faults out.new))
+        (seen O.taken O.faults O.calls out.old) (seen O.taken O.faults O.calls out.new)
         (seen E.taken E.faults E.calls err.old) (seen E.taken E.faults E.calls err.new) }
 {
     match bad_word(words) {

@@ -14,7 +14,7 @@ struct Row {
     err: &'static str,
 }
 
-const ROWS: [Row; 9] = [
+const ROWS: [Row; 11] = [
     Row {
         word: "",
         src: "let x: number = f(1);",
@@ -35,6 +35,20 @@ const ROWS: [Row; 9] = [
         status: DONE,
         out: "let größe, y = 10;\nf(a, g())(größe);\n",
         err: "",
+    },
+    Row {
+        word: "",
+        src: "type T = a.b; const s: T = \"x\" as T; log.info(s, 1,);",
+        status: DONE,
+        out: "const s = \"x\";\nlog.info(s, 1);\n",
+        err: "",
+    },
+    Row {
+        word: "",
+        src: "let a;\nlet b, a;",
+        status: REFUSED,
+        out: "",
+        err: "error: Syntax at 14\n",
     },
     Row {
         word: "-x",

@@ -5,17 +5,17 @@ use ecma_lex::{NoToken, Token};
 use ecma_tree::{JsWord, Kind, NoMemory, Node, Nodes, Span};
 
 impl Reader<'_> {
-    ghost use Rattle.std.specs.Prelude.{◌≡◌, IfOk, MatchResult, ◌+◌, []};
-    ghost use Rattle.ecma_lex.specs.Text.{piece};
+    ghost use Rattle.std.specs.Prelude.{◌≡◌, IfOk, MatchResult, ◌+◌, [], true};
+    ghost use Rattle.ecma_lex.specs.Tokens.{HasInside};
     ghost use Rattle.ecma_tree.specs.Nodes.{node_of};
-    ghost use Rattle.ecma_text.specs.Reading.{punct, word, name, num, end, end_of_text, terminal_on};
+    ghost use Rattle.ecma_text.specs.Reading.{punct, word, key, name, type_name, num, str_lit, same_line, end, end_of_text, terminal_on};
     ghost use Rattle.ecma_text.specs.Trees.{at_token, absent};
-    ghost use Rattle.ecma_text.specs.Grammar.{levels, level, no_level, source};
-    ghost use Rattle.ecma_text.specs.Agreement.{position, Reads, EndsAs, Settles, SettlesOr};
+    ghost use Rattle.ecma_text.specs.Grammar.{levels, level, no_level, source, inside};
+    ghost use Rattle.ecma_text.specs.Agreement.{position, Reads, ReadsAs, SameText, EndsAs, Settles, SettlesOr};
 
     /// Goes behind a token that was found, or marks where none was.
     fn take(&mut self, found: Result<Token, NoToken>) -> Result<Token, Failure>
-        ensures text { self.new.text.now ≡ self.old.text.now }
+        ensures text { SameText self.old self.new }
         ensures value { EndsAs (λ x. x) result self.new (terminal_on (position self.old) found) }
     {
         match found {
@@ -48,6 +48,25 @@ impl Reader<'_> {
         self.take(ecma_lex::name(self.text, self.place))
     }
 
+    pub(super) fn key(&mut self) -> Result<Token, Failure>
+        ensures { Reads self.old self.new result (key self.old.text.now) }
+    {
+        self.take(ecma_lex::key(self.text, self.place))
+    }
+
+    pub(super) fn type_name(&mut self) -> Result<Token, Failure>
+        ensures { Reads self.old self.new result (type_name self.old.text.now) }
+    {
+        self.take(ecma_lex::type_name(self.text, self.place))
+    }
+
+    pub(super) fn str_lit(&mut self) -> Result<Token, Failure>
+        ensures value { Reads self.old self.new result (str_lit self.old.text.now) }
+        ensures inside { IfOk result (HasInside self.new.text.now) }
+    {
+        self.take(ecma_lex::str_lit(self.text, self.place))
+    }
+
     pub(super) fn num(&mut self) -> Result<Token, Failure>
         ensures { Reads self.old self.new result (num self.old.text.now) }
     {
@@ -66,10 +85,22 @@ impl Reader<'_> {
         self.take(ecma_lex::end_of_text(self.text, self.place))
     }
 
+    /// Fails behind a line break, where one stands before what follows.
+    pub(super) fn same_line(&mut self) -> Result<(), Failure>
+        ensures { ReadsAs (λ _. true) self.old self.new result (same_line self.old.text.now) }
+    {
+        let before = ecma_lex::skip(self.text, self.place);
+        if before.new_line {
+            self.failed = self.failed.max(before.to);
+            return Err(Failure::NoMatch);
+        }
+        Ok(())
+    }
+
     /// The levels that are left inside one more; too deep at the place where none is.
     #[tactic(auto, unfolding(crate::specs::Grammar::levels))]
     pub(super) fn enter(&self, left: usize, place: u32) -> Result<usize, Failure>
-        ensures { MatchResult result (λ inside. (left ≡ inside + 1) × (levels self.now.text.now left ≡ level self.now.text.now (levels self.now.text.now inside))) (λ failure. (failure ≡ Failure.TooDeep place) × (levels self.now.text.now left ≡ no_level self.now.text.now)) }
+        ensures { MatchResult result (λ inside. (left ≡ inside + 1) × (levels self.now.text.now self.now.typescript left ≡ level self.now.text.now self.now.typescript (levels self.now.text.now self.now.typescript inside))) (λ failure. (failure ≡ Failure.TooDeep place) × (levels self.now.text.now self.now.typescript left ≡ no_level self.now.text.now self.now.typescript)) }
     {
         if left == 0 {
             return Err(Failure::TooDeep(place));
@@ -83,7 +114,7 @@ impl Reader<'_> {
         start: u32,
         read: Result<T, Failure>,
     ) -> Result<Option<T>, Failure>
-        ensures text { self.new.text.now ≡ self.old.text.now }
+        ensures text { SameText self.old self.new }
         ensures value { Settles start self.old self.new read result }
     {
         match read {
@@ -102,7 +133,7 @@ impl Reader<'_> {
         start: u32,
         read: Result<Node, Failure>,
     ) -> Result<Node, Failure>
-        ensures text { self.new.text.now ≡ self.old.text.now }
+        ensures text { SameText self.old self.new }
         ensures value { SettlesOr absent start self.old self.new read result }
     {
         match self.settle(start, read)? {
@@ -113,15 +144,24 @@ impl Reader<'_> {
 
     /// The source text of a token.
     pub(super) fn source(&self, token: Token) -> &str
-        ensures { result.now ≡ source self.now.text.now token }
+        ensures { result.now ≡ source self.now.text.now self.now.typescript token }
     {
         ecma_lex::piece(self.text, token.start, token.next)
     }
 
     pub(super) fn source_word(&self, token: Token) -> Result<JsWord, NoMemory>
-        ensures { IfOk result (λ word. word ≡ source self.now.text.now token) }
+        ensures { IfOk result (λ word. word ≡ source self.now.text.now self.now.typescript token) }
     {
         JsWord::new(self.alloc, self.source(token))
+    }
+
+    /// What stands inside the quotes of a string literal.
+    pub(super) fn inside_word(&self, token: Token) -> Result<JsWord, NoMemory>
+        requires { HasInside self.now.text.now token }
+        ensures { IfOk result (λ word. word ≡ inside self.now.text.now self.now.typescript token) }
+    {
+        let inside = ecma_lex::piece(self.text, token.start + 1, token.next - 1);
+        JsWord::new(self.alloc, inside)
     }
 
     /// A node that stands where a token stands.

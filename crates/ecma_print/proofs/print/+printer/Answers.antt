@@ -1,5 +1,4 @@
-use Rattle.std.proofs.Common.{rules, arith, ◌≡◌, ◌≤◌, ◌<◌, List, [], ◌∷◌, ◌∙◌, sym, length}
-use Rattle.std.proofs.lemmas.Grind.{common_steps}
+use Rattle.std.proofs.Common.{rules, arith, ◌≡◌, [], ◌∷◌, ◌∙◌, sym}
 use Rattle.ecma_tree.specs.declared.node.Node.{Node, out-Node}
 use Rattle.item_list.proofs.Arrays.{items_of_three}
 use Rattle.ecma_print.proofs.print.+printer.Goals as goal

@@ -1,4 +1,4 @@
-use Rattle.std.proofs.Common.{◌≡◌, ◌++◌, ℕ, List, drop, map, ◌+◌, ◌*◌}
+use Rattle.std.proofs.Common.{◌≡◌, ◌++◌, ℕ, List, drop, map}
 use Rattle.ecma_tree.specs.declared.node.Node.{out-Node}
 use Rattle.ecma_print.specs.Layout.{laid, lines, commas, more_commas}
 use Rattle.ecma_print.proofs.print.+printer.Given as goal

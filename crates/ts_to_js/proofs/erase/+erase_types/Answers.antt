@@ -1,7 +1,7 @@
 use Rattle.std.proofs.Common.{◌≡◌, ◌∙◌, length, arith}
 use Rattle.ecma_tree.specs.declared.node.Node.{out-Node}
 use Rattle.ecma_tree.proofs.Rewriting.{set-front_rewritten, front_rewritten-all}
-use Rattle.ts_to_js.specs.Erasure.{erased}
+use Rattle.ecma_tree.specs.Erasure.{erased}
 use Rattle.ts_to_js.proofs.erase.+erase_types.Goals as goal
 
 pub loop-i-preserved : goal.loop-i-preserved

@@ -1,6 +1,6 @@
 use Rattle.std.proofs.Common.{◌≡◌}
 use Rattle.ecma_tree.proofs.Rewriting.{front_rewritten}
-use Rattle.ts_to_js.specs.Erasure.{erased}
+use Rattle.ecma_tree.specs.Erasure.{erased}
 use Rattle.ts_to_js.proofs.erase.+erase_types.Given as goal
 
 abbrev pub invariant-loop-i : goal.invariant-loop-i

@@ -1,6 +1,5 @@
-use Rattle.std.proofs.Common.{sym, ap, subst}
 use Rattle.ts_to_js.specs.Conversion.{converted}
-use Rattle.ts_to_js.specs.Running.{expected_of, seen, Ran}
+use Rattle.ts_to_js.specs.Running.{expected_of}
 use Rattle.ts_to_js.proofs.Runs.{ran-no_memory, ran-read_fault, src_of, src_of-first_read, expected_of-known}
 use Rattle.ts_to_js.proofs.program.run_source.Goals as goal
 

@@ -1,0 +1,16 @@
+pub mod Characters
+pub mod Forms
+pub mod Words
+pub mod Printed
+pub mod Spanless
+pub mod Chain
+pub mod Expressions
+pub mod Statements
+pub mod Yields
+pub mod Readings
+pub mod Erased
+pub mod Names
+pub mod Whole
+pub mod Moves
+pub mod Repetitions
+pub mod Within

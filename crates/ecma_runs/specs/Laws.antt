@@ -1,0 +1,58 @@
+-- The laws of `observe`.
+use Rattle.std.specs.Prelude.{◌≡◌, ◌≢◌, ℕ, ◌+◌, List, [], ◌++◌, IsTrue}
+use Rattle.ecma_tree.specs.declared.node.Node.{Node}
+use Rattle.ecma_runs.specs.declared.config.Config.{Config}
+use Rattle.ecma_runs.specs.declared.observation.Event.{Event}
+use Rattle.ecma_runs.specs.declared.observation.Ending.TheVariants as ending
+use Rattle.ecma_runs.specs.declared.script.Action.{Action}
+use Rattle.ecma_runs.specs.declared.script.FreeValue.{FreeValue}
+use Rattle.ecma_runs.specs.declared.script.Script.{Script}
+use Rattle.ecma_runs.specs.State.{Bound, State, Outcome, Done, Thrown, Returned, Broken, Continued, Ended}
+use Rattle.ecma_runs.specs.Observation.{observe, module_context, run_body, act}
+use Rattle.ecma_runs.specs.Sources.{AgreeUpToSources}
+use Rattle.ecma_tree.specs.Erasure.{without_types}
+use Rattle.ecma_runs.specs.Uses.{uses_nothing}
+
+-- trees that are equal up to spans and the source texts of literals run alike
+abbrev pub SpansAndSourcesDoNotMatter : Type 0
+SpansAndSourcesDoNotMatter = (turns : ℕ) (options : Config) (m m' : Node) (script : Script) → AgreeUpToSources m m' → observe turns options m script ≡ observe turns options m' script
+
+-- a tree runs as it does without its types
+abbrev pub TypesDoNotMatter : Type 0
+TypesDoNotMatter = (turns : ℕ) (options : Config) (m : Node) (script : Script) → observe turns options (without_types m) script ≡ observe turns options m script
+
+-- a run that did not want for turns is the same with more
+abbrev pub SpareTurnsDoNotMatter : Type 0
+SpareTurnsDoNotMatter =
+    (turns more : ℕ) (options : Config) (m : Node) (script : Script) → (observe turns options m script).ending ≢ ending.TurnsSpent →
+    observe (turns + more) options m script ≡ observe turns options m script
+
+-- the state in which a part of a run comes out
+abbrev pub state_behind : {A : Type 0} → Outcome A → State
+state_behind (Done a s) = s
+state_behind (Thrown v s) = s
+state_behind (Returned v s) = s
+state_behind (Broken s) = s
+state_behind (Continued s) = s
+state_behind (Ended why s) = s
+
+-- events, and more behind them
+abbrev pub Extends : List Event → List Event → Type 0
+Extends before after = (more : List Event) × (after ≡ before ++ more)
+
+-- the events before are the first of those behind
+pub record EventsOnlyGrow : Type 0 where
+  -- while a module's body runs
+  pub body : (turns : ℕ) (frees : List FreeValue) (scope : List Bound) (m : Node) (s : State) →
+      Extends s.events (state_behind (run_body (module_context turns frees scope) m s)).events
+  -- while an action is done
+  pub action : (turns : ℕ) (frees : List FreeValue) (scope : List Bound) (a : Action) (s : State) →
+      Extends s.events (state_behind (act (module_context turns frees scope) a s)).events
+  -- with more actions behind those of a script
+  pub actions : (turns : ℕ) (options : Config) (m : Node) (script : Script) (more : List Action) →
+      Extends (observe turns options m script).events (observe turns options m (record script { actions = script.actions ++ more })).events
+
+-- a module without members and calls has no events, as long as the host does nothing with it
+abbrev pub DeclarationsAloneHaveNoEvents : Type 0
+DeclarationsAloneHaveNoEvents =
+    (turns : ℕ) (options : Config) (m : Node) (script : Script) → IsTrue (uses_nothing m) → (observe turns options m (record script { actions = [] })).events ≡ []

@@ -1,0 +1,13 @@
+pub mod Values
+pub mod State
+pub mod Host
+pub mod Scope
+pub mod Meaning
+pub mod Expressions
+pub mod Statements
+pub mod Evaluation
+pub mod Observation
+pub mod Trees
+pub mod Sources
+pub mod Uses
+pub mod Laws

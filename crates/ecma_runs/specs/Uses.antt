@@ -1,0 +1,19 @@
+-- Trees in which nothing is used that may belong to the host.
+use Rattle.std.specs.Prelude.{Bool, true, false, ◌&&◌}
+use Rattle.std.specs.List.{list_all}
+use Rattle.ecma_tree.specs.declared.kind.Kind.{Kind}
+use Rattle.ecma_tree.specs.declared.kind.Kind.TheVariants as kind
+use Rattle.ecma_tree.specs.declared.node.Node.{Node, Node-F, fold-Node}
+
+-- neither a member nor a call
+abbrev pub uses_nothing_by : Kind → Bool
+uses_nothing_by kind.MemberExpr = false
+uses_nothing_by kind.CallExpr = false
+uses_nothing_by k = true
+
+abbrev pub uses_nothing_step : Node-F Bool → Bool
+uses_nothing_step parts = uses_nothing_by parts.kind && list_all (λ b. b) parts.children
+
+-- no node of the tree is a member or a call
+abbrev pub uses_nothing : Node → Bool
+uses_nothing = fold-Node Bool uses_nothing_step

@@ -1,0 +1,28 @@
+//! The laws of `observe`, each the contract of a function that does nothing.
+ghost use Rattle.ecma_runs.specs.Laws.{SpansAndSourcesDoNotMatter, TypesDoNotMatter, SpareTurnsDoNotMatter, EventsOnlyGrow, DeclarationsAloneHaveNoEvents};
+
+/// Trees that are equal up to the places of their nodes and the source texts of their literals
+/// run alike.
+pub fn spans_and_sources_do_not_matter()
+    ensures { SpansAndSourcesDoNotMatter }
+{}
+
+/// A tree runs as it does without its types.
+pub fn types_do_not_matter()
+    ensures { TypesDoNotMatter }
+{}
+
+/// A run that did not want for turns is the same with more of them.
+pub fn spare_turns_do_not_matter()
+    ensures { SpareTurnsDoNotMatter }
+{}
+
+/// The events before a part of a run are the first of those behind it.
+pub fn events_only_grow()
+    ensures { EventsOnlyGrow }
+{}
+
+/// A module without members and calls has no events, as long as the host does nothing with it.
+pub fn declarations_alone_have_no_events()
+    ensures { DeclarationsAloneHaveNoEvents }
+{}

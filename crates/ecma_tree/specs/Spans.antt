@@ -1,0 +1,11 @@
+-- Trees up to the places of their nodes.
+use Rattle.ecma_tree.specs.declared.node.Node.{Node, Node-F}
+use Rattle.ecma_tree.specs.Nodes.{node_of}
+use Rattle.ecma_tree.specs.Rewritten.{rewritten}
+
+abbrev pub unplaced : Node-F Node → Node
+unplaced parts = node_of (record { lo = 0; hi = 0 }) parts.kind parts.children
+
+-- the tree with no spans
+abbrev pub without_spans : Node → Node
+without_spans = rewritten unplaced
