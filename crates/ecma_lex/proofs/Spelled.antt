@@ -9,8 +9,8 @@ use Rattle.std.specs.Char.{len_utf8, is_ascii_digit}
 use lib.Utf8.{scalar, scalars, encode, encodes}
 use Rattle.ecma_lex.specs.Text.{cuts, after, piece, run_end}
 use Rattle.ecma_lex.specs.Keys.{is_valid_start, is_valid_continue, key_of, key_end, name_end, if_name, is_reserved, word_end, if_word, type_name_end, if_type_name, is_type_operator}
-use Rattle.ecma_lex.specs.Numerals.{integer_of, goes_on, num_end, if_whole}
-use Rattle.ecma_lex.specs.Strings.{is_quote, is_inside, closed_of, closed_at, str_of, str_end}
+use Rattle.ecma_lex.specs.Integers.{integer_of, goes_on, integer_end, if_whole}
+use Rattle.ecma_lex.specs.PlainStrings.{is_quote, is_inside, closed_of, closed_at, str_of, plain_str_end}
 use Rattle.ecma_lex.proofs.Steps.{after_is, after_not, cut}
 use Rattle.ecma_lex.proofs.Suffixes.{wide, length-encodes, wide-append, wide-chars, Cut, cut_utf8, Stands, past, after_here, piece_here, chars_ascii, cut_ascii}
 
@@ -265,15 +265,15 @@ module _ (text : List ℕ) where
       go true k = none_some k
       go false k = k
 
-  pub num_spelled : (i j : ℕ) → IsUtf8 text → num_end text i ≡ Some j → Spelled IsInteger (piece text i j)
-  unfolding num_end
+  pub num_spelled : (i j : ℕ) → IsUtf8 text → integer_end text i ≡ Some j → Spelled IsInteger (piece text i j)
+  unfolding integer_end
   num_spelled i j u h =
       let k : integer_of (after text i) i ≡ Some j = if_whole_some (integer_of (after text i) i) j h in
       let c : cuts text i ≡ true = some_after i (λ e. let n : integer_of [] i ≡ Some j = subst (λ l. integer_of l i ≡ Some j) e k in none_some n) in
       spelled u c (integer_front (after text i) i j k)
 
-  pub num_again : (i : ℕ) (w u : List ℕ) → Spelled IsInteger w → Stands text i (w ++ u) → Cut u → goes_on (chars u) ≡ false → num_end text i ≡ Some (i + length w)
-  unfolding num_end
+  pub num_again : (i : ℕ) (w u : List ℕ) → Spelled IsInteger w → Stands text i (w ++ u) → Cut u → goes_on (chars u) ≡ false → integer_end text i ≡ Some (i + length w)
+  unfolding integer_end
   num_again i w u s st c h =
       let a = after_here text i (w ++ u) st (cut_utf8 w u s.0 c) in
       let b = after_here text (i + length w) u (past text w st) c in
@@ -311,14 +311,14 @@ module _ (text : List ℕ) where
           }
       go false b k = none_some k
 
-  pub str_spelled : (i j : ℕ) → IsUtf8 text → str_end text i ≡ Some j → Spelled IsQuoted (piece text i j)
-  unfolding str_end
+  pub str_spelled : (i j : ℕ) → IsUtf8 text → plain_str_end text i ≡ Some j → Spelled IsQuoted (piece text i j)
+  unfolding plain_str_end
   str_spelled i j u h =
       let c : cuts text i ≡ true = some_after i (λ e. let k : str_of text [] i ≡ Some j = subst (λ l. str_of text l i ≡ Some j) e h in none_some k) in
       spelled u c (str_front i j (after text i) u c refl h)
 
-  pub str_standing : (i j : ℕ) → IsUtf8 text → str_end text i ≡ Some j → Standing i j
-  unfolding str_end
+  pub str_standing : (i j : ℕ) → IsUtf8 text → plain_str_end text i ≡ Some j → Standing i j
+  unfolding plain_str_end
   str_standing i j u h =
       let c : cuts text i ≡ true = some_after i (λ e. let k : str_of text [] i ≡ Some j = subst (λ l. str_of text l i ≡ Some j) e h in none_some k) in
       standing u c (str_front i j (after text i) u c refl h)
@@ -329,8 +329,8 @@ module _ (text : List ℕ) where
       let c : cuts text i ≡ true = some_after i (λ e. let k : key_of [] i ≡ Some j = subst (λ l. key_of l i ≡ Some j) e h in none_some k) in
       standing u c (key_front (after text i) i j h)
 
-  pub num_standing : (i j : ℕ) → IsUtf8 text → num_end text i ≡ Some j → Standing i j
-  unfolding num_end
+  pub num_standing : (i j : ℕ) → IsUtf8 text → integer_end text i ≡ Some j → Standing i j
+  unfolding integer_end
   num_standing i j u h =
       let k : integer_of (after text i) i ≡ Some j = if_whole_some (integer_of (after text i) i) j h in
       let c : cuts text i ≡ true = some_after i (λ e. let n : integer_of [] i ≡ Some j = subst (λ l. integer_of l i ≡ Some j) e k in none_some n) in
@@ -371,8 +371,8 @@ module _ (text : List ℕ) where
       let b : encode q.quote ≡ q.quote ∷ [] = encode_ascii q.quote (quote_small q.quote q.quotes) in
       sym (encodes-chars w s.0) ∙ ap encodes q.is ∙ rw (b, encodes-append q.inner (q.quote ∷ []), b) refl
 
-  pub str_again : (i : ℕ) (w u : List ℕ) → Spelled IsQuoted w → Stands text i (w ++ u) → Cut u → str_end text i ≡ Some (i + length w)
-  unfolding str_end
+  pub str_again : (i : ℕ) (w u : List ℕ) → Spelled IsQuoted w → Stands text i (w ++ u) → Cut u → plain_str_end text i ≡ Some (i + length w)
+  unfolding plain_str_end
   str_again i w u s st c =
       let q = s.1 in
       let small = quote_small q.quote q.quotes in
@@ -413,11 +413,11 @@ pub name_alone : (w : List ℕ) → Spelled IsKey w → is_reserved w ≡ false 
 unfolding chars
 name_alone w s r = name_again w 0 w [] s r (alone w) refl refl ∙ ap Some (zero_add w)
 
-pub num_alone : (w : List ℕ) → Spelled IsInteger w → num_end w 0 ≡ Some (length w)
+pub num_alone : (w : List ℕ) → Spelled IsInteger w → integer_end w 0 ≡ Some (length w)
 unfolding chars
 num_alone w s = num_again w 0 w [] s (alone w) refl refl ∙ ap Some (zero_add w)
 
-pub str_alone : (w : List ℕ) → Spelled IsQuoted w → str_end w 0 ≡ Some (length w)
+pub str_alone : (w : List ℕ) → Spelled IsQuoted w → plain_str_end w 0 ≡ Some (length w)
 str_alone w s = str_again w 0 w [] s (alone w) refl ∙ ap Some (zero_add w)
 
 pub key_by_itself : (w : List ℕ) → IsUtf8 w → key_end w 0 ≡ Some (length w) → Spelled IsKey w
@@ -426,8 +426,8 @@ key_by_itself w u h = subst (Spelled IsKey) (piece_all w u) (key_spelled w 0 (le
 pub name_by_itself : (w : List ℕ) → IsUtf8 w → name_end w 0 ≡ Some (length w) → Spelled IsKey w × (is_reserved w ≡ false)
 name_by_itself w u h = subst (λ v. Spelled IsKey v × (is_reserved v ≡ false)) (piece_all w u) (name_spelled w 0 (length w) u h)
 
-pub num_by_itself : (w : List ℕ) → IsUtf8 w → num_end w 0 ≡ Some (length w) → Spelled IsInteger w
+pub num_by_itself : (w : List ℕ) → IsUtf8 w → integer_end w 0 ≡ Some (length w) → Spelled IsInteger w
 num_by_itself w u h = subst (Spelled IsInteger) (piece_all w u) (num_spelled w 0 (length w) u h)
 
-pub str_by_itself : (w : List ℕ) → IsUtf8 w → str_end w 0 ≡ Some (length w) → Spelled IsQuoted w
+pub str_by_itself : (w : List ℕ) → IsUtf8 w → plain_str_end w 0 ≡ Some (length w) → Spelled IsQuoted w
 str_by_itself w u h = subst (Spelled IsQuoted) (piece_all w u) (str_spelled w 0 (length w) u h)

@@ -2,6 +2,6 @@ pub mod Text
 pub mod Blanks
 pub mod Keys
 pub mod Punctuators
-pub mod Numerals
-pub mod Strings
+pub mod Integers
+pub mod PlainStrings
 pub mod Tokens

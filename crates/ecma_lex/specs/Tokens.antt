@@ -4,8 +4,8 @@ use Rattle.ecma_lex.specs.Text.{IsPiece}
 use Rattle.ecma_lex.specs.Blanks.{skipped}
 use Rattle.ecma_lex.specs.Keys.{key_end, name_end, type_name_end, word_end}
 use Rattle.ecma_lex.specs.Punctuators.{punct_end}
-use Rattle.ecma_lex.specs.Numerals.{num_end}
-use Rattle.ecma_lex.specs.Strings.{str_end}
+use Rattle.ecma_lex.specs.Integers.{integer_end}
+use Rattle.ecma_lex.specs.PlainStrings.{plain_str_end}
 use Rattle.ecma_lex.specs.declared.blanks.Skipped.{Skipped}
 use Rattle.ecma_lex.specs.declared.tokens.Token.{Token}
 use Rattle.ecma_lex.specs.declared.tokens.NoToken.{NoToken}
@@ -34,11 +34,11 @@ word text i wanted = term (word_end wanted) text i
 unfoldable pub punct : List ℕ → ℕ → List ℕ → Result Token NoToken
 punct text i punctuator = term (punct_end punctuator) text i
 
-unfoldable pub num : List ℕ → ℕ → Result Token NoToken
-num text i = term num_end text i
+unfoldable pub integer : List ℕ → ℕ → Result Token NoToken
+integer text i = term integer_end text i
 
-unfoldable pub str_lit : List ℕ → ℕ → Result Token NoToken
-str_lit text i = term str_end text i
+unfoldable pub plain_str : List ℕ → ℕ → Result Token NoToken
+plain_str text i = term plain_str_end text i
 
 -- the end of a text is an empty token there
 abbrev pub text_end : List ℕ → ℕ → Option ℕ

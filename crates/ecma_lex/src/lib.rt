@@ -8,9 +8,9 @@
 mod blanks;
 mod chars;
 mod keys;
-mod numerals;
+mod integers;
 mod punctuators;
-mod strings;
+mod plain_strings;
 #[cfg(test)]
 mod tests;
 mod tokens;
@@ -19,5 +19,5 @@ pub use blanks::{Skipped, skip};
 pub use chars::piece;
 pub use keys::{is_valid_continue, is_valid_start};
 pub use tokens::{
-    NoToken, Token, end, end_of_text, key, name, num, punct, str_lit, type_name, word,
+    NoToken, Token, end, end_of_text, key, name, integer, punct, plain_str, type_name, word,
 };

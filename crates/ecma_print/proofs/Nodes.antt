@@ -1,8 +1,8 @@
 -- The layout of a node by its kind, in each place.
 use Rattle.std.proofs.Common.{◌≡◌, ℕ, List, [], ◌∷◌, map, refl, ap, sym, ◌∙◌}
-use Rattle.ecma_tree.specs.declared.span.Span.{Span}
-use Rattle.ecma_tree.specs.declared.kind.Kind.{Kind}
-use Rattle.ecma_tree.specs.declared.kind.Kind.TheVariants.{List as ListKind}
+use Rattle.ecma_kind.specs.declared.span.Span.{Span}
+use Rattle.ecma_kind.specs.declared.kind.Kind.{Kind}
+use Rattle.ecma_kind.specs.declared.kind.Kind.TheVariants.{List as ListKind}
 use Rattle.ecma_tree.specs.declared.node.Node.{Node, fold_out-Node}
 use Rattle.ecma_tree.specs.declared.node.Node.TheViews.{out-roll-Node}
 use Rattle.ecma_tree.specs.Nodes.{node_of}

@@ -1,9 +1,9 @@
 -- The layout of a module: one statement a line, with a line feed at each end; literals print their source text.
 use Rattle.std.specs.Prelude.{ℕ, Bool, true, false, List, [], ◌∷◌, ◌++◌, Option, Some, None, codes}
-use Rattle.ecma_tree.specs.declared.kind.VarDeclKind.{VarDeclKind}
-use Rattle.ecma_tree.specs.declared.kind.VarDeclKind.TheVariants.{Var, Let, Const}
-use Rattle.ecma_tree.specs.declared.kind.Kind.{Kind}
-use Rattle.ecma_tree.specs.declared.kind.Kind.TheVariants.{Absent, List as ListKind, Module, ExprStmt, VarDecl, VarDeclarator, BindingIdent, Ident, IdentName, Str, Number, Bool as BoolKind, Null, MemberExpr, CallExpr, TsTypeAnn}
+use Rattle.ecma_kind.specs.declared.operators.VarDeclKind.{VarDeclKind}
+use Rattle.ecma_kind.specs.declared.operators.VarDeclKind.TheVariants.{Var, Let, Const}
+use Rattle.ecma_kind.specs.declared.kind.Kind.{Kind}
+use Rattle.ecma_kind.specs.declared.kind.Kind.TheVariants.{Absent, List as ListKind, Module, ExprStmt, VarDecl, VarDeclarator, BindingIdent, Ident, IdentName, Str, Number, Bool as BoolKind, Null, MemberExpr, CallExpr, TsTypeAnn}
 use Rattle.ecma_tree.specs.declared.node.Node.{Node, Node-F, fold-Node}
 use Rattle.ecma_print.specs.declared.place.Place.{Place}
 use Rattle.ecma_print.specs.declared.place.Place.TheVariants.{Whole, Lines, Commas, Initializer}
@@ -46,7 +46,7 @@ parenthesized inside rest = codes "(" ++ inside (codes ")" ++ rest)
 
 -- a node by itself; what is no node of a plain module, or has other children than its kind, has no text
 abbrev pub whole : Kind → List Laid → Text
-whole Module (body ∷ []) rest = body Lines rest
+whole (Module None) (body ∷ []) rest = body Lines rest
 whole ExprStmt (e ∷ []) rest = e Whole (codes ";" ++ rest)
 whole (VarDecl kind declare) (declarators ∷ []) rest = keyword kind ++ codes " " ++ declarators Commas (codes ";" ++ rest)
 whole (VarDeclarator definite) (name ∷ init ∷ []) rest = name Whole (init Initializer rest)

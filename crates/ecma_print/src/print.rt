@@ -105,7 +105,7 @@ fn print_whole(out: &mut Vec<u8>, node: &Node) -> Result<(), NoMemory>
     ensures { OnOk result (Writes out.old.items out.new.items (whole (out-Node node.now).kind (map laid (out-Node node.now).children))) }
 {
     match (&node.kind, node.children.as_slice()) {
-        (Kind::Module, [body]) => print(out, body, Place::Lines),
+        (Kind::Module { shebang: None }, [body]) => print(out, body, Place::Lines),
         (Kind::ExprStmt, [expression]) => {
             print(out, expression, Place::Whole)?;
             write(out, ";")

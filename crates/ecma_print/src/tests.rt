@@ -77,7 +77,7 @@ fn each_kind_is_printed(rt: HostRuntime) -> Result<(), Fail> {
     let parts = [ident(alloc, "a")?, leaf(alloc, Kind::TsType)];
     let cast = node(alloc, Kind::TsAsExpr, parts)?;
     body.push(node(alloc, Kind::ExprStmt, [cast])?)?;
-    let module = node(alloc, Kind::Module, [Node::list(body)])?;
+    let module = node(alloc, Kind::Module { shebang: None }, [Node::list(body)])?;
     assert_eq!(rt;
         print_module(alloc, &module)?.as_slice(),
         b"var v = a.b(1, 'x', true, false, null);\nlet v: ;\nconst v = a;\n\n;\n".as_slice()

@@ -5,13 +5,13 @@ use Rattle.std.specs.Char.{is_ascii_digit}
 use Rattle.unicode_ident.specs.Ident.{is_xid_start}
 use Rattle.ucd_table.specs.Rows.{in_ranges}
 use Rattle.ucd_derived.specs.XidStartRanges.{xid_start_ranges}
-use Rattle.ecma_lex.specs.Strings.{is_quote}
+use Rattle.ecma_lex.specs.PlainStrings.{is_quote}
 use Rattle.ecma_lex.specs.declared.tokens.Token.{Token}
 use Rattle.ecma_lex.specs.Keys.{is_valid_start}
 use Rattle.ecma_lex.proofs.Suffixes.{Gap, gap, once, space, Opens, chars_ascii}
 use Rattle.ecma_lex.proofs.Spelled.{stops, name_by_itself, key_by_itself}
-use Rattle.ecma_tree.specs.declared.span.Span.{Span}
-use Rattle.ecma_tree.specs.declared.kind.Kind.TheVariants.{Absent, List as ListKind, Ident, IdentName, MemberExpr, CallExpr}
+use Rattle.ecma_kind.specs.declared.span.Span.{Span}
+use Rattle.ecma_kind.specs.declared.kind.Kind.TheVariants.{Absent, List as ListKind, Ident, IdentName, MemberExpr, CallExpr}
 use Rattle.ecma_tree.specs.declared.node.Node.{Node}
 use Rattle.ecma_tree.specs.Nodes.{node_of}
 use Rattle.ecma_text.specs.Reading.{◌>>=◌, ◌//◌, pure}

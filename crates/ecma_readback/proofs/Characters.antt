@@ -7,7 +7,7 @@ use Rattle.unicode_ident.specs.Ident.{is_xid_start}
 use Rattle.ucd_table.specs.Rows.{in_ranges}
 use Rattle.ucd_derived.specs.XidStartRanges.{xid_start_ranges}
 use Rattle.ecma_lex.specs.Keys.{is_valid_start}
-use Rattle.ecma_lex.specs.Strings.{is_quote}
+use Rattle.ecma_lex.specs.PlainStrings.{is_quote}
 use Rattle.ecma_lex.proofs.Suffixes.{clear}
 
 -- a character of a kind is none of those that are not of it

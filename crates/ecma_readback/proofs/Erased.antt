@@ -1,10 +1,10 @@
 -- A module without its types is a plain module that declares the same names.
-use Rattle.std.proofs.Common.{ℕ, suc, max, arith, ◌≡◌, List, [], ◌∷◌, refl, ap, ◌∙◌, true, false, map, filter}
+use Rattle.std.proofs.Common.{ℕ, suc, max, arith, ◌≡◌, List, None, [], ◌∷◌, refl, ap, ◌∙◌, true, false, map, filter}
 use Rattle.std.proofs.lemmas.Bool.{false≢true}
-use Rattle.ecma_tree.specs.declared.span.Span.{Span}
-use Rattle.ecma_tree.specs.declared.kind.Kind.{Kind}
-use Rattle.ecma_tree.specs.declared.kind.Kind.TheVariants.{Absent, List as ListKind, Module, ExprStmt, VarDecl, VarDeclarator, BindingIdent, Ident, IdentName, Bool as BoolKind, Null, MemberExpr, CallExpr, TsAsExpr, TsTypeAnn, TsTypeAliasDecl}
-use Rattle.ecma_tree.specs.declared.kind.VarDeclKind.{VarDeclKind}
+use Rattle.ecma_kind.specs.declared.span.Span.{Span}
+use Rattle.ecma_kind.specs.declared.kind.Kind.{Kind}
+use Rattle.ecma_kind.specs.declared.kind.Kind.TheVariants.{Absent, List as ListKind, Module, ExprStmt, VarDecl, VarDeclarator, BindingIdent, Ident, IdentName, Bool as BoolKind, Null, MemberExpr, CallExpr, TsAsExpr, TsTypeAnn, TsTypeAliasDecl}
+use Rattle.ecma_kind.specs.declared.operators.VarDeclKind.{VarDeclKind}
 use Rattle.ecma_tree.specs.declared.node.Node.{Node, fold_out-Node}
 use Rattle.ecma_tree.specs.declared.node.Node.TheViews.{out-roll-Node}
 use Rattle.ecma_tree.specs.Nodes.{node_of}
@@ -191,7 +191,7 @@ plain_statements (more_statements (alias h at i) ss) =
 pub plain_module : {tree : Node} (d : IsModule true tree) → PlainModule (need d) (without_types tree)
 plain_module (module_of at of_list ss) =
     let q = plain_statements ss in
-    rw (erased_node at Module _) (rw (erased_node of_list ListKind _) (record { shape = module_of at of_list q.shape; same_need = ap (λ k. suc (suc k)) q.same_need }))
+    rw (erased_node at (Module None) _) (rw (erased_node of_list ListKind _) (record { shape = module_of at of_list q.shape; same_need = ap (λ k. suc (suc k)) q.same_need }))
 
 -- without its types it is plain
 pub plain_shapes : PlainShapes

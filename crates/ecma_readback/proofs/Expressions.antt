@@ -10,10 +10,10 @@ use Rattle.ucd_table.specs.Rows.{in_ranges}
 use Rattle.ucd_derived.specs.XidStartRanges.{xid_start_ranges}
 use Rattle.ucd_derived.specs.XidContinueRanges.{xid_continue_ranges}
 use Rattle.ecma_lex.specs.Keys.{is_valid_start, is_reserved, reserved_words}
-use Rattle.ecma_lex.specs.Strings.{is_quote}
+use Rattle.ecma_lex.specs.PlainStrings.{is_quote}
 use Rattle.ecma_lex.proofs.Suffixes.{Gap, gap, cut_ascii}
 use Rattle.ecma_lex.proofs.Spelled.{Spelled, IsKey as IsKeySpelling, num_by_itself, str_by_itself}
-use Rattle.ecma_tree.specs.declared.kind.Kind.TheVariants.{Bool as BoolKind, Null}
+use Rattle.ecma_kind.specs.declared.kind.Kind.TheVariants.{Bool as BoolKind, Null}
 use Rattle.ecma_tree.specs.declared.node.Node.{Node}
 use Rattle.ecma_text.specs.Reading.{◌//◌, name}
 use Rattle.ecma_text.specs.Grammar as grammar

@@ -1,7 +1,7 @@
 -- The forms of read-back, and how they go through the combinators.
 use Rattle.std.proofs.Common.{◌≡◌, ℕ, zero, suc, ◌+◌, ◌<◌, ◌≤◌, List, [], ◌∷◌, length, refl, ap, ◌∙◌, arith, Option, None}
 use Rattle.ecma_lex.proofs.Suffixes.{Stands}
-use Rattle.ecma_tree.specs.declared.kind.Kind.{Kind}
+use Rattle.ecma_kind.specs.declared.kind.Kind.{Kind}
 use Rattle.ecma_tree.specs.declared.node.Node.{Node}
 use Rattle.ecma_tree.specs.Nodes.{node_of}
 use Rattle.ecma_text.specs.Reading.{Position, Outcome, read, fails, Reading, then_on, or_on, many_on, with_front, ◌>>=◌, ◌//◌, pure, maybe, many_up_to, many}

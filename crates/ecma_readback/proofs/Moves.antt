@@ -1,6 +1,6 @@
 -- A repetition whose parts move on is never ended by its bound.
 use Rattle.std.proofs.Common.{◌≡◌, ℕ, zero, suc, ◌+◌, ◌<◌, ◌≤◌, List, [], ◌∷◌, length, refl, ap, subst, arith, Bool, true, false}
-use Rattle.ecma_tree.specs.declared.kind.Kind.{Kind}
+use Rattle.ecma_kind.specs.declared.kind.Kind.{Kind}
 use Rattle.ecma_tree.specs.declared.node.Node.{Node}
 use Rattle.ecma_text.specs.Reading.{Position, Outcome, read, fails, too_deep, Reading, then_on, or_on, many_on, with_front, ◌>>=◌, ◌//◌, pure, many_up_to, marked}
 use Rattle.ecma_text.specs.Trees.{made}

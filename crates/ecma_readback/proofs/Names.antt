@@ -3,10 +3,10 @@ use Rattle.std.proofs.Common.{◌≡◌, ℕ, List, [], ◌∷◌, ◌++◌, ref
 use Rattle.std.proofs.lemmas.List.{map-append}
 use Rattle.std.specs.List.{list_any}
 use Rattle.std.specs.Str.{bytes_eq}
-use Rattle.ecma_tree.specs.declared.span.Span.{Span}
-use Rattle.ecma_tree.specs.declared.kind.Kind.{Kind}
-use Rattle.ecma_tree.specs.declared.kind.VarDeclKind.{VarDeclKind}
-use Rattle.ecma_tree.specs.declared.kind.Kind.TheVariants.{Absent, List as ListKind, Module, ExprStmt, VarDecl, VarDeclarator, BindingIdent, Ident, IdentName, Bool as BoolKind, Null, MemberExpr, CallExpr, TsAsExpr, TsType, TsTypeAliasDecl}
+use Rattle.ecma_kind.specs.declared.span.Span.{Span}
+use Rattle.ecma_kind.specs.declared.kind.Kind.{Kind}
+use Rattle.ecma_kind.specs.declared.operators.VarDeclKind.{VarDeclKind}
+use Rattle.ecma_kind.specs.declared.kind.Kind.TheVariants.{Absent, List as ListKind, Module, ExprStmt, VarDecl, VarDeclarator, BindingIdent, Ident, IdentName, Bool as BoolKind, Null, MemberExpr, CallExpr, TsAsExpr, TsType, TsTypeAliasDecl}
 use Rattle.ecma_tree.specs.declared.node.Node.{Node, Node-F, fold-Node, fold_out-Node, fold-roll-Node, roll-Node, ind-Node}
 use Rattle.ecma_tree.specs.declared.node.Node.TheViews.{out-roll-Node}
 use Rattle.ecma_tree.specs.Nodes.{node_of}
@@ -122,9 +122,9 @@ statements_declare (more_statements (alias h at i) ss) =
 -- a module without its types declares the same names
 pub module_declares : {tree : Node} → IsModule true tree → declared_names (without_types tree) ≡ declared_names tree
 module_declares (module_of at of_list {body = body} ss) =
-    ap declared_names (erased_node at Module (node_of of_list ListKind body ∷ [])) ∙ declared_node at Module _
+    ap declared_names (erased_node at (Module None) (node_of of_list ListKind body ∷ [])) ∙ declared_node at (Module None) _
     ∙ same_append (ap declared_names (erased_node of_list ListKind body) ∙ declared_node of_list ListKind _ ∙ statements_declare ss ∙ sym (declared_node of_list ListKind body)) refl
-    ∙ sym (declared_node at Module (node_of of_list ListKind body ∷ []))
+    ∙ sym (declared_node at (Module None) (node_of of_list ListKind body ∷ []))
 
 -- names, with no places
 

@@ -1,7 +1,7 @@
 -- The layout of a plain tree, by the forms of the tree.
-use Rattle.std.proofs.Common.{◌≡◌, ℕ, List, [], ◌∷◌, ◌++◌, refl, ap, ◌∙◌, false, true, map, codes}
+use Rattle.std.proofs.Common.{◌≡◌, ℕ, List, None, [], ◌∷◌, ◌++◌, refl, ap, ◌∙◌, false, true, map, codes}
 use Rattle.std.proofs.lemmas.Bool.{false≢true}
-use Rattle.ecma_tree.specs.declared.kind.Kind.TheVariants.{Absent, Module, ExprStmt, VarDecl, VarDeclarator, BindingIdent, Ident, IdentName, Bool as BoolKind, Null, MemberExpr, CallExpr}
+use Rattle.ecma_kind.specs.declared.kind.Kind.TheVariants.{Absent, Module, ExprStmt, VarDecl, VarDeclarator, BindingIdent, Ident, IdentName, Bool as BoolKind, Null, MemberExpr, CallExpr}
 use Rattle.ecma_tree.specs.declared.node.Node.{Node}
 use Rattle.ecma_print.specs.Layout.{laid, lines, commas, more_commas}
 use Rattle.ecma_print.proofs.Nodes.{text_of, commas_of, initializer_of, text_of-node, lines_of-list, commas_of-list, initializer_of-node, behind_equals}
@@ -157,4 +157,4 @@ laid_statements no_statements u = refl
 laid_statements (more_statements s ss) u = laid_statement s _ ∙ ap (λ z. show_statement s (10 ∷ z)) (laid_statements ss u)
 
 pub laid_module : {n : Node} (d : IsModule false n) (u : List ℕ) → text_of n u ≡ show_module d u
-laid_module (module_of at at' ss) u = text_of-node at Module _ u ∙ lines_of-list at' _ u ∙ laid_statements ss u
+laid_module (module_of at at' ss) u = text_of-node at (Module None) _ u ∙ lines_of-list at' _ u ∙ laid_statements ss u

@@ -1,15 +1,15 @@
 -- Statements and the whole text read back.
-use Rattle.std.proofs.Common.{◌≡◌, ℕ, zero, suc, ◌≤◌, List, [], ◌∷◌, ◌++◌, refl, ap, sym, ◌∙◌, arith, true, false, codes}
+use Rattle.std.proofs.Common.{◌≡◌, ℕ, zero, suc, ◌≤◌, List, None, [], ◌∷◌, ◌++◌, refl, ap, sym, ◌∙◌, arith, true, false, codes}
 use Rattle.std.proofs.lemmas.Bool.{false≢true, false_from_ne_true}
 use Rattle.std.proofs.lemmas.Slice.Eq.{bytes_eq-Decides}
 use Rattle.std.specs.Str.{bytes_eq}
 use Rattle.ecma_lex.specs.Keys.{is_valid_start, is_reserved, reserved_words}
 use Rattle.ecma_lex.proofs.Suffixes.{Gap, gap, once, space, line, Stands, cut_ascii}
 use Rattle.ecma_lex.proofs.Spelled.{name_by_itself, num_by_itself, str_by_itself}
-use Rattle.ecma_tree.specs.declared.span.Span.{Span}
-use Rattle.ecma_tree.specs.declared.kind.VarDeclKind.{VarDeclKind}
-use Rattle.ecma_tree.specs.declared.kind.VarDeclKind.TheVariants.{Let, Const}
-use Rattle.ecma_tree.specs.declared.kind.Kind.TheVariants.{List as ListKind, Module, ExprStmt, VarDecl, VarDeclarator, BindingIdent}
+use Rattle.ecma_kind.specs.declared.span.Span.{Span}
+use Rattle.ecma_kind.specs.declared.operators.VarDeclKind.{VarDeclKind}
+use Rattle.ecma_kind.specs.declared.operators.VarDeclKind.TheVariants.{Let, Const}
+use Rattle.ecma_kind.specs.declared.kind.Kind.TheVariants.{List as ListKind, Module, ExprStmt, VarDecl, VarDeclarator, BindingIdent}
 use Rattle.ecma_tree.specs.declared.node.Node.{Node}
 use Rattle.ecma_tree.specs.Nodes.{node_of}
 use Rattle.ecma_text.specs.Reading.{◌>>=◌, ◌//◌, pure, word}
@@ -183,7 +183,7 @@ module _ (text : List ℕ) where
       let r = statements_back n d once (omega arith) in
       then_get text (loop text _ r.1)
       (λ ts q. then_get text (end_of_text_gets text r.0)
-      (λ t z. make text (first_lo ts t) Module (list ts ∷ []) (λ hi. node_same at _ Module (one_same (node_same of_list _ ListKind q)))))
+      (λ t z. make text (first_lo ts t) (Module None) (list ts ∷ []) (λ hi. node_same at _ (Module None) (one_same (node_same of_list _ ListKind q)))))
 
 -- what is printed of a plain tree is read again
 pub plain_read_back : PlainReadBack

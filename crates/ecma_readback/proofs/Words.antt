@@ -12,14 +12,14 @@ use Rattle.ucd_derived.specs.XidContinueRanges.{xid_continue_ranges}
 use Rattle.ecma_lex.specs.declared.tokens.Token.{Token}
 use Rattle.ecma_lex.specs.Text.{piece, run_end}
 use Rattle.ecma_lex.specs.Keys.{is_valid_start, is_valid_continue, key_end, name_end, word_end, is_reserved, key_of, if_name, if_word}
-use Rattle.ecma_lex.specs.Numerals.{num_end, goes_on, integer_of, if_whole}
-use Rattle.ecma_lex.specs.Strings.{str_end, is_quote, str_of, closed_at, is_inside}
+use Rattle.ecma_lex.specs.Integers.{integer_end, goes_on, integer_of, if_whole}
+use Rattle.ecma_lex.specs.PlainStrings.{plain_str_end, is_quote, str_of, closed_at, is_inside}
 use Rattle.ecma_lex.specs.Punctuators.{punct_end, is_longest, punctuators, begins_with}
 use Rattle.ecma_lex.specs.Tokens as lex
 use Rattle.ecma_lex.specs.Tokens.{term, found}
 use Rattle.ecma_lex.proofs.Suffixes.{clear, clear_front, Cut, cut_ascii, cut_utf8, Opens, Gap, gap, size, once, Stands, past, past_gap, after_here, piece_here, piece_inside, skipped_gap, chars_ascii, wide, wide-chars, wide-append}
 use Rattle.ecma_lex.proofs.Spelled.{stops, Spelled, IsKey, IsInteger, IsQuoted, key_again, name_again, no_name_again, word_again, num_again, str_again}
-use Rattle.ecma_text.specs.Reading.{Reading, terminal_on, punct, word, name, key, num, str_lit, end, end_of_text}
+use Rattle.ecma_text.specs.Reading.{Reading, terminal_on, punct, word, name, key, integer, plain_str, end, end_of_text}
 use Rattle.ecma_readback.proofs.Characters.{valid_clear, digit_clear, quote_clear}
 use Rattle.ecma_readback.proofs.Forms.{Gets, Refuses, but}
 
@@ -363,22 +363,22 @@ module _ (text : List ℕ) where
   unfolding lex.word word_end key_end
   word_stops g u other o h = token_refuses text (word_end other) g u o (λ i st. (let a = after_here text i u st o.cut in rw a (ap (if_word other text i) (no_key_of (chars u) i h))))
 
-  pub num_stops : (g : Gap) (u : List ℕ) → Opens u → stops is_ascii_digit (chars u) ≡ true → Refuses text (num text) (gap g u)
-  unfolding lex.num num_end
-  num_stops g u o h = token_refuses text num_end g u o (λ i st. (let a = after_here text i u st o.cut in rw a (ap (if_whole text) (no_integer_of (chars u) i h))))
+  pub num_stops : (g : Gap) (u : List ℕ) → Opens u → stops is_ascii_digit (chars u) ≡ true → Refuses text (integer text) (gap g u)
+  unfolding lex.integer integer_end
+  num_stops g u o h = token_refuses text integer_end g u o (λ i st. (let a = after_here text i u st o.cut in rw a (ap (if_whole text) (no_integer_of (chars u) i h))))
 
-  pub str_stops : (g : Gap) (u : List ℕ) → Opens u → stops is_quote (chars u) ≡ true → Refuses text (str_lit text) (gap g u)
-  unfolding lex.str_lit str_end
-  str_stops g u o h = token_refuses text str_end g u o (λ i st. (let a = after_here text i u st o.cut in rw a (no_str_of text (chars u) i h)))
+  pub str_stops : (g : Gap) (u : List ℕ) → Opens u → stops is_quote (chars u) ≡ true → Refuses text (plain_str text) (gap g u)
+  unfolding lex.plain_str plain_str_end
+  str_stops g u o h = token_refuses text plain_str_end g u o (λ i st. (let a = after_here text i u st o.cut in rw a (no_str_of text (chars u) i h)))
 
-  pub num_gets : (g : Gap) (w : List ℕ) (c : ℕ) (u : List ℕ) → Spelled IsInteger w → End c → Gets text 1 (num text) (Reads text w) (gap g (w ++ c ∷ u)) (c ∷ u)
-  unfolding lex.num
+  pub num_gets : (g : Gap) (w : List ℕ) (c : ℕ) (u : List ℕ) → Spelled IsInteger w → End c → Gets text 1 (integer text) (Reads text w) (gap g (w ++ c ∷ u)) (c ∷ u)
+  unfolding lex.integer
   num_gets g w c u s f =
       let cut = cut_ascii c u (follow_small (ends f)) in
-      token_gets text num_end g w (c ∷ u) (num_opens w (c ∷ u) s cut) cut (num_some w s) (λ i st. num_again text i w (c ∷ u) s st cut (end_goes u f))
+      token_gets text integer_end g w (c ∷ u) (num_opens w (c ∷ u) s cut) cut (num_some w s) (λ i st. num_again text i w (c ∷ u) s st cut (end_goes u f))
 
-  pub str_gets : (g : Gap) (w : List ℕ) (c : ℕ) (u : List ℕ) → Spelled IsQuoted w → End c → Gets text 1 (str_lit text) (Reads text w) (gap g (w ++ c ∷ u)) (c ∷ u)
-  unfolding lex.str_lit
+  pub str_gets : (g : Gap) (w : List ℕ) (c : ℕ) (u : List ℕ) → Spelled IsQuoted w → End c → Gets text 1 (plain_str text) (Reads text w) (gap g (w ++ c ∷ u)) (c ∷ u)
+  unfolding lex.plain_str
   str_gets g w c u s f =
       let cut = cut_ascii c u (follow_small (ends f)) in
-      token_gets text str_end g w (c ∷ u) (str_opens w (c ∷ u) s cut) cut (omega (arith, str_long w s)) (λ i st. str_again text i w (c ∷ u) s st cut)
+      token_gets text plain_str_end g w (c ∷ u) (str_opens w (c ∷ u) s cut) cut (omega (arith, str_long w s)) (λ i st. str_again text i w (c ∷ u) s st cut)

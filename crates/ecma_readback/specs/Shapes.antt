@@ -1,15 +1,15 @@
 -- The trees of modules, a constructor for each form. Forms marked T are of TypeScript, and plain trees have none.
-use Rattle.std.specs.Prelude.{◌≡◌, ℕ, ◌-◌, Bool, true, false, List, [], ◌∷◌, length, Option, Some}
+use Rattle.std.specs.Prelude.{◌≡◌, ℕ, ◌-◌, Bool, true, false, List, [], ◌∷◌, length, Option, Some, None}
 use Rattle.std.specs.Str.{IsUtf8}
 use Rattle.ecma_number.specs.Numeral.{numeral_of}
 use Rattle.ecma_lex.specs.Text.{piece}
 use Rattle.ecma_lex.specs.Keys.{key_end, name_end}
-use Rattle.ecma_lex.specs.Numerals.{num_end}
-use Rattle.ecma_lex.specs.Strings.{str_end}
-use Rattle.ecma_tree.specs.declared.span.Span.{Span}
-use Rattle.ecma_tree.specs.declared.kind.VarDeclKind.{VarDeclKind}
-use Rattle.ecma_tree.specs.declared.kind.VarDeclKind.TheVariants.{Let, Const}
-use Rattle.ecma_tree.specs.declared.kind.Kind.TheVariants.{Absent, List as ListKind, Module, ExprStmt, VarDecl, VarDeclarator, BindingIdent, Ident, IdentName, Str, Number, Bool as BoolKind, Null, MemberExpr, CallExpr, TsAsExpr, TsTypeAnn, TsType, TsTypeAliasDecl}
+use Rattle.ecma_lex.specs.Integers.{integer_end}
+use Rattle.ecma_lex.specs.PlainStrings.{plain_str_end}
+use Rattle.ecma_kind.specs.declared.span.Span.{Span}
+use Rattle.ecma_kind.specs.declared.operators.VarDeclKind.{VarDeclKind}
+use Rattle.ecma_kind.specs.declared.operators.VarDeclKind.TheVariants.{Let, Const}
+use Rattle.ecma_kind.specs.declared.kind.Kind.TheVariants.{Absent, List as ListKind, Module, ExprStmt, VarDecl, VarDeclarator, BindingIdent, Ident, IdentName, Str, Number, Bool as BoolKind, Null, MemberExpr, CallExpr, TsAsExpr, TsTypeAnn, TsType, TsTypeAliasDecl}
 use Rattle.ecma_tree.specs.declared.node.Node.{Node}
 use Rattle.ecma_tree.specs.Nodes.{node_of}
 
@@ -46,8 +46,8 @@ module _ (ts : Bool) where
     -- a string says what stands between its quotes, a numeral its exact value where that is in the number domain
     pub data IsExpression : Node → Type 0 where
       chain : {e : Node} → IsChain e → IsExpression e
-      string : (at : Span) (raw : List ℕ) → IsToken str_end raw → IsExpression (node_of at (Str (piece raw 1 (length raw - 1)) (Some raw)) [])
-      number : (at : Span) (raw : List ℕ) → IsToken num_end raw → IsExpression (node_of at (Number (numeral_of raw) (Some raw)) [])
+      string : (at : Span) (raw : List ℕ) → IsToken plain_str_end raw → IsExpression (node_of at (Str (piece raw 1 (length raw - 1)) (Some raw)) [])
+      number : (at : Span) (raw : List ℕ) → IsToken integer_end raw → IsExpression (node_of at (Number (numeral_of raw) (Some raw)) [])
       null_word : (at : Span) → IsExpression (node_of at Null [])
       true_word : (at : Span) → IsExpression (node_of at (BoolKind true) [])
       false_word : (at : Span) → IsExpression (node_of at (BoolKind false) [])
@@ -92,4 +92,4 @@ module _ (ts : Bool) where
     more_statements : {s : Node} {ss : List Node} → IsStatement s → AreStatements ss → AreStatements (s ∷ ss)
 
   pub data IsModule : Node → Type 0 where
-    module_of : (at of_list : Span) {body : List Node} → AreStatements body → IsModule (node_of at Module (node_of of_list ListKind body ∷ []))
+    module_of : (at of_list : Span) {body : List Node} → AreStatements body → IsModule (node_of at (Module None) (node_of of_list ListKind body ∷ []))

@@ -2,8 +2,8 @@
 use Rattle.std.proofs.Common.{◌≡◌, refl, ℕ, pos, List, [], ◌∷◌, None, false}
 use Rattle.std.specs.Prelude.{codes}
 use Rattle.ecma_number.specs.declared.js_number.JsNumber.TheVariants as js_number
-use Rattle.ecma_tree.specs.declared.kind.Kind.TheVariants.{Number, Ident}
-use Rattle.ecma_tree.specs.declared.kind.VarDeclKind.TheVariants.{Let, Const}
+use Rattle.ecma_kind.specs.declared.kind.Kind.TheVariants.{Number, Ident}
+use Rattle.ecma_kind.specs.declared.operators.VarDeclKind.TheVariants.{Let, Const}
 use Rattle.ecma_tree.specs.declared.node.Node.{Node}
 use Rattle.ecma_runs.specs.declared.observation.Event.{Event}
 use Rattle.ecma_runs.specs.declared.observation.Event.TheVariants.{HostGet, HostCall}

@@ -1,8 +1,8 @@
 -- Laws that hold since a map of trees keeps the meaning of each layer: spans, sources of literals and types do not matter, nor do spare turns.
 use Rattle.std.proofs.Common.{◌≡◌, ◌≢◌, ◌⊎◌, ℕ, ◌+◌, inl, inr, refl, sym, ap, ◌∙◌, List, [], ◌∷◌, ◌++◌, map, map-id, Bool, true, false, cond, filter, add-zero}
-use Rattle.ecma_tree.specs.declared.kind.Kind.{Kind}
-use Rattle.ecma_tree.specs.declared.kind.Kind.TheVariants as kind
-use Rattle.ecma_tree.specs.declared.span.Span.{Span}
+use Rattle.ecma_kind.specs.declared.kind.Kind.{Kind}
+use Rattle.ecma_kind.specs.declared.kind.Kind.TheVariants as kind
+use Rattle.ecma_kind.specs.declared.span.Span.{Span}
 use Rattle.ecma_tree.specs.declared.node.Node.{Node, Node-F, fold-roll-Node, roll-Node, out-Node}
 use Rattle.ecma_tree.specs.Nodes.{node_of}
 use Rattle.ecma_tree.specs.Rewritten.{rewritten}

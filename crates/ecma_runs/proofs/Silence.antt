@@ -2,9 +2,9 @@
 use Rattle.std.proofs.Common.{◌≡◌, ℕ, refl, sym, ap, ◌∙◌, List, [], ◌∷◌, ◌++◌, map, Option, Some, None, Bool, true, false, ◌&&◌, slice_get, length}
 use Rattle.std.specs.Prelude.{nat_eq, nat_lt, ◌^◌}
 use Rattle.std.specs.List.{position, list_all}
-use Rattle.ecma_tree.specs.declared.kind.Kind.{Kind}
-use Rattle.ecma_tree.specs.declared.kind.Kind.TheVariants as kind
-use Rattle.ecma_tree.specs.declared.kind.VarDeclKind.TheVariants.{Let, Const}
+use Rattle.ecma_kind.specs.declared.kind.Kind.{Kind}
+use Rattle.ecma_kind.specs.declared.kind.Kind.TheVariants as kind
+use Rattle.ecma_kind.specs.declared.operators.VarDeclKind.TheVariants.{Let, Const}
 use Rattle.ecma_tree.specs.declared.node.Node.{Node, Node-F, fold-roll-Node, roll-Node, ind-Node}
 use Rattle.ecma_runs.specs.declared.observation.Ending.{Ending}
 use Rattle.ecma_runs.specs.declared.observation.Ending.TheVariants as ending
@@ -199,7 +199,7 @@ module _ (x : ExecutionContext) where
   reference_silent _ ps = outside_silent
 
   completion_silent : (k : Kind) (ps : List Quiet) → Silent (completion_of k (of_all ps) x)
-  completion_silent kind.Module (body ∷ []) = body.1.completion x
+  completion_silent (kind.Module shebang) (body ∷ []) = body.1.completion x
   completion_silent kind.List ps = all_completions_silent ps
   completion_silent kind.ExprStmt (e ∷ []) = bind_silent _ (e.1.value x) (λ _. give_silent tt)
   completion_silent (kind.VarDecl Let false) (declarators ∷ []) = declarators.1.completion x

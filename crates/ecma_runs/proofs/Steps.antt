@@ -2,10 +2,10 @@
 use Rattle.std.proofs.Common.{◌≡◌, ℕ, ◌++◌, refl, sym, ap, ap₂, List, [], ◌∷◌, map, Option, Some, None, true, false, option_map, slice_get}
 use Rattle.std.proofs.lemmas.Option.{slice_get-map}
 use Rattle.std.specs.Prelude.{bytes_eq, codes}
-use Rattle.ecma_tree.specs.declared.kind.Kind.{Kind}
-use Rattle.ecma_tree.specs.declared.kind.Kind.TheVariants as kind
+use Rattle.ecma_kind.specs.declared.kind.Kind.{Kind}
+use Rattle.ecma_kind.specs.declared.kind.Kind.TheVariants as kind
 use Rattle.ecma_tree.specs.declared.node.Node.{Node}
-use Rattle.ecma_tree.specs.declared.kind.VarDeclKind.TheVariants.{Let, Const}
+use Rattle.ecma_kind.specs.declared.operators.VarDeclKind.TheVariants.{Let, Const}
 use Rattle.ecma_runs.specs.declared.observation.Event.TheVariants as event
 use Rattle.ecma_runs.specs.Values.{Value, Undefined, Null, Truth, Number, Text, Own, Host, Error, length_of}
 use Rattle.ecma_runs.specs.State.{Calling, Closure, Object, Run}
@@ -144,7 +144,7 @@ module _ (c : Change) where
     reference_alike _ ps = outside_alike c
 
     completion_alike : (k : Kind) (ps : List Both) → Alike c (completion_of k (left ps) x) (completion_of k (right ps) (around x call))
-    completion_alike kind.Module (body ∷ []) = body.2.completion x call calls
+    completion_alike (kind.Module shebang) (body ∷ []) = body.2.completion x call calls
     completion_alike kind.List ps = all_completions_alike ps
     completion_alike kind.ExprStmt (e ∷ []) = bind_alike c (e.2.value x call calls) (λ _. give_alike c tt)
     completion_alike (kind.VarDecl Let false) (declarators ∷ []) = declarators.2.completion x call calls
@@ -173,7 +173,7 @@ module _ (c : Change) where
   all_declarations_same (p ∷ ps) = ap₂ (λ a b. a ++ b) p.2.declarations (all_declarations_same ps)
 
   declarations_same : (k : Kind) (ps : List Both) → declarations_of k (right ps) ≡ declarations_of k (left ps)
-  declarations_same kind.Module (body ∷ []) = body.2.declarations
+  declarations_same (kind.Module shebang) (body ∷ []) = body.2.declarations
   declarations_same kind.List ps = all_declarations_same ps
   declarations_same (kind.VarDecl Let false) (declarators ∷ []) = ap (map (declared false)) declarators.2.names
   declarations_same (kind.VarDecl Const false) (declarators ∷ []) = ap (map (declared true)) declarators.2.names

@@ -1,7 +1,7 @@
 -- What expressions do, by kind and by what the children mean (ECMAScript, 13 Expressions).
 use Rattle.std.specs.Prelude.{ℕ, List, [], ◌∷◌, ◌++◌, Option, Some, None, bytes_eq, codes, slice_get}
-use Rattle.ecma_tree.specs.declared.kind.Kind.{Kind}
-use Rattle.ecma_tree.specs.declared.kind.Kind.TheVariants as kind
+use Rattle.ecma_kind.specs.declared.kind.Kind.{Kind}
+use Rattle.ecma_kind.specs.declared.kind.Kind.TheVariants as kind
 use Rattle.ecma_runs.specs.declared.observation.Event.TheVariants as event
 use Rattle.ecma_runs.specs.declared.shown.ErrorKind.TheVariants as error
 use Rattle.ecma_runs.specs.Values.{Value, Undefined, Null, Truth, Number, Text, Own, Host, Error, length_of}

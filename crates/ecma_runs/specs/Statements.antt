@@ -1,8 +1,8 @@
 -- What statements and declarations do, and what they declare (ECMAScript, 14 Statements and Declarations).
 use Rattle.std.specs.Prelude.{List, [], ◌∷◌, ◌++◌, map, Bool, true, false}
-use Rattle.ecma_tree.specs.declared.kind.Kind.{Kind}
-use Rattle.ecma_tree.specs.declared.kind.Kind.TheVariants as kind
-use Rattle.ecma_tree.specs.declared.kind.VarDeclKind.TheVariants.{Let, Const}
+use Rattle.ecma_kind.specs.declared.kind.Kind.{Kind}
+use Rattle.ecma_kind.specs.declared.kind.Kind.TheVariants as kind
+use Rattle.ecma_kind.specs.declared.operators.VarDeclKind.TheVariants.{Let, Const}
 use Rattle.ecma_runs.specs.Values.{Value}
 use Rattle.ecma_runs.specs.State.{Id, ◌>>=◌, give, outside}
 use Rattle.ecma_runs.specs.Scope.{Declared, Reference, resolved, initialize}
@@ -22,7 +22,7 @@ all_completions (m ∷ ms) x = m.completion x >>= λ _. all_completions ms x
 -- a statement or a declaration; what it completes with is never seen. `var` and ambient declarations are open.
 abbrev pub completion_of : Kind → List Meaning → Evaluation (Unit {0})
 -- 16.2.1.11 Module: Evaluation
-completion_of kind.Module (body ∷ []) x = body.completion x
+completion_of (kind.Module shebang) (body ∷ []) x = body.completion x
 completion_of kind.List items x = all_completions items x
 -- 14.5.1 Expression Statement: Evaluation
 completion_of kind.ExprStmt (e ∷ []) x = e.value x >>= λ _. give tt
@@ -59,7 +59,7 @@ declared is_constant id = record { id = id; is_constant = is_constant }
 
 -- what stands in a scope as declared there (8.2.5 LexicallyScopedDeclarations)
 abbrev pub declarations_of : Kind → List Meaning → List Declared
-declarations_of kind.Module (body ∷ []) = body.declarations
+declarations_of (kind.Module shebang) (body ∷ []) = body.declarations
 declarations_of kind.List items = all_declarations items
 declarations_of (kind.VarDecl Let false) (declarators ∷ []) = map (declared false) declarators.names
 declarations_of (kind.VarDecl Const false) (declarators ∷ []) = map (declared true) declarators.names

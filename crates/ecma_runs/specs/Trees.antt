@@ -1,9 +1,9 @@
 -- Trees that stand in no text, to state facts about runs with.
 use Rattle.std.specs.Prelude.{ℕ, pos, false, List, [], ◌∷◌, Some, None}
 use Rattle.ecma_number.specs.declared.js_number.JsNumber.TheVariants.{Whole}
-use Rattle.ecma_tree.specs.declared.kind.Kind.{Kind}
-use Rattle.ecma_tree.specs.declared.kind.Kind.TheVariants as kind
-use Rattle.ecma_tree.specs.declared.kind.VarDeclKind.{VarDeclKind}
+use Rattle.ecma_kind.specs.declared.kind.Kind.{Kind}
+use Rattle.ecma_kind.specs.declared.kind.Kind.TheVariants as kind
+use Rattle.ecma_kind.specs.declared.operators.VarDeclKind.{VarDeclKind}
 use Rattle.ecma_tree.specs.declared.node.Node.{Node}
 use Rattle.ecma_tree.specs.Nodes.{node_of}
 
@@ -49,4 +49,4 @@ abbrev pub statement : Node → Node
 statement e = placeless kind.ExprStmt (e ∷ [])
 
 abbrev pub module_of : List Node → Node
-module_of body = placeless kind.Module (list body ∷ [])
+module_of body = placeless (kind.Module None) (list body ∷ [])

@@ -11,15 +11,15 @@
 -- Each use of Stmt, Expr, Type and TypeOperator raises the level by one, wherever it is tried.
 -- The k-th Link of an Expr stands k levels deeper than the Expr, with its arguments, and so does the k-th `as` with its type;
 -- a link or an `as` is used only where its first token was read.
-use Rattle.std.specs.Prelude.{ℕ, zero, suc, ◌+◌, ◌-◌, Bool, true, false, List, [], ◌∷◌, Some, codes}
+use Rattle.std.specs.Prelude.{ℕ, zero, suc, ◌+◌, ◌-◌, Bool, true, false, List, [], ◌∷◌, Some, None, codes}
 use Rattle.ecma_number.specs.Numeral.{numeral_of}
 use Rattle.ecma_lex.specs.Text.{piece}
 use Rattle.ecma_lex.specs.declared.tokens.Token.{Token}
-use Rattle.ecma_tree.specs.declared.kind.VarDeclKind.{VarDeclKind}
-use Rattle.ecma_tree.specs.declared.kind.VarDeclKind.TheVariants.{Let, Const}
-use Rattle.ecma_tree.specs.declared.kind.Kind.TheVariants.{Module, ExprStmt, VarDecl, VarDeclarator, BindingIdent, Ident, IdentName, Str, Number, Bool as BoolKind, Null, MemberExpr, CallExpr, TsAsExpr, TsTypeAnn, TsType, TsTypeAliasDecl}
+use Rattle.ecma_kind.specs.declared.operators.VarDeclKind.{VarDeclKind}
+use Rattle.ecma_kind.specs.declared.operators.VarDeclKind.TheVariants.{Let, Const}
+use Rattle.ecma_kind.specs.declared.kind.Kind.TheVariants.{Module, ExprStmt, VarDecl, VarDeclarator, BindingIdent, Ident, IdentName, Str, Number, Bool as BoolKind, Null, MemberExpr, CallExpr, TsAsExpr, TsTypeAnn, TsType, TsTypeAliasDecl}
 use Rattle.ecma_tree.specs.declared.node.Node.{Node}
-use Rattle.ecma_text.specs.Reading.{too_deep, Reading, ◌>>=◌, ◌//◌, pure, maybe, marked, punct, word, name, key, num, str_lit, same_line, end, end_of_text, type_name, many}
+use Rattle.ecma_text.specs.Reading.{too_deep, Reading, ◌>>=◌, ◌//◌, pure, maybe, marked, punct, word, name, key, integer, plain_str, same_line, end, end_of_text, type_name, many}
 use Rattle.ecma_text.specs.Trees.{lo, at_token, made, absent, list, first_lo}
 
 -- what is read one level further in
@@ -53,10 +53,10 @@ module _ (text : List ℕ) (ts : Bool) where
   ident_name = key text >>= λ t. pure (at_token t (IdentName (source t)))
 
   unfoldable pub string : Reading Node
-  string = str_lit text >>= λ t. pure (at_token t (Str (inside t) (Some (source t))))
+  string = plain_str text >>= λ t. pure (at_token t (Str (inside t) (Some (source t))))
 
   unfoldable pub number : Reading Node
-  number = num text >>= λ t. pure (at_token t (Number (numeral_of (source t)) (Some (source t))))
+  number = integer text >>= λ t. pure (at_token t (Number (numeral_of (source t)) (Some (source t))))
 
   unfoldable pub null_literal : Reading Node
   null_literal = word text (codes "null") >>= λ t. pure (at_token t Null)
@@ -185,4 +185,4 @@ module _ (text : List ℕ) (ts : Bool) where
 
   -- a module, with at most so many levels
   unfoldable pub module_body : ℕ → Reading Node
-  module_body bound = many text (levels bound).statement >>= λ body. end_of_text text >>= λ t. made (first_lo body t) Module (list body ∷ [])
+  module_body bound = many text (levels bound).statement >>= λ body. end_of_text text >>= λ t. made (first_lo body t) (Module None) (list body ∷ [])

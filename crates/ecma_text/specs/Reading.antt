@@ -84,8 +84,8 @@ module _ (text : List ℕ) where
   abbrev pub name : Reading Token
   name s = terminal_on s (lex.name text s.place)
 
-  abbrev pub num : Reading Token
-  num s = terminal_on s (lex.num text s.place)
+  abbrev pub integer : Reading Token
+  integer s = terminal_on s (lex.integer text s.place)
 
   abbrev pub end : Reading Token
   end s = terminal_on s (lex.end text s.place)
@@ -99,8 +99,8 @@ module _ (text : List ℕ) where
   abbrev pub type_name : Reading Token
   type_name s = terminal_on s (lex.type_name text s.place)
 
-  abbrev pub str_lit : Reading Token
-  str_lit s = terminal_on s (lex.str_lit text s.place)
+  abbrev pub plain_str : Reading Token
+  plain_str s = terminal_on s (lex.plain_str text s.place)
 
   -- no line break stands before what follows; one fails as a terminal, behind it
   abbrev pub same_line_on : Position → Skipped → Outcome Bool

@@ -1,5 +1,5 @@
 -- The equations of `rewritten`, once for every rule: a pass goes through the children by index, and then rewrites the node itself.
-use Rattle.std.proofs.Common.{◌≡◌, ℕ, ◌+◌, ◌++◌, Some, map, length, sym, ap, ◌∙◌, slice_get, set, refl}
+use Rattle.std.proofs.Common.{◌≡◌, ℕ, ◌+◌, Some, length, sym, ap, ◌∙◌, slice_get, set, refl}
 use Rattle.item_list.proofs.Walking.{front_mapped, front_mapped-at, set-front_mapped, front_mapped-all}
 use Rattle.ecma_tree.specs.Rewritten.{rewritten}
 use Rattle.ecma_tree.specs.declared.node.Node.{Node, Node-F, fold_out-Node, out-Node, roll-Node}

@@ -1,7 +1,7 @@
 -- The tree without its types.
 use Rattle.std.specs.Prelude.{Bool, true, false, List, [], ◌∷◌, filter}
-use Rattle.ecma_tree.specs.declared.kind.Kind.{Kind}
-use Rattle.ecma_tree.specs.declared.kind.Kind.TheVariants.{Absent, List as ListKind, TsAsExpr, TsTypeAnn, TsTypeAliasDecl}
+use Rattle.ecma_kind.specs.declared.kind.Kind.{Kind}
+use Rattle.ecma_kind.specs.declared.kind.Kind.TheVariants.{Absent, List as ListKind, TsAsExpr, TsTypeAnn, TsTypeAliasDecl}
 use Rattle.ecma_tree.specs.declared.node.Node.{Node, Node-F, roll-Node, out-Node}
 use Rattle.ecma_tree.specs.Nodes.{node_of}
 use Rattle.ecma_tree.specs.Rewritten.{rewritten}

@@ -1,5 +1,6 @@
-pub mod Sessions
 pub mod Nodes
 pub mod Rewritten
 pub mod Spans
 pub mod Erasure
+pub mod Sorted
+pub mod Children

@@ -1,7 +1,6 @@
-ghost use Rattle.std.specs.Prelude.{◌≡◌, []};
+ghost use Rattle.std.specs.Prelude.{◌≡◌, IfOk, []};
 
-use crate::kind::Kind;
-use crate::span::{DUMMY_SP, Span};
+use ecma_kind::{DUMMY_SP, Kind, NoMemory, Span};
 use item_list::ItemList;
 use std::alloc::Global;
 
@@ -33,7 +32,7 @@ pub type Expr = Node;
 pub type Pat = Node;
 
 impl Node {
-    ghost use Rattle.ecma_tree.specs.Nodes.{node_of};
+    ghost use Rattle.ecma_tree.specs.Nodes.{list_or_absent, node_of, or_absent};
 
     /// A node of these parts.
     pub fn new(span: Span, kind: Kind, children: Nodes) -> Node
@@ -58,5 +57,44 @@ impl Node {
         ensures { result ≡ node_of DUMMY_SP Kind.List items }
     {
         Node::new(DUMMY_SP, Kind::List, items)
+    }
+
+    /// A node of these parts, with so many children.
+    pub fn of<const N: usize>(
+        alloc: Global,
+        span: Span,
+        kind: Kind,
+        children: [Node; N],
+    ) -> Result<Node, NoMemory>
+        ensures { IfOk result (λ node. node ≡ node_of span kind children.entry) }
+    {
+        Ok(Node::new(span, kind, Nodes::from_array(alloc, children)?))
+    }
+
+    /// A node with no children.
+    pub fn leaf(alloc: Global, span: Span, kind: Kind) -> Node
+        ensures { result ≡ node_of span kind [] }
+    {
+        Node::new(span, kind, Nodes::new(alloc))
+    }
+
+    /// A child that may be missing.
+    pub(crate) fn or_absent(alloc: Global, child: Option<Node>) -> Node
+        ensures { result ≡ or_absent child }
+    {
+        match child {
+            Some(node) => node,
+            None => Node::absent(alloc),
+        }
+    }
+
+    /// A list of nodes, as one child that may be missing.
+    pub(crate) fn list_or_absent(alloc: Global, items: Option<Nodes>) -> Node
+        ensures { result ≡ list_or_absent items }
+    {
+        match items {
+            Some(items) => Node::list(items),
+            None => Node::absent(alloc),
+        }
     }
 }

@@ -1,6 +1,6 @@
 -- What the erasure makes of one node.
 use Rattle.std.proofs.Common.{◌≡◌, ◌≢◌, List, [], ◌∷◌, length, Some, slice_get, refl, arith}
-use Rattle.ecma_tree.specs.declared.kind.Kind.TheVariants.{TsAsExpr}
+use Rattle.ecma_kind.specs.declared.kind.Kind.TheVariants.{TsAsExpr}
 use Rattle.ecma_tree.specs.declared.node.Node.{Node, Node-F, roll-Node}
 use Rattle.ecma_tree.specs.Erasure.{erased_by}
 

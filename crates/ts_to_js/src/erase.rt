@@ -1,6 +1,6 @@
 ghost use Rattle.std.specs.Prelude.{◌≡◌, filter};
 ghost use Rattle.ecma_tree.specs.Nodes.{node_of};
-ghost use Rattle.ecma_tree.specs.declared.kind.Kind.TheVariants.{TsAsExpr};
+ghost use Rattle.ecma_kind.specs.declared.kind.Kind.TheVariants.{TsAsExpr};
 ghost use Rattle.ecma_tree.specs.declared.node.Node.{out-Node};
 ghost use Rattle.ecma_tree.specs.Erasure.{erased, erased_by, stays, without_types};
 

@@ -188,7 +188,7 @@ impl Reader<'_> {
         let end = self.end_of_text()?;
         let lo = first_lo(&body, end);
         let children = Nodes::from_array(self.alloc, [Node::list(body)])?;
-        Ok(self.made(lo, Kind::Module, children))
+        Ok(self.made(lo, Kind::Module { shebang: None }, children))
     }
 }
 

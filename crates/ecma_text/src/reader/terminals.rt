@@ -8,7 +8,7 @@ impl Reader<'_> {
     ghost use Rattle.std.specs.Prelude.{◌≡◌, IfOk, MatchResult, ◌+◌, [], true};
     ghost use Rattle.ecma_lex.specs.Tokens.{HasInside};
     ghost use Rattle.ecma_tree.specs.Nodes.{node_of};
-    ghost use Rattle.ecma_text.specs.Reading.{punct, word, key, name, type_name, num, str_lit, same_line, end, end_of_text, terminal_on};
+    ghost use Rattle.ecma_text.specs.Reading.{punct, word, key, name, type_name, integer, plain_str, same_line, end, end_of_text, terminal_on};
     ghost use Rattle.ecma_text.specs.Trees.{at_token, absent};
     ghost use Rattle.ecma_text.specs.Grammar.{levels, level, no_level, source, inside};
     ghost use Rattle.ecma_text.specs.Agreement.{position, Reads, ReadsAs, SameText, EndsAs, Settles, SettlesOr};
@@ -60,17 +60,17 @@ impl Reader<'_> {
         self.take(ecma_lex::type_name(self.text, self.place))
     }
 
-    pub(super) fn str_lit(&mut self) -> Result<Token, Failure>
-        ensures value { Reads self.old self.new result (str_lit self.old.text.now) }
+    pub(super) fn plain_str(&mut self) -> Result<Token, Failure>
+        ensures value { Reads self.old self.new result (plain_str self.old.text.now) }
         ensures inside { IfOk result (HasInside self.new.text.now) }
     {
-        self.take(ecma_lex::str_lit(self.text, self.place))
+        self.take(ecma_lex::plain_str(self.text, self.place))
     }
 
-    pub(super) fn num(&mut self) -> Result<Token, Failure>
-        ensures { Reads self.old self.new result (num self.old.text.now) }
+    pub(super) fn integer(&mut self) -> Result<Token, Failure>
+        ensures { Reads self.old self.new result (integer self.old.text.now) }
     {
-        self.take(ecma_lex::num(self.text, self.place))
+        self.take(ecma_lex::integer(self.text, self.place))
     }
 
     pub(super) fn end(&mut self) -> Result<Token, Failure>

@@ -1,6 +1,6 @@
 ghost use Rattle.std.specs.Prelude.{◌≡◌, ◌^◌, ◌<◌, ◌≤◌, length, IfSome, true};
 ghost use Rattle.std.specs.Char.{is_ascii_digit};
-ghost use Rattle.ecma_lex.specs.Numerals.{goes_on, integer_of, num_end};
+ghost use Rattle.ecma_lex.specs.Integers.{goes_on, integer_of, integer_end};
 ghost use Rattle.ecma_lex.specs.Text.{IsPiece, after, cuts, run_end};
 
 use crate::chars::char_at;
@@ -24,7 +24,7 @@ fn digits_end(text: &str, from: u32) -> u32
     i
 }
 
-fn integer_end(text: &str, from: u32) -> Option<u32>
+fn integer_digits_end(text: &str, from: u32) -> Option<u32>
     requires { length text.now < 2 ^ 32 }
     ensures value { result ≡ integer_of (after text.now from) from }
     ensures piece { IfSome result (IsPiece text.now from) }
@@ -50,13 +50,13 @@ fn goes_on(text: &str, at: u32) -> bool
 }
 
 /// Where the numeral that begins at a place ends.
-#[tactic(auto, unfolding(crate::specs::Numerals::num_end))]
-pub(crate) fn num_end(text: &str, from: u32) -> Option<u32>
+#[tactic(auto, unfolding(crate::specs::Integers::integer_end))]
+pub(crate) fn integer_end(text: &str, from: u32) -> Option<u32>
     requires { length text.now < 2 ^ 32 }
-    ensures value { result ≡ num_end text.now from }
+    ensures value { result ≡ integer_end text.now from }
     ensures piece { IfSome result (IsPiece text.now from) }
 {
-    let next = integer_end(text, from)?;
+    let next = integer_digits_end(text, from)?;
     if goes_on(text, next) {
         return None;
     }

@@ -1,5 +1,5 @@
 ghost use Rattle.std.specs.Prelude.{◌≡◌, ◌+◌, ◌-◌, ◌^◌, ◌<◌, ◌≤◌, length, IfSome, true};
-ghost use Rattle.ecma_lex.specs.Strings.{closed_at, is_inside, is_quote, str_end};
+ghost use Rattle.ecma_lex.specs.PlainStrings.{closed_at, is_inside, is_quote, plain_str_end};
 ghost use Rattle.ecma_lex.specs.Text.{IsPiece, after, cuts, run_end};
 
 use crate::chars::char_at;
@@ -51,10 +51,10 @@ fn closed_at(text: &str, quote: char, from: u32) -> Option<u32>
 }
 
 /// Where the string literal that begins at a place ends.
-#[tactic(auto, unfolding(crate::specs::Strings::str_end))]
-pub(crate) fn str_end(text: &str, from: u32) -> Option<u32>
+#[tactic(auto, unfolding(crate::specs::PlainStrings::plain_str_end))]
+pub(crate) fn plain_str_end(text: &str, from: u32) -> Option<u32>
     requires { length text.now < 2 ^ 32 }
-    ensures value { result ≡ str_end text.now from }
+    ensures value { result ≡ plain_str_end text.now from }
     ensures piece { IfSome result (IsPiece text.now from) }
     ensures inside { IfSome result (λ next. IsPiece text.now (from + 1) (next - 1)) }
 {

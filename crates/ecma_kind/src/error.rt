@@ -1,25 +1,9 @@
 ghost use Rattle.std.specs.Prelude.{◌≡◌};
-ghost use Rattle.ecma_tree.specs.declared.error.PassError.TheVariants as pass_error;
+ghost use Rattle.ecma_kind.specs.declared.error.PassError.TheVariants as pass_error;
 
+use ecma_number::NoMemory;
 use std::alloc::{AllocError, AllocFailed};
 use thiserror::Error;
-
-/// There was no memory. It is the one refusal that no contract ties to a cause.
-#[derive(Clone, Copy, Debug, PartialEq, Eq, Error)]
-#[error("out of memory")]
-pub struct NoMemory;
-
-impl From<AllocError> for NoMemory {
-    fn from(_: AllocError) -> NoMemory {
-        NoMemory
-    }
-}
-
-impl<T: Drop> From<AllocFailed<T>> for NoMemory {
-    fn from(_: AllocFailed<T>) -> NoMemory {
-        NoMemory
-    }
-}
 
 /// A session has given all its marks: it comes exactly where none is left.
 #[derive(Clone, Copy, Debug, PartialEq, Eq, Error)]

@@ -3,7 +3,7 @@ ghost use Rattle.std.specs.Rc.{rc_str_bytes};
 ghost use Rattle.std.specs.Cmp.Lexicographic.{pointwise, nat_list_eq_equiv};
 ghost use Rattle.std.specs.Cmp;
 
-use crate::error::NoMemory;
+use ecma_number::NoMemory;
 use std::alloc::{AllocError, Global};
 use std::marker::Model;
 use std::rc::RcStr;

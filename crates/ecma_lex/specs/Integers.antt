@@ -19,5 +19,5 @@ if_whole text None = None
 if_whole text (Some next) = if goes_on (after text next) then None else Some next
 
 -- where the numeral that begins at a place ends
-unfoldable pub num_end : List ℕ → ℕ → Option ℕ
-num_end text i = if_whole text (integer_of (after text i) i)
+unfoldable pub integer_end : List ℕ → ℕ → Option ℕ
+integer_end text i = if_whole text (integer_of (after text i) i)

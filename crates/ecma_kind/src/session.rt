@@ -20,7 +20,7 @@ pub struct Session {
 
 impl Model for Session {
     ghost use Rattle.std.specs.Prelude.{◌≤◌};
-    ghost use Rattle.ecma_tree.specs.Sessions.{SessionState};
+    ghost use Rattle.ecma_kind.specs.Sessions.{SessionState};
 
     ghost Value = { SessionState };
 
@@ -30,7 +30,7 @@ impl Model for Session {
 }
 
 impl Session {
-    ghost use Rattle.ecma_tree.specs.Sessions.{fresh_session, drawn, with_slot, HasGiven};
+    ghost use Rattle.ecma_kind.specs.Sessions.{fresh_session, drawn, with_slot, HasGiven};
 
     /// A session with so many marks, and nothing in its slots.
     pub fn new(left: u32) -> Session

@@ -1,5 +1,5 @@
 -- What a session is: the number that it was made with, how many marks are left, and the slots of the helpers.
-use Rattle.std.specs.Prelude.{◌≡◌, ℕ, ◌-◌, ◌<◌, ◌≤◌, Bool, List, Option, Some, None, slice_set, [], ◌∷◌}
+use Rattle.std.specs.Prelude.{ℕ, ◌-◌, ◌<◌, ◌≤◌, Bool, List, Option, Some, None, slice_set, [], ◌∷◌}
 
 pub record SessionState : Type 0 where
   pub total : ℕ

@@ -23,5 +23,5 @@ str_of text [] i = None
 str_of text (quote ∷ cs) i = if is_quote quote then closed_at text quote (run_end (is_inside quote) cs (i + 1)) else None
 
 -- where the string literal that begins at a place ends
-unfoldable pub str_end : List ℕ → ℕ → Option ℕ
-str_end text i = str_of text (after text i) i
+unfoldable pub plain_str_end : List ℕ → ℕ → Option ℕ
+plain_str_end text i = str_of text (after text i) i
