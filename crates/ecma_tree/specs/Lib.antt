@@ -4,3 +4,7 @@ pub mod Spans
 pub mod Erasure
 pub mod Sorted
 pub mod Children
+pub mod Finding
+pub mod Changing
+pub mod Gathering
+pub mod NodeRefs

@@ -6,16 +6,32 @@
 
 mod build;
 mod children;
+mod collect;
+mod copies;
+mod equal;
+mod find;
 mod node;
+mod node_ref;
+mod sort_names;
 mod sorted;
+mod spans;
 
+pub use collect::symbols;
+pub use copies::{
+    copy_class, copy_expr, copy_function, copy_item, copy_module, copy_node, copy_pat, copy_stmt,
+};
 pub use ecma_kind::{
     Accessibility, AssignOp, BinaryOp, Count, DUMMY_SP, Field, JsWord, Kind, Mark, MemberModifiers,
     MetaPropKind, MethodKind, NoMemory, PassError, Place, Session, Slot, Sort, Span, Spent,
     SyntaxContext, UnaryOp, UpdateOp, VarDeclKind,
 };
+pub use equal::same_but_for_spans;
+pub use find::mentions;
 pub use node::{Expr, Module, ModuleItem, Node, Nodes, Pat, Stmt};
+pub use node_ref::{NodeRef, eq_ignore_span};
+pub use sort_names::{Class, Function};
 pub use sorted::{has_sort, stands};
+pub use spans::drop_spans;
 
 #[cfg(test)]
 mod tests;
