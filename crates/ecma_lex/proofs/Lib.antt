@@ -4,3 +4,10 @@ pub mod Pieces
 pub mod Suffixes
 pub mod Spelled
 pub mod Ahead
+pub mod Literals
+pub mod Escaped
+pub mod Quoted
+pub mod TemplateParts
+pub mod NumeralWords
+pub mod NumeralTokens
+pub mod SymbolWords

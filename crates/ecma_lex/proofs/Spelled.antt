@@ -50,12 +50,12 @@ run_all p (c ∷ cs) v i h s = go (p c) h (λ k. run_all p cs v (i + len_utf8 c)
     go false e k = cc
 
 -- characters begin with a token
-record Front (Kind : List ℕ → Type 0) (cs : List ℕ) (i j : ℕ) : Type 0 where
-  front : List ℕ
-  back : List ℕ
-  parts : cs ≡ front ++ back
-  kind : Kind front
-  ends : j ≡ i + wide front
+pub record Front (Kind : List ℕ → Type 0) (cs : List ℕ) (i j : ℕ) : Type 0 where
+  pub front : List ℕ
+  pub back : List ℕ
+  pub parts : cs ≡ front ++ back
+  pub kind : Kind front
+  pub ends : j ≡ i + wide front
 
 -- a text is spelled so
 abbrev pub Spelled : (List ℕ → Type 0) → List ℕ → Type 0
@@ -167,7 +167,7 @@ module _ (text : List ℕ) where
     front : scalars fs ≡ true
     back : scalars bs ≡ true
 
-  scalars_parts : (fs bs : List ℕ) → scalars (fs ++ bs) ≡ true → (scalars fs ≡ true) × (scalars bs ≡ true)
+  pub scalars_parts : (fs bs : List ℕ) → scalars (fs ++ bs) ≡ true → (scalars fs ≡ true) × (scalars bs ≡ true)
   scalars_parts [] bs h = (refl, h)
   scalars_parts (c ∷ fs) bs h =
       let a = and_parts (scalar c) (scalars (fs ++ bs)) h in
@@ -199,7 +199,7 @@ module _ (text : List ℕ) where
       rw (← length-encodes fs) (piece_here text i (encodes fs) (encodes bs) p.stands (cut_utf8 (encodes fs) (encodes bs) (utf8_encodes fs p.front) (cut_back p)) (cut_back p))
 
   -- a front that is a token is spelled so
-  spelled : {Kind : List ℕ → Type 0} {i j : ℕ} → IsUtf8 text → cuts text i ≡ true → Front Kind (after text i) i j → Spelled Kind (piece text i j)
+  pub spelled : {Kind : List ℕ → Type 0} {i j : ℕ} → IsUtf8 text → cuts text i ≡ true → Front Kind (after text i) i j → Spelled Kind (piece text i j)
   spelled {Kind} {i} {j} u c f =
       let p = apart u i c f.front f.back f.parts in
       let e : piece text i j ≡ encodes f.front = rw f.ends (front_piece p) in
@@ -211,13 +211,13 @@ module _ (text : List ℕ) where
     pub stands : Stands text i (piece text i j ++ rest)
     pub ends : j ≡ i + length (piece text i j)
 
-  standing : {Kind : List ℕ → Type 0} {i j : ℕ} → IsUtf8 text → cuts text i ≡ true → Front Kind (after text i) i j → Standing i j
+  pub standing : {Kind : List ℕ → Type 0} {i j : ℕ} → IsUtf8 text → cuts text i ≡ true → Front Kind (after text i) i j → Standing i j
   standing {Kind} {i} {j} u c f =
       let p = apart u i c f.front f.back f.parts in
       let e : piece text i j ≡ encodes f.front = rw f.ends (front_piece p) in
       record { rest = encodes f.back; stands = rw e p.stands; ends = f.ends ∙ rw (e, length-encodes f.front) refl }
 
-  some_after : (i : ℕ) → (after text i ≡ [] → ⊥) → cuts text i ≡ true
+  pub some_after : (i : ℕ) → (after text i ≡ [] → ⊥) → cuts text i ≡ true
   some_after i h = true_from_ne_false (cuts text i) (λ e. h (after_not text i e))
 
   pub key_spelled : (i j : ℕ) → IsUtf8 text → key_end text i ≡ Some j → Spelled IsKey (piece text i j)
@@ -392,17 +392,17 @@ module _ (text : List ℕ) where
 
 -- a text by itself
 
-piece_all : (w : List ℕ) → IsUtf8 w → piece w 0 (length w) ≡ w
+pub piece_all : (w : List ℕ) → IsUtf8 w → piece w 0 (length w) ≡ w
 piece_all w u =
     let st : Stands w 0 (w ++ []) = rw (append-nil w) (record { rest = refl; within = omega arith }) in
     let e = piece_here w 0 w [] st (cut_utf8 w [] u refl) refl in
     let z : 0 + length w ≡ length w = omega arith in
     rw z at e
 
-alone : (w : List ℕ) → Stands w 0 (w ++ [])
+pub alone : (w : List ℕ) → Stands w 0 (w ++ [])
 alone w = rw (append-nil w) (record { rest = refl; within = omega arith })
 
-zero_add : (w : List ℕ) → 0 + length w ≡ length w
+pub zero_add : (w : List ℕ) → 0 + length w ≡ length w
 zero_add w = omega arith
 
 pub key_alone : (w : List ℕ) → Spelled IsKey w → key_end w 0 ≡ Some (length w)

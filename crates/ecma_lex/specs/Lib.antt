@@ -4,4 +4,13 @@ pub mod Keys
 pub mod Punctuators
 pub mod Integers
 pub mod PlainStrings
+pub mod Parts
+pub mod Numerals
+pub mod Regexes
+pub mod Hashbangs
+pub mod Symbols
 pub mod Tokens
+pub mod Escapes
+pub mod Spoken
+pub mod Strings
+pub mod Templates

@@ -3,6 +3,7 @@ use Rattle.std.specs.Prelude.{ℕ, ◌+◌, Bool, not, ◌&&◌, ◌||◌, List,
 use Rattle.std.specs.Char.{is_ascii_digit}
 use Rattle.std.specs.List.{list_any, list_all, starts_with}
 use Rattle.ecma_lex.specs.Text.{words}
+use Rattle.ecma_lex.specs.Parts.{mark}
 
 unfoldable pub punctuators : List (List ℕ)
 punctuators = words (codes "{ } ( ) [ ] . ... ; , < > <= >= == != === !== + - * / % ** ++ -- << >> >>> & | ^ ! ~ && || ?? ? ?. : = += -= *= /= %= **= <<= >>= >>>= &= |= ^= &&= ||= ??= => @")
@@ -21,3 +22,7 @@ is_longest punctuator text =
 -- where the punctuator ends, if it is the longest at a place
 unfoldable pub punct_end : List ℕ → List ℕ → ℕ → Option ℕ
 punct_end punctuator text i = if is_longest punctuator (drop i text) then Some (i + length punctuator) else None
+
+-- where this one character ends, `<` or `>`, whatever follows
+unfoldable pub angle_end : ℕ → List ℕ → ℕ → Option ℕ
+angle_end sign = mark sign

@@ -2,8 +2,11 @@
 use Rattle.std.specs.Prelude.{◌≤◌, ℕ, ◌+◌, ◌-◌, Bool, ◌&&◌, ◌||◌, List, length, if◌then◌else◌, ◌==◌, Option, Some, None, is_some, Result, Ok, Err, codes}
 use Rattle.ecma_lex.specs.Text.{IsPiece}
 use Rattle.ecma_lex.specs.Blanks.{skipped}
-use Rattle.ecma_lex.specs.Keys.{key_end, name_end, type_name_end, word_end}
-use Rattle.ecma_lex.specs.Punctuators.{punct_end}
+use Rattle.ecma_lex.specs.Keys.{key_end, name_end, type_name_end, word_end, priv_name_end}
+use Rattle.ecma_lex.specs.Punctuators.{punct_end, angle_end}
+use Rattle.ecma_lex.specs.Numerals.{num_end, big_end}
+use Rattle.ecma_lex.specs.Regexes.{regex_end, regex_body_end}
+use Rattle.ecma_lex.specs.Hashbangs.{hashbang_end}
 use Rattle.ecma_lex.specs.Integers.{integer_end}
 use Rattle.ecma_lex.specs.PlainStrings.{plain_str_end}
 use Rattle.ecma_lex.specs.declared.blanks.Skipped.{Skipped}
@@ -25,6 +28,9 @@ key text i = term key_end text i
 unfoldable pub name : List ℕ → ℕ → Result Token NoToken
 name text i = term name_end text i
 
+unfoldable pub priv_name : List ℕ → ℕ → Result Token NoToken
+priv_name text i = term priv_name_end text i
+
 unfoldable pub type_name : List ℕ → ℕ → Result Token NoToken
 type_name text i = term type_name_end text i
 
@@ -34,11 +40,26 @@ word text i wanted = term (word_end wanted) text i
 unfoldable pub punct : List ℕ → ℕ → List ℕ → Result Token NoToken
 punct text i punctuator = term (punct_end punctuator) text i
 
+unfoldable pub angle : List ℕ → ℕ → ℕ → Result Token NoToken
+angle text i sign = term (angle_end sign) text i
+
+unfoldable pub num : List ℕ → ℕ → Result Token NoToken
+num text i = term num_end text i
+
+unfoldable pub big : List ℕ → ℕ → Result Token NoToken
+big text i = term big_end text i
+
+unfoldable pub regex : List ℕ → ℕ → Result Token NoToken
+regex text i = term regex_end text i
+
 unfoldable pub integer : List ℕ → ℕ → Result Token NoToken
 integer text i = term integer_end text i
 
 unfoldable pub plain_str : List ℕ → ℕ → Result Token NoToken
 plain_str text i = term plain_str_end text i
+
+unfoldable pub hashbang : List ℕ → ℕ → Result Token NoToken
+hashbang text i = term hashbang_end text i
 
 -- the end of a text is an empty token there
 abbrev pub text_end : List ℕ → ℕ → Option ℕ
@@ -62,6 +83,14 @@ end text i = or_nothing text i (skipped text i) (punct text i (codes ";"))
 -- a token stands in the text behind the place where its reading began, and the text may be cut round it
 abbrev pub Stands : List ℕ → ℕ → Token → Type 0
 Stands text i token = (i ≤ token.start) × IsPiece text token.start token.next
+
+-- what stands behind the first character of a token, which has one byte, is a piece of the text
+abbrev pub HasTail : List ℕ → Token → Type 0
+HasTail text token = IsPiece text (token.start + 1) token.next
+
+-- the body of a regular expression literal and its flags, between and behind its two `/`, are pieces of the text
+abbrev pub HasBody : List ℕ → Token → Type 0
+HasBody text token = let stop = regex_body_end text token.start in IsPiece text (token.start + 1) stop × IsPiece text (stop + 1) token.next
 
 -- what stands between the first and the last character of a token, each of one byte, is a piece of the text
 abbrev pub HasInside : List ℕ → Token → Type 0

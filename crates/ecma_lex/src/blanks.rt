@@ -29,7 +29,7 @@ enum Part {
     Closing(u32),
 }
 
-fn is_line_terminator(c: char) -> bool
+pub(crate) fn is_line_terminator(c: char) -> bool
     ensures { result ≡ is_line_terminator c }
 {
     c == '\n' || c == '\r' || c == '\u{2028}' || c == '\u{2029}'
@@ -57,7 +57,7 @@ fn either(a: bool, b: bool) -> bool
     a || b
 }
 
-fn char_or_zero(text: &str, at: u32) -> char
+pub(crate) fn char_or_zero(text: &str, at: u32) -> char
     ensures { result ≡ slice_index (after text.now at) 0 }
 {
     match char_at(text, at) {

@@ -1,9 +1,10 @@
-ghost use Rattle.std.specs.Prelude.{◌≡◌, ◌^◌, ◌<◌, ◌≤◌, length, IfSome, bytes_eq, true};
+ghost use Rattle.std.specs.Prelude.{◌≡◌, ◌+◌, ◌^◌, ◌<◌, ◌≤◌, length, IfSome, bytes_eq, true};
 ghost use Rattle.std.specs.List.{list_any};
-ghost use Rattle.ecma_lex.specs.Keys.{is_reserved, is_type_operator, is_valid_continue, is_valid_start, key_end, name_end, type_name_end, word_end};
+ghost use Rattle.ecma_lex.specs.Keys.{is_reserved, is_type_operator, is_valid_continue, is_valid_start, key_end, name_end, priv_name_end, type_name_end, word_end};
 ghost use Rattle.ecma_lex.specs.Text.{IsPiece, after, cuts, run_end};
 
 use crate::chars::{char_at, piece};
+use crate::parts::mark_end;
 
 const RESERVED_WORDS: [&str; 46] = [
     "await",
@@ -83,7 +84,7 @@ pub(crate) fn is_among(word: &str, words: &[&str]) -> bool
 }
 
 #[tactic(auto, unfolding(crate::specs::Keys::is_reserved), using(crate::proofs::Tables::any_reserved))]
-fn is_reserved(word: &str) -> bool
+pub(crate) fn is_reserved(word: &str) -> bool
     ensures { result ≡ is_reserved word.now }
 {
     let words: [&str; 46] = RESERVED_WORDS;
@@ -99,7 +100,7 @@ fn is_type_operator(word: &str) -> bool
 }
 
 #[tactic(auto, unfolding(crate::specs::Text::run_end))]
-fn key_part_end(text: &str, from: u32) -> u32
+pub(crate) fn key_part_end(text: &str, from: u32) -> u32
     requires small { length text.now < 2 ^ 32 }
     requires within { from ≤ length text.now }
     requires cut { cuts text.now from ≡ true }
@@ -170,4 +171,16 @@ pub(crate) fn word_end(text: &str, from: u32, word: &str) -> Option<u32>
         return None;
     }
     Some(next)
+}
+
+/// Where the private name that begins at a place ends: `#` and a key directly behind it.
+#[tactic(auto, unfolding(crate::specs::Keys::priv_name_end))]
+pub(crate) fn priv_name_end(text: &str, from: u32) -> Option<u32>
+    requires { length text.now < 2 ^ 32 }
+    ensures value { result ≡ priv_name_end text.now from }
+    ensures piece { IfSome result (IsPiece text.now from) }
+    ensures tail { IfSome result (IsPiece text.now (from + 1)) }
+{
+    let next = mark_end(text, from, '#')?;
+    key_end(text, next)
 }

@@ -7,17 +7,35 @@
 
 mod blanks;
 mod chars;
-mod keys;
+mod escapes;
+mod hashbangs;
 mod integers;
-mod punctuators;
+mod keys;
+#[cfg(test)]
+mod literal_tests;
+mod numerals;
+mod parts;
 mod plain_strings;
+mod punctuators;
+mod regexes;
+mod spoken;
+mod string_literals;
+mod symbols;
+mod templates;
 #[cfg(test)]
 mod tests;
 mod tokens;
 
 pub use blanks::{Skipped, skip};
 pub use chars::piece;
+pub use hashbangs::hashbang;
 pub use keys::{is_valid_continue, is_valid_start};
+pub use numerals::{big, num};
+pub use regexes::{regex, regex_body_end};
+pub use string_literals::{str_lit, str_value};
+pub use symbols::{Verified, verify_symbol};
+pub use templates::{TemplateText, template_text, template_value};
 pub use tokens::{
-    NoToken, Token, end, end_of_text, key, name, integer, punct, plain_str, type_name, word,
+    NoToken, Token, angle, end, end_of_text, integer, key, name, plain_str, priv_name, punct,
+    type_name, word,
 };

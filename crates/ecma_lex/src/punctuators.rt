@@ -1,10 +1,11 @@
-ghost use Rattle.std.specs.Prelude.{◌≡◌, ◌+◌, ◌^◌, ◌<◌, ◌≤◌, ◌||◌, length, nat_le, not, drop, IfSome};
+ghost use Rattle.std.specs.Prelude.{◌≡◌, ◌+◌, ◌^◌, ◌<◌, ◌≤◌, ◌||◌, ◌⊎◌, length, nat_le, not, drop, IfSome};
 ghost use Rattle.std.specs.Bool.{OnTrue};
 ghost use Rattle.std.specs.List.{list_all};
-ghost use Rattle.ecma_lex.specs.Punctuators.{begins_with, is_longest, punct_end};
+ghost use Rattle.ecma_lex.specs.Punctuators.{angle_end, begins_with, is_longest, punct_end};
 ghost use Rattle.ecma_lex.specs.Text.{IsPiece};
 
 use crate::keys::is_among;
+use crate::parts::mark_end;
 
 const PUNCTUATORS: [&str; 58] = [
     "{", "}", "(", ")", "[", "]", ".", "...", ";", ",", "<", ">", "<=", ">=", "==", "!=", "===",
@@ -82,4 +83,15 @@ pub(crate) fn punct_end(text: &str, from: u32, punctuator: &str) -> Option<u32>
         return None;
     }
     Some(from + punctuator.len() as u32)
+}
+
+/// Where this one character ends, whatever follows.
+#[tactic(auto, unfolding(crate::specs::Punctuators::angle_end))]
+pub(crate) fn angle_end(text: &str, from: u32, sign: char) -> Option<u32>
+    requires small { length text.now < 2 ^ 32 }
+    requires angle { (sign ≡ 60) ⊎ (sign ≡ 62) }
+    ensures value { result ≡ angle_end sign text.now from }
+    ensures piece { IfSome result (IsPiece text.now from) }
+{
+    mark_end(text, from, sign)
 }

@@ -2,6 +2,9 @@ use super::*;
 use std::process::Abort;
 use std::test::*;
 
+mod literals;
+mod symbols;
+
 #[derive(Clone, Copy)]
 enum Terminal {
     Key,

@@ -1,14 +1,16 @@
 ghost use Rattle.std.specs.Prelude.{◌≡◌, ◌^◌, ◌<◌, ◌≤◌, length, IfOk, IfSome, MatchResult, IsTrue, Err};
+ghost use Rattle.std.specs.Prelude.{◌⊎◌};
 ghost use Rattle.std.specs.Bool.{OnTrue};
 ghost use Rattle.ecma_lex.specs.Blanks.{skipped};
 ghost use Rattle.ecma_lex.specs.Text.{IsPiece};
 ghost use Rattle.ecma_lex.specs.Tokens.{HasInside, Stands, end, end_of_text, found, key, may_end, name, integer, punct, plain_str, text_end, type_name, word};
+ghost use Rattle.ecma_lex.specs.Tokens.{HasTail, angle, priv_name};
 
 use crate::blanks::{Skipped, skip};
-use crate::keys::{key_end, name_end, type_name_end, word_end};
 use crate::integers::integer_end;
-use crate::punctuators::punct_end;
+use crate::keys::{key_end, name_end, priv_name_end, type_name_end, word_end};
 use crate::plain_strings::plain_str_end;
+use crate::punctuators::{angle_end, punct_end};
 
 /// A token.
 #[derive(Clone, Copy, Debug, PartialEq, Eq)]
@@ -29,7 +31,7 @@ pub struct NoToken {
 }
 
 /// Skips blanks and comments, and fails at one that is never closed.
-fn skip_closed(text: &str, at: u32) -> Result<Skipped, NoToken>
+pub(crate) fn skip_closed(text: &str, at: u32) -> Result<Skipped, NoToken>
     requires { length text.now < 2 ^ 32 }
     ensures value { MatchResult result (λ before. (before ≡ skipped text.now at) × IsTrue before.closed) (λ e. (IsTrue (skipped text.now at).closed → ⊥) × (e.at ≡ (skipped text.now at).to)) }
     ensures forward { IfOk result (λ before. at ≤ before.to) }
@@ -43,7 +45,7 @@ fn skip_closed(text: &str, at: u32) -> Result<Skipped, NoToken>
 }
 
 /// The token that ends there, or none behind what was skipped.
-fn found(before: Skipped, next: Option<u32>) -> Result<Token, NoToken>
+pub(crate) fn found(before: Skipped, next: Option<u32>) -> Result<Token, NoToken>
     ensures { result ≡ found before next }
 {
     match next {
@@ -78,6 +80,18 @@ pub fn name(text: &str, at: u32) -> Result<Token, NoToken>
     found(before, name_end(text, before.to))
 }
 
+/// Reads a private name: `#` and a key directly behind it.
+#[tactic(auto, unfolding(crate::specs::Tokens::priv_name))]
+pub fn priv_name(text: &str, at: u32) -> Result<Token, NoToken>
+    requires { length text.now < 2 ^ 32 }
+    ensures value { result ≡ priv_name text.now at }
+    ensures stands { IfOk result (Stands text.now at) }
+    ensures tail { IfOk result (HasTail text.now) }
+{
+    let before = skip_closed(text, at)?;
+    found(before, priv_name_end(text, before.to))
+}
+
 /// Reads a name that may name a type: none of `infer`, `keyof`, `readonly` and `unique`, which begin types of their own.
 #[tactic(auto, unfolding(crate::specs::Tokens::type_name))]
 pub fn type_name(text: &str, at: u32) -> Result<Token, NoToken>
@@ -110,6 +124,18 @@ pub fn punct(text: &str, at: u32, punctuator: &str) -> Result<Token, NoToken>
 {
     let before = skip_closed(text, at)?;
     found(before, punct_end(text, before.to, punctuator))
+}
+
+/// Reads `<` or `>`, whatever follows, so also where it begins a longer punctuator.
+#[tactic(auto, unfolding(crate::specs::Tokens::angle))]
+pub fn angle(text: &str, at: u32, sign: char) -> Result<Token, NoToken>
+    requires small { length text.now < 2 ^ 32 }
+    requires angle { (sign ≡ 60) ⊎ (sign ≡ 62) }
+    ensures value { result ≡ angle text.now at sign }
+    ensures stands { IfOk result (Stands text.now at) }
+{
+    let before = skip_closed(text, at)?;
+    found(before, angle_end(text, before.to, sign))
 }
 
 /// Reads a numeral: decimal digits, with no `0` before another digit, and with no `.`, digit or character of a key directly behind.

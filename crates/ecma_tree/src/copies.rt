@@ -1,7 +1,6 @@
 ghost use Rattle.std.specs.Prelude.{◌≡◌, IfOk};
 
-use crate::node::{Expr, Module, ModuleItem, Node, Nodes, Pat, Stmt};
-use crate::sort_names::{Class, Function};
+use crate::node::{Class, Expr, Function, Module, ModuleItem, Node, Nodes, Pat, Stmt};
 use ecma_kind::{NoMemory, copy_kind};
 use std::alloc::Global;
 

@@ -12,9 +12,9 @@ mod equal;
 mod find;
 mod node;
 mod node_ref;
-mod sort_names;
 mod sorted;
 mod spans;
+mod symbol;
 
 pub use collect::symbols;
 pub use copies::{
@@ -23,15 +23,16 @@ pub use copies::{
 pub use ecma_kind::{
     Accessibility, AssignOp, BinaryOp, Count, DUMMY_SP, Field, JsWord, Kind, Mark, MemberModifiers,
     MetaPropKind, MethodKind, NoMemory, PassError, Place, Session, Slot, Sort, Span, Spent,
-    SyntaxContext, UnaryOp, UpdateOp, VarDeclKind,
+    SyntaxContext, UnaryOp, UpdateOp, VarDeclKind, belongs, field_index, slots,
 };
+pub use ecma_lex::{is_valid_continue, is_valid_start};
 pub use equal::same_but_for_spans;
 pub use find::mentions;
-pub use node::{Expr, Module, ModuleItem, Node, Nodes, Pat, Stmt};
+pub use node::{Class, Expr, Function, Module, ModuleItem, Node, Nodes, Pat, Stmt};
 pub use node_ref::{NodeRef, eq_ignore_span};
-pub use sort_names::{Class, Function};
 pub use sorted::{has_sort, stands};
 pub use spans::drop_spans;
+pub use symbol::verify_symbol;
 
 #[cfg(test)]
 mod tests;

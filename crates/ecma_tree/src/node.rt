@@ -31,6 +31,12 @@ pub type Expr = Node;
 /// A node that is a binding pattern.
 pub type Pat = Node;
 
+/// A node of the kind [`Kind::Function`]: what functions and methods have in common.
+pub type Function = Node;
+
+/// A node of the kind [`Kind::Class`]: what class declarations and expressions have in common.
+pub type Class = Node;
+
 impl Node {
     ghost use Rattle.ecma_tree.specs.Nodes.{list_or_absent, node_of, or_absent};
 

@@ -2,6 +2,10 @@ use super::*;
 use std::alloc::Global;
 use std::test::Fail;
 
+mod every_kind;
+
+use every_kind::every_kind;
+
 #[test]
 fn nodes_are_made(rt: HostRuntime) -> Result<(), Fail> {
     let alloc = rt.alloc();
@@ -49,13 +53,96 @@ fn same_exprs(node: &Node, other: &Node) -> bool {
     eq_ignore_span(NodeRef::Expr(node), NodeRef::Expr(other))
 }
 
+/// Whether the two are equal with their spans: they show the same.
+fn is_equal(alloc: Global, copy: &Node, tree: &Node) -> Result<bool, Fail> {
+    Ok(same_exprs(copy, tree) && format!(in alloc; "{copy:?}")? == format!(in alloc; "{tree:?}")?)
+}
+
+/// A copy by one of the calls that copy.
+fn copy_by(alloc: Global, call: usize, tree: &Node) -> Result<Node, NoMemory> {
+    match call {
+        0 => copy_node(alloc, tree),
+        1 => copy_module(alloc, tree),
+        2 => copy_item(alloc, tree),
+        3 => copy_stmt(alloc, tree),
+        4 => copy_expr(alloc, tree),
+        5 => copy_pat(alloc, tree),
+        6 => copy_function(alloc, tree),
+        _ => copy_class(alloc, tree),
+    }
+}
+
 #[test]
-fn a_copy_is_equal_to_its_original(rt: HostRuntime) -> Result<(), Fail> {
+fn copies_are_equal_to_their_originals(rt: HostRuntime) -> Result<(), Fail> {
     let alloc = rt.alloc();
-    let tree = call(alloc, 5, ["f", "a", "größe"])?;
-    let copy = copy_expr(alloc, &tree)?;
-    assert!(rt; same_exprs(&copy, &tree));
-    assert_eq!(rt; copy.span, Span { lo: 5, hi: 5 });
+    let tree = every_kind(alloc)?;
+    for call in 0..8 {
+        let copy = copy_by(alloc, call, &tree)?;
+        assert!(rt; is_equal(alloc, &copy, &tree)?);
+    }
+    Ok(())
+}
+
+#[test]
+fn every_kind_stands_in_the_tree(rt: HostRuntime) -> Result<(), Fail> {
+    let alloc = rt.alloc();
+    let tree = every_kind(alloc)?;
+    let elems = tree
+        .child(Field::Elems)
+        .and_then(|array| array.child(Field::Elems));
+    assert_eq!(rt; elems.map(|nodes| nodes.children.len()), Some(122));
+    Ok(())
+}
+
+/// `if (a) <cons> else b`
+fn choice(alloc: Global, cons: Stmt) -> Result<Stmt, NoMemory> {
+    let alt = Node::expr_stmt(alloc, DUMMY_SP, ident(alloc, 0, "b")?)?;
+    Node::if_stmt(alloc, DUMMY_SP, ident(alloc, 0, "a")?, cons, Some(alt))
+}
+
+#[test]
+fn statements_have_their_sort(rt: HostRuntime) -> Result<(), Fail> {
+    let alloc = rt.alloc();
+    let good = choice(alloc, Node::leaf(alloc, DUMMY_SP, Kind::EmptyStmt))?;
+    assert!(rt; has_sort(&good, Sort::Stmt));
+    assert!(rt; has_sort(&good, Sort::ModuleItem));
+    assert!(rt; !has_sort(&good, Sort::Expr));
+    assert!(rt; good.child(Field::Alt).is_some());
+    assert!(rt; good.child(Field::Body).is_none());
+    let bad = choice(alloc, ident(alloc, 0, "b")?)?;
+    assert!(rt; !has_sort(&bad, Sort::Stmt));
+    assert!(rt; !has_sort(&without_last_child(good), Sort::Stmt));
+    Ok(())
+}
+
+/// `[<elem>]`
+fn array_of(alloc: Global, elem: Node) -> Result<Expr, NoMemory> {
+    Node::array_lit(alloc, DUMMY_SP, Nodes::from_array(alloc, [elem])?)
+}
+
+/// `f(<arg>)`
+fn call_with(alloc: Global, arg: Node) -> Result<Expr, NoMemory> {
+    let args = Nodes::from_array(alloc, [arg])?;
+    Node::call_expr(alloc, DUMMY_SP, ident(alloc, 0, "f")?, args, None)
+}
+
+#[test]
+fn arrays_alone_have_holes(rt: HostRuntime) -> Result<(), Fail> {
+    let alloc = rt.alloc();
+    assert!(rt; has_sort(&array_of(alloc, ident(alloc, 0, "a")?)?, Sort::Expr));
+    assert!(rt; has_sort(&call_with(alloc, ident(alloc, 0, "a")?)?, Sort::Expr));
+    assert!(rt; has_sort(&array_of(alloc, Node::absent(alloc))?, Sort::Expr));
+    assert!(rt; !has_sort(&call_with(alloc, Node::absent(alloc))?, Sort::Expr));
+    Ok(())
+}
+
+#[test]
+fn a_sequence_is_never_empty(rt: HostRuntime) -> Result<(), Fail> {
+    let alloc = rt.alloc();
+    let one = Nodes::from_array(alloc, [ident(alloc, 0, "a")?])?;
+    assert!(rt; has_sort(&Node::seq_expr(DUMMY_SP, one), Sort::Expr));
+    let none = Node::leaf(alloc, DUMMY_SP, Kind::SeqExpr);
+    assert!(rt; !has_sort(&none, Sort::Expr));
     Ok(())
 }
 
@@ -115,5 +202,21 @@ fn other_trees_are_told_apart(rt: HostRuntime) -> Result<(), Fail> {
     let other = without_last_child(call(alloc, 5, ["f", "a", "b"])?);
     assert!(rt; !same_exprs(&other, &tree));
     assert!(rt; !same_exprs(&tree, &other));
+    Ok(())
+}
+
+fn offered(alloc: Global, text: &str) -> Result<Option<JsWord>, NoMemory> {
+    Ok(verify_symbol(alloc, text)?.err())
+}
+
+#[test]
+fn symbols_are_offered_for_what_is_no_name(rt: HostRuntime) -> Result<(), Fail> {
+    let alloc = rt.alloc();
+    assert!(rt; offered(alloc, "größe")?.is_none());
+    let rows = [("a-b", "ab"), ("class", "_class"), ("1a", "a"), ("", "_")];
+    for (text, symbol) in rows {
+        let word = offered(alloc, text)?.expect(&rt, "an offer");
+        assert_eq!(rt; word.as_str(), symbol);
+    }
     Ok(())
 }
