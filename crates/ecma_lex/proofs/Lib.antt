@@ -10,4 +10,5 @@ pub mod Quoted
 pub mod TemplateParts
 pub mod NumeralWords
 pub mod NumeralTokens
+pub mod NumeralReading
 pub mod SymbolWords

@@ -2,8 +2,6 @@ pub mod Text
 pub mod Blanks
 pub mod Keys
 pub mod Punctuators
-pub mod Integers
-pub mod PlainStrings
 pub mod Parts
 pub mod Numerals
 pub mod Regexes

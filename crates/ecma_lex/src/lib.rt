@@ -9,13 +9,9 @@ mod blanks;
 mod chars;
 mod escapes;
 mod hashbangs;
-mod integers;
 mod keys;
-#[cfg(test)]
-mod literal_tests;
 mod numerals;
 mod parts;
-mod plain_strings;
 mod punctuators;
 mod regexes;
 mod spoken;
@@ -36,6 +32,5 @@ pub use string_literals::{str_lit, str_value};
 pub use symbols::{Verified, verify_symbol};
 pub use templates::{TemplateText, template_text, template_value};
 pub use tokens::{
-    NoToken, Token, angle, end, end_of_text, integer, key, name, plain_str, priv_name, punct,
-    type_name, word,
+    NoToken, Token, angle, end, end_of_text, key, name, priv_name, punct, type_name, word,
 };

@@ -3,13 +3,11 @@ ghost use Rattle.std.specs.Prelude.{◌⊎◌};
 ghost use Rattle.std.specs.Bool.{OnTrue};
 ghost use Rattle.ecma_lex.specs.Blanks.{skipped};
 ghost use Rattle.ecma_lex.specs.Text.{IsPiece};
-ghost use Rattle.ecma_lex.specs.Tokens.{HasInside, Stands, end, end_of_text, found, key, may_end, name, integer, punct, plain_str, text_end, type_name, word};
+ghost use Rattle.ecma_lex.specs.Tokens.{Stands, end, end_of_text, found, key, may_end, name, punct, text_end, type_name, word};
 ghost use Rattle.ecma_lex.specs.Tokens.{HasTail, angle, priv_name};
 
 use crate::blanks::{Skipped, skip};
-use crate::integers::integer_end;
 use crate::keys::{key_end, name_end, priv_name_end, type_name_end, word_end};
-use crate::plain_strings::plain_str_end;
 use crate::punctuators::{angle_end, punct_end};
 
 /// A token.
@@ -136,29 +134,6 @@ pub fn angle(text: &str, at: u32, sign: char) -> Result<Token, NoToken>
 {
     let before = skip_closed(text, at)?;
     found(before, angle_end(text, before.to, sign))
-}
-
-/// Reads a numeral: decimal digits, with no `0` before another digit, and with no `.`, digit or character of a key directly behind.
-#[tactic(auto, unfolding(crate::specs::Tokens::integer))]
-pub fn integer(text: &str, at: u32) -> Result<Token, NoToken>
-    requires { length text.now < 2 ^ 32 }
-    ensures value { result ≡ integer text.now at }
-    ensures stands { IfOk result (Stands text.now at) }
-{
-    let before = skip_closed(text, at)?;
-    found(before, integer_end(text, before.to))
-}
-
-/// Reads a string literal: a text in `"` or `'`, with no backslash, no line feed, no carriage return and not its own quote in it.
-#[tactic(auto, unfolding(crate::specs::Tokens::plain_str))]
-pub fn plain_str(text: &str, at: u32) -> Result<Token, NoToken>
-    requires { length text.now < 2 ^ 32 }
-    ensures value { result ≡ plain_str text.now at }
-    ensures stands { IfOk result (Stands text.now at) }
-    ensures inside { IfOk result (HasInside text.now) }
-{
-    let before = skip_closed(text, at)?;
-    found(before, plain_str_end(text, before.to))
 }
 
 fn text_end(text: &str, at: u32) -> Option<u32>

@@ -1,11 +1,11 @@
 -- Names, links, arguments and expressions read back.
 use Rattle.std.proofs.Common.{◌≡◌, ℕ, zero, suc, ◌+◌, ◌-◌, ◌<◌, ◌≤◌, List, [], ◌∷◌, refl, arith, true, false}
 use Rattle.std.specs.Str.{chars}
-use Rattle.std.specs.Char.{is_ascii_digit}
+use Rattle.ecma_lex.proofs.NumeralReading.{begins_num}
 use Rattle.unicode_ident.specs.Ident.{is_xid_start}
 use Rattle.ucd_table.specs.Rows.{in_ranges}
 use Rattle.ucd_derived.specs.XidStartRanges.{xid_start_ranges}
-use Rattle.ecma_lex.specs.PlainStrings.{is_quote}
+use Rattle.ecma_lex.specs.Strings.{is_quote}
 use Rattle.ecma_lex.specs.declared.tokens.Token.{Token}
 use Rattle.ecma_lex.specs.Keys.{is_valid_start}
 use Rattle.ecma_lex.proofs.Suffixes.{Gap, gap, once, space, Opens, chars_ascii}
@@ -30,17 +30,17 @@ pub record NoHead (u : List ℕ) : Type 0 where
   pub opens : Opens u
   pub start : stops is_valid_start (chars u) ≡ true
   pub quote : stops is_quote (chars u) ≡ true
-  pub digit : stops is_ascii_digit (chars u) ≡ true
+  pub numeral : stops begins_num (chars u) ≡ true
 
 close_no_head : (u : List ℕ) → NoHead (41 ∷ u)
 unfolding is_xid_start xid_start_ranges in_ranges
 close_no_head u =
     let e = chars_ascii 41 u (omega arith) in
-    record { opens = sign_opens 41 u (omega arith) refl; start = rw e refl; quote = rw e refl; digit = rw e refl }
+    record { opens = sign_opens 41 u (omega arith) refl; start = rw e refl; quote = rw e refl; numeral = rw e refl }
 
 pub nothing_no_head : NoHead []
 unfolding chars
-nothing_no_head = record { opens = nothing_opens; start = refl; quote = refl; digit = refl }
+nothing_no_head = record { opens = nothing_opens; start = refl; quote = refl; numeral = refl }
 
 pub absent_same : {n : Node} → IsAbsent n → Same n no_node
 absent_same (absent at) = node_same at _ Absent none_same
@@ -78,7 +78,7 @@ module _ (text : List ℕ) where
       refuse_first text _ (refuse_both text
       (refuse_first text _ (refuse_first text _ (name_stops text g u o h.start)))
       (refuse_both text (refuse_first text _ (str_stops text g u o h.quote))
-      (refuse_both text (refuse_first text _ (num_stops text g u o h.digit))
+      (refuse_both text (refuse_first text _ (num_stops text g u o h.numeral))
       (refuse_both text (refuse_first text _ (word_stops text g u _ o h.start))
       (refuse_both text (refuse_first text _ (word_stops text g u _ o h.start))
       (refuse_first text _ (word_stops text g u _ o h.start)))))))

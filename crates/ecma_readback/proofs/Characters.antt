@@ -2,13 +2,15 @@
 use Rattle.std.proofs.Common.{◌≡◌, ℕ, refl, arith, Bool, true, false, not, nat_eq, List, [], ◌∷◌}
 use Rattle.std.proofs.lemmas.Bool.{eqb-true, or_from, or_parts, and_parts}
 use Rattle.std.specs.List.{list_any, list_all}
-use Rattle.std.specs.Char.{is_ascii_digit}
 use Rattle.unicode_ident.specs.Ident.{is_xid_start}
 use Rattle.ucd_table.specs.Rows.{in_ranges}
 use Rattle.ucd_derived.specs.XidStartRanges.{xid_start_ranges}
 use Rattle.ecma_lex.specs.Keys.{is_valid_start}
-use Rattle.ecma_lex.specs.PlainStrings.{is_quote}
+use Rattle.ecma_lex.specs.Strings.{is_quote}
 use Rattle.ecma_lex.proofs.Suffixes.{clear}
+use Rattle.std.specs.Char.{is_digit, is_ascii_digit}
+use Rattle.std.proofs.lemmas.Bool.Decides.{nat_tests}
+use Rattle.ecma_lex.proofs.NumeralReading.{begins_num}
 
 -- a character of a kind is none of those that are not of it
 apart : (p : ℕ → Bool) (c : ℕ) (ks : List ℕ) → p c ≡ true → list_all (λ k. not (p k)) ks ≡ true → list_any (λ k. nat_eq c k) ks ≡ false
@@ -26,25 +28,35 @@ blanks = 0x9 ∷ 0xA ∷ 0xB ∷ 0xC ∷ 0xD ∷ 0x20 ∷ 47 ∷ 0xA0 ∷ 0x1680
 abbrev digits : List ℕ
 digits = 48 ∷ 49 ∷ 50 ∷ 51 ∷ 52 ∷ 53 ∷ 54 ∷ 55 ∷ 56 ∷ 57 ∷ []
 
+-- the characters that begin a numeral
+abbrev num_starts : List ℕ
+num_starts = 46 ∷ digits
+
 clear_from_blanks : (c : ℕ) → list_any (λ k. nat_eq c k) blanks ≡ false → clear c ≡ true
 clear_from_blanks c h = grind arith
 
 no_digit_from_digits : (c : ℕ) → list_any (λ k. nat_eq c k) digits ≡ false → is_ascii_digit c ≡ false
 no_digit_from_digits c h = grind arith
 
+decimal_digit : (c : ℕ) → is_ascii_digit c ≡ false → is_digit c 10 ≡ false
+decimal_digit c h = grind (arith, nat_tests)
+
+no_num_from_starts : (c : ℕ) → list_any (λ k. nat_eq c k) num_starts ≡ false → begins_num c ≡ false
+no_num_from_starts c h = let p = or_parts (nat_eq c 46) (list_any (λ k. nat_eq c k) digits) h in or_from (is_digit c 10) (nat_eq c 46) (decimal_digit c (no_digit_from_digits c p.1)) p.0
+
 pub valid_clear : (c : ℕ) → is_valid_start c ≡ true → clear c ≡ true
 unfolding is_xid_start xid_start_ranges in_ranges
 valid_clear c h = clear_from_blanks c (apart is_valid_start c blanks h refl)
 
-pub digit_clear : (c : ℕ) → is_ascii_digit c ≡ true → clear c ≡ true
-digit_clear c h = clear_from_blanks c (apart is_ascii_digit c blanks h refl)
+pub num_clear : (c : ℕ) → begins_num c ≡ true → clear c ≡ true
+num_clear c h = clear_from_blanks c (apart begins_num c blanks h refl)
 
 pub quote_clear : (c : ℕ) → is_quote c ≡ true → clear c ≡ true
 quote_clear c h = clear_from_blanks c (apart is_quote c blanks h refl)
 
-pub start_no_digit : (c : ℕ) → is_valid_start c ≡ true → is_ascii_digit c ≡ false
+pub start_no_num : (c : ℕ) → is_valid_start c ≡ true → begins_num c ≡ false
 unfolding is_xid_start xid_start_ranges in_ranges
-start_no_digit c h = no_digit_from_digits c (apart is_valid_start c digits h refl)
+start_no_num c h = no_num_from_starts c (apart is_valid_start c num_starts h refl)
 
 pub start_no_quote : (c : ℕ) → is_valid_start c ≡ true → is_quote c ≡ false
 unfolding is_xid_start xid_start_ranges in_ranges
@@ -58,11 +70,11 @@ turned p q c f h = go (p c) refl
     go true e = let k = f e in cc
     go false e = refl
 
-pub digit_no_start : (c : ℕ) → is_ascii_digit c ≡ true → is_valid_start c ≡ false
-digit_no_start c = turned is_valid_start is_ascii_digit c (start_no_digit c)
+pub num_no_start : (c : ℕ) → begins_num c ≡ true → is_valid_start c ≡ false
+num_no_start c = turned is_valid_start begins_num c (start_no_num c)
 
 pub quote_no_start : (c : ℕ) → is_quote c ≡ true → is_valid_start c ≡ false
 quote_no_start c = turned is_valid_start is_quote c (start_no_quote c)
 
-pub digit_no_quote : (c : ℕ) → is_ascii_digit c ≡ true → is_quote c ≡ false
-digit_no_quote c h = grind arith
+pub num_no_quote : (c : ℕ) → begins_num c ≡ true → is_quote c ≡ false
+num_no_quote c h = grind arith

@@ -4,22 +4,23 @@ use Rattle.std.proofs.lemmas.Bool.{false≢true}
 use Rattle.std.proofs.lemmas.Str.{IsUtf8-from_is_utf8}
 use Rattle.std.specs.Str.{chars, is_utf8}
 use lib.Utf8.{encode}
-use Rattle.std.specs.Char.{is_ascii_digit}
 use Rattle.unicode_ident.specs.Ident.{is_xid_start, is_xid_continue}
 use Rattle.ucd_table.specs.Rows.{in_ranges}
 use Rattle.ucd_derived.specs.XidStartRanges.{xid_start_ranges}
 use Rattle.ucd_derived.specs.XidContinueRanges.{xid_continue_ranges}
 use Rattle.ecma_lex.specs.Keys.{is_valid_start, is_reserved, reserved_words}
-use Rattle.ecma_lex.specs.PlainStrings.{is_quote}
+use Rattle.ecma_lex.specs.Strings.{is_quote}
 use Rattle.ecma_lex.proofs.Suffixes.{Gap, gap, cut_ascii}
-use Rattle.ecma_lex.proofs.Spelled.{Spelled, IsKey as IsKeySpelling, num_by_itself, str_by_itself}
+use Rattle.ecma_lex.proofs.Spelled.{Spelled, IsKey as IsKeySpelling}
+use Rattle.ecma_lex.proofs.NumeralReading.{begins_num, num_by_itself}
+use Rattle.ecma_lex.proofs.Quoted.{string_by_itself}
 use Rattle.ecma_kind.specs.declared.kind.Kind.TheVariants.{Bool as BoolKind, Null}
 use Rattle.ecma_tree.specs.declared.node.Node.{Node}
 use Rattle.ecma_text.specs.Reading.{◌//◌, name}
 use Rattle.ecma_text.specs.Grammar as grammar
 use Rattle.ecma_text.specs.Grammar.{Level, levels, source, inside}
 use Rattle.ecma_readback.specs.Shapes.{chain, string, number, null_word, true_word, false_word, cast}
-use Rattle.ecma_readback.proofs.Characters.{start_no_digit, start_no_quote, digit_no_start, digit_no_quote, quote_no_start}
+use Rattle.ecma_readback.proofs.Characters.{start_no_num, start_no_quote, num_no_start, num_no_quote, quote_no_start}
 use Rattle.ecma_readback.proofs.Forms.{Gets, Refuses, give, then_get, refuse_first, first, second}
 use Rattle.ecma_readback.proofs.Words.{End, ends, follow_small, key_opens, num_opens, str_opens, str_long, key_start, num_start, str_start, no_name, word_gets, no_word, name_stops, num_stops, str_stops, num_gets, str_gets}
 use Rattle.ecma_readback.proofs.Spanless.{Same, none_same, node_same}
@@ -74,7 +75,7 @@ module _ (text : List ℕ) where
       let o = key_opens w (c ∷ u) s (cut_ascii c u (follow_small (ends f))) in
       literal_back r _ _ (no_name text g w c u s b (ends f))
       (second text (refuse_first text _ (str_stops text g (w ++ c ∷ u) o (key_start is_quote w (c ∷ u) start_no_quote s)))
-      (second text (refuse_first text _ (num_stops text g (w ++ c ∷ u) o (key_start is_ascii_digit w (c ∷ u) start_no_digit s)))
+      (second text (refuse_first text _ (num_stops text g (w ++ c ∷ u) o (key_start begins_num w (c ∷ u) start_no_num s)))
       h))
 
   back_step : (m : ℕ) → ((j : ℕ) → j < m → Back text j) → Back text m
@@ -82,15 +83,15 @@ module _ (text : List ℕ) where
   back_step m ih _ (chain d) g c u f h =
       then_get text (first text (grammar.literal text false) (chain_closed text m ih d g c u h f)) (λ t q. casts_end (levels text false m) t (c ∷ u) q)
   back_step m ih _ (string at raw tok) g c u f h =
-      let s = str_by_itself raw tok.utf8 tok.whole in
+      let s = string_by_itself raw tok.utf8 tok.whole in
       let o = str_opens raw (c ∷ u) s (cut_ascii c u (follow_small (ends f))) in
       literal_back (levels text false m) _ _ (name_stops text g (raw ++ c ∷ u) o (str_start is_valid_start raw (c ∷ u) quote_no_start s))
       (first text (grammar.number text false // grammar.null_literal text false // grammar.true_literal text false // grammar.false_literal text false) (then_get text (str_gets text g raw c u s f) (λ k r. give text _ (let a = r.whole in let b = r.inside (str_long raw s) in rw (a, b) (node_same at _ _ none_same)))))
   back_step m ih _ (number at raw tok) g c u f h =
       let s = num_by_itself raw tok.utf8 tok.whole in
       let o = num_opens raw (c ∷ u) s (cut_ascii c u (follow_small (ends f))) in
-      literal_back (levels text false m) _ _ (name_stops text g (raw ++ c ∷ u) o (num_start is_valid_start raw (c ∷ u) digit_no_start s))
-      (second text (refuse_first text _ (str_stops text g (raw ++ c ∷ u) o (num_start is_quote raw (c ∷ u) digit_no_quote s)))
+      literal_back (levels text false m) _ _ (name_stops text g (raw ++ c ∷ u) o (num_start is_valid_start raw (c ∷ u) num_no_start s))
+      (second text (refuse_first text _ (str_stops text g (raw ++ c ∷ u) o (num_start is_quote raw (c ∷ u) num_no_quote s)))
       (first text (grammar.null_literal text false // grammar.true_literal text false // grammar.false_literal text false) (then_get text (num_gets text g raw c u s f) (λ k r. give text _ (let a = r.whole in rw a (node_same at _ _ none_same))))))
   back_step m ih _ (null_word at) g c u f h =
       word_back (levels text false m) (codes "null") g c u f null_spelled reserved_literals.0

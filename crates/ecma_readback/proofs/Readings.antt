@@ -3,7 +3,7 @@ use Rattle.std.proofs.Common.{◌≡◌, ℕ, zero, suc, ◌-◌, List, [], ◌�
 use Rattle.std.specs.Str.{IsUtf8}
 use Rattle.ecma_lex.specs.declared.tokens.Token.{Token}
 use Rattle.ecma_lex.specs.Text.{piece}
-use Rattle.ecma_lex.specs.PlainStrings.{plain_str_end}
+use Rattle.ecma_lex.specs.Strings.{str_end, str_value}
 use Rattle.ecma_kind.specs.declared.kind.Kind.TheVariants.{Str}
 use Rattle.ecma_tree.specs.declared.node.Node.{Node}
 use Rattle.ecma_text.specs.Reading.{maybe, many, punct, word, end, end_of_text, same_line, type_name}
@@ -33,7 +33,7 @@ module _ (text : List ℕ) (ts : Bool) (u : IsUtf8 text) where
   unfolding grammar.ident_name
   yields_ident_name = yields_then (yields_key text u) (λ t h. yields_pure (key _ _ h))
 
-  string_shape : (t : Token) → IsToken plain_str_end (source text ts t) → inside text ts t ≡ piece (source text ts t) 1 (length (source text ts t) - 1) → IsExpression ts (at_token t (Str (inside text ts t) (Some (source text ts t))))
+  string_shape : (t : Token) → IsToken str_end (source text ts t) → inside text ts t ≡ piece (source text ts t) 1 (length (source text ts t) - 1) → IsExpression ts (at_token t (Str (str_value (inside text ts t)) (Some (source text ts t))))
   string_shape t h e = rw e (string _ _ h)
 
   yields_string : Yields (grammar.string text ts) (IsExpression ts)

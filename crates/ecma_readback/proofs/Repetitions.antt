@@ -8,20 +8,23 @@ use Rattle.ecma_lex.specs.declared.blanks.Skipped.{Skipped}
 use Rattle.ecma_lex.specs.Text.{piece, IsPiece}
 use Rattle.ecma_lex.specs.Blanks.{skipped}
 use Rattle.ecma_lex.specs.Keys.{key_end, name_end, type_name_end, word_end}
-use Rattle.ecma_lex.specs.Integers.{integer_end}
-use Rattle.ecma_lex.specs.PlainStrings.{plain_str_end}
+use Rattle.ecma_lex.specs.Numerals.{num_end}
+use Rattle.ecma_lex.specs.Strings.{str_end}
 use Rattle.ecma_lex.specs.Punctuators.{punct_end, is_longest}
 use Rattle.ecma_lex.specs.Tokens as lex
+use Rattle.ecma_lex.specs.Strings as strings
 use Rattle.ecma_lex.specs.Tokens.{term, found, or_nothing, may_end}
 use Rattle.ecma_lex.proofs.Ahead.{skipped_ahead}
 use Rattle.ecma_lex.proofs.Pieces.{longest_stands}
-use Rattle.ecma_lex.proofs.Spelled.{Standing, key_spelled, num_spelled, str_spelled, key_standing, num_standing, str_standing, name_key, type_name_name, word_key}
+use Rattle.ecma_lex.proofs.Spelled.{Standing, key_spelled, key_standing, name_key, type_name_name, word_key}
+use Rattle.ecma_lex.proofs.NumeralReading.{num_spelled, num_standing, num_some}
+use Rattle.ecma_lex.proofs.Quoted.{string_spelled, string_standing}
 use Rattle.ecma_tree.specs.declared.node.Node.{Node}
-use Rattle.ecma_text.specs.Reading.{Position, read, fails, too_deep, Reading, ◌>>=◌, maybe, terminal_on, punct, word, name, key, integer, plain_str, end, same_line, same_line_on, type_name}
+use Rattle.ecma_text.specs.Reading.{Position, read, fails, too_deep, Reading, ◌>>=◌, maybe, terminal_on, punct, word, name, key, num, str_lit, end, same_line, same_line_on, type_name}
 use Rattle.ecma_text.specs.Grammar as grammar
 use Rattle.ecma_text.specs.Grammar.{Level, level, levels, no_level}
 use Rattle.ecma_readback.specs.Theorems.{EndsItself, RepetitionsEnd}
-use Rattle.ecma_readback.proofs.Words.{key_some, num_some, str_long}
+use Rattle.ecma_readback.proofs.Words.{key_some, str_long}
 use Rattle.ecma_readback.proofs.Moves.{Moves, Goes, same_with_more, moves_pure, moves_made, moves_then, moves_or, moves_marked, moves_less, moves_many}
 
 abbrev at_place : Position → ℕ → Position
@@ -51,11 +54,11 @@ module _ (text : List ℕ) (u : IsUtf8 text) where
   word_ends : (w : List ℕ) → Ends (word_end w)
   word_ends w i j h = key_ends i j (word_key text w i j h)
 
-  num_ends : Ends integer_end
+  num_ends : Ends num_end
   num_ends i j h = standing_ends i j (num_some (piece text i j) (num_spelled text i j u h)) (num_standing text i j u h)
 
-  str_ends : Ends plain_str_end
-  str_ends i j h = standing_ends i j (omega (arith, str_long (piece text i j) (str_spelled text i j u h))) (str_standing text i j u h)
+  str_ends : Ends str_end
+  str_ends i j h = standing_ends i j (omega (arith, str_long (piece text i j) (string_spelled text i j u h))) (string_standing text i j u h)
 
   punct_ends : (p : List ℕ) → 1 ≤ length p → Ends (punct_end p)
   unfolding punct_end
@@ -94,13 +97,13 @@ module _ (text : List ℕ) (u : IsUtf8 text) where
   unfolding lex.word
   moves_word w = moves_terminal (word_end w) (word_ends w)
 
-  moves_num : Moves text 1 (integer text)
-  unfolding lex.integer
-  moves_num = moves_terminal integer_end num_ends
+  moves_num : Moves text 1 (num text)
+  unfolding lex.num
+  moves_num = moves_terminal num_end num_ends
 
-  moves_str : Moves text 1 (plain_str text)
-  unfolding lex.plain_str
-  moves_str = moves_terminal plain_str_end str_ends
+  moves_str : Moves text 1 (str_lit text)
+  unfolding strings.str_lit
+  moves_str = moves_terminal str_end str_ends
 
   moves_punct : (p : List ℕ) → 1 ≤ length p → Moves text 1 (punct text p)
   unfolding lex.punct

@@ -5,7 +5,9 @@ use Rattle.std.proofs.lemmas.Slice.Eq.{bytes_eq-Decides}
 use Rattle.std.specs.Str.{bytes_eq}
 use Rattle.ecma_lex.specs.Keys.{is_valid_start, is_reserved, reserved_words}
 use Rattle.ecma_lex.proofs.Suffixes.{Gap, gap, once, space, line, Stands, cut_ascii}
-use Rattle.ecma_lex.proofs.Spelled.{name_by_itself, num_by_itself, str_by_itself}
+use Rattle.ecma_lex.proofs.Spelled.{name_by_itself}
+use Rattle.ecma_lex.proofs.NumeralReading.{num_by_itself}
+use Rattle.ecma_lex.proofs.Quoted.{string_by_itself}
 use Rattle.ecma_kind.specs.declared.span.Span.{Span}
 use Rattle.ecma_kind.specs.declared.operators.VarDeclKind.{VarDeclKind}
 use Rattle.ecma_kind.specs.declared.operators.VarDeclKind.TheVariants.{Let, Const}
@@ -20,7 +22,7 @@ use Rattle.ecma_readback.specs.Shapes.{ident, IsLexical, let_word, const_word, I
 use Rattle.ecma_print.specs.Layout.{layout}
 use Rattle.ecma_readback.specs.Theorems.{PlainReadBack}
 use Rattle.ecma_readback.specs.Needs.{expression_need, declarator_need, declarators_need, statement_need, statements_need, need}
-use Rattle.ecma_readback.proofs.Characters.{digit_no_start, quote_no_start}
+use Rattle.ecma_readback.proofs.Characters.{num_no_start, quote_no_start}
 use Rattle.ecma_readback.proofs.Forms.{Gets, Refuses, Loops, give, make, then_get, no_more, refuse_first, first, second, refuse_both, loop, loop_end, loop_more, loop_but}
 use Rattle.ecma_readback.proofs.Words.{End, comma, semicolon, Follow, ends, blank, dot, open_, follow_small, num_opens, str_opens, num_start, str_start, sign_opens, comma_gets, equals_gets, end_gets, end_of_text_gets, no_sign, no_sign_end, word_gets, no_word, word_stops}
 use Rattle.ecma_readback.proofs.Spanless.{Same, AreSame, none_same, one_same, more_same, node_same}
@@ -60,11 +62,11 @@ module _ (text : List ℕ) where
   expression_no_word : {e : Node} (d : IsExpression false e) (other : List ℕ) → BeginsNone other → (g : Gap) (c : ℕ) (u : List ℕ) → End c → Refuses text (word text other) (gap g (show d (c ∷ u)))
   expression_no_word (chain d) other b g c u f = chain_no_word d other b g c u (ends f)
   expression_no_word (string at raw tok) other b g c u f =
-      let s = str_by_itself raw tok.utf8 tok.whole in
+      let s = string_by_itself raw tok.utf8 tok.whole in
       word_stops text g (raw ++ c ∷ u) other (str_opens raw (c ∷ u) s (cut_ascii c u (follow_small (ends f)))) (str_start is_valid_start raw (c ∷ u) quote_no_start s)
   expression_no_word (number at raw tok) other b g c u f =
       let s = num_by_itself raw tok.utf8 tok.whole in
-      word_stops text g (raw ++ c ∷ u) other (num_opens raw (c ∷ u) s (cut_ascii c u (follow_small (ends f)))) (num_start is_valid_start raw (c ∷ u) digit_no_start s)
+      word_stops text g (raw ++ c ∷ u) other (num_opens raw (c ∷ u) s (cut_ascii c u (follow_small (ends f)))) (num_start is_valid_start raw (c ∷ u) num_no_start s)
   expression_no_word (null_word at) other b g c u f = no_word text g (codes "null") c u other null_spelled b.no_null (ends f)
   expression_no_word (true_word at) other b g c u f = no_word text g (codes "true") c u other true_spelled b.no_true (ends f)
   expression_no_word (false_word at) other b g c u f = no_word text g (codes "false") c u other false_spelled b.no_false (ends f)

@@ -3,7 +3,7 @@ use Rattle.std.proofs.Common.{◌≡◌, ℕ, zero, suc, ◌+◌, ◌-◌, ◌<�
 use Rattle.std.specs.Str.{IsUtf8}
 use Rattle.ecma_lex.specs.declared.tokens.Token.{Token}
 use Rattle.ecma_lex.specs.Text.{piece}
-use Rattle.ecma_lex.specs.PlainStrings.{plain_str_end}
+use Rattle.ecma_lex.specs.Strings.{str_end, str_value}
 use Rattle.ecma_kind.specs.declared.kind.Kind.TheVariants.{Str, MemberExpr, CallExpr, TsAsExpr}
 use Rattle.ecma_tree.specs.declared.node.Node.{Node}
 use Rattle.ecma_text.specs.Reading.{Position, read, pure, maybe, punct, word, end, end_of_text, same_line}
@@ -57,7 +57,7 @@ module _ (text : List ℕ) (ts : Bool) (u : IsUtf8 text) where
   abbrev Expressions : ℕ → Type 0
   Expressions k = Yields (grammar.expression_body text ts (levels text ts k)) (ExpressionIn ts k)
 
-  string_in : (k : ℕ) (t : Token) → IsToken plain_str_end (source text ts t) → inside text ts t ≡ piece (source text ts t) 1 (length (source text ts t) - 1) → ExpressionIn ts k (at_token t (Str (inside text ts t) (Some (source text ts t))))
+  string_in : (k : ℕ) (t : Token) → IsToken str_end (source text ts t) → inside text ts t ≡ piece (source text ts t) 1 (length (source text ts t) - 1) → ExpressionIn ts k (at_token t (Str (str_value (inside text ts t)) (Some (source text ts t))))
   string_in k t h e = rw e (record { shape = string _ _ h; within = omega arith })
 
   literal_in : (k : ℕ) → Yields (grammar.literal text ts) (ExpressionIn ts k)

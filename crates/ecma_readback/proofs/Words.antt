@@ -3,7 +3,8 @@ use Rattle.std.proofs.Common.{◌≡◌, ℕ, ◌+◌, ◌-◌, ◌<◌, ◌≤�
 use Rattle.std.proofs.lemmas.Bool.{eqb-true, false≢true}
 use Rattle.std.proofs.lemmas.Slice.Eq.{bytes_eq-Decides}
 use Rattle.std.specs.Str.{IsUtf8, chars, bytes_eq}
-use Rattle.std.specs.Char.{is_ascii_digit, len_utf8}
+use Rattle.std.specs.Prelude.{slice_index}
+use Rattle.std.specs.Char.{len_utf8}
 use Rattle.std.proofs.lemmas.Str.{len_utf8_bounds, chars-nil, chars-append}
 use Rattle.unicode_ident.specs.Ident.{is_xid_start, is_xid_continue}
 use Rattle.ucd_table.specs.Rows.{in_ranges}
@@ -12,15 +13,18 @@ use Rattle.ucd_derived.specs.XidContinueRanges.{xid_continue_ranges}
 use Rattle.ecma_lex.specs.declared.tokens.Token.{Token}
 use Rattle.ecma_lex.specs.Text.{piece, run_end}
 use Rattle.ecma_lex.specs.Keys.{is_valid_start, is_valid_continue, key_end, name_end, word_end, is_reserved, key_of, if_name, if_word}
-use Rattle.ecma_lex.specs.Integers.{integer_end, goes_on, integer_of, if_whole}
-use Rattle.ecma_lex.specs.PlainStrings.{plain_str_end, is_quote, str_of, closed_at, is_inside}
+use Rattle.ecma_lex.specs.Numerals.{num_end}
+use Rattle.ecma_lex.specs.Strings.{str_end, is_quote, str_of, closed}
 use Rattle.ecma_lex.specs.Punctuators.{punct_end, is_longest, punctuators, begins_with}
 use Rattle.ecma_lex.specs.Tokens as lex
+use Rattle.ecma_lex.specs.Strings as strings
 use Rattle.ecma_lex.specs.Tokens.{term, found}
 use Rattle.ecma_lex.proofs.Suffixes.{clear, clear_front, Cut, cut_ascii, cut_utf8, Opens, Gap, gap, size, once, Stands, past, past_gap, after_here, piece_here, piece_inside, skipped_gap, chars_ascii, wide, wide-chars, wide-append}
-use Rattle.ecma_lex.proofs.Spelled.{stops, Spelled, IsKey, IsInteger, IsQuoted, key_again, name_again, no_name_again, word_again, num_again, str_again}
-use Rattle.ecma_text.specs.Reading.{Reading, terminal_on, punct, word, name, key, integer, plain_str, end, end_of_text}
-use Rattle.ecma_readback.proofs.Characters.{valid_clear, digit_clear, quote_clear}
+use Rattle.ecma_lex.proofs.Spelled.{stops, Spelled, IsKey, key_again, name_again, no_name_again, word_again}
+use Rattle.ecma_lex.proofs.Quoted.{IsString, string_here}
+use Rattle.ecma_lex.proofs.NumeralReading.{IsNumeral, IsBegun, begins_num, closes, num_again, num_begun, num_some, no_num}
+use Rattle.ecma_text.specs.Reading.{Reading, terminal_on, punct, word, name, key, num, str_lit, end, end_of_text}
+use Rattle.ecma_readback.proofs.Characters.{valid_clear, num_clear, quote_clear}
 use Rattle.ecma_readback.proofs.Forms.{Gets, Refuses, but}
 
 module _ (text : List ℕ) where
@@ -111,14 +115,14 @@ follow_char open_ = refl
 follow_stops : {c : ℕ} (u : List ℕ) → Follow c → stops is_valid_continue (chars (c ∷ u)) ≡ true
 follow_stops {c} u f = rw (chars_ascii c u (follow_small f)) (follow_char f)
 
-end_char : {c : ℕ} (cs : List ℕ) → End c → goes_on (c ∷ cs) ≡ false
+end_char : {c : ℕ} (cs : List ℕ) → End c → closes (c ∷ cs) ≡ true
 unfolding is_xid_start in_ranges xid_start_ranges is_xid_continue xid_continue_ranges
 end_char cs comma = refl
 end_char cs close = refl
 end_char cs semicolon = refl
 
-end_goes : {c : ℕ} (u : List ℕ) → End c → goes_on (chars (c ∷ u)) ≡ false
-end_goes {c} u f = rw (chars_ascii c u (follow_small (ends f))) (end_char (chars u) f)
+end_closes : {c : ℕ} (u : List ℕ) → End c → closes (chars (c ∷ u)) ≡ true
+end_closes {c} u f = rw (chars_ascii c u (follow_small (ends f))) (end_char (chars u) f)
 
 -- signs
 
@@ -179,20 +183,17 @@ key_no_dot (c ∷ w) u s = (c, w ++ u, refl, go (nat_eq 46 c) refl)
         let z : is_valid_start 46 ≡ true = subst (λ x. is_valid_start x ≡ true) (sym i) k.0 in
         absurd (false≢true z)
 
-pub num_opens : (w u : List ℕ) → Spelled IsInteger w → Cut u → Opens (w ++ u)
-num_opens w u s c = record { cut = cut_utf8 w u s.0 c; clear = rw (chars-append w u s.0) (go (chars w) s.1) }
+pub num_opens : (w u : List ℕ) → Spelled IsNumeral w → Cut u → Opens (w ++ u)
+num_opens w u s c = record { cut = cut_utf8 w u s.0 c; clear = rw (chars-append w u s.0) (go (chars w) (num_begun w s)) }
   where
-    go : (cs : List ℕ) → IsInteger cs → clear_front (cs ++ chars u) ≡ true
+    go : (cs : List ℕ) → IsBegun cs → clear_front (cs ++ chars u) ≡ true
     go [] h = absurd h
-    go (d ∷ ds) h = digit_clear d h.0
+    go (d ∷ ds) h = num_clear d h
 
-pub str_opens : (w u : List ℕ) → Spelled IsQuoted w → Cut u → Opens (w ++ u)
+pub str_opens : (w u : List ℕ) → Spelled IsString w → Cut u → Opens (w ++ u)
 str_opens w u s c = record { cut = cut_utf8 w u s.0 c; clear = rw (chars-append w u s.0) (rw s.1.is (quote_clear s.1.quote s.1.quotes)) }
 
-pub num_some : (w : List ℕ) → Spelled IsInteger w → 1 ≤ length w
-num_some w s = some_length w s.0 (λ e. subst IsInteger e s.1)
-
-pub str_long : (w : List ℕ) → Spelled IsQuoted w → 2 ≤ length w
+pub str_long : (w : List ℕ) → Spelled IsString w → 2 ≤ length w
 str_long w s =
     let q = s.1 in
     let n = wide-chars w s.0 in
@@ -210,14 +211,14 @@ key_start p w u f s = rw (chars-append w u s.0) (go (chars w) s.1)
     go [] h = absurd h
     go (d ∷ ds) h = rw (f d h.0) refl
 
-pub num_start : (p : ℕ → Bool) (w u : List ℕ) → ((c : ℕ) → is_ascii_digit c ≡ true → p c ≡ false) → Spelled IsInteger w → stops p (chars (w ++ u)) ≡ true
-num_start p w u f s = rw (chars-append w u s.0) (go (chars w) s.1)
+pub num_start : (p : ℕ → Bool) (w u : List ℕ) → ((c : ℕ) → begins_num c ≡ true → p c ≡ false) → Spelled IsNumeral w → stops p (chars (w ++ u)) ≡ true
+num_start p w u f s = rw (chars-append w u s.0) (go (chars w) (num_begun w s))
   where
-    go : (cs : List ℕ) → IsInteger cs → stops p (cs ++ chars u) ≡ true
+    go : (cs : List ℕ) → IsBegun cs → stops p (cs ++ chars u) ≡ true
     go [] h = absurd h
-    go (d ∷ ds) h = rw (f d h.0) refl
+    go (d ∷ ds) h = rw (f d h) refl
 
-pub str_start : (p : ℕ → Bool) (w u : List ℕ) → ((c : ℕ) → is_quote c ≡ true → p c ≡ false) → Spelled IsQuoted w → stops p (chars (w ++ u)) ≡ true
+pub str_start : (p : ℕ → Bool) (w u : List ℕ) → ((c : ℕ) → is_quote c ≡ true → p c ≡ false) → Spelled IsString w → stops p (chars (w ++ u)) ≡ true
 str_start p w u f s = rw (chars-append w u s.0) (rw s.1.is (rw (f s.1.quote s.1.quotes) refl))
 
 no_key_of : (cs : List ℕ) (i : ℕ) → stops is_valid_start cs ≡ true → key_of cs i ≡ None
@@ -228,21 +229,19 @@ no_key_of (c ∷ cs) i h = go (is_valid_start c) h
     go true k = cc
     go false k = refl
 
-no_integer_of : (cs : List ℕ) (i : ℕ) → stops is_ascii_digit cs ≡ true → integer_of cs i ≡ None
-no_integer_of [] i h = refl
-no_integer_of (c ∷ cs) i h = go (nat_eq c 48) (is_ascii_digit c) h (λ e. rw (eqb-true c 48 e) refl)
+no_begin : (cs : List ℕ) → stops begins_num cs ≡ true → begins_num (slice_index cs 0) ≡ false
+no_begin [] h = refl
+no_begin (c ∷ cs) h = go (begins_num c) h
   where
-    go : (a b : Bool) → not b ≡ true → (a ≡ true → b ≡ true) → cond a (Some (i + 1)) (cond b (Some (run_end is_ascii_digit cs (i + 1))) None) ≡ None
-    go true true k f = cc
-    go true false k f = let e = f refl in cc
-    go false true k f = cc
-    go false false k f = refl
+    go : (b : Bool) → not b ≡ true → b ≡ false
+    go true k = sym k
+    go false k = refl
 
-no_str_of : (text cs : List ℕ) (i : ℕ) → stops is_quote cs ≡ true → str_of text cs i ≡ None
-no_str_of text [] i h = refl
-no_str_of text (c ∷ cs) i h = go (is_quote c) h
+no_str_of : (cs : List ℕ) (i : ℕ) → stops is_quote cs ≡ true → str_of cs i ≡ None
+no_str_of [] i h = refl
+no_str_of (c ∷ cs) i h = go (is_quote c) h
   where
-    go : (b : Bool) → not b ≡ true → cond b (closed_at text c (run_end (is_inside c) cs (i + 1))) None ≡ None
+    go : (b : Bool) → not b ≡ true → cond b (closed c 0 cs (i + 1)) None ≡ None
     go true k = cc
     go false k = refl
 
@@ -363,22 +362,22 @@ module _ (text : List ℕ) where
   unfolding lex.word word_end key_end
   word_stops g u other o h = token_refuses text (word_end other) g u o (λ i st. (let a = after_here text i u st o.cut in rw a (ap (if_word other text i) (no_key_of (chars u) i h))))
 
-  pub num_stops : (g : Gap) (u : List ℕ) → Opens u → stops is_ascii_digit (chars u) ≡ true → Refuses text (integer text) (gap g u)
-  unfolding lex.integer integer_end
-  num_stops g u o h = token_refuses text integer_end g u o (λ i st. (let a = after_here text i u st o.cut in rw a (ap (if_whole text) (no_integer_of (chars u) i h))))
+  pub num_stops : (g : Gap) (u : List ℕ) → Opens u → stops begins_num (chars u) ≡ true → Refuses text (num text) (gap g u)
+  unfolding lex.num
+  num_stops g u o h = token_refuses text num_end g u o (λ i st. no_num text i (rw (after_here text i u st o.cut) (no_begin (chars u) h)))
 
-  pub str_stops : (g : Gap) (u : List ℕ) → Opens u → stops is_quote (chars u) ≡ true → Refuses text (plain_str text) (gap g u)
-  unfolding lex.plain_str plain_str_end
-  str_stops g u o h = token_refuses text plain_str_end g u o (λ i st. (let a = after_here text i u st o.cut in rw a (no_str_of text (chars u) i h)))
+  pub str_stops : (g : Gap) (u : List ℕ) → Opens u → stops is_quote (chars u) ≡ true → Refuses text (str_lit text) (gap g u)
+  unfolding strings.str_lit str_end
+  str_stops g u o h = token_refuses text str_end g u o (λ i st. (let a = after_here text i u st o.cut in rw a (no_str_of (chars u) i h)))
 
-  pub num_gets : (g : Gap) (w : List ℕ) (c : ℕ) (u : List ℕ) → Spelled IsInteger w → End c → Gets text 1 (integer text) (Reads text w) (gap g (w ++ c ∷ u)) (c ∷ u)
-  unfolding lex.integer
+  pub num_gets : (g : Gap) (w : List ℕ) (c : ℕ) (u : List ℕ) → Spelled IsNumeral w → End c → Gets text 1 (num text) (Reads text w) (gap g (w ++ c ∷ u)) (c ∷ u)
+  unfolding lex.num
   num_gets g w c u s f =
       let cut = cut_ascii c u (follow_small (ends f)) in
-      token_gets text integer_end g w (c ∷ u) (num_opens w (c ∷ u) s cut) cut (num_some w s) (λ i st. num_again text i w (c ∷ u) s st cut (end_goes u f))
+      token_gets text num_end g w (c ∷ u) (num_opens w (c ∷ u) s cut) cut (num_some w s) (λ i st. num_again text i w (c ∷ u) s st cut (end_closes u f))
 
-  pub str_gets : (g : Gap) (w : List ℕ) (c : ℕ) (u : List ℕ) → Spelled IsQuoted w → End c → Gets text 1 (plain_str text) (Reads text w) (gap g (w ++ c ∷ u)) (c ∷ u)
-  unfolding lex.plain_str
+  pub str_gets : (g : Gap) (w : List ℕ) (c : ℕ) (u : List ℕ) → Spelled IsString w → End c → Gets text 1 (str_lit text) (Reads text w) (gap g (w ++ c ∷ u)) (c ∷ u)
+  unfolding strings.str_lit
   str_gets g w c u s f =
       let cut = cut_ascii c u (follow_small (ends f)) in
-      token_gets text plain_str_end g w (c ∷ u) (str_opens w (c ∷ u) s cut) cut (omega (arith, str_long w s)) (λ i st. str_again text i w (c ∷ u) s st cut)
+      token_gets text str_end g w (c ∷ u) (str_opens w (c ∷ u) s cut) cut (omega (arith, str_long w s)) (λ i st. string_here text i w (c ∷ u) s st cut)

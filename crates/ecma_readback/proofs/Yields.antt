@@ -6,16 +6,19 @@ use Rattle.ecma_lex.specs.declared.blanks.Skipped.{Skipped}
 use Rattle.ecma_lex.specs.Text.{piece}
 use Rattle.ecma_lex.specs.Blanks.{skipped}
 use Rattle.ecma_lex.specs.Keys.{key_end, name_end}
-use Rattle.ecma_lex.specs.Integers.{integer_end}
-use Rattle.ecma_lex.specs.PlainStrings.{plain_str_end}
+use Rattle.ecma_lex.specs.Numerals.{num_end}
+use Rattle.ecma_lex.specs.Strings.{str_end}
 use Rattle.ecma_lex.specs.Tokens as lex
+use Rattle.ecma_lex.specs.Strings as strings
 use Rattle.ecma_lex.specs.Tokens.{term, found}
 use Rattle.ecma_lex.proofs.Suffixes.{piece_inside}
-use Rattle.ecma_lex.proofs.Spelled.{key_spelled, name_spelled, num_spelled, str_spelled, str_standing, key_alone, name_alone, num_alone, str_alone}
+use Rattle.ecma_lex.proofs.Spelled.{key_spelled, name_spelled, key_alone, name_alone}
+use Rattle.ecma_lex.proofs.NumeralReading.{num_spelled, num_alone}
+use Rattle.ecma_lex.proofs.Quoted.{string_spelled, string_standing, string_alone}
 use Rattle.ecma_kind.specs.declared.kind.Kind.{Kind}
 use Rattle.ecma_tree.specs.declared.node.Node.{Node}
 use Rattle.ecma_tree.specs.Nodes.{node_of}
-use Rattle.ecma_text.specs.Reading.{Position, Outcome, read, fails, too_deep, Reading, then_on, or_on, many_on, with_front, ◌>>=◌, ◌//◌, pure, many_up_to, marked, terminal_on, name, key, integer, plain_str}
+use Rattle.ecma_text.specs.Reading.{Position, Outcome, read, fails, too_deep, Reading, then_on, or_on, many_on, with_front, ◌>>=◌, ◌//◌, pure, many_up_to, marked, terminal_on, name, key, num, str_lit}
 use Rattle.ecma_text.specs.Trees.{made}
 use Rattle.ecma_readback.specs.Shapes.{IsToken}
 use Rattle.ecma_readback.proofs.Words.{str_long}
@@ -121,18 +124,18 @@ module _ (text : List ℕ) where
   unfolding lex.key
   yields_key u = yields_terminal key_end _ (λ i j b h. (let s = key_spelled text i j u h in record { utf8 = s.0; whole = key_alone (piece text i j) s }))
 
-  pub yields_num : IsUtf8 text → Yields (integer text) (λ t. IsToken integer_end (piece text t.start t.next))
-  unfolding lex.integer
-  yields_num u = yields_terminal integer_end _ (λ i j b h. (let s = num_spelled text i j u h in record { utf8 = s.0; whole = num_alone (piece text i j) s }))
+  pub yields_num : IsUtf8 text → Yields (num text) (λ t. IsToken num_end (piece text t.start t.next))
+  unfolding lex.num
+  yields_num u = yields_terminal num_end _ (λ i j b h. (let s = num_spelled text i j u h in record { utf8 = s.0; whole = num_alone (piece text i j) s }))
 
   -- and what stands between its quotes is that of the token by itself
-  pub yields_str : IsUtf8 text → Yields (plain_str text) (λ t. IsToken plain_str_end (piece text t.start t.next) × (piece text (t.start + 1) (t.next - 1) ≡ piece (piece text t.start t.next) 1 (length (piece text t.start t.next) - 1)))
-  unfolding lex.plain_str
-  yields_str u = yields_terminal plain_str_end _ (λ i j b h. (
-      let s = str_spelled text i j u h in
+  pub yields_str : IsUtf8 text → Yields (str_lit text) (λ t. IsToken str_end (piece text t.start t.next) × (piece text (t.start + 1) (t.next - 1) ≡ piece (piece text t.start t.next) 1 (length (piece text t.start t.next) - 1)))
+  unfolding strings.str_lit
+  yields_str u = yields_terminal str_end _ (λ i j b h. (
+      let s = string_spelled text i j u h in
       let w = piece text i j in
       let long : 2 ≤ length w = str_long w s in
-      let at = str_standing text i j u h in
+      let at = string_standing text i j u h in
       let e = at.ends in
       let k : j - 1 ≡ i + (length w - 1) = omega arith in
-      (record { utf8 = s.0; whole = str_alone w s }, rw k (piece_inside text i 1 (length w - 1) w at.rest at.stands (omega arith) (omega arith)))))
+      (record { utf8 = s.0; whole = string_alone w s }, rw k (piece_inside text i 1 (length w - 1) w at.rest at.stands (omega arith) (omega arith)))))

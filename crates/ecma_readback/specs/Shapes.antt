@@ -4,8 +4,8 @@ use Rattle.std.specs.Str.{IsUtf8}
 use Rattle.ecma_number.specs.Numeral.{numeral_of}
 use Rattle.ecma_lex.specs.Text.{piece}
 use Rattle.ecma_lex.specs.Keys.{key_end, name_end}
-use Rattle.ecma_lex.specs.Integers.{integer_end}
-use Rattle.ecma_lex.specs.PlainStrings.{plain_str_end}
+use Rattle.ecma_lex.specs.Numerals.{num_end}
+use Rattle.ecma_lex.specs.Strings.{str_end, str_value}
 use Rattle.ecma_kind.specs.declared.span.Span.{Span}
 use Rattle.ecma_kind.specs.declared.operators.VarDeclKind.{VarDeclKind}
 use Rattle.ecma_kind.specs.declared.operators.VarDeclKind.TheVariants.{Let, Const}
@@ -43,11 +43,11 @@ module _ (ts : Bool) where
       member : (at : Span) {object property : Node} → IsChain object → IsKey property → IsChain (node_of at MemberExpr (object ∷ property ∷ []))
       call : (at : Span) {callee args none : Node} → IsChain callee → IsArguments args → IsAbsent none → IsChain (node_of at CallExpr (callee ∷ args ∷ none ∷ []))
 
-    -- a string says what stands between its quotes, a numeral its exact value where that is in the number domain
+    -- the value of a string is what the text between its quotes says, that of a numeral is exact where it is in the number domain
     pub data IsExpression : Node → Type 0 where
       chain : {e : Node} → IsChain e → IsExpression e
-      string : (at : Span) (raw : List ℕ) → IsToken plain_str_end raw → IsExpression (node_of at (Str (piece raw 1 (length raw - 1)) (Some raw)) [])
-      number : (at : Span) (raw : List ℕ) → IsToken integer_end raw → IsExpression (node_of at (Number (numeral_of raw) (Some raw)) [])
+      string : (at : Span) (raw : List ℕ) → IsToken str_end raw → IsExpression (node_of at (Str (str_value (piece raw 1 (length raw - 1))) (Some raw)) [])
+      number : (at : Span) (raw : List ℕ) → IsToken num_end raw → IsExpression (node_of at (Number (numeral_of raw) (Some raw)) [])
       null_word : (at : Span) → IsExpression (node_of at Null [])
       true_word : (at : Span) → IsExpression (node_of at (BoolKind true) [])
       false_word : (at : Span) → IsExpression (node_of at (BoolKind false) [])

@@ -14,12 +14,13 @@
 use Rattle.std.specs.Prelude.{ℕ, zero, suc, ◌+◌, ◌-◌, Bool, true, false, List, [], ◌∷◌, Some, None, codes}
 use Rattle.ecma_number.specs.Numeral.{numeral_of}
 use Rattle.ecma_lex.specs.Text.{piece}
+use Rattle.ecma_lex.specs.Strings.{str_value}
 use Rattle.ecma_lex.specs.declared.tokens.Token.{Token}
 use Rattle.ecma_kind.specs.declared.operators.VarDeclKind.{VarDeclKind}
 use Rattle.ecma_kind.specs.declared.operators.VarDeclKind.TheVariants.{Let, Const}
 use Rattle.ecma_kind.specs.declared.kind.Kind.TheVariants.{Module, ExprStmt, VarDecl, VarDeclarator, BindingIdent, Ident, IdentName, Str, Number, Bool as BoolKind, Null, MemberExpr, CallExpr, TsAsExpr, TsTypeAnn, TsType, TsTypeAliasDecl}
 use Rattle.ecma_tree.specs.declared.node.Node.{Node}
-use Rattle.ecma_text.specs.Reading.{too_deep, Reading, ◌>>=◌, ◌//◌, pure, maybe, marked, punct, word, name, key, integer, plain_str, same_line, end, end_of_text, type_name, many}
+use Rattle.ecma_text.specs.Reading.{too_deep, Reading, ◌>>=◌, ◌//◌, pure, maybe, marked, punct, word, name, key, num, str_lit, same_line, end, end_of_text, type_name, many}
 use Rattle.ecma_text.specs.Trees.{lo, at_token, made, absent, list, first_lo}
 
 -- what is read one level further in
@@ -53,10 +54,10 @@ module _ (text : List ℕ) (ts : Bool) where
   ident_name = key text >>= λ t. pure (at_token t (IdentName (source t)))
 
   unfoldable pub string : Reading Node
-  string = plain_str text >>= λ t. pure (at_token t (Str (inside t) (Some (source t))))
+  string = str_lit text >>= λ t. pure (at_token t (Str (str_value (inside t)) (Some (source t))))
 
   unfoldable pub number : Reading Node
-  number = integer text >>= λ t. pure (at_token t (Number (numeral_of (source t)) (Some (source t))))
+  number = num text >>= λ t. pure (at_token t (Number (numeral_of (source t)) (Some (source t))))
 
   unfoldable pub null_literal : Reading Node
   null_literal = word text (codes "null") >>= λ t. pure (at_token t Null)

@@ -14,7 +14,7 @@ struct Row {
     err: &'static str,
 }
 
-const ROWS: [Row; 11] = [
+const ROWS: [Row; 16] = [
     Row {
         word: "",
         src: "let x: number = f(1);",
@@ -42,6 +42,41 @@ const ROWS: [Row; 11] = [
         status: DONE,
         out: "const s = \"x\";\nlog.info(s, 1);\n",
         err: "",
+    },
+    Row {
+        word: "",
+        src: r#"log('it\'s', "\u{1F600}\x41");"#,
+        status: DONE,
+        out: "log('it\\'s', \"\\u{1F600}\\x41\");\n",
+        err: "",
+    },
+    Row {
+        word: "",
+        src: r#"const s = "\8";"#,
+        status: REFUSED,
+        out: "",
+        err: "error: Syntax at 10\n",
+    },
+    Row {
+        word: "",
+        src: "log(0x1F, 1_000, .5e-3, 0b11);",
+        status: DONE,
+        out: "log(0x1F, 1_000, .5e-3, 0b11);\n",
+        err: "",
+    },
+    Row {
+        word: "",
+        src: "log(1_);",
+        status: REFUSED,
+        out: "",
+        err: "error: Syntax at 4\n",
+    },
+    Row {
+        word: "",
+        src: "log(08);",
+        status: REFUSED,
+        out: "",
+        err: "error: Syntax at 4\n",
     },
     Row {
         word: "",

@@ -36,8 +36,8 @@ impl Reader<'_> {
     fn string(&mut self) -> Result<Node, Failure>
         ensures { Reads self.old self.new result (string self.old.text.now self.old.typescript) }
     {
-        let token = self.plain_str()?;
-        let value = self.inside_word(token)?;
+        let token = self.str_lit()?;
+        let value = self.value_word(token)?;
         let raw = Some(self.source_word(token)?);
         Ok(self.at_token(token, Kind::Str { value, raw }))
     }
@@ -46,7 +46,7 @@ impl Reader<'_> {
     fn number(&mut self) -> Result<Node, Failure>
         ensures { Reads self.old self.new result (number self.old.text.now self.old.typescript) }
     {
-        let token = self.integer()?;
+        let token = self.num()?;
         let value = numeral_value(self.source(token));
         let raw = Some(self.source_word(token)?);
         Ok(self.at_token(token, Kind::Number { value, raw }))

@@ -6,9 +6,10 @@ use ecma_tree::{JsWord, Kind, NoMemory, Node, Nodes, Span};
 
 impl Reader<'_> {
     ghost use Rattle.std.specs.Prelude.{◌≡◌, IfOk, MatchResult, ◌+◌, [], true};
+    ghost use Rattle.ecma_lex.specs.Strings.{str_value};
     ghost use Rattle.ecma_lex.specs.Tokens.{HasInside};
     ghost use Rattle.ecma_tree.specs.Nodes.{node_of};
-    ghost use Rattle.ecma_text.specs.Reading.{punct, word, key, name, type_name, integer, plain_str, same_line, end, end_of_text, terminal_on};
+    ghost use Rattle.ecma_text.specs.Reading.{punct, word, key, name, type_name, num, str_lit, same_line, end, end_of_text, terminal_on};
     ghost use Rattle.ecma_text.specs.Trees.{at_token, absent};
     ghost use Rattle.ecma_text.specs.Grammar.{levels, level, no_level, source, inside};
     ghost use Rattle.ecma_text.specs.Agreement.{position, Reads, ReadsAs, SameText, EndsAs, Settles, SettlesOr};
@@ -60,17 +61,17 @@ impl Reader<'_> {
         self.take(ecma_lex::type_name(self.text, self.place))
     }
 
-    pub(super) fn plain_str(&mut self) -> Result<Token, Failure>
-        ensures value { Reads self.old self.new result (plain_str self.old.text.now) }
+    pub(super) fn str_lit(&mut self) -> Result<Token, Failure>
+        ensures value { Reads self.old self.new result (str_lit self.old.text.now) }
         ensures inside { IfOk result (HasInside self.new.text.now) }
     {
-        self.take(ecma_lex::plain_str(self.text, self.place))
+        self.take(ecma_lex::str_lit(self.text, self.place))
     }
 
-    pub(super) fn integer(&mut self) -> Result<Token, Failure>
-        ensures { Reads self.old self.new result (integer self.old.text.now) }
+    pub(super) fn num(&mut self) -> Result<Token, Failure>
+        ensures { Reads self.old self.new result (num self.old.text.now) }
     {
-        self.take(ecma_lex::integer(self.text, self.place))
+        self.take(ecma_lex::num(self.text, self.place))
     }
 
     pub(super) fn end(&mut self) -> Result<Token, Failure>
@@ -156,12 +157,20 @@ impl Reader<'_> {
     }
 
     /// What stands inside the quotes of a string literal.
-    pub(super) fn inside_word(&self, token: Token) -> Result<JsWord, NoMemory>
+    fn inside(&self, token: Token) -> &str
         requires { HasInside self.now.text.now token }
-        ensures { IfOk result (λ word. word ≡ inside self.now.text.now self.now.typescript token) }
+        ensures { result.now ≡ inside self.now.text.now self.now.typescript token }
     {
-        let inside = ecma_lex::piece(self.text, token.start + 1, token.next - 1);
-        JsWord::new(self.alloc, inside)
+        ecma_lex::piece(self.text, token.start + 1, token.next - 1)
+    }
+
+    /// What a string literal says.
+    pub(super) fn value_word(&self, token: Token) -> Result<JsWord, NoMemory>
+        requires { HasInside self.now.text.now token }
+        ensures { IfOk result (λ word. word ≡ str_value (inside self.now.text.now self.now.typescript token)) }
+    {
+        let value = ecma_lex::str_value(self.alloc, self.inside(token))?;
+        JsWord::new(self.alloc, value.as_str())
     }
 
     /// A node that stands where a token stands.
