@@ -1,11 +1,11 @@
 -- Parts that move on, and how often they stand.
-use Rattle.std.proofs.Common.{◌≡◌, ℕ, zero, suc, ◌+◌, ◌-◌, ◌<◌, ◌≤◌, Bool, true, false, cond, List, [], ◌∷◌, length, drop, refl, ap, sym, ◌∙◌, subst, arith, Option, Some, None, is_some, length-drop}
+use Rattle.std.proofs.Common.{◌≡◌, ℕ, zero, suc, ◌+◌, ◌-◌, ◌<◌, ◌≤◌, Bool, true, false, cond, List, [], ◌∷◌, length, drop, refl, sym, ◌∙◌, subst, arith, nat_eq, Option, Some, None, is_some, length-drop}
 use Rattle.std.specs.Char.{len_utf8}
 use Rattle.std.specs.List.{slice_get}
 use Rattle.std.specs.Str.{chars}
 use Rattle.std.proofs.lemmas.Str.{len_utf8_bounds, chars-nil}
 use Rattle.ecma_lex.specs.Text.{after, cuts}
-use Rattle.ecma_lex.specs.Parts.{Part, char_at, passes, passing, any, then_at, ◌>>◌, or_at, ◌//◌, nothing, maybe, unless, at_most, many, up_to}
+use Rattle.ecma_lex.specs.Parts.{Part, char_at, passes, passing, code_point, any, then_at, ◌>>◌, or_at, ◌//◌, nothing, maybe, unless, at_most, many, up_to}
 
 -- what a step of a part comes to
 
@@ -99,6 +99,30 @@ module _ (text : List ℕ) where
 
   pub unless_none : (p q : Part) (i : ℕ) → p text i ≡ None → q text i ≡ None → unless p q text i ≡ None
   unless_none p q i e h = rw (e, h) refl
+
+  pub unless_passes : (p q : Part) (i : ℕ) → p text i ≡ None → unless p q text i ≡ q text i
+  unless_passes p q i e = rw e refl
+
+  -- steps of sequences and choices
+
+  pub then_some : (p q : Part) (i j : ℕ) → p text i ≡ Some j → (p >> q) text i ≡ q text j
+  then_some p q i j e = rw e refl
+
+  pub then_none : (p q : Part) (i : ℕ) → p text i ≡ None → (p >> q) text i ≡ None
+  then_none p q i e = rw e refl
+
+  pub or_first : (p q : Part) (i j : ℕ) → p text i ≡ Some j → (p // q) text i ≡ Some j
+  or_first p q i j e = rw e refl
+
+  pub or_second : (p q : Part) (i : ℕ) → p text i ≡ None → (p // q) text i ≡ q text i
+  or_second p q i e = rw e refl
+
+  pub or_only : (p q : Part) (i : ℕ) → q text i ≡ None → (p // q) text i ≡ p text i
+  or_only p q i e = go (p text i)
+    where
+      go : (o : Option ℕ) → or_at q text i o ≡ o
+      go None = e
+      go (Some j) = refl
 
   -- how often a part stands
 
@@ -201,3 +225,26 @@ module _ (text : List ℕ) where
 
   pub up_to_end : (p : Part) (i : ℕ) → p text i ≡ None → any text i ≡ None → up_to p text i ≡ Some i
   up_to_end p i h k = many_none (unless p any) i (unless_none p any i h k)
+
+  -- characters that pass
+
+  pub passing_stands : (p : ℕ → Bool) (i c : ℕ) (cs : List ℕ) → after text i ≡ c ∷ cs → p c ≡ true → passing p text i ≡ Some (i + len_utf8 c)
+  passing_stands p i c cs e h = rw (e, h) refl
+
+  pub passing_fails : (p : ℕ → Bool) (i c : ℕ) (cs : List ℕ) → after text i ≡ c ∷ cs → p c ≡ false → passing p text i ≡ None
+  passing_fails p i c cs e h = rw (e, h) refl
+
+  pub passing_end : (p : ℕ → Bool) (i : ℕ) → after text i ≡ [] → passing p text i ≡ None
+  passing_end p i e = rw e refl
+
+  pub any_stands : (i c : ℕ) (cs : List ℕ) → after text i ≡ c ∷ cs → any text i ≡ Some (i + len_utf8 c)
+  any_stands i c cs e = rw e refl
+
+  pub code_point_fails : (c d : ℕ) (i : ℕ) (cs : List ℕ) → after text i ≡ d ∷ cs → nat_eq d c ≡ false → code_point c text i ≡ None
+  code_point_fails c d i cs e h = passing_fails (λ x. nat_eq x c) i d cs e h
+
+  pub code_point_stands : (c i : ℕ) (cs : List ℕ) → after text i ≡ c ∷ cs → code_point c text i ≡ Some (i + len_utf8 c)
+  code_point_stands c i cs e = passing_stands (λ x. nat_eq x c) i c cs e (let h : nat_eq c c ≡ true = grind arith in h)
+
+  pub code_point_end : (c i : ℕ) → after text i ≡ [] → code_point c text i ≡ None
+  code_point_end c i e = passing_end (λ x. nat_eq x c) i e

@@ -1,0 +1,158 @@
+-- Blanks and comments, one step of a loop after the other.
+use Rattle.std.proofs.Common.{◌≡◌, ℕ, ◌+◌, ◌-◌, ◌<◌, ◌≤◌, Bool, true, false, cond, ◌&&◌, ◌||◌, List, [], ◌∷◌, length, get_or, take, drop, refl, ap, sym, ◌∙◌, subst, arith, Some, None, nat_eq, nat_le}
+use Rattle.std.specs.Char.{len_utf8}
+use Rattle.std.specs.Str.{IsUtf8}
+use Rattle.std.proofs.lemmas.Str.{IsCharBoundary-after_ascii, chars-nil}
+use Rattle.ecma_number.specs.Blanks.{is_white_space, is_line_terminator, is_blank}
+use Rattle.ecma_lex.specs.Text.{cuts, after}
+use Rattle.ecma_lex.specs.Parts.{passing, code_point, ◌>>◌, ◌//◌, then_at}
+use Rattle.ecma_lex.specs.Blanks.{line, single_line_comment, multi_line_comment, comment_open, comment_close, comment_chars, comment_rest, comment, blank, blanks, has_line_terminator, skipped}
+use Rattle.ecma_lex.specs.declared.blanks.Skipped.{Skipped}
+use Rattle.ecma_lex.proofs.Steps.{ascii_here, after_step, after_not, may_cut}
+use Rattle.ecma_lex.proofs.Repeats.{Moves, moves_passing, moves_then, moves_or, moves_forward, forward_then, forward_many, moves_unless, moves_any, many_stands, many_none, many_some, up_to_none, up_to_some, up_to_end, then_some, then_none, or_first, or_second, passing_stands, passing_fails, passing_end, any_stands, code_point_fails, code_point_end}
+
+pub ascii_width : (c : ℕ) → c < 128 → len_utf8 c ≡ 1
+ascii_width c h = grind arith
+
+module _ (text : List ℕ) where
+  -- a line
+
+  pub line_more : (i c : ℕ) → after text i ≡ c ∷ after text (i + len_utf8 c) → is_line_terminator c ≡ false → line text (i + len_utf8 c) ≡ line text i
+  unfolding line
+  line_more i c e h = sym (up_to_some text (passing is_line_terminator) i (i + len_utf8 c) (passing_fails text is_line_terminator i c _ e h) (any_stands text i c _ e))
+
+  pub line_stops : (i c : ℕ) → after text i ≡ c ∷ after text (i + len_utf8 c) → is_line_terminator c ≡ true → line text i ≡ Some i
+  unfolding line
+  line_stops i c e h = up_to_none text (passing is_line_terminator) i (i + len_utf8 c) (passing_stands text is_line_terminator i c _ e h)
+
+  pub line_ends : (i : ℕ) → after text i ≡ [] → line text i ≡ Some i
+  unfolding line
+  line_ends i e = up_to_end text (passing is_line_terminator) i (passing_end text is_line_terminator i e) (passing_end text (λ c. true) i e)
+
+  -- a comment
+
+  pub rest_more : (i c : ℕ) → after text i ≡ c ∷ after text (i + len_utf8 c) → comment_close text i ≡ None → comment_rest text (i + len_utf8 c) ≡ comment_rest text i
+  unfolding comment_rest
+  rest_more i c e h = ap (then_at comment_close text) (sym (up_to_some text comment_close i (i + len_utf8 c) h (any_stands text i c _ e)))
+
+  pub rest_stops : (i j : ℕ) → comment_close text i ≡ Some j → comment_rest text i ≡ Some j
+  unfolding comment_rest
+  rest_stops i j h = then_some text comment_chars comment_close i i (up_to_none text comment_close i j h) ∙ h
+
+  pub rest_ends : (i : ℕ) → after text i ≡ [] → comment_rest text i ≡ None
+  unfolding comment_rest
+  rest_ends i e =
+      let h = then_none text (code_point 42) (code_point 47) i (code_point_end text 42 i e) in
+      then_some text comment_chars comment_close i i (up_to_end text comment_close i h (passing_end text (λ c. true) i e)) ∙ h
+
+  -- a byte of ASCII that is no star closes no comment
+  pub plain_step : (i : ℕ) → IsUtf8 text → i < length text → get_or text i 0 < 128 → (get_or text i 0 ≡ 42 → ⊥) → comment_rest text (i + 1) ≡ comment_rest text i
+  plain_step i u l a n =
+      let e = after_step text i (get_or text i 0) u (ascii_here text i l a) in
+      let f : nat_eq (get_or text i 0) 42 ≡ false = grind arith in
+      subst (λ k. comment_rest text (i + k) ≡ comment_rest text i) (ascii_width (get_or text i 0) a)
+      (rest_more i (get_or text i 0) e (then_none text (code_point 42) (code_point 47) i (code_point_fails text 42 (get_or text i 0) i _ e f)))
+
+  -- behind it the text may be cut
+  pub plain_cut : (i : ℕ) → IsUtf8 text → i < length text → get_or text i 0 < 128 → cuts text (i + 1) ≡ true
+  plain_cut i u l a = may_cut text (i + 1) (IsCharBoundary-after_ascii text i u l a)
+
+  pub moves_comment : Moves text comment
+  unfolding comment line comment_rest
+  moves_comment =
+      let slash = moves_passing text (λ c. nat_eq c 47) in
+      let star = moves_passing text (λ c. nat_eq c 42) in
+      let close = moves_forward text (moves_then text star (moves_forward text slash)) in
+      moves_or text
+      (moves_then text slash (forward_then text (moves_forward text slash) (forward_many text (moves_forward text (moves_unless text (passing is_line_terminator) (moves_any text))))))
+      (moves_then text (moves_then text slash (moves_forward text star)) (forward_then text (forward_many text (moves_forward text (moves_unless text comment_close (moves_any text)))) close))
+
+  pub moves_blank : Moves text blank
+  unfolding blank
+  moves_blank = moves_or text (moves_passing text is_white_space) (moves_or text (moves_passing text is_line_terminator) moves_comment)
+
+  -- blanks
+
+  pub blanks_more : (i j : ℕ) → blank text i ≡ Some j → blanks text j ≡ blanks text i
+  unfolding blanks
+  blanks_more i j h = sym (many_some text blank moves_blank i j h)
+
+  pub blanks_end : (i : ℕ) → blank text i ≡ None → blanks text i ≡ Some i
+  unfolding blanks
+  blanks_end i h = many_none text blank i h
+
+  no_comment : (i : ℕ) → code_point 47 text i ≡ None → comment text i ≡ None
+  unfolding comment
+  no_comment i h =
+      or_second text single_line_comment multi_line_comment i (then_none text (code_point 47) (code_point 47 >> line) i h)
+      ∙ then_none text comment_open comment_rest i (then_none text (code_point 47) (code_point 42) i h)
+
+  pub blank_slash : (i c : ℕ) (cs : List ℕ) → after text i ≡ c ∷ cs → c ≡ 47 → blank text i ≡ comment text i
+  unfolding blank
+  blank_slash i c cs e h =
+      let f : after text i ≡ 47 ∷ cs = e ∙ ap (λ x. x ∷ cs) h in
+      or_second text (passing is_white_space) (passing is_line_terminator // comment) i (passing_fails text is_white_space i 47 cs f refl)
+      ∙ or_second text (passing is_line_terminator) comment i (passing_fails text is_line_terminator i 47 cs f refl)
+
+  pub blank_char : (i c : ℕ) (cs : List ℕ) → after text i ≡ c ∷ cs → (c ≡ 47 → ⊥) → is_blank c ≡ true → blank text i ≡ Some (i + len_utf8 c)
+  unfolding blank
+  blank_char i c cs e n h = go (is_white_space c) refl h
+    where
+      go : (a : Bool) → is_white_space c ≡ a → (a || is_line_terminator c) ≡ true → (passing is_white_space // passing is_line_terminator // comment) text i ≡ Some (i + len_utf8 c)
+      go true f k = or_first text (passing is_white_space) (passing is_line_terminator // comment) i _ (passing_stands text is_white_space i c cs e f)
+      go false f k =
+          or_second text (passing is_white_space) (passing is_line_terminator // comment) i (passing_fails text is_white_space i c cs e f)
+          ∙ or_first text (passing is_line_terminator) comment i _ (passing_stands text is_line_terminator i c cs e k)
+
+  pub other_char : (i c : ℕ) (cs : List ℕ) → after text i ≡ c ∷ cs → (c ≡ 47 → ⊥) → is_blank c ≡ false → blank text i ≡ None
+  unfolding blank
+  other_char i c cs e n h = go (is_white_space c) refl h
+    where
+      go : (a : Bool) → is_white_space c ≡ a → (a || is_line_terminator c) ≡ false → (passing is_white_space // passing is_line_terminator // comment) text i ≡ None
+      go true f k = cc
+      go false f k =
+          or_second text (passing is_white_space) (passing is_line_terminator // comment) i (passing_fails text is_white_space i c cs e f)
+          ∙ or_second text (passing is_line_terminator) comment i (passing_fails text is_line_terminator i c cs e k)
+          ∙ no_comment i (code_point_fails text 47 c i cs e (grind arith))
+
+  pub no_blank : (i : ℕ) → after text i ≡ [] → blank text i ≡ None
+  unfolding blank
+  no_blank i e =
+      or_second text (passing is_white_space) (passing is_line_terminator // comment) i (passing_end text is_white_space i e)
+      ∙ or_second text (passing is_line_terminator) comment i (passing_end text is_line_terminator i e)
+      ∙ no_comment i (code_point_end text 47 i e)
+
+  pub none_between : (i : ℕ) → has_line_terminator text i i ≡ false
+  unfolding has_line_terminator
+  none_between i = rw (empty_piece (nat_le i i && (cuts text i && cuts text i)), chars-nil) refl
+    where
+      empty_piece : (b : Bool) → cond b (take (i - i) (drop i text)) [] ≡ []
+      empty_piece true = let e : i - i ≡ 0 = omega arith in rw e refl
+      empty_piece false = refl
+
+  -- what is skipped, where it ends before no comment
+  pub skipped_by : (i j : ℕ) → blanks text i ≡ Some j → code_point 47 text j ≡ None → skipped text i ≡ record { to = j; new_line = has_line_terminator text i j; closed = true }
+  unfolding skipped
+  skipped_by i j h k = rw h (rw (then_none text (code_point 47) (code_point 42) j k) refl)
+
+  -- nothing is skipped where the text may not be cut
+  pub skipped_outside : (i : ℕ) → cuts text i ≡ false → skipped text i ≡ record { to = i; new_line = false; closed = true }
+  skipped_outside i h =
+      let e : after text i ≡ [] = after_not text i h in
+      skipped_by i i (blanks_end i (no_blank i e)) (code_point_end text 47 i e) ∙ ap (λ b. (let s : Skipped = record { to = i; new_line = b; closed = true } in s)) (none_between i)
+
+  -- what is skipped lies behind the place where it began
+  pub skipped_ahead : (i : ℕ) → i ≤ (skipped text i).to
+  unfolding skipped blanks
+  skipped_ahead i =
+      let k = many_stands text blank i in
+      let e = k.1 in
+      rw e ((forward_many text (moves_forward text moves_blank)).on i k.0 e)
+
+pub ruleset line_steps = (line_more, line_stops, line_ends)
+
+pub ruleset comment_steps = (rest_more, rest_stops, rest_ends)
+
+pub ruleset blanks_steps = (blanks_more, blanks_end)
+
+pub ruleset plain_steps = (plain_step, plain_cut)
