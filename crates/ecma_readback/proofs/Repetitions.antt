@@ -14,7 +14,7 @@ use Rattle.ecma_lex.specs.Punctuators.{punct_end, is_longest}
 use Rattle.ecma_lex.specs.Tokens as lex
 use Rattle.ecma_lex.specs.Strings as strings
 use Rattle.ecma_lex.specs.Tokens.{term, found, or_nothing, may_end}
-use Rattle.ecma_lex.proofs.Ahead.{skipped_ahead}
+use Rattle.ecma_lex.proofs.Comments.{skipped_ahead}
 use Rattle.ecma_lex.proofs.Pieces.{longest_stands}
 use Rattle.ecma_lex.proofs.Spelled.{Standing, key_spelled, key_standing, name_key, type_name_name, word_key}
 use Rattle.ecma_lex.proofs.NumeralReading.{num_spelled, num_standing, num_some}
@@ -78,7 +78,7 @@ module _ (text : List ℕ) (u : IsUtf8 text) where
 
   moves_terminal : (find : List ℕ → ℕ → Option ℕ) → Ends find → Moves text 1 (λ s. terminal_on s (term find text s.place))
   moves_terminal find g = record {
-    on = λ s t x i e. goes_closed find s.place s (skipped text s.place) (skipped text s.place).closed g (skipped_ahead text s.place) t x e;
+    on = λ s t x i e. goes_closed find s.place s (skipped text s.place) (skipped text s.place).closed g (λ c. skipped_ahead text s.place) t x e;
   }
 
   moves_key : Moves text 1 (key text)

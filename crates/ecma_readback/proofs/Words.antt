@@ -11,8 +11,8 @@ use Rattle.ucd_table.specs.Rows.{in_ranges}
 use Rattle.ucd_derived.specs.XidStartRanges.{xid_start_ranges}
 use Rattle.ucd_derived.specs.XidContinueRanges.{xid_continue_ranges}
 use Rattle.ecma_lex.specs.declared.tokens.Token.{Token}
-use Rattle.ecma_lex.specs.Text.{piece, run_end}
-use Rattle.ecma_lex.specs.Keys.{is_valid_start, is_valid_continue, key_end, name_end, word_end, is_reserved, key_of, if_name, if_word}
+use Rattle.ecma_lex.specs.Text.{piece}
+use Rattle.ecma_lex.specs.Keys.{is_valid_start, is_valid_continue, key_end, name_end, word_end, is_reserved}
 use Rattle.ecma_lex.specs.Numerals.{num_end}
 use Rattle.ecma_lex.specs.Strings.{str_end, is_quote, str_of, closed}
 use Rattle.ecma_lex.specs.Punctuators.{punct_end, is_longest, punctuators, begins_with}
@@ -20,7 +20,7 @@ use Rattle.ecma_lex.specs.Tokens as lex
 use Rattle.ecma_lex.specs.Strings as strings
 use Rattle.ecma_lex.specs.Tokens.{term, found}
 use Rattle.ecma_lex.proofs.Suffixes.{clear, clear_front, Cut, cut_ascii, cut_utf8, Opens, Gap, gap, size, once, Stands, past, past_gap, after_here, piece_here, piece_inside, skipped_gap, chars_ascii, wide, wide-chars, wide-append}
-use Rattle.ecma_lex.proofs.Spelled.{stops, Spelled, IsKey, key_again, name_again, no_name_again, word_again}
+use Rattle.ecma_lex.proofs.Spelled.{stops, Spelled, IsKey, key_again, name_again, no_name_again, word_again, name_none, word_none}
 use Rattle.ecma_lex.proofs.Quoted.{IsString, string_here}
 use Rattle.ecma_lex.proofs.NumeralReading.{IsNumeral, IsBegun, begins_num, closes, num_again, num_begun, num_some, no_num}
 use Rattle.ecma_text.specs.Reading.{Reading, terminal_on, punct, word, name, key, num, str_lit, end, end_of_text}
@@ -221,14 +221,6 @@ num_start p w u f s = rw (chars-append w u s.0) (go (chars w) (num_begun w s))
 pub str_start : (p : ℕ → Bool) (w u : List ℕ) → ((c : ℕ) → is_quote c ≡ true → p c ≡ false) → Spelled IsString w → stops p (chars (w ++ u)) ≡ true
 str_start p w u f s = rw (chars-append w u s.0) (rw s.1.is (rw (f s.1.quote s.1.quotes) refl))
 
-no_key_of : (cs : List ℕ) (i : ℕ) → stops is_valid_start cs ≡ true → key_of cs i ≡ None
-no_key_of [] i h = refl
-no_key_of (c ∷ cs) i h = go (is_valid_start c) h
-  where
-    go : (b : Bool) → not b ≡ true → cond b (Some (run_end is_valid_continue cs (i + len_utf8 c))) None ≡ None
-    go true k = cc
-    go false k = refl
-
 no_begin : (cs : List ℕ) → stops begins_num cs ≡ true → begins_num (slice_index cs 0) ≡ false
 no_begin [] h = refl
 no_begin (c ∷ cs) h = go (begins_num c) h
@@ -355,12 +347,12 @@ module _ (text : List ℕ) where
   -- no token of a kind begins there
 
   pub name_stops : (g : Gap) (u : List ℕ) → Opens u → stops is_valid_start (chars u) ≡ true → Refuses text (name text) (gap g u)
-  unfolding lex.name name_end key_end
-  name_stops g u o h = token_refuses text name_end g u o (λ i st. (let a = after_here text i u st o.cut in rw a (ap (if_name text i) (no_key_of (chars u) i h))))
+  unfolding lex.name
+  name_stops g u o h = token_refuses text name_end g u o (λ i st. name_none text i (rw (after_here text i u st o.cut) h))
 
   pub word_stops : (g : Gap) (u other : List ℕ) → Opens u → stops is_valid_start (chars u) ≡ true → Refuses text (word text other) (gap g u)
-  unfolding lex.word word_end key_end
-  word_stops g u other o h = token_refuses text (word_end other) g u o (λ i st. (let a = after_here text i u st o.cut in rw a (ap (if_word other text i) (no_key_of (chars u) i h))))
+  unfolding lex.word
+  word_stops g u other o h = token_refuses text (word_end other) g u o (λ i st. word_none text other i (rw (after_here text i u st o.cut) h))
 
   pub num_stops : (g : Gap) (u : List ℕ) → Opens u → stops begins_num (chars u) ≡ true → Refuses text (num text) (gap g u)
   unfolding lex.num
