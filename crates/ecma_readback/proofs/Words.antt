@@ -14,14 +14,14 @@ use Rattle.ecma_lex.specs.declared.tokens.Token.{Token}
 use Rattle.ecma_lex.specs.Text.{piece}
 use Rattle.ecma_lex.specs.Keys.{is_valid_start, is_valid_continue, key_end, name_end, word_end, is_reserved}
 use Rattle.ecma_lex.specs.Numerals.{num_end}
-use Rattle.ecma_lex.specs.Strings.{str_end, is_quote, str_of, closed}
+use Rattle.ecma_lex.specs.Strings.{str_end, is_quote}
 use Rattle.ecma_lex.specs.Punctuators.{punct_end, is_longest, punctuators, begins_with}
 use Rattle.ecma_lex.specs.Tokens as lex
 use Rattle.ecma_lex.specs.Strings as strings
 use Rattle.ecma_lex.specs.Tokens.{term, found}
 use Rattle.ecma_lex.proofs.Suffixes.{clear, clear_front, Cut, cut_ascii, cut_utf8, Opens, Gap, gap, size, once, Stands, past, past_gap, after_here, piece_here, piece_inside, skipped_gap, chars_ascii, wide, wide-chars, wide-append}
 use Rattle.ecma_lex.proofs.Spelled.{stops, Spelled, IsKey, key_again, name_again, no_name_again, word_again, name_none, word_none}
-use Rattle.ecma_lex.proofs.Quoted.{IsString, string_here}
+use Rattle.ecma_lex.proofs.Quoted.{IsString, string_here, string_long, no_string}
 use Rattle.ecma_lex.proofs.NumeralReading.{IsNumeral, IsBegun, begins_num, closes, num_again, num_begun, num_some, no_num}
 use Rattle.ecma_text.specs.Reading.{Reading, terminal_on, punct, word, name, key, num, str_lit, end, end_of_text}
 use Rattle.ecma_readback.proofs.Characters.{valid_clear, num_clear, quote_clear}
@@ -194,13 +194,7 @@ pub str_opens : (w u : List ℕ) → Spelled IsString w → Cut u → Opens (w +
 str_opens w u s c = record { cut = cut_utf8 w u s.0 c; clear = rw (chars-append w u s.0) (rw s.1.is (quote_clear s.1.quote s.1.quotes)) }
 
 pub str_long : (w : List ℕ) → Spelled IsString w → 2 ≤ length w
-str_long w s =
-    let q = s.1 in
-    let n = wide-chars w s.0 in
-    let m : wide (chars w) ≡ len_utf8 q.quote + wide (q.inner ++ q.quote ∷ []) = ap wide q.is in
-    let k = wide-append q.inner (q.quote ∷ []) in
-    let b = len_utf8_bounds q.quote in
-    omega arith
+str_long w s = string_long w s
 
 -- what a token begins with
 
@@ -227,14 +221,6 @@ no_begin (c ∷ cs) h = go (begins_num c) h
   where
     go : (b : Bool) → not b ≡ true → b ≡ false
     go true k = sym k
-    go false k = refl
-
-no_str_of : (cs : List ℕ) (i : ℕ) → stops is_quote cs ≡ true → str_of cs i ≡ None
-no_str_of [] i h = refl
-no_str_of (c ∷ cs) i h = go (is_quote c) h
-  where
-    go : (b : Bool) → not b ≡ true → cond b (closed c 0 cs (i + 1)) None ≡ None
-    go true k = cc
     go false k = refl
 
 module _ (text : List ℕ) where
@@ -359,8 +345,8 @@ module _ (text : List ℕ) where
   num_stops g u o h = token_refuses text num_end g u o (λ i st. no_num text i (rw (after_here text i u st o.cut) (no_begin (chars u) h)))
 
   pub str_stops : (g : Gap) (u : List ℕ) → Opens u → stops is_quote (chars u) ≡ true → Refuses text (str_lit text) (gap g u)
-  unfolding strings.str_lit str_end
-  str_stops g u o h = token_refuses text str_end g u o (λ i st. (let a = after_here text i u st o.cut in rw a (no_str_of (chars u) i h)))
+  unfolding strings.str_lit
+  str_stops g u o h = token_refuses text str_end g u o (λ i st. no_string text i (ap (stops is_quote) (after_here text i u st o.cut) ∙ h))
 
   pub num_gets : (g : Gap) (w : List ℕ) (c : ℕ) (u : List ℕ) → Spelled IsNumeral w → End c → Gets text 1 (num text) (Reads text w) (gap g (w ++ c ∷ u)) (c ∷ u)
   unfolding lex.num
