@@ -1,8 +1,6 @@
 pub mod Blanks
-pub mod Carried
-pub mod Decimal
-pub mod Digits
+pub mod DigitRuns
 pub mod Exact
 pub mod Powers
+pub mod Readings
 pub mod Saturated
-pub mod Scaled

@@ -17,7 +17,7 @@ mod value;
 pub use bits::to_int32;
 pub use error::NoMemory;
 pub use js_number::JsNumber;
-pub use numerals::numeral_value;
+pub use numerals::{big_int_literal_length, numeral_value, numeric_literal_length};
 pub use safe_int::SafeInt;
 pub use string_to_number::num_from_str;
 pub use text::{JsText, ToJsString};

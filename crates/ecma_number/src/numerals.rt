@@ -1,10 +1,10 @@
-//! What a numeral stands for (ECMAScript, 12.9.3 Numeric Literals).
-ghost use Rattle.std.specs.Prelude.{◌≡◌, ◌≢◌, ◌+◌, ◌*◌, ◌^◌, ◌<◌, ◌≤◌, ℕ, pos, drop, length, is_some, option_map};
-ghost use Rattle.std.specs.List.{position_or_len};
-ghost use Rattle.std.specs.Char.{eq_ignore_ascii_case};
-ghost use Rattle.ecma_number.specs.JsNumber.{whole_of};
+//! Numeric literals (ECMAScript, 12.9.3), each production with its value. A place is an offset in bytes
+//! from 0; what is read comes with the place where it ends.
+ghost use Rattle.std.specs.Prelude.{◌≡◌, ◌+◌, ◌*◌, ◌^◌, ◌<◌, ◌≤◌, ◌&&◌, ◌==◌, ℤ, pos, false, Some, drop, length, option_and_then, slice_index, IfSome};
+ghost use Rattle.std.specs.Char.{is_digit};
+ghost use Rattle.ecma_number.specs.DigitRun.{Holds, HoldsInteger, HoldsMantissa, HoldsSigned, HoldsSize, IsShort, Reads, ReadsTo, digits_of_radix};
 ghost use Rattle.ecma_number.specs.Saturated.{saturated};
-ghost use Rattle.ecma_number.specs.Numeral.{numeral_of, has_separators, are_digits, digits, weighed, radix_of, prefix_radix, has, before, behind, has_minus, unsigned_part, has_leading_zero, is_whole_part, is_mantissa, is_decimal, scaled, decimal_value_of, signed_number_of, decimal_number_of, integer_of};
+ghost use Rattle.ecma_number.specs.Numeral.{Digits, MathematicalValue, begins, big_int_literal, code_point, decimal_integer, decimal_literal, digits, exponent_part, fraction_behind, has_separators, mantissa, integer_literal, letter, maybe, more_digits, non_decimal_integer_literal, numeral_of, numeric_literal, radix_and_digits, sign, signed_number_of, taken, times_power};
 
 use crate::JsNumber;
 
@@ -16,6 +16,23 @@ pub(crate) enum NumeralForm {
     Text,
 }
 
+/// Digits that were read, whose value is `size` times the radix to the power of `zeros`: the zeros at
+/// their end are counted apart, so that a size past 64 bits is known to be no whole number once it is
+/// divided. `size` is the largest of 64 bits where it is more.
+#[derive(Clone, Copy)]
+pub(crate) struct DigitRun {
+    size: u64,
+    zeros: u64,
+    count: u64,
+}
+
+/// A signed integer, whose `size` is the largest of 64 bits where it is more.
+#[derive(Clone, Copy)]
+struct SignedSize {
+    is_negative: bool,
+    size: u64,
+}
+
 /// The exact value of a numeral: decimal with fraction and exponent, or behind `0x`, `0o` or `0b` in
 /// either case, with `_` between digits, of any length. `None` exactly where the text is no such
 /// numeral, as one with a zero before another digit or one of a BigInt, or where its value is no
@@ -25,80 +42,56 @@ pub fn numeral_value(text: &str) -> Option<JsNumber>
     ensures { result ≡ numeral_of text.now }
 {
     let text = text.as_bytes();
-    let radix = prefix_radix(text);
-    if radix != 10 {
-        if are_digits(NumeralForm::Literal, radix, &text[2..]) {
-            return integer(radix, &text[2..]);
-        }
+    let (size, end) = numeric_literal(text)?;
+    if end != text.len() {
         return None;
     }
-    if is_decimal(NumeralForm::Literal, text) {
-        return decimal(false, text);
-    }
-    None
+    number(false, size)
 }
 
-// The radix that a prefix names, and 10 where there is none.
-pub(crate) fn prefix_radix(text: &[u8]) -> u32
-    ensures value { result ≡ prefix_radix text.now }
-    ensures least { 2 ≤ result }
-    ensures most { result ≤ 16 }
-    ensures room { result ≢ 10 → 2 ≤ length text.now }
+/// How many bytes the NumericLiteral of a Number has that stands at the front of a text (12.9.3): the
+/// longest, with no zero before another digit. `None` exactly where none stands there.
+pub fn numeric_literal_length(text: &[u8]) -> Option<usize>
+    ensures { result ≡ taken numeric_literal text.now }
 {
-    match text {
-        [b'0', mark, ..] => radix_of(*mark),
-        _ => 10,
-    }
+    let (_, end) = numeric_literal(text)?;
+    Some(end)
 }
 
-fn radix_of(mark: u8) -> u32
-    ensures value { result ≡ radix_of mark }
-    ensures least { 2 ≤ result }
-    ensures most { result ≤ 16 }
+/// How many bytes the NumericLiteral of a BigInt has that stands at the front of a text (12.9.3), with
+/// the `n` at its end. `None` exactly where none stands there.
+pub fn big_int_literal_length(text: &[u8]) -> Option<usize>
+    ensures { result ≡ taken big_int_literal text.now }
 {
-    match mark {
-        b'x' | b'X' => 16,
-        b'o' | b'O' => 8,
-        b'b' | b'B' => 2,
-        _ => 10,
+    let end = integer_end(text)?;
+    if stands(text, end, b'n') {
+        Some(end + 1)
+    } else {
+        None
     }
 }
 
-pub(crate) fn are_digits(form: NumeralForm, radix: u32, text: &[u8]) -> bool
-    requires least { 2 ≤ radix }
-    requires most { radix ≤ 36 }
-    ensures { result ≡ are_digits form radix text.now }
+// The end of the digits of a BigInt.
+fn integer_end(text: &[u8]) -> Option<usize>
+    ensures { ReadsTo text.now result (integer_literal text.now) }
 {
-    let mut is_behind_digit = false;
-    for byte in text {
-        if *byte == b'_' {
-            if !is_behind_digit || !has_separators(form) {
-                return false;
-            }
-            is_behind_digit = false;
-        } else {
-            if !char::from(*byte).is_digit(radix) {
-                return false;
-            }
-            is_behind_digit = true;
-        }
+    if let Some((_, end)) = non_decimal_integer(NumeralForm::Literal, text) {
+        return Some(end);
     }
-    is_behind_digit
+    let (_, end) = decimal_integer(NumeralForm::Literal, text)?;
+    Some(end)
 }
 
-fn has_separators(form: NumeralForm) -> bool
-    ensures { result ≡ has_separators form }
-{
-    matches!(form, NumeralForm::Literal)
-}
+// ---- Numbers
 
-// The Number of digits, whatever else stands between them.
-pub(crate) fn integer(radix: u32, text: &[u8]) -> Option<JsNumber>
-    requires least { 2 ≤ radix }
-    requires most { radix ≤ 36 }
-    ensures { result ≡ integer_of radix text.now }
+// The Number of a size, where there is one.
+pub(crate) fn number(is_negative: bool, size: Option<u64>) -> Option<JsNumber>
+    ensures { result ≡ option_and_then (signed_number_of is_negative) size }
 {
-    signed_number(false, digits_value(radix, text))
+    match size {
+        Some(size) => signed_number(is_negative, size),
+        None => None,
+    }
 }
 
 fn signed_number(is_negative: bool, size: u64) -> Option<JsNumber>
@@ -113,171 +106,290 @@ fn signed_number(is_negative: bool, size: u64) -> Option<JsNumber>
     }
 }
 
-// The value of the digits, or 2^64 - 1 where it is more.
-fn digits_value(radix: u32, text: &[u8]) -> u64
-    requires least { 2 ≤ radix }
-    requires most { radix ≤ 36 }
-    ensures { result ≡ saturated (weighed radix (digits radix text.now)) }
+// ---- literals
+
+// The literal of a Number at the front of a text: its value where that is whole, or 2^64 - 1 where it
+// is more.
+fn numeric_literal(text: &[u8]) -> Option<(Option<u64>, usize)>
+    ensures { Reads HoldsSize text.now result (numeric_literal text.now) }
 {
-    let mut value = 0;
-    for byte in text {
-        if let Some(digit) = char::from(*byte).to_digit(radix) {
-            value = with_digit(value, radix, digit);
-        }
+    if let Some((size, end)) = non_decimal_integer(NumeralForm::Literal, text) {
+        return Some((Some(size), end));
     }
-    value
+    decimal_literal(NumeralForm::Literal, text)
 }
 
-fn with_digit(value: u64, radix: u32, digit: u32) -> u64
-    ensures { result ≡ saturated (value * radix + digit) }
+// Digits behind `0x`, `0o` or `0b`: their value, or 2^64 - 1 where it is more.
+pub(crate) fn non_decimal_integer(form: NumeralForm, text: &[u8]) -> Option<(u64, usize)>
+    ensures { Reads HoldsInteger text.now result (non_decimal_integer_literal form text.now) }
 {
-    value
-        .saturating_mul(u64::from(radix))
-        .saturating_add(u64::from(digit))
-}
-
-fn place_of(text: &[u8], mark: u8) -> usize
-    ensures value { result ≡ position_or_len (λ character. eq_ignore_ascii_case character mark) text.now }
-    ensures bound { result ≤ length text.now }
-{
-    for (place, byte) in text.iter().enumerate() {
-        if byte.eq_ignore_ascii_case(&mark) {
-            return place;
-        }
+    if !stands(text, 0, b'0') {
+        return None;
     }
-    text.len()
+    let radix = radix_named(text, 1)?;
+    let (run, end) = digits(form, radix, text, 2)?;
+    Some((run.value(radix), end))
 }
 
-fn has(text: &[u8], mark: u8) -> bool
-    ensures { result ≡ has mark text.now }
+// The radix that a letter names in either case.
+fn radix_named(text: &[u8], at: usize) -> Option<u32>
+    ensures radix { (form : NumeralForm) → radix_and_digits form (drop at text.now) ≡ digits_of_radix form result (drop (at + 1) text.now) }
+    ensures within { IfSome result (λ radix. (2 ≤ radix) × (radix ≤ 16)) }
 {
-    place_of(text, mark) < text.len()
-}
-
-fn before(text: &[u8], mark: u8) -> &[u8]
-    ensures { result.now ≡ before mark text.now }
-{
-    &text[..place_of(text, mark)]
-}
-
-fn behind(text: &[u8], mark: u8) -> &[u8]
-    ensures { result.now ≡ behind mark text.now }
-{
-    let place = place_of(text, mark);
-    if place < text.len() {
-        &text[place + 1..]
-    } else {
-        &[]
+    if at >= text.len() {
+        return None;
+    }
+    match text[at] {
+        b'x' | b'X' => Some(16),
+        b'o' | b'O' => Some(8),
+        b'b' | b'B' => Some(2),
+        _ => None,
     }
 }
 
-pub(crate) fn has_minus(text: &[u8]) -> bool
-    ensures { result ≡ has_minus text.now }
+// A decimal literal: its value where that is whole, or 2^64 - 1 where it is more.
+pub(crate) fn decimal_literal(form: NumeralForm, text: &[u8]) -> Option<(Option<u64>, usize)>
+    ensures { Reads HoldsSize text.now result (decimal_literal form text.now) }
 {
-    matches!(text, [b'-', ..])
+    let (run, end) = mantissa(form, text)?;
+    let (exponent, end) = exponent(form, text, end);
+    Some((whole_size(run, exponent), end))
 }
 
-pub(crate) fn unsigned_part(text: &[u8]) -> &[u8]
-    ensures { result.now ≡ unsigned_part text.now }
+// The digits before the exponent, of which `count` stand behind the point.
+fn mantissa(form: NumeralForm, text: &[u8]) -> Option<(DigitRun, usize)>
+    ensures read { Reads HoldsMantissa text.now result (mantissa form text.now) }
+    ensures short { IfSome result IsShort }
 {
-    match text {
-        [b'+' | b'-', others @ ..] => others,
-        _ => text,
+    if let Some((whole, end)) = decimal_integer(form, text) {
+        return Some(fraction(form, whole, text, end));
     }
+    if !stands(text, 0, b'.') {
+        return None;
+    }
+    digits(form, 10, text, 1)
 }
 
-fn is_whole_part(form: NumeralForm, text: &[u8]) -> bool
-    ensures { result ≡ is_whole_part form text.now }
+fn decimal_integer(form: NumeralForm, text: &[u8]) -> Option<(DigitRun, usize)>
+    ensures read { Reads (Holds 10) text.now result (decimal_integer form text.now) }
+    ensures short { IfSome result IsShort }
 {
     match form {
-        NumeralForm::Literal => are_digits(form, 10, text) && !has_leading_zero(text),
-        NumeralForm::Text => are_digits(form, 10, text),
+        NumeralForm::Literal => {
+            if stands(text, 0, b'0') {
+                return Some((DigitRun::NONE, 1));
+            }
+            digits(form, 10, text, 0)
+        }
+        NumeralForm::Text => digits(form, 10, text, 0),
     }
 }
 
-fn has_leading_zero(text: &[u8]) -> bool
-    ensures { result ≡ has_leading_zero text.now }
+// The digits before a point with those behind it, if there are any; only these are counted.
+fn fraction(form: NumeralForm, whole: DigitRun, text: &[u8], at: usize) -> (DigitRun, usize)
+    requires within { at ≤ length text.now }
+    requires short { IsShort (whole, at) }
+    ensures read { (exact : Digits) → Holds 10 whole exact → Reads HoldsMantissa text.now (Some result) (fraction_behind form exact (drop at text.now)) }
+    ensures short { IsShort result }
 {
-    text.len() > 1 && text[0] == b'0'
-}
-
-fn is_mantissa(form: NumeralForm, text: &[u8]) -> bool
-    ensures { result ≡ is_mantissa form text.now }
-{
-    if !has(text, b'.') {
-        return is_whole_part(form, text);
+    let start = DigitRun { count: 0, ..whole };
+    if !stands(text, at, b'.') {
+        return (start, at);
     }
-    let whole = before(text, b'.');
-    let fraction = behind(text, b'.');
-    if whole.is_empty() {
-        return are_digits(form, 10, fraction);
+    if !digit_stands(10, text, at + 1) {
+        return (start, at + 1);
     }
-    is_whole_part(form, whole) && (fraction.is_empty() || are_digits(form, 10, fraction))
+    more_digits(form, 10, start, text, at + 1)
 }
 
-#[tactic(auto, unfolding(crate::specs::Numeral::is_decimal))]
-pub(crate) fn is_decimal(form: NumeralForm, text: &[u8]) -> bool
-    ensures { result ≡ is_decimal form text.now }
+// The exponent behind a mantissa, which may be missing.
+fn exponent(form: NumeralForm, text: &[u8], at: usize) -> (SignedSize, usize)
+    requires { at ≤ length text.now }
+    ensures { Reads HoldsSigned text.now (Some result) (maybe (pos 0) (exponent_part form) (drop at text.now)) }
 {
-    is_mantissa(form, before(text, b'e'))
-        && (!has(text, b'e') || are_digits(form, 10, unsigned_part(behind(text, b'e'))))
-}
-
-// The Number of a decimal numeral behind a sign.
-pub(crate) fn decimal(is_negative: bool, text: &[u8]) -> Option<JsNumber>
-    ensures { result ≡ decimal_number_of is_negative text.now }
-{
-    match decimal_value(text) {
-        Some(size) => signed_number(is_negative, size),
-        None => None,
-    }
-}
-
-// The value of a decimal numeral where it is whole, or 2^64 - 1 where it is more.
-fn decimal_value(text: &[u8]) -> Option<u64>
-    ensures { result ≡ option_map saturated (decimal_value_of text.now) }
-{
-    let mantissa = before(text, b'e');
-    let exponent = digits_value(10, behind(text, b'e'));
-    let whole = digit_count(before(mantissa, b'.'));
-    let kept = if has_minus(behind(text, b'e')) {
-        whole.saturating_sub(exponent)
-    } else {
-        whole.saturating_add(exponent)
+    let none = SignedSize {
+        is_negative: false,
+        size: 0,
     };
-    kept_value(mantissa, kept)
+    exponent_part(form, text, at).unwrap_or((none, at))
 }
 
-fn digit_count(text: &[u8]) -> u64
-    ensures { result ≡ length (digits 10 text.now) }
+fn exponent_part(form: NumeralForm, text: &[u8], at: usize) -> Option<(SignedSize, usize)>
+    ensures { Reads HoldsSigned text.now result (exponent_part form (drop at text.now)) }
 {
-    text.iter().filter(|byte| byte.is_ascii_digit()).count() as u64
+    if !letter_stands(text, at, b'e') {
+        return None;
+    }
+    let (is_negative, start) = sign(text, at + 1);
+    let (run, end) = digits(form, 10, text, start)?;
+    Some((
+        SignedSize {
+            is_negative,
+            size: run.value(10),
+        },
+        end,
+    ))
 }
 
-// The digits, of which so many count for the whole number as are kept. It is whole where those behind
-// them are zeros; where there are fewer, zeros stand in their place.
-fn kept_value(text: &[u8], kept: u64) -> Option<u64>
-    ensures { result ≡ option_map saturated (scaled (weighed 10 (digits 10 text.now)) kept (length (digits 10 text.now))) }
+// Whether a minus stands there, and the place behind a sign.
+pub(crate) fn sign(text: &[u8], at: usize) -> (bool, usize)
+    requires { at ≤ length text.now }
+    ensures read { maybe false sign (drop at text.now) ≡ Some (result.0, drop result.1 text.now) }
+    ensures within { result.1 ≤ length text.now }
 {
-    let mut value = 0;
-    let mut places = kept;
-    for byte in text {
-        if let Some(digit) = char::from(*byte).to_digit(10) {
-            if places > 0 {
-                value = with_digit(value, 10, digit);
-                places -= 1;
-            } else if digit != 0 {
-                return None;
+    if stands(text, at, b'+') {
+        return (false, at + 1);
+    }
+    if stands(text, at, b'-') {
+        return (true, at + 1);
+    }
+    (false, at)
+}
+
+// size * 10 ^ (zeros + exponent - count), where it is whole, or 2^64 - 1 where it is more.
+fn whole_size(run: DigitRun, exponent: SignedSize) -> Option<u64>
+    requires zeros { run.zeros < 2 ^ 63 }
+    requires count { run.count < 2 ^ 63 }
+    ensures { (value : MathematicalValue) (power : ℤ) → HoldsMantissa run value → HoldsSigned exponent power → HoldsSize result (times_power value power) }
+{
+    if run.size == 0 {
+        return Some(0);
+    }
+    let (up, down) = if exponent.is_negative {
+        (run.zeros, run.count.saturating_add(exponent.size))
+    } else {
+        (run.zeros.saturating_add(exponent.size), run.count)
+    };
+    if up < down {
+        return None;
+    }
+    Some(with_zeros(10, run.size, up - down))
+}
+
+// ---- digits
+
+fn digits(form: NumeralForm, radix: u32, text: &[u8], at: usize) -> Option<(DigitRun, usize)>
+    requires least { 2 ≤ radix }
+    requires most { radix ≤ 36 }
+    ensures read { Reads (Holds radix) text.now result (digits form radix (drop at text.now)) }
+    ensures short { IfSome result IsShort }
+{
+    if !digit_stands(radix, text, at) {
+        return None;
+    }
+    Some(more_digits(form, radix, DigitRun::NONE, text, at))
+}
+
+fn more_digits(
+    form: NumeralForm,
+    radix: u32,
+    before: DigitRun,
+    text: &[u8],
+    at: usize,
+) -> (DigitRun, usize)
+    requires least { 2 ≤ radix }
+    requires most { radix ≤ 36 }
+    requires within { at ≤ length text.now }
+    requires short { IsShort (before, at) }
+    ensures read { (exact : Digits) → Holds radix before exact → Reads (Holds radix) text.now (Some result) (Some (more_digits form radix exact (drop at text.now))) }
+    ensures short { IsShort result }
+{
+    let mut run = before;
+    let mut end = at;
+    while end < text.len() {
+        match char::from(text[end]).to_digit(radix) {
+            Some(digit) => run = run.with(radix, digit),
+            None => {
+                if !is_separator(form, radix, text, end) {
+                    return (run, end);
+                }
             }
         }
+        end += 1;
     }
-    Some(with_zeros(value, places))
+    (run, end)
 }
 
-// From twenty zeros on, every number but 0 is more than 2^64 - 1.
-fn with_zeros(value: u64, zeros: u64) -> u64
-    ensures { result ≡ saturated (value * 10 ^ zeros) }
+fn is_separator(form: NumeralForm, radix: u32, text: &[u8], at: usize) -> bool
+    requires least { 2 ≤ radix }
+    requires most { radix ≤ 36 }
+    requires within { at < length text.now }
+    ensures { result ≡ (has_separators form && (slice_index text.now at == 95 && begins (λ next. is_digit next radix) (drop (at + 1) text.now))) }
 {
-    let power: u64 = 10;
-    value.saturating_mul(power.saturating_pow(zeros.min(20) as u32))
+    has_separators(form) && text[at] == b'_' && digit_stands(radix, text, at + 1)
+}
+
+fn has_separators(form: NumeralForm) -> bool
+    ensures { result ≡ has_separators form }
+{
+    matches!(form, NumeralForm::Literal)
+}
+
+fn digit_stands(radix: u32, text: &[u8], at: usize) -> bool
+    requires least { 2 ≤ radix }
+    requires most { radix ≤ 36 }
+    ensures { result ≡ begins (λ first. is_digit first radix) (drop at text.now) }
+{
+    at < text.len() && char::from(text[at]).is_digit(radix)
+}
+
+pub(crate) fn stands(text: &[u8], at: usize, byte: u8) -> bool
+    ensures { result ≡ begins (code_point byte) (drop at text.now) }
+{
+    at < text.len() && text[at] == byte
+}
+
+fn letter_stands(text: &[u8], at: usize, byte: u8) -> bool
+    ensures { result ≡ begins (letter byte) (drop at text.now) }
+{
+    at < text.len() && text[at].eq_ignore_ascii_case(&byte)
+}
+
+impl DigitRun {
+    const NONE: DigitRun = DigitRun {
+        size: 0,
+        zeros: 0,
+        count: 0,
+    };
+
+    // One more digit behind these.
+    fn with(self, radix: u32, digit: u32) -> DigitRun
+        requires least { 2 ≤ radix }
+        requires small { digit < radix }
+        requires zeros { self.zeros < 2 ^ 63 }
+        requires count { self.count < 2 ^ 63 }
+        ensures value { (exact : Digits) → Holds radix self exact → Holds radix result (record { mv = exact.mv * radix + digit; count = exact.count + 1 }) }
+        ensures zeros { result.zeros ≤ self.zeros + 1 }
+        ensures count { result.count ≡ self.count + 1 }
+    {
+        if digit == 0 {
+            return DigitRun {
+                size: self.size,
+                zeros: self.zeros + 1,
+                count: self.count + 1,
+            };
+        }
+        DigitRun {
+            size: with_zeros(radix, self.size, self.zeros + 1).saturating_add(u64::from(digit)),
+            zeros: 0,
+            count: self.count + 1,
+        }
+    }
+
+    // The value, or 2^64 - 1 where it is more.
+    fn value(self, radix: u32) -> u64
+        requires least { 2 ≤ radix }
+        ensures { (exact : Digits) → Holds radix self exact → result ≡ saturated exact.mv }
+    {
+        with_zeros(radix, self.size, self.zeros)
+    }
+}
+
+// From 64 zeros on, every number but 0 is more than 2^64 - 1.
+fn with_zeros(radix: u32, value: u64, zeros: u64) -> u64
+    requires least { 2 ≤ radix }
+    ensures { result ≡ saturated (value * radix ^ zeros) }
+{
+    let power = u64::from(radix).saturating_pow(zeros.min(64) as u32);
+    value.saturating_mul(power)
 }

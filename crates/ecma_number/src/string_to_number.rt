@@ -3,9 +3,7 @@ ghost use Rattle.std.specs.Prelude.{◌≡◌};
 ghost use Rattle.ecma_number.specs.Blanks.{is_space_separator, is_white_space, is_line_terminator, is_blank, front_trimmed, end_trimmed};
 ghost use Rattle.ecma_number.specs.StringToNumber.{known_of, unsigned_text_number_of, trimmed_text_number_of, text_number_of};
 
-use crate::numerals::{
-    NumeralForm, are_digits, decimal, has_minus, integer, is_decimal, prefix_radix, unsigned_part,
-};
+use crate::numerals::{NumeralForm, decimal_literal, non_decimal_integer, number, sign};
 use crate::{JsNumber, Value};
 
 /// The Number of a text, with white space and line terminators round it left out: 0 for no text, a
@@ -25,14 +23,13 @@ fn trimmed_text_number(text: &[u8]) -> Value<JsNumber>
     if text.is_empty() {
         return Value::Known(JsNumber::zero(false));
     }
-    let radix = prefix_radix(text);
-    if radix == 10 {
-        return unsigned_text_number(has_minus(text), unsigned_part(text));
+    if let Some((size, end)) = non_decimal_integer(NumeralForm::Text, text) {
+        if end == text.len() {
+            return known(number(false, Some(size)));
+        }
     }
-    if are_digits(NumeralForm::Text, radix, &text[2..]) {
-        return known(integer(radix, &text[2..]));
-    }
-    Value::Known(JsNumber::NaN)
+    let (is_negative, start) = sign(text, 0);
+    unsigned_text_number(is_negative, &text[start..])
 }
 
 #[tactic(auto, unfolding(crate::specs::StringToNumber::unsigned_text_number_of))]
@@ -42,8 +39,10 @@ fn unsigned_text_number(is_negative: bool, text: &[u8]) -> Value<JsNumber>
     if text == b"Infinity".as_slice() {
         return Value::Known(JsNumber::infinity(is_negative));
     }
-    if is_decimal(NumeralForm::Text, text) {
-        return known(decimal(is_negative, text));
+    if let Some((size, end)) = decimal_literal(NumeralForm::Text, text) {
+        if end == text.len() {
+            return known(number(is_negative, size));
+        }
     }
     Value::Known(JsNumber::NaN)
 }
