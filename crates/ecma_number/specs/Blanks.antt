@@ -1,4 +1,4 @@
--- The characters that are cut off both ends of a text before it is read as a Number, by their codes.
+-- White space and line terminators, by the codes of characters: ECMAScript, 12.2 White Space, 12.3 Line Terminators; and a text without them at its ends.
 use Rattle.std.specs.Prelude.{ℕ, Bool, ◌||◌, ◌==◌, List, [], ◌∷◌, reverse, chars, if◌then◌else◌}
 use Rattle.std.specs.Str.{encode_utf8_all}
 use Rattle.std.specs.Int.{is_in_range}

@@ -4,6 +4,7 @@
 
 mod arithmetic;
 mod bits;
+mod blanks;
 mod equality;
 mod error;
 mod js_number;
@@ -15,6 +16,7 @@ mod types;
 mod value;
 
 pub use bits::to_int32;
+pub use blanks::{is_blank, is_line_terminator, is_white_space};
 pub use error::NoMemory;
 pub use js_number::JsNumber;
 pub use numerals::{big_int_literal_length, numeral_value, numeric_literal_length};

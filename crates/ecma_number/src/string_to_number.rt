@@ -1,8 +1,9 @@
 //! The Number that a text stands for (ECMAScript, 7.1.4.1.1 StringToNumber).
 ghost use Rattle.std.specs.Prelude.{◌≡◌};
-ghost use Rattle.ecma_number.specs.Blanks.{is_space_separator, is_white_space, is_line_terminator, is_blank, front_trimmed, end_trimmed};
+ghost use Rattle.ecma_number.specs.Blanks.{front_trimmed, end_trimmed};
 ghost use Rattle.ecma_number.specs.StringToNumber.{known_of, unsigned_text_number_of, trimmed_text_number_of, text_number_of};
 
+use crate::blanks::is_blank;
 use crate::numerals::{NumeralForm, decimal_literal, non_decimal_integer, number, sign};
 use crate::{JsNumber, Value};
 
@@ -82,31 +83,4 @@ fn end_trimmed(text: &str) -> &str
         kept = characters.as_str();
     }
     kept
-}
-
-fn is_blank(character: char) -> bool
-    ensures { result ≡ is_blank character }
-{
-    is_white_space(character) || is_line_terminator(character)
-}
-
-fn is_white_space(character: char) -> bool
-    ensures { result ≡ is_white_space character }
-{
-    matches!(character, '\t' | '\u{B}' | '\u{C}' | '\u{FEFF}') || is_space_separator(character)
-}
-
-fn is_space_separator(character: char) -> bool
-    ensures { result ≡ is_space_separator character }
-{
-    matches!(
-        character,
-        ' ' | '\u{A0}' | '\u{1680}' | '\u{2000}'..='\u{200A}' | '\u{202F}' | '\u{205F}' | '\u{3000}'
-    )
-}
-
-fn is_line_terminator(character: char) -> bool
-    ensures { result ≡ is_line_terminator character }
-{
-    matches!(character, '\n' | '\r' | '\u{2028}' | '\u{2029}')
 }

@@ -3,7 +3,7 @@ use Rattle.std.specs.Char.{encode_utf8}
 use Rattle.std.proofs.lemmas.List.{nil_from_length}
 use Rattle.std.specs.Str.Iter.{chars_rest}
 use Rattle.ecma_number.specs.Blanks.{is_blank, front_trimmed}
-use Rattle.ecma_number.proofs.Blanks.{front_trimmed-nil, front_trimmed-blank, front_trimmed-kept}
+use Rattle.ecma_number.proofs.Trimmed.{front_trimmed-nil, front_trimmed-blank, front_trimmed-kept}
 use Rattle.ecma_number.proofs.string_to_number.front_trimmed.Goals as goal
 
 pub returns-then-not-is_blank : goal.returns-then-not-is_blank
