@@ -34,7 +34,7 @@ pub record Taken {A : Type 0} (read : Reading A) (goes_on other : Test) (text : 
 abbrev pub Takes : {A : Type 0} → Reading A → Test → Test → Type 0
 Takes {A} read goes_on other = (text : List ℕ) (value : A) (rest : List ℕ) → read text ≡ Some (value, rest) → Taken read goes_on other text value rest
 
-abbrev never : Test
+abbrev pub never : Test
 never text = false
 
 none_some : {A B : Type 0} {x : B} → ◌≡◌ {A = Option B} None (Some x) → A
@@ -44,7 +44,7 @@ some_is : {B : Type 0} {x y : B} → ◌≡◌ {A = Option B} (Some x) (Some y) 
 some_is h = cc
 
 pure_takes : {A : Type 0} (value : A) (goes_on : Test) → Takes (pure value) goes_on goes_on
-pure_takes value goes_on text v rest h = 
+pure_takes value goes_on text v rest h =
     let e = some_is h in
     record { word = []; parts = ap (λ r. r.1) e; plain = refl; again = λ next k. ap (λ r. Some (r.0, next)) e; begun = λ next k. k }
 
@@ -70,15 +70,19 @@ or_takes {A} first second goes_on other f g text value rest h = at (first text) 
     none : (o : Option (A × List ℕ)) (b : Bool) → (is_some o || b) ≡ false → o ≡ None
     none None b e = refl
     none (Some x) b e = absurd (false≢true (sym e))
+
     off : (a b : Bool) → (a || b) ≡ false → b ≡ false
     off true b e = absurd (false≢true (sym e))
     off false b e = e
+
     at : (o : Option (A × List ℕ)) → first text ≡ o → or_read second text o ≡ Some (value, rest) → Taken (first // second) goes_on other text value rest
     at (Some read) e k = let t = f text value rest (e ∙ k) in
         record { word = t.word; parts = t.parts; plain = t.plain; again = λ u c. (let a = t.again u c in rw a refl); begun = t.begun }
     at None e k = let t = g text value rest e k in
         record {
-          word = t.word; parts = t.parts; plain = t.plain;
+          word = t.word;
+          parts = t.parts;
+          plain = t.plain;
           again = λ u c. (let n = none (first (t.word ++ u)) (other (t.word ++ u)) (t.begun u c) in rw n (t.again u c));
           begun = λ u c. off (is_some (first (t.word ++ u))) (other (t.word ++ u)) (t.begun u c);
         }
@@ -100,7 +104,9 @@ behind_takes {A} passes read goes_on within other plain apart f (c ∷ text) val
     at false e k = none_some k
     at true e k = let t = f text value rest k in let p = plain c e in
         record {
-          word = c ∷ t.word; parts = ap (λ l. c ∷ l) t.parts; plain = rw p t.plain;
+          word = c ∷ t.word;
+          parts = ap (λ l. c ∷ l) t.parts;
+          plain = rw p t.plain;
           again = λ u n. rw e (t.again u n);
           begun = λ u n. apart c (t.word ++ u) e (t.begun u n);
         }
@@ -165,13 +171,16 @@ module _ (form : NumeralForm) (radix : ℕ) (most : radix ≤ 36) (goes_on : Tes
       begun_apart : (l : List ℕ) → begins passes l ≡ true → other l ≡ false
       begun_apart [] e = absurd (false≢true e)
       begun_apart (c ∷ l) e = apart c l e
+
       at : (b : Bool) → begins (λ c. is_digit c radix) text ≡ b → cond b (Some (more_digits form radix no_digits text)) None ≡ Some (value, rest) → Taken (digits form radix) goes_on other text value rest
       at false e k = none_some k
       at true e k =
           let t = more_takes no_digits text in
           let s = some_is k in
           record {
-            word = t.word; parts = t.parts ∙ ap (λ r. t.word ++ r.1) s; plain = t.plain;
+            word = t.word;
+            parts = t.parts ∙ ap (λ r. t.word ++ r.1) s;
+            plain = t.plain;
             again = λ u n. (let b = t.begun (λ c. is_digit c radix) (λ c d. d) e u in rw b (ap Some (t.again u n ∙ ap (λ r. (r.0, u)) s)));
             begun = λ u n. begun_apart (t.word ++ u) (t.begun passes sub (start e) u);
           }
@@ -305,9 +314,9 @@ module _ (other : Test) (apart : (c : ℕ) (text : List ℕ) → eqb c 48 ≡ fa
       or_takes (decimal_integer Literal >>= fraction_behind Literal) (code_point 46 >> (digits Literal 10 >>= λ fraction. pure (with_fraction no_digits fraction))) (begins in_mantissa) other
       (then_takes (decimal_integer Literal) (fraction_behind Literal) (begins in_integer) (begins in_mantissa) other (integer_takes (begins in_integer) stops_integer zero) fraction_takes)
       (λ text value rest none h. behind_takes (code_point 46) (digits Literal 10 >>= λ fraction. pure (with_fraction no_digits fraction)) (begins in_mantissa) never (λ l. is_some ((decimal_integer Literal >>= fraction_behind Literal) l) || other l) (point_plain 46 (omega arith))
-        (λ c l k n. known 46 (λ d. (is_some ((decimal_integer Literal >>= fraction_behind Literal) (d ∷ l)) || other (d ∷ l)) ≡ false) (let i = no_integer l in rw i (apart 46 l refl)) c k)
-        (then_takes (digits Literal 10) (λ fraction. pure (with_fraction no_digits fraction)) (begins in_mantissa) (begins in_mantissa) never (digits_takes Literal 10 (omega arith) (begins in_mantissa) stops_mantissa never (λ c l k. refl)) (λ fraction. pure_takes (with_fraction no_digits fraction) (begins in_mantissa)))
-        text value rest h)
+      (λ c l k n. known 46 (λ d. (is_some ((decimal_integer Literal >>= fraction_behind Literal) (d ∷ l)) || other (d ∷ l)) ≡ false) (let i = no_integer l in rw i (apart 46 l refl)) c k)
+      (then_takes (digits Literal 10) (λ fraction. pure (with_fraction no_digits fraction)) (begins in_mantissa) (begins in_mantissa) never (digits_takes Literal 10 (omega arith) (begins in_mantissa) stops_mantissa never (λ c l k. refl)) (λ fraction. pure_takes (with_fraction no_digits fraction) (begins in_mantissa)))
+      text value rest h)
 
   sign_takes : Takes sign (begins is_sign) never
   sign_takes =
@@ -349,8 +358,8 @@ module _ (other : Test) (apart : (c : ℕ) (text : List ℕ) → eqb c 48 ≡ fa
   decimal_takes zero =
       then_takes (mantissa Literal) (λ value. maybe (pos 0) (exponent_part Literal) >>= λ power. pure (times_power value power)) (begins in_mantissa) goes_on other (mantissa_takes zero)
       (λ value. then_takes (maybe (pos 0) (exponent_part Literal)) (λ power. pure (times_power value power)) goes_on goes_on (begins in_mantissa)
-        (maybe_takes (pos 0) (exponent_part Literal) goes_on (begins in_mantissa) exponent_takes (λ next h. (no_exponent next h, fewer is_part (λ c. not (eq_ignore_ascii_case c 101)) next h)))
-        (λ power. pure_takes (times_power value power) goes_on))
+      (maybe_takes (pos 0) (exponent_part Literal) goes_on (begins in_mantissa) exponent_takes (λ next h. (no_exponent next h, fewer is_part (λ c. not (eq_ignore_ascii_case c 101)) next h)))
+      (λ power. pure_takes (times_power value power) goes_on))
 
 module _ (test : Test) (stops : (radix : ℕ) → radix ≤ 16 → Stops radix test) where
   radix_takes : Takes (radix_and_digits Literal) test never
@@ -358,12 +367,13 @@ module _ (test : Test) (stops : (radix : ℕ) → radix ≤ 16 → Stops radix t
       or_takes (letter 120 >> digits Literal 16) (letter 111 >> digits Literal 8 // letter 98 >> digits Literal 2) test never
       (behind_takes (letter 120) (digits Literal 16) test never never (letter_plain 120 (omega arith) (omega arith)) (λ c l k n. refl) (of_radix 16 (omega arith)))
       (λ text value rest none h. or_takes (letter 111 >> digits Literal 8) (letter 98 >> digits Literal 2) test no_hex
-        (behind_takes (letter 111) (digits Literal 8) test never no_hex (letter_plain 111 (omega arith) (omega arith)) (λ c l k n. (let x = letters_apart 111 120 (omega arith) (omega arith) (omega arith) (omega arith) (omega arith) c k in rw x refl)) (of_radix 8 (omega arith)))
-        (λ text value rest none h. behind_takes (letter 98) (digits Literal 2) test never (λ l. is_some ((letter 111 >> digits Literal 8) l) || no_hex l) (letter_plain 98 (omega arith) (omega arith)) (λ c l k n. (let x = letters_apart 98 120 (omega arith) (omega arith) (omega arith) (omega arith) (omega arith) c k in let y = letters_apart 98 111 (omega arith) (omega arith) (omega arith) (omega arith) (omega arith) c k in rw (x, y) refl)) (of_radix 2 (omega arith)) text value rest h)
-        text value rest h)
+      (behind_takes (letter 111) (digits Literal 8) test never no_hex (letter_plain 111 (omega arith) (omega arith)) (λ c l k n. (let x = letters_apart 111 120 (omega arith) (omega arith) (omega arith) (omega arith) (omega arith) c k in rw x refl)) (of_radix 8 (omega arith)))
+      (λ text value rest none h. behind_takes (letter 98) (digits Literal 2) test never (λ l. is_some ((letter 111 >> digits Literal 8) l) || no_hex l) (letter_plain 98 (omega arith) (omega arith)) (λ c l k n. (let x = letters_apart 98 120 (omega arith) (omega arith) (omega arith) (omega arith) (omega arith) c k in let y = letters_apart 98 111 (omega arith) (omega arith) (omega arith) (omega arith) (omega arith) c k in rw (x, y) refl)) (of_radix 2 (omega arith)) text value rest h)
+      text value rest h)
     where
       of_radix : (radix : ℕ) → radix ≤ 16 → Takes (digits Literal radix) test never
       of_radix radix most = digits_takes Literal radix (omega arith) test (stops radix most) never (λ c l k. refl)
+
       no_hex : Test
       no_hex l = is_some ((letter 120 >> digits Literal 16) l) || never l
 
@@ -404,5 +414,45 @@ unfolding big_int_literal integer_literal
 big_int_literal_takes =
     then_takes integer_literal (λ value. code_point 110 >> pure value) (begins in_big_int) never never
     (or_takes (non_decimal_integer_literal Literal) (decimal_integer Literal) (begins in_big_int) never (non_decimal_takes (begins in_big_int) stops_big_int)
-      (λ text value rest none h. integer_takes (λ l. is_some (non_decimal_integer_literal Literal l) || never l) non_decimal_apart (begins in_big_int) (stops_big_int 10 (omega arith)) non_decimal_zero text value rest h))
+    (λ text value rest none h. integer_takes (λ l. is_some (non_decimal_integer_literal Literal l) || never l) non_decimal_apart (begins in_big_int) (stops_big_int 10 (omega arith)) non_decimal_zero text value rest h))
     (λ value. behind_takes (code_point 110) (pure value) never never (begins in_big_int) (point_plain 110 (omega arith)) (λ c l k n. known 110 (λ d. in_big_int d ≡ false) refl c k) (pure_takes value never))
+
+-- ---- what a literal begins with: a digit or a point
+
+abbrev pub begins_numeric : ℕ → Bool
+begins_numeric c = is_digit c 10 || eqb c 46
+
+no_digit_first : (c : ℕ) (cs : List ℕ) → is_digit c 10 ≡ false → digits Literal 10 (c ∷ cs) ≡ None
+unfolding digits
+no_digit_first c cs d = rw d refl
+
+no_integer_first : (c : ℕ) (cs : List ℕ) → eqb c 48 ≡ false → is_digit c 10 ≡ false → decimal_integer Literal (c ∷ cs) ≡ None
+unfolding decimal_integer
+no_integer_first c cs z d = let n = no_digit_first c cs d in rw (z, n) refl
+
+no_mantissa_first : (c : ℕ) (cs : List ℕ) → begins_numeric c ≡ false → eqb c 48 ≡ false → mantissa Literal (c ∷ cs) ≡ None
+unfolding mantissa
+no_mantissa_first c cs h z =
+    let d : is_digit c 10 ≡ false = grind (arith, nat_tests) in
+    let p : eqb c 46 ≡ false = grind (arith, nat_tests) in
+    let n = no_integer_first c cs z d in
+    rw (n, p) refl
+
+no_prefix_first : (c : ℕ) (cs : List ℕ) → eqb c 48 ≡ false → non_decimal_integer_literal Literal (c ∷ cs) ≡ None
+unfolding non_decimal_integer_literal
+no_prefix_first c cs z = rw z refl
+
+no_literal_first : (c : ℕ) (cs : List ℕ) → begins_numeric c ≡ false → numeric_literal (c ∷ cs) ≡ None
+unfolding numeric_literal decimal_literal
+no_literal_first c cs h =
+    let z : eqb c 48 ≡ false = grind (arith, nat_tests) in
+    let p = no_prefix_first c cs z in
+    let m = no_mantissa_first c cs h z in
+    rw (p, m) refl
+
+pub numeric_begins : (c : ℕ) (cs : List ℕ) (value : MathematicalValue) (rest : List ℕ) → numeric_literal (c ∷ cs) ≡ Some (value, rest) → begins_numeric c ≡ true
+numeric_begins c cs value rest h = at (begins_numeric c) refl
+  where
+    at : (b : Bool) → begins_numeric c ≡ b → b ≡ true
+    at true e = refl
+    at false e = none_some (sym (no_literal_first c cs e) ∙ h)

@@ -1,6 +1,7 @@
 pub mod Arithmetic
 pub mod Bits
 pub mod Blanks
+pub mod Derived
 pub mod DigitRun
 pub mod Equality
 pub mod JsNumber

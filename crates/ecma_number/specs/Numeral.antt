@@ -1,6 +1,6 @@
 -- Numeric literals: ECMAScript, 12.9.3 Numeric Literals, each production with its mathematical value (MV); 7.1.4.1 reads texts by the same productions.
 -- Characters go by their codes.
-use Rattle.std.specs.Prelude.{ℕ, ◌+◌, ◌-◌, ◌*◌, ◌/◌, ◌%◌, ◌^◌, ℤ, pos, negsuc, ◌+ℤ◌, ◌-ℤ◌, neg_ℤ, suc, Bool, true, false, ◌&&◌, ◌==◌, List, [], ◌∷◌, length, Option, Some, None, option_map, option_and_then, if◌then◌else◌}
+use Rattle.std.specs.Prelude.{◌≡◌, ℕ, ◌+◌, ◌-◌, ◌*◌, ◌/◌, ◌%◌, ◌^◌, ℤ, pos, negsuc, ◌+ℤ◌, ◌-ℤ◌, neg_ℤ, suc, Bool, true, false, ◌&&◌, ◌==◌, List, [], ◌∷◌, length, Option, Some, None, option_map, option_and_then, if◌then◌else◌}
 use Rattle.std.specs.Char.{is_digit, digit_value, eq_ignore_ascii_case}
 use Rattle.ecma_number.specs.declared.js_number.JsNumber.{JsNumber}
 use Rattle.ecma_number.specs.declared.numerals.NumeralForm.{NumeralForm}
@@ -196,3 +196,9 @@ number_of negative value = option_and_then (signed_number_of negative) (whole_va
 -- the Number of a text that is a NumericLiteral, where its value lies in the domain; a BigInt has none
 unfoldable pub numeral_of : List ℕ → Option JsNumber
 numeral_of text = option_and_then (number_of false) (whole_text numeric_literal text)
+
+-- a text is a NumericLiteral of a Number: it has an MV, and its Number is that of the MV
+pub record IsNumericLiteral (text : List ℕ) : Type 0 where
+  pub value : MathematicalValue
+  pub all : whole_text numeric_literal text ≡ Some value
+  pub number : numeral_of text ≡ number_of false value

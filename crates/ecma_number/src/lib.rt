@@ -5,6 +5,7 @@
 mod arithmetic;
 mod bits;
 mod blanks;
+pub mod derived;
 mod equality;
 mod error;
 mod js_number;

@@ -1,45 +1,27 @@
-ghost use Rattle.std.specs.Prelude.{◌≡◌, ◌↔◌, IsTrue};
+ghost use Rattle.std.specs.Prelude.{◌≡◌};
 
 mod grid;
 mod rows;
 
-use crate::{
-    JsNumber, JsType, NoMemory, Purity, SafeInt, ToJsString, UnknownError, Value, num_from_str,
-    numeral_value, to_int32,
+use crate::derived::{
+    compare_purities, compare_types, compare_values, hash_purity, hash_type, hash_value,
+    numbers_equal, purities_equal, types_equal, values_equal,
 };
+use crate::{
+    JsNumber, JsType, NoMemory, Purity, SafeInt, ToJsString, UnknownError, Value,
+    big_int_literal_length, is_blank, is_line_terminator, is_white_space, num_from_str,
+    numeral_value, numeric_literal_length, to_int32,
+};
+use std::cmp::Ordering;
+use std::hash::{DefaultHasher, Hash, Hasher};
 use std::process::Abort;
 use std::test::Fail;
 
-// A copy equals what it copies, and `==` tells any two apart: proved of every Number.
+// A copy equals what it copies: proved of every Number.
 fn copy(number: &JsNumber) -> JsNumber
     ensures { result ≡ number.now }
 {
     *number
-}
-
-fn is_same(left: &JsNumber, right: &JsNumber) -> bool
-    ensures { IsTrue result ↔ (left.now ≡ right.now) }
-{
-    *left == *right
-}
-
-// So does `==` of what is known, of types and of purities.
-fn is_same_value(left: &Value<u32>, right: &Value<u32>) -> bool
-    ensures { IsTrue result ↔ (left.now ≡ right.now) }
-{
-    *left == *right
-}
-
-fn is_same_type(left: &JsType, right: &JsType) -> bool
-    ensures { IsTrue result ↔ (left.now ≡ right.now) }
-{
-    *left == *right
-}
-
-fn is_same_purity(left: &Purity, right: &Purity) -> bool
-    ensures { IsTrue result ↔ (left.now ≡ right.now) }
-{
-    *left == *right
 }
 
 // The Number that a word of a table stands for.
@@ -135,7 +117,6 @@ fn unary_operators(rt: HostRuntime) -> Result<(), Fail> {
 
 #[test]
 fn kinds_and_texts(rt: HostRuntime) -> Result<(), Fail> {
-    assert_eq!(rt; NoMemory.to_string(rt.alloc())?.as_str(), "out of memory");
     let rows = [
         ("0", "0", "zero"),
         ("-0", "0", "zero"),
@@ -153,6 +134,30 @@ fn kinds_and_texts(rt: HostRuntime) -> Result<(), Fail> {
         assert_eq!(rt; value.is_zero(), kind == "zero", "{word}");
         assert_eq!(rt; value.is_nan(), kind == "NaN", "{word}");
         assert_eq!(rt; value.is_infinite(), kind == "infinite", "{word}");
+    }
+    Ok(())
+}
+
+// Texts and Numbers that no grid has: -8 modulo 2^32, and the power of 2 that leaves the domain.
+#[test]
+fn bounds_of_operators(rt: HostRuntime) -> Result<(), Fail> {
+    assert_eq!(rt; number("-8")?.as_uint32(), 4294967288);
+    assert_eq!(rt;
+        number("2")?.pow(number("52")?),
+        answer("4503599627370496")?
+    );
+    assert_eq!(rt; number("2")?.pow(number("53")?), None);
+    Ok(())
+}
+
+#[test]
+fn errors(rt: HostRuntime) -> Result<(), Fail> {
+    let rows = [
+        (NoMemory.to_string(rt.alloc())?, "out of memory"),
+        (UnknownError.to_string(rt.alloc())?, "the value is unknown"),
+    ];
+    for (text, wanted) in rows {
+        assert_eq!(rt; text.as_str(), wanted);
     }
     Ok(())
 }
@@ -192,6 +197,71 @@ fn numerals(rt: HostRuntime) -> Result<(), Fail> {
     Ok(())
 }
 
+// How many bytes the literal of a Number has at the front of a text, and that of a BigInt.
+#[test]
+fn literals_at_the_front(rt: HostRuntime) {
+    let rows = [
+        ("", None, None),
+        ("x", None, None),
+        (".", None, None),
+        (".5.5", Some(2), None),
+        ("1..5", Some(2), None),
+        ("08", Some(1), None),
+        ("1e+", Some(1), None),
+        ("1_0_", Some(3), None),
+        ("0x1Fg", Some(4), None),
+        ("0b12n", Some(3), None),
+        ("0n", Some(1), Some(2)),
+        ("1_000n1", Some(5), Some(6)),
+        ("0x_1n", Some(1), None),
+        ("1.0n", Some(3), None),
+    ];
+    for (text, number, big_int) in rows {
+        assert_eq!(rt; numeric_literal_length(text.as_bytes()), number, "{text}");
+        assert_eq!(rt; big_int_literal_length(text.as_bytes()), big_int, "{text}");
+    }
+    assert!(rt; is_white_space('\u{FEFF}') && !is_white_space('\n') && !is_white_space('\u{200B}'));
+    assert!(rt; is_line_terminator('\u{2028}') && !is_line_terminator('\u{85}'));
+    assert!(rt; is_blank(' ') && is_blank('\r') && !is_blank('a'));
+}
+
+fn hash_of<T: Hash>(value: &T) -> u64 {
+    let mut state = DefaultHasher::new();
+    value.hash(&mut state);
+    state.finish()
+}
+
+// The calls of `derived` make no difference to what they stand for.
+#[test]
+fn derived_traits(rt: HostRuntime) {
+    let (small, large, unknown) = (Value::Known(1u32), Value::Known(2u32), Value::Unknown);
+    assert!(rt; values_equal(&small, &small) && !values_equal(&small, &unknown));
+    assert_eq!(rt; compare_values(&small, &large), Ordering::Less);
+    assert_eq!(rt; compare_values(&unknown, &large), Ordering::Greater);
+    assert_eq!(rt;
+        compare_types(&JsType::Str, &JsType::Symbol),
+        Ordering::Less
+    );
+    assert_eq!(rt;
+        compare_purities(&Purity::Pure, &Purity::Pure),
+        Ordering::Equal
+    );
+    assert!(rt;
+        types_equal(&JsType::Num, &JsType::Num) && !types_equal(&JsType::Num, &JsType::Obj)
+    );
+    assert!(rt; purities_equal(&Purity::Pure, &Purity::Pure));
+
+    let mut state = DefaultHasher::new();
+    hash_value(&small, &mut state);
+    assert_eq!(rt; state.finish(), hash_of(&small));
+    let mut state = DefaultHasher::new();
+    hash_type(&JsType::Num, &mut state);
+    assert_eq!(rt; state.finish(), hash_of(&JsType::Num));
+    let mut state = DefaultHasher::new();
+    hash_purity(&Purity::Pure, &mut state);
+    assert_eq!(rt; state.finish(), hash_of(&Purity::Pure));
+}
+
 #[test]
 fn texts_to_numbers(rt: HostRuntime) -> Result<(), Fail> {
     for row in rows::TEXTS.split(';') {
@@ -211,7 +281,7 @@ fn numbers_are_told_apart(rt: HostRuntime) -> Result<(), Fail> {
     for left in words {
         for right in words {
             assert_eq!(rt;
-                is_same(&copy(&number(left)?), &number(right)?),
+                numbers_equal(&copy(&number(left)?), &number(right)?),
                 left == right
             );
         }
@@ -242,8 +312,6 @@ fn three_valued_logic(rt: HostRuntime) {
     assert_eq!(rt; no.into_result(), Ok(false));
     assert_eq!(rt; unknown.into_result(), Err(UnknownError));
     assert!(rt; no < yes && yes < unknown);
-    assert!(rt; is_same_value(&Value::Known(1), &Value::Known(1)));
-    assert!(rt; !is_same_value(&Value::Known(1), &Value::Unknown));
 }
 
 #[test]
@@ -269,8 +337,4 @@ fn types_and_purity(rt: HostRuntime) {
         }
     }
     assert!(rt; Purity::MayBeImpure < Purity::Pure);
-    assert!(rt;
-        is_same_type(&JsType::Num, &JsType::Num) && !is_same_type(&JsType::Num, &JsType::Obj)
-    );
-    assert!(rt; is_same_purity(&Purity::Pure, &Purity::Pure));
 }

@@ -2,6 +2,8 @@
 ghost use Rattle.std.specs.Prelude.{◌≡◌, not, MatchResult};
 ghost use Rattle.ecma_number.specs.Value.{is_known, conjunction_of, disjunction_of};
 
+use std::error::Error;
+use std::fmt;
 use std::ops::Not;
 
 /// A value that is known, or nothing known of it.
@@ -17,6 +19,18 @@ pub type BoolValue = Value<bool>;
 /// Nothing is known of the value.
 #[derive(Debug, Clone, Copy, PartialEq, Eq)]
 pub struct UnknownError;
+
+impl fmt::Display for UnknownError {
+    ghost use Rattle.std.specs.Prelude.{Some, codes};
+
+    ghost output = { λ _. Some (codes "the value is unknown") };
+
+    fn fmt<W: fmt::Write>(&self, f: &mut fmt::Formatter<W>) -> fmt::Result {
+        f.write_str("the value is unknown")
+    }
+}
+
+impl Error for UnknownError {}
 
 impl<T> Value<T> {
     /// The value, or an error exactly where it is unknown.
