@@ -215,14 +215,6 @@ num_start p w u f s = rw (chars-append w u s.0) (go (chars w) (num_begun w s))
 pub str_start : (p : ℕ → Bool) (w u : List ℕ) → ((c : ℕ) → is_quote c ≡ true → p c ≡ false) → Spelled IsString w → stops p (chars (w ++ u)) ≡ true
 str_start p w u f s = rw (chars-append w u s.0) (rw s.1.is (rw (f s.1.quote s.1.quotes) refl))
 
-no_begin : (cs : List ℕ) → stops begins_num cs ≡ true → begins_num (slice_index cs 0) ≡ false
-no_begin [] h = refl
-no_begin (c ∷ cs) h = go (begins_num c) h
-  where
-    go : (b : Bool) → not b ≡ true → b ≡ false
-    go true k = sym k
-    go false k = refl
-
 module _ (text : List ℕ) where
   sign_gets : (g : Gap) (c : ℕ) (v : List ℕ) → c < 128 → clear c ≡ true → is_longest (c ∷ []) (c ∷ v) ≡ true → Gets text 1 (punct text (c ∷ [])) (λ t. Unit {0}) (gap g (c ∷ v)) v
   unfolding lex.punct punct_end
@@ -342,7 +334,7 @@ module _ (text : List ℕ) where
 
   pub num_stops : (g : Gap) (u : List ℕ) → Opens u → stops begins_num (chars u) ≡ true → Refuses text (num text) (gap g u)
   unfolding lex.num
-  num_stops g u o h = token_refuses text num_end g u o (λ i st. no_num text i (rw (after_here text i u st o.cut) (no_begin (chars u) h)))
+  num_stops g u o h = token_refuses text num_end g u o (λ i st. no_num text i (rw (after_here text i u st o.cut) h))
 
   pub str_stops : (g : Gap) (u : List ℕ) → Opens u → stops is_quote (chars u) ≡ true → Refuses text (str_lit text) (gap g u)
   unfolding strings.str_lit
