@@ -21,6 +21,6 @@ disjunction_of left (Known true) = Known true
 disjunction_of (Known false) (Known false) = Known false
 disjunction_of left right = Unknown
 
-abbrev pub negation_of : Value Bool → Value Bool
-negation_of (Known value) = Known (not value)
-negation_of Unknown = Unknown
+abbrev pub logical_not : Value Bool → Value Bool
+logical_not (Known value) = Known (not value)
+logical_not Unknown = Unknown

@@ -83,11 +83,11 @@ impl Value<bool> {
 }
 
 impl Not for Value<bool> {
-    ghost use Rattle.ecma_number.specs.Value.{negation_of};
+    ghost use Rattle.ecma_number.specs.Value.{logical_not};
 
     type Output = Self;
 
-    ghost not_gives = { λ value negated. negated ≡ negation_of value };
+    ghost not_gives = { λ value negated. negated ≡ logical_not value };
 
     fn not(self) -> Self {
         match self {
