@@ -4,19 +4,19 @@ use Rattle.std.proofs.Math.Nat.{eq-or-lt_of_le}
 use mathlib.Core.Logic.{◌⊎◌, inl, inr}
 use Rattle.std.proofs.lemmas.Option.{slice_get-map, slice_get-get_or}
 use Rattle.std.specs.Option.{option_map}
-use Rattle.ecma_kind.specs.Shapes.{LacksBefore, fields, slots}
+use Rattle.ecma_kind.specs.Shapes.{LacksBefore, fields, field_shapes}
 use Rattle.ecma_kind.specs.contracts.shapes.Field as field_type
 use Rattle.ecma_kind.specs.declared.kind.Kind.{Kind}
 use Rattle.ecma_kind.specs.declared.shapes.Field.{Field}
-use Rattle.ecma_kind.specs.declared.shapes.Slot.{Slot}
+use Rattle.ecma_kind.specs.declared.shapes.FieldShape.{FieldShape}
 use denote.Enum.Bare.{sameb, same_false, same_true}
 
--- the name of the child at i, read off a slice of the places
-pub field-read : (kind : Kind) (read : List Slot) (i : ℕ) (default : Slot) → read ≡ slots kind → i < length read → slice_get (fields kind) i ≡ Some (get_or read i default).field
+-- the name of the child at i, read off a slice of their shapes
+pub field-read : (kind : Kind) (read : List FieldShape) (i : ℕ) (default : FieldShape) → read ≡ field_shapes kind → i < length read → slice_get (fields kind) i ≡ Some (get_or read i default).field
 field-read kind read i default same within =
-    slice_get-map (λ slot. slot.field) (slots kind) i
-    ∙ ap (λ slots. option_map (λ slot. slot.field) (slice_get slots i)) (sym same)
-    ∙ ap (option_map (λ slot. slot.field)) (slice_get-get_or read i default within)
+    slice_get-map (λ child. child.field) (field_shapes kind) i
+    ∙ ap (λ shapes. option_map (λ child. child.field) (slice_get shapes i)) (sym same)
+    ∙ ap (option_map (λ child. child.field)) (slice_get-get_or read i default within)
 
 -- one child more that has another name
 pub lacks-more : (n : ℕ) (field : Field) (kind : Kind) → LacksBefore n field kind → slice_get (fields kind) n ≢ Some field → LacksBefore (n + 1) field kind

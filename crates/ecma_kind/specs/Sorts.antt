@@ -108,16 +108,45 @@ is_pattern (kind.ObjectPat _) = true
 is_pattern kind.AssignPat = true
 is_pattern _ = false
 
+-- whether it is a property of an object; an identifier there is a shorthand
+abbrev pub is_prop : Kind → Bool
+is_prop (kind.Ident _ _ _) = true
+is_prop kind.KeyValueProp = true
+is_prop kind.AssignProp = true
+is_prop kind.GetterProp = true
+is_prop kind.SetterProp = true
+is_prop kind.MethodProp = true
+is_prop _ = false
+
+-- whether it may be assigned to and is no pattern
+abbrev pub is_simple_assign_target : Kind → Bool
+is_simple_assign_target (kind.Ident _ _ _) = true
+is_simple_assign_target kind.MemberExpr = true
+is_simple_assign_target kind.SuperPropExpr = true
+is_simple_assign_target kind.ParenExpr = true
+is_simple_assign_target k = is_type_wrapper k
+
+-- whether it is a pattern that may be assigned to
+abbrev pub is_assign_target_pat : Kind → Bool
+is_assign_target_pat (kind.ArrayPat _) = true
+is_assign_target_pat (kind.ObjectPat _) = true
+is_assign_target_pat _ = false
+
 -- whether a kind is of a sort
 abbrev pub belongs : Sort → Kind → Bool
+belongs sort.Program (kind.Module _) = true
+belongs sort.Program (kind.Script _) = true
+belongs sort.Program k = false
 belongs sort.Module (kind.Module _) = true
 belongs sort.Module k = false
 belongs sort.Script (kind.Script _) = true
 belongs sort.Script k = false
 belongs sort.ModuleItem k = is_stmt k || is_module_decl k
+belongs sort.ModuleDecl k = is_module_decl k
 belongs sort.Stmt k = is_stmt k
 belongs sort.Decl k = is_decl k
 belongs sort.Expr k = is_expr k
+belongs sort.Lit k = is_lit k
 belongs sort.Pat k = is_expr k || is_pattern k
 belongs sort.Callee kind.Super = true
 belongs sort.Callee kind.Import = true
@@ -125,13 +154,8 @@ belongs sort.Callee k = is_expr k
 belongs sort.ExprOrSpread kind.SpreadElement = true
 belongs sort.ExprOrSpread k = is_expr k
 belongs sort.PropOrSpread kind.SpreadElement = true
-belongs sort.PropOrSpread (kind.Ident _ _ _) = true
-belongs sort.PropOrSpread kind.KeyValueProp = true
-belongs sort.PropOrSpread kind.AssignProp = true
-belongs sort.PropOrSpread kind.GetterProp = true
-belongs sort.PropOrSpread kind.SetterProp = true
-belongs sort.PropOrSpread kind.MethodProp = true
-belongs sort.PropOrSpread k = false
+belongs sort.PropOrSpread k = is_prop k
+belongs sort.Prop k = is_prop k
 belongs sort.PropName (kind.IdentName _) = true
 belongs sort.PropName (kind.Str _ _) = true
 belongs sort.PropName (kind.Number _ _) = true
@@ -148,13 +172,9 @@ belongs sort.SuperProp k = false
 belongs sort.OptChainBase kind.MemberExpr = true
 belongs sort.OptChainBase kind.OptCall = true
 belongs sort.OptChainBase k = false
-belongs sort.AssignTarget (kind.Ident _ _ _) = true
-belongs sort.AssignTarget kind.MemberExpr = true
-belongs sort.AssignTarget kind.SuperPropExpr = true
-belongs sort.AssignTarget kind.ParenExpr = true
-belongs sort.AssignTarget (kind.ArrayPat _) = true
-belongs sort.AssignTarget (kind.ObjectPat _) = true
-belongs sort.AssignTarget k = is_type_wrapper k
+belongs sort.AssignTarget k = is_simple_assign_target k || is_assign_target_pat k
+belongs sort.SimpleAssignTarget k = is_simple_assign_target k
+belongs sort.AssignTargetPat k = is_assign_target_pat k
 belongs sort.BlockStmtOrExpr kind.BlockStmt = true
 belongs sort.BlockStmtOrExpr k = is_expr k
 belongs sort.ClassMember (kind.Constructor _ _) = true

@@ -7,8 +7,8 @@ use crate::word::JsWord;
 use ecma_number::JsNumber;
 
 /// What a node is, with its own data that is no node. A kind fixes the number and the meaning of the node's children:
-/// [`slots`](crate::slots) says which they are, in order. Where a child may be missing, [`Kind::Absent`] stands in its
-/// place. Names are those of swc.
+/// [`field_shapes`](crate::field_shapes) says which they are, in order. A child that may be missing is then
+/// [`Kind::Absent`]. Names are those of swc.
 #[derive(Debug, Drop, PartialEq, Eq)]
 pub enum Kind {
     /// A child that is not there.

@@ -4,6 +4,7 @@
 mod context;
 mod copies;
 mod error;
+mod ident;
 mod kind;
 mod operators;
 mod sameness;
@@ -17,6 +18,7 @@ pub use context::{Mark, SyntaxContext};
 pub use copies::copy_kind;
 pub use ecma_number::NoMemory;
 pub use error::{PassError, Spent};
+pub use ident::{Id, Ident, same_id, same_ident};
 pub use kind::Kind;
 pub use operators::{
     Accessibility, AssignOp, BinaryOp, MemberModifiers, MetaPropKind, MethodKind, UnaryOp,
@@ -24,7 +26,7 @@ pub use operators::{
 };
 pub use sameness::same_kind;
 pub use session::Session;
-pub use shapes::{Count, Field, Place, Slot, Sort, field_index, slots};
+pub use shapes::{Count, Field, FieldShape, Shape, Sort, field_index, field_shapes};
 pub use sorts::belongs;
 pub use span::{DUMMY_SP, Span};
 pub use word::JsWord;

@@ -1,4 +1,4 @@
-ghost use Rattle.std.specs.Prelude.{◌≡◌, ◌↔◌, ◌-◌, ◌<◌, ◌≤◌, IsErr, IfOk, OnErr, slice_get, slice_set, length, replicate, None, Some};
+ghost use Rattle.std.specs.Prelude.{◌≡◌, ◌↔◌, ◌-◌, ◌<◌, ◌≤◌, IsErr, IfOk, OnErr, IfSome, slice_get, slice_set, length, replicate, None, Some};
 
 use crate::context::{Mark, SyntaxContext};
 use crate::error::Spent;
@@ -19,18 +19,17 @@ pub struct Session {
 }
 
 impl Model for Session {
-    ghost use Rattle.std.specs.Prelude.{◌≤◌};
-    ghost use Rattle.ecma_kind.specs.Sessions.{SessionState};
+    ghost use Rattle.ecma_kind.specs.Sessions.{SessionState, IsSession};
 
     ghost Value = { SessionState };
 
     ghost view = { λ session. record { total = session.total; left = session.left; slots = session.slots } };
 
-    ghost invariant = { λ session. session.left ≤ session.total };
+    ghost invariant = { λ session. IsSession (record { total = session.total; left = session.left; slots = session.slots }) };
 }
 
 impl Session {
-    ghost use Rattle.ecma_kind.specs.Sessions.{fresh_session, drawn, with_slot, HasGiven};
+    ghost use Rattle.ecma_kind.specs.Sessions.{fresh_session, drawn, with_slot, HasGiven, IsSession};
 
     /// A session with so many marks, and nothing in its slots.
     pub fn new(left: u32) -> Session
@@ -43,9 +42,10 @@ impl Session {
         }
     }
 
-    /// How many marks are left.
+    /// How many marks are left. Every session meets `IsSession`, which this call says of it.
     pub fn left(&self) -> u32
-        ensures { result ≡ self.now.left }
+        ensures left { result ≡ self.now.left }
+        ensures session { IsSession self.now }
     {
         self.left
     }
@@ -66,9 +66,11 @@ impl Session {
     }
 
     /// What [`Session::set_slot`] last put into the slot `n`, counted from 0; none where nothing was put there.
+    /// It is a context of a mark that this session gave.
     pub fn slot(&self, n: usize) -> Option<(SyntaxContext, bool)>
         requires { n < 5 }
-        ensures { slice_get self.now.slots n ≡ Some result }
+        ensures kept { slice_get self.now.slots n ≡ Some result }
+        ensures given { IfSome result (λ kept. HasGiven self.now kept.0) }
     {
         self.slots[n]
     }

@@ -1,6 +1,6 @@
 //! Which children each kind of node has.
 ghost use Rattle.std.specs.Prelude.{◌≡◌, IfSome, IsNone, length};
-ghost use Rattle.ecma_kind.specs.Shapes.{IsFieldAt, LacksBefore, fields, slots};
+ghost use Rattle.ecma_kind.specs.Shapes.{IsFieldAt, LacksBefore, fields, field_shapes};
 
 use crate::kind::Kind;
 
@@ -66,24 +66,30 @@ pub enum Field {
     ModuleRef,
 }
 
-/// What may stand in a place: the kinds of one of swc's types.
+/// A set of kinds: those of one of swc's types.
 #[derive(Clone, Copy, Debug, PartialEq, Eq)]
 pub enum Sort {
+    Program,
     Module,
     Script,
     ModuleItem,
+    ModuleDecl,
     Stmt,
     Decl,
     Expr,
+    Lit,
     Pat,
     Callee,
     ExprOrSpread,
     PropOrSpread,
+    Prop,
     PropName,
     MemberProp,
     SuperProp,
     OptChainBase,
     AssignTarget,
+    SimpleAssignTarget,
+    AssignTargetPat,
     BlockStmtOrExpr,
     ClassMember,
     ParamOrTsParamProp,
@@ -123,7 +129,7 @@ pub enum Sort {
     IdentName,
 }
 
-/// How many nodes of a sort stand in a place.
+/// How many nodes of a sort a child is.
 #[derive(Clone, Copy, Debug, PartialEq, Eq)]
 pub enum Count {
     /// One.
@@ -138,25 +144,25 @@ pub enum Count {
     Holes,
 }
 
-/// What may stand in a place: so many nodes of a sort.
+/// What a child may be: so many nodes of a sort.
 #[derive(Clone, Copy, Debug, PartialEq, Eq)]
-pub struct Place {
+pub struct Shape {
     pub count: Count,
     pub sort: Sort,
 }
 
-/// A place for a child, with its name.
+/// A child of a kind: its name, and what it may be.
 #[derive(Clone, Copy, Debug, PartialEq, Eq)]
-pub struct Slot {
+pub struct FieldShape {
     pub field: Field,
-    pub place: Place,
+    pub shape: Shape,
 }
 
-macro_rules! slot {
+macro_rules! child {
     ($count:ident $field:ident: $sort:ident) => {
-        Slot {
+        FieldShape {
             field: Field::$field,
-            place: Place {
+            shape: Shape {
                 count: Count::$count,
                 sort: Sort::$sort,
             },
@@ -164,20 +170,20 @@ macro_rules! slot {
     };
 }
 
-/// The places for the children of a kind, in order. A [`Kind::List`] has its items, and a [`Kind::SeqExpr`] its
+/// The children of a kind, in order. A [`Kind::List`] has its items, and a [`Kind::SeqExpr`] its
 /// expressions, and so none of these.
-pub fn slots(kind: &Kind) -> &'static [Slot]
-    ensures { result.now ≡ slots kind.now }
+pub fn field_shapes(kind: &Kind) -> &'static [FieldShape]
+    ensures { result.now ≡ field_shapes kind.now }
 {
     match kind {
         Kind::Absent => &[],
         Kind::List => &[],
-        Kind::Module { .. } => &[slot!(Many Body: ModuleItem)],
-        Kind::Script { .. } => &[slot!(Many Body: Stmt)],
+        Kind::Module { .. } => &[child!(Many Body: ModuleItem)],
+        Kind::Script { .. } => &[child!(Many Body: Stmt)],
         Kind::Ident { .. } => &[],
         Kind::IdentName { .. } => &[],
         Kind::PrivateName { .. } => &[],
-        Kind::BindingIdent => &[slot!(One Id: Ident), slot!(Maybe TypeAnn: TsTypeAnn)],
+        Kind::BindingIdent => &[child!(One Id: Ident), child!(Maybe TypeAnn: TsTypeAnn)],
         Kind::Str { .. } => &[],
         Kind::Bool { .. } => &[],
         Kind::Null => &[],
@@ -187,212 +193,218 @@ pub fn slots(kind: &Kind) -> &'static [Slot]
         Kind::ThisExpr => &[],
         Kind::Super => &[],
         Kind::Import => &[],
-        Kind::ArrayLit => &[slot!(Holes Elems: ExprOrSpread)],
-        Kind::ObjectLit => &[slot!(Many Props: PropOrSpread)],
-        Kind::SpreadElement => &[slot!(One Expr: Expr)],
-        Kind::FnExpr => &[slot!(Maybe Ident: Ident), slot!(One Function: Function)],
-        Kind::ClassExpr => &[slot!(Maybe Ident: Ident), slot!(One Class: Class)],
+        Kind::ArrayLit => &[child!(Holes Elems: ExprOrSpread)],
+        Kind::ObjectLit => &[child!(Many Props: PropOrSpread)],
+        Kind::SpreadElement => &[child!(One Expr: Expr)],
+        Kind::FnExpr => &[child!(Maybe Ident: Ident), child!(One Function: Function)],
+        Kind::ClassExpr => &[child!(Maybe Ident: Ident), child!(One Class: Class)],
         Kind::ArrowExpr { .. } => &[
-            slot!(Many Params: Pat),
-            slot!(One Body: BlockStmtOrExpr),
-            slot!(Maybe TypeParams: TsTypeParamDecl),
-            slot!(Maybe ReturnType: TsTypeAnn),
+            child!(Many Params: Pat),
+            child!(One Body: BlockStmtOrExpr),
+            child!(Maybe TypeParams: TsTypeParamDecl),
+            child!(Maybe ReturnType: TsTypeAnn),
         ],
-        Kind::UnaryExpr { .. } => &[slot!(One Arg: Expr)],
-        Kind::UpdateExpr { .. } => &[slot!(One Arg: Expr)],
-        Kind::BinExpr { .. } => &[slot!(One Left: Expr), slot!(One Right: Expr)],
-        Kind::AssignExpr { .. } => &[slot!(One Left: AssignTarget), slot!(One Right: Expr)],
+        Kind::UnaryExpr { .. } => &[child!(One Arg: Expr)],
+        Kind::UpdateExpr { .. } => &[child!(One Arg: Expr)],
+        Kind::BinExpr { .. } => &[child!(One Left: Expr), child!(One Right: Expr)],
+        Kind::AssignExpr { .. } => &[child!(One Left: AssignTarget), child!(One Right: Expr)],
         Kind::CondExpr => &[
-            slot!(One Test: Expr),
-            slot!(One Cons: Expr),
-            slot!(One Alt: Expr),
+            child!(One Test: Expr),
+            child!(One Cons: Expr),
+            child!(One Alt: Expr),
         ],
-        Kind::MemberExpr => &[slot!(One Obj: Expr), slot!(One Prop: MemberProp)],
-        Kind::SuperPropExpr => &[slot!(One Obj: Super), slot!(One Prop: SuperProp)],
+        Kind::MemberExpr => &[child!(One Obj: Expr), child!(One Prop: MemberProp)],
+        Kind::SuperPropExpr => &[child!(One Obj: Super), child!(One Prop: SuperProp)],
         Kind::CallExpr => &[
-            slot!(One Callee: Callee),
-            slot!(Many Args: ExprOrSpread),
-            slot!(Maybe TypeArgs: TsTypeParamInstantiation),
+            child!(One Callee: Callee),
+            child!(Many Args: ExprOrSpread),
+            child!(Maybe TypeArgs: TsTypeParamInstantiation),
         ],
         Kind::NewExpr => &[
-            slot!(One Callee: Expr),
-            slot!(MaybeMany Args: ExprOrSpread),
-            slot!(Maybe TypeArgs: TsTypeParamInstantiation),
+            child!(One Callee: Expr),
+            child!(MaybeMany Args: ExprOrSpread),
+            child!(Maybe TypeArgs: TsTypeParamInstantiation),
         ],
-        Kind::OptChainExpr { .. } => &[slot!(One Base: OptChainBase)],
+        Kind::OptChainExpr { .. } => &[child!(One Base: OptChainBase)],
         Kind::OptCall => &[
-            slot!(One Callee: Expr),
-            slot!(Many Args: ExprOrSpread),
-            slot!(Maybe TypeArgs: TsTypeParamInstantiation),
+            child!(One Callee: Expr),
+            child!(Many Args: ExprOrSpread),
+            child!(Maybe TypeArgs: TsTypeParamInstantiation),
         ],
         Kind::SeqExpr => &[],
-        Kind::Tpl => &[slot!(Many Exprs: Expr), slot!(Many Quasis: TplElement)],
+        Kind::Tpl => &[child!(Many Exprs: Expr), child!(Many Quasis: TplElement)],
         Kind::TplElement { .. } => &[],
         Kind::TaggedTpl => &[
-            slot!(One Tag: Expr),
-            slot!(Maybe TypeParams: TsTypeParamInstantiation),
-            slot!(One Tpl: Tpl),
+            child!(One Tag: Expr),
+            child!(Maybe TypeParams: TsTypeParamInstantiation),
+            child!(One Tpl: Tpl),
         ],
-        Kind::YieldExpr { .. } => &[slot!(Maybe Arg: Expr)],
-        Kind::AwaitExpr => &[slot!(One Arg: Expr)],
+        Kind::YieldExpr { .. } => &[child!(Maybe Arg: Expr)],
+        Kind::AwaitExpr => &[child!(One Arg: Expr)],
         Kind::MetaPropExpr { .. } => &[],
-        Kind::ParenExpr => &[slot!(One Expr: Expr)],
-        Kind::TsTypeAssertion => &[slot!(One Expr: Expr), slot!(One TypeAnn: TsType)],
-        Kind::TsConstAssertion => &[slot!(One Expr: Expr)],
-        Kind::TsNonNullExpr => &[slot!(One Expr: Expr)],
-        Kind::TsAsExpr => &[slot!(One Expr: Expr), slot!(One TypeAnn: TsType)],
+        Kind::ParenExpr => &[child!(One Expr: Expr)],
+        Kind::TsTypeAssertion => &[child!(One Expr: Expr), child!(One TypeAnn: TsType)],
+        Kind::TsConstAssertion => &[child!(One Expr: Expr)],
+        Kind::TsNonNullExpr => &[child!(One Expr: Expr)],
+        Kind::TsAsExpr => &[child!(One Expr: Expr), child!(One TypeAnn: TsType)],
         Kind::TsInstantiation => &[
-            slot!(One Expr: Expr),
-            slot!(One TypeArgs: TsTypeParamInstantiation),
+            child!(One Expr: Expr),
+            child!(One TypeArgs: TsTypeParamInstantiation),
         ],
-        Kind::TsSatisfiesExpr => &[slot!(One Expr: Expr), slot!(One TypeAnn: TsType)],
-        Kind::KeyValueProp => &[slot!(One Key: PropName), slot!(One Value: Expr)],
-        Kind::AssignProp => &[slot!(One Key: Ident), slot!(One Value: Expr)],
+        Kind::TsSatisfiesExpr => &[child!(One Expr: Expr), child!(One TypeAnn: TsType)],
+        Kind::KeyValueProp => &[child!(One Key: PropName), child!(One Value: Expr)],
+        Kind::AssignProp => &[child!(One Key: Ident), child!(One Value: Expr)],
         Kind::GetterProp => &[
-            slot!(One Key: PropName),
-            slot!(Maybe TypeAnn: TsTypeAnn),
-            slot!(Maybe Body: BlockStmt),
+            child!(One Key: PropName),
+            child!(Maybe TypeAnn: TsTypeAnn),
+            child!(Maybe Body: BlockStmt),
         ],
         Kind::SetterProp => &[
-            slot!(One Key: PropName),
-            slot!(Maybe ThisParam: Pat),
-            slot!(One Param: Pat),
-            slot!(Maybe Body: BlockStmt),
+            child!(One Key: PropName),
+            child!(Maybe ThisParam: Pat),
+            child!(One Param: Pat),
+            child!(Maybe Body: BlockStmt),
         ],
-        Kind::MethodProp => &[slot!(One Key: PropName), slot!(One Function: Function)],
-        Kind::ComputedPropName => &[slot!(One Expr: Expr)],
+        Kind::MethodProp => &[child!(One Key: PropName), child!(One Function: Function)],
+        Kind::ComputedPropName => &[child!(One Expr: Expr)],
         Kind::Function { .. } => &[
-            slot!(Many Params: Param),
-            slot!(Maybe Body: BlockStmt),
-            slot!(Maybe TypeParams: TsTypeParamDecl),
-            slot!(Maybe ReturnType: TsTypeAnn),
+            child!(Many Params: Param),
+            child!(Maybe Body: BlockStmt),
+            child!(Maybe TypeParams: TsTypeParamDecl),
+            child!(Maybe ReturnType: TsTypeAnn),
         ],
-        Kind::Param => &[slot!(One Pat: Pat)],
+        Kind::Param => &[child!(One Pat: Pat)],
         Kind::Class { .. } => &[
-            slot!(Maybe SuperClass: Expr),
-            slot!(Many Body: ClassMember),
-            slot!(Maybe TypeParams: TsTypeParamDecl),
-            slot!(Maybe SuperTypeParams: TsTypeParamInstantiation),
-            slot!(Many Implements: TsType),
+            child!(Maybe SuperClass: Expr),
+            child!(Many Body: ClassMember),
+            child!(Maybe TypeParams: TsTypeParamDecl),
+            child!(Maybe SuperTypeParams: TsTypeParamInstantiation),
+            child!(Many Implements: TsType),
         ],
         Kind::Constructor { .. } => &[
-            slot!(One Key: PropName),
-            slot!(Many Params: ParamOrTsParamProp),
-            slot!(Maybe Body: BlockStmt),
+            child!(One Key: PropName),
+            child!(Many Params: ParamOrTsParamProp),
+            child!(Maybe Body: BlockStmt),
         ],
-        Kind::TsParamProp { .. } => &[slot!(One Param: TsParamPropParam)],
-        Kind::ClassMethod { .. } => &[slot!(One Key: PropName), slot!(One Function: Function)],
-        Kind::PrivateMethod { .. } => &[slot!(One Key: PrivateName), slot!(One Function: Function)],
+        Kind::TsParamProp { .. } => &[child!(One Param: TsParamPropParam)],
+        Kind::ClassMethod { .. } => &[child!(One Key: PropName), child!(One Function: Function)],
+        Kind::PrivateMethod { .. } => &[
+            child!(One Key: PrivateName),
+            child!(One Function: Function),
+        ],
         Kind::ClassProp { .. } => &[
-            slot!(One Key: PropName),
-            slot!(Maybe Value: Expr),
-            slot!(Maybe TypeAnn: TsTypeAnn),
+            child!(One Key: PropName),
+            child!(Maybe Value: Expr),
+            child!(Maybe TypeAnn: TsTypeAnn),
         ],
         Kind::PrivateProp { .. } => &[
-            slot!(One Key: PrivateName),
-            slot!(Maybe Value: Expr),
-            slot!(Maybe TypeAnn: TsTypeAnn),
+            child!(One Key: PrivateName),
+            child!(Maybe Value: Expr),
+            child!(Maybe TypeAnn: TsTypeAnn),
         ],
-        Kind::StaticBlock => &[slot!(One Body: BlockStmt)],
+        Kind::StaticBlock => &[child!(One Body: BlockStmt)],
         Kind::TsIndexSignature { .. } => &[],
-        Kind::ArrayPat { .. } => &[slot!(Holes Elems: Pat), slot!(Maybe TypeAnn: TsTypeAnn)],
+        Kind::ArrayPat { .. } => &[child!(Holes Elems: Pat), child!(Maybe TypeAnn: TsTypeAnn)],
         Kind::ObjectPat { .. } => &[
-            slot!(Many Props: ObjectPatProp),
-            slot!(Maybe TypeAnn: TsTypeAnn),
+            child!(Many Props: ObjectPatProp),
+            child!(Maybe TypeAnn: TsTypeAnn),
         ],
-        Kind::RestPat => &[slot!(One Arg: Pat), slot!(Maybe TypeAnn: TsTypeAnn)],
-        Kind::AssignPat => &[slot!(One Left: Pat), slot!(One Right: Expr)],
-        Kind::KeyValuePatProp => &[slot!(One Key: PropName), slot!(One Value: Pat)],
-        Kind::AssignPatProp => &[slot!(One Key: BindingIdent), slot!(Maybe Value: Expr)],
-        Kind::BlockStmt => &[slot!(Many Stmts: Stmt)],
+        Kind::RestPat => &[child!(One Arg: Pat), child!(Maybe TypeAnn: TsTypeAnn)],
+        Kind::AssignPat => &[child!(One Left: Pat), child!(One Right: Expr)],
+        Kind::KeyValuePatProp => &[child!(One Key: PropName), child!(One Value: Pat)],
+        Kind::AssignPatProp => &[child!(One Key: BindingIdent), child!(Maybe Value: Expr)],
+        Kind::BlockStmt => &[child!(Many Stmts: Stmt)],
         Kind::EmptyStmt => &[],
         Kind::DebuggerStmt => &[],
-        Kind::ExprStmt => &[slot!(One Expr: Expr)],
-        Kind::ReturnStmt => &[slot!(Maybe Arg: Expr)],
-        Kind::ThrowStmt => &[slot!(One Arg: Expr)],
-        Kind::LabeledStmt => &[slot!(One Label: Ident), slot!(One Body: Stmt)],
-        Kind::BreakStmt => &[slot!(Maybe Label: Ident)],
-        Kind::ContinueStmt => &[slot!(Maybe Label: Ident)],
+        Kind::ExprStmt => &[child!(One Expr: Expr)],
+        Kind::ReturnStmt => &[child!(Maybe Arg: Expr)],
+        Kind::ThrowStmt => &[child!(One Arg: Expr)],
+        Kind::LabeledStmt => &[child!(One Label: Ident), child!(One Body: Stmt)],
+        Kind::BreakStmt => &[child!(Maybe Label: Ident)],
+        Kind::ContinueStmt => &[child!(Maybe Label: Ident)],
         Kind::IfStmt => &[
-            slot!(One Test: Expr),
-            slot!(One Cons: Stmt),
-            slot!(Maybe Alt: Stmt),
+            child!(One Test: Expr),
+            child!(One Cons: Stmt),
+            child!(Maybe Alt: Stmt),
         ],
-        Kind::SwitchStmt => &[slot!(One Discriminant: Expr), slot!(Many Cases: SwitchCase)],
-        Kind::SwitchCase => &[slot!(Maybe Test: Expr), slot!(Many Cons: Stmt)],
+        Kind::SwitchStmt => &[
+            child!(One Discriminant: Expr),
+            child!(Many Cases: SwitchCase),
+        ],
+        Kind::SwitchCase => &[child!(Maybe Test: Expr), child!(Many Cons: Stmt)],
         Kind::TryStmt => &[
-            slot!(One Block: BlockStmt),
-            slot!(Maybe Handler: CatchClause),
-            slot!(Maybe Finalizer: BlockStmt),
+            child!(One Block: BlockStmt),
+            child!(Maybe Handler: CatchClause),
+            child!(Maybe Finalizer: BlockStmt),
         ],
-        Kind::CatchClause => &[slot!(Maybe Param: Pat), slot!(One Body: BlockStmt)],
-        Kind::WhileStmt => &[slot!(One Test: Expr), slot!(One Body: Stmt)],
-        Kind::DoWhileStmt => &[slot!(One Test: Expr), slot!(One Body: Stmt)],
+        Kind::CatchClause => &[child!(Maybe Param: Pat), child!(One Body: BlockStmt)],
+        Kind::WhileStmt => &[child!(One Test: Expr), child!(One Body: Stmt)],
+        Kind::DoWhileStmt => &[child!(One Test: Expr), child!(One Body: Stmt)],
         Kind::ForStmt => &[
-            slot!(Maybe Init: VarDeclOrExpr),
-            slot!(Maybe Test: Expr),
-            slot!(Maybe Update: Expr),
-            slot!(One Body: Stmt),
+            child!(Maybe Init: VarDeclOrExpr),
+            child!(Maybe Test: Expr),
+            child!(Maybe Update: Expr),
+            child!(One Body: Stmt),
         ],
         Kind::ForInStmt => &[
-            slot!(One Left: ForHead),
-            slot!(One Right: Expr),
-            slot!(One Body: Stmt),
+            child!(One Left: ForHead),
+            child!(One Right: Expr),
+            child!(One Body: Stmt),
         ],
         Kind::ForOfStmt { .. } => &[
-            slot!(One Left: ForHead),
-            slot!(One Right: Expr),
-            slot!(One Body: Stmt),
+            child!(One Left: ForHead),
+            child!(One Right: Expr),
+            child!(One Body: Stmt),
         ],
-        Kind::FnDecl { .. } => &[slot!(One Ident: Ident), slot!(One Function: Function)],
-        Kind::ClassDecl { .. } => &[slot!(One Ident: Ident), slot!(One Class: Class)],
-        Kind::VarDecl { .. } => &[slot!(Many Decls: VarDeclarator)],
-        Kind::VarDeclarator { .. } => &[slot!(One Name: Pat), slot!(Maybe Init: Expr)],
-        Kind::TsInterfaceDecl { .. } => &[slot!(One Id: Ident)],
-        Kind::TsTypeAliasDecl { .. } => &[slot!(One Id: Ident)],
-        Kind::TsEnumDecl { .. } => &[slot!(One Id: Ident), slot!(Many Members: TsEnumMember)],
-        Kind::TsEnumMember => &[slot!(One Id: TsEnumMemberId), slot!(Maybe Init: Expr)],
+        Kind::FnDecl { .. } => &[child!(One Ident: Ident), child!(One Function: Function)],
+        Kind::ClassDecl { .. } => &[child!(One Ident: Ident), child!(One Class: Class)],
+        Kind::VarDecl { .. } => &[child!(Many Decls: VarDeclarator)],
+        Kind::VarDeclarator { .. } => &[child!(One Name: Pat), child!(Maybe Init: Expr)],
+        Kind::TsInterfaceDecl { .. } => &[child!(One Id: Ident)],
+        Kind::TsTypeAliasDecl { .. } => &[child!(One Id: Ident)],
+        Kind::TsEnumDecl { .. } => &[child!(One Id: Ident), child!(Many Members: TsEnumMember)],
+        Kind::TsEnumMember => &[child!(One Id: TsEnumMemberId), child!(Maybe Init: Expr)],
         Kind::TsModuleDecl { .. } => &[
-            slot!(One Id: TsModuleName),
-            slot!(Maybe Body: TsNamespaceBody),
+            child!(One Id: TsModuleName),
+            child!(Maybe Body: TsNamespaceBody),
         ],
-        Kind::TsModuleBlock => &[slot!(Many Body: ModuleItem)],
-        Kind::TsNamespaceDecl { .. } => &[slot!(One Id: Ident), slot!(One Body: TsNamespaceBody)],
+        Kind::TsModuleBlock => &[child!(Many Body: ModuleItem)],
+        Kind::TsNamespaceDecl { .. } => &[child!(One Id: Ident), child!(One Body: TsNamespaceBody)],
         Kind::ImportDecl { .. } => &[
-            slot!(Many Specifiers: ImportSpecifier),
-            slot!(One Src: Str),
-            slot!(Maybe With: ObjectLit),
+            child!(Many Specifiers: ImportSpecifier),
+            child!(One Src: Str),
+            child!(Maybe With: ObjectLit),
         ],
         Kind::ImportNamedSpecifier { .. } => &[
-            slot!(One Local: Ident),
-            slot!(Maybe Imported: ModuleExportName),
+            child!(One Local: Ident),
+            child!(Maybe Imported: ModuleExportName),
         ],
-        Kind::ImportDefaultSpecifier => &[slot!(One Local: Ident)],
-        Kind::ImportStarAsSpecifier => &[slot!(One Local: Ident)],
-        Kind::ExportDecl => &[slot!(One Decl: Decl)],
+        Kind::ImportDefaultSpecifier => &[child!(One Local: Ident)],
+        Kind::ImportStarAsSpecifier => &[child!(One Local: Ident)],
+        Kind::ExportDecl => &[child!(One Decl: Decl)],
         Kind::NamedExport { .. } => &[
-            slot!(Many Specifiers: ExportSpecifier),
-            slot!(Maybe Src: Str),
-            slot!(Maybe With: ObjectLit),
+            child!(Many Specifiers: ExportSpecifier),
+            child!(Maybe Src: Str),
+            child!(Maybe With: ObjectLit),
         ],
         Kind::ExportNamedSpecifier { .. } => &[
-            slot!(One Orig: ModuleExportName),
-            slot!(Maybe Exported: ModuleExportName),
+            child!(One Orig: ModuleExportName),
+            child!(Maybe Exported: ModuleExportName),
         ],
-        Kind::ExportDefaultSpecifier => &[slot!(One Exported: Ident)],
-        Kind::ExportNamespaceSpecifier => &[slot!(One Name: ModuleExportName)],
-        Kind::ExportDefaultDecl => &[slot!(One Decl: DefaultDecl)],
-        Kind::ExportDefaultExpr => &[slot!(One Expr: Expr)],
-        Kind::ExportAll { .. } => &[slot!(One Src: Str), slot!(Maybe With: ObjectLit)],
+        Kind::ExportDefaultSpecifier => &[child!(One Exported: Ident)],
+        Kind::ExportNamespaceSpecifier => &[child!(One Name: ModuleExportName)],
+        Kind::ExportDefaultDecl => &[child!(One Decl: DefaultDecl)],
+        Kind::ExportDefaultExpr => &[child!(One Expr: Expr)],
+        Kind::ExportAll { .. } => &[child!(One Src: Str), child!(Maybe With: ObjectLit)],
         Kind::TsImportEqualsDecl { .. } => &[
-            slot!(One Id: Ident),
-            slot!(One ModuleRef: TsModuleRef),
+            child!(One Id: Ident),
+            child!(One ModuleRef: TsModuleRef),
         ],
-        Kind::TsExternalModuleRef => &[slot!(One Expr: Str)],
-        Kind::TsQualifiedName => &[slot!(One Left: TsEntityName), slot!(One Right: IdentName)],
-        Kind::TsExportAssignment => &[slot!(One Expr: Expr)],
-        Kind::TsNamespaceExportDecl => &[slot!(One Id: Ident)],
-        Kind::TsTypeAnn => &[slot!(One TypeAnn: TsType)],
+        Kind::TsExternalModuleRef => &[child!(One Expr: Str)],
+        Kind::TsQualifiedName => &[child!(One Left: TsEntityName), child!(One Right: IdentName)],
+        Kind::TsExportAssignment => &[child!(One Expr: Expr)],
+        Kind::TsNamespaceExportDecl => &[child!(One Id: Ident)],
+        Kind::TsTypeAnn => &[child!(One TypeAnn: TsType)],
         Kind::TsType => &[],
         Kind::TsTypeParamDecl => &[],
         Kind::TsTypeParamInstantiation => &[],
@@ -404,9 +416,9 @@ pub fn field_index(kind: &Kind, field: Field) -> Option<usize>
     ensures some { IfSome result (IsFieldAt field kind.now) }
     ensures none { IsNone result → LacksBefore (length (fields kind.now)) field kind.now }
 {
-    let slots = slots(kind);
-    for i in 0..slots.len() {
-        if slots[i].field == field {
+    let children = field_shapes(kind);
+    for i in 0..children.len() {
+        if children[i].field == field {
             return Some(i);
         }
     }

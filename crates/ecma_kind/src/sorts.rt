@@ -1,6 +1,6 @@
 //! Which kinds of node each sort has.
 ghost use Rattle.std.specs.Prelude.{◌≡◌};
-ghost use Rattle.ecma_kind.specs.Sorts.{is_type_wrapper, is_lit, is_expr, is_decl, is_stmt, is_module_decl, is_pattern, belongs};
+ghost use Rattle.ecma_kind.specs.Sorts.{is_type_wrapper, is_lit, is_expr, is_decl, is_stmt, is_module_decl, is_pattern, is_prop, is_simple_assign_target, is_assign_target_pat, belongs};
 
 use crate::kind::Kind;
 use crate::shapes::Sort;
@@ -143,30 +143,57 @@ fn is_pattern(kind: &Kind) -> bool
     }
 }
 
+/// Whether it is a property of an object; an identifier there is a shorthand.
+fn is_prop(kind: &Kind) -> bool
+    ensures { result ≡ is_prop kind.now }
+{
+    match kind {
+        Kind::Ident { .. }
+        | Kind::KeyValueProp
+        | Kind::AssignProp
+        | Kind::GetterProp
+        | Kind::SetterProp
+        | Kind::MethodProp => true,
+        _ => false,
+    }
+}
+
+/// Whether it may be assigned to and is no pattern.
+fn is_simple_assign_target(kind: &Kind) -> bool
+    ensures { result ≡ is_simple_assign_target kind.now }
+{
+    match kind {
+        Kind::Ident { .. } | Kind::MemberExpr | Kind::SuperPropExpr | Kind::ParenExpr => true,
+        _ => is_type_wrapper(kind),
+    }
+}
+
+/// Whether it is a pattern that may be assigned to.
+fn is_assign_target_pat(kind: &Kind) -> bool
+    ensures { result ≡ is_assign_target_pat kind.now }
+{
+    matches!(kind, Kind::ArrayPat { .. } | Kind::ObjectPat { .. })
+}
+
 /// Whether a kind is of a sort.
 pub fn belongs(sort: Sort, kind: &Kind) -> bool
     ensures { result ≡ belongs sort kind.now }
 {
     match sort {
+        Sort::Program => matches!(kind, Kind::Module { .. } | Kind::Script { .. }),
         Sort::Module => matches!(kind, Kind::Module { .. }),
         Sort::Script => matches!(kind, Kind::Script { .. }),
         Sort::ModuleItem => is_stmt(kind) || is_module_decl(kind),
+        Sort::ModuleDecl => is_module_decl(kind),
         Sort::Stmt => is_stmt(kind),
         Sort::Decl => is_decl(kind),
         Sort::Expr => is_expr(kind),
+        Sort::Lit => is_lit(kind),
         Sort::Pat => is_expr(kind) || is_pattern(kind),
         Sort::Callee => matches!(kind, Kind::Super | Kind::Import) || is_expr(kind),
         Sort::ExprOrSpread => matches!(kind, Kind::SpreadElement) || is_expr(kind),
-        Sort::PropOrSpread => matches!(
-            kind,
-            Kind::SpreadElement
-                | Kind::Ident { .. }
-                | Kind::KeyValueProp
-                | Kind::AssignProp
-                | Kind::GetterProp
-                | Kind::SetterProp
-                | Kind::MethodProp
-        ),
+        Sort::PropOrSpread => matches!(kind, Kind::SpreadElement) || is_prop(kind),
+        Sort::Prop => is_prop(kind),
         Sort::PropName => matches!(
             kind,
             Kind::IdentName { .. }
@@ -181,15 +208,9 @@ pub fn belongs(sort: Sort, kind: &Kind) -> bool
         ),
         Sort::SuperProp => matches!(kind, Kind::IdentName { .. } | Kind::ComputedPropName),
         Sort::OptChainBase => matches!(kind, Kind::MemberExpr | Kind::OptCall),
-        Sort::AssignTarget => matches!(
-            kind,
-            Kind::Ident { .. }
-                | Kind::MemberExpr
-                | Kind::SuperPropExpr
-                | Kind::ParenExpr
-                | Kind::ArrayPat { .. }
-                | Kind::ObjectPat { .. }
-        ) || is_type_wrapper(kind),
+        Sort::AssignTarget => is_simple_assign_target(kind) || is_assign_target_pat(kind),
+        Sort::SimpleAssignTarget => is_simple_assign_target(kind),
+        Sort::AssignTargetPat => is_assign_target_pat(kind),
         Sort::BlockStmtOrExpr => matches!(kind, Kind::BlockStmt) || is_expr(kind),
         Sort::ClassMember => matches!(
             kind,

@@ -30,8 +30,36 @@ fn a_slot_keeps_what_was_put_there(rt: HostRuntime) -> Result<(), Fail> {
 
 #[test]
 fn a_word_is_the_text_that_it_was_made_of(rt: HostRuntime) -> Result<(), Fail> {
-    let sym = JsWord::new(rt.alloc(), "größe")?;
-    assert_eq!(rt; sym.as_str(), "größe");
-    assert!(rt; sym == sym.clone()?);
+    for text in ["a", "größe", ""] {
+        let sym = JsWord::new(rt.alloc(), text)?;
+        let copy = sym.clone()?;
+        assert_eq!(rt; sym.as_str(), text);
+        assert_eq!(rt; copy.as_str(), text);
+        assert!(rt; sym == copy);
+    }
+    Ok(())
+}
+
+#[test]
+fn errors_say_what_happened(rt: HostRuntime) -> Result<(), Fail> {
+    let alloc = rt.alloc();
+    let rows = [
+        (
+            format!(in alloc; "{Spent}")?,
+            "no context is left in the session",
+        ),
+        (
+            format!(in alloc; "{}", PassError::Spent)?,
+            "no context is left in the session",
+        ),
+        (
+            format!(in alloc; "{}", PassError::NoMemory)?,
+            "out of memory",
+        ),
+        (format!(in alloc; "{NoMemory}")?, "out of memory"),
+    ];
+    for (text, expected) in rows {
+        assert_eq!(rt; text.as_str(), expected);
+    }
     Ok(())
 }

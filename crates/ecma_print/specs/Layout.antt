@@ -5,13 +5,13 @@ use Rattle.ecma_kind.specs.declared.operators.VarDeclKind.TheVariants.{Var, Let,
 use Rattle.ecma_kind.specs.declared.kind.Kind.{Kind}
 use Rattle.ecma_kind.specs.declared.kind.Kind.TheVariants.{Absent, List as ListKind, Module, ExprStmt, VarDecl, VarDeclarator, BindingIdent, Ident, IdentName, Str, Number, Bool as BoolKind, Null, MemberExpr, CallExpr, TsTypeAnn}
 use Rattle.ecma_tree.specs.declared.node.Node.{Node, Node-F, fold-Node}
-use Rattle.ecma_print.specs.declared.place.Place.{Place}
-use Rattle.ecma_print.specs.declared.place.Place.TheVariants.{Whole, Lines, Commas, Initializer}
+use Rattle.ecma_print.specs.declared.role.Role.{Role}
+use Rattle.ecma_print.specs.declared.role.Role.TheVariants.{Whole, Lines, Commas, Initializer}
 use Rattle.ecma_print.specs.Texts.{Text}
 
--- how a child is laid out, by its place
+-- how a child is laid out, by its role
 abbrev pub Laid : Type 0
-Laid = Place → Text
+Laid = Role → Text
 
 -- each on a line of its own
 abbrev pub lines : List Laid → Text
@@ -62,18 +62,18 @@ whole CallExpr (callee ∷ args ∷ type_args ∷ []) rest = callee Whole (paren
 whole TsTypeAnn (type ∷ []) rest = codes ": " ++ type Whole rest
 whole kind children rest = rest
 
--- a node in its place
-abbrev pub in_place : Kind → List Laid → Place → Text
-in_place Absent children place rest = rest
-in_place ListKind items Lines rest = lines items rest
-in_place ListKind items place rest = commas items rest
-in_place kind children Initializer rest = codes " = " ++ whole kind children rest
-in_place kind children place rest = whole kind children rest
+-- a node in its role
+abbrev pub in_role : Kind → List Laid → Role → Text
+in_role Absent children role rest = rest
+in_role ListKind items Lines rest = lines items rest
+in_role ListKind items role rest = commas items rest
+in_role kind children Initializer rest = codes " = " ++ whole kind children rest
+in_role kind children role rest = whole kind children rest
 
 abbrev pub lay_step : Node-F Laid → Laid
-lay_step parts = in_place parts.kind parts.children
+lay_step parts = in_role parts.kind parts.children
 
--- the text of a node in its place
+-- the text of a node in its role
 abbrev pub laid : Node → Laid
 laid = fold-Node Laid lay_step
 

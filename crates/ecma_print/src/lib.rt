@@ -3,8 +3,8 @@
 //! The layout is `specs/Layout.antt`: one statement a line, with a line feed at each end.
 #![tactic(auto)]
 
-mod place;
 mod print;
+mod role;
 
 pub use print::print_module;
 

@@ -3,7 +3,7 @@ ghost use Rattle.ecma_tree.specs.declared.node.Node.{out-Node};
 ghost use Rattle.ecma_print.specs.Texts.{Writes};
 ghost use Rattle.ecma_print.specs.Layout.{layout, laid, lines, commas, more_commas, whole, parenthesized, keyword, source_text, bool_word};
 
-use crate::place::Place;
+use crate::role::Role;
 use ecma_tree::{JsWord, Kind, Module, NoMemory, Node, VarDeclKind};
 use std::alloc::Global;
 
@@ -12,7 +12,7 @@ pub fn print_module(alloc: Global, tree: &Module) -> Result<Vec<u8>, NoMemory>
     ensures { IfOk result (λ text. text.items ≡ layout tree.now) }
 {
     let mut out = Vec::new(alloc);
-    print(&mut out, tree, Place::Whole)?;
+    print(&mut out, tree, Role::Whole)?;
     Ok(out)
 }
 
@@ -48,17 +48,17 @@ fn bool_word(value: bool) -> &'static str
     if value { "true" } else { "false" }
 }
 
-/// Prints a node in its place.
+/// Prints a node in its role.
 #[tactic(auto, using(crate::proofs::Laying::laying))]
 #[cycle(printer)]
-fn print(out: &mut Vec<u8>, node: &Node, place: Place) -> Result<(), NoMemory>
-    ensures { OnOk result (Writes out.old.items out.new.items (laid node.now place)) }
+fn print(out: &mut Vec<u8>, node: &Node, role: Role) -> Result<(), NoMemory>
+    ensures { OnOk result (Writes out.old.items out.new.items (laid node.now role)) }
 {
-    match (&node.kind, place) {
+    match (&node.kind, role) {
         (Kind::Absent, _) => Ok(()),
-        (Kind::List, Place::Lines) => print_lines(out, node),
+        (Kind::List, Role::Lines) => print_lines(out, node),
         (Kind::List, _) => print_commas(out, node),
-        (_, Place::Initializer) => {
+        (_, Role::Initializer) => {
             write(out, " = ")?;
             print_whole(out, node)
         }
@@ -73,7 +73,7 @@ fn print_lines(out: &mut Vec<u8>, list: &Node) -> Result<(), NoMemory>
     ensures { OnOk result (Writes out.old.items out.new.items (lines (map laid (out-Node list.now).children))) }
 {
     for item in list.children.as_slice() {
-        print(out, item, Place::Whole)?;
+        print(out, item, Role::Whole)?;
         write(out, "\n")?;
     }
     Ok(())
@@ -88,10 +88,10 @@ fn print_commas(out: &mut Vec<u8>, list: &Node) -> Result<(), NoMemory>
     match list.children.as_slice() {
         [] => Ok(()),
         [first, rest @ ..] => {
-            print(out, first, Place::Whole)?;
+            print(out, first, Role::Whole)?;
             for item in rest {
                 write(out, ", ")?;
-                print(out, item, Place::Whole)?;
+                print(out, item, Role::Whole)?;
             }
             Ok(())
         }
@@ -105,41 +105,41 @@ fn print_whole(out: &mut Vec<u8>, node: &Node) -> Result<(), NoMemory>
     ensures { OnOk result (Writes out.old.items out.new.items (whole (out-Node node.now).kind (map laid (out-Node node.now).children))) }
 {
     match (&node.kind, node.children.as_slice()) {
-        (Kind::Module { shebang: None }, [body]) => print(out, body, Place::Lines),
+        (Kind::Module { shebang: None }, [body]) => print(out, body, Role::Lines),
         (Kind::ExprStmt, [expression]) => {
-            print(out, expression, Place::Whole)?;
+            print(out, expression, Role::Whole)?;
             write(out, ";")
         }
         (Kind::VarDecl { kind, .. }, [declarators]) => {
             write(out, keyword(*kind))?;
             write(out, " ")?;
-            print(out, declarators, Place::Commas)?;
+            print(out, declarators, Role::Commas)?;
             write(out, ";")
         }
         (Kind::VarDeclarator { .. }, [name, init]) => {
-            print(out, name, Place::Whole)?;
-            print(out, init, Place::Initializer)
+            print(out, name, Role::Whole)?;
+            print(out, init, Role::Initializer)
         }
         (Kind::BindingIdent, [ident, annotation]) => {
-            print(out, ident, Place::Whole)?;
-            print(out, annotation, Place::Whole)
+            print(out, ident, Role::Whole)?;
+            print(out, annotation, Role::Whole)
         }
         (Kind::Ident { sym, .. } | Kind::IdentName { sym }, []) => write(out, sym.as_str()),
         (Kind::Str { raw, .. } | Kind::Number { raw, .. }, []) => write(out, source_text(raw)),
         (Kind::Bool { value }, []) => write(out, bool_word(*value)),
         (Kind::Null, []) => write(out, "null"),
         (Kind::MemberExpr, [object, key]) => {
-            print(out, object, Place::Whole)?;
+            print(out, object, Role::Whole)?;
             write(out, ".")?;
-            print(out, key, Place::Whole)
+            print(out, key, Role::Whole)
         }
         (Kind::CallExpr, [callee, args, type_args]) => {
-            print(out, callee, Place::Whole)?;
+            print(out, callee, Role::Whole)?;
             print_arguments(out, args)
         }
         (Kind::TsTypeAnn, [type_]) => {
             write(out, ": ")?;
-            print(out, type_, Place::Whole)
+            print(out, type_, Role::Whole)
         }
         _ => Ok(()),
     }
@@ -148,9 +148,9 @@ fn print_whole(out: &mut Vec<u8>, node: &Node) -> Result<(), NoMemory>
 /// Prints the arguments of a call, in their parentheses.
 #[cycle(printer)]
 fn print_arguments(out: &mut Vec<u8>, args: &Node) -> Result<(), NoMemory>
-    ensures { OnOk result (Writes out.old.items out.new.items (parenthesized (laid args.now Place.Commas))) }
+    ensures { OnOk result (Writes out.old.items out.new.items (parenthesized (laid args.now Role.Commas))) }
 {
     write(out, "(")?;
-    print(out, args, Place::Commas)?;
+    print(out, args, Role::Commas)?;
     write(out, ")")
 }

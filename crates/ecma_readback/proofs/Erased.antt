@@ -8,7 +8,7 @@ use Rattle.ecma_kind.specs.declared.operators.VarDeclKind.{VarDeclKind}
 use Rattle.ecma_tree.specs.declared.node.Node.{Node, fold_out-Node}
 use Rattle.ecma_tree.specs.declared.node.Node.TheViews.{out-roll-Node}
 use Rattle.ecma_tree.specs.Nodes.{node_of}
-use Rattle.ecma_tree.specs.Erasure.{without_types, erased, erased_by, stays, stays_by}
+use Rattle.ecma_strip.specs.Erasure.{without_types, erased, erased_by, stays, stays_by}
 use Rattle.ecma_readback.specs.Needs.{links, chain_need, expression_need, expressions_need, arguments_need, initializer_need, declarator_need, declarators_need, statement_need, statements_need, need}
 use Rattle.ecma_readback.specs.Theorems.{PlainShapes}
 use Rattle.ecma_readback.specs.Shapes.{IsModule, IsIdent, ident, IsKey, key, IsAbsent, absent, IsLexical, IsChain, name, member, call, IsExpression, chain, string, number, null_word, true_word, false_word, cast, AreExpressions, no_expressions, more_expressions, IsArguments, arguments, IsAnnotation, no_annotation, annotation, IsBinding, binding, IsInitializer, no_initializer, initializer, IsDeclarator, declarator, AreDeclarators, one_declarator, more_declarators, IsStatement, expression, declaration, alias, AreStatements, no_statements, more_statements, module_of}

@@ -12,7 +12,7 @@ use Rattle.ecma_tree.specs.declared.node.Node.TheViews.{out-roll-Node}
 use Rattle.ecma_tree.specs.Nodes.{node_of}
 use Rattle.ecma_text.specs.Rules.{Declared, Names, all_declared, names_by, names_step, declared_names, repeated_behind, first_repeated}
 use Rattle.ecma_tree.specs.Spans.{without_spans, unplaced}
-use Rattle.ecma_tree.specs.Erasure.{without_types, stays}
+use Rattle.ecma_strip.specs.Erasure.{without_types, stays}
 use Rattle.ecma_readback.specs.Shapes.{IsIdent, ident, IsKey, key, IsAbsent, absent, IsType, type, IsChain, name, member, call, IsExpression, chain, string, number, null_word, true_word, false_word, cast, AreExpressions, no_expressions, more_expressions, IsArguments, arguments, IsBinding, binding, IsInitializer, no_initializer, initializer, IsDeclarator, declarator, AreDeclarators, one_declarator, more_declarators, expression, declaration, alias, AreStatements, no_statements, more_statements, IsModule, module_of}
 use Rattle.ecma_readback.proofs.Erased.{erased_node, kept, alias_goes, plain_expression, plain_initializer, plain_declarator, declarator_stays, statement_stays, plain_declaration, plain_expression_statement}
 

@@ -7,7 +7,7 @@ use Rattle.ecma_text.specs.Modules.{reads, answer_of, kept_by, deepest}
 use Rattle.ecma_readback.specs.Theorems.{LevelsSuffice, ReadBack}
 use Rattle.ecma_readback.proofs.Within.{ModuleIn, read_within}
 use Rattle.ecma_readback.specs.Shapes.{IsModule}
-use Rattle.ecma_tree.specs.Erasure.{without_types}
+use Rattle.ecma_strip.specs.Erasure.{without_types}
 use Rattle.ecma_readback.proofs.Statements.{plain_read_back}
 use Rattle.ecma_readback.proofs.Readings.{read_shapes}
 use Rattle.ecma_readback.proofs.Erased.{plain_module}

@@ -9,7 +9,7 @@ use Rattle.ecma_print.specs.Layout.{layout}
 use Rattle.ecma_readback.specs.Shapes.{IsModule}
 use Rattle.ecma_readback.specs.Needs.{need}
 use Rattle.ecma_tree.specs.Spans.{without_spans}
-use Rattle.ecma_tree.specs.Erasure.{without_types}
+use Rattle.ecma_strip.specs.Erasure.{without_types}
 
 -- the layout of a plain tree is read as that tree, up to spans, wherever the levels that it takes are allowed
 abbrev pub PlainReadBack : Type 0

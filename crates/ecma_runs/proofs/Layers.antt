@@ -19,7 +19,7 @@ use Rattle.ecma_runs.specs.Evaluation.{meaning_by, meaning}
 use Rattle.ecma_runs.specs.Observation.{ending_of, observed, observe, start}
 use Rattle.ecma_runs.specs.Sources.{unsourced, unsourced_node, without_sources}
 use Rattle.ecma_tree.specs.Spans.{unplaced, without_spans}
-use Rattle.ecma_tree.specs.Erasure.{stays_by, stays, erased_by, erased, without_types}
+use Rattle.ecma_strip.specs.Erasure.{stays_by, stays, erased_by, erased, without_types}
 use Rattle.ecma_runs.specs.Laws.{SpansAndSourcesDoNotMatter, TypesDoNotMatter, SpareTurnsDoNotMatter}
 use Rattle.ecma_runs.proofs.Layer.{meaning-roll, meaning_out}
 use Rattle.ecma_runs.proofs.Alike.{Change, Unless, Follows}

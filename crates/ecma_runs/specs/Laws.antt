@@ -10,7 +10,7 @@ use Rattle.ecma_runs.specs.declared.script.Script.{Script}
 use Rattle.ecma_runs.specs.State.{Bound, State, Outcome, Done, Thrown, Returned, Broken, Continued, Ended}
 use Rattle.ecma_runs.specs.Observation.{observe, module_context, run_body, act}
 use Rattle.ecma_runs.specs.Sources.{AgreeUpToSources}
-use Rattle.ecma_tree.specs.Erasure.{without_types}
+use Rattle.ecma_strip.specs.Erasure.{without_types}
 use Rattle.ecma_runs.specs.Uses.{uses_nothing}
 
 -- trees that are equal up to spans and the source texts of literals run alike

@@ -2,7 +2,7 @@
 use Rattle.std.proofs.Common.{◌≡◌, ◌≢◌, List, [], ◌∷◌, length, Some, slice_get, refl, arith}
 use Rattle.ecma_kind.specs.declared.kind.Kind.TheVariants.{TsAsExpr}
 use Rattle.ecma_tree.specs.declared.node.Node.{Node, Node-F, roll-Node}
-use Rattle.ecma_tree.specs.Erasure.{erased_by}
+use Rattle.ecma_strip.specs.Erasure.{erased_by}
 
 -- an expression as a type with its two children is the first
 pub erased_by-two : (children : List Node) (parts : Node-F Node) (e : Node) → length children ≡ 2 → slice_get children 0 ≡ Some e → erased_by TsAsExpr children parts ≡ e

@@ -2,24 +2,25 @@ ghost use Rattle.std.specs.Prelude.{◌≡◌, filter};
 ghost use Rattle.ecma_tree.specs.Nodes.{node_of};
 ghost use Rattle.ecma_kind.specs.declared.kind.Kind.TheVariants.{TsAsExpr};
 ghost use Rattle.ecma_tree.specs.declared.node.Node.{out-Node};
-ghost use Rattle.ecma_tree.specs.Erasure.{erased, erased_by, stays, without_types};
+ghost use Rattle.ecma_strip.specs.Erasure.{erased, erased_by, stays, without_types};
 
 use ecma_tree::{Kind, Node};
 use std::alloc::Global;
 
-/// Takes the types out of a tree: annotations, `as` with its type, and type aliases.
-pub(crate) fn erase_types(alloc: Global, node: &mut Node)
+/// Takes the types out of a tree, all the way down: annotations, `as` with its type, and the type aliases in lists.
+/// It takes no memory.
+pub fn strip_types(alloc: Global, node: &mut Node)
     ensures { node.new ≡ without_types node.old }
 {
     let count = node.children.len();
     for i in 0..count {
-        erase_types(alloc, node.children.get_mut(i));
+        strip_types(alloc, node.children.get_mut(i));
     }
-    erase_here(alloc, node);
+    strip_here(alloc, node);
 }
 
 /// Takes the types out of a node whose children have none any more.
-fn erase_here(alloc: Global, node: &mut Node)
+fn strip_here(alloc: Global, node: &mut Node)
     ensures { node.new ≡ erased (out-Node node.old) }
 {
     match &node.kind {

@@ -1,5 +1,7 @@
+pub mod Fronts
 pub mod Rewriting
-mod Standing
+mod Shaping
+pub mod ShapeLaws
 pub mod Items
 pub mod Finding
 pub mod Changing

@@ -1,10 +1,12 @@
 pub mod Nodes
 pub mod Rewritten
 pub mod Spans
-pub mod Erasure
 pub mod Sorted
 pub mod Children
 pub mod Finding
 pub mod Changing
+pub mod Contexts
+pub mod Idents
+pub mod Laws
 pub mod Gathering
 pub mod NodeRefs

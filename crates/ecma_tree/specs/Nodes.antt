@@ -9,15 +9,24 @@ use Rattle.ecma_tree.specs.declared.node.Node.{Node, roll-Node}
 abbrev pub node_of : Span → Kind → List Node → Node
 node_of span kind children = roll-Node (record { span = span; kind = kind; children = children })
 
+-- the span of what stands in no text
+abbrev pub dummy_span : Span
+dummy_span = record { lo = 0; hi = 0 }
+
+-- a child that is not there
+abbrev pub absent : Node
+absent = node_of dummy_span Absent []
+
 -- a list of nodes as one child
 abbrev pub list_node : List Node → Node
-list_node items = node_of (record { lo = 0; hi = 0 }) ListKind items
+list_node items = node_of dummy_span ListKind items
 
 -- a child that may be missing
 abbrev pub or_absent : Option Node → Node
 or_absent (Some node) = node
-or_absent None = node_of (record { lo = 0; hi = 0 }) Absent []
+or_absent None = absent
 
+-- a list that may be missing
 abbrev pub list_or_absent : Option (List Node) → Node
 list_or_absent (Some items) = list_node items
-list_or_absent None = node_of (record { lo = 0; hi = 0 }) Absent []
+list_or_absent None = absent

@@ -16,17 +16,38 @@ pub struct Node {
 /// Nodes, which contracts see as a list.
 pub type Nodes = ItemList<Node>;
 
+/// A node of the sort [`Sort::Program`](crate::Sort): a module or a script.
+pub type Program = Node;
+
 /// A node of the kind [`Kind::Module`].
 pub type Module = Node;
 
+/// A node of the kind [`Kind::Script`].
+pub type Script = Node;
+
 /// A node that stands in the body of a module: a statement or a module declaration.
 pub type ModuleItem = Node;
+
+/// A node that is a module declaration: an import or an export.
+pub type ModuleDecl = Node;
 
 /// A node that is a statement or a declaration.
 pub type Stmt = Node;
 
 /// A node that is an expression.
 pub type Expr = Node;
+
+/// A node that is a literal.
+pub type Lit = Node;
+
+/// A node that is a property of an object. A shorthand is a node of the kind [`Kind::Ident`].
+pub type Prop = Node;
+
+/// A node that may be assigned to and is no pattern.
+pub type SimpleAssignTarget = Node;
+
+/// A node that is a pattern that may be assigned to.
+pub type AssignTargetPat = Node;
 
 /// A node that is a binding pattern.
 pub type Pat = Node;
@@ -38,7 +59,7 @@ pub type Function = Node;
 pub type Class = Node;
 
 impl Node {
-    ghost use Rattle.ecma_tree.specs.Nodes.{list_or_absent, node_of, or_absent};
+    ghost use Rattle.ecma_tree.specs.Nodes.{absent, list_node, list_or_absent, node_of, or_absent};
 
     /// A node of these parts.
     pub fn new(span: Span, kind: Kind, children: Nodes) -> Node
@@ -53,14 +74,14 @@ impl Node {
 
     /// The missing child.
     pub fn absent(alloc: Global) -> Node
-        ensures { result ≡ node_of DUMMY_SP Kind.Absent [] }
+        ensures { result ≡ absent }
     {
         Node::new(DUMMY_SP, Kind::Absent, Nodes::new(alloc))
     }
 
     /// A list of nodes, as one child.
     pub fn list(items: Nodes) -> Node
-        ensures { result ≡ node_of DUMMY_SP Kind.List items }
+        ensures { result ≡ list_node items }
     {
         Node::new(DUMMY_SP, Kind::List, items)
     }

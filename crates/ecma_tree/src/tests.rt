@@ -205,6 +205,20 @@ fn other_trees_are_told_apart(rt: HostRuntime) -> Result<(), Fail> {
     Ok(())
 }
 
+#[test]
+fn identifiers_are_values_of_their_own(rt: HostRuntime) -> Result<(), Fail> {
+    let alloc = rt.alloc();
+    let node = ident(alloc, 5, "größe")?;
+    let value = node.to_ident()?.expect(&rt, "an identifier");
+    assert_eq!(rt; value.sym.as_str(), "größe");
+    assert_eq!(rt; value.span, Span { lo: 5, hi: 5 });
+    assert!(rt; value == value.clone()?);
+    assert!(rt; is_equal(alloc, &Node::of_ident(alloc, value), &node)?);
+    assert!(rt; node.into_ident().is_some());
+    assert!(rt; Node::absent(alloc).to_ident()?.is_none());
+    Ok(())
+}
+
 fn offered(alloc: Global, text: &str) -> Result<Option<JsWord>, NoMemory> {
     Ok(verify_symbol(alloc, text)?.err())
 }

@@ -6,7 +6,7 @@ use Rattle.std.specs.Prelude.{Result, IfOk, IsOk, if◌then◌else◌}
 use Rattle.std.specs.Str.{IsUtf8, is_utf8}
 use Rattle.std.proofs.lemmas.Str.{IsUtf8-from_is_utf8, is_utf8-from_IsUtf8}
 use Rattle.ecma_tree.specs.declared.node.Node.{Node}
-use Rattle.ecma_tree.specs.Erasure.{without_types}
+use Rattle.ecma_strip.specs.Erasure.{without_types}
 use Rattle.ecma_tree.specs.Spans.{without_spans}
 use Rattle.ecma_text.specs.declared.modules.ReadError.{ReadError}
 use Rattle.ecma_text.specs.Modules.{answer_of, reads, deepest}

@@ -1,6 +1,5 @@
 pub mod Utf8
 pub mod Pieces
 pub mod Runs
-pub mod Erasing
 pub mod Conversions
 pub mod Outcomes

@@ -2,7 +2,7 @@
 use Rattle.std.proofs.Common.{◌≡◌, ◌⊎◌, ◌≢◌, ℕ, List, Some, None, Ok, Err, inl, inr, refl, sym, ◌∙◌, subst, arith}
 use Rattle.std.specs.Prelude.{Option, Result, IfSome}
 use Rattle.ecma_print.specs.Layout.{layout}
-use Rattle.ecma_tree.specs.Erasure.{without_types}
+use Rattle.ecma_strip.specs.Erasure.{without_types}
 use Rattle.ts_to_js.specs.declared.error.TsError.{TsError}
 use Rattle.ts_to_js.specs.declared.program.TheConstants.{DONE, REFUSED, BAD_WORD, READ_FAULT, WRITE_FAULT, NO_MEMORY}
 use Rattle.ts_to_js.specs.Conversion.{converted}

@@ -5,7 +5,7 @@ use Rattle.ecma_tree.specs.declared.node.Node.{Node}
 use Rattle.ecma_text.specs.declared.modules.ReadError.{ReadError}
 use Rattle.ecma_text.specs.Modules.{answer_of, reads, deepest}
 use Rattle.ecma_print.specs.Layout.{layout}
-use Rattle.ecma_tree.specs.Erasure.{without_types}
+use Rattle.ecma_strip.specs.Erasure.{without_types}
 use Rattle.ts_to_js.specs.Refusals.{refusal_of}
 use Rattle.ts_to_js.specs.declared.error.TsError.{TsError}
 use Rattle.ts_to_js.specs.declared.error.TsError.TheVariants as error

@@ -5,9 +5,9 @@ ghost use Rattle.ts_to_js.specs.Conversion.{converted, printed};
 ghost use Rattle.ts_to_js.specs.Answer.{Answers};
 ghost use Rattle.ts_to_js.specs.Headline.{IsConversion, IsValid};
 
-use crate::erase::erase_types;
 use crate::error::TsError;
 use ecma_print::print_module;
+use ecma_strip::strip_types;
 use ecma_text::read_module;
 use ecma_tree::Session;
 use std::alloc::Global;
@@ -65,6 +65,6 @@ fn convert_text(alloc: Global, text: &str) -> Result<Vec<u8>, TsError>
     ensures { Answers result (printed (answer_of (reads true text.now deepest))) }
 {
     let mut tree = read_module(alloc, text)?;
-    erase_types(alloc, &mut tree);
+    strip_types(alloc, &mut tree);
     Ok(print_module(alloc, &tree)?)
 }

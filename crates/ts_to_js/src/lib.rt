@@ -2,7 +2,6 @@
 #![tactic(auto)]
 
 mod convert;
-mod erase;
 mod error;
 mod program;
 mod report;

@@ -11,7 +11,7 @@ const MODIFIERS: MemberModifiers = MemberModifiers {
     is_override: false,
 };
 
-const PLACE: Span = Span { lo: 3, hi: 5 };
+const SPAN: Span = Span { lo: 3, hi: 5 };
 
 /// Kinds that have no data of their own.
 fn bare_kind(index: usize) -> Kind {
@@ -235,14 +235,14 @@ fn kind_with_words(index: usize, first: JsWord, second: JsWord) -> Kind {
 pub fn every_kind(alloc: Global) -> Result<Node, NoMemory> {
     let mut nodes = Nodes::new(alloc);
     for i in 0..76 {
-        nodes.push(Node::leaf(alloc, PLACE, bare_kind(i)))?;
+        nodes.push(Node::leaf(alloc, SPAN, bare_kind(i)))?;
     }
     for i in 0..36 {
-        nodes.push(Node::leaf(alloc, PLACE, kind_with_flags(i)))?;
+        nodes.push(Node::leaf(alloc, SPAN, kind_with_flags(i)))?;
     }
     for i in 0..10 {
         let kind = kind_with_words(i, JsWord::new(alloc, "größe")?, JsWord::new(alloc, "b")?);
-        nodes.push(Node::leaf(alloc, PLACE, kind))?;
+        nodes.push(Node::leaf(alloc, SPAN, kind))?;
     }
     let inner = Node::array_lit(alloc, Span { lo: 2, hi: 6 }, nodes)?;
     Node::of(alloc, Span { lo: 1, hi: 7 }, Kind::ArrayLit, [inner])

@@ -1,8 +1,8 @@
 use Rattle.std.proofs.Common.{rules, ◌≡◌, filter, refl}
 use Rattle.std.proofs.lemmas.Fn.{filter_same}
 use Rattle.ecma_tree.specs.declared.node.Node.{out-Node}
-use Rattle.ecma_tree.specs.Erasure.{stays}
-use Rattle.ts_to_js.proofs.erase.drop_aliases.Goals as goal
+use Rattle.ecma_strip.specs.Erasure.{stays}
+use Rattle.ecma_strip.proofs.strip.drop_aliases.Goals as goal
 
 pub returns : goal.returns
 returns c =
