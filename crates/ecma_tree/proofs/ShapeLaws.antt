@@ -1,7 +1,6 @@
 -- Laws of shapes and sorts.
-use Rattle.std.proofs.Common.{◌≡◌, ◌↔◌, ℕ, zero, suc, Bool, true, false, ◌&&◌, ◌||◌, List, [], ◌∷◌, map, length, replicate, Option, Some, None, refl, sym, ap, ap₂, ◌∙◌}
+use Rattle.std.proofs.Common.{◌≡◌, ◌↔◌, ℕ, zero, suc, Bool, true, false, ◌&&◌, ◌||◌, List, [], ◌∷◌, map, length, replicate, Some, None, refl, sym, ap, ap₂, ◌∙◌}
 use Rattle.std.specs.List.{All}
-use Rattle.std.specs.Prelude.{IfSome}
 use Rattle.std.proofs.lemmas.List.{length-map}
 use Rattle.std.proofs.lemmas.List.Elements.{All-nil, All-cons, All-head, All-tail}
 use Rattle.ecma_kind.specs.Sorts.{belongs}
@@ -16,11 +15,10 @@ use Rattle.ecma_kind.specs.declared.shapes.Count.TheVariants.{One, Maybe, Many, 
 use Rattle.ecma_tree.specs.Changing.{changed, changed_here}
 use Rattle.ecma_tree.specs.Contexts.{kind_with_context, with_contexts}
 use Rattle.ecma_tree.specs.Laws.{ChangesKeepShapes, ContextsKeepSorts, HaveShapes, KeepsShapes, ListHasShape, ListWithHolesHasShape, NodeHasShape, NodeHasSort, OptionalChildHasShape, OptionalListHasShape, SpansKeepSorts}
-use Rattle.ecma_tree.specs.Nodes.{absent, dummy_span, list_node, node_of, or_absent}
+use Rattle.ecma_tree.specs.Nodes.{dummy_span, node_of}
 use Rattle.ecma_tree.specs.Sorted.{HasShape, HasSort, all_have_shapes, allows, allows_by, child_shapes, has_shape, has_shape_by, is_absent, many, maybe, maybe_many, one, with_holes}
 use Rattle.ecma_tree.specs.Spans.{without_spans}
-use Rattle.ecma_tree.specs.declared.node.Node.{Node, Node-F, fold_out-Node, fold-roll-Node, ind-Node, out-Node, roll-Node}
-use Rattle.ecma_tree.specs.declared.node.Node.TheViews.{out-roll-Node}
+use Rattle.ecma_tree.specs.declared.node.Node.{Node, Node-F, fold-roll-Node, ind-Node, out-Node, roll-Node}
 use Rattle.ecma_tree.proofs.Changing.{nowhere, same}
 use Rattle.ecma_tree.proofs.Shaping.{has_shape-parts, shapes_below}
 

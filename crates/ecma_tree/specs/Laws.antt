@@ -9,7 +9,7 @@ use Rattle.ecma_kind.specs.declared.shapes.Sort.{Sort}
 use Rattle.ecma_tree.specs.declared.node.Node.{Node}
 use Rattle.ecma_tree.specs.Changing.{changed}
 use Rattle.ecma_tree.specs.Contexts.{with_contexts}
-use Rattle.ecma_tree.specs.Nodes.{absent, list_node, list_or_absent, node_of, or_absent}
+use Rattle.ecma_tree.specs.Nodes.{list_node, list_or_absent, node_of, or_absent}
 use Rattle.ecma_tree.specs.Sorted.{HasShape, HasSort, allows, child_shapes, has_shape, many, maybe, maybe_many, one, with_holes}
 use Rattle.ecma_tree.specs.Spans.{without_spans}
 
