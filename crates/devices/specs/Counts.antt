@@ -14,10 +14,10 @@ pub record Counted (before now : ℕ) : Type 0 where
   pub later : before ≤ now
   pub one_more : now ≡ next_count before
 
--- the count never falls, and a failure was answered only where it rose
-pub record HasCause (before now : ℕ) (Failure : Type 0) : Type 0 where
-  pub later : before ≤ now
-  pub failed : Failure → Rose before now
+-- exactly one more was counted where a claim holds, and none where it does not
+pub record CountedExactlyIf (Claim : Type 0) (before now : ℕ) : Type 0 where
+  pub counted : Claim → Counted before now
+  pub still : ¬ Claim → now ≡ before
 
 -- at most so many more were counted
 pub record CountedAtMost (before now most : ℕ) : Type 0 where

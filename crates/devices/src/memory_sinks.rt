@@ -1,6 +1,6 @@
 // Sinks in memory.
 ghost use Rattle.std.specs.Prelude.{◌≡◌, ◌≤◌, ◌<◌, ◌↔◌, ◌-◌, ◌^◌, ℕ, Some, [], ◌++◌, IfOk, IfErr, OnErr, Contains, length, min, take};
-ghost use Rattle.devices.specs.Counts.{Counted, HasCause, next_count};
+ghost use Rattle.devices.specs.Counts.{Counted, CountedExactlyIf, next_count};
 ghost use Rattle.devices.specs.Sink.{Takes};
 
 use crate::{Sink, SinkError};
@@ -51,7 +51,7 @@ impl Sink for VecSink {
     fn write(&mut self, piece: &[u8]) -> Result<usize, SinkError>
         // As at every sink.
         ensures bytes { Takes (Some self.old.taken) (Some self.new.taken) result piece.now }
-        ensures cause { HasCause 0 0 (result ≡ Err SinkError.Failed) }
+        ensures faults { CountedExactlyIf (result ≡ Err SinkError.Failed) 0 0 }
         ensures call { Counted self.old.calls self.new.calls }
 
         ensures whole { IfOk result (λ n. n ≡ length piece.now) }
@@ -142,7 +142,7 @@ impl Sink for MemSink {
     fn write(&mut self, piece: &[u8]) -> Result<usize, SinkError>
         // As at every sink.
         ensures bytes { Takes (Some self.old.taken) (Some self.new.taken) result piece.now }
-        ensures cause { HasCause self.old.faults self.new.faults (result ≡ Err SinkError.Failed) }
+        ensures faults { CountedExactlyIf (result ≡ Err SinkError.Failed) self.old.faults self.new.faults }
         ensures call { Counted self.old.calls self.new.calls }
 
         // As the list and the bound say.

@@ -1,6 +1,6 @@
 // Sources in memory.
 ghost use Rattle.std.specs.Prelude.{◌≡◌, ◌≤◌, ◌<◌, ◌↔◌, ℕ, Some, IsErr, IsOk, IfOk, OnErr, Contains, length, min, drop};
-ghost use Rattle.devices.specs.Counts.{Counted, HasCause, next_count};
+ghost use Rattle.devices.specs.Counts.{Counted, CountedExactlyIf, next_count};
 ghost use Rattle.devices.specs.Source.{Reads};
 
 use crate::unread::Unread;
@@ -45,7 +45,7 @@ impl Source for SliceSource {
         // As at every source.
         requires { 0 < length buffer.old }
         ensures bytes { Reads (Some self.old.left) (Some self.new.left) result buffer.new }
-        ensures cause { HasCause 0 0 (IsErr result) }
+        ensures faults { CountedExactlyIf (IsErr result) 0 0 }
         ensures call { Counted self.old.calls self.new.calls }
 
         ensures count { result ≡ Ok (min (length buffer.new) (length self.old.left)) }
@@ -107,7 +107,7 @@ impl Source for MemSource {
         // As at every source.
         requires { 0 < length buffer.old }
         ensures bytes { Reads (Some self.old.left) (Some self.new.left) result buffer.new }
-        ensures cause { HasCause self.old.faults self.new.faults (IsErr result) }
+        ensures faults { CountedExactlyIf (IsErr result) self.old.faults self.new.faults }
         ensures call { Counted self.old.calls self.new.calls }
 
         // As the list says.

@@ -1,6 +1,6 @@
 // Where bytes go.
 ghost use Rattle.std.specs.Prelude.{◌≡◌, ℕ, List, Option};
-ghost use Rattle.devices.specs.Counts.{Counted, HasCause};
+ghost use Rattle.devices.specs.Counts.{Counted, CountedExactlyIf};
 ghost use Rattle.devices.specs.Sink.{Takes};
 ghost use Rattle.devices.specs.declared.sink.SinkError.TheVariants.{NoMemory};
 
@@ -31,16 +31,16 @@ pub trait Sink {
     /// The bytes taken, where the sink tells them.
     ghost taken: { Self → Option (List ℕ) };
 
-    /// How often it has failed. The count never falls, and stands still at 2^64 - 1.
+    /// How often it has answered that it failed. The count stands still at 2^64 - 1.
     ghost faults: { Self → ℕ };
 
-    /// How often it was called. The count never falls, and stands still at 2^64 - 1.
+    /// How often it was called. The count stands still at 2^64 - 1.
     ghost calls: { Self → ℕ };
 
     /// Takes the front of a piece, and returns how many bytes: at least one unless the piece is empty.
     /// After an error, what was taken is as before.
     fn write(&mut self, piece: &[u8]) -> Result<usize, SinkError>
         ensures bytes { Takes (taken self.old) (taken self.new) result piece.now }
-        ensures cause { HasCause (faults self.old) (faults self.new) (result ≡ Err SinkError.Failed) }
+        ensures faults { CountedExactlyIf (result ≡ Err SinkError.Failed) (faults self.old) (faults self.new) }
         ensures call { Counted (calls self.old) (calls self.new) };
 }

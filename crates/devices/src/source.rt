@@ -1,6 +1,6 @@
 // Where bytes come from.
 ghost use Rattle.std.specs.Prelude.{◌<◌, ℕ, List, Option, IsErr, length};
-ghost use Rattle.devices.specs.Counts.{Counted, HasCause};
+ghost use Rattle.devices.specs.Counts.{Counted, CountedExactlyIf};
 ghost use Rattle.devices.specs.Source.{Reads};
 
 use thiserror::Error;
@@ -15,10 +15,10 @@ pub trait Source {
     /// The bytes left, where the source tells them.
     ghost left: { Self → Option (List ℕ) };
 
-    /// How often it has failed. The count never falls, and stands still at 2^64 - 1.
+    /// How often it has answered that it failed. The count stands still at 2^64 - 1.
     ghost faults: { Self → ℕ };
 
-    /// How often it was called. The count never falls, and stands still at 2^64 - 1.
+    /// How often it was called. The count stands still at 2^64 - 1.
     ghost calls: { Self → ℕ };
 
     /// Fills the front of a buffer that is not empty with the next bytes, and returns how many: 0 at the
@@ -26,6 +26,6 @@ pub trait Source {
     fn read(&mut self, buffer: &mut [u8]) -> Result<usize, Failed>
         requires { 0 < length buffer.old }
         ensures bytes { Reads (left self.old) (left self.new) result buffer.new }
-        ensures cause { HasCause (faults self.old) (faults self.new) (IsErr result) }
+        ensures faults { CountedExactlyIf (IsErr result) (faults self.old) (faults self.new) }
         ensures call { Counted (calls self.old) (calls self.new) };
 }

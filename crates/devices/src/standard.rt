@@ -1,7 +1,7 @@
 // Any reader and any writer of the standard library as a source and a sink.
-ghost use Rattle.std.specs.Prelude.{◌≡◌, ◌<◌, ℕ, None, IsErr, IfErr, is_err, length, if◌then◌else◌};
+ghost use Rattle.std.specs.Prelude.{◌≡◌, ◌<◌, ℕ, None, IsErr, IfErr, length};
 ghost use Rattle.std.specs.Io.KnownBytes.{ReadConsumes, WriteAppends};
-ghost use Rattle.devices.specs.Counts.{Counted, HasCause, next_count};
+ghost use Rattle.devices.specs.Counts.{Counted, CountedExactlyIf};
 ghost use Rattle.devices.specs.Sink.{Takes};
 ghost use Rattle.devices.specs.Source.{Reads};
 
@@ -51,14 +51,12 @@ impl<R: Read> Source for StdSource<R> {
         // As at every source.
         requires { 0 < length buffer.old }
         ensures bytes { Reads None None result buffer.new }
-        ensures cause { HasCause self.old.faults self.new.faults (IsErr result) }
+        ensures faults { CountedExactlyIf (IsErr result) self.old.faults self.new.faults }
         ensures call { Counted self.old.calls self.new.calls }
 
         // As the reader says.
         ensures reader { ReadConsumes (R.remaining self.old.reader) (R.remaining self.new.reader)
             result buffer.new }
-        ensures fault { self.new.faults
-            ≡ (if is_err result then next_count self.old.faults else self.old.faults) }
     {
         self.calls = self.calls.saturating_add(1);
         match self.reader.read(buffer) {
@@ -112,15 +110,13 @@ impl<W: Write> Sink for StdSink<W> {
     fn write(&mut self, piece: &[u8]) -> Result<usize, SinkError>
         // As at every sink.
         ensures bytes { Takes None None result piece.now }
-        ensures cause { HasCause self.old.faults self.new.faults (result ≡ Err SinkError.Failed) }
+        ensures faults { CountedExactlyIf (result ≡ Err SinkError.Failed) self.old.faults self.new.faults }
         ensures call { Counted self.old.calls self.new.calls }
 
         // As the writer says.
         ensures writer { WriteAppends (W.contents self.old.writer) (W.contents self.new.writer)
             result piece.now }
         ensures failed { IfErr result (λ error. error ≡ SinkError.Failed) }
-        ensures fault { self.new.faults
-            ≡ (if is_err result then next_count self.old.faults else self.old.faults) }
     {
         self.calls = self.calls.saturating_add(1);
         match self.writer.write(piece) {

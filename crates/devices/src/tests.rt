@@ -184,3 +184,31 @@ fn a_writer_of_std_is_a_sink(rt: HostRuntime) -> Result<(), Fail> {
     assert_eq!(rt; written.as_slice(), b"abcdabcd".as_slice());
     Ok(())
 }
+
+#[test]
+fn errors_say_what_happened(rt: HostRuntime) -> Result<(), Fail> {
+    let alloc = rt.alloc();
+    let rows = [
+        (format!(in alloc; "{Failed}")?, "the source failed"),
+        (
+            format!(in alloc; "{}", ReadFault::SourceFailed)?,
+            "the source failed",
+        ),
+        (
+            format!(in alloc; "{}", ReadFault::NoMemory)?,
+            "out of memory",
+        ),
+        (
+            format!(in alloc; "{}", SinkError::Failed)?,
+            "the sink failed",
+        ),
+        (
+            format!(in alloc; "{}", SinkError::NoMemory)?,
+            "out of memory",
+        ),
+    ];
+    for (text, want) in &rows {
+        assert_eq!(rt; text.as_str(), *want);
+    }
+    Ok(())
+}

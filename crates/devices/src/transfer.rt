@@ -1,7 +1,7 @@
 // All that a program reads and writes: from a source to its end or a limit, and the whole of a text to a sink.
 ghost use Rattle.std.specs.Prelude.{◌≡◌, ◌≤◌, ◌<◌, ◌+◌, ◌++◌, [], length, take, IfOk, IfSome, OnErr, OnOk, vec_len};
 ghost use Rattle.std.specs.Io.KnownBytes.{append_known};
-ghost use Rattle.devices.specs.Counts.{Counted, CountedAtMost, HasCause};
+ghost use Rattle.devices.specs.Counts.{Counted, CountedAtMost, CountedExactlyIf, Rose};
 ghost use Rattle.devices.specs.Sink.{TakesPart};
 ghost use Rattle.devices.specs.Source.{HandsOut, rest_after};
 ghost use Rattle.devices.specs.declared.transfer.ReadFault.TheVariants.{NoMemory, SourceFailed};
@@ -50,8 +50,8 @@ pub fn read_up_to<S: Source>(
         (λ left. bytes.items ≡ take limit left)) }
     ensures rest { OnOk result (S.left source.new ≡ rest_after (S.left source.old) limit) }
     ensures bound { IfOk result (λ bytes. vec_len bytes ≤ limit) }
-    ensures cause { HasCause (S.faults source.old) (S.faults source.new)
-        (result ≡ Err ReadFault.SourceFailed) }
+    ensures faults { CountedExactlyIf (result ≡ Err ReadFault.SourceFailed)
+        (S.faults source.old) (S.faults source.new) }
     ensures calls { CountedAtMost (S.calls source.old) (S.calls source.new) limit }
 {
     let mut bytes = Vec::new(alloc);
@@ -75,8 +75,8 @@ fn read_more<S: Source>(
     ensures handed_out { IfOk result (HandsOut (S.left source.old) (S.left source.new) buffer.new) }
     ensures appended { IfOk result (λ n. bytes.new.items ≡ bytes.old.items ++ take n buffer.new) }
     ensures len { IfOk result (λ n. vec_len bytes.new ≡ vec_len bytes.old + n) }
-    ensures cause { HasCause (S.faults source.old) (S.faults source.new)
-        (result ≡ Err ReadFault.SourceFailed) }
+    ensures faults { CountedExactlyIf (result ≡ Err ReadFault.SourceFailed)
+        (S.faults source.old) (S.faults source.new) }
     ensures call { Counted (S.calls source.old) (S.calls source.new) }
 {
     let count = source.read(buffer)?;
@@ -88,9 +88,10 @@ fn read_more<S: Source>(
 pub fn write_all<K: Sink>(sink: &mut K, bytes: &[u8]) -> Result<(), SinkError>
     ensures ok { OnOk result (K.taken sink.new ≡ append_known (K.taken sink.old) bytes.now) }
     ensures err { OnErr result (TakesPart (K.taken sink.old) (K.taken sink.new) bytes.now) }
-    ensures cause { HasCause (K.faults sink.old) (K.faults sink.new)
-        (result ≡ Err SinkError.Failed) }
+    ensures faults { CountedExactlyIf (result ≡ Err SinkError.Failed)
+        (K.faults sink.old) (K.faults sink.new) }
     ensures calls { CountedAtMost (K.calls sink.old) (K.calls sink.new) (length bytes.now) }
+    ensures called { OnErr result (Rose (K.calls sink.old) (K.calls sink.new)) }
     ensures empty { bytes.now ≡ [] → sink.new ≡ sink.old }
 {
     let mut done = 0;

@@ -3,6 +3,7 @@ use Rattle.std.proofs.Common.{◌≡◌, ◌⊎◌, ◌≢◌, ℕ, List, Some, 
 use Rattle.std.specs.Prelude.{Option, Result, IfSome}
 use Rattle.ecma_print.specs.Layout.{layout}
 use Rattle.ecma_strip.specs.Erasure.{without_types}
+use Rattle.devices.specs.Counts.{Counted, Rose}
 use Rattle.ts_to_js.specs.declared.error.TsError.{TsError}
 use Rattle.ts_to_js.specs.declared.program.TheConstants.{DONE, REFUSED, BAD_WORD, READ_FAULT, WRITE_FAULT, NO_MEMORY}
 use Rattle.ts_to_js.specs.Conversion.{converted}
@@ -55,6 +56,10 @@ complete_by status rf wf (inr (inr (inr e))) read write no_read no_write = inr e
 
 done_by_valid : (src : List ℕ) (status : ℕ) → IsValid src → EndsWith (expected None src).status status → EndsWith DONE status
 done_by_valid src status (tree, valid) ends = subst (λ answer. EndsWith (expected_of answer).status status) (converted-valid src tree valid) ends
+
+-- where one more was counted, the count rose
+pub rose : {before now : ℕ} → Counted before now → Rose before now
+rose counted = omega (arith, counted.one_more)
 
 -- a run, whose faults have their causes
 pub is_run : (bad left : Option (List ℕ)) (status : ℕ) (read_fault write_fault : Type 0) (out out' err err' : Seen) (src : List ℕ) → IfSome left (λ all. src ≡ first_read all)

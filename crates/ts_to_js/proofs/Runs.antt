@@ -5,7 +5,7 @@ use Rattle.std.proofs.lemmas.List.{append-nil, take_all}
 use Rattle.std.specs.Io.KnownBytes.{append_known}
 use Rattle.devices.specs.declared.sink.SinkError.{SinkError}
 use Rattle.devices.specs.declared.sink.SinkError.TheVariants.{Failed, NoMemory}
-use Rattle.devices.specs.Counts.{CountedAtMost, HasCause}
+use Rattle.devices.specs.Counts.{CountedAtMost, CountedExactlyIf}
 use Rattle.devices.specs.Sink.{TakesPart}
 use Rattle.ts_to_js.specs.declared.program.TheConstants.{DONE, REFUSED, BAD_WORD, READ_FAULT, WRITE_FAULT, NO_MEMORY}
 use Rattle.ts_to_js.specs.declared.error.TsError.{TsError}
@@ -41,6 +41,7 @@ ran-no_memory x out err = record {
   out_same = λ _. refl;
   err_front = takes_front-none err x.line;
   err_all = λ told _. absurd (elim told [ inl e ↦ omega arith | inr e ↦ omega arith ]);
+  err_still = λ _. refl;
   err_same = λ _. refl;
 }
 
@@ -53,6 +54,7 @@ ran-read_fault x out err known = record {
   out_same = λ _. refl;
   err_front = takes_front-none err x.line;
   err_all = λ told _. absurd (elim told [ inl e ↦ omega arith | inr e ↦ omega arith ]);
+  err_still = λ _. refl;
   err_same = λ _. refl;
 }
 
@@ -64,36 +66,43 @@ not_same status (inr told) (inl e) = omega (arith, told, e)
 not_same status (inr told) (inr (inl e)) = omega (arith, told, e)
 not_same status (inr told) (inr (inr e)) = omega (arith, told, e)
 
+told_not_none : (status : ℕ) → (status ≡ REFUSED) ⊎ (status ≡ BAD_WORD) → status ≢ NO_MEMORY
+told_not_none status (inl told) none = omega (arith, told, none)
+told_not_none status (inr told) none = omega (arith, told, none)
+
 -- a line was to be written: the status stays where that failed
 pub ran-reported : {T : Type 0} (status : ℕ) (line : List ℕ) (out err err' : Seen) (writing : Result T SinkError) → (status ≡ REFUSED) ⊎ (status ≡ BAD_WORD)
     → OnOk writing (TakesAll err err' line) → OnErr writing (TakesPart err.taken err'.taken line)
-    → HasCause err.faults err'.faults (writing ≡ Err Failed) → CountedAtMost err.calls err'.calls (length line)
+    → CountedExactlyIf (writing ≡ Err Failed) err.faults err'.faults → CountedAtMost err.calls err'.calls (length line)
     → Ran (record { status = status; text = []; line = line }) (reported_status writing status) out out err err'
-ran-reported status line out err err' (Ok written) told whole part cause calls = record {
+ran-reported status line out err err' (Ok written) told whole part faults calls = record {
   ends = inl refl;
   out_front = takes_front-none out [];
   out_all = λ done. absurd (elim told [ inl e ↦ omega (arith, done, e) | inr e ↦ omega (arith, done, e) ]);
   out_same = λ _. refl;
   err_front = takes_front-all err err' line whole calls;
   err_all = λ _ _. whole;
+  err_still = λ none. absurd (told_not_none status told none);
   err_same = λ same. absurd (not_same status told same);
 }
-ran-reported status line out err err' (Err Failed) told whole part cause calls = record {
+ran-reported status line out err err' (Err Failed) told whole part faults calls = record {
   ends = inl refl;
   out_front = takes_front-none out [];
   out_all = λ done. absurd (elim told [ inl e ↦ omega (arith, done, e) | inr e ↦ omega (arith, done, e) ]);
   out_same = λ _. refl;
   err_front = takes_front-part err err' line part calls;
-  err_all = λ _ silent. absurd (silent (cause.failed refl));
+  err_still = λ none. absurd (told_not_none status told none);
+  err_all = λ _ silent. absurd (silent (omega (arith, (faults.counted refl).one_more)));
   err_same = λ same. absurd (not_same status told same);
 }
-ran-reported status line out err err' (Err NoMemory) told whole part cause calls = record {
+ran-reported status line out err err' (Err NoMemory) told whole part faults calls = record {
   ends = inr (inr (inr refl));
   out_front = takes_front-none out [];
   out_all = λ done. absurd (omega (arith, done));
   out_same = λ _. refl;
   err_front = takes_front-part err err' line part calls;
   err_all = λ told _. absurd (elim told [ inl e ↦ omega (arith, e) | inr e ↦ omega (arith, e) ]);
+  err_still = λ _. faults.still (λ failed. cc);
   err_same = λ same. absurd (elim same [ inl e ↦ omega (arith, e) | inr later ↦ elim later [ inl e ↦ omega (arith, e) | inr e ↦ omega (arith, e) ] ]);
 }
 
@@ -114,13 +123,13 @@ expected_of-known (Err refusal) = λ e. omega (arith, e)
 -- the line of a refusal was to be written
 pub refuses-reported : {T : Type 0} (refusal : TsError) (err err' : Seen) (writing : Result T SinkError) → (refusal ≢ error.NoMemory)
     → OnOk writing (TakesAll err err' (fault_line refusal)) → OnErr writing (TakesPart err.taken err'.taken (fault_line refusal))
-    → HasCause err.faults err'.faults (writing ≡ Err Failed) → CountedAtMost err.calls err'.calls (length (fault_line refusal))
+    → CountedExactlyIf (writing ≡ Err Failed) err.faults err'.faults → CountedAtMost err.calls err'.calls (length (fault_line refusal))
     → Refuses refusal (reported_status writing REFUSED) err err'
-refuses-reported error.TooLong err err' writing other whole part cause calls = λ out. ran-reported REFUSED (fault_line error.TooLong) out err err' writing (inl refl) whole part cause calls
-refuses-reported error.NotUtf8 err err' writing other whole part cause calls = λ out. ran-reported REFUSED (fault_line error.NotUtf8) out err err' writing (inl refl) whole part cause calls
-refuses-reported (error.TooDeep at) err err' writing other whole part cause calls = λ out. ran-reported REFUSED (fault_line (error.TooDeep at)) out err err' writing (inl refl) whole part cause calls
-refuses-reported (error.Syntax at) err err' writing other whole part cause calls = λ out. ran-reported REFUSED (fault_line (error.Syntax at)) out err err' writing (inl refl) whole part cause calls
-refuses-reported error.NoMemory err err' writing other whole part cause calls = absurd (other refl)
+refuses-reported error.TooLong err err' writing other whole part faults calls = λ out. ran-reported REFUSED (fault_line error.TooLong) out err err' writing (inl refl) whole part faults calls
+refuses-reported error.NotUtf8 err err' writing other whole part faults calls = λ out. ran-reported REFUSED (fault_line error.NotUtf8) out err err' writing (inl refl) whole part faults calls
+refuses-reported (error.TooDeep at) err err' writing other whole part faults calls = λ out. ran-reported REFUSED (fault_line (error.TooDeep at)) out err err' writing (inl refl) whole part faults calls
+refuses-reported (error.Syntax at) err err' writing other whole part faults calls = λ out. ran-reported REFUSED (fault_line (error.Syntax at)) out err err' writing (inl refl) whole part faults calls
+refuses-reported error.NoMemory err err' writing other whole part faults calls = absurd (other refl)
 
 -- a run that was refused is the one that is expected
 pub ran-refused : (refusal : TsError) (answer : Result (List ℕ) TsError) (status : ℕ) (out err err' : Seen) → Answers (Err refusal) answer → Refuses refusal status err err'

@@ -81,6 +81,7 @@ pub record Ran (x : Expected) (status : ℕ) (out out' err err' : Seen) : Type 0
   pub out_same : (status ≡ REFUSED) ⊎ (status ≡ BAD_WORD) ⊎ (status ≡ READ_FAULT) → out' ≡ out
   pub err_front : TakesFront err err' x.line
   pub err_all : (status ≡ REFUSED) ⊎ (status ≡ BAD_WORD) → ¬ (Rose err.faults err'.faults) → TakesAll err err' x.line
+  pub err_still : status ≡ NO_MEMORY → err'.faults ≡ err.faults
   pub err_same : (status ≡ DONE) ⊎ (status ≡ READ_FAULT) ⊎ (status ≡ WRITE_FAULT) → err' ≡ err
 
 -- a refusal was told on `err`: a line, and the status of a refused run, or for want of memory nothing

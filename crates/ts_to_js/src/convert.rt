@@ -1,15 +1,16 @@
-ghost use Rattle.std.specs.Prelude.{◌≡◌, ◌≤◌, ◌⊎◌, length, true, false, MatchOption, IfOk, IsOk};
+ghost use Rattle.std.specs.Prelude.{◌≡◌, ◌≤◌, ◌⊎◌, length, true, false, MatchOption, IfOk, IfErr, IsOk};
 ghost use Rattle.std.specs.Str.{is_utf8};
 ghost use Rattle.ecma_text.specs.Modules.{answer_of, reads, deepest};
 ghost use Rattle.ts_to_js.specs.Conversion.{converted, printed};
 ghost use Rattle.ts_to_js.specs.Answer.{Answers};
 ghost use Rattle.ts_to_js.specs.Headline.{IsConversion, IsValid};
+ghost use Rattle.ts_to_js.specs.Refusals.{refusal_of};
 
 use crate::error::TsError;
 use ecma_print::print_module;
 use ecma_strip::strip_types;
-use ecma_text::read_module;
-use ecma_tree::Session;
+use ecma_text::{ReadError, read_module};
+use ecma_tree::{Module, Session};
 use std::alloc::Global;
 
 /// How many bytes a module may have.
@@ -27,6 +28,7 @@ pub fn ts_to_js(
     options: &Options,
 ) -> Result<Vec<u8>, TsError>
     // The text is the layout of the tree without its types; else the first refusal that holds is answered.
+    // Want of memory alone may come instead, but for `TooLong` and `NotUtf8`, which take none.
     ensures text { Answers result (converted src.now) }
     // It is a plain module that does what the source does.
     ensures conversion { IfOk result (λ text. IsConversion src.now text.items) }
@@ -64,7 +66,15 @@ fn convert_text(alloc: Global, text: &str) -> Result<Vec<u8>, TsError>
     requires { length text.now ≤ LIMIT }
     ensures { Answers result (printed (answer_of (reads true text.now deepest))) }
 {
-    let mut tree = read_module(alloc, text)?;
+    convert_reading(alloc, read_module(alloc, text))
+}
+
+/// Prints a module without its types, or says why there is none.
+fn convert_reading(alloc: Global, reading: Result<Module, ReadError>) -> Result<Vec<u8>, TsError>
+    ensures text { IfOk reading (λ tree. Answers result (printed (Ok tree))) }
+    ensures refusal { IfErr reading (λ reason. result ≡ Err (refusal_of reason)) }
+{
+    let mut tree = reading?;
     strip_types(alloc, &mut tree);
     Ok(print_module(alloc, &tree)?)
 }

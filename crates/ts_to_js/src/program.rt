@@ -1,6 +1,7 @@
-ghost use Rattle.std.specs.Prelude.{◌≡◌, ◌≢◌, ◌⊎◌, ◌+◌, ℕ, List, IfSome, IsSome};
+ghost use Rattle.std.specs.Prelude.{◌≡◌, ◌≢◌, ◌⊎◌, ◌+◌, ℕ, List, Result, IfSome, IsSome};
 ghost use Rattle.std.specs.Option.{option_copied};
-ghost use Rattle.devices.specs.Counts.{CountedAtMost, HasCause, Rose};
+ghost use Rattle.devices.specs.Counts.{CountedAtMost, CountedExactlyIf, Rose};
+ghost use Rattle.ts_to_js.specs.Answer.{Answers};
 ghost use Rattle.ts_to_js.specs.Conversion.{converted};
 ghost use Rattle.ts_to_js.specs.Running.{bad_word, expected_of, first_read, seen, written_status, reported_status, Refuses, Ran, IsRun};
 
@@ -35,13 +36,14 @@ pub fn run<S: Source, O: Sink, E: Sink>(
     out: &mut O,
     err: &mut E,
 ) -> u8
-    // With a bad word nothing is read.
+    // With a bad word nothing is read, and want of memory is that of `err`.
     ensures unread { IsSome (bad_word words.now) → source.new ≡ source.old }
+    ensures memory { IsSome (bad_word words.now) → result ≡ NO_MEMORY → Rose (E.calls err.old) (E.calls err.new) }
     ensures source_calls { CountedAtMost (S.calls source.old) (S.calls source.new) (LIMIT + 2) }
 
-    // A fault is answered only where the device counted it.
-    ensures read_fault { HasCause (S.faults source.old) (S.faults source.new) (result ≡ READ_FAULT) }
-    ensures write_fault { HasCause (O.faults out.old) (O.faults out.new) (result ≡ WRITE_FAULT) }
+    // A fault is answered exactly where the device answered it, which it counts.
+    ensures read_fault { CountedExactlyIf (result ≡ READ_FAULT) (S.faults source.old) (S.faults source.new) }
+    ensures write_fault { CountedExactlyIf (result ≡ WRITE_FAULT) (O.faults out.old) (O.faults out.new) }
 
     // Status, output and errors are those of the words and the bytes that were read; what is written is
     // a conversion of them.
@@ -73,8 +75,8 @@ fn run_source<S: Source, O: Sink, E: Sink>(
     err: &mut E,
 ) -> u8
     ensures source_calls { CountedAtMost (S.calls source.old) (S.calls source.new) (LIMIT + 2) }
-    ensures read_fault { HasCause (S.faults source.old) (S.faults source.new) (result ≡ READ_FAULT) }
-    ensures write_fault { HasCause (O.faults out.old) (O.faults out.new) (result ≡ WRITE_FAULT) }
+    ensures read_fault { CountedExactlyIf (result ≡ READ_FAULT) (S.faults source.old) (S.faults source.new) }
+    ensures write_fault { CountedExactlyIf (result ≡ WRITE_FAULT) (O.faults out.old) (O.faults out.new) }
     ensures run { (src : List ℕ) × IfSome (S.left source.old) (λ left. src ≡ first_read left)
         × Ran (expected_of (converted src)) result (seen O.taken O.faults O.calls out.old) (seen O.taken O.faults O.calls out.new)
         (seen E.taken E.faults E.calls err.old) (seen E.taken E.faults E.calls err.new) }
@@ -88,13 +90,28 @@ fn run_source<S: Source, O: Sink, E: Sink>(
 
 /// Converts the bytes, and writes the text or the line of the refusal.
 fn convert<O: Sink, E: Sink>(alloc: Global, src: &[u8], out: &mut O, err: &mut E) -> u8
-    ensures write_fault { HasCause (O.faults out.old) (O.faults out.new) (result ≡ WRITE_FAULT) }
+    ensures write_fault { CountedExactlyIf (result ≡ WRITE_FAULT) (O.faults out.old) (O.faults out.new) }
     ensures no_read_fault { result ≢ READ_FAULT }
     ensures run { Ran (expected_of (converted src.now)) result (seen O.taken O.faults O.calls out.old) (seen O.taken O.faults O.calls out.new)
         (seen E.taken E.faults E.calls err.old) (seen E.taken E.faults E.calls err.new) }
 {
     let mut session = Session::new(u32::MAX);
-    match ts_to_js(alloc, &mut session, src, &Options {}) {
+    let answer = ts_to_js(alloc, &mut session, src, &Options {});
+    tell(answer, out, err)
+}
+
+/// Writes the text or the line of the refusal.
+fn tell<O: Sink, E: Sink>(answer: Result<Vec<u8>, TsError>, out: &mut O, err: &mut E) -> u8
+    ensures write_fault { CountedExactlyIf (result ≡ WRITE_FAULT) (O.faults out.old) (O.faults out.new) }
+    ensures no_read_fault { result ≢ READ_FAULT }
+    // Want of memory is that of the answer, or that of a sink.
+    ensures memory { answer ≢ Err TsError.NoMemory → result ≡ NO_MEMORY
+        → (Rose (O.calls out.old) (O.calls out.new)) ⊎ (Rose (E.calls err.old) (E.calls err.new)) }
+    ensures run { (conversion : Result (List ℕ) TsError) → Answers answer conversion
+        → Ran (expected_of conversion) result (seen O.taken O.faults O.calls out.old) (seen O.taken O.faults O.calls out.new)
+        (seen E.taken E.faults E.calls err.old) (seen E.taken E.faults E.calls err.new) }
+{
+    match answer {
         Ok(text) => written(write_all(out, &text)),
         Err(refusal) => refuse(err, refusal),
     }
@@ -104,6 +121,8 @@ fn convert<O: Sink, E: Sink>(alloc: Global, src: &[u8], out: &mut O, err: &mut E
 fn refuse<E: Sink>(err: &mut E, refusal: TsError) -> u8
     ensures status { (result ≡ REFUSED) ⊎ (result ≡ NO_MEMORY) }
     ensures line { Refuses refusal result (seen E.taken E.faults E.calls err.old) (seen E.taken E.faults E.calls err.new) }
+    // Want of memory is the refusal, or that of the sink.
+    ensures memory { refusal ≢ TsError.NoMemory → result ≡ NO_MEMORY → Rose (E.calls err.old) (E.calls err.new) }
 {
     match refusal {
         TsError::NoMemory => NO_MEMORY,

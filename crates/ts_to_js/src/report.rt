@@ -1,7 +1,7 @@
 //! The line that says why a run came to nothing. It is written piece by piece, and takes no memory.
 ghost use Rattle.std.specs.Prelude.{◌≡◌, ◌++◌, ◌∷◌, [], length, OnOk, OnErr, codes};
 ghost use Rattle.std.specs.Io.KnownBytes.{append_known};
-ghost use Rattle.devices.specs.Counts.{CountedAtMost, HasCause};
+ghost use Rattle.devices.specs.Counts.{CountedAtMost, CountedExactlyIf, Rose};
 ghost use Rattle.devices.specs.Sink.{TakesPart};
 ghost use Rattle.ts_to_js.specs.Lines.{line, fault_head, fault_place, fault_line};
 
@@ -12,8 +12,9 @@ use devices::{Sink, SinkError, write_all};
 fn write_text<K: Sink>(sink: &mut K, text: &str) -> Result<(), SinkError>
     ensures ok { OnOk result (K.taken sink.new ≡ append_known (K.taken sink.old) text.now) }
     ensures err { OnErr result (TakesPart (K.taken sink.old) (K.taken sink.new) text.now) }
-    ensures cause { HasCause (K.faults sink.old) (K.faults sink.new) (result ≡ Err SinkError.Failed) }
+    ensures faults { CountedExactlyIf (result ≡ Err SinkError.Failed) (K.faults sink.old) (K.faults sink.new) }
     ensures calls { CountedAtMost (K.calls sink.old) (K.calls sink.new) (length text.now) }
+    ensures called { OnErr result (Rose (K.calls sink.old) (K.calls sink.new)) }
 {
     write_all(sink, text.as_bytes())
 }
@@ -23,8 +24,9 @@ fn write_text<K: Sink>(sink: &mut K, text: &str) -> Result<(), SinkError>
 fn write_both<K: Sink>(sink: &mut K, first: &str, second: &str) -> Result<(), SinkError>
     ensures ok { OnOk result (K.taken sink.new ≡ append_known (K.taken sink.old) (first.now ++ second.now)) }
     ensures err { OnErr result (TakesPart (K.taken sink.old) (K.taken sink.new) (first.now ++ second.now)) }
-    ensures cause { HasCause (K.faults sink.old) (K.faults sink.new) (result ≡ Err SinkError.Failed) }
+    ensures faults { CountedExactlyIf (result ≡ Err SinkError.Failed) (K.faults sink.old) (K.faults sink.new) }
     ensures calls { CountedAtMost (K.calls sink.old) (K.calls sink.new) (length (first.now ++ second.now)) }
+    ensures called { OnErr result (Rose (K.calls sink.old) (K.calls sink.new)) }
 {
     write_text(sink, first)?;
     write_text(sink, second)
@@ -35,8 +37,9 @@ fn write_both<K: Sink>(sink: &mut K, first: &str, second: &str) -> Result<(), Si
 pub(crate) fn write_line<K: Sink>(sink: &mut K, head: &str, tail: &str) -> Result<(), SinkError>
     ensures ok { OnOk result (K.taken sink.new ≡ append_known (K.taken sink.old) (line head.now tail.now)) }
     ensures err { OnErr result (TakesPart (K.taken sink.old) (K.taken sink.new) (line head.now tail.now)) }
-    ensures cause { HasCause (K.faults sink.old) (K.faults sink.new) (result ≡ Err SinkError.Failed) }
+    ensures faults { CountedExactlyIf (result ≡ Err SinkError.Failed) (K.faults sink.old) (K.faults sink.new) }
     ensures calls { CountedAtMost (K.calls sink.old) (K.calls sink.new) (length (line head.now tail.now)) }
+    ensures called { OnErr result (Rose (K.calls sink.old) (K.calls sink.new)) }
 {
     write_text(sink, head)?;
     write_both(sink, tail, "\n")
@@ -46,8 +49,9 @@ pub(crate) fn write_line<K: Sink>(sink: &mut K, head: &str, tail: &str) -> Resul
 pub(crate) fn write_fault<K: Sink>(sink: &mut K, refusal: TsError) -> Result<(), SinkError>
     ensures ok { OnOk result (K.taken sink.new ≡ append_known (K.taken sink.old) (fault_line refusal)) }
     ensures err { OnErr result (TakesPart (K.taken sink.old) (K.taken sink.new) (fault_line refusal)) }
-    ensures cause { HasCause (K.faults sink.old) (K.faults sink.new) (result ≡ Err SinkError.Failed) }
+    ensures faults { CountedExactlyIf (result ≡ Err SinkError.Failed) (K.faults sink.old) (K.faults sink.new) }
     ensures calls { CountedAtMost (K.calls sink.old) (K.calls sink.new) (length (fault_line refusal)) }
+    ensures called { OnErr result (Rose (K.calls sink.old) (K.calls sink.new)) }
 {
     let head = fault_head(refusal);
     match fault_place(refusal) {

@@ -1,6 +1,7 @@
 use super::*;
 use devices::VecSink;
 use std::alloc::{AllocError, Global};
+use std::env::{Env, FillError};
 use std::process::Abort;
 use std::rc::RcStr;
 use std::test::Fail;
@@ -227,5 +228,66 @@ fn the_status_of_a_refusal_stays_where_its_line_fails(rt: HostRuntime) -> Result
     let status = failing(alloc, Vec::new(alloc), &mut out, &mut err, "1 2")?;
     assert_eq!(rt; status, REFUSED);
     assert_eq!(rt; err.taken(), b"error: ".as_slice());
+    Ok(())
+}
+
+#[test]
+fn errors_say_why(rt: HostRuntime) -> Result<(), Fail> {
+    let alloc = rt.alloc();
+    let rows = [
+        (TsError::TooLong, "the source is too long"),
+        (TsError::NotUtf8, "the source is not UTF-8"),
+        (TsError::TooDeep { at: 511 }, "too deep at 511"),
+        (TsError::Syntax { at: 12 }, "syntax error at 12"),
+        (TsError::NoMemory, "out of memory"),
+    ];
+    for (error, want) in rows {
+        assert_eq!(rt; format!(in alloc; "{error}")?.as_str(), want);
+    }
+    Ok(())
+}
+
+/// An environment of words alone, the first of which is the program's name.
+struct Words<'a> {
+    all: &'a [&'a [u8]],
+}
+
+impl Env for Words<'_> {
+    fn arg(&self, i: usize, buf: &mut [u8]) -> Result<usize, FillError> {
+        let Some(word) = self.all.get(i) else {
+            return Err(FillError::NotPresent);
+        };
+        if word.len() > buf.len() {
+            return Err(FillError::TooLong);
+        }
+        buf[..word.len()].copy_from_slice(word);
+        Ok(word.len())
+    }
+
+    fn var(&self, _name: &str, _buf: &mut [u8]) -> Result<usize, FillError> {
+        Err(FillError::NotPresent)
+    }
+
+    fn var_at(&self, _i: usize, _buf: &mut [u8]) -> Result<usize, FillError> {
+        Err(FillError::NotPresent)
+    }
+}
+
+#[test]
+fn the_words_are_those_behind_the_name(rt: HostRuntime) -> Result<(), Fail> {
+    let long = "ö".repeat(rt.alloc(), 300)?;
+    let all = [
+        b"ts_to_js".as_slice(),
+        b"--check".as_slice(),
+        b"".as_slice(),
+        b"a\xFFb".as_slice(),
+        long.as_bytes(),
+    ];
+    let words = words::words(&Words { all: &all }, rt.alloc())?;
+    let want = ["--check", "", "\u{FFFD}", long.as_str()];
+    assert_eq!(rt; words.len(), want.len());
+    for (word, want) in words.iter().zip(want) {
+        assert_eq!(rt; word.as_str(), want);
+    }
     Ok(())
 }

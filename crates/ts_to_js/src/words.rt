@@ -7,7 +7,7 @@ use std::rc::RcStr;
 const NO_TEXT: &str = "\u{FFFD}";
 
 /// The words behind the program's name, in their order.
-pub fn words(rt: &impl Env, alloc: Global) -> Result<Vec<RcStr>, AllocError> {
+pub(crate) fn words(rt: &impl Env, alloc: Global) -> Result<Vec<RcStr>, AllocError> {
     let mut words = Vec::new(alloc);
     for index in 1..usize::MAX {
         match word(rt, alloc, index)? {

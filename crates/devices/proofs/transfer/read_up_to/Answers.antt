@@ -1,4 +1,4 @@
-use Rattle.std.proofs.Common.{arith, ℕ, ◌≤◌, length, length-take}
+use Rattle.std.proofs.Common.{◌∙◌, arith, ℕ, ◌≤◌, length, length-take}
 use Rattle.devices.proofs.Known.{has_read-more, has_read-end}
 use Rattle.devices.proofs.transfer.read_up_to.Goals as goal
 
@@ -19,7 +19,7 @@ loop-buffer-preserved g c =
     record {
       within = omega (arith, read.handed_out.bound, read.len);
       read = rw read.appended (has_read-more c.loop-buffer.invariant.read read.handed_out);
-      faults = omega (arith, read.cause.later);
+      faults = read.faults.still (λ failed. cc) ∙ c.loop-buffer.invariant.faults;
       calls = record {
         later = omega (arith, read.call.later);
         at_most = omega (arith, read.call.one_more, read.len);

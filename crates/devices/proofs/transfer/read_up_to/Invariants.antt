@@ -1,4 +1,4 @@
-use Rattle.std.proofs.Common.{◌-◌, ◌≤◌, vec_len}
+use Rattle.std.proofs.Common.{◌-◌, ◌≤◌, ◌≡◌, vec_len}
 use Rattle.devices.specs.Counts.{CountedAtMost}
 use Rattle.devices.proofs.Known.{HasRead}
 use Rattle.devices.proofs.transfer.read_up_to.Given as goal
@@ -7,7 +7,7 @@ abbrev pub invariant-loop-buffer : goal.invariant-loop-buffer
 invariant-loop-buffer g l = record {
   within : vec_len l.bytes ≤ l.limit;
   read : HasRead (g.S.Source.left l.initial.source) (g.S.Source.left l.source) l.bytes.items;
-  faults : g.S.Source.faults l.initial.source ≤ g.S.Source.faults l.source;
+  faults : g.S.Source.faults l.source ≡ g.S.Source.faults l.initial.source;
   calls : CountedAtMost (g.S.Source.calls l.initial.source) (g.S.Source.calls l.source) (vec_len l.bytes);
 }
 

@@ -1,4 +1,4 @@
-use Rattle.std.proofs.Common.{arith, ap, length, length-drop, ℕ, ◌<◌}
+use Rattle.std.proofs.Common.{◌∙◌, arith, ap, length, length-drop, ℕ, ◌<◌}
 use Rattle.devices.proofs.Known.{taken-more, rest_of_slice}
 use Rattle.devices.proofs.transfer.write_all.Goals as goal
 
@@ -10,7 +10,7 @@ loop-done-preserved g c =
     record {
       within = omega (arith, length-drop {A = ℕ}, ap length tail, write.bytes.bound);
       taken = taken-more _ c.args.bytes.now _ c.loop-done.invariant.taken write.bytes tail;
-      faults = omega (arith, write.cause.later);
+      faults = write.faults.still (λ failed. cc) ∙ c.loop-done.invariant.faults;
       calls = record {
         later = omega (arith, write.call.later);
         at_most = omega (arith, write.call.one_more);

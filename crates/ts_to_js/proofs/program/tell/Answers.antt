@@ -1,10 +1,14 @@
-use Rattle.std.proofs.Common.{arith}
+use Rattle.std.proofs.Common.{refl, ap, inr, Err, subst, ◌∙◌}
+use Rattle.ts_to_js.specs.Answer.{Answers}
 use Rattle.ts_to_js.proofs.Runs.{ran-refused, no_fault}
-use Rattle.ts_to_js.proofs.program.convert.Goals as goal
+use Rattle.ts_to_js.proofs.program.tell.Goals as goal
 
 pub returns-in-Err : goal.returns-in-Err
-returns-in-Err g c = record {
-  write_fault = record { later = omega arith; failed = λ fault. absurd ((no_fault c.refuse.result c.refuse.ensures.status).0 fault) };
-  no_read_fault = (no_fault c.refuse.result c.refuse.ensures.status).1;
-  run = ran-refused c.in-Err.refusal _ c.refuse.result _ _ _ c.in-Err.ensures.text c.refuse.ensures.line;
-}
+returns-in-Err g c =
+    let neither = no_fault c.refuse.result c.refuse.ensures.status in
+    record {
+      write_fault = record { counted = λ fault. absurd (neither.0 fault); still = λ _. refl };
+      no_read_fault = neither.1;
+      memory = λ other none. inr (c.refuse.ensures.memory (λ same. other (c.in-Err.is ∙ ap Err same)) none);
+      run = λ conversion answers. ran-refused c.in-Err.refusal conversion c.refuse.result _ _ _ (subst (λ answer. Answers answer conversion) c.in-Err.is answers) c.refuse.ensures.line;
+    }

@@ -1,0 +1,17 @@
+use crate::program::{NO_MEMORY, run};
+use crate::words::words;
+use devices::{StdSink, StdSource};
+use std::process::ExitCode;
+
+/// The program: [`run`] with the words behind its name, from standard input to standard output, with its
+/// refusals on standard error. It ends with the status of the run, or with `NO_MEMORY` where there is none for the words.
+pub fn command(rt: &HostRuntime) -> ExitCode {
+    let Ok(words) = words(rt, rt.alloc()) else {
+        return ExitCode::from(NO_MEMORY);
+    };
+    let mut source = StdSource::new(rt.stdin());
+    let mut out = StdSink::new(rt.stdout());
+    let mut err = StdSink::new(rt.stderr());
+    let status = run(rt.alloc(), &words, &mut source, &mut out, &mut err);
+    ExitCode::from(status)
+}
