@@ -248,11 +248,12 @@ fn errors_say_why(rt: HostRuntime) -> Result<(), Fail> {
 }
 
 /// An environment of words alone, the first of which is the program's name.
-struct Words<'a> {
+#[derive(Drop)]
+struct Arguments<'a> {
     all: &'a [&'a [u8]],
 }
 
-impl Env for Words<'_> {
+impl Env for Arguments<'_> {
     fn arg(&self, i: usize, buf: &mut [u8]) -> Result<usize, FillError> {
         let Some(word) = self.all.get(i) else {
             return Err(FillError::NotPresent);
@@ -283,7 +284,7 @@ fn the_words_are_those_behind_the_name(rt: HostRuntime) -> Result<(), Fail> {
         b"a\xFFb".as_slice(),
         long.as_bytes(),
     ];
-    let words = words::words(&Words { all: &all }, rt.alloc())?;
+    let words = words::words(&Arguments { all: &all }, rt.alloc())?;
     let want = ["--check", "", "\u{FFFD}", long.as_str()];
     assert_eq!(rt; words.len(), want.len());
     for (word, want) in words.iter().zip(want) {
