@@ -5,11 +5,11 @@ use Rattle.std.specs.Str.{IsUtf8}
 use Rattle.std.proofs.lemmas.Str.{IsCharBoundary-after_ascii, chars-nil}
 use Rattle.ecma_number.specs.Blanks.{is_white_space, is_line_terminator, is_blank}
 use Rattle.ecma_lex.specs.Text.{cuts, after}
-use Rattle.ecma_lex.specs.Parts.{passing, code_point, ◌>>◌, ◌//◌, then_at}
-use Rattle.ecma_lex.specs.Blanks.{line, single_line_comment, multi_line_comment, comment_open, comment_close, comment_chars, comment_rest, comment, blank, blanks, has_line_terminator, skipped}
+use Rattle.ecma_lex.specs.Parts.{passing, code_point, ◌//◌, then_at}
+use Rattle.ecma_lex.specs.Blanks.{line, comment_close, comment_chars, comment_rest, comment, blank, blanks, has_line_terminator, skipped}
 use Rattle.ecma_lex.specs.declared.blanks.Skipped.{Skipped}
 use Rattle.ecma_lex.proofs.Steps.{ascii_here, after_step, after_not, may_cut}
-use Rattle.ecma_lex.proofs.Repeats.{Moves, moves_passing, moves_then, moves_or, moves_forward, forward_then, forward_many, moves_unless, moves_any, many_stands, many_none, many_some, up_to_none, up_to_some, up_to_end, then_some, then_none, or_first, or_second, passing_stands, passing_fails, passing_end, any_stands, code_point_fails, code_point_end}
+use Rattle.ecma_lex.proofs.Repeats.{Moves, moves_passing, moves_then, moves_or, moves_forward, forward_then, forward_many, moves_unless, moves_any, many_stands, many_none, many_some, up_to_none, up_to_some, up_to_end, then_some, then_none, passing_stands, passing_fails, passing_end, any_stands, code_point_end}
 
 pub ascii_width : (c : ℕ) → c < 128 → len_utf8 c ≡ 1
 ascii_width c h = grind arith
@@ -41,9 +41,7 @@ module _ (text : List ℕ) where
 
   pub rest_ends : (i : ℕ) → after text i ≡ [] → comment_rest text i ≡ None
   unfolding comment_rest
-  rest_ends i e =
-      let h = then_none text (code_point 42) (code_point 47) i (code_point_end text 42 i e) in
-      then_some text comment_chars comment_close i i (up_to_end text comment_close i h (passing_end text (λ c. true) i e)) ∙ h
+  rest_ends i e = let h = up_to_end text comment_close i (simp e) (simp e) in simp (h, e)
 
   -- a byte of ASCII that is no star closes no comment
   pub plain_step : (i : ℕ) → IsUtf8 text → i < length text → get_or text i 0 < 128 → (get_or text i 0 ≡ 42 → ⊥) → comment_rest text (i + 1) ≡ comment_rest text i
@@ -51,7 +49,7 @@ module _ (text : List ℕ) where
       let e = after_step text i (get_or text i 0) u (ascii_here text i l a) in
       let f : nat_eq (get_or text i 0) 42 ≡ false = grind arith in
       subst (λ k. comment_rest text (i + k) ≡ comment_rest text i) (ascii_width (get_or text i 0) a)
-      (rest_more i (get_or text i 0) e (then_none text (code_point 42) (code_point 47) i (code_point_fails text 42 (get_or text i 0) i _ e f)))
+      (rest_more i (get_or text i 0) e (simp (e, f)))
 
   -- behind it the text may be cut
   pub plain_cut : (i : ℕ) → IsUtf8 text → i < length text → get_or text i 0 < 128 → cuts text (i + 1) ≡ true
@@ -81,28 +79,21 @@ module _ (text : List ℕ) where
   unfolding blanks
   blanks_end i h = many_none text blank i h
 
-  no_comment : (i : ℕ) → code_point 47 text i ≡ None → comment text i ≡ None
-  unfolding comment
-  no_comment i h =
-      or_second text single_line_comment multi_line_comment i (then_none text (code_point 47) (code_point 47 >> line) i h)
-      ∙ then_none text comment_open comment_rest i (then_none text (code_point 47) (code_point 42) i h)
-
   pub blank_slash : (i c : ℕ) (cs : List ℕ) → after text i ≡ c ∷ cs → c ≡ 47 → blank text i ≡ comment text i
   unfolding blank
-  blank_slash i c cs e h =
-      let f : after text i ≡ 47 ∷ cs = e ∙ ap (λ x. x ∷ cs) h in
-      or_second text (passing is_white_space) (passing is_line_terminator // comment) i (passing_fails text is_white_space i 47 cs f refl)
-      ∙ or_second text (passing is_line_terminator) comment i (passing_fails text is_line_terminator i 47 cs f refl)
+  blank_slash i c cs e h = simp (e, h)
+
+  no_comment : (i c : ℕ) (cs : List ℕ) → after text i ≡ c ∷ cs → (c ≡ 47 → ⊥) → comment text i ≡ None
+  unfolding comment
+  no_comment i c cs e n = let h : nat_eq c 47 ≡ false = grind arith in simp (e, h)
 
   pub blank_char : (i c : ℕ) (cs : List ℕ) → after text i ≡ c ∷ cs → (c ≡ 47 → ⊥) → is_blank c ≡ true → blank text i ≡ Some (i + len_utf8 c)
   unfolding blank
   blank_char i c cs e n h = go (is_white_space c) refl h
     where
       go : (a : Bool) → is_white_space c ≡ a → (a || is_line_terminator c) ≡ true → (passing is_white_space // passing is_line_terminator // comment) text i ≡ Some (i + len_utf8 c)
-      go true f k = or_first text (passing is_white_space) (passing is_line_terminator // comment) i _ (passing_stands text is_white_space i c cs e f)
-      go false f k =
-          or_second text (passing is_white_space) (passing is_line_terminator // comment) i (passing_fails text is_white_space i c cs e f)
-          ∙ or_first text (passing is_line_terminator) comment i _ (passing_stands text is_line_terminator i c cs e k)
+      go true f k = simp (e, f)
+      go false f k = simp (e, f, k)
 
   pub other_char : (i c : ℕ) (cs : List ℕ) → after text i ≡ c ∷ cs → (c ≡ 47 → ⊥) → is_blank c ≡ false → blank text i ≡ None
   unfolding blank
@@ -110,17 +101,11 @@ module _ (text : List ℕ) where
     where
       go : (a : Bool) → is_white_space c ≡ a → (a || is_line_terminator c) ≡ false → (passing is_white_space // passing is_line_terminator // comment) text i ≡ None
       go true f k = cc
-      go false f k =
-          or_second text (passing is_white_space) (passing is_line_terminator // comment) i (passing_fails text is_white_space i c cs e f)
-          ∙ or_second text (passing is_line_terminator) comment i (passing_fails text is_line_terminator i c cs e k)
-          ∙ no_comment i (code_point_fails text 47 c i cs e (grind arith))
+      go false f k = simp (e, f, k) (no_comment i c cs e n)
 
   pub no_blank : (i : ℕ) → after text i ≡ [] → blank text i ≡ None
-  unfolding blank
-  no_blank i e =
-      or_second text (passing is_white_space) (passing is_line_terminator // comment) i (passing_end text is_white_space i e)
-      ∙ or_second text (passing is_line_terminator) comment i (passing_end text is_line_terminator i e)
-      ∙ no_comment i (code_point_end text 47 i e)
+  unfolding blank comment
+  no_blank i e = simp e
 
   pub none_between : (i : ℕ) → has_line_terminator text i i ≡ false
   unfolding has_line_terminator
