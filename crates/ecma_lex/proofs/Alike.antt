@@ -6,7 +6,7 @@ use Rattle.std.specs.Str.{chars}
 use Rattle.std.proofs.lemmas.Str.{len_utf8_ascii}
 use Rattle.std.proofs.lemmas.Bool.{false≢true, eqb-true, eq-eqb}
 use Rattle.ecma_lex.specs.Text.{piece}
-use Rattle.ecma_lex.specs.Blanks.{is_line_terminator}
+use Rattle.ecma_number.specs.Blanks.{is_line_terminator}
 use Rattle.ecma_lex.specs.Parts.{Part, char_at, passes, passing, code_point, any, then_at, or_at, ◌>>◌, ◌//◌, many, unless, nothing}
 use Rattle.ecma_lex.specs.Escapes.{is_hex_digit, is_character_escape, hex_digit, hex4_digits, hex_digits, hex_value, hex_escape_sequence, braced_digits, unicode_escape_sequence, hex_or_unicode, if_code_point, numeric_escape, character_escape_sequence, decimal_digit, null_escape, escape_sequence, cr_lf, line_terminator_sequence, escape}
 use Rattle.ecma_lex.specs.Values.{string_part, literal_part}
