@@ -22,7 +22,7 @@ abbrev IsInner : (ℕ → Bool) → Type 0
 IsInner p = (c : ℕ) → p c ≡ true → (c < 128) × (is_end c ≡ false)
 
 -- what a test tells apart is not the same
-apart : (p : ℕ → Bool) (c d : ℕ) → p d ≡ false → p c ≡ true → nat_eq c d ≡ false
+pub apart : (p : ℕ → Bool) (c d : ℕ) → p d ≡ false → p c ≡ true → nat_eq c d ≡ false
 apart p c d h k = go (nat_eq c d) refl
   where
     go : (t : Bool) → nat_eq c d ≡ t → nat_eq c d ≡ false

@@ -183,7 +183,6 @@ module _ (text : List ℕ) (in_template : Bool) where
       go true = regroup high code i j k ∙ joins (code_points in_template text j)
       go false = refl
 
-
 pub ruleset valuing = (onto_nothing, onto_twice, onto_some, ends_so, append-nil)
 
 -- what a character says in a raw text, in bytes

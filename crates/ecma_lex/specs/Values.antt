@@ -1,6 +1,6 @@
 -- What literals say: ECMAScript, 12.9.4.2 Static Semantics: SV and 12.9.6.1 Static Semantics: TV. Texts are UTF-8, so a surrogate in a value has to be half
 -- of a pair.
-use Rattle.std.specs.Prelude.{◌≡◌, ℕ, zero, suc, ◌+◌, Bool, true, false, not, ◌&&◌, List, [], ◌∷◌, ◌++◌, length, if◌then◌else◌, ◌==◌, Option, Some, None, IfSome, option_map}
+use Rattle.std.specs.Prelude.{◌≡◌, ℕ, zero, suc, ◌+◌, Bool, true, false, not, ◌&&◌, ◌||◌, nat_lt, List, [], ◌∷◌, ◌++◌, length, if◌then◌else◌, ◌==◌, Option, Some, None, IfSome, option_map}
 use Rattle.std.specs.Char.{encode_utf8}
 use Rattle.std.specs.Char.Utf16.{is_high_surrogate, has_unpaired_surrogate, utf16_lossy_chars}
 use Rattle.std.specs.Str.{encode_utf8_all}
@@ -8,6 +8,15 @@ use Rattle.ecma_lex.specs.Parts.{Part, char_at, passing, code_point, many, ◌>>
 use Rattle.ecma_lex.specs.Escapes.{line_terminator_sequence, escape, escape_value, listed}
 use Rattle.ecma_lex.specs.declared.values.Joined.{Joined}
 use Rattle.ecma_lex.specs.declared.values.Step.{Step}
+
+-- characters of ASCII that say themselves in each literal: no LF (10), CR (13), quote (34, 39), `$` (36), backslash (92) and backtick (96)
+abbrev pub is_plain : ℕ → Bool
+is_plain c = nat_lt c 128 && not (c == 10 || (c == 13 || (c == 34 || (c == 36 || (c == 39 || (c == 92 || c == 96))))))
+
+-- such a character, and no other, stands at a place
+abbrev pub FindsPlain : List ℕ → ℕ → Option ℕ → Type 0
+FindsPlain text i None = passing is_plain text i ≡ None
+FindsPlain text i (Some c) = (char_at text i ≡ Some c) × (is_plain c ≡ true)
 
 -- what the text of a literal is made of: characters, of which a backslash (92) begins an escape
 unfoldable pub string_part : Part

@@ -3,13 +3,26 @@ ghost use Rattle.std.specs.String.{string_bytes};
 ghost use Rattle.std.specs.Char.Utf16.{is_high_surrogate, is_low_surrogate, surrogate_pair_char};
 ghost use Rattle.ecma_lex.specs.Text.{IsPiece};
 ghost use Rattle.ecma_lex.specs.Escapes.{listed};
-ghost use Rattle.ecma_lex.specs.Values.{IsHigh, Joins, Steps, bytes_of, literal_part, literal_value, part_value, string_part};
+ghost use Rattle.ecma_lex.specs.Values.{FindsPlain, IsHigh, Joins, Steps, bytes_of, literal_part, literal_value, part_value, string_part};
 
 use crate::chars::char_at;
 use crate::escapes::{escape_end, escape_value, line_terminator_sequence_end};
 use crate::parts::code_point_end;
 use ecma_number::NoMemory;
 use std::alloc::Global;
+
+/// The character of ASCII at a place, if it says itself in each literal.
+pub(crate) fn plain_at(text: &str, at: u32) -> Option<char>
+    ensures value { FindsPlain text.now at result }
+    ensures piece { IfSome result (λ _. IsPiece text.now at (at + 1)) }
+{
+    let c = char_at(text, at)?;
+    if c < '\u{80}' && !matches!(c, '\n' | '\r' | '"' | '$' | '\'' | '\\' | '`') {
+        Some(c)
+    } else {
+        None
+    }
+}
 
 /// The place behind a character, or behind an escape with its backslash.
 #[tactic(auto, unfolding(crate::specs::Values::string_part))]
@@ -139,7 +152,7 @@ struct Step {
 
 /// Reads the part of a literal's text at a place, behind a high surrogate if one waits; none where nothing well-formed stands there, or a
 /// surrogate is in no pair.
-#[tactic(auto, using(crate::proofs::Sayings::no_part))]
+#[tactic(auto, using(crate::proofs::Plain::saying))]
 fn read_part(text: &str, at: u32, high: Option<u32>, in_template: bool) -> Option<Step>
     requires small { length text.now < 2 ^ 32 }
     requires high { IsHigh high }
@@ -148,6 +161,17 @@ fn read_part(text: &str, at: u32, high: Option<u32>, in_template: bool) -> Optio
     ensures forward { IfSome result (λ step. (at < step.next) × (step.next ≤ length text.now)) }
     ensures high { IfSome result (λ step. IsHigh step.joined.high) }
 {
+    if high.is_none() {
+        if let Some(c) = plain_at(text, at) {
+            return Some(Step {
+                next: at + 1,
+                joined: Joined {
+                    says: Some(c),
+                    high: None,
+                },
+            });
+        }
+    }
     let next = literal_part_end(text, at, in_template)?;
     let joined = join(high, part_value(text, at, next, in_template))?;
     Some(Step { next, joined })
