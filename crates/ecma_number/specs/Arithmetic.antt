@@ -8,12 +8,12 @@ use Rattle.ecma_number.specs.declared.js_number.JsNumber.{JsNumber}
 use Rattle.ecma_number.specs.declared.js_number.JsNumber.TheVariants.{Whole, NegZero, NaN, Infinity, NegInfinity}
 
 -- 6.1.6.1.1 Number::unaryMinus
-abbrev pub negation_of : JsNumber → JsNumber
-negation_of (Whole number) = (if unsigned_abs number == 0 then NegZero else Whole (neg_ℤ number))
-negation_of NegZero = Whole (pos 0)
-negation_of NaN = NaN
-negation_of Infinity = NegInfinity
-negation_of NegInfinity = Infinity
+abbrev pub unary_minus_of : JsNumber → JsNumber
+unary_minus_of (Whole number) = (if unsigned_abs number == 0 then NegZero else Whole (neg_ℤ number))
+unary_minus_of NegZero = Whole (pos 0)
+unary_minus_of NaN = NaN
+unary_minus_of Infinity = NegInfinity
+unary_minus_of NegInfinity = Infinity
 
 -- 6.1.6.1.7 Number::add
 abbrev pub sum_of : JsNumber → JsNumber → Option JsNumber
@@ -30,7 +30,7 @@ sum_of left right = whole_of (value_of left +ℤ value_of right)
 
 -- 6.1.6.1.8 Number::subtract
 abbrev pub difference_of : JsNumber → JsNumber → Option JsNumber
-difference_of left right = sum_of left (negation_of right)
+difference_of left right = sum_of left (unary_minus_of right)
 
 -- a product or a quotient has a minus exactly where one side has (IEEE 754-2019, 6.3)
 abbrev pub signs_differ : JsNumber → JsNumber → Bool

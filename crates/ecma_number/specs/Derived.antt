@@ -10,19 +10,19 @@ use Rattle.ecma_number.specs.declared.types.JsType.TheVariants as js_type
 use Rattle.ecma_number.specs.declared.types.Purity.{Purity}
 use Rattle.ecma_number.specs.declared.types.Purity.TheVariants.{MayBeImpure, Pure}
 
--- the place of a variant among those of its type, from 0
-abbrev pub type_place : JsType → ℕ
-type_place js_type.Undefined = 0
-type_place js_type.Null = 1
-type_place js_type.Bool = 2
-type_place js_type.Str = 3
-type_place js_type.Symbol = 4
-type_place js_type.Num = 5
-type_place js_type.Obj = 6
+-- how many variants of its type stand before a variant
+abbrev pub type_rank : JsType → ℕ
+type_rank js_type.Undefined = 0
+type_rank js_type.Null = 1
+type_rank js_type.Bool = 2
+type_rank js_type.Str = 3
+type_rank js_type.Symbol = 4
+type_rank js_type.Num = 5
+type_rank js_type.Obj = 6
 
-abbrev pub purity_place : Purity → ℕ
-purity_place MayBeImpure = 0
-purity_place Pure = 1
+abbrev pub purity_rank : Purity → ℕ
+purity_rank MayBeImpure = 0
+purity_rank Pure = 1
 
 -- what is known comes first, in the order of the values
 abbrev pub value_order : {T : Type 0} → (T → T → Ordering) → Value T → Value T → Ordering
@@ -38,7 +38,7 @@ value_equality equal (Known left) Unknown = false
 value_equality equal Unknown (Known right) = false
 value_equality equal Unknown Unknown = true
 
--- a hasher is fed the place of the variant, and then the value that is known
+-- a hasher is fed the rank of the variant, and then the value that is known
 abbrev pub value_input : {T : Type 0} → (T → HashWrites) → Value T → HashWrites
 value_input input (Known value) = isize (pos 0) ++ input value
 value_input input Unknown = isize (pos 1)

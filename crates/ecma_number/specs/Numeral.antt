@@ -178,12 +178,12 @@ big_int_literal = integer_literal >>= λ value. code_point 110 >> pure value
 -- ---- Numbers
 
 -- the value, where it is whole
-abbrev pub whole_quotient : ℕ → ℕ → Option ℕ
-whole_quotient number divisor = (if number % divisor == 0 then Some (number / divisor) else None)
+abbrev pub exact_quotient : ℕ → ℕ → Option ℕ
+exact_quotient number divisor = (if number % divisor == 0 then Some (number / divisor) else None)
 
 abbrev pub whole_value : ℕ → ℤ → Option ℕ
 whole_value significand (pos power) = Some (significand * 10 ^ power)
-whole_value significand (negsuc power) = whole_quotient significand (10 ^ suc power)
+whole_value significand (negsuc power) = exact_quotient significand (10 ^ suc power)
 
 -- the Number of a size and a sign, where it lies in the domain
 abbrev pub signed_number_of : Bool → ℕ → Option JsNumber

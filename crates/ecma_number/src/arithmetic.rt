@@ -4,20 +4,20 @@ ghost use Rattle.std.specs.Prelude.{◌≡◌, ◌≢◌, ◌≤◌, Some, unsig
 ghost use Rattle.std.specs.Int.{int_pow};
 ghost use Rattle.ecma_number.specs.JsNumber.{whole_of};
 ghost use Rattle.ecma_number.specs.SafeInt.{IsSafe};
-ghost use Rattle.ecma_number.specs.Arithmetic.{negation_of, sum_of, difference_of, product_of, quotient_of, remainder_of, power_of, is_odd, signs_differ, whole_quotient_of, power_of_infinity, power_of_zero, power_to_infinity, whole_power_of};
+ghost use Rattle.ecma_number.specs.Arithmetic.{unary_minus_of, sum_of, difference_of, product_of, quotient_of, remainder_of, power_of, is_odd, signs_differ, whole_quotient_of, power_of_infinity, power_of_zero, power_to_infinity, whole_power_of};
 
 use crate::{JsNumber, SafeInt};
 
 impl JsNumber {
     /// The negation, `-x` (6.1.6.1.1 Number::unaryMinus). It always lies in the domain.
     pub fn neg(self) -> Option<JsNumber>
-        ensures { result ≡ Some (negation_of self) }
+        ensures { result ≡ Some (unary_minus_of self) }
     {
         Some(self.negated())
     }
 
     fn negated(self) -> JsNumber
-        ensures { result ≡ negation_of self }
+        ensures { result ≡ unary_minus_of self }
     {
         match self {
             JsNumber::Whole(number) => {

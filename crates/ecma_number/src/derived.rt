@@ -3,7 +3,7 @@
 ghost use Rattle.std.specs.Prelude.{◌≡◌, ◌↔◌, IsTrue, fold, pos};
 ghost use Rattle.std.specs.Hash as fed;
 ghost use Rattle.std.specs.Ordering.{nat_cmp};
-ghost use Rattle.ecma_number.specs.Derived.{purity_place, type_place, value_equality, value_input, value_order};
+ghost use Rattle.ecma_number.specs.Derived.{purity_rank, type_rank, value_equality, value_input, value_order};
 
 use crate::{JsNumber, JsType, Purity, Value};
 use std::cmp::Ordering;
@@ -26,14 +26,14 @@ pub fn types_equal(left: &JsType, right: &JsType) -> bool
 
 /// `cmp` of two types: `Undefined` comes first, then `Null`, `Bool`, `Str`, `Symbol`, `Num` and `Obj`.
 pub fn compare_types(left: &JsType, right: &JsType) -> Ordering
-    ensures { result ≡ nat_cmp (type_place left.now) (type_place right.now) }
+    ensures { result ≡ nat_cmp (type_rank left.now) (type_rank right.now) }
 {
     left.cmp(right)
 }
 
-/// What `hash` of a type feeds a hasher: the place of its variant.
+/// What `hash` of a type feeds a hasher: the rank of its variant, from 0.
 pub fn hash_type<H: Hasher>(value: &JsType, state: &mut H)
-    ensures { state.new ≡ fold H.write state.old (fed.isize (pos (type_place value.now))) }
+    ensures { state.new ≡ fold H.write state.old (fed.isize (pos (type_rank value.now))) }
 {
     value.hash(state);
 }
@@ -47,14 +47,14 @@ pub fn purities_equal(left: &Purity, right: &Purity) -> bool
 
 /// `cmp` of two purities: `MayBeImpure` comes first.
 pub fn compare_purities(left: &Purity, right: &Purity) -> Ordering
-    ensures { result ≡ nat_cmp (purity_place left.now) (purity_place right.now) }
+    ensures { result ≡ nat_cmp (purity_rank left.now) (purity_rank right.now) }
 {
     left.cmp(right)
 }
 
-/// What `hash` of a purity feeds a hasher: the place of its variant.
+/// What `hash` of a purity feeds a hasher: the rank of its variant, from 0.
 pub fn hash_purity<H: Hasher>(value: &Purity, state: &mut H)
-    ensures { state.new ≡ fold H.write state.old (fed.isize (pos (purity_place value.now))) }
+    ensures { state.new ≡ fold H.write state.old (fed.isize (pos (purity_rank value.now))) }
 {
     value.hash(state);
 }
@@ -73,7 +73,7 @@ pub fn compare_values<T: Ord>(left: &Value<T>, right: &Value<T>) -> Ordering
     left.cmp(right)
 }
 
-/// What `hash` of what is known of a value feeds a hasher: the place of its variant, and then what
+/// What `hash` of what is known of a value feeds a hasher: the rank of its variant, from 0, and then what
 /// the value feeds.
 pub fn hash_value<T: Hash, H: Hasher>(value: &Value<T>, state: &mut H)
     ensures { state.new ≡ fold H.write state.old (value_input T.hash_input value.now) }
