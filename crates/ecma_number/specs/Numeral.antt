@@ -202,3 +202,8 @@ pub record IsNumericLiteral (text : List ℕ) : Type 0 where
   pub value : MathematicalValue
   pub all : whole_text numeric_literal text ≡ Some value
   pub number : numeral_of text ≡ number_of false value
+
+-- a text is a NumericLiteral of a BigInt, and this is its MV
+pub record IsBigIntLiteral (text : List ℕ) : Type 0 where
+  pub value : Digits
+  pub all : whole_text big_int_literal text ≡ Some value

@@ -1,14 +1,14 @@
 use Rattle.std.proofs.Common.{◌≡◌, ◌∙◌, sym, ap, refl, Some}
 use Rattle.ecma_lex.specs.Blanks.{skipped}
 use Rattle.ecma_lex.specs.Tokens.{found}
-use Rattle.ecma_lex.proofs.NumeralTokens.{found_literal, num_alone_end}
+use Rattle.ecma_lex.proofs.NumeralTokens.{found_num, num_longest}
 use Rattle.ecma_lex.proofs.numerals.num.Goals as goal
 
 pub returns-clause-literal : goal.returns-clause-literal
-returns-clause-literal c = let is = c.found.ensures in rw is (found_literal c.args.text.now c.utf8.text c.in_ok-before.before _ c.num_end.ensures.value)
+returns-clause-literal c = let is = c.found.ensures in rw is (found_num c.args.text.now c.utf8.text c.in_ok-before.before _ c.num_end.ensures.value)
 
 pub returns-clause-longest : goal.returns-clause-longest
 returns-clause-longest c = λ next closed alone.
     let same = c.in_ok-before.ensures.value.0 in
-    let end : c.num_end.result ≡ Some next = c.num_end.ensures.value ∙ rw same (num_alone_end c.args.text.now (skipped c.args.text.now c.args.at).to next alone) in
+    let end : c.num_end.result ≡ Some next = c.num_end.ensures.value ∙ rw same (num_longest c.args.text.now (skipped c.args.text.now c.args.at).to next alone) in
     c.found.ensures ∙ rw (end, same) refl

@@ -1,5 +1,5 @@
-use Rattle.ecma_lex.proofs.NumeralTokens.{found_literal}
+use Rattle.ecma_lex.proofs.NumeralTokens.{found_num}
 use Rattle.ecma_lex.proofs.looking.Upcoming.num.Goals as goal
 
 pub returns-clause-literal : goal.returns-clause-literal
-returns-clause-literal c = let is = c.found.ensures in rw is (found_literal c.args.text.now c.utf8.text c.in_ok-before.before _ c.num_end.ensures.value)
+returns-clause-literal c = let is = c.found.ensures in rw is (found_num c.args.text.now c.utf8.text c.in_ok-before.before _ c.num_end.ensures.value)
