@@ -6,6 +6,8 @@ use Rattle.ecma_lex.specs.Text.{piece}
 use Rattle.ecma_lex.specs.Strings.{str_end, str_value}
 use Rattle.ecma_kind.specs.declared.kind.Kind.TheVariants.{Str}
 use Rattle.ecma_tree.specs.declared.node.Node.{Node}
+use Rattle.ecma_text.specs.declared.reader.inner.Part.{Part}
+use Rattle.ecma_text.specs.declared.reader.inner.Part.TheVariants.{Statement, Expression, «Type», TypeOperator}
 use Rattle.ecma_text.specs.Reading.{maybe, many, punct, word, end, end_of_text, same_line, type_name}
 use Rattle.ecma_text.specs.Trees.{at_token}
 use Rattle.ecma_text.specs.Grammar as grammar
@@ -14,12 +16,16 @@ use Rattle.ecma_readback.specs.Theorems.{ReadShapes}
 use Rattle.ecma_readback.specs.Shapes.{IsToken, IsIdent, ident, IsKey, key, absent, IsType, type, IsLexical, let_word, const_word, IsChain, name, member, call, IsExpression, chain, string, number, null_word, true_word, false_word, cast, AreExpressions, no_expressions, more_expressions, arguments, IsAnnotation, no_annotation, annotation, IsBinding, binding, IsInitializer, no_initializer, initializer, IsDeclarator, declarator, AreDeclarators, one_declarator, more_declarators, IsStatement, expression, declaration, alias, no_statements, more_statements, IsModule, module_of}
 use Rattle.ecma_readback.proofs.Yields.{Yields, yields_pure, yields_made, yields_deep, yields_then, yields_or, yields_marked, behind, yields_many, yields_name, yields_key, yields_num, yields_str}
 
+-- the form of a part
+abbrev pub HasForm : Bool → Part → Node → Type 0
+HasForm ts Statement n = IsStatement ts n
+HasForm ts Expression n = IsExpression ts n
+HasForm ts «Type» n = IsType n
+HasForm ts TypeOperator n = IsType n
+
 -- each use of the level has the shape of its form
 pub record Shaped (ts : Bool) (inner : Level) : Type 0 where
-  pub statement : Yields inner.statement (IsStatement ts)
-  pub expression : Yields inner.expression (IsExpression ts)
-  pub type : Yields inner.type IsType
-  pub type_operator : Yields inner.type_operator IsType
+  pub part : (part : Part) → Yields (inner.part part) (HasForm ts part)
   pub arguments : Yields inner.arguments (AreExpressions ts)
   pub links : (e : Node) → IsChain ts e → Yields (inner.links e) (IsChain ts)
   pub casts : (e : Node) → IsExpression ts e → Yields (inner.casts e) (IsExpression ts)
@@ -71,16 +77,16 @@ module _ (text : List ℕ) (ts : Bool) (u : IsUtf8 text) where
   module _ (inner : Level) (shaped : Shaped ts inner) where
     yields_annotation : Yields (grammar.annotation text ts inner) (IsAnnotation ts)
     unfolding grammar.annotation
-    yields_annotation = yields_marked ts (λ on. behind (punct text (codes ":")) (λ t. yields_then shaped.type (λ ty k. yields_made _ _ _ (λ hi. annotation on _ k))))
+    yields_annotation = yields_marked ts (λ on. behind (punct text (codes ":")) (λ t. yields_then (shaped.part «Type») (λ ty k. yields_made _ _ _ (λ hi. annotation on _ k))))
 
     yields_next_expression : Yields (grammar.next_expression text ts inner) (IsExpression ts)
     unfolding grammar.next_expression
-    yields_next_expression = behind (punct text (codes ",")) (λ t. shaped.expression)
+    yields_next_expression = behind (punct text (codes ",")) (λ t. shaped.part Expression)
 
     yields_some_expressions : Yields (grammar.some_expressions text ts inner) (AreExpressions ts)
     unfolding grammar.some_expressions
     yields_some_expressions =
-        yields_then shaped.expression
+        yields_then (shaped.part Expression)
         (λ e h. yields_then (yields_many _ yields_next_expression no_expressions (λ x xs q r. more_expressions q r))
         (λ es k. behind (maybe (punct text (codes ","))) (λ c. yields_pure (more_expressions h k))))
 
@@ -115,8 +121,8 @@ module _ (text : List ℕ) (ts : Bool) (u : IsUtf8 text) where
     unfolding grammar.cast
     yields_cast = yields_marked ts (λ on. behind (same_line text) (λ b. behind (word text (codes "as")) (λ t. behind (inner.enter t.start) (λ b. yields_on on))))
       where
-        yields_on : ts ≡ true → Yields inner.type (λ t. (ts ≡ true) × IsType t)
-        yields_on on = record { gives = λ s v t h. (on, shaped.type.gives s v t h) }
+        yields_on : ts ≡ true → Yields (inner.part «Type») (λ t. (ts ≡ true) × IsType t)
+        yields_on on = record { gives = λ s v t h. (on, (shaped.part «Type»).gives s v t h) }
 
     yields_casts : (e : Node) → IsExpression ts e → Yields (grammar.casts_body text ts inner e) (IsExpression ts)
     unfolding grammar.casts_body
@@ -132,9 +138,9 @@ module _ (text : List ℕ) (ts : Bool) (u : IsUtf8 text) where
 
     yields_initializer : Yields (grammar.initializer text ts inner) (IsInitializer ts)
     unfolding grammar.initializer
-    yields_initializer = behind (punct text (codes "=")) (λ t. expression_initializer shaped.expression)
+    yields_initializer = behind (punct text (codes "=")) (λ t. expression_initializer (shaped.part Expression))
       where
-        expression_initializer : Yields inner.expression (IsExpression ts) → Yields inner.expression (IsInitializer ts)
+        expression_initializer : Yields (inner.part Expression) (IsExpression ts) → Yields (inner.part Expression) (IsInitializer ts)
         expression_initializer h = record { gives = λ s t x k. initializer (h.gives s t x k) }
 
     pub yields_binding : Yields (grammar.binding_ident text ts inner) (IsBinding ts)
@@ -172,22 +178,29 @@ module _ (text : List ℕ) (ts : Bool) (u : IsUtf8 text) where
     unfolding grammar.alias
     yields_alias = yields_marked ts (λ on.
         behind (word text (codes "type")) (λ w. behind (same_line text) (λ b. yields_then yields_ident
-        (λ id h. behind (punct text (codes "=")) (λ t. behind inner.type (λ ty. behind (end text) (λ t. yields_made _ _ _ (λ hi. alias on _ h))))))))
+        (λ id h. behind (punct text (codes "=")) (λ t. behind (inner.part «Type») (λ ty. behind (end text) (λ t. yields_made _ _ _ (λ hi. alias on _ h))))))))
 
     yields_expression_statement : Yields (grammar.expression_statement text ts inner) (IsStatement ts)
     unfolding grammar.expression_statement
-    yields_expression_statement = yields_then shaped.expression (λ e h. behind (end text) (λ t. yields_made _ _ _ (λ hi. expression _ h)))
+    yields_expression_statement = yields_then (shaped.part Expression) (λ e h. behind (end text) (λ t. yields_made _ _ _ (λ hi. expression _ h)))
 
     yields_statement : Yields (grammar.statement_body text ts inner) (IsStatement ts)
     unfolding grammar.statement_body
     yields_statement = yields_or yields_declaration (yields_or yields_alias yields_expression_statement)
 
+    yields_type : Yields (grammar.type_body text ts inner) IsType
+    unfolding grammar.type_body
+    yields_type = shaped.part TypeOperator
+
+    yields_part : (part : Part) → Yields (grammar.part_body text ts inner part) (HasForm ts part)
+    yields_part Statement = yields_statement
+    yields_part Expression = yields_expression
+    yields_part «Type» = yields_type
+    yields_part TypeOperator = yields_type_operator
+
   shaped_none : Shaped ts (no_level text ts)
   shaped_none = record {
-    statement = yields_deep (λ s. s.place) (IsStatement ts);
-    expression = yields_deep (λ s. s.place) (IsExpression ts);
-    type = yields_deep (λ s. s.place) IsType;
-    type_operator = yields_deep (λ s. s.place) IsType;
+    part = λ part. yields_deep (λ s. s.place) (HasForm ts part);
     arguments = yields_deep (λ s. s.place) (AreExpressions ts);
     links = λ e h. yields_pure h;
     casts = λ e h. yields_pure h;
@@ -195,10 +208,7 @@ module _ (text : List ℕ) (ts : Bool) (u : IsUtf8 text) where
 
   shaped_level : (inner : Level) → Shaped ts inner → Shaped ts (level text ts inner)
   shaped_level inner h = record {
-    statement = yields_statement inner h;
-    expression = yields_expression inner h;
-    type = h.type_operator;
-    type_operator = yields_type_operator;
+    part = yields_part inner h;
     arguments = yields_arguments inner h;
     links = yields_links inner h;
     casts = yields_casts inner h;
@@ -212,7 +222,7 @@ module _ (text : List ℕ) (ts : Bool) (u : IsUtf8 text) where
   yields_module : (bound : ℕ) → Yields (grammar.module_body text ts bound) (IsModule ts)
   unfolding grammar.module_body
   yields_module bound =
-      yields_then (yields_many _ (shaped bound).statement no_statements (λ x xs q r. more_statements q r))
+      yields_then (yields_many _ ((shaped bound).part Statement) no_statements (λ x xs q r. more_statements q r))
       (λ body h. behind (end_of_text text) (λ t. yields_made _ _ _ (λ hi. module_of _ _ h)))
 
 -- what is read has the shape of a module

@@ -20,6 +20,8 @@ use Rattle.ecma_lex.proofs.Spelled.{Standing, key_spelled, key_standing, name_ke
 use Rattle.ecma_lex.proofs.NumeralReading.{num_spelled, num_standing, num_some}
 use Rattle.ecma_lex.proofs.Quoted.{string_spelled, string_standing}
 use Rattle.ecma_tree.specs.declared.node.Node.{Node}
+use Rattle.ecma_text.specs.declared.reader.inner.Part.{Part}
+use Rattle.ecma_text.specs.declared.reader.inner.Part.TheVariants.{Statement, Expression, «Type», TypeOperator}
 use Rattle.ecma_text.specs.Reading.{Position, read, fails, too_deep, Reading, ◌>>=◌, maybe, terminal_on, punct, word, name, key, num, str_lit, end, same_line, same_line_on, type_name}
 use Rattle.ecma_text.specs.Grammar as grammar
 use Rattle.ecma_text.specs.Grammar.{Level, level, levels, no_level}
@@ -149,10 +151,7 @@ module _ (text : List ℕ) (u : IsUtf8 text) where
 
   pub record Moving (inner : Level) : Type 0 where
     pub enter : (at : ℕ) → Moves text 0 (inner.enter at)
-    pub statement : Moves text 1 inner.statement
-    pub expression : Moves text 1 inner.expression
-    pub type : Moves text 1 inner.type
-    pub type_operator : Moves text 1 inner.type_operator
+    pub part : (part : Part) → Moves text 1 (inner.part part)
     pub arguments : Moves text 0 inner.arguments
     pub links : (e : Node) → Moves text 0 (inner.links e)
     pub casts : (e : Node) → Moves text 0 (inner.casts e)
@@ -190,16 +189,16 @@ module _ (text : List ℕ) (u : IsUtf8 text) where
     module _ (inner : Level) (m : Moving inner) where
       moves_annotation : Moves text 1 (grammar.annotation text ts inner)
       unfolding grammar.annotation
-      moves_annotation = moves_marked text ts (first_moves (moves_punct (codes ":") (omega arith)) (λ t. both_move (some_way m.type) (λ ty. moves_made text _ _ _)))
+      moves_annotation = moves_marked text ts (first_moves (moves_punct (codes ":") (omega arith)) (λ t. both_move (some_way (m.part «Type»)) (λ ty. moves_made text _ _ _)))
 
       pub moves_next_expression : Moves text 1 (grammar.next_expression text ts inner)
       unfolding grammar.next_expression
-      moves_next_expression = first_moves (moves_punct (codes ",") (omega arith)) (λ t. some_way m.expression)
+      moves_next_expression = first_moves (moves_punct (codes ",") (omega arith)) (λ t. some_way (m.part Expression))
 
       moves_arguments : Moves text 0 (grammar.arguments_body text ts inner)
       unfolding grammar.arguments_body grammar.expressions grammar.some_expressions
       moves_arguments =
-          both_move (moves_or text (both_move (some_way m.expression) (λ e. both_move (moves_many text _ (some_way moves_next_expression)) (λ es. both_move (moves_maybe (moves_punct (codes ",") (omega arith))) (λ c. moves_pure text (e ∷ es))))) (moves_pure text []))
+          both_move (moves_or text (both_move (some_way (m.part Expression)) (λ e. both_move (moves_many text _ (some_way moves_next_expression)) (λ es. both_move (moves_maybe (moves_punct (codes ",") (omega arith))) (λ c. moves_pure text (e ∷ es))))) (moves_pure text []))
           (λ es. both_move (some_way (moves_punct (codes ")") (omega arith))) (λ t. moves_pure text es))
 
       moves_call : Moves text 0 (grammar.call text ts inner)
@@ -218,7 +217,7 @@ module _ (text : List ℕ) (u : IsUtf8 text) where
 
       moves_cast : Moves text 0 (grammar.cast text ts inner)
       unfolding grammar.cast
-      moves_cast = moves_marked text ts (both_move moves_same_line (λ b. both_move (some_way (moves_word (codes "as"))) (λ t. both_move (m.enter t.start) (λ c. some_way m.type))))
+      moves_cast = moves_marked text ts (both_move moves_same_line (λ b. both_move (some_way (moves_word (codes "as"))) (λ t. both_move (m.enter t.start) (λ c. some_way (m.part «Type»)))))
 
       moves_casts : (e : Node) → Moves text 0 (grammar.casts_body text ts inner e)
       unfolding grammar.casts_body
@@ -230,7 +229,7 @@ module _ (text : List ℕ) (u : IsUtf8 text) where
 
       moves_initializer : Moves text 0 (grammar.initializer text ts inner)
       unfolding grammar.initializer
-      moves_initializer = both_move (some_way (moves_punct (codes "=") (omega arith))) (λ t. some_way m.expression)
+      moves_initializer = both_move (some_way (moves_punct (codes "=") (omega arith))) (λ t. some_way (m.part Expression))
 
       moves_declarator : Moves text 1 (grammar.declarator text ts inner)
       unfolding grammar.declarator grammar.binding_ident
@@ -252,15 +251,25 @@ module _ (text : List ℕ) (u : IsUtf8 text) where
       unfolding grammar.alias
       moves_alias = moves_marked text ts
           (first_moves (moves_word (codes "type")) (λ w. both_move moves_same_line (λ b. both_move (some_way moves_ident)
-          (λ id. both_move (some_way (moves_punct (codes "=") (omega arith))) (λ t. both_move (some_way m.type) (λ ty. both_move moves_end (λ t. moves_made text _ _ _)))))))
+          (λ id. both_move (some_way (moves_punct (codes "=") (omega arith))) (λ t. both_move (some_way (m.part «Type»)) (λ ty. both_move moves_end (λ t. moves_made text _ _ _)))))))
 
       moves_expression_statement : Moves text 1 (grammar.expression_statement text ts inner)
       unfolding grammar.expression_statement
-      moves_expression_statement = first_moves m.expression (λ e. both_move moves_end (λ t. moves_made text _ _ _))
+      moves_expression_statement = first_moves (m.part Expression) (λ e. both_move moves_end (λ t. moves_made text _ _ _))
 
       moves_statement : Moves text 1 (grammar.statement_body text ts inner)
       unfolding grammar.statement_body
       moves_statement = moves_or text moves_declaration (moves_or text moves_alias moves_expression_statement)
+
+      moves_type : Moves text 1 (grammar.type_body text ts inner)
+      unfolding grammar.type_body
+      moves_type = m.part TypeOperator
+
+      moves_part : (part : Part) → Moves text 1 (grammar.part_body text ts inner part)
+      moves_part Statement = moves_statement
+      moves_part Expression = moves_expression
+      moves_part «Type» = moves_type
+      moves_part TypeOperator = moves_type_operator
 
     moves_deep : {A : Type 0} (k : ℕ) (at : Position → ℕ) → Moves text {A = A} k (λ s. too_deep (at s))
     moves_deep k at = record { on = λ s t x i e. (let z : ⊥ = cc in absurd z) }
@@ -268,10 +277,7 @@ module _ (text : List ℕ) (u : IsUtf8 text) where
     moving_none : Moving (no_level text ts)
     moving_none = record {
       enter = λ at. moves_deep 0 (λ s. at);
-      statement = moves_deep 1 (λ s. s.place);
-      expression = moves_deep 1 (λ s. s.place);
-      type = moves_deep 1 (λ s. s.place);
-      type_operator = moves_deep 1 (λ s. s.place);
+      part = λ part. moves_deep 1 (λ s. s.place);
       arguments = moves_deep 0 (λ s. s.place);
       links = λ e. moves_pure text e;
       casts = λ e. moves_pure text e;
@@ -280,10 +286,7 @@ module _ (text : List ℕ) (u : IsUtf8 text) where
     moving_level : (inner : Level) → Moving inner → Moving (level text ts inner)
     moving_level inner m = record {
       enter = λ at. moves_pure text true;
-      statement = moves_statement inner m;
-      expression = moves_expression inner m;
-      type = m.type_operator;
-      type_operator = moves_type_operator;
+      part = moves_part inner m;
       arguments = moves_arguments inner m;
       links = moves_links inner m;
       casts = moves_casts inner m;
@@ -302,4 +305,4 @@ module _ (text : List ℕ) (u : IsUtf8 text) where
 pub repetitions_end : RepetitionsEnd
 repetitions_end ts text u n =
     let m = moving text u ts n in
-    (ends_itself text u _ (moves_next_key text u ts), ends_itself text u _ (moves_next_expression text u ts _ m), ends_itself text u _ (moves_next_declarator text u ts _ m), ends_itself text u _ m.statement)
+    (ends_itself text u _ (moves_next_key text u ts), ends_itself text u _ (moves_next_expression text u ts _ m), ends_itself text u _ (moves_next_declarator text u ts _ m), ends_itself text u _ (m.part Statement))

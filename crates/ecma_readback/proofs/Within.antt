@@ -6,6 +6,7 @@ use Rattle.ecma_lex.specs.Text.{piece}
 use Rattle.ecma_lex.specs.Strings.{str_end, str_value}
 use Rattle.ecma_kind.specs.declared.kind.Kind.TheVariants.{Str, MemberExpr, CallExpr, TsAsExpr}
 use Rattle.ecma_tree.specs.declared.node.Node.{Node}
+use Rattle.ecma_text.specs.declared.reader.inner.Part.TheVariants.{«Type»}
 use Rattle.ecma_text.specs.Reading.{Position, read, pure, maybe, punct, word, end, end_of_text, same_line}
 use Rattle.ecma_text.specs.Trees.{lo, at_token, absent as no_node, list}
 use Rattle.ecma_text.specs.Grammar as grammar
@@ -168,7 +169,7 @@ module _ (text : List ℕ) (ts : Bool) (u : IsUtf8 text) where
   unfolding grammar.alias
   alias_in k = yields_marked ts (λ on.
       behind (word text (codes "type")) (λ w. behind (same_line text) (λ b. yields_then (yields_ident text ts u)
-      (λ id h. behind (punct text (codes "=")) (λ t. behind (levels text ts (suc k)).type (λ ty. behind (end text) (λ t. yields_made _ _ _ (λ hi. record { shape = alias on _ h; within = omega arith }))))))))
+      (λ id h. behind (punct text (codes "=")) (λ t. behind ((levels text ts (suc k)).part «Type») (λ ty. behind (end text) (λ t. yields_made _ _ _ (λ hi. record { shape = alias on _ h; within = omega arith }))))))))
 
   statement_in : (k : ℕ) → Yields (grammar.statement_body text ts (levels text ts (suc k))) (StatementIn ts k)
   unfolding grammar.statement_body grammar.expression_statement levels

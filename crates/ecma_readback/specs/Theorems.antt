@@ -3,6 +3,7 @@ use Rattle.std.specs.Prelude.{◌≡◌, ◌≤◌, ℕ, ◌+◌, Bool, true, fa
 use Rattle.std.specs.Str.{IsUtf8}
 use Rattle.ecma_tree.specs.declared.node.Node.{Node}
 use Rattle.ecma_text.specs.Reading.{Position, Reading, read, many, many_up_to}
+use Rattle.ecma_text.specs.declared.reader.inner.Part.TheVariants.{Statement}
 use Rattle.ecma_text.specs.Grammar.{levels, next_key, next_expression, next_declarator}
 use Rattle.ecma_text.specs.Modules.{reads, answer_of, deepest}
 use Rattle.ecma_print.specs.Layout.{layout}
@@ -41,4 +42,4 @@ EndsItself text p = (s : Position) (n : ℕ) → s.place ≤ length text → len
 -- so it is for the keys of a type, the arguments of a call, the declarators of a declaration and the statements of a module
 abbrev pub RepetitionsEnd : Type 0
 RepetitionsEnd = (ts : Bool) (text : List ℕ) → IsUtf8 text → (n : ℕ) →
-    EndsItself text (next_key text ts) × EndsItself text (next_expression text ts (levels text ts n)) × EndsItself text (next_declarator text ts (levels text ts n)) × EndsItself text (levels text ts n).statement
+    EndsItself text (next_key text ts) × EndsItself text (next_expression text ts (levels text ts n)) × EndsItself text (next_declarator text ts (levels text ts n)) × EndsItself text ((levels text ts n).part Statement)

@@ -1,12 +1,18 @@
 //! The reader: where it stands in a text, and how it goes on from there.
-ghost use Rattle.std.specs.Prelude.{◌<◌, ◌^◌, length};
+ghost use Rattle.std.specs.Prelude.{◌≡◌, ◌<◌, ◌^◌, length};
+ghost use Rattle.ecma_lex.specs.Looking.{look};
 
 mod expressions;
+mod inner;
 mod literals;
+mod modules;
+mod recent;
 mod statements;
 mod terminals;
 mod types;
 
+use ecma_lex::Upcoming;
+pub use inner::Part;
 use std::alloc::Global;
 
 /// Reads a text from its front.
@@ -20,7 +26,11 @@ pub(crate) struct Reader<'a> {
     place: u32,
     /// The greatest place at which a terminal has failed.
     failed: u32,
+    /// What stands at the place that was looked at last.
+    ahead: Upcoming,
+    recent: recent::Recent,
     ghost short: { length text.now < 2 ^ 32 },
+    ghost known: { ahead ≡ look text.now ahead.place },
 }
 
 impl<'a> Reader<'a> {
@@ -39,6 +49,8 @@ impl<'a> Reader<'a> {
             typescript,
             place: 0,
             failed: 0,
+            ahead: ecma_lex::look(text, 0),
+            recent: recent::Recent::new(alloc),
         }
     }
 
