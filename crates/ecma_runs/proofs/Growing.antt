@@ -1,6 +1,5 @@
 -- Events only grow: a run does the same behind events that came before, and so its own stand behind them.
-use Rattle.std.proofs.Common.{◌≡◌, ℕ, ◌+◌, inl, refl, sym, ap₂, subst, List, [], ◌∷◌, ◌++◌, map, false, append-nil, add-zero}
-use Rattle.std.proofs.lemmas.Iterator.Adapters.{option_map_id}
+use Rattle.std.proofs.Common.{◌≡◌, ℕ, Some, ◌++◌, inl, refl, subst, ap, sym, ◌∙◌, List, [], ◌∷◌, append-nil}
 use Rattle.ecma_tree.specs.declared.node.Node.{Node}
 use Rattle.ecma_runs.specs.declared.observation.Event.{Event}
 use Rattle.ecma_runs.specs.declared.observation.Ending.{Ending}
@@ -8,74 +7,63 @@ use Rattle.ecma_runs.specs.declared.observation.Ending.TheVariants as ending
 use Rattle.ecma_runs.specs.declared.script.Action.{Action}
 use Rattle.ecma_runs.specs.declared.script.Answer.{Answer}
 use Rattle.ecma_runs.specs.declared.script.Answer.TheVariants as answer
-use Rattle.ecma_runs.specs.declared.script.FreeValue.{FreeValue}
 use Rattle.ecma_runs.specs.declared.script.Script.{Script}
-use Rattle.ecma_runs.specs.State.{Bound, Object, State, Outcome, Done, Thrown, Returned, Broken, Continued, Ended, Run, then_outcome, ◌>>=◌, give, each}
-use Rattle.ecma_runs.specs.Scope.{enter}
-use Rattle.ecma_runs.specs.Evaluation.{meaning, calls}
-use Rattle.ecma_runs.specs.Observation.{observed, run_module, start, module_context, run_body, run_actions, act}
+use Rattle.ecma_runs.specs.State.{Id, State}
+use Rattle.ecma_runs.specs.Run.{Outcome, Done, Thrown, Returned, Broken, Continued, Ended, Run, then_outcome, ◌>>=◌, give, each}
+use Rattle.ecma_runs.specs.Host.{Provided, provided_by}
+use Rattle.ecma_runs.specs.Environment.{new_environment}
+use Rattle.ecma_runs.specs.Evaluation.{meaning}
+use Rattle.ecma_runs.specs.Observation.{module_context, run_body, act, run_actions, module_activation, run_module, start, observed}
 use Rattle.ecma_runs.specs.Laws.{state_behind, Extends, EventsOnlyGrow}
-use Rattle.ecma_runs.proofs.Alike.{Change, changed, changed_object, Follows, Alike, each_alike}
-use Rattle.ecma_runs.proofs.Kept.{StepsAlike, layers_alike, act_alike, run_body_alike, calls_alike}
-use Rattle.ecma_runs.proofs.Layers.{itself_layers}
+use Rattle.ecma_runs.proofs.Alike.{Change, changed, Follows, Alike, each_alike}
+use Rattle.ecma_runs.proofs.Kept.{StepsAlike, module_world, act_alike, run_body_alike}
+use Rattle.ecma_runs.proofs.Layers.{same_ids, Telling, always, nothing_excused, images, itself_layers, layers_alike}
+use Rattle.ecma_runs.proofs.Depth.{same_state, fine_all}
 
 -- the same run, behind events that came before
-abbrev behind : List Event → Change
-behind before = record { node = λ n. n; more = 0; before = before; excused = λ _. false; turns_excused = inl refl }
+abbrev after : List Event → Telling
+after before = record { more = 0; before = before; excused = nothing_excused; turns_excused = inl refl; holds = always; falls = λ n h. tt }
 
-behind_steps : (before : List Event) → StepsAlike (behind before)
-behind_steps before = layers_alike (behind before) itself_layers
+abbrev behind : List Id → List Event → Change
+behind declared before = images (λ n. n) declared (after before)
 
-objects_back : (before : List Event) (objects : List Object) → map (changed_object (behind before)) objects ≡ objects
-objects_back before [] = refl
-objects_back before (o ∷ objects) = ap₂ (λ closure rest. record { closure = closure } ∷ rest) (option_map_id o.closure) (objects_back before objects)
+behind_steps : (declared : List Id) (before : List Event) → StepsAlike (behind declared before)
+behind_steps declared before = layers_alike (λ n. n) declared (after before) itself_layers
 
 -- a state is what it is without its events, behind them
-changed_back : (s : State) → changed (behind s.events) (record s { events = [] }) ≡ s
-changed_back s =
-    let o : map (changed_object (behind s.events)) s.objects ≡ s.objects = objects_back s.events s.objects in
-    let e : s.events ++ [] ≡ s.events = append-nil s.events in
-    let t : s.turns + 0 ≡ s.turns = add-zero s.turns in
-    rw (o, e, t) refl
+changed_back : (declared : List Id) (s : State) → changed (behind declared s.events) (record s { events = [] }) ≡ s
+changed_back declared s = λ i. record (same_state 0 declared s i) { events = append-nil s.events i }
 
-follows_extends : {A : Type 0} (before : List Event) (r r' : Outcome A) → Follows (behind before) r r' → Extends before (state_behind r').events
-follows_extends before (Done a s) r' e = rw e (s.events, refl)
-follows_extends before (Thrown v s) r' e = rw e (s.events, refl)
-follows_extends before (Returned v s) r' e = rw e (s.events, refl)
-follows_extends before (Broken s) r' e = rw e (s.events, refl)
-follows_extends before (Continued s) r' e = rw e (s.events, refl)
-follows_extends before (Ended why s) r' e = rw e (s.events, refl)
+follows_extends : {A : Type 0} (declared : List Id) (before : List Event) (r r' : Outcome A) → Follows (behind declared before) (λ a. a) (λ a. Unit {0}) r r' → Extends before (state_behind r').events
+follows_extends declared before (Done a s) r' e = rw e.0 (s.events, refl)
+follows_extends declared before (Thrown v s) r' e = rw e.0 (s.events, refl)
+follows_extends declared before (Returned v s) r' e = rw e.0 (s.events, refl)
+follows_extends declared before (Broken s) r' e = rw e.0 (s.events, refl)
+follows_extends declared before (Continued s) r' e = rw e.0 (s.events, refl)
+follows_extends declared before (Ended why s) r' e = rw e.0 (s.events, refl)
 
--- what does alike behind any events only adds to them
-abbrev DoesAlikeBehind : {A : Type 0} → Run A → Type 0
-DoesAlikeBehind m = (before : List Event) → Alike (behind before) m m
+grows : {A : Type 0} (declared : List Id) (m : Run A) → ((before : List Event) → Alike (behind declared before) m m) → (s : State) → Extends s.events (state_behind (m s)).events
+grows declared m h s =
+    follows_extends declared s.events (m (record s { events = [] })) (m s)
+    (subst (λ t. Follows (behind declared s.events) (λ a. a) (λ a. Unit {0}) (m (record s { events = [] })) (m t)) (changed_back declared s) ((h s.events).at (record s { events = [] }) (fine_all 0 declared s.objects, tt, tt)))
 
-grows : {A : Type 0} (m : Run A) → DoesAlikeBehind m → (s : State) → Extends s.events (state_behind (m s)).events
-grows m h s =
-    follows_extends s.events (m (record s { events = [] })) (m s)
-    (subst (λ t. Follows (behind s.events) (m (record s { events = [] })) (m t)) (changed_back s) ((h s.events).at (record s { events = [] })))
-
-module _ (turns : ℕ) (frees : List FreeValue) (scope : List Bound) where
-  act_behind : (a : Action) → DoesAlikeBehind (act (module_context turns frees scope) a)
+module _ (provided : Provided) (declared : List Id) (place : ℕ) where
+  act_behind : (a : Action) (before : List Event) → Alike (behind declared before) (act (module_context provided declared place) a) (act (module_context provided declared place) a)
   act_behind a before =
-      subst (λ n. Alike (behind before) (act (module_context turns frees scope) a) (act (module_context n frees scope) a)) (add-zero turns)
-      (act_alike (behind before) (behind_steps before) (module_context turns frees scope) (calls frees (turns + 0))
-      (calls_alike (behind before) (behind_steps before) frees turns) a)
+      subst (λ ids. Alike (behind declared before) (act (module_context provided declared place) a) (act (module_context provided ids place) a)) (same_ids declared)
+      (act_alike (behind declared before) (behind_steps declared before) (module_world (behind declared before) (behind_steps declared before) provided place) refl a)
 
-  body_behind : (m : Node) → DoesAlikeBehind (run_body (module_context turns frees scope) m)
+  body_behind : (m : Node) (before : List Event) → Alike (behind declared before) (run_body (module_context provided declared place) m) (run_body (module_context provided declared place) m)
   body_behind m before =
-      subst (λ n. Alike (behind before) (run_body (module_context turns frees scope) m) (run_body (module_context n frees scope) m)) (add-zero turns)
-      (run_body_alike (behind before) (behind_steps before) (module_context turns frees scope) (calls frees (turns + 0))
-      (calls_alike (behind before) (behind_steps before) frees turns) m)
+      subst (λ ids. Alike (behind declared before) (run_body (module_context provided declared place) m) (run_body (module_context provided ids place) m)) (same_ids declared)
+      (run_body_alike (behind declared before) (behind_steps declared before) (module_world (behind declared before) (behind_steps declared before) provided place) m tt)
 
--- more actions
+-- a run and another that has the same events, and maybe more
+record HasMore {A B : Type 0} (m : Run A) (m' : Run B) : Type 0 where
+  at : (s : State) → Extends (state_behind (m s)).events (state_behind (m' s)).events
 
 same_events : (events : List Event) → Extends events events
 same_events events = ([], sym (append-nil events))
-
--- one run has the events of another, and maybe more behind them
-record HasMore {A : Type 0} (m m' : Run A) : Type 0 where
-  at : (s : State) → Extends (state_behind (m s)).events (state_behind (m' s)).events
 
 then_more : {A B : Type 0} (r : Outcome A) (k k' : A → Run B) → ((a : A) → HasMore (k a) (k' a)) → Extends (state_behind (then_outcome r k)).events (state_behind (then_outcome r k')).events
 then_more (Done a s) k k' h = (h a).at s
@@ -97,25 +85,25 @@ give_behind g (Broken s) = refl
 give_behind g (Continued s) = refl
 give_behind g (Ended why s) = refl
 
-give_more : {A B : Type 0} (g g' : A → B) (m m' : Run A) → HasMore m m' → HasMore (m >>= λ a. give (g a)) (m' >>= λ a. give (g' a))
+give_more : {A B C D : Type 0} (g : A → C) (g' : B → D) (m : Run A) (m' : Run B) → HasMore m m' → HasMore (m >>= λ a. give (g a)) (m' >>= λ a. give (g' a))
 give_more g g' m m' h = record { at = λ s. rw (give_behind g (m s), give_behind g' (m' s)) (h.at s) }
 
-each_more : {A B : Type 0} (run : A → Run B) → ((a : A) → DoesAlikeBehind (run a)) → (xs ys : List A) → HasMore (each run xs) (each run (xs ++ ys))
-each_more run h [] ys = record { at = λ s. grows (each run ys) (λ before. each_alike (behind before) run run (λ a. h a before) ys) s }
-each_more run h (x ∷ xs) ys = bind_more (run x) (λ b. give_more (λ bs. b ∷ bs) (λ bs. b ∷ bs) _ _ (each_more run h xs ys))
+each_more : {A B : Type 0} (declared : List Id) (run : A → Run B) → ((a : A) (before : List Event) → Alike (behind declared before) (run a) (run a)) → (xs ys : List A) → HasMore (each run xs) (each run (xs ++ ys))
+each_more declared run h [] ys = record { at = λ s. grows declared (each run ys) (λ before. each_alike (behind declared before) run run (λ a. h a before) ys) s }
+each_more declared run h (x ∷ xs) ys = bind_more (run x) (λ b. give_more (λ bs. b ∷ bs) (λ bs. b ∷ bs) _ _ (each_more declared run h xs ys))
 
-actions_more : (turns : ℕ) (frees : List FreeValue) (scope : List Bound) (actions more : List Action) (outcome : Answer)
-    → HasMore (run_actions (module_context turns frees scope) actions outcome) (run_actions (module_context turns frees scope) (actions ++ more) outcome)
-actions_more turns frees scope actions more (answer.Return v) =
-    give_more ending.Done ending.Done _ _ (each_more (act (module_context turns frees scope)) (act_behind turns frees scope) actions more)
-actions_more turns frees scope actions more (answer.Throw v) = record { at = λ s. same_events s.events }
+actions_more : (provided : Provided) (declared : List Id) (place : ℕ) (actions more : List Action) (outcome : Answer)
+    → HasMore (run_actions (module_context provided declared place) actions outcome) (run_actions (module_context provided declared place) (actions ++ more) outcome)
+actions_more provided declared place actions more (answer.Return v) =
+    give_more ending.Done ending.Done _ _ (each_more declared (act (module_context provided declared place)) (act_behind provided declared place) actions more)
+actions_more provided declared place actions more (answer.Throw v) = record { at = λ s. same_events s.events }
 
-module_more : (turns : ℕ) (m : Node) (script : Script) (more : List Action) → HasMore (run_module turns m script) (run_module turns m (record script { actions = script.actions ++ more }))
-module_more turns m script more =
-    bind_more (enter (meaning m).declarations []) (λ scope.
-    bind_more (run_body (module_context turns script.frees scope) m) (λ outcome. actions_more turns script.frees scope script.actions more outcome))
+module_more : (m : Node) (script : Script) (more : List Action) → HasMore (run_module m script) (run_module m (record script { actions = script.actions ++ more }))
+module_more m script more =
+    bind_more (new_environment (meaning m).locals (Some module_activation)) (λ place. bind_more (run_body (module_context (provided_by script) (meaning m).declared place) m) (λ outcome.
+    actions_more (provided_by script) (meaning m).declared place script.actions more outcome))
 
-observed_events : (r : Outcome Ending) → (observed r).events ≡ (state_behind r).events
+pub observed_events : (r : Outcome Ending) → (observed r).events ≡ (state_behind r).events
 observed_events (Done end s) = refl
 observed_events (Thrown v s) = refl
 observed_events (Returned v s) = refl
@@ -125,10 +113,10 @@ observed_events (Ended why s) = refl
 
 pub events_only_grow : EventsOnlyGrow
 events_only_grow = record {
-  body = λ turns frees scope m s. grows _ (body_behind turns frees scope m) s;
-  action = λ turns frees scope a s. grows _ (act_behind turns frees scope a) s;
+  body = λ provided declared place m s. grows declared _ (body_behind provided declared place m) s;
+  action = λ provided declared place a s. grows declared _ (act_behind provided declared place a) s;
   actions = λ turns options m script more.
       let script_more : Script = record script { actions = script.actions ++ more } in
-      rw (observed_events (run_module turns m script (start turns script)), observed_events (run_module turns m script_more (start turns script)))
-      ((module_more turns m script more).at (start turns script));
+      rw (observed_events (run_module m script (start turns script)), observed_events (run_module m script_more (start turns script)))
+      ((module_more m script more).at (start turns script));
 }

@@ -1,64 +1,138 @@
--- Laws that hold since a map of trees keeps the meaning of each layer: spans, sources of literals and types do not matter, nor do spare turns.
-use Rattle.std.proofs.Common.{◌≡◌, ◌≢◌, ◌⊎◌, ℕ, ◌+◌, inl, inr, refl, sym, ap, ◌∙◌, List, [], ◌∷◌, ◌++◌, map, map-id, Bool, true, false, cond, filter, add-zero}
+-- Laws that hold since a map of trees keeps the meaning of each layer: spans, sources of literals, type wrappers and parentheses do not matter, nor do spare turns.
+use Rattle.std.proofs.Common.{◌≡◌, ◌≢◌, ◌⊎◌, ◌++◌, ◌&&◌, ℕ, suc, inl, inr, refl, sym, ap, ap₂, ◌∙◌, subst, List, [], ◌∷◌, map, map-id, Option, Some, None, Bool, true, false, add-zero}
+use Rattle.std.specs.List.{list_any}
 use Rattle.ecma_kind.specs.declared.kind.Kind.{Kind}
 use Rattle.ecma_kind.specs.declared.kind.Kind.TheVariants as kind
-use Rattle.ecma_kind.specs.declared.span.Span.{Span}
-use Rattle.ecma_tree.specs.declared.node.Node.{Node, Node-F, fold-roll-Node, roll-Node, out-Node}
-use Rattle.ecma_tree.specs.Nodes.{node_of}
+use Rattle.ecma_tree.specs.declared.node.Node.{Node, Node-F, fold-roll-Node, ind-Node, roll-Node}
 use Rattle.ecma_tree.specs.Rewritten.{rewritten}
+use Rattle.ecma_tree.specs.Spans.{unplaced, without_spans}
 use Rattle.ecma_runs.specs.declared.config.Config.{Config}
+use Rattle.ecma_runs.specs.declared.observation.Event.{Event}
 use Rattle.ecma_runs.specs.declared.observation.Ending.{Ending}
 use Rattle.ecma_runs.specs.declared.observation.Ending.TheVariants as ending
 use Rattle.ecma_runs.specs.declared.script.Script.{Script}
-use Rattle.ecma_runs.specs.Values.{Value}
-use Rattle.ecma_runs.specs.State.{Stop, TurnsSpent, AnswersSpent, Outside, Outcome, Done, Thrown, Returned, Broken, Continued, Ended, Run, then_outcome, ◌>>=◌, give}
-use Rattle.ecma_runs.specs.Meaning.{ExecutionContext, Meaning}
-use Rattle.ecma_runs.specs.Expressions.{all_arguments}
-use Rattle.ecma_runs.specs.Statements.{all_completions, all_names, all_declarations}
-use Rattle.ecma_runs.specs.Evaluation.{meaning_by, meaning}
-use Rattle.ecma_runs.specs.Observation.{ending_of, observed, observe, start}
+use Rattle.ecma_runs.specs.State.{Id, Binding}
+use Rattle.ecma_runs.specs.Run.{Stop, TurnsSpent, AnswersSpent, Outside, Run, ◌>>=◌, give}
+use Rattle.ecma_runs.specs.Environment.{is_among, have_one_of}
+use Rattle.ecma_runs.specs.Meaning.{Meaning, ExecutionContext}
+use Rattle.ecma_runs.specs.Patterns.{name_key}
+use Rattle.ecma_runs.specs.Evaluation.{ending_chain, meaning_by, meaning}
+use Rattle.ecma_runs.specs.Observation.{observe}
 use Rattle.ecma_runs.specs.Sources.{unsourced, unsourced_node, without_sources}
-use Rattle.ecma_tree.specs.Spans.{unplaced, without_spans}
-use Rattle.ecma_strip.specs.Erasure.{stays_by, stays, erased_by, erased, without_types}
-use Rattle.ecma_runs.specs.Laws.{SpansAndSourcesDoNotMatter, TypesDoNotMatter, SpareTurnsDoNotMatter}
-use Rattle.ecma_runs.proofs.Layer.{meaning-roll, meaning_out}
-use Rattle.ecma_runs.proofs.Alike.{Change, Unless, Follows}
-use Rattle.ecma_runs.proofs.Kept.{StepsAlike, KeepsLayers, layers_alike, run_module_alike}
+use Rattle.ecma_runs.specs.Wrappers.{unwrapped_by, unwrapped, without_wrappers, is_chain_by, is_chain_step, is_chain, opened_by, opened, without_parentheses}
+use Rattle.ecma_runs.specs.Laws.{SpansAndSourcesDoNotMatter, WrappersDoNotMatter, ParenthesesDoNotMatter, SpareTurnsDoNotMatter}
+use Rattle.ecma_runs.proofs.Layer.{meaning-roll}
+use Rattle.ecma_runs.proofs.Names.{Naming, changed_ids, changed_bindings}
+use Rattle.ecma_runs.proofs.Alike.{Change}
+use Rattle.ecma_runs.proofs.Environments.{TextsStay}
+use Rattle.ecma_runs.proofs.Premises.{renamed_kind, StillClash, KeptLayer}
+use Rattle.ecma_runs.proofs.Kept.{AllNodes, StepsAlike, layer_same, IsNotExcused, observe_unless}
 
--- how runs of trees and of their images differ, where so many turns more are left
-abbrev pub images : (Node → Node) → (more : ℕ) (excused : Stop → Bool) → (more ≡ 0) ⊎ (excused TurnsSpent ≡ true) → Change
-images f more excused turns_excused = record { node = f; more = more; before = []; excused = excused; turns_excused = turns_excused }
+-- where no name is changed
 
-unless_not : {P : Type 0} (b : Bool) → b ≢ true → Unless b P → P
-unless_not true h p = absurd (h refl)
-unless_not false h p = p
+abbrev pub same_names : Naming
+same_names = record { to = λ id. id; kept = λ id. true; injective = λ a b ka kb e. e }
 
--- the run ends by no excused stop
-abbrev pub IsNotExcused : (Stop → Bool) → Ending → Type 0
-IsNotExcused excused end = (why : Stop) → excused why ≡ true → end ≢ ending_of why
+pub same_ids : (ids : List Id) → changed_ids same_names ids ≡ ids
+same_ids [] = refl
+same_ids (id ∷ ids) = ap (λ z. id ∷ z) (same_ids ids)
 
-module _ (f : Node → Node) (more : ℕ) (excused : Stop → Bool) (turns_excused : (more ≡ 0) ⊎ (excused TurnsSpent ≡ true)) where
-  observed_follows : (r r' : Outcome Ending) → Follows (images f more excused turns_excused) r r' → IsNotExcused excused (observed r).ending → observed r' ≡ observed r
-  observed_follows (Done end s) r' e h = rw e refl
-  observed_follows (Thrown v s) r' e h = rw e refl
-  observed_follows (Returned v s) r' e h = rw e refl
-  observed_follows (Broken s) r' e h = rw e refl
-  observed_follows (Continued s) r' e h = rw e refl
-  observed_follows (Ended why s) r' e h = let is : r' ≡ _ = unless_not (excused why) (λ excuse. h why excuse refl) e in rw is refl
+pub same_bindings : (bindings : List Binding) → changed_bindings same_names bindings ≡ bindings
+same_bindings [] = refl
+same_bindings (b ∷ bindings) = ap (λ z. b ∷ z) (same_bindings bindings)
 
-  -- a map of trees by which nodes and their images mean alike keeps what is observed, unless the run ends by an excused stop
-  pub observe_unless : StepsAlike (images f more excused turns_excused) → (turns : ℕ) (options : Config) (m : Node) (script : Script)
-      → IsNotExcused excused (observe turns options m script).ending → observe (turns + more) options (f m) script ≡ observe turns options m script
-  observe_unless steps turns options m script h = observed_follows _ _ ((run_module_alike (images f more excused turns_excused) steps turns m script).at (start turns script)) h
+pub texts_stay : (ids : List Id) → TextsStay (λ id. id) ids
+texts_stay [] = tt
+texts_stay (id ∷ ids) = (refl, texts_stay ids)
 
-abbrev nothing_excused : Stop → Bool
+-- what is said of the other run besides: so many turns more, events before, stops behind which nothing is said, what is said of turns and of events
+pub record Telling : Type 1 where
+  pub more : ℕ
+  pub before : List Event
+  pub excused : Stop → Bool
+  pub turns_excused : (more ≡ 0) ⊎ (excused TurnsSpent ≡ true)
+  pub holds : ℕ → Type 0
+  pub falls : (n : ℕ) → holds (suc n) → holds n
+
+abbrev pub always : ℕ → Type 0
+always n = Unit {0}
+
+abbrev pub nothing_excused : Stop → Bool
 nothing_excused why = false
+
+-- the same run
+abbrev pub the_same : Telling
+the_same = record { more = 0; before = []; excused = nothing_excused; turns_excused = inl refl; holds = always; falls = λ n h. tt }
+
+-- functions keep the images of their nodes
+abbrev pub images : (Node → Node) → List Id → Telling → Change
+images f declared t = record {
+  node = f;
+  fine = λ n. Unit {0};
+  names = same_names;
+  declared = declared;
+  texts = λ id kept free. refl;
+  more = t.more;
+  before = t.before;
+  excused = t.excused;
+  turns_excused = t.turns_excused;
+  holds = t.holds;
+  falls = t.falls;
+  uses = true;
+  said = λ events. Unit {0};
+  adds = λ u events event h. tt;
+}
+
+pub none_excused : (end : Ending) → IsNotExcused nothing_excused end
+none_excused end why excuse = absurd (cc)
+
+pub all_units : (ns : List Node) → AllNodes (λ n. Unit {0}) ns
+all_units [] = tt
+all_units (n ∷ ns) = (tt, all_units ns)
+
+-- what the map makes of a node means what the node's kind makes of the mapped children's meanings
+abbrev pub KeepsLayers : (Node → Node) → Type 0
+KeepsLayers f = (x : Node-F Node) → meaning (f (roll-Node x)) ≡ meaning_by (f (roll-Node x)) x.kind (map meaning (map f x.children))
+
+module _ (f : Node → Node) (declared : List Id) (t : Telling) where
+  abbrev of : Change
+  of = images f declared t
+
+  pub same_kind : (k : Kind) → renamed_kind of k ≡ k
+  same_kind (kind.Ident text ctxt optional) = refl
+  same_kind _ = refl
+
+  still : (parameters body : Meaning) → StillClash of parameters body
+  still parameters body = ap₂ have_one_of (same_ids parameters.names) (same_bindings body.locals)
+
+  pub kept_layer : (k : Kind) (ms : List Meaning) → KeptLayer of k ms
+  kept_layer (kind.Ident text ctxt optional) ms = (refl, refl)
+  kept_layer kind.MemberExpr ms = refl
+  kept_layer kind.SuperPropExpr ms = refl
+  kept_layer kind.CallExpr ms = refl
+  kept_layer kind.OptCall ms = refl
+  kept_layer kind.NewExpr ms = refl
+  kept_layer kind.KeyValuePatProp ms = refl
+  kept_layer kind.AssignPatProp (name ∷ default ∷ []) = (refl, ap name_key (same_ids name.names))
+  kept_layer kind.ObjectLit (properties ∷ []) = texts_stay properties.shorthands
+  kept_layer (kind.Class is_abstract) (super ∷ body ∷ types ∷ super_types ∷ implements ∷ []) = texts_stay body.shorthands
+  kept_layer (kind.ImportDecl type_only) (specifiers ∷ source ∷ attributes ∷ []) = texts_stay source.shorthands
+  kept_layer (kind.ImportNamedSpecifier is_type_only) (local ∷ name ∷ []) = (texts_stay local.names, texts_stay name.shorthands)
+  kept_layer (kind.Function false false) (parameters ∷ body ∷ types ∷ return_type ∷ []) = still parameters body
+  kept_layer (kind.ArrowExpr false false) (parameters ∷ body ∷ types ∷ return_type ∷ []) = still parameters body
+  kept_layer kind.SetterProp (key ∷ this_parameter ∷ parameter ∷ body ∷ []) = still parameter body
+  kept_layer (kind.Constructor accessibility is_optional) (key ∷ parameters ∷ body ∷ []) = still parameters body
+  kept_layer _ ms = tt
+
+  pub layers_alike : KeepsLayers f → StepsAlike of
+  layers_alike layers x ns is fine fine' =
+      layer_same of x ns is tt (all_units x.children) (kept_layer x.kind (map meaning x.children)) (layers x ∙ ap (λ k. meaning_by (f (roll-Node x)) k (map meaning (map f x.children))) (sym (same_kind x.kind)))
 
 -- a map of trees that keeps the meaning of each layer keeps what is observed
 pub observe_kept : (f : Node → Node) → KeepsLayers f → (turns : ℕ) (options : Config) (m : Node) (script : Script) → observe turns options (f m) script ≡ observe turns options m script
 observe_kept f layers turns options m script =
     ap (λ n. observe n options (f m) script) (sym (add-zero turns))
-    ∙ observe_unless f 0 nothing_excused (inl refl) (layers_alike (images f 0 nothing_excused (inl refl)) layers) turns options m script (λ why excuse. absurd (cc))
+    ∙ observe_unless (images f (meaning m).declared the_same) refl (layers_alike f (meaning m).declared the_same layers) refl turns options m script tt refl tt tt (none_excused _)
 
 -- what a rule makes of a layer means what the layer does: then so does what rewriting by the rule makes of a tree
 pub rewritten_layers : (rule : Node-F Node → Node) → ((x : Node-F Node) → meaning (rule x) ≡ meaning_by (rule x) x.kind (map meaning x.children)) → KeepsLayers (rewritten rule)
@@ -92,6 +166,20 @@ pub spans_and_sources_do_not_matter : SpansAndSourcesDoNotMatter
 spans_and_sources_do_not_matter turns options m m' script agree =
     sym (bare_kept turns options m script) ∙ (ap (λ z. observe turns options z script) agree ∙ bare_kept turns options m' script)
 
+-- type wrappers
+
+unwrapped_meaning : (x : Node-F Node) (k : Kind) (cs : List Node) → x.kind ≡ k → x.children ≡ cs → meaning (unwrapped_by k cs x) ≡ meaning_by (unwrapped_by k cs x) k (map meaning cs)
+unwrapped_meaning x kind.TsAsExpr (e ∷ type ∷ []) is are = refl
+unwrapped_meaning x kind.TsTypeAssertion (e ∷ type ∷ []) is are = refl
+unwrapped_meaning x kind.TsConstAssertion (e ∷ []) is are = refl
+unwrapped_meaning x kind.TsNonNullExpr (e ∷ []) is are = refl
+unwrapped_meaning x kind.TsInstantiation (e ∷ types ∷ []) is are = refl
+unwrapped_meaning x kind.TsSatisfiesExpr (e ∷ type ∷ []) is are = refl
+unwrapped_meaning x k cs is are = meaning-roll x ∙ ap₂ (λ z zs. meaning_by (roll-Node x) z (map meaning zs)) is are
+
+pub wrappers_do_not_matter : WrappersDoNotMatter
+wrappers_do_not_matter = observe_kept without_wrappers (rewritten_layers unwrapped (λ x. unwrapped_meaning x x.kind x.children refl refl))
+
 -- spare turns
 
 pub itself_layers : KeepsLayers (λ n. n)
@@ -107,74 +195,10 @@ only_turns_excused end h TurnsSpent excuse = h
 only_turns_excused end h AnswersSpent excuse = absurd (cc)
 only_turns_excused end h Outside excuse = absurd (cc)
 
+abbrev with_turns : ℕ → Telling
+with_turns more = record { more = more; before = []; excused = turns_only; turns_excused = inr refl; holds = always; falls = λ n h. tt }
+
 pub spare_turns_do_not_matter : SpareTurnsDoNotMatter
 spare_turns_do_not_matter turns more options m script h =
-    observe_unless (λ n. n) more turns_only (inr refl) (layers_alike (images (λ n. n) more turns_only (inr refl)) itself_layers) turns options m script
+    observe_unless (images (λ n. n) (meaning m).declared (with_turns more)) refl (layers_alike (λ n. n) (meaning m).declared (with_turns more) itself_layers) refl turns options m script tt refl tt tt
     (only_turns_excused (observe turns options m script).ending h)
-
--- types
-
-then_give : {A : Type 0} (r : Outcome A) → then_outcome r give ≡ r
-then_give (Done a s) = refl
-then_give (Thrown v s) = refl
-then_give (Returned v s) = refl
-then_give (Broken s) = refl
-then_give (Continued s) = refl
-then_give (Ended why s) = refl
-
--- what has no effect, wherever it stands in a list
-abbrev no_effect : Node → Meaning
-no_effect n = meaning_by n (kind.TsTypeAliasDecl false) []
-
-alias_by : (n : Node) (k : Kind) (ms : List Meaning) → stays_by k ≡ false → meaning_by n k ms ≡ no_effect n
-alias_by n (kind.TsTypeAliasDecl declare) ms e = refl
-alias_by n _ ms e = absurd (cc)
-
-alias_meaning : (n : Node) → stays n ≡ false → meaning n ≡ no_effect n
-alias_meaning n e = meaning_out n ∙ alias_by n (out-Node n).kind (map meaning (out-Node n).children) e
-
--- meanings of a list, of which some have no effect
-module _ {A : Type 0} (of : List Meaning → A) (here : Meaning → A → A) (each_one : (m : Meaning) (ms : List Meaning) → of (m ∷ ms) ≡ here m (of ms)) (skipped : (n : Node) (a : A) → here (no_effect n) a ≡ a) where
-  -- one more node, which stays or not
-  filter_one : (n : Node) (ns : List Node) (b : Bool) → stays n ≡ b → of (map meaning (filter stays ns)) ≡ of (map meaning ns)
-      → of (map meaning (cond b (n ∷ filter stays ns) (filter stays ns))) ≡ of (map meaning (n ∷ ns))
-  filter_one n ns true e rest = each_one (meaning n) (map meaning (filter stays ns)) ∙ (ap (here (meaning n)) rest ∙ sym (each_one (meaning n) (map meaning ns)))
-  filter_one n ns false e rest =
-      rest ∙ (sym (skipped n (of (map meaning ns))) ∙ (ap (λ m. here m (of (map meaning ns))) (sym (alias_meaning n e)) ∙ sym (each_one (meaning n) (map meaning ns))))
-
-  filter_meanings : (ns : List Node) → of (map meaning (filter stays ns)) ≡ of (map meaning ns)
-  filter_meanings [] = refl
-  filter_meanings (n ∷ ns) = filter_one n ns (stays n) refl (filter_meanings ns)
-
-abbrev arguments_here : Meaning → (ExecutionContext → Run (List Value)) → ExecutionContext → Run (List Value)
-arguments_here m rest x = m.arguments x >>= λ vs. rest x >>= λ ws. give (vs ++ ws)
-
-abbrev completion_here : Meaning → (ExecutionContext → Run (Unit {0})) → ExecutionContext → Run (Unit {0})
-completion_here m rest x = m.completion x >>= λ _. rest x
-
--- a list without its aliases means what the list means
-list_without_aliases : (n : Node) (ns : List Node) → meaning_by n kind.List (map meaning (filter stays ns)) ≡ meaning_by n kind.List (map meaning ns)
-list_without_aliases n ns =
-    let a : all_arguments (map meaning (filter stays ns)) ≡ all_arguments (map meaning ns) =
-    filter_meanings all_arguments arguments_here (λ m ms. refl) (λ n a. λ i x s. then_give (a x s) i) ns in
-    let b : all_completions (map meaning (filter stays ns)) ≡ all_completions (map meaning ns) =
-    filter_meanings all_completions completion_here (λ m ms. refl) (λ n a. refl) ns in
-    let d : all_names (map meaning (filter stays ns)) ≡ all_names (map meaning ns) =
-    filter_meanings all_names (λ m rest. m.names ++ rest) (λ m ms. refl) (λ n a. refl) ns in
-    let e : all_declarations (map meaning (filter stays ns)) ≡ all_declarations (map meaning ns) =
-    filter_meanings all_declarations (λ m rest. m.declarations ++ rest) (λ m ms. refl) (λ n a. refl) ns in
-    rw (a, b, d, e) refl
-
--- the rule of the erasure keeps what a layer means
-erased_meaning : (span : Span) (k : Kind) (ns : List Node) →
-    meaning (erased_by k ns (record { span = span; kind = k; children = ns })) ≡ meaning_by (erased_by k ns (record { span = span; kind = k; children = ns })) k (map meaning ns)
-erased_meaning span kind.TsTypeAnn ns = meaning-roll (record { span = record { lo = 0; hi = 0 }; kind = kind.Absent; children = [] })
-erased_meaning span kind.TsAsExpr (e ∷ type ∷ []) = refl
-erased_meaning span kind.List ns = meaning-roll (record { span = span; kind = kind.List; children = filter stays ns }) ∙ list_without_aliases (node_of span kind.List (filter stays ns)) ns
-erased_meaning span k ns = meaning-roll (record { span = span; kind = k; children = ns })
-
-without_types_layers : KeepsLayers without_types
-without_types_layers = rewritten_layers erased (λ x. erased_meaning x.span x.kind x.children)
-
-pub types_do_not_matter : TypesDoNotMatter
-types_do_not_matter = observe_kept without_types without_types_layers

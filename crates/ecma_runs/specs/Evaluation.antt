@@ -1,33 +1,86 @@
 -- What a node means, made of what its children mean; and what a call of a function of the program does.
-use Rattle.std.specs.Prelude.{ℕ, zero, suc, List, [], ◌∷◌, map}
+use Rattle.std.specs.Prelude.{ℕ, zero, suc, List, [], ◌∷◌, map, Option, Some, None, false}
 use Rattle.ecma_kind.specs.declared.kind.Kind.{Kind}
 use Rattle.ecma_kind.specs.declared.kind.Kind.TheVariants as kind
 use Rattle.ecma_tree.specs.declared.node.Node.{Node, Node-F, fold-Node}
 use Rattle.ecma_tree.specs.Nodes.{node_of}
-use Rattle.ecma_runs.specs.declared.script.FreeValue.{FreeValue}
-use Rattle.ecma_runs.specs.Values.{Value, Undefined}
-use Rattle.ecma_runs.specs.State.{Calling, Outcome, Done, Thrown, Returned, Broken, Continued, Ended, TurnsSpent, Outside, Run, ◌>>=◌, spend}
-use Rattle.ecma_runs.specs.Meaning.{Meaning}
-use Rattle.ecma_runs.specs.Expressions.{value_of, object_of, callee_of, initial_of, arguments_of, key_of}
-use Rattle.ecma_runs.specs.Statements.{reference_of, completion_of, called_of, names_of, declarations_of}
+use Rattle.ecma_runs.specs.Values.{Value, Undefined, Own, Host, Error}
+use Rattle.ecma_runs.specs.State.{Id, Given, Activation, Sort, Plain, Method, Arrow, BaseClass, DerivedClass, Closure, Object, Ordinary}
+use Rattle.ecma_runs.specs.Run.{Ended, TurnsSpent, Run, ◌>>=◌, give, outside, reference_error, type_error, given_or, returned_by, spend}
+use Rattle.ecma_runs.specs.Host.{Provided}
+use Rattle.ecma_runs.specs.Environment.{empty, new_environment, activation_at}
+use Rattle.ecma_runs.specs.Meaning.{Evaluation, Invocation, AsCall, AsConstruct, Functions, ExecutionContext, inside, Meaning}
+use Rattle.ecma_runs.specs.Objects.{new_object, closure_at}
+use Rattle.ecma_runs.specs.Functions.{prototype_for}
+use Rattle.ecma_runs.specs.Expressions.{value_of, reference_of, initial_of, arguments_of, elements_of, texts_of, key_of, chain_of, link_of, test_of}
+use Rattle.ecma_runs.specs.Patterns.{assigned_of, bound_of, matched_of, targets_of, parameters_of}
+use Rattle.ecma_runs.specs.Classes.{made_of, class_made_of, defined_of, fields_of, statics_of, code_of, body_of, field_activation}
+use Rattle.ecma_runs.specs.Statements.{completion_of, varied_of, hoisted_of, effect_of, caught_of}
+use Rattle.ecma_runs.specs.Declarations.{names_of, lexicals_of, vars_of, locals_of, parameter_names_of, declared_of, shorthands_of, imported_of, text_of, cooked_of, is_plain_of, is_super_of, is_absent_of, is_this_of, has_body_of, is_constructor_of}
 
--- what a node means; the node itself is for the functions that will keep it.
--- An expression as a type means what the expression means, in every role.
-abbrev pub meaning_by : Node → Kind → List Meaning → Meaning
-meaning_by node kind.TsAsExpr (e ∷ type ∷ []) = e
-meaning_by node k children = record {
-  value = value_of k children;
-  object = object_of k children;
-  callee = callee_of k children;
-  initial = initial_of k children;
-  arguments = arguments_of k children;
+-- what a node means in each role; the node itself is for the functions that keep it
+abbrev pub role_by : Node → Kind → List Meaning → Meaning
+role_by node k children = record {
+  value = value_of node k children;
+  reference = reference_of node k children;
+  assigned = assigned_of node k children;
+  initial = initial_of node k children;
+  arguments = arguments_of node k children;
+  elements = elements_of node k children;
+  texts = texts_of node k children;
   key = key_of k children;
-  reference = reference_of k children;
+  chain = chain_of node k children;
+  link = link_of k children;
+  bound = bound_of k children;
+  matched = matched_of k children;
+  targets = targets_of k children;
+  parameters = parameters_of k children;
   completion = completion_of k children;
-  called = called_of k children;
+  varied = varied_of k children;
+  hoisted = hoisted_of k children;
+  effect = effect_of node k children;
+  test = test_of node k children;
+  caught = caught_of k children;
+  made = made_of node k children;
+  class_made = class_made_of node k children;
+  defined = defined_of node k children;
+  fields = fields_of k children;
+  statics = statics_of k children;
+  code = code_of k children;
+  body = body_of node k children;
   names = names_of k children;
-  declarations = declarations_of k children;
+  lexicals = lexicals_of k children;
+  vars = vars_of k children;
+  locals = locals_of k children;
+  parameter_names = parameter_names_of k children;
+  declared = declared_of k children;
+  shorthands = shorthands_of k children;
+  imported = imported_of k children;
+  text = text_of k children;
+  cooked = cooked_of k children;
+  is_plain = is_plain_of k children;
+  is_super = is_super_of k;
+  is_absent = is_absent_of k;
+  is_this = is_this_of k children;
+  has_body = has_body_of k children;
+  is_constructor = is_constructor_of k children;
 }
+
+-- parentheses end an optional chain, and else mean what stands in them
+abbrev pub ending_chain : Meaning → Meaning
+ending_chain m = record m { chain = λ x. m.reference x >>= λ r. give (Some r) }
+
+-- an expression with a type means what the expression means, and an annotation what a missing child means, in every role
+abbrev pub meaning_by : Node → Kind → List Meaning → Meaning
+meaning_by node kind.ParenExpr (e ∷ []) = ending_chain e
+meaning_by node kind.TsAsExpr (e ∷ type ∷ []) = e
+meaning_by node kind.TsTypeAssertion (e ∷ type ∷ []) = e
+meaning_by node kind.TsConstAssertion (e ∷ []) = e
+meaning_by node kind.TsNonNullExpr (e ∷ []) = e
+meaning_by node kind.TsInstantiation (e ∷ types ∷ []) = e
+meaning_by node kind.TsSatisfiesExpr (e ∷ type ∷ []) = e
+meaning_by node kind.TsTypeAnn children = role_by node kind.Absent []
+meaning_by node k children = role_by node k children
 
 -- a node, and what it means
 pub record Meant : Type 0 where
@@ -43,24 +96,106 @@ meant_step parts = meant_by (node_of parts.span parts.kind (map (λ child. child
 abbrev pub meaning : Node → Meaning
 meaning n = (fold-Node Meant meant_step n).meaning
 
--- what the body of a function gives to its caller (ECMAScript, 10.2.1 [[Call]]); `break` and `continue` that nothing encloses are open
-abbrev pub result_of : Outcome Value → Outcome Value
-result_of (Done v s) = Done Undefined s
-result_of (Thrown v s) = Thrown v s
-result_of (Returned v s) = Done v s
-result_of (Broken s) = Ended Outside s
-result_of (Continued s) = Ended Outside s
-result_of (Ended why s) = Ended why s
+-- code runs in a record of its own, with the parameters
+abbrev pub entered : Meaning → Option Activation → List Value → (ℕ → Value → Run Value) → ExecutionContext → Run Value
+entered m activation arguments finish x =
+    new_environment (map (empty false) m.parameter_names) activation >>= λ place. returned_by (λ _. Undefined) (m.code arguments (inside x place)) >>= λ v. finish place v
 
-abbrev pub body_result : Run Value → Run Value
-body_result run s = result_of (run s)
+abbrev pub as_it_is : ℕ → Value → Run Value
+as_it_is place v = give v
 
--- a call: a turn, and then the function's body where its names are in scope
-abbrev pub apply : Calling → List FreeValue → Calling
-apply call frees closure receiver arguments =
-    spend >>= λ _. body_result ((meaning closure.node).called receiver arguments (record { call = call; scope = closure.scope; frees = frees }))
+abbrev pub called_with : Value → ℕ → Option ℕ → List Value → Activation
+called_with this function home arguments = record { this = Some this; function = Some function; home = home; new_target = Some Undefined; arguments = Given arguments }
 
--- calls that stand so deep in one another: each spends a turn, so no more than the turns of the run are needed
-abbrev pub calls : List FreeValue → ℕ → Calling
-calls frees zero closure receiver arguments s = Ended TurnsSpent s
-calls frees (suc n) closure receiver arguments s = apply (calls frees n) frees closure receiver arguments s
+abbrev pub constructed_with : Option Value → ℕ → Option ℕ → ℕ → List Value → Activation
+constructed_with this function home new_target arguments = record { this = this; function = Some function; home = home; new_target = Some (Own new_target); arguments = Given arguments }
+
+-- an object that the constructor returned stands in the place of the new one (10.2.2 [[Construct]], steps 10 to 14); an error is open
+abbrev pub or_object : ℕ → ℕ → Value → Run Value
+or_object object place (Own other) = give (Own other)
+or_object object place (Host number) = give (Host number)
+or_object object place (Error error_kind) = outside
+or_object object place v = give (Own object)
+
+abbrev pub this_of : Option Activation → Run Value
+this_of None = outside
+this_of (Some a) = given_or a.this reference_error
+
+abbrev pub or_this : ℕ → Value → Run Value
+or_this place (Own other) = give (Own other)
+or_this place (Host number) = give (Host number)
+or_this place (Error error_kind) = outside
+or_this place Undefined = activation_at place >>= λ o. this_of o
+or_this place v = type_error
+
+-- 10.1.13 OrdinaryCreateFromConstructor
+abbrev pub instance_object : Option ℕ → Object
+instance_object prototype = record { entries = []; prototype = prototype; callable = None; extent = Ordinary }
+
+-- a new object, with the fields of its class
+abbrev pub construct_base : Meaning → ℕ → Option ℕ → ℕ → List Value → ExecutionContext → Run Value
+construct_base m function home new_target arguments x =
+    prototype_for new_target >>= λ p. new_object (instance_object p) >>= λ object. x.functions.fields function (Own object) >>= λ _.
+    entered m (Some (constructed_with (Some (Own object)) function home new_target arguments)) arguments (or_object object) x
+
+-- [[Call]] and [[Construct]], by the kind of the function (10.2.1, 10.2.2)
+abbrev pub invoked : Meaning → ℕ → Option ℕ → Sort → Invocation → List Value → ExecutionContext → Run Value
+invoked m function home Arrow (AsCall this) arguments x = entered m None arguments as_it_is x
+invoked m function home Plain (AsCall this) arguments x = entered m (Some (called_with this function home arguments)) arguments as_it_is x
+invoked m function home Method (AsCall this) arguments x = entered m (Some (called_with this function home arguments)) arguments as_it_is x
+invoked m function home Plain (AsConstruct new_target) arguments x = construct_base m function home new_target arguments x
+invoked m function home BaseClass (AsConstruct new_target) arguments x = construct_base m function home new_target arguments x
+invoked m function home DerivedClass (AsConstruct new_target) arguments x = entered m (Some (constructed_with None function home new_target arguments)) arguments or_this x
+invoked m function home sort how arguments x = type_error
+
+abbrev pub class_fields : Meaning → Closure → Value → ExecutionContext → Run (Unit {0})
+class_fields m closure object x =
+    new_environment [] (Some (field_activation object closure.home)) >>= λ place. m.fields closure.field_keys object (inside x place) >>= λ _. give tt
+
+-- the fields of a class on an object; functions that are no class have none
+abbrev pub fields_by : Meaning → Sort → Closure → Value → ExecutionContext → Run (Unit {0})
+fields_by m BaseClass closure object x = class_fields m closure object x
+fields_by m DerivedClass closure object x = class_fields m closure object x
+fields_by m sort closure object x = give tt
+
+-- what a closure does where its scope is around, and calls do what is given
+abbrev pub closure_context : Functions → Provided → List Id → Closure → ExecutionContext
+closure_context functions provided declared closure = record { functions = functions; scope = closure.scope; provided = provided; declared = declared }
+
+abbrev pub invoke_closure : Functions → Provided → List Id → ℕ → Invocation → List Value → Option Closure → Run Value
+invoke_closure functions provided declared function how arguments None = outside
+invoke_closure functions provided declared function how arguments (Some closure) =
+    invoked (meaning closure.node) function closure.home closure.sort how arguments (closure_context functions provided declared closure)
+
+abbrev pub fields_of_closure : Functions → Provided → List Id → Value → Option Closure → Run (Unit {0})
+fields_of_closure functions provided declared object None = outside
+fields_of_closure functions provided declared object (Some closure) =
+    fields_by (meaning closure.node) closure.sort closure object (closure_context functions provided declared closure)
+
+-- within the fields of a class no super() stands
+abbrev pub no_fields : ℕ → Value → Run (Unit {0})
+no_fields function object = outside
+
+abbrev pub fields_with : (ℕ → Invocation → List Value → Run Value) → Provided → List Id → ℕ → Value → Run (Unit {0})
+fields_with invoke provided declared function object s =
+    fields_of_closure (record { invoke = invoke; fields = no_fields }) provided declared object (closure_at function s) s
+
+abbrev pub functions_with : (ℕ → Invocation → List Value → Run Value) → Provided → List Id → Functions
+functions_with invoke provided declared = record { invoke = invoke; fields = fields_with invoke provided declared }
+
+-- a call: a turn, and then what the function does
+abbrev pub apply_at : (ℕ → Invocation → List Value → Run Value) → Provided → List Id → ℕ → Invocation → List Value → Run Value
+apply_at invoke provided declared function how arguments s =
+    invoke_closure (functions_with invoke provided declared) provided declared function how arguments (closure_at function s) s
+
+abbrev pub apply : (ℕ → Invocation → List Value → Run Value) → Provided → List Id → ℕ → Invocation → List Value → Run Value
+apply invoke provided declared function how arguments = spend >>= λ _. apply_at invoke provided declared function how arguments
+
+-- calls that stand so deep in one another
+abbrev pub calls : Provided → List Id → ℕ → ℕ → Invocation → List Value → Run Value
+calls provided declared zero function how arguments s = Ended TurnsSpent s
+calls provided declared (suc n) function how arguments s = apply (calls provided declared n) provided declared function how arguments s
+
+-- what a call does: each spends a turn, so no more stand in one another than turns are left. It is `apply` of itself (proofs/Depth.antt).
+abbrev pub invoke : Provided → List Id → ℕ → Invocation → List Value → Run Value
+invoke provided declared function how arguments s = calls provided declared s.turns function how arguments s

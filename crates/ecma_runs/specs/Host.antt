@@ -1,16 +1,27 @@
 -- The host: values that go to it and come from it, its events and answers. All of it is this project's own.
-use Rattle.std.specs.Prelude.{ℕ, ◌^◌, List, [], ◌∷◌, ◌++◌, length, Option, Some, None, nat_eq, nat_lt, slice_get, if◌then◌else◌, bytes_eq, codes, Bool, ◌||◌}
+use Rattle.std.specs.Prelude.{ℕ, ◌^◌, List, [], ◌∷◌, ◌++◌, length, Option, Some, None, nat_eq, nat_lt, slice_get, if◌then◌else◌, bytes_eq, codes, Bool, ◌&&◌, ◌||◌}
 use Rattle.std.specs.List.{position}
 use Rattle.ecma_number.specs.declared.js_number.JsNumber.TheVariants as js_number
 use Rattle.ecma_runs.specs.declared.observation.Event.{Event}
 use Rattle.ecma_runs.specs.declared.script.Answer.{Answer}
 use Rattle.ecma_runs.specs.declared.script.Answer.TheVariants as answer
 use Rattle.ecma_runs.specs.declared.script.FreeValue.{FreeValue}
-use Rattle.ecma_runs.specs.declared.shown.ErrorKind.TheVariants as error
+use Rattle.ecma_runs.specs.declared.script.ImportValue.{ImportValue}
+use Rattle.ecma_runs.specs.declared.script.Script.{Script}
 use Rattle.ecma_runs.specs.declared.shown.Shown.{Shown}
 use Rattle.ecma_runs.specs.declared.shown.Shown.TheVariants as shown
 use Rattle.ecma_runs.specs.Values.{Value, Undefined, Null, Truth, Number, Text, Own, Host, Error}
-use Rattle.ecma_runs.specs.State.{Done, AnswersSpent, Ended, Run, ◌>>=◌, give, throw, outside, when}
+use Rattle.ecma_runs.specs.Run.{Done, AnswersSpent, Ended, Run, ◌>>=◌, give, throw, outside, reference_error, when}
+
+-- what a script provides for names
+pub record Provided : Type 0 where
+  pub imports : List ImportValue
+  pub frees : List FreeValue
+  -- the text of `import.meta.url`
+  pub meta_url : List ℕ
+
+abbrev pub provided_by : Script → Provided
+provided_by script = record { imports = script.imports; frees = script.frees; meta_url = script.meta_url }
 
 -- the object that was shown under a number; open where none was
 abbrev pub own_at : Option ℕ → Run Value
@@ -29,7 +40,7 @@ taken (shown.Num number) = give (Number number)
 taken (shown.Text text) = give (Text text)
 taken (shown.Host number) = give (Host number)
 taken (shown.Handle number) = handled number
-taken (shown.Error kind) = give (Error kind)
+taken (shown.Error error_kind) = give (Error error_kind)
 
 -- an object gets the next number, if one is left
 abbrev pub number_own : ℕ → Run Shown
@@ -51,7 +62,16 @@ show (Number number) = give (shown.Num number)
 show (Text text) = give (shown.Text text)
 show (Own place) = show_object place
 show (Host number) = give (shown.Host number)
-show (Error kind) = give (shown.Error kind)
+show (Error error_kind) = give (shown.Error error_kind)
+
+-- the value that the script gives for an import
+abbrev pub import_value : List ImportValue → List ℕ → List ℕ → Option Shown
+import_value [] source name = None
+import_value (value ∷ values) source name = (if bytes_eq value.source source && bytes_eq value.name name then Some value.value else import_value values source name)
+
+abbrev pub taken_if : Option Shown → Run Value
+taken_if None = outside
+taken_if (Some value) = taken value
 
 -- what the host answers: a value, or that it throws one
 abbrev pub answered : Answer → Run Value
@@ -89,12 +109,21 @@ fixed_value name =
 abbrev pub free_or : Option Value → Option Shown → Run Value
 free_or (Some v) value = give v
 free_or None (Some value) = taken value
-free_or None None = throw (Error error.Reference)
+free_or None None = reference_error
 
 abbrev pub read_free : List FreeValue → List ℕ → Run Value
 read_free frees name = free_or (fixed_value name) (free_value frees name)
 
--- the free names that are open as the object of a member
+-- what `typeof` tells of a free name without value (13.5.3.1)
+abbrev pub free_or_undefined : Option Value → Option Shown → Run Value
+free_or_undefined None None = give Undefined
+free_or_undefined fixed value = free_or fixed value
+
+-- a free name under `typeof`: it throws no ReferenceError
+abbrev pub read_free_typed : List FreeValue → List ℕ → Run Value
+read_free_typed frees name = free_or_undefined (fixed_value name) (free_value frees name)
+
+-- the free names that are open as the object of a member and as the operand of `new`
 abbrev pub is_open_object : List ℕ → Bool
 is_open_object name = bytes_eq name (codes "Math") || bytes_eq name (codes "Date")
 

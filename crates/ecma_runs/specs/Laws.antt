@@ -1,17 +1,19 @@
 -- The laws of `observe`.
 use Rattle.std.specs.Prelude.{◌≡◌, ◌≢◌, ℕ, ◌+◌, List, [], ◌++◌, IsTrue}
 use Rattle.ecma_tree.specs.declared.node.Node.{Node}
+use Rattle.ecma_tree.specs.Erasure.{without_types}
 use Rattle.ecma_runs.specs.declared.config.Config.{Config}
 use Rattle.ecma_runs.specs.declared.observation.Event.{Event}
 use Rattle.ecma_runs.specs.declared.observation.Ending.TheVariants as ending
 use Rattle.ecma_runs.specs.declared.script.Action.{Action}
-use Rattle.ecma_runs.specs.declared.script.FreeValue.{FreeValue}
 use Rattle.ecma_runs.specs.declared.script.Script.{Script}
-use Rattle.ecma_runs.specs.State.{Bound, State, Outcome, Done, Thrown, Returned, Broken, Continued, Ended}
+use Rattle.ecma_runs.specs.State.{Id, State}
+use Rattle.ecma_runs.specs.Run.{Outcome, Done, Thrown, Returned, Broken, Continued, Ended}
+use Rattle.ecma_runs.specs.Host.{Provided}
 use Rattle.ecma_runs.specs.Observation.{observe, module_context, run_body, act}
 use Rattle.ecma_runs.specs.Sources.{AgreeUpToSources}
-use Rattle.ecma_strip.specs.Erasure.{without_types}
 use Rattle.ecma_runs.specs.Uses.{uses_nothing}
+use Rattle.ecma_runs.specs.Wrappers.{without_wrappers, without_parentheses}
 
 -- trees that are equal up to spans and the source texts of literals run alike
 abbrev pub SpansAndSourcesDoNotMatter : Type 0
@@ -20,6 +22,14 @@ SpansAndSourcesDoNotMatter = (turns : ℕ) (options : Config) (m m' : Node) (scr
 -- a tree runs as it does without its types
 abbrev pub TypesDoNotMatter : Type 0
 TypesDoNotMatter = (turns : ℕ) (options : Config) (m : Node) (script : Script) → observe turns options (without_types m) script ≡ observe turns options m script
+
+-- a tree runs as it does without the types that wrap expressions, wherever they stand
+abbrev pub WrappersDoNotMatter : Type 0
+WrappersDoNotMatter = (turns : ℕ) (options : Config) (m : Node) (script : Script) → observe turns options (without_wrappers m) script ≡ observe turns options m script
+
+-- a tree runs as it does without parentheses that end no optional chain
+abbrev pub ParenthesesDoNotMatter : Type 0
+ParenthesesDoNotMatter = (turns : ℕ) (options : Config) (m : Node) (script : Script) → observe turns options (without_parentheses m) script ≡ observe turns options m script
 
 -- a run that did not want for turns is the same with more
 abbrev pub SpareTurnsDoNotMatter : Type 0
@@ -43,11 +53,9 @@ Extends before after = (more : List Event) × (after ≡ before ++ more)
 -- the events before are the first of those behind
 pub record EventsOnlyGrow : Type 0 where
   -- while a module's body runs
-  pub body : (turns : ℕ) (frees : List FreeValue) (scope : List Bound) (m : Node) (s : State) →
-      Extends s.events (state_behind (run_body (module_context turns frees scope) m s)).events
+  pub body : (provided : Provided) (declared : List Id) (place : ℕ) (m : Node) (s : State) → Extends s.events (state_behind (run_body (module_context provided declared place) m s)).events
   -- while an action is done
-  pub action : (turns : ℕ) (frees : List FreeValue) (scope : List Bound) (a : Action) (s : State) →
-      Extends s.events (state_behind (act (module_context turns frees scope) a s)).events
+  pub action : (provided : Provided) (declared : List Id) (place : ℕ) (a : Action) (s : State) → Extends s.events (state_behind (act (module_context provided declared place) a s)).events
   -- with more actions behind those of a script
   pub actions : (turns : ℕ) (options : Config) (m : Node) (script : Script) (more : List Action) →
       Extends (observe turns options m script).events (observe turns options m (record script { actions = script.actions ++ more })).events

@@ -1,66 +1,129 @@
--- What statements and declarations do, and what they declare (ECMAScript, 14 Statements and Declarations).
-use Rattle.std.specs.Prelude.{List, [], ◌∷◌, ◌++◌, map, Bool, true, false}
+-- What statements and declarations do (ECMAScript, 14 Statements and Declarations, 16.2 Modules).
+use Rattle.std.specs.Prelude.{ℕ, zero, suc, List, [], ◌∷◌, map, Bool, true, false, Option, Some, None}
 use Rattle.ecma_kind.specs.declared.kind.Kind.{Kind}
 use Rattle.ecma_kind.specs.declared.kind.Kind.TheVariants as kind
-use Rattle.ecma_kind.specs.declared.operators.VarDeclKind.TheVariants.{Let, Const}
-use Rattle.ecma_runs.specs.Values.{Value}
-use Rattle.ecma_runs.specs.State.{Id, ◌>>=◌, give, outside}
-use Rattle.ecma_runs.specs.Scope.{Declared, Reference, resolved, initialize}
-use Rattle.ecma_runs.specs.Meaning.{Evaluation, Meaning}
+use Rattle.ecma_kind.specs.declared.operators.VarDeclKind.TheVariants.{Var, Let, Const}
+use Rattle.ecma_tree.specs.declared.node.Node.{Node}
+use Rattle.ecma_runs.specs.Values.{Value, Own, truth_of}
+use Rattle.ecma_runs.specs.State.{Plain}
+use Rattle.ecma_runs.specs.Run.{TurnsSpent, Run, ◌>>=◌, give, throw, return, break, continue, stop, outside, when, catching, finally, round, loop, spend}
+use Rattle.ecma_runs.specs.Environment.{initialize, empty, new_environment, copy_environment}
+use Rattle.ecma_runs.specs.Meaning.{inside, Evaluation, Meaning}
+use Rattle.ecma_runs.specs.Expressions.{value_of}
 
--- what a name refers to where it is initialized (9.4.2 ResolveBinding)
-abbrev pub reference_of : Kind → List Meaning → Evaluation Reference
-reference_of (kind.Ident sym ctxt optional) [] x = give (resolved x.scope (record { sym = sym; ctxt = ctxt }))
-reference_of kind.BindingIdent (id ∷ annotation ∷ []) x = id.reference x
-reference_of _ children x = outside
+-- loops: a round spends a turn before its body, so no more rounds than turns are needed
 
--- 14.2.2 Block: Evaluation, of a statement list
+-- 14.7.3.2 WhileLoopEvaluation
+abbrev pub rounds : ℕ → Run Value → Run (Unit {0}) → Run (Unit {0})
+rounds zero test body = test >>= λ v. when (truth_of v) (stop TurnsSpent) (give tt)
+rounds (suc n) test body = test >>= λ v. when (truth_of v) (spend >>= λ _. round body >>= λ _. rounds n test body) (give tt)
+
+abbrev pub while : Run Value → Run (Unit {0}) → Run (Unit {0})
+while test body s = loop (rounds s.turns test body) s
+
+-- 14.7.2.2 DoWhileLoopEvaluation
+abbrev pub first_round : Run Value → Run (Unit {0}) → Run (Unit {0})
+first_round test body = spend >>= λ _. round body >>= λ _. λ s. rounds s.turns test body s
+
+abbrev pub do_while : Run Value → Run (Unit {0}) → Run (Unit {0})
+do_while test body = loop (first_round test body)
+
+-- 14.7.4.3 ForBodyEvaluation: a round has its own copy of the variables that the head declares
+abbrev pub for_rounds : ℕ → Meaning → Meaning → Meaning → ℕ → Evaluation (Unit {0})
+for_rounds zero test update body place x = test.test (inside x place) >>= λ v. when (truth_of v) (stop TurnsSpent) (give tt)
+for_rounds (suc n) test update body place x =
+    test.test (inside x place) >>= λ v. when (truth_of v)
+    (spend >>= λ _. round (body.completion (inside x place)) >>= λ _. copy_environment place >>= λ next. update.effect (inside x next) >>= λ _. for_rounds n test update body next x) (give tt)
+
+abbrev pub for_loop : Meaning → Meaning → Meaning → ℕ → Evaluation (Unit {0})
+for_loop test update body place x s = loop (for_rounds s.turns test update body place x) s
+
+-- 14.2.2 Block: Evaluation
+abbrev pub block : Meaning → Evaluation (Unit {0})
+block statements x = new_environment statements.lexicals None >>= λ place. statements.hoisted (inside x place) >>= λ _. statements.completion (inside x place)
+
 abbrev pub all_completions : List Meaning → Evaluation (Unit {0})
 all_completions [] x = give tt
 all_completions (m ∷ ms) x = m.completion x >>= λ _. all_completions ms x
 
--- a statement or a declaration; what it completes with is never seen. `var` and ambient declarations are open.
+-- a statement or a declaration; what it completes with is never seen. Types and ambient declarations have no effect.
 abbrev pub completion_of : Kind → List Meaning → Evaluation (Unit {0})
+completion_of kind.Absent children x = give tt
+completion_of kind.List items x = all_completions items x
 -- 16.2.1.11 Module: Evaluation
 completion_of (kind.Module shebang) (body ∷ []) x = body.completion x
-completion_of kind.List items x = all_completions items x
+completion_of kind.EmptyStmt children x = give tt
 -- 14.5.1 Expression Statement: Evaluation
 completion_of kind.ExprStmt (e ∷ []) x = e.value x >>= λ _. give tt
--- 14.3.1.2 Let and Const Declarations: Evaluation
+-- 14.3 Declarations and the Variable Statement
+completion_of (kind.VarDecl word true) children x = give tt
+completion_of (kind.VarDecl Var false) (declarators ∷ []) x = declarators.varied x
 completion_of (kind.VarDecl Let false) (declarators ∷ []) x = declarators.completion x
 completion_of (kind.VarDecl Const false) (declarators ∷ []) x = declarators.completion x
-completion_of (kind.VarDeclarator definite) (name ∷ init ∷ []) x = name.reference x >>= λ r. init.initial x >>= λ v. initialize r v
--- a type alias has no effect
+completion_of (kind.VarDeclarator definite) (name ∷ init ∷ []) x = init.initial x >>= λ v. name.bound v x
+-- functions are set when their scope is entered
+completion_of (kind.FnDecl declare) children x = give tt
+-- 15.7.15 BindingClassDeclarationEvaluation
+completion_of (kind.ClassDecl true) children x = give tt
+completion_of (kind.ClassDecl false) (name ∷ class ∷ []) x = class.class_made name.names x >>= λ v. initialize x.scope name.names v
+completion_of kind.BlockStmt (statements ∷ []) x = block statements x
+-- 14.6.2 The if Statement: Evaluation
+completion_of kind.IfStmt (test ∷ yes' ∷ no' ∷ []) x = test.value x >>= λ v. when (truth_of v) (yes'.completion x) (no'.completion x)
+completion_of kind.WhileStmt (test ∷ body ∷ []) x = while (test.value x) (body.completion x)
+completion_of kind.DoWhileStmt (test ∷ body ∷ []) x = do_while (test.value x) (body.completion x)
+completion_of kind.ForStmt (init ∷ test ∷ update ∷ body ∷ []) x =
+    new_environment init.lexicals None >>= λ place. init.effect (inside x place) >>= λ _. copy_environment place >>= λ next. for_loop test update body next x
+-- 14.10.1, 14.14.1, 14.9.2, 14.8.2; labels are open
+completion_of kind.ReturnStmt (e ∷ []) x = e.initial x >>= λ v. return v
+completion_of kind.ThrowStmt (e ∷ []) x = e.value x >>= λ v. throw v
+completion_of kind.BreakStmt (label ∷ []) x = when label.is_absent break outside
+completion_of kind.ContinueStmt (label ∷ []) x = when label.is_absent continue outside
+-- 14.15.3 The try Statement: Evaluation
+completion_of kind.TryStmt (body ∷ handler ∷ last ∷ []) x = finally (catching (body.completion x) (λ v. handler.caught v x)) (last.completion x)
+-- imports are variables of the module's scope
+completion_of (kind.ImportDecl type_only) children x = give tt
+completion_of (kind.TsImportEqualsDecl is_export true) children x = give tt
+completion_of (kind.NamedExport true) children x = give tt
+completion_of (kind.ExportAll true) children x = give tt
+completion_of kind.TsNamespaceExportDecl children x = give tt
+completion_of (kind.TsInterfaceDecl declare) children x = give tt
 completion_of (kind.TsTypeAliasDecl declare) children x = give tt
+completion_of (kind.TsEnumDecl true is_const) children x = give tt
+completion_of (kind.TsModuleDecl true global) children x = give tt
 completion_of _ children x = outside
 
--- a function that is called; no node is one yet
-abbrev pub called_of : Kind → List Meaning → Value → List Value → Evaluation Value
-called_of _ children receiver arguments x = outside
+abbrev pub effect_of : Node → Kind → List Meaning → Evaluation (Unit {0})
+effect_of node kind.Absent children x = give tt
+effect_of node (kind.VarDecl word declare) children x = completion_of (kind.VarDecl word declare) children x
+effect_of node k children x = value_of node k children x >>= λ _. give tt
 
-abbrev pub all_names : List Meaning → List Id
-all_names [] = []
-all_names (m ∷ ms) = m.names ++ all_names ms
+abbrev pub all_varied : List Meaning → Evaluation (Unit {0})
+all_varied [] x = give tt
+all_varied (m ∷ ms) x = m.varied x >>= λ _. all_varied ms x
 
--- the names that a declaration binds (8.2.1 BoundNames)
-abbrev pub names_of : Kind → List Meaning → List Id
-names_of (kind.Ident sym ctxt optional) [] = record { sym = sym; ctxt = ctxt } ∷ []
-names_of kind.BindingIdent (id ∷ annotation ∷ []) = id.names
-names_of (kind.VarDeclarator definite) (name ∷ init ∷ []) = name.names
-names_of kind.List items = all_names items
-names_of _ children = []
+-- declarators of `var` (14.3.2.1): without an initializer they do nothing
+abbrev pub varied_of : Kind → List Meaning → Evaluation (Unit {0})
+varied_of kind.List items x = all_varied items x
+varied_of (kind.VarDeclarator definite) (name ∷ init ∷ []) x = when init.is_absent (give tt) (name.assigned (init.value x) x >>= λ _. give tt)
+varied_of (kind.TsTypeAliasDecl declare) children x = give tt
+varied_of _ children x = outside
 
-abbrev pub all_declarations : List Meaning → List Declared
-all_declarations [] = []
-all_declarations (m ∷ ms) = m.declarations ++ all_declarations ms
+abbrev pub all_hoisted : List Meaning → Evaluation (Unit {0})
+all_hoisted [] x = give tt
+all_hoisted (m ∷ ms) x = m.hoisted x >>= λ _. all_hoisted ms x
 
-abbrev pub declared : Bool → Id → Declared
-declared is_constant id = record { id = id; is_constant = is_constant }
+-- the functions of a scope that is entered are set; one without a body is none
+abbrev pub hoisted_of : Kind → List Meaning → Evaluation (Unit {0})
+hoisted_of kind.List items x = all_hoisted items x
+hoisted_of (kind.Module shebang) (body ∷ []) x = body.hoisted x
+hoisted_of (kind.FnDecl false) (name ∷ function ∷ []) x =
+    when function.has_body (function.made Plain None x >>= λ f. initialize x.scope name.names (Own f)) (give tt)
+hoisted_of _ children x = give tt
 
--- what stands in a scope as declared there (8.2.5 LexicallyScopedDeclarations)
-abbrev pub declarations_of : Kind → List Meaning → List Declared
-declarations_of (kind.Module shebang) (body ∷ []) = body.declarations
-declarations_of kind.List items = all_declarations items
-declarations_of (kind.VarDecl Let false) (declarators ∷ []) = map (declared false) declarators.names
-declarations_of (kind.VarDecl Const false) (declarators ∷ []) = map (declared true) declarators.names
-declarations_of _ children = []
+-- a handler (14.15.2 CatchClauseEvaluation): the name has a record of its own. Without a handler it is thrown on.
+abbrev pub caught_of : Kind → List Meaning → Value → Evaluation (Unit {0})
+caught_of kind.Absent children v x = throw v
+caught_of kind.CatchClause (parameter ∷ body ∷ []) v x =
+    new_environment (map (empty false) parameter.names) None >>= λ place.
+    when parameter.is_absent (give tt) (parameter.bound v (inside x place)) >>= λ _. body.completion (inside x place)
+caught_of _ children v x = outside

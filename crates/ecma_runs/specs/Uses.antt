@@ -1,14 +1,19 @@
--- Trees in which nothing is used that may belong to the host.
+-- Trees in which nothing is used that may belong to the host, and no function is called.
 use Rattle.std.specs.Prelude.{Bool, true, false, ◌&&◌}
 use Rattle.std.specs.List.{list_all}
 use Rattle.ecma_kind.specs.declared.kind.Kind.{Kind}
 use Rattle.ecma_kind.specs.declared.kind.Kind.TheVariants as kind
 use Rattle.ecma_tree.specs.declared.node.Node.{Node, Node-F, fold-Node}
 
--- neither a member nor a call
+-- neither a member nor a call: no property access, no property of a pattern, no call and no construction
 abbrev pub uses_nothing_by : Kind → Bool
 uses_nothing_by kind.MemberExpr = false
+uses_nothing_by kind.SuperPropExpr = false
+uses_nothing_by kind.KeyValuePatProp = false
+uses_nothing_by kind.AssignPatProp = false
 uses_nothing_by kind.CallExpr = false
+uses_nothing_by kind.OptCall = false
+uses_nothing_by kind.NewExpr = false
 uses_nothing_by k = true
 
 abbrev pub uses_nothing_step : Node-F Bool → Bool

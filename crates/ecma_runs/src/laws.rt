@@ -1,5 +1,5 @@
 //! The laws of `observe`, each the contract of a function that does nothing.
-ghost use Rattle.ecma_runs.specs.Laws.{SpansAndSourcesDoNotMatter, TypesDoNotMatter, SpareTurnsDoNotMatter, EventsOnlyGrow, DeclarationsAloneHaveNoEvents};
+ghost use Rattle.ecma_runs.specs.Laws.{SpansAndSourcesDoNotMatter, TypesDoNotMatter, WrappersDoNotMatter, ParenthesesDoNotMatter, SpareTurnsDoNotMatter, EventsOnlyGrow, DeclarationsAloneHaveNoEvents};
 
 /// Trees that are equal up to the places of their nodes and the source texts of their literals
 /// run alike.
@@ -10,6 +10,17 @@ pub fn spans_and_sources_do_not_matter()
 /// A tree runs as it does without its types.
 pub fn types_do_not_matter()
     ensures { TypesDoNotMatter }
+{}
+
+/// A tree runs as it does without the types that wrap expressions, wherever they stand: `e as T`,
+/// `<T>e`, `e as const`, `e!`, `e<T>` and `e satisfies T` mean `e`.
+pub fn wrappers_do_not_matter()
+    ensures { WrappersDoNotMatter }
+{}
+
+/// A tree runs as it does without parentheses that end no optional chain.
+pub fn parentheses_do_not_matter()
+    ensures { ParenthesesDoNotMatter }
 {}
 
 /// A run that did not want for turns is the same with more of them.

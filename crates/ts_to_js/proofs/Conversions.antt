@@ -15,7 +15,8 @@ use Rattle.ecma_readback.proofs.Whole.{read_back}
 use Rattle.ecma_runs.specs.declared.config.Config.{Config}
 use Rattle.ecma_runs.specs.declared.script.Script.{Script}
 use Rattle.ecma_runs.specs.Observation.{observe}
-use Rattle.ecma_runs.proofs.Layers.{without_spans_kept, types_do_not_matter}
+use Rattle.ecma_runs.proofs.Layers.{without_spans_kept}
+use Rattle.ecma_runs.proofs.Types.{types_do_not_matter}
 use Rattle.ts_to_js.specs.declared.error.TsError.{TsError}
 use Rattle.ts_to_js.specs.declared.error.TsError.TheVariants as error
 use Rattle.ts_to_js.specs.Answer.{Answers}

@@ -1,4 +1,4 @@
-use Rattle.ecma_runs.proofs.Layers as law
+use Rattle.ecma_runs.proofs.Types as law
 use Rattle.ecma_runs.proofs.laws.types_do_not_matter.Goals as goal
 
 pub returns : goal.returns

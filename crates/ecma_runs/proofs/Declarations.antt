@@ -1,0 +1,198 @@
+-- What nodes declare, and what else is known of them, is alike where it is so of their parts.
+use Rattle.std.proofs.Common.{◌≡◌, ℕ, ◌++◌, ◌&&◌, ◌||◌, refl, sym, ap, ap₂, ◌∙◌, List, [], ◌∷◌, map, Option, Some, None, Bool, true, false, not, cond, codes, bytes_eq}
+use Rattle.ecma_kind.specs.declared.kind.Kind.{Kind}
+use Rattle.ecma_kind.specs.declared.kind.Kind.TheVariants as kind
+use Rattle.ecma_kind.specs.declared.operators.VarDeclKind.TheVariants.{Var, Let, Const}
+use Rattle.ecma_runs.specs.State.{Id, Binding}
+use Rattle.ecma_runs.specs.Environment.{empty, undefined, import_of, import_of_itself}
+use Rattle.ecma_runs.specs.Declarations.{all_names, names_of, all_imported, imported_as, imported_of, imported_from, text_of, all_lexicals, lexicals_of, all_vars, vars_of, locals_of, all_parameter_names, parameter_names_of, all_declared, declared_of, shorthands_of, all_cooked, cooked_of, all_plain, is_plain_of, is_super_of, is_absent_of, is_this_of, has_body_of, any_constructor, is_constructor_of}
+use Rattle.ecma_runs.proofs.Names.{keep, changed_ids, changed_binding, changed_bindings, changed_ids-append, changed_bindings-append}
+use Rattle.ecma_runs.proofs.Alike.{Change}
+use Rattle.ecma_runs.proofs.Environments.{KeepTexts}
+use Rattle.ecma_runs.proofs.Meanings.{Same, Both, firsts, seconds, empties, undefineds, imports}
+use Rattle.ecma_runs.proofs.Premises.{renamed_kind, KeptLayer}
+use Rattle.ecma_runs.proofs.Lists.{all_stay, all_names_same, all_declared_same, all_parameter_names_same, all_lexicals_same, all_vars_same, all_imported_same, all_cooked_same, all_plain_same, any_constructor_same}
+use Rattle.ecma_runs.proofs.Classes.{joined}
+
+module _ (c : Change) where
+  -- a list that may be left out
+  left_ids : (b b' : Bool) (xs : List Id) {xs' : List Id} → b' ≡ b → xs' ≡ changed_ids c.names xs → cond b' [] xs' ≡ changed_ids c.names (cond b [] xs)
+  left_ids true b' xs e h = rw e refl
+  left_ids false b' xs e h = rw e h
+
+  given_ids : (b b' : Bool) (xs : List Id) {xs' : List Id} → b' ≡ b → xs' ≡ changed_ids c.names xs → cond b' xs' [] ≡ changed_ids c.names (cond b xs [])
+  given_ids true b' xs e h = rw e h
+  given_ids false b' xs e h = rw e refl
+
+  given_bindings : (b b' : Bool) (xs ys : List Binding) {xs' ys' : List Binding} → b' ≡ b → xs' ≡ changed_bindings c.names xs → ys' ≡ changed_bindings c.names ys → cond b' xs' ys' ≡ changed_bindings c.names (cond b xs ys)
+  given_bindings true b' xs ys e h k = rw e h
+  given_bindings false b' xs ys e h k = rw e k
+
+  pub names_same : (k : Kind) (ps : List (Both c)) → KeptLayer c k (firsts c ps) → names_of (renamed_kind c k) (seconds c ps) ≡ changed_ids c.names (names_of k (firsts c ps))
+  names_same (kind.Ident text ctxt optional) [] kept = rw (kept.0) refl
+  names_same kind.BindingIdent (id ∷ annotation ∷ []) kept = id.2.names
+  names_same (kind.VarDeclarator definite) (name ∷ init ∷ []) kept = name.2.names
+  names_same kind.AssignPat (pattern' ∷ default ∷ []) kept = pattern'.2.names
+  names_same (kind.ArrayPat optional) (elements ∷ type ∷ []) kept = elements.2.names
+  names_same (kind.ObjectPat optional) (properties ∷ type ∷ []) kept = properties.2.names
+  names_same kind.RestPat (pattern' ∷ type ∷ []) kept = pattern'.2.names
+  names_same kind.KeyValuePatProp (key ∷ pattern' ∷ []) kept = pattern'.2.names
+  names_same kind.AssignPatProp (name ∷ default ∷ []) kept = name.2.names
+  names_same kind.Param (pattern' ∷ []) kept = left_ids pattern'.0.is_this pattern'.1.is_this _ pattern'.2.is_this pattern'.2.names
+  names_same (kind.TsParamProp accessibility is_override readonly) (pattern' ∷ []) kept = pattern'.2.names
+  names_same kind.List ps kept = all_stay c (λ ms ms'. all_names ms' ≡ changed_ids c.names (all_names ms)) (all_names_same c) ps
+  names_same _ ps kept = refl
+
+  -- imports
+
+  imported_as_same : (o o' : Option (List ℕ)) → o' ≡ o → (source : List ℕ) (ids : List Id) → imported_as o' source (changed_ids c.names ids) ≡ changed_bindings c.names (imported_as o source ids)
+  imported_as_same None o' e source ids = rw e refl
+  imported_as_same (Some name) o' e source ids = rw e (imports c source name ids)
+
+  itself_step : (source : List ℕ) (id : Id) (ids : List Id) (b : Bool) → (c.names.to id).sym ≡ id.sym → map (import_of_itself source) (changed_ids c.names ids) ≡ changed_bindings c.names (map (import_of_itself source) ids)
+      → map (import_of_itself source) (keep b (c.names.to id) (changed_ids c.names ids)) ≡ keep b (changed_binding c.names (import_of_itself source id)) (changed_bindings c.names (map (import_of_itself source) ids))
+  itself_step source id ids true e rest = ap₂ (λ name z. import_of source name (c.names.to id) ∷ z) e rest
+  itself_step source id ids false e rest = rest
+
+  imports_of_itself : (source : List ℕ) (ids : List Id) → KeepTexts c ids → map (import_of_itself source) (changed_ids c.names ids) ≡ changed_bindings c.names (map (import_of_itself source) ids)
+  imports_of_itself source [] texts = refl
+  imports_of_itself source (id ∷ ids) texts = itself_step source id ids (c.names.kept id) texts.0 (imports_of_itself source ids texts.1)
+
+  pub imported_same : (k : Kind) (ps : List (Both c)) → KeptLayer c k (firsts c ps) → (source : List ℕ) → imported_of (renamed_kind c k) (seconds c ps) source ≡ changed_bindings c.names (imported_of k (firsts c ps) source)
+  imported_same kind.List ps kept source = all_stay c (λ ms ms'. all_imported ms' source ≡ changed_bindings c.names (all_imported ms source)) (λ items. all_imported_same c items source) ps
+  imported_same kind.ImportDefaultSpecifier (local ∷ []) kept source = ap (map (import_of source (codes "default"))) local.2.names ∙ imports c source (codes "default") local.0.names
+  imported_same kind.ImportStarAsSpecifier (local ∷ []) kept source = ap (map (import_of source (codes "*"))) local.2.names ∙ imports c source (codes "*") local.0.names
+  imported_same (kind.ImportNamedSpecifier false) (local ∷ name ∷ []) kept source =
+      given_bindings name.0.is_absent name.1.is_absent _ _ name.2.is_absent
+      (ap (map (import_of_itself source)) local.2.names ∙ imports_of_itself source local.0.names kept.0)
+      (ap (imported_as name.1.text source) local.2.names ∙ imported_as_same name.0.text name.1.text (name.2.text kept.1) source local.0.names)
+  imported_same _ ps kept source = refl
+
+  pub text_same : (k : Kind) (ps : List (Both c)) → KeepTexts c (shorthands_of k (firsts c ps)) → text_of (renamed_kind c k) (seconds c ps) ≡ text_of k (firsts c ps)
+  text_same (kind.Str text raw) ps texts = refl
+  text_same (kind.Ident text ctxt optional) [] texts = ap Some texts.0
+  text_same (kind.Ident text ctxt optional) (p ∷ ps) texts = refl
+  text_same _ ps texts = refl
+
+  imported_from_same : (o o' : Option (List ℕ)) → o' ≡ o → (specifiers : Both c) → imported_from o' specifiers.1 ≡ changed_bindings c.names (imported_from o specifiers.0)
+  imported_from_same None o' e specifiers = rw e refl
+  imported_from_same (Some source) o' e specifiers = rw e (specifiers.2.imported source)
+
+  -- variables
+
+  pub lexicals_same : (k : Kind) (ps : List (Both c)) → KeptLayer c k (firsts c ps) → lexicals_of (renamed_kind c k) (seconds c ps) ≡ changed_bindings c.names (lexicals_of k (firsts c ps))
+  lexicals_same kind.List ps kept = all_stay c (λ ms ms'. all_lexicals ms' ≡ changed_bindings c.names (all_lexicals ms)) (all_lexicals_same c) ps
+  lexicals_same (kind.VarDecl Let false) (declarators ∷ []) kept = ap (map (empty false)) declarators.2.names ∙ empties c false declarators.0.names
+  lexicals_same (kind.VarDecl Const false) (declarators ∷ []) kept = ap (map (empty true)) declarators.2.names ∙ empties c true declarators.0.names
+  lexicals_same (kind.ImportDecl false) (specifiers ∷ source ∷ attributes ∷ []) kept = imported_from_same source.0.text source.1.text (source.2.text kept) specifiers
+  lexicals_same (kind.FnDecl false) (name ∷ function ∷ []) kept = given_bindings function.0.has_body function.1.has_body _ _ function.2.has_body (ap (map (empty false)) name.2.names ∙ empties c false name.0.names) refl
+  lexicals_same (kind.ClassDecl false) (name ∷ class ∷ []) kept = ap (map (empty false)) name.2.names ∙ empties c false name.0.names
+  lexicals_same _ ps kept = refl
+
+  all_vars_stay : (ps : List (Both c)) → all_vars (seconds c ps) ≡ changed_bindings c.names (all_vars (firsts c ps))
+  all_vars_stay ps = all_stay c (λ ms ms'. all_vars ms' ≡ changed_bindings c.names (all_vars ms)) (all_vars_same c) ps
+
+  pub vars_same : (k : Kind) (ps : List (Both c)) → vars_of (renamed_kind c k) (seconds c ps) ≡ changed_bindings c.names (vars_of k (firsts c ps))
+  vars_same kind.List ps = all_vars_stay ps
+  vars_same (kind.VarDecl Var false) (declarators ∷ []) = ap (map undefined) declarators.2.names ∙ undefineds c declarators.0.names
+  vars_same kind.BlockStmt ps = all_vars_stay ps
+  vars_same kind.IfStmt ps = all_vars_stay ps
+  vars_same kind.WhileStmt ps = all_vars_stay ps
+  vars_same kind.DoWhileStmt ps = all_vars_stay ps
+  vars_same kind.ForStmt ps = all_vars_stay ps
+  vars_same kind.ForInStmt ps = all_vars_stay ps
+  vars_same (kind.ForOfStmt is_await) ps = all_vars_stay ps
+  vars_same kind.LabeledStmt ps = all_vars_stay ps
+  vars_same kind.SwitchStmt ps = all_vars_stay ps
+  vars_same kind.SwitchCase ps = all_vars_stay ps
+  vars_same kind.TryStmt ps = all_vars_stay ps
+  vars_same kind.CatchClause ps = all_vars_stay ps
+  vars_same _ ps = refl
+
+  pub locals_same : (k : Kind) (ps : List (Both c)) → locals_of (renamed_kind c k) (seconds c ps) ≡ changed_bindings c.names (locals_of k (firsts c ps))
+  locals_same (kind.Module shebang) (body ∷ []) = joined c _ _ body.2.vars body.2.lexicals
+  locals_same kind.BlockStmt (statements ∷ []) = joined c _ _ statements.2.vars statements.2.lexicals
+  locals_same _ ps = refl
+
+  pub parameter_names_same : (k : Kind) (ps : List (Both c)) → parameter_names_of (renamed_kind c k) (seconds c ps) ≡ changed_ids c.names (parameter_names_of k (firsts c ps))
+  parameter_names_same (kind.Function false false) (parameters ∷ body ∷ types ∷ return_type ∷ []) = parameters.2.names
+  parameter_names_same (kind.ArrowExpr false false) (parameters ∷ body ∷ types ∷ return_type ∷ []) = parameters.2.names
+  parameter_names_same kind.SetterProp (key ∷ this_parameter ∷ parameter ∷ body ∷ []) = parameter.2.names
+  parameter_names_same (kind.Constructor accessibility is_optional) (key ∷ parameters ∷ body ∷ []) = left_ids body.0.is_absent body.1.is_absent _ body.2.is_absent parameters.2.names
+  parameter_names_same (kind.Class is_abstract) (super ∷ body ∷ types ∷ super_types ∷ implements ∷ []) = body.2.parameter_names
+  parameter_names_same kind.List ps = all_stay c (λ ms ms'. all_parameter_names ms' ≡ changed_ids c.names (all_parameter_names ms)) (all_parameter_names_same c) ps
+  parameter_names_same _ ps = refl
+
+  -- declared ids
+
+  joined_ids : (a b : List Id) {a' b' : List Id} → a' ≡ changed_ids c.names a → b' ≡ changed_ids c.names b → a' ++ b' ≡ changed_ids c.names (a ++ b)
+  joined_ids a b p q = ap₂ (λ x y. x ++ y) p q ∙ sym (changed_ids-append c.names a b)
+
+  three_ids : (a b d : List Id) {a' b' d' : List Id} → a' ≡ changed_ids c.names a → b' ≡ changed_ids c.names b → d' ≡ changed_ids c.names d → a' ++ (b' ++ d') ≡ changed_ids c.names (a ++ (b ++ d))
+  three_ids a b d p q r = joined_ids a (b ++ d) p (joined_ids b d q r)
+
+  pub declared_same : (k : Kind) (ps : List (Both c)) → declared_of (renamed_kind c k) (seconds c ps) ≡ changed_ids c.names (declared_of k (firsts c ps))
+  declared_same (kind.VarDecl word true) ps = refl
+  declared_same (kind.VarDeclarator definite) (name ∷ init ∷ []) = three_ids _ _ _ name.2.names name.2.declared init.2.declared
+  declared_same kind.Param (pattern' ∷ []) = left_ids pattern'.0.is_this pattern'.1.is_this _ pattern'.2.is_this (joined_ids _ _ pattern'.2.names pattern'.2.declared)
+  declared_same (kind.TsParamProp accessibility is_override readonly) (pattern' ∷ []) = joined_ids _ _ pattern'.2.names pattern'.2.declared
+  declared_same (kind.ArrowExpr is_async is_generator) (parameters ∷ body ∷ types ∷ return_type ∷ []) = three_ids _ _ _ parameters.2.names parameters.2.declared body.2.declared
+  declared_same kind.SetterProp (key ∷ this_parameter ∷ parameter ∷ body ∷ []) = joined_ids _ _ key.2.declared (three_ids _ _ _ parameter.2.names parameter.2.declared body.2.declared)
+  declared_same kind.CatchClause (parameter ∷ body ∷ []) = three_ids _ _ _ parameter.2.names parameter.2.declared body.2.declared
+  declared_same (kind.FnDecl true) ps = refl
+  declared_same (kind.FnDecl false) (name ∷ function ∷ []) = given_ids function.0.has_body function.1.has_body _ function.2.has_body (joined_ids _ _ name.2.names function.2.declared)
+  declared_same kind.FnExpr (name ∷ function ∷ []) = joined_ids _ _ name.2.names function.2.declared
+  declared_same (kind.ClassDecl true) ps = refl
+  declared_same (kind.ClassDecl false) (name ∷ class ∷ []) = joined_ids _ _ name.2.names class.2.declared
+  declared_same kind.ClassExpr (name ∷ class ∷ []) = joined_ids _ _ name.2.names class.2.declared
+  declared_same (kind.TsEnumDecl true is_const) ps = refl
+  declared_same (kind.TsEnumDecl false is_const) (name ∷ members ∷ []) = joined_ids _ _ name.2.names members.2.declared
+  declared_same (kind.TsModuleDecl true global) ps = refl
+  declared_same (kind.TsModuleDecl false global) (name ∷ body ∷ []) = joined_ids _ _ name.2.names body.2.declared
+  declared_same (kind.ImportDecl true) ps = refl
+  declared_same kind.ImportDefaultSpecifier (local ∷ []) = local.2.names
+  declared_same kind.ImportStarAsSpecifier (local ∷ []) = local.2.names
+  declared_same (kind.ImportNamedSpecifier true) ps = refl
+  declared_same (kind.ImportNamedSpecifier false) (local ∷ name ∷ []) = local.2.names
+  declared_same (kind.TsImportEqualsDecl is_export true) ps = refl
+  declared_same (kind.TsImportEqualsDecl is_export false) (name ∷ source ∷ []) = name.2.names
+  declared_same (kind.TsTypeAliasDecl declare) ps = refl
+  declared_same kind.Absent ps = refl
+  declared_same _ ps = all_stay c (λ ms ms'. all_declared ms' ≡ changed_ids c.names (all_declared ms)) (all_declared_same c) ps
+
+  -- what else is known
+
+  pub cooked_same : (k : Kind) (ps : List (Both c)) → cooked_of (renamed_kind c k) (seconds c ps) ≡ cooked_of k (firsts c ps)
+  cooked_same (kind.TplElement raw (Some text) tail) ps = refl
+  cooked_same (kind.TplElement raw None tail) ps = refl
+  cooked_same kind.List ps = all_stay c (λ ms ms'. all_cooked ms' ≡ all_cooked ms) (all_cooked_same c) ps
+  cooked_same _ ps = refl
+
+  pub is_plain_same : (k : Kind) (ps : List (Both c)) → is_plain_of (renamed_kind c k) (seconds c ps) ≡ is_plain_of k (firsts c ps)
+  is_plain_same kind.BindingIdent ps = refl
+  is_plain_same kind.Param (pattern' ∷ []) = pattern'.2.is_plain
+  is_plain_same kind.List ps = all_stay c (λ ms ms'. all_plain ms' ≡ all_plain ms) (all_plain_same c) ps
+  is_plain_same (kind.TsTypeAliasDecl declare) ps = refl
+  is_plain_same _ ps = refl
+
+  pub is_super_same : (k : Kind) → is_super_of (renamed_kind c k) ≡ is_super_of k
+  is_super_same kind.Super = refl
+  is_super_same _ = refl
+
+  pub is_absent_same : (k : Kind) → is_absent_of (renamed_kind c k) ≡ is_absent_of k
+  is_absent_same kind.Absent = refl
+  is_absent_same _ = refl
+
+  pub is_this_same : (k : Kind) (ps : List (Both c)) → KeptLayer c k (firsts c ps) → is_this_of (renamed_kind c k) (seconds c ps) ≡ is_this_of k (firsts c ps)
+  is_this_same (kind.Ident text ctxt optional) ps kept = kept.1
+  is_this_same kind.BindingIdent (id ∷ annotation ∷ []) kept = id.2.is_this
+  is_this_same _ ps kept = refl
+
+  pub has_body_same : (k : Kind) (ps : List (Both c)) → has_body_of (renamed_kind c k) (seconds c ps) ≡ has_body_of k (firsts c ps)
+  has_body_same (kind.Function is_generator is_async) (parameters ∷ body ∷ types ∷ return_type ∷ []) = ap not body.2.is_absent
+  has_body_same _ ps = refl
+
+  pub is_constructor_same : (k : Kind) (ps : List (Both c)) → is_constructor_of (renamed_kind c k) (seconds c ps) ≡ is_constructor_of k (firsts c ps)
+  is_constructor_same (kind.Constructor accessibility is_optional) (key ∷ parameters ∷ body ∷ []) = ap not body.2.is_absent
+  is_constructor_same kind.List ps = all_stay c (λ ms ms'. any_constructor ms' ≡ any_constructor ms) (any_constructor_same c) ps
+  is_constructor_same _ ps = refl

@@ -1,0 +1,201 @@
+-- What a map of names does to lists of names and variables: names that are not kept go, and the others are mapped one to one.
+use Rattle.std.proofs.Common.{◌≡◌, ℕ, zero, suc, refl, sym, ap, ap₂, ◌∙◌, List, [], ◌∷◌, ◌++◌, map, Option, Some, Bool, true, false, cond, not, ◌&&◌, ◌||◌, option_map, length, bytes_eq, nat_eq, eqb-true, eq-eqb}
+use Rattle.std.proofs.lemmas.Slice.Eq.{bytes_eq-Decides}
+use Rattle.ecma_runs.specs.Values.{Value}
+use Rattle.ecma_runs.specs.State.{Id, same_id, Binding, Environment}
+use Rattle.ecma_runs.specs.Run.{changed_at}
+use Rattle.ecma_runs.specs.Environment.{binding_of, with_content, set_in, is_among, except}
+
+both : (a b : Bool) → a && b ≡ true → (a ≡ true) × (b ≡ true)
+both true b h = (refl, h)
+both false b h = cc
+
+pub same_id-equal : (a b : Id) → same_id a b ≡ true → a ≡ b
+same_id-equal a b h =
+    let t = both (bytes_eq a.sym b.sym) (nat_eq a.ctxt b.ctxt) h in
+    let p : a.sym ≡ b.sym = (bytes_eq-Decides a.sym b.sym).0 t.0 in
+    let q : a.ctxt ≡ b.ctxt = eqb-true a.ctxt b.ctxt t.1 in
+    λ i. record { sym = p i; ctxt = q i }
+
+pub same_id-itself : (a : Id) → same_id a a ≡ true
+same_id-itself a = ap₂ (λ x y. x && y) ((bytes_eq-Decides a.sym a.sym).1 refl) (eq-eqb a.ctxt a.ctxt refl)
+
+-- a map of names: which are kept, and what they become
+pub record Naming : Type 0 where
+  pub to : Id → Id
+  pub kept : Id → Bool
+  pub injective : (a b : Id) → kept a ≡ true → kept b ≡ true → to a ≡ to b → a ≡ b
+
+abbrev pub keep : {A : Type 0} → Bool → A → List A → List A
+keep true a rest = a ∷ rest
+keep false a rest = rest
+
+keep-append : {A : Type 0} (b : Bool) (a : A) (xs ys : List A) → keep b a (xs ++ ys) ≡ keep b a xs ++ ys
+keep-append true a xs ys = refl
+keep-append false a xs ys = refl
+
+same_cond : {A : Type 0} (b : Bool) (a : A) → cond b a a ≡ a
+same_cond true a = refl
+same_cond false a = refl
+
+module _ (names : Naming) where
+  abbrev pub changed_ids : List Id → List Id
+  changed_ids [] = []
+  changed_ids (id ∷ ids) = keep (names.kept id) (names.to id) (changed_ids ids)
+
+  abbrev pub changed_binding : Binding → Binding
+  changed_binding binding = record binding { id = names.to binding.id }
+
+  abbrev pub changed_bindings : List Binding → List Binding
+  changed_bindings [] = []
+  changed_bindings (binding ∷ bindings) = keep (names.kept binding.id) (changed_binding binding) (changed_bindings bindings)
+
+  abbrev pub changed_environment : Environment → Environment
+  changed_environment environment = record environment { bindings = changed_bindings environment.bindings }
+
+  pub changed_ids-append : (xs ys : List Id) → changed_ids (xs ++ ys) ≡ changed_ids xs ++ changed_ids ys
+  changed_ids-append [] ys = refl
+  changed_ids-append (x ∷ xs) ys = ap (keep (names.kept x) (names.to x)) (changed_ids-append xs ys) ∙ keep-append (names.kept x) (names.to x) (changed_ids xs) (changed_ids ys)
+
+  pub changed_bindings-append : (xs ys : List Binding) → changed_bindings (xs ++ ys) ≡ changed_bindings xs ++ changed_bindings ys
+  changed_bindings-append [] ys = refl
+  changed_bindings-append (x ∷ xs) ys =
+      ap (keep (names.kept x.id) (changed_binding x)) (changed_bindings-append xs ys) ∙ keep-append (names.kept x.id) (changed_binding x) (changed_bindings xs) (changed_bindings ys)
+
+  -- variables that are made of names
+  module _ (of : Id → Binding) (named : (id : Id) → (of id).id ≡ id) (commutes : (id : Id) → changed_binding (of id) ≡ of (names.to id)) where
+    bindings_one : (b : Bool) (id : Id) (ids : List Id) → map of (keep b (names.to id) ids) ≡ keep b (changed_binding (of id)) (map of ids)
+    bindings_one true id ids = ap (λ z. z ∷ map of ids) (sym (commutes id))
+    bindings_one false id ids = refl
+
+    pub changed_bindings-map : (ids : List Id) → map of (changed_ids ids) ≡ changed_bindings (map of ids)
+    changed_bindings-map [] = refl
+    changed_bindings-map (id ∷ ids) =
+        bindings_one (names.kept id) id (changed_ids ids)
+        ∙ ap₂ (λ b rest. keep b (changed_binding (of id)) rest) (sym (ap names.kept (named id))) (changed_bindings-map ids)
+
+  -- names are told apart as before
+
+  different : (a b : Id) → same_id a b ≡ false → names.kept a ≡ true → names.kept b ≡ true → (r : Bool) → same_id (names.to a) (names.to b) ≡ r → r ≡ false
+  different a b d ka kb false e = refl
+  different a b d ka kb true e =
+      let is : a ≡ b = names.injective a b ka kb (same_id-equal (names.to a) (names.to b) e) in
+      let one : same_id a b ≡ true = ap (λ z. same_id a z) (sym is) ∙ same_id-itself a in cc
+
+  told : (a b : Id) → names.kept a ≡ true → names.kept b ≡ true → (r : Bool) → same_id a b ≡ r → same_id (names.to a) (names.to b) ≡ r
+  told a b ka kb true e = ap (λ z. same_id (names.to a) (names.to z)) (sym (same_id-equal a b e)) ∙ same_id-itself (names.to a)
+  told a b ka kb false e = different a b e ka kb (same_id (names.to a) (names.to b)) refl
+
+  pub same_id-changed : (a b : Id) → names.kept a ≡ true → names.kept b ≡ true → same_id (names.to a) (names.to b) ≡ same_id a b
+  same_id-changed a b ka kb = told a b ka kb (same_id a b) refl
+
+  unlike : (a b : Id) → names.kept a ≡ false → names.kept b ≡ true → (r : Bool) → same_id a b ≡ r → r ≡ false
+  unlike a b ka kb false e = refl
+  unlike a b ka kb true e = let is : names.kept a ≡ names.kept b = ap names.kept (same_id-equal a b e) in cc
+
+  -- a name that goes is none that is kept
+  pub same_id-gone : (a b : Id) → names.kept a ≡ false → names.kept b ≡ true → same_id a b ≡ false
+  same_id-gone a b ka kb = unlike a b ka kb (same_id a b) refl
+
+  -- and none that is kept is one that goes
+  unlike_gone : (a b : Id) → names.kept a ≡ true → names.kept b ≡ false → (r : Bool) → same_id a b ≡ r → r ≡ false
+  unlike_gone a b ka kb false e = refl
+  unlike_gone a b ka kb true e = let is : names.kept a ≡ names.kept b = ap names.kept (same_id-equal a b e) in cc
+
+  pub same_id-kept : (a b : Id) → names.kept a ≡ true → names.kept b ≡ false → same_id a b ≡ false
+  same_id-kept a b ka kb = unlike_gone a b ka kb (same_id a b) refl
+
+  -- look-ups
+
+  found_one : (b : Binding) (r : Bool) (o : Option Binding) → cond r (Some (changed_binding b)) (option_map changed_binding o) ≡ option_map changed_binding (cond r (Some b) o)
+  found_one b true o = refl
+  found_one b false o = refl
+
+  module _ (id : Id) (kept : names.kept id ≡ true) where
+    binding_step : (b : Binding) (bs : List Binding) (k : Bool) → names.kept b.id ≡ k → binding_of (names.to id) (changed_bindings bs) ≡ option_map changed_binding (binding_of id bs)
+        → binding_of (names.to id) (keep k (changed_binding b) (changed_bindings bs)) ≡ option_map changed_binding (cond (same_id b.id id) (Some b) (binding_of id bs))
+    binding_step b bs true k rest =
+        ap₂ (λ r o. cond r (Some (changed_binding b)) o) (same_id-changed b.id id k kept) rest ∙ found_one b (same_id b.id id) (binding_of id bs)
+    binding_step b bs false k rest = rw (same_id-gone b.id id k kept) rest
+
+    pub binding_of-changed : (bs : List Binding) → binding_of (names.to id) (changed_bindings bs) ≡ option_map changed_binding (binding_of id bs)
+    binding_of-changed [] = refl
+    binding_of-changed (b ∷ bs) = binding_step b bs (names.kept b.id) refl (binding_of-changed bs)
+
+    among_step : (a : Id) (ids : List Id) (k : Bool) → names.kept a ≡ k → is_among (names.to id) (changed_ids ids) ≡ is_among id ids
+        → is_among (names.to id) (keep k (names.to a) (changed_ids ids)) ≡ (same_id a id || is_among id ids)
+    among_step a ids true k rest = ap₂ (λ x y. x || y) (same_id-changed a id k kept) rest
+    among_step a ids false k rest = rw (same_id-gone a id k kept) rest
+
+    pub is_among-changed : (ids : List Id) → is_among (names.to id) (changed_ids ids) ≡ is_among id ids
+    is_among-changed [] = refl
+    is_among-changed (a ∷ ids) = among_step a ids (names.kept a) refl (is_among-changed ids)
+
+    -- writing
+
+    set_one : (v : Value) (b : Binding) (bs bs' : List Binding) (r k : Bool) → names.kept b.id ≡ k → changed_bindings (set_in id v bs) ≡ bs'
+        → changed_bindings (cond r (with_content v b ∷ bs) (b ∷ set_in id v bs)) ≡ cond r (keep k (with_content v (changed_binding b)) (changed_bindings bs)) (keep k (changed_binding b) bs')
+    set_one v b bs bs' true k e rest = rw e refl
+    set_one v b bs bs' false k e rest = rw (e, rest) refl
+
+    set_step : (v : Value) (b : Binding) (bs : List Binding) (k : Bool) → names.kept b.id ≡ k → changed_bindings (set_in id v bs) ≡ set_in (names.to id) v (changed_bindings bs)
+        → changed_bindings (cond (same_id b.id id) (with_content v b ∷ bs) (b ∷ set_in id v bs)) ≡ set_in (names.to id) v (keep k (changed_binding b) (changed_bindings bs))
+    set_step v b bs true k rest = set_one v b bs (set_in (names.to id) v (changed_bindings bs)) (same_id b.id id) true k rest ∙ rw (same_id-changed b.id id k kept) refl
+    set_step v b bs false k rest = rw (same_id-gone b.id id k kept, k) rest
+
+    pub set_in-changed : (v : Value) (bs : List Binding) → changed_bindings (set_in id v bs) ≡ set_in (names.to id) v (changed_bindings bs)
+    set_in-changed v [] = refl
+    set_in-changed v (b ∷ bs) = set_step v b bs (names.kept b.id) refl (set_in-changed v bs)
+
+  module _ (id : Id) (gone : names.kept id ≡ false) where
+    gone_cases : (v : Value) (b : Binding) (bs : List Binding) → names.kept b.id ≡ false → changed_bindings (set_in id v bs) ≡ changed_bindings bs
+        → (r : Bool) → changed_bindings (cond r (with_content v b ∷ bs) (b ∷ set_in id v bs)) ≡ changed_bindings bs
+    gone_cases v b bs k rest true = rw k refl
+    gone_cases v b bs k rest false = rw k rest
+
+    gone_step : (v : Value) (b : Binding) (bs : List Binding) (k : Bool) → names.kept b.id ≡ k → changed_bindings (set_in id v bs) ≡ changed_bindings bs
+        → changed_bindings (cond (same_id b.id id) (with_content v b ∷ bs) (b ∷ set_in id v bs)) ≡ keep k (changed_binding b) (changed_bindings bs)
+    gone_step v b bs true k rest = rw (same_id-kept b.id id k gone, k, rest) refl
+    gone_step v b bs false k rest = gone_cases v b bs k rest (same_id b.id id)
+
+    -- writing a name that goes changes nothing that is kept
+    pub set_in-gone : (v : Value) (bs : List Binding) → changed_bindings (set_in id v bs) ≡ changed_bindings bs
+    set_in-gone v [] = refl
+    set_in-gone v (b ∷ bs) = gone_step v b bs (names.kept b.id) refl (set_in-gone v bs)
+
+  -- the variables that are left of a scope
+
+  keep_unless : (b : Binding) (bs : List Binding) (k r : Bool) → changed_bindings (cond (not r) (b ∷ bs) bs) ≡ cond (not r) (keep (names.kept b.id) (changed_binding b) (changed_bindings bs)) (changed_bindings bs)
+  keep_unless b bs k true = refl
+  keep_unless b bs k false = refl
+
+  except_step : (ids : List Id) (b : Binding) (bs bs' : List Binding) (k : Bool) → names.kept b.id ≡ k → changed_bindings (except ids bs) ≡ bs' → bs' ≡ except (changed_ids ids) (changed_bindings bs)
+      → cond (not (is_among b.id ids)) (keep k (changed_binding b) bs') bs' ≡ except (changed_ids ids) (keep k (changed_binding b) (changed_bindings bs))
+  except_step ids b bs bs' true k rest is = rw (is_among-changed b.id k ids, is) refl
+  except_step ids b bs bs' false k rest is = same_cond (not (is_among b.id ids)) bs' ∙ is
+
+  pub except-changed : (ids : List Id) (bs : List Binding) → changed_bindings (except ids bs) ≡ except (changed_ids ids) (changed_bindings bs)
+  except-changed ids [] = refl
+  except-changed ids (b ∷ bs) =
+      keep_unless b (except ids bs) true (is_among b.id ids)
+      ∙ except_step ids b bs (changed_bindings (except ids bs)) (names.kept b.id) refl refl (except-changed ids bs)
+
+-- lists that are changed at a place
+
+pub map-changed_at : {A B : Type 0} (g : A → B) (f : A → A) (f' : B → B) → ((x : A) → g (f x) ≡ f' (g x)) → (n : ℕ) (xs : List A) → map g (changed_at f n xs) ≡ changed_at f' n (map g xs)
+map-changed_at g f f' h n [] = refl
+map-changed_at g f f' h zero (x ∷ xs) = ap (λ z. z ∷ map g xs) (h x)
+map-changed_at g f f' h (suc n) (x ∷ xs) = ap (λ zs. g x ∷ zs) (map-changed_at g f f' h n xs)
+
+pub map-unchanged_at : {A B : Type 0} (g : A → B) (f : A → A) → ((x : A) → g (f x) ≡ g x) → (n : ℕ) (xs : List A) → map g (changed_at f n xs) ≡ map g xs
+map-unchanged_at g f h n [] = refl
+map-unchanged_at g f h zero (x ∷ xs) = ap (λ z. z ∷ map g xs) (h x)
+map-unchanged_at g f h (suc n) (x ∷ xs) = ap (λ zs. g x ∷ zs) (map-unchanged_at g f h n xs)
+
+pub map-push : {A B : Type 0} (g : A → B) (xs : List A) (x : A) → map g (xs ++ x ∷ []) ≡ map g xs ++ g x ∷ []
+map-push g [] x = refl
+map-push g (y ∷ ys) x = ap (λ zs. g y ∷ zs) (map-push g ys x)
+
+pub length-map : {A B : Type 0} (g : A → B) (xs : List A) → length (map g xs) ≡ length xs
+length-map g [] = refl
+length-map g (x ∷ xs) = ap suc (length-map g xs)

@@ -1,0 +1,203 @@
+-- What reads and changes objects does alike.
+use Rattle.std.proofs.Common.{◌≡◌, ℕ, zero, suc, ◌++◌, ◌||◌, refl, ap, ap₂, List, [], ◌∷◌, map, Option, Some, None, Bool, true, false, option_map, is_some, slice_get, length}
+use Rattle.std.proofs.lemmas.Option.{slice_get-map}
+use Rattle.ecma_runs.specs.declared.shown.ErrorKind.TheVariants as error
+use Rattle.ecma_runs.specs.Values.{Value, Error}
+use Rattle.ecma_runs.specs.State.{Closure, Callable, Code, Bound, Property, Data, Fixed, Accessor, Open, Entry, Extent, Ordinary, Array, ArgumentList, Object, State}
+use Rattle.ecma_runs.specs.Run.{Run, ◌>>=◌, give, when, changed_at}
+use Rattle.ecma_runs.specs.Objects.{new_object, object_at, callable_in, code_in, closure_at, Calling, calling_of, calling_at, prototype_in, prototype_at, extent_in, extent_at, Ancestry, with_object, is_index_below, or_else, own_property, own_in, own_property_at, missing, property_above, no_ancestry, found_from, above, found_above, with_entries, change_entries, put_entry, is_fixed, if_element, define, define_data, elements_by, elements_at, new_array, new_arguments, element_entries}
+use Rattle.ecma_runs.specs.Classes.{with_field_keys, keeping_keys, keep_field_keys}
+use Rattle.ecma_runs.proofs.Names.{map-changed_at, map-push, length-map}
+use Rattle.ecma_runs.proofs.Alike.{Change, changed, changed_callable, changed_object, FineCallable, AllFine, Alike, bind_alike, give_alike, throw_alike, outside_alike, when_alike}
+
+module _ (c : Change) where
+  all_fine-push : (os : List Object) (o : Object) → AllFine c os → FineCallable c o.callable → AllFine c (os ++ o ∷ [])
+  all_fine-push [] o all one = (one, tt)
+  all_fine-push (p ∷ os) o all one = (all.0, all_fine-push os o all.1 one)
+
+  all_fine-changed : (f : Object → Object) → ((o : Object) → FineCallable c o.callable → FineCallable c (f o).callable) → (n : ℕ) (os : List Object) → AllFine c os → AllFine c (changed_at f n os)
+  all_fine-changed f h n [] all = tt
+  all_fine-changed f h zero (o ∷ os) all = (h o all.0, all.1)
+  all_fine-changed f h (suc n) (o ∷ os) all = (all.0, all_fine-changed f h n os all.1)
+
+  pub all_fine-at : (os : List Object) (n : ℕ) → AllFine c os → FineCallable c (callable_in (slice_get os n))
+  all_fine-at [] n all = tt
+  all_fine-at (o ∷ os) zero all = all.0
+  all_fine-at (o ∷ os) (suc n) all = all_fine-at os n all.1
+
+  pub new_object_alike : (o : Object) → FineCallable c o.callable → Alike c (new_object o) (new_object (changed_object c o))
+  new_object_alike o fine = record {
+    at = λ s g. (rw (length-map (changed_object c) s.objects, map-push (changed_object c) s.objects o) refl, (all_fine-push s.objects o g.0 fine, g.1, g.2), tt);
+  }
+
+  -- what can be called
+
+  callable_in-changed : (o : Option Object) → callable_in (option_map (changed_object c) o) ≡ option_map (changed_callable c) (callable_in o)
+  callable_in-changed None = refl
+  callable_in-changed (Some object) = refl
+
+  abbrev pub changed_closure : Closure → Closure
+  changed_closure closure = record closure { node = c.node closure.node }
+
+  code_in-changed : (o : Option Callable) → code_in (option_map (changed_callable c) o) ≡ option_map changed_closure (code_in o)
+  code_in-changed None = refl
+  code_in-changed (Some (Code closure)) = refl
+  code_in-changed (Some (Bound target this given)) = refl
+
+  callable_at-changed : (place : ℕ) (s : State) → callable_in (slice_get (changed c s).objects place) ≡ option_map (changed_callable c) (callable_in (slice_get s.objects place))
+  callable_at-changed place s = rw (slice_get-map (changed_object c) s.objects place) (callable_in-changed (slice_get s.objects place))
+
+  pub closure_at-changed : (place : ℕ) (s : State) → closure_at place (changed c s) ≡ option_map changed_closure (closure_at place s)
+  closure_at-changed place s = rw (callable_at-changed place s) (code_in-changed (callable_in (slice_get s.objects place)))
+
+  abbrev pub FineClosure : Option Closure → Type 0
+  FineClosure None = Unit {0}
+  FineClosure (Some closure) = c.fine closure.node
+
+  fine_code : (o : Option Callable) → FineCallable c o → FineClosure (code_in o)
+  fine_code None fine = tt
+  fine_code (Some (Code closure)) fine = fine
+  fine_code (Some (Bound target this given)) fine = tt
+
+  pub fine_closure : (place : ℕ) (s : State) → AllFine c s.objects → FineClosure (closure_at place s)
+  fine_closure place s all = fine_code (callable_in (slice_get s.objects place)) (all_fine-at s.objects place all)
+
+  calling_of-changed : (o : Option Callable) → calling_of (option_map (changed_callable c) o) ≡ calling_of o
+  calling_of-changed None = refl
+  calling_of-changed (Some (Code closure)) = refl
+  calling_of-changed (Some (Bound target this given)) = refl
+
+  pub calling_at_alike : (place : ℕ) → Alike c (calling_at place) (calling_at place)
+  calling_at_alike place = record { at = λ s g. (rw (callable_at-changed place s, calling_of-changed (callable_in (slice_get s.objects place))) refl, g, tt) }
+
+  -- what else is known of an object
+
+  prototype_in-changed : (o : Option Object) → prototype_in (option_map (changed_object c) o) ≡ prototype_in o
+  prototype_in-changed None = refl
+  prototype_in-changed (Some object) = refl
+
+  pub prototype_at_alike : (place : ℕ) → Alike c (prototype_at place) (prototype_at place)
+  prototype_at_alike place = record { at = λ s g. (rw (slice_get-map (changed_object c) s.objects place, prototype_in-changed (slice_get s.objects place)) refl, g, tt) }
+
+  extent_in-changed : (o : Option Object) → extent_in (option_map (changed_object c) o) ≡ extent_in o
+  extent_in-changed None = refl
+  extent_in-changed (Some object) = refl
+
+  pub extent_at_alike : (place : ℕ) → Alike c (extent_at place) (extent_at place)
+  extent_at_alike place = record { at = λ s g. (rw (slice_get-map (changed_object c) s.objects place, extent_in-changed (slice_get s.objects place)) refl, g, tt) }
+
+  own_in-changed : (key : List ℕ) (o : Option Object) → own_in key (option_map (changed_object c) o) ≡ own_in key o
+  own_in-changed key None = refl
+  own_in-changed key (Some object) = refl
+
+  pub own_property_at_alike : (place : ℕ) (key : List ℕ) → Alike c (own_property_at place key) (own_property_at place key)
+  own_property_at_alike place key = record { at = λ s g. (rw (slice_get-map (changed_object c) s.objects place, own_in-changed key (slice_get s.objects place)) refl, g, tt) }
+
+  -- look-ups
+
+  pub object_at-changed : (objects : List Object) (o : Option ℕ) → object_at (map (changed_object c) objects) o ≡ option_map (changed_object c) (object_at objects o)
+  object_at-changed objects None = refl
+  object_at-changed objects (Some place) = slice_get-map (changed_object c) objects place
+
+  is_callable-changed : (o : Option Callable) → is_some (option_map (changed_callable c) o) ≡ is_some o
+  is_callable-changed None = refl
+  is_callable-changed (Some callable) = refl
+
+  with_object-changed : (o : Object) (ancestry : Ancestry) → with_object (changed_object c o) ancestry ≡ with_object o ancestry
+  with_object-changed o ancestry = ap (λ b. record { has_function = b || ancestry.has_function; has_elements = (with_object o ancestry).has_elements }) (is_callable-changed o.callable)
+
+  property_above-changed : (objects : List Object) (key : List ℕ) (ancestry : Ancestry) (n : ℕ) (o : Option Object)
+      → property_above (map (changed_object c) objects) key ancestry n (option_map (changed_object c) o) ≡ property_above objects key ancestry n o
+  property_above-changed objects key ancestry zero o = refl
+  property_above-changed objects key ancestry (suc n) None = refl
+  property_above-changed objects key ancestry (suc n) (Some object) =
+      ap (or_else (own_property key object)) (rw (with_object-changed object ancestry, object_at-changed objects object.prototype) (property_above-changed objects key (with_object object ancestry) n (object_at objects object.prototype)))
+
+  pub found_from_alike : (place : ℕ) (key : List ℕ) → Alike c (found_from place key) (found_from place key)
+  found_from_alike place key = record {
+    at = λ s g. (
+      rw (length-map (changed_object c) s.objects, slice_get-map (changed_object c) s.objects place, property_above-changed s.objects key no_ancestry (suc (length s.objects)) (slice_get s.objects place)) refl,
+      g,
+      tt,
+    );
+  }
+
+  above-changed : (objects : List Object) (key : List ℕ) (n : ℕ) (o : Option Object) → above (map (changed_object c) objects) key n (option_map (changed_object c) o) ≡ above objects key n o
+  above-changed objects key n None = refl
+  above-changed objects key n (Some object) =
+      rw (with_object-changed object no_ancestry, object_at-changed objects object.prototype) (property_above-changed objects key (with_object object no_ancestry) n (object_at objects object.prototype))
+
+  pub found_above_alike : (place : ℕ) (key : List ℕ) → Alike c (found_above place key) (found_above place key)
+  found_above_alike place key = record {
+    at = λ s g. (
+      rw (length-map (changed_object c) s.objects, slice_get-map (changed_object c) s.objects place, above-changed s.objects key (suc (length s.objects)) (slice_get s.objects place)) refl,
+      g,
+      tt,
+    );
+  }
+
+  -- changes
+
+  pub change_entries_alike : (place : ℕ) (change : List Entry → List Entry) → Alike c (change_entries place change) (change_entries place change)
+  change_entries_alike place change = record {
+    at = λ s g. (
+      rw (map-changed_at (changed_object c) (with_entries change) (with_entries change) (λ o. refl) place s.objects) refl,
+      (all_fine-changed (with_entries change) (λ o fine. fine) place s.objects g.0, g.1, g.2),
+      tt,
+    );
+  }
+
+  if_element_alike : (extent : Extent) (key : List ℕ) {m m' : Run (Unit {0})} → Alike c m m' → Alike c (if_element extent key m) (if_element extent key m')
+  if_element_alike Ordinary key h = h
+  if_element_alike (Array n) key h = when_alike c (is_index_below n key) h (outside_alike c)
+  if_element_alike (ArgumentList n) key h = when_alike c (is_index_below n key) h (outside_alike c)
+
+  pub changed_element_alike : (place : ℕ) (key : List ℕ) (extent : Extent) (change : List Entry → List Entry) → Alike c (if_element extent key (change_entries place change)) (if_element extent key (change_entries place change))
+  changed_element_alike place key extent change = if_element_alike extent key (change_entries_alike place change)
+
+  pub define_alike : (place : ℕ) (key : List ℕ) (to : Option Property → Property) → Alike c (define place key to) (define place key to)
+  define_alike place key to =
+      bind_alike c (own_property_at_alike place key) (λ p. bind_alike c (extent_at_alike place) (λ extent.
+      if_element_alike extent key (when_alike c (is_fixed p) (throw_alike c (Error error.Kind)) (change_entries_alike place (put_entry key to)))))
+
+  pub define_data_alike : (place : ℕ) (key : List ℕ) (v : Value) → Alike c (define_data place key v) (define_data place key v)
+  define_data_alike place key v = define_alike place key (λ old. Data v)
+
+  with_field_keys-changed : (keys : List (List ℕ)) (o : Option Callable) → option_map (changed_callable c) (with_field_keys keys o) ≡ with_field_keys keys (option_map (changed_callable c) o)
+  with_field_keys-changed keys None = refl
+  with_field_keys-changed keys (Some (Code closure)) = refl
+  with_field_keys-changed keys (Some (Bound target this given)) = refl
+
+  fine_keys : (keys : List (List ℕ)) (o : Option Callable) → FineCallable c o → FineCallable c (with_field_keys keys o)
+  fine_keys keys None fine = tt
+  fine_keys keys (Some (Code closure)) fine = fine
+  fine_keys keys (Some (Bound target this given)) fine = tt
+
+  pub keep_field_keys_alike : (place : ℕ) (keys : List (List ℕ)) → Alike c (keep_field_keys place keys) (keep_field_keys place keys)
+  keep_field_keys_alike place keys = record {
+    at = λ s g. (
+      rw (map-changed_at (changed_object c) (keeping_keys keys) (keeping_keys keys)
+          (λ o. ap (λ z. record { entries = o.entries; prototype = o.prototype; callable = z; extent = o.extent }) (with_field_keys-changed keys o.callable)) place s.objects) refl,
+      (all_fine-changed (keeping_keys keys) (λ o fine. fine_keys keys o.callable fine) place s.objects g.0, g.1, g.2),
+      tt,
+    );
+  }
+
+  -- arrays
+
+  pub new_array_alike : (elements : List (Option Value)) → Alike c (new_array elements) (new_array elements)
+  new_array_alike elements = new_object_alike _ tt
+
+  pub new_arguments_alike : (arguments : List Value) → Alike c (new_arguments arguments) (new_arguments arguments)
+  new_arguments_alike arguments = new_object_alike _ tt
+
+  elements_by_alike : (o : Option Object) (extent : Extent) → Alike c (elements_by o extent) (elements_by (option_map (changed_object c) o) extent)
+  elements_by_alike None extent = outside_alike c
+  elements_by_alike (Some object) Ordinary = outside_alike c
+  elements_by_alike (Some object) (Array n) = give_alike c _
+  elements_by_alike (Some object) (ArgumentList n) = give_alike c _
+
+  pub elements_at_alike : (place : ℕ) → Alike c (elements_at place) (elements_at place)
+  elements_at_alike place = record {
+    at = λ s g. rw (slice_get-map (changed_object c) s.objects place, extent_in-changed (slice_get s.objects place)) ((elements_by_alike (slice_get s.objects place) (extent_in (slice_get s.objects place))).at s g);
+  }

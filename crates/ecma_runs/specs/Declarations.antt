@@ -1,0 +1,217 @@
+-- What nodes declare, and what else is known of them before they run (ECMAScript, 8.2 Scope Analysis, 16.2.2 Imports).
+use Rattle.std.specs.Prelude.{ℕ, List, [], ◌∷◌, ◌++◌, map, Bool, true, false, not, cond, ◌||◌, ◌&&◌, Option, Some, None, bytes_eq, codes}
+use Rattle.ecma_kind.specs.declared.kind.Kind.{Kind}
+use Rattle.ecma_kind.specs.declared.kind.Kind.TheVariants as kind
+use Rattle.ecma_kind.specs.declared.operators.VarDeclKind.TheVariants.{Var, Let, Const}
+use Rattle.ecma_runs.specs.State.{Id, Binding}
+use Rattle.ecma_runs.specs.Environment.{empty, undefined, import_of, import_of_itself}
+use Rattle.ecma_runs.specs.Meaning.{Meaning}
+
+-- names
+
+abbrev pub all_names : List Meaning → List Id
+all_names [] = []
+all_names (m ∷ ms) = m.names ++ all_names ms
+
+-- the names that a declaration binds (8.2.1 BoundNames); a parameter that types `this` binds none
+abbrev pub names_of : Kind → List Meaning → List Id
+names_of (kind.Ident sym ctxt optional) [] = record { sym = sym; ctxt = ctxt } ∷ []
+names_of kind.BindingIdent (id ∷ annotation ∷ []) = id.names
+names_of (kind.VarDeclarator definite) (name ∷ init ∷ []) = name.names
+names_of kind.AssignPat (pattern' ∷ default ∷ []) = pattern'.names
+names_of (kind.ArrayPat optional) (elements ∷ type ∷ []) = elements.names
+names_of (kind.ObjectPat optional) (properties ∷ type ∷ []) = properties.names
+names_of kind.RestPat (pattern' ∷ type ∷ []) = pattern'.names
+names_of kind.KeyValuePatProp (key ∷ pattern' ∷ []) = pattern'.names
+names_of kind.AssignPatProp (name ∷ default ∷ []) = name.names
+names_of kind.Param (pattern' ∷ []) = cond pattern'.is_this [] pattern'.names
+names_of (kind.TsParamProp accessibility is_override readonly) (pattern' ∷ []) = pattern'.names
+names_of kind.List items = all_names items
+names_of _ children = []
+
+-- variables
+
+abbrev pub all_imported : List Meaning → List ℕ → List Binding
+all_imported [] source = []
+all_imported (m ∷ ms) source = m.imported source ++ all_imported ms source
+
+abbrev pub imported_as : Option (List ℕ) → List ℕ → List Id → List Binding
+imported_as None source ids = []
+imported_as (Some name) source ids = map (import_of source name) ids
+
+-- 16.2.2.2 ImportEntriesForModule; an import as a type is none
+abbrev pub imported_of : Kind → List Meaning → List ℕ → List Binding
+imported_of kind.List items source = all_imported items source
+imported_of kind.ImportDefaultSpecifier (local ∷ []) source = map (import_of source (codes "default")) local.names
+imported_of kind.ImportStarAsSpecifier (local ∷ []) source = map (import_of source (codes "*")) local.names
+imported_of (kind.ImportNamedSpecifier false) (local ∷ name ∷ []) source = cond name.is_absent (map (import_of_itself source) local.names) (imported_as name.text source local.names)
+imported_of _ children source = []
+
+abbrev pub imported_from : Option (List ℕ) → Meaning → List Binding
+imported_from None specifiers = []
+imported_from (Some source) specifiers = specifiers.imported source
+
+-- what a text says, and the text of an imported name
+abbrev pub text_of : Kind → List Meaning → Option (List ℕ)
+text_of (kind.Str text raw) children = Some text
+text_of (kind.Ident sym ctxt optional) [] = Some sym
+text_of _ children = None
+
+abbrev pub all_lexicals : List Meaning → List Binding
+all_lexicals [] = []
+all_lexicals (m ∷ ms) = m.lexicals ++ all_lexicals ms
+
+-- 8.2.5 LexicallyScopedDeclarations; ambient ones are none, nor are functions without a body
+abbrev pub lexicals_of : Kind → List Meaning → List Binding
+lexicals_of kind.List items = all_lexicals items
+lexicals_of (kind.VarDecl Let false) (declarators ∷ []) = map (empty false) declarators.names
+lexicals_of (kind.VarDecl Const false) (declarators ∷ []) = map (empty true) declarators.names
+lexicals_of (kind.ImportDecl false) (specifiers ∷ source ∷ attributes ∷ []) = imported_from source.text specifiers
+lexicals_of (kind.FnDecl false) (name ∷ function ∷ []) = cond function.has_body (map (empty false) name.names) []
+lexicals_of (kind.ClassDecl false) (name ∷ class ∷ []) = map (empty false) name.names
+lexicals_of _ children = []
+
+abbrev pub all_vars : List Meaning → List Binding
+all_vars [] = []
+all_vars (m ∷ ms) = m.vars ++ all_vars ms
+
+-- 8.2.6 VarDeclaredNames
+abbrev pub vars_of : Kind → List Meaning → List Binding
+vars_of kind.List items = all_vars items
+vars_of (kind.VarDecl Var false) (declarators ∷ []) = map undefined declarators.names
+vars_of kind.BlockStmt children = all_vars children
+vars_of kind.IfStmt children = all_vars children
+vars_of kind.WhileStmt children = all_vars children
+vars_of kind.DoWhileStmt children = all_vars children
+vars_of kind.ForStmt children = all_vars children
+vars_of kind.ForInStmt children = all_vars children
+vars_of (kind.ForOfStmt is_await) children = all_vars children
+vars_of kind.LabeledStmt children = all_vars children
+vars_of kind.SwitchStmt children = all_vars children
+vars_of kind.SwitchCase children = all_vars children
+vars_of kind.TryStmt children = all_vars children
+vars_of kind.CatchClause children = all_vars children
+vars_of _ children = []
+
+-- the variables of a body, and of a module
+abbrev pub locals_of : Kind → List Meaning → List Binding
+locals_of (kind.Module shebang) (body ∷ []) = body.vars ++ body.lexicals
+locals_of kind.BlockStmt (statements ∷ []) = statements.vars ++ statements.lexicals
+locals_of _ children = []
+
+abbrev pub all_parameter_names : List Meaning → List Id
+all_parameter_names [] = []
+all_parameter_names (m ∷ ms) = m.parameter_names ++ all_parameter_names ms
+
+-- the names of the parameters of a function; a class has those of its constructor
+abbrev pub parameter_names_of : Kind → List Meaning → List Id
+parameter_names_of (kind.Function false false) (parameters ∷ body ∷ types ∷ return_type ∷ []) = parameters.names
+parameter_names_of (kind.ArrowExpr false false) (parameters ∷ body ∷ types ∷ return_type ∷ []) = parameters.names
+parameter_names_of kind.SetterProp (key ∷ this_parameter ∷ parameter ∷ body ∷ []) = parameter.names
+parameter_names_of (kind.Constructor accessibility is_optional) (key ∷ parameters ∷ body ∷ []) = cond body.is_absent [] parameters.names
+parameter_names_of (kind.Class is_abstract) (super ∷ body ∷ types ∷ super_types ∷ implements ∷ []) = body.parameter_names
+parameter_names_of kind.List items = all_parameter_names items
+parameter_names_of _ children = []
+
+abbrev pub all_declared : List Meaning → List Id
+all_declared [] = []
+all_declared (m ∷ ms) = m.declared ++ all_declared ms
+
+-- the ids that are declared in a node, in any scope; ambient declarations and imports as types declare none
+abbrev pub declared_of : Kind → List Meaning → List Id
+declared_of (kind.VarDecl word true) children = []
+declared_of (kind.VarDeclarator definite) (name ∷ init ∷ []) = name.names ++ (name.declared ++ init.declared)
+declared_of kind.Param (pattern' ∷ []) = cond pattern'.is_this [] (pattern'.names ++ pattern'.declared)
+declared_of (kind.TsParamProp accessibility is_override readonly) (pattern' ∷ []) = pattern'.names ++ pattern'.declared
+declared_of (kind.ArrowExpr is_async is_generator) (parameters ∷ body ∷ types ∷ return_type ∷ []) = parameters.names ++ (parameters.declared ++ body.declared)
+declared_of kind.SetterProp (key ∷ this_parameter ∷ parameter ∷ body ∷ []) = key.declared ++ (parameter.names ++ (parameter.declared ++ body.declared))
+declared_of kind.CatchClause (parameter ∷ body ∷ []) = parameter.names ++ (parameter.declared ++ body.declared)
+declared_of (kind.FnDecl true) children = []
+declared_of (kind.FnDecl false) (name ∷ function ∷ []) = cond function.has_body (name.names ++ function.declared) []
+declared_of kind.FnExpr (name ∷ function ∷ []) = name.names ++ function.declared
+declared_of (kind.ClassDecl true) children = []
+declared_of (kind.ClassDecl false) (name ∷ class ∷ []) = name.names ++ class.declared
+declared_of kind.ClassExpr (name ∷ class ∷ []) = name.names ++ class.declared
+declared_of (kind.TsEnumDecl true is_const) children = []
+declared_of (kind.TsEnumDecl false is_const) (name ∷ members ∷ []) = name.names ++ members.declared
+declared_of (kind.TsModuleDecl true global) children = []
+declared_of (kind.TsModuleDecl false global) (name ∷ body ∷ []) = name.names ++ body.declared
+declared_of (kind.ImportDecl true) children = []
+declared_of kind.ImportDefaultSpecifier (local ∷ []) = local.names
+declared_of kind.ImportStarAsSpecifier (local ∷ []) = local.names
+declared_of (kind.ImportNamedSpecifier true) children = []
+declared_of (kind.ImportNamedSpecifier false) (local ∷ name ∷ []) = local.names
+declared_of (kind.TsImportEqualsDecl is_export true) children = []
+declared_of (kind.TsImportEqualsDecl is_export false) (name ∷ source ∷ []) = name.names
+declared_of (kind.TsTypeAliasDecl declare) children = []
+declared_of kind.Absent children = []
+declared_of _ children = all_declared children
+
+abbrev pub all_shorthands : List Meaning → List Id
+all_shorthands [] = []
+all_shorthands (m ∷ ms) = m.shorthands ++ all_shorthands ms
+
+-- identifiers that stand as properties are shorthands (13.2.5), whose texts are keys
+abbrev pub shorthands_of : Kind → List Meaning → List Id
+shorthands_of (kind.Ident sym ctxt optional) [] = record { sym = sym; ctxt = ctxt } ∷ []
+shorthands_of kind.List items = all_shorthands items
+shorthands_of _ children = []
+
+-- what else is known
+
+abbrev pub joined_parts : Option (List (List ℕ)) → Option (List (List ℕ)) → Option (List (List ℕ))
+joined_parts (Some parts) (Some others) = Some (parts ++ others)
+joined_parts parts others = None
+
+abbrev pub all_cooked : List Meaning → Option (List (List ℕ))
+all_cooked [] = Some []
+all_cooked (m ∷ ms) = joined_parts m.cooked (all_cooked ms)
+
+-- what text parts of a template say (12.9.6.1 TV), unless an escape is ill-formed
+abbrev pub cooked_of : Kind → List Meaning → Option (List (List ℕ))
+cooked_of (kind.TplElement raw (Some text) tail) children = Some (text ∷ [])
+cooked_of (kind.TplElement raw None tail) children = None
+cooked_of kind.List items = all_cooked items
+cooked_of _ children = Some []
+
+abbrev pub all_plain : List Meaning → Bool
+all_plain [] = true
+all_plain (m ∷ ms) = m.is_plain && all_plain ms
+
+-- 15.1.3 IsSimpleParameterList
+abbrev pub is_plain_of : Kind → List Meaning → Bool
+is_plain_of kind.BindingIdent children = true
+is_plain_of kind.Param (pattern' ∷ []) = pattern'.is_plain
+is_plain_of kind.List items = all_plain items
+is_plain_of (kind.TsTypeAliasDecl declare) children = true
+is_plain_of _ children = false
+
+abbrev pub is_super_of : Kind → Bool
+is_super_of kind.Super = true
+is_super_of _ = false
+
+-- a missing child
+abbrev pub is_absent_of : Kind → Bool
+is_absent_of kind.Absent = true
+is_absent_of _ = false
+
+-- the name of a parameter that types `this`
+abbrev pub is_this_of : Kind → List Meaning → Bool
+is_this_of (kind.Ident sym ctxt optional) children = bytes_eq sym (codes "this")
+is_this_of kind.BindingIdent (id ∷ annotation ∷ []) = id.is_this
+is_this_of _ children = false
+
+-- a function that is no overload, and neither abstract nor ambient
+abbrev pub has_body_of : Kind → List Meaning → Bool
+has_body_of (kind.Function is_generator is_async) (parameters ∷ body ∷ types ∷ return_type ∷ []) = not body.is_absent
+has_body_of _ children = false
+
+abbrev pub any_constructor : List Meaning → Bool
+any_constructor [] = false
+any_constructor (m ∷ ms) = m.is_constructor || any_constructor ms
+
+-- a constructor with a body, or members among which one stands
+abbrev pub is_constructor_of : Kind → List Meaning → Bool
+is_constructor_of (kind.Constructor accessibility is_optional) (key ∷ parameters ∷ body ∷ []) = not body.is_absent
+is_constructor_of kind.List items = any_constructor items
+is_constructor_of _ children = false
