@@ -5,13 +5,13 @@ use Rattle.ecma_kind.specs.declared.kind.Kind.TheVariants as kind
 use Rattle.ecma_kind.specs.declared.operators.VarDeclKind.TheVariants.{Var, Let, Const}
 use Rattle.ecma_runs.specs.State.{Id, Binding}
 use Rattle.ecma_runs.specs.Environment.{empty, undefined, import_of, import_of_itself}
-use Rattle.ecma_runs.specs.Declarations.{all_names, names_of, all_imported, imported_as, imported_of, imported_from, text_of, all_lexicals, lexicals_of, all_vars, vars_of, locals_of, all_parameter_names, parameter_names_of, all_declared, declared_of, shorthands_of, all_cooked, cooked_of, all_plain, is_plain_of, is_super_of, is_absent_of, is_this_of, has_body_of, any_constructor, is_constructor_of}
+use Rattle.ecma_runs.specs.Declarations.{all_names, names_of, all_imported, imported_as, imported_of, imported_from, text_of, all_lexicals, lexicals_of, all_vars, vars_of, locals_of, all_parameter_names, parameter_names_of, all_declared, declared_of, shorthands_of, all_cooked, cooked_of, all_plain, is_plain_of, is_super_of, is_absent_of, is_this_of, all_types, is_type_of, has_body_of, any_constructor, is_constructor_of}
 use Rattle.ecma_runs.proofs.Names.{keep, changed_ids, changed_binding, changed_bindings, changed_ids-append, changed_bindings-append}
 use Rattle.ecma_runs.proofs.Alike.{Change}
 use Rattle.ecma_runs.proofs.Environments.{KeepTexts}
 use Rattle.ecma_runs.proofs.Meanings.{Same, Both, firsts, seconds, empties, undefineds, imports}
 use Rattle.ecma_runs.proofs.Premises.{renamed_kind, KeptLayer}
-use Rattle.ecma_runs.proofs.Lists.{all_stay, all_names_same, all_declared_same, all_parameter_names_same, all_lexicals_same, all_vars_same, all_imported_same, all_cooked_same, all_plain_same, any_constructor_same}
+use Rattle.ecma_runs.proofs.Lists.{all_stay, all_names_same, all_declared_same, all_parameter_names_same, all_lexicals_same, all_vars_same, all_imported_same, all_cooked_same, all_plain_same, all_types_same, any_constructor_same}
 use Rattle.ecma_runs.proofs.Classes.{joined}
 
 module _ (c : Change) where
@@ -148,7 +148,7 @@ module _ (c : Change) where
   declared_same (kind.TsEnumDecl true is_const) ps = refl
   declared_same (kind.TsEnumDecl false is_const) (name ∷ members ∷ []) = joined_ids _ _ name.2.names members.2.declared
   declared_same (kind.TsModuleDecl true global) ps = refl
-  declared_same (kind.TsModuleDecl false global) (name ∷ body ∷ []) = joined_ids _ _ name.2.names body.2.declared
+  declared_same (kind.TsModuleDecl false global) (name ∷ body ∷ []) = left_ids body.0.is_type body.1.is_type _ body.2.is_type (joined_ids _ _ name.2.names body.2.declared)
   declared_same (kind.ImportDecl true) ps = refl
   declared_same kind.ImportDefaultSpecifier (local ∷ []) = local.2.names
   declared_same kind.ImportStarAsSpecifier (local ∷ []) = local.2.names
@@ -191,6 +191,24 @@ module _ (c : Change) where
   pub has_body_same : (k : Kind) (ps : List (Both c)) → has_body_of (renamed_kind c k) (seconds c ps) ≡ has_body_of k (firsts c ps)
   has_body_same (kind.Function is_generator is_async) (parameters ∷ body ∷ types ∷ return_type ∷ []) = ap not body.2.is_absent
   has_body_same _ ps = refl
+
+  pub is_type_same : (k : Kind) (ps : List (Both c)) → is_type_of (renamed_kind c k) (seconds c ps) ≡ is_type_of k (firsts c ps)
+  is_type_same kind.List ps = all_stay c (λ ms ms'. all_types ms' ≡ all_types ms) (all_types_same c) ps
+  is_type_same kind.ExportDecl (declaration ∷ []) = declaration.2.is_type
+  is_type_same kind.ExportDefaultDecl (declaration ∷ []) = declaration.2.is_type
+  is_type_same (kind.FnDecl false) (name ∷ function ∷ []) = ap not function.2.has_body
+  is_type_same (kind.TsModuleDecl false global) (name ∷ body ∷ []) = body.2.is_type
+  is_type_same (kind.TsNamespaceDecl declare global) (name ∷ body ∷ []) = body.2.is_type
+  is_type_same kind.TsModuleBlock (items ∷ []) = items.2.is_type
+  is_type_same kind.EmptyStmt ps = refl
+  is_type_same (kind.TsInterfaceDecl declare) ps = refl
+  is_type_same (kind.TsTypeAliasDecl declare) ps = refl
+  is_type_same (kind.ImportDecl true) ps = refl
+  is_type_same (kind.TsImportEqualsDecl is_export true) ps = refl
+  is_type_same (kind.NamedExport true) ps = refl
+  is_type_same (kind.ExportAll true) ps = refl
+  is_type_same kind.TsNamespaceExportDecl ps = refl
+  is_type_same _ ps = refl
 
   pub is_constructor_same : (k : Kind) (ps : List (Both c)) → is_constructor_of (renamed_kind c k) (seconds c ps) ≡ is_constructor_of k (firsts c ps)
   is_constructor_same (kind.Constructor accessibility is_optional) (key ∷ parameters ∷ body ∷ []) = ap not body.2.is_absent

@@ -21,3 +21,13 @@ pub mod Types
 mod Depth
 mod Growing
 mod Silence
+mod Trees
+mod Scripts
+mod FactsNames
+mod FactsOperators
+mod FactsObjects
+mod FactsFunctions
+mod FactsClasses
+mod FactsStatements
+mod FactsTypes
+mod FactsOpen

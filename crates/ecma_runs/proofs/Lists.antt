@@ -8,7 +8,7 @@ use Rattle.ecma_runs.specs.Expressions.{all_arguments, all_elements, all_texts}
 use Rattle.ecma_runs.specs.Patterns.{all_targets, all_matched, all_parameters}
 use Rattle.ecma_runs.specs.Classes.{all_code, all_defined, all_fields, all_statics}
 use Rattle.ecma_runs.specs.Statements.{all_completions, all_varied, all_hoisted}
-use Rattle.ecma_runs.specs.Declarations.{all_names, all_imported, all_lexicals, all_vars, all_parameter_names, all_declared, all_shorthands, joined_parts, all_cooked, all_plain, any_constructor}
+use Rattle.ecma_runs.specs.Declarations.{all_names, all_imported, all_lexicals, all_vars, all_parameter_names, all_declared, all_shorthands, joined_parts, all_cooked, all_plain, all_types, any_constructor}
 use Rattle.ecma_runs.proofs.Names.{changed_ids, changed_bindings, changed_ids-append, changed_bindings-append}
 use Rattle.ecma_runs.proofs.Alike.{Change, Alike, bind_alike, give_alike, outside_alike, when_alike}
 use Rattle.ecma_runs.proofs.Environments.{KeepTexts, keep_first, keep_rest}
@@ -37,6 +37,7 @@ module _ (c : Change) where
     pub imported : (source : List ℕ) → changed_bindings c.names (m.imported source) ≡ []
     pub cooked : m.cooked ≡ Some []
     pub is_plain : m.is_plain ≡ true
+    pub is_type : m.is_type ≡ true
     pub is_constructor : m.is_constructor ≡ false
 
   pub data Item : Type 0 where
@@ -196,6 +197,11 @@ module _ (c : Change) where
   all_plain_same [] = refl
   all_plain_same (Stays p ∷ items) = ap₂ (λ a b. a && b) p.2.is_plain (all_plain_same items)
   all_plain_same (Goes m silent ∷ items) = rw (silent.is_plain) (all_plain_same items)
+
+  pub all_types_same : (items : List Item) → all_types (behind items) ≡ all_types (before items)
+  all_types_same [] = refl
+  all_types_same (Stays p ∷ items) = ap₂ (λ a b. a && b) p.2.is_type (all_types_same items)
+  all_types_same (Goes m silent ∷ items) = rw (silent.is_type) (all_types_same items)
 
   pub any_constructor_same : (items : List Item) → any_constructor (behind items) ≡ any_constructor (before items)
   any_constructor_same [] = refl

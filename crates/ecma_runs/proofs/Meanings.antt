@@ -88,6 +88,7 @@ module _ (c : Change) where
     pub is_super : m'.is_super ≡ m.is_super
     pub is_absent : m'.is_absent ≡ m.is_absent
     pub is_this : m'.is_this ≡ m.is_this
+    pub is_type : m'.is_type ≡ m.is_type
     pub has_body : m'.has_body ≡ m.has_body
     pub is_constructor : m'.is_constructor ≡ m.is_constructor
 

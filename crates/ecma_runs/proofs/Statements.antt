@@ -106,6 +106,9 @@ module _ (c : Change) where
     completion_alike (kind.TsTypeAliasDecl declare) ps = give_alike c tt
     completion_alike (kind.TsEnumDecl true is_const) ps = give_alike c tt
     completion_alike (kind.TsModuleDecl true global) ps = give_alike c tt
+    completion_alike (kind.TsModuleDecl false global) (name ∷ body ∷ []) = rw (body.2.is_type) (when_alike c body.0.is_type (give_alike c tt) (outside_alike c))
+    completion_alike kind.ExportDecl (declaration ∷ []) = rw (declaration.2.is_type) (when_alike c declaration.0.is_type (give_alike c tt) (outside_alike c))
+    completion_alike kind.ExportDefaultDecl (declaration ∷ []) = rw (declaration.2.is_type) (when_alike c declaration.0.is_type (give_alike c tt) (outside_alike c))
     completion_alike _ ps = outside_alike c
 
     pub varied_alike : (k : Kind) (ps : List (Both c)) → Alike c (varied_of k (firsts c ps) (first c w)) (varied_of (renamed_kind c k) (seconds c ps) (second c w))

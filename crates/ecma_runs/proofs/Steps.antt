@@ -12,12 +12,12 @@ use Rattle.ecma_runs.proofs.Alike.{Change, Alike, bind_by, bind_alike, give_by, 
 use Rattle.ecma_runs.proofs.Environments.{AlikeReference}
 use Rattle.ecma_runs.proofs.Meanings.{World, first, second, Same, Both, firsts, seconds}
 use Rattle.ecma_runs.proofs.Premises.{renamed_kind, KeptLayer}
-use Rattle.ecma_runs.proofs.Lists.{Item, before, behind, all_arguments_alike, all_elements_alike, all_texts_alike, all_completions_alike, all_varied_alike, all_hoisted_alike, all_matched_alike, all_targets_alike, all_parameters_alike, all_fields_alike, all_statics_alike, all_defined_alike, all_code_alike, all_names_same, all_declared_same, all_parameter_names_same, all_lexicals_same, all_vars_same, all_imported_same, all_cooked_same, all_plain_same, any_constructor_same}
+use Rattle.ecma_runs.proofs.Lists.{Item, before, behind, all_arguments_alike, all_elements_alike, all_texts_alike, all_completions_alike, all_varied_alike, all_hoisted_alike, all_matched_alike, all_targets_alike, all_parameters_alike, all_fields_alike, all_statics_alike, all_defined_alike, all_code_alike, all_names_same, all_declared_same, all_parameter_names_same, all_lexicals_same, all_vars_same, all_imported_same, all_cooked_same, all_plain_same, all_types_same, any_constructor_same}
 use Rattle.ecma_runs.proofs.Expressions.{link_alike, value_alike, reference_alike, chain_alike, test_alike, initial_alike, arguments_alike, elements_alike, texts_alike, key_alike}
 use Rattle.ecma_runs.proofs.Patterns.{assigned_alike, targets_alike, matched_alike, bound_alike, parameters_alike}
 use Rattle.ecma_runs.proofs.Classes.{made_alike, body_alike, code_alike, class_made_alike, defined_alike, fields_alike, statics_alike}
 use Rattle.ecma_runs.proofs.Statements.{completion_alike, varied_alike, hoisted_alike, caught_alike, effect_alike}
-use Rattle.ecma_runs.proofs.Declarations.{names_same, imported_same, text_same, lexicals_same, vars_same, locals_same, parameter_names_same, declared_same, cooked_same, is_plain_same, is_super_same, is_absent_same, is_this_same, has_body_same, is_constructor_same}
+use Rattle.ecma_runs.proofs.Declarations.{names_same, imported_same, text_same, lexicals_same, vars_same, locals_same, parameter_names_same, declared_same, cooked_same, is_plain_same, is_super_same, is_absent_same, is_this_same, is_type_same, has_body_same, is_constructor_same}
 
 module _ (c : Change) where
   role_same : (n : Node) → c.fine n → (k : Kind) (ps : List (Both c)) → KeptLayer c k (firsts c ps) → Same c (role_by n k (firsts c ps)) (role_by (c.node n) (renamed_kind c k) (seconds c ps))
@@ -62,6 +62,7 @@ module _ (c : Change) where
     is_super = is_super_same c k;
     is_absent = is_absent_same c k;
     is_this = is_this_same c k ps kept;
+    is_type = is_type_same c k ps;
     has_body = has_body_same c k ps;
     is_constructor = is_constructor_same c k ps;
   }
@@ -107,6 +108,7 @@ module _ (c : Change) where
     is_super = same.is_super;
     is_absent = same.is_absent;
     is_this = same.is_this;
+    is_type = same.is_type;
     has_body = same.has_body;
     is_constructor = same.is_constructor;
     chain = λ w. bind_by c (λ r. give (Some r)) (same.reference w) (λ r p. give_by c (Some r) p);
@@ -170,6 +172,7 @@ module _ (c : Change) where
     is_super = refl;
     is_absent = refl;
     is_this = refl;
+    is_type = all_types_same c items;
     has_body = refl;
     is_constructor = any_constructor_same c items;
   }

@@ -59,6 +59,12 @@ truth b = tree (kind.Bool b) End
 abbrev pub string : List ℕ → Trees → Trees
 string text = tree (kind.Str text None) End
 
+abbrev pub null : Trees → Trees
+null = tree kind.Null End
+
+abbrev pub type' : Trees → Trees
+type' = tree kind.TsType End
+
 -- expressions
 
 abbrev pub this' : Trees → Trees

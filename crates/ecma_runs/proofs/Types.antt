@@ -84,6 +84,7 @@ alias_silent c n' m texts same = record {
   imported = λ source. sym (same.imported source);
   cooked = sym same.cooked;
   is_plain = sym same.is_plain;
+  is_type = sym same.is_type;
   is_constructor = sym same.is_constructor;
 }
 

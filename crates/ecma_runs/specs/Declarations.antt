@@ -135,7 +135,7 @@ declared_of kind.ClassExpr (name ∷ class ∷ []) = name.names ++ class.declare
 declared_of (kind.TsEnumDecl true is_const) children = []
 declared_of (kind.TsEnumDecl false is_const) (name ∷ members ∷ []) = name.names ++ members.declared
 declared_of (kind.TsModuleDecl true global) children = []
-declared_of (kind.TsModuleDecl false global) (name ∷ body ∷ []) = name.names ++ body.declared
+declared_of (kind.TsModuleDecl false global) (name ∷ body ∷ []) = cond body.is_type [] (name.names ++ body.declared)
 declared_of (kind.ImportDecl true) children = []
 declared_of kind.ImportDefaultSpecifier (local ∷ []) = local.names
 declared_of kind.ImportStarAsSpecifier (local ∷ []) = local.names
@@ -205,6 +205,29 @@ is_this_of _ children = false
 abbrev pub has_body_of : Kind → List Meaning → Bool
 has_body_of (kind.Function is_generator is_async) (parameters ∷ body ∷ types ∷ return_type ∷ []) = not body.is_absent
 has_body_of _ children = false
+
+abbrev pub all_types : List Meaning → Bool
+all_types [] = true
+all_types (m ∷ ms) = m.is_type && all_types ms
+
+-- an item that is no value (TypeScript handbook, "Namespaces": a namespace of such items has no effect); ambient declarations of values are some
+abbrev pub is_type_of : Kind → List Meaning → Bool
+is_type_of kind.List items = all_types items
+is_type_of kind.EmptyStmt children = true
+is_type_of (kind.TsInterfaceDecl declare) children = true
+is_type_of (kind.TsTypeAliasDecl declare) children = true
+is_type_of (kind.ImportDecl true) children = true
+is_type_of (kind.TsImportEqualsDecl is_export true) children = true
+is_type_of (kind.NamedExport true) children = true
+is_type_of (kind.ExportAll true) children = true
+is_type_of kind.TsNamespaceExportDecl children = true
+is_type_of kind.ExportDecl (declaration ∷ []) = declaration.is_type
+is_type_of kind.ExportDefaultDecl (declaration ∷ []) = declaration.is_type
+is_type_of (kind.FnDecl false) (name ∷ function ∷ []) = not function.has_body
+is_type_of (kind.TsModuleDecl false global) (name ∷ body ∷ []) = body.is_type
+is_type_of (kind.TsNamespaceDecl declare global) (name ∷ body ∷ []) = body.is_type
+is_type_of kind.TsModuleBlock (items ∷ []) = items.is_type
+is_type_of _ children = false
 
 abbrev pub any_constructor : List Meaning → Bool
 any_constructor [] = false

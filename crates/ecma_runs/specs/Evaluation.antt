@@ -16,7 +16,7 @@ use Rattle.ecma_runs.specs.Expressions.{value_of, reference_of, initial_of, argu
 use Rattle.ecma_runs.specs.Patterns.{assigned_of, bound_of, matched_of, targets_of, parameters_of}
 use Rattle.ecma_runs.specs.Classes.{made_of, class_made_of, defined_of, fields_of, statics_of, code_of, body_of, field_activation}
 use Rattle.ecma_runs.specs.Statements.{completion_of, varied_of, hoisted_of, effect_of, caught_of}
-use Rattle.ecma_runs.specs.Declarations.{names_of, lexicals_of, vars_of, locals_of, parameter_names_of, declared_of, shorthands_of, imported_of, text_of, cooked_of, is_plain_of, is_super_of, is_absent_of, is_this_of, has_body_of, is_constructor_of}
+use Rattle.ecma_runs.specs.Declarations.{names_of, lexicals_of, vars_of, locals_of, parameter_names_of, declared_of, shorthands_of, imported_of, text_of, cooked_of, is_plain_of, is_super_of, is_absent_of, is_this_of, is_type_of, has_body_of, is_constructor_of}
 
 -- what a node means in each role; the node itself is for the functions that keep it
 abbrev pub role_by : Node → Kind → List Meaning → Meaning
@@ -62,6 +62,7 @@ role_by node k children = record {
   is_super = is_super_of k;
   is_absent = is_absent_of k;
   is_this = is_this_of k children;
+  is_type = is_type_of k children;
   has_body = has_body_of k children;
   is_constructor = is_constructor_of k children;
 }

@@ -110,6 +110,8 @@ pub record Meaning : Type 0 where
   pub is_super : Bool
   pub is_absent : Bool
   pub is_this : Bool
+  -- an item that is a type alone
+  pub is_type : Bool
   -- a function with a body, a constructor with a body
   pub has_body : Bool
   pub is_constructor : Bool

@@ -90,6 +90,9 @@ completion_of (kind.TsInterfaceDecl declare) children x = give tt
 completion_of (kind.TsTypeAliasDecl declare) children x = give tt
 completion_of (kind.TsEnumDecl true is_const) children x = give tt
 completion_of (kind.TsModuleDecl true global) children x = give tt
+completion_of (kind.TsModuleDecl false global) (name ∷ body ∷ []) x = when body.is_type (give tt) outside
+completion_of kind.ExportDecl (declaration ∷ []) x = when declaration.is_type (give tt) outside
+completion_of kind.ExportDefaultDecl (declaration ∷ []) x = when declaration.is_type (give tt) outside
 completion_of _ children x = outside
 
 abbrev pub effect_of : Node → Kind → List Meaning → Evaluation (Unit {0})

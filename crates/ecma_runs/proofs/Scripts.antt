@@ -1,0 +1,33 @@
+-- The script of the facts about small modules.
+use Rattle.std.proofs.Common.{◌≡◌, ℕ, pos, List, [], ◌∷◌, codes}
+use Rattle.ecma_number.specs.declared.js_number.JsNumber.TheVariants.{Whole}
+use Rattle.ecma_runs.specs.declared.observation.Event.{Event}
+use Rattle.ecma_runs.specs.declared.observation.Ending.{Ending}
+use Rattle.ecma_runs.specs.declared.script.Action.{Action}
+use Rattle.ecma_runs.specs.declared.script.Answer.{Answer}
+use Rattle.ecma_runs.specs.declared.script.Answer.TheVariants.{Return}
+use Rattle.ecma_runs.specs.declared.script.FreeValue.{FreeValue}
+use Rattle.ecma_runs.specs.declared.script.ImportValue.{ImportValue}
+use Rattle.ecma_runs.specs.declared.shown.Shown.TheVariants as shown
+use Rattle.ecma_runs.specs.Observation.{observe}
+use Rattle.ecma_runs.proofs.Trees.{Trees, module'}
+
+-- the free names f and g are the host's values 7 and 8
+abbrev pub frees : List FreeValue
+frees = record { name = codes "f"; value = shown.Host 7 } ∷ record { name = codes "g"; value = shown.Host 8 } ∷ []
+
+-- the module "m" has a default and a name
+abbrev pub imports : List ImportValue
+imports = record { source = codes "m"; name = codes "default"; value = shown.Host 9 } ∷ record { source = codes "m"; name = codes "a"; value = shown.Num (Whole (pos 5)) } ∷ []
+
+abbrev pub null_answer : Answer
+null_answer = Return shown.Null
+
+-- the host answers null, often enough
+abbrev pub nulls : List Answer
+nulls = null_answer ∷ null_answer ∷ null_answer ∷ null_answer ∷ null_answer ∷ null_answer ∷ null_answer ∷ null_answer ∷ null_answer ∷ null_answer ∷ null_answer ∷ null_answer ∷ []
+
+-- that the module with this body has these events and this ending, in so many turns, where the host gives these answers and then does these actions
+abbrev pub Does : ℕ → List Answer → List Action → Trees → List Event → Ending → Type 0
+Does turns answers actions body events end =
+    observe turns (record {}) (module' body) (record { imports = imports; meta_url = codes "file:///m.js"; frees = frees; answers = answers; actions = actions }) ≡ record { events = events; ending = end }
