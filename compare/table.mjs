@@ -23,6 +23,8 @@ export const topics = [
       ["numbers_handles_in_the_order_of_showing", `let o = {}; let p = {}; f(p, o); f(o, p);`],
       ["has_a_name_of_its_own", `let h = function k(n) { f(n); k === h && n < 2 && k(n + 1); }; h(1);`],
       ["does_not_write_its_own_name", `let h = function k() { k = 1; }; h();`],
+      ["takes_the_last_of_two_functions", `function h() { var a; function a() { return 1; } function a() { return 2; } f(a()); } h();`],
+      ["throws_an_error_where_the_host_gives_one", `throw f(1);`, { answers: [["Return", { error: "RangeError" }]] }],
     ],
   },
   {
@@ -71,6 +73,12 @@ export const topics = [
       ["ends_chains_at_parentheses", `(null?.a).b;`],
       ["deletes_in_chains", `let o = { a: 1 }; f(delete o?.a, o.a, delete null?.a);`],
       ["keeps_lengths_of_shown_arrays", `f([1, 2]);`, { unfold: "digits", actions: [["Get", 0, "length"], ["Get", 0, "1"], ["Set", 0, "0", 7], ["Get", 0, "0"]] }],
+      ["shadows_properties_of_prototypes", `function h() {} h.prototype.a = 1; let o = new h(); o.a = 2; f(o.a, h.prototype.a); f(delete o.a, o.a);`],
+      ["replaces_accessors", `let o = { get a() { return 1; }, a: 2, b: 3, get b() { return 4; } }; f(o.a, o.b);`],
+      ["deletes_elements", `let a = [1, 2]; f(delete a[0], a[0], a.length); a[0] = 3; f(a[0]);`, { unfold: "digits" }],
+      ["takes_host_values_apart", `let { a, b: c = 2 } = f; g(a, c);`, { answers: [["Return", 1], ["Return", undefined], ["Return", null]] }],
+      ["calls_methods_by_optional_calls", `let o = { m() { return this === o; } }; f(o.m?.(), o?.m?.(), (o?.m)?.(), o.x?.(f(1)));`],
+      ["reads_members_of_texts", `let { length } = "abc"; f(length, "ab".length);`],
     ],
   },
   {
@@ -96,6 +104,9 @@ export const topics = [
       ["binds_functions", `function h(a, b) { f(this, a, b); } let k = h.bind(1, 2); k(3); k.bind(9, 4)(); f(new k(5) instanceof h);`],
       ["binds_with_an_optional_call", `let o = { h: null }; f(o.h?.call(o)); o.h = function (a) { return a; }; f(o.h?.call(o, 7));`],
       ["returns_from_loops", `function h() { for (let i = 0; ; i++) { if (i > 1) return i; } } f(h());`],
+      ["passes_arguments_by_apply", `function k(a, b) { f(this, a, b); } function h() { k.apply(this, arguments); } h.call(1, 2, 3);`, { unfold: "digits" }],
+      ["gives_functions_as_values", `let h = (a) => (b) => a - b; f(h(5)(2)); f([h][0](1)(1));`, { unfold: "digits" }],
+      ["calls_itself", `function h(n) { return n < 2 ? 1 : n + h(n - 1); } f(h(2));`],
     ],
   },
   {
@@ -129,6 +140,11 @@ export const topics = [
       ["has_getters_and_setters", `class A { static get a() { return 1; } set b(v) { f(v); } } f(A.a); new A().b = 2; new A().c = 3;`],
       ["has_fields_without_value", `class A { x; static y; z = new.target; } let a = new A(); f("x" in a, a.x, "y" in A, a.z);`],
       ["extends_plain_functions", `function h() { this.a = 1; } h.prototype.m = function () { return this.a; }; class B extends h {} f(new B().m());`],
+      ["has_super_in_fields", `class A { m() { return 1; } static s = 2; } class B extends A { x = super.m(); static y = super.s; } f(new B().x, B.y);`],
+      ["has_arrows_in_fields", `class A { x = 1; h = () => this.x; } let h = new A().h; f(h());`],
+      ["has_its_own_name_inside", `class A { m() { return A; } } let B = A; A = 1; f(new B().m() === B, A);`],
+      ["spends_a_turn_a_constructor", `class A {} class B extends A {} new B(); f(1); new B();`, { turns: 3, before: `f(1);`, ending: "TurnsSpent" }],
+      ["spends_a_turn_a_getter", `let o = { get a() { return 1; } }; f(o.a); f(o.a);`, { turns: 1, before: `f(1);`, ending: "TurnsSpent" }],
     ],
   },
   {
@@ -152,6 +168,9 @@ export const topics = [
       ["has_empty_statements", `; if (1); for (let i = 0; i < 1; i++); f(1);`],
       ["has_a_scope_a_block", `let a = 1; { var b = a; const c = 2; f(b + c); } f(typeof d, b);`],
       ["reads_a_variable_of_a_for_before", `for (let i = i; ; ) {}`],
+      ["closes_over_the_head_of_a_for", `let h; for (let i = 0, k = (h = () => i); i < 2; i++); f(h());`],
+      ["writes_no_constant_of_a_for", `for (const i = 0; i < 2; i++) f(i);`],
+      ["evaluates_loops_in_order", `for (f(1); f(2); f(3)) f(4);`, { answers: [["Return", null], ["Return", true], ["Return", null], ["Return", null], ["Return", 0]] }],
     ],
   },
   {

@@ -6,6 +6,7 @@ use Rattle.ecma_runs.specs.Run.{Outcome, Done, Thrown, Returned, Broken, Continu
 use Rattle.ecma_runs.specs.Host.{Provided}
 use Rattle.ecma_runs.specs.Meaning.{Invocation}
 use Rattle.ecma_runs.specs.Evaluation.{apply_at, apply, calls, invoke}
+use Rattle.ecma_runs.specs.Laws.{CallsAreApplications}
 use Rattle.ecma_runs.proofs.Names.{changed_ids, changed_environment}
 use Rattle.ecma_runs.proofs.Alike.{Change, changed, changed_callable, changed_object, FineCallable, AllFine, Follows, Alike}
 use Rattle.ecma_runs.proofs.Kept.{StepsAlike, apply_at_alike, calls_alike}
@@ -118,3 +119,6 @@ module _ (provided : Provided) where
   -- a call is a turn, and what the function does, where calls are calls
   pub invoke-apply : (declared : List Id) (place : ℕ) (how : Invocation) (arguments : List Value) → invoke provided declared place how arguments ≡ apply (invoke provided declared) provided declared place how arguments
   invoke-apply declared place how arguments = λ i s. applied_turns declared place how arguments s s.turns refl i
+
+pub calls_are_applications : CallsAreApplications
+calls_are_applications provided declared function how arguments = invoke-apply provided declared function how arguments

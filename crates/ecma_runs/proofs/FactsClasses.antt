@@ -12,7 +12,7 @@ use Rattle.ecma_runs.specs.declared.observation.Ending.TheVariants as ending
 use Rattle.ecma_runs.specs.declared.script.Answer.TheVariants.{Return}
 use Rattle.ecma_runs.specs.declared.shown.ErrorKind.TheVariants as error
 use Rattle.ecma_runs.specs.declared.shown.Shown.TheVariants as shown
-use Rattle.ecma_runs.proofs.Trees.{End, ◌▸◌, tree, absent, ident, key, computed, binding, whole, string, this', super', member, super_member, call, new', assign, binary, parens, object, statement, returns, declare, parameter, function, declare_function, function_expression, arrow, class_method, field, constructor', class', declare_class, meaning_node}
+use Rattle.ecma_runs.proofs.Trees.{End, ◌▸◌, tree, absent, ident, key, computed, binding, whole, string, this', super', member, super_member, call, new', assign, binary, parens, object, statement, block, returns, declare, parameter, function, declare_function, function_expression, arrow, class_method, field, constructor', class', declare_class, meaning_node}
 use Rattle.ecma_runs.proofs.Scripts.{Does, nulls}
 use Rattle.std.specs.Fmt.{digits}
 
@@ -282,3 +282,56 @@ extends_plain_functions :
     ▸ End)
     (HostCall 7 shown.Undefined (shown.Num (js_number.Whole (pos 1)) ∷ []) ∷ []) (ending.Done [])
 extends_plain_functions = simp meaning_node refl
+
+-- class A { m() { return 1; } static s = 2; } class B extends A { x = super.m(); static y = super.s; } f(new B().x, B.y);
+has_super_in_fields :
+    Does 9 nulls []
+    (declare_class (codes "A") absent (class_method method.Method false (key (codes "m")) End (returns (whole 1) ▸ End) ▸ field true (key (codes "s")) (whole 2) ▸ End)
+    ▸ declare_class (codes "B") (ident (codes "A")) (field false (key (codes "x")) (call (super_member (codes "m")) End) ▸ field true (key (codes "y")) (super_member (codes "s")) ▸ End)
+    ▸ statement (call (ident (codes "f")) (member (new' (ident (codes "B")) End) (codes "x") ▸ member (ident (codes "B")) (codes "y") ▸ End))
+    ▸ End)
+    (HostCall 7 shown.Undefined (shown.Num (js_number.Whole (pos 1)) ∷ shown.Num (js_number.Whole (pos 2)) ∷ []) ∷ []) (ending.Done [])
+has_super_in_fields = simp meaning_node refl
+
+-- class A { x = 1; h = () => this.x; } let h = new A().h; f(h());
+has_arrows_in_fields :
+    Does 9 nulls []
+    (declare_class (codes "A") absent (field false (key (codes "x")) (whole 1) ▸ field false (key (codes "h")) (arrow End (member this' (codes "x"))) ▸ End)
+    ▸ declare Let (codes "h") (member (new' (ident (codes "A")) End) (codes "h"))
+    ▸ statement (call (ident (codes "f")) (call (ident (codes "h")) End ▸ End))
+    ▸ End)
+    (HostCall 7 shown.Undefined (shown.Num (js_number.Whole (pos 1)) ∷ []) ∷ []) (ending.Done [])
+has_arrows_in_fields = simp meaning_node refl
+
+-- class A { m() { return A; } } let B = A; A = 1; f(new B().m() === B, A);
+has_its_own_name_inside :
+    Does 9 nulls []
+    (declare_class (codes "A") absent (class_method method.Method false (key (codes "m")) End (returns (ident (codes "A")) ▸ End) ▸ End)
+    ▸ declare Let (codes "B") (ident (codes "A"))
+    ▸ statement (assign (ident (codes "A")) (whole 1))
+    ▸ statement (call (ident (codes "f")) (binary binary.EqEqEq (call (member (new' (ident (codes "B")) End) (codes "m")) End) (ident (codes "B")) ▸ ident (codes "A") ▸ End))
+    ▸ End)
+    (HostCall 7 shown.Undefined (shown.Bool true ∷ shown.Num (js_number.Whole (pos 1)) ∷ []) ∷ []) (ending.Done [])
+has_its_own_name_inside = simp meaning_node refl
+
+-- class A {} class B extends A {} new B(); f(1); new B();
+spends_a_turn_a_constructor :
+    Does 3 nulls []
+    (declare_class (codes "A") absent End
+    ▸ declare_class (codes "B") (ident (codes "A")) End
+    ▸ statement (new' (ident (codes "B")) End)
+    ▸ statement (call (ident (codes "f")) (whole 1 ▸ End))
+    ▸ statement (new' (ident (codes "B")) End)
+    ▸ End)
+    (HostCall 7 shown.Undefined (shown.Num (js_number.Whole (pos 1)) ∷ []) ∷ []) (ending.TurnsSpent)
+spends_a_turn_a_constructor = simp meaning_node refl
+
+-- let o = { get a() { return 1; } }; f(o.a); f(o.a);
+spends_a_turn_a_getter :
+    Does 1 nulls []
+    (declare Let (codes "o") (object (tree kind.GetterProp (key (codes "a") ▸ absent ▸ block (returns (whole 1) ▸ End) ▸ End) ▸ End))
+    ▸ statement (call (ident (codes "f")) (member (ident (codes "o")) (codes "a") ▸ End))
+    ▸ statement (call (ident (codes "f")) (member (ident (codes "o")) (codes "a") ▸ End))
+    ▸ End)
+    (HostCall 7 shown.Undefined (shown.Num (js_number.Whole (pos 1)) ∷ []) ∷ []) (ending.TurnsSpent)
+spends_a_turn_a_getter = simp meaning_node refl

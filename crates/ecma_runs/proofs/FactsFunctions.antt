@@ -202,3 +202,34 @@ returns_from_loops :
     ▸ End)
     (HostCall 7 shown.Undefined (shown.Num (js_number.Whole (pos 2)) ∷ []) ∷ []) (ending.Done [])
 returns_from_loops = simp meaning_node refl
+
+-- function k(a, b) { f(this, a, b); } function h() { k.apply(this, arguments); } h.call(1, 2, 3);
+passes_arguments_by_apply :
+    Does 9 nulls []
+    (declare_function (codes "k") (parameter (binding (codes "a")) ▸ parameter (binding (codes "b")) ▸ End) (statement (call (ident (codes "f")) (this' ▸ ident (codes "a") ▸ ident (codes "b") ▸ End)) ▸ End)
+    ▸ declare_function (codes "h") End (statement (call (member (ident (codes "k")) (codes "apply")) (this' ▸ ident (codes "arguments") ▸ End)) ▸ End)
+    ▸ statement (call (member (ident (codes "h")) (codes "call")) (whole 1 ▸ whole 2 ▸ whole 3 ▸ End))
+    ▸ End)
+    (HostCall 7 shown.Undefined (shown.Num (js_number.Whole (pos 1)) ∷ shown.Num (js_number.Whole (pos 2)) ∷ shown.Num (js_number.Whole (pos 3)) ∷ []) ∷ []) (ending.Done [])
+unfolding digits
+passes_arguments_by_apply = simp meaning_node refl
+
+-- let h = (a) => (b) => a - b; f(h(5)(2)); f([h][0](1)(1));
+gives_functions_as_values :
+    Does 9 nulls []
+    (declare Let (codes "h") (arrow (binding (codes "a") ▸ End) (arrow (binding (codes "b") ▸ End) (binary binary.Sub (ident (codes "a")) (ident (codes "b")))))
+    ▸ statement (call (ident (codes "f")) (call (call (ident (codes "h")) (whole 5 ▸ End)) (whole 2 ▸ End) ▸ End))
+    ▸ statement (call (ident (codes "f")) (call (call (tree kind.MemberExpr (array (ident (codes "h") ▸ End) ▸ computed (whole 0) ▸ End)) (whole 1 ▸ End)) (whole 1 ▸ End) ▸ End))
+    ▸ End)
+    (HostCall 7 shown.Undefined (shown.Num (js_number.Whole (pos 3)) ∷ []) ∷ HostCall 7 shown.Undefined (shown.Num (js_number.Whole (pos 0)) ∷ []) ∷ []) (ending.Done [])
+unfolding digits
+gives_functions_as_values = simp meaning_node refl
+
+-- function h(n) { return n < 2 ? 1 : n + h(n - 1); } f(h(2));
+calls_itself :
+    Does 9 nulls []
+    (declare_function (codes "h") (parameter (binding (codes "n")) ▸ End) (returns (tree kind.CondExpr (binary binary.Lt (ident (codes "n")) (whole 2) ▸ whole 1 ▸ binary binary.Add (ident (codes "n")) (call (ident (codes "h")) (binary binary.Sub (ident (codes "n")) (whole 1) ▸ End)) ▸ End)) ▸ End)
+    ▸ statement (call (ident (codes "f")) (call (ident (codes "h")) (whole 2 ▸ End) ▸ End))
+    ▸ End)
+    (HostCall 7 shown.Undefined (shown.Num (js_number.Whole (pos 3)) ∷ []) ∷ []) (ending.Done [])
+calls_itself = simp meaning_node refl

@@ -177,3 +177,20 @@ does_not_write_its_own_name :
     ▸ End)
     [] (ending.Thrown (shown.Error error.Kind))
 does_not_write_its_own_name = simp meaning_node refl
+
+-- function h() { var a; function a() { return 1; } function a() { return 2; } f(a()); } h();
+takes_the_last_of_two_functions :
+    Does 9 nulls []
+    (declare_function (codes "h") End (declare Var (codes "a") absent ▸ declare_function (codes "a") End (returns (whole 1) ▸ End) ▸ declare_function (codes "a") End (returns (whole 2) ▸ End) ▸ statement (call (ident (codes "f")) (call (ident (codes "a")) End ▸ End)) ▸ End)
+    ▸ statement (call (ident (codes "h")) End)
+    ▸ End)
+    (HostCall 7 shown.Undefined (shown.Num (js_number.Whole (pos 2)) ∷ []) ∷ []) (ending.Done [])
+takes_the_last_of_two_functions = simp meaning_node refl
+
+-- throw f(1);
+throws_an_error_where_the_host_gives_one :
+    Does 9 (Return (shown.Error error.Range) ∷ []) []
+    (tree kind.ThrowStmt (call (ident (codes "f")) (whole 1 ▸ End) ▸ End)
+    ▸ End)
+    (HostCall 7 shown.Undefined (shown.Num (js_number.Whole (pos 1)) ∷ []) ∷ []) (ending.Thrown (shown.Error error.Range))
+throws_an_error_where_the_host_gives_one = simp meaning_node refl

@@ -6,7 +6,7 @@ use Rattle.ecma_kind.specs.declared.operators.BinaryOp.TheVariants as binary
 use Rattle.ecma_kind.specs.declared.operators.MethodKind.TheVariants as method
 use Rattle.ecma_kind.specs.declared.operators.UnaryOp.TheVariants as unary
 use Rattle.ecma_kind.specs.declared.operators.VarDeclKind.TheVariants.{Var, Let}
-use Rattle.ecma_runs.specs.declared.observation.Event.TheVariants.{HostSet, HostCall}
+use Rattle.ecma_runs.specs.declared.observation.Event.TheVariants.{HostGet, HostSet, HostCall}
 use Rattle.ecma_runs.specs.declared.observation.Ending.TheVariants as ending
 use Rattle.ecma_runs.specs.declared.script.Action.TheVariants as action
 use Rattle.ecma_runs.specs.declared.script.Answer.TheVariants.{Return}
@@ -191,3 +191,64 @@ keeps_lengths_of_shown_arrays :
     (HostCall 7 shown.Undefined (shown.Handle 0 ∷ []) ∷ []) (ending.Done (Return (shown.Num (js_number.Whole (pos 2))) ∷ Return (shown.Num (js_number.Whole (pos 2))) ∷ Return shown.Undefined ∷ Return (shown.Num (js_number.Whole (pos 7))) ∷ []))
 unfolding digits
 keeps_lengths_of_shown_arrays = simp meaning_node refl
+
+-- function h() {} h.prototype.a = 1; let o = new h(); o.a = 2; f(o.a, h.prototype.a); f(delete o.a, o.a);
+shadows_properties_of_prototypes :
+    Does 9 nulls []
+    (declare_function (codes "h") End End
+    ▸ statement (assign (member (member (ident (codes "h")) (codes "prototype")) (codes "a")) (whole 1))
+    ▸ declare Let (codes "o") (new' (ident (codes "h")) End)
+    ▸ statement (assign (member (ident (codes "o")) (codes "a")) (whole 2))
+    ▸ statement (call (ident (codes "f")) (member (ident (codes "o")) (codes "a") ▸ member (member (ident (codes "h")) (codes "prototype")) (codes "a") ▸ End))
+    ▸ statement (call (ident (codes "f")) (unary unary.Delete (member (ident (codes "o")) (codes "a")) ▸ member (ident (codes "o")) (codes "a") ▸ End))
+    ▸ End)
+    (HostCall 7 shown.Undefined (shown.Num (js_number.Whole (pos 2)) ∷ shown.Num (js_number.Whole (pos 1)) ∷ []) ∷ HostCall 7 shown.Undefined (shown.Bool true ∷ shown.Num (js_number.Whole (pos 1)) ∷ []) ∷ []) (ending.Done [])
+shadows_properties_of_prototypes = simp meaning_node refl
+
+-- let o = { get a() { return 1; }, a: 2, b: 3, get b() { return 4; } }; f(o.a, o.b);
+replaces_accessors :
+    Does 9 nulls []
+    (declare Let (codes "o") (object (tree kind.GetterProp (key (codes "a") ▸ absent ▸ block (returns (whole 1) ▸ End) ▸ End) ▸ property (key (codes "a")) (whole 2) ▸ property (key (codes "b")) (whole 3) ▸ tree kind.GetterProp (key (codes "b") ▸ absent ▸ block (returns (whole 4) ▸ End) ▸ End) ▸ End))
+    ▸ statement (call (ident (codes "f")) (member (ident (codes "o")) (codes "a") ▸ member (ident (codes "o")) (codes "b") ▸ End))
+    ▸ End)
+    (HostCall 7 shown.Undefined (shown.Num (js_number.Whole (pos 2)) ∷ shown.Num (js_number.Whole (pos 4)) ∷ []) ∷ []) (ending.Done [])
+replaces_accessors = simp meaning_node refl
+
+-- let a = [1, 2]; f(delete a[0], a[0], a.length); a[0] = 3; f(a[0]);
+deletes_elements :
+    Does 9 nulls []
+    (declare Let (codes "a") (array (whole 1 ▸ whole 2 ▸ End))
+    ▸ statement (call (ident (codes "f")) (unary unary.Delete (tree kind.MemberExpr (ident (codes "a") ▸ computed (whole 0) ▸ End)) ▸ tree kind.MemberExpr (ident (codes "a") ▸ computed (whole 0) ▸ End) ▸ member (ident (codes "a")) (codes "length") ▸ End))
+    ▸ statement (assign (tree kind.MemberExpr (ident (codes "a") ▸ computed (whole 0) ▸ End)) (whole 3))
+    ▸ statement (call (ident (codes "f")) (tree kind.MemberExpr (ident (codes "a") ▸ computed (whole 0) ▸ End) ▸ End))
+    ▸ End)
+    (HostCall 7 shown.Undefined (shown.Bool true ∷ shown.Undefined ∷ shown.Num (js_number.Whole (pos 2)) ∷ []) ∷ HostCall 7 shown.Undefined (shown.Num (js_number.Whole (pos 3)) ∷ []) ∷ []) (ending.Done [])
+unfolding digits
+deletes_elements = simp meaning_node refl
+
+-- let { a, b: c = 2 } = f; g(a, c);
+takes_host_values_apart :
+    Does 9 (Return (shown.Num (js_number.Whole (pos 1))) ∷ Return shown.Undefined ∷ Return shown.Null ∷ []) []
+    (declare_pattern Let (tree (kind.ObjectPat false) (list (tree kind.AssignPatProp (binding (codes "a") ▸ absent ▸ End) ▸ tree kind.KeyValuePatProp (key (codes "b") ▸ tree kind.AssignPat (binding (codes "c") ▸ whole 2 ▸ End) ▸ End) ▸ End) ▸ absent ▸ End)) (ident (codes "f"))
+    ▸ statement (call (ident (codes "g")) (ident (codes "a") ▸ ident (codes "c") ▸ End))
+    ▸ End)
+    (HostGet 7 (codes "a") ∷ HostGet 7 (codes "b") ∷ HostCall 8 shown.Undefined (shown.Num (js_number.Whole (pos 1)) ∷ shown.Num (js_number.Whole (pos 2)) ∷ []) ∷ []) (ending.Done [])
+takes_host_values_apart = simp meaning_node refl
+
+-- let o = { m() { return this === o; } }; f(o.m?.(), o?.m?.(), (o?.m)?.(), o.x?.(f(1)));
+calls_methods_by_optional_calls :
+    Does 9 nulls []
+    (declare Let (codes "o") (object (tree kind.MethodProp (key (codes "m") ▸ function End (returns (binary binary.EqEqEq this' (ident (codes "o"))) ▸ End) ▸ End) ▸ End))
+    ▸ statement (call (ident (codes "f")) (tree (kind.OptChainExpr true) (tree kind.OptCall (member (ident (codes "o")) (codes "m") ▸ list End ▸ absent ▸ End) ▸ End) ▸ tree (kind.OptChainExpr true) (tree kind.OptCall (tree (kind.OptChainExpr true) (member (ident (codes "o")) (codes "m") ▸ End) ▸ list End ▸ absent ▸ End) ▸ End) ▸ tree (kind.OptChainExpr true) (tree kind.OptCall (parens (tree (kind.OptChainExpr true) (member (ident (codes "o")) (codes "m") ▸ End)) ▸ list End ▸ absent ▸ End) ▸ End) ▸ tree (kind.OptChainExpr true) (tree kind.OptCall (member (ident (codes "o")) (codes "x") ▸ list (call (ident (codes "f")) (whole 1 ▸ End) ▸ End) ▸ absent ▸ End) ▸ End) ▸ End))
+    ▸ End)
+    (HostCall 7 shown.Undefined (shown.Bool true ∷ shown.Bool true ∷ shown.Bool true ∷ shown.Undefined ∷ []) ∷ []) (ending.Done [])
+calls_methods_by_optional_calls = simp meaning_node refl
+
+-- let { length } = "abc"; f(length, "ab".length);
+reads_members_of_texts :
+    Does 9 nulls []
+    (declare_pattern Let (tree (kind.ObjectPat false) (list (tree kind.AssignPatProp (binding (codes "length") ▸ absent ▸ End) ▸ End) ▸ absent ▸ End)) (string (codes "abc"))
+    ▸ statement (call (ident (codes "f")) (ident (codes "length") ▸ member (string (codes "ab")) (codes "length") ▸ End))
+    ▸ End)
+    (HostCall 7 shown.Undefined (shown.Num (js_number.Whole (pos 3)) ∷ shown.Num (js_number.Whole (pos 2)) ∷ []) ∷ []) (ending.Done [])
+reads_members_of_texts = simp meaning_node refl

@@ -12,7 +12,7 @@ use Rattle.ecma_runs.specs.declared.observation.Ending.TheVariants as ending
 use Rattle.ecma_runs.specs.declared.script.Answer.TheVariants.{Return}
 use Rattle.ecma_runs.specs.declared.shown.ErrorKind.TheVariants as error
 use Rattle.ecma_runs.specs.declared.shown.Shown.TheVariants as shown
-use Rattle.ecma_runs.proofs.Trees.{End, ◌▸◌, tree, absent, list, ident, key, binding, whole, truth, string, null, member, call, assign, unary, binary, array, object, property, statement, block, returns, declare, declare_function, arrow, meaning_node}
+use Rattle.ecma_runs.proofs.Trees.{End, ◌▸◌, tree, absent, list, ident, key, binding, whole, truth, string, null, member, call, assign, unary, binary, parens, array, object, property, statement, block, returns, declare, declare_function, arrow, meaning_node}
 use Rattle.ecma_runs.proofs.Scripts.{Does, nulls}
 
 -- let n = true; while (n) { f(1); n = false; } try { throw 3; } catch (e) { f(e); } finally { f(4); }
@@ -168,3 +168,29 @@ reads_a_variable_of_a_for_before :
     ▸ End)
     [] (ending.Thrown (shown.Error error.Reference))
 reads_a_variable_of_a_for_before = simp meaning_node refl
+
+-- let h; for (let i = 0, k = (h = () => i); i < 2; i++); f(h());
+closes_over_the_head_of_a_for :
+    Does 9 nulls []
+    (declare Let (codes "h") absent
+    ▸ tree kind.ForStmt (tree (kind.VarDecl Let false) (list (tree (kind.VarDeclarator false) (binding (codes "i") ▸ whole 0 ▸ End) ▸ tree (kind.VarDeclarator false) (binding (codes "k") ▸ parens (assign (ident (codes "h")) (arrow End (ident (codes "i")))) ▸ End) ▸ End) ▸ End) ▸ binary binary.Lt (ident (codes "i")) (whole 2) ▸ tree (kind.UpdateExpr update.PlusPlus false) (ident (codes "i") ▸ End) ▸ tree kind.EmptyStmt End ▸ End)
+    ▸ statement (call (ident (codes "f")) (call (ident (codes "h")) End ▸ End))
+    ▸ End)
+    (HostCall 7 shown.Undefined (shown.Num (js_number.Whole (pos 0)) ∷ []) ∷ []) (ending.Done [])
+closes_over_the_head_of_a_for = simp meaning_node refl
+
+-- for (const i = 0; i < 2; i++) f(i);
+writes_no_constant_of_a_for :
+    Does 9 nulls []
+    (tree kind.ForStmt (declare Const (codes "i") (whole 0) ▸ binary binary.Lt (ident (codes "i")) (whole 2) ▸ tree (kind.UpdateExpr update.PlusPlus false) (ident (codes "i") ▸ End) ▸ statement (call (ident (codes "f")) (ident (codes "i") ▸ End)) ▸ End)
+    ▸ End)
+    (HostCall 7 shown.Undefined (shown.Num (js_number.Whole (pos 0)) ∷ []) ∷ []) (ending.Thrown (shown.Error error.Kind))
+writes_no_constant_of_a_for = simp meaning_node refl
+
+-- for (f(1); f(2); f(3)) f(4);
+evaluates_loops_in_order :
+    Does 9 (Return shown.Null ∷ Return (shown.Bool true) ∷ Return shown.Null ∷ Return shown.Null ∷ Return (shown.Num (js_number.Whole (pos 0))) ∷ []) []
+    (tree kind.ForStmt (call (ident (codes "f")) (whole 1 ▸ End) ▸ call (ident (codes "f")) (whole 2 ▸ End) ▸ call (ident (codes "f")) (whole 3 ▸ End) ▸ statement (call (ident (codes "f")) (whole 4 ▸ End)) ▸ End)
+    ▸ End)
+    (HostCall 7 shown.Undefined (shown.Num (js_number.Whole (pos 1)) ∷ []) ∷ HostCall 7 shown.Undefined (shown.Num (js_number.Whole (pos 2)) ∷ []) ∷ HostCall 7 shown.Undefined (shown.Num (js_number.Whole (pos 4)) ∷ []) ∷ HostCall 7 shown.Undefined (shown.Num (js_number.Whole (pos 3)) ∷ []) ∷ HostCall 7 shown.Undefined (shown.Num (js_number.Whole (pos 2)) ∷ []) ∷ []) (ending.Done [])
+evaluates_loops_in_order = simp meaning_node refl

@@ -197,6 +197,6 @@ abbrev pub calls : Provided → List Id → ℕ → ℕ → Invocation → List 
 calls provided declared zero function how arguments s = Ended TurnsSpent s
 calls provided declared (suc n) function how arguments s = apply (calls provided declared n) provided declared function how arguments s
 
--- what a call does: each spends a turn, so no more stand in one another than turns are left. It is `apply` of itself (proofs/Depth.antt).
+-- what a call does: each spends a turn, so no more stand in one another than turns are left. It is `apply` of itself (the law `CallsAreApplications`).
 abbrev pub invoke : Provided → List Id → ℕ → Invocation → List Value → Run Value
 invoke provided declared function how arguments s = calls provided declared s.turns function how arguments s

@@ -7,9 +7,12 @@ use Rattle.ecma_runs.specs.declared.observation.Event.{Event}
 use Rattle.ecma_runs.specs.declared.observation.Ending.TheVariants as ending
 use Rattle.ecma_runs.specs.declared.script.Action.{Action}
 use Rattle.ecma_runs.specs.declared.script.Script.{Script}
+use Rattle.ecma_runs.specs.Values.{Value}
 use Rattle.ecma_runs.specs.State.{Id, State}
 use Rattle.ecma_runs.specs.Run.{Outcome, Done, Thrown, Returned, Broken, Continued, Ended}
 use Rattle.ecma_runs.specs.Host.{Provided}
+use Rattle.ecma_runs.specs.Meaning.{Invocation}
+use Rattle.ecma_runs.specs.Evaluation.{apply, invoke}
 use Rattle.ecma_runs.specs.Observation.{observe, module_context, run_body, act}
 use Rattle.ecma_runs.specs.Sources.{AgreeUpToSources}
 use Rattle.ecma_runs.specs.Uses.{uses_nothing}
@@ -36,6 +39,12 @@ abbrev pub SpareTurnsDoNotMatter : Type 0
 SpareTurnsDoNotMatter =
     (turns more : ℕ) (options : Config) (m : Node) (script : Script) → (observe turns options m script).ending ≢ ending.TurnsSpent →
     observe (turns + more) options m script ≡ observe turns options m script
+
+-- a call is a turn, and then what the function does, in which calls are calls again: it does not matter how deep they stand
+abbrev pub CallsAreApplications : Type 0
+CallsAreApplications =
+    (provided : Provided) (declared : List Id) (function : ℕ) (how : Invocation) (arguments : List Value) →
+    invoke provided declared function how arguments ≡ apply (invoke provided declared) provided declared function how arguments
 
 -- the state in which a part of a run comes out
 abbrev pub state_behind : {A : Type 0} → Outcome A → State

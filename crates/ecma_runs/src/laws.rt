@@ -1,5 +1,5 @@
 //! The laws of `observe`, each the contract of a function that does nothing.
-ghost use Rattle.ecma_runs.specs.Laws.{SpansAndSourcesDoNotMatter, TypesDoNotMatter, WrappersDoNotMatter, ParenthesesDoNotMatter, SpareTurnsDoNotMatter, EventsOnlyGrow, DeclarationsAloneHaveNoEvents};
+ghost use Rattle.ecma_runs.specs.Laws.{SpansAndSourcesDoNotMatter, TypesDoNotMatter, WrappersDoNotMatter, ParenthesesDoNotMatter, SpareTurnsDoNotMatter, CallsAreApplications, EventsOnlyGrow, DeclarationsAloneHaveNoEvents};
 
 /// Trees that are equal up to the places of their nodes and the source texts of their literals
 /// run alike.
@@ -26,6 +26,12 @@ pub fn parentheses_do_not_matter()
 /// A run that did not want for turns is the same with more of them.
 pub fn spare_turns_do_not_matter()
     ensures { SpareTurnsDoNotMatter }
+{}
+
+/// A call is a turn, and then what the function does: the depth by which calls are defined does not
+/// matter.
+pub fn calls_are_applications()
+    ensures { CallsAreApplications }
 {}
 
 /// The events before a part of a run are the first of those behind it.
