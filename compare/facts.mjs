@@ -20,7 +20,7 @@ const nulls = Array.from({ length: 12 }, () => ["Return", null]);
 
 // what a file of facts may use, by module
 const modules = [
-  ["std.proofs.Common", "◌≡◌ refl ℕ pos negsuc List [] ◌∷◌ Option Some None true false codes"],
+  ["std.proofs.Common", "refl ℕ pos negsuc List [] ◌∷◌ Option Some None true false codes"],
   ["ecma_number.specs.declared.js_number.JsNumber.TheVariants", "as js_number"],
   ["ecma_kind.specs.declared.kind.Kind.TheVariants", "as kind"],
   ["ecma_kind.specs.declared.operators.AssignOp.TheVariants", "as assign"],
@@ -53,7 +53,7 @@ const modules = [
 /** The `use` lines of a file of facts: what its text names. */
 function uses(text) {
   const words = new Set(text.replace(/"(?:[^"\\]|\\.)*"/g, "").replace(/^--.*$/gm, "").match(/[\p{L}_][\p{L}\p{N}_']*/gu));
-  const has = (name) => ["◌≡◌", "◌▸◌", "[]", "◌∷◌"].includes(name) || words.has(name);
+  const has = (name) => ["◌▸◌", "[]", "◌∷◌"].includes(name) || words.has(name);
   const lines = [];
   for (const [module, names] of modules) {
     if (names.startsWith("as ")) {

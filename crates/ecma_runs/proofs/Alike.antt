@@ -3,7 +3,7 @@ use Rattle.std.proofs.Common.{◌≡◌, ℕ, zero, suc, ◌+◌, ◌++◌, ◌�
 use Rattle.ecma_tree.specs.declared.node.Node.{Node}
 use Rattle.ecma_runs.specs.declared.observation.Event.{Event}
 use Rattle.ecma_runs.specs.Values.{Value}
-use Rattle.ecma_runs.specs.State.{Id, Closure, Callable, Code, Bound, Object, State}
+use Rattle.ecma_runs.specs.State.{Id, Callable, Code, Bound, Object, State}
 use Rattle.ecma_runs.specs.Run.{Stop, TurnsSpent, Outside, Outcome, Done, Thrown, Returned, Broken, Continued, Ended, Run, then_outcome, ◌>>=◌, give, throw, return, break, continue, stop, outside, when, given_or, given, each, catch_outcome, catching, finally_outcome, finally, round_outcome, round, loop_outcome, loop, body_outcome, returned_by, spend_of, spend}
 use Rattle.ecma_runs.specs.Environment.{is_among}
 use Rattle.ecma_runs.proofs.Names.{Naming, changed_environment}

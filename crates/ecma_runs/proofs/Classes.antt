@@ -1,5 +1,5 @@
 -- Functions, classes and properties do alike where their parts do.
-use Rattle.std.proofs.Common.{◌≡◌, ℕ, ◌++◌, ◌||◌, refl, sym, ap, ap₂, ◌∙◌, subst, List, [], ◌∷◌, map, Option, Some, None, Bool, true, false, not, cond, bytes_eq, codes}
+use Rattle.std.proofs.Common.{◌≡◌, ℕ, ◌++◌, ◌||◌, sym, ap, ap₂, ◌∙◌, subst, List, [], ◌∷◌, map, Option, Some, None, Bool, true, false, not, cond, bytes_eq, codes}
 use Rattle.ecma_kind.specs.declared.kind.Kind.{Kind}
 use Rattle.ecma_kind.specs.declared.kind.Kind.TheVariants as kind
 use Rattle.ecma_kind.specs.declared.operators.MethodKind.{MethodKind}
@@ -7,9 +7,8 @@ use Rattle.ecma_kind.specs.declared.operators.MethodKind.TheVariants as method
 use Rattle.ecma_tree.specs.declared.node.Node.{Node}
 use Rattle.ecma_runs.specs.Values.{Value, Null, Own, Host, Error}
 use Rattle.ecma_runs.specs.State.{Id, Binding, Sort, Plain, Method, Arrow, BaseClass, DerivedClass}
-use Rattle.ecma_runs.specs.Run.{Run, ◌>>=◌, give}
+use Rattle.ecma_runs.specs.Run.{◌>>=◌, give}
 use Rattle.ecma_runs.specs.Environment.{resolved, empty, except, have_one_of}
-use Rattle.ecma_runs.specs.Meaning.{Meaning}
 use Rattle.ecma_runs.specs.Objects.{Calling, Function, BoundFunction, define_data, with_getter, with_setter}
 use Rattle.ecma_runs.specs.Functions.{read, first_or_undefined, new_function, prototype_entries}
 use Rattle.ecma_runs.specs.Classes.{made_of, body_of, run_body, run_code, all_code, class_code, code_of, checked_calling, parent_class, parent_prototype, heritage, field_activation, class_value, class_made_of, define_method, literal_key, all_defined, defined_of, define_field, field_with, all_fields, fields_of, all_statics, statics_of}

@@ -1,15 +1,15 @@
 -- What nodes declare, and what else is known of them, is alike where it is so of their parts.
-use Rattle.std.proofs.Common.{◌≡◌, ℕ, ◌++◌, ◌&&◌, ◌||◌, refl, sym, ap, ap₂, ◌∙◌, List, [], ◌∷◌, map, Option, Some, None, Bool, true, false, not, cond, codes, bytes_eq}
+use Rattle.std.proofs.Common.{◌≡◌, ℕ, ◌++◌, refl, sym, ap, ap₂, ◌∙◌, List, [], ◌∷◌, map, Option, Some, None, Bool, true, false, not, cond, codes}
 use Rattle.ecma_kind.specs.declared.kind.Kind.{Kind}
 use Rattle.ecma_kind.specs.declared.kind.Kind.TheVariants as kind
 use Rattle.ecma_kind.specs.declared.operators.VarDeclKind.TheVariants.{Var, Let, Const}
 use Rattle.ecma_runs.specs.State.{Id, Binding}
 use Rattle.ecma_runs.specs.Environment.{empty, undefined, import_of, import_of_itself}
 use Rattle.ecma_runs.specs.Declarations.{all_names, names_of, all_imported, imported_as, imported_of, imported_from, text_of, all_lexicals, lexicals_of, all_vars, vars_of, locals_of, all_parameter_names, parameter_names_of, all_declared, declared_of, shorthands_of, all_cooked, cooked_of, all_plain, is_plain_of, is_super_of, is_absent_of, is_this_of, all_types, is_type_of, has_body_of, any_constructor, is_constructor_of}
-use Rattle.ecma_runs.proofs.Names.{keep, changed_ids, changed_binding, changed_bindings, changed_ids-append, changed_bindings-append}
+use Rattle.ecma_runs.proofs.Names.{keep, changed_ids, changed_binding, changed_bindings, changed_ids-append}
 use Rattle.ecma_runs.proofs.Alike.{Change}
 use Rattle.ecma_runs.proofs.Environments.{KeepTexts}
-use Rattle.ecma_runs.proofs.Meanings.{Same, Both, firsts, seconds, empties, undefineds, imports}
+use Rattle.ecma_runs.proofs.Meanings.{Both, firsts, seconds, empties, undefineds, imports}
 use Rattle.ecma_runs.proofs.Premises.{renamed_kind, KeptLayer}
 use Rattle.ecma_runs.proofs.Lists.{all_stay, all_names_same, all_declared_same, all_parameter_names_same, all_lexicals_same, all_vars_same, all_imported_same, all_cooked_same, all_plain_same, all_types_same, any_constructor_same}
 use Rattle.ecma_runs.proofs.Classes.{joined}

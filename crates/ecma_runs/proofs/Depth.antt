@@ -1,7 +1,7 @@
 -- Calls may be defined as deep as one likes: a call is `apply` of calls.
-use Rattle.std.proofs.Common.{false, add-zero, ◌≡◌, ℕ, zero, suc, ◌≤◌, inl, refl, sym, ap, ap₂, ◌∙◌, subst, List, [], ◌∷◌, map, Option, Some, None, option_map, arith, true}
+use Rattle.std.proofs.Common.{add-zero, ◌≡◌, ℕ, zero, suc, ◌≤◌, inl, refl, sym, ap, ap₂, ◌∙◌, subst, List, [], ◌∷◌, map, Option, Some, None, option_map, arith}
 use Rattle.ecma_runs.specs.Values.{Value}
-use Rattle.ecma_runs.specs.State.{Id, Binding, Environment, Callable, Code, Bound, Object, State}
+use Rattle.ecma_runs.specs.State.{Id, Environment, Callable, Code, Bound, Object, State}
 use Rattle.ecma_runs.specs.Run.{Outcome, Done, Thrown, Returned, Broken, Continued, Ended, TurnsSpent, Run}
 use Rattle.ecma_runs.specs.Host.{Provided}
 use Rattle.ecma_runs.specs.Meaning.{Invocation}

@@ -1,5 +1,5 @@
 -- What reads and changes environment records does alike, and so do values that come from the host and go to it.
-use Rattle.std.proofs.Common.{◌≡◌, ℕ, ◌++◌, refl, ap, List, [], ◌∷◌, map, Option, Some, None, Bool, true, false, option_map, is_some, slice_get, length, append_assoc}
+use Rattle.std.proofs.Common.{◌≡◌, ℕ, ◌++◌, refl, ap, List, [], ◌∷◌, Option, Some, None, Bool, true, false, option_map, is_some, slice_get, length, append_assoc}
 use Rattle.std.proofs.lemmas.Option.{slice_get-map}
 use Rattle.std.specs.Prelude.{nat_eq, nat_lt, ◌^◌}
 use Rattle.std.specs.List.{position}
@@ -12,11 +12,11 @@ use Rattle.ecma_runs.specs.declared.shown.Shown.{Shown}
 use Rattle.ecma_runs.specs.declared.shown.Shown.TheVariants as shown
 use Rattle.ecma_runs.specs.Values.{Value, Own}
 use Rattle.ecma_runs.specs.State.{Content, Empty, Holds, Imported, Id, Binding, Activation, Environment, State}
-use Rattle.ecma_runs.specs.Run.{AnswersSpent, Outside, Done, Ended, Run, ◌>>=◌, give, outside, when, given_or}
+use Rattle.ecma_runs.specs.Run.{AnswersSpent, Outside, Done, Run, ◌>>=◌, give, outside, when}
 use Rattle.ecma_runs.specs.Host.{import_value, taken_if, own_at, handled, taken, number_own, show_own, show, answered, answer_from, next_answer, add_event, use_host, free_value, fixed_value, free_or, read_free, free_or_undefined, read_free_typed}
-use Rattle.ecma_runs.specs.Environment.{copy_environment, new_environment, bindings_in, variable, with_value, set_variable, Reference, ToVariable, ToFree, ToMember, ToSuper, ToImportMeta, ToValue, is_among, resolved, content_value, value_in, read_variable, unless_empty, write_in, write_variable, set_all, initialize_one, initialize, activation_in, activation_at, with_activation, set_activation, activation_or, activation, this, bind_this_in, bind_this}
-use Rattle.ecma_runs.proofs.Names.{Naming, keep, changed_ids, changed_binding, changed_bindings, changed_environment, binding_of-changed, is_among-changed, set_in-changed, set_in-gone, map-changed_at, map-unchanged_at, map-push, length-map}
-use Rattle.ecma_runs.proofs.Alike.{Change, changed, Good, Unless, unless_is, Follows, AlikeBy, Alike, bind_by, bind_alike, give_by, give_alike, throw_alike, outside_alike, when_alike, given_or_alike}
+use Rattle.ecma_runs.specs.Environment.{copy_environment, new_environment, bindings_in, variable, with_value, set_variable, Reference, ToVariable, ToFree, ToMember, ToSuper, is_among, resolved, content_value, value_in, read_variable, unless_empty, write_in, write_variable, set_all, initialize_one, initialize, activation_in, activation_at, with_activation, set_activation, activation_or, activation, this, bind_this_in, bind_this}
+use Rattle.ecma_runs.proofs.Names.{keep, changed_ids, changed_binding, changed_bindings, changed_environment, binding_of-changed, is_among-changed, set_in-changed, set_in-gone, map-changed_at, map-unchanged_at, map-push, length-map}
+use Rattle.ecma_runs.proofs.Alike.{Change, changed, Good, unless_is, Follows, AlikeBy, Alike, bind_alike, give_by, give_alike, throw_alike, outside_alike, when_alike, given_or_alike}
 
 -- the same names keep their texts
 abbrev pub TextsStay : (Id → Id) → List Id → Type 0

@@ -1,5 +1,5 @@
 -- Expressions do alike where their parts do: a line for each kind in each role.
-use Rattle.std.proofs.Common.{◌≡◌, ℕ, ◌++◌, ◌&&◌, refl, sym, subst, List, [], ◌∷◌, map, Option, Some, None, Bool, true, false, cond, bytes_eq, codes, option_map}
+use Rattle.std.proofs.Common.{◌≡◌, ℕ, ◌&&◌, refl, sym, subst, List, [], ◌∷◌, map, Option, Some, None, Bool, true, false, cond, bytes_eq, codes, option_map}
 use Rattle.ecma_number.specs.Text.{text_of}
 use Rattle.ecma_kind.specs.declared.kind.Kind.{Kind}
 use Rattle.ecma_kind.specs.declared.kind.Kind.TheVariants as kind
@@ -16,14 +16,13 @@ use Rattle.ecma_runs.specs.Values.{Value, Undefined, Null, Truth, Number, Text, 
 use Rattle.ecma_runs.specs.State.{Id, Plain, Arrow}
 use Rattle.ecma_runs.specs.Run.{Run, ◌>>=◌, give, given}
 use Rattle.ecma_runs.specs.Environment.{Reference, ToVariable, ToFree, ToMember, ToSuper, ToImportMeta, ToValue, empty}
-use Rattle.ecma_runs.specs.Meaning.{Meaning}
 use Rattle.ecma_runs.specs.Operators.{text_from, number_from, key_from, binary_value, operator_of, short_circuit, logical_operator_of, unary_value, updated}
 use Rattle.ecma_runs.specs.Functions.{read, write, read_object, read_typed, delete, Callee, callee_by, call, construct}
-use Rattle.ecma_runs.specs.Expressions.{identifier, meta_member, member_of, member_reference, super_reference, chained, call_by, is_in, applied, binary_rest, logical_rest, compound_rest, assign, unary, update, sequence, interleaved, function_value, value_of, reference_of, continued, callee_is_nullish, member_link, call_link, link_of, chain_of, initial_of, all_arguments, arguments_of, all_elements, elements_of, all_texts, texts_of, key_of, test_of}
+use Rattle.ecma_runs.specs.Expressions.{meta_member, member_of, member_reference, super_reference, chained, call_by, is_in, applied, binary_rest, logical_rest, compound_rest, assign, unary, update, sequence, interleaved, function_value, value_of, reference_of, continued, callee_is_nullish, member_link, call_link, link_of, chain_of, initial_of, all_arguments, arguments_of, all_elements, elements_of, all_texts, texts_of, key_of, test_of}
 use Rattle.ecma_runs.specs.Members.{type_of}
 use Rattle.ecma_runs.proofs.Names.{changed_ids}
-use Rattle.ecma_runs.proofs.Alike.{Change, AlikeBy, Alike, bind_by, bind_alike, give_by, give_alike, throw_alike, outside_alike, when_alike, given_alike}
-use Rattle.ecma_runs.proofs.Environments.{new_environment_alike, set_all_alike, activation_alike, this_alike, changed_reference, KeptReference, AlikeReference, KeepTexts, resolved_alike}
+use Rattle.ecma_runs.proofs.Alike.{Change, Alike, bind_by, bind_alike, give_by, give_alike, throw_alike, outside_alike, when_alike, given_alike}
+use Rattle.ecma_runs.proofs.Environments.{new_environment_alike, set_all_alike, activation_alike, this_alike, changed_reference, KeptReference, AlikeReference, resolved_alike}
 use Rattle.ecma_runs.proofs.Objects.{new_object_alike, new_array_alike}
 use Rattle.ecma_runs.proofs.Meanings.{World, first, second, within, KeptOption, AlikeChain, Both, firsts, seconds, empties}
 use Rattle.ecma_runs.proofs.Members.{has_member_alike, instance_of_alike, type_of_alike}

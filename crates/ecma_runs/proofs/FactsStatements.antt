@@ -1,5 +1,5 @@
 -- Statements: each fact is a small module and what node observes of it, by computing. Written by compare/facts.mjs.
-use Rattle.std.proofs.Common.{◌≡◌, refl, pos, [], ◌∷◌, true, false, codes}
+use Rattle.std.proofs.Common.{refl, pos, [], ◌∷◌, true, false, codes}
 use Rattle.ecma_number.specs.declared.js_number.JsNumber.TheVariants as js_number
 use Rattle.ecma_kind.specs.declared.kind.Kind.TheVariants as kind
 use Rattle.ecma_kind.specs.declared.operators.AssignOp.TheVariants as assign

@@ -1,10 +1,10 @@
 -- References, calls, constructions and function objects do alike.
-use Rattle.std.proofs.Common.{◌≡◌, ℕ, ◌++◌, refl, subst, List, [], ◌∷◌, Option, Some, None, Bool, true, false, cond, bytes_eq, nat_eq, codes}
+use Rattle.std.proofs.Common.{◌≡◌, ℕ, ◌++◌, refl, subst, List, [], Option, Some, None, true, cond, bytes_eq, nat_eq, codes}
 use Rattle.ecma_tree.specs.declared.node.Node.{Node}
 use Rattle.ecma_runs.specs.declared.observation.Event.TheVariants as event
 use Rattle.ecma_runs.specs.Values.{Value, Undefined, Null, Truth, Number, Text, Own, Host, Error}
 use Rattle.ecma_runs.specs.State.{Arguments, Unbound, Forbidden, Given, Made, Activation, Sort, Plain, Method, Arrow, BaseClass, DerivedClass, Property, Data, Fixed, Accessor, Open, Entry}
-use Rattle.ecma_runs.specs.Run.{Run, ◌>>=◌, give}
+use Rattle.ecma_runs.specs.Run.{Run}
 use Rattle.ecma_runs.specs.Host.{show, is_open_object, is_open_callee}
 use Rattle.ecma_runs.specs.Environment.{Reference, ToVariable, ToFree, ToMember, ToSuper, ToImportMeta, ToValue, with_arguments}
 use Rattle.ecma_runs.specs.Meaning.{AsCall, AsConstruct}

@@ -1,5 +1,5 @@
 -- Events only grow: a run does the same behind events that came before, and so its own stand behind them.
-use Rattle.std.proofs.Common.{◌≡◌, ℕ, Some, ◌++◌, inl, refl, subst, ap, sym, ◌∙◌, List, [], ◌∷◌, append-nil}
+use Rattle.std.proofs.Common.{◌≡◌, ℕ, Some, ◌++◌, inl, refl, subst, sym, List, [], ◌∷◌, append-nil}
 use Rattle.ecma_tree.specs.declared.node.Node.{Node}
 use Rattle.ecma_runs.specs.declared.observation.Event.{Event}
 use Rattle.ecma_runs.specs.declared.observation.Ending.{Ending}

@@ -1,5 +1,5 @@
 -- A map of trees by which a node and its image mean alike where their children do keeps whole runs: the meaning of each node, calls, and what is observed.
-use Rattle.std.proofs.Common.{◌≡◌, ◌≢◌, ℕ, zero, suc, ◌+◌, ◌++◌, ◌⊎◌, inl, inr, refl, sym, ap, ◌∙◌, subst, List, [], ◌∷◌, map, Option, Some, None, Bool, true, false, option_map, slice_get, suc-add}
+use Rattle.std.proofs.Common.{◌≡◌, ◌≢◌, ℕ, zero, suc, ◌+◌, ◌++◌, ◌⊎◌, inl, inr, refl, sym, ap, ◌∙◌, subst, List, [], ◌∷◌, map, Option, Some, None, Bool, true, false, option_map, suc-add}
 use Rattle.ecma_tree.specs.declared.node.Node.{Node, Node-F, roll-Node, ind-Node}
 use Rattle.ecma_runs.specs.declared.config.Config.{Config}
 use Rattle.ecma_runs.specs.declared.observation.Ending.{Ending}
@@ -11,17 +11,17 @@ use Rattle.ecma_runs.specs.declared.script.Answer.TheVariants as answer
 use Rattle.ecma_runs.specs.declared.script.Script.{Script}
 use Rattle.ecma_runs.specs.Values.{Value, Undefined, Own, Host, Error}
 use Rattle.ecma_runs.specs.State.{Id, Activation, Sort, Plain, Method, Arrow, BaseClass, DerivedClass, Closure, State}
-use Rattle.ecma_runs.specs.Run.{give, each, Stop, TurnsSpent, Outside, Outcome, Done, Thrown, Returned, Broken, Continued, Ended, Run}
+use Rattle.ecma_runs.specs.Run.{each, Stop, TurnsSpent, Outside, Outcome, Done, Thrown, Returned, Broken, Continued, Ended, Run}
 use Rattle.ecma_runs.specs.Environment.{empty}
 use Rattle.ecma_runs.specs.Objects.{closure_at}
 use Rattle.ecma_runs.specs.Host.{Provided, provided_by, taken}
-use Rattle.ecma_runs.specs.Meaning.{Meaning, Invocation, AsCall, AsConstruct, Functions, ExecutionContext}
+use Rattle.ecma_runs.specs.Meaning.{Invocation, AsCall, AsConstruct, Functions}
 use Rattle.ecma_runs.specs.Classes.{field_activation}
 use Rattle.ecma_runs.specs.Evaluation.{meaning_by, meaning, entered, as_it_is, called_with, constructed_with, or_object, this_of, or_this, instance_object, construct_base, invoked, class_fields, fields_by, invoke_closure, fields_of_closure, no_fields, fields_with, functions_with, apply_at, calls, invoke}
 use Rattle.ecma_runs.specs.Observation.{outcome_shown, shown_to_host, done_by, act, run_body, run_actions, module_activation, run_module, start, ending_of, observed, observe}
 use Rattle.ecma_runs.proofs.Layer.{meaning-roll}
 use Rattle.ecma_runs.proofs.Names.{changed_ids}
-use Rattle.ecma_runs.proofs.Alike.{Change, changed, Good, Unless, unless_is, unless_map, Follows, Alike, bind_alike, give_alike, throw_alike, outside_alike, given_or_alike, each_alike, returned_by_alike, spend_alike}
+use Rattle.ecma_runs.proofs.Alike.{Change, changed, Unless, unless_is, unless_map, Follows, Alike, bind_alike, give_alike, throw_alike, outside_alike, given_or_alike, each_alike, returned_by_alike, spend_alike}
 use Rattle.ecma_runs.proofs.Environments.{new_environment_alike, activation_at_alike, handled_alike, taken_alike, show_alike}
 use Rattle.ecma_runs.proofs.Objects.{changed_closure, FineClosure, fine_closure, closure_at-changed, new_object_alike}
 use Rattle.ecma_runs.proofs.Meanings.{FunctionsAlike, World, first, second, within, Same, Both, firsts, seconds, empties}

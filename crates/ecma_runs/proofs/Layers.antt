@@ -1,9 +1,8 @@
 -- Laws that hold since a map of trees keeps the meaning of each layer: spans, sources of literals, type wrappers and parentheses do not matter, nor do spare turns.
-use Rattle.std.proofs.Common.{◌≡◌, ◌≢◌, ◌⊎◌, ◌++◌, ◌&&◌, ℕ, suc, inl, inr, refl, sym, ap, ap₂, ◌∙◌, subst, List, [], ◌∷◌, map, map-id, Option, Some, None, Bool, true, false, add-zero}
-use Rattle.std.specs.List.{list_any}
+use Rattle.std.proofs.Common.{◌≡◌, ◌≢◌, ◌⊎◌, ℕ, suc, inl, inr, refl, sym, ap, ap₂, ◌∙◌, List, [], ◌∷◌, map, map-id, Bool, true, false, add-zero}
 use Rattle.ecma_kind.specs.declared.kind.Kind.{Kind}
 use Rattle.ecma_kind.specs.declared.kind.Kind.TheVariants as kind
-use Rattle.ecma_tree.specs.declared.node.Node.{Node, Node-F, fold-roll-Node, ind-Node, roll-Node}
+use Rattle.ecma_tree.specs.declared.node.Node.{Node, Node-F, fold-roll-Node, roll-Node}
 use Rattle.ecma_tree.specs.Rewritten.{rewritten}
 use Rattle.ecma_tree.specs.Spans.{unplaced, without_spans}
 use Rattle.ecma_runs.specs.declared.config.Config.{Config}
@@ -12,15 +11,15 @@ use Rattle.ecma_runs.specs.declared.observation.Ending.{Ending}
 use Rattle.ecma_runs.specs.declared.observation.Ending.TheVariants as ending
 use Rattle.ecma_runs.specs.declared.script.Script.{Script}
 use Rattle.ecma_runs.specs.State.{Id, Binding}
-use Rattle.ecma_runs.specs.Run.{Stop, TurnsSpent, AnswersSpent, Outside, Run, ◌>>=◌, give}
-use Rattle.ecma_runs.specs.Environment.{is_among, have_one_of}
-use Rattle.ecma_runs.specs.Meaning.{Meaning, ExecutionContext}
+use Rattle.ecma_runs.specs.Run.{Stop, TurnsSpent, AnswersSpent, Outside}
+use Rattle.ecma_runs.specs.Environment.{have_one_of}
+use Rattle.ecma_runs.specs.Meaning.{Meaning}
 use Rattle.ecma_runs.specs.Patterns.{name_key}
-use Rattle.ecma_runs.specs.Evaluation.{ending_chain, meaning_by, meaning}
+use Rattle.ecma_runs.specs.Evaluation.{meaning_by, meaning}
 use Rattle.ecma_runs.specs.Observation.{observe}
 use Rattle.ecma_runs.specs.Sources.{unsourced, unsourced_node, without_sources}
-use Rattle.ecma_runs.specs.Wrappers.{unwrapped_by, unwrapped, without_wrappers, is_chain_by, is_chain_step, is_chain, opened_by, opened, without_parentheses}
-use Rattle.ecma_runs.specs.Laws.{SpansAndSourcesDoNotMatter, WrappersDoNotMatter, ParenthesesDoNotMatter, SpareTurnsDoNotMatter}
+use Rattle.ecma_runs.specs.Wrappers.{unwrapped_by, unwrapped, without_wrappers}
+use Rattle.ecma_runs.specs.Laws.{SpansAndSourcesDoNotMatter, WrappersDoNotMatter, SpareTurnsDoNotMatter}
 use Rattle.ecma_runs.proofs.Layer.{meaning-roll}
 use Rattle.ecma_runs.proofs.Names.{Naming, changed_ids, changed_bindings}
 use Rattle.ecma_runs.proofs.Alike.{Change}

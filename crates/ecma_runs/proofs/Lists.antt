@@ -1,5 +1,5 @@
 -- Lists of which items may go: they do alike in each role that a list has.
-use Rattle.std.proofs.Common.{◌≡◌, ℕ, ◌++◌, ◌||◌, ◌&&◌, refl, sym, ap, ap₂, ◌∙◌, subst, subst₂, List, [], ◌∷◌, map, Option, Some, None, Bool, true, false}
+use Rattle.std.proofs.Common.{◌≡◌, ℕ, ◌++◌, ◌||◌, ◌&&◌, refl, sym, ap, ap₂, ◌∙◌, subst, subst₂, List, [], ◌∷◌, map, Option, Some, None, true, false}
 use Rattle.ecma_runs.specs.Values.{Value}
 use Rattle.ecma_runs.specs.State.{Id, Binding}
 use Rattle.ecma_runs.specs.Run.{Outcome, Done, Thrown, Returned, Broken, Continued, Ended, then_outcome, Run, ◌>>=◌, give}
@@ -12,7 +12,7 @@ use Rattle.ecma_runs.specs.Declarations.{all_names, all_imported, all_lexicals, 
 use Rattle.ecma_runs.proofs.Names.{changed_ids, changed_bindings, changed_ids-append, changed_bindings-append}
 use Rattle.ecma_runs.proofs.Alike.{Change, Alike, bind_alike, give_alike, outside_alike, when_alike}
 use Rattle.ecma_runs.proofs.Environments.{KeepTexts, keep_first, keep_rest}
-use Rattle.ecma_runs.proofs.Meanings.{World, first, second, Same, Both, firsts, seconds}
+use Rattle.ecma_runs.proofs.Meanings.{World, first, second, Both, firsts, seconds}
 
 module _ (c : Change) where
   -- what does nothing in a list, and declares nothing that is kept

@@ -1,8 +1,8 @@
 -- Meanings that do alike in each role.
-use Rattle.std.proofs.Common.{◌≡◌, ℕ, List, [], ◌∷◌, map, Option, Some, None, Bool, true, option_map, refl}
+use Rattle.std.proofs.Common.{◌≡◌, ℕ, List, ◌∷◌, map, Option, Some, None, Bool, true, option_map, refl}
 use Rattle.ecma_runs.specs.Host.{Provided}
 use Rattle.ecma_runs.specs.Values.{Value}
-use Rattle.ecma_runs.specs.State.{Id, Binding, Sort}
+use Rattle.ecma_runs.specs.State.{Id, Sort}
 use Rattle.ecma_runs.specs.Run.{Run}
 use Rattle.ecma_runs.specs.Environment.{Reference, empty, undefined, import_of}
 use Rattle.ecma_runs.specs.Meaning.{Invocation, Functions, ExecutionContext, Meaning}

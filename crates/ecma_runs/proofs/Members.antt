@@ -1,15 +1,14 @@
 -- Members of values do alike.
-use Rattle.std.proofs.Common.{◌≡◌, ℕ, zero, suc, ◌&&◌, ◌||◌, refl, ap, List, [], ◌∷◌, Option, Some, None, Bool, true, false, bytes_eq, codes, map, option_map, slice_get, length}
+use Rattle.std.proofs.Common.{◌≡◌, ℕ, zero, suc, ◌&&◌, ◌||◌, refl, ap, List, [], ◌∷◌, Option, Some, None, true, false, bytes_eq, codes, map, option_map, slice_get, length}
 use Rattle.std.proofs.lemmas.Option.{slice_get-map}
 use Rattle.ecma_runs.specs.declared.observation.Event.TheVariants as event
 use Rattle.ecma_runs.specs.Values.{Value, Undefined, Null, Truth, Number, Text, Own, Host, Error, length_of}
-use Rattle.ecma_runs.specs.State.{Property, Data, Fixed, Accessor, Open, Extent, Ordinary, Array, ArgumentList, Object, State}
-use Rattle.ecma_runs.specs.Run.{Run, ◌>>=◌, give}
+use Rattle.ecma_runs.specs.State.{Property, Data, Fixed, Accessor, Open, Extent, Ordinary, Array, ArgumentList, Object}
 use Rattle.ecma_runs.specs.Meaning.{AsCall}
 use Rattle.ecma_runs.specs.Objects.{object_at, Calling, Function, BoundFunction, has_elements, is_open_element, put_entry, without_entry}
 use Rattle.ecma_runs.specs.Members.{got, text_member, member, written, put_over, put_on, set_by, set_member, super_member, set_super_member, delete_own, delete_member, is_there, has_member, is_above, is_place, inherits, prototype_value, prototype_property, instance_by, instance_of_function, instance_of_calling, instance_of, type_by, type_of}
 use Rattle.ecma_runs.proofs.Names.{length-map}
-use Rattle.ecma_runs.proofs.Alike.{Change, changed, changed_object, Alike, bind_alike, give_alike, throw_alike, outside_alike, when_alike, given_alike}
+use Rattle.ecma_runs.proofs.Alike.{Change, changed_object, Alike, bind_alike, give_alike, throw_alike, outside_alike, when_alike, given_alike}
 use Rattle.ecma_runs.proofs.Environments.{show_alike, use_host_alike}
 use Rattle.ecma_runs.proofs.Objects.{object_at-changed, calling_at_alike, extent_at_alike, own_property_at_alike, found_from_alike, found_above_alike, change_entries_alike, changed_element_alike}
 use Rattle.ecma_runs.proofs.Meanings.{World, first, second}

@@ -1,11 +1,11 @@
 -- What reads and changes objects does alike.
-use Rattle.std.proofs.Common.{◌≡◌, ℕ, zero, suc, ◌++◌, ◌||◌, refl, ap, ap₂, List, [], ◌∷◌, map, Option, Some, None, Bool, true, false, option_map, is_some, slice_get, length}
+use Rattle.std.proofs.Common.{◌≡◌, ℕ, zero, suc, ◌++◌, ◌||◌, refl, ap, List, [], ◌∷◌, map, Option, Some, None, option_map, is_some, slice_get, length}
 use Rattle.std.proofs.lemmas.Option.{slice_get-map}
 use Rattle.ecma_runs.specs.declared.shown.ErrorKind.TheVariants as error
 use Rattle.ecma_runs.specs.Values.{Value, Error}
-use Rattle.ecma_runs.specs.State.{Closure, Callable, Code, Bound, Property, Data, Fixed, Accessor, Open, Entry, Extent, Ordinary, Array, ArgumentList, Object, State}
-use Rattle.ecma_runs.specs.Run.{Run, ◌>>=◌, give, when, changed_at}
-use Rattle.ecma_runs.specs.Objects.{new_object, object_at, callable_in, code_in, closure_at, Calling, calling_of, calling_at, prototype_in, prototype_at, extent_in, extent_at, Ancestry, with_object, is_index_below, or_else, own_property, own_in, own_property_at, missing, property_above, no_ancestry, found_from, above, found_above, with_entries, change_entries, put_entry, is_fixed, if_element, define, define_data, elements_by, elements_at, new_array, new_arguments, element_entries}
+use Rattle.ecma_runs.specs.State.{Closure, Callable, Code, Bound, Property, Data, Entry, Extent, Ordinary, Array, ArgumentList, Object, State}
+use Rattle.ecma_runs.specs.Run.{Run, changed_at}
+use Rattle.ecma_runs.specs.Objects.{new_object, object_at, callable_in, code_in, closure_at, calling_of, calling_at, prototype_in, prototype_at, extent_in, extent_at, Ancestry, with_object, is_index_below, or_else, own_property, own_in, own_property_at, property_above, no_ancestry, found_from, above, found_above, with_entries, change_entries, put_entry, is_fixed, if_element, define, define_data, elements_by, elements_at, new_array, new_arguments}
 use Rattle.ecma_runs.specs.Classes.{with_field_keys, keeping_keys, keep_field_keys}
 use Rattle.ecma_runs.proofs.Names.{map-changed_at, map-push, length-map}
 use Rattle.ecma_runs.proofs.Alike.{Change, changed, changed_callable, changed_object, FineCallable, AllFine, Alike, bind_alike, give_alike, throw_alike, outside_alike, when_alike}

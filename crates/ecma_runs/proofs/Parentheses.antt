@@ -1,11 +1,9 @@
 -- Parentheses that end no optional chain do not matter.
-use Rattle.std.proofs.Common.{◌≡◌, refl, sym, ap, ◌∙◌, List, [], ◌∷◌, map, Option, Some, Bool, true, false, cond}
+use Rattle.std.proofs.Common.{◌≡◌, refl, sym, ap, ◌∙◌, List, [], ◌∷◌, map, Bool, true, false, cond}
 use Rattle.ecma_kind.specs.declared.kind.Kind.{Kind}
 use Rattle.ecma_kind.specs.declared.kind.Kind.TheVariants as kind
 use Rattle.ecma_tree.specs.declared.node.Node.{Node, Node-F, fold-roll-Node, ind-Node, roll-Node}
-use Rattle.ecma_runs.specs.Run.{Run, ◌>>=◌, give}
-use Rattle.ecma_runs.specs.Environment.{Reference}
-use Rattle.ecma_runs.specs.Meaning.{Meaning, ExecutionContext}
+use Rattle.ecma_runs.specs.Meaning.{Meaning}
 use Rattle.ecma_runs.specs.Evaluation.{ending_chain, meaning_by, meaning}
 use Rattle.ecma_runs.specs.Wrappers.{is_chain_by, is_chain_step, is_chain, opened_by, opened, without_parentheses}
 use Rattle.ecma_runs.specs.Laws.{ParenthesesDoNotMatter}

@@ -1,8 +1,7 @@
 -- What a law has to show of a kind and of what the children mean, so that the kind's lines hold.
-use Rattle.std.proofs.Common.{◌≡◌, List, [], ◌∷◌, Bool, true, false, bytes_eq, codes}
+use Rattle.std.proofs.Common.{◌≡◌, List, [], ◌∷◌, true, false, bytes_eq, codes}
 use Rattle.ecma_kind.specs.declared.kind.Kind.{Kind}
 use Rattle.ecma_kind.specs.declared.kind.Kind.TheVariants as kind
-use Rattle.ecma_runs.specs.State.{Id, Binding}
 use Rattle.ecma_runs.specs.Environment.{have_one_of}
 use Rattle.ecma_runs.specs.Meaning.{Meaning}
 use Rattle.ecma_runs.specs.Patterns.{name_key}

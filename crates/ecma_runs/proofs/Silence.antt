@@ -1,10 +1,9 @@
 -- A module without members and calls has no events: no host value is used, and no function is called.
-use Rattle.std.proofs.Common.{◌≡◌, ℕ, ◌&&◌, inl, inr, refl, sym, ap, ◌∙◌, List, [], ◌∷◌, map, Bool, true, false}
+use Rattle.std.proofs.Common.{◌≡◌, ◌&&◌, inl, inr, refl, sym, ap, ◌∙◌, List, [], ◌∷◌, map, Bool, true, false}
 use Rattle.std.specs.List.{list_all}
 use Rattle.ecma_kind.specs.declared.kind.Kind.{Kind}
 use Rattle.ecma_kind.specs.declared.kind.Kind.TheVariants as kind
-use Rattle.ecma_tree.specs.declared.node.Node.{Node, Node-F, fold-roll-Node, roll-Node}
-use Rattle.ecma_runs.specs.declared.observation.Ending.{Ending}
+use Rattle.ecma_tree.specs.declared.node.Node.{Node, fold-roll-Node, roll-Node}
 use Rattle.ecma_runs.specs.declared.script.Script.{Script}
 use Rattle.ecma_runs.specs.State.{Id}
 use Rattle.ecma_runs.specs.Run.{Outcome, Done, Thrown, Returned, Broken, Continued, Ended}

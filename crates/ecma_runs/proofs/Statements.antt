@@ -1,14 +1,14 @@
 -- Statements do alike where their parts do.
-use Rattle.std.proofs.Common.{◌≡◌, ℕ, zero, suc, ◌+◌, ◌⊎◌, inl, inr, refl, sym, ap, subst, suc-add, List, [], ◌∷◌, map, Option, Some, None, Bool, true, false}
+use Rattle.std.proofs.Common.{◌≡◌, ℕ, zero, suc, ◌+◌, ◌⊎◌, inl, inr, sym, ap, subst, suc-add, List, [], ◌∷◌, map, None, true, false}
 use Rattle.ecma_kind.specs.declared.kind.Kind.{Kind}
 use Rattle.ecma_kind.specs.declared.kind.Kind.TheVariants as kind
 use Rattle.ecma_kind.specs.declared.operators.VarDeclKind.TheVariants.{Var, Let, Const}
 use Rattle.ecma_tree.specs.declared.node.Node.{Node}
 use Rattle.ecma_runs.specs.Values.{Value, Own, truth_of}
 use Rattle.ecma_runs.specs.State.{Plain}
-use Rattle.ecma_runs.specs.Run.{TurnsSpent, Ended, Run, ◌>>=◌, give, stop}
+use Rattle.ecma_runs.specs.Run.{TurnsSpent, Ended, Run, stop}
 use Rattle.ecma_runs.specs.Environment.{empty}
-use Rattle.ecma_runs.specs.Statements.{rounds, while, first_round, do_while, for_rounds, for_loop, block, all_completions, completion_of, effect_of, all_varied, varied_of, all_hoisted, hoisted_of, caught_of}
+use Rattle.ecma_runs.specs.Statements.{rounds, while, do_while, for_rounds, for_loop, block, all_completions, completion_of, effect_of, all_varied, varied_of, all_hoisted, hoisted_of, caught_of}
 use Rattle.ecma_runs.proofs.Alike.{Change, changed, Unless, Alike, bind_alike, give_alike, throw_alike, return_alike, break_alike, continue_alike, stop_alike, outside_alike, when_alike, catching_alike, finally_alike, round_alike, loop_alike, spend_alike}
 use Rattle.ecma_runs.proofs.Environments.{new_environment_alike, copy_environment_alike, initialize_alike}
 use Rattle.ecma_runs.proofs.Meanings.{World, first, second, within, Both, firsts, seconds, empties}

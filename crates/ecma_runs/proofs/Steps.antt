@@ -1,16 +1,16 @@
 -- A node means alike where its children do, and a list does as it does without items that do nothing.
-use Rattle.std.proofs.Common.{◌≡◌, ℕ, refl, List, [], ◌∷◌, Some}
+use Rattle.std.proofs.Common.{refl, List, [], ◌∷◌, Some}
 use Rattle.ecma_kind.specs.declared.kind.Kind.{Kind}
 use Rattle.ecma_kind.specs.declared.kind.Kind.TheVariants as kind
 use Rattle.ecma_tree.specs.declared.node.Node.{Node}
-use Rattle.ecma_runs.specs.Values.{Value, Undefined}
-use Rattle.ecma_runs.specs.Run.{Run, ◌>>=◌, give, outside}
+use Rattle.ecma_runs.specs.Values.{Value}
+use Rattle.ecma_runs.specs.Run.{◌>>=◌, give, outside}
 use Rattle.ecma_runs.specs.Environment.{Reference, ToValue}
 use Rattle.ecma_runs.specs.Meaning.{Meaning}
 use Rattle.ecma_runs.specs.Evaluation.{role_by, ending_chain, meaning_by}
-use Rattle.ecma_runs.proofs.Alike.{Change, Alike, bind_by, bind_alike, give_by, give_alike, return_alike, outside_alike}
+use Rattle.ecma_runs.proofs.Alike.{Change, bind_by, bind_alike, give_by, give_alike, return_alike, outside_alike}
 use Rattle.ecma_runs.proofs.Environments.{AlikeReference}
-use Rattle.ecma_runs.proofs.Meanings.{World, first, second, Same, Both, firsts, seconds}
+use Rattle.ecma_runs.proofs.Meanings.{World, Same, Both, firsts, seconds}
 use Rattle.ecma_runs.proofs.Premises.{renamed_kind, KeptLayer}
 use Rattle.ecma_runs.proofs.Lists.{Item, before, behind, all_arguments_alike, all_elements_alike, all_texts_alike, all_completions_alike, all_varied_alike, all_hoisted_alike, all_matched_alike, all_targets_alike, all_parameters_alike, all_fields_alike, all_statics_alike, all_defined_alike, all_code_alike, all_names_same, all_declared_same, all_parameter_names_same, all_lexicals_same, all_vars_same, all_imported_same, all_cooked_same, all_plain_same, all_types_same, any_constructor_same}
 use Rattle.ecma_runs.proofs.Expressions.{link_alike, value_alike, reference_alike, chain_alike, test_alike, initial_alike, arguments_alike, elements_alike, texts_alike, key_alike}

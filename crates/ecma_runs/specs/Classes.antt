@@ -1,14 +1,14 @@
 -- What properties of objects, classes and their members do, and the code of functions (ECMAScript, 13.2.5, 15.2 to 15.7).
-use Rattle.std.specs.Prelude.{ℕ, List, [], ◌∷◌, ◌++◌, map, Option, Some, None, Bool, true, false, not, cond, ◌||◌, ◌&&◌, bytes_eq, codes}
+use Rattle.std.specs.Prelude.{ℕ, List, [], ◌∷◌, ◌++◌, map, Option, Some, None, Bool, true, false, not, cond, ◌||◌, bytes_eq, codes}
 use Rattle.ecma_kind.specs.declared.kind.Kind.{Kind}
 use Rattle.ecma_kind.specs.declared.kind.Kind.TheVariants as kind
 use Rattle.ecma_kind.specs.declared.operators.MethodKind.{MethodKind}
 use Rattle.ecma_kind.specs.declared.operators.MethodKind.TheVariants as method
 use Rattle.ecma_tree.specs.declared.node.Node.{Node}
 use Rattle.ecma_runs.specs.Values.{Value, Undefined, Null, Own, Host, Error}
-use Rattle.ecma_runs.specs.State.{Id, Forbidden, Activation, Closure, Callable, Code, Bound, Object, Sort, Plain, Method, BaseClass, DerivedClass}
+use Rattle.ecma_runs.specs.State.{Id, Forbidden, Activation, Callable, Code, Object, Sort, Plain, Method, BaseClass, DerivedClass}
 use Rattle.ecma_runs.specs.Run.{Done, Run, ◌>>=◌, give, return, outside, type_error, when, changed_at}
-use Rattle.ecma_runs.specs.Environment.{new_environment, resolved, set_all, empty, except, have_one_of}
+use Rattle.ecma_runs.specs.Environment.{new_environment, set_all, empty, except, have_one_of}
 use Rattle.ecma_runs.specs.Meaning.{inside, Evaluation, Meaning}
 use Rattle.ecma_runs.specs.Objects.{Calling, Function, BoundFunction, calling_at, define, define_data, with_getter, with_setter}
 use Rattle.ecma_runs.specs.Members.{prototype_property}

@@ -4,7 +4,7 @@ use Rattle.std.specs.List.{filter, list_any}
 use Rattle.ecma_runs.specs.declared.script.ImportValue.{ImportValue}
 use Rattle.ecma_runs.specs.Values.{Value, Undefined}
 use Rattle.ecma_runs.specs.State.{Id, same_id, Content, Empty, Holds, Imported, Binding, Arguments, Activation, Environment, State}
-use Rattle.ecma_runs.specs.Run.{Outcome, Done, Run, ◌>>=◌, give, outside, reference_error, type_error, when, given_or, changed_at}
+use Rattle.ecma_runs.specs.Run.{Done, Run, ◌>>=◌, give, outside, reference_error, type_error, when, given_or, changed_at}
 use Rattle.ecma_runs.specs.Host.{import_value, taken_if}
 
 -- records

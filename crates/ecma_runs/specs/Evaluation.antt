@@ -9,7 +9,7 @@ use Rattle.ecma_runs.specs.State.{Id, Given, Activation, Sort, Plain, Method, Ar
 use Rattle.ecma_runs.specs.Run.{Ended, TurnsSpent, Run, ◌>>=◌, give, outside, reference_error, type_error, given_or, returned_by, spend}
 use Rattle.ecma_runs.specs.Host.{Provided}
 use Rattle.ecma_runs.specs.Environment.{empty, new_environment, activation_at}
-use Rattle.ecma_runs.specs.Meaning.{Evaluation, Invocation, AsCall, AsConstruct, Functions, ExecutionContext, inside, Meaning}
+use Rattle.ecma_runs.specs.Meaning.{Invocation, AsCall, AsConstruct, Functions, ExecutionContext, inside, Meaning}
 use Rattle.ecma_runs.specs.Objects.{new_object, closure_at}
 use Rattle.ecma_runs.specs.Functions.{prototype_for}
 use Rattle.ecma_runs.specs.Expressions.{value_of, reference_of, initial_of, arguments_of, elements_of, texts_of, key_of, chain_of, link_of, test_of}

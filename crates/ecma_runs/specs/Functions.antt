@@ -1,15 +1,15 @@
 -- References, calls, constructions and function objects (ECMAScript, 6.2.5, 10.2 ECMAScript Function Objects, 13.3).
-use Rattle.std.specs.Prelude.{ℕ, List, [], ◌∷◌, ◌++◌, Option, Some, None, Bool, true, false, cond, nat_eq, bytes_eq, codes}
+use Rattle.std.specs.Prelude.{ℕ, List, [], ◌∷◌, ◌++◌, Option, Some, None, Bool, true, cond, nat_eq, bytes_eq, codes}
 use Rattle.ecma_tree.specs.declared.node.Node.{Node}
 use Rattle.ecma_runs.specs.declared.observation.Event.TheVariants as event
 use Rattle.ecma_runs.specs.Values.{Value, Undefined, Null, Truth, Own, Host, Error}
-use Rattle.ecma_runs.specs.State.{Arguments, Unbound, Forbidden, Given, Made, Activation, Sort, Plain, Method, Arrow, BaseClass, DerivedClass, Callable, Code, Bound, Property, Data, Fixed, Open, Entry, Ordinary, Object}
+use Rattle.ecma_runs.specs.State.{Arguments, Unbound, Forbidden, Given, Made, Activation, Sort, Plain, Method, Arrow, BaseClass, DerivedClass, Callable, Code, Bound, Property, Fixed, Open, Entry, Ordinary, Object}
 use Rattle.ecma_runs.specs.Run.{Run, ◌>>=◌, give, outside, type_error, when, given, each}
 use Rattle.ecma_runs.specs.Host.{show, use_host, read_free, read_free_typed, is_open_object, is_open_callee}
 use Rattle.ecma_runs.specs.Environment.{Reference, ToVariable, ToFree, ToMember, ToSuper, ToImportMeta, ToValue, read_variable, write_variable, activation, set_activation, with_arguments, bind_this}
 use Rattle.ecma_runs.specs.Meaning.{AsCall, AsConstruct, ExecutionContext}
 use Rattle.ecma_runs.specs.Objects.{Calling, Function, BoundFunction, new_object, calling_at, prototype_at, found_from, elements_at, new_arguments}
-use Rattle.ecma_runs.specs.Members.{got, member, set_member, super_member, set_super_member, delete_member, type_of, prototype_property}
+use Rattle.ecma_runs.specs.Members.{got, member, set_member, super_member, set_super_member, delete_member, prototype_property}
 
 -- the free name `arguments`: an object with the arguments of the call of the nearest function that is no arrow, made at the first read
 
