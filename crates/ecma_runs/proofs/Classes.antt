@@ -165,14 +165,11 @@ module _ (c : Change) where
     defined_alike n fine kind.SetterProp (key ∷ this_parameter ∷ parameter ∷ body ∷ []) kept texts class object =
         bind_alike c (key.2.key w) (λ k. bind_alike c (literal_key_alike k) (λ k. bind_alike c (make_function_alike c w n Method (Some object) fine) (λ f. bind_alike c (define_method_alike method.Setter object k f) (λ _. give_alike c []))))
     defined_alike n fine (kind.ClassMethod sort modifiers) (key ∷ function ∷ []) kept texts class object =
-        rw (function.2.has_body) (when_alike c function.0.has_body
-        (bind_alike c (key.2.key w) (λ k. bind_alike c (function.2.made Method (Some (cond modifiers.is_static class object)) w) (λ f.
-        bind_alike c (define_method_alike sort (cond modifiers.is_static class object) k f) (λ _. give_alike c [])))) (give_alike c []))
+        bind_alike c (key.2.key w) (λ k. bind_alike c (function.2.made Method (Some (cond modifiers.is_static class object)) w) (λ f.
+        bind_alike c (define_method_alike sort (cond modifiers.is_static class object) k f) (λ _. give_alike c [])))
     defined_alike n fine (kind.ClassProp modifiers readonly declare definite) (key ∷ value ∷ type ∷ []) kept texts class object =
-        when_alike c (declare || modifiers.is_abstract) (give_alike c []) (bind_alike c (key.2.key w) (λ k. give_alike c (k ∷ [])))
+        bind_alike c (key.2.key w) (λ k. give_alike c (k ∷ []))
     defined_alike n fine (kind.Constructor accessibility is_optional) ps kept texts class object = give_alike c []
-    defined_alike n fine (kind.TsIndexSignature readonly is_static) ps kept texts class object = give_alike c []
-    defined_alike n fine kind.EmptyStmt ps kept texts class object = give_alike c []
     defined_alike n fine (kind.TsTypeAliasDecl declare) ps kept texts class object = give_alike c []
     defined_alike n fine _ ps kept texts class object = outside_alike c
 
@@ -187,21 +184,17 @@ module _ (c : Change) where
     fields_alike (kind.Class is_abstract) (super ∷ body ∷ types ∷ super_types ∷ implements ∷ []) keys object = body.2.fields keys object w
     fields_alike kind.List ps keys object = all_stay c (λ ms ms'. Alike c (all_fields ms keys object (first c w)) (all_fields ms' keys object (second c w))) (λ items. all_fields_alike c w items keys object) ps
     fields_alike (kind.ClassProp modifiers readonly declare definite) (key ∷ value ∷ type ∷ []) keys object =
-        when_alike c (declare || modifiers.is_abstract) (give_alike c keys) (field_with_alike (not modifiers.is_static) value keys object)
+        field_with_alike (not modifiers.is_static) value keys object
     fields_alike (kind.Constructor accessibility is_optional) ps keys object = give_alike c keys
     fields_alike (kind.ClassMethod sort modifiers) ps keys object = give_alike c keys
-    fields_alike (kind.TsIndexSignature readonly is_static) ps keys object = give_alike c keys
-    fields_alike kind.EmptyStmt ps keys object = give_alike c keys
     fields_alike (kind.TsTypeAliasDecl declare) ps keys object = give_alike c keys
     fields_alike _ ps keys object = outside_alike c
 
     pub statics_alike : (k : Kind) (ps : List (Both c)) (keys : List (List ℕ)) (class : Value) → Alike c (statics_of k (firsts c ps) keys class (first c w)) (statics_of (renamed_kind c k) (seconds c ps) keys class (second c w))
     statics_alike kind.List ps keys class = all_stay c (λ ms ms'. Alike c (all_statics ms keys class (first c w)) (all_statics ms' keys class (second c w))) (λ items. all_statics_alike c w items keys class) ps
     statics_alike (kind.ClassProp modifiers readonly declare definite) (key ∷ value ∷ type ∷ []) keys class =
-        when_alike c (declare || modifiers.is_abstract) (give_alike c keys) (field_with_alike modifiers.is_static value keys class)
+        field_with_alike modifiers.is_static value keys class
     statics_alike (kind.Constructor accessibility is_optional) ps keys class = give_alike c keys
     statics_alike (kind.ClassMethod sort modifiers) ps keys class = give_alike c keys
-    statics_alike (kind.TsIndexSignature readonly is_static) ps keys class = give_alike c keys
-    statics_alike kind.EmptyStmt ps keys class = give_alike c keys
     statics_alike (kind.TsTypeAliasDecl declare) ps keys class = give_alike c keys
     statics_alike _ ps keys class = outside_alike c

@@ -5,7 +5,7 @@ use Rattle.ecma_kind.specs.declared.kind.Kind.TheVariants as kind
 use Rattle.ecma_kind.specs.declared.operators.VarDeclKind.TheVariants.{Var, Let, Const}
 use Rattle.ecma_runs.specs.State.{Id, Binding}
 use Rattle.ecma_runs.specs.Environment.{empty, undefined, import_of, import_of_itself}
-use Rattle.ecma_runs.specs.Declarations.{all_names, names_of, all_imported, imported_as, imported_of, imported_from, text_of, all_lexicals, lexicals_of, all_vars, vars_of, locals_of, all_parameter_names, parameter_names_of, all_declared, declared_of, shorthands_of, all_cooked, cooked_of, all_plain, is_plain_of, is_super_of, is_absent_of, is_this_of, all_types, is_type_of, has_body_of, any_constructor, is_constructor_of}
+use Rattle.ecma_runs.specs.Declarations.{all_names, names_of, all_imported, imported_as, imported_of, imported_from, text_of, all_lexicals, lexicals_of, all_vars, vars_of, locals_of, all_parameter_names, parameter_names_of, all_declared, declared_of, shorthands_of, all_cooked, cooked_of, all_plain, is_plain_of, is_super_of, is_absent_of, is_this_of, all_types, is_type_of, has_body_of, any_constructor, is_constructor_of, has_no_effect}
 use Rattle.ecma_runs.proofs.Names.{keep, changed_ids, changed_binding, changed_bindings, changed_ids-append}
 use Rattle.ecma_runs.proofs.Alike.{Change}
 use Rattle.ecma_runs.proofs.Environments.{KeepTexts}
@@ -16,14 +16,6 @@ use Rattle.ecma_runs.proofs.Classes.{joined}
 
 module _ (c : Change) where
   -- a list that may be left out
-  left_ids : (b b' : Bool) (xs : List Id) {xs' : List Id} → b' ≡ b → xs' ≡ changed_ids c.names xs → cond b' [] xs' ≡ changed_ids c.names (cond b [] xs)
-  left_ids true b' xs e h = rw e refl
-  left_ids false b' xs e h = rw e h
-
-  given_ids : (b b' : Bool) (xs : List Id) {xs' : List Id} → b' ≡ b → xs' ≡ changed_ids c.names xs → cond b' xs' [] ≡ changed_ids c.names (cond b xs [])
-  given_ids true b' xs e h = rw e h
-  given_ids false b' xs e h = rw e refl
-
   given_bindings : (b b' : Bool) (xs ys : List Binding) {xs' ys' : List Binding} → b' ≡ b → xs' ≡ changed_bindings c.names xs → ys' ≡ changed_bindings c.names ys → cond b' xs' ys' ≡ changed_bindings c.names (cond b xs ys)
   given_bindings true b' xs ys e h k = rw e h
   given_bindings false b' xs ys e h k = rw e k
@@ -38,7 +30,7 @@ module _ (c : Change) where
   names_same kind.RestPat (pattern' ∷ type ∷ []) kept = pattern'.2.names
   names_same kind.KeyValuePatProp (key ∷ pattern' ∷ []) kept = pattern'.2.names
   names_same kind.AssignPatProp (name ∷ default ∷ []) kept = name.2.names
-  names_same kind.Param (pattern' ∷ []) kept = left_ids pattern'.0.is_this pattern'.1.is_this _ pattern'.2.is_this pattern'.2.names
+  names_same kind.Param (pattern' ∷ []) kept = pattern'.2.names
   names_same (kind.TsParamProp accessibility is_override readonly) (pattern' ∷ []) kept = pattern'.2.names
   names_same kind.List ps kept = all_stay c (λ ms ms'. all_names ms' ≡ changed_ids c.names (all_names ms)) (all_names_same c) ps
   names_same _ ps kept = refl
@@ -85,7 +77,7 @@ module _ (c : Change) where
   lexicals_same (kind.VarDecl Let false) (declarators ∷ []) kept = ap (map (empty false)) declarators.2.names ∙ empties c false declarators.0.names
   lexicals_same (kind.VarDecl Const false) (declarators ∷ []) kept = ap (map (empty true)) declarators.2.names ∙ empties c true declarators.0.names
   lexicals_same (kind.ImportDecl false) (specifiers ∷ source ∷ attributes ∷ []) kept = imported_from_same source.0.text source.1.text (source.2.text kept) specifiers
-  lexicals_same (kind.FnDecl false) (name ∷ function ∷ []) kept = given_bindings function.0.has_body function.1.has_body _ _ function.2.has_body (ap (map (empty false)) name.2.names ∙ empties c false name.0.names) refl
+  lexicals_same (kind.FnDecl false) (name ∷ function ∷ []) kept = ap (map (empty false)) name.2.names ∙ empties c false name.0.names
   lexicals_same (kind.ClassDecl false) (name ∷ class ∷ []) kept = ap (map (empty false)) name.2.names ∙ empties c false name.0.names
   lexicals_same _ ps kept = refl
 
@@ -118,7 +110,7 @@ module _ (c : Change) where
   parameter_names_same (kind.Function false false) (parameters ∷ body ∷ types ∷ return_type ∷ []) = parameters.2.names
   parameter_names_same (kind.ArrowExpr false false) (parameters ∷ body ∷ types ∷ return_type ∷ []) = parameters.2.names
   parameter_names_same kind.SetterProp (key ∷ this_parameter ∷ parameter ∷ body ∷ []) = parameter.2.names
-  parameter_names_same (kind.Constructor accessibility is_optional) (key ∷ parameters ∷ body ∷ []) = left_ids body.0.is_absent body.1.is_absent _ body.2.is_absent parameters.2.names
+  parameter_names_same (kind.Constructor accessibility is_optional) (key ∷ parameters ∷ body ∷ []) = parameters.2.names
   parameter_names_same (kind.Class is_abstract) (super ∷ body ∷ types ∷ super_types ∷ implements ∷ []) = body.2.parameter_names
   parameter_names_same kind.List ps = all_stay c (λ ms ms'. all_parameter_names ms' ≡ changed_ids c.names (all_parameter_names ms)) (all_parameter_names_same c) ps
   parameter_names_same _ ps = refl
@@ -132,29 +124,21 @@ module _ (c : Change) where
   three_ids a b d p q r = joined_ids a (b ++ d) p (joined_ids b d q r)
 
   pub declared_same : (k : Kind) (ps : List (Both c)) → declared_of (renamed_kind c k) (seconds c ps) ≡ changed_ids c.names (declared_of k (firsts c ps))
-  declared_same (kind.VarDecl word true) ps = refl
   declared_same (kind.VarDeclarator definite) (name ∷ init ∷ []) = three_ids _ _ _ name.2.names name.2.declared init.2.declared
-  declared_same kind.Param (pattern' ∷ []) = left_ids pattern'.0.is_this pattern'.1.is_this _ pattern'.2.is_this (joined_ids _ _ pattern'.2.names pattern'.2.declared)
+  declared_same kind.Param (pattern' ∷ []) = joined_ids _ _ pattern'.2.names pattern'.2.declared
   declared_same (kind.TsParamProp accessibility is_override readonly) (pattern' ∷ []) = joined_ids _ _ pattern'.2.names pattern'.2.declared
   declared_same (kind.ArrowExpr is_async is_generator) (parameters ∷ body ∷ types ∷ return_type ∷ []) = three_ids _ _ _ parameters.2.names parameters.2.declared body.2.declared
   declared_same kind.SetterProp (key ∷ this_parameter ∷ parameter ∷ body ∷ []) = joined_ids _ _ key.2.declared (three_ids _ _ _ parameter.2.names parameter.2.declared body.2.declared)
   declared_same kind.CatchClause (parameter ∷ body ∷ []) = three_ids _ _ _ parameter.2.names parameter.2.declared body.2.declared
-  declared_same (kind.FnDecl true) ps = refl
-  declared_same (kind.FnDecl false) (name ∷ function ∷ []) = given_ids function.0.has_body function.1.has_body _ function.2.has_body (joined_ids _ _ name.2.names function.2.declared)
+  declared_same (kind.FnDecl false) (name ∷ function ∷ []) = joined_ids _ _ name.2.names function.2.declared
   declared_same kind.FnExpr (name ∷ function ∷ []) = joined_ids _ _ name.2.names function.2.declared
-  declared_same (kind.ClassDecl true) ps = refl
   declared_same (kind.ClassDecl false) (name ∷ class ∷ []) = joined_ids _ _ name.2.names class.2.declared
   declared_same kind.ClassExpr (name ∷ class ∷ []) = joined_ids _ _ name.2.names class.2.declared
-  declared_same (kind.TsEnumDecl true is_const) ps = refl
   declared_same (kind.TsEnumDecl false is_const) (name ∷ members ∷ []) = joined_ids _ _ name.2.names members.2.declared
-  declared_same (kind.TsModuleDecl true global) ps = refl
-  declared_same (kind.TsModuleDecl false global) (name ∷ body ∷ []) = left_ids body.0.is_type body.1.is_type _ body.2.is_type (joined_ids _ _ name.2.names body.2.declared)
-  declared_same (kind.ImportDecl true) ps = refl
+  declared_same (kind.TsModuleDecl false global) (name ∷ body ∷ []) = joined_ids _ _ name.2.names body.2.declared
   declared_same kind.ImportDefaultSpecifier (local ∷ []) = local.2.names
   declared_same kind.ImportStarAsSpecifier (local ∷ []) = local.2.names
-  declared_same (kind.ImportNamedSpecifier true) ps = refl
   declared_same (kind.ImportNamedSpecifier false) (local ∷ name ∷ []) = local.2.names
-  declared_same (kind.TsImportEqualsDecl is_export true) ps = refl
   declared_same (kind.TsImportEqualsDecl is_export false) (name ∷ source ∷ []) = name.2.names
   declared_same (kind.TsTypeAliasDecl declare) ps = refl
   declared_same kind.Absent ps = refl
@@ -211,6 +195,25 @@ module _ (c : Change) where
   is_type_same _ ps = refl
 
   pub is_constructor_same : (k : Kind) (ps : List (Both c)) → is_constructor_of (renamed_kind c k) (seconds c ps) ≡ is_constructor_of k (firsts c ps)
-  is_constructor_same (kind.Constructor accessibility is_optional) (key ∷ parameters ∷ body ∷ []) = ap not body.2.is_absent
+  is_constructor_same (kind.Constructor accessibility is_optional) ps = refl
   is_constructor_same kind.List ps = all_stay c (λ ms ms'. any_constructor ms' ≡ any_constructor ms) (any_constructor_same c) ps
   is_constructor_same _ ps = refl
+
+  pub has_no_effect_same : (k : Kind) (ps : List (Both c)) → has_no_effect (renamed_kind c k) (seconds c ps) ≡ has_no_effect k (firsts c ps)
+  has_no_effect_same kind.List ps = refl
+  has_no_effect_same kind.TsModuleBlock ps = refl
+  has_no_effect_same (kind.TsNamespaceDecl declare global) ps = refl
+  has_no_effect_same (kind.VarDecl word true) ps = refl
+  has_no_effect_same (kind.FnDecl true) ps = refl
+  has_no_effect_same (kind.ClassDecl true) ps = refl
+  has_no_effect_same (kind.TsEnumDecl true is_const) ps = refl
+  has_no_effect_same (kind.TsModuleDecl true global) ps = refl
+  has_no_effect_same (kind.ImportNamedSpecifier true) ps = refl
+  has_no_effect_same (kind.ExportNamedSpecifier true) ps = refl
+  has_no_effect_same (kind.TsIndexSignature readonly is_static) ps = refl
+  has_no_effect_same (kind.ClassProp modifiers readonly declare definite) ps = refl
+  has_no_effect_same (kind.ClassMethod sort modifiers) (key ∷ function ∷ []) = ap not function.2.has_body
+  has_no_effect_same (kind.PrivateMethod sort modifiers) (key ∷ function ∷ []) = ap not function.2.has_body
+  has_no_effect_same (kind.Constructor accessibility is_optional) (key ∷ parameters ∷ body ∷ []) = body.2.is_absent
+  has_no_effect_same kind.Param (pattern' ∷ []) = pattern'.2.is_this
+  has_no_effect_same k ps = is_type_same k ps

@@ -4,7 +4,8 @@ use Rattle.ecma_kind.specs.declared.kind.Kind.{Kind}
 use Rattle.ecma_kind.specs.declared.kind.Kind.TheVariants as kind
 use Rattle.ecma_tree.specs.declared.node.Node.{Node, Node-F, fold-roll-Node, ind-Node, roll-Node}
 use Rattle.ecma_runs.specs.Meaning.{Meaning}
-use Rattle.ecma_runs.specs.Evaluation.{ending_chain, meaning_by, meaning}
+use Rattle.ecma_runs.specs.Declarations.{has_no_effect}
+use Rattle.ecma_runs.specs.Evaluation.{role_by, ending_chain, no_effect, meaning_by, meaning}
 use Rattle.ecma_runs.specs.Wrappers.{is_chain_by, is_chain_step, is_chain, opened_by, opened, without_parentheses}
 use Rattle.ecma_runs.specs.Laws.{ParenthesesDoNotMatter}
 use Rattle.ecma_runs.proofs.Layer.{meaning-roll}
@@ -18,6 +19,10 @@ Ends m = m ≡ ending_chain m
 abbrev EndsUnless : Node → Type 0
 EndsUnless n = is_chain n ≡ false → Ends (meaning n)
 
+ends_either : (b : Bool) (m m' : Meaning) → Ends m → Ends m' → Ends (cond b m m')
+ends_either true m m' hm hk = hm
+ends_either false m m' hm hk = hk
+
 ends_layer : (n : Node) (k : Kind) (ns : List ((n : Node) × EndsUnless n)) → is_chain_by k (map is_chain (map (λ e. e.0) ns)) ≡ false → Ends (meaning_by n k (map meaning (map (λ e. e.0) ns)))
 ends_layer n (kind.OptChainExpr optional) ns h = absurd (cc)
 ends_layer n kind.ParenExpr (e ∷ []) h = refl
@@ -27,7 +32,8 @@ ends_layer n kind.TsConstAssertion (e ∷ []) h = e.1 h
 ends_layer n kind.TsNonNullExpr (e ∷ []) h = e.1 h
 ends_layer n kind.TsInstantiation (e ∷ types ∷ []) h = e.1 h
 ends_layer n kind.TsSatisfiesExpr (e ∷ type ∷ []) h = e.1 h
-ends_layer n _ ns h = refl
+ends_layer n kind.TsTypeAnn ns h = refl
+ends_layer n k ns h = ends_either (has_no_effect k (map meaning (map (λ e. e.0) ns))) (no_effect n) (role_by n k (map meaning (map (λ e. e.0) ns))) refl refl
 
 ends_unless : (n : Node) → EndsUnless n
 ends_unless = ind-Node EndsUnless (λ x y is h.

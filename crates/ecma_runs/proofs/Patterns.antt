@@ -74,7 +74,6 @@ module _ (c : Change) (w : World c) where
   pub parameters_alike : (k : Kind) (ps : List (Both c)) (arguments : List Value) → Alike c (parameters_of k (firsts c ps) arguments (first c w)) (parameters_of (renamed_kind c k) (seconds c ps) arguments (second c w))
   parameters_alike kind.List ps arguments =
       all_stay c (λ ms ms'. Alike c (all_parameters ms arguments (first c w)) (all_parameters ms' arguments (second c w))) (λ items. all_parameters_alike c w items arguments) ps
-  parameters_alike kind.Param (pattern' ∷ []) arguments =
-      rw (pattern'.2.is_this) (when_alike c pattern'.0.is_this (give_alike c arguments) (bind_alike c (pattern'.2.bound (first_or_undefined arguments) w) (λ _. give_alike c (all_but_first arguments))))
+  parameters_alike kind.Param (pattern' ∷ []) arguments = bind_alike c (pattern'.2.bound (first_or_undefined arguments) w) (λ _. give_alike c (all_but_first arguments))
   parameters_alike (kind.TsTypeAliasDecl declare) ps arguments = give_alike c arguments
   parameters_alike k ps arguments = positional_alike k ps arguments

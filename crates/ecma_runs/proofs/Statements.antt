@@ -75,15 +75,12 @@ module _ (c : Change) where
     completion_alike kind.Absent ps = give_alike c tt
     completion_alike kind.List ps = all_stay c (λ ms ms'. Alike c (all_completions ms (first c w)) (all_completions ms' (second c w))) (all_completions_alike c w) ps
     completion_alike (kind.Module shebang) (body ∷ []) = body.2.completion w
-    completion_alike kind.EmptyStmt ps = give_alike c tt
     completion_alike kind.ExprStmt (e ∷ []) = bind_alike c (e.2.value w) (λ _. give_alike c tt)
-    completion_alike (kind.VarDecl word true) ps = give_alike c tt
     completion_alike (kind.VarDecl Var false) (declarators ∷ []) = declarators.2.varied w
     completion_alike (kind.VarDecl Let false) (declarators ∷ []) = declarators.2.completion w
     completion_alike (kind.VarDecl Const false) (declarators ∷ []) = declarators.2.completion w
     completion_alike (kind.VarDeclarator definite) (name ∷ init ∷ []) = bind_alike c (init.2.initial w) (λ v. name.2.bound v w)
-    completion_alike (kind.FnDecl declare) ps = give_alike c tt
-    completion_alike (kind.ClassDecl true) ps = give_alike c tt
+    completion_alike (kind.FnDecl false) ps = give_alike c tt
     completion_alike (kind.ClassDecl false) (name ∷ class ∷ []) = rw (name.2.names) (bind_alike c (class.2.class_made name.0.names w) (λ v. initialize_alike c w.scope name.0.names v))
     completion_alike kind.BlockStmt (statements ∷ []) = block_alike statements
     completion_alike kind.IfStmt (test ∷ yes' ∷ no' ∷ []) = bind_alike c (test.2.value w) (λ v. when_alike c (truth_of v) (yes'.2.completion w) (no'.2.completion w))
@@ -97,18 +94,8 @@ module _ (c : Change) where
     completion_alike kind.BreakStmt (label ∷ []) = rw (label.2.is_absent) (when_alike c label.0.is_absent (break_alike c) (outside_alike c))
     completion_alike kind.ContinueStmt (label ∷ []) = rw (label.2.is_absent) (when_alike c label.0.is_absent (continue_alike c) (outside_alike c))
     completion_alike kind.TryStmt (body ∷ handler ∷ last ∷ []) = finally_alike c (catching_alike c (body.2.completion w) (λ v. handler.2.caught v w)) (last.2.completion w)
-    completion_alike (kind.ImportDecl type_only) ps = give_alike c tt
-    completion_alike (kind.TsImportEqualsDecl is_export true) ps = give_alike c tt
-    completion_alike (kind.NamedExport true) ps = give_alike c tt
-    completion_alike (kind.ExportAll true) ps = give_alike c tt
-    completion_alike kind.TsNamespaceExportDecl ps = give_alike c tt
-    completion_alike (kind.TsInterfaceDecl declare) ps = give_alike c tt
+    completion_alike (kind.ImportDecl false) ps = give_alike c tt
     completion_alike (kind.TsTypeAliasDecl declare) ps = give_alike c tt
-    completion_alike (kind.TsEnumDecl true is_const) ps = give_alike c tt
-    completion_alike (kind.TsModuleDecl true global) ps = give_alike c tt
-    completion_alike (kind.TsModuleDecl false global) (name ∷ body ∷ []) = rw (body.2.is_type) (when_alike c body.0.is_type (give_alike c tt) (outside_alike c))
-    completion_alike kind.ExportDecl (declaration ∷ []) = rw (declaration.2.is_type) (when_alike c declaration.0.is_type (give_alike c tt) (outside_alike c))
-    completion_alike kind.ExportDefaultDecl (declaration ∷ []) = rw (declaration.2.is_type) (when_alike c declaration.0.is_type (give_alike c tt) (outside_alike c))
     completion_alike _ ps = outside_alike c
 
     pub varied_alike : (k : Kind) (ps : List (Both c)) → Alike c (varied_of k (firsts c ps) (first c w)) (varied_of (renamed_kind c k) (seconds c ps) (second c w))
@@ -122,9 +109,7 @@ module _ (c : Change) where
     pub hoisted_alike : (k : Kind) (ps : List (Both c)) → Alike c (hoisted_of k (firsts c ps) (first c w)) (hoisted_of (renamed_kind c k) (seconds c ps) (second c w))
     hoisted_alike kind.List ps = all_stay c (λ ms ms'. Alike c (all_hoisted ms (first c w)) (all_hoisted ms' (second c w))) (all_hoisted_alike c w) ps
     hoisted_alike (kind.Module shebang) (body ∷ []) = body.2.hoisted w
-    hoisted_alike (kind.FnDecl false) (name ∷ function ∷ []) =
-        rw (name.2.names, function.2.has_body)
-        (when_alike c function.0.has_body (bind_alike c (function.2.made Plain None w) (λ f. initialize_alike c w.scope name.0.names (Own f))) (give_alike c tt))
+    hoisted_alike (kind.FnDecl false) (name ∷ function ∷ []) = rw (name.2.names) (bind_alike c (function.2.made Plain None w) (λ f. initialize_alike c w.scope name.0.names (Own f)))
     hoisted_alike _ ps = give_alike c tt
 
     pub caught_alike : (k : Kind) (ps : List (Both c)) (v : Value) → Alike c (caught_of k (firsts c ps) v (first c w)) (caught_of (renamed_kind c k) (seconds c ps) v (second c w))

@@ -1,5 +1,5 @@
 -- A node means alike where its children do, and a list does as it does without items that do nothing.
-use Rattle.std.proofs.Common.{refl, List, [], ◌∷◌, Some}
+use Rattle.std.proofs.Common.{◌≡◌, refl, List, [], ◌∷◌, Some, Bool, true, false, cond}
 use Rattle.ecma_kind.specs.declared.kind.Kind.{Kind}
 use Rattle.ecma_kind.specs.declared.kind.Kind.TheVariants as kind
 use Rattle.ecma_tree.specs.declared.node.Node.{Node}
@@ -7,7 +7,8 @@ use Rattle.ecma_runs.specs.Values.{Value}
 use Rattle.ecma_runs.specs.Run.{◌>>=◌, give, outside}
 use Rattle.ecma_runs.specs.Environment.{Reference, ToValue}
 use Rattle.ecma_runs.specs.Meaning.{Meaning}
-use Rattle.ecma_runs.specs.Evaluation.{role_by, ending_chain, meaning_by}
+use Rattle.ecma_runs.specs.Declarations.{has_no_effect}
+use Rattle.ecma_runs.specs.Evaluation.{role_by, ending_chain, no_effect, meaning_by}
 use Rattle.ecma_runs.proofs.Alike.{Change, bind_by, bind_alike, give_by, give_alike, return_alike, outside_alike}
 use Rattle.ecma_runs.proofs.Environments.{AlikeReference}
 use Rattle.ecma_runs.proofs.Meanings.{World, Same, Both, firsts, seconds}
@@ -17,7 +18,7 @@ use Rattle.ecma_runs.proofs.Expressions.{link_alike, value_alike, reference_alik
 use Rattle.ecma_runs.proofs.Patterns.{assigned_alike, targets_alike, matched_alike, bound_alike, parameters_alike}
 use Rattle.ecma_runs.proofs.Classes.{made_alike, body_alike, code_alike, class_made_alike, defined_alike, fields_alike, statics_alike}
 use Rattle.ecma_runs.proofs.Statements.{completion_alike, varied_alike, hoisted_alike, caught_alike, effect_alike}
-use Rattle.ecma_runs.proofs.Declarations.{names_same, imported_same, text_same, lexicals_same, vars_same, locals_same, parameter_names_same, declared_same, cooked_same, is_plain_same, is_super_same, is_absent_same, is_this_same, is_type_same, has_body_same, is_constructor_same}
+use Rattle.ecma_runs.proofs.Declarations.{names_same, imported_same, text_same, lexicals_same, vars_same, locals_same, parameter_names_same, declared_same, cooked_same, is_plain_same, is_super_same, is_absent_same, is_this_same, is_type_same, has_body_same, is_constructor_same, has_no_effect_same}
 
 module _ (c : Change) where
   role_same : (n : Node) → c.fine n → (k : Kind) (ps : List (Both c)) → KeptLayer c k (firsts c ps) → Same c (role_by n k (firsts c ps)) (role_by (c.node n) (renamed_kind c k) (seconds c ps))
@@ -114,6 +115,17 @@ module _ (c : Change) where
     chain = λ w. bind_by c (λ r. give (Some r)) (same.reference w) (λ r p. give_by c (Some r) p);
   }
 
+  no_effect_same : (n : Node) → c.fine n → Same c (no_effect n) (no_effect (c.node n))
+  no_effect_same n fine = role_same n fine (kind.TsTypeAliasDecl false) [] tt
+
+  either_same : (b b' : Bool) → b' ≡ b → {m m' k k' : Meaning} → Same c m m' → Same c k k' → Same c (cond b m k) (cond b' m' k')
+  either_same true b' e hm hk = rw e hm
+  either_same false b' e hm hk = rw e hk
+
+  kind_same : (n : Node) → c.fine n → (k : Kind) (ps : List (Both c)) → KeptLayer c k (firsts c ps)
+      → Same c (cond (has_no_effect k (firsts c ps)) (no_effect n) (role_by n k (firsts c ps))) (cond (has_no_effect (renamed_kind c k) (seconds c ps)) (no_effect (c.node n)) (role_by (c.node n) (renamed_kind c k) (seconds c ps)))
+  kind_same n fine k ps kept = either_same (has_no_effect k (firsts c ps)) (has_no_effect (renamed_kind c k) (seconds c ps)) (has_no_effect_same c k ps) (no_effect_same n fine) (role_same n fine k ps kept)
+
   pub step_same : (n : Node) → c.fine n → (k : Kind) (ps : List (Both c)) → KeptLayer c k (firsts c ps) → Same c (meaning_by n k (firsts c ps)) (meaning_by (c.node n) (renamed_kind c k) (seconds c ps))
   step_same n fine kind.ParenExpr (e ∷ []) kept = ending_same e.0 e.1 e.2
   step_same n fine kind.TsAsExpr (e ∷ type ∷ []) kept = e.2
@@ -123,7 +135,7 @@ module _ (c : Change) where
   step_same n fine kind.TsInstantiation (e ∷ types ∷ []) kept = e.2
   step_same n fine kind.TsSatisfiesExpr (e ∷ type ∷ []) kept = e.2
   step_same n fine kind.TsTypeAnn ps kept = role_same n fine kind.Absent [] tt
-  step_same n fine k ps kept = role_same n fine k ps kept
+  step_same n fine k ps kept = kind_same n fine k ps kept
 
   -- lists
 

@@ -135,7 +135,7 @@ all_defined [] class object x = give []
 all_defined (m ∷ ms) class object x = m.defined class object x >>= λ ks. all_defined ms class object x >>= λ ls. give (ks ++ ls)
 
 -- properties of an object (13.2.5.5 PropertyDefinitionEvaluation) and methods of a class (15.7.13 ClassElementEvaluation);
--- of a field the key alone. What has no body, and what is abstract or ambient, has no effect.
+-- of a field the key alone
 abbrev pub defined_of : Node → Kind → List Meaning → ℕ → ℕ → Evaluation (List (List ℕ))
 defined_of node kind.List items class object x = all_defined items class object x
 -- a shorthand
@@ -150,14 +150,11 @@ defined_of node kind.GetterProp (key ∷ type ∷ body ∷ []) class object x =
 defined_of node kind.SetterProp (key ∷ this_parameter ∷ parameter ∷ body ∷ []) class object x =
     key.key x >>= λ k. literal_key k >>= λ k. make_function node Method (Some object) x >>= λ f. define_method method.Setter object k f >>= λ _. give []
 defined_of node (kind.ClassMethod sort modifiers) (key ∷ function ∷ []) class object x =
-    when function.has_body
-    (key.key x >>= λ k. function.made Method (Some (cond modifiers.is_static class object)) x >>= λ f.
-    define_method sort (cond modifiers.is_static class object) k f >>= λ _. give []) (give [])
+    key.key x >>= λ k. function.made Method (Some (cond modifiers.is_static class object)) x >>= λ f.
+    define_method sort (cond modifiers.is_static class object) k f >>= λ _. give []
 defined_of node (kind.ClassProp modifiers readonly declare definite) (key ∷ value ∷ type ∷ []) class object x =
-    when (declare || modifiers.is_abstract) (give []) (key.key x >>= λ k. give (k ∷ []))
+    key.key x >>= λ k. give (k ∷ [])
 defined_of node (kind.Constructor accessibility is_optional) children class object x = give []
-defined_of node (kind.TsIndexSignature readonly is_static) children class object x = give []
-defined_of node kind.EmptyStmt children class object x = give []
 defined_of node (kind.TsTypeAliasDecl declare) children class object x = give []
 defined_of node _ children class object x = outside
 
@@ -182,11 +179,9 @@ abbrev pub fields_of : Kind → List Meaning → List (List ℕ) → Value → E
 fields_of (kind.Class is_abstract) (super ∷ body ∷ types ∷ super_types ∷ implements ∷ []) keys object x = body.fields keys object x
 fields_of kind.List items keys object x = all_fields items keys object x
 fields_of (kind.ClassProp modifiers readonly declare definite) (key ∷ value ∷ type ∷ []) keys object x =
-    when (declare || modifiers.is_abstract) (give keys) (field_with (not modifiers.is_static) value keys object x)
+    field_with (not modifiers.is_static) value keys object x
 fields_of (kind.Constructor accessibility is_optional) children keys object x = give keys
 fields_of (kind.ClassMethod sort modifiers) children keys object x = give keys
-fields_of (kind.TsIndexSignature readonly is_static) children keys object x = give keys
-fields_of kind.EmptyStmt children keys object x = give keys
 fields_of (kind.TsTypeAliasDecl declare) children keys object x = give keys
 fields_of _ children keys object x = outside
 
@@ -198,10 +193,8 @@ all_statics (m ∷ ms) keys class x = m.statics keys class x >>= λ left. all_st
 abbrev pub statics_of : Kind → List Meaning → List (List ℕ) → Value → Evaluation (List (List ℕ))
 statics_of kind.List items keys class x = all_statics items keys class x
 statics_of (kind.ClassProp modifiers readonly declare definite) (key ∷ value ∷ type ∷ []) keys class x =
-    when (declare || modifiers.is_abstract) (give keys) (field_with modifiers.is_static value keys class x)
+    field_with modifiers.is_static value keys class x
 statics_of (kind.Constructor accessibility is_optional) children keys class x = give keys
 statics_of (kind.ClassMethod sort modifiers) children keys class x = give keys
-statics_of (kind.TsIndexSignature readonly is_static) children keys class x = give keys
-statics_of kind.EmptyStmt children keys class x = give keys
 statics_of (kind.TsTypeAliasDecl declare) children keys class x = give keys
 statics_of _ children keys class x = outside

@@ -13,7 +13,7 @@ abbrev pub all_names : List Meaning → List Id
 all_names [] = []
 all_names (m ∷ ms) = m.names ++ all_names ms
 
--- the names that a declaration binds (8.2.1 BoundNames); a parameter that types `this` binds none
+-- the names that a declaration binds (8.2.1 BoundNames)
 abbrev pub names_of : Kind → List Meaning → List Id
 names_of (kind.Ident sym ctxt optional) [] = record { sym = sym; ctxt = ctxt } ∷ []
 names_of kind.BindingIdent (id ∷ annotation ∷ []) = id.names
@@ -24,7 +24,7 @@ names_of (kind.ObjectPat optional) (properties ∷ type ∷ []) = properties.nam
 names_of kind.RestPat (pattern' ∷ type ∷ []) = pattern'.names
 names_of kind.KeyValuePatProp (key ∷ pattern' ∷ []) = pattern'.names
 names_of kind.AssignPatProp (name ∷ default ∷ []) = name.names
-names_of kind.Param (pattern' ∷ []) = cond pattern'.is_this [] pattern'.names
+names_of kind.Param (pattern' ∷ []) = pattern'.names
 names_of (kind.TsParamProp accessibility is_override readonly) (pattern' ∷ []) = pattern'.names
 names_of kind.List items = all_names items
 names_of _ children = []
@@ -39,7 +39,7 @@ abbrev pub imported_as : Option (List ℕ) → List ℕ → List Id → List Bin
 imported_as None source ids = []
 imported_as (Some name) source ids = map (import_of source name) ids
 
--- 16.2.2.2 ImportEntriesForModule; an import as a type is none
+-- 16.2.2.2 ImportEntriesForModule
 abbrev pub imported_of : Kind → List Meaning → List ℕ → List Binding
 imported_of kind.List items source = all_imported items source
 imported_of kind.ImportDefaultSpecifier (local ∷ []) source = map (import_of source (codes "default")) local.names
@@ -61,13 +61,13 @@ abbrev pub all_lexicals : List Meaning → List Binding
 all_lexicals [] = []
 all_lexicals (m ∷ ms) = m.lexicals ++ all_lexicals ms
 
--- 8.2.5 LexicallyScopedDeclarations; ambient ones are none, nor are functions without a body
+-- 8.2.5 LexicallyScopedDeclarations
 abbrev pub lexicals_of : Kind → List Meaning → List Binding
 lexicals_of kind.List items = all_lexicals items
 lexicals_of (kind.VarDecl Let false) (declarators ∷ []) = map (empty false) declarators.names
 lexicals_of (kind.VarDecl Const false) (declarators ∷ []) = map (empty true) declarators.names
 lexicals_of (kind.ImportDecl false) (specifiers ∷ source ∷ attributes ∷ []) = imported_from source.text specifiers
-lexicals_of (kind.FnDecl false) (name ∷ function ∷ []) = cond function.has_body (map (empty false) name.names) []
+lexicals_of (kind.FnDecl false) (name ∷ function ∷ []) = map (empty false) name.names
 lexicals_of (kind.ClassDecl false) (name ∷ class ∷ []) = map (empty false) name.names
 lexicals_of _ children = []
 
@@ -108,7 +108,7 @@ abbrev pub parameter_names_of : Kind → List Meaning → List Id
 parameter_names_of (kind.Function false false) (parameters ∷ body ∷ types ∷ return_type ∷ []) = parameters.names
 parameter_names_of (kind.ArrowExpr false false) (parameters ∷ body ∷ types ∷ return_type ∷ []) = parameters.names
 parameter_names_of kind.SetterProp (key ∷ this_parameter ∷ parameter ∷ body ∷ []) = parameter.names
-parameter_names_of (kind.Constructor accessibility is_optional) (key ∷ parameters ∷ body ∷ []) = cond body.is_absent [] parameters.names
+parameter_names_of (kind.Constructor accessibility is_optional) (key ∷ parameters ∷ body ∷ []) = parameters.names
 parameter_names_of (kind.Class is_abstract) (super ∷ body ∷ types ∷ super_types ∷ implements ∷ []) = body.parameter_names
 parameter_names_of kind.List items = all_parameter_names items
 parameter_names_of _ children = []
@@ -117,31 +117,23 @@ abbrev pub all_declared : List Meaning → List Id
 all_declared [] = []
 all_declared (m ∷ ms) = m.declared ++ all_declared ms
 
--- the ids that are declared in a node, in any scope; ambient declarations and imports as types declare none
+-- the ids that are declared in a node, in any scope
 abbrev pub declared_of : Kind → List Meaning → List Id
-declared_of (kind.VarDecl word true) children = []
 declared_of (kind.VarDeclarator definite) (name ∷ init ∷ []) = name.names ++ (name.declared ++ init.declared)
-declared_of kind.Param (pattern' ∷ []) = cond pattern'.is_this [] (pattern'.names ++ pattern'.declared)
+declared_of kind.Param (pattern' ∷ []) = pattern'.names ++ pattern'.declared
 declared_of (kind.TsParamProp accessibility is_override readonly) (pattern' ∷ []) = pattern'.names ++ pattern'.declared
 declared_of (kind.ArrowExpr is_async is_generator) (parameters ∷ body ∷ types ∷ return_type ∷ []) = parameters.names ++ (parameters.declared ++ body.declared)
 declared_of kind.SetterProp (key ∷ this_parameter ∷ parameter ∷ body ∷ []) = key.declared ++ (parameter.names ++ (parameter.declared ++ body.declared))
 declared_of kind.CatchClause (parameter ∷ body ∷ []) = parameter.names ++ (parameter.declared ++ body.declared)
-declared_of (kind.FnDecl true) children = []
-declared_of (kind.FnDecl false) (name ∷ function ∷ []) = cond function.has_body (name.names ++ function.declared) []
+declared_of (kind.FnDecl false) (name ∷ function ∷ []) = name.names ++ function.declared
 declared_of kind.FnExpr (name ∷ function ∷ []) = name.names ++ function.declared
-declared_of (kind.ClassDecl true) children = []
 declared_of (kind.ClassDecl false) (name ∷ class ∷ []) = name.names ++ class.declared
 declared_of kind.ClassExpr (name ∷ class ∷ []) = name.names ++ class.declared
-declared_of (kind.TsEnumDecl true is_const) children = []
 declared_of (kind.TsEnumDecl false is_const) (name ∷ members ∷ []) = name.names ++ members.declared
-declared_of (kind.TsModuleDecl true global) children = []
-declared_of (kind.TsModuleDecl false global) (name ∷ body ∷ []) = cond body.is_type [] (name.names ++ body.declared)
-declared_of (kind.ImportDecl true) children = []
+declared_of (kind.TsModuleDecl false global) (name ∷ body ∷ []) = name.names ++ body.declared
 declared_of kind.ImportDefaultSpecifier (local ∷ []) = local.names
 declared_of kind.ImportStarAsSpecifier (local ∷ []) = local.names
-declared_of (kind.ImportNamedSpecifier true) children = []
 declared_of (kind.ImportNamedSpecifier false) (local ∷ name ∷ []) = local.names
-declared_of (kind.TsImportEqualsDecl is_export true) children = []
 declared_of (kind.TsImportEqualsDecl is_export false) (name ∷ source ∷ []) = name.names
 declared_of (kind.TsTypeAliasDecl declare) children = []
 declared_of kind.Absent children = []
@@ -210,7 +202,7 @@ abbrev pub all_types : List Meaning → Bool
 all_types [] = true
 all_types (m ∷ ms) = m.is_type && all_types ms
 
--- an item that is no value (TypeScript handbook, "Namespaces": a namespace of such items has no effect); ambient declarations of values are some
+-- an item that is a type alone; ambient declarations of values are none (TypeScript handbook, "Namespaces": a namespace of types alone is none)
 abbrev pub is_type_of : Kind → List Meaning → Bool
 is_type_of kind.List items = all_types items
 is_type_of kind.EmptyStmt children = true
@@ -233,8 +225,29 @@ abbrev pub any_constructor : List Meaning → Bool
 any_constructor [] = false
 any_constructor (m ∷ ms) = m.is_constructor || any_constructor ms
 
--- a constructor with a body, or members among which one stands
+-- a constructor, or members among which one stands
 abbrev pub is_constructor_of : Kind → List Meaning → Bool
-is_constructor_of (kind.Constructor accessibility is_optional) (key ∷ parameters ∷ body ∷ []) = not body.is_absent
+is_constructor_of (kind.Constructor accessibility is_optional) children = true
 is_constructor_of kind.List items = any_constructor items
 is_constructor_of _ children = false
+
+-- what has no effect, wherever it stands: types, what is ambient, abstract or without a body, and a parameter that types `this`
+-- (TypeScript handbook, "Everyday Types", "Declaration Files", "Classes", "More on Functions")
+abbrev pub has_no_effect : Kind → List Meaning → Bool
+has_no_effect kind.List children = false
+has_no_effect kind.TsModuleBlock children = false
+has_no_effect (kind.TsNamespaceDecl declare global) children = false
+has_no_effect (kind.VarDecl word true) children = true
+has_no_effect (kind.FnDecl true) children = true
+has_no_effect (kind.ClassDecl true) children = true
+has_no_effect (kind.TsEnumDecl true is_const) children = true
+has_no_effect (kind.TsModuleDecl true global) children = true
+has_no_effect (kind.ImportNamedSpecifier true) children = true
+has_no_effect (kind.ExportNamedSpecifier true) children = true
+has_no_effect (kind.TsIndexSignature readonly is_static) children = true
+has_no_effect (kind.ClassProp modifiers readonly declare definite) children = declare || modifiers.is_abstract
+has_no_effect (kind.ClassMethod sort modifiers) (key ∷ function ∷ []) = not function.has_body
+has_no_effect (kind.PrivateMethod sort modifiers) (key ∷ function ∷ []) = not function.has_body
+has_no_effect (kind.Constructor accessibility is_optional) (key ∷ parameters ∷ body ∷ []) = body.is_absent
+has_no_effect kind.Param (pattern' ∷ []) = pattern'.is_this
+has_no_effect k children = is_type_of k children

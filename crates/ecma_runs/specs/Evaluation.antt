@@ -1,5 +1,5 @@
 -- What a node means, made of what its children mean; and what a call of a function of the program does.
-use Rattle.std.specs.Prelude.{ℕ, zero, suc, List, [], ◌∷◌, map, Option, Some, None, false}
+use Rattle.std.specs.Prelude.{ℕ, zero, suc, List, [], ◌∷◌, map, Option, Some, None, false, cond}
 use Rattle.ecma_kind.specs.declared.kind.Kind.{Kind}
 use Rattle.ecma_kind.specs.declared.kind.Kind.TheVariants as kind
 use Rattle.ecma_tree.specs.declared.node.Node.{Node, Node-F, fold-Node}
@@ -16,7 +16,7 @@ use Rattle.ecma_runs.specs.Expressions.{value_of, reference_of, initial_of, argu
 use Rattle.ecma_runs.specs.Patterns.{assigned_of, bound_of, matched_of, targets_of, parameters_of}
 use Rattle.ecma_runs.specs.Classes.{made_of, class_made_of, defined_of, fields_of, statics_of, code_of, body_of, field_activation}
 use Rattle.ecma_runs.specs.Statements.{completion_of, varied_of, hoisted_of, effect_of, caught_of}
-use Rattle.ecma_runs.specs.Declarations.{names_of, lexicals_of, vars_of, locals_of, parameter_names_of, declared_of, shorthands_of, imported_of, text_of, cooked_of, is_plain_of, is_super_of, is_absent_of, is_this_of, is_type_of, has_body_of, is_constructor_of}
+use Rattle.ecma_runs.specs.Declarations.{names_of, lexicals_of, vars_of, locals_of, parameter_names_of, declared_of, shorthands_of, imported_of, text_of, cooked_of, is_plain_of, is_super_of, is_absent_of, is_this_of, is_type_of, has_body_of, is_constructor_of, has_no_effect}
 
 -- what a node means in each role; the node itself is for the functions that keep it
 abbrev pub role_by : Node → Kind → List Meaning → Meaning
@@ -71,7 +71,11 @@ role_by node k children = record {
 abbrev pub ending_chain : Meaning → Meaning
 ending_chain m = record m { chain = λ x. m.reference x >>= λ r. give (Some r) }
 
--- an expression with a type means what the expression means, and an annotation what a missing child means, in every role
+-- what a type alias means, in every role: nothing is done, and nothing declared
+abbrev pub no_effect : Node → Meaning
+no_effect node = role_by node (kind.TsTypeAliasDecl false) []
+
+-- an expression with a type means what the expression means, an annotation what a missing child means, and what has no effect what an alias means, in every role
 abbrev pub meaning_by : Node → Kind → List Meaning → Meaning
 meaning_by node kind.ParenExpr (e ∷ []) = ending_chain e
 meaning_by node kind.TsAsExpr (e ∷ type ∷ []) = e
@@ -81,7 +85,7 @@ meaning_by node kind.TsNonNullExpr (e ∷ []) = e
 meaning_by node kind.TsInstantiation (e ∷ types ∷ []) = e
 meaning_by node kind.TsSatisfiesExpr (e ∷ type ∷ []) = e
 meaning_by node kind.TsTypeAnn children = role_by node kind.Absent []
-meaning_by node k children = role_by node k children
+meaning_by node k children = cond (has_no_effect k children) (no_effect node) (role_by node k children)
 
 -- a node, and what it means
 pub record Meant : Type 0 where

@@ -64,11 +64,10 @@ abbrev pub all_parameters : List Meaning → List Value → Evaluation (List Val
 all_parameters [] arguments x = give arguments
 all_parameters (m ∷ ms) arguments x = m.parameters arguments x >>= λ left. all_parameters ms left x
 
--- parameters take arguments, and give those that are left (8.6.3 IteratorBindingInitialization); one that types `this` takes none
+-- parameters take arguments, and give those that are left (8.6.3 IteratorBindingInitialization)
 abbrev pub parameters_of : Kind → List Meaning → List Value → Evaluation (List Value)
 parameters_of kind.List items arguments x = all_parameters items arguments x
-parameters_of kind.Param (pattern' ∷ []) arguments x =
-    when pattern'.is_this (give arguments) (pattern'.bound (first_or_undefined arguments) x >>= λ _. give (all_but_first arguments))
+parameters_of kind.Param (pattern' ∷ []) arguments x = pattern'.bound (first_or_undefined arguments) x >>= λ _. give (all_but_first arguments)
 parameters_of (kind.TsTypeAliasDecl declare) children arguments x = give arguments
 -- of an arrow
 parameters_of k children arguments x = bound_of k children (first_or_undefined arguments) x >>= λ _. give (all_but_first arguments)

@@ -46,25 +46,22 @@ abbrev pub all_completions : List Meaning → Evaluation (Unit {0})
 all_completions [] x = give tt
 all_completions (m ∷ ms) x = m.completion x >>= λ _. all_completions ms x
 
--- a statement or a declaration; what it completes with is never seen. Types and ambient declarations have no effect.
+-- a statement or a declaration; what it completes with is never seen
 abbrev pub completion_of : Kind → List Meaning → Evaluation (Unit {0})
 completion_of kind.Absent children x = give tt
 completion_of kind.List items x = all_completions items x
 -- 16.2.1.11 Module: Evaluation
 completion_of (kind.Module shebang) (body ∷ []) x = body.completion x
-completion_of kind.EmptyStmt children x = give tt
 -- 14.5.1 Expression Statement: Evaluation
 completion_of kind.ExprStmt (e ∷ []) x = e.value x >>= λ _. give tt
 -- 14.3 Declarations and the Variable Statement
-completion_of (kind.VarDecl word true) children x = give tt
 completion_of (kind.VarDecl Var false) (declarators ∷ []) x = declarators.varied x
 completion_of (kind.VarDecl Let false) (declarators ∷ []) x = declarators.completion x
 completion_of (kind.VarDecl Const false) (declarators ∷ []) x = declarators.completion x
 completion_of (kind.VarDeclarator definite) (name ∷ init ∷ []) x = init.initial x >>= λ v. name.bound v x
 -- functions are set when their scope is entered
-completion_of (kind.FnDecl declare) children x = give tt
+completion_of (kind.FnDecl false) children x = give tt
 -- 15.7.15 BindingClassDeclarationEvaluation
-completion_of (kind.ClassDecl true) children x = give tt
 completion_of (kind.ClassDecl false) (name ∷ class ∷ []) x = class.class_made name.names x >>= λ v. initialize x.scope name.names v
 completion_of kind.BlockStmt (statements ∷ []) x = block statements x
 -- 14.6.2 The if Statement: Evaluation
@@ -81,18 +78,8 @@ completion_of kind.ContinueStmt (label ∷ []) x = when label.is_absent continue
 -- 14.15.3 The try Statement: Evaluation
 completion_of kind.TryStmt (body ∷ handler ∷ last ∷ []) x = finally (catching (body.completion x) (λ v. handler.caught v x)) (last.completion x)
 -- imports are variables of the module's scope
-completion_of (kind.ImportDecl type_only) children x = give tt
-completion_of (kind.TsImportEqualsDecl is_export true) children x = give tt
-completion_of (kind.NamedExport true) children x = give tt
-completion_of (kind.ExportAll true) children x = give tt
-completion_of kind.TsNamespaceExportDecl children x = give tt
-completion_of (kind.TsInterfaceDecl declare) children x = give tt
+completion_of (kind.ImportDecl false) children x = give tt
 completion_of (kind.TsTypeAliasDecl declare) children x = give tt
-completion_of (kind.TsEnumDecl true is_const) children x = give tt
-completion_of (kind.TsModuleDecl true global) children x = give tt
-completion_of (kind.TsModuleDecl false global) (name ∷ body ∷ []) x = when body.is_type (give tt) outside
-completion_of kind.ExportDecl (declaration ∷ []) x = when declaration.is_type (give tt) outside
-completion_of kind.ExportDefaultDecl (declaration ∷ []) x = when declaration.is_type (give tt) outside
 completion_of _ children x = outside
 
 abbrev pub effect_of : Node → Kind → List Meaning → Evaluation (Unit {0})
@@ -115,12 +102,11 @@ abbrev pub all_hoisted : List Meaning → Evaluation (Unit {0})
 all_hoisted [] x = give tt
 all_hoisted (m ∷ ms) x = m.hoisted x >>= λ _. all_hoisted ms x
 
--- the functions of a scope that is entered are set; one without a body is none
+-- the functions of a scope that is entered are set
 abbrev pub hoisted_of : Kind → List Meaning → Evaluation (Unit {0})
 hoisted_of kind.List items x = all_hoisted items x
 hoisted_of (kind.Module shebang) (body ∷ []) x = body.hoisted x
-hoisted_of (kind.FnDecl false) (name ∷ function ∷ []) x =
-    when function.has_body (function.made Plain None x >>= λ f. initialize x.scope name.names (Own f)) (give tt)
+hoisted_of (kind.FnDecl false) (name ∷ function ∷ []) x = function.made Plain None x >>= λ f. initialize x.scope name.names (Own f)
 hoisted_of _ children x = give tt
 
 -- a handler (14.15.2 CatchClauseEvaluation): the name has a record of its own. Without a handler it is thrown on.
