@@ -8,7 +8,7 @@ use Rattle.ecma_number.specs.declared.js_number.JsNumber.TheVariants.{Whole, NaN
 use Rattle.ecma_number.specs.declared.value.Value.{Value as KnownOr}
 use Rattle.ecma_number.specs.declared.value.Value.TheVariants.{Known, Unknown}
 use Rattle.ecma_number.specs.JsNumber.{value_of}
-use Rattle.ecma_number.specs.Arithmetic.{negation_of, sum_of, difference_of, product_of, quotient_of, remainder_of, power_of}
+use Rattle.ecma_number.specs.Arithmetic.{unary_minus_of, sum_of, difference_of, product_of, quotient_of, remainder_of, power_of}
 use Rattle.ecma_number.specs.Bits.{complement_of, left_shift_of, right_shift_of, unsigned_right_shift_of, bitwise}
 use Rattle.ecma_number.specs.Equality.{are_equal}
 use Rattle.ecma_number.specs.StringToNumber.{text_number_of}
@@ -203,7 +203,7 @@ logical_operator_of op = None
 
 -- a unary operator on a value (13.5); `typeof` and `delete` look at references
 abbrev pub unary_value : UnaryOp → Value → Option Value
-unary_value unary.Minus v = option_map (λ n. Number (negation_of n)) (number_from v)
+unary_value unary.Minus v = option_map (λ n. Number (unary_minus_of n)) (number_from v)
 unary_value unary.Plus v = option_map Number (number_from v)
 unary_value unary.Bang v = Some (Truth (not (truth_of v)))
 unary_value unary.Tilde v = option_map (λ n. Number (complement_of n)) (number_from v)
