@@ -4,7 +4,7 @@ use Rattle.ecma_kind.specs.declared.kind.Kind.{Kind}
 use Rattle.ecma_kind.specs.declared.kind.Kind.TheVariants as kind
 use Rattle.ecma_kind.specs.declared.operators.VarDeclKind.TheVariants.{Var, Let, Const}
 use Rattle.ecma_runs.specs.State.{Id, Binding}
-use Rattle.ecma_runs.specs.Environment.{empty, undefined, import_of, import_of_itself}
+use Rattle.ecma_runs.specs.Environment.{empty, undefined, import_of}
 use Rattle.ecma_runs.specs.Declarations.{all_names, names_of, all_imported, imported_as, imported_of, imported_from, text_of, all_lexicals, lexicals_of, all_vars, vars_of, locals_of, all_parameter_names, parameter_names_of, all_declared, declared_of, shorthands_of, all_cooked, cooked_of, all_plain, is_plain_of, is_super_of, is_absent_of, is_this_of, all_types, is_type_of, has_body_of, any_constructor, is_constructor_of, has_no_effect}
 use Rattle.ecma_runs.proofs.Names.{keep, changed_ids, changed_binding, changed_bindings, changed_ids-append}
 use Rattle.ecma_runs.proofs.Alike.{Change}
@@ -15,11 +15,6 @@ use Rattle.ecma_runs.proofs.Lists.{all_stay, all_names_same, all_declared_same, 
 use Rattle.ecma_runs.proofs.Classes.{joined}
 
 module _ (c : Change) where
-  -- a list that may be left out
-  given_bindings : (b b' : Bool) (xs ys : List Binding) {xs' ys' : List Binding} → b' ≡ b → xs' ≡ changed_bindings c.names xs → ys' ≡ changed_bindings c.names ys → cond b' xs' ys' ≡ changed_bindings c.names (cond b xs ys)
-  given_bindings true b' xs ys e h k = rw e h
-  given_bindings false b' xs ys e h k = rw e k
-
   pub names_same : (k : Kind) (ps : List (Both c)) → KeptLayer c k (firsts c ps) → names_of (renamed_kind c k) (seconds c ps) ≡ changed_ids c.names (names_of k (firsts c ps))
   names_same (kind.Ident text ctxt optional) [] kept = rw (kept.0) refl
   names_same kind.BindingIdent (id ∷ annotation ∷ []) kept = id.2.names
@@ -41,29 +36,25 @@ module _ (c : Change) where
   imported_as_same None o' e source ids = rw e refl
   imported_as_same (Some name) o' e source ids = rw e (imports c source name ids)
 
-  itself_step : (source : List ℕ) (id : Id) (ids : List Id) (b : Bool) → (c.names.to id).sym ≡ id.sym → map (import_of_itself source) (changed_ids c.names ids) ≡ changed_bindings c.names (map (import_of_itself source) ids)
-      → map (import_of_itself source) (keep b (c.names.to id) (changed_ids c.names ids)) ≡ keep b (changed_binding c.names (import_of_itself source id)) (changed_bindings c.names (map (import_of_itself source) ids))
-  itself_step source id ids true e rest = ap₂ (λ name z. import_of source name (c.names.to id) ∷ z) e rest
-  itself_step source id ids false e rest = rest
-
-  imports_of_itself : (source : List ℕ) (ids : List Id) → KeepTexts c ids → map (import_of_itself source) (changed_ids c.names ids) ≡ changed_bindings c.names (map (import_of_itself source) ids)
-  imports_of_itself source [] texts = refl
-  imports_of_itself source (id ∷ ids) texts = itself_step source id ids (c.names.kept id) texts.0 (imports_of_itself source ids texts.1)
+  either_text : (b b' : Bool) → b' ≡ b → (t u : Option (List ℕ)) {t' u' : Option (List ℕ)} → t' ≡ t → u' ≡ u → cond b' t' u' ≡ cond b t u
+  either_text true b' e t u p q = rw e p
+  either_text false b' e t u p q = rw e q
 
   pub imported_same : (k : Kind) (ps : List (Both c)) → KeptLayer c k (firsts c ps) → (source : List ℕ) → imported_of (renamed_kind c k) (seconds c ps) source ≡ changed_bindings c.names (imported_of k (firsts c ps) source)
   imported_same kind.List ps kept source = all_stay c (λ ms ms'. all_imported ms' source ≡ changed_bindings c.names (all_imported ms source)) (λ items. all_imported_same c items source) ps
   imported_same kind.ImportDefaultSpecifier (local ∷ []) kept source = ap (map (import_of source (codes "default"))) local.2.names ∙ imports c source (codes "default") local.0.names
   imported_same kind.ImportStarAsSpecifier (local ∷ []) kept source = ap (map (import_of source (codes "*"))) local.2.names ∙ imports c source (codes "*") local.0.names
   imported_same (kind.ImportNamedSpecifier false) (local ∷ name ∷ []) kept source =
-      given_bindings name.0.is_absent name.1.is_absent _ _ name.2.is_absent
-      (ap (map (import_of_itself source)) local.2.names ∙ imports_of_itself source local.0.names kept.0)
-      (ap (imported_as name.1.text source) local.2.names ∙ imported_as_same name.0.text name.1.text (name.2.text kept.1) source local.0.names)
+      ap (imported_as (cond name.1.is_absent local.1.text name.1.text) source) local.2.names
+      ∙ imported_as_same (cond name.0.is_absent local.0.text name.0.text) (cond name.1.is_absent local.1.text name.1.text)
+      (either_text name.0.is_absent name.1.is_absent name.2.is_absent local.0.text name.0.text (local.2.text kept.0) (name.2.text kept.1)) source local.0.names
   imported_same _ ps kept source = refl
 
   pub text_same : (k : Kind) (ps : List (Both c)) → KeepTexts c (shorthands_of k (firsts c ps)) → text_of (renamed_kind c k) (seconds c ps) ≡ text_of k (firsts c ps)
   text_same (kind.Str text raw) ps texts = refl
   text_same (kind.Ident text ctxt optional) [] texts = ap Some texts.0
   text_same (kind.Ident text ctxt optional) (p ∷ ps) texts = refl
+  text_same kind.BindingIdent (id ∷ annotation ∷ []) texts = id.2.text texts
   text_same _ ps texts = refl
 
   imported_from_same : (o o' : Option (List ℕ)) → o' ≡ o → (specifiers : Both c) → imported_from o' specifiers.1 ≡ changed_bindings c.names (imported_from o specifiers.0)

@@ -14,7 +14,6 @@ use Rattle.ecma_runs.specs.State.{Id, Binding}
 use Rattle.ecma_runs.specs.Run.{Stop, TurnsSpent, AnswersSpent, Outside}
 use Rattle.ecma_runs.specs.Environment.{have_one_of}
 use Rattle.ecma_runs.specs.Meaning.{Meaning}
-use Rattle.ecma_runs.specs.Patterns.{name_key}
 use Rattle.ecma_runs.specs.Evaluation.{meaning_by, meaning}
 use Rattle.ecma_runs.specs.Observation.{observe}
 use Rattle.ecma_runs.specs.Sources.{unsourced, unsourced_node, without_sources}
@@ -112,11 +111,11 @@ module _ (f : Node → Node) (declared : List Id) (t : Telling) where
   kept_layer kind.OptCall ms = refl
   kept_layer kind.NewExpr ms = refl
   kept_layer kind.KeyValuePatProp ms = refl
-  kept_layer kind.AssignPatProp (name ∷ default ∷ []) = (refl, ap name_key (same_ids name.names))
+  kept_layer kind.AssignPatProp (name ∷ default ∷ []) = (refl, texts_stay name.shorthands)
   kept_layer kind.ObjectLit (properties ∷ []) = texts_stay properties.shorthands
   kept_layer (kind.Class is_abstract) (super ∷ body ∷ types ∷ super_types ∷ implements ∷ []) = texts_stay body.shorthands
   kept_layer (kind.ImportDecl type_only) (specifiers ∷ source ∷ attributes ∷ []) = texts_stay source.shorthands
-  kept_layer (kind.ImportNamedSpecifier is_type_only) (local ∷ name ∷ []) = (texts_stay local.names, texts_stay name.shorthands)
+  kept_layer (kind.ImportNamedSpecifier is_type_only) (local ∷ name ∷ []) = (texts_stay local.shorthands, texts_stay name.shorthands)
   kept_layer (kind.Function false false) (parameters ∷ body ∷ types ∷ return_type ∷ []) = still parameters body
   kept_layer (kind.ArrowExpr false false) (parameters ∷ body ∷ types ∷ return_type ∷ []) = still parameters body
   kept_layer kind.SetterProp (key ∷ this_parameter ∷ parameter ∷ body ∷ []) = still parameter body

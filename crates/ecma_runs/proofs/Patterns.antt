@@ -5,13 +5,13 @@ use Rattle.ecma_kind.specs.declared.kind.Kind.TheVariants as kind
 use Rattle.ecma_tree.specs.declared.node.Node.{Node}
 use Rattle.ecma_runs.specs.Values.{Value, is_undefined, is_nullish}
 use Rattle.ecma_runs.specs.State.{Id}
-use Rattle.ecma_runs.specs.Run.{Run, ◌>>=◌, give}
+use Rattle.ecma_runs.specs.Run.{Run, ◌>>=◌, give, given}
 use Rattle.ecma_runs.specs.Functions.{write, first_or_undefined, all_but_first}
 use Rattle.ecma_runs.specs.Expressions.{reference_of}
-use Rattle.ecma_runs.specs.Patterns.{or_default, name_key, assigned_of, all_targets, targets_of, all_matched, matched_of, bound_of, all_parameters, parameters_of}
+use Rattle.ecma_runs.specs.Patterns.{or_default, assigned_of, all_targets, targets_of, all_matched, matched_of, bound_of, all_parameters, parameters_of}
 use Rattle.ecma_runs.proofs.Names.{changed_ids}
-use Rattle.ecma_runs.proofs.Alike.{Change, Alike, bind_by, bind_alike, give_alike, throw_alike, outside_alike, when_alike}
-use Rattle.ecma_runs.proofs.Environments.{initialize_alike}
+use Rattle.ecma_runs.proofs.Alike.{Change, Alike, bind_by, bind_alike, give_alike, throw_alike, outside_alike, when_alike, given_alike}
+use Rattle.ecma_runs.proofs.Environments.{KeepTexts, initialize_alike}
 use Rattle.ecma_runs.proofs.Meanings.{World, first, second, Both, firsts, seconds}
 use Rattle.ecma_runs.proofs.Members.{member_alike}
 use Rattle.ecma_runs.proofs.Functions.{write_alike}
@@ -20,11 +20,6 @@ use Rattle.ecma_runs.proofs.Lists.{all_stay, all_targets_alike, all_matched_alik
 use Rattle.ecma_runs.proofs.Expressions.{reference_alike}
 
 module _ (c : Change) (w : World c) where
-  named_alike : (ids : List Id) → Alike c (name_key ids) (name_key ids)
-  named_alike [] = outside_alike c
-  named_alike (id ∷ []) = give_alike c id.sym
-  named_alike (id ∷ other ∷ ids) = outside_alike c
-
   or_default_alike : (default : Both c) {get get' : Run Value} → Alike c get get' → Alike c (or_default default.0 get (first c w)) (or_default default.1 get' (second c w))
   or_default_alike default h = bind_alike c h (λ v. when_alike c (is_undefined v) (default.2.initial w) (give_alike c v))
 
@@ -42,14 +37,14 @@ module _ (c : Change) (w : World c) where
     assigned_alike kind.AssignPat (target ∷ default ∷ []) kept get get' h = target.2.assigned _ _ (or_default_alike default h) w
     assigned_alike k ps kept get get' h = write_target_alike k ps kept h
 
-  key_alike : (name : Both c) → name_key (changed_ids c.names name.0.names) ≡ name_key name.0.names → Alike c (name_key name.0.names) (name_key name.1.names)
-  key_alike name e = rw (name.2.names, e) (named_alike name.0.names)
+  text_alike : (name : Both c) → KeepTexts c name.0.shorthands → Alike c (given name.0.text) (given name.1.text)
+  text_alike name texts = rw (name.2.text texts) (given_alike c name.0.text)
 
   pub targets_alike : (k : Kind) (ps : List (Both c)) → KeptLayer c k (firsts c ps) → (v : Value) → Alike c (targets_of k (firsts c ps) v (first c w)) (targets_of (renamed_kind c k) (seconds c ps) v (second c w))
   targets_alike kind.List ps kept v = all_stay c (λ ms ms'. Alike c (all_targets ms v (first c w)) (all_targets ms' v (second c w))) (λ items. all_targets_alike c w items v) ps
   targets_alike kind.KeyValuePatProp (key ∷ target ∷ []) u v = bind_alike c (key.2.key w) (λ k. bind_alike c (target.2.assigned _ _ (member_alike c w u v k) w) (λ _. give_alike c tt))
   targets_alike kind.AssignPatProp (name ∷ default ∷ []) kept v =
-      bind_alike c (key_alike name kept.1) (λ k. bind_alike c (name.2.assigned _ _ (or_default_alike default (member_alike c w kept.0 v k)) w) (λ _. give_alike c tt))
+      bind_alike c (text_alike name kept.1) (λ k. bind_alike c (name.2.assigned _ _ (or_default_alike default (member_alike c w kept.0 v k)) w) (λ _. give_alike c tt))
   targets_alike (kind.TsTypeAliasDecl declare) ps kept v = give_alike c tt
   targets_alike _ ps kept v = outside_alike c
 
@@ -57,7 +52,7 @@ module _ (c : Change) (w : World c) where
   matched_alike kind.List ps kept v = all_stay c (λ ms ms'. Alike c (all_matched ms v (first c w)) (all_matched ms' v (second c w))) (λ items. all_matched_alike c w items v) ps
   matched_alike kind.KeyValuePatProp (key ∷ pattern' ∷ []) u v = bind_alike c (key.2.key w) (λ k. bind_alike c (member_alike c w u v k) (λ z. pattern'.2.bound z w))
   matched_alike kind.AssignPatProp (name ∷ default ∷ []) kept v =
-      bind_alike c (key_alike name kept.1) (λ k. bind_alike c (or_default_alike default (member_alike c w kept.0 v k)) (λ z. name.2.bound z w))
+      bind_alike c (text_alike name kept.1) (λ k. bind_alike c (or_default_alike default (member_alike c w kept.0 v k)) (λ z. name.2.bound z w))
   matched_alike (kind.TsTypeAliasDecl declare) ps kept v = give_alike c tt
   matched_alike _ ps kept v = outside_alike c
 

@@ -4,7 +4,6 @@ use Rattle.ecma_kind.specs.declared.kind.Kind.{Kind}
 use Rattle.ecma_kind.specs.declared.kind.Kind.TheVariants as kind
 use Rattle.ecma_runs.specs.Environment.{have_one_of}
 use Rattle.ecma_runs.specs.Meaning.{Meaning}
-use Rattle.ecma_runs.specs.Patterns.{name_key}
 use Rattle.ecma_runs.proofs.Names.{changed_ids, changed_bindings}
 use Rattle.ecma_runs.proofs.Alike.{Change}
 use Rattle.ecma_runs.proofs.Environments.{KeepTexts}
@@ -29,11 +28,11 @@ module _ (c : Change) where
   KeptLayer kind.OptCall ms = c.uses ≡ true
   KeptLayer kind.NewExpr ms = c.uses ≡ true
   KeptLayer kind.KeyValuePatProp ms = c.uses ≡ true
-  KeptLayer kind.AssignPatProp (name ∷ default ∷ []) = (c.uses ≡ true) × (name_key (changed_ids c.names name.names) ≡ name_key name.names)
+  KeptLayer kind.AssignPatProp (name ∷ default ∷ []) = (c.uses ≡ true) × KeepTexts c name.shorthands
   KeptLayer kind.ObjectLit (properties ∷ []) = KeepTexts c properties.shorthands
   KeptLayer (kind.Class is_abstract) (super ∷ body ∷ types ∷ super_types ∷ implements ∷ []) = KeepTexts c body.shorthands
   KeptLayer (kind.ImportDecl type_only) (specifiers ∷ source ∷ attributes ∷ []) = KeepTexts c source.shorthands
-  KeptLayer (kind.ImportNamedSpecifier is_type_only) (local ∷ name ∷ []) = KeepTexts c local.names × KeepTexts c name.shorthands
+  KeptLayer (kind.ImportNamedSpecifier is_type_only) (local ∷ name ∷ []) = KeepTexts c local.shorthands × KeepTexts c name.shorthands
   KeptLayer (kind.Function false false) (parameters ∷ body ∷ types ∷ return_type ∷ []) = StillClash parameters body
   KeptLayer (kind.ArrowExpr false false) (parameters ∷ body ∷ types ∷ return_type ∷ []) = StillClash parameters body
   KeptLayer kind.SetterProp (key ∷ this_parameter ∷ parameter ∷ body ∷ []) = StillClash parameter body

@@ -4,7 +4,7 @@ use Rattle.ecma_kind.specs.declared.kind.Kind.{Kind}
 use Rattle.ecma_kind.specs.declared.kind.Kind.TheVariants as kind
 use Rattle.ecma_kind.specs.declared.operators.VarDeclKind.TheVariants.{Var, Let, Const}
 use Rattle.ecma_runs.specs.State.{Id, Binding}
-use Rattle.ecma_runs.specs.Environment.{empty, undefined, import_of, import_of_itself}
+use Rattle.ecma_runs.specs.Environment.{empty, undefined, import_of}
 use Rattle.ecma_runs.specs.Meaning.{Meaning}
 
 -- names
@@ -44,17 +44,18 @@ abbrev pub imported_of : Kind → List Meaning → List ℕ → List Binding
 imported_of kind.List items source = all_imported items source
 imported_of kind.ImportDefaultSpecifier (local ∷ []) source = map (import_of source (codes "default")) local.names
 imported_of kind.ImportStarAsSpecifier (local ∷ []) source = map (import_of source (codes "*")) local.names
-imported_of (kind.ImportNamedSpecifier false) (local ∷ name ∷ []) source = cond name.is_absent (map (import_of_itself source) local.names) (imported_as name.text source local.names)
+imported_of (kind.ImportNamedSpecifier false) (local ∷ name ∷ []) source = imported_as (cond name.is_absent local.text name.text) source local.names
 imported_of _ children source = []
 
 abbrev pub imported_from : Option (List ℕ) → Meaning → List Binding
 imported_from None specifiers = []
 imported_from (Some source) specifiers = specifiers.imported source
 
--- what a text says, and the text of an imported name
+-- what a text says, and the text of a name that is also a key
 abbrev pub text_of : Kind → List Meaning → Option (List ℕ)
 text_of (kind.Str text raw) children = Some text
 text_of (kind.Ident sym ctxt optional) [] = Some sym
+text_of kind.BindingIdent (id ∷ annotation ∷ []) = id.text
 text_of _ children = None
 
 abbrev pub all_lexicals : List Meaning → List Binding
@@ -143,9 +144,10 @@ abbrev pub all_shorthands : List Meaning → List Id
 all_shorthands [] = []
 all_shorthands (m ∷ ms) = m.shorthands ++ all_shorthands ms
 
--- identifiers that stand as properties are shorthands (13.2.5), whose texts are keys
+-- identifiers whose texts are keys where they stand as properties (13.2.5 Object Initializer), in patterns and in imports
 abbrev pub shorthands_of : Kind → List Meaning → List Id
 shorthands_of (kind.Ident sym ctxt optional) [] = record { sym = sym; ctxt = ctxt } ∷ []
+shorthands_of kind.BindingIdent (id ∷ annotation ∷ []) = id.shorthands
 shorthands_of kind.List items = all_shorthands items
 shorthands_of _ children = []
 

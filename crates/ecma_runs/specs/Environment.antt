@@ -54,10 +54,6 @@ undefined id = record { id = id; content = Holds Undefined; is_constant = false 
 abbrev pub import_of : List ℕ → List ℕ → Id → Binding
 import_of source name id = record { id = id; content = Imported source name; is_constant = true }
 
--- the import of the name that the variable has
-abbrev pub import_of_itself : List ℕ → Id → Binding
-import_of_itself source id = import_of source id.sym id
-
 -- names
 
 abbrev pub is_among : Id → List Id → Bool

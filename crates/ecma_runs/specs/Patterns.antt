@@ -5,8 +5,7 @@ use Rattle.ecma_kind.specs.declared.kind.Kind.{Kind}
 use Rattle.ecma_kind.specs.declared.kind.Kind.TheVariants as kind
 use Rattle.ecma_tree.specs.declared.node.Node.{Node}
 use Rattle.ecma_runs.specs.Values.{Value, is_undefined, is_nullish}
-use Rattle.ecma_runs.specs.State.{Id}
-use Rattle.ecma_runs.specs.Run.{Run, ◌>>=◌, give, outside, type_error, when}
+use Rattle.ecma_runs.specs.Run.{Run, ◌>>=◌, give, outside, type_error, when, given}
 use Rattle.ecma_runs.specs.Environment.{initialize}
 use Rattle.ecma_runs.specs.Meaning.{Evaluation, Meaning}
 use Rattle.ecma_runs.specs.Members.{member}
@@ -16,11 +15,6 @@ use Rattle.ecma_runs.specs.Expressions.{reference_of}
 -- a default stands in for undefined
 abbrev pub or_default : Meaning → Run Value → Evaluation Value
 or_default default get x = get >>= λ v. when (is_undefined v) (default.initial x) (give v)
-
--- the key of a name that stands for a property
-abbrev pub name_key : List Id → Run (List ℕ)
-name_key (id ∷ []) = give id.sym
-name_key ids = outside
 
 -- a target gets a value: what it refers to, then the value, then it is written
 abbrev pub assigned_of : Node → Kind → List Meaning → Run Value → Evaluation Value
@@ -37,7 +31,7 @@ all_targets (m ∷ ms) v x = m.targets v x >>= λ _. all_targets ms v x
 abbrev pub targets_of : Kind → List Meaning → Value → Evaluation (Unit {0})
 targets_of kind.List items v x = all_targets items v x
 targets_of kind.KeyValuePatProp (key ∷ target ∷ []) v x = key.key x >>= λ k. target.assigned (member x v k) x >>= λ _. give tt
-targets_of kind.AssignPatProp (name ∷ default ∷ []) v x = name_key name.names >>= λ k. name.assigned (or_default default (member x v k) x) x >>= λ _. give tt
+targets_of kind.AssignPatProp (name ∷ default ∷ []) v x = given name.text >>= λ k. name.assigned (or_default default (member x v k) x) x >>= λ _. give tt
 targets_of (kind.TsTypeAliasDecl declare) children v x = give tt
 targets_of _ children v x = outside
 
@@ -49,7 +43,7 @@ all_matched (m ∷ ms) v x = m.matched v x >>= λ _. all_matched ms v x
 abbrev pub matched_of : Kind → List Meaning → Value → Evaluation (Unit {0})
 matched_of kind.List items v x = all_matched items v x
 matched_of kind.KeyValuePatProp (key ∷ pattern' ∷ []) v x = key.key x >>= λ k. member x v k >>= λ w. pattern'.bound w x
-matched_of kind.AssignPatProp (name ∷ default ∷ []) v x = name_key name.names >>= λ k. or_default default (member x v k) x >>= λ w. name.bound w x
+matched_of kind.AssignPatProp (name ∷ default ∷ []) v x = given name.text >>= λ k. or_default default (member x v k) x >>= λ w. name.bound w x
 matched_of (kind.TsTypeAliasDecl declare) children v x = give tt
 matched_of _ children v x = outside
 
