@@ -15,13 +15,9 @@ use Rattle.ecma_runs.specs.State.{Content, Empty, Holds, Imported, Id, Binding, 
 use Rattle.ecma_runs.specs.Run.{AnswersSpent, Outside, Done, Run, ◌>>=◌, give, outside, when}
 use Rattle.ecma_runs.specs.Host.{import_value, taken_if, own_at, handled, taken, number_own, show_own, show, answered, answer_from, next_answer, add_event, use_host, free_value, fixed_value, free_or, read_free, free_or_undefined, read_free_typed}
 use Rattle.ecma_runs.specs.Environment.{copy_environment, new_environment, bindings_in, variable, with_value, set_variable, Reference, ToVariable, ToFree, ToMember, ToSuper, is_among, resolved, content_value, value_in, read_variable, unless_empty, write_in, write_variable, set_all, initialize_one, initialize, activation_in, activation_at, with_activation, set_activation, activation_or, activation, this, bind_this_in, bind_this}
+use Rattle.ecma_runs.specs.Names.{TextsStay}
 use Rattle.ecma_runs.proofs.Names.{keep, changed_ids, changed_binding, changed_bindings, changed_environment, binding_of-changed, is_among-changed, set_in-changed, set_in-gone, map-changed_at, map-unchanged_at, map-push, length-map}
 use Rattle.ecma_runs.proofs.Alike.{Change, changed, Good, unless_is, Follows, AlikeBy, Alike, bind_alike, give_by, give_alike, throw_alike, outside_alike, when_alike, given_or_alike}
-
--- the same names keep their texts
-abbrev pub TextsStay : (Id → Id) → List Id → Type 0
-TextsStay to [] = Unit {0}
-TextsStay to (id ∷ ids) = ((to id).sym ≡ id.sym) × TextsStay to ids
 
 module _ (c : Change) where
   -- environment records

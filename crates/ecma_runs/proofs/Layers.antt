@@ -22,7 +22,7 @@ use Rattle.ecma_runs.specs.Laws.{SpansAndSourcesDoNotMatter, WrappersDoNotMatter
 use Rattle.ecma_runs.proofs.Layer.{meaning-roll}
 use Rattle.ecma_runs.proofs.Names.{Naming, changed_ids, changed_bindings}
 use Rattle.ecma_runs.proofs.Alike.{Change}
-use Rattle.ecma_runs.proofs.Environments.{TextsStay}
+use Rattle.ecma_runs.specs.Names.{TextsStay}
 use Rattle.ecma_runs.proofs.Premises.{renamed_kind, StillClash, KeptLayer}
 use Rattle.ecma_runs.proofs.Kept.{AllNodes, StepsAlike, layer_same, IsNotExcused, observe_unless}
 

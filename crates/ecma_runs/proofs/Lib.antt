@@ -1,24 +1,26 @@
-mod Names
-mod Alike
-mod Environments
-mod Objects
-mod Meanings
-mod Members
-mod Functions
-mod Premises
-mod Lists
-mod Expressions
-mod Patterns
-mod Classes
-mod Statements
-mod Declarations
-mod Steps
-mod Layer
-mod Kept
+pub mod Names
+pub mod Alike
+pub mod Environments
+pub mod Objects
+pub mod Meanings
+pub mod Members
+pub mod Functions
+pub mod Premises
+pub mod Lists
+pub mod Expressions
+pub mod Patterns
+pub mod Classes
+pub mod Statements
+pub mod Declarations
+pub mod Steps
+pub mod Layer
+pub mod Kept
 pub mod Layers
 mod Parentheses
 pub mod Types
-mod Depth
+pub mod Standing
+mod Renaming
+pub mod Depth
 mod Growing
 mod Silence
 mod Trees

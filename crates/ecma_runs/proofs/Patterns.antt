@@ -1,15 +1,13 @@
 -- Patterns and parameters do alike where their parts do.
-use Rattle.std.proofs.Common.{◌≡◌, List, [], ◌∷◌}
+use Rattle.std.proofs.Common.{List, [], ◌∷◌}
 use Rattle.ecma_kind.specs.declared.kind.Kind.{Kind}
 use Rattle.ecma_kind.specs.declared.kind.Kind.TheVariants as kind
 use Rattle.ecma_tree.specs.declared.node.Node.{Node}
 use Rattle.ecma_runs.specs.Values.{Value, is_undefined, is_nullish}
-use Rattle.ecma_runs.specs.State.{Id}
 use Rattle.ecma_runs.specs.Run.{Run, ◌>>=◌, give, given}
 use Rattle.ecma_runs.specs.Functions.{write, first_or_undefined, all_but_first}
 use Rattle.ecma_runs.specs.Expressions.{reference_of}
 use Rattle.ecma_runs.specs.Patterns.{or_default, assigned_of, all_targets, targets_of, all_matched, matched_of, bound_of, all_parameters, parameters_of}
-use Rattle.ecma_runs.proofs.Names.{changed_ids}
 use Rattle.ecma_runs.proofs.Alike.{Change, Alike, bind_by, bind_alike, give_alike, throw_alike, outside_alike, when_alike, given_alike}
 use Rattle.ecma_runs.proofs.Environments.{KeepTexts, initialize_alike}
 use Rattle.ecma_runs.proofs.Meanings.{World, first, second, Both, firsts, seconds}

@@ -14,6 +14,7 @@ use Rattle.ecma_runs.specs.Host.{Provided}
 use Rattle.ecma_runs.specs.Meaning.{Invocation}
 use Rattle.ecma_runs.specs.Evaluation.{apply, invoke}
 use Rattle.ecma_runs.specs.Observation.{observe, module_context, run_body, act}
+use Rattle.ecma_runs.specs.Names.{renamed, IsRenaming}
 use Rattle.ecma_runs.specs.Sources.{AgreeUpToSources}
 use Rattle.ecma_runs.specs.Uses.{uses_nothing}
 use Rattle.ecma_runs.specs.Wrappers.{without_wrappers, without_parentheses}
@@ -33,6 +34,10 @@ WrappersDoNotMatter = (turns : ℕ) (options : Config) (m : Node) (script : Scri
 -- a tree runs as it does without parentheses that end no optional chain
 abbrev pub ParenthesesDoNotMatter : Type 0
 ParenthesesDoNotMatter = (turns : ℕ) (options : Config) (m : Node) (script : Script) → observe turns options (without_parentheses m) script ≡ observe turns options m script
+
+-- names may be mapped one to one, but for the texts of free ones and of keys
+abbrev pub NamesDoNotMatter : Type 0
+NamesDoNotMatter = (turns : ℕ) (options : Config) (m : Node) (script : Script) (to : Id → Id) → IsRenaming to m → observe turns options (renamed to m) script ≡ observe turns options m script
 
 -- a run that did not want for turns is the same with more
 abbrev pub SpareTurnsDoNotMatter : Type 0

@@ -17,5 +17,6 @@ pub mod Evaluation
 pub mod Observation
 pub mod Sources
 pub mod Wrappers
+pub mod Names
 pub mod Uses
 pub mod Laws

@@ -1,6 +1,6 @@
 -- What patterns do, declared and assigned, and parameters (ECMAScript, 8.6 Miscellaneous, 13.15.5 Destructuring Assignment, 14.3.3 Destructuring Binding Patterns).
 -- Array patterns and rest are open.
-use Rattle.std.specs.Prelude.{ℕ, List, [], ◌∷◌}
+use Rattle.std.specs.Prelude.{List, [], ◌∷◌}
 use Rattle.ecma_kind.specs.declared.kind.Kind.{Kind}
 use Rattle.ecma_kind.specs.declared.kind.Kind.TheVariants as kind
 use Rattle.ecma_tree.specs.declared.node.Node.{Node}

@@ -1,5 +1,5 @@
 //! The laws of `observe`, each the contract of a function that does nothing.
-ghost use Rattle.ecma_runs.specs.Laws.{SpansAndSourcesDoNotMatter, TypesDoNotMatter, WrappersDoNotMatter, ParenthesesDoNotMatter, SpareTurnsDoNotMatter, CallsAreApplications, EventsOnlyGrow, DeclarationsAloneHaveNoEvents};
+ghost use Rattle.ecma_runs.specs.Laws.{SpansAndSourcesDoNotMatter, TypesDoNotMatter, WrappersDoNotMatter, ParenthesesDoNotMatter, NamesDoNotMatter, SpareTurnsDoNotMatter, CallsAreApplications, EventsOnlyGrow, DeclarationsAloneHaveNoEvents};
 
 /// Trees that are equal up to the places of their nodes and the source texts of their literals
 /// run alike.
@@ -21,6 +21,11 @@ pub fn wrappers_do_not_matter()
 /// A tree runs as it does without parentheses that end no optional chain.
 pub fn parentheses_do_not_matter()
     ensures { ParenthesesDoNotMatter }
+{}
+
+/// A tree runs as it does with other names, where free ones and those that are keys keep their texts.
+pub fn names_do_not_matter()
+    ensures { NamesDoNotMatter }
 {}
 
 /// A run that did not want for turns is the same with more of them.

@@ -1,0 +1,195 @@
+-- Where each identifier of a tree passes a test, so do the names that the tree binds and the variables that its scopes have.
+use Rattle.std.proofs.Common.{◌≡◌, ℕ, ◌++◌, ◌&&◌, refl, sym, ap, ◌∙◌, subst, List, [], ◌∷◌, map, Option, Some, None, Bool, true, false, cond, codes}
+use Rattle.std.specs.List.{list_all}
+use Rattle.ecma_kind.specs.declared.kind.Kind.{Kind}
+use Rattle.ecma_kind.specs.declared.kind.Kind.TheVariants as kind
+use Rattle.ecma_kind.specs.declared.operators.VarDeclKind.TheVariants.{Var, Let, Const}
+use Rattle.ecma_tree.specs.declared.node.Node.{Node, Node-F, fold-roll-Node, ind-Node, roll-Node}
+use Rattle.ecma_runs.specs.State.{Id, Binding}
+use Rattle.ecma_runs.specs.Environment.{empty, undefined, import_of}
+use Rattle.ecma_runs.specs.Meaning.{Meaning}
+use Rattle.ecma_runs.specs.Declarations.{all_names, names_of, all_imported, imported_as, imported_of, imported_from, all_lexicals, lexicals_of, all_vars, vars_of, locals_of, has_no_effect}
+use Rattle.ecma_runs.specs.Evaluation.{role_by, no_effect, meaning_by, meaning}
+use Rattle.ecma_runs.specs.Names.{passes_by, passes_here, ids_pass}
+use Rattle.ecma_runs.proofs.Layer.{meaning-roll}
+use Rattle.ecma_runs.proofs.Kept.{AllNodes}
+
+both_true : (a b : Bool) → a && b ≡ true → (a ≡ true) × (b ≡ true)
+both_true true b h = (refl, h)
+both_true false b h = absurd (cc)
+
+module _ (test : Id → Bool) where
+  -- trees whose identifiers pass
+
+  abbrev pub Passes : Node → Type 0
+  Passes n = ids_pass test n ≡ true
+
+  all_pass : (ns : List Node) → list_all (λ b. b) (map (ids_pass test) ns) ≡ true → AllNodes Passes ns
+  all_pass [] h = tt
+  all_pass (n ∷ ns) h = let t = both_true (ids_pass test n) (list_all (λ b. b) (map (ids_pass test) ns)) h in (t.0, all_pass ns t.1)
+
+  pub passes_parts : (x : Node-F Node) → Passes (roll-Node x) → (passes_by test x.kind ≡ true) × AllNodes Passes x.children
+  passes_parts x h =
+      let t = both_true (passes_by test x.kind) (list_all (λ b. b) (map (ids_pass test) x.children)) (sym (fold-roll-Node Bool (passes_here test) x) ∙ h) in (t.0, all_pass x.children t.1)
+
+  -- lists of names, and of variables
+
+  abbrev pub NamesPass : List Id → Type 0
+  NamesPass [] = Unit {0}
+  NamesPass (id ∷ ids) = (test id ≡ true) × NamesPass ids
+
+  abbrev pub BindingsPass : List Binding → Type 0
+  BindingsPass [] = Unit {0}
+  BindingsPass (b ∷ bs) = (test b.id ≡ true) × BindingsPass bs
+
+  names_append : (xs ys : List Id) → NamesPass xs → NamesPass ys → NamesPass (xs ++ ys)
+  names_append [] ys p q = q
+  names_append (x ∷ xs) ys p q = (p.0, names_append xs ys p.1 q)
+
+  bindings_append : (xs ys : List Binding) → BindingsPass xs → BindingsPass ys → BindingsPass (xs ++ ys)
+  bindings_append [] ys p q = q
+  bindings_append (x ∷ xs) ys p q = (p.0, bindings_append xs ys p.1 q)
+
+  empties_pass : (is_constant : Bool) (ids : List Id) → NamesPass ids → BindingsPass (map (empty is_constant) ids)
+  empties_pass is_constant [] p = tt
+  empties_pass is_constant (id ∷ ids) p = (p.0, empties_pass is_constant ids p.1)
+
+  undefineds_pass : (ids : List Id) → NamesPass ids → BindingsPass (map undefined ids)
+  undefineds_pass [] p = tt
+  undefineds_pass (id ∷ ids) p = (p.0, undefineds_pass ids p.1)
+
+  imports_pass : (source name : List ℕ) (ids : List Id) → NamesPass ids → BindingsPass (map (import_of source name) ids)
+  imports_pass source name [] p = tt
+  imports_pass source name (id ∷ ids) p = (p.0, imports_pass source name ids p.1)
+
+  -- what is declared
+
+  pub record Declares (m : Meaning) : Type 0 where
+    pub names : NamesPass m.names
+    pub lexicals : BindingsPass m.lexicals
+    pub vars : BindingsPass m.vars
+    pub locals : BindingsPass m.locals
+    pub imported : (source : List ℕ) → BindingsPass (m.imported source)
+
+  abbrev Part : Type 0
+  Part = (m : Meaning) × Declares m
+
+  abbrev parts : List Part → List Meaning
+  parts ps = map (λ p. p.0) ps
+
+  all_names_pass : (ps : List Part) → NamesPass (all_names (parts ps))
+  all_names_pass [] = tt
+  all_names_pass (p ∷ ps) = names_append p.0.names (all_names (parts ps)) p.1.names (all_names_pass ps)
+
+  all_lexicals_pass : (ps : List Part) → BindingsPass (all_lexicals (parts ps))
+  all_lexicals_pass [] = tt
+  all_lexicals_pass (p ∷ ps) = bindings_append p.0.lexicals (all_lexicals (parts ps)) p.1.lexicals (all_lexicals_pass ps)
+
+  all_vars_pass : (ps : List Part) → BindingsPass (all_vars (parts ps))
+  all_vars_pass [] = tt
+  all_vars_pass (p ∷ ps) = bindings_append p.0.vars (all_vars (parts ps)) p.1.vars (all_vars_pass ps)
+
+  all_imported_pass : (ps : List Part) (source : List ℕ) → BindingsPass (all_imported (parts ps) source)
+  all_imported_pass [] source = tt
+  all_imported_pass (p ∷ ps) source = bindings_append (p.0.imported source) (all_imported (parts ps) source) (p.1.imported source) (all_imported_pass ps source)
+
+  names_pass : (k : Kind) (ps : List Part) → passes_by test k ≡ true → NamesPass (names_of k (parts ps))
+  names_pass (kind.Ident text ctxt optional) [] h = (h, tt)
+  names_pass kind.BindingIdent (id ∷ annotation ∷ []) h = id.1.names
+  names_pass (kind.VarDeclarator definite) (name ∷ init ∷ []) h = name.1.names
+  names_pass kind.AssignPat (pattern' ∷ default ∷ []) h = pattern'.1.names
+  names_pass (kind.ArrayPat optional) (elements ∷ type ∷ []) h = elements.1.names
+  names_pass (kind.ObjectPat optional) (properties ∷ type ∷ []) h = properties.1.names
+  names_pass kind.RestPat (pattern' ∷ type ∷ []) h = pattern'.1.names
+  names_pass kind.KeyValuePatProp (key ∷ pattern' ∷ []) h = pattern'.1.names
+  names_pass kind.AssignPatProp (name ∷ default ∷ []) h = name.1.names
+  names_pass kind.Param (pattern' ∷ []) h = pattern'.1.names
+  names_pass (kind.TsParamProp accessibility is_override readonly) (pattern' ∷ []) h = pattern'.1.names
+  names_pass kind.List ps h = all_names_pass ps
+  names_pass _ ps h = tt
+
+  imported_as_pass : (o : Option (List ℕ)) (source : List ℕ) (ids : List Id) → NamesPass ids → BindingsPass (imported_as o source ids)
+  imported_as_pass None source ids p = tt
+  imported_as_pass (Some name) source ids p = imports_pass source name ids p
+
+  imported_pass : (k : Kind) (ps : List Part) (source : List ℕ) → BindingsPass (imported_of k (parts ps) source)
+  imported_pass kind.List ps source = all_imported_pass ps source
+  imported_pass kind.ImportDefaultSpecifier (local ∷ []) source = imports_pass source (codes "default") local.0.names local.1.names
+  imported_pass kind.ImportStarAsSpecifier (local ∷ []) source = imports_pass source (codes "*") local.0.names local.1.names
+  imported_pass (kind.ImportNamedSpecifier false) (local ∷ name ∷ []) source = imported_as_pass (cond name.0.is_absent local.0.text name.0.text) source local.0.names local.1.names
+  imported_pass _ ps source = tt
+
+  imported_from_pass : (o : Option (List ℕ)) (specifiers : Part) → BindingsPass (imported_from o specifiers.0)
+  imported_from_pass None specifiers = tt
+  imported_from_pass (Some source) specifiers = specifiers.1.imported source
+
+  lexicals_pass : (k : Kind) (ps : List Part) → BindingsPass (lexicals_of k (parts ps))
+  lexicals_pass kind.List ps = all_lexicals_pass ps
+  lexicals_pass (kind.VarDecl Let false) (declarators ∷ []) = empties_pass false declarators.0.names declarators.1.names
+  lexicals_pass (kind.VarDecl Const false) (declarators ∷ []) = empties_pass true declarators.0.names declarators.1.names
+  lexicals_pass (kind.ImportDecl false) (specifiers ∷ source ∷ attributes ∷ []) = imported_from_pass source.0.text specifiers
+  lexicals_pass (kind.FnDecl false) (name ∷ function ∷ []) = empties_pass false name.0.names name.1.names
+  lexicals_pass (kind.ClassDecl false) (name ∷ class ∷ []) = empties_pass false name.0.names name.1.names
+  lexicals_pass _ ps = tt
+
+  vars_pass : (k : Kind) (ps : List Part) → BindingsPass (vars_of k (parts ps))
+  vars_pass kind.List ps = all_vars_pass ps
+  vars_pass (kind.VarDecl Var false) (declarators ∷ []) = undefineds_pass declarators.0.names declarators.1.names
+  vars_pass kind.BlockStmt ps = all_vars_pass ps
+  vars_pass kind.IfStmt ps = all_vars_pass ps
+  vars_pass kind.WhileStmt ps = all_vars_pass ps
+  vars_pass kind.DoWhileStmt ps = all_vars_pass ps
+  vars_pass kind.ForStmt ps = all_vars_pass ps
+  vars_pass kind.ForInStmt ps = all_vars_pass ps
+  vars_pass (kind.ForOfStmt is_await) ps = all_vars_pass ps
+  vars_pass kind.LabeledStmt ps = all_vars_pass ps
+  vars_pass kind.SwitchStmt ps = all_vars_pass ps
+  vars_pass kind.SwitchCase ps = all_vars_pass ps
+  vars_pass kind.TryStmt ps = all_vars_pass ps
+  vars_pass kind.CatchClause ps = all_vars_pass ps
+  vars_pass _ ps = tt
+
+  locals_pass : (k : Kind) (ps : List Part) → BindingsPass (locals_of k (parts ps))
+  locals_pass (kind.Module shebang) (body ∷ []) = bindings_append body.0.vars body.0.lexicals body.1.vars body.1.lexicals
+  locals_pass kind.BlockStmt (statements ∷ []) = bindings_append statements.0.vars statements.0.lexicals statements.1.vars statements.1.lexicals
+  locals_pass _ ps = tt
+
+  role_declares : (n : Node) (k : Kind) (ps : List Part) → passes_by test k ≡ true → Declares (role_by n k (parts ps))
+  role_declares n k ps h = record { names = names_pass k ps h; lexicals = lexicals_pass k ps; vars = vars_pass k ps; locals = locals_pass k ps; imported = imported_pass k ps }
+
+  either_declares : (b : Bool) (m m' : Meaning) → Declares m → Declares m' → Declares (cond b m m')
+  either_declares true m m' hm hk = hm
+  either_declares false m m' hm hk = hk
+
+  layer_declares : (n : Node) (k : Kind) (ps : List Part) → passes_by test k ≡ true → Declares (meaning_by n k (parts ps))
+  layer_declares n kind.ParenExpr (e ∷ []) h = record { names = e.1.names; lexicals = e.1.lexicals; vars = e.1.vars; locals = e.1.locals; imported = e.1.imported }
+  layer_declares n kind.TsAsExpr (e ∷ type ∷ []) h = e.1
+  layer_declares n kind.TsTypeAssertion (e ∷ type ∷ []) h = e.1
+  layer_declares n kind.TsConstAssertion (e ∷ []) h = e.1
+  layer_declares n kind.TsNonNullExpr (e ∷ []) h = e.1
+  layer_declares n kind.TsInstantiation (e ∷ types ∷ []) h = e.1
+  layer_declares n kind.TsSatisfiesExpr (e ∷ type ∷ []) h = e.1
+  layer_declares n kind.TsTypeAnn ps h = role_declares n kind.Absent [] refl
+  layer_declares n k ps h = either_declares (has_no_effect k (parts ps)) (no_effect n) (role_by n k (parts ps)) (role_declares n (kind.TsTypeAliasDecl false) [] refl) (role_declares n k ps h)
+
+  -- a tree whose identifiers pass
+
+  abbrev DeclaresIf : Node → Type 0
+  DeclaresIf n = Passes n → Declares (meaning n)
+
+  parts_of : (ns : List ((n : Node) × DeclaresIf n)) → AllNodes Passes (map (λ e. e.0) ns) → List Part
+  parts_of [] h = []
+  parts_of (n ∷ ns) h = (meaning n.0, n.1 h.0) ∷ parts_of ns h.1
+
+  parts_are : (ns : List ((n : Node) × DeclaresIf n)) (h : AllNodes Passes (map (λ e. e.0) ns)) → parts (parts_of ns h) ≡ map meaning (map (λ e. e.0) ns)
+  unfolding parts_of
+  parts_are [] h = refl
+  parts_are (n ∷ ns) h = ap (λ l. meaning n.0 ∷ l) (parts_are ns h.1)
+
+  pub declares : (n : Node) → DeclaresIf n
+  declares = ind-Node DeclaresIf (λ x y is h.
+      let t = passes_parts x h in
+      let all : AllNodes Passes (map (λ e. e.0) y.children) = subst (AllNodes Passes) (sym (ap (λ z. z.children) is)) t.1 in
+      let a : meaning (roll-Node x) ≡ meaning_by (roll-Node x) x.kind (parts (parts_of y.children all)) =
+      meaning-roll x ∙ ap (λ z. meaning_by (roll-Node x) x.kind (map meaning z.children)) (sym is) ∙ ap (meaning_by (roll-Node x) x.kind) (sym (parts_are y.children all)) in
+      rw a (layer_declares (roll-Node x) x.kind (parts_of y.children all) t.0))
