@@ -208,7 +208,7 @@ function specifier(n) {
   return tree("kind.ImportNamedSpecifier false", local, imported);
 }
 
-/** What stands for declarations of types and of what is ambient in the sources of facts: `$interface.I;` and so on. */
+/** What stands for declarations of types, for what is ambient and for what no parser takes in the sources of facts: `$interface.I;` and so on. */
 const declarations = {
   $interface: (id) => tree("kind.TsInterfaceDecl false", id),
   $alias: (id) => tree("kind.TsTypeAliasDecl false", id),
@@ -221,6 +221,11 @@ const declarations = {
   $enum: (id) => tree("kind.TsEnumDecl false false", id, "list End"),
   $type_namespace: (id) => tree("kind.TsModuleDecl false false", id, tree("kind.TsModuleBlock", list([tree("kind.TsInterfaceDecl false", id)]))),
   $exported_type: (id) => tree("kind.ExportDecl", tree("kind.TsInterfaceDecl false", id)),
+  $break: () => tree("kind.BreakStmt", "absent"),
+  $continue: () => tree("kind.ContinueStmt", "absent"),
+  $new_target: () => `statement (${tree("kind.MetaPropExpr NewTarget")})`,
+  $super: () => `statement (super_member ${bytes("x")})`,
+  $escape: () => `statement (${tree("kind.Tpl", "list End", list([tree(`kind.TplElement ${bytes("\\u")} None true`)]))})`,
   $namespace: (id) => tree("kind.TsModuleDecl false false", id, tree("kind.TsModuleBlock", list([tree("kind.ExprStmt", "whole 1")]))),
 };
 
@@ -230,6 +235,8 @@ const members = {
   $abstract: () => tree("kind.ClassProp (record (modifiers false) { is_abstract = true }) false false false", `key ${bytes("x")}`, "absent", "type'"),
   $declared: () => tree("kind.ClassProp (modifiers false) false true false", `key ${bytes("x")}`, "absent", "type'"),
   $overload: () => tree("kind.ClassMethod method.Method (modifiers false)", `key ${bytes("x")}`, tree("kind.Function false false", "list End", "absent", "absent", "absent")),
+  $arguments: () => `field false (key ${bytes("x")}) (ident ${bytes("arguments")})`,
+  $property: () => tree("kind.Constructor None false", `key ${bytes("constructor")}`, list([tree("kind.TsParamProp None false false", `binding ${bytes("x")}`)]), "block End"),
   $overloaded: () => tree("kind.Constructor None false", `key ${bytes("constructor")}`, "list End", "absent"),
 };
 

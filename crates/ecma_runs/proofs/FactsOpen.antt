@@ -3,7 +3,7 @@ use Rattle.std.proofs.Common.{refl, pos, [], ◌∷◌, Some, None, true, false,
 use Rattle.ecma_number.specs.declared.js_number.JsNumber.TheVariants as js_number
 use Rattle.ecma_kind.specs.declared.kind.Kind.TheVariants as kind
 use Rattle.ecma_kind.specs.declared.operators.BinaryOp.TheVariants as binary
-use Rattle.ecma_kind.specs.declared.operators.MetaPropKind.TheVariants.{ImportMeta}
+use Rattle.ecma_kind.specs.declared.operators.MetaPropKind.TheVariants.{NewTarget, ImportMeta}
 use Rattle.ecma_kind.specs.declared.operators.MethodKind.TheVariants as method
 use Rattle.ecma_kind.specs.declared.operators.UnaryOp.TheVariants as unary
 use Rattle.ecma_kind.specs.declared.operators.VarDeclKind.TheVariants.{Var, Let}
@@ -610,6 +610,184 @@ namespaces :
     ▸ End)
     (HostCall 7 shown.Undefined (shown.Num (js_number.Whole (pos 1)) ∷ []) ∷ []) (ending.Outside)
 namespaces = simp meaning_node refl
+
+-- function h() {} f(1); h.apply(null, {});
+lists_of_apply_that_are_no_arrays :
+    Does 9 nulls []
+    (declare_function (codes "h") End End
+    ▸ statement (call (ident (codes "f")) (whole 1 ▸ End))
+    ▸ statement (call (member (ident (codes "h")) (codes "apply")) (null ▸ object End ▸ End))
+    ▸ End)
+    (HostCall 7 shown.Undefined (shown.Num (js_number.Whole (pos 1)) ∷ []) ∷ []) (ending.Outside)
+lists_of_apply_that_are_no_arrays = simp meaning_node refl
+
+-- function h() {} h.prototype = null; f(1); class A extends h {}
+heritage_with_a_null_prototype :
+    Does 9 nulls []
+    (declare_function (codes "h") End End
+    ▸ statement (assign (member (ident (codes "h")) (codes "prototype")) null)
+    ▸ statement (call (ident (codes "f")) (whole 1 ▸ End))
+    ▸ declare_class (codes "A") (ident (codes "h")) End
+    ▸ End)
+    (HostCall 7 shown.Undefined (shown.Num (js_number.Whole (pos 1)) ∷ []) ∷ []) (ending.Outside)
+heritage_with_a_null_prototype = simp meaning_node refl
+
+-- function h() {} h.prototype = f; f(1); new h();
+prototypes_of_the_host :
+    Does 9 nulls []
+    (declare_function (codes "h") End End
+    ▸ statement (assign (member (ident (codes "h")) (codes "prototype")) (ident (codes "f")))
+    ▸ statement (call (ident (codes "f")) (whole 1 ▸ End))
+    ▸ statement (new' (ident (codes "h")) End)
+    ▸ End)
+    (HostCall 7 shown.Undefined (shown.Num (js_number.Whole (pos 1)) ∷ []) ∷ []) (ending.Outside)
+prototypes_of_the_host = simp meaning_node refl
+
+-- function h() {} h.prototype = f; f(1); ({}) instanceof h;
+instances_by_prototypes_of_the_host :
+    Does 9 nulls []
+    (declare_function (codes "h") End End
+    ▸ statement (assign (member (ident (codes "h")) (codes "prototype")) (ident (codes "f")))
+    ▸ statement (call (ident (codes "f")) (whole 1 ▸ End))
+    ▸ statement (binary binary.InstanceOf (parens (object End)) (ident (codes "h")))
+    ▸ End)
+    (HostCall 7 shown.Undefined (shown.Num (js_number.Whole (pos 1)) ∷ []) ∷ []) (ending.Outside)
+instances_by_prototypes_of_the_host = simp meaning_node refl
+
+-- function h(e) { return e; } try { null.a; } catch (e) { f(1); new h(e); }
+errors_that_constructors_return :
+    Does 9 nulls []
+    (declare_function (codes "h") (parameter (binding (codes "e")) ▸ End) (returns (ident (codes "e")) ▸ End)
+    ▸ tree kind.TryStmt (block (statement (member null (codes "a")) ▸ End) ▸ tree kind.CatchClause (binding (codes "e") ▸ block (statement (call (ident (codes "f")) (whole 1 ▸ End)) ▸ statement (new' (ident (codes "h")) (ident (codes "e") ▸ End)) ▸ End) ▸ End) ▸ absent ▸ End)
+    ▸ End)
+    (HostCall 7 shown.Undefined (shown.Num (js_number.Whole (pos 1)) ∷ []) ∷ []) (ending.Outside)
+errors_that_constructors_return = simp meaning_node refl
+
+-- try { null.a; } catch (e) { f(1); class A extends e {} }
+heritage_of_errors :
+    Does 9 nulls []
+    (tree kind.TryStmt (block (statement (member null (codes "a")) ▸ End) ▸ tree kind.CatchClause (binding (codes "e") ▸ block (statement (call (ident (codes "f")) (whole 1 ▸ End)) ▸ declare_class (codes "A") (ident (codes "e")) End ▸ End) ▸ End) ▸ absent ▸ End)
+    ▸ End)
+    (HostCall 7 shown.Undefined (shown.Num (js_number.Whole (pos 1)) ∷ []) ∷ []) (ending.Outside)
+heritage_of_errors = simp meaning_node refl
+
+-- try { null.a; } catch (e) { f(e == null); e == "x"; }
+equality_of_errors_and_texts :
+    Does 9 nulls []
+    (tree kind.TryStmt (block (statement (member null (codes "a")) ▸ End) ▸ tree kind.CatchClause (binding (codes "e") ▸ block (statement (call (ident (codes "f")) (binary binary.EqEq (ident (codes "e")) null ▸ End)) ▸ statement (binary binary.EqEq (ident (codes "e")) (string (codes "x"))) ▸ End) ▸ End) ▸ absent ▸ End)
+    ▸ End)
+    (HostCall 7 shown.Undefined (shown.Bool false ∷ []) ∷ []) (ending.Outside)
+equality_of_errors_and_texts = simp meaning_node refl
+
+-- try { null.a; } catch (e) { e(f(1)); }
+calls_of_errors :
+    Does 9 nulls []
+    (tree kind.TryStmt (block (statement (member null (codes "a")) ▸ End) ▸ tree kind.CatchClause (binding (codes "e") ▸ block (statement (call (ident (codes "e")) (call (ident (codes "f")) (whole 1 ▸ End) ▸ End)) ▸ End) ▸ End) ▸ absent ▸ End)
+    ▸ End)
+    (HostCall 7 shown.Undefined (shown.Num (js_number.Whole (pos 1)) ∷ []) ∷ []) (ending.Outside)
+calls_of_errors = simp meaning_node refl
+
+-- f(1); delete f.a;
+deletion_of_host_members :
+    Does 9 nulls []
+    (statement (call (ident (codes "f")) (whole 1 ▸ End))
+    ▸ statement (unary unary.Delete (member (ident (codes "f")) (codes "a")))
+    ▸ End)
+    (HostCall 7 shown.Undefined (shown.Num (js_number.Whole (pos 1)) ∷ []) ∷ []) (ending.Outside)
+deletion_of_host_members = simp meaning_node refl
+
+-- function h() { f(1); delete arguments.length; } h();
+deletion_of_the_length_of_arguments :
+    Does 9 nulls []
+    (declare_function (codes "h") End (statement (call (ident (codes "f")) (whole 1 ▸ End)) ▸ statement (unary unary.Delete (member (ident (codes "arguments")) (codes "length"))) ▸ End)
+    ▸ statement (call (ident (codes "h")) End)
+    ▸ End)
+    (HostCall 7 shown.Undefined (shown.Num (js_number.Whole (pos 1)) ∷ []) ∷ []) (ending.Outside)
+deletion_of_the_length_of_arguments = simp meaning_node refl
+
+-- { let x = 1; } f(1); x;
+names_of_other_scopes :
+    Does 9 nulls []
+    (block (declare Let (codes "x") (whole 1) ▸ End)
+    ▸ statement (call (ident (codes "f")) (whole 1 ▸ End))
+    ▸ statement (ident (codes "x"))
+    ▸ End)
+    (HostCall 7 shown.Undefined (shown.Num (js_number.Whole (pos 1)) ∷ []) ∷ []) (ending.Outside)
+names_of_other_scopes = simp meaning_node refl
+
+-- f(1); 1 in f;
+members_in_no_object_of_the_program :
+    Does 9 nulls []
+    (statement (call (ident (codes "f")) (whole 1 ▸ End))
+    ▸ statement (binary binary.In (whole 1) (ident (codes "f")))
+    ▸ End)
+    (HostCall 7 shown.Undefined (shown.Num (js_number.Whole (pos 1)) ∷ []) ∷ []) (ending.Outside)
+members_in_no_object_of_the_program = simp meaning_node refl
+
+-- f(1); $break.x;
+breaks_out_of_nothing :
+    Does 9 nulls []
+    (statement (call (ident (codes "f")) (whole 1 ▸ End))
+    ▸ tree kind.BreakStmt (absent ▸ End)
+    ▸ End)
+    (HostCall 7 shown.Undefined (shown.Num (js_number.Whole (pos 1)) ∷ []) ∷ []) (ending.Outside)
+breaks_out_of_nothing = simp meaning_node refl
+
+-- f(1); $continue.x;
+continues_of_nothing :
+    Does 9 nulls []
+    (statement (call (ident (codes "f")) (whole 1 ▸ End))
+    ▸ tree kind.ContinueStmt (absent ▸ End)
+    ▸ End)
+    (HostCall 7 shown.Undefined (shown.Num (js_number.Whole (pos 1)) ∷ []) ∷ []) (ending.Outside)
+continues_of_nothing = simp meaning_node refl
+
+-- f(1); $new_target.x;
+new_target_of_modules :
+    Does 9 nulls []
+    (statement (call (ident (codes "f")) (whole 1 ▸ End))
+    ▸ statement (tree (kind.MetaPropExpr NewTarget) End)
+    ▸ End)
+    (HostCall 7 shown.Undefined (shown.Num (js_number.Whole (pos 1)) ∷ []) ∷ []) (ending.Outside)
+new_target_of_modules = simp meaning_node refl
+
+-- f(1); $super.x;
+super_members_of_modules :
+    Does 9 nulls []
+    (statement (call (ident (codes "f")) (whole 1 ▸ End))
+    ▸ statement (super_member (codes "x"))
+    ▸ End)
+    (HostCall 7 shown.Undefined (shown.Num (js_number.Whole (pos 1)) ∷ []) ∷ []) (ending.Outside)
+super_members_of_modules = simp meaning_node refl
+
+-- f(1); $escape.x;
+ill_formed_escapes :
+    Does 9 nulls []
+    (statement (call (ident (codes "f")) (whole 1 ▸ End))
+    ▸ statement (tree kind.Tpl (list End ▸ list (tree (kind.TplElement (codes "\\u") None true) End ▸ End) ▸ End))
+    ▸ End)
+    (HostCall 7 shown.Undefined (shown.Num (js_number.Whole (pos 1)) ∷ []) ∷ []) (ending.Outside)
+ill_formed_escapes = simp meaning_node refl
+
+-- class A { $arguments; } f(1); new A();
+arguments_in_fields :
+    Does 9 nulls []
+    (declare_class (codes "A") absent (field false (key (codes "x")) (ident (codes "arguments")) ▸ End)
+    ▸ statement (call (ident (codes "f")) (whole 1 ▸ End))
+    ▸ statement (new' (ident (codes "A")) End)
+    ▸ End)
+    (HostCall 7 shown.Undefined (shown.Num (js_number.Whole (pos 1)) ∷ []) ∷ []) (ending.Outside)
+arguments_in_fields = simp meaning_node refl
+
+-- class A { $property; } f(1); new A(2);
+parameter_properties :
+    Does 9 nulls []
+    (declare_class (codes "A") absent (tree (kind.Constructor None false) (key (codes "constructor") ▸ list (tree (kind.TsParamProp None false false) (binding (codes "x") ▸ End) ▸ End) ▸ block End ▸ End) ▸ End)
+    ▸ statement (call (ident (codes "f")) (whole 1 ▸ End))
+    ▸ statement (new' (ident (codes "A")) (whole 2 ▸ End))
+    ▸ End)
+    (HostCall 7 shown.Undefined (shown.Num (js_number.Whole (pos 1)) ∷ []) ∷ []) (ending.Outside)
+parameter_properties = simp meaning_node refl
 
 -- f(1); E; $enum.E;
 names_of_enums_before_them :

@@ -18,6 +18,9 @@ use Rattle.ecma_runs.proofs.Kept.{AllNodes, StepsAlike, layer_same, run_module_a
 use Rattle.ecma_runs.proofs.Layers.{same_names, always, nothing_excused, the_same, same_kind, kept_layer, itself_layers}
 use Rattle.ecma_runs.proofs.Growing.{observed_events}
 
+none_used : false ≡ true → ⊥
+none_used u = cc
+
 -- the same run, in which nothing is used, and of which is said that there are no events
 abbrev quiet : List Id → Change
 quiet declared = record {
@@ -34,7 +37,7 @@ quiet declared = record {
   falls = λ n h. tt;
   uses = false;
   said = λ events. events ≡ [];
-  adds = λ u events event h. absurd (cc);
+  adds = λ u events event h. absurd (none_used u);
 }
 
 both_true : (a b : Bool) → a && b ≡ true → (a ≡ true) × (b ≡ true)
