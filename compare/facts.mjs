@@ -52,7 +52,7 @@ const modules = [
 
 /** The `use` lines of a file of facts: what its text names. */
 function uses(text) {
-  const words = new Set(text.replace(/"(?:[^"\\]|\\.)*"/g, "").replace(/^--.*$/gm, "").match(/[\p{L}_][\p{L}\p{N}_']*/gu));
+  const words = new Set(text.replace(/"(?:[^"\\]|\\.)*"/g, "").replace(/^--.*$/gm, "").match(/[\p{L}_][\p{L}\p{N}_']*(?![\p{L}\p{N}_'.])/gu));
   const has = (name) => ["◌▸◌", "[]", "◌∷◌"].includes(name) || words.has(name);
   const lines = [];
   for (const [module, names] of modules) {

@@ -11,7 +11,7 @@ use Rattle.ecma_runs.specs.declared.observation.Event.TheVariants.{HostCall}
 use Rattle.ecma_runs.specs.declared.observation.Ending.TheVariants as ending
 use Rattle.ecma_runs.specs.declared.shown.ErrorKind.TheVariants as error
 use Rattle.ecma_runs.specs.declared.shown.Shown.TheVariants as shown
-use Rattle.ecma_runs.proofs.Trees.{End, ◌▸◌, tree, absent, list, ident, key, computed, whole, truth, string, null, member, call, assign, unary, binary, parens, object, property, statement, declare, arrow, class', meaning_node}
+use Rattle.ecma_runs.proofs.Trees.{End, ◌▸◌, tree, absent, list, ident, key, computed, whole, truth, string, null, member, call, unary, binary, parens, object, property, statement, declare, arrow, class', meaning_node}
 use Rattle.ecma_runs.proofs.Scripts.{Does, nulls}
 use Rattle.std.specs.Fmt.{digits}
 use Rattle.std.specs.Str.{chars}
