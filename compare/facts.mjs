@@ -71,7 +71,7 @@ let count = 0;
 for (const { file, title, facts } of topics) {
   let text = "";
   for (const [name, source, options = {}] of facts) {
-    const open = file === "FactsOpen";
+    const open = file.startsWith("FactsOpen");
     const { turns = 9, answers, actions = [], tree, unfold } = options;
     const before = options.before ?? (open && !options.whole ? "f(1);" : undefined);
     const ending = options.ending ?? (open ? "Outside" : undefined);

@@ -33,3 +33,4 @@ mod FactsClasses
 mod FactsStatements
 mod FactsTypes
 mod FactsOpen
+mod FactsOpenKinds
