@@ -20,43 +20,40 @@ TOP = pathlib.Path(__file__).resolve().parent.parent
 PROGRAM = TOP / "crates" / "ts_to_js_cli" / "out" / "ts_to_js_cli"
 
 
-def declarations(size):
+def declaration(number):
     """Declarations with types, members and calls: the language that is read today."""
-    pieces, length, number = [], 0, 0
-    while length < size:
-        piece = (
-            f"type Row{number} = records.Row;\n"
-            f"const total{number}: records.Total = source.rows.first(\"row {number}\", {number}, true)"
-            f".value as records.Total;\n"
-            f"log.info(total{number}, 'at', {number}.5e1, null,);\n"
-        )
-        pieces.append(piece)
-        length += len(piece)
-        number += 1
-    return "".join(pieces)
+    return (
+        f"type Row{number} = records.Row;\n"
+        f"const total{number}: records.Total = source.rows.first(\"row {number}\", {number}, true)"
+        f".value as records.Total;\n"
+        f"log.info(total{number}, 'at', {number}.5e1, null,);\n"
+    )
 
 
-def real_shape(size):
+def real_shape(number):
     """Statements as programs have them: comments, deep members, calls, arrows, objects, conditions, types."""
-    pieces, length, number = [], 0, 0
+    return (
+        f"/**\n * Reads the row of a request, and hands it on.\n * @param request what was asked for\n */\n"
+        f"export const handle{number} = (request: server.Request, reply: server.Reply) =>\n"
+        f"  reply.headers.content.set({{ kind: \"row\", index: {number}, cached: request.query.cached ?? false }});\n"
+        f"// The last of them wins.\n"
+        f"const last{number}: Array<{{ id: number; name?: string }}> = store.tables.rows\n"
+        f"  .filter((row) => row.id > {number} && row.name !== undefined)\n"
+        f"  .map((row) => ({{ ...row, name: `${{row.name}}:${{row.id}}` }}));\n"
+        f"log.debug(last{number}.length === 0 ? \"none\" : last{number}[0]!.name, [{number}, -1, +2]);\n"
+    )
+
+
+def module(piece, size):
+    """Pieces, numbered from 0, until the module has that size."""
+    pieces, length = [], 0
     while length < size:
-        piece = (
-            f"/**\n * Reads the row of a request, and hands it on.\n * @param request what was asked for\n */\n"
-            f"export const handle{number} = (request: server.Request, reply: server.Reply) =>\n"
-            f"  reply.headers.content.set({{ kind: \"row\", index: {number}, cached: request.query.cached ?? false }});\n"
-            f"// The last of them wins.\n"
-            f"const last{number}: Array<{{ id: number; name?: string }}> = store.tables.rows\n"
-            f"  .filter((row) => row.id > {number} && row.name !== undefined)\n"
-            f"  .map((row) => ({{ ...row, name: `${{row.name}}:${{row.id}}` }}));\n"
-            f"log.debug(last{number}.length === 0 ? \"none\" : last{number}[0]!.name, [{number}, -1, +2]);\n"
-        )
-        pieces.append(piece)
-        length += len(piece)
-        number += 1
+        pieces.append(piece(len(pieces)))
+        length += len(pieces[-1])
     return "".join(pieces)
 
 
-MODULES = {"declarations": declarations, "real shape": real_shape}
+PIECES = {"declarations": declaration, "real shape": real_shape}
 
 
 def run(words, source):
@@ -77,11 +74,11 @@ def best(words, source, runs):
     return min(time for _, time, _ in results), max(memory for _, _, memory in results)
 
 
-def compare(name, make, megabytes, runs, folder):
+def compare(name, piece, megabytes, runs, folder):
     size = int(megabytes * 1024 * 1024)
     whole, quarter = folder / f"{name.replace(' ', '_')}.ts", folder / "quarter.ts"
-    whole.write_text(make(size))
-    quarter.write_text(make(size // 4))
+    whole.write_text(module(piece, size))
+    quarter.write_text(module(piece, size // 4))
     print(f"{name}: {whole.stat().st_size / 1024 / 1024:.2f} MB")
     ours = best([str(PROGRAM)], whole, runs)
     if ours is None:
@@ -112,8 +109,8 @@ def main():
     with tempfile.TemporaryDirectory() as made:
         folder = given.keep or pathlib.Path(made)
         folder.mkdir(parents=True, exist_ok=True)
-        for name, make in MODULES.items():
-            compare(name, make, given.megabytes, given.runs, folder)
+        for name, piece in PIECES.items():
+            compare(name, piece, given.megabytes, given.runs, folder)
 
 
 if __name__ == "__main__":
