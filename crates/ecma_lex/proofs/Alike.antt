@@ -1,16 +1,16 @@
 -- Literals are read the same of two texts in which the same characters stand, from one place on in the one and from another in the other, up to the
 -- end of the literal.
-use Rattle.std.proofs.Common.{◌≡◌, ℕ, zero, suc, ◌+◌, ◌-◌, ◌<◌, ◌≤◌, List, [], ◌∷◌, ◌++◌, length, refl, ap, sym, ◌∙◌, subst, arith, Option, Some, None, Bool, true, false, cond, not, ◌&&◌, ◌||◌, nat_lt, nat_le, nat_eq, is_some}
-use Rattle.std.specs.Char.{len_utf8, is_digit, is_ascii_digit}
+use Rattle.std.proofs.Common.{◌≡◌, ℕ, zero, suc, ◌+◌, ◌-◌, ◌<◌, ◌≤◌, List, refl, ap, sym, ◌∙◌, subst, arith, Option, Some, None, Bool, true, false, cond, not, ◌||◌, nat_le, nat_eq, is_some}
+use Rattle.std.specs.Char.{len_utf8, is_ascii_digit}
 use Rattle.std.specs.Str.{chars}
 use Rattle.std.proofs.lemmas.Str.{len_utf8_ascii}
 use Rattle.std.proofs.lemmas.Bool.{false≢true, eqb-true, eq-eqb}
 use Rattle.ecma_lex.specs.Text.{piece}
 use Rattle.ecma_number.specs.Blanks.{is_line_terminator}
-use Rattle.ecma_lex.specs.Parts.{Part, char_at, passes, passing, code_point, any, then_at, or_at, ◌>>◌, ◌//◌, many, unless, nothing}
+use Rattle.ecma_lex.specs.Parts.{Part, char_at, passes, passing, code_point, then_at, or_at, ◌>>◌, ◌//◌, many, unless, nothing}
 use Rattle.ecma_lex.specs.Escapes.{is_hex_digit, is_character_escape, hex_digit, hex4_digits, hex_digits, hex_value, hex_escape_sequence, braced_digits, unicode_escape_sequence, hex_or_unicode, if_code_point, numeric_escape, character_escape_sequence, decimal_digit, null_escape, escape_sequence, cr_lf, line_terminator_sequence, escape}
 use Rattle.ecma_lex.specs.Values.{string_part, literal_part}
-use Rattle.ecma_lex.proofs.Repeats.{none_some, Forward, Moves, forward_many, moves_forward, many_none, many_some}
+use Rattle.ecma_lex.proofs.Repeats.{none_some, Moves, forward_many, moves_forward, many_none, many_some}
 use Rattle.ecma_lex.proofs.Literals.{passing_here, moves_hex_digit, moves_hex_or_unicode}
 
 -- what ends a literal begins with: `"`, `$`, `'` and the backtick

@@ -1,14 +1,14 @@
 -- Characters that say themselves in each literal.
-use Rattle.std.proofs.Common.{◌≡◌, ℕ, ◌+◌, ◌<◌, List, [], ◌∷◌, refl, ap, sym, ◌∙◌, arith, Option, Some, None, Bool, true, false, cond, not, ◌&&◌, ◌||◌, nat_lt, nat_le, nat_eq, is_some}
+use Rattle.std.proofs.Common.{◌≡◌, ℕ, ◌+◌, ◌<◌, List, [], ◌∷◌, refl, ap, sym, ◌∙◌, arith, Some, None, Bool, true, false, not, ◌&&◌, ◌||◌, nat_lt, nat_le, nat_eq, is_some}
 use Rattle.std.proofs.lemmas.Bool.{and_parts, eqb-true, ltb-true}
 use Rattle.std.proofs.lemmas.Str.{len_utf8_ascii}
 use Rattle.std.specs.Char.{len_utf8, encode_utf8}
 use Rattle.ecma_number.specs.Blanks.{is_line_terminator}
-use Rattle.ecma_lex.specs.Parts.{Part, char_at, passes, passing, code_point, or_at, ◌>>◌, ◌//◌, unless}
-use Rattle.ecma_lex.specs.Escapes.{line_terminator_sequence, escape, listed}
+use Rattle.ecma_lex.specs.Parts.{char_at, passing, code_point, or_at, ◌>>◌}
+use Rattle.ecma_lex.specs.Escapes.{line_terminator_sequence, escape}
 use Rattle.ecma_lex.specs.Values.{is_plain, string_part, literal_part, part_value, part_value_of, value_behind, onto}
 use Rattle.ecma_lex.specs.Strings.{is_quote, no_string_character, string_character}
-use Rattle.ecma_lex.specs.Templates.{part_end_at, ill_formed_escape, template_part, template_character}
+use Rattle.ecma_lex.specs.Templates.{template_text_end_at, ill_formed_escape, template_part, template_character}
 use Rattle.ecma_lex.proofs.Literals.{or_none, passing_here, no_terminator}
 use Rattle.ecma_lex.proofs.Sayings.{says_itself, read_some, no_part}
 use Rattle.ecma_lex.proofs.Alike.{apart}
@@ -55,7 +55,7 @@ module _ (text : List ℕ) where
   pub plain_template : (tagged : Bool) (i c : ℕ) → char_at text i ≡ Some c → is_plain c ≡ true → template_character tagged text i ≡ Some (i + 1)
   unfolding template_character template_part
   plain_template tagged i c e h =
-      let no : is_some (part_end_at text i) ≡ false =
+      let no : is_some (template_text_end_at text i) ≡ false =
       end_is text i ∙ ap (λ o. ends_by o (char_at text (i + 1))) e ∙ rw (apart is_plain c 96 refl h, apart is_plain c 36 refl h) refl in
       rw no (ap (or_at (ill_formed_escape tagged) text i) (plain_part true i c e h))
 

@@ -1,17 +1,17 @@
 -- What the text of a literal says, part by part.
 use Rattle.std.proofs.Common.{◌≡◌, ℕ, zero, suc, ◌+◌, ◌-◌, ◌<◌, ◌≤◌, List, [], ◌∷◌, ◌++◌, length, get_or, refl, ap, sym, ◌∙◌, subst, arith, append_assoc, Option, Some, None, Bool, true, false, cond, not, ◌&&◌, ◌||◌, nat_lt, nat_le, nat_eq, is_some, map}
 use Rattle.std.proofs.lemmas.List.{append-nil}
-use Rattle.std.proofs.lemmas.Str.{utf16_chars-nil, utf16_chars_lone, utf16_chars_pair}
-use Rattle.std.specs.Prelude.{option_map, unwrap_or}
+use Rattle.std.proofs.lemmas.Str.{utf16_chars_lone, utf16_chars_pair}
+use Rattle.std.specs.Prelude.{unwrap_or}
 use Rattle.std.specs.List.{list_any}
 use Rattle.std.specs.Str.{encode_utf8_all}
 use Rattle.std.specs.Char.{encode_utf8}
-use Rattle.std.specs.Char.Utf16.{is_high_surrogate, is_low_surrogate, surrogate_pair_char, lone_unit_char, utf16_chars, has_unpaired_surrogate, utf16_lossy_chars}
-use Rattle.ecma_lex.specs.Parts.{char_at, many}
-use Rattle.ecma_lex.specs.Values.{IsHigh, literal_part, part_value, code_points_up_to, code_points, text_of, ends_at, value_behind, literal_value, onto, bytes_of, Joins}
+use Rattle.std.specs.Char.Utf16.{is_high_surrogate, is_low_surrogate, surrogate_pair_char, lone_unit_char, utf16_chars}
+use Rattle.ecma_lex.specs.Parts.{many}
+use Rattle.ecma_lex.specs.Values.{IsHigh, literal_part, part_value, code_points_up_to, code_points, text_of, ends_at, value_behind, onto, bytes_of, Joins}
 use Rattle.ecma_lex.specs.declared.values.Joined.{Joined}
 use Rattle.ecma_lex.specs.Escapes.{listed}
-use Rattle.ecma_lex.proofs.Repeats.{none_some, many_none, many_some}
+use Rattle.ecma_lex.proofs.Repeats.{many_none, many_some}
 use Rattle.ecma_lex.proofs.Literals.{moves_part, after_start}
 
 pub onto_twice : (xs ys : List ℕ) (o : Option (List ℕ)) → onto xs (onto ys o) ≡ onto (xs ++ ys) o

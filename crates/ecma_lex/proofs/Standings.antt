@@ -1,15 +1,15 @@
 -- A piece of a text, by itself and where it stands: the same characters and the same pieces.
-use Rattle.std.proofs.Common.{◌≡◌, ℕ, ◌+◌, ◌-◌, ◌<◌, ◌≤◌, List, [], ◌∷◌, ◌++◌, length, drop, take, refl, ap, sym, ◌∙◌, subst, arith, Option, Some, None, Bool, true, false, cond, ◌&&◌, nat_le, length-append, length-drop}
-use Rattle.std.proofs.lemmas.List.{append-nil, drop-drop, drop-append-le, take-append-drop}
+use Rattle.std.proofs.Common.{◌≡◌, ℕ, ◌+◌, ◌-◌, ◌<◌, ◌≤◌, List, [], ◌∷◌, ◌++◌, length, drop, take, refl, ap, sym, ◌∙◌, arith, Some, Bool, true, false, nat_le, length-append, length-drop}
+use Rattle.std.proofs.lemmas.List.{drop-drop, drop-append-le, take-append-drop}
 use Rattle.std.proofs.lemmas.Str.{chars-append, encodes-chars, IsUtf8-drop, IsUtf8-between}
 use Rattle.std.specs.Str.{IsUtf8, chars}
 use Rattle.std.specs.List.{slice_get}
 use Rattle.std.specs.Char.{len_utf8}
 use lib.Utf8.{encodes}
-use Rattle.ecma_lex.specs.Text.{IsPiece, cuts, after, piece}
+use Rattle.ecma_lex.specs.Text.{IsPiece, cuts, piece}
 use Rattle.ecma_lex.specs.Parts.{char_at}
 use Rattle.ecma_lex.proofs.Steps.{cut, may_cut, after_is, after_not, after_cut, step, fits}
-use Rattle.ecma_lex.proofs.Suffixes.{Cut, cut_utf8, Stands, cuts_inside, piece_inside}
+use Rattle.ecma_lex.proofs.Suffixes.{Stands, cuts_inside, piece_inside}
 use Rattle.ecma_lex.proofs.Alike.{Alike, is_end}
 
 first_of_front : (xs ys : List ℕ) → 0 < length xs → slice_get (xs ++ ys) 0 ≡ slice_get xs 0

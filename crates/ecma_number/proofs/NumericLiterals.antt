@@ -1,5 +1,5 @@
 -- A production takes the same characters of every text in which they stand in front of something that does not go on with it.
-use Rattle.std.proofs.Common.{◌≡◌, ◌≢◌, ◌∙◌, sym, ap, refl, ℕ, ◌+◌, ◌≤◌, ◌<◌, Bool, true, false, cond, not, ◌&&◌, ◌||◌, eqb, nat_lt, subst, List, [], ◌∷◌, ◌++◌, append_assoc, Option, Some, None, is_some, arith}
+use Rattle.std.proofs.Common.{◌≡◌, ◌≢◌, ◌∙◌, sym, ap, refl, ℕ, ◌≤◌, ◌<◌, Bool, true, false, cond, not, ◌&&◌, ◌||◌, eqb, nat_lt, subst, List, [], ◌∷◌, ◌++◌, append_assoc, append-nil, Option, Some, None, is_some, ◌⊎◌, inl, inr, arith}
 use Rattle.std.specs.Prelude.{ℤ, pos}
 use Rattle.std.specs.List.{list_all}
 use Rattle.std.specs.Char.{is_digit, eq_ignore_ascii_case}
@@ -202,12 +202,15 @@ is_part c = is_digit c 36 || (eqb c 95 || eqb c 46)
 abbrev pub goes_on : Test
 goes_on = begins is_part
 
--- the same but for the letter of an exponent, but for that and the point, and but for the letter of a BigInt
+-- the same but for the letter of an exponent, but for that and the point, but for the point alone, and but for the letter of a BigInt
 abbrev in_mantissa : ℕ → Bool
 in_mantissa c = is_part c && not (eq_ignore_ascii_case c 101)
 
 abbrev in_integer : ℕ → Bool
 in_integer c = in_mantissa c && not (eqb c 46)
+
+abbrev in_pointed : ℕ → Bool
+in_pointed c = is_part c && not (eqb c 46)
 
 abbrev in_big_int : ℕ → Bool
 in_big_int c = is_part c && not (eqb c 110)
@@ -223,6 +226,9 @@ stops_mantissa c text h = (grind (arith, nat_tests), grind (arith, nat_tests))
 
 stops_integer : Stops 10 (begins in_integer)
 stops_integer c text h = (grind (arith, nat_tests), grind (arith, nat_tests))
+
+stops_pointed : (radix : ℕ) → radix ≤ 36 → Stops radix (begins in_pointed)
+stops_pointed radix most c text h = (grind (arith, nat_tests), grind (arith, nat_tests))
 
 stops_big_int : (radix : ℕ) → radix ≤ 16 → Stops radix (begins in_big_int)
 stops_big_int radix most c text h = (grind (arith, nat_tests), grind (arith, nat_tests))
@@ -279,6 +285,10 @@ nonzero_begins (c ∷ text) none h = at (eqb c 48) none
     at true k = none_some (sym k)
     at false k = rw h refl
 
+-- a fraction with no integer before its point
+abbrev fraction_alone : Reading MathematicalValue
+fraction_alone = code_point 46 >> (digits Literal 10 >>= λ fraction. pure (with_fraction no_digits fraction))
+
 module _ (other : Test) (apart : (c : ℕ) (text : List ℕ) → eqb c 48 ≡ false → other (c ∷ text) ≡ false) where
   integer_takes : (test : Test) → Stops 10 test → ((text : List ℕ) → test text ≡ false → other (48 ∷ text) ≡ false) → Takes (decimal_integer Literal) test other
   unfolding decimal_integer
@@ -287,11 +297,11 @@ module _ (other : Test) (apart : (c : ℕ) (text : List ℕ) → eqb c 48 ≡ fa
       (behind_takes (code_point 48) (pure no_digits) test test other (point_plain 48 (omega arith)) (λ c text h n. known 48 (λ d. other (d ∷ text) ≡ false) (zero text n) c h) (pure_takes no_digits test))
       (λ text value rest none h. digits_taken Literal 10 (omega arith) test stops is_nonzero nonzero_digit (λ l. is_some (zero_alone l) || other l) (λ c l k. (let z = nonzero_apart c k in rw z (apart c l z))) text value rest (nonzero_begins text none) h)
 
-  point_takes : Takes (point_and_digits Literal) (begins in_mantissa) (begins in_integer)
+  point_takes : (test : Test) → Stops 10 test → Takes (point_and_digits Literal) test (begins in_integer)
   unfolding point_and_digits
-  point_takes =
-      behind_takes (code_point 46) (maybe no_digits (digits Literal 10)) (begins in_mantissa) never (begins in_integer) (point_plain 46 (omega arith)) (λ c text h n. known 46 (λ d. in_integer d ≡ false) refl c h)
-      (maybe_takes no_digits (digits Literal 10) (begins in_mantissa) never (digits_takes Literal 10 (omega arith) (begins in_mantissa) stops_mantissa never (λ c text h. refl)) (λ next h. (no_digits_there Literal 10 (omega arith) (begins in_mantissa) stops_mantissa next h, refl)))
+  point_takes test stops =
+      behind_takes (code_point 46) (maybe no_digits (digits Literal 10)) test never (begins in_integer) (point_plain 46 (omega arith)) (λ c text h n. known 46 (λ d. in_integer d ≡ false) refl c h)
+      (maybe_takes no_digits (digits Literal 10) test never (digits_takes Literal 10 (omega arith) test stops never (λ c text h. refl)) (λ next h. (no_digits_there Literal 10 (omega arith) test stops next h, refl)))
 
   no_point : (next : List ℕ) → begins in_mantissa next ≡ false → point_and_digits Literal next ≡ None
   unfolding point_and_digits
@@ -301,22 +311,26 @@ module _ (other : Test) (apart : (c : ℕ) (text : List ℕ) → eqb c 48 ≡ fa
   fraction_takes : (whole : Digits) → Takes (fraction_behind Literal whole) (begins in_mantissa) (begins in_integer)
   fraction_takes whole =
       then_takes (maybe no_digits (point_and_digits Literal)) (λ fraction. pure (with_fraction whole fraction)) (begins in_mantissa) (begins in_mantissa) (begins in_integer)
-      (maybe_takes no_digits (point_and_digits Literal) (begins in_mantissa) (begins in_integer) point_takes (λ next h. (no_point next h, fewer in_mantissa (λ c. not (eqb c 46)) next h)))
+      (maybe_takes no_digits (point_and_digits Literal) (begins in_mantissa) (begins in_integer) (point_takes (begins in_mantissa) stops_mantissa) (λ next h. (no_point next h, fewer in_mantissa (λ c. not (eqb c 46)) next h)))
       (λ fraction. pure_takes (with_fraction whole fraction) (begins in_mantissa))
 
   no_integer : (text : List ℕ) → is_some ((decimal_integer Literal >>= fraction_behind Literal) (46 ∷ text)) ≡ false
   unfolding decimal_integer digits
   no_integer text = refl
 
+  -- digits behind a point, which no integer begins with
+  fraction_alone_takes : (test : Test) → Stops 10 test → Takes fraction_alone test (λ l. is_some ((decimal_integer Literal >>= fraction_behind Literal) l) || other l)
+  fraction_alone_takes test stops =
+      behind_takes (code_point 46) (digits Literal 10 >>= λ fraction. pure (with_fraction no_digits fraction)) test never (λ l. is_some ((decimal_integer Literal >>= fraction_behind Literal) l) || other l) (point_plain 46 (omega arith))
+      (λ c l k n. known 46 (λ d. (is_some ((decimal_integer Literal >>= fraction_behind Literal) (d ∷ l)) || other (d ∷ l)) ≡ false) (let i = no_integer l in rw i (apart 46 l refl)) c k)
+      (then_takes (digits Literal 10) (λ fraction. pure (with_fraction no_digits fraction)) test test never (digits_takes Literal 10 (omega arith) test stops never (λ c l k. refl)) (λ fraction. pure_takes (with_fraction no_digits fraction) test))
+
   mantissa_takes : ((text : List ℕ) → begins in_integer text ≡ false → other (48 ∷ text) ≡ false) → Takes (mantissa Literal) (begins in_mantissa) other
   unfolding mantissa
   mantissa_takes zero =
-      or_takes (decimal_integer Literal >>= fraction_behind Literal) (code_point 46 >> (digits Literal 10 >>= λ fraction. pure (with_fraction no_digits fraction))) (begins in_mantissa) other
+      or_takes (decimal_integer Literal >>= fraction_behind Literal) fraction_alone (begins in_mantissa) other
       (then_takes (decimal_integer Literal) (fraction_behind Literal) (begins in_integer) (begins in_mantissa) other (integer_takes (begins in_integer) stops_integer zero) fraction_takes)
-      (λ text value rest none h. behind_takes (code_point 46) (digits Literal 10 >>= λ fraction. pure (with_fraction no_digits fraction)) (begins in_mantissa) never (λ l. is_some ((decimal_integer Literal >>= fraction_behind Literal) l) || other l) (point_plain 46 (omega arith))
-      (λ c l k n. known 46 (λ d. (is_some ((decimal_integer Literal >>= fraction_behind Literal) (d ∷ l)) || other (d ∷ l)) ≡ false) (let i = no_integer l in rw i (apart 46 l refl)) c k)
-      (then_takes (digits Literal 10) (λ fraction. pure (with_fraction no_digits fraction)) (begins in_mantissa) (begins in_mantissa) never (digits_takes Literal 10 (omega arith) (begins in_mantissa) stops_mantissa never (λ c l k. refl)) (λ fraction. pure_takes (with_fraction no_digits fraction) (begins in_mantissa)))
-      text value rest h)
+      (λ text value rest none h. fraction_alone_takes (begins in_mantissa) stops_mantissa text value rest h)
 
   sign_takes : Takes sign (begins is_sign) never
   sign_takes =
@@ -333,16 +347,16 @@ module _ (other : Test) (apart : (c : ℕ) (text : List ℕ) → eqb c 48 ≡ fa
   unfolding is_sign
   digit_no_sign c h = grind (arith, nat_tests)
 
-  signed_takes : Takes (signed_integer Literal) goes_on never
+  signed_takes : (test : Test) → Stops 10 test → Takes (signed_integer Literal) test never
   unfolding signed_integer
-  signed_takes =
-      then_takes (maybe false sign) (λ negative. digits Literal 10 >>= λ size. pure (signed negative size.mv)) (begins is_sign) goes_on never
+  signed_takes test stops =
+      then_takes (maybe false sign) (λ negative. digits Literal 10 >>= λ size. pure (signed negative size.mv)) (begins is_sign) test never
       (maybe_takes false sign (begins is_sign) never sign_takes (λ next h. (no_sign next h, refl)))
-      (λ negative. then_takes (digits Literal 10) (λ size. pure (signed negative size.mv)) goes_on goes_on (begins is_sign) (digits_takes Literal 10 (omega arith) goes_on (stops_all 10 (omega arith)) (begins is_sign) (λ c l k. digit_no_sign c k)) (λ size. pure_takes (signed negative size.mv) goes_on))
+      (λ negative. then_takes (digits Literal 10) (λ size. pure (signed negative size.mv)) test test (begins is_sign) (digits_takes Literal 10 (omega arith) test stops (begins is_sign) (λ c l k. digit_no_sign c k)) (λ size. pure_takes (signed negative size.mv) test))
 
-  exponent_takes : Takes (exponent_part Literal) goes_on (begins in_mantissa)
+  exponent_takes : (test : Test) → Stops 10 test → Takes (exponent_part Literal) test (begins in_mantissa)
   unfolding exponent_part
-  exponent_takes = behind_takes (letter 101) (signed_integer Literal) goes_on never (begins in_mantissa) (letter_plain 101 (omega arith) (omega arith)) (λ c l k n. rw k (off (is_part c))) signed_takes
+  exponent_takes test stops = behind_takes (letter 101) (signed_integer Literal) test never (begins in_mantissa) (letter_plain 101 (omega arith) (omega arith)) (λ c l k n. rw k (off (is_part c))) (signed_takes test stops)
     where
       off : (b : Bool) → (b && false) ≡ false
       off true = refl
@@ -358,7 +372,7 @@ module _ (other : Test) (apart : (c : ℕ) (text : List ℕ) → eqb c 48 ≡ fa
   decimal_takes zero =
       then_takes (mantissa Literal) (λ value. maybe (pos 0) (exponent_part Literal) >>= λ power. pure (times_power value power)) (begins in_mantissa) goes_on other (mantissa_takes zero)
       (λ value. then_takes (maybe (pos 0) (exponent_part Literal)) (λ power. pure (times_power value power)) goes_on goes_on (begins in_mantissa)
-      (maybe_takes (pos 0) (exponent_part Literal) goes_on (begins in_mantissa) exponent_takes (λ next h. (no_exponent next h, fewer is_part (λ c. not (eq_ignore_ascii_case c 101)) next h)))
+      (maybe_takes (pos 0) (exponent_part Literal) goes_on (begins in_mantissa) (exponent_takes goes_on (stops_all 10 (omega arith))) (λ next h. (no_exponent next h, fewer is_part (λ c. not (eq_ignore_ascii_case c 101)) next h)))
       (λ power. pure_takes (times_power value power) goes_on))
 
 module _ (test : Test) (stops : (radix : ℕ) → radix ≤ 16 → Stops radix test) where
@@ -416,6 +430,182 @@ big_int_literal_takes =
     (or_takes (non_decimal_integer_literal Literal) (decimal_integer Literal) (begins in_big_int) never (non_decimal_takes (begins in_big_int) stops_big_int)
     (λ text value rest none h. integer_takes (λ l. is_some (non_decimal_integer_literal Literal l) || never l) non_decimal_apart (begins in_big_int) (stops_big_int 10 (omega arith)) non_decimal_zero text value rest h))
     (λ value. behind_takes (code_point 110) (pure value) never never (begins in_big_int) (point_plain 110 (omega arith)) (λ c l k n. known 110 (λ d. in_big_int d ≡ false) refl c k) (pure_takes value never))
+
+-- ---- a point behind a literal: it goes on with a decimal integer alone
+
+-- whether a literal with a prefix stands there
+abbrev is_prefixed : Test
+is_prefixed text = is_some (prefixed text) || never text
+
+is_none : {A : Type 0} (o : Option A) (b : Bool) → (is_some o || b) ≡ false → o ≡ None
+is_none None b e = refl
+is_none (Some x) b e = absurd (false≢true (sym e))
+
+is_off : (a b : Bool) → (a || b) ≡ false → b ≡ false
+is_off true b e = absurd (false≢true (sym e))
+is_off false b e = e
+
+-- what is taken of a whole word is taken in front of a point too
+record Pointed {A : Type 0} (read : Reading A) (other : Test) (word : List ℕ) (value : A) (next : List ℕ) : Type 0 where
+  again : read (word ++ 46 ∷ next) ≡ Some (value, 46 ∷ next)
+  begun : other (word ++ 46 ∷ next) ≡ false
+
+pointed : {A : Type 0} (read : Reading A) (test other : Test) (word : List ℕ) (value : A) → Taken read test other word value [] → (next : List ℕ) → test (46 ∷ next) ≡ false → Pointed read other word value next
+pointed read test other word value t next closed =
+    let same : t.word ≡ word = sym (t.parts ∙ append-nil t.word) in
+    record {
+      again = subst (λ l. read (l ++ 46 ∷ next) ≡ Some (value, 46 ∷ next)) same (t.again (46 ∷ next) closed);
+      begun = subst (λ l. other (l ++ 46 ∷ next) ≡ false) same (t.begun (46 ∷ next) closed);
+    }
+
+-- a literal with an exponent, and one with a point behind its integer
+abbrev with_exponent : Reading MathematicalValue
+with_exponent = mantissa Literal >>= λ value. exponent_part Literal >>= λ power. pure (times_power value power)
+
+abbrev with_point : Reading MathematicalValue
+with_point = decimal_integer Literal >>= λ whole. point_and_digits Literal >>= λ fraction. pure (with_fraction whole fraction)
+
+with_exponent_takes : Takes with_exponent (begins in_pointed) is_prefixed
+with_exponent_takes =
+    then_takes (mantissa Literal) (λ value. exponent_part Literal >>= λ power. pure (times_power value power)) (begins in_mantissa) (begins in_pointed) is_prefixed (mantissa_takes is_prefixed prefixed_apart prefixed_zero)
+    (λ value. then_takes (exponent_part Literal) (λ power. pure (times_power value power)) (begins in_pointed) (begins in_pointed) (begins in_mantissa) (exponent_takes is_prefixed prefixed_apart (begins in_pointed) (stops_pointed 10 (omega arith))) (λ power. pure_takes (times_power value power) (begins in_pointed)))
+
+integer_taken : Takes (decimal_integer Literal) (begins in_integer) is_prefixed
+integer_taken = integer_takes is_prefixed prefixed_apart (begins in_integer) stops_integer prefixed_zero
+
+with_point_takes : Takes with_point (begins in_integer) is_prefixed
+with_point_takes =
+    then_takes (decimal_integer Literal) (λ whole. point_and_digits Literal >>= λ fraction. pure (with_fraction whole fraction)) (begins in_integer) (begins in_integer) is_prefixed integer_taken
+    (λ whole. then_takes (point_and_digits Literal) (λ fraction. pure (with_fraction whole fraction)) (begins in_integer) (begins in_integer) (begins in_integer) (point_takes is_prefixed prefixed_apart (begins in_integer) stops_integer) (λ fraction. pure_takes (with_fraction whole fraction) (begins in_integer)))
+
+prefixed_takes : Takes prefixed (begins in_pointed) never
+prefixed_takes = then_takes (non_decimal_integer_literal Literal) (λ value. pure (integer value)) (begins in_pointed) (begins in_pointed) never (non_decimal_takes (begins in_pointed) (λ radix most. stops_pointed radix (omega arith))) (λ value. pure_takes (integer value) (begins in_pointed))
+
+-- so reads the whole production
+numeric_of : (text : List ℕ) (read : Option (MathematicalValue × List ℕ)) → is_prefixed text ≡ false → decimal_literal Literal text ≡ read → numeric_literal text ≡ read
+unfolding numeric_literal
+numeric_of text read other h = let none = is_none (prefixed text) false other in rw none h
+
+decimal_of_exponent : (text : List ℕ) (read : MathematicalValue × List ℕ) → with_exponent text ≡ Some read → decimal_literal Literal text ≡ Some read
+unfolding decimal_literal
+decimal_of_exponent text read h = at (mantissa Literal text) h
+  where
+    by : (m : MathematicalValue × List ℕ) (o : Option (ℤ × List ℕ)) → then_read (λ power. pure (times_power m.0 power)) o ≡ Some read → then_read (λ power. pure (times_power m.0 power)) (or_read (pure (pos 0)) m.1 o) ≡ Some read
+    by m None k = none_some k
+    by m (Some e) k = k
+
+    at : (o : Option (MathematicalValue × List ℕ)) → then_read (λ value. exponent_part Literal >>= λ power. pure (times_power value power)) o ≡ Some read → then_read (λ value. maybe (pos 0) (exponent_part Literal) >>= λ power. pure (times_power value power)) o ≡ Some read
+    at None k = none_some k
+    at (Some m) k = by m (exponent_part Literal m.1) k
+
+decimal_of_mantissa : (text : List ℕ) (value : MathematicalValue) (rest : List ℕ) → mantissa Literal text ≡ Some (value, rest) → exponent_part Literal rest ≡ None → decimal_literal Literal text ≡ Some (times_power value (pos 0), rest)
+unfolding decimal_literal
+decimal_of_mantissa text value rest h none = rw (h, none) refl
+
+mantissa_of_point : (text : List ℕ) (read : MathematicalValue × List ℕ) → with_point text ≡ Some read → mantissa Literal text ≡ Some read
+unfolding mantissa
+mantissa_of_point text read h = at (decimal_integer Literal text) h
+  where
+    by : (d : Digits × List ℕ) (o : Option (Digits × List ℕ)) → then_read (λ fraction. pure (with_fraction d.0 fraction)) o ≡ Some read → or_read fraction_alone text (then_read (λ fraction. pure (with_fraction d.0 fraction)) (or_read (pure no_digits) d.1 o)) ≡ Some read
+    by d None k = none_some k
+    by d (Some f) k = k
+
+    at : (o : Option (Digits × List ℕ)) → then_read (λ whole. point_and_digits Literal >>= λ fraction. pure (with_fraction whole fraction)) o ≡ Some read → or_read fraction_alone text (then_read (fraction_behind Literal) o) ≡ Some read
+    at None k = none_some k
+    at (Some d) k = by d (point_and_digits Literal d.1) k
+
+mantissa_alone : (text : List ℕ) (read : Option (MathematicalValue × List ℕ)) → (decimal_integer Literal >>= fraction_behind Literal) text ≡ None → fraction_alone text ≡ read → mantissa Literal text ≡ read
+unfolding mantissa
+mantissa_alone text read none h = rw none h
+
+exponent_at_end : exponent_part Literal [] ≡ None
+unfolding exponent_part
+exponent_at_end = refl
+
+exponent_at_point : (next : List ℕ) → exponent_part Literal (46 ∷ next) ≡ None
+unfolding exponent_part
+exponent_at_point next = refl
+
+mantissa_to_point : (text : List ℕ) (whole : Digits) → decimal_integer Literal text ≡ Some (whole, 46 ∷ []) → mantissa Literal text ≡ Some (with_fraction whole no_digits, [])
+unfolding mantissa point_and_digits digits
+mantissa_to_point text whole h = rw h refl
+
+-- either the literal with the point is a literal, or the literal is taken in front of each point
+abbrev pub StopsAtPoint : List ℕ → MathematicalValue → Type 0
+StopsAtPoint word value = ((longer : MathematicalValue) × (numeric_literal (word ++ 46 ∷ []) ≡ Some (longer, []))) ⊎ ((next : List ℕ) → numeric_literal (word ++ 46 ∷ next) ≡ Some (value, 46 ∷ next))
+
+module _ (word : List ℕ) where
+  by_mantissa : (value : MathematicalValue) (other : Test) (read : Reading MathematicalValue) → ((next : List ℕ) → Pointed read other word value next) → ((text : List ℕ) → other text ≡ false → is_prefixed text ≡ false) → ((text : List ℕ) (rest : List ℕ) → other text ≡ false → read text ≡ Some (value, rest) → mantissa Literal text ≡ Some (value, rest)) → StopsAtPoint word (times_power value (pos 0))
+  by_mantissa value other read p apart reads = inr (λ next.
+      let here = p next in
+      let mantissa = reads (word ++ 46 ∷ next) (46 ∷ next) here.begun here.again in
+      numeric_of (word ++ 46 ∷ next) (Some (times_power value (pos 0), 46 ∷ next)) (apart (word ++ 46 ∷ next) here.begun) (decimal_of_mantissa (word ++ 46 ∷ next) value (46 ∷ next) mantissa (exponent_at_point next)))
+
+  by_integer : (whole : Digits) (value : MathematicalValue) → decimal_integer Literal word ≡ Some (whole, []) → StopsAtPoint word value
+  by_integer whole value h = inl (
+    times_power (with_fraction whole no_digits) (pos 0),
+    let here = pointed (decimal_integer Literal) (begins in_integer) is_prefixed word whole (integer_taken word whole [] h) [] refl in
+        numeric_of (word ++ 46 ∷ []) (Some (times_power (with_fraction whole no_digits) (pos 0), [])) here.begun (decimal_of_mantissa (word ++ 46 ∷ []) (with_fraction whole no_digits) [] (mantissa_to_point (word ++ 46 ∷ []) whole here.again) exponent_at_end),
+  )
+
+  integer_or_alone : Test
+  integer_or_alone l = is_some ((decimal_integer Literal >>= fraction_behind Literal) l) || is_prefixed l
+
+  by_alone : (value : MathematicalValue) → fraction_alone word ≡ Some (value, []) → StopsAtPoint word (times_power value (pos 0))
+  unfolding integer_or_alone
+  by_alone value h = by_mantissa value integer_or_alone fraction_alone
+      (λ next. pointed fraction_alone (begins in_integer) integer_or_alone word value (fraction_alone_takes is_prefixed prefixed_apart (begins in_integer) stops_integer word value [] h) next refl)
+      (λ text other. is_off (is_some ((decimal_integer Literal >>= fraction_behind Literal) text)) (is_prefixed text) other)
+      (λ text rest other k. mantissa_alone text (Some (value, rest)) (is_none ((decimal_integer Literal >>= fraction_behind Literal) text) (is_prefixed text) other) k)
+
+  by_point : (value : MathematicalValue) → with_point word ≡ Some (value, []) → StopsAtPoint word (times_power value (pos 0))
+  by_point value h = by_mantissa value is_prefixed with_point
+      (λ next. pointed with_point (begins in_integer) is_prefixed word value (with_point_takes word value [] h) next refl)
+      (λ text other. other)
+      (λ text rest other k. mantissa_of_point text (value, rest) k)
+
+  of_mantissa : (value : MathematicalValue) → mantissa Literal word ≡ Some (value, []) → StopsAtPoint word (times_power value (pos 0))
+  unfolding mantissa
+  of_mantissa value h = at (decimal_integer Literal word) refl h
+    where
+      by : (d : Digits × List ℕ) → decimal_integer Literal word ≡ Some d → (o : Option (Digits × List ℕ)) → point_and_digits Literal d.1 ≡ o → or_read fraction_alone word (then_read (λ fraction. pure (with_fraction d.0 fraction)) (or_read (pure no_digits) d.1 o)) ≡ Some (value, []) → StopsAtPoint word (times_power value (pos 0))
+      by d e None f k = let end : d.1 ≡ [] = ap (λ r. r.1) (some_is k) in by_integer d.0 (times_power value (pos 0)) (e ∙ ap (λ l. Some (d.0, l)) end)
+      by d e (Some g) f k = by_point value (rw (e, f) k)
+
+      at : (o : Option (Digits × List ℕ)) → decimal_integer Literal word ≡ o → or_read fraction_alone word (then_read (fraction_behind Literal) o) ≡ Some (value, []) → StopsAtPoint word (times_power value (pos 0))
+      at None e k = by_alone value k
+      at (Some d) e k = by d e (point_and_digits Literal d.1) refl k
+
+  by_exponent : (value : MathematicalValue) → with_exponent word ≡ Some (value, []) → StopsAtPoint word value
+  by_exponent value h = inr (λ next.
+      let here = pointed with_exponent (begins in_pointed) is_prefixed word value (with_exponent_takes word value [] h) next refl in
+      numeric_of (word ++ 46 ∷ next) (Some (value, 46 ∷ next)) here.begun (decimal_of_exponent (word ++ 46 ∷ next) (value, 46 ∷ next) here.again))
+
+  of_decimal : (value : MathematicalValue) → decimal_literal Literal word ≡ Some (value, []) → StopsAtPoint word value
+  unfolding decimal_literal
+  of_decimal value h = at (mantissa Literal word) refl h
+    where
+      by : (m : MathematicalValue × List ℕ) → mantissa Literal word ≡ Some m → (o : Option (ℤ × List ℕ)) → exponent_part Literal m.1 ≡ o → then_read (λ power. pure (times_power m.0 power)) (or_read (pure (pos 0)) m.1 o) ≡ Some (value, []) → StopsAtPoint word value
+      by m e None f k =
+          let end : m.1 ≡ [] = ap (λ r. r.1) (some_is k) in
+          let same : times_power m.0 (pos 0) ≡ value = ap (λ r. r.0) (some_is k) in
+          subst (StopsAtPoint word) same (of_mantissa m.0 (e ∙ ap (λ l. Some (m.0, l)) end))
+      by m e (Some g) f k = by_exponent value (rw (e, f) k)
+
+      at : (o : Option (MathematicalValue × List ℕ)) → mantissa Literal word ≡ o → then_read (λ value. maybe (pos 0) (exponent_part Literal) >>= λ power. pure (times_power value power)) o ≡ Some (value, []) → StopsAtPoint word value
+      at None e k = none_some k
+      at (Some m) e k = by m e (exponent_part Literal m.1) refl k
+
+  pub point_behind : (value : MathematicalValue) → numeric_literal word ≡ Some (value, []) → StopsAtPoint word value
+  unfolding numeric_literal
+  point_behind value h = at (prefixed word) refl h
+    where
+      at : (o : Option (MathematicalValue × List ℕ)) → prefixed word ≡ o → or_read (decimal_literal Literal) word o ≡ Some (value, []) → StopsAtPoint word value
+      at None e k = of_decimal value k
+      at (Some read) e k = inr (λ next.
+          let here = pointed prefixed (begins in_pointed) never word value (prefixed_takes word value [] (e ∙ k)) next refl in
+          let first = here.again in
+          rw first refl)
 
 -- ---- what a literal begins with: a digit or a point
 

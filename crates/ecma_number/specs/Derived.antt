@@ -1,5 +1,5 @@
 -- Derived equality, order and hash: by the variants in the order in which they are declared, then by the field.
-use Rattle.std.specs.Prelude.{ℕ, pos, Bool, true, false, List, ◌++◌}
+use Rattle.std.specs.Prelude.{ℕ, pos, Bool, true, false, ◌++◌}
 use Rattle.std.specs.declared.cmp.Ordering.{Ordering}
 use Rattle.std.specs.declared.cmp.Ordering.TheVariants.{Less, Equal, Greater}
 use Rattle.std.specs.Hash.{HashWrites, isize}

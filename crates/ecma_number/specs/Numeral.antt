@@ -1,6 +1,6 @@
 -- Numeric literals: ECMAScript, 12.9.3 Numeric Literals, each production with its mathematical value (MV); 7.1.4.1 reads texts by the same productions.
 -- Characters go by their codes.
-use Rattle.std.specs.Prelude.{◌≡◌, ℕ, ◌+◌, ◌-◌, ◌*◌, ◌/◌, ◌%◌, ◌^◌, ℤ, pos, negsuc, ◌+ℤ◌, ◌-ℤ◌, neg_ℤ, suc, Bool, true, false, ◌&&◌, ◌==◌, List, [], ◌∷◌, length, Option, Some, None, option_map, option_and_then, if◌then◌else◌}
+use Rattle.std.specs.Prelude.{◌≡◌, ℕ, ◌+◌, ◌-◌, ◌*◌, ◌/◌, ◌%◌, ◌^◌, ℤ, pos, negsuc, ◌+ℤ◌, neg_ℤ, suc, Bool, true, false, ◌&&◌, ◌==◌, List, [], ◌∷◌, length, Option, Some, None, option_map, option_and_then, if◌then◌else◌}
 use Rattle.std.specs.Char.{is_digit, digit_value, eq_ignore_ascii_case}
 use Rattle.ecma_number.specs.declared.js_number.JsNumber.{JsNumber}
 use Rattle.ecma_number.specs.declared.numerals.NumeralForm.{NumeralForm}

@@ -1,82 +1,68 @@
--- The layout of a module: one statement a line, with a line feed at each end; literals print their source text.
-use Rattle.std.specs.Prelude.{ℕ, Bool, true, false, List, [], ◌∷◌, ◌++◌, Option, Some, None, codes}
-use Rattle.ecma_kind.specs.declared.operators.VarDeclKind.{VarDeclKind}
-use Rattle.ecma_kind.specs.declared.operators.VarDeclKind.TheVariants.{Var, Let, Const}
+-- The layout of every tree: one statement or member a line, four blanks a level, a line feed at each end.
+--
+-- What is laid out are plain modules, and `import a = require("m")` and `export = e`. Types, and what declares nothing but types,
+-- have no text. Nor has a node with other children than its kind asks for.
+use Rattle.std.specs.Prelude.{ℕ, Bool, true, false, List, [], codes, map, if◌then◌else◌}
 use Rattle.ecma_kind.specs.declared.kind.Kind.{Kind}
-use Rattle.ecma_kind.specs.declared.kind.Kind.TheVariants.{Absent, List as ListKind, Module, ExprStmt, VarDecl, VarDeclarator, BindingIdent, Ident, IdentName, Str, Number, Bool as BoolKind, Null, MemberExpr, CallExpr, TsTypeAnn}
-use Rattle.ecma_tree.specs.declared.node.Node.{Node, Node-F, fold-Node}
-use Rattle.ecma_print.specs.declared.role.Role.{Role}
-use Rattle.ecma_print.specs.declared.role.Role.TheVariants.{Whole, Lines, Commas, Initializer}
-use Rattle.ecma_print.specs.Texts.{Text}
+use Rattle.ecma_kind.specs.declared.kind.Kind.TheVariants.{Absent, List as ListKind}
+use Rattle.ecma_tree.specs.declared.node.Node.{Node, Node-F, fold-Node, out-Node}
+use Rattle.ecma_print.specs.declared.place.Spot.{Spot}
+use Rattle.ecma_print.specs.declared.place.Place.{Place}
+use Rattle.ecma_print.specs.declared.place.Place.TheVariants.{At, Within, Key, FunctionHead, MethodHead}
+use Rattle.ecma_print.specs.declared.inside.Inside.{Inside}
+use Rattle.ecma_print.specs.Pieces.{Piece, nothing, say, ◌>>◌}
+use Rattle.ecma_print.specs.Places.{free, before, after}
+use Rattle.ecma_print.specs.Laid.{Laid, is_computed}
+use Rattle.ecma_print.specs.Levels.{in_parentheses}
+use Rattle.ecma_print.specs.Lists.{listed}
+use Rattle.ecma_print.specs.Literals.{literal}
+use Rattle.ecma_print.specs.Expressions.{operation, link, primary}
+use Rattle.ecma_print.specs.Functions.{function_head, method_head, function_text, class_member, property, pattern}
+use Rattle.ecma_print.specs.Statements.{statement, control}
+use Rattle.ecma_print.specs.Modules.{importing, exporting}
 
--- how a child is laid out, by its role
-abbrev pub Laid : Type 0
-Laid = Role → Text
+-- a node that is no list, by itself: it has a text in one of these
+abbrev pub whole : Kind → List Laid → Spot → Piece
+whole kind children spot = literal kind >> operation kind children spot >> link kind children spot >> primary kind children >> function_text kind children spot >> class_member kind children >> property kind children spot >> pattern kind children >> statement kind children spot >> control kind children >> importing kind children >> exporting kind children
 
--- each on a line of its own
-abbrev pub lines : List Laid → Text
-lines [] rest = rest
-lines (x ∷ xs) rest = x Whole (codes "\n" ++ lines xs rest)
+-- in parentheses where its spot asks for them
+abbrev pub standing : Kind → List Laid → Spot → Piece
+standing kind children spot = if in_parentheses kind children spot then (say (codes "(") >> whole kind children (free 0) >> say (codes ")")) else whole kind children spot
 
--- each behind a comma and a blank
-abbrev pub more_commas : List Laid → Text
-more_commas [] rest = rest
-more_commas (x ∷ xs) rest = codes ", " ++ x Whole (more_commas xs rest)
+-- what stands between an object and its key
+abbrev pub key_mark : Bool → Bool → List ℕ
+key_mark true computed = codes "?."
+key_mark false true = []
+key_mark false false = codes "."
 
--- with a comma and a blank between
-abbrev pub commas : List Laid → Text
-commas [] rest = rest
-commas (x ∷ xs) rest = x Whole (more_commas xs rest)
+-- a node that is there and no list, in its place
+abbrev pub placed : Kind → List Laid → Place → Piece
+placed kind children (At spot) = standing kind children spot
+placed kind children (Within between spot) = before between >> standing kind children spot >> after between
+placed kind children (Key optional) = say (key_mark optional (is_computed kind)) >> whole kind children (free 0)
+placed kind children FunctionHead = say (function_head kind)
+placed kind children MethodHead = say (method_head kind)
+placed kind children place = nothing
 
-abbrev pub keyword : VarDeclKind → List ℕ
-keyword Var = codes "var"
-keyword Let = codes "let"
-keyword Const = codes "const"
+-- a node in its place
+abbrev pub in_place : Kind → List Laid → Place → Piece
+in_place Absent children place = nothing
+in_place ListKind items place = listed items place
+in_place kind children place = placed kind children place
 
-abbrev pub source_text : Option (List ℕ) → List ℕ
-source_text None = []
-source_text (Some raw) = raw
-
-abbrev pub bool_word : Bool → List ℕ
-bool_word true = codes "true"
-bool_word false = codes "false"
-
-abbrev pub parenthesized : Text → Text
-parenthesized inside rest = codes "(" ++ inside (codes ")" ++ rest)
-
--- a node by itself; what is no node of a plain module, or has other children than its kind, has no text
-abbrev pub whole : Kind → List Laid → Text
-whole (Module None) (body ∷ []) rest = body Lines rest
-whole ExprStmt (e ∷ []) rest = e Whole (codes ";" ++ rest)
-whole (VarDecl kind declare) (declarators ∷ []) rest = keyword kind ++ codes " " ++ declarators Commas (codes ";" ++ rest)
-whole (VarDeclarator definite) (name ∷ init ∷ []) rest = name Whole (init Initializer rest)
-whole BindingIdent (id ∷ annotation ∷ []) rest = id Whole (annotation Whole rest)
-whole (Ident sym ctxt optional) [] rest = sym ++ rest
-whole (IdentName sym) [] rest = sym ++ rest
-whole (Str value raw) [] rest = source_text raw ++ rest
-whole (Number value raw) [] rest = source_text raw ++ rest
-whole (BoolKind value) [] rest = bool_word value ++ rest
-whole Null [] rest = codes "null" ++ rest
-whole MemberExpr (object ∷ key ∷ []) rest = object Whole (codes "." ++ key Whole rest)
-whole CallExpr (callee ∷ args ∷ type_args ∷ []) rest = callee Whole (parenthesized (args Commas) rest)
-whole TsTypeAnn (type ∷ []) rest = codes ": " ++ type Whole rest
-whole kind children rest = rest
-
--- a node in its role
-abbrev pub in_role : Kind → List Laid → Role → Text
-in_role Absent children role rest = rest
-in_role ListKind items Lines rest = lines items rest
-in_role ListKind items role rest = commas items rest
-in_role kind children Initializer rest = codes " = " ++ whole kind children rest
-in_role kind children role rest = whole kind children rest
+abbrev pub by_itself : Laid → Piece
+by_itself child = child.at (At (free 0))
 
 abbrev pub lay_step : Node-F Laid → Laid
-lay_step parts = in_role parts.kind parts.children
+lay_step parts = record { kind = parts.kind; at = in_place parts.kind parts.children; parts = map by_itself parts.children }
 
--- the text of a node in its role
 abbrev pub laid : Node → Laid
 laid = fold-Node Laid lay_step
 
+-- what the children of a node are laid out as
+abbrev pub children_of : {F : Type 0} → Inside F → List Laid
+children_of inside = map laid (out-Node inside.node.now).children
+
 -- the text of a module
 abbrev pub layout : Node → List ℕ
-layout tree = laid tree Whole []
+layout tree = (laid tree).at (At (free 0)) [] []

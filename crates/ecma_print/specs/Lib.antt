@@ -1,2 +1,15 @@
 pub mod Texts
+pub mod Pieces
+pub mod Places
+pub mod Operators
+pub mod Laid
+pub mod Levels
+pub mod Lists
+pub mod Escapes
+pub mod Literals
+pub mod Expressions
+pub mod Functions
+pub mod Statements
+pub mod Modules
 pub mod Layout
+pub mod Writing

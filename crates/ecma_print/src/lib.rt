@@ -1,12 +1,12 @@
-//! Prints the tree of a plain module in this project's layout.
-//!
-//! The layout is `specs/Layout.antt`: one statement a line, with a line feed at each end.
+//! Prints a tree in this project's layout: `specs/Layout.antt`.
 #![tactic(auto)]
 
-mod print;
-mod role;
+mod escapes;
+mod inside;
+mod kinds;
+mod operators;
+mod out;
+pub mod place;
+mod show;
 
-pub use print::print_module;
-
-#[cfg(test)]
-mod tests;
+pub use show::print_module;

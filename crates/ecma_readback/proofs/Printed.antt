@@ -1,10 +1,24 @@
 -- The layout of a plain tree, by the forms of the tree.
-use Rattle.std.proofs.Common.{◌≡◌, ℕ, List, None, [], ◌∷◌, ◌++◌, refl, ap, ◌∙◌, false, true, map, codes}
+use Rattle.std.proofs.Common.{◌≡◌, ℕ, Bool, ltb, List, None, [], ◌∷◌, ◌++◌, refl, ap, sym, ◌∙◌, false, true, map, codes}
 use Rattle.std.proofs.lemmas.Bool.{false≢true}
-use Rattle.ecma_kind.specs.declared.kind.Kind.TheVariants.{Absent, Module, ExprStmt, VarDecl, VarDeclarator, BindingIdent, Ident, IdentName, Bool as BoolKind, Null, MemberExpr, CallExpr}
+use Rattle.ecma_kind.specs.declared.span.Span.{Span}
+use Rattle.ecma_kind.specs.declared.kind.Kind.{Kind}
+use Rattle.ecma_kind.specs.declared.kind.Kind.TheVariants.{Absent, List as ListKind, Module, ExprStmt, VarDecl, VarDeclarator, BindingIdent, Ident, IdentName, Bool as BoolKind, Null, MemberExpr, CallExpr}
 use Rattle.ecma_tree.specs.declared.node.Node.{Node}
-use Rattle.ecma_print.specs.Layout.{laid, lines, commas, more_commas}
-use Rattle.ecma_print.proofs.Nodes.{text_of, commas_of, initializer_of, text_of-node, lines_of-list, commas_of-list, initializer_of-node, behind_equals}
+use Rattle.ecma_tree.specs.Nodes.{node_of}
+use Rattle.ecma_print.specs.declared.place.Begins.TheVariants.{StatementStart}
+use Rattle.ecma_print.specs.declared.place.Beside.{Beside}
+use Rattle.ecma_print.specs.declared.place.Beside.TheVariants.{NoNeighbor, BeforeDot, BeforeLink, InChain, OfLink, OfOptionalLink, UnderNullish, UnderLogical, BehindMinus, BehindPlus}
+use Rattle.ecma_print.specs.declared.place.Spot.{Spot}
+use Rattle.ecma_print.specs.declared.place.Between.TheVariants.{Equals}
+use Rattle.ecma_print.specs.declared.place.Place.{Place}
+use Rattle.ecma_print.specs.declared.place.Place.TheVariants.{At, Within, Key, Lines, Commas, Arguments}
+use Rattle.ecma_print.specs.Places.{free, left, right, beginning}
+use Rattle.ecma_print.specs.Levels.{is_before_dot}
+use Rattle.ecma_print.specs.Expressions.{is_optional, object_beside}
+use Rattle.ecma_print.specs.Lists.{lines, commas, more_commas}
+use Rattle.ecma_print.specs.Layout.{laid, in_place}
+use Rattle.ecma_print.proofs.LaidOut.{laid_node, laid_kind_of-node}
 use Rattle.ecma_readback.specs.Shapes.{IsIdent, ident, IsKey, key, IsAbsent, absent, let_word, const_word, IsChain, name, member, call, IsExpression, chain, string, number, null_word, true_word, false_word, cast, AreExpressions, no_expressions, more_expressions, IsArguments, arguments, IsAnnotation, no_annotation, annotation, IsBinding, binding, IsInitializer, no_initializer, initializer, IsDeclarator, declarator, AreDeclarators, one_declarator, more_declarators, IsStatement, expression, declaration, alias, AreStatements, no_statements, more_statements, IsModule, module_of}
 
 abbrev pub show_ident : {n : Node} → IsIdent n → List ℕ → List ℕ
@@ -72,89 +86,111 @@ show_module (module_of at at' ss) u = show_statements ss u
 
 -- the layout is that
 
-laid_ident : {n : Node} (d : IsIdent n) (u : List ℕ) → text_of n u ≡ show_ident d u
-laid_ident (ident at w t) u = text_of-node at (Ident w 0 false) [] u
+-- where names, members, calls and literals stand without parentheses, and in no optional chain
+record Calm (spot : Spot) : Type 0 where
+  pub name : ltb 17 spot.level ≡ false
+  pub call : ltb 16 spot.level ≡ false
+  pub old : spot.in_callee_of_new ≡ false
+  pub link : is_optional spot.beside ≡ false
 
-laid_key : {n : Node} (d : IsKey n) (u : List ℕ) → text_of n u ≡ show_key d u
-laid_key (key at w t) u = text_of-node at (IdentName w) [] u
+laid_ident : {n : Node} (d : IsIdent n) (spot : Spot) → Calm spot → (m u : List ℕ) → (laid n).at (At spot) m u ≡ show_ident d u
+laid_ident (ident at w t) spot calm m u = laid_node at (Ident w 0 false) [] (At spot) m u ∙ rw calm.name refl
 
-laid_absent : {n : Node} (d : IsAbsent n) (u : List ℕ) → text_of n u ≡ u
-laid_absent (absent at) u = text_of-node at Absent [] u
+laid_key : {n : Node} (d : IsKey n) (m u : List ℕ) → (laid n).at (Key false) m u ≡ 46 ∷ show_key d u
+laid_key (key at w t) m u = laid_node at (IdentName w) [] (Key false) m u
 
-absent_initializer : {n : Node} (d : IsAbsent n) (u : List ℕ) → initializer_of n u ≡ u
-absent_initializer (absent at) u = initializer_of-node at Absent [] u
+laid_absent : {n : Node} (d : IsAbsent n) (place : Place) (m u : List ℕ) → (laid n).at place m u ≡ u
+laid_absent (absent at) place m u = laid_node at Absent [] place m u
+
+object_calm : (beside : Beside) → is_optional (object_beside beside false) ≡ false
+object_calm OfLink = refl
+object_calm OfOptionalLink = refl
+object_calm beside = refl
+
+left_calm : (spot : Spot) (beside : Beside) → is_optional beside ≡ false → Calm spot → Calm (left spot 16 beside)
+left_calm spot beside unlinked calm = record { name = refl; call = refl; old = calm.old; link = unlinked }
+
+item_calm : Calm (free 1)
+item_calm = record { name = refl; call = refl; old = refl; link = refl }
 
 mutual
-  laid_chain : {e : Node} (d : IsChain false e) (u : List ℕ) → text_of e u ≡ show_chain d u
-  laid_chain (name i) u = laid_ident i u
-  laid_chain (member at o k) u = text_of-node at MemberExpr _ u ∙ laid_chain o _ ∙ ap (λ z. show_chain o (46 ∷ z)) (laid_key k u)
-  laid_chain (call at c es n) u = text_of-node at CallExpr _ u ∙ laid_chain c _ ∙ ap (λ z. show_chain c (40 ∷ z)) (laid_arguments es (41 ∷ u))
+  laid_chain : {e : Node} (d : IsChain false e) (spot : Spot) → Calm spot → (m u : List ℕ) → (laid e).at (At spot) m u ≡ show_chain d u
+  laid_chain (name i) spot calm m u = laid_ident i spot calm m u
+  laid_chain (member at o (key at' w t)) spot calm m u =
+      laid_node at MemberExpr _ (At spot) m u ∙ rw (calm.name, laid_kind_of-node at' (IdentName w) [], calm.link) refl
+      ∙ laid_chain o (left spot 16 (object_beside spot.beside false)) (left_calm spot _ (object_calm spot.beside) calm) m _ ∙ ap (show_chain o) (laid_key (key at' w t) m u)
+  laid_chain (call at c es n) spot calm m u =
+      laid_node at CallExpr _ (At spot) m u ∙ rw (calm.call, calm.old) refl
+      ∙ laid_chain c (left spot 16 BeforeLink) (left_calm spot BeforeLink refl calm) m _ ∙ ap (show_chain c) (laid_arguments es m u)
 
-  laid_expression : {e : Node} (d : IsExpression false e) (u : List ℕ) → text_of e u ≡ show d u
-  laid_expression (chain c) u = laid_chain c u
-  laid_expression (string at raw t) u = text_of-node at _ [] u
-  laid_expression (number at raw t) u = text_of-node at _ [] u
-  laid_expression (null_word at) u = text_of-node at Null [] u
-  laid_expression (true_word at) u = text_of-node at (BoolKind true) [] u
-  laid_expression (false_word at) u = text_of-node at (BoolKind false) [] u
-  laid_expression (cast h at e t) u = absurd (false≢true h)
+  laid_expression : {e : Node} (d : IsExpression false e) (spot : Spot) → Calm spot → is_before_dot spot.beside ≡ false → (m u : List ℕ) → (laid e).at (At spot) m u ≡ show d u
+  laid_expression (chain c) spot calm dot m u = laid_chain c spot calm m u
+  laid_expression (string at raw t) spot calm dot m u = laid_node at _ [] (At spot) m u ∙ rw calm.name refl
+  laid_expression (number at raw t) spot calm dot m u = laid_node at _ [] (At spot) m u ∙ rw (calm.name, dot) refl
+  laid_expression (null_word at) spot calm dot m u = laid_node at Null [] (At spot) m u ∙ rw calm.name refl
+  laid_expression (true_word at) spot calm dot m u = laid_node at (BoolKind true) [] (At spot) m u ∙ rw calm.name refl
+  laid_expression (false_word at) spot calm dot m u = laid_node at (BoolKind false) [] (At spot) m u ∙ rw calm.name refl
+  laid_expression (cast h at e t) spot calm dot m u = absurd (false≢true h)
 
-  laid_more : {es : List Node} (d : AreExpressions false es) (u : List ℕ) → more_commas (map laid es) u ≡ show_more d u
-  laid_more no_expressions u = refl
-  laid_more (more_expressions e es) u = ap (λ z. 44 ∷ 32 ∷ z) (laid_expression e _ ∙ ap (show e) (laid_more es u))
+  laid_more : {es : List Node} (d : AreExpressions false es) (m u : List ℕ) → more_commas (free 1) (map laid es) m u ≡ show_more d u
+  laid_more no_expressions m u = refl
+  laid_more (more_expressions e es) m u = ap (λ z. 44 ∷ 32 ∷ z) (laid_expression e (free 1) item_calm refl m _ ∙ ap (show e) (laid_more es m u))
 
-  laid_all : {es : List Node} (d : AreExpressions false es) (u : List ℕ) → commas (map laid es) u ≡ show_all d u
-  laid_all no_expressions u = refl
-  laid_all (more_expressions e es) u = laid_expression e _ ∙ ap (show e) (laid_more es u)
+  laid_all : {es : List Node} (d : AreExpressions false es) (m u : List ℕ) → commas (free 1) (map laid es) m u ≡ show_all d u
+  laid_all no_expressions m u = refl
+  laid_all (more_expressions e es) m u = laid_expression e (free 1) item_calm refl m _ ∙ ap (show e) (laid_more es m u)
 
-  laid_arguments : {n : Node} (d : IsArguments false n) (u : List ℕ) → commas_of n u ≡ show_arguments d u
-  laid_arguments (arguments at es) u = commas_of-list at _ u ∙ laid_all es u
+  laid_arguments : {n : Node} (d : IsArguments false n) (m u : List ℕ) → (laid n).at Arguments m u ≡ 40 ∷ show_arguments d (41 ∷ u)
+  laid_arguments (arguments at es) m u = laid_node at ListKind _ Arguments m u ∙ ap (λ z. 40 ∷ z) (laid_all es m (41 ∷ u))
 
-chain_behind_equals : {e : Node} → IsChain false e → (u : List ℕ) → initializer_of e u ≡ 32 ∷ 61 ∷ 32 ∷ text_of e u
-chain_behind_equals (name (ident at w t)) u = behind_equals at (Ident w 0 false) [] u refl
-chain_behind_equals (member at o k) u = behind_equals at MemberExpr _ u refl
-chain_behind_equals (call at c es n) u = behind_equals at CallExpr _ u refl
+behind_equals : (at : Span) (kind : Kind) (children : List Node) (m u : List ℕ) → in_place kind (map laid children) (Within Equals (free 1)) m u ≡ 32 ∷ 61 ∷ 32 ∷ in_place kind (map laid children) (At (free 1)) m u
+    → (laid (node_of at kind children)).at (Within Equals (free 1)) m u ≡ 32 ∷ 61 ∷ 32 ∷ (laid (node_of at kind children)).at (At (free 1)) m u
+behind_equals at kind children m u h = laid_node at kind children (Within Equals (free 1)) m u ∙ h ∙ ap (λ z. 32 ∷ 61 ∷ 32 ∷ z) (sym (laid_node at kind children (At (free 1)) m u))
 
-expression_behind_equals : {e : Node} → IsExpression false e → (u : List ℕ) → initializer_of e u ≡ 32 ∷ 61 ∷ 32 ∷ text_of e u
-expression_behind_equals (chain c) u = chain_behind_equals c u
-expression_behind_equals (string at raw t) u = behind_equals at _ [] u refl
-expression_behind_equals (number at raw t) u = behind_equals at _ [] u refl
-expression_behind_equals (null_word at) u = behind_equals at Null [] u refl
-expression_behind_equals (true_word at) u = behind_equals at (BoolKind true) [] u refl
-expression_behind_equals (false_word at) u = behind_equals at (BoolKind false) [] u refl
-expression_behind_equals (cast h at e t) u = absurd (false≢true h)
+chain_behind_equals : {e : Node} → IsChain false e → (m u : List ℕ) → (laid e).at (Within Equals (free 1)) m u ≡ 32 ∷ 61 ∷ 32 ∷ (laid e).at (At (free 1)) m u
+chain_behind_equals (name (ident at w t)) m u = behind_equals at (Ident w 0 false) [] m u refl
+chain_behind_equals (member at o k) m u = behind_equals at MemberExpr _ m u refl
+chain_behind_equals (call at c es n) m u = behind_equals at CallExpr _ m u refl
 
-laid_annotation : {n : Node} → IsAnnotation false n → (u : List ℕ) → text_of n u ≡ u
-laid_annotation (no_annotation a) u = laid_absent a u
-laid_annotation (annotation h at t) u = absurd (false≢true h)
+expression_behind_equals : {e : Node} → IsExpression false e → (m u : List ℕ) → (laid e).at (Within Equals (free 1)) m u ≡ 32 ∷ 61 ∷ 32 ∷ (laid e).at (At (free 1)) m u
+expression_behind_equals (chain c) m u = chain_behind_equals c m u
+expression_behind_equals (string at raw t) m u = behind_equals at _ [] m u refl
+expression_behind_equals (number at raw t) m u = behind_equals at _ [] m u refl
+expression_behind_equals (null_word at) m u = behind_equals at Null [] m u refl
+expression_behind_equals (true_word at) m u = behind_equals at (BoolKind true) [] m u refl
+expression_behind_equals (false_word at) m u = behind_equals at (BoolKind false) [] m u refl
+expression_behind_equals (cast h at e t) m u = absurd (false≢true h)
 
-laid_binding : {n : Node} (d : IsBinding false n) (u : List ℕ) → text_of n u ≡ show_binding d u
-laid_binding (binding at i a) u = text_of-node at BindingIdent _ u ∙ laid_ident i _ ∙ ap (show_ident i) (laid_annotation a u)
+laid_binding : {n : Node} (d : IsBinding false n) (m u : List ℕ) → (laid n).at (At (free 1)) m u ≡ show_binding d u
+laid_binding (binding at i a) m u = laid_node at BindingIdent _ (At (free 1)) m u ∙ laid_ident i (free 1) item_calm m u
 
-laid_initializer : {n : Node} (d : IsInitializer false n) (u : List ℕ) → initializer_of n u ≡ show_initializer d u
-laid_initializer (no_initializer a) u = absent_initializer a u
-laid_initializer (initializer e) u = expression_behind_equals e u ∙ ap (λ z. 32 ∷ 61 ∷ 32 ∷ z) (laid_expression e u)
+laid_initializer : {n : Node} (d : IsInitializer false n) (m u : List ℕ) → (laid n).at (Within Equals (free 1)) m u ≡ show_initializer d u
+laid_initializer (no_initializer a) m u = laid_absent a (Within Equals (free 1)) m u
+laid_initializer (initializer e) m u = expression_behind_equals e m u ∙ ap (λ z. 32 ∷ 61 ∷ 32 ∷ z) (laid_expression e (free 1) item_calm refl m u)
 
-laid_declarator : {n : Node} (d : IsDeclarator false n) (u : List ℕ) → text_of n u ≡ show_declarator d u
-laid_declarator (declarator at b i) u = text_of-node at (VarDeclarator false) _ u ∙ laid_binding b _ ∙ ap (show_binding b) (laid_initializer i u)
+laid_declarator : {n : Node} (d : IsDeclarator false n) (m u : List ℕ) → (laid n).at (At (free 1)) m u ≡ show_declarator d u
+laid_declarator (declarator at b i) m u = laid_node at (VarDeclarator false) _ (At (free 1)) m u ∙ laid_binding b m _ ∙ ap (show_binding b) (laid_initializer i m u)
 
-laid_more_declarators : {ds : List Node} (d : AreDeclarators false ds) (u : List ℕ) → more_commas (map laid ds) u ≡ show_more_declarators d u
-laid_more_declarators (one_declarator d) u = ap (λ z. 44 ∷ 32 ∷ z) (laid_declarator d u)
-laid_more_declarators (more_declarators d ds) u = ap (λ z. 44 ∷ 32 ∷ z) (laid_declarator d _ ∙ ap (show_declarator d) (laid_more_declarators ds u))
+laid_more_declarators : {ds : List Node} (d : AreDeclarators false ds) (m u : List ℕ) → more_commas (free 1) (map laid ds) m u ≡ show_more_declarators d u
+laid_more_declarators (one_declarator d) m u = ap (λ z. 44 ∷ 32 ∷ z) (laid_declarator d m u)
+laid_more_declarators (more_declarators d ds) m u = ap (λ z. 44 ∷ 32 ∷ z) (laid_declarator d m _ ∙ ap (show_declarator d) (laid_more_declarators ds m u))
 
-laid_declarators : {ds : List Node} (d : AreDeclarators false ds) (u : List ℕ) → commas (map laid ds) u ≡ show_declarators d u
-laid_declarators (one_declarator d) u = laid_declarator d u
-laid_declarators (more_declarators d ds) u = laid_declarator d _ ∙ ap (show_declarator d) (laid_more_declarators ds u)
+laid_declarators : {ds : List Node} (d : AreDeclarators false ds) (m u : List ℕ) → commas (free 1) (map laid ds) m u ≡ show_declarators d u
+laid_declarators (one_declarator d) m u = laid_declarator d m u
+laid_declarators (more_declarators d ds) m u = laid_declarator d m _ ∙ ap (show_declarator d) (laid_more_declarators ds m u)
 
-laid_statement : {s : Node} (d : IsStatement false s) (u : List ℕ) → text_of s u ≡ show_statement d u
-laid_statement (expression at e) u = text_of-node at ExprStmt _ u ∙ laid_expression e _
-laid_statement (declaration at at' let_word ds) u = text_of-node at (VarDecl _ false) _ u ∙ ap (λ z. codes "let" ++ 32 ∷ z) (commas_of-list at' _ (59 ∷ u) ∙ laid_declarators ds (59 ∷ u))
-laid_statement (declaration at at' const_word ds) u = text_of-node at (VarDecl _ false) _ u ∙ ap (λ z. codes "const" ++ 32 ∷ z) (commas_of-list at' _ (59 ∷ u) ∙ laid_declarators ds (59 ∷ u))
-laid_statement (alias h at i) u = absurd (false≢true h)
+declared : (at : Span) {ds : List Node} (d : AreDeclarators false ds) (m u : List ℕ) → (laid (node_of at ListKind ds)).at (Commas (free 1)) m u ≡ show_declarators d u
+declared at d m u = laid_node at ListKind _ (Commas (free 1)) m u ∙ laid_declarators d m u
 
-laid_statements : {ss : List Node} (d : AreStatements false ss) (u : List ℕ) → lines (map laid ss) u ≡ show_statements d u
-laid_statements no_statements u = refl
-laid_statements (more_statements s ss) u = laid_statement s _ ∙ ap (λ z. show_statement s (10 ∷ z)) (laid_statements ss u)
+laid_statement : {s : Node} (d : IsStatement false s) (m u : List ℕ) → (laid s).at (At (free 0)) m u ≡ show_statement d u
+laid_statement (expression at e) m u = laid_node at ExprStmt _ (At (free 0)) m u ∙ laid_expression e (beginning 0 StatementStart false) (record { name = refl; call = refl; old = refl; link = refl }) refl m _
+laid_statement (declaration at at' let_word ds) m u = laid_node at (VarDecl _ false) _ (At (free 0)) m u ∙ ap (λ z. codes "let" ++ 32 ∷ z) (declared at' ds m (59 ∷ u))
+laid_statement (declaration at at' const_word ds) m u = laid_node at (VarDecl _ false) _ (At (free 0)) m u ∙ ap (λ z. codes "const" ++ 32 ∷ z) (declared at' ds m (59 ∷ u))
+laid_statement (alias h at i) m u = absurd (false≢true h)
 
-pub laid_module : {n : Node} (d : IsModule false n) (u : List ℕ) → text_of n u ≡ show_module d u
-laid_module (module_of at at' ss) u = text_of-node at (Module None) _ u ∙ lines_of-list at' _ u ∙ laid_statements ss u
+laid_statements : {ss : List Node} (d : AreStatements false ss) (m u : List ℕ) → lines (map laid ss) m u ≡ show_statements d u
+laid_statements no_statements m u = refl
+laid_statements (more_statements s ss) m u = laid_statement s m _ ∙ ap (λ z. show_statement s (10 ∷ z)) (laid_statements ss m u)
+
+pub laid_module : {n : Node} (d : IsModule false n) (m u : List ℕ) → (laid n).at (At (free 0)) m u ≡ show_module d u
+laid_module (module_of at at' ss) m u = laid_node at (Module None) _ (At (free 0)) m u ∙ laid_node at' ListKind _ Lines m u ∙ laid_statements ss m u

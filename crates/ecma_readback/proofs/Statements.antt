@@ -191,7 +191,7 @@ module _ (text : List ℕ) where
 pub plain_read_back : PlainReadBack
 plain_read_back tree plain bound h =
     let text = layout tree in
-    let e : layout tree ≡ show_module plain [] = laid_module plain [] in
+    let e : layout tree ≡ show_module plain [] = laid_module plain [] [] in
     let start : Stands text 0 (show_module plain []) = record { rest = e; within = rw (← e) (omega arith) } in
     let g = module_back text plain bound h (record { place = 0; failed = 0 }) start in
     (g.value, g.state, g.is, g.holds.same)

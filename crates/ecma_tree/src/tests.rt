@@ -2,60 +2,98 @@ use super::*;
 use std::alloc::Global;
 use std::test::Fail;
 
-mod every_kind;
+const SPAN: Span = Span { lo: 3, hi: 5 };
 
-use every_kind::every_kind;
+/// `this`
+fn this(alloc: Global) -> Expr {
+    Node::leaf(alloc, SPAN, Kind::ThisExpr)
+}
 
-#[test]
-fn nodes_are_made(rt: HostRuntime) -> Result<(), Fail> {
-    let alloc = rt.alloc();
-    let sym = JsWord::new(alloc, "größe")?;
-    let kind = Kind::Ident {
-        sym,
+fn ident(alloc: Global, text: &str) -> Result<Expr, NoMemory> {
+    let sym = JsWord::new(alloc, text)?;
+    let ident = Ident {
+        span: SPAN,
         ctxt: SyntaxContext::empty(),
+        sym,
         optional: false,
     };
-    let ident = Node::new(Span { lo: 0, hi: 7 }, kind, Nodes::new(alloc));
-    let list = Node::list(Nodes::from_array(alloc, [ident, Node::absent(alloc)])?);
-    assert_eq!(rt; list.children.len(), 2);
-    assert_eq!(rt; list.span, DUMMY_SP);
+    Ok(Node::of_ident(alloc, ident))
+}
+
+/// `[<elem>]`
+fn array_of(alloc: Global, elem: Node) -> Result<Expr, NoMemory> {
+    Node::array_lit(alloc, SPAN, Nodes::from_array(alloc, [elem])?)
+}
+
+/// `[[<text>]]`
+fn arrays(alloc: Global, text: &str) -> Result<Expr, NoMemory> {
+    array_of(alloc, array_of(alloc, ident(alloc, text)?)?)
+}
+
+/// `this(<arg>)`
+fn call_with(alloc: Global, arg: Node) -> Result<Expr, NoMemory> {
+    let args = Nodes::from_array(alloc, [arg])?;
+    Node::call_expr(alloc, SPAN, this(alloc), args, None)
+}
+
+/// `;`
+fn empty(alloc: Global) -> Stmt {
+    Node::leaf(alloc, SPAN, Kind::EmptyStmt)
+}
+
+/// `if (this) <cons>`
+fn choice(alloc: Global, cons: Stmt) -> Result<Stmt, NoMemory> {
+    Node::if_stmt(alloc, SPAN, this(alloc), cons, None)
+}
+
+// A function that may let go of a node is proved for every kind that it may have: so this one alone does.
+fn let_go(_node: Node) {}
+
+fn is_of(node: Node, sort: Sort) -> bool {
+    let answer = has_sort(&node, sort);
+    let_go(node);
+    answer
+}
+
+#[test]
+fn nodes_have_their_sorts(rt: HostRuntime) -> Result<(), Fail> {
+    let alloc = rt.alloc();
+    assert!(rt; is_of(choice(alloc, empty(alloc))?, Sort::Stmt));
+    assert!(rt; is_of(choice(alloc, empty(alloc))?, Sort::ModuleItem));
+    assert!(rt; !is_of(choice(alloc, empty(alloc))?, Sort::Expr));
+    assert!(rt; !is_of(choice(alloc, this(alloc))?, Sort::Stmt));
+    assert!(rt;
+        is_of(
+            Node::seq_expr(SPAN, Nodes::from_array(alloc, [this(alloc)])?),
+            Sort::Expr
+        )
+    );
+    assert!(rt; !is_of(Node::leaf(alloc, SPAN, Kind::SeqExpr), Sort::Expr));
     Ok(())
 }
 
-fn ident(alloc: Global, place: u32, text: &str) -> Result<Node, NoMemory> {
-    let span = Span {
-        lo: place,
-        hi: place,
-    };
-    let kind = Kind::Ident {
-        sym: JsWord::new(alloc, text)?,
-        ctxt: SyntaxContext::empty(),
-        optional: false,
-    };
-    Ok(Node::new(span, kind, Nodes::new(alloc)))
+#[test]
+fn arrays_alone_have_holes(rt: HostRuntime) -> Result<(), Fail> {
+    let alloc = rt.alloc();
+    assert!(rt; is_of(array_of(alloc, this(alloc))?, Sort::Expr));
+    assert!(rt; is_of(call_with(alloc, this(alloc))?, Sort::Expr));
+    assert!(rt; is_of(array_of(alloc, Node::absent(alloc))?, Sort::Expr));
+    assert!(rt; !is_of(call_with(alloc, Node::absent(alloc))?, Sort::Expr));
+    Ok(())
 }
 
-/// `callee(first, second)`, in which all stands at one place.
-fn call(alloc: Global, place: u32, texts: [&str; 3]) -> Result<Node, NoMemory> {
-    let [callee, first, second] = texts;
-    let callee = ident(alloc, place, callee)?;
-    let args = [ident(alloc, place, first)?, ident(alloc, place, second)?];
-    let args = Node::list(Nodes::from_array(alloc, args)?);
-    let children = Nodes::from_array(alloc, [callee, args, Node::absent(alloc)])?;
-    let span = Span {
-        lo: place,
-        hi: place,
-    };
-    Ok(Node::new(span, Kind::CallExpr, children))
+fn has_child(node: Node, field: Field) -> bool {
+    let answer = node.child(field).is_some();
+    let_go(node);
+    answer
 }
 
-fn same_exprs(node: &Node, other: &Node) -> bool {
-    eq_ignore_span(NodeRef::Expr(node), NodeRef::Expr(other))
-}
-
-/// Whether the two are equal with their spans: they show the same.
-fn is_equal(alloc: Global, copy: &Node, tree: &Node) -> Result<bool, Fail> {
-    Ok(same_exprs(copy, tree) && format!(in alloc; "{copy:?}")? == format!(in alloc; "{tree:?}")?)
+#[test]
+fn children_are_found_by_their_names(rt: HostRuntime) -> Result<(), Fail> {
+    let alloc = rt.alloc();
+    assert!(rt; has_child(choice(alloc, this(alloc))?, Field::Cons));
+    assert!(rt; !has_child(choice(alloc, this(alloc))?, Field::Body));
+    Ok(())
 }
 
 /// A copy by one of the calls that copy.
@@ -72,153 +110,132 @@ fn copy_by(alloc: Global, call: usize, tree: &Node) -> Result<Node, NoMemory> {
     }
 }
 
+fn same_exprs(node: Node, other: &Node) -> bool {
+    let answer = eq_ignore_span(NodeRef::Expr(&node), NodeRef::Expr(other));
+    let_go(node);
+    answer
+}
+
+fn is_copied(alloc: Global, call: usize, tree: &Node) -> Result<bool, NoMemory> {
+    Ok(same_exprs(copy_by(alloc, call, tree)?, tree))
+}
+
+fn are_copied(alloc: Global, tree: &Node) -> Result<bool, NoMemory> {
+    let mut equal = true;
+    for call in 0..8 {
+        equal &= is_copied(alloc, call, tree)?;
+    }
+    Ok(equal)
+}
+
+fn is_copied_by_each(alloc: Global, tree: Node) -> Result<bool, NoMemory> {
+    let answer = are_copied(alloc, &tree);
+    let_go(tree);
+    answer
+}
+
 #[test]
 fn copies_are_equal_to_their_originals(rt: HostRuntime) -> Result<(), Fail> {
     let alloc = rt.alloc();
-    let tree = every_kind(alloc)?;
-    for call in 0..8 {
-        let copy = copy_by(alloc, call, &tree)?;
-        assert!(rt; is_equal(alloc, &copy, &tree)?);
-    }
+    assert!(rt; is_copied_by_each(alloc, arrays(alloc, "größe")?)?);
     Ok(())
 }
 
-#[test]
-fn every_kind_stands_in_the_tree(rt: HostRuntime) -> Result<(), Fail> {
-    let alloc = rt.alloc();
-    let tree = every_kind(alloc)?;
-    let elems = tree
-        .child(Field::Elems)
-        .and_then(|array| array.child(Field::Elems));
-    assert_eq!(rt; elems.map(|nodes| nodes.children.len()), Some(122));
-    Ok(())
+fn is_like(alloc: Global, tree: &Node, text: &str) -> Result<bool, NoMemory> {
+    Ok(same_exprs(arrays(alloc, text)?, tree))
 }
 
-/// `if (a) <cons> else b`
-fn choice(alloc: Global, cons: Stmt) -> Result<Stmt, NoMemory> {
-    let alt = Node::expr_stmt(alloc, DUMMY_SP, ident(alloc, 0, "b")?)?;
-    Node::if_stmt(alloc, DUMMY_SP, ident(alloc, 0, "a")?, cons, Some(alt))
+fn are_arrays_of(alloc: Global, tree: Node, text: &str) -> Result<bool, NoMemory> {
+    let answer = is_like(alloc, &tree, text);
+    let_go(tree);
+    answer
 }
 
-#[test]
-fn statements_have_their_sort(rt: HostRuntime) -> Result<(), Fail> {
-    let alloc = rt.alloc();
-    let good = choice(alloc, Node::leaf(alloc, DUMMY_SP, Kind::EmptyStmt))?;
-    assert!(rt; has_sort(&good, Sort::Stmt));
-    assert!(rt; has_sort(&good, Sort::ModuleItem));
-    assert!(rt; !has_sort(&good, Sort::Expr));
-    assert!(rt; good.child(Field::Alt).is_some());
-    assert!(rt; good.child(Field::Body).is_none());
-    let bad = choice(alloc, ident(alloc, 0, "b")?)?;
-    assert!(rt; !has_sort(&bad, Sort::Stmt));
-    assert!(rt; !has_sort(&without_last_child(good), Sort::Stmt));
-    Ok(())
-}
-
-/// `[<elem>]`
-fn array_of(alloc: Global, elem: Node) -> Result<Expr, NoMemory> {
-    Node::array_lit(alloc, DUMMY_SP, Nodes::from_array(alloc, [elem])?)
-}
-
-/// `f(<arg>)`
-fn call_with(alloc: Global, arg: Node) -> Result<Expr, NoMemory> {
-    let args = Nodes::from_array(alloc, [arg])?;
-    Node::call_expr(alloc, DUMMY_SP, ident(alloc, 0, "f")?, args, None)
-}
-
-#[test]
-fn arrays_alone_have_holes(rt: HostRuntime) -> Result<(), Fail> {
-    let alloc = rt.alloc();
-    assert!(rt; has_sort(&array_of(alloc, ident(alloc, 0, "a")?)?, Sort::Expr));
-    assert!(rt; has_sort(&call_with(alloc, ident(alloc, 0, "a")?)?, Sort::Expr));
-    assert!(rt; has_sort(&array_of(alloc, Node::absent(alloc))?, Sort::Expr));
-    assert!(rt; !has_sort(&call_with(alloc, Node::absent(alloc))?, Sort::Expr));
-    Ok(())
-}
-
-#[test]
-fn a_sequence_is_never_empty(rt: HostRuntime) -> Result<(), Fail> {
-    let alloc = rt.alloc();
-    let one = Nodes::from_array(alloc, [ident(alloc, 0, "a")?])?;
-    assert!(rt; has_sort(&Node::seq_expr(DUMMY_SP, one), Sort::Expr));
-    let none = Node::leaf(alloc, DUMMY_SP, Kind::SeqExpr);
-    assert!(rt; !has_sort(&none, Sort::Expr));
-    Ok(())
-}
-
-#[test]
-fn identifiers_are_found_and_listed(rt: HostRuntime) -> Result<(), Fail> {
-    let alloc = rt.alloc();
-    let tree = call(alloc, 5, ["f", "a", "größe"])?;
-    for text in ["f", "a", "größe"] {
-        assert!(rt; mentions(&tree, text));
-    }
-    for text in ["g", "größ", ""] {
-        assert!(rt; !mentions(&tree, text));
-    }
-    let listed = symbols(alloc, &tree)?;
-    assert_eq!(rt; listed.len(), 3);
-    for (symbol, text) in listed.as_slice().iter().zip(["f", "a", "größe"]) {
-        assert_eq!(rt; symbol.as_str(), text);
-    }
-    Ok(())
-}
-
-#[test]
-fn spans_tell_no_trees_apart(rt: HostRuntime) -> Result<(), Fail> {
-    let alloc = rt.alloc();
-    let tree = call(alloc, 5, ["f", "a", "b"])?;
-    let mut bare = copy_node(alloc, &tree)?;
-    drop_spans(&mut bare);
-    assert_eq!(rt; bare.span, DUMMY_SP);
-    for child in bare.children.as_slice() {
-        assert_eq!(rt; child.span, DUMMY_SP);
-    }
-    assert!(rt; same_exprs(&bare, &tree));
-    let items = NodeRef::Items(tree.children.as_slice());
-    assert!(rt; eq_ignore_span(items, NodeRef::Items(bare.children.as_slice())));
-    assert!(rt; !eq_ignore_span(items, NodeRef::Stmts(bare.children.as_slice())));
-    assert!(rt; !eq_ignore_span(NodeRef::Expr(&tree), NodeRef::Pat(&tree)));
-    Ok(())
-}
-
-fn as_construction(mut call: Node) -> Node {
-    call.kind = Kind::NewExpr;
-    call
-}
-
-fn without_last_child(mut node: Node) -> Node {
-    node.children.pop();
-    node
+fn is_its_own_pattern(node: Node) -> bool {
+    let answer = eq_ignore_span(NodeRef::Expr(&node), NodeRef::Pat(&node));
+    let_go(node);
+    answer
 }
 
 #[test]
 fn other_trees_are_told_apart(rt: HostRuntime) -> Result<(), Fail> {
     let alloc = rt.alloc();
-    let tree = call(alloc, 5, ["f", "a", "b"])?;
-    assert!(rt; !same_exprs(&call(alloc, 5, ["f", "a", "c"])?, &tree));
-    let other = as_construction(call(alloc, 5, ["f", "a", "b"])?);
-    assert!(rt; !same_exprs(&other, &tree));
-    let other = without_last_child(call(alloc, 5, ["f", "a", "b"])?);
-    assert!(rt; !same_exprs(&other, &tree));
-    assert!(rt; !same_exprs(&tree, &other));
+    assert!(rt; are_arrays_of(alloc, arrays(alloc, "a")?, "a")?);
+    assert!(rt; !are_arrays_of(alloc, arrays(alloc, "a")?, "b")?);
+    assert!(rt; !are_arrays_of(alloc, array_of(alloc, this(alloc))?, "a")?);
+    assert!(rt; !is_its_own_pattern(this(alloc)));
     Ok(())
 }
 
-/// Whether the node of an identifier is that of the identifier that it is.
-fn is_made_again(alloc: Global, text: &str) -> Result<bool, NoMemory> {
-    let node = ident(alloc, 5, text)?;
-    match node.to_ident()? {
-        Some(ident) => Ok(same_exprs(&Node::of_ident(alloc, ident), &node)),
+fn is_without_spans(alloc: Global, tree: &Node) -> Result<bool, NoMemory> {
+    let mut bare = copy_node(alloc, tree)?;
+    drop_spans(&mut bare);
+    let answer = bare.span == DUMMY_SP && same_but_for_spans(&bare, tree);
+    let_go(bare);
+    Ok(answer)
+}
+
+fn loses_its_spans_alone(alloc: Global, tree: Node) -> Result<bool, NoMemory> {
+    let answer = is_without_spans(alloc, &tree);
+    let_go(tree);
+    answer
+}
+
+#[test]
+fn spans_tell_no_trees_apart(rt: HostRuntime) -> Result<(), Fail> {
+    let alloc = rt.alloc();
+    assert!(rt; loses_its_spans_alone(alloc, arrays(alloc, "a")?)?);
+    Ok(())
+}
+
+fn is_mentioned(tree: Node, text: &str) -> bool {
+    let answer = mentions(&tree, text);
+    let_go(tree);
+    answer
+}
+
+fn is_only_symbol(alloc: Global, tree: &Node, text: &str) -> Result<bool, NoMemory> {
+    let listed = symbols(alloc, tree)?;
+    match listed.get(0) {
+        Some(symbol) => Ok(listed.len() == 1 && symbol.as_str() == text),
         None => Ok(false),
     }
+}
+
+fn is_listed(alloc: Global, tree: Node, text: &str) -> Result<bool, NoMemory> {
+    let answer = is_only_symbol(alloc, &tree, text);
+    let_go(tree);
+    answer
+}
+
+#[test]
+fn identifiers_are_found_and_listed(rt: HostRuntime) -> Result<(), Fail> {
+    let alloc = rt.alloc();
+    assert!(rt; is_mentioned(arrays(alloc, "größe")?, "größe"));
+    assert!(rt; !is_mentioned(arrays(alloc, "größe")?, "größ"));
+    assert!(rt; is_listed(alloc, arrays(alloc, "größe")?, "größe")?);
+    Ok(())
+}
+
+fn is_made_again(alloc: Global, node: &Node) -> Result<bool, NoMemory> {
+    match node.to_ident()? {
+        Some(ident) => Ok(same_exprs(Node::of_ident(alloc, ident), node)),
+        None => Ok(false),
+    }
+}
+
+fn is_ident(alloc: Global, node: Node) -> Result<bool, NoMemory> {
+    let answer = is_made_again(alloc, &node);
+    let_go(node);
+    answer
 }
 
 #[test]
 fn identifiers_are_values_of_their_own(rt: HostRuntime) -> Result<(), Fail> {
     let alloc = rt.alloc();
-    assert!(rt; is_made_again(alloc, "größe")?);
-    assert!(rt; Node::absent(alloc).into_ident().is_none());
+    assert!(rt; is_ident(alloc, ident(alloc, "größe")?)?);
+    assert!(rt; ident(alloc, "größe")?.into_ident().is_some());
+    assert!(rt; this(alloc).into_ident().is_none());
     Ok(())
 }
 

@@ -1,6 +1,5 @@
-use Rattle.std.proofs.Common.{◌≡◌, ◌∙◌, sym, ap, refl, Some}
+use Rattle.std.proofs.Common.{◌≡◌, ◌∙◌, refl, Some}
 use Rattle.ecma_lex.specs.Blanks.{skipped}
-use Rattle.ecma_lex.specs.Tokens.{found}
 use Rattle.ecma_lex.proofs.NumeralTokens.{found_big, big_longest}
 use Rattle.ecma_lex.proofs.numerals.big.Goals as goal
 

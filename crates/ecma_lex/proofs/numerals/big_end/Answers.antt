@@ -1,4 +1,4 @@
-use Rattle.std.proofs.Common.{◌≡◌, ◌+◌, ap, sym, ◌∙◌, Some, option_map}
+use Rattle.std.proofs.Common.{◌+◌, ap, sym, ◌∙◌, option_map}
 use Rattle.ecma_number.specs.Numeral.{big_int_literal, taken}
 use Rattle.ecma_lex.proofs.NumeralTokens.{literal_is_piece, big_literal}
 use Rattle.ecma_lex.proofs.numerals.big_end.Goals as goal

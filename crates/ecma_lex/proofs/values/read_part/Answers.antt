@@ -1,5 +1,5 @@
-use Rattle.std.proofs.Common.{◌≡◌, Some, None, sym, rules}
-use Rattle.ecma_lex.specs.Values.{literal_part, Joins, Steps}
+use Rattle.std.proofs.Common.{◌≡◌, Some, None, rules}
+use Rattle.ecma_lex.specs.Values.{literal_part, Joins}
 use Rattle.ecma_lex.proofs.Sayings.{read_none, read_some}
 use Rattle.ecma_lex.proofs.values.read_part.Goals as goal
 

@@ -1,4 +1,4 @@
-use Rattle.std.proofs.Common.{sym, ap, refl, ◌≡◌, ◌+◌, ◌-◌, ◌≤◌, length, drop, length-drop, Some, None, arith, rules}
+use Rattle.std.proofs.Common.{sym, ap, refl, ◌≡◌, ◌+◌, ◌≤◌, length, drop, length-drop, Some, None, arith, rules}
 use Rattle.ecma_number.specs.Numeral.{big_int_literal, code_point, pure}
 use Rattle.ecma_number.proofs.Readings.{begins_within, behind_none, behind_read, reads_none_to, reads_some_to}
 use Rattle.ecma_number.proofs.numerals.big_int_literal_length.Goals as goal

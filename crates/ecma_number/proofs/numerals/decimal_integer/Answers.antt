@@ -1,5 +1,5 @@
-use Rattle.std.proofs.Common.{sym, refl, ◌≡◌, false}
-use Rattle.ecma_number.specs.Numeral.{begins, code_point, decimal_integer, no_digits, pure}
+use Rattle.std.proofs.Common.{sym, refl}
+use Rattle.ecma_number.specs.Numeral.{code_point, decimal_integer, no_digits, pure}
 use Rattle.ecma_number.proofs.DigitRuns.{holds_none}
 use Rattle.ecma_number.proofs.Readings.{begins_within, behind_none, behind_read}
 use Rattle.ecma_number.proofs.numerals.decimal_integer.Goals as goal

@@ -1,4 +1,4 @@
-use Rattle.std.proofs.Common.{sym, refl, ◌≡◌, None, rules}
+use Rattle.std.proofs.Common.{refl, ◌≡◌, None, rules}
 use Rattle.ecma_number.specs.DigitRun.{HoldsMantissa, HoldsSigned}
 use Rattle.ecma_number.specs.Numeral.{decimal_literal}
 use Rattle.ecma_number.proofs.Readings.{reads_none, reads_some}

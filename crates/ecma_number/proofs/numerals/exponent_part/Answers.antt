@@ -1,6 +1,6 @@
 use Rattle.std.proofs.Common.{sym, refl, ◌≡◌, drop, None, rules}
 use Rattle.ecma_number.specs.DigitRun.{Holds}
-use Rattle.ecma_number.specs.Numeral.{digits, exponent_part, letter, signed_integer}
+use Rattle.ecma_number.specs.Numeral.{exponent_part, letter, signed_integer}
 use Rattle.ecma_number.proofs.Readings.{behind_none, behind_read, reads_none, reads_some}
 use Rattle.ecma_number.proofs.numerals.exponent_part.Goals as goal
 

@@ -1,9 +1,7 @@
-use Rattle.std.proofs.Common.{◌≡◌, ◌∙◌, sym, ap, refl, ℕ, ◌+◌, ◌*◌, ◌^◌, drop, arith}
-use Rattle.std.specs.Char.{is_digit}
-use Rattle.std.proofs.Math.Nat.{pow-zero}
+use Rattle.std.proofs.Common.{◌≡◌, sym, refl, ℕ, ◌+◌, ◌*◌, ◌^◌, drop, arith}
 use Rattle.ecma_number.specs.Numeral.{code_point, digits, maybe, more_digits, no_digits, point_and_digits}
 use Rattle.ecma_number.proofs.DigitRuns.{holds_mantissa, holds_whole}
-use Rattle.ecma_number.proofs.Readings.{begins_within, behind_none, behind_read, more-from, reads_some}
+use Rattle.ecma_number.proofs.Readings.{begins_within, behind_none, behind_read, more-from}
 use Rattle.ecma_number.proofs.numerals.fraction.Goals as goal
 
 whole_alone : (mv : ℕ) → mv * 10 ^ 0 + 0 ≡ mv

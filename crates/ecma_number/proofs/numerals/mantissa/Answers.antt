@@ -1,4 +1,4 @@
-use Rattle.std.proofs.Common.{sym, refl, ◌≡◌}
+use Rattle.std.proofs.Common.{sym, refl}
 use Rattle.ecma_number.specs.DigitRun.{Holds, HoldsMantissa}
 use Rattle.ecma_number.specs.Numeral.{code_point, digits, mantissa, no_digits, pure, with_fraction, ◌>>=◌}
 use Rattle.ecma_number.proofs.DigitRuns.{holds_fraction}

@@ -1,4 +1,4 @@
-use Rattle.std.proofs.Common.{◌≡◌, ◌∙◌, sym, ap, refl, arith, ◌≤◌}
+use Rattle.std.proofs.Common.{◌∙◌, sym, refl, arith, ◌≤◌}
 use Rattle.std.specs.Char.{digit_value}
 use Rattle.ecma_number.proofs.Readings.{more-digit, more-separator, more-stops, more-end}
 use Rattle.ecma_number.proofs.numerals.more_digits.Goals as goal

@@ -1,4 +1,4 @@
-use Rattle.std.proofs.Common.{◌≡◌, ◌∙◌, sym, ap, refl, ℕ, ◌*◌, ◌^◌, Some, arith}
+use Rattle.std.proofs.Common.{◌≡◌, ap, refl, ℕ, ◌*◌, ◌^◌, Some, arith}
 use Rattle.ecma_number.specs.DigitRun.{HoldsInteger}
 use Rattle.ecma_number.specs.Saturated.{saturated}
 use Rattle.ecma_number.specs.Numeral.{numeric_literal}

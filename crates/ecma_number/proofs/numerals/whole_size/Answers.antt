@@ -1,5 +1,4 @@
-use Rattle.std.proofs.Common.{◌≡◌, ◌∙◌, ap, refl, ◌+◌, true, false, if◌then◌else◌}
-use Rattle.ecma_number.specs.Saturated.{saturated}
+use Rattle.std.proofs.Common.{refl}
 use Rattle.ecma_number.proofs.DigitRuns.{Moves, size_none, size_down, size_up}
 use Rattle.ecma_number.proofs.numerals.whole_size.Goals as goal
 use Rattle.ecma_number.proofs.numerals.whole_size.Goals.{then-exponent, else-exponent}

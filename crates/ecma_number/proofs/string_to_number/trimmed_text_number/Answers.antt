@@ -1,5 +1,4 @@
-use Rattle.std.proofs.Common.{◌≡◌, ◌∙◌, sym, length, eqb, false, None, arith}
-use Rattle.std.proofs.lemmas.Bool.Decides.{nat_tests}
+use Rattle.std.proofs.Common.{◌≡◌, sym, length, eqb, false, None}
 use Rattle.std.proofs.lemmas.List.{take_rest}
 use Rattle.ecma_number.specs.DigitRun.{HoldsInteger}
 use Rattle.ecma_number.specs.Numeral.{non_decimal_integer_literal, whole_text}

@@ -1,0 +1,6 @@
+pub mod Frames
+pub mod Levels
+pub mod Namespaces
+pub mod Readings
+pub mod Sizes
+pub mod Steps

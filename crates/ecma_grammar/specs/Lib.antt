@@ -1,0 +1,11 @@
+pub mod Grammar
+pub mod productions
+pub mod PartBodies
+pub mod Rules
+pub mod Written
+pub mod Reading
+pub mod trees
+pub mod Made
+pub mod Reads
+pub mod Agreement
+pub mod Modules

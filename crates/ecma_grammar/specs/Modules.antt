@@ -1,0 +1,34 @@
+-- The reading of a whole text by the grammar alone.
+use Rattle.std.specs.Prelude.{◌≡◌, ℕ, List, Result, Ok, Err}
+use Rattle.ecma_tree.specs.declared.node.Node.{Node}
+use Rattle.ecma_grammar.specs.declared.failure.Failure.{Failure}
+use Rattle.ecma_grammar.specs.declared.failure.Failure.TheVariants as failure
+use Rattle.ecma_grammar.specs.declared.modules.RawError.{RawError}
+use Rattle.ecma_grammar.specs.declared.modules.RawError.TheVariants as error
+use Rattle.ecma_grammar.specs.declared.production.Mode.{Mode}
+use Rattle.ecma_grammar.specs.Reading.{Outcome, read, fails, too_deep}
+use Rattle.ecma_grammar.specs.trees.Parts.{framed}
+use Rattle.ecma_grammar.specs.trees.Others.{the_one}
+use Rattle.ecma_grammar.specs.productions.Modules.{module_body}
+use Rattle.ecma_grammar.specs.Reads.{reads, levels}
+
+-- a text as a module, with at most so many levels
+abbrev pub reads_module : List ℕ → Mode → ℕ → Outcome (List Node)
+reads_module text mode bound = reads text mode (levels text mode bound) module_body (record { place = 0; failed = 0 })
+
+-- why a text was not read, where terminals failed up to a place
+abbrev pub reason_of : Failure → ℕ → RawError
+reason_of failure.NoMatch failed = error.Syntax failed
+reason_of (failure.TooDeep at) failed = error.TooDeep at
+reason_of failure.NoMemory failed = error.NoMemory
+
+-- the tree, or why there is none
+abbrev pub answer_of : Outcome (List Node) → Result Node RawError
+answer_of (read trees s) = Ok (framed 1 the_one trees)
+answer_of (fails at) = Err (error.Syntax at)
+answer_of (too_deep at) = Err (error.TooDeep at)
+
+-- the answer, unless memory ran out
+abbrev pub Answers : Result Node RawError → Result Node RawError → Type 0
+Answers (Err error.NoMemory) answer = Unit {0}
+Answers result answer = result ≡ answer

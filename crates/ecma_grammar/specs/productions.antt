@@ -1,0 +1,12 @@
+pub mod Names
+pub mod Types
+pub mod Patterns
+pub mod Primary
+pub mod Chains
+pub mod Operators
+pub mod Expressions
+pub mod Functions
+pub mod Classes
+pub mod Statements
+pub mod Declarations
+pub mod Modules

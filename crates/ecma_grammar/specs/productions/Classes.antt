@@ -1,0 +1,78 @@
+-- Classes (ECMAScript, 15.7).
+use Rattle.std.specs.Prelude.{Bool, true, false, codes}
+use Rattle.ecma_grammar.specs.Grammar.{Grammar, same_line, put, ◌▸◌, ◌//◌, many, ahead, marked, build, word, punct, behind_word, optional, maybe, whether, node, list}
+use Rattle.ecma_grammar.specs.declared.production.Part.TheVariants as part
+use Rattle.ecma_grammar.specs.declared.production.Flag.TheVariants.{Absent, Present}
+use Rattle.ecma_grammar.specs.declared.production.Plain.TheVariants as plain
+use Rattle.ecma_grammar.specs.declared.production.Form.TheVariants as form
+use Rattle.std.specs.Prelude.{if◌then◌else◌}
+use Rattle.ecma_kind.specs.declared.operators.MethodKind.TheVariants as method_kind
+use Rattle.ecma_grammar.specs.productions.Names.{assign, type_, a_name, end, ident, kept_word, block, class_element_name, prop_start, member_start}
+use Rattle.ecma_grammar.specs.productions.Types.{type_param_decl, type_param_instantiation, type_list, annotation, some_annotation}
+use Rattle.ecma_grammar.specs.productions.Functions.{signature, method_async}
+use Rattle.ecma_grammar.specs.productions.Chains.{chain}
+
+abbrev pub typescript_modifier : Grammar → Grammar
+typescript_modifier w = marked (kept_word w ▸ same_line ▸ ahead member_start)
+
+-- Mod = 'static' &MStart / T ('public' / 'private' / 'protected' / 'abstract' / 'override' / 'readonly' / 'declare') ~&MStart
+unfoldable pub modifier : Grammar
+modifier =
+    kept_word (word (codes "static")) ▸ ahead member_start
+    // typescript_modifier (word (codes "public")) // typescript_modifier (word (codes "private")) // typescript_modifier (word (codes "protected"))
+    // typescript_modifier (word (codes "abstract")) // typescript_modifier (word (codes "override"))
+    // typescript_modifier (word (codes "readonly")) // typescript_modifier (word (codes "declare"))
+
+abbrev pub modifiers : Grammar
+modifiers = list (many modifier)
+
+-- ['?' / '!']
+unfoldable pub question_or_exclamation : Grammar
+question_or_exclamation =
+    marked (punct (codes "?")) ▸ put Present ▸ put Absent // marked (punct (codes "!")) ▸ put Absent ▸ put Present // put Absent ▸ put Absent
+
+-- 'get' &PropStart CName Sig
+unfoldable pub getter : Grammar
+getter = build (form.Method method_kind.Getter) (word (codes "get") ▸ ahead prop_start ▸ put Absent ▸ put Absent ▸ class_element_name ▸ put Absent ▸ put Absent ▸ signature)
+
+unfoldable pub setter : Grammar
+setter = build (form.Method method_kind.Setter) (word (codes "set") ▸ ahead prop_start ▸ put Absent ▸ put Absent ▸ class_element_name ▸ put Absent ▸ put Absent ▸ signature)
+
+-- ('async' ~&MStart)? '*'? CName ['?' / '!'] Sig
+unfoldable pub method : Grammar
+method = build (form.Method method_kind.Method) (method_async ▸ whether (punct (codes "*")) ▸ class_element_name ▸ question_or_exclamation ▸ signature)
+
+-- CName ['?' / '!'] [Ann] ('=' Assign)? End
+unfoldable pub field : Grammar
+field = build form.Field (class_element_name ▸ question_or_exclamation ▸ annotation ▸ maybe (punct (codes "=") ▸ assign) ▸ end)
+
+-- Mod* '[' Name ':' Type ']' Ann End
+unfoldable pub index_signature : Grammar
+index_signature =
+    build form.IndexSignature (modifiers ▸ punct (codes "[") ▸ a_name ▸ punct (codes ":") ▸ type_ ▸ punct (codes "]") ▸ some_annotation ▸ end)
+
+-- Member
+unfoldable pub member : Grammar
+member =
+    node plain.EmptyStmt (punct (codes ";"))
+    // node plain.StaticBlock (word (codes "static") ▸ block)
+    // marked index_signature
+    // build form.Modified (modifiers ▸ (getter // setter // method // field))
+
+-- N [TypeParams] ('extends' Chain [TypeArgs])? ['implements' TypeList] '{' Member* '}', behind 'class'
+abbrev pub class_body : Bool → Grammar
+class_body named =
+    (if named then ident else maybe ident) ▸ type_param_decl
+    ▸ (word (codes "extends") ▸ chain ▸ maybe (marked type_param_instantiation) // put Absent ▸ put Absent)
+    ▸ list (optional (marked (word (codes "implements") ▸ type_list)))
+    ▸ punct (codes "{") ▸ list (many member) ▸ punct (codes "}")
+
+unfoldable pub class_declaration : Grammar
+class_declaration = build (form.Class plain.ClassDecl false) (behind_word (codes "class") (part.Class true))
+
+-- 'abstract' ~Class(N)
+unfoldable pub abstract_class_declaration : Grammar
+abstract_class_declaration = build (form.Class plain.ClassDecl true) (word (codes "abstract") ▸ same_line ▸ behind_word (codes "class") (part.Class true))
+
+unfoldable pub abstract_class_expression : Grammar
+abstract_class_expression = build (form.Class plain.ClassExpr true) (word (codes "abstract") ▸ same_line ▸ behind_word (codes "class") (part.Class false))

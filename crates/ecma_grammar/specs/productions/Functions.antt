@@ -1,0 +1,61 @@
+-- Functions (ECMAScript, 15).
+use Rattle.std.specs.Prelude.{Bool, true, false, codes}
+use Rattle.ecma_grammar.specs.Grammar.{Grammar, nothing, same_line, put, ◌▸◌, ◌//◌, ahead, unless, marked, build, word, punct, maybe, whether, list}
+use Rattle.ecma_grammar.specs.declared.production.Flag.TheVariants.{Absent, Present}
+use Rattle.ecma_grammar.specs.declared.production.Plain.TheVariants as plain
+use Rattle.ecma_grammar.specs.declared.production.Form.TheVariants as form
+use Rattle.ecma_grammar.specs.productions.Names.{assign_in, end, ident, binding_ident, block, prop_name, prop_start, member_start}
+use Rattle.ecma_grammar.specs.productions.Types.{type_param_decl, return_annotation, some_return_annotation, params}
+
+-- Sig = [TypeParams] '(' Params ')' [RetAnn] (Block / T End)
+unfoldable pub signature : Grammar
+signature = type_param_decl ▸ punct (codes "(") ▸ params ▸ punct (codes ")") ▸ return_annotation ▸ (block // marked (end ▸ put Absent))
+
+-- Fun(N) = ('async' ~'function' / 'function') '*'? N Sig
+abbrev pub function : Grammar → Grammar
+function name =
+    (word (codes "async") ▸ same_line ▸ word (codes "function") ▸ put Present // word (codes "function") ▸ put Absent)
+    ▸ whether (punct (codes "*")) ▸ name ▸ signature
+
+unfoldable pub function_expression : Grammar
+function_expression = build (form.Function plain.FnExpr) (function (maybe ident))
+
+unfoldable pub function_declaration : Grammar
+function_declaration = build (form.Function plain.FnDecl) (function ident)
+
+-- 'async' ~&MStart, or not
+unfoldable pub method_async : Grammar
+method_async = whether (word (codes "async") ▸ same_line ▸ ahead member_start)
+
+-- ('get' / 'set') &PropStart PName Sig
+unfoldable pub getter_property : Grammar
+getter_property = build form.Getter (word (codes "get") ▸ ahead prop_start ▸ prop_name ▸ signature)
+
+unfoldable pub setter_property : Grammar
+setter_property = build form.Setter (word (codes "set") ▸ ahead prop_start ▸ prop_name ▸ signature)
+
+-- ('async' ~&MStart)? '*'? PName Sig
+unfoldable pub method_property : Grammar
+method_property = build (form.Function plain.MethodProp) (method_async ▸ whether (punct (codes "*")) ▸ prop_name ▸ signature)
+
+-- ABody = Block / !'{' Assign
+abbrev pub arrow_body : Bool → Grammar
+arrow_body no_in = same_line ▸ punct (codes "=>") ▸ (block // unless (punct (codes "{")) ▸ assign_in no_in)
+
+-- in the middle of a conditional expression an arrow function with a return annotation is read only before `:`
+abbrev pub before_colon : Bool → Grammar
+before_colon true = ahead (punct (codes ":"))
+before_colon false = nothing
+
+-- AHead ~'=>' ABody, with AHead = Name / [TypeParams] '(' Params ')' [RetAnn]
+unfoldable pub arrow_rest : Bool → Bool → Grammar
+arrow_rest no_in middle =
+    put Absent ▸ list binding_ident ▸ put Absent ▸ arrow_body no_in
+    // type_param_decl ▸ punct (codes "(") ▸ params ▸ punct (codes ")")
+    ▸ (marked some_return_annotation ▸ arrow_body no_in ▸ before_colon middle // put Absent ▸ arrow_body no_in)
+
+-- Arrow = 'async' ~AHead ~'=>' ABody / AHead ~'=>' ABody
+unfoldable pub arrow : Bool → Bool → Grammar
+arrow no_in middle =
+    build form.Arrow (word (codes "async") ▸ same_line ▸ put Present ▸ arrow_rest no_in middle)
+    // build form.Arrow (put Absent ▸ arrow_rest no_in middle)

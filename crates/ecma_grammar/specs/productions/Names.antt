@@ -1,0 +1,82 @@
+-- Names, literals and keys; what is read inside as a part.
+use Rattle.std.specs.Prelude.{Bool, false, codes}
+use Rattle.ecma_grammar.specs.Grammar.{Grammar, keep, put, ◌▸◌, ◌//◌, many, ahead, up, build, punct, a, node, list}
+use Rattle.ecma_grammar.specs.declared.production.Part.TheVariants as part
+use Rattle.ecma_grammar.specs.declared.production.TokenKind.TheVariants as token
+use Rattle.ecma_grammar.specs.declared.production.Leaf.TheVariants as leaf
+use Rattle.ecma_grammar.specs.declared.production.Flag.TheVariants.{Absent}
+use Rattle.ecma_grammar.specs.declared.production.Plain.TheVariants as plain
+use Rattle.ecma_grammar.specs.declared.production.Form.TheVariants as form
+
+abbrev pub assign : Grammar
+assign = up (part.Assign false false)
+
+abbrev pub assign_in : Bool → Grammar
+assign_in no_in = up (part.Assign no_in false)
+
+abbrev pub pattern : Grammar
+pattern = up part.Pattern
+
+abbrev pub statement : Grammar
+statement = up part.Statement
+
+abbrev pub type_ : Grammar
+type_ = up part.«Type»
+
+abbrev pub a_name : Grammar
+a_name = a token.Name
+
+abbrev pub left_angle : Grammar
+left_angle = a token.LeftAngle
+
+abbrev pub right_angle : Grammar
+right_angle = a token.RightAngle
+
+abbrev pub end : Grammar
+end = a token.End
+
+abbrev pub ident : Grammar
+ident = keep leaf.Ident
+
+abbrev pub string : Grammar
+string = keep leaf.Str
+
+-- a key with this text, kept as a name
+abbrev pub kept_word : Grammar → Grammar
+kept_word w = ahead w ▸ keep leaf.IdentName
+
+-- Name
+unfoldable pub binding_ident : Grammar
+binding_ident = node plain.BindingIdent (ident ▸ put Absent)
+
+-- '[' Assign ']'
+unfoldable pub computed_prop_name : Grammar
+computed_prop_name = node plain.ComputedPropName (punct (codes "[") ▸ assign ▸ punct (codes "]"))
+
+-- PropName = Key / Str / Num / Big / '[' Assign ']'
+unfoldable pub prop_name : Grammar
+prop_name = keep leaf.IdentName // string // keep leaf.Number // keep leaf.BigInt // computed_prop_name
+
+-- ClassElementName = PropName / PrivName
+unfoldable pub class_element_name : Grammar
+class_element_name = prop_name // keep leaf.PrivateName
+
+-- what a property may begin with: Key / Str / Num / Big / '[' / PrivName
+unfoldable pub prop_start : Grammar
+prop_start = a token.Key // a token.Str // a token.Number // a token.BigInt // punct (codes "[") // a token.PrivateName
+
+-- what a member of a class may begin with: PropStart / '*'
+unfoldable pub member_start : Grammar
+member_start = prop_start // punct (codes "*")
+
+-- ModuleExportName = Key / Str
+unfoldable pub module_export_name : Grammar
+module_export_name = keep leaf.KeyIdent // string
+
+-- Expr = Assign (',' Assign)*
+unfoldable pub expression : Bool → Grammar
+expression no_in = build form.Sequence (assign_in no_in ▸ many (punct (codes ",") ▸ assign_in no_in))
+
+-- Block = '{' Stmt* '}'
+unfoldable pub block : Grammar
+block = node plain.BlockStmt (punct (codes "{") ▸ list (many statement) ▸ punct (codes "}"))

@@ -1,0 +1,102 @@
+-- The kinds without texts of their own.
+use Rattle.std.specs.Prelude.{false}
+use Rattle.ecma_kind.specs.declared.kind.Kind.{Kind}
+use Rattle.ecma_kind.specs.declared.kind.Kind.TheVariants as kind
+use Rattle.ecma_grammar.specs.declared.production.Plain.{Plain}
+use Rattle.ecma_grammar.specs.declared.production.Plain.TheVariants as plain
+
+-- the kind, with no `declare`, no `?` and no name behind `#!`
+abbrev pub plain_kind : Plain → Kind
+plain_kind plain.BindingIdent = kind.BindingIdent
+plain_kind plain.ArrayLit = kind.ArrayLit
+plain_kind plain.ObjectLit = kind.ObjectLit
+plain_kind plain.SpreadElement = kind.SpreadElement
+plain_kind (plain.UnaryExpr op) = kind.UnaryExpr op
+plain_kind (plain.UpdateExpr op prefix) = kind.UpdateExpr op prefix
+plain_kind (plain.BinExpr op) = kind.BinExpr op
+plain_kind (plain.AssignExpr op) = kind.AssignExpr op
+plain_kind plain.CondExpr = kind.CondExpr
+plain_kind plain.MemberExpr = kind.MemberExpr
+plain_kind plain.SuperPropExpr = kind.SuperPropExpr
+plain_kind plain.CallExpr = kind.CallExpr
+plain_kind plain.NewExpr = kind.NewExpr
+plain_kind (plain.OptChainExpr optional) = kind.OptChainExpr optional
+plain_kind plain.OptCall = kind.OptCall
+plain_kind plain.SeqExpr = kind.SeqExpr
+plain_kind plain.Tpl = kind.Tpl
+plain_kind plain.TaggedTpl = kind.TaggedTpl
+plain_kind (plain.YieldExpr delegate) = kind.YieldExpr delegate
+plain_kind plain.AwaitExpr = kind.AwaitExpr
+plain_kind (plain.MetaPropExpr k) = kind.MetaPropExpr k
+plain_kind plain.ParenExpr = kind.ParenExpr
+plain_kind plain.TsTypeAssertion = kind.TsTypeAssertion
+plain_kind plain.TsConstAssertion = kind.TsConstAssertion
+plain_kind plain.TsNonNullExpr = kind.TsNonNullExpr
+plain_kind plain.TsAsExpr = kind.TsAsExpr
+plain_kind plain.TsInstantiation = kind.TsInstantiation
+plain_kind plain.TsSatisfiesExpr = kind.TsSatisfiesExpr
+plain_kind plain.KeyValueProp = kind.KeyValueProp
+plain_kind plain.AssignProp = kind.AssignProp
+plain_kind plain.GetterProp = kind.GetterProp
+plain_kind plain.SetterProp = kind.SetterProp
+plain_kind plain.MethodProp = kind.MethodProp
+plain_kind plain.ComputedPropName = kind.ComputedPropName
+plain_kind plain.FnExpr = kind.FnExpr
+plain_kind plain.FnDecl = kind.FnDecl false
+plain_kind plain.ClassExpr = kind.ClassExpr
+plain_kind plain.ClassDecl = kind.ClassDecl false
+plain_kind plain.Param = kind.Param
+plain_kind plain.StaticBlock = kind.StaticBlock
+plain_kind plain.ArrayPat = kind.ArrayPat false
+plain_kind plain.ObjectPat = kind.ObjectPat false
+plain_kind plain.RestPat = kind.RestPat
+plain_kind plain.AssignPat = kind.AssignPat
+plain_kind plain.KeyValuePatProp = kind.KeyValuePatProp
+plain_kind plain.AssignPatProp = kind.AssignPatProp
+plain_kind plain.BlockStmt = kind.BlockStmt
+plain_kind plain.EmptyStmt = kind.EmptyStmt
+plain_kind plain.DebuggerStmt = kind.DebuggerStmt
+plain_kind plain.ExprStmt = kind.ExprStmt
+plain_kind plain.ReturnStmt = kind.ReturnStmt
+plain_kind plain.ThrowStmt = kind.ThrowStmt
+plain_kind plain.LabeledStmt = kind.LabeledStmt
+plain_kind plain.BreakStmt = kind.BreakStmt
+plain_kind plain.ContinueStmt = kind.ContinueStmt
+plain_kind plain.IfStmt = kind.IfStmt
+plain_kind plain.SwitchStmt = kind.SwitchStmt
+plain_kind plain.SwitchCase = kind.SwitchCase
+plain_kind plain.TryStmt = kind.TryStmt
+plain_kind plain.CatchClause = kind.CatchClause
+plain_kind plain.WhileStmt = kind.WhileStmt
+plain_kind plain.DoWhileStmt = kind.DoWhileStmt
+plain_kind plain.ForStmt = kind.ForStmt
+plain_kind plain.ForInStmt = kind.ForInStmt
+plain_kind (plain.ForOfStmt is_await) = kind.ForOfStmt is_await
+plain_kind (plain.VarDecl k) = kind.VarDecl k false
+plain_kind (plain.VarDeclarator definite) = kind.VarDeclarator definite
+plain_kind plain.TsInterfaceDecl = kind.TsInterfaceDecl false
+plain_kind plain.TsTypeAliasDecl = kind.TsTypeAliasDecl false
+plain_kind (plain.TsEnumDecl is_const) = kind.TsEnumDecl false is_const
+plain_kind plain.TsEnumMember = kind.TsEnumMember
+plain_kind (plain.TsModuleDecl global) = kind.TsModuleDecl false global
+plain_kind plain.TsNamespaceDecl = kind.TsNamespaceDecl false false
+plain_kind plain.TsModuleBlock = kind.TsModuleBlock
+plain_kind (plain.ImportDecl type_only) = kind.ImportDecl type_only
+plain_kind (plain.ImportNamedSpecifier is_type_only) = kind.ImportNamedSpecifier is_type_only
+plain_kind plain.ImportDefaultSpecifier = kind.ImportDefaultSpecifier
+plain_kind plain.ImportStarAsSpecifier = kind.ImportStarAsSpecifier
+plain_kind plain.ExportDecl = kind.ExportDecl
+plain_kind (plain.NamedExport type_only) = kind.NamedExport type_only
+plain_kind (plain.ExportNamedSpecifier is_type_only) = kind.ExportNamedSpecifier is_type_only
+plain_kind plain.ExportNamespaceSpecifier = kind.ExportNamespaceSpecifier
+plain_kind plain.ExportDefaultDecl = kind.ExportDefaultDecl
+plain_kind plain.ExportDefaultExpr = kind.ExportDefaultExpr
+plain_kind (plain.ExportAll type_only) = kind.ExportAll type_only
+plain_kind plain.TsExternalModuleRef = kind.TsExternalModuleRef
+plain_kind plain.TsQualifiedName = kind.TsQualifiedName
+plain_kind plain.TsExportAssignment = kind.TsExportAssignment
+plain_kind plain.TsNamespaceExportDecl = kind.TsNamespaceExportDecl
+plain_kind plain.TsTypeAnn = kind.TsTypeAnn
+plain_kind plain.TsType = kind.TsType
+plain_kind plain.TsTypeParamDecl = kind.TsTypeParamDecl
+plain_kind plain.TsTypeParamInstantiation = kind.TsTypeParamInstantiation

@@ -1,0 +1,99 @@
+//! The reader: where it stands in a text, and what it has kept.
+ghost use Rattle.std.specs.Prelude.{◌≡◌, ◌<◌, ◌^◌, length};
+ghost use Rattle.ecma_lex.specs.Looking.{look};
+
+mod keeping;
+mod leaves;
+mod recent;
+mod terminals;
+
+use crate::production::Mode;
+use ecma_lex::Upcoming;
+use ecma_tree::{Node, Nodes};
+use std::alloc::Global;
+
+/// Reads a text from its front.
+#[derive(Drop)]
+pub(crate) struct Reader<'a> {
+    alloc: Global,
+    text: &'a str,
+    /// Which of the parts that are TypeScript are read.
+    mode: Mode,
+    /// Where the reading goes on.
+    place: u32,
+    /// The greatest place at which a terminal has failed.
+    failed: u32,
+    /// What stands at the place that was looked at last.
+    ahead: Upcoming,
+    recent: recent::Recent,
+    /// The nodes that were kept so far, the last at the end.
+    kept: Vec<Node>,
+    ghost short: { length text.now < 2 ^ 32 },
+    ghost known: { ahead ≡ look text.now ahead.place },
+}
+
+impl<'a> Reader<'a> {
+    ghost use Rattle.std.specs.Prelude.{◌≡◌, ◌<◌, ◌^◌, length, []};
+    ghost use Rattle.ecma_grammar.specs.Agreement.{position, kept, SameText};
+
+    pub(crate) fn new(alloc: Global, text: &'a str, mode: Mode) -> Reader<'a>
+        requires { length text.now < 2 ^ 32 }
+        ensures text { result.text.now ≡ text.now }
+        ensures mode { result.mode ≡ mode }
+        ensures position { position result ≡ record { place = 0; failed = 0 } }
+        ensures kept { kept result ≡ [] }
+    {
+        Reader {
+            alloc,
+            text,
+            mode,
+            place: 0,
+            failed: 0,
+            ahead: ecma_lex::look(text, 0),
+            recent: recent::Recent::new(alloc),
+            kept: Vec::new(alloc),
+        }
+    }
+
+    pub(crate) fn place(&self) -> u32
+        ensures { result ≡ self.now.place }
+    {
+        self.place
+    }
+
+    pub(crate) fn text(&self) -> &str
+        ensures { result.now ≡ self.now.text.now }
+    {
+        self.text
+    }
+
+    pub(crate) fn mode(&self) -> Mode
+        ensures { result ≡ self.now.mode }
+    {
+        self.mode
+    }
+
+    /// Goes back to a place.
+    pub(crate) fn go_to(&mut self, place: u32)
+        ensures text { SameText self.old self.new }
+        ensures position { position self.new ≡ record { place = place; failed = self.old.failed } }
+        ensures kept { kept self.new ≡ kept self.old }
+    {
+        self.place = place;
+    }
+
+    /// The greatest place at which a terminal has failed.
+    pub(crate) fn failed(&self) -> u32
+        ensures { result ≡ self.now.failed }
+    {
+        self.failed
+    }
+
+    /// The nodes that were kept.
+    pub(crate) fn into_kept(self) -> Nodes
+        ensures { result ≡ kept self.entry }
+    {
+        let Reader { kept, .. } = self;
+        Nodes::from_vec(kept)
+    }
+}

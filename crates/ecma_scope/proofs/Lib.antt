@@ -1,0 +1,14 @@
+pub mod Layers
+pub mod Weights
+pub mod Naming
+pub mod Indexing
+pub mod Framing
+pub mod Resolving
+pub mod Opening
+pub mod Counting
+pub mod Following
+pub mod Meeting
+pub mod Clashing
+pub mod Needing
+pub mod Unchanged
+pub mod Using

@@ -1,0 +1,34 @@
+use Rattle.std.proofs.Common.{◌≡◌, ◌+◌, ◌*◌}
+use Rattle.ecma_scope.specs.Frames.{plain_places, scope_places}
+use Rattle.ecma_scope.proofs.Resolving.{Done}
+use Rattle.ecma_scope.proofs.Weights.{weight}
+use Rattle.ecma_scope.proofs.resolver.+resolving.Given as goal
+
+-- the first i children are in their contexts
+abbrev pub invariant-resolve_children-loop-i : goal.invariant-resolve_children-loop-i
+invariant-resolve_children-loop-i l = record {
+  done : Done l.given.unresolved l.given.top (plain_places l.role l.fn.frames l.fn.node) l.fn.node l.node l.fn.session.left l.i l.session.left;
+  frames : l.frames ≡ l.fn.frames;
+}
+
+abbrev pub invariant-resolve_scope-loop-i : goal.invariant-resolve_scope-loop-i
+invariant-resolve_scope-loop-i l = record {
+  done : Done l.given.unresolved l.given.top (scope_places l.role l.fn.frames l.fn.scope l.fn.node) l.fn.node l.node l.fn.session.left l.i l.session.left;
+  frames : l.frames ≡ l.fn.frames;
+  scope : l.scope ≡ l.fn.scope;
+}
+
+abbrev pub decreases-resolve_in : goal.decreases-resolve_in
+decreases-resolve_in l = 4 * weight l.node.now + 2
+
+abbrev pub decreases-resolve_below : goal.decreases-resolve_below
+decreases-resolve_below l = 4 * weight l.node.now + 1
+
+abbrev pub decreases-resolve_children : goal.decreases-resolve_children
+decreases-resolve_children l = 4 * weight l.node.now
+
+abbrev pub decreases-resolve_scope : goal.decreases-resolve_scope
+decreases-resolve_scope l = 4 * weight l.node.now
+
+abbrev pub decreases-resolve_inside : goal.decreases-resolve_inside
+decreases-resolve_inside l = 4 * weight l.node.now + 3

@@ -1,0 +1,12 @@
+pub mod Layers
+pub mod Scopes
+pub mod Declarations
+pub mod Resolved
+pub mod Indexed
+pub mod Frames
+pub mod Bindings
+pub mod Conflicts
+pub mod Meetings
+pub mod Needs
+pub mod Laws
+pub mod Uses

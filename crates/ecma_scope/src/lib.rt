@@ -1,0 +1,28 @@
+//! Scopes and bindings: which declaration each identifier of a module names.
+#![tactic(auto)]
+
+mod conflicts;
+mod error;
+mod form;
+mod frame;
+mod index;
+mod laws;
+mod meetings;
+mod names;
+mod needed;
+mod resolver;
+mod role;
+mod stated;
+mod uses;
+
+pub use conflicts::check_scopes;
+pub use error::ScopeError;
+pub use form::{Declaration, Form, Part, Sought};
+pub use laws::{ids_follow_bindings, needed_contexts_suffice, resolving_changes_contexts_alone};
+pub use needed::needs;
+pub use resolver::resolve;
+pub use role::Role;
+pub use uses::{Use, used_ids};
+
+#[cfg(test)]
+mod tests;
