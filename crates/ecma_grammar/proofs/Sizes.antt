@@ -1,5 +1,5 @@
 -- How much a grammar says: what a production names says as much as the production of that name.
-use Rattle.std.proofs.Common.{ℕ, ◌+◌, ◌*◌, if◌then◌else◌}
+use Rattle.std.proofs.Common.{ℕ, ◌+◌, ◌*◌, ◌<◌, ◌≤◌, Bool, true, false, if◌then◌else◌, arith}
 use Rattle.ecma_grammar.specs.declared.production.Production.{Production}
 use Rattle.ecma_grammar.specs.Grammar as grammar
 use Rattle.ecma_grammar.specs.Grammar.{Grammar}
@@ -19,3 +19,11 @@ size g = 1
 -- a name counts for one more
 abbrev pub left_to_read : Production → ℕ
 left_to_read p = size (written p) * 2 + (if is_name p then 1 else 0)
+
+name_counts : (b : Bool) → (if b then 1 else 0) ≤ 1
+name_counts true = omega arith
+name_counts false = omega arith
+
+-- what says less leaves less to read
+pub says-less : (p q : Production) → size (written q) < size (written p) → left_to_read q ≤ left_to_read p
+says-less p q less = omega (arith, name_counts (is_name q))

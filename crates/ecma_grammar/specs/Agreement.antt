@@ -1,5 +1,5 @@
 -- That a method of the reader does what a reading says.
-use Rattle.std.specs.Prelude.{◌≡◌, ℕ, List, Result, Ok, Err}
+use Rattle.std.specs.Prelude.{◌≡◌, ℕ, List, length, take, Result, Ok, Err}
 use Rattle.std.specs.Borrow.{MutBor}
 use Rattle.std.specs.Fn.{Shared}
 use Rattle.ecma_tree.specs.declared.node.Node.{Node}
@@ -38,10 +38,10 @@ EndsAs (Err failure) new outcome = FailsAs failure new outcome
 abbrev pub Reads : {A : Type 0} → Reader → Reader → Result A Failure → Reading A → Type 0
 Reads old new result reading = SameText old new × (kept new ≡ kept old) × EndsAs result new (reading (position old))
 
--- the same, where what is read is kept behind what was kept before
+-- the same, where what is read is kept behind what was kept before; on a failure more may be kept
 abbrev pub KeepsAs : Reader → Reader → Result Unit Failure → Outcome (List Node) → Type 0
 KeepsAs old new (Ok x) outcome = with_front (kept old) outcome ≡ read (kept new) (position new)
-KeepsAs old new (Err NoMatch) outcome = (outcome ≡ fails new.failed) × (kept new ≡ kept old)
+KeepsAs old new (Err NoMatch) outcome = (outcome ≡ fails new.failed) × (take (length (kept old)) (kept new) ≡ kept old)
 KeepsAs old new (Err (TooDeep at)) outcome = outcome ≡ too_deep at
 KeepsAs old new (Err NoMemory) outcome = Unit {0}
 

@@ -7,5 +7,7 @@ pub mod Reading
 pub mod trees
 pub mod Made
 pub mod Reads
+pub mod Opening
+pub mod Outlook
 pub mod Agreement
 pub mod Modules

@@ -88,6 +88,10 @@ module _ (text : List ℕ) where
   token (the_punct w) s = terminal_on s (lex.punct text s.place w)
   token (any k) s = any_token k s
 
+  -- a token, of which nothing is kept
+  abbrev pub taken : Terminal → Reading (List Node)
+  taken t = token t >>= λ k. pure []
+
   abbrev pub word_token : List ℕ → Reading Token
   word_token w s = terminal_on s (lex.word text s.place w)
 

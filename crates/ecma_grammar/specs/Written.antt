@@ -35,3 +35,13 @@ written (production.The r) = rule_grammar r
 abbrev pub is_name : Production → Bool
 is_name (production.The r) = true
 is_name p = false
+
+-- a production of which another is read in its place, or a last part
+abbrev pub goes_on : Production → Bool
+goes_on (production.The r) = true
+goes_on (production.Then' p a q b) = true
+goes_on (production.Or' p a q b) = true
+goes_on (production.Marked' p a) = true
+goes_on (production.Assigned' p a) = true
+goes_on (production.Build' f p a) = true
+goes_on p = false

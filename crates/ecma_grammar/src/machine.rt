@@ -3,7 +3,7 @@ ghost use Rattle.ecma_grammar.specs.Agreement.{Keeps, parts_in, reads_in};
 ghost use Rattle.ecma_grammar.specs.productions.Modules.{module_body};
 
 use crate::failure::Failure;
-use crate::production::{Part, Production};
+use crate::production::{Form, Part, Production};
 use crate::productions::{module_body, part_body, rule_body};
 use crate::reader::Reader;
 
@@ -54,119 +54,188 @@ pub(crate) struct Machine<'f, F> {
 }
 
 impl<'f, F: Fn(&mut Reader, Part, u32) -> Result<(), Failure>> Machine<'f, F> {
-    ghost use Rattle.std.specs.Prelude.{◌≡◌};
-    ghost use Rattle.ecma_grammar.specs.Written.{written};
-    ghost use Rattle.ecma_grammar.specs.Grammar.{many};
+    ghost use Rattle.std.specs.Prelude.{◌≡◌, false};
+    ghost use Rattle.ecma_grammar.specs.Written.{goes_on, written};
+    ghost use Rattle.ecma_grammar.specs.Grammar.{ahead, build, many, unless};
     ghost use Rattle.ecma_grammar.specs.Agreement.{Keeps, ReadsParts, reads_in};
 
+    /// Reads by a production. The last part of one is read in this loop, and so is one node that is made of all that is read:
+    /// so a call is taken only by the first of two, by each of a choice but the last, and by what is repeated or looked at.
     #[tactic(auto, using(crate::proofs::Readings::reading))]
     #[cycle(reading)]
-    pub(crate) fn read(&self, reader: &mut Reader, production: &Production) -> Result<(), Failure>
+    pub(crate) fn read(
+        &self,
+        reader: &mut Reader,
+        production: &'static Production,
+    ) -> Result<(), Failure>
         requires { ReadsParts F.Fn self.now }
         ensures { Keeps reader.old reader.new result (reads_in reader.old self.now.left (written production.now)) }
     {
+        let mut opened = None;
+        let mut rest = production;
+        'going: loop {
+            match rest {
+                Production::Then(first, second) => {
+                    self.read(reader, first)?;
+                    rest = *second;
+                }
+                Production::Or(first, second) => {
+                    if reader.fails_ahead(first) {
+                        rest = *second;
+                    } else {
+                        let (start, count) = (reader.place(), reader.count());
+                        match self.read(reader, first) {
+                            Ok(()) => return Ok(reader.close(opened)?),
+                            Err(Failure::NoMatch) => {
+                                reader.go_back(start, count);
+                                rest = *second;
+                            }
+                            Err(failure) => return Err(failure),
+                        }
+                    }
+                }
+                Production::The(rule) => rest = rule_body(*rule),
+                Production::Build(form, part) => {
+                    if opened.is_some() {
+                        self.read_node(reader, form, part)?;
+                        return Ok(reader.close(opened)?);
+                    }
+                    opened = Some(reader.open(form));
+                    rest = *part;
+                }
+                Production::Marked(part) => {
+                    if !reader.mode().typescript {
+                        return Err(Failure::NoMatch);
+                    }
+                    rest = *part;
+                }
+                Production::Assigned(part) => {
+                    if !reader.mode().assignments {
+                        return Err(Failure::NoMatch);
+                    }
+                    rest = *part;
+                }
+                Production::Many(_)
+                | Production::Ahead(_)
+                | Production::Unless(_)
+                | Production::Up(_)
+                | Production::Enter(_)
+                | Production::Behind(_, _)
+                | Production::Nothing
+                | Production::SameLine
+                | Production::Take(_)
+                | Production::Keep(_)
+                | Production::Put(_) => {
+                    self.read_last(reader, rest)?;
+                    return Ok(reader.close(opened)?);
+                }
+            }
+        }
+    }
+
+    /// Reads by a production that ends the loop.
+    #[tactic(auto, using(crate::proofs::Readings::looking))]
+    #[cycle(reading)]
+    #[inline(never)]
+    fn read_last(&self, reader: &mut Reader, production: &'static Production) -> Result<(), Failure>
+        requires parts { ReadsParts F.Fn self.now }
+        requires last { goes_on production.now ≡ false }
+        ensures { Keeps reader.old reader.new result (reads_in reader.old self.now.left (written production.now)) }
+    {
         match production {
-            Production::Nothing => Ok(()),
-            Production::SameLine => reader.same_line(),
-            Production::Take(terminal) => {
-                reader.token(*terminal)?;
-                Ok(())
-            }
-            Production::Keep(leaf) => reader.keep_leaf(*leaf),
-            Production::Put(flag) => {
-                reader.put(*flag)?;
-                Ok(())
-            }
-            Production::Then(first, second) => {
-                let count = reader.count();
-                self.read(reader, first)?;
-                match self.read(reader, second) {
-                    Err(Failure::NoMatch) => {
-                        reader.let_go(count);
-                        Err(Failure::NoMatch)
-                    }
-                    result => result,
-                }
-            }
-            Production::Or(first, second) => {
-                let start = reader.place();
-                match self.read(reader, first) {
-                    Err(Failure::NoMatch) => {
-                        reader.go_to(start);
-                        self.read(reader, second)
-                    }
-                    result => result,
-                }
-            }
-            Production::Many(part) => self.read_many(reader, part),
-            Production::Ahead(part) => {
-                let (start, count) = (reader.place(), reader.count());
-                self.read(reader, part)?;
-                reader.go_to(start);
-                reader.let_go(count);
-                Ok(())
-            }
-            Production::Unless(part) => {
-                let (start, count) = (reader.place(), reader.count());
-                match self.read(reader, part) {
-                    Ok(()) => {
-                        reader.let_go(count);
-                        Err(Failure::NoMatch)
-                    }
-                    Err(Failure::NoMatch) => {
-                        reader.go_to(start);
-                        Ok(())
-                    }
-                    result => result,
-                }
-            }
-            Production::Marked(part) => {
-                if !reader.mode().typescript {
-                    return Err(Failure::NoMatch);
-                }
-                self.read(reader, part)
-            }
-            Production::Assigned(part) => {
-                if !reader.mode().assignments {
-                    return Err(Failure::NoMatch);
-                }
-                self.read(reader, part)
-            }
             Production::Up(part) => (self.part)(reader, *part, reader.place()),
             Production::Enter(part) => {
                 let start = reader.next_start();
                 (self.part)(reader, *part, start)
             }
-            Production::The(rule) => self.read(reader, rule_body(*rule)),
             Production::Behind(terminal, part) => {
                 let token = reader.token(*terminal)?;
                 (self.part)(reader, *part, token.start)
             }
-            Production::Build(form, part) => {
-                let (lo, count) = (reader.next_start(), reader.count());
-                self.read(reader, part)?;
-                reader.build(*form, lo, count)?;
+            Production::Many(part) => self.read_many(reader, part),
+            Production::Ahead(part) => self.read_ahead(reader, part),
+            Production::Unless(part) => self.read_unless(reader, part),
+            Production::Nothing => Ok(()),
+            Production::SameLine => reader.same_line(),
+            Production::Take(terminal) => reader.take_token(*terminal),
+            Production::Keep(leaf) => reader.keep_leaf(*leaf),
+            Production::Put(flag) => Ok(reader.put(*flag)?),
+            Production::Then(_, _)
+            | Production::Or(_, _)
+            | Production::The(_)
+            | Production::Build(_, _)
+            | Production::Marked(_)
+            | Production::Assigned(_) => unreachable!(),
+        }
+    }
+
+    /// Reads what a node is made of, and makes it.
+    #[tactic(auto, using(crate::proofs::Readings::reading))]
+    #[cycle(reading)]
+    #[inline(never)]
+    fn read_node(
+        &self,
+        reader: &mut Reader,
+        form: &'static Form,
+        part: &'static Production,
+    ) -> Result<(), Failure>
+        requires { ReadsParts F.Fn self.now }
+        ensures { Keeps reader.old reader.new result (reads_in reader.old self.now.left (build form.now (written part.now))) }
+    {
+        let node = reader.open(form);
+        self.read(reader, part)?;
+        Ok(reader.build(node)?)
+    }
+
+    /// Reads what stands ahead, and takes nothing.
+    #[tactic(auto, using(crate::proofs::Readings::looking))]
+    #[cycle(reading)]
+    #[inline(never)]
+    fn read_ahead(&self, reader: &mut Reader, part: &'static Production) -> Result<(), Failure>
+        requires { ReadsParts F.Fn self.now }
+        ensures { Keeps reader.old reader.new result (reads_in reader.old self.now.left (ahead (written part.now))) }
+    {
+        let (start, count) = (reader.place(), reader.count());
+        self.read(reader, part)?;
+        reader.go_back(start, count);
+        Ok(())
+    }
+
+    /// Takes nothing, where this does not stand ahead.
+    #[tactic(auto, using(crate::proofs::Readings::looking))]
+    #[cycle(reading)]
+    #[inline(never)]
+    fn read_unless(&self, reader: &mut Reader, part: &'static Production) -> Result<(), Failure>
+        requires { ReadsParts F.Fn self.now }
+        ensures { Keeps reader.old reader.new result (reads_in reader.old self.now.left (unless (written part.now))) }
+    {
+        let (start, count) = (reader.place(), reader.count());
+        match self.read(reader, part) {
+            Ok(()) => Err(Failure::NoMatch),
+            Err(Failure::NoMatch) => {
+                reader.go_back(start, count);
                 Ok(())
             }
+            Err(failure) => Err(failure),
         }
     }
 
     #[tactic(auto, using(crate::proofs::Readings::repeating))]
     #[cycle(reading)]
     #[inline(never)]
-    fn read_many(&self, reader: &mut Reader, part: &Production) -> Result<(), Failure>
+    fn read_many(&self, reader: &mut Reader, part: &'static Production) -> Result<(), Failure>
         requires { ReadsParts F.Fn self.now }
         ensures { Keeps reader.old reader.new result (reads_in reader.old self.now.left (many (written part.now))) }
     {
         for i in 0..reader.text().len() + 1 {
-            let start = reader.place();
+            let (start, count) = (reader.place(), reader.count());
             match self.read(reader, part) {
                 Ok(()) => {}
                 Err(Failure::NoMatch) => {
-                    reader.go_to(start);
+                    reader.go_back(start, count);
                     return Ok(());
                 }
-                result => return result,
+                Err(failure) => return Err(failure),
             }
         }
         Ok(())

@@ -275,7 +275,7 @@ pub enum Form {
     Field,
     /// Modifiers, member of a class.
     Modified,
-    /// Modifiers, annotation.
+    /// Modifiers, type of the index, annotation.
     IndexSignature,
     /// The head of a loop, its body.
     Headed,

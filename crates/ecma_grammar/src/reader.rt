@@ -4,12 +4,14 @@ ghost use Rattle.ecma_lex.specs.Looking.{look};
 
 mod keeping;
 mod leaves;
+mod outlook;
 mod recent;
 mod terminals;
 
 use crate::production::Mode;
 use ecma_lex::Upcoming;
 use ecma_tree::{Node, Nodes};
+pub(crate) use keeping::Opened;
 use std::alloc::Global;
 
 /// Reads a text from its front.
@@ -71,15 +73,6 @@ impl<'a> Reader<'a> {
         ensures { result ≡ self.now.mode }
     {
         self.mode
-    }
-
-    /// Goes back to a place.
-    pub(crate) fn go_to(&mut self, place: u32)
-        ensures text { SameText self.old self.new }
-        ensures position { position self.new ≡ record { place = place; failed = self.old.failed } }
-        ensures kept { kept self.new ≡ kept self.old }
-    {
-        self.place = place;
     }
 
     /// The greatest place at which a terminal has failed.

@@ -19,9 +19,11 @@ pub use conflicts::check_scopes;
 pub use error::ScopeError;
 pub use form::{Declaration, Form, Part, Sought};
 pub use laws::{ids_follow_bindings, needed_contexts_suffice, resolving_changes_contexts_alone};
+pub use names::sought_in;
 pub use needed::needs;
 pub use resolver::resolve;
-pub use role::Role;
+pub use role::{Role, covers, is_ambient, is_there, opens, role_by, role_in};
+pub use stated::{holds_vars, own_part};
 pub use uses::{Use, used_ids};
 
 #[cfg(test)]

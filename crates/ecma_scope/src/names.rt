@@ -253,7 +253,7 @@ fn in_member(stays: bool, kind: &Kind, index: usize) -> Option<Sought>
 
 /// What is looked for in the child at an index.
 #[tactic(auto, unfolding(crate::specs::Declarations::sought_in))]
-fn sought_in(sought: Sought, node: &Node, index: usize) -> Option<Sought>
+pub fn sought_in(sought: Sought, node: &Node, index: usize) -> Option<Sought>
     ensures { result ≡ sought_in sought node.now index }
 {
     let stays = sought.stays;

@@ -29,7 +29,7 @@ pub enum Role {
 }
 
 /// Whether the child at an index is there.
-pub(crate) fn is_there(node: &Node, index: usize) -> bool
+pub fn is_there(node: &Node, index: usize) -> bool
     ensures { result ≡ is_there (out-Node node.now).children index }
 {
     match node.children.get(index) {
@@ -44,7 +44,8 @@ fn at_child(role: Role, wanted: usize, index: usize) -> Role
     if index == wanted { role } else { Role::Plain }
 }
 
-pub(crate) fn is_ambient(role: Role) -> bool
+/// Whether a node in this role stands in an ambient namespace.
+pub fn is_ambient(role: Role) -> bool
     ensures { result ≡ is_ambient role }
 {
     matches!(role, Role::Ambient)
@@ -97,8 +98,9 @@ fn of_exports(sourced: bool, index: usize) -> Role
     }
 }
 
+/// What the child at an index is to a node of this role and kind, which may have a source.
 #[tactic(auto, unfolding(crate::specs::Scopes::role_by))]
-pub(crate) fn role_by(role: Role, kind: &Kind, sourced: bool, index: usize) -> Role
+pub fn role_by(role: Role, kind: &Kind, sourced: bool, index: usize) -> Role
     ensures { result ≡ role_by role kind.now sourced index }
 {
     match kind {
@@ -128,7 +130,7 @@ pub(crate) fn role_by(role: Role, kind: &Kind, sourced: bool, index: usize) -> R
 }
 
 /// What the child at an index is to this node.
-pub(crate) fn role_in(role: Role, node: &Node, index: usize) -> Role
+pub fn role_in(role: Role, node: &Node, index: usize) -> Role
     ensures { result ≡ role_in role node.now index }
 {
     role_by(role, &node.kind, is_there(node, 1), index)
@@ -163,7 +165,7 @@ fn opens_by(role: Role, kind: &Kind, named: bool) -> bool
 }
 
 /// Whether a node in this role opens a scope.
-pub(crate) fn opens(role: Role, node: &Node) -> bool
+pub fn opens(role: Role, node: &Node) -> bool
     ensures { result ≡ opens role node.now }
 {
     opens_by(role, &node.kind, is_there(node, 0))
@@ -171,7 +173,7 @@ pub(crate) fn opens(role: Role, node: &Node) -> bool
 
 /// Whether the child at an index stands in the scope that its parent opens.
 #[tactic(auto, unfolding(crate::specs::Scopes::covers))]
-pub(crate) fn covers(role: Role, kind: &Kind, index: usize) -> bool
+pub fn covers(role: Role, kind: &Kind, index: usize) -> bool
     ensures { result ≡ covers role kind.now index }
 {
     match kind {

@@ -39,8 +39,9 @@ pub(crate) fn is_body(role: Role) -> bool
     matches!(role, Role::Body | Role::StaticBody)
 }
 
+/// Whether the names of `var` statements inside belong to the scope that a node of this role and kind opens.
 #[tactic(auto, unfolding(crate::specs::Declarations::holds_vars))]
-pub(crate) fn holds_vars(role: Role, kind: &Kind) -> bool
+pub fn holds_vars(role: Role, kind: &Kind) -> bool
     ensures { result ≡ holds_vars role kind.now }
 {
     match kind {
@@ -52,7 +53,8 @@ pub(crate) fn holds_vars(role: Role, kind: &Kind) -> bool
     }
 }
 
-fn own_part(role: Role) -> Part
+/// Where the names of the scope that a node in this role opens are looked for, but for its `var` names.
+pub fn own_part(role: Role) -> Part
     ensures { result ≡ own_part role }
 {
     match role {

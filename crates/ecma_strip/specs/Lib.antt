@@ -1,1 +1,6 @@
 pub mod Erasure
+pub mod Values
+pub mod Staying
+pub mod Stripping
+pub mod Laws
+pub mod Plain

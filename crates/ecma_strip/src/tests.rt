@@ -90,3 +90,19 @@ fn types_are_taken_out(rt: HostRuntime) -> Result<(), Fail> {
     assert!(rt; is_plain_then(alloc, plain_module(alloc)?)?);
     Ok(())
 }
+
+fn is_plain_once_visited(alloc: Global, mut module: Node) -> Result<bool, NoMemory> {
+    let done = strip_type().visit_mut_module(alloc, &mut module);
+    let answer = is_plain(alloc, &module);
+    let_go(module);
+    done?;
+    answer
+}
+
+#[test]
+fn the_pass_takes_types_out(rt: HostRuntime) -> Result<(), Fail> {
+    let alloc = rt.alloc();
+    assert!(rt; is_plain_once_visited(alloc, typed_module(alloc)?)?);
+    assert!(rt; is_plain_once_visited(alloc, plain_module(alloc)?)?);
+    Ok(())
+}

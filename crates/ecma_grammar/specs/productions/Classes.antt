@@ -1,6 +1,6 @@
 -- Classes (ECMAScript, 15.7).
 use Rattle.std.specs.Prelude.{Bool, true, false, codes}
-use Rattle.ecma_grammar.specs.Grammar.{Grammar, same_line, put, ◌▸◌, ◌//◌, many, ahead, marked, build, word, punct, behind_word, optional, maybe, whether, node, list}
+use Rattle.ecma_grammar.specs.Grammar.{Grammar, same_line, put, ◌▸◌, ◌//◌, many, ahead, marked, build, word, punct, behind_word, optional, maybe, whether, node, bare, list}
 use Rattle.ecma_grammar.specs.declared.production.Part.TheVariants as part
 use Rattle.ecma_grammar.specs.declared.production.Flag.TheVariants.{Absent, Present}
 use Rattle.ecma_grammar.specs.declared.production.Plain.TheVariants as plain
@@ -49,7 +49,7 @@ field = build form.Field (class_element_name ▸ question_or_exclamation ▸ ann
 -- Mod* '[' Name ':' Type ']' Ann End
 unfoldable pub index_signature : Grammar
 index_signature =
-    build form.IndexSignature (modifiers ▸ punct (codes "[") ▸ a_name ▸ punct (codes ":") ▸ type_ ▸ punct (codes "]") ▸ some_annotation ▸ end)
+    build form.IndexSignature (modifiers ▸ punct (codes "[") ▸ a_name ▸ punct (codes ":") ▸ bare plain.TsType type_ ▸ punct (codes "]") ▸ some_annotation ▸ end)
 
 -- Member
 unfoldable pub member : Grammar

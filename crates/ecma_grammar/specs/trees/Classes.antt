@@ -97,7 +97,7 @@ abbrev pub member : Span → List Node → Node
 member span (modifiers ∷ n ∷ []) = member_by span modifiers (kind_of n) (children_of n)
 member span xs = absent
 
--- modifiers, annotation
+-- modifiers, type of the index, annotation
 abbrev pub index_signature : Span → List Node → Node
-index_signature span (modifiers ∷ annotation ∷ []) = node_of span (kind.TsIndexSignature (has_word (codes "readonly") modifiers) (has_word (codes "static") modifiers)) []
+index_signature span (modifiers ∷ index ∷ annotation ∷ []) = node_of span (kind.TsIndexSignature (has_word (codes "readonly") modifiers) (has_word (codes "static") modifiers)) []
 index_signature span xs = absent

@@ -158,7 +158,7 @@ static INDEX_SIGNATURE_BODY: Production = Build(
         punct!("["),
         A_NAME,
         punct!(":"),
-        TYPE_,
+        bare!(Plain::TsType, TYPE_),
         punct!("]"),
         SOME_ANNOTATION,
         END

@@ -12,8 +12,20 @@ impl Reader<'_> {
     ghost use Rattle.ecma_lex.specs.Blanks.{skipped};
     ghost use Rattle.ecma_grammar.specs.Reading.{terminal_on};
     ghost use Rattle.ecma_grammar.specs.Written.{written_token};
-    ghost use Rattle.ecma_grammar.specs.Reads.{any_token, next_start, part_on, same_line_on, template_part, token};
-    ghost use Rattle.ecma_grammar.specs.Agreement.{position, kept, Reads, SameText, EndsAs, KeepsAs};
+    ghost use Rattle.ecma_grammar.specs.Reads.{any_token, next_start, part_on, same_line_on, taken, template_part, token};
+    ghost use Rattle.ecma_grammar.specs.Agreement.{position, kept, Reads, SameText, EndsAs, Keeps, KeepsAs};
+
+    /// Looks at what stands at the reader's place.
+    pub(super) fn look(&mut self)
+        ensures text { SameText self.old self.new }
+        ensures position { position self.new ≡ position self.old }
+        ensures kept { kept self.new ≡ kept self.old }
+        ensures place { self.new.ahead.place ≡ self.new.place }
+    {
+        if self.ahead.place != self.place {
+            self.ahead = ecma_lex::look(self.text, self.place);
+        }
+    }
 
     /// What stands at the reader's place: what is known of it, or what is seen there now.
     pub(super) fn ahead(&mut self) -> Upcoming
@@ -23,9 +35,7 @@ impl Reader<'_> {
         ensures place { result.place ≡ self.old.place }
         ensures known { result ≡ look self.old.text.now result.place }
     {
-        if self.ahead.place != self.place {
-            self.ahead = ecma_lex::look(self.text, self.place);
-        }
+        self.look();
         self.ahead
     }
 
@@ -134,6 +144,14 @@ impl Reader<'_> {
             Terminal::Punct(punctuator) => self.take(ahead.punct(self.text, punctuator)),
             Terminal::Kind(kind) => self.any_token(kind),
         }
+    }
+
+    /// Takes a token, of which nothing is kept.
+    pub(crate) fn take_token(&mut self, terminal: Terminal) -> Result<(), Failure>
+        ensures { Keeps self.old self.new result (taken self.old.text.now (written_token terminal)) }
+    {
+        self.token(terminal)?;
+        Ok(())
     }
 
     /// Where the next token begins.

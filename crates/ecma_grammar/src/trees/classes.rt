@@ -3,7 +3,7 @@ ghost use Rattle.std.specs.Prelude.{◌≡◌, IfOk};
 ghost use Rattle.ecma_grammar.specs.trees.Parts.{framed, kind_of};
 ghost use Rattle.ecma_grammar.specs.trees.Classes.{class, constructor_of, field, field_kind, index_signature, is_constructor, is_constructor_key, is_plain_function, is_private_name, member, member_by, method, method_by, method_kind, modified, no_modifiers};
 
-use super::frames::{five, four, nine, six, two};
+use super::frames::{five, four, nine, six, three, two};
 use super::functions::{Signature, accessibility_of, function_of, has_word};
 use super::parts::{is_present, let_go};
 use ecma_tree::{Kind, MemberModifiers, MethodKind, NoMemory, Node, Nodes, Span};
@@ -286,11 +286,12 @@ pub(super) fn member(alloc: Global, span: Span, items: Nodes) -> Result<Node, No
 }
 
 pub(super) fn index_signature(alloc: Global, span: Span, items: Nodes) -> Node
-    ensures { result ≡ framed 2 (index_signature span) items }
+    ensures { result ≡ framed 3 (index_signature span) items }
 {
-    let Some((modifiers, annotation)) = two(items) else {
+    let Some((modifiers, index, annotation)) = three(items) else {
         return Node::absent(alloc);
     };
+    let_go(index);
     let_go(annotation);
     let kind = Kind::TsIndexSignature {
         readonly: has_word(&modifiers, "readonly"),

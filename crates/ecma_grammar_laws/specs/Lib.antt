@@ -1,0 +1,4 @@
+pub mod Takes
+pub mod Repetitions
+pub mod RawSorts
+pub mod RawTrees

@@ -1,0 +1,10 @@
+pub mod Walking
+pub mod Seeking
+pub mod Arounds
+pub mod Getting
+pub mod Writing
+pub mod Staying
+pub mod Telling
+pub mod Roles
+pub mod Bound
+pub mod Capturing

@@ -1,0 +1,11 @@
+pub mod Walks
+pub mod Ids
+pub mod Sights
+pub mod Frames
+pub mod Sets
+pub mod Texts
+pub mod Renamed
+pub mod Hygienic
+pub mod Kept
+pub mod Laws
+pub mod Capture

@@ -1,0 +1,27 @@
+ghost use Rattle.std.specs.Prelude.{◌≡◌, OnOk};
+ghost use Rattle.ecma_hygiene.specs.Hygienic.{IsHygienic};
+
+use crate::rename::{Renaming, rename, text_map};
+use crate::spot::{Spot, Standing};
+use crate::texts::texts_of;
+use crate::walk::walk_module;
+use ecma_scope::Role;
+use ecma_tree::{Module, NoMemory};
+use std::alloc::Global;
+
+/// Gives the bindings of a module their final texts, so that the texts alone say what its ids say. New names come first:
+/// each takes its own text if none has it, else the least number from 1 behind it that makes a text that none has. Then a
+/// binding of the source gets a number too where an identifier of its text stands in its scope and names another, or where it
+/// is one of the body of a function that has a parameter of its text. Keys of objects and patterns stay, and so do imported and exported names.
+pub fn hygiene(alloc: Global, tree: &mut Module) -> Result<(), NoMemory>
+    ensures { OnOk result (IsHygienic tree.old tree.new) }
+{
+    let found = walk_module(alloc, tree)?;
+    let names = texts_of(alloc, &found)?;
+    let texts = text_map(alloc, &names)?;
+    let renaming = Renaming { alloc, texts };
+    let role = Role::Root;
+    let spot = Spot::Elsewhere;
+    rename(&renaming, Standing { role, spot }, tree)?;
+    Ok(())
+}

@@ -1,0 +1,83 @@
+use super::*;
+use ecma_tree::{
+    JsWord, Kind, NoMemory, Node, Nodes, Session, Span, SyntaxContext, VarDeclKind, symbols,
+};
+use std::alloc::Global;
+use std::test::Fail;
+
+const PLACE: Span = Span { lo: 1, hi: 2 };
+
+fn name(alloc: Global, text: &str, ctxt: SyntaxContext) -> Result<Node, NoMemory> {
+    let kind = Kind::Ident {
+        sym: JsWord::new(alloc, text)?,
+        ctxt,
+        optional: false,
+    };
+    Ok(Node::leaf(alloc, PLACE, kind))
+}
+
+/// `let f;`
+fn variable(alloc: Global, ctxt: SyntaxContext) -> Result<Node, NoMemory> {
+    let pattern = Node::binding_ident(alloc, PLACE, name(alloc, "f", ctxt)?, None)?;
+    let declarator = Node::var_declarator(alloc, PLACE, false, pattern, None)?;
+    let names = Nodes::from_array(alloc, [declarator])?;
+    Node::var_decl(alloc, PLACE, VarDeclKind::Let, false, names)
+}
+
+/// `{ f; }`
+fn block(alloc: Global, ctxt: SyntaxContext) -> Result<Node, NoMemory> {
+    let read = Node::expr_stmt(alloc, PLACE, name(alloc, "f", ctxt)?)?;
+    Node::block_stmt(alloc, PLACE, Nodes::from_array(alloc, [read])?)
+}
+
+/// `({ f });`
+fn shorthand(alloc: Global, ctxt: SyntaxContext) -> Result<Node, NoMemory> {
+    let props = Nodes::from_array(alloc, [name(alloc, "f", ctxt)?])?;
+    let object = Node::object_lit(alloc, PLACE, props)?;
+    Node::expr_stmt(alloc, PLACE, object)
+}
+
+/// `export { f };`
+fn exported(alloc: Global, ctxt: SyntaxContext) -> Result<Node, NoMemory> {
+    let name = name(alloc, "f", ctxt)?;
+    let specifier = Node::export_named_specifier(alloc, PLACE, false, name, None)?;
+    let specifiers = Nodes::from_array(alloc, [specifier])?;
+    Node::named_export(alloc, PLACE, false, specifiers, None, None)
+}
+
+/// `{ f; } let f; ({ f }); export { f };`, where the first `f` has another context than the others.
+fn module(alloc: Global, inside: SyntaxContext, outside: SyntaxContext) -> Result<Node, NoMemory> {
+    let body = [
+        block(alloc, inside)?,
+        variable(alloc, outside)?,
+        shorthand(alloc, outside)?,
+        exported(alloc, outside)?,
+    ];
+    Node::module(alloc, PLACE, None, Nodes::from_array(alloc, body)?)
+}
+
+/// The texts of the identifiers, each with a blank behind it.
+fn texts(alloc: Global, tree: &Node) -> Result<String, Fail> {
+    let mut all = String::new(alloc);
+    for symbol in symbols(alloc, tree)?.as_slice() {
+        all.push_str(symbol.as_str())?;
+        all.push_str(" ")?;
+    }
+    Ok(all)
+}
+
+#[test]
+fn a_free_name_keeps_its_text(rt: HostRuntime) -> Result<(), Fail> {
+    let alloc = rt.alloc();
+    let mut session = Session::new(2);
+    let empty = SyntaxContext::empty();
+    let free = empty.apply_mark(session.fresh_mark()?);
+    let bound = empty.apply_mark(session.fresh_mark()?);
+    let mut tree = module(alloc, free, bound)?;
+    hygiene(alloc, &mut tree)?;
+    assert_eq!(rt; texts(alloc, &tree)?.as_str(), "f f1 f1 f1 f ");
+    let mut tree = module(alloc, bound, bound)?;
+    hygiene(alloc, &mut tree)?;
+    assert_eq!(rt; texts(alloc, &tree)?.as_str(), "f f f f ");
+    Ok(())
+}

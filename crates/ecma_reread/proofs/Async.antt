@@ -1,0 +1,119 @@
+-- The name `async`, where neither a function nor an arrow function follows.
+use Rattle.std.proofs.Common.{◌≡◌, ℕ, Bool, true, false, List, [], ◌∷◌, codes, refl, ap, ◌∙◌, if◌then◌else◌}
+use Rattle.ecma_lex.specs.Keys.{is_reserved, reserved_words}
+use Rattle.ecma_kind.specs.declared.kind.Kind.TheVariants as kind
+use Rattle.ecma_tree.specs.declared.node.Node.{Node}
+use Rattle.ecma_grammar.specs.declared.production.Leaf.TheVariants as leaf
+use Rattle.ecma_grammar.specs.declared.production.Plain.TheVariants as plain
+use Rattle.ecma_grammar.specs.declared.production.Form.{Form as Made}
+use Rattle.ecma_grammar.specs.declared.production.Form.TheVariants as form
+use Rattle.ecma_grammar.specs.declared.production.Flag.TheVariants.{Absent, Present}
+use Rattle.ecma_grammar.specs.trees.Parts.{flag_node}
+use Rattle.ecma_grammar.specs.Grammar.{Grammar, same_line, keep, put, ◌▸◌, build, word, punct, maybe, whether}
+use Rattle.ecma_grammar.specs.productions.Names as names
+use Rattle.ecma_grammar.specs.productions.Names.{ident}
+use Rattle.ecma_grammar.specs.productions.Functions as functions
+use Rattle.ecma_grammar.specs.productions.Functions.{arrow, arrow_rest, arrow_body, function, function_expression, signature}
+use Rattle.ecma_grammar.specs.productions.Primary.{primary, class_expression}
+use Rattle.ecma_grammar.specs.productions.Operators.{prefixed}
+use Rattle.ecma_grammar.specs.productions.Chains.{links, super_of_link, import_meta, import_call, construction}
+use Rattle.ecma_grammar.specs.productions.Classes as classes
+use Rattle.ecma_grammar.specs.productions.Declarations.{declaration}
+use Rattle.ecma_grammar.specs.productions.Statements as statements
+use Rattle.ecma_grammar.specs.productions.Modules as modules
+use Rattle.ecma_tokens.specs.Items as items
+use Rattle.ecma_tokens.specs.Items.{Gap, Items, it}
+use Rattle.ecma_tokens.specs.Taking.{new_line_in}
+use Rattle.ecma_reread.specs.Machine.{read, fails, with_front, followed_on, or_on, built_on, interp, means}
+use Rattle.ecma_reread.proofs.Fronts.{Front, exactly, Begins, at_token, front_of, refuses_at, refused_at, refuses_first}
+use Rattle.ecma_reread.proofs.Towers.{Tower, later, sooner, here, climb, without, skipped, excluded, Opens, Starts}
+use Rattle.ecma_reread.proofs.Heads.{bare}
+use Rattle.ecma_reread.proofs.Forms.{heads, Reads, Refuses, Form}
+use Rattle.ecma_reread.proofs.Expressions.{name_as_param, name_no_rest, name_no_label}
+
+abbrev async : List ℕ
+async = codes "async"
+
+abbrev front : Front
+front = exactly (items.key async)
+
+async_free : is_reserved async ≡ false
+unfolding is_reserved reserved_words
+async_free = refl
+
+async_starts : Starts front
+unfolding statements.statement_body names.block statements.if_ statements.for_await statements.for_ statements.while_ statements.do_while statements.switch statements.try_ statements.jump modules.module_item modules.import modules.import_equals modules.export modules.export_default
+async_starts = record { no_statement = refl; no_item = refl }
+
+async_opens : Opens front
+unfolding prefixed
+async_opens = record { no_spread = refl; no_yield = refl; no_private = refl; no_prefix = refl; no_increment = refl; no_decrement = refl }
+
+-- behind a function expression
+primary_tower : (k : Front) → Tower front k (keep leaf.Ident) (without 1 primary)
+unfolding primary class_expression is_reserved reserved_words
+primary_tower k = later refl (later refl (later refl (later refl (later refl (sooner here)))))
+
+module _ (assigned : Bool) where
+  on_line : (b : Bool) (x : Grammar) (us : Items) → Refuses assigned x us → followed_on (interp assigned (means assigned) x) (if b then fails else read [] us) ≡ fails
+  on_line true x us h = refl
+  on_line false x us h = ap (with_front []) h
+
+  -- `async`, and on its line what does not stand there
+  async_refused : (x : Grammar) (g : Gap) (us : Items) → Refuses assigned x us → Refuses assigned (word async ▸ same_line ▸ x) (it g (items.key async) us)
+  async_refused x g us h = ap (with_front []) (on_line (new_line_in us) x us h)
+
+  module _ (g : Gap) (us : Items) (e : Front) (b : Begins e us) where
+    abbrev ts : Items
+    ts = it g (items.key async) us
+
+    module _ (z : refuses_at e (word (codes "function")) ≡ true) where
+      function_refused : (k : Made) (name : Grammar) → Refuses assigned (build k (function name)) ts
+      function_refused k name =
+          let I = interp assigned (means assigned) in
+          let none = refused_at assigned (means assigned) (word (codes "function") ▸ put Present) e us b (refuses_first e (word (codes "function")) (put Present) z) in
+          ap (built_on k) (ap (followed_on (I (whether (punct (codes "*")) ▸ name ▸ signature))) (ap (or_on (I (word (codes "function") ▸ put Absent)) ts) (async_refused (word (codes "function") ▸ put Present) g us none)))
+
+      async_no_declaration : Refuses assigned declaration ts
+      unfolding declaration functions.function_declaration classes.class_declaration
+      async_no_declaration =
+          ap (or_on (interp assigned (means assigned) (without 2 declaration)) ts) (function_refused (form.Function plain.FnDecl) ident)
+          ∙ refused_at assigned (means assigned) (without 2 declaration) front ts at_token refl
+
+      async_no_word : Refuses assigned excluded ts
+      async_no_word = async_refused (word (codes "function")) g us (refused_at assigned (means assigned) (word (codes "function")) e us b z)
+
+      async_own : (ys : List Node) (vs : Items) → Reads assigned links us ys vs → Reads assigned (heads ▸ links) ts (bare (kind.Ident async 0 false) [] ∷ ys) vs
+      unfolding primary function_expression super_of_link import_meta import_call construction is_reserved reserved_words
+      async_own ys vs h =
+          let I = interp assigned (means assigned) in
+          let n = bare (kind.Ident async 0 false) [] in
+          let k = front_of us in
+          let base : Reads assigned (keep leaf.Ident) ts (n ∷ []) us = refl in
+          let first = ap (or_on (I (without 1 primary)) ts) (function_refused (form.Function plain.FnExpr) (maybe ident)) ∙ climb assigned (means assigned) (primary_tower k.0) ts us n at_token k.1 base in
+          ap (followed_on (I links)) (skipped assigned (means assigned) 4 heads front ts at_token refl ∙ first) ∙ ap (with_front (n ∷ [])) h
+
+    async_no_arrow : refuses_at e (arrow_body false) ≡ true → Refuses assigned (arrow_rest false false) us → Refuses assigned (arrow false false) ts
+    unfolding arrow
+    async_no_arrow z r =
+        let I = interp assigned (means assigned) in
+        ap (or_on (I (build form.Arrow (put Absent ▸ arrow_rest false false))) ts)
+        (ap (built_on form.Arrow) (async_refused (put Present ▸ arrow_rest false false) g us (ap (with_front (flag_node Present ∷ [])) r)))
+        ∙ ap (built_on form.Arrow) (ap (with_front (flag_node Absent ∷ [])) (name_no_rest assigned async async_free g us e b z))
+
+  pub async_form : Form assigned (λ g us. it g (items.key async) us) (kind.Ident async 0 false) []
+  async_form = record {
+    front = front;
+    begins = λ g us. at_token;
+    opens = async_opens;
+    starts = async_starts;
+    pieces = bare (kind.Ident async 0 false) [] ∷ [];
+    own = async_own;
+    whole = refl;
+    head = refl;
+    no_arrow = async_no_arrow;
+    no_label = name_no_label assigned async async_free;
+    no_declaration = async_no_declaration;
+    no_word = async_no_word;
+    as_param = name_as_param assigned async async_free;
+  }

@@ -1,0 +1,186 @@
+-- Calls, and expressions by their shape.
+use Rattle.std.proofs.Common.{◌≡◌, bytes_eq, ℕ, Bool, true, false, List, [], ◌∷◌, ◌++◌, codes, refl, ap, sym, subst, ◌∙◌, append_assoc, append-nil, Some, None}
+use Rattle.std.proofs.lemmas.Bool.{false≢true}
+use Rattle.std.proofs.lemmas.Slice.Eq.{bytes_eq-Decides}
+use Rattle.ecma_lex.specs.Keys.{is_reserved}
+use Rattle.ecma_kind.specs.declared.kind.Kind.{Kind}
+use Rattle.ecma_kind.specs.declared.kind.Kind.TheVariants as kind
+use Rattle.ecma_tree.specs.declared.node.Node.{Node}
+use Rattle.ecma_tree.specs.Nodes.{absent, list_node}
+use Rattle.ecma_grammar.specs.declared.production.Part.TheVariants as part
+use Rattle.ecma_grammar.specs.declared.production.Link.TheVariants as link
+use Rattle.ecma_grammar.specs.trees.Chains.{step_on, in_front_link}
+use Rattle.ecma_grammar.specs.Grammar.{◌▸◌, punct}
+use Rattle.ecma_grammar.specs.productions.Names as names
+use Rattle.ecma_grammar.specs.productions.Types.{params, param, rest_pattern, default_value}
+use Rattle.ecma_grammar.specs.productions.Patterns.{pattern_body, array_pattern, object_pattern}
+use Rattle.ecma_grammar.specs.productions.Functions as functions
+use Rattle.ecma_grammar.specs.productions.Functions.{arrow_rest, arrow_body}
+use Rattle.ecma_grammar.specs.productions.Expressions as expressions
+use Rattle.ecma_grammar.specs.productions.Operators as operators
+use Rattle.ecma_grammar.specs.productions.Primary as primaries
+use Rattle.ecma_grammar.specs.productions.Primary.{element, spread}
+use Rattle.ecma_grammar.specs.productions.Chains as chains
+use Rattle.ecma_grammar.specs.productions.Chains.{arguments, links}
+use Rattle.ecma_grammar.proofs.Steps.{steps-append}
+use Rattle.ecma_tokens.specs.Items as items
+use Rattle.ecma_tokens.specs.Items.{Tok, sign, Gap, no_gap, Items, it}
+use Rattle.ecma_reread.specs.Machine.{with_front, means}
+use Rattle.ecma_reread.specs.Shapes as shapes
+use Rattle.ecma_reread.specs.Shapes.{IsPlainName, IsIdent, ident, IsKey, key, IsExpression, IsArguments, AreExpressions}
+use Rattle.ecma_reread.specs.Tokens.{bare, blank, ident_word, key_word, expression_tokens, arguments_tokens, more_tokens, expression_kind, expression_parts, bare_expression, bare_arguments, bare_expressions}
+use Rattle.ecma_reread.proofs.Levels.{means_is}
+use Rattle.ecma_reread.proofs.Fronts.{Front, exactly, Begins, at_token, IsName, is_known, refuses_at, refused_at, refuses_all, all_refused}
+use Rattle.ecma_reread.proofs.Heads.{call_made}
+use Rattle.ecma_reread.proofs.Forms.{Laid, s, behind_params, Reads, Refuses, linked_param, Form, Ends, used}
+use Rattle.ecma_reread.proofs.Repeats.{Repeats, repeats_end, repeats_more, repeated}
+use Rattle.ecma_reread.proofs.Expressions.{string_single, number_single, this_single, big_int_single, null_single, true_single, false_single, single_form, name_form, member_form, parenthesized_form, parenthesis_ends, comma_ends}
+use Rattle.ecma_reread.proofs.Params.{Params, params_end, params_more, params_by, parameters_refused, no_body_behind}
+use Rattle.ecma_reread.proofs.Async.{async_form}
+
+-- no argument begins with `)`
+no_argument : refuses_all (exactly (sign (codes ")"))) element ≡ true
+unfolding element spread functions.arrow functions.arrow_rest names.binding_ident expressions.conditional operators.short_circuit operators.bit_or operators.bit_xor operators.bit_and operators.equality operators.relation operators.shift operators.exponentiation operators.prefixed operators.update chains.chain chains.super_of_link chains.import_meta chains.import_call chains.construction primaries.primary functions.function_expression primaries.class_expression primaries.template primaries.array primaries.object primaries.parenthesized
+no_argument = refl
+
+-- and no parameter
+no_param_there : refuses_all (exactly (sign (codes ")"))) param ≡ true
+unfolding param rest_pattern default_value pattern_body array_pattern object_pattern names.binding_ident
+no_param_there = refl
+
+module _ (assigned : Bool) where
+  element_read : {f : Laid} {k : Kind} {ns : List Node} → Form assigned f k ns → (g : Gap) (us : Items) (e : Front) → Begins e us → Ends assigned e → Reads assigned element (f g us) (bare k ns ∷ []) us
+  unfolding element spread
+  element_read {f} F g us e b z =
+      let o = F.opens in
+      rw (refused_at assigned (means assigned) (punct (codes "...")) F.front (f g us) (F.begins g us) o.no_spread, used assigned F g us e b z) refl
+
+  -- what is said of each of a list
+  abbrev Forms : {es : List Node} → AreExpressions es → Type 0
+  Forms shapes.no_expressions = Unit {0}
+  Forms (shapes.more_expressions e es) = Form assigned (expression_tokens e) (expression_kind e) (expression_parts e) × Forms es
+
+  abbrev ArgumentForms : {n : Node} → IsArguments n → Type 0
+  ArgumentForms (shapes.no_arguments at) = Unit {0}
+  ArgumentForms (shapes.arguments at e es) = Form assigned (expression_tokens e) (expression_kind e) (expression_parts e) × Forms es
+
+  record Followed (us : Items) : Type 0 where
+    pub front : Front
+    pub begins : Begins front us
+    pub ends : Ends assigned front
+    pub no_equals : refuses_at front (punct (codes "=")) ≡ true
+
+  more_followed : {es : List Node} (is : AreExpressions es) (us : Items) → Followed (more_tokens is (s (codes ")") us))
+  more_followed shapes.no_expressions us = record { front = exactly (sign (codes ")")); begins = at_token; ends = parenthesis_ends assigned; no_equals = refl }
+  more_followed (shapes.more_expressions e es) us = record { front = exactly (sign (codes ",")); begins = at_token; ends = comma_ends assigned; no_equals = refl }
+
+  more_read : {es : List Node} (is : AreExpressions es) → Forms is → (us : Items) → Repeats assigned (punct (codes ",") ▸ element) (more_tokens is (s (codes ")") us)) (bare_expressions is) (s (codes ")") us)
+  unfolding element spread
+  more_read shapes.no_expressions F us = repeats_end assigned (punct (codes ",") ▸ element) (s (codes ")") us) refl
+  more_read (shapes.more_expressions e es) F us =
+      let w = more_followed es us in
+      repeats_more assigned (punct (codes ",") ▸ element) refl _ (more_tokens es (s (codes ")") us)) (s (codes ")") us) (bare_expression e ∷ []) (bare_expressions es)
+      (ap (with_front []) (element_read F.0 blank (more_tokens es (s (codes ")") us)) w.front w.begins w.ends)) (more_read es F.1 us)
+
+  arguments_read : {n : Node} (is : IsArguments n) → ArgumentForms is → (us : Items) → Reads assigned arguments (s (codes "(") (arguments_tokens is (s (codes ")") us))) (list_node (bare_arguments is) ∷ []) us
+  unfolding arguments
+  arguments_read (shapes.no_arguments at) F us = rw (all_refused assigned element (exactly (sign (codes ")"))) (s (codes ")") us) at_token no_argument) refl
+  arguments_read (shapes.arguments at e es) F us =
+      let w = more_followed es us in
+      rw (element_read F.0 no_gap (more_tokens es (s (codes ")") us)) w.front w.begins w.ends, repeated assigned (punct (codes ",") ▸ element) (more_tokens es (s (codes ")") us)) (s (codes ")") us) (bare_expressions es) (more_read es F.1 us), append-nil (bare_expressions es)) refl
+
+  call_read : {n : Node} (is : IsArguments n) → ArgumentForms is → (us : Items) (ys : List Node) (vs : Items) → Reads assigned links us ys vs
+      → Reads assigned links (s (codes "(") (arguments_tokens is (s (codes ")") us))) (bare kind.CallExpr (absent ∷ list_node (bare_arguments is) ∷ absent ∷ []) ∷ ys) vs
+  unfolding links chains.template_start chains.call_body
+  call_read is F us ys vs h = rw (means_is assigned (part.Link link.Call) (s (codes "(") (arguments_tokens is (s (codes ")") us))), arguments_read is F us, h) refl
+
+  -- the arguments are no parameters of an arrow function where no body of one follows
+
+  more_params : {es : List Node} (is : AreExpressions es) → Forms is → (us : Items) → Refuses assigned behind_params (s (codes ")") us) → Params assigned (more_tokens is (s (codes ")") us))
+  more_params shapes.no_expressions F us h = params_end assigned (s (codes ")") us) (exactly (sign (codes ")"))) at_token refl h
+  more_params (shapes.more_expressions e es) F us h =
+      let w = more_followed es us in
+      let E = F.0 in
+      params_more assigned (expression_tokens e blank (more_tokens es (s (codes ")") us))) (more_tokens es (s (codes ")") us)) (E.as_param blank (more_tokens es (s (codes ")") us)) w.front w.begins w.no_equals) (more_params es F.1 us h)
+
+  no_params : {n : Node} (is : IsArguments n) → ArgumentForms is → (us : Items) → Refuses assigned behind_params (s (codes ")") us) → Refuses assigned (params ▸ behind_params) (arguments_tokens is (s (codes ")") us))
+  unfolding params
+  no_params (shapes.no_arguments at) F us h = rw (all_refused assigned param (exactly (sign (codes ")"))) (s (codes ")") us) at_token no_param_there, h) refl
+  no_params (shapes.arguments at e es) F us h =
+      let w = more_followed es us in
+      let E = F.0 in
+      params_by assigned (expression_tokens e no_gap (more_tokens es (s (codes ")") us))) (more_tokens es (s (codes ")") us)) (E.as_param no_gap (more_tokens es (s (codes ")") us)) w.front w.begins w.no_equals) (more_params es F.1 us h)
+
+  call_no_rest : {n : Node} (is : IsArguments n) → ArgumentForms is → (us : Items) (e : Front) → Begins e us → refuses_at e (arrow_body false) ≡ true
+      → Refuses assigned (arrow_rest false false) (s (codes "(") (arguments_tokens is (s (codes ")") us)))
+  call_no_rest is A us e b z = parameters_refused assigned no_gap (arguments_tokens is (s (codes ")") us)) (no_params is A us (no_body_behind assigned us e b z))
+
+  call_form : {f : Laid} {k : Kind} {ns : List Node} → Form assigned f k ns → {n : Node} (is : IsArguments n) → ArgumentForms is
+      → Form assigned (λ g us. f g (s (codes "(") (arguments_tokens is (s (codes ")") us)))) kind.CallExpr (bare k ns ∷ list_node (bare_arguments is) ∷ absent ∷ [])
+  call_form {f} {k} {ns} F is A =
+      let m = bare kind.CallExpr (absent ∷ list_node (bare_arguments is) ∷ absent ∷ []) in
+      let opening = exactly (sign (codes "(")) in
+      record {
+        front = F.front;
+        begins = λ g us. F.begins g (s (codes "(") (arguments_tokens is (s (codes ")") us)));
+        opens = F.opens;
+        starts = F.starts;
+        pieces = F.pieces ++ m ∷ [];
+        own = λ g us e b z ys vs h. rw (append_assoc F.pieces (m ∷ []) ys) (F.own g (s (codes "(") (arguments_tokens is (s (codes ")") us))) opening at_token refl (m ∷ ys) vs (call_read is A us ys vs h));
+        whole = steps-append in_front_link None F.pieces m ∙ (ap (λ o. step_on in_front_link o m) F.whole ∙ ap Some (call_made k F.head ns (list_node (bare_arguments is))));
+        head = refl;
+        no_arrow = λ g us e b z r. F.no_arrow g (s (codes "(") (arguments_tokens is (s (codes ")") us))) opening at_token refl (call_no_rest is A us e b z);
+        no_label = λ g us e b z. F.no_label g (s (codes "(") (arguments_tokens is (s (codes ")") us))) opening at_token refl;
+        no_declaration = λ g us e b z. F.no_declaration g (s (codes "(") (arguments_tokens is (s (codes ")") us))) opening at_token refl;
+        no_word = λ g us e b z. F.no_word g (s (codes "(") (arguments_tokens is (s (codes ")") us))) opening at_token refl;
+        as_param = λ g us e b z. linked_param assigned at_token refl refl (F.as_param g (s (codes "(") (arguments_tokens is (s (codes ")") us))) opening at_token refl);
+      }
+
+  -- an expression of each shape
+
+  -- a name but `async` is none of the words that the grammar knows
+  plain_name : (w : List ℕ) → IsPlainName w → bytes_eq w (codes "async") ≡ false → IsName w
+  plain_name w i other = record { free = i.free; apart = λ known h. go known h (bytes_eq w known) refl }
+    where
+      go : (known : List ℕ) → is_known known ≡ true → (b : Bool) → bytes_eq w known ≡ b → b ≡ false
+      go known h false e = refl
+      go known h true e =
+          let same : w ≡ known = (bytes_eq-Decides w known).0 e in
+          let yes' : is_known w ≡ true = rw same h in
+          let no' : is_known w ≡ false = rw (i.free, other) refl in
+          absurd (false≢true (sym no' ∙ yes'))
+
+  pub ident_free : {n : Node} (i : IsIdent n) → is_reserved (ident_word i) ≡ false
+  ident_free (ident at w i) = i.free
+
+  abbrev NameForm : List ℕ → Type 0
+  NameForm w = Form assigned (λ g us. it g (items.key w) us) (kind.Ident w 0 false) []
+
+  ident_form : {n : Node} (i : IsIdent n) → NameForm (ident_word i)
+  ident_form (ident at w i) = go (bytes_eq w (codes "async")) refl
+    where
+      go : (b : Bool) → bytes_eq w (codes "async") ≡ b → NameForm w
+      go false e = name_form assigned w (plain_name w i e)
+      go true e = subst NameForm (sym ((bytes_eq-Decides w (codes "async")).0 e)) (async_form assigned)
+
+  mutual
+    pub expression_form : {numeral : Bool} {e : Node} (is : IsExpression numeral e) → Form assigned (expression_tokens is) (expression_kind is) (expression_parts is)
+    expression_form (shapes.name i) = ident_form i
+    expression_form (shapes.string at raw t) = single_form assigned (items.string raw) _ (string_single raw)
+    expression_form (shapes.number at raw t) = single_form assigned (items.number raw) _ (number_single raw)
+    expression_form (shapes.this_word at) = single_form assigned (items.key (codes "this")) _ this_single
+    expression_form (shapes.big_int at raw t) = single_form assigned (items.big_int raw) _ (big_int_single raw)
+    expression_form (shapes.null_word at) = single_form assigned (items.key (codes "null")) _ null_single
+    expression_form (shapes.true_word at) = single_form assigned (items.key (codes "true")) _ true_single
+    expression_form (shapes.false_word at) = single_form assigned (items.key (codes "false")) _ false_single
+    expression_form (shapes.member at o k) = member_form assigned (expression_form o) (key_word k)
+    expression_form (shapes.call at c es none) = call_form (expression_form c) es (argument_forms es)
+    expression_form (shapes.parenthesized at e) = parenthesized_form assigned (expression_form e)
+
+    argument_forms : {n : Node} (is : IsArguments n) → ArgumentForms is
+    argument_forms (shapes.no_arguments at) = tt
+    argument_forms (shapes.arguments at e es) = (expression_form e, expression_forms es)
+
+    expression_forms : {es : List Node} (is : AreExpressions es) → Forms is
+    expression_forms shapes.no_expressions = tt
+    expression_forms (shapes.more_expressions e es) = (expression_form e, expression_forms es)

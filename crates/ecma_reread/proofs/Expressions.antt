@@ -1,0 +1,336 @@
+-- Each form of expression is read as it is laid out.
+use Rattle.std.proofs.Common.{◌≡◌, ℕ, ◌-◌, Bool, true, false, List, [], ◌∷◌, ◌++◌, length, codes, refl, ap, ◌∙◌, append_assoc, Some, None}
+use Rattle.ecma_number.specs.Numeral.{numeral_of}
+use Rattle.ecma_lex.specs.Text.{piece}
+use Rattle.ecma_lex.specs.Keys.{is_reserved, reserved_words}
+use Rattle.ecma_lex.specs.Strings.{str_value}
+use Rattle.ecma_kind.specs.declared.kind.Kind.{Kind}
+use Rattle.ecma_kind.specs.declared.kind.Kind.TheVariants as kind
+use Rattle.ecma_tree.specs.declared.node.Node.{Node}
+use Rattle.ecma_tree.specs.Nodes.{absent}
+use Rattle.ecma_grammar.specs.declared.production.Part.TheVariants as part
+use Rattle.ecma_grammar.specs.declared.production.Link.TheVariants as link
+use Rattle.ecma_grammar.specs.declared.production.Leaf.TheVariants as leaf
+use Rattle.ecma_grammar.specs.declared.production.Form.TheVariants as form
+use Rattle.ecma_grammar.specs.trees.Chains.{step_on, in_front_link}
+use Rattle.ecma_grammar.specs.Grammar.{Grammar, keep, ◌▸◌, punct}
+use Rattle.ecma_grammar.specs.productions.Names as names
+use Rattle.ecma_grammar.specs.productions.Types.{param, default_value, rest_pattern}
+use Rattle.ecma_grammar.specs.productions.Patterns.{pattern_body, array_pattern, object_pattern}
+use Rattle.ecma_grammar.specs.productions.Functions as functions
+use Rattle.ecma_grammar.specs.productions.Classes as classes
+use Rattle.ecma_grammar.specs.productions.Declarations as declarations
+use Rattle.ecma_grammar.specs.productions.Statements as statements
+use Rattle.ecma_grammar.specs.productions.Modules as modules
+use Rattle.ecma_grammar.specs.productions.Functions.{arrow, arrow_rest, arrow_body, function_expression}
+use Rattle.ecma_grammar.specs.productions.Primary as primaries
+use Rattle.ecma_grammar.specs.productions.Primary.{primary, parenthesized, class_expression}
+use Rattle.ecma_grammar.specs.productions.Operators.{prefixed}
+use Rattle.ecma_grammar.specs.productions.Chains as chains
+use Rattle.ecma_grammar.specs.productions.Chains.{links, super_of_link, import_meta, import_call, construction}
+use Rattle.ecma_grammar.specs.productions.Statements.{labeled}
+use Rattle.ecma_grammar.proofs.Steps.{steps-append}
+use Rattle.ecma_grammar.specs.Reads.{without_separators}
+use Rattle.ecma_tokens.specs.Items as items
+use Rattle.ecma_tokens.specs.Items.{Tok, sign, Gap, no_gap, Items, it}
+use Rattle.ecma_reread.specs.Machine.{read, with_front, followed_on, built_on, interp, means}
+use Rattle.ecma_reread.specs.Tokens.{bare}
+use Rattle.ecma_reread.proofs.Levels.{means_is}
+use Rattle.ecma_grammar.specs.Made.{made}
+use Rattle.ecma_reread.proofs.Fronts.{is_known, Front, exactly, a_name, Begins, at_token, at_name, IsName, front_of, refuses_at, refused_at, refuses_all, all_refused}
+use Rattle.ecma_reread.proofs.Towers.{Tower, here, later, sooner, climb, excluded, Opens, Starts, Undeclared, parenthesis_closes, comma_closes, semicolon_closes}
+use Rattle.ecma_reread.proofs.Heads.{is_head, member_made}
+use Rattle.ecma_reread.proofs.Forms.{Laid, s, heads, Reads, Refuses, AsParam, no_param, whole_param, linked_param, Form, Ends, expression_read}
+use Rattle.ecma_reread.proofs.Params.{params_end, params_by, parameters_refused, no_body_behind}
+
+name_starts : Starts a_name
+unfolding statements.statement_body names.block statements.if_ statements.for_await statements.for_ statements.while_ statements.do_while statements.switch statements.try_ statements.jump modules.module_item modules.import modules.import_equals modules.export modules.export_default is_reserved reserved_words
+name_starts = record { no_statement = refl; no_item = refl }
+
+name_undeclared : Undeclared a_name
+unfolding declarations.declaration functions.function_declaration classes.class_declaration is_reserved reserved_words
+name_undeclared = record { no_declaration = refl; no_word = refl }
+
+pub name_opens : Opens a_name
+unfolding prefixed is_reserved reserved_words
+name_opens = record { no_spread = refl; no_yield = refl; no_private = refl; no_prefix = refl; no_increment = refl; no_decrement = refl }
+
+name_tower : (k : Front) → Tower a_name k (keep leaf.Ident) heads
+unfolding super_of_link import_meta import_call construction primary function_expression class_expression is_reserved reserved_words
+name_tower k = later refl (later refl (later refl (later refl (later refl (later refl (later refl (later refl (later refl (later refl (sooner here))))))))))
+
+async_known : is_known (codes "async") ≡ true
+unfolding is_reserved reserved_words
+async_known = refl
+
+-- a token by itself, of which the grammar makes one node
+pub record Single (t : Tok) (k : Kind) : Type 0 where
+  pub leaf_of : Grammar
+  pub tower : (e : Front) → Tower (exactly t) e leaf_of heads
+  pub opens : Opens (exactly t)
+  pub starts : Starts (exactly t)
+  pub undeclared : Undeclared (exactly t)
+  pub head : is_head k ≡ true
+  pub no_arrow : refuses_all (exactly t) (arrow false false) ≡ true
+  pub no_label : refuses_at (exactly t) labeled ≡ true
+  pub no_param : refuses_all (exactly t) param ≡ true
+  pub no_end : refuses_at (exactly t) (punct (codes ")")) ≡ true
+  pub taken : (assigned : Bool) (g : Gap) (us : Items) → interp assigned (means assigned) leaf_of (it g t us) ≡ read (bare k [] ∷ []) us
+
+pub string_single : (raw : List ℕ) → Single (items.string raw) (kind.Str (str_value (piece raw 1 (length raw - 1))) (Some raw))
+unfolding super_of_link import_meta import_call construction primary function_expression class_expression prefixed arrow arrow_rest labeled param rest_pattern default_value pattern_body array_pattern object_pattern names.binding_ident statements.statement_body names.block statements.if_ statements.for_await statements.for_ statements.while_ statements.do_while statements.switch statements.try_ statements.jump declarations.declaration functions.function_declaration classes.class_declaration modules.module_item modules.import modules.import_equals modules.export modules.export_default
+string_single raw = record {
+  leaf_of = keep leaf.Str;
+  tower = λ e. later refl (later refl (later refl (later refl (later refl (later refl (later refl (later refl (later refl (later refl (later refl (later refl (later refl (sooner here)))))))))))));
+  opens = record { no_spread = refl; no_yield = refl; no_private = refl; no_prefix = refl; no_increment = refl; no_decrement = refl };
+  starts = record { no_statement = refl; no_item = refl };
+  undeclared = record { no_declaration = refl; no_word = refl };
+  head = refl;
+  no_arrow = refl;
+  no_label = refl;
+  no_param = refl;
+  no_end = refl;
+  taken = λ assigned g us. refl;
+}
+
+pub number_single : (raw : List ℕ) → Single (items.number raw) (kind.Number (numeral_of raw) (Some raw))
+unfolding super_of_link import_meta import_call construction primary function_expression class_expression prefixed arrow arrow_rest labeled param rest_pattern default_value pattern_body array_pattern object_pattern names.binding_ident is_reserved reserved_words statements.statement_body names.block statements.if_ statements.for_await statements.for_ statements.while_ statements.do_while statements.switch statements.try_ statements.jump declarations.declaration functions.function_declaration classes.class_declaration modules.module_item modules.import modules.import_equals modules.export modules.export_default
+number_single raw = record {
+  leaf_of = keep leaf.Number;
+  tower = λ e. later refl (later refl (later refl (later refl (later refl (later refl (later refl (later refl (later refl (later refl (later refl (sooner here)))))))))));
+  opens = record { no_spread = refl; no_yield = refl; no_private = refl; no_prefix = refl; no_increment = refl; no_decrement = refl };
+  starts = record { no_statement = refl; no_item = refl };
+  undeclared = record { no_declaration = refl; no_word = refl };
+  head = refl;
+  no_arrow = refl;
+  no_label = refl;
+  no_param = refl;
+  no_end = refl;
+  taken = λ assigned g us. refl;
+}
+
+pub this_single : Single (items.key (codes "this")) kind.ThisExpr
+unfolding super_of_link import_meta import_call construction primary function_expression class_expression prefixed arrow arrow_rest labeled param rest_pattern default_value pattern_body array_pattern object_pattern names.binding_ident is_reserved reserved_words statements.statement_body names.block statements.if_ statements.for_await statements.for_ statements.while_ statements.do_while statements.switch statements.try_ statements.jump declarations.declaration functions.function_declaration classes.class_declaration modules.module_item modules.import modules.import_equals modules.export modules.export_default
+this_single = record {
+  leaf_of = keep leaf.This;
+  tower = λ e. later refl (later refl (later refl (later refl (later refl (later refl (sooner here))))));
+  opens = record { no_spread = refl; no_yield = refl; no_private = refl; no_prefix = refl; no_increment = refl; no_decrement = refl };
+  starts = record { no_statement = refl; no_item = refl };
+  undeclared = record { no_declaration = refl; no_word = refl };
+  head = refl;
+  no_arrow = refl;
+  no_label = refl;
+  no_param = refl;
+  no_end = refl;
+  taken = λ assigned g us. refl;
+}
+
+pub big_int_single : (raw : List ℕ) → Single (items.big_int raw) (kind.BigInt (without_separators (piece raw 0 (length raw - 1))) (Some raw))
+unfolding super_of_link import_meta import_call construction primary function_expression class_expression prefixed arrow arrow_rest labeled param rest_pattern default_value pattern_body array_pattern object_pattern names.binding_ident is_reserved reserved_words statements.statement_body names.block statements.if_ statements.for_await statements.for_ statements.while_ statements.do_while statements.switch statements.try_ statements.jump declarations.declaration functions.function_declaration classes.class_declaration modules.module_item modules.import modules.import_equals modules.export modules.export_default
+big_int_single raw = record {
+  leaf_of = keep leaf.BigInt;
+  tower = λ e. later refl (later refl (later refl (later refl (later refl (later refl (later refl (later refl (later refl (later refl (later refl (later refl (sooner here))))))))))));
+  opens = record { no_spread = refl; no_yield = refl; no_private = refl; no_prefix = refl; no_increment = refl; no_decrement = refl };
+  starts = record { no_statement = refl; no_item = refl };
+  undeclared = record { no_declaration = refl; no_word = refl };
+  head = refl;
+  no_arrow = refl;
+  no_label = refl;
+  no_param = refl;
+  no_end = refl;
+  taken = λ assigned g us. refl;
+}
+
+pub null_single : Single (items.key (codes "null")) kind.Null
+unfolding super_of_link import_meta import_call construction primary function_expression class_expression prefixed arrow arrow_rest labeled param rest_pattern default_value pattern_body array_pattern object_pattern names.binding_ident is_reserved reserved_words statements.statement_body names.block statements.if_ statements.for_await statements.for_ statements.while_ statements.do_while statements.switch statements.try_ statements.jump declarations.declaration functions.function_declaration classes.class_declaration modules.module_item modules.import modules.import_equals modules.export modules.export_default
+null_single = record {
+  leaf_of = keep leaf.Null;
+  tower = λ e. later refl (later refl (later refl (later refl (later refl (later refl (later refl (sooner here)))))));
+  opens = record { no_spread = refl; no_yield = refl; no_private = refl; no_prefix = refl; no_increment = refl; no_decrement = refl };
+  starts = record { no_statement = refl; no_item = refl };
+  undeclared = record { no_declaration = refl; no_word = refl };
+  head = refl;
+  no_arrow = refl;
+  no_label = refl;
+  no_param = refl;
+  no_end = refl;
+  taken = λ assigned g us. refl;
+}
+
+pub true_single : Single (items.key (codes "true")) (kind.Bool true)
+unfolding super_of_link import_meta import_call construction primary function_expression class_expression prefixed arrow arrow_rest labeled param rest_pattern default_value pattern_body array_pattern object_pattern names.binding_ident is_reserved reserved_words statements.statement_body names.block statements.if_ statements.for_await statements.for_ statements.while_ statements.do_while statements.switch statements.try_ statements.jump declarations.declaration functions.function_declaration classes.class_declaration modules.module_item modules.import modules.import_equals modules.export modules.export_default
+true_single = record {
+  leaf_of = keep leaf.True;
+  tower = λ e. later refl (later refl (later refl (later refl (later refl (later refl (later refl (later refl (sooner here))))))));
+  opens = record { no_spread = refl; no_yield = refl; no_private = refl; no_prefix = refl; no_increment = refl; no_decrement = refl };
+  starts = record { no_statement = refl; no_item = refl };
+  undeclared = record { no_declaration = refl; no_word = refl };
+  head = refl;
+  no_arrow = refl;
+  no_label = refl;
+  no_param = refl;
+  no_end = refl;
+  taken = λ assigned g us. refl;
+}
+
+pub false_single : Single (items.key (codes "false")) (kind.Bool false)
+unfolding super_of_link import_meta import_call construction primary function_expression class_expression prefixed arrow arrow_rest labeled param rest_pattern default_value pattern_body array_pattern object_pattern names.binding_ident is_reserved reserved_words statements.statement_body names.block statements.if_ statements.for_await statements.for_ statements.while_ statements.do_while statements.switch statements.try_ statements.jump declarations.declaration functions.function_declaration classes.class_declaration modules.module_item modules.import modules.import_equals modules.export modules.export_default
+false_single = record {
+  leaf_of = keep leaf.False;
+  tower = λ e. later refl (later refl (later refl (later refl (later refl (later refl (later refl (later refl (later refl (sooner here)))))))));
+  opens = record { no_spread = refl; no_yield = refl; no_private = refl; no_prefix = refl; no_increment = refl; no_decrement = refl };
+  starts = record { no_statement = refl; no_item = refl };
+  undeclared = record { no_declaration = refl; no_word = refl };
+  head = refl;
+  no_arrow = refl;
+  no_label = refl;
+  no_param = refl;
+  no_end = refl;
+  taken = λ assigned g us. refl;
+}
+
+module _ (assigned : Bool) where
+  -- what begins a chain, and the links behind it
+  head_read : (f : Front) (base : Grammar) (ts us : Items) (x : Node) → ((k : Front) → Tower f k base heads) → Begins f ts → Reads assigned base ts (x ∷ []) us → (ys : List Node) (vs : Items) → Reads assigned links us ys vs → Reads assigned (heads ▸ links) ts (x ∷ ys) vs
+  head_read f base ts us x t b h ys vs e =
+      let k = front_of us in
+      ap (followed_on (interp assigned (means assigned) links)) (climb assigned (means assigned) (t k.0) ts us x b k.1 h) ∙ ap (with_front (x ∷ [])) e
+
+  -- no parameter begins there, and `)` does not stand there
+  no_param_at : (f : Front) (ts us : Items) → Begins f ts → refuses_all f param ≡ true → refuses_at f (punct (codes ")")) ≡ true → AsParam assigned ts us
+  no_param_at f ts us b e z = no_param (all_refused assigned param f ts b e) (refused_at assigned (means assigned) (punct (codes ")")) f ts b z)
+
+  pub single_form : (t : Tok) (k : Kind) → Single t k → Form assigned (λ g us. it g t us) k []
+  single_form t k S = record {
+    front = exactly t;
+    begins = λ g us. at_token;
+    opens = S.opens;
+    starts = S.starts;
+    pieces = bare k [] ∷ [];
+    own = λ g us e b z ys vs h. head_read (exactly t) S.leaf_of (it g t us) us (bare k []) S.tower at_token (S.taken assigned g us) ys vs h;
+    whole = refl;
+    head = S.head;
+    no_arrow = λ g us e b z r. all_refused assigned (arrow false false) (exactly t) (it g t us) at_token S.no_arrow;
+    no_label = λ g us e b z. refused_at assigned (means assigned) labeled (exactly t) (it g t us) at_token S.no_label;
+    no_declaration = λ g us e b z. let u = S.undeclared in refused_at assigned (means assigned) declarations.declaration (exactly t) (it g t us) at_token u.no_declaration;
+    no_word = λ g us e b z. let u = S.undeclared in refused_at assigned (means assigned) excluded (exactly t) (it g t us) at_token u.no_word;
+    as_param = λ g us e b z. no_param_at (exactly t) (it g t us) us at_token S.no_param S.no_end;
+  }
+
+  -- a name that might be a parameter, a label or what an arrow function begins with
+
+  abbrev parameter : List ℕ → Node
+  parameter w = made form.Param 0 0 (absent ∷ made form.Chain 0 0 (made form.Annotated 0 0 (bare kind.BindingIdent (bare (kind.Ident w 0 false) [] ∷ absent ∷ []) ∷ absent ∷ absent ∷ []) ∷ []) ∷ [])
+
+  parameter_read : (w : List ℕ) → is_reserved w ≡ false → (g : Gap) (us : Items) (e : Front) → Begins e us → refuses_at e (punct (codes "=")) ≡ true → Reads assigned param (it g (items.key w) us) (parameter w ∷ []) us
+  unfolding param rest_pattern default_value pattern_body names.binding_ident
+  parameter_read w n g us e b y = rw (means_is assigned part.Pattern (it g (items.key w) us), n, refused_at assigned (means assigned) (punct (codes "=")) e us b y) refl
+
+  pub name_as_param : (w : List ℕ) → is_reserved w ≡ false → (g : Gap) (us : Items) (e : Front) → Begins e us → refuses_at e (punct (codes "=")) ≡ true → AsParam assigned (it g (items.key w) us) us
+  name_as_param w n g us e b y = whole_param (parameter w ∷ []) (parameter_read w n g us e b y)
+
+  pub name_no_rest : (w : List ℕ) → is_reserved w ≡ false → (g : Gap) (us : Items) (e : Front) → Begins e us → refuses_at e (arrow_body false) ≡ true → Refuses assigned (arrow_rest false false) (it g (items.key w) us)
+  unfolding arrow_rest names.binding_ident
+  name_no_rest w n g us e b z = rw (n, refused_at assigned (means assigned) (arrow_body false) e us b z) refl
+
+  name_no_arrow : (w : List ℕ) → IsName w → (g : Gap) (us : Items) (e : Front) → Begins e us → refuses_at e (arrow_body false) ≡ true → Refuses assigned (arrow_rest false false) us → Refuses assigned (arrow false false) (it g (items.key w) us)
+  unfolding arrow arrow_rest names.binding_ident
+  name_no_arrow w n g us e b z r = rw (n.apart (codes "async") async_known, n.free, refused_at assigned (means assigned) (arrow_body false) e us b z) refl
+
+  pub name_no_label : (w : List ℕ) → is_reserved w ≡ false → (g : Gap) (us : Items) (e : Front) → Begins e us → refuses_at e (punct (codes ":")) ≡ true → Refuses assigned labeled (it g (items.key w) us)
+  unfolding labeled
+  name_no_label w n g us e b z = rw (n, refused_at assigned (means assigned) (punct (codes ":")) e us b z) refl
+
+  pub name_form : (w : List ℕ) → IsName w → Form assigned (λ g us. it g (items.key w) us) (kind.Ident w 0 false) []
+  name_form w n = record {
+    front = a_name;
+    begins = λ g us. at_name n;
+    opens = name_opens;
+    starts = name_starts;
+    pieces = bare (kind.Ident w 0 false) [] ∷ [];
+    own = λ g us e b z ys vs h. head_read a_name (keep leaf.Ident) (it g (items.key w) us) us (bare (kind.Ident w 0 false) []) name_tower (at_name n) (rw n.free refl) ys vs h;
+    whole = refl;
+    head = refl;
+    no_arrow = name_no_arrow w n;
+    no_label = name_no_label w n.free;
+    no_declaration = λ g us e b z. let u = name_undeclared in refused_at assigned (means assigned) declarations.declaration a_name (it g (items.key w) us) (at_name n) u.no_declaration;
+    no_word = λ g us e b z. let u = name_undeclared in refused_at assigned (means assigned) excluded a_name (it g (items.key w) us) (at_name n) u.no_word;
+    as_param = name_as_param w n.free;
+  }
+
+  dot_read : (w : List ℕ) (us : Items) (ys : List Node) (vs : Items) → Reads assigned links us ys vs → Reads assigned links (s (codes ".") (it no_gap (items.key w) us)) (bare kind.MemberExpr (absent ∷ bare (kind.IdentName w) [] ∷ []) ∷ ys) vs
+  unfolding links chains.dot_body chains.chain_key
+  dot_read w us ys vs h = rw (means_is assigned (part.Link link.Dot) (it no_gap (items.key w) us), h) refl
+
+  pub member_form : {f : Laid} {k : Kind} {ns : List Node} → Form assigned f k ns → (w : List ℕ) → Form assigned (λ g us. f g (s (codes ".") (it no_gap (items.key w) us))) kind.MemberExpr (bare k ns ∷ bare (kind.IdentName w) [] ∷ [])
+  unfolding arrow_rest names.binding_ident
+  member_form {f} {k} {ns} F w =
+      let m = bare kind.MemberExpr (absent ∷ bare (kind.IdentName w) [] ∷ []) in
+      let point = exactly (sign (codes ".")) in
+      record {
+        front = F.front;
+        begins = λ g us. F.begins g (s (codes ".") (it no_gap (items.key w) us));
+        opens = F.opens;
+        starts = F.starts;
+        pieces = F.pieces ++ m ∷ [];
+        own = λ g us e b z ys vs h. rw (append_assoc F.pieces (m ∷ []) ys) (F.own g (s (codes ".") (it no_gap (items.key w) us)) point at_token refl (m ∷ ys) vs (dot_read w us ys vs h));
+        whole = steps-append in_front_link None F.pieces m ∙ (ap (λ o. step_on in_front_link o m) F.whole ∙ ap Some (member_made k F.head ns (bare (kind.IdentName w) [])));
+        head = refl;
+        no_arrow = λ g us e b z r. F.no_arrow g (s (codes ".") (it no_gap (items.key w) us)) point at_token refl (refused_at assigned (means assigned) (arrow_rest false false) point (s (codes ".") (it no_gap (items.key w) us)) at_token refl);
+        no_label = λ g us e b z. F.no_label g (s (codes ".") (it no_gap (items.key w) us)) point at_token refl;
+        no_declaration = λ g us e b z. F.no_declaration g (s (codes ".") (it no_gap (items.key w) us)) point at_token refl;
+        no_word = λ g us e b z. F.no_word g (s (codes ".") (it no_gap (items.key w) us)) point at_token refl;
+        as_param = λ g us e b z. linked_param assigned at_token refl refl (F.as_param g (s (codes ".") (it no_gap (items.key w) us)) point at_token refl);
+      }
+
+  -- parentheses
+
+  pub parenthesis_ends : Ends assigned (exactly (sign (codes ")")))
+  unfolding links chains.template_start arrow_rest names.binding_ident
+  parenthesis_ends = record { no_link = refl; no_operator = parenthesis_closes; no_body = refl; no_rest = refl; no_function = refl }
+
+  pub comma_ends : Ends assigned (exactly (sign (codes ",")))
+  unfolding links chains.template_start arrow_rest names.binding_ident
+  comma_ends = record { no_link = refl; no_operator = comma_closes; no_body = refl; no_rest = refl; no_function = refl }
+
+  pub semicolon_ends : Ends assigned (exactly (sign (codes ";")))
+  unfolding links chains.template_start arrow_rest names.binding_ident
+  semicolon_ends = record { no_link = refl; no_operator = semicolon_closes; no_body = refl; no_rest = refl; no_function = refl }
+
+  abbrev opening : Front
+  opening = exactly (sign (codes "("))
+
+  parenthesis_tower : (e : Front) → Tower opening e parenthesized heads
+  unfolding super_of_link import_meta import_call construction primary function_expression class_expression primaries.template primaries.array primaries.object
+  parenthesis_tower e = later refl (later refl (later refl (later refl (later refl (later refl (later refl (later refl (later refl (later refl (later refl (later refl (later refl (later refl (later refl (later refl (later refl (later refl here)))))))))))))))))
+
+  module _ {f : Laid} {k : Kind} {ns : List Node} (F : Form assigned f k ns) where
+    parenthesized_read : (g : Gap) (us : Items) → Reads assigned parenthesized (it g (sign (codes "(")) (f no_gap (s (codes ")") us))) (bare kind.ParenExpr (bare k ns ∷ []) ∷ []) us
+    unfolding parenthesized
+    parenthesized_read g us = rw (expression_read assigned F no_gap (s (codes ")") us) (exactly (sign (codes ")"))) at_token parenthesis_ends refl) refl
+
+    parenthesized_no_arrow : (g : Gap) (us : Items) (e : Front) → Begins e us → refuses_at e (arrow_body false) ≡ true → Refuses assigned (arrow_rest false false) us → Refuses assigned (arrow false false) (it g (sign (codes "(")) (f no_gap (s (codes ")") us)))
+    unfolding arrow
+    parenthesized_no_arrow g us e b z r =
+        let end = s (codes ")") us in
+        let p = F.as_param no_gap end (exactly (sign (codes ")"))) at_token refl in
+        let rest = params_end assigned end (exactly (sign (codes ")"))) at_token refl (no_body_behind assigned us e b z) in
+        ap (built_on form.Arrow) (ap (with_front (absent ∷ [])) (parameters_refused assigned g (f no_gap end) (params_by assigned (f no_gap end) end p rest)))
+
+    pub parenthesized_form : Form assigned (λ g us. it g (sign (codes "(")) (f no_gap (s (codes ")") us))) kind.ParenExpr (bare k ns ∷ [])
+    unfolding prefixed labeled param rest_pattern default_value pattern_body array_pattern object_pattern names.binding_ident statements.statement_body names.block statements.if_ statements.for_await statements.for_ statements.while_ statements.do_while statements.switch statements.try_ statements.jump declarations.declaration functions.function_declaration classes.class_declaration modules.module_item modules.import modules.import_equals modules.export modules.export_default
+    parenthesized_form = record {
+      front = opening;
+      begins = λ g us. at_token;
+      opens = record { no_spread = refl; no_yield = refl; no_private = refl; no_prefix = refl; no_increment = refl; no_decrement = refl };
+      starts = record { no_statement = refl; no_item = refl };
+      pieces = bare kind.ParenExpr (bare k ns ∷ []) ∷ [];
+      own = λ g us e b z ys vs h. head_read opening parenthesized (it g (sign (codes "(")) (f no_gap (s (codes ")") us))) us (bare kind.ParenExpr (bare k ns ∷ [])) parenthesis_tower at_token (parenthesized_read g us) ys vs h;
+      whole = refl;
+      head = refl;
+      no_arrow = parenthesized_no_arrow;
+      no_label = λ g us e b z. refused_at assigned (means assigned) labeled opening (it g (sign (codes "(")) (f no_gap (s (codes ")") us))) at_token refl;
+      no_declaration = λ g us e b z. refused_at assigned (means assigned) declarations.declaration opening (it g (sign (codes "(")) (f no_gap (s (codes ")") us))) at_token refl;
+      no_word = λ g us e b z. refused_at assigned (means assigned) excluded opening (it g (sign (codes "(")) (f no_gap (s (codes ")") us))) at_token refl;
+      as_param = λ g us e b z. no_param_at opening (it g (sign (codes "(")) (f no_gap (s (codes ")") us))) us at_token refl refl;
+    }

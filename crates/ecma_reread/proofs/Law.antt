@@ -1,0 +1,31 @@
+-- The layout of a module is read again as that module.
+use Rattle.std.proofs.Common.{◌≡◌, ◌+◌, ◌*◌, List, [], ◌∷◌, map}
+use Rattle.ecma_tree.specs.declared.node.Node.{Node}
+use Rattle.ecma_tree.specs.Spans.{without_spans}
+use Rattle.ecma_grammar.specs.Reading as reading
+use Rattle.ecma_grammar.specs.Reading.{Position, Outcome}
+use Rattle.ecma_print.specs.Layout.{layout}
+use Rattle.ecma_tokens.specs.Good.{Good}
+use Rattle.ecma_tokens.proofs.Leaves.{lexes}
+use Rattle.ecma_tokens.proofs.Joining.{joined_good}
+use Rattle.ecma_reread.specs.Machine.{count}
+use Rattle.ecma_reread.specs.Tokens.{module_tokens}
+use Rattle.ecma_reread.specs.Theorems.{ModulesAreReadAgain}
+use Rattle.ecma_reread.proofs.Whole.{text_read}
+use Rattle.ecma_reread.proofs.Layouts.{module_laid}
+use Rattle.ecma_reread.proofs.Joins.{good_long, module_joined}
+use Rattle.ecma_reread.proofs.Words.{layout_words}
+
+-- the one tree that is read
+the_tree : (o : Outcome (List Node)) (x : Node) (ys : List Node) (t : Position) → o ≡ reading.read ys t → map without_spans ys ≡ x ∷ [] → (again : Node) × (s : Position) × (o ≡ reading.read (again ∷ []) s) × (without_spans again ≡ x)
+the_tree o x [] t e h = absurd (let z : ⊥ = cc in z)
+the_tree o x (y ∷ []) t e h = (y, t, e, cc)
+the_tree o x (y ∷ z ∷ zs) t e h = absurd (let z : ⊥ = cc in z)
+
+pub modules_read : ModulesAreReadAgain
+modules_read tree is assignments = (
+  3 * count (module_tokens is) + 2,
+  λ bound e.
+      (let g = text_read assignments Good tree is (layout tree) (module_laid is) (lexes (layout tree)) good_long (joined_good (module_tokens is) (module_joined layout_words is)) bound e in
+      the_tree _ (without_spans tree) g.value g.state g.is g.holds),
+)

@@ -1,0 +1,25 @@
+pub mod Takes
+pub mod Moves
+pub mod Ranks
+pub mod Levels
+pub mod Unplaced
+pub mod UnplacedLinks
+pub mod UnplacedForms
+pub mod Simulation
+pub mod Fronts
+pub mod Towers
+pub mod Heads
+pub mod Forms
+pub mod Repeats
+pub mod Params
+pub mod Expressions
+pub mod Async
+pub mod Calls
+pub mod Statements
+pub mod Modules
+pub mod Whole
+pub mod Layouts
+pub mod Joins
+pub mod Words
+pub mod Law
+mod Samples

@@ -1,0 +1,86 @@
+-- A module is read as it is laid out.
+use Rattle.std.proofs.Common.{None, ◌≡◌, Bool, true, false, List, [], ◌∷◌, codes, refl, ap, ◌∙◌}
+use Rattle.ecma_kind.specs.declared.kind.Kind.TheVariants as kind
+use Rattle.ecma_tree.specs.declared.node.Node.{Node}
+use Rattle.ecma_tree.specs.Nodes.{absent, list_node}
+use Rattle.ecma_grammar.specs.declared.production.Part.TheVariants as part
+use Rattle.ecma_grammar.specs.declared.production.TokenKind.TheVariants as token
+use Rattle.ecma_grammar.specs.declared.production.Plain.TheVariants as plain
+use Rattle.ecma_grammar.specs.declared.production.Form.TheVariants as form
+use Rattle.ecma_grammar.specs.trees.Others.{text_of}
+use Rattle.ecma_grammar.specs.Made.{made}
+use Rattle.ecma_grammar.specs.Grammar as grammar
+use Rattle.ecma_grammar.specs.Grammar.{Grammar, ◌▸◌, ◌//◌, punct, a}
+use Rattle.ecma_grammar.specs.productions.Names as names
+use Rattle.ecma_grammar.specs.productions.Names.{assign_in, end, expression}
+use Rattle.ecma_grammar.specs.productions.Functions as functions
+use Rattle.ecma_grammar.specs.productions.Expressions as expressions
+use Rattle.ecma_grammar.specs.productions.Operators as operators
+use Rattle.ecma_grammar.specs.productions.Primary as primaries
+use Rattle.ecma_grammar.specs.productions.Chains as chains
+use Rattle.ecma_grammar.specs.productions.Classes as classes
+use Rattle.ecma_grammar.specs.productions.Declarations as declarations
+use Rattle.ecma_grammar.specs.productions.Statements as statements
+use Rattle.ecma_grammar.specs.productions.Statements.{statement_body, expression_statement}
+use Rattle.ecma_grammar.specs.productions.Modules as modules
+use Rattle.ecma_grammar.specs.productions.Modules.{module_item, module_body}
+use Rattle.ecma_tokens.specs.Items.{Gap, no_gap, ends}
+use Rattle.ecma_reread.specs.Machine.{read, with_front, followed_on, unless_on, built_on, interp, means}
+use Rattle.ecma_reread.specs.Shapes as shapes
+use Rattle.ecma_reread.specs.Shapes.{AreStatements, IsModule}
+use Rattle.ecma_reread.specs.Tokens.{bare, line, statement_tokens, statements_tokens, module_tokens, bare_statement, bare_statements, bare_module}
+use Rattle.ecma_reread.proofs.Ranks.{item_eats}
+use Rattle.ecma_reread.proofs.Levels.{means_is}
+use Rattle.ecma_reread.proofs.Fronts.{the_end, at_end, refused_at, refuses_all, all_refused}
+use Rattle.ecma_reread.proofs.Towers.{excluded, skipped, refuses_choices}
+use Rattle.ecma_reread.proofs.Heads.{kind-node}
+use Rattle.ecma_reread.proofs.Forms.{Reads, Refuses}
+use Rattle.ecma_reread.proofs.Repeats.{Repeats, repeats_end, repeats_more, repeated}
+use Rattle.ecma_reread.proofs.Statements.{item_read}
+
+-- no statement stands at the end of a text
+
+no_item_there : refuses_choices 3 the_end module_item ≡ true
+unfolding module_item modules.import modules.import_equals modules.export modules.export_default
+no_item_there = refl
+
+no_statement_there : refuses_choices 12 the_end statement_body ≡ true
+unfolding statement_body names.block statements.if_ statements.for_await statements.for_ statements.while_ statements.do_while statements.switch statements.try_ statements.jump statements.labeled declarations.declaration functions.function_declaration classes.class_declaration
+no_statement_there = refl
+
+no_expression_there : refuses_all the_end (assign_in false) ≡ true
+unfolding functions.arrow functions.arrow_rest names.binding_ident expressions.conditional operators.short_circuit operators.bit_or operators.bit_xor operators.bit_and operators.equality operators.relation operators.shift operators.exponentiation operators.prefixed operators.update chains.chain chains.super_of_link chains.import_meta chains.import_call chains.construction primaries.primary functions.function_expression primaries.class_expression primaries.template primaries.array primaries.object primaries.parenthesized
+no_expression_there = refl
+
+module_made : (xs : List Node) → made form.Module 0 0 (absent ∷ list_node xs ∷ []) ≡ bare (kind.Module None) (list_node xs ∷ [])
+module_made xs = ap (λ k. bare (kind.Module (text_of k)) (list_node xs ∷ [])) (kind-node _ kind.Absent [])
+
+-- the gap before the end
+abbrev last_gap : {ss : List Node} → AreStatements ss → Gap → Gap
+last_gap shapes.no_statements g = g
+last_gap (shapes.more_statements s ss) g = last_gap ss line
+
+module _ (assigned : Bool) where
+  no_statement_at_end : (g : Gap) → Refuses assigned expression_statement (ends g)
+  unfolding expression_statement expression
+  no_statement_at_end g =
+      ap (built_on (form.Node plain.ExprStmt)) (ap (followed_on (interp assigned (means assigned) (expression false ▸ end))) (ap (unless_on (ends g)) (refused_at assigned (means assigned) excluded the_end (ends g) at_end refl))
+      ∙ ap (with_front []) (ap (followed_on (interp assigned (means assigned) end)) (ap (built_on form.Sequence) (ap (followed_on (interp assigned (means assigned) (grammar.many (punct (codes ",") ▸ assign_in false)))) (all_refused assigned (assign_in false) the_end (ends g) at_end no_expression_there)))))
+
+  no_item_at_end : (g : Gap) → Refuses assigned module_item (ends g)
+  unfolding module_item statement_body
+  no_item_at_end g =
+      skipped assigned (means assigned) 3 module_item the_end (ends g) at_end no_item_there
+      ∙ (means_is assigned part.Statement (ends g) ∙ (skipped assigned (means assigned) 12 statement_body the_end (ends g) at_end no_statement_there ∙ no_statement_at_end g))
+
+  items_read : {ss : List Node} (is : AreStatements ss) (g : Gap) → Repeats assigned module_item (statements_tokens is g) (bare_statements is) (ends (last_gap is g))
+  items_read shapes.no_statements g = repeats_end assigned module_item (ends g) (no_item_at_end g)
+  items_read (shapes.more_statements s ss) g =
+      repeats_more assigned module_item item_eats (statement_tokens s g (statements_tokens ss line)) (statements_tokens ss line) (ends (last_gap ss line)) (bare_statement s ∷ []) (bare_statements ss) (item_read assigned s g (statements_tokens ss line)) (items_read ss line)
+
+  pub module_read : {tree : Node} (is : IsModule tree) → Reads assigned module_body (module_tokens is) (bare_module is ∷ []) (ends no_gap)
+  unfolding module_body
+  module_read (shapes.module_of at at' ss) =
+      ap (built_on form.Module) (ap (with_front (absent ∷ [])) (ap (followed_on (interp assigned (means assigned) (a token.EndOfText))) (ap (built_on form.List)
+      (repeated assigned module_item (statements_tokens ss no_gap) (ends (last_gap ss no_gap)) (bare_statements ss) (items_read ss no_gap)))))
+      ∙ ap (λ x. read (x ∷ []) (ends no_gap)) (module_made (bare_statements ss))

@@ -1,0 +1,83 @@
+-- A module that has the shape, and its text.
+use Rattle.std.proofs.Common.{◌≡◌, false, [], ◌∷◌, refl, ◌∙◌, codes, None}
+use Rattle.std.proofs.lemmas.Str.{IsUtf8-from_is_utf8}
+use Rattle.std.specs.Str.{chars, is_utf8}
+use lib.Utf8.{encode}
+use Rattle.unicode_ident.specs.Ident.{is_xid_start, is_xid_continue}
+use Rattle.ucd_table.specs.Rows.{in_ranges}
+use Rattle.ucd_derived.specs.XidStartRanges.{xid_start_ranges}
+use Rattle.ucd_derived.specs.XidContinueRanges.{xid_continue_ranges}
+use Rattle.ecma_lex.specs.Keys.{is_reserved, reserved_words}
+use Rattle.ecma_lex.proofs.Spelled.{Spelled, IsKey as IsKeySpelling}
+use Rattle.ecma_kind.specs.declared.span.Span.{Span}
+use Rattle.ecma_kind.specs.declared.operators.VarDeclKind.TheVariants.{Const}
+use Rattle.ecma_kind.specs.declared.kind.Kind.TheVariants as kind
+use Rattle.ecma_tree.specs.declared.node.Node.{Node}
+use Rattle.ecma_tree.specs.Nodes.{node_of}
+use Rattle.ecma_print.specs.Layout.{layout}
+use Rattle.ecma_tokens.specs.Items.{render}
+use Rattle.ecma_reread.specs.Shapes.{IsPlainName, ident, key, absent, const_word, name, null_word, this_word, member, call, parenthesized, arguments, no_expressions, more_expressions, initializer, declarator, no_declarators, expression, declaration, no_statements, more_statements, IsModule, module_of}
+use Rattle.ecma_reread.specs.Tokens.{module_tokens}
+use Rattle.ecma_reread.proofs.Layouts.{module_laid}
+use Rattle.ecma_reread.proofs.Words.{whole}
+
+abbrev at : Span
+at = record { lo = 3; hi = 5 }
+
+a_spelled : Spelled IsKeySpelling (codes "a")
+unfolding chars is_utf8 encode is_xid_start is_xid_continue in_ranges xid_start_ranges xid_continue_ranges
+a_spelled = (IsUtf8-from_is_utf8 (codes "a") refl, (refl, refl))
+
+a_name : IsPlainName (codes "a")
+unfolding is_reserved reserved_words
+a_name = record { whole = whole (codes "a") a_spelled; free = refl }
+
+async_spelled : Spelled IsKeySpelling (codes "async")
+unfolding chars is_utf8 encode is_xid_start is_xid_continue in_ranges xid_start_ranges xid_continue_ranges
+async_spelled = (IsUtf8-from_is_utf8 (codes "async") refl, (refl, refl))
+
+async_name : IsPlainName (codes "async")
+unfolding is_reserved reserved_words
+async_name = record { whole = whole (codes "async") async_spelled; free = refl }
+
+abbrev gone : Node
+gone = node_of at kind.Absent []
+
+abbrev a : Node
+a = node_of at (kind.Ident (codes "a") 0 false) []
+
+abbrev async : Node
+async = node_of at (kind.Ident (codes "async") 0 false) []
+
+-- `const async = (this);`, `a.a(a, null);` and `async(a, async).a;`
+abbrev tree : Node
+tree =
+    node_of at (kind.Module None)
+    (node_of at kind.List
+    (node_of at (kind.VarDecl Const false)
+    (node_of at kind.List (node_of at (kind.VarDeclarator false) (node_of at kind.BindingIdent (async ∷ gone ∷ []) ∷ node_of at kind.ParenExpr (node_of at kind.ThisExpr [] ∷ []) ∷ []) ∷ []) ∷ [])
+    ∷ node_of at kind.ExprStmt
+    (node_of at kind.CallExpr
+    (node_of at kind.MemberExpr (a ∷ node_of at (kind.IdentName (codes "a")) [] ∷ []) ∷ node_of at kind.List (a ∷ node_of at kind.Null [] ∷ []) ∷ gone ∷ []) ∷ [])
+    ∷ node_of at kind.ExprStmt
+    (node_of at kind.MemberExpr
+    (node_of at kind.CallExpr (async ∷ node_of at kind.List (a ∷ async ∷ []) ∷ gone ∷ []) ∷ node_of at (kind.IdentName (codes "a")) [] ∷ []) ∷ [])
+    ∷ [])
+    ∷ [])
+
+shape : IsModule tree
+shape =
+    let id = ident at (codes "a") a_name in
+    let async' = ident at (codes "async") async_name in
+    let it' = whole (codes "a") a_spelled in
+    module_of at at
+    (more_statements (declaration at at const_word (declarator at at async' (absent at) (initializer (parenthesized at (this_word at)))) no_declarators)
+    (more_statements (expression at (call at (member at (name id) (key at (codes "a") it')) (arguments at (name id) (more_expressions (null_word at) no_expressions)) (absent at)))
+    (more_statements (expression at (member at (call at (name async') (arguments at (name id) (more_expressions (name async') no_expressions)) (absent at)) (key at (codes "a") it'))) no_statements)))
+
+text : render (module_tokens shape) ≡ codes "const async = (this);\na.a(a, null);\nasync(a, async).a;\n"
+unfolding render shape
+text = refl
+
+laid : layout tree ≡ codes "const async = (this);\na.a(a, null);\nasync(a, async).a;\n"
+laid = module_laid shape ∙ text

@@ -1,0 +1,154 @@
+-- Each form of statement is read as it is laid out.
+use Rattle.std.proofs.Common.{◌≡◌, ℕ, Bool, true, false, List, [], ◌∷◌, codes, refl, ap, ◌∙◌}
+use Rattle.ecma_lex.specs.Keys.{is_reserved, reserved_words}
+use Rattle.ecma_kind.specs.declared.operators.VarDeclKind.{VarDeclKind}
+use Rattle.ecma_kind.specs.declared.operators.VarDeclKind.TheVariants.{Let, Const}
+use Rattle.ecma_kind.specs.declared.kind.Kind.{Kind}
+use Rattle.ecma_kind.specs.declared.kind.Kind.TheVariants as kind
+use Rattle.ecma_tree.specs.declared.node.Node.{Node}
+use Rattle.ecma_tree.specs.Nodes.{absent, list_node}
+use Rattle.ecma_grammar.specs.declared.production.Part.TheVariants as part
+use Rattle.ecma_grammar.specs.declared.production.Plain.TheVariants as plain
+use Rattle.ecma_grammar.specs.declared.production.Form.TheVariants as form
+use Rattle.ecma_grammar.specs.Made.{made}
+use Rattle.ecma_grammar.specs.Grammar as grammar
+use Rattle.ecma_grammar.specs.Grammar.{Grammar, ◌▸◌, ◌//◌, punct, word, maybe, whether, marked, node}
+use Rattle.ecma_grammar.specs.productions.Names as names
+use Rattle.ecma_grammar.specs.productions.Names.{assign_in, pattern, end, expression}
+use Rattle.ecma_grammar.specs.productions.Types.{annotation}
+use Rattle.ecma_grammar.specs.productions.Patterns.{pattern_body}
+use Rattle.ecma_grammar.specs.productions.Functions as functions
+use Rattle.ecma_grammar.specs.productions.Classes as classes
+use Rattle.ecma_grammar.specs.productions.Declarations as declarations
+use Rattle.ecma_grammar.specs.productions.Declarations.{declarator, declarators, variables, declaration}
+use Rattle.ecma_grammar.specs.productions.Statements as statements
+use Rattle.ecma_grammar.specs.productions.Statements.{statement_body, labeled, expression_statement}
+use Rattle.ecma_grammar.specs.productions.Modules as modules
+use Rattle.ecma_grammar.specs.productions.Modules.{module_item}
+use Rattle.ecma_tokens.specs.Items as items
+use Rattle.ecma_tokens.specs.Items.{Tok, sign, Gap, no_gap, Items, it}
+use Rattle.ecma_reread.specs.Machine.{read, with_front, followed_on, or_on, unless_on, built_on, interp, means}
+use Rattle.ecma_reread.specs.Shapes as shapes
+use Rattle.ecma_reread.specs.Shapes.{IsIdent, IsLexical, let_word, const_word, IsInitializer, IsDeclarator, AreDeclarators, IsStatement}
+use Rattle.ecma_reread.specs.Tokens.{bare, blank, ident_word, lexical_word, initializer_tokens, declarator_tokens, declarators_tokens, statement_tokens, bare_initializer, bare_declarator, bare_declarators, bare_statement}
+use Rattle.ecma_reread.proofs.Levels.{means_is}
+use Rattle.ecma_reread.proofs.Fronts.{Front, exactly, Begins, at_token, refuses_at, refused_at}
+use Rattle.ecma_reread.proofs.Towers.{skipped, refuses_choices}
+use Rattle.ecma_reread.proofs.Heads.{nodes}
+use Rattle.ecma_reread.proofs.Forms.{Laid, s, Reads, Form, Ends, used, expression_read}
+use Rattle.ecma_reread.proofs.Repeats.{Repeats, repeats_end, repeats_more, repeated}
+use Rattle.ecma_reread.proofs.Expressions.{comma_ends, semicolon_ends}
+use Rattle.ecma_reread.proofs.Calls.{ident_free, expression_form}
+
+-- what a statement begins with that is `let` or `const`
+record Declares (w : List ℕ) : Type 0 where
+  pub no_statement : refuses_choices 11 (exactly (items.key w)) statement_body ≡ true
+  pub no_item : refuses_choices 3 (exactly (items.key w)) module_item ≡ true
+
+lexical_declares : {k : VarDeclKind} (w : IsLexical k) → Declares (lexical_word w)
+unfolding statement_body names.block statements.if_ statements.for_await statements.for_ statements.while_ statements.do_while statements.switch statements.try_ statements.jump labeled module_item modules.import modules.import_equals modules.export modules.export_default is_reserved reserved_words
+lexical_declares let_word = record { no_statement = refl; no_item = refl }
+lexical_declares const_word = record { no_statement = refl; no_item = refl }
+
+-- a declaration that is none of variables
+abbrev other_declarations : Grammar
+other_declarations =
+    functions.function_declaration // classes.class_declaration // marked classes.abstract_class_declaration // marked declarations.type_alias // marked declarations.interface
+    // marked declarations.enum_ // marked declarations.namespace // marked (grammar.build form.Declared (grammar.behind_word (codes "declare") part.Declared))
+
+abbrev binding : List ℕ → Node
+binding w = bare kind.BindingIdent (bare (kind.Ident w 0 false) [] ∷ absent ∷ [])
+
+declarator_made : (w : List ℕ) (init : Node) → made form.Declarator 0 0 (binding w ∷ absent ∷ absent ∷ init ∷ []) ≡ bare (kind.VarDeclarator false) (binding w ∷ init ∷ [])
+declarator_made w init = simp nodes
+
+module _ (assigned : Bool) where
+  -- expression statements
+
+  module _ {f : Laid} {k : Kind} {ns : List Node} (F : Form assigned f k ns) where
+    expression_statement_read : (g : Gap) (us : Items) → Reads assigned expression_statement (f g (s (codes ";") us)) (bare kind.ExprStmt (bare k ns ∷ []) ∷ []) us
+    unfolding expression_statement
+    expression_statement_read g us =
+        let ts = f g (s (codes ";") us) in
+        ap (built_on (form.Node plain.ExprStmt)) (ap (followed_on (interp assigned (means assigned) (expression false ▸ end))) (ap (unless_on ts) (F.no_word g (s (codes ";") us) (exactly (sign (codes ";"))) at_token refl))
+        ∙ ap (with_front []) (ap (followed_on (interp assigned (means assigned) end)) (expression_read assigned F g (s (codes ";") us) (exactly (sign (codes ";"))) at_token (semicolon_ends assigned) refl)))
+
+    statement_read : (g : Gap) (us : Items) → means assigned part.Statement (f g (s (codes ";") us)) ≡ read (bare kind.ExprStmt (bare k ns ∷ []) ∷ []) us
+    unfolding statement_body
+    statement_read g us =
+        let ts = f g (s (codes ";") us) in
+        let st = F.starts in
+        let b = F.begins g (s (codes ";") us) in
+        means_is assigned part.Statement ts
+        ∙ (skipped assigned (means assigned) 10 statement_body F.front ts b st.no_statement
+        ∙ (ap (or_on (interp assigned (means assigned) (declaration // expression_statement)) ts) (F.no_label g (s (codes ";") us) (exactly (sign (codes ";"))) at_token refl)
+        ∙ (ap (or_on (interp assigned (means assigned) expression_statement) ts) (F.no_declaration g (s (codes ";") us) (exactly (sign (codes ";"))) at_token refl) ∙ expression_statement_read g us)))
+
+    expression_item : (g : Gap) (us : Items) → Reads assigned module_item (f g (s (codes ";") us)) (bare kind.ExprStmt (bare k ns ∷ []) ∷ []) us
+    unfolding module_item
+    expression_item g us = let st = F.starts in skipped assigned (means assigned) 3 module_item F.front (f g (s (codes ";") us)) (F.begins g (s (codes ";") us)) st.no_item ∙ statement_read g us
+
+  -- declarations
+
+  pattern_read : (w : List ℕ) → is_reserved w ≡ false → (g : Gap) (us : Items) → means assigned part.Pattern (it g (items.key w) us) ≡ read (binding w ∷ []) us
+  unfolding pattern_body names.binding_ident
+  pattern_read w n g us = rw (means_is assigned part.Pattern (it g (items.key w) us), n) refl
+
+  -- what follows a declarator
+  record Follows (us : Items) : Type 0 where
+    pub front : Front
+    pub begins : Begins front us
+    pub ends : Ends assigned front
+    pub no_equals : refuses_at front (punct (codes "=")) ≡ true
+
+  initializer_read : {n : Node} (i : IsInitializer n) (us : Items) → Follows us → Reads assigned (maybe (punct (codes "=") ▸ assign_in false)) (initializer_tokens i us) (bare_initializer i ∷ []) us
+  initializer_read (shapes.no_initializer a) us F = rw (refused_at assigned (means assigned) (punct (codes "=")) F.front us F.begins F.no_equals) refl
+  initializer_read (shapes.initializer e) us F = rw (used assigned (expression_form assigned e) blank us F.front F.begins F.ends) refl
+
+  declarator_read : {n : Node} (d : IsDeclarator n) (us : Items) → Follows us → Reads assigned (declarator false) (declarator_tokens d us) (bare_declarator d ∷ []) us
+  declarator_read (shapes.declarator at at' i a e) us F =
+      ap (built_on form.Declarator) (ap (followed_on (interp assigned (means assigned) (whether (marked (punct (codes "!"))) ▸ annotation ▸ maybe (punct (codes "=") ▸ assign_in false)))) (pattern_read (ident_word i) (ident_free assigned i) blank (initializer_tokens e us))
+      ∙ ap (with_front (binding (ident_word i) ∷ [])) (ap (with_front (absent ∷ [])) (ap (with_front (absent ∷ [])) (initializer_read e us F))))
+      ∙ ap (λ x. read (x ∷ []) us) (declarator_made (ident_word i) (bare_initializer e))
+
+  more_follow : {ds : List Node} (is : AreDeclarators ds) (us : Items) → Follows (declarators_tokens is (s (codes ";") us))
+  more_follow shapes.no_declarators us = record { front = exactly (sign (codes ";")); begins = at_token; ends = semicolon_ends assigned; no_equals = refl }
+  more_follow (shapes.more_declarators d ds) us = record { front = exactly (sign (codes ",")); begins = at_token; ends = comma_ends assigned; no_equals = refl }
+
+  more_read : {ds : List Node} (is : AreDeclarators ds) (us : Items) → Repeats assigned (punct (codes ",") ▸ declarator false) (declarators_tokens is (s (codes ";") us)) (bare_declarators is) (s (codes ";") us)
+  more_read shapes.no_declarators us = repeats_end assigned (punct (codes ",") ▸ declarator false) (s (codes ";") us) refl
+  more_read (shapes.more_declarators d ds) us =
+      repeats_more assigned (punct (codes ",") ▸ declarator false) refl _ (declarators_tokens ds (s (codes ";") us)) (s (codes ";") us) (bare_declarator d ∷ []) (bare_declarators ds)
+      (ap (with_front []) (declarator_read d (declarators_tokens ds (s (codes ";") us)) (more_follow ds us))) (more_read ds us)
+
+  declarators_read : {d : Node} {ds : List Node} (i : IsDeclarator d) (is : AreDeclarators ds) (us : Items)
+      → Reads assigned (declarators false ▸ end) (declarator_tokens i (declarators_tokens is (s (codes ";") us))) (list_node (bare_declarator i ∷ bare_declarators is) ∷ []) us
+  declarators_read i is us =
+      ap (followed_on (interp assigned (means assigned) end)) (ap (built_on form.List)
+      (ap (followed_on (interp assigned (means assigned) (grammar.many (punct (codes ",") ▸ declarator false)))) (declarator_read i (declarators_tokens is (s (codes ";") us)) (more_follow is us))
+      ∙ ap (with_front (bare_declarator i ∷ [])) (repeated assigned (punct (codes ",") ▸ declarator false) (declarators_tokens is (s (codes ";") us)) (s (codes ";") us) (bare_declarators is) (more_read is us))))
+
+  variables_read : {k : VarDeclKind} (w : IsLexical k) {d : Node} {ds : List Node} (i : IsDeclarator d) (is : AreDeclarators ds) (g : Gap) (us : Items)
+      → Reads assigned (variables false end) (it g (items.key (lexical_word w)) (declarator_tokens i (declarators_tokens is (s (codes ";") us)))) (bare (kind.VarDecl k false) (list_node (bare_declarator i ∷ bare_declarators is) ∷ []) ∷ []) us
+  variables_read let_word i is g us =
+      ap (or_on (interp assigned (means assigned) (node (plain.VarDecl Const) (word (codes "const") ▸ declarators false ▸ end))) (it g (items.key (codes "let")) (declarator_tokens i (declarators_tokens is (s (codes ";") us)))))
+      (ap (built_on (form.Node (plain.VarDecl Let))) (ap (with_front []) (declarators_read i is us)))
+  variables_read const_word i is g us = ap (built_on (form.Node (plain.VarDecl Const))) (ap (with_front []) (declarators_read i is us))
+
+  declaration_read : {k : VarDeclKind} (w : IsLexical k) {d : Node} {ds : List Node} (i : IsDeclarator d) (is : AreDeclarators ds) (g : Gap) (us : Items)
+      → means assigned part.Statement (it g (items.key (lexical_word w)) (declarator_tokens i (declarators_tokens is (s (codes ";") us)))) ≡ read (bare (kind.VarDecl k false) (list_node (bare_declarator i ∷ bare_declarators is) ∷ []) ∷ []) us
+  unfolding statement_body declaration
+  declaration_read w i is g us =
+      let ts = it g (items.key (lexical_word w)) (declarator_tokens i (declarators_tokens is (s (codes ";") us))) in
+      let l = lexical_declares w in
+      means_is assigned part.Statement ts
+      ∙ (skipped assigned (means assigned) 11 statement_body (exactly (items.key (lexical_word w))) ts at_token l.no_statement
+      ∙ ap (or_on (interp assigned (means assigned) expression_statement) ts) (ap (or_on (interp assigned (means assigned) other_declarations) ts) (variables_read w i is g us)))
+
+  -- a statement of each shape, as an item of a module
+  pub item_read : {n : Node} (is : IsStatement n) (g : Gap) (us : Items) → Reads assigned module_item (statement_tokens is g us) (bare_statement is ∷ []) us
+  unfolding module_item
+  item_read (shapes.expression at e) g us = expression_item (expression_form assigned e) g us
+  item_read (shapes.declaration at at' w d ds) g us =
+      let l = lexical_declares w in
+      skipped assigned (means assigned) 3 module_item (exactly (items.key (lexical_word w))) (it g (items.key (lexical_word w)) (declarator_tokens d (declarators_tokens ds (s (codes ";") us)))) at_token l.no_item ∙ declaration_read w d ds g us

@@ -1,0 +1,86 @@
+-- The text of a module is read again by the grammar over texts, as the same tree up to spans.
+use Rattle.std.proofs.Common.{false, None, ◌≡◌, ℕ, ◌+◌, ◌*◌, ◌≤◌, Bool, List, [], ◌∷◌, map, length, refl, ap, ap₂, sym, ◌∙◌, subst, arith}
+use Rattle.ecma_kind.specs.declared.kind.Kind.TheVariants as kind
+use Rattle.ecma_tree.specs.declared.node.Node.{Node}
+use Rattle.ecma_tree.specs.Nodes.{absent, list_node}
+use Rattle.ecma_tree.specs.Spans.{without_spans}
+use Rattle.ecma_grammar.specs.Reading.{Position}
+use Rattle.ecma_grammar.specs.productions.Modules.{module_body}
+use Rattle.ecma_grammar.specs.Modules.{reads_module}
+use Rattle.ecma_tokens.specs.Items.{Items, ends, no_gap, render}
+use Rattle.ecma_tokens.specs.Lexing.{At, Goes, Lexes}
+use Rattle.ecma_reread.specs.Machine.{count}
+use Rattle.ecma_reread.specs.Shapes as shapes
+use Rattle.ecma_reread.specs.Shapes.{IsIdent, ident, IsKey, key, IsAbsent, IsExpression, IsArguments, AreExpressions, IsInitializer, IsDeclarator, AreDeclarators, IsStatement, AreStatements, IsModule}
+use Rattle.ecma_reread.specs.Tokens.{bare, bare_ident, key_word, module_tokens, bare_expression, bare_arguments, bare_expressions, bare_initializer, bare_declarator, bare_declarators, bare_statement, bare_statements, bare_module}
+use Rattle.ecma_reread.proofs.Ranks.{module_leads}
+use Rattle.ecma_reread.proofs.Unplaced.{without_spans-node}
+use Rattle.ecma_reread.proofs.Simulation.{plain, Sims, means_simulate}
+use Rattle.ecma_reread.proofs.Modules.{module_read}
+
+-- the tree that is read is the tree without spans
+
+absent_bare : {n : Node} → IsAbsent n → without_spans n ≡ absent
+absent_bare (shapes.absent at) = without_spans-node at kind.Absent []
+
+ident_bare : {n : Node} (i : IsIdent n) → without_spans n ≡ bare_ident i
+ident_bare (ident at w i) = without_spans-node at _ []
+
+key_bare : {n : Node} (k : IsKey n) → without_spans n ≡ bare (kind.IdentName (key_word k)) []
+key_bare (key at w t) = without_spans-node at _ []
+
+mutual
+  expression_bare : {numeral : Bool} {e : Node} (is : IsExpression numeral e) → without_spans e ≡ bare_expression is
+  expression_bare (shapes.name i) = ident_bare i
+  expression_bare (shapes.string at raw t) = without_spans-node at _ []
+  expression_bare (shapes.number at raw t) = without_spans-node at _ []
+  expression_bare (shapes.this_word at) = without_spans-node at _ []
+  expression_bare (shapes.big_int at raw t) = without_spans-node at _ []
+  expression_bare (shapes.null_word at) = without_spans-node at _ []
+  expression_bare (shapes.true_word at) = without_spans-node at _ []
+  expression_bare (shapes.false_word at) = without_spans-node at _ []
+  expression_bare (shapes.member at o k) = without_spans-node at kind.MemberExpr _ ∙ ap₂ (λ x y. bare kind.MemberExpr (x ∷ y ∷ [])) (expression_bare o) (key_bare k)
+  expression_bare (shapes.call at {none = gone} c es none) = without_spans-node at kind.CallExpr _ ∙ (ap₂ (λ x y. bare kind.CallExpr (x ∷ y ∷ without_spans gone ∷ [])) (expression_bare c) (arguments_bare es) ∙ ap (λ z. bare kind.CallExpr (bare_expression c ∷ list_node (bare_arguments es) ∷ z ∷ [])) (absent_bare none))
+  expression_bare (shapes.parenthesized at e) = without_spans-node at kind.ParenExpr _ ∙ ap (λ x. bare kind.ParenExpr (x ∷ [])) (expression_bare e)
+
+  arguments_bare : {n : Node} (is : IsArguments n) → without_spans n ≡ list_node (bare_arguments is)
+  arguments_bare (shapes.no_arguments at) = without_spans-node at kind.List []
+  arguments_bare (shapes.arguments at e es) = without_spans-node at kind.List _ ∙ ap₂ (λ x xs. list_node (x ∷ xs)) (expression_bare e) (expressions_bare es)
+
+  expressions_bare : {es : List Node} (is : AreExpressions es) → map without_spans es ≡ bare_expressions is
+  expressions_bare shapes.no_expressions = refl
+  expressions_bare (shapes.more_expressions e es) = ap₂ (λ x xs. x ∷ xs) (expression_bare e) (expressions_bare es)
+
+initializer_bare : {n : Node} (is : IsInitializer n) → without_spans n ≡ bare_initializer is
+initializer_bare (shapes.no_initializer a) = absent_bare a
+initializer_bare (shapes.initializer e) = expression_bare e
+
+declarator_bare : {n : Node} (is : IsDeclarator n) → without_spans n ≡ bare_declarator is
+declarator_bare (shapes.declarator at at' i a e) =
+    without_spans-node at (kind.VarDeclarator false) _
+    ∙ ap₂ (λ x y. bare (kind.VarDeclarator false) (x ∷ y ∷ [])) (without_spans-node at' kind.BindingIdent _ ∙ ap₂ (λ x y. bare kind.BindingIdent (x ∷ y ∷ [])) (ident_bare i) (absent_bare a)) (initializer_bare e)
+
+declarators_bare : {ds : List Node} (is : AreDeclarators ds) → map without_spans ds ≡ bare_declarators is
+declarators_bare shapes.no_declarators = refl
+declarators_bare (shapes.more_declarators d ds) = ap₂ (λ x xs. x ∷ xs) (declarator_bare d) (declarators_bare ds)
+
+statement_bare : {n : Node} (is : IsStatement n) → without_spans n ≡ bare_statement is
+statement_bare (shapes.expression at e) = without_spans-node at kind.ExprStmt _ ∙ ap (λ x. bare kind.ExprStmt (x ∷ [])) (expression_bare e)
+statement_bare (shapes.declaration at at' {k = k} w d ds) =
+    without_spans-node at (kind.VarDecl k false) _ ∙ ap (λ x. bare (kind.VarDecl k false) (x ∷ [])) (without_spans-node at' kind.List _ ∙ ap₂ (λ x xs. list_node (x ∷ xs)) (declarator_bare d) (declarators_bare ds))
+
+statements_bare : {ss : List Node} (is : AreStatements ss) → map without_spans ss ≡ bare_statements is
+statements_bare shapes.no_statements = refl
+statements_bare (shapes.more_statements s ss) = ap₂ (λ x xs. x ∷ xs) (statement_bare s) (statements_bare ss)
+
+pub module_bare : {tree : Node} (is : IsModule tree) → without_spans tree ≡ bare_module is
+module_bare (shapes.module_of at at' ss) = without_spans-node at (kind.Module None) _ ∙ ap (λ x. bare (kind.Module None) (x ∷ [])) (without_spans-node at' kind.List _ ∙ ap list_node (statements_bare ss))
+
+-- wherever the terminals read the tokens of the text
+pub text_read : (assigned : Bool) (Good : Items → Type 0) (tree : Node) (is : IsModule tree) (text : List ℕ) → text ≡ render (module_tokens is) → Lexes text Good → ((ts : Items) → Good ts → count ts ≤ length (render ts)) → Good (module_tokens is)
+    → (bound : ℕ) → 3 * count (module_tokens is) + 2 ≤ bound → Goes text Good (reads_module text (plain assigned) bound) (λ trees. map without_spans trees ≡ without_spans tree ∷ []) (ends no_gap)
+text_read assigned Good tree is text t lexes long good bound enough =
+    let start : Position = record { place = 0; failed = 0 } in
+    let at : At text Good (module_tokens is) start = record { good = good; stands = record { rest = t; within = (let y = ap length t in omega arith) } } in
+    subst (λ x. Goes text Good (reads_module text (plain assigned) bound) (λ trees. map without_spans trees ≡ x ∷ []) (ends no_gap)) (sym (module_bare is))
+    (subst (λ o. Sims text Good o (reads_module text (plain assigned) bound)) (module_read assigned is) (means_simulate text Good assigned lexes long bound module_body 2 (module_tokens is) module_leads enough start at))

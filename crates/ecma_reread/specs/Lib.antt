@@ -1,0 +1,4 @@
+pub mod Machine
+pub mod Shapes
+pub mod Tokens
+pub mod Theorems

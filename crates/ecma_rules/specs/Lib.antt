@@ -1,0 +1,15 @@
+pub mod Layers
+pub mod Failing
+pub mod Children
+pub mod Targets
+pub mod Lists
+pub mod Members
+pub mod Statements
+pub mod Surroundings
+pub mod Strays
+pub mod Jumps
+pub mod Frames
+pub mod Rules
+pub mod Finishing
+pub mod Breaking
+pub mod Laws

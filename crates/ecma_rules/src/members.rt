@@ -1,0 +1,246 @@
+//! Parameters and members of objects and classes.
+ghost use Rattle.std.specs.Prelude.{◌≡◌, ◌&&◌, ◌||◌, filter};
+ghost use Rattle.ecma_tree.specs.Sorted.{is_list};
+ghost use Rattle.ecma_tree.specs.declared.node.Node.{out-Node};
+ghost use Rattle.ecma_rules.specs.Children.{child_holds, child_is};
+ghost use Rattle.ecma_rules.specs.Members.{fits_kind, is_binding_name, is_constructor, is_constructor_key, is_declaring, is_empty_list, is_full_constructor, is_method, is_named_pattern, is_one_parameter, is_plain_parameter, is_property_kind, is_special_by, is_special_constructor, is_special_function, is_stray_property, is_this_by, is_this_parameter, is_this_pattern, is_wrong_accessor, misfits_by, second_constructor, second_of};
+
+use crate::children::{has_child, is_named, items_at};
+use crate::standing::Standing;
+use ecma_tree::{Kind, MethodKind, Node};
+
+fn is_named_pattern(node: &Node) -> bool
+    ensures { result ≡ is_plain_parameter node.now }
+{
+    match &node.kind {
+        Kind::BindingIdent => true,
+        Kind::AssignPat => match node.children.get(0) {
+            Some(left) => matches!(left.kind, Kind::BindingIdent),
+            None => false,
+        },
+        _ => false,
+    }
+}
+
+fn has_named_pattern(node: &Node) -> bool
+    ensures { result ≡ child_holds is_plain_parameter node.now 0 }
+{
+    match node.children.get(0) {
+        Some(pattern) => is_named_pattern(pattern),
+        None => false,
+    }
+}
+
+fn is_declaring(standing: Standing) -> bool
+    ensures { result ≡ is_declaring standing }
+{
+    matches!(standing, Standing::Declaring)
+}
+
+fn is_property_kind(kind: &Kind) -> bool
+    ensures { result ≡ is_property_kind kind.now }
+{
+    matches!(kind, Kind::TsParamProp { .. })
+}
+
+/// Whether a node is a parameter with modifiers that is none of a constructor with a body, or no plain name.
+pub(crate) fn is_stray_property(standing: Standing, node: &Node) -> bool
+    ensures { result ≡ is_stray_property standing node.now }
+{
+    is_property_kind(&node.kind) && !(is_declaring(standing) && has_named_pattern(node))
+}
+
+fn is_this_pattern(node: &Node) -> bool
+    ensures { result ≡ is_this_pattern node.now }
+{
+    match &node.kind {
+        Kind::BindingIdent => match node.children.get(0) {
+            Some(name) => is_named(&name.kind, "this"),
+            None => false,
+        },
+        _ => false,
+    }
+}
+
+fn is_this_parameter(node: &Node) -> bool
+    ensures { result ≡ is_this_parameter node.now }
+{
+    match node.children.get(0) {
+        Some(pattern) => is_this_pattern(pattern),
+        None => false,
+    }
+}
+
+fn is_one_parameter(parameters: &[Node]) -> bool
+    ensures { result ≡ is_one_parameter parameters.now }
+{
+    match parameters {
+        [parameter] => !is_this_parameter(parameter),
+        [first, _parameter] => is_this_parameter(first),
+        _ => false,
+    }
+}
+
+fn is_empty_list(parameters: &[Node]) -> bool
+    ensures { result ≡ is_empty_list parameters.now }
+{
+    match parameters {
+        [] => true,
+        _ => false,
+    }
+}
+
+fn fits_kind(kind: MethodKind, function: &Node) -> bool
+    ensures { result ≡ fits_kind kind function.now }
+{
+    match kind {
+        MethodKind::Method => true,
+        MethodKind::Getter => is_empty_list(items_at(function, 0)),
+        MethodKind::Setter => is_one_parameter(items_at(function, 0)),
+    }
+}
+
+fn has_fitting(kind: MethodKind, node: &Node) -> bool
+    ensures { result ≡ child_holds (fits_kind kind) node.now 1 }
+{
+    match node.children.get(1) {
+        Some(function) => fits_kind(kind, function),
+        None => false,
+    }
+}
+
+fn has_list(node: &Node, index: usize) -> bool
+    ensures { result ≡ child_is is_list node.now index }
+{
+    match node.children.get(index) {
+        Some(child) => matches!(child.kind, Kind::List),
+        None => false,
+    }
+}
+
+/// Whether a node is a getter with a parameter, or a setter that has not one.
+#[tactic(auto, unfolding(crate::specs::Members::misfits_by))]
+pub(crate) fn is_wrong_accessor(node: &Node) -> bool
+    ensures { result ≡ is_wrong_accessor node.now }
+{
+    match &node.kind {
+        Kind::GetterProp => has_child(node, 3),
+        Kind::SetterProp => has_list(node, 2),
+        Kind::ClassMethod { kind, .. } => !has_fitting(*kind, node),
+        Kind::PrivateMethod { kind, .. } => !has_fitting(*kind, node),
+        _ => false,
+    }
+}
+
+fn is_constructor(kind: &Kind) -> bool
+    ensures { result ≡ is_constructor kind.now }
+{
+    matches!(kind, Kind::Constructor { .. })
+}
+
+fn is_full_constructor(node: &Node) -> bool
+    ensures { result ≡ is_full_constructor node.now }
+{
+    is_constructor(&node.kind) && has_child(node, 2)
+}
+
+fn both(a: bool, b: bool) -> bool
+    ensures { result ≡ a && b }
+{
+    a && b
+}
+
+fn either(a: bool, b: bool) -> bool
+    ensures { result ≡ a || b }
+{
+    a || b
+}
+
+/// The place of the second constructor with a body in a list of members.
+fn second_member(list: &Node) -> Option<u32>
+    ensures { result ≡ second_of (filter is_full_constructor (out-Node list.now).children) }
+{
+    let mut is_seen = false;
+    for i in 0..list.children.len() {
+        let member = list.children.at(i);
+        let is_full = is_full_constructor(member);
+        if both(is_seen, is_full) {
+            return Some(member.span.lo);
+        }
+        is_seen = either(is_seen, is_full);
+    }
+    None
+}
+
+/// The place of the second constructor of a class that has a body.
+pub(crate) fn second_constructor(node: &Node) -> Option<u32>
+    ensures { result ≡ second_constructor node.now }
+{
+    match &node.kind {
+        Kind::Class { .. } => match node.children.get(1) {
+            Some(list) => second_member(list),
+            None => None,
+        },
+        _ => None,
+    }
+}
+
+fn is_constructor_key(kind: &Kind) -> bool
+    ensures { result ≡ is_constructor_key kind.now }
+{
+    match kind {
+        Kind::IdentName { sym } => sym.as_str() == "constructor",
+        Kind::Str { value, .. } => value.as_str() == "constructor",
+        _ => false,
+    }
+}
+
+fn has_constructor_key(node: &Node) -> bool
+    ensures { result ≡ child_is is_constructor_key node.now 0 }
+{
+    match node.children.get(0) {
+        Some(key) => is_constructor_key(&key.kind),
+        None => false,
+    }
+}
+
+fn is_special_function(kind: &Kind) -> bool
+    ensures { result ≡ is_special_function kind.now }
+{
+    match kind {
+        Kind::Function {
+            is_generator,
+            is_async,
+        } => *is_generator || *is_async,
+        _ => false,
+    }
+}
+
+fn has_special_function(node: &Node) -> bool
+    ensures { result ≡ child_is is_special_function node.now 1 }
+{
+    match node.children.get(1) {
+        Some(function) => is_special_function(&function.kind),
+        None => false,
+    }
+}
+
+fn is_method(kind: MethodKind) -> bool
+    ensures { result ≡ is_method kind }
+{
+    matches!(kind, MethodKind::Method)
+}
+
+/// Whether a node is a constructor that is an accessor, a generator or async.
+pub(crate) fn is_special_constructor(node: &Node) -> bool
+    ensures { result ≡ is_special_constructor node.now }
+{
+    match &node.kind {
+        Kind::ClassMethod { kind, modifiers } => {
+            !modifiers.is_static
+                && has_constructor_key(node)
+                && (!is_method(*kind) || has_special_function(node))
+        }
+        _ => false,
+    }
+}

@@ -1,0 +1,5 @@
+pub mod Trees
+pub mod Forms
+pub mod Productions
+pub mod Leaves
+pub mod Readings
