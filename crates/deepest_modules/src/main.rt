@@ -1,5 +1,5 @@
-//! Converts the deepest modules that are read, and ones that are too deep by one level, so that both
-//! compilers show that the stack is enough for them.
+//! Converts the deepest modules that are read, and ones that are too deep by one level, so that a run
+//! shows that the stack is enough for them.
 #![tactic(auto)]
 
 use std::alloc::{AllocError, Global};
@@ -15,7 +15,7 @@ struct Nest {
     times: usize,
 }
 
-const NESTS: [Nest; 8] = [
+const NESTS: [Nest; 10] = [
     Nest {
         name: "calls in arguments",
         opening: "f(",
@@ -59,18 +59,32 @@ const NESTS: [Nest; 8] = [
         times: 511,
     },
     Nest {
+        name: "parentheses in parentheses",
+        opening: "(",
+        middle: "1",
+        closing: ")",
+        times: 510,
+    },
+    Nest {
+        name: "one parenthesis more",
+        opening: "(",
+        middle: "1",
+        closing: ")",
+        times: 511,
+    },
+    Nest {
         name: "types of types",
         opening: "",
         middle: "a",
         closing: " as T",
-        times: 509,
+        times: 508,
     },
     Nest {
         name: "one type of a type more",
         opening: "",
         middle: "a",
         closing: " as T",
-        times: 510,
+        times: 509,
     },
 ];
 

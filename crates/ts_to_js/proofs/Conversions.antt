@@ -1,5 +1,5 @@
 -- What is converted is a conversion, and every valid module is converted.
-use Rattle.std.proofs.Common.{◌≡◌, ◌≤◌, ◌⊎◌, ℕ, List, Bool, true, false, Ok, Err, inl, inr, refl, sym, ◌∙◌, ap, arith, length, nat_lt, Vec}
+use Rattle.std.proofs.Common.{◌≡◌, ◌≤◌, ◌⊎◌, ℕ, List, Bool, true, false, Ok, Err, inl, inr, refl, sym, ◌∙◌, ap, subst, arith, length, nat_lt, Vec}
 use Rattle.std.proofs.lemmas.Bool.Decides.{nat_tests}
 use Rattle.std.specs.declared.alloc.Global.{Global}
 use Rattle.std.specs.Prelude.{Result, IfOk, IsOk, if◌then◌else◌}
@@ -9,9 +9,10 @@ use Rattle.ecma_tree.specs.declared.node.Node.{Node}
 use Rattle.ecma_strip.specs.Erasure.{without_types}
 use Rattle.ecma_tree.specs.Spans.{without_spans}
 use Rattle.ecma_text.specs.declared.modules.ReadError.{ReadError}
-use Rattle.ecma_text.specs.Modules.{answer_of, reads, deepest}
+use Rattle.ecma_text.specs.Modules.{reads_as, typescript, deepest}
 use Rattle.ecma_print.specs.Layout.{layout}
-use Rattle.ecma_readback.proofs.Whole.{read_back}
+use Rattle.ts_to_js.specs.Acceptance.{accepted}
+use Rattle.ts_to_js.proofs.Whole.{read_back}
 use Rattle.ecma_runs.specs.declared.config.Config.{Config}
 use Rattle.ecma_runs.specs.declared.script.Script.{Script}
 use Rattle.ecma_runs.specs.Observation.{observe}
@@ -21,7 +22,7 @@ use Rattle.ts_to_js.specs.declared.error.TsError.{TsError}
 use Rattle.ts_to_js.specs.declared.error.TsError.TheVariants as error
 use Rattle.ts_to_js.specs.Answer.{Answers}
 use Rattle.ts_to_js.specs.Conversion.{byte_limit, printed, converted}
-use Rattle.ts_to_js.specs.Headline.{IsValidModule, IsValid, IsConversion}
+use Rattle.ts_to_js.specs.Headline.{IsValidModule, IsValid, IsPlainModule, IsConversion}
 
 -- what an answer other than a refusal says of the tests that were made
 record IsConverted (long valid : Bool) (answer : Result Node ReadError) (text : List ℕ) : Type 0 where
@@ -55,17 +56,17 @@ runs_kept source written same options turns script =
 
 pub is_conversion : (src text : List ℕ) → converted src ≡ Ok text → IsConversion src text
 is_conversion src text is =
-    let parts = converted_by (nat_lt byte_limit (length src)) (is_utf8 src) (answer_of (reads true src deepest)) text is in
+    let parts = converted_by (nat_lt byte_limit (length src)) (is_utf8 src) (accepted (reads_as src typescript deepest)) text is in
     let utf8 : IsUtf8 src = IsUtf8-from_is_utf8 src parts.utf8 in
     let again = read_back src parts.tree utf8 parts.read in
     record {
       source = parts.tree;
       valid = record { short = short_by src parts.short; utf8 = utf8; reads_as = parts.read };
-      written = again.0;
-      plain = ap (λ t. answer_of (reads false t deepest)) parts.text_is ∙ again.1;
-      tree = again.2;
+      written = again.again;
+      plain = subst (λ t. IsPlainModule t again.again) (sym parts.text_is) again.plain_module;
+      tree = again.same;
       interface = λ options. refl;
-      runs = λ options turns script. inr (runs_kept parts.tree again.0 again.2 options turns script);
+      runs = λ options turns script. inr (runs_kept parts.tree again.again again.same options turns script);
     }
 
 pub converted-valid : (src : List ℕ) (tree : Node) → IsValidModule src tree → converted src ≡ Ok (layout (without_types tree))

@@ -1,3 +1,5 @@
+pub mod Printed
+pub mod Whole
 pub mod Utf8
 pub mod Pieces
 pub mod Runs

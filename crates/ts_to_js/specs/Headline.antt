@@ -1,14 +1,16 @@
 -- What a converted module is to its source.
-use Rattle.std.specs.Prelude.{◌≡◌, ◌⊎◌, ◌≤◌, ℕ, true, false, List, Ok, length}
+use Rattle.std.specs.Prelude.{◌≡◌, ◌⊎◌, ◌≤◌, ℕ, false, List, None, Ok, length}
 use Rattle.std.specs.Str.{IsUtf8}
 use Rattle.ecma_tree.specs.declared.node.Node.{Node}
 use Rattle.ecma_strip.specs.Erasure.{without_types}
 use Rattle.ecma_tree.specs.Spans.{without_spans}
-use Rattle.ecma_text.specs.Modules.{reads, answer_of, deepest}
+use Rattle.ecma_text.specs.Modules.{reads_as, typescript, plain, deepest}
+use Rattle.ecma_forms.specs.Repeated.{first_repeated}
 use Rattle.ecma_runs.specs.declared.config.Config.{Config}
 use Rattle.ecma_runs.specs.declared.script.Script.{Script}
 use Rattle.ecma_runs.specs.declared.observation.Ending.TheVariants.{Outside}
 use Rattle.ecma_runs.specs.Observation.{Observation, observe}
+use Rattle.ts_to_js.specs.Acceptance.{accepted}
 use Rattle.ts_to_js.specs.Conversion.{byte_limit}
 use Rattle.ts_to_js.specs.UseRule.{kept_interface, interface_of}
 
@@ -16,14 +18,16 @@ use Rattle.ts_to_js.specs.UseRule.{kept_interface, interface_of}
 pub record IsValidModule (src : List ℕ) (tree : Node) : Type 0 where
   pub short : length src ≤ byte_limit
   pub utf8 : IsUtf8 src
-  pub reads_as : answer_of (reads true src deepest) ≡ Ok tree
+  pub reads_as : accepted (reads_as src typescript deepest) ≡ Ok tree
 
 abbrev pub IsValid : List ℕ → Type 0
 IsValid src = (tree : Node) × IsValidModule src tree
 
--- a text is a plain module, of this tree: it is read without TypeScript
-abbrev pub IsPlainModule : List ℕ → Node → Type 0
-IsPlainModule text tree = answer_of (reads false text deepest) ≡ Ok tree
+-- a text is a plain module, of this tree: it is read without TypeScript, with as many levels as it takes, and declares no name twice
+pub record IsPlainModule (text : List ℕ) (tree : Node) : Type 0 where
+  pub levels : ℕ
+  pub read_plain : reads_as text (plain false) levels ≡ Ok tree
+  pub distinct : first_repeated tree ≡ None
 
 -- what is observed of the written module is what is observed of its source, unless that leaves the described language
 abbrev pub KeepsRun : Observation → Observation → Type 0

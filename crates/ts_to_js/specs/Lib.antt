@@ -1,3 +1,4 @@
+pub mod Acceptance
 pub mod Conversion
 pub mod Refusals
 pub mod Answer

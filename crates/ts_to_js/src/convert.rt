@@ -1,16 +1,20 @@
-ghost use Rattle.std.specs.Prelude.{◌≡◌, ◌≤◌, ◌⊎◌, length, true, false, MatchOption, IfOk, IfErr, IsOk};
+ghost use Rattle.std.specs.Prelude.{◌≡◌, ◌≤◌, ◌⊎◌, length, ℕ, true, false, MatchOption, Option, IfOk, IfErr, IsErr, IsOk};
 ghost use Rattle.std.specs.Str.{is_utf8};
-ghost use Rattle.ecma_text.specs.Modules.{answer_of, reads, deepest};
+ghost use Rattle.ecma_text.specs.Modules.{Answers as ReadAnswers, deepest, reads_as, typescript};
+ghost use Rattle.ecma_forms.specs.Forms.{first_untaken};
+ghost use Rattle.ecma_forms.specs.Repeated.{first_repeated};
+ghost use Rattle.ts_to_js.specs.Acceptance.{accepted, accepted_by};
 ghost use Rattle.ts_to_js.specs.Conversion.{converted, printed};
 ghost use Rattle.ts_to_js.specs.Answer.{Answers};
 ghost use Rattle.ts_to_js.specs.Headline.{IsConversion, IsValid};
 ghost use Rattle.ts_to_js.specs.Refusals.{refusal_of};
 
 use crate::error::TsError;
+use ecma_forms::{first_repeated, first_untaken};
 use ecma_print::print_module;
 use ecma_strip::strip_types;
 use ecma_text::{ReadError, read_module};
-use ecma_tree::{Module, Session};
+use ecma_tree::{Module, NoMemory, Session};
 use std::alloc::Global;
 
 /// How many bytes a module may have.
@@ -64,9 +68,37 @@ fn decoded(src: &[u8]) -> Option<&str>
 
 fn convert_text(alloc: Global, text: &str) -> Result<Vec<u8>, TsError>
     requires { length text.now ≤ LIMIT }
-    ensures { Answers result (printed (answer_of (reads true text.now deepest))) }
+    ensures { Answers result (printed (accepted (reads_as text.now typescript deepest))) }
 {
-    convert_reading(alloc, read_module(alloc, text))
+    convert_reading(alloc, accept(alloc, read_module(alloc, text)))
+}
+
+/// The tree that was read, where each of its forms is taken and no name is declared twice.
+fn accept(alloc: Global, reading: Result<Module, ReadError>) -> Result<Module, ReadError>
+    ensures tree { IfOk reading (λ tree. ReadAnswers result (accepted (Ok tree))) }
+    ensures reason { IfErr reading (λ reason. result ≡ Err reason) }
+{
+    let tree = reading?;
+    let untaken = first_untaken(&tree);
+    let repeated = first_repeated(alloc, &tree);
+    accept_by(tree, untaken, repeated)
+}
+
+/// A tree, or the place for which it is refused: of a form that is not taken, else of a name that is declared again.
+fn accept_by(
+    tree: Module,
+    untaken: Option<u32>,
+    repeated: Result<Option<u32>, NoMemory>,
+) -> Result<Module, ReadError>
+    ensures known { IfOk repeated (λ at. result ≡ accepted_by tree untaken at) }
+    ensures unknown { IsErr repeated → (result ≡ Err ReadError.NoMemory) ⊎ ((at : Option ℕ) → result ≡ accepted_by tree untaken at) }
+{
+    match (untaken, repeated) {
+        (Some(at), _) => Err(ReadError::Syntax { at }),
+        (None, Ok(None)) => Ok(tree),
+        (None, Ok(Some(at))) => Err(ReadError::Syntax { at }),
+        (None, Err(NoMemory)) => Err(ReadError::NoMemory),
+    }
 }
 
 /// Prints a module without its types, or says why there is none.

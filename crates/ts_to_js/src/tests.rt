@@ -15,7 +15,7 @@ struct Row {
     err: &'static str,
 }
 
-const ROWS: [Row; 16] = [
+const ROWS: [Row; 17] = [
     Row {
         word: "",
         src: "let x: number = f(1);",
@@ -123,10 +123,17 @@ const ROWS: [Row; 16] = [
     },
     Row {
         word: "",
-        src: "a == b",
+        src: "f(a); a == b",
         status: REFUSED,
         out: "",
-        err: "error: Syntax at 2\n",
+        err: "error: Syntax at 6\n",
+    },
+    Row {
+        word: "",
+        src: "((a).b)(1, (2)); let x: { [k: string]: (a) => void }[] = (f as T)(1);",
+        status: DONE,
+        out: "((a).b)(1, (2));\nlet x = (f)(1);\n",
+        err: "",
     },
 ];
 

@@ -1,0 +1,5 @@
+pub mod Forms
+pub mod Repeated
+pub mod Collected
+pub mod Shapes
+pub mod Theorem
