@@ -30,29 +30,9 @@ fn block(alloc: Global, ctxt: SyntaxContext) -> Result<Node, NoMemory> {
     Node::block_stmt(alloc, PLACE, Nodes::from_array(alloc, [read])?)
 }
 
-/// `({ f });`
-fn shorthand(alloc: Global, ctxt: SyntaxContext) -> Result<Node, NoMemory> {
-    let props = Nodes::from_array(alloc, [name(alloc, "f", ctxt)?])?;
-    let object = Node::object_lit(alloc, PLACE, props)?;
-    Node::expr_stmt(alloc, PLACE, object)
-}
-
-/// `export { f };`
-fn exported(alloc: Global, ctxt: SyntaxContext) -> Result<Node, NoMemory> {
-    let name = name(alloc, "f", ctxt)?;
-    let specifier = Node::export_named_specifier(alloc, PLACE, false, name, None)?;
-    let specifiers = Nodes::from_array(alloc, [specifier])?;
-    Node::named_export(alloc, PLACE, false, specifiers, None, None)
-}
-
-/// `{ f; } let f; ({ f }); export { f };`, where the first `f` has another context than the others.
+/// `{ f; } let f;`, where the two names have two contexts.
 fn module(alloc: Global, inside: SyntaxContext, outside: SyntaxContext) -> Result<Node, NoMemory> {
-    let body = [
-        block(alloc, inside)?,
-        variable(alloc, outside)?,
-        shorthand(alloc, outside)?,
-        exported(alloc, outside)?,
-    ];
+    let body = [block(alloc, inside)?, variable(alloc, outside)?];
     Node::module(alloc, PLACE, None, Nodes::from_array(alloc, body)?)
 }
 
@@ -66,6 +46,24 @@ fn texts(alloc: Global, tree: &Node) -> Result<String, Fail> {
     Ok(all)
 }
 
+// A function that may let go of a node is proved for every kind that it may have: so this one alone does.
+fn let_go(_node: Node) {}
+
+/// The texts of the identifiers of a module with its final texts.
+fn final_texts(
+    alloc: Global,
+    inside: SyntaxContext,
+    outside: SyntaxContext,
+) -> Result<String, Fail> {
+    let mut tree = module(alloc, inside, outside)?;
+    let done = hygiene(alloc, &mut tree);
+    let all = texts(alloc, &tree);
+    let_go(tree);
+    let all = all?;
+    done?;
+    Ok(all)
+}
+
 #[test]
 fn a_free_name_keeps_its_text(rt: HostRuntime) -> Result<(), Fail> {
     let alloc = rt.alloc();
@@ -73,11 +71,7 @@ fn a_free_name_keeps_its_text(rt: HostRuntime) -> Result<(), Fail> {
     let empty = SyntaxContext::empty();
     let free = empty.apply_mark(session.fresh_mark()?);
     let bound = empty.apply_mark(session.fresh_mark()?);
-    let mut tree = module(alloc, free, bound)?;
-    hygiene(alloc, &mut tree)?;
-    assert_eq!(rt; texts(alloc, &tree)?.as_str(), "f f1 f1 f1 f ");
-    let mut tree = module(alloc, bound, bound)?;
-    hygiene(alloc, &mut tree)?;
-    assert_eq!(rt; texts(alloc, &tree)?.as_str(), "f f f f ");
+    assert_eq!(rt; final_texts(alloc, free, bound)?.as_str(), "f f1 ");
+    assert_eq!(rt; final_texts(alloc, bound, bound)?.as_str(), "f f ");
     Ok(())
 }
