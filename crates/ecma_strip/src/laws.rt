@@ -10,7 +10,7 @@ pub fn sorts_are_kept()
 {}
 
 /// No type part is left: no type, no expression with a type round it, no declaration of a type, nothing that is written
-/// `type` or `declare`, no modifier. Enums, namespaces, parameter properties, `import a =` and `export =` are lowered later.
+/// `type` or `declare` but a variable in the head of a loop, no modifier. Enums, namespaces, parameter properties, `import a =` and `export =` are lowered later.
 pub fn no_types_are_left()
     ensures { NoTypesAreLeft }
 {}
