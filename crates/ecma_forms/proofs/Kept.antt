@@ -1,7 +1,8 @@
--- A plain module of the shape keeps the context rules, and is finished.
-use Rattle.std.proofs.Common.{◌≡◌, ℕ, zero, suc, Bool, true, false, cond, not, List, [], ◌∷◌, None, Some, Option, refl, ap, ap₂, sym, ◌∙◌, map, subst, length}
+-- A module without its types keeps the context rules, and is finished.
+use Rattle.std.proofs.Common.{◌≡◌, ℕ, suc, Bool, true, false, cond, List, [], ◌∷◌, None, Option, filter, refl, ap, ap₂, ◌∙◌, map}
 use Rattle.std.proofs.lemmas.Bool.{false≢true}
 use Rattle.ecma_kind.specs.declared.span.Span.{Span}
+use Rattle.ecma_kind.specs.declared.operators.VarDeclKind.{VarDeclKind}
 use Rattle.ecma_kind.specs.declared.kind.Kind.{Kind}
 use Rattle.ecma_kind.specs.declared.kind.Kind.TheVariants as kind
 use Rattle.ecma_tree.specs.declared.node.Node.{Node}
@@ -11,44 +12,37 @@ use Rattle.ecma_rules.specs.declared.target.Target.TheVariants as target
 use Rattle.ecma_rules.specs.declared.standing.Around.{Around}
 use Rattle.ecma_rules.specs.declared.standing.Standing.{Standing}
 use Rattle.ecma_rules.specs.declared.standing.Standing.TheVariants as standing
-use Rattle.ecma_rules.specs.declared.strays.Strays.{Strays}
 use Rattle.ecma_rules.specs.Children.{kind_of, has_child}
 use Rattle.ecma_rules.specs.Targets.{target_in}
 use Rattle.ecma_rules.specs.Members.{misfits_by, second_constructor, second_by}
 use Rattle.ecma_rules.specs.Lists.{last_in}
-use Rattle.ecma_rules.specs.Surroundings.{standing_by, standing_in, around_in, at_root}
+use Rattle.ecma_rules.specs.Surroundings.{standing_by, standing_in, around_in}
 use Rattle.ecma_rules.specs.Strays.{is_stray, nothing_held, strays_in, in_named}
-use Rattle.ecma_rules.specs.Jumps.{Held, is_stray_in, is_held_stray, stray_here, ends_jumps, own_label, labels_behind, held_behind, label_of, held_in, first_held_stray, first_stray}
-use Rattle.ecma_rules.specs.Failing.{failing_here, failing_step, first_failing, least, least_from}
+use Rattle.ecma_rules.specs.Jumps.{Held, is_stray_in, is_held_stray, stray_here, ends_jumps, own_label, held_behind, label_of, held_in, first_held_stray}
+use Rattle.ecma_rules.specs.Failing.{failing_here, failing_step, least, least_from}
 use Rattle.ecma_rules.specs.Rules.{is_misplaced, misplaced_here, first_misplaced, first_broken}
-use Rattle.ecma_rules.specs.Finishing.{finished_by, each_in, finished_at, finished}
+use Rattle.ecma_rules.specs.Finishing.{each_in, finished_at, finished}
 use Rattle.ecma_rules.proofs.Layers.{from_leaves-roll}
 use Rattle.ecma_spelling.specs.Everywhere.{Everywhere, everywhere, Each, none, more}
 use Rattle.ecma_spelling.proofs.Trees.{kind_made}
-use Rattle.ecma_forms.specs.Shapes.{IsIdent, ident, IsKey, key, IsAbsent, absent, IsType, type, IsHead, name, member, call, parentheses, IsExpression, head, string, number, null_word, truth_word, cast, AreExpressions, no_expressions, more_expressions, IsArguments, arguments, IsAnnotation, no_annotation, annotation, IsBinding, binding, IsInitializer, no_initializer, initializer, IsDeclarator, declarator, AreDeclarators, no_declarators, more_declarators, IsStatement, expression, declaration, alias, AreStatements, no_statements, more_statements, IsModule, module_of}
+use Rattle.ecma_runs.specs.Erasure.{without_types, stays}
+use Rattle.ecma_reread.specs.Shapes.{Level}
+use Rattle.ecma_forms.specs.Shapes.{IsExpression, IsInitializer, no_initializer, initializer, IsDeclarator, declarator, AreDeclarators, no_declarators, more_declarators, expression, declaration, alias, interface, AreStatements, no_statements, more_statements, IsModule, module_of}
+use Rattle.ecma_forms.proofs.Erased.{erased_node, kept, plain_absent, plain_annotation, goes}
+use Rattle.ecma_forms.proofs.Still.{is_still, Still, EachStill, ident_still, absent_still, expression_still}
+use Rattle.ecma_forms.proofs.Plain.{declarator_stays, expression_statement_stays, declaration_stays}
 use Rattle.ecma_forms.proofs.Finished.{finished_node}
 
--- the kinds of plain modules of the shape: nothing is assigned to in them, and no rule asks anything of them
+-- the kinds of modules without types: nothing is assigned to in them, and no rule asks anything of them
 abbrev is_quiet : Kind → Bool
-is_quiet kind.Absent = true
-is_quiet kind.List = true
 is_quiet (kind.Module shebang) = true
 is_quiet kind.ExprStmt = true
 is_quiet (kind.VarDecl v declare) = true
 is_quiet (kind.VarDeclarator definite) = true
 is_quiet kind.BindingIdent = true
-is_quiet (kind.Ident word ctxt optional) = true
-is_quiet (kind.IdentName word) = true
-is_quiet (kind.Str value raw) = true
-is_quiet (kind.Number value raw) = true
-is_quiet (kind.Bool value) = true
-is_quiet kind.Null = true
-is_quiet kind.MemberExpr = true
-is_quiet kind.CallExpr = true
-is_quiet kind.ParenExpr = true
-is_quiet _ = false
+is_quiet k = is_still k
 
-abbrev IsQuiet : Kind → Type 0
+abbrev pub IsQuiet : Kind → Type 0
 IsQuiet k = is_quiet k ≡ true
 
 abbrev Q : Node → Type 0
@@ -57,68 +51,52 @@ Q = Everywhere IsQuiet
 abbrev Qs : List Node → Type 0
 Qs = Each IsQuiet
 
--- a plain module of the shape has such kinds alone
+-- a module without its types has such kinds alone
 
-ident_quiet : {n : Node} → IsIdent n → Q n
-ident_quiet (ident at w t) = everywhere at _ refl none
-
-key_quiet : {n : Node} → IsKey n → Q n
-key_quiet (key at w t) = everywhere at _ refl none
-
-absent_quiet : {n : Node} → IsAbsent n → Q n
-absent_quiet (absent at) = everywhere at _ refl none
+still_quiet : (k : Kind) → is_still k ≡ true → IsQuiet k
+still_quiet (kind.Module shebang) h = refl
+still_quiet kind.ExprStmt h = refl
+still_quiet (kind.VarDecl v declare) h = refl
+still_quiet (kind.VarDeclarator definite) h = refl
+still_quiet kind.BindingIdent h = refl
+still_quiet _ h = h
 
 mutual
-  head_quiet : {n : Node} → IsHead false n → Q n
-  head_quiet (name i) = ident_quiet i
-  head_quiet (member at o k) = everywhere at kind.MemberExpr refl (more (head_quiet o) (more (key_quiet k) none))
-  head_quiet (call at o es a) = everywhere at kind.CallExpr refl (more (head_quiet o) (more (arguments_quiet es) (more (absent_quiet a) none)))
-  head_quiet (parentheses at e) = everywhere at kind.ParenExpr refl (more (expression_quiet e) none)
+  quiet : {n : Node} → Still n → Q n
+  quiet (everywhere at k h below) = everywhere at k (still_quiet k h) (each_quiet below)
 
-  expression_quiet : {n : Node} → IsExpression false n → Q n
-  expression_quiet (head c) = head_quiet c
-  expression_quiet (string at value raw t) = everywhere at _ refl none
-  expression_quiet (number at raw t) = everywhere at _ refl none
-  expression_quiet (null_word at) = everywhere at kind.Null refl none
-  expression_quiet (truth_word at value) = everywhere at (kind.Bool value) refl none
-  expression_quiet (cast h at e t) = absurd (false≢true h)
+  each_quiet : {ns : List Node} → EachStill ns → Qs ns
+  each_quiet none = none
+  each_quiet (more a h) = more (quiet a) (each_quiet h)
 
-  expressions_quiet : {ns : List Node} → AreExpressions false ns → Qs ns
-  expressions_quiet no_expressions = none
-  expressions_quiet (more_expressions e es) = more (expression_quiet e) (expressions_quiet es)
+initializer_quiet : {n : Node} → IsInitializer n → Q (without_types n)
+initializer_quiet (no_initializer a) = quiet (absent_still (plain_absent a))
+initializer_quiet (initializer e) = quiet (expression_still e)
 
-  arguments_quiet : {n : Node} → IsArguments false n → Q n
-  arguments_quiet (arguments at es) = everywhere at kind.List refl (expressions_quiet es)
+declarator_quiet : {n : Node} → IsDeclarator n → Q (without_types n)
+declarator_quiet (declarator at at_binding i a e) =
+    rw (erased_node at (kind.VarDeclarator false) _, erased_node at_binding kind.BindingIdent _)
+    (everywhere at (kind.VarDeclarator false) refl (more (everywhere at_binding kind.BindingIdent refl (more (quiet (ident_still i)) (more (quiet (absent_still (plain_annotation a))) none))) (more (initializer_quiet e) none)))
 
-annotation_quiet : {n : Node} → IsAnnotation false n → Q n
-annotation_quiet (no_annotation a) = absent_quiet a
-annotation_quiet (annotation h at t) = absurd (false≢true h)
-
-binding_quiet : {n : Node} → IsBinding false n → Q n
-binding_quiet (binding at i a) = everywhere at kind.BindingIdent refl (more (ident_quiet i) (more (annotation_quiet a) none))
-
-initializer_quiet : {n : Node} → IsInitializer false n → Q n
-initializer_quiet (no_initializer a) = absent_quiet a
-initializer_quiet (initializer e) = expression_quiet e
-
-declarator_quiet : {n : Node} → IsDeclarator false n → Q n
-declarator_quiet (declarator at b i) = everywhere at (kind.VarDeclarator false) refl (more (binding_quiet b) (more (initializer_quiet i) none))
-
-declarators_quiet : {ns : List Node} → AreDeclarators false ns → Qs ns
+declarators_quiet : {ns : List Node} → AreDeclarators ns → Qs (filter stays (map without_types ns))
 declarators_quiet no_declarators = none
-declarators_quiet (more_declarators d ds) = more (declarator_quiet d) (declarators_quiet ds)
+declarators_quiet (more_declarators d ds) = rw (kept _ _ (declarator_stays d)) (more (declarator_quiet d) (declarators_quiet ds))
 
-statement_quiet : {n : Node} → IsStatement false n → Q n
-statement_quiet (expression at e) = everywhere at kind.ExprStmt refl (more (expression_quiet e) none)
-statement_quiet (declaration at of_list {kind = v} w d ds) = everywhere at (kind.VarDecl v false) refl (more (everywhere of_list kind.List refl (more (declarator_quiet d) (declarators_quiet ds))) none)
-statement_quiet (alias h at i) = absurd (false≢true h)
+expression_statement_quiet : (at : Span) {level : Level} {e : Node} → IsExpression level e → Q (without_types (node_of at kind.ExprStmt (e ∷ [])))
+expression_statement_quiet at e = rw (erased_node at kind.ExprStmt _) (everywhere at kind.ExprStmt refl (more (quiet (expression_still e)) none))
 
-statements_quiet : {ns : List Node} → AreStatements false ns → Qs ns
+declaration_quiet : (at of_list : Span) (v : VarDeclKind) {ds : List Node} → AreDeclarators ds → Q (without_types (node_of at (kind.VarDecl v false) (node_of of_list kind.List ds ∷ [])))
+declaration_quiet at of_list v hs = rw (erased_node at (kind.VarDecl v false) _, erased_node of_list kind.List _) (everywhere at (kind.VarDecl v false) refl (more (everywhere of_list kind.List refl (declarators_quiet hs)) none))
+
+statements_quiet : {ns : List Node} → AreStatements ns → Qs (filter stays (map without_types ns))
 statements_quiet no_statements = none
-statements_quiet (more_statements s ss) = more (statement_quiet s) (statements_quiet ss)
+statements_quiet (more_statements (expression at {e = x} e) ss) = rw (kept _ _ (expression_statement_stays at x)) (more (expression_statement_quiet at e) (statements_quiet ss))
+statements_quiet (more_statements (declaration at of_list {k = v} w d ds) ss) = rw (kept _ _ (declaration_stays at v _)) (more (declaration_quiet at of_list v (more_declarators d ds)) (statements_quiet ss))
+statements_quiet (more_statements (alias at declare i) ss) = rw (goes at (kind.TsTypeAliasDecl declare) _ _ refl refl) (statements_quiet ss)
+statements_quiet (more_statements (interface at declare i) ss) = rw (goes at (kind.TsInterfaceDecl declare) _ _ refl refl) (statements_quiet ss)
 
-pub module_quiet : {n : Node} → IsModule false n → Q n
-module_quiet (module_of at of_list ss) = everywhere at (kind.Module None) refl (more (everywhere of_list kind.List refl (statements_quiet ss)) none)
+pub module_quiet : {n : Node} → IsModule n → Q (without_types n)
+module_quiet (module_of at of_list ss) = rw (erased_node at (kind.Module None) _, erased_node of_list kind.List _) (everywhere at (kind.Module None) refl (more (everywhere of_list kind.List refl (statements_quiet ss)) none))
 
 -- finishing changes nothing
 
@@ -140,6 +118,12 @@ free_by kind.Null i h = refl
 free_by kind.MemberExpr i h = refl
 free_by kind.CallExpr i h = refl
 free_by kind.ParenExpr i h = refl
+free_by kind.ThisExpr i h = refl
+free_by kind.ComputedPropName i h = refl
+free_by kind.AwaitExpr i h = refl
+free_by (kind.UnaryExpr operator) i h = refl
+free_by (kind.BinExpr operator) i h = refl
+free_by kind.CondExpr i h = refl
 free_by _ i h = absurd (false≢true h)
 
 mutual
@@ -157,55 +141,105 @@ finished_same q = same q
 
 -- no rule on what stands around is broken
 
-abbrev around : Bool → Around
-around b = record { target = target.Free; standing = standing.Plain; is_last = b }
+-- a node of such a kind stands anyhow, or before a member or arguments
+abbrev is_calm : Standing → Bool
+is_calm standing.Plain = true
+is_calm standing.Linked = true
+is_calm _ = false
 
-placed_by : (b : Bool) (at : Span) (k : Kind) (cs : List Node) → IsQuiet k → is_misplaced (around b) (node_of at k cs) ≡ false
+abbrev around : Standing → Bool → Around
+around s b = record { target = target.Free; standing = s; is_last = b }
+
+placed_by : (s : Standing) (b : Bool) (at : Span) (k : Kind) (cs : List Node) → is_calm s ≡ true → IsQuiet k → is_misplaced (around s b) (node_of at k cs) ≡ false
 unfolding is_misplaced misfits_by
-placed_by b at kind.Absent cs h = rw (kind_made at kind.Absent cs) refl
-placed_by b at kind.List cs h = rw (kind_made at kind.List cs) refl
-placed_by b at (kind.Module shebang) cs h = rw (kind_made at (kind.Module shebang) cs) refl
-placed_by b at kind.ExprStmt cs h = rw (kind_made at kind.ExprStmt cs) refl
-placed_by b at (kind.VarDecl v declare) cs h = rw (kind_made at (kind.VarDecl v declare) cs) refl
-placed_by b at (kind.VarDeclarator definite) cs h = rw (kind_made at (kind.VarDeclarator definite) cs) refl
-placed_by b at kind.BindingIdent cs h = rw (kind_made at kind.BindingIdent cs) refl
-placed_by b at (kind.Ident word ctxt optional) cs h = rw (kind_made at (kind.Ident word ctxt optional) cs) refl
-placed_by b at (kind.IdentName word) cs h = rw (kind_made at (kind.IdentName word) cs) refl
-placed_by b at (kind.Str value raw) cs h = rw (kind_made at (kind.Str value raw) cs) refl
-placed_by b at (kind.Number value raw) cs h = rw (kind_made at (kind.Number value raw) cs) refl
-placed_by b at (kind.Bool value) cs h = rw (kind_made at (kind.Bool value) cs) refl
-placed_by b at kind.Null cs h = rw (kind_made at kind.Null cs) refl
-placed_by b at kind.MemberExpr cs h = rw (kind_made at kind.MemberExpr cs) refl
-placed_by b at kind.CallExpr cs h = rw (kind_made at kind.CallExpr cs) refl
-placed_by b at kind.ParenExpr cs h = rw (kind_made at kind.ParenExpr cs) refl
-placed_by b at _ cs h = absurd (false≢true h)
+placed_by standing.Plain b at kind.Absent cs calm h = rw (kind_made at kind.Absent cs) refl
+placed_by standing.Plain b at kind.List cs calm h = rw (kind_made at kind.List cs) refl
+placed_by standing.Plain b at (kind.Module shebang) cs calm h = rw (kind_made at (kind.Module shebang) cs) refl
+placed_by standing.Plain b at kind.ExprStmt cs calm h = rw (kind_made at kind.ExprStmt cs) refl
+placed_by standing.Plain b at (kind.VarDecl v declare) cs calm h = rw (kind_made at (kind.VarDecl v declare) cs) refl
+placed_by standing.Plain b at (kind.VarDeclarator definite) cs calm h = rw (kind_made at (kind.VarDeclarator definite) cs) refl
+placed_by standing.Plain b at kind.BindingIdent cs calm h = rw (kind_made at kind.BindingIdent cs) refl
+placed_by standing.Plain b at (kind.Ident word ctxt optional) cs calm h = rw (kind_made at (kind.Ident word ctxt optional) cs) refl
+placed_by standing.Plain b at (kind.IdentName word) cs calm h = rw (kind_made at (kind.IdentName word) cs) refl
+placed_by standing.Plain b at (kind.Str value raw) cs calm h = rw (kind_made at (kind.Str value raw) cs) refl
+placed_by standing.Plain b at (kind.Number value raw) cs calm h = rw (kind_made at (kind.Number value raw) cs) refl
+placed_by standing.Plain b at (kind.Bool value) cs calm h = rw (kind_made at (kind.Bool value) cs) refl
+placed_by standing.Plain b at kind.Null cs calm h = rw (kind_made at kind.Null cs) refl
+placed_by standing.Plain b at kind.MemberExpr cs calm h = rw (kind_made at kind.MemberExpr cs) refl
+placed_by standing.Plain b at kind.CallExpr cs calm h = rw (kind_made at kind.CallExpr cs) refl
+placed_by standing.Plain b at kind.ParenExpr cs calm h = rw (kind_made at kind.ParenExpr cs) refl
+placed_by standing.Plain b at kind.ThisExpr cs calm h = rw (kind_made at kind.ThisExpr cs) refl
+placed_by standing.Plain b at kind.ComputedPropName cs calm h = rw (kind_made at kind.ComputedPropName cs) refl
+placed_by standing.Plain b at kind.AwaitExpr cs calm h = rw (kind_made at kind.AwaitExpr cs) refl
+placed_by standing.Plain b at (kind.UnaryExpr operator) cs calm h = rw (kind_made at (kind.UnaryExpr operator) cs) refl
+placed_by standing.Plain b at (kind.BinExpr operator) cs calm h = rw (kind_made at (kind.BinExpr operator) cs) refl
+placed_by standing.Plain b at kind.CondExpr cs calm h = rw (kind_made at kind.CondExpr cs) refl
+placed_by standing.Plain b at _ cs calm h = absurd (false≢true h)
+placed_by standing.Linked b at kind.Absent cs calm h = rw (kind_made at kind.Absent cs) refl
+placed_by standing.Linked b at kind.List cs calm h = rw (kind_made at kind.List cs) refl
+placed_by standing.Linked b at (kind.Module shebang) cs calm h = rw (kind_made at (kind.Module shebang) cs) refl
+placed_by standing.Linked b at kind.ExprStmt cs calm h = rw (kind_made at kind.ExprStmt cs) refl
+placed_by standing.Linked b at (kind.VarDecl v declare) cs calm h = rw (kind_made at (kind.VarDecl v declare) cs) refl
+placed_by standing.Linked b at (kind.VarDeclarator definite) cs calm h = rw (kind_made at (kind.VarDeclarator definite) cs) refl
+placed_by standing.Linked b at kind.BindingIdent cs calm h = rw (kind_made at kind.BindingIdent cs) refl
+placed_by standing.Linked b at (kind.Ident word ctxt optional) cs calm h = rw (kind_made at (kind.Ident word ctxt optional) cs) refl
+placed_by standing.Linked b at (kind.IdentName word) cs calm h = rw (kind_made at (kind.IdentName word) cs) refl
+placed_by standing.Linked b at (kind.Str value raw) cs calm h = rw (kind_made at (kind.Str value raw) cs) refl
+placed_by standing.Linked b at (kind.Number value raw) cs calm h = rw (kind_made at (kind.Number value raw) cs) refl
+placed_by standing.Linked b at (kind.Bool value) cs calm h = rw (kind_made at (kind.Bool value) cs) refl
+placed_by standing.Linked b at kind.Null cs calm h = rw (kind_made at kind.Null cs) refl
+placed_by standing.Linked b at kind.MemberExpr cs calm h = rw (kind_made at kind.MemberExpr cs) refl
+placed_by standing.Linked b at kind.CallExpr cs calm h = rw (kind_made at kind.CallExpr cs) refl
+placed_by standing.Linked b at kind.ParenExpr cs calm h = rw (kind_made at kind.ParenExpr cs) refl
+placed_by standing.Linked b at kind.ThisExpr cs calm h = rw (kind_made at kind.ThisExpr cs) refl
+placed_by standing.Linked b at kind.ComputedPropName cs calm h = rw (kind_made at kind.ComputedPropName cs) refl
+placed_by standing.Linked b at kind.AwaitExpr cs calm h = rw (kind_made at kind.AwaitExpr cs) refl
+placed_by standing.Linked b at (kind.UnaryExpr operator) cs calm h = rw (kind_made at (kind.UnaryExpr operator) cs) refl
+placed_by standing.Linked b at (kind.BinExpr operator) cs calm h = rw (kind_made at (kind.BinExpr operator) cs) refl
+placed_by standing.Linked b at kind.CondExpr cs calm h = rw (kind_made at kind.CondExpr cs) refl
+placed_by standing.Linked b at _ cs calm h = absurd (false≢true h)
+placed_by _ b at k cs calm h = absurd (false≢true calm)
 
-standing_free : (k : Kind) (first second : Bool) (i : ℕ) → IsQuiet k → standing_by standing.Plain k first second i ≡ standing.Plain
+called_calm : (b : Bool) → is_calm (cond b standing.Linked standing.Plain) ≡ true
+called_calm true = refl
+called_calm false = refl
+
+standing_calm : (s : Standing) (k : Kind) (first second : Bool) (i : ℕ) → is_calm s ≡ true → IsQuiet k → is_calm (standing_by s k first second i) ≡ true
 unfolding standing_by
-standing_free kind.Absent first second i h = refl
-standing_free kind.List first second i h = refl
-standing_free (kind.Module shebang) first second i h = refl
-standing_free kind.ExprStmt first second i h = refl
-standing_free (kind.VarDecl v declare) first second i h = refl
-standing_free (kind.VarDeclarator definite) first second i h = refl
-standing_free kind.BindingIdent first second i h = refl
-standing_free (kind.Ident word ctxt optional) first second i h = refl
-standing_free (kind.IdentName word) first second i h = refl
-standing_free (kind.Str value raw) first second i h = refl
-standing_free (kind.Number value raw) first second i h = refl
-standing_free (kind.Bool value) first second i h = refl
-standing_free kind.Null first second i h = refl
-standing_free kind.MemberExpr first second i h = refl
-standing_free kind.CallExpr first second i h = refl
-standing_free kind.ParenExpr first second i h = refl
-standing_free _ first second i h = absurd (false≢true h)
+standing_calm s kind.Absent first second i calm h = refl
+standing_calm s kind.List first second i calm h = calm
+standing_calm s (kind.Module shebang) first second i calm h = refl
+standing_calm s kind.ExprStmt first second i calm h = refl
+standing_calm s (kind.VarDecl v declare) first second i calm h = refl
+standing_calm s (kind.VarDeclarator definite) first second i calm h = refl
+standing_calm s kind.BindingIdent first second i calm h = refl
+standing_calm s (kind.Ident word ctxt optional) first second i calm h = refl
+standing_calm s (kind.IdentName word) first second i calm h = refl
+standing_calm s (kind.Str value raw) first second i calm h = refl
+standing_calm s (kind.Number value raw) first second i calm h = refl
+standing_calm s (kind.Bool value) first second i calm h = refl
+standing_calm s kind.Null first second i calm h = refl
+standing_calm s kind.MemberExpr first second i calm h = refl
+standing_calm s kind.CallExpr first second i calm h = called_calm _
+standing_calm s kind.ParenExpr first second i calm h = refl
+standing_calm s kind.ThisExpr first second i calm h = refl
+standing_calm s kind.ComputedPropName first second i calm h = refl
+standing_calm s kind.AwaitExpr first second i calm h = refl
+standing_calm s (kind.UnaryExpr operator) first second i calm h = refl
+standing_calm s (kind.BinExpr operator) first second i calm h = refl
+standing_calm s kind.CondExpr first second i calm h = refl
+standing_calm s _ first second i calm h = absurd (false≢true h)
 
-around_same : (b : Bool) (at : Span) (k : Kind) (cs : List Node) (i : ℕ) → IsQuiet k → around_in (around b) (node_of at k cs) i ≡ around (last_in b (node_of at k cs) i)
-around_same b at k cs i q =
+around_same : (s : Standing) (b : Bool) (at : Span) (k : Kind) (cs : List Node) (i : ℕ) → IsQuiet k → around_in (around s b) (node_of at k cs) i ≡ around (standing_in s (node_of at k cs) i) (last_in b (node_of at k cs) i)
+around_same s b at k cs i q =
     let n = node_of at k cs in
     let t : target_in target.Free (kind_of n) i ≡ target.Free = ap (λ l. target_in target.Free l i) (kind_made at k cs) ∙ free_by k i q in
-    let s : standing_in standing.Plain n i ≡ standing.Plain = ap (λ l. standing_by standing.Plain l (has_child n 1) (has_child n 2) i) (kind_made at k cs) ∙ standing_free k (has_child n 1) (has_child n 2) i q in
-    ap₂ (λ t s. record { target = t; standing = s; is_last = last_in b n i }) t s
+    ap (λ t. record { target = t; standing = standing_in s n i; is_last = last_in b n i }) t
+
+all_calm : (s : Standing) (at : Span) (k : Kind) (cs : List Node) (i : ℕ) → is_calm s ≡ true → IsQuiet k → is_calm (standing_in s (node_of at k cs) i) ≡ true
+all_calm s at k cs i calm q =
+    let n = node_of at k cs in
+    ap (λ l. is_calm (standing_by s l (has_child n 1) (has_child n 2) i)) (kind_made at k cs) ∙ standing_calm s k (has_child n 1) (has_child n 2) i calm q
 
 no_place : (b : Bool) (n : Node) → b ≡ false → failing_here b n ≡ None
 no_place true n h = cc
@@ -228,21 +262,28 @@ no_second_by n kind.Null h = refl
 no_second_by n kind.MemberExpr h = refl
 no_second_by n kind.CallExpr h = refl
 no_second_by n kind.ParenExpr h = refl
+no_second_by n kind.ThisExpr h = refl
+no_second_by n kind.ComputedPropName h = refl
+no_second_by n kind.AwaitExpr h = refl
+no_second_by n (kind.UnaryExpr operator) h = refl
+no_second_by n (kind.BinExpr operator) h = refl
+no_second_by n kind.CondExpr h = refl
 no_second_by n _ h = absurd (false≢true h)
 
 no_second : (at : Span) (k : Kind) (cs : List Node) → IsQuiet k → second_constructor (node_of at k cs) ≡ None
 no_second at k cs q = ap (λ l. second_by l (node_of at k cs)) (kind_made at k cs) ∙ no_second_by (node_of at k cs) k q
 
 mutual
-  placed : {n : Node} → Q n → (b : Bool) → first_misplaced n (around b) ≡ None
-  placed (everywhere at k {children = cs} q h) b =
+  placed : {n : Node} → Q n → (s : Standing) (b : Bool) → is_calm s ≡ true → first_misplaced n (around s b) ≡ None
+  placed (everywhere at k {children = cs} q h) s b calm =
       let n = node_of at k cs in
-      ap (λ f. f (around b)) (from_leaves-roll (Around → Option ℕ) (failing_step Around misplaced_here around_in) (record { span = at; kind = k; children = cs }))
-      ∙ ap₂ least (ap₂ least (no_place (is_misplaced (around b) n) n (placed_by b at k cs q)) (no_second at k cs q)) (all_placed h 0 (around_in (around b) n) (λ i. last_in b n i) (λ i. around_same b at k cs i q))
+      ap (λ f. f (around s b)) (from_leaves-roll (Around → Option ℕ) (failing_step Around misplaced_here around_in) (record { span = at; kind = k; children = cs }))
+      ∙ ap₂ least (ap₂ least (no_place (is_misplaced (around s b) n) n (placed_by s b at k cs calm q)) (no_second at k cs q))
+      (all_placed h 0 (around_in (around s b) n) (λ i. standing_in s n i) (λ i. last_in b n i) (λ i. around_same s b at k cs i q) (λ i. all_calm s at k cs i calm q))
 
-  all_placed : {ns : List Node} → Qs ns → (i : ℕ) (f : ℕ → Around) (g : ℕ → Bool) → ((i : ℕ) → f i ≡ around (g i)) → least_from Around f i (map first_misplaced ns) ≡ None
-  all_placed none i f g e = refl
-  all_placed (more {n = n} {ns = ns} a h) i f g e = ap₂ least (ap (first_misplaced n) (e i) ∙ placed a (g i)) (all_placed h (suc i) f g e)
+  all_placed : {ns : List Node} → Qs ns → (i : ℕ) (f : ℕ → Around) (st : ℕ → Standing) (g : ℕ → Bool) → ((i : ℕ) → f i ≡ around (st i) (g i)) → ((i : ℕ) → is_calm (st i) ≡ true) → least_from Around f i (map first_misplaced ns) ≡ None
+  all_placed none i f st g e calm = refl
+  all_placed (more {n = n} {ns = ns} a h) i f st g e calm = ap₂ least (ap (first_misplaced n) (e i) ∙ placed a (st i) (g i) (calm i)) (all_placed h (suc i) f st g e calm)
 
 -- and nothing strays
 
@@ -267,6 +308,12 @@ no_stray_by kind.Null label h = refl
 no_stray_by kind.MemberExpr label h = refl
 no_stray_by kind.CallExpr label h = refl
 no_stray_by kind.ParenExpr label h = refl
+no_stray_by kind.ThisExpr label h = refl
+no_stray_by kind.ComputedPropName label h = refl
+no_stray_by kind.AwaitExpr label h = refl
+no_stray_by (kind.UnaryExpr operator) label h = refl
+no_stray_by (kind.BinExpr operator) label h = refl
+no_stray_by kind.CondExpr label h = refl
 no_stray_by _ label h = absurd (false≢true h)
 
 either_way : {A : Type 0} (b : Bool) (x : A) → cond b x x ≡ x
@@ -291,6 +338,12 @@ strays_same kind.Null i h = refl
 strays_same kind.MemberExpr i h = refl
 strays_same kind.CallExpr i h = refl
 strays_same kind.ParenExpr i h = refl
+strays_same kind.ThisExpr i h = refl
+strays_same kind.ComputedPropName i h = refl
+strays_same kind.AwaitExpr i h = refl
+strays_same (kind.UnaryExpr operator) i h = refl
+strays_same (kind.BinExpr operator) i h = refl
+strays_same kind.CondExpr i h = refl
 strays_same _ i h = absurd (false≢true h)
 
 own_none : (k : Kind) (label : Option (List ℕ)) → IsQuiet k → own_label k label ≡ None
@@ -310,6 +363,12 @@ own_none kind.Null label h = refl
 own_none kind.MemberExpr label h = refl
 own_none kind.CallExpr label h = refl
 own_none kind.ParenExpr label h = refl
+own_none kind.ThisExpr label h = refl
+own_none kind.ComputedPropName label h = refl
+own_none kind.AwaitExpr label h = refl
+own_none (kind.UnaryExpr operator) label h = refl
+own_none (kind.BinExpr operator) label h = refl
+own_none kind.CondExpr label h = refl
 own_none _ label h = absurd (false≢true h)
 
 held_same : (at : Span) (k : Kind) (cs : List Node) (i : ℕ) → IsQuiet k → held_in free (node_of at k cs) i ≡ free
@@ -331,4 +390,4 @@ mutual
   all_kept_in (more {n = n} {ns = ns} a h) i f e = ap₂ least (ap (first_held_stray n) (e i) ∙ kept_in a) (all_kept_in h (suc i) f e)
 
 pub keeps_rules : {n : Node} → Q n → first_broken n ≡ None
-keeps_rules q = ap₂ least (placed q true) (kept_in q)
+keeps_rules q = ap₂ least (placed q standing.Plain true refl) (kept_in q)

@@ -1,20 +1,26 @@
 -- The names that a module declares: they stay where types go, and do not depend on spans.
 use Rattle.std.proofs.Common.{◌≡◌, ℕ, List, [], ◌∷◌, ◌++◌, refl, ap, sym, ◌∙◌, Bool, true, false, cond, map, filter, Some, None}
+use Rattle.std.proofs.lemmas.Bool.{false≢true}
 use Rattle.std.proofs.lemmas.List.{map-append}
 use Rattle.std.specs.List.{list_any}
 use Rattle.std.specs.Str.{bytes_eq}
 use Rattle.ecma_kind.specs.declared.span.Span.{Span}
 use Rattle.ecma_kind.specs.declared.kind.Kind.{Kind}
 use Rattle.ecma_kind.specs.declared.operators.VarDeclKind.{VarDeclKind}
-use Rattle.ecma_kind.specs.declared.kind.Kind.TheVariants.{Absent, List as ListKind, Module, ExprStmt, VarDecl, VarDeclarator, BindingIdent, Ident, IdentName, Bool as BoolKind, Null, MemberExpr, CallExpr, ParenExpr, TsAsExpr, TsType, TsTypeAliasDecl}
+use Rattle.ecma_kind.specs.declared.kind.Kind.TheVariants as kind
+use Rattle.ecma_kind.specs.declared.kind.Kind.TheVariants.{BindingIdent, Ident}
 use Rattle.ecma_tree.specs.declared.node.Node.{Node, Node-F, fold-Node, fold_out-Node, fold-roll-Node, roll-Node, ind-Node}
 use Rattle.ecma_tree.specs.declared.node.Node.TheViews.{out-roll-Node}
 use Rattle.ecma_tree.specs.Nodes.{node_of}
 use Rattle.ecma_forms.specs.Repeated.{Declared, Names, all_declared, names_by, names_step, declared_names, repeated_behind, first_repeated}
 use Rattle.ecma_tree.specs.Spans.{without_spans, unplaced}
-use Rattle.ecma_strip.specs.Erasure.{without_types, stays}
-use Rattle.ecma_forms.specs.Shapes.{IsIdent, ident, IsKey, key, IsAbsent, absent, IsType, type, IsHead, name, member, call, parentheses, IsExpression, head, string, number, null_word, truth_word, cast, AreExpressions, no_expressions, more_expressions, IsArguments, arguments, IsAnnotation, no_annotation, annotation, IsBinding, binding, IsInitializer, no_initializer, initializer, IsDeclarator, declarator, AreDeclarators, no_declarators, more_declarators, IsStatement, expression, declaration, alias, AreStatements, no_statements, more_statements, IsModule, module_of}
-use Rattle.ecma_forms.proofs.Erased.{erased_node, kept, alias_goes, plain_expression, plain_initializer, plain_declarator, declarator_stays, statement_stays, plain_declaration, plain_expression_statement}
+use Rattle.ecma_runs.specs.Erasure.{without_types, stays}
+use Rattle.ecma_spelling.specs.Everywhere.{Everywhere, everywhere, Each, none, more}
+use Rattle.ecma_reread.specs.Shapes.{IsIdent, ident, IsKey, key, IsAbsent, absent, Level}
+use Rattle.ecma_forms.specs.Shapes.{IsType, type, IsInstantiation, instantiation, IsTyped, cast, assertion, satisfaction, instantiated, const_assertion, certain, AreTypeArguments, no_type_arguments, type_arguments, IsExpression, looser, name, string, number, this_word, null_word, truth_word, member, element, call, parenthesized, await_expression, unary_expression, binary_expression, exponentiation, both, either, conditional_expression, typed, AreExpressions, no_expressions, more_expressions, IsInitializer, no_initializer, initializer, IsDeclarator, declarator, AreDeclarators, no_declarators, more_declarators, expression, declaration, alias, interface, AreStatements, no_statements, more_statements, IsModule, module_of}
+use Rattle.ecma_forms.proofs.Erased.{erased_node, kept, goes}
+use Rattle.ecma_forms.proofs.Still.{is_still, Still, EachStill, expression_still}
+use Rattle.ecma_forms.proofs.Plain.{declarator_stays, expression_statement_stays, declaration_stays}
 
 abbrev names : Node → Names
 names = fold-Node Names names_step
@@ -26,105 +32,162 @@ names_node at kind children =
 declared_node : (at : Span) (kind : Kind) (children : List Node) → declared_names (node_of at kind children) ≡ (names_by kind at.lo (map names children)).declared
 declared_node at kind children = ap (λ m. m.declared) (names_node at kind children)
 
--- expressions and types declare nothing
+-- a tree without bindings declares nothing
 
-ident_silent : {n : Node} → IsIdent n → declared_names n ≡ []
-ident_silent (ident at w t) = declared_node at (Ident w 0 false) []
+abbrev is_free : Kind → Bool
+is_free kind.BindingIdent = false
+is_free _ = true
 
-key_silent : {n : Node} → IsKey n → declared_names n ≡ []
-key_silent (key at w t) = declared_node at (IdentName w) []
+abbrev Free : Node → Type 0
+Free = Everywhere (λ k. is_free k ≡ true)
 
-absent_silent : {n : Node} → IsAbsent n → declared_names n ≡ []
-absent_silent (absent at) = declared_node at Absent []
+abbrev EachFree : List Node → Type 0
+EachFree = Each (λ k. is_free k ≡ true)
 
-type_silent : {n : Node} → IsType n → declared_names n ≡ []
-type_silent (type at) = declared_node at TsType []
+free_by : (k : Kind) (at : ℕ) (ns : List Names) → is_free k ≡ true → all_declared ns ≡ [] → (names_by k at ns).declared ≡ []
+free_by (kind.Ident sym ctxt optional) at ns h e = refl
+free_by kind.BindingIdent at ns h e = absurd (false≢true h)
+free_by _ at ns h e = e
 
 same_append : {a b c d : List Declared} → a ≡ b → c ≡ d → a ++ c ≡ b ++ d
 same_append {a} {b} {c} {d} e f = ap (λ l. l ++ c) e ∙ ap (λ l. b ++ l) f
 
-one_silent : {a : List Declared} → a ≡ [] → a ++ [] ≡ []
-one_silent e = same_append e refl
+mutual
+  free_silent : {n : Node} → Free n → declared_names n ≡ []
+  free_silent (everywhere at k {children = cs} h below) = declared_node at k cs ∙ free_by k at.lo (map names cs) h (each_silent below)
 
-two_silent : {a b : List Declared} → a ≡ [] → b ≡ [] → a ++ (b ++ []) ≡ []
-two_silent e f = same_append e (one_silent f)
+  each_silent : {ns : List Node} → EachFree ns → all_declared (map names ns) ≡ []
+  each_silent none = refl
+  each_silent (more a h) = same_append (free_silent a) (each_silent h)
 
-module _ (ts : Bool) where
-  mutual
-    head_silent : {n : Node} → IsHead ts n → declared_names n ≡ []
-    head_silent (name i) = ident_silent i
-    head_silent (member at o k) = declared_node at MemberExpr _ ∙ two_silent (head_silent o) (key_silent k)
-    head_silent (call at o es a) = declared_node at CallExpr _ ∙ same_append (head_silent o) (two_silent (arguments_silent es) (absent_silent a))
-    head_silent (parentheses at e) = declared_node at ParenExpr _ ∙ one_silent (expression_silent e)
+still_free : (k : Kind) → is_still k ≡ true → is_free k ≡ true
+still_free kind.BindingIdent h = absurd (false≢true h)
+still_free _ h = refl
 
-    expression_silent : {n : Node} → IsExpression ts n → declared_names n ≡ []
-    expression_silent (head c) = head_silent c
-    expression_silent (string at value raw t) = declared_node at _ []
-    expression_silent (number at raw t) = declared_node at _ []
-    expression_silent (null_word at) = declared_node at Null []
-    expression_silent (truth_word at value) = declared_node at (BoolKind value) []
-    expression_silent (cast h at e t) = declared_node at TsAsExpr _ ∙ two_silent (expression_silent e) (type_silent t)
+mutual
+  freed : {n : Node} → Still n → Free n
+  freed (everywhere at k h below) = everywhere at k (still_free k h) (each_freed below)
 
-    expressions_silent : {ns : List Node} → AreExpressions ts ns → all_declared (map names ns) ≡ []
-    expressions_silent no_expressions = refl
-    expressions_silent (more_expressions e es) = same_append (expression_silent e) (expressions_silent es)
+  each_freed : {ns : List Node} → EachStill ns → EachFree ns
+  each_freed none = none
+  each_freed (more a h) = more (freed a) (each_freed h)
 
-    arguments_silent : {n : Node} → IsArguments ts n → declared_names n ≡ []
-    arguments_silent (arguments at es) = declared_node at ListKind _ ∙ expressions_silent es
+-- so do expressions, with their types
 
-  initializer_silent : {n : Node} → IsInitializer ts n → declared_names n ≡ []
-  initializer_silent (no_initializer a) = absent_silent a
-  initializer_silent (initializer e) = expression_silent e
+leaf_free : (at : Span) (k : Kind) → is_free k ≡ true → Free (node_of at k [])
+leaf_free at k h = everywhere at k h none
+
+ident_free : {n : Node} → IsIdent n → Free n
+ident_free (ident at w t) = leaf_free at _ refl
+
+key_free : {n : Node} → IsKey n → Free n
+key_free (key at w t) = leaf_free at _ refl
+
+absent_free : {n : Node} → IsAbsent n → Free n
+absent_free (absent at) = leaf_free at kind.Absent refl
+
+type_free : {n : Node} → IsType n → Free n
+type_free (type at) = leaf_free at kind.TsType refl
+
+instantiation_free : {n : Node} → IsInstantiation n → Free n
+instantiation_free (instantiation at) = leaf_free at kind.TsTypeParamInstantiation refl
+
+type_arguments_free : {n : Node} → AreTypeArguments n → Free n
+type_arguments_free (no_type_arguments a) = absent_free a
+type_arguments_free (type_arguments i) = instantiation_free i
+
+typed_free : (at : Span) {k : Kind} (e : Node) {types : List Node} → Free e → IsTyped k types → Free (node_of at k (e ∷ types))
+typed_free at e h (cast t) = everywhere at kind.TsAsExpr refl (more h (more (type_free t) none))
+typed_free at e h (assertion t) = everywhere at kind.TsTypeAssertion refl (more h (more (type_free t) none))
+typed_free at e h (satisfaction t) = everywhere at kind.TsSatisfiesExpr refl (more h (more (type_free t) none))
+typed_free at e h (instantiated t) = everywhere at kind.TsInstantiation refl (more h (more (instantiation_free t) none))
+typed_free at e h const_assertion = everywhere at kind.TsConstAssertion refl (more h none)
+typed_free at e h certain = everywhere at kind.TsNonNullExpr refl (more h none)
+
+mutual
+  expression_free : {level : Level} {n : Node} → IsExpression level n → Free n
+  expression_free (looser e) = expression_free e
+  expression_free (name i) = ident_free i
+  expression_free (string at raw t) = leaf_free at _ refl
+  expression_free (number at raw t) = leaf_free at _ refl
+  expression_free (this_word at) = leaf_free at kind.ThisExpr refl
+  expression_free (null_word at) = leaf_free at kind.Null refl
+  expression_free (truth_word at value) = leaf_free at (kind.Bool value) refl
+  expression_free (member at o k) = everywhere at kind.MemberExpr refl (more (expression_free o) (more (key_free k) none))
+  expression_free (element at of_key o e) = everywhere at kind.MemberExpr refl (more (expression_free o) (more (everywhere of_key kind.ComputedPropName refl (more (expression_free e) none)) none))
+  expression_free (call at of_list f es types) = everywhere at kind.CallExpr refl (more (expression_free f) (more (everywhere of_list kind.List refl (expressions_free es)) (more (type_arguments_free types) none)))
+  expression_free (parenthesized at e) = everywhere at kind.ParenExpr refl (more (expression_free e) none)
+  expression_free (await_expression at e) = everywhere at kind.AwaitExpr refl (more (expression_free e) none)
+  expression_free (unary_expression at operator e) = everywhere at (kind.UnaryExpr operator) refl (more (expression_free e) none)
+  expression_free (binary_expression at {operator = operator} o a b) = everywhere at (kind.BinExpr operator) refl (more (expression_free a) (more (expression_free b) none))
+  expression_free (exponentiation at a b) = everywhere at _ refl (more (expression_free a) (more (expression_free b) none))
+  expression_free (both at a b) = everywhere at _ refl (more (expression_free a) (more (expression_free b) none))
+  expression_free (either at a b) = everywhere at _ refl (more (expression_free a) (more (expression_free b) none))
+  expression_free (conditional_expression at a b c) = everywhere at kind.CondExpr refl (more (expression_free a) (more (expression_free b) (more (expression_free c) none)))
+  expression_free (typed at {e = x} e t) = typed_free at x (expression_free e) t
+
+  expressions_free : {ns : List Node} → AreExpressions ns → EachFree ns
+  expressions_free no_expressions = none
+  expressions_free (more_expressions e es) = more (expression_free e) (expressions_free es)
+
+-- an expression declares as much without its types
+expression_silent : {level : Level} {n : Node} → IsExpression level n → declared_names (without_types n) ≡ declared_names n
+expression_silent e = free_silent (freed (expression_still e)) ∙ sym (free_silent (expression_free e))
 
 -- what is declared stays
 
-binding_declares : {n : Node} → IsBinding true n → declared_names (without_types n) ≡ declared_names n
-binding_declares (binding at (ident at' w t) a) =
-    ap declared_names (erased_node at BindingIdent _) ∙ declared_node at BindingIdent _
-    ∙ ap (λ m. (names m).itself) (erased_node at' (Ident w 0 false) []) ∙ sym (declared_node at BindingIdent _)
+initializer_silent : {n : Node} → IsInitializer n → declared_names (without_types n) ≡ declared_names n
+initializer_silent (no_initializer (absent at)) = ap declared_names (erased_node at kind.Absent [])
+initializer_silent (initializer e) = expression_silent e
 
-declarator_declares : {n : Node} → IsDeclarator true n → declared_names (without_types n) ≡ declared_names n
-declarator_declares (declarator at b i) =
-    ap declared_names (erased_node at (VarDeclarator false) _) ∙ declared_node at (VarDeclarator false) _
-    ∙ same_append (binding_declares b) (one_silent (initializer_silent false (plain_initializer i)) ∙ sym (one_silent (initializer_silent true i)))
-    ∙ sym (declared_node at (VarDeclarator false) _)
+binding_declares : (at : Span) {id : Node} (given : Node) → IsIdent id → declared_names (without_types (node_of at kind.BindingIdent (id ∷ given ∷ []))) ≡ declared_names (node_of at kind.BindingIdent (id ∷ given ∷ []))
+binding_declares at given (ident at' w t) =
+    ap declared_names (erased_node at kind.BindingIdent _) ∙ declared_node at kind.BindingIdent _
+    ∙ ap (λ m. (names m).itself) (erased_node at' (kind.Ident w 0 false) []) ∙ sym (declared_node at kind.BindingIdent _)
+
+declarator_declares : {n : Node} → IsDeclarator n → declared_names (without_types n) ≡ declared_names n
+declarator_declares (declarator at at_binding {type = given} i a e) =
+    ap declared_names (erased_node at (kind.VarDeclarator false) _) ∙ declared_node at (kind.VarDeclarator false) _
+    ∙ same_append (binding_declares at_binding given i) (same_append (initializer_silent e) refl)
+    ∙ sym (declared_node at (kind.VarDeclarator false) _)
 
 kept_declares : (n : Node) (ns : List Node) → stays n ≡ true → all_declared (map names (filter stays (n ∷ ns))) ≡ declared_names n ++ all_declared (map names (filter stays ns))
 kept_declares n ns h = ap (λ l. all_declared (map names l)) (kept n ns h)
 
-declarators_declare : {ns : List Node} → AreDeclarators true ns → all_declared (map names (filter stays (map without_types ns))) ≡ all_declared (map names ns)
+declarators_declare : {ns : List Node} → AreDeclarators ns → all_declared (map names (filter stays (map without_types ns))) ≡ all_declared (map names ns)
 declarators_declare no_declarators = refl
-declarators_declare (more_declarators d ds) = kept_declares _ _ (declarator_stays (plain_declarator d)) ∙ same_append (declarator_declares d) (declarators_declare ds)
+declarators_declare (more_declarators d ds) = kept_declares _ _ (declarator_stays d) ∙ same_append (declarator_declares d) (declarators_declare ds)
 
-declaration_declares : (at of_list : Span) (kind : VarDeclKind) {d : Node} {ds : List Node} → IsDeclarator true d → AreDeclarators true ds → declared_names (without_types (node_of at (VarDecl kind false) (node_of of_list ListKind (d ∷ ds) ∷ []))) ≡ declared_names (node_of at (VarDecl kind false) (node_of of_list ListKind (d ∷ ds) ∷ []))
-declaration_declares at of_list kind {d} {ds} h hs =
-    ap declared_names (erased_node at (VarDecl kind false) (node_of of_list ListKind (d ∷ ds) ∷ [])) ∙ declared_node at (VarDecl kind false) _
-    ∙ same_append (ap declared_names (erased_node of_list ListKind (d ∷ ds)) ∙ declared_node of_list ListKind _ ∙ declarators_declare (more_declarators h hs) ∙ sym (declared_node of_list ListKind (d ∷ ds))) refl
-    ∙ sym (declared_node at (VarDecl kind false) (node_of of_list ListKind (d ∷ ds) ∷ []))
+declaration_declares : (at of_list : Span) (v : VarDeclKind) {ds : List Node} → AreDeclarators ds
+    → declared_names (without_types (node_of at (kind.VarDecl v false) (node_of of_list kind.List ds ∷ []))) ≡ declared_names (node_of at (kind.VarDecl v false) (node_of of_list kind.List ds ∷ []))
+declaration_declares at of_list v {ds} hs =
+    ap declared_names (erased_node at (kind.VarDecl v false) (node_of of_list kind.List ds ∷ [])) ∙ declared_node at (kind.VarDecl v false) _
+    ∙ same_append (ap declared_names (erased_node of_list kind.List ds) ∙ declared_node of_list kind.List _ ∙ declarators_declare hs ∙ sym (declared_node of_list kind.List ds)) refl
+    ∙ sym (declared_node at (kind.VarDecl v false) (node_of of_list kind.List ds ∷ []))
 
-statement_silent : (at : Span) {e : Node} → IsExpression true e → declared_names (without_types (node_of at ExprStmt (e ∷ []))) ≡ declared_names (node_of at ExprStmt (e ∷ []))
-statement_silent at {e} h =
-    ap declared_names (erased_node at ExprStmt (e ∷ [])) ∙ declared_node at ExprStmt _ ∙ one_silent (expression_silent false (plain_expression h))
-    ∙ sym (declared_node at ExprStmt (e ∷ []) ∙ one_silent (expression_silent true h))
+statement_silent : (at : Span) {level : Level} {e : Node} → IsExpression level e → declared_names (without_types (node_of at kind.ExprStmt (e ∷ []))) ≡ declared_names (node_of at kind.ExprStmt (e ∷ []))
+statement_silent at {e = e} h = ap declared_names (erased_node at kind.ExprStmt (e ∷ [])) ∙ declared_node at kind.ExprStmt _ ∙ same_append (expression_silent h) refl ∙ sym (declared_node at kind.ExprStmt (e ∷ []))
 
-alias_silent : (at : Span) {id : Node} → IsIdent id → declared_names (node_of at (TsTypeAliasDecl false) (id ∷ [])) ≡ []
-alias_silent at {id} i = declared_node at (TsTypeAliasDecl false) (id ∷ []) ∙ one_silent (ident_silent i)
+gone_silent : (at : Span) (k : Kind) {id : Node} → is_free k ≡ true → IsIdent id → declared_names (node_of at k (id ∷ [])) ≡ []
+gone_silent at k h i = free_silent (everywhere at k h (more (ident_free i) none))
 
-statements_declare : {ns : List Node} → AreStatements true ns → all_declared (map names (filter stays (map without_types ns))) ≡ all_declared (map names ns)
+statements_declare : {ns : List Node} → AreStatements ns → all_declared (map names (filter stays (map without_types ns))) ≡ all_declared (map names ns)
 statements_declare no_statements = refl
-statements_declare (more_statements (expression at e) ss) =
-    kept_declares _ _ (statement_stays (plain_expression_statement at e)) ∙ same_append (statement_silent at e) (statements_declare ss)
-statements_declare (more_statements (declaration at of_list w d ds) ss) =
-    kept_declares _ _ (statement_stays (plain_declaration at of_list w d ds)) ∙ same_append (declaration_declares at of_list _ d ds) (statements_declare ss)
-statements_declare (more_statements (alias h at i) ss) =
-    ap (λ l. all_declared (map names l)) (alias_goes at _ _) ∙ statements_declare ss ∙ same_append (sym (alias_silent at i)) refl
+statements_declare (more_statements (expression at {e = x} e) ss) =
+    kept_declares _ _ (expression_statement_stays at x) ∙ same_append (statement_silent at e) (statements_declare ss)
+statements_declare (more_statements (declaration at of_list {k = v} w d ds) ss) =
+    kept_declares _ _ (declaration_stays at v _) ∙ same_append (declaration_declares at of_list v (more_declarators d ds)) (statements_declare ss)
+statements_declare (more_statements (alias at declare i) ss) =
+    ap (λ l. all_declared (map names l)) (goes at (kind.TsTypeAliasDecl declare) _ _ refl refl) ∙ statements_declare ss ∙ same_append (sym (gone_silent at (kind.TsTypeAliasDecl declare) refl i)) refl
+statements_declare (more_statements (interface at declare i) ss) =
+    ap (λ l. all_declared (map names l)) (goes at (kind.TsInterfaceDecl declare) _ _ refl refl) ∙ statements_declare ss ∙ same_append (sym (gone_silent at (kind.TsInterfaceDecl declare) refl i)) refl
 
 -- a module without its types declares the same names
-pub module_declares : {tree : Node} → IsModule true tree → declared_names (without_types tree) ≡ declared_names tree
+pub module_declares : {tree : Node} → IsModule tree → declared_names (without_types tree) ≡ declared_names tree
 module_declares (module_of at of_list {body = body} ss) =
-    ap declared_names (erased_node at (Module None) (node_of of_list ListKind body ∷ [])) ∙ declared_node at (Module None) _
-    ∙ same_append (ap declared_names (erased_node of_list ListKind body) ∙ declared_node of_list ListKind _ ∙ statements_declare ss ∙ sym (declared_node of_list ListKind body)) refl
-    ∙ sym (declared_node at (Module None) (node_of of_list ListKind body ∷ []))
+    ap declared_names (erased_node at (kind.Module None) (node_of of_list kind.List body ∷ [])) ∙ declared_node at (kind.Module None) _
+    ∙ same_append (ap declared_names (erased_node of_list kind.List body) ∙ declared_node of_list kind.List _ ∙ statements_declare ss ∙ sym (declared_node of_list kind.List body)) refl
+    ∙ sym (declared_node at (kind.Module None) (node_of of_list kind.List body ∷ []))
 
 -- names, with no places
 
@@ -157,14 +220,14 @@ by_alike kind i j ps = record { itself = refl; declared = all_alike ps }
 abbrev Kept : Node → Type 0
 Kept n = Alike (names n) (names (without_spans n))
 
-abbrev both : List ((n : Node) × Kept n) → List Both
-both ns = map (λ e. (names e.0, names (without_spans e.0), e.1)) ns
+abbrev paired : List ((n : Node) × Kept n) → List Both
+paired ns = map (λ e. (names e.0, names (without_spans e.0), e.1)) ns
 
-left_both : (ns : List ((n : Node) × Kept n)) → left (both ns) ≡ map names (map (λ e. e.0) ns)
+left_both : (ns : List ((n : Node) × Kept n)) → left (paired ns) ≡ map names (map (λ e. e.0) ns)
 left_both [] = refl
 left_both (n ∷ ns) = ap (λ l. names n.0 ∷ l) (left_both ns)
 
-right_both : (ns : List ((n : Node) × Kept n)) → right (both ns) ≡ map names (map without_spans (map (λ e. e.0) ns))
+right_both : (ns : List ((n : Node) × Kept n)) → right (paired ns) ≡ map names (map without_spans (map (λ e. e.0) ns))
 right_both [] = refl
 right_both (n ∷ ns) = ap (λ l. names (without_spans n.0) ∷ l) (right_both ns)
 
@@ -177,9 +240,9 @@ step_kept x ps el er =
 
 names_kept : (n : Node) → Kept n
 names_kept = ind-Node Kept (λ x y is.
-    let el : left (both y.children) ≡ map names x.children = left_both y.children ∙ ap (λ z. map names z.children) is in
-    let er : right (both y.children) ≡ map names (map without_spans x.children) = right_both y.children ∙ ap (λ z. map names (map without_spans z.children)) is in
-    step_kept x (both y.children) el er)
+    let el : left (paired y.children) ≡ map names x.children = left_both y.children ∙ ap (λ z. map names z.children) is in
+    let er : right (paired y.children) ≡ map names (map without_spans x.children) = right_both y.children ∙ ap (λ z. map names (map without_spans z.children)) is in
+    step_kept x (paired y.children) el er)
 
 repeated_alike : (before : List (List ℕ)) (ds es : List Declared) → words ds ≡ words es → repeated_behind before ds ≡ None → repeated_behind before es ≡ None
 repeated_alike before [] [] w h = refl

@@ -1,89 +1,105 @@
--- The trees of the modules that the program takes today, a constructor for each form. Forms marked T are of TypeScript, and plain trees
--- have none.
-use Rattle.std.specs.Prelude.{◌≡◌, ℕ, Bool, true, false, List, [], ◌∷◌, Some, None}
+-- The trees of the modules that the program takes, a constructor for each form. Those marked T are of TypeScript: without their types these trees
+-- are of the forms of ecma_reread, whose layout is read again; levels, operators, names and keys are said there.
+use Rattle.std.specs.Prelude.{ℕ, ◌-◌, Bool, false, List, [], ◌∷◌, length, Some, None}
 use Rattle.ecma_number.specs.Numeral.{numeral_of}
-use Rattle.ecma_lex.specs.Keys.{key_end, name_end}
+use Rattle.ecma_lex.specs.Text.{piece}
 use Rattle.ecma_lex.specs.Numerals.{num_end}
+use Rattle.ecma_lex.specs.Strings.{str_end, str_value}
 use Rattle.ecma_kind.specs.declared.span.Span.{Span}
 use Rattle.ecma_kind.specs.declared.operators.VarDeclKind.{VarDeclKind}
-use Rattle.ecma_kind.specs.declared.operators.VarDeclKind.TheVariants.{Let, Const}
-use Rattle.ecma_kind.specs.declared.kind.Kind.TheVariants.{Absent, List as ListKind, Module, ExprStmt, VarDecl, VarDeclarator, BindingIdent, Ident, IdentName, Str, Number, Bool as BoolKind, Null, MemberExpr, CallExpr, ParenExpr, TsAsExpr, TsTypeAnn, TsType, TsTypeAliasDecl}
+use Rattle.ecma_kind.specs.declared.operators.UnaryOp.{UnaryOp}
+use Rattle.ecma_kind.specs.declared.operators.BinaryOp.{BinaryOp}
+use Rattle.ecma_kind.specs.declared.operators.BinaryOp.TheVariants as op
+use Rattle.ecma_kind.specs.declared.kind.Kind.{Kind}
+use Rattle.ecma_kind.specs.declared.kind.Kind.TheVariants as kind
 use Rattle.ecma_tree.specs.declared.node.Node.{Node}
 use Rattle.ecma_tree.specs.Nodes.{node_of}
-use Rattle.ecma_spelling.specs.Spelling.{IsToken, IsString}
-
-pub data IsIdent : Node → Type 0 where
-  ident : (at : Span) (word : List ℕ) → IsToken name_end word → IsIdent (node_of at (Ident word 0 false) [])
-
-pub data IsKey : Node → Type 0 where
-  key : (at : Span) (word : List ℕ) → IsToken key_end word → IsKey (node_of at (IdentName word) [])
-
-pub data IsAbsent : Node → Type 0 where
-  absent : (at : Span) → IsAbsent (node_of at Absent [])
+use Rattle.ecma_tokens.specs.Good.{IsToken}
+use Rattle.ecma_reread.specs.Shapes.{IsIdent, IsKey, IsAbsent, IsLexical, Level, object, callee, update, unary, power, bit_or, logical_and, logical_or, assignment, looser_than, IsOperator}
 
 pub data IsType : Node → Type 0 where
-  type : (at : Span) → IsType (node_of at TsType [])
+  type : (at : Span) → IsType (node_of at kind.TsType [])
 
--- `let` and `const`
-pub data IsLexical : VarDeclKind → Type 0 where
-  let_word : IsLexical Let
-  const_word : IsLexical Const
+-- type arguments
+pub data IsInstantiation : Node → Type 0 where
+  instantiation : (at : Span) → IsInstantiation (node_of at kind.TsTypeParamInstantiation [])
 
-module _ (ts : Bool) where
-  mutual
-    -- what links stand behind: `a`, `a.b`, `a(b, c)`, `(a)`
-    pub data IsHead : Node → Type 0 where
-      name : {id : Node} → IsIdent id → IsHead id
-      member : (at : Span) {object property : Node} → IsHead object → IsKey property → IsHead (node_of at MemberExpr (object ∷ property ∷ []))
-      call : (at : Span) {callee args none : Node} → IsHead callee → IsArguments args → IsAbsent none → IsHead (node_of at CallExpr (callee ∷ args ∷ none ∷ []))
-      parentheses : (at : Span) {e : Node} → IsExpression e → IsHead (node_of at ParenExpr (e ∷ []))
+-- an expression with a type round it, by its kind and what stands behind the expression: `e as t`, `<t>e`, `e satisfies t`, `e<t>`, `e as const`, `e!`
+pub data IsTyped : Kind → List Node → Type 0 where
+  cast : {t : Node} → IsType t → IsTyped kind.TsAsExpr (t ∷ [])
+  assertion : {t : Node} → IsType t → IsTyped kind.TsTypeAssertion (t ∷ [])
+  satisfaction : {t : Node} → IsType t → IsTyped kind.TsSatisfiesExpr (t ∷ [])
+  instantiated : {t : Node} → IsInstantiation t → IsTyped kind.TsInstantiation (t ∷ [])
+  const_assertion : IsTyped kind.TsConstAssertion []
+  certain : IsTyped kind.TsNonNullExpr []
 
-    -- the value of a string is what the text between its quotes says, that of a numeral is exact where it is in the number domain
-    pub data IsExpression : Node → Type 0 where
-      head : {e : Node} → IsHead e → IsExpression e
-      string : (at : Span) (value raw : List ℕ) → IsString value raw → IsExpression (node_of at (Str value (Some raw)) [])
-      number : (at : Span) (raw : List ℕ) → IsToken num_end raw → IsExpression (node_of at (Number (numeral_of raw) (Some raw)) [])
-      null_word : (at : Span) → IsExpression (node_of at Null [])
-      truth_word : (at : Span) (value : Bool) → IsExpression (node_of at (BoolKind value) [])
-      -- T
-      cast : ts ≡ true → (at : Span) {e t : Node} → IsExpression e → IsType t → IsExpression (node_of at TsAsExpr (e ∷ t ∷ []))
+-- the type arguments of a call
+pub data AreTypeArguments : Node → Type 0 where
+  no_type_arguments : {none : Node} → IsAbsent none → AreTypeArguments none
+  -- T
+  type_arguments : {t : Node} → IsInstantiation t → AreTypeArguments t
 
-    pub data AreExpressions : List Node → Type 0 where
-      no_expressions : AreExpressions []
-      more_expressions : {e : Node} {es : List Node} → IsExpression e → AreExpressions es → AreExpressions (e ∷ es)
+mutual
+  -- at a level: its own, or a looser one
+  pub data IsExpression : Level → Node → Type 0 where
+    looser : {level : Level} {e : Node} → IsExpression level e → IsExpression (looser_than level) e
+    name : {id : Node} → IsIdent id → IsExpression object id
+    string : (at : Span) (raw : List ℕ) → IsToken str_end raw → IsExpression object (node_of at (kind.Str (str_value (piece raw 1 (length raw - 1))) (Some raw)) [])
+    number : (at : Span) (raw : List ℕ) → IsToken num_end raw → IsExpression callee (node_of at (kind.Number (numeral_of raw) (Some raw)) [])
+    this_word : (at : Span) → IsExpression object (node_of at kind.ThisExpr [])
+    null_word : (at : Span) → IsExpression object (node_of at kind.Null [])
+    truth_word : (at : Span) (value : Bool) → IsExpression object (node_of at (kind.Bool value) [])
+    member : (at : Span) {holder property : Node} → IsExpression object holder → IsKey property → IsExpression object (node_of at kind.MemberExpr (holder ∷ property ∷ []))
+    element : (at of_key : Span) {level : Level} {holder e : Node} → IsExpression callee holder → IsExpression level e → IsExpression object (node_of at kind.MemberExpr (holder ∷ node_of of_key kind.ComputedPropName (e ∷ []) ∷ []))
+    call : (at of_list : Span) {function types : Node} {es : List Node} → IsExpression callee function → AreExpressions es → AreTypeArguments types
+        → IsExpression object (node_of at kind.CallExpr (function ∷ node_of of_list kind.List es ∷ types ∷ []))
+    parenthesized : (at : Span) {level : Level} {e : Node} → IsExpression level e → IsExpression object (node_of at kind.ParenExpr (e ∷ []))
+    await_expression : (at : Span) {e : Node} → IsExpression unary e → IsExpression unary (node_of at kind.AwaitExpr (e ∷ []))
+    unary_expression : (at : Span) (operator : UnaryOp) {e : Node} → IsExpression unary e → IsExpression unary (node_of at (kind.UnaryExpr operator) (e ∷ []))
+    binary_expression : (at : Span) {operator : BinaryOp} {level tighter : Level} {left right : Node} → IsOperator operator level tighter → IsExpression level left → IsExpression tighter right
+        → IsExpression level (node_of at (kind.BinExpr operator) (left ∷ right ∷ []))
+    exponentiation : (at : Span) {left right : Node} → IsExpression update left → IsExpression power right → IsExpression power (node_of at (kind.BinExpr op.Exp) (left ∷ right ∷ []))
+    both : (at : Span) {left right : Node} → IsExpression logical_and left → IsExpression bit_or right → IsExpression logical_and (node_of at (kind.BinExpr op.LogicalAnd) (left ∷ right ∷ []))
+    either : (at : Span) {left right : Node} → IsExpression logical_or left → IsExpression logical_and right → IsExpression logical_or (node_of at (kind.BinExpr op.LogicalOr) (left ∷ right ∷ []))
+    conditional_expression : (at : Span) {test first second : Node} → IsExpression logical_or test → IsExpression assignment first → IsExpression assignment second
+        → IsExpression assignment (node_of at kind.CondExpr (test ∷ first ∷ second ∷ []))
+    -- T, at the level of the expression alone
+    typed : (at : Span) {level : Level} {k : Kind} {e : Node} {types : List Node} → IsExpression level e → IsTyped k types → IsExpression level (node_of at k (e ∷ types))
 
-    pub data IsArguments : Node → Type 0 where
-      arguments : (at : Span) {es : List Node} → AreExpressions es → IsArguments (node_of at ListKind es)
+  pub data AreExpressions : List Node → Type 0 where
+    no_expressions : AreExpressions []
+    more_expressions : {level : Level} {e : Node} {es : List Node} → IsExpression level e → AreExpressions es → AreExpressions (e ∷ es)
 
-  pub data IsAnnotation : Node → Type 0 where
-    no_annotation : {none : Node} → IsAbsent none → IsAnnotation none
-    -- T
-    annotation : ts ≡ true → (at : Span) {t : Node} → IsType t → IsAnnotation (node_of at TsTypeAnn (t ∷ []))
+pub data IsAnnotation : Node → Type 0 where
+  no_annotation : {none : Node} → IsAbsent none → IsAnnotation none
+  -- T
+  annotation : (at : Span) {t : Node} → IsType t → IsAnnotation (node_of at kind.TsTypeAnn (t ∷ []))
 
-  pub data IsBinding : Node → Type 0 where
-    binding : (at : Span) {id ann : Node} → IsIdent id → IsAnnotation ann → IsBinding (node_of at BindingIdent (id ∷ ann ∷ []))
+pub data IsInitializer : Node → Type 0 where
+  no_initializer : {none : Node} → IsAbsent none → IsInitializer none
+  initializer : {level : Level} {e : Node} → IsExpression level e → IsInitializer e
 
-  pub data IsInitializer : Node → Type 0 where
-    no_initializer : {none : Node} → IsAbsent none → IsInitializer none
-    initializer : {e : Node} → IsExpression e → IsInitializer e
+pub data IsDeclarator : Node → Type 0 where
+  declarator : (at at_binding : Span) {id type init : Node} → IsIdent id → IsAnnotation type → IsInitializer init
+      → IsDeclarator (node_of at (kind.VarDeclarator false) (node_of at_binding kind.BindingIdent (id ∷ type ∷ []) ∷ init ∷ []))
 
-  pub data IsDeclarator : Node → Type 0 where
-    declarator : (at : Span) {id init : Node} → IsBinding id → IsInitializer init → IsDeclarator (node_of at (VarDeclarator false) (id ∷ init ∷ []))
+pub data AreDeclarators : List Node → Type 0 where
+  no_declarators : AreDeclarators []
+  more_declarators : {d : Node} {ds : List Node} → IsDeclarator d → AreDeclarators ds → AreDeclarators (d ∷ ds)
 
-  pub data AreDeclarators : List Node → Type 0 where
-    no_declarators : AreDeclarators []
-    more_declarators : {d : Node} {ds : List Node} → IsDeclarator d → AreDeclarators ds → AreDeclarators (d ∷ ds)
+pub data IsStatement : Node → Type 0 where
+  expression : (at : Span) {level : Level} {e : Node} → IsExpression level e → IsStatement (node_of at kind.ExprStmt (e ∷ []))
+  -- one declarator or more
+  declaration : (at of_list : Span) {k : VarDeclKind} {d : Node} {ds : List Node} → IsLexical k → IsDeclarator d → AreDeclarators ds
+      → IsStatement (node_of at (kind.VarDecl k false) (node_of of_list kind.List (d ∷ ds) ∷ []))
+  -- T
+  alias : (at : Span) (declare : Bool) {id : Node} → IsIdent id → IsStatement (node_of at (kind.TsTypeAliasDecl declare) (id ∷ []))
+  -- T
+  interface : (at : Span) (declare : Bool) {id : Node} → IsIdent id → IsStatement (node_of at (kind.TsInterfaceDecl declare) (id ∷ []))
 
-  pub data IsStatement : Node → Type 0 where
-    expression : (at : Span) {e : Node} → IsExpression e → IsStatement (node_of at ExprStmt (e ∷ []))
-    -- one declarator or more
-    declaration : (at of_list : Span) {kind : VarDeclKind} {d : Node} {ds : List Node} → IsLexical kind → IsDeclarator d → AreDeclarators ds → IsStatement (node_of at (VarDecl kind false) (node_of of_list ListKind (d ∷ ds) ∷ []))
-    -- T
-    alias : ts ≡ true → (at : Span) {id : Node} → IsIdent id → IsStatement (node_of at (TsTypeAliasDecl false) (id ∷ []))
+pub data AreStatements : List Node → Type 0 where
+  no_statements : AreStatements []
+  more_statements : {s : Node} {ss : List Node} → IsStatement s → AreStatements ss → AreStatements (s ∷ ss)
 
-  pub data AreStatements : List Node → Type 0 where
-    no_statements : AreStatements []
-    more_statements : {s : Node} {ss : List Node} → IsStatement s → AreStatements ss → AreStatements (s ∷ ss)
-
-  pub data IsModule : Node → Type 0 where
-    module_of : (at of_list : Span) {body : List Node} → AreStatements body → IsModule (node_of at (Module None) (node_of of_list ListKind body ∷ []))
+pub data IsModule : Node → Type 0 where
+  module_of : (at of_list : Span) {body : List Node} → AreStatements body → IsModule (node_of at (kind.Module None) (node_of of_list kind.List body ∷ []))

@@ -1,12 +1,13 @@
 //! Forms, by the number of children.
 ghost use Rattle.std.specs.Prelude.{◌≡◌};
 ghost use Rattle.std.specs.List.{list_all};
-ghost use Rattle.ecma_forms.specs.Forms.{is, is_declarator, is_expression, is_form, is_form_by, is_form_with_one, is_form_with_three, is_form_with_two, is_full_list_of, is_leaf_form, is_list_of, is_statement};
+ghost use Rattle.ecma_forms.specs.Forms.{binds, is, is_declarator, is_expression, is_form, is_form_by, is_form_with_one, is_form_with_three, is_form_with_two, is_full_list_of, is_leaf_form, is_list_of, is_statement};
 
 use crate::kinds::{
-    is_annotation, is_binding, is_declarator, is_expression, is_head, is_key, is_lexical, is_list,
-    is_missing, is_name, is_statement, is_type, is_value,
+    are_type_arguments, is_annotation, is_binding, is_computed, is_declarator, is_expression,
+    is_instantiation, is_key, is_lexical, is_list, is_name, is_statement, is_type, is_value,
 };
+use crate::looseness::{is_nullish, left_side, looseness, right_side};
 use ecma_lex::is_reserved;
 use ecma_tree::{Kind, Node};
 
@@ -66,6 +67,13 @@ fn is_statement_list(node: &Node) -> bool
     is_list(&node.kind) && are_statements(node.children.as_slice())
 }
 
+/// An expression that binds at most so loosely.
+fn binds(most: u8, node: &Node) -> bool
+    ensures { result ≡ binds most node.now }
+{
+    is_expression(&node.kind) && !(most < looseness(node))
+}
+
 fn is_leaf_form(kind: &Kind) -> bool
     ensures { result ≡ is_leaf_form kind.now }
 {
@@ -77,7 +85,9 @@ fn is_leaf_form(kind: &Kind) -> bool
         | Kind::Number { .. }
         | Kind::Bool { .. }
         | Kind::Null
-        | Kind::TsType => true,
+        | Kind::ThisExpr
+        | Kind::TsType
+        | Kind::TsTypeParamInstantiation => true,
         _ => false,
     }
 }
@@ -86,13 +96,18 @@ fn is_form_with_one(kind: &Kind, a: &Node) -> bool
     ensures { result ≡ is_form_with_one kind.now a.now }
 {
     match kind {
-        Kind::ParenExpr | Kind::ExprStmt => is_expression(&a.kind),
+        Kind::ParenExpr
+        | Kind::ExprStmt
+        | Kind::ComputedPropName
+        | Kind::TsConstAssertion
+        | Kind::TsNonNullExpr => is_expression(&a.kind),
+        Kind::AwaitExpr | Kind::UnaryExpr { .. } => binds(3, a),
         Kind::TsTypeAnn => is_type(&a.kind),
         Kind::VarDecl {
             kind,
             declare: false,
         } => is_lexical(*kind) && is_declarator_list(a),
-        Kind::TsTypeAliasDecl { declare: false } => is_name(&a.kind),
+        Kind::TsInterfaceDecl { .. } | Kind::TsTypeAliasDecl { .. } => is_name(&a.kind),
         Kind::Module { shebang: None } => is_statement_list(a),
         _ => false,
     }
@@ -102,8 +117,16 @@ fn is_form_with_two(kind: &Kind, a: &Node, b: &Node) -> bool
     ensures { result ≡ is_form_with_two kind.now a.now b.now }
 {
     match kind {
-        Kind::MemberExpr => is_head(&a.kind) && is_key(&b.kind),
-        Kind::TsAsExpr => is_expression(&a.kind) && is_type(&b.kind),
+        Kind::MemberExpr => {
+            (binds(0, a) && is_key(&b.kind)) || (binds(1, a) && is_computed(&b.kind))
+        }
+        Kind::BinExpr { op } => {
+            !is_nullish(*op) && binds(left_side(*op), a) && binds(right_side(*op), b)
+        }
+        Kind::TsAsExpr | Kind::TsTypeAssertion | Kind::TsSatisfiesExpr => {
+            is_expression(&a.kind) && is_type(&b.kind)
+        }
+        Kind::TsInstantiation => is_expression(&a.kind) && is_instantiation(&b.kind),
         Kind::BindingIdent => is_name(&a.kind) && is_annotation(&b.kind),
         Kind::VarDeclarator { definite: false } => is_binding(&a.kind) && is_value(&b.kind),
         _ => false,
@@ -114,7 +137,8 @@ fn is_form_with_three(kind: &Kind, a: &Node, b: &Node, c: &Node) -> bool
     ensures { result ≡ is_form_with_three kind.now a.now b.now c.now }
 {
     match kind {
-        Kind::CallExpr => is_head(&a.kind) && is_argument_list(b) && is_missing(&c.kind),
+        Kind::CallExpr => binds(1, a) && is_argument_list(b) && are_type_arguments(&c.kind),
+        Kind::CondExpr => binds(14, a) && binds(15, b) && binds(15, c),
         _ => false,
     }
 }

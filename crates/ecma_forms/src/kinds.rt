@@ -1,27 +1,35 @@
 //! Kinds of nodes by what they may be part of.
 ghost use Rattle.std.specs.Prelude.{◌≡◌};
-ghost use Rattle.ecma_forms.specs.Forms.{is_annotation, is_binding, is_declarator, is_expression, is_head, is_key, is_lexical, is_list, is_missing, is_module, is_name, is_statement, is_type, is_value};
+ghost use Rattle.ecma_forms.specs.Forms.{are_type_arguments, is_annotation, is_binding, is_computed, is_declarator, is_expression, is_instantiation, is_key, is_lexical, is_list, is_missing, is_module, is_name, is_statement, is_type, is_value};
 
+use crate::looseness::is_wrapper;
 use ecma_tree::{Kind, VarDeclKind};
-
-/// What links may stand behind.
-pub(crate) fn is_head(kind: &Kind) -> bool
-    ensures { result ≡ is_head kind.now }
-{
-    matches!(
-        kind,
-        Kind::Ident { .. } | Kind::MemberExpr | Kind::CallExpr | Kind::ParenExpr
-    )
-}
 
 pub(crate) fn is_expression(kind: &Kind) -> bool
     ensures { result ≡ is_expression kind.now }
 {
     match kind {
-        Kind::Str { .. } | Kind::Number { .. } | Kind::Bool { .. } | Kind::Null | Kind::TsAsExpr =>
-            true,
-        _ => is_head(kind),
+        Kind::Ident { .. }
+        | Kind::Str { .. }
+        | Kind::Number { .. }
+        | Kind::Bool { .. }
+        | Kind::Null
+        | Kind::ThisExpr
+        | Kind::MemberExpr
+        | Kind::CallExpr
+        | Kind::ParenExpr
+        | Kind::AwaitExpr
+        | Kind::UnaryExpr { .. }
+        | Kind::BinExpr { .. }
+        | Kind::CondExpr => true,
+        _ => is_wrapper(kind),
     }
+}
+
+pub(crate) fn is_computed(kind: &Kind) -> bool
+    ensures { result ≡ is_computed kind.now }
+{
+    matches!(kind, Kind::ComputedPropName)
 }
 
 pub(crate) fn is_missing(kind: &Kind) -> bool
@@ -40,6 +48,22 @@ pub(crate) fn is_type(kind: &Kind) -> bool
     ensures { result ≡ is_type kind.now }
 {
     matches!(kind, Kind::TsType)
+}
+
+pub(crate) fn is_instantiation(kind: &Kind) -> bool
+    ensures { result ≡ is_instantiation kind.now }
+{
+    matches!(kind, Kind::TsTypeParamInstantiation)
+}
+
+/// Type arguments, or none.
+pub(crate) fn are_type_arguments(kind: &Kind) -> bool
+    ensures { result ≡ are_type_arguments kind.now }
+{
+    match kind {
+        Kind::TsTypeParamInstantiation => true,
+        _ => is_missing(kind),
+    }
 }
 
 pub(crate) fn is_name(kind: &Kind) -> bool
@@ -82,7 +106,10 @@ pub(crate) fn is_statement(kind: &Kind) -> bool
 {
     matches!(
         kind,
-        Kind::ExprStmt | Kind::VarDecl { .. } | Kind::TsTypeAliasDecl { .. }
+        Kind::ExprStmt
+            | Kind::VarDecl { .. }
+            | Kind::TsInterfaceDecl { .. }
+            | Kind::TsTypeAliasDecl { .. }
     )
 }
 

@@ -7,6 +7,7 @@ ghost use Rattle.ecma_forms.specs.Theorem.{TakenModulesHaveTheirShape};
 
 mod forms;
 mod kinds;
+mod looseness;
 mod places;
 mod repeated;
 

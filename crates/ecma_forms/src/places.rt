@@ -1,28 +1,11 @@
 //! The least place of a form that is not taken.
 ghost use Rattle.std.specs.Prelude.{◌≡◌};
-ghost use Rattle.ecma_rules.specs.Failing.{failing_here, least};
 ghost use Rattle.ecma_forms.specs.Forms.{first_untaken, first_untaken_node};
 
 use crate::forms::is_form;
 use crate::kinds::is_module;
+use ecma_rules::{failing_here, least};
 use ecma_tree::{Module, Node};
-
-/// The place of a node that is of no form.
-fn failing_here(fails: bool, node: &Node) -> Option<u32>
-    ensures { result ≡ failing_here fails node.now }
-{
-    if fails { Some(node.span.lo) } else { None }
-}
-
-fn least(place: Option<u32>, other: Option<u32>) -> Option<u32>
-    ensures { result ≡ least place other }
-{
-    match (place, other) {
-        (None, other) => other,
-        (place, None) => place,
-        (Some(i), Some(j)) => Some(i.min(j)),
-    }
-}
 
 fn first_untaken_node(node: &Node) -> Option<u32>
     ensures { result ≡ first_untaken_node node.now }

@@ -1,7 +1,10 @@
+pub mod Firsts
 pub mod Frames
+pub mod Glances
 pub mod Levels
 pub mod Namespaces
 pub mod Outlooks
 pub mod Readings
+pub mod Sights
 pub mod Sizes
 pub mod Steps

@@ -194,3 +194,11 @@ pub fails-known : (text seen : List ℕ) (mode seen_mode : Mode) (i : ℕ) (g : 
 fails-known text seen mode seen_mode i g s x at failed k parts known is same same_mode here before after =
     let fails_there : outlook text s.place mode g ≡ Fails at = rw (same, same_mode, here) at (sym known ∙ is) in
     rw (after, before) (rw fails_there at (foreseen text mode parts g s))
+
+-- what reads nothing by the tokens ahead, which were looked at there
+pub passes-known : (text seen : List ℕ) (mode seen_mode : Mode) (i : ℕ) (g : Grammar) (s t : Position) (x : Outlook) (at failed : ℕ) (parts : Parts text)
+    → x ≡ outlook seen i seen_mode g → x ≡ Passes at → seen ≡ text → seen_mode ≡ mode → i ≡ s.place → failed ≡ s.failed → t.place ≡ i → t.failed ≡ max failed at → reads text mode parts g s ≡ read [] t
+passes-known text seen mode seen_mode i g s t x at failed parts known is same same_mode here before there after =
+    let passes_there : outlook text s.place mode g ≡ Passes at = rw (same, same_mode, here) at (sym known ∙ is) in
+    let where_it_stands : raised at s ≡ t = rw (← here, ← before, ← there, ← after) refl in
+    rw passes_there at (foreseen text mode parts g s) ∙ ap (λ p. read [] p) where_it_stands

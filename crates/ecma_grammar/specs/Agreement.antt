@@ -1,16 +1,18 @@
 -- That a method of the reader does what a reading says.
-use Rattle.std.specs.Prelude.{◌≡◌, ℕ, List, length, take, Result, Ok, Err}
+use Rattle.std.specs.Prelude.{◌≡◌, ℕ, List, [], length, take, Result, Ok, Err}
 use Rattle.std.specs.Borrow.{MutBor}
 use Rattle.std.specs.Fn.{Shared}
 use Rattle.ecma_tree.specs.declared.node.Node.{Node}
 use Rattle.ecma_grammar.specs.declared.failure.Failure.{Failure}
 use Rattle.ecma_grammar.specs.declared.failure.Failure.TheVariants.{NoMatch, TooDeep, NoMemory}
 use Rattle.ecma_grammar.specs.declared.reader.Reader.{Reader}
+use Rattle.ecma_grammar.specs.declared.reader.outlook.Known.{Known}
+use Rattle.ecma_grammar.specs.declared.reader.outlook.Known.TheVariants as known
 use Rattle.ecma_grammar.specs.declared.machine.Machine.{Machine}
 use Rattle.ecma_grammar.specs.declared.production.Part.{Part}
 use Rattle.ecma_grammar.specs.Reading.{Position, Outcome, read, fails, too_deep, Reading, with_front}
 use Rattle.ecma_grammar.specs.Grammar.{Grammar}
-use Rattle.ecma_grammar.specs.Reads.{reads, levels}
+use Rattle.ecma_grammar.specs.Reads.{Parts, reads, levels}
 
 abbrev pub position : Reader → Position
 position reader = record { place = reader.place; failed = reader.failed }
@@ -55,6 +57,12 @@ parts_in reader left = levels reader.text.now reader.mode left
 -- what a grammar reads in the text of a reader, one level further out
 abbrev pub reads_in : Reader → ℕ → Grammar → Reading (List Node)
 reads_in reader left g = reads reader.text.now reader.mode (parts_in reader left) g
+
+-- what is known of a grammar without its being tried, with the reader as it is then
+abbrev pub Knows : Reader → Reader → Grammar → Known → Type 0
+Knows old new g known.Open = new.failed ≡ old.failed
+Knows old new g known.Fails = (parts : Parts old.text.now) → reads old.text.now old.mode parts g (position old) ≡ fails new.failed
+Knows old new g known.Passes = (parts : Parts old.text.now) → reads old.text.now old.mode parts g (position old) ≡ read [] (position new)
 
 -- what a call that reads a part takes, and what it gives
 abbrev pub PartArgs : Type 0

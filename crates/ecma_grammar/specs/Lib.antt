@@ -8,6 +8,8 @@ pub mod trees
 pub mod Made
 pub mod Reads
 pub mod Opening
+pub mod FirstByte
 pub mod Outlook
+pub mod Glance
 pub mod Agreement
 pub mod Modules

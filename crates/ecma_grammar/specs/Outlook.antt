@@ -1,5 +1,5 @@
 -- What is known of a reading before it is tried, by the tokens that stand ahead: where these are not what a grammar begins with, it fails.
-use Rattle.std.specs.Prelude.{ℕ, max, Bool, ◌||◌, List, if◌then◌else◌, ◌==◌, get_or, Result, Ok, Err, codes}
+use Rattle.std.specs.Prelude.{◌≡◌, ℕ, max, Bool, ◌||◌, List, if◌then◌else◌, ◌==◌, Result, Ok, Err, codes}
 use Rattle.std.specs.Char.{is_ascii_digit}
 use Rattle.ecma_lex.specs.declared.tokens.NoToken.{NoToken}
 use Rattle.ecma_lex.specs.declared.blanks.Skipped.{Skipped}
@@ -15,6 +15,9 @@ use Rattle.ecma_grammar.specs.declared.production.Leaf.{Leaf}
 use Rattle.ecma_grammar.specs.declared.production.Leaf.TheVariants as leaf
 use Rattle.ecma_grammar.specs.declared.reader.outlook.Outlook.{Outlook}
 use Rattle.ecma_grammar.specs.declared.reader.outlook.Outlook.TheVariants.{Open, Fails, Stays, Passes}
+use Rattle.ecma_grammar.specs.declared.productions.glances.Glance.{Glance}
+use Rattle.ecma_grammar.specs.declared.productions.glances.Glance.TheVariants as glance
+use Rattle.ecma_grammar.specs.FirstByte.{first_byte}
 use Rattle.ecma_grammar.specs.Grammar as grammar
 use Rattle.ecma_grammar.specs.Grammar.{Terminal, the_word, the_punct, any, Grammar}
 
@@ -76,20 +79,16 @@ abbrev pub line_outlook : Skipped → Outlook
 line_outlook before = if before.new_line then Fails before.to else Passes 0
 
 module _ (text : List ℕ) (i : ℕ) where
-  -- the byte that stands behind the blanks
-  abbrev pub first_byte : ℕ
-  first_byte = let before = skipped text i in get_or text before.to 0
-
   abbrev pub template_outlook : TemplatePart → Outlook
-  template_outlook part = unless_begun (first_byte == (if part.first then 96 else 125)) (template_text text i part.first part.tagged)
+  template_outlook part = unless_begun (first_byte text i == (if part.first then 96 else 125)) (template_text text i part.first part.tagged)
 
   abbrev pub kind_outlook : TokenKind → Outlook
   kind_outlook token_kind.Name = found_outlook (lex.name text i)
   kind_outlook token_kind.Key = found_outlook (lex.key text i)
-  kind_outlook token_kind.PrivateName = unless_begun (first_byte == 35) (lex.priv_name text i)
-  kind_outlook token_kind.Str = unless_begun (first_byte == 34 || first_byte == 39) (str_lit text i)
-  kind_outlook token_kind.Number = unless_begun (first_byte == 46 || is_ascii_digit first_byte) (lex.num text i)
-  kind_outlook token_kind.BigInt = unless_begun (is_ascii_digit first_byte) (lex.big text i)
+  kind_outlook token_kind.PrivateName = unless_begun (first_byte text i == 35) (lex.priv_name text i)
+  kind_outlook token_kind.Str = unless_begun (first_byte text i == 34 || first_byte text i == 39) (str_lit text i)
+  kind_outlook token_kind.Number = unless_begun (first_byte text i == 46 || is_ascii_digit (first_byte text i)) (lex.num text i)
+  kind_outlook token_kind.BigInt = unless_begun (is_ascii_digit (first_byte text i)) (lex.big text i)
   kind_outlook (token_kind.Template part) = template_outlook part
   kind_outlook token_kind.LeftAngle = found_outlook (lex.angle text i 60)
   kind_outlook token_kind.RightAngle = found_outlook (lex.angle text i 62)
@@ -113,7 +112,7 @@ module _ (text : List ℕ) (i : ℕ) where
   leaf_outlook leaf.Str = kind_outlook token_kind.Str
   leaf_outlook leaf.Number = kind_outlook token_kind.Number
   leaf_outlook leaf.BigInt = kind_outlook token_kind.BigInt
-  leaf_outlook leaf.Regex = unless_begun (first_byte == 47) (lex.regex text i)
+  leaf_outlook leaf.Regex = unless_begun (first_byte text i == 47) (lex.regex text i)
   leaf_outlook (leaf.TplElement part) = template_outlook part
   leaf_outlook leaf.This = word_outlook (codes "this")
   leaf_outlook leaf.Null = word_outlook (codes "null")
@@ -141,3 +140,9 @@ module _ (text : List ℕ) (i : ℕ) where
     outlook (grammar.enter u) = Open
     outlook (grammar.behind t u) = token_outlook t
     outlook (grammar.build f a) = build_outlook (outlook a)
+
+-- what is known by the first byte of the token ahead is so, where that token begins at a place
+abbrev pub Tells : Outlook → ℕ → Glance → Type 0
+Tells o to glance.Open = Unit {0}
+Tells o to glance.Fails = o ≡ Fails to
+Tells o to glance.Passes = o ≡ Passes to

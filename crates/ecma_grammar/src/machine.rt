@@ -5,7 +5,7 @@ ghost use Rattle.ecma_grammar.specs.productions.Modules.{module_body};
 use crate::failure::Failure;
 use crate::production::{Form, Part, Production};
 use crate::productions::{module_body, part_body, rule_body};
-use crate::reader::Reader;
+use crate::reader::{Known, Reader};
 
 /// Reads a part, where so many levels more are allowed; a use that is too deep is told at a place.
 #[tactic(auto, using(crate::proofs::Levels::entering))]
@@ -94,7 +94,11 @@ impl<'f, F: Fn(&mut Reader, Part, u32) -> Result<(), Failure>> Machine<'f, F> {
                         }
                     }
                 }
-                Production::The(rule) => rest = rule_body(*rule),
+                Production::The(rule) => match reader.known(*rule) {
+                    Known::Open => rest = rule_body(*rule),
+                    Known::Fails => return Err(Failure::NoMatch),
+                    Known::Passes => return Ok(reader.close(opened)?),
+                },
                 Production::Build(form, part) => {
                     if opened.is_some() {
                         self.read_node(reader, form, part)?;

@@ -1,6 +1,7 @@
 //! The reader: where it stands in a text, and what it has kept.
 ghost use Rattle.std.specs.Prelude.{◌≡◌, ◌<◌, ◌^◌, length};
 ghost use Rattle.ecma_lex.specs.Looking.{look};
+ghost use Rattle.ecma_grammar.specs.FirstByte.{first_byte};
 
 mod keeping;
 mod leaves;
@@ -12,6 +13,7 @@ use crate::production::Mode;
 use ecma_lex::Upcoming;
 use ecma_tree::{Node, Nodes};
 pub(crate) use keeping::Opened;
+pub(crate) use outlook::Known;
 use std::alloc::Global;
 
 /// Reads a text from its front.
@@ -27,11 +29,14 @@ pub(crate) struct Reader<'a> {
     failed: u32,
     /// What stands at the place that was looked at last.
     ahead: Upcoming,
+    /// The byte that stands there behind the blanks, or 0.
+    first: u8,
     recent: recent::Recent,
     /// The nodes that were kept so far, the last at the end.
     kept: Vec<Node>,
     ghost short: { length text.now < 2 ^ 32 },
     ghost known: { ahead ≡ look text.now ahead.place },
+    ghost begins: { first ≡ first_byte text.now ahead.place },
 }
 
 impl<'a> Reader<'a> {
@@ -45,13 +50,16 @@ impl<'a> Reader<'a> {
         ensures position { position result ≡ record { place = 0; failed = 0 } }
         ensures kept { kept result ≡ [] }
     {
+        let ahead = ecma_lex::look(text, 0);
+        let first = terminals::byte_at(text, ahead.skipped().to);
         Reader {
             alloc,
             text,
             mode,
             place: 0,
             failed: 0,
-            ahead: ecma_lex::look(text, 0),
+            ahead,
+            first,
             recent: recent::Recent::new(alloc),
             kept: Vec::new(alloc),
         }

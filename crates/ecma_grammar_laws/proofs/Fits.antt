@@ -41,7 +41,7 @@ only_belongs false false h = no h
 pub sorts_same : (s t : Sort) → same_sort s t ≡ true → s ≡ t
 sorts_same s t h = same_true contracts_sort.the_type tt s t h
 
-counts_same : (s t : Count) → same_count s t ≡ true → s ≡ t
+pub counts_same : (s t : Count) → same_count s t ≡ true → s ≡ t
 counts_same s t h = same_true contracts_count.the_type tt s t h
 
 raw_sorts_same : (s t : RawSort) → same_raw_sort s t ≡ true → s ≡ t

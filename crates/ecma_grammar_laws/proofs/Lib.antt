@@ -5,10 +5,10 @@ mod Productions
 mod Taking
 pub mod Repetitions
 pub mod RawShapes
-mod Asks
+pub mod Asks
 mod Needs
 mod Checks
-mod Fits
+pub mod Fits
 mod Given
 mod Leaves
 mod forms

@@ -29,7 +29,7 @@ use Rattle.ecma_reread.proofs.Fronts.{Front, exactly, Begins, at_token, front_of
 use Rattle.ecma_reread.proofs.Towers.{Tower, later, sooner, here, climb, without, skipped, excluded, Opens, Starts}
 use Rattle.ecma_reread.proofs.Heads.{bare}
 use Rattle.ecma_reread.proofs.Forms.{heads, Reads, Refuses, Form}
-use Rattle.ecma_reread.proofs.Expressions.{name_as_param, name_no_rest, name_no_label}
+use Rattle.ecma_reread.proofs.Expressions.{name_as_param, name_with_default, name_no_rest, name_no_label}
 
 abbrev async : List ℕ
 async = codes "async"
@@ -116,4 +116,5 @@ module _ (assigned : Bool) where
     no_declaration = async_no_declaration;
     no_word = async_no_word;
     as_param = name_as_param assigned async async_free;
+    with_default = name_with_default assigned async async_free;
   }

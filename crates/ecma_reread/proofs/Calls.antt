@@ -27,14 +27,22 @@ use Rattle.ecma_tokens.specs.Items as items
 use Rattle.ecma_tokens.specs.Items.{Tok, sign, Gap, no_gap, Items, it}
 use Rattle.ecma_reread.specs.Machine.{with_front, means}
 use Rattle.ecma_reread.specs.Shapes as shapes
-use Rattle.ecma_reread.specs.Shapes.{IsPlainName, IsIdent, ident, IsKey, key, IsExpression, IsArguments, AreExpressions}
-use Rattle.ecma_reread.specs.Tokens.{bare, blank, ident_word, key_word, expression_tokens, arguments_tokens, more_tokens, expression_kind, expression_parts, bare_expression, bare_arguments, bare_expressions}
+use Rattle.ecma_reread.specs.Shapes.{Level, IsPlainName, IsIdent, ident, IsKey, key, IsExpression, IsArguments, AreExpressions}
+use Rattle.ecma_reread.specs.Tokens.{bare, blank, ident_word, key_word, own_sign, unary_gap, expression_tokens, arguments_tokens, more_tokens, expression_kind, expression_parts, bare_expression, bare_arguments, bare_expressions}
 use Rattle.ecma_reread.proofs.Levels.{means_is}
 use Rattle.ecma_reread.proofs.Fronts.{Front, exactly, Begins, at_token, IsName, is_known, refuses_at, refused_at, refuses_all, all_refused}
 use Rattle.ecma_reread.proofs.Heads.{call_made}
-use Rattle.ecma_reread.proofs.Forms.{Laid, s, behind_params, Reads, Refuses, linked_param, Form, Ends, used}
+use Rattle.ecma_reread.proofs.Forms.{Laid, s, behind_params, Reads, Refuses, linked_param, Form}
+use Rattle.ecma_reread.proofs.Towers.{Ends}
+use Rattle.ecma_reread.proofs.Bindings.{Stands, from_form, loosened, standing, used}
+use Rattle.ecma_reread.proofs.Operations.{await_form, power_form, unary_form, binary_form}
+use Rattle.ecma_reread.proofs.Elements.{element_form}
+use Rattle.ecma_reread.proofs.Updates.{prefix_form, postfix_form}
+use Rattle.ecma_reread.proofs.Choices.{choice_form}
+use Rattle.ecma_reread.proofs.Logicals.{both_form, either_form}
+use Rattle.ecma_reread.proofs.Assignments.{assignment_form}
 use Rattle.ecma_reread.proofs.Repeats.{Repeats, repeats_end, repeats_more, repeated}
-use Rattle.ecma_reread.proofs.Expressions.{string_single, number_single, this_single, big_int_single, null_single, true_single, false_single, single_form, name_form, member_form, parenthesized_form, parenthesis_ends, comma_ends}
+use Rattle.ecma_reread.proofs.Expressions.{Single, string_single, number_single, this_single, big_int_single, null_single, true_single, false_single, single_form, name_form, member_form, parenthesized_form, parenthesis_ends, comma_ends}
 use Rattle.ecma_reread.proofs.Params.{Params, params_end, params_more, params_by, parameters_refused, no_body_behind}
 use Rattle.ecma_reread.proofs.Async.{async_form}
 
@@ -49,30 +57,30 @@ unfolding param rest_pattern default_value pattern_body array_pattern object_pat
 no_param_there = refl
 
 module _ (assigned : Bool) where
-  element_read : {f : Laid} {k : Kind} {ns : List Node} → Form assigned f k ns → (g : Gap) (us : Items) (e : Front) → Begins e us → Ends assigned e → Reads assigned element (f g us) (bare k ns ∷ []) us
+  element_read : {f : Laid} {k : Kind} {ns : List Node} → Stands assigned shapes.assignment f k ns → (g : Gap) (us : Items) (e : Front) → Begins e us → Ends e → Reads assigned element (f g us) (bare k ns ∷ []) us
   unfolding element spread
-  element_read {f} F g us e b z =
-      let o = F.opens in
-      rw (refused_at assigned (means assigned) (punct (codes "...")) F.front (f g us) (F.begins g us) o.no_spread, used assigned F g us e b z) refl
+  element_read {f} S g us e b z =
+      let L = S.lead in
+      rw (refused_at assigned (means assigned) (punct (codes "...")) L.front (f g us) (L.begins g us) L.no_spread, used assigned S g us e b z) refl
 
   -- what is said of each of a list
   abbrev Forms : {es : List Node} → AreExpressions es → Type 0
   Forms shapes.no_expressions = Unit {0}
-  Forms (shapes.more_expressions e es) = Form assigned (expression_tokens e) (expression_kind e) (expression_parts e) × Forms es
+  Forms (shapes.more_expressions e es) = Stands assigned shapes.assignment (expression_tokens e) (expression_kind e) (expression_parts e) × Forms es
 
   abbrev ArgumentForms : {n : Node} → IsArguments n → Type 0
   ArgumentForms (shapes.no_arguments at) = Unit {0}
-  ArgumentForms (shapes.arguments at e es) = Form assigned (expression_tokens e) (expression_kind e) (expression_parts e) × Forms es
+  ArgumentForms (shapes.arguments at e es) = Stands assigned shapes.assignment (expression_tokens e) (expression_kind e) (expression_parts e) × Forms es
 
   record Followed (us : Items) : Type 0 where
     pub front : Front
     pub begins : Begins front us
-    pub ends : Ends assigned front
+    pub ends : Ends front
     pub no_equals : refuses_at front (punct (codes "=")) ≡ true
 
   more_followed : {es : List Node} (is : AreExpressions es) (us : Items) → Followed (more_tokens is (s (codes ")") us))
-  more_followed shapes.no_expressions us = record { front = exactly (sign (codes ")")); begins = at_token; ends = parenthesis_ends assigned; no_equals = refl }
-  more_followed (shapes.more_expressions e es) us = record { front = exactly (sign (codes ",")); begins = at_token; ends = comma_ends assigned; no_equals = refl }
+  more_followed shapes.no_expressions us = record { front = exactly (sign (codes ")")); begins = at_token; ends = parenthesis_ends; no_equals = refl }
+  more_followed (shapes.more_expressions e es) us = record { front = exactly (sign (codes ",")); begins = at_token; ends = comma_ends; no_equals = refl }
 
   more_read : {es : List Node} (is : AreExpressions es) → Forms is → (us : Items) → Repeats assigned (punct (codes ",") ▸ element) (more_tokens is (s (codes ")") us)) (bare_expressions is) (s (codes ")") us)
   unfolding element spread
@@ -101,7 +109,7 @@ module _ (assigned : Bool) where
   more_params (shapes.more_expressions e es) F us h =
       let w = more_followed es us in
       let E = F.0 in
-      params_more assigned (expression_tokens e blank (more_tokens es (s (codes ")") us))) (more_tokens es (s (codes ")") us)) (E.as_param blank (more_tokens es (s (codes ")") us)) w.front w.begins w.no_equals) (more_params es F.1 us h)
+      params_more assigned (expression_tokens e blank (more_tokens es (s (codes ")") us))) (more_tokens es (s (codes ")") us)) (E.param blank (more_tokens es (s (codes ")") us)) w.front w.begins (w.no_equals, w.ends)) (more_params es F.1 us h)
 
   no_params : {n : Node} (is : IsArguments n) → ArgumentForms is → (us : Items) → Refuses assigned behind_params (s (codes ")") us) → Refuses assigned (params ▸ behind_params) (arguments_tokens is (s (codes ")") us))
   unfolding params
@@ -109,7 +117,7 @@ module _ (assigned : Bool) where
   no_params (shapes.arguments at e es) F us h =
       let w = more_followed es us in
       let E = F.0 in
-      params_by assigned (expression_tokens e no_gap (more_tokens es (s (codes ")") us))) (more_tokens es (s (codes ")") us)) (E.as_param no_gap (more_tokens es (s (codes ")") us)) w.front w.begins w.no_equals) (more_params es F.1 us h)
+      params_by assigned (expression_tokens e no_gap (more_tokens es (s (codes ")") us))) (more_tokens es (s (codes ")") us)) (E.param no_gap (more_tokens es (s (codes ")") us)) w.front w.begins (w.no_equals, w.ends)) (more_params es F.1 us h)
 
   call_no_rest : {n : Node} (is : IsArguments n) → ArgumentForms is → (us : Items) (e : Front) → Begins e us → refuses_at e (arrow_body false) ≡ true
       → Refuses assigned (arrow_rest false false) (s (codes "(") (arguments_tokens is (s (codes ")") us)))
@@ -134,6 +142,7 @@ module _ (assigned : Bool) where
         no_declaration = λ g us e b z. F.no_declaration g (s (codes "(") (arguments_tokens is (s (codes ")") us))) opening at_token refl;
         no_word = λ g us e b z. F.no_word g (s (codes "(") (arguments_tokens is (s (codes ")") us))) opening at_token refl;
         as_param = λ g us e b z. linked_param assigned at_token refl refl (F.as_param g (s (codes "(") (arguments_tokens is (s (codes ")") us))) opening at_token refl);
+        with_default = λ g ts us n h. linked_param assigned at_token refl refl (F.as_param g (s (codes "(") (arguments_tokens is (s (codes ")") (it blank (sign (codes "=")) ts)))) opening at_token refl);
       }
 
   -- an expression of each shape
@@ -163,24 +172,48 @@ module _ (assigned : Bool) where
       go false e = name_form assigned w (plain_name w i e)
       go true e = subst NameForm (sym ((bytes_eq-Decides w (codes "async")).0 e)) (async_form assigned)
 
+  chain_form : {f : Laid} {k : Kind} {ns : List Node} → Stands assigned shapes.object f k ns → Form assigned f k ns
+  chain_form S = S.reading
+
+  callee_form : {f : Laid} {k : Kind} {ns : List Node} → Stands assigned shapes.callee f k ns → Form assigned f k ns
+  callee_form S = S.reading
+
+  ident_stands : {n : Node} (i : IsIdent n) → Stands assigned shapes.object (λ g us. it g (items.key (ident_word i)) us) (kind.Ident (ident_word i) 0 false) []
+  ident_stands i = from_form assigned (ident_form i)
+
+  single_stands : (t : Tok) (k : Kind) → Single t k → Stands assigned shapes.object (λ g us. it g t us) k []
+  single_stands t k s = from_form assigned (single_form assigned t k s)
+
   mutual
-    pub expression_form : {numeral : Bool} {e : Node} (is : IsExpression numeral e) → Form assigned (expression_tokens is) (expression_kind is) (expression_parts is)
-    expression_form (shapes.name i) = ident_form i
-    expression_form (shapes.string at raw t) = single_form assigned (items.string raw) _ (string_single raw)
-    expression_form (shapes.number at raw t) = single_form assigned (items.number raw) _ (number_single raw)
-    expression_form (shapes.this_word at) = single_form assigned (items.key (codes "this")) _ this_single
-    expression_form (shapes.big_int at raw t) = single_form assigned (items.big_int raw) _ (big_int_single raw)
-    expression_form (shapes.null_word at) = single_form assigned (items.key (codes "null")) _ null_single
-    expression_form (shapes.true_word at) = single_form assigned (items.key (codes "true")) _ true_single
-    expression_form (shapes.false_word at) = single_form assigned (items.key (codes "false")) _ false_single
-    expression_form (shapes.member at o k) = member_form assigned (expression_form o) (key_word k)
-    expression_form (shapes.call at c es none) = call_form (expression_form c) es (argument_forms es)
-    expression_form (shapes.parenthesized at e) = parenthesized_form assigned (expression_form e)
+    pub expression_form : {level : Level} {e : Node} (is : IsExpression level e) → Stands assigned level (expression_tokens is) (expression_kind is) (expression_parts is)
+    expression_form (shapes.looser {level = l} e) = loosened assigned l (expression_form e)
+    expression_form (shapes.name i) = ident_stands i
+    expression_form (shapes.string at raw t) = single_stands (items.string raw) _ (string_single raw)
+    expression_form (shapes.number at raw t) = loosened assigned shapes.object (single_stands (items.number raw) _ (number_single raw))
+    expression_form (shapes.this_word at) = single_stands (items.key (codes "this")) _ this_single
+    expression_form (shapes.big_int at raw t) = single_stands (items.big_int raw) _ (big_int_single raw)
+    expression_form (shapes.null_word at) = single_stands (items.key (codes "null")) _ null_single
+    expression_form (shapes.true_word at) = single_stands (items.key (codes "true")) _ true_single
+    expression_form (shapes.false_word at) = single_stands (items.key (codes "false")) _ false_single
+    expression_form (shapes.member at o k) = from_form assigned (member_form assigned (chain_form (expression_form o)) (key_word k))
+    expression_form (shapes.call at c es none) = from_form assigned (call_form (callee_form (expression_form c)) es (argument_forms es))
+    expression_form (shapes.parenthesized at e) = from_form assigned (parenthesized_form assigned (standing assigned (expression_form e)))
+    expression_form (shapes.element at at' o e) = from_form assigned (element_form assigned (callee_form (expression_form o)) (standing assigned (expression_form e)))
+    expression_form (shapes.prefix_update at o e) = prefix_form assigned o (expression_form e)
+    expression_form (shapes.postfix_update at o e) = postfix_form assigned o (expression_form e)
+    expression_form (shapes.await_expression at e) = await_form assigned (expression_form e)
+    expression_form (shapes.unary_expression at o e) = unary_form assigned o (unary_gap o (own_sign e)) (expression_form e)
+    expression_form (shapes.binary_expression at i l r) = binary_form assigned i (expression_form l) (expression_form r)
+    expression_form (shapes.exponentiation at l r) = power_form assigned (expression_form l) (expression_form r)
+    expression_form (shapes.both at l r) = both_form assigned (expression_form l) (expression_form r)
+    expression_form (shapes.either at l r) = either_form assigned (expression_form l) (expression_form r)
+    expression_form (shapes.assignment_expression at o t v) = assignment_form assigned o (expression_form t) (expression_form v)
+    expression_form (shapes.conditional_expression at t x y) = choice_form assigned (expression_form t) (expression_form x) (expression_form y)
 
     argument_forms : {n : Node} (is : IsArguments n) → ArgumentForms is
     argument_forms (shapes.no_arguments at) = tt
-    argument_forms (shapes.arguments at e es) = (expression_form e, expression_forms es)
+    argument_forms (shapes.arguments at e es) = (standing assigned (expression_form e), expression_forms es)
 
     expression_forms : {es : List Node} (is : AreExpressions es) → Forms is
     expression_forms shapes.no_expressions = tt
-    expression_forms (shapes.more_expressions e es) = (expression_form e, expression_forms es)
+    expression_forms (shapes.more_expressions e es) = (standing assigned (expression_form e), expression_forms es)

@@ -25,7 +25,8 @@ use Rattle.ecma_grammar.specs.productions.Modules as modules
 use Rattle.ecma_grammar.specs.productions.Functions.{arrow, arrow_rest, arrow_body, function_expression}
 use Rattle.ecma_grammar.specs.productions.Primary as primaries
 use Rattle.ecma_grammar.specs.productions.Primary.{primary, parenthesized, class_expression}
-use Rattle.ecma_grammar.specs.productions.Operators.{prefixed}
+use Rattle.ecma_grammar.specs.productions.Operators.{prefixed, factors, terms, shifts, relations, equalities}
+use Rattle.ecma_grammar.specs.productions.Expressions.{assignments}
 use Rattle.ecma_grammar.specs.productions.Chains as chains
 use Rattle.ecma_grammar.specs.productions.Chains.{links, super_of_link, import_meta, import_call, construction}
 use Rattle.ecma_grammar.specs.productions.Statements.{labeled}
@@ -34,13 +35,15 @@ use Rattle.ecma_grammar.specs.Reads.{without_separators}
 use Rattle.ecma_tokens.specs.Items as items
 use Rattle.ecma_tokens.specs.Items.{Tok, sign, Gap, no_gap, Items, it}
 use Rattle.ecma_reread.specs.Machine.{read, with_front, followed_on, built_on, interp, means}
-use Rattle.ecma_reread.specs.Tokens.{bare}
+use Rattle.ecma_reread.specs.Shapes as shapes
+use Rattle.ecma_reread.specs.Tokens.{bare, blank}
 use Rattle.ecma_reread.proofs.Levels.{means_is}
 use Rattle.ecma_grammar.specs.Made.{made}
 use Rattle.ecma_reread.proofs.Fronts.{is_known, Front, exactly, a_name, Begins, at_token, at_name, IsName, front_of, refuses_at, refused_at, refuses_all, all_refused}
-use Rattle.ecma_reread.proofs.Towers.{Tower, here, later, sooner, climb, excluded, Opens, Starts, Undeclared, parenthesis_closes, comma_closes, semicolon_closes}
+use Rattle.ecma_reread.proofs.Towers.{Tower, here, later, sooner, climb, excluded, Opens, Starts, Undeclared, Ends}
 use Rattle.ecma_reread.proofs.Heads.{is_head, member_made}
-use Rattle.ecma_reread.proofs.Forms.{Laid, s, heads, Reads, Refuses, AsParam, no_param, whole_param, linked_param, Form, Ends, expression_read}
+use Rattle.ecma_reread.proofs.Forms.{Laid, s, heads, Reads, Refuses, AsParam, no_param, whole_param, linked_param, Form}
+use Rattle.ecma_reread.proofs.Bindings.{Stands, expression_read}
 use Rattle.ecma_reread.proofs.Params.{params_end, params_by, parameters_refused, no_body_behind}
 
 name_starts : Starts a_name
@@ -189,6 +192,18 @@ false_single = record {
   taken = λ assigned g us. refl;
 }
 
+pub parenthesis_ends : Ends (exactly (sign (codes ")")))
+unfolding factors terms shifts relations equalities assignments links chains.template_start arrow_rest names.binding_ident
+parenthesis_ends = refl
+
+pub comma_ends : Ends (exactly (sign (codes ",")))
+unfolding factors terms shifts relations equalities assignments links chains.template_start arrow_rest names.binding_ident
+comma_ends = refl
+
+pub semicolon_ends : Ends (exactly (sign (codes ";")))
+unfolding factors terms shifts relations equalities assignments links chains.template_start arrow_rest names.binding_ident
+semicolon_ends = refl
+
 module _ (assigned : Bool) where
   -- what begins a chain, and the links behind it
   head_read : (f : Front) (base : Grammar) (ts us : Items) (x : Node) → ((k : Front) → Tower f k base heads) → Begins f ts → Reads assigned base ts (x ∷ []) us → (ys : List Node) (vs : Items) → Reads assigned links us ys vs → Reads assigned (heads ▸ links) ts (x ∷ ys) vs
@@ -215,6 +230,7 @@ module _ (assigned : Bool) where
     no_declaration = λ g us e b z. let u = S.undeclared in refused_at assigned (means assigned) declarations.declaration (exactly t) (it g t us) at_token u.no_declaration;
     no_word = λ g us e b z. let u = S.undeclared in refused_at assigned (means assigned) excluded (exactly t) (it g t us) at_token u.no_word;
     as_param = λ g us e b z. no_param_at (exactly t) (it g t us) us at_token S.no_param S.no_end;
+    with_default = λ g ts us n h. no_param_at (exactly t) (it g t (it blank (sign (codes "=")) ts)) us at_token S.no_param S.no_end;
   }
 
   -- a name that might be a parameter, a label or what an arrow function begins with
@@ -228,6 +244,17 @@ module _ (assigned : Bool) where
 
   pub name_as_param : (w : List ℕ) → is_reserved w ≡ false → (g : Gap) (us : Items) (e : Front) → Begins e us → refuses_at e (punct (codes "=")) ≡ true → AsParam assigned (it g (items.key w) us) us
   name_as_param w n g us e b y = whole_param (parameter w ∷ []) (parameter_read w n g us e b y)
+
+  abbrev defaulted : List ℕ → Node → Node
+  defaulted w n =
+      made form.Param 0 0 (absent ∷ made form.Chain 0 0 (made form.Annotated 0 0 (bare kind.BindingIdent (bare (kind.Ident w 0 false) [] ∷ absent ∷ []) ∷ absent ∷ absent ∷ []) ∷ bare kind.AssignPat (absent ∷ n ∷ []) ∷ []) ∷ [])
+
+  default_read : (w : List ℕ) → is_reserved w ≡ false → (g : Gap) (ts us : Items) (n : Node) → means assigned (part.Assign false false) ts ≡ read (n ∷ []) us → Reads assigned param (it g (items.key w) (it blank (sign (codes "=")) ts)) (defaulted w n ∷ []) us
+  unfolding param rest_pattern default_value pattern_body names.binding_ident
+  default_read w z g ts us n h = rw (means_is assigned part.Pattern (it g (items.key w) (it blank (sign (codes "=")) ts)), z, h) refl
+
+  pub name_with_default : (w : List ℕ) → is_reserved w ≡ false → (g : Gap) (ts us : Items) (n : Node) → means assigned (part.Assign false false) ts ≡ read (n ∷ []) us → AsParam assigned (it g (items.key w) (it blank (sign (codes "=")) ts)) us
+  name_with_default w z g ts us n h = whole_param (defaulted w n ∷ []) (default_read w z g ts us n h)
 
   pub name_no_rest : (w : List ℕ) → is_reserved w ≡ false → (g : Gap) (us : Items) (e : Front) → Begins e us → refuses_at e (arrow_body false) ≡ true → Refuses assigned (arrow_rest false false) (it g (items.key w) us)
   unfolding arrow_rest names.binding_ident
@@ -256,6 +283,7 @@ module _ (assigned : Bool) where
     no_declaration = λ g us e b z. let u = name_undeclared in refused_at assigned (means assigned) declarations.declaration a_name (it g (items.key w) us) (at_name n) u.no_declaration;
     no_word = λ g us e b z. let u = name_undeclared in refused_at assigned (means assigned) excluded a_name (it g (items.key w) us) (at_name n) u.no_word;
     as_param = name_as_param w n.free;
+    with_default = name_with_default w n.free;
   }
 
   dot_read : (w : List ℕ) (us : Items) (ys : List Node) (vs : Items) → Reads assigned links us ys vs → Reads assigned links (s (codes ".") (it no_gap (items.key w) us)) (bare kind.MemberExpr (absent ∷ bare (kind.IdentName w) [] ∷ []) ∷ ys) vs
@@ -281,21 +309,10 @@ module _ (assigned : Bool) where
         no_declaration = λ g us e b z. F.no_declaration g (s (codes ".") (it no_gap (items.key w) us)) point at_token refl;
         no_word = λ g us e b z. F.no_word g (s (codes ".") (it no_gap (items.key w) us)) point at_token refl;
         as_param = λ g us e b z. linked_param assigned at_token refl refl (F.as_param g (s (codes ".") (it no_gap (items.key w) us)) point at_token refl);
+        with_default = λ g ts us n h. linked_param assigned at_token refl refl (F.as_param g (s (codes ".") (it no_gap (items.key w) (it blank (sign (codes "=")) ts))) point at_token refl);
       }
 
   -- parentheses
-
-  pub parenthesis_ends : Ends assigned (exactly (sign (codes ")")))
-  unfolding links chains.template_start arrow_rest names.binding_ident
-  parenthesis_ends = record { no_link = refl; no_operator = parenthesis_closes; no_body = refl; no_rest = refl; no_function = refl }
-
-  pub comma_ends : Ends assigned (exactly (sign (codes ",")))
-  unfolding links chains.template_start arrow_rest names.binding_ident
-  comma_ends = record { no_link = refl; no_operator = comma_closes; no_body = refl; no_rest = refl; no_function = refl }
-
-  pub semicolon_ends : Ends assigned (exactly (sign (codes ";")))
-  unfolding links chains.template_start arrow_rest names.binding_ident
-  semicolon_ends = record { no_link = refl; no_operator = semicolon_closes; no_body = refl; no_rest = refl; no_function = refl }
 
   abbrev opening : Front
   opening = exactly (sign (codes "("))
@@ -304,16 +321,16 @@ module _ (assigned : Bool) where
   unfolding super_of_link import_meta import_call construction primary function_expression class_expression primaries.template primaries.array primaries.object
   parenthesis_tower e = later refl (later refl (later refl (later refl (later refl (later refl (later refl (later refl (later refl (later refl (later refl (later refl (later refl (later refl (later refl (later refl (later refl (later refl here)))))))))))))))))
 
-  module _ {f : Laid} {k : Kind} {ns : List Node} (F : Form assigned f k ns) where
+  module _ {f : Laid} {k : Kind} {ns : List Node} (S : Stands assigned shapes.assignment f k ns) where
     parenthesized_read : (g : Gap) (us : Items) → Reads assigned parenthesized (it g (sign (codes "(")) (f no_gap (s (codes ")") us))) (bare kind.ParenExpr (bare k ns ∷ []) ∷ []) us
     unfolding parenthesized
-    parenthesized_read g us = rw (expression_read assigned F no_gap (s (codes ")") us) (exactly (sign (codes ")"))) at_token parenthesis_ends refl) refl
+    parenthesized_read g us = rw (expression_read assigned S no_gap (s (codes ")") us) (exactly (sign (codes ")"))) at_token parenthesis_ends refl) refl
 
     parenthesized_no_arrow : (g : Gap) (us : Items) (e : Front) → Begins e us → refuses_at e (arrow_body false) ≡ true → Refuses assigned (arrow_rest false false) us → Refuses assigned (arrow false false) (it g (sign (codes "(")) (f no_gap (s (codes ")") us)))
     unfolding arrow
     parenthesized_no_arrow g us e b z r =
         let end = s (codes ")") us in
-        let p = F.as_param no_gap end (exactly (sign (codes ")"))) at_token refl in
+        let p = S.param no_gap end (exactly (sign (codes ")"))) at_token (refl, parenthesis_ends) in
         let rest = params_end assigned end (exactly (sign (codes ")"))) at_token refl (no_body_behind assigned us e b z) in
         ap (built_on form.Arrow) (ap (with_front (absent ∷ [])) (parameters_refused assigned g (f no_gap end) (params_by assigned (f no_gap end) end p rest)))
 
@@ -333,4 +350,5 @@ module _ (assigned : Bool) where
       no_declaration = λ g us e b z. refused_at assigned (means assigned) declarations.declaration opening (it g (sign (codes "(")) (f no_gap (s (codes ")") us))) at_token refl;
       no_word = λ g us e b z. refused_at assigned (means assigned) excluded opening (it g (sign (codes "(")) (f no_gap (s (codes ")") us))) at_token refl;
       as_param = λ g us e b z. no_param_at opening (it g (sign (codes "(")) (f no_gap (s (codes ")") us))) us at_token refl refl;
+      with_default = λ g ts us n h. no_param_at opening (it g (sign (codes "(")) (f no_gap (s (codes ")") (it blank (sign (codes "=")) ts)))) us at_token refl refl;
     }

@@ -1,26 +1,28 @@
 -- What an expression that is laid out is read as: what is said of each form, and what follows from it in each place.
-use Rattle.std.proofs.Common.{◌≡◌, ℕ, Bool, true, false, List, [], ◌∷◌, ◌++◌, codes, refl, ap, ◌∙◌, append-nil, Some, None, unwrap_or}
+use Rattle.std.proofs.Common.{◌≡◌, ℕ, Bool, true, false, ◌&&◌, List, [], ◌∷◌, ◌++◌, codes, ap, ◌∙◌, append-nil, Some, None, unwrap_or}
+use Rattle.std.proofs.lemmas.Bool.{and_parts}
 use Rattle.ecma_kind.specs.declared.kind.Kind.{Kind}
 use Rattle.ecma_tree.specs.declared.node.Node.{Node}
 use Rattle.ecma_tree.specs.Nodes.{absent}
-use Rattle.ecma_grammar.specs.declared.production.Part.TheVariants as part
 use Rattle.ecma_grammar.specs.declared.production.Form.TheVariants as form
 use Rattle.ecma_grammar.specs.trees.Chains.{steps, in_front_link}
-use Rattle.ecma_grammar.specs.Grammar as grammar
-use Rattle.ecma_grammar.specs.Grammar.{Grammar, put, ◌▸◌, ◌//◌, marked, build, word, punct}
+use Rattle.ecma_grammar.specs.Grammar.{Grammar, put, ◌▸◌, ◌//◌, marked, word, punct}
 use Rattle.ecma_grammar.specs.declared.production.Flag.TheVariants.{Absent}
-use Rattle.ecma_grammar.specs.productions.Names.{expression}
+use Rattle.ecma_grammar.specs.productions.Expressions.{yield_}
 use Rattle.ecma_grammar.specs.productions.Types.{param, some_return_annotation}
 use Rattle.ecma_grammar.specs.productions.Functions.{arrow, arrow_rest, arrow_body, before_colon}
 use Rattle.ecma_grammar.specs.productions.Primary.{primary}
 use Rattle.ecma_grammar.specs.productions.Chains.{chain, links, super_of_link, import_meta, import_call, construction}
 use Rattle.ecma_grammar.specs.productions.Declarations.{declaration}
-use Rattle.ecma_grammar.specs.productions.Statements.{labeled}
-use Rattle.ecma_tokens.specs.Items.{sign, Gap, no_gap, Items, it}
-use Rattle.ecma_reread.specs.Machine.{read, fails, or_on, built_on, many_up_to, interp, means}
-use Rattle.ecma_reread.proofs.Levels.{means_is}
-use Rattle.ecma_reread.proofs.Fronts.{Front, Begins, refuses_at, refused_at, refuses_first, passes_at, passed_at}
-use Rattle.ecma_reread.proofs.Towers.{climb, excluded, Opens, Starts, Closes, assign_tower, behind_arrow}
+use Rattle.ecma_grammar.specs.productions.Statements.{labeled, statement_body}
+use Rattle.ecma_grammar.specs.productions.Modules.{module_item}
+use Rattle.ecma_tokens.specs.Items.{Tok, sign, Gap, no_gap, Items, it}
+use Rattle.ecma_grammar.specs.declared.production.Part.TheVariants as part
+use Rattle.ecma_reread.specs.Tokens.{blank}
+use Rattle.ecma_reread.specs.Machine.{read, fails, built_on, interp, means}
+use Rattle.ecma_reread.specs.Shapes as shapes
+use Rattle.ecma_reread.proofs.Fronts.{Front, exactly, Begins, at_token, refuses_at, refused_at, refuses_all, all_refused, passes_at, passed_at}
+use Rattle.ecma_reread.proofs.Towers.{refuses_choices, excluded, private_in, Opens, Starts, closes}
 use Rattle.ecma_reread.proofs.Heads.{bare, is_head}
 
 abbrev pub Laid : Type 0
@@ -36,10 +38,6 @@ heads = super_of_link // import_meta // import_call // construction // primary
 -- behind `)` of what may be the parameters of an arrow function
 abbrev pub behind_params : Grammar
 behind_params = punct (codes ")") ▸ (marked some_return_annotation ▸ arrow_body false ▸ before_colon false // put Absent ▸ arrow_body false)
-
--- what follows an expression by itself is none of these
-pub record NoArrow (k : Front) : Type 0 where
-  pub no_body : refuses_at k (arrow_body false) ≡ true
 
 module _ (assigned : Bool) where
   abbrev pub Reads : Grammar → Items → List Node → Items → Type 0
@@ -77,30 +75,131 @@ module _ (assigned : Bool) where
     pub no_declaration : (g : Gap) (us : Items) (e : Front) → Begins e us → refuses_at e (word (codes "function")) ≡ true → Refuses declaration (f g us)
     pub no_word : (g : Gap) (us : Items) (e : Front) → Begins e us → refuses_at e (word (codes "function")) ≡ true → Refuses excluded (f g us)
     pub as_param : (g : Gap) (us : Items) (e : Front) → Begins e us → refuses_at e (punct (codes "=")) ≡ true → AsParam (f g us) us
-
-  -- what ends an expression: no link, no operator, no arrow, and nothing that `async` would stand before
-  pub record Ends (e : Front) : Type 0 where
-    pub no_link : passes_at e links ≡ true
-    pub no_operator : Closes e
-    pub no_body : refuses_at e (arrow_body false) ≡ true
-    pub no_rest : refuses_at e (arrow_rest false false) ≡ true
-    pub no_function : refuses_at e (word (codes "function")) ≡ true
+    -- with a default value
+    pub with_default : (g : Gap) (ts vs : Items) (n : Node) → means assigned (part.Assign false false) ts ≡ read (n ∷ []) vs → AsParam (f g (it blank (sign (codes "=")) ts)) vs
 
   module _ {f : Laid} {k : Kind} {ns : List Node} (F : Form f k ns) where
-    chain_read : (g : Gap) (us : Items) (e : Front) → Begins e us → Ends e → Reads chain (f g us) (bare k ns ∷ []) us
+    pub chain_read : (g : Gap) (us : Items) (e : Front) → Begins e us → closes shapes.object e ≡ true → Reads chain (f g us) (bare k ns ∷ []) us
     unfolding chain
     chain_read g us e b z =
-        ap (built_on form.Links) (F.own g us e b z.no_function [] us (passed_at assigned (means assigned) links e us b z.no_link))
+        let c = and_parts (passes_at e links) (refuses_at e (word (codes "function"))) z in
+        ap (built_on form.Links) (F.own g us e b c.1 [] us (passed_at assigned (means assigned) links e us b c.0))
         ∙ ap (λ o. read (unwrap_or o absent ∷ []) us) (ap (steps in_front_link None) (append-nil F.pieces) ∙ F.whole)
 
-    -- as an assignment expression
-    pub used : (g : Gap) (us : Items) (e : Front) → Begins e us → Ends e → means assigned (part.Assign false false) (f g us) ≡ read (bare k ns ∷ []) us
-    used g us e b z =
-        means_is assigned (part.Assign false false) (f g us)
-        ∙ (ap (or_on (interp assigned (means assigned) behind_arrow) (f g us)) (F.no_arrow g us e b z.no_body (refused_at assigned (means assigned) (arrow_rest false false) e us b z.no_rest))
-        ∙ climb assigned (means assigned) (assign_tower F.opens z.no_operator) (f g us) us (bare k ns) (F.begins g us) b (chain_read g us e b z))
+  -- what an expression begins with, and what is tried there before an expression
+  pub record Lead (f : Laid) : Type 0 where
+    pub front : Front
+    pub begins : (g : Gap) (us : Items) → Begins front (f g us)
+    pub starts : Starts front
+    pub no_spread : refuses_at front (punct (codes "...")) ≡ true
+    pub no_yield : refuses_at front (yield_ false) ≡ true
+    pub no_private : refuses_at front private_in ≡ true
+    pub no_arrow : (g : Gap) (us : Items) (e : Front) → Begins e us → refuses_at e (arrow_body false) ≡ true → Refuses (arrow_rest false false) us → Refuses (arrow false false) (f g us)
+    pub no_label : (g : Gap) (us : Items) (e : Front) → Begins e us → refuses_at e (punct (codes ":")) ≡ true → Refuses labeled (f g us)
+    pub no_declaration : (g : Gap) (us : Items) (e : Front) → Begins e us → refuses_at e (word (codes "function")) ≡ true → Refuses declaration (f g us)
+    pub no_word : (g : Gap) (us : Items) (e : Front) → Begins e us → refuses_at e (word (codes "function")) ≡ true → Refuses excluded (f g us)
 
-    -- as an expression
-    pub expression_read : (g : Gap) (us : Items) (e : Front) → Begins e us → Ends e → refuses_at e (punct (codes ",")) ≡ true → Reads (expression false) (f g us) (bare k ns ∷ []) us
-    unfolding expression many_up_to
-    expression_read g us e b z c = rw (used g us e b z, refused_at assigned (means assigned) (punct (codes ",") ▸ grammar.up (part.Assign false false)) e us b (refuses_first e (punct (codes ",")) (grammar.up (part.Assign false false)) c)) refl
+  abbrev pub lead_of : {f : Laid} {k : Kind} {ns : List Node} → Form f k ns → Lead f
+  lead_of F =
+      let o = F.opens in
+      record {
+        front = F.front;
+        begins = F.begins;
+        starts = F.starts;
+        no_spread = o.no_spread;
+        no_yield = o.no_yield;
+        no_private = o.no_private;
+        no_arrow = F.no_arrow;
+        no_label = F.no_label;
+        no_declaration = F.no_declaration;
+        no_word = F.no_word;
+      }
+
+-- an operator behind an expression: nothing that is tried before an expression goes on with it
+abbrev pub apart : Front → Bool
+apart e = refuses_at e (arrow_body false) && (refuses_at e (arrow_rest false false) && (refuses_at e (punct (codes ":")) && refuses_at e (word (codes "function"))))
+
+-- and no parameter does
+abbrev pub ends_no_param : Front → Bool
+ends_no_param e = refuses_at e (punct (codes "=")) && (refuses_at e (punct (codes ",")) && refuses_at e (punct (codes ")")))
+
+abbrev begins_no_param : Front → Bool
+begins_no_param e = refuses_all e param && refuses_at e (punct (codes ")"))
+
+-- a token with which an expression begins, but nothing that is tried before one
+abbrev pub only_opens : Front → Bool
+only_opens e =
+    refuses_choices 10 e statement_body && (refuses_choices 3 e module_item && (refuses_at e (punct (codes "...")) && (refuses_at e (yield_ false) && (refuses_at e private_in
+    && (refuses_all e (arrow false false) && (refuses_at e labeled && (refuses_at e declaration && (refuses_at e excluded && begins_no_param e))))))))
+
+module _ (assigned : Bool) where
+  abbrev pub lead_before : {f : Laid} → Lead assigned f → (t : Tok) → apart (exactly t) ≡ true → (h : Gap) (rest : Items → Items) → Lead assigned (λ g us. f g (it h t (rest us)))
+  lead_before {f} L t z h rest =
+      let e = exactly t in
+      let a = and_parts (refuses_at e (arrow_body false)) _ z in
+      let b = and_parts (refuses_at e (arrow_rest false false)) _ a.1 in
+      let c = and_parts (refuses_at e (punct (codes ":"))) _ b.1 in
+      record {
+        front = L.front;
+        begins = λ g us. L.begins g (it h t (rest us));
+        starts = L.starts;
+        no_spread = L.no_spread;
+        no_yield = L.no_yield;
+        no_private = L.no_private;
+        no_arrow = λ g us k s r q. L.no_arrow g (it h t (rest us)) e at_token a.0 (refused_at assigned (means assigned) (arrow_rest false false) e (it h t (rest us)) at_token b.0);
+        no_label = λ g us k s r. L.no_label g (it h t (rest us)) e at_token c.0;
+        no_declaration = λ g us k s r. L.no_declaration g (it h t (rest us)) e at_token c.1;
+        no_word = λ g us k s r. L.no_word g (it h t (rest us)) e at_token c.1;
+      }
+
+  abbrev pub lead_by : (t : Tok) → only_opens (exactly t) ≡ true → (rest : Items → Items) → Lead assigned (λ g us. it g t (rest us))
+  lead_by t z rest =
+      let e = exactly t in
+      let p = means assigned in
+      let a = and_parts (refuses_choices 10 e statement_body) _ z in
+      let b = and_parts (refuses_choices 3 e module_item) _ a.1 in
+      let c = and_parts (refuses_at e (punct (codes "..."))) _ b.1 in
+      let d = and_parts (refuses_at e (yield_ false)) _ c.1 in
+      let x = and_parts (refuses_at e private_in) _ d.1 in
+      let y = and_parts (refuses_all e (arrow false false)) _ x.1 in
+      let l = and_parts (refuses_at e labeled) _ y.1 in
+      let m = and_parts (refuses_at e declaration) _ l.1 in
+      let n = and_parts (refuses_at e excluded) _ m.1 in
+      record {
+        front = e;
+        begins = λ g us. at_token;
+        starts = record { no_statement = a.0; no_item = b.0 };
+        no_spread = c.0;
+        no_yield = d.0;
+        no_private = x.0;
+        no_arrow = λ g us k s r q. all_refused assigned (arrow false false) e (it g t (rest us)) at_token y.0;
+        no_label = λ g us k s r. refused_at assigned p labeled e (it g t (rest us)) at_token l.0;
+        no_declaration = λ g us k s r. refused_at assigned p declaration e (it g t (rest us)) at_token m.0;
+        no_word = λ g us k s r. refused_at assigned p excluded e (it g t (rest us)) at_token n.0;
+      }
+
+  -- an expression as a parameter, in front of what is no `=`
+  abbrev pub NoDefault : Laid → Type 0
+  NoDefault f = (g : Gap) (us : Items) (e : Front) → Begins e us → refuses_at e (punct (codes "=")) ≡ true → AsParam assigned (f g us) us
+
+  pub param_in_front : {f : Laid} → NoDefault f → (t : Tok) → ends_no_param (exactly t) ≡ true → (h : Gap) (rest : Items → Items) (g : Gap) (us : Items) → AsParam assigned (f g (it h t (rest us))) us
+  param_in_front P t z h rest g us =
+      let e = exactly t in
+      let x = and_parts (refuses_at e (punct (codes "="))) _ z in
+      let y = and_parts (refuses_at e (punct (codes ","))) _ x.1 in
+      linked_param assigned at_token y.0 y.1 (P g (it h t (rest us)) e at_token x.0)
+
+  pub param_by : (t : Tok) → only_opens (exactly t) ≡ true → (rest : Items → Items) (g : Gap) (us : Items) → AsParam assigned (it g t (rest us)) us
+  param_by t z rest g us =
+      let e = exactly t in
+      let a = and_parts (refuses_choices 10 e statement_body) _ z in
+      let b = and_parts (refuses_choices 3 e module_item) _ a.1 in
+      let c = and_parts (refuses_at e (punct (codes "..."))) _ b.1 in
+      let d = and_parts (refuses_at e (yield_ false)) _ c.1 in
+      let x = and_parts (refuses_at e private_in) _ d.1 in
+      let y = and_parts (refuses_all e (arrow false false)) _ x.1 in
+      let l = and_parts (refuses_at e labeled) _ y.1 in
+      let m = and_parts (refuses_at e declaration) _ l.1 in
+      let n = and_parts (refuses_at e excluded) _ m.1 in
+      let o = and_parts (refuses_all e param) _ n.1 in
+      no_param (all_refused assigned param e (it g t (rest us)) at_token o.0) (refused_at assigned (means assigned) (punct (codes ")")) e (it g t (rest us)) at_token o.1)

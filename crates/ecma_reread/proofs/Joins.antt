@@ -1,5 +1,14 @@
 -- The tokens of a module are good: each joins the next.
-use Rattle.std.proofs.Common.{◌≡◌, ℕ, ◌≤◌, Bool, true, false, List, ◌++◌, length, codes, refl, arith, length-append}
+use Rattle.std.proofs.Common.{◌≡◌, ℕ, ◌≤◌, Bool, true, false, List, ◌++◌, length, codes, refl, sym, ◌∙◌, arith, length-append}
+use Rattle.std.proofs.lemmas.Bool.{false≢true}
+use Rattle.ecma_kind.specs.declared.operators.UnaryOp.{UnaryOp}
+use Rattle.ecma_kind.specs.declared.operators.UnaryOp.TheVariants.{Minus, Plus, Bang, Tilde, TypeOf, Void, Delete}
+use Rattle.ecma_kind.specs.declared.operators.UpdateOp.{UpdateOp}
+use Rattle.ecma_kind.specs.declared.operators.UpdateOp.TheVariants.{PlusPlus, MinusMinus}
+use Rattle.ecma_kind.specs.declared.operators.AssignOp.{AssignOp}
+use Rattle.ecma_kind.specs.declared.operators.AssignOp.TheVariants.{Assign, AddAssign, SubAssign, MulAssign, DivAssign, ModAssign, LShiftAssign, RShiftAssign, ZeroFillRShiftAssign, BitOrAssign, BitXorAssign, BitAndAssign, ExpAssign, AndAssign, OrAssign, NullishAssign}
+use Rattle.ecma_kind.specs.declared.operators.BinaryOp.{BinaryOp}
+use Rattle.ecma_kind.specs.declared.operators.BinaryOp.TheVariants.{In, InstanceOf}
 use Rattle.ecma_lex.specs.Keys.{key_end}
 use Rattle.ecma_lex.specs.Punctuators.{punctuators}
 use Rattle.ecma_kind.specs.declared.operators.VarDeclKind.{VarDeclKind}
@@ -7,12 +16,16 @@ use Rattle.ecma_tree.specs.declared.node.Node.{Node}
 use Rattle.ecma_tokens.specs.Items as items
 use Rattle.ecma_tokens.specs.Items.{Tok, sign, Gap, no_gap, Items, ends, it, render, token_text}
 use Rattle.ecma_tokens.specs.Good.{IsGap, IsToken, Good}
-use Rattle.ecma_tokens.specs.Joins.{joins_next, Joined}
+use Rattle.ecma_tokens.specs.Taking.{new_line_in}
+use Rattle.ecma_tokens.specs.Joins.{joins_next, Fine, Joined}
+use Rattle.ecma_print.specs.declared.place.Beside.{Beside}
+use Rattle.ecma_print.specs.declared.place.Beside.TheVariants.{NoNeighbor, BehindMinus, BehindPlus}
+use Rattle.ecma_print.specs.Operators.{unary_sign, update_sign}
 use Rattle.ecma_tokens.proofs.Wholes.{some_text}
 use Rattle.ecma_reread.specs.Machine.{count}
 use Rattle.ecma_reread.specs.Shapes as shapes
-use Rattle.ecma_reread.specs.Shapes.{IsIdent, ident, IsKey, key, IsLexical, let_word, const_word, IsExpression, IsArguments, AreExpressions, IsInitializer, IsDeclarator, AreDeclarators, IsStatement, AreStatements, IsModule}
-use Rattle.ecma_reread.specs.Tokens.{blank, line, sign_of, ident_word, key_word, lexical_word, expression_tokens, arguments_tokens, more_tokens, declarator_tokens, declarators_tokens, statement_tokens, statements_tokens, module_tokens}
+use Rattle.ecma_reread.specs.Shapes.{Level, looser_than, IsOperator, IsIdent, ident, IsKey, key, IsLexical, let_word, const_word, IsExpression, IsArguments, AreExpressions, IsInitializer, IsDeclarator, AreDeclarators, IsStatement, AreStatements, IsModule}
+use Rattle.ecma_reread.specs.Tokens.{blank, line, sign_of, assign_token, update_token, unary_token, binary_token, own_sign, unary_gap, ident_word, key_word, lexical_word, expression_tokens, arguments_tokens, more_tokens, declarator_tokens, declarators_tokens, statement_tokens, statements_tokens, module_tokens}
 
 -- each token has a text
 pub good_long : (ts : Items) → Good ts → count ts ≤ length (render ts)
@@ -23,89 +36,424 @@ good_long (it g t ts) h =
     let b = good_long ts h.3 in
     omega (arith, length-append g.blanks (token_text t ++ render ts), length-append (token_text t) (render ts))
 
--- what may stand directly behind an expression; a point not behind a numeral
+-- what may stand directly behind an expression; a point behind an object alone
 data Soft : Bool → Items → Type 0 where
-  point : {us : Items} → Soft false (sign_of (codes ".") us)
-  opening : {numeral : Bool} {us : Items} → Soft numeral (sign_of (codes "(") us)
-  closing : {numeral : Bool} {us : Items} → Soft numeral (sign_of (codes ")") us)
-  comma : {numeral : Bool} {us : Items} → Soft numeral (sign_of (codes ",") us)
-  semicolon : {numeral : Bool} {us : Items} → Soft numeral (sign_of (codes ";") us)
+  point : {us : Items} → Soft true (sign_of (codes ".") us)
+  opening : {object : Bool} {us : Items} → Soft object (sign_of (codes "(") us)
+  closing : {object : Bool} {us : Items} → Soft object (sign_of (codes ")") us)
+  comma : {object : Bool} {us : Items} → Soft object (sign_of (codes ",") us)
+  semicolon : {object : Bool} {us : Items} → Soft object (sign_of (codes ";") us)
+  increment : {object : Bool} {us : Items} → Soft object (sign_of (codes "++") us)
+  decrement : {object : Bool} {us : Items} → Soft object (sign_of (codes "--") us)
+  opening_bracket : {object : Bool} {us : Items} → Soft object (sign_of (codes "[") us)
+  closing_bracket : {object : Bool} {us : Items} → Soft object (sign_of (codes "]") us)
+  -- behind a blank
+  parted : {object : Bool} {t : Tok} {us : Items} → Soft object (it blank t us)
 
-key_soft : {numeral : Bool} (w : List ℕ) {us : Items} → Soft numeral us → joins_next (items.key w) us ≡ true
+key_soft : {object : Bool} (w : List ℕ) {us : Items} → Soft object us → joins_next (items.key w) us ≡ true
 key_soft w point = refl
 key_soft w opening = refl
 key_soft w closing = refl
 key_soft w comma = refl
 key_soft w semicolon = refl
+key_soft w increment = refl
+key_soft w decrement = refl
+key_soft w opening_bracket = refl
+key_soft w closing_bracket = refl
+key_soft w parted = refl
 
-string_soft : {numeral : Bool} (w : List ℕ) {us : Items} → Soft numeral us → joins_next (items.string w) us ≡ true
+string_soft : {object : Bool} (w : List ℕ) {us : Items} → Soft object us → joins_next (items.string w) us ≡ true
 string_soft w point = refl
 string_soft w opening = refl
 string_soft w closing = refl
 string_soft w comma = refl
 string_soft w semicolon = refl
+string_soft w increment = refl
+string_soft w decrement = refl
+string_soft w opening_bracket = refl
+string_soft w closing_bracket = refl
+string_soft w parted = refl
 
-big_int_soft : {numeral : Bool} (w : List ℕ) {us : Items} → Soft numeral us → joins_next (items.big_int w) us ≡ true
+big_int_soft : {object : Bool} (w : List ℕ) {us : Items} → Soft object us → joins_next (items.big_int w) us ≡ true
 big_int_soft w point = refl
 big_int_soft w opening = refl
 big_int_soft w closing = refl
 big_int_soft w comma = refl
 big_int_soft w semicolon = refl
+big_int_soft w increment = refl
+big_int_soft w decrement = refl
+big_int_soft w opening_bracket = refl
+big_int_soft w closing_bracket = refl
+big_int_soft w parted = refl
 
-number_soft : (w : List ℕ) {us : Items} → Soft true us → joins_next (items.number w) us ≡ true
+number_soft : (w : List ℕ) {us : Items} → Soft false us → joins_next (items.number w) us ≡ true
 number_soft w opening = refl
 number_soft w closing = refl
 number_soft w comma = refl
 number_soft w semicolon = refl
+number_soft w increment = refl
+number_soft w decrement = refl
+number_soft w opening_bracket = refl
+number_soft w closing_bracket = refl
+number_soft w parted = refl
 
-closing_soft : {numeral : Bool} {us : Items} → Soft numeral us → joins_next (sign (codes ")")) us ≡ true
+closing_soft : {object : Bool} {us : Items} → Soft object us → joins_next (sign (codes ")")) us ≡ true
 unfolding punctuators
 closing_soft point = refl
 closing_soft opening = refl
 closing_soft closing = refl
 closing_soft comma = refl
 closing_soft semicolon = refl
+closing_soft increment = refl
+closing_soft decrement = refl
+closing_soft opening_bracket = refl
+closing_soft closing_bracket = refl
+closing_soft parted = refl
 
--- behind `(`, and behind a blank
-opening_joins : {numeral : Bool} {e : Node} (is : IsExpression numeral e) (us : Items) → joins_next (sign (codes "(")) (expression_tokens is no_gap us) ≡ true
+bracket_soft : {object : Bool} {us : Items} → Soft object us → joins_next (sign (codes "]")) us ≡ true
 unfolding punctuators
-opening_joins (shapes.name i) us = refl
-opening_joins (shapes.string at raw t) us = refl
-opening_joins (shapes.number at raw t) us = refl
-opening_joins (shapes.this_word at) us = refl
-opening_joins (shapes.big_int at raw t) us = refl
-opening_joins (shapes.null_word at) us = refl
-opening_joins (shapes.true_word at) us = refl
-opening_joins (shapes.false_word at) us = refl
-opening_joins (shapes.member at o k) us = opening_joins o (sign_of (codes ".") (it no_gap (items.key (key_word k)) us))
-opening_joins (shapes.call at c es none) us = opening_joins c (sign_of (codes "(") (arguments_tokens es (sign_of (codes ")") us)))
-opening_joins (shapes.parenthesized at e) us = refl
+bracket_soft point = refl
+bracket_soft opening = refl
+bracket_soft closing = refl
+bracket_soft comma = refl
+bracket_soft semicolon = refl
+bracket_soft increment = refl
+bracket_soft decrement = refl
+bracket_soft opening_bracket = refl
+bracket_soft closing_bracket = refl
+bracket_soft parted = refl
 
-blank_joins : (t : Tok) {numeral : Bool} {e : Node} (is : IsExpression numeral e) (us : Items) → joins_next t (expression_tokens is blank us) ≡ true
-blank_joins t (shapes.name i) us = refl
-blank_joins t (shapes.string at raw r) us = refl
-blank_joins t (shapes.number at raw r) us = refl
-blank_joins t (shapes.this_word at) us = refl
-blank_joins t (shapes.big_int at raw r) us = refl
-blank_joins t (shapes.null_word at) us = refl
-blank_joins t (shapes.true_word at) us = refl
-blank_joins t (shapes.false_word at) us = refl
-blank_joins t (shapes.member at o k) us = blank_joins t o (sign_of (codes ".") (it no_gap (items.key (key_word k)) us))
-blank_joins t (shapes.call at c es none) us = blank_joins t c (sign_of (codes "(") (arguments_tokens es (sign_of (codes ")") us)))
-blank_joins t (shapes.parenthesized at e) us = refl
+update_soft : (o : UpdateOp) {object : Bool} {us : Items} → Soft object us → joins_next (update_token o) us ≡ true
+unfolding punctuators
+update_soft PlusPlus point = refl
+update_soft PlusPlus opening = refl
+update_soft PlusPlus closing = refl
+update_soft PlusPlus comma = refl
+update_soft PlusPlus semicolon = refl
+update_soft PlusPlus increment = refl
+update_soft PlusPlus decrement = refl
+update_soft PlusPlus opening_bracket = refl
+update_soft PlusPlus closing_bracket = refl
+update_soft PlusPlus parted = refl
+update_soft MinusMinus point = refl
+update_soft MinusMinus opening = refl
+update_soft MinusMinus closing = refl
+update_soft MinusMinus comma = refl
+update_soft MinusMinus semicolon = refl
+update_soft MinusMinus increment = refl
+update_soft MinusMinus decrement = refl
+update_soft MinusMinus opening_bracket = refl
+update_soft MinusMinus closing_bracket = refl
+update_soft MinusMinus parted = refl
 
-after_line : {numeral : Bool} {e : Node} (is : IsExpression numeral e) (us : Items) → joins_next (sign (codes ";")) (expression_tokens is line us) ≡ true
-after_line (shapes.name i) us = refl
-after_line (shapes.string at raw r) us = refl
-after_line (shapes.number at raw r) us = refl
-after_line (shapes.this_word at) us = refl
-after_line (shapes.big_int at raw t) us = refl
-after_line (shapes.null_word at) us = refl
-after_line (shapes.true_word at) us = refl
-after_line (shapes.false_word at) us = refl
-after_line (shapes.member at o k) us = after_line o (sign_of (codes ".") (it no_gap (items.key (key_word k)) us))
-after_line (shapes.call at c es none) us = after_line c (sign_of (codes "(") (arguments_tokens es (sign_of (codes ")") us)))
-after_line (shapes.parenthesized at e) us = refl
+abbrev is_object : Level → Bool
+is_object shapes.object = true
+is_object l = false
+
+-- in front of a tighter expression the same may stand
+softer : (l : Level) {us : Items} → Soft (is_object (looser_than l)) us → Soft (is_object l) us
+softer shapes.object opening = opening
+softer shapes.object closing = closing
+softer shapes.object comma = comma
+softer shapes.object semicolon = semicolon
+softer shapes.object increment = increment
+softer shapes.object decrement = decrement
+softer shapes.object opening_bracket = opening_bracket
+softer shapes.object closing_bracket = closing_bracket
+softer shapes.object parted = parted
+softer shapes.callee z = z
+softer shapes.update z = z
+softer shapes.unary z = z
+softer shapes.power z = z
+softer shapes.product z = z
+softer shapes.sum z = z
+softer shapes.shift z = z
+softer shapes.relation z = z
+softer shapes.equality z = z
+softer shapes.bit_and z = z
+softer shapes.bit_xor z = z
+softer shapes.bit_or z = z
+softer shapes.logical_and z = z
+softer shapes.logical_or z = z
+softer shapes.assignment z = z
+
+-- what an expression begins with, and the sign that this is as a unary operator
+data Opens : Tok → Beside → Type 0 where
+  by_key : (w : List ℕ) → Opens (items.key w) NoNeighbor
+  by_string : (w : List ℕ) → Opens (items.string w) NoNeighbor
+  by_number : (w : List ℕ) → Opens (items.number w) NoNeighbor
+  by_big_int : (w : List ℕ) → Opens (items.big_int w) NoNeighbor
+  by_parenthesis : Opens (sign (codes "(")) NoNeighbor
+  by_update : (o : UpdateOp) → Opens (update_token o) (update_sign o)
+  by_operator : (o : UnaryOp) → Opens (unary_token o) (unary_sign o)
+
+record Begun (tokens : Gap → Items) : Type 0 where
+  pub first : Tok
+  pub by : Beside
+  pub rest : Items
+  pub opens : Opens first by
+  pub is : (g : Gap) → tokens g ≡ it g first rest
+
+begun : {level : Level} {e : Node} (is : IsExpression level e) (us : Items) → Begun (λ g. expression_tokens is g us)
+begun (shapes.looser e) us = begun e us
+begun (shapes.name i) us = record { first = items.key (ident_word i); by = NoNeighbor; rest = us; opens = by_key (ident_word i); is = λ g. refl }
+begun (shapes.string at raw t) us = record { first = items.string raw; by = NoNeighbor; rest = us; opens = by_string raw; is = λ g. refl }
+begun (shapes.number at raw t) us = record { first = items.number raw; by = NoNeighbor; rest = us; opens = by_number raw; is = λ g. refl }
+begun (shapes.this_word at) us = record { first = items.key (codes "this"); by = NoNeighbor; rest = us; opens = by_key (codes "this"); is = λ g. refl }
+begun (shapes.big_int at raw t) us = record { first = items.big_int raw; by = NoNeighbor; rest = us; opens = by_big_int raw; is = λ g. refl }
+begun (shapes.null_word at) us = record { first = items.key (codes "null"); by = NoNeighbor; rest = us; opens = by_key (codes "null"); is = λ g. refl }
+begun (shapes.true_word at) us = record { first = items.key (codes "true"); by = NoNeighbor; rest = us; opens = by_key (codes "true"); is = λ g. refl }
+begun (shapes.false_word at) us = record { first = items.key (codes "false"); by = NoNeighbor; rest = us; opens = by_key (codes "false"); is = λ g. refl }
+begun (shapes.member at o k) us = begun o (sign_of (codes ".") (it no_gap (items.key (key_word k)) us))
+begun (shapes.call at c es none) us = begun c (sign_of (codes "(") (arguments_tokens es (sign_of (codes ")") us)))
+begun (shapes.parenthesized at e) us = record { first = sign (codes "("); by = NoNeighbor; rest = expression_tokens e no_gap (sign_of (codes ")") us); opens = by_parenthesis; is = λ g. refl }
+begun (shapes.element at at' o e) us = begun o (sign_of (codes "[") (expression_tokens e no_gap (sign_of (codes "]") us)))
+begun (shapes.prefix_update at o e) us = record { first = update_token o; by = update_sign o; rest = expression_tokens e no_gap us; opens = by_update o; is = λ g. refl }
+begun (shapes.postfix_update at o e) us = begun e (it no_gap (update_token o) us)
+begun (shapes.await_expression at e) us = record { first = items.key (codes "await"); by = NoNeighbor; rest = expression_tokens e blank us; opens = by_key (codes "await"); is = λ g. refl }
+begun (shapes.unary_expression at o e) us = record { first = unary_token o; by = unary_sign o; rest = expression_tokens e (unary_gap o (own_sign e)) us; opens = by_operator o; is = λ g. refl }
+begun (shapes.binary_expression at {operator = o} i l r) us = begun l (it blank (binary_token o) (expression_tokens r blank us))
+begun (shapes.exponentiation at l r) us = begun l (it blank (sign (codes "**")) (expression_tokens r blank us))
+begun (shapes.both at l r) us = begun l (it blank (sign (codes "&&")) (expression_tokens r blank us))
+begun (shapes.either at l r) us = begun l (it blank (sign (codes "||")) (expression_tokens r blank us))
+begun (shapes.assignment_expression at o t v) us = begun t (it blank (assign_token o) (expression_tokens v blank us))
+begun (shapes.conditional_expression at t x y) us = begun t (it blank (sign (codes "?")) (expression_tokens x blank (it blank (sign (codes ":")) (expression_tokens y blank us))))
+
+-- behind `(`, behind a blank, and on a new line
+
+opening_by : {t : Tok} {b : Beside} → Opens t b → (us : Items) → joins_next (sign (codes "(")) (it no_gap t us) ≡ true
+unfolding punctuators
+opening_by (by_key w) us = refl
+opening_by (by_string w) us = refl
+opening_by (by_number w) us = refl
+opening_by (by_big_int w) us = refl
+opening_by by_parenthesis us = refl
+opening_by (by_update PlusPlus) us = refl
+opening_by (by_update MinusMinus) us = refl
+opening_by (by_operator Minus) us = refl
+opening_by (by_operator Plus) us = refl
+opening_by (by_operator Bang) us = refl
+opening_by (by_operator Tilde) us = refl
+opening_by (by_operator TypeOf) us = refl
+opening_by (by_operator Void) us = refl
+opening_by (by_operator Delete) us = refl
+
+bracket_by : {t : Tok} {b : Beside} → Opens t b → (us : Items) → joins_next (sign (codes "[")) (it no_gap t us) ≡ true
+unfolding punctuators
+bracket_by (by_key w) us = refl
+bracket_by (by_string w) us = refl
+bracket_by (by_number w) us = refl
+bracket_by (by_big_int w) us = refl
+bracket_by by_parenthesis us = refl
+bracket_by (by_update PlusPlus) us = refl
+bracket_by (by_update MinusMinus) us = refl
+bracket_by (by_operator Minus) us = refl
+bracket_by (by_operator Plus) us = refl
+bracket_by (by_operator Bang) us = refl
+bracket_by (by_operator Tilde) us = refl
+bracket_by (by_operator TypeOf) us = refl
+bracket_by (by_operator Void) us = refl
+bracket_by (by_operator Delete) us = refl
+
+opening_joins : {level : Level} {e : Node} (is : IsExpression level e) (us : Items) → joins_next (sign (codes "(")) (expression_tokens is no_gap us) ≡ true
+opening_joins is us = let b = begun is us in rw (b.is no_gap) (opening_by b.opens b.rest)
+
+update_by : (o : UpdateOp) {t : Tok} {b : Beside} → Opens t b → (us : Items) → joins_next (update_token o) (it no_gap t us) ≡ true
+unfolding punctuators
+update_by PlusPlus (by_key w) us = refl
+update_by PlusPlus (by_string w) us = refl
+update_by PlusPlus (by_number w) us = refl
+update_by PlusPlus (by_big_int w) us = refl
+update_by PlusPlus by_parenthesis us = refl
+update_by PlusPlus (by_update PlusPlus) us = refl
+update_by PlusPlus (by_update MinusMinus) us = refl
+update_by PlusPlus (by_operator Minus) us = refl
+update_by PlusPlus (by_operator Plus) us = refl
+update_by PlusPlus (by_operator Bang) us = refl
+update_by PlusPlus (by_operator Tilde) us = refl
+update_by PlusPlus (by_operator TypeOf) us = refl
+update_by PlusPlus (by_operator Void) us = refl
+update_by PlusPlus (by_operator Delete) us = refl
+update_by MinusMinus (by_key w) us = refl
+update_by MinusMinus (by_string w) us = refl
+update_by MinusMinus (by_number w) us = refl
+update_by MinusMinus (by_big_int w) us = refl
+update_by MinusMinus by_parenthesis us = refl
+update_by MinusMinus (by_update PlusPlus) us = refl
+update_by MinusMinus (by_update MinusMinus) us = refl
+update_by MinusMinus (by_operator Minus) us = refl
+update_by MinusMinus (by_operator Plus) us = refl
+update_by MinusMinus (by_operator Bang) us = refl
+update_by MinusMinus (by_operator Tilde) us = refl
+update_by MinusMinus (by_operator TypeOf) us = refl
+update_by MinusMinus (by_operator Void) us = refl
+update_by MinusMinus (by_operator Delete) us = refl
+
+update_joins : (o : UpdateOp) {level : Level} {e : Node} (is : IsExpression level e) (us : Items) → joins_next (update_token o) (expression_tokens is no_gap us) ≡ true
+update_joins o is us = let b = begun is us in rw (b.is no_gap) (update_by o b.opens b.rest)
+
+bracket_joins : {level : Level} {e : Node} (is : IsExpression level e) (us : Items) → joins_next (sign (codes "[")) (expression_tokens is no_gap us) ≡ true
+bracket_joins is us = let b = begun is us in rw (b.is no_gap) (bracket_by b.opens b.rest)
+
+pub no_new_line : {level : Level} {e : Node} (is : IsExpression level e) (us : Items) → new_line_in (expression_tokens is blank us) ≡ false
+no_new_line is us = let b = begun is us in rw (b.is blank) refl
+
+blank_joins : (t : Tok) {level : Level} {e : Node} (is : IsExpression level e) (us : Items) → joins_next t (expression_tokens is blank us) ≡ true
+blank_joins t is us = let b = begun is us in rw (b.is blank) refl
+
+after_line : {level : Level} {e : Node} (is : IsExpression level e) (us : Items) → joins_next (sign (codes ";")) (expression_tokens is line us) ≡ true
+after_line is us = let b = begun is us in rw (b.is line) refl
+
+-- the operand of a unary operator: it begins with no sign but that of an operator of its own
+
+abbrev is_linked : Level → Bool
+is_linked shapes.object = true
+is_linked shapes.callee = true
+is_linked l = false
+
+abbrev is_operand : Level → Bool
+is_operand shapes.update = true
+is_operand shapes.unary = true
+is_operand l = is_linked l
+
+linked_first : (l : Level) → is_linked (looser_than l) ≡ true → is_linked l ≡ true
+linked_first shapes.object h = refl
+linked_first shapes.callee h = refl
+linked_first l h = h
+
+operand_first : (l : Level) → is_operand (looser_than l) ≡ true → is_operand l ≡ true
+operand_first shapes.object h = refl
+operand_first shapes.callee h = refl
+operand_first shapes.update h = refl
+operand_first shapes.unary h = refl
+operand_first l h = h
+
+no_operand : {o : BinaryOp} {l t : Level} → IsOperator o l t → is_operand l ≡ false
+no_operand shapes.times = refl
+no_operand i = refl
+
+linked_operand : (l : Level) → is_linked l ≡ true → is_operand l ≡ true
+linked_operand shapes.update h = refl
+linked_operand shapes.unary h = refl
+linked_operand l h = h
+
+plain : {level : Level} {e : Node} (is : IsExpression level e) (us : Items) → is_linked level ≡ true → (let b = begun is us in b.by) ≡ NoNeighbor
+unfolding begun
+plain (shapes.looser {level = l} e) us h = plain e us (linked_first l h)
+plain (shapes.member at o k) us h = plain o (sign_of (codes ".") (it no_gap (items.key (key_word k)) us)) refl
+plain (shapes.call at c es none) us h = plain c (sign_of (codes "(") (arguments_tokens es (sign_of (codes ")") us))) refl
+plain (shapes.element at at' o e) us h = plain o (sign_of (codes "[") (expression_tokens e no_gap (sign_of (codes "]") us))) refl
+plain (shapes.prefix_update at o e) us h = absurd (false≢true h)
+plain (shapes.postfix_update at o e) us h = absurd (false≢true h)
+plain (shapes.await_expression at e) us h = refl
+plain (shapes.unary_expression at o e) us h = absurd (false≢true h)
+plain (shapes.binary_expression at {level = l} i x y) us h = absurd (false≢true (sym (no_operand i) ∙ linked_operand l h))
+plain (shapes.exponentiation at l r) us h = absurd (false≢true h)
+plain (shapes.both at l r) us h = absurd (false≢true h)
+plain (shapes.either at l r) us h = absurd (false≢true h)
+plain (shapes.assignment_expression at o t v) us h = absurd (false≢true h)
+plain (shapes.conditional_expression at t x y) us h = absurd (false≢true h)
+plain (shapes.name i) us h = refl
+plain (shapes.string at raw t) us h = refl
+plain (shapes.number at raw t) us h = refl
+plain (shapes.this_word at) us h = refl
+plain (shapes.big_int at raw t) us h = refl
+plain (shapes.null_word at) us h = refl
+plain (shapes.true_word at) us h = refl
+plain (shapes.false_word at) us h = refl
+plain (shapes.parenthesized at e) us h = refl
+
+signed : {level : Level} {e : Node} (is : IsExpression level e) (us : Items) → is_operand level ≡ true → (let b = begun is us in b.by) ≡ own_sign is
+unfolding begun
+signed (shapes.looser {level = l} e) us h = signed e us (operand_first l h)
+signed (shapes.member at o k) us h = plain o (sign_of (codes ".") (it no_gap (items.key (key_word k)) us)) refl
+signed (shapes.call at c es none) us h = plain c (sign_of (codes "(") (arguments_tokens es (sign_of (codes ")") us))) refl
+signed (shapes.element at at' o e) us h = plain o (sign_of (codes "[") (expression_tokens e no_gap (sign_of (codes "]") us))) refl
+signed (shapes.prefix_update at o e) us h = refl
+signed (shapes.postfix_update at o e) us h = plain e (it no_gap (update_token o) us) refl
+signed (shapes.await_expression at e) us h = refl
+signed (shapes.unary_expression at o e) us h = refl
+signed (shapes.binary_expression at {level = l} i x y) us h = absurd (false≢true (sym (no_operand i) ∙ h))
+signed (shapes.exponentiation at l r) us h = absurd (false≢true h)
+signed (shapes.both at l r) us h = absurd (false≢true h)
+signed (shapes.either at l r) us h = absurd (false≢true h)
+signed (shapes.assignment_expression at o t v) us h = absurd (false≢true h)
+signed (shapes.conditional_expression at t x y) us h = absurd (false≢true h)
+signed (shapes.name i) us h = refl
+signed (shapes.string at raw t) us h = refl
+signed (shapes.number at raw t) us h = refl
+signed (shapes.this_word at) us h = refl
+signed (shapes.big_int at raw t) us h = refl
+signed (shapes.null_word at) us h = refl
+signed (shapes.true_word at) us h = refl
+signed (shapes.false_word at) us h = refl
+signed (shapes.parenthesized at e) us h = refl
+
+-- a unary operator joins its operand
+unary_by : (o : UnaryOp) {t : Tok} {b : Beside} → Opens t b → (us : Items) → joins_next (unary_token o) (it (unary_gap o b) t us) ≡ true
+unfolding punctuators
+unary_by Minus (by_key w) us = refl
+unary_by Minus (by_string w) us = refl
+unary_by Minus (by_number w) us = refl
+unary_by Minus (by_big_int w) us = refl
+unary_by Minus by_parenthesis us = refl
+unary_by Minus (by_update PlusPlus) us = refl
+unary_by Minus (by_update MinusMinus) us = refl
+unary_by Minus (by_operator Minus) us = refl
+unary_by Minus (by_operator Plus) us = refl
+unary_by Minus (by_operator Bang) us = refl
+unary_by Minus (by_operator Tilde) us = refl
+unary_by Minus (by_operator TypeOf) us = refl
+unary_by Minus (by_operator Void) us = refl
+unary_by Minus (by_operator Delete) us = refl
+unary_by Plus (by_key w) us = refl
+unary_by Plus (by_string w) us = refl
+unary_by Plus (by_number w) us = refl
+unary_by Plus (by_big_int w) us = refl
+unary_by Plus by_parenthesis us = refl
+unary_by Plus (by_update PlusPlus) us = refl
+unary_by Plus (by_update MinusMinus) us = refl
+unary_by Plus (by_operator Minus) us = refl
+unary_by Plus (by_operator Plus) us = refl
+unary_by Plus (by_operator Bang) us = refl
+unary_by Plus (by_operator Tilde) us = refl
+unary_by Plus (by_operator TypeOf) us = refl
+unary_by Plus (by_operator Void) us = refl
+unary_by Plus (by_operator Delete) us = refl
+unary_by Bang (by_key w) us = refl
+unary_by Bang (by_string w) us = refl
+unary_by Bang (by_number w) us = refl
+unary_by Bang (by_big_int w) us = refl
+unary_by Bang by_parenthesis us = refl
+unary_by Bang (by_update PlusPlus) us = refl
+unary_by Bang (by_update MinusMinus) us = refl
+unary_by Bang (by_operator Minus) us = refl
+unary_by Bang (by_operator Plus) us = refl
+unary_by Bang (by_operator Bang) us = refl
+unary_by Bang (by_operator Tilde) us = refl
+unary_by Bang (by_operator TypeOf) us = refl
+unary_by Bang (by_operator Void) us = refl
+unary_by Bang (by_operator Delete) us = refl
+unary_by Tilde (by_key w) us = refl
+unary_by Tilde (by_string w) us = refl
+unary_by Tilde (by_number w) us = refl
+unary_by Tilde (by_big_int w) us = refl
+unary_by Tilde by_parenthesis us = refl
+unary_by Tilde (by_update PlusPlus) us = refl
+unary_by Tilde (by_update MinusMinus) us = refl
+unary_by Tilde (by_operator Minus) us = refl
+unary_by Tilde (by_operator Plus) us = refl
+unary_by Tilde (by_operator Bang) us = refl
+unary_by Tilde (by_operator Tilde) us = refl
+unary_by Tilde (by_operator TypeOf) us = refl
+unary_by Tilde (by_operator Void) us = refl
+unary_by Tilde (by_operator Delete) us = refl
+unary_by TypeOf h us = refl
+unary_by Void h us = refl
+unary_by Delete h us = refl
+
+unary_joins : (o : UnaryOp) {e : Node} (is : IsExpression shapes.unary e) (us : Items) → joins_next (unary_token o) (expression_tokens is (unary_gap o (own_sign is)) us) ≡ true
+unary_joins o is us = let b = begun is us in rw (b.is (unary_gap o (own_sign is)), ← signed is us refl) (unary_by o b.opens b.rest)
 
 no_gap_is : IsGap no_gap
 no_gap_is = record { blank = refl; told = refl }
@@ -115,6 +463,15 @@ blank_is = record { blank = refl; told = refl }
 
 line_is : IsGap line
 line_is = record { blank = refl; told = refl }
+
+unary_gap_is : (o : UnaryOp) (b : Beside) → IsGap (unary_gap o b)
+unary_gap_is Minus BehindMinus = blank_is
+unary_gap_is Minus b = no_gap_is
+unary_gap_is Plus BehindPlus = blank_is
+unary_gap_is Plus b = no_gap_is
+unary_gap_is Bang b = no_gap_is
+unary_gap_is Tilde b = no_gap_is
+unary_gap_is o b = blank_is
 
 ident_whole : {n : Node} (i : IsIdent n) → IsToken key_end (ident_word i)
 ident_whole (ident at w i) = i.whole
@@ -130,16 +487,76 @@ pub record Words : Type 0 where
   pub false_whole : IsToken key_end (codes "false")
   pub let_whole : IsToken key_end (codes "let")
   pub const_whole : IsToken key_end (codes "const")
+  pub typeof_whole : IsToken key_end (codes "typeof")
+  pub void_whole : IsToken key_end (codes "void")
+  pub delete_whole : IsToken key_end (codes "delete")
+  pub await_whole : IsToken key_end (codes "await")
+  pub debugger_whole : IsToken key_end (codes "debugger")
+  pub throw_whole : IsToken key_end (codes "throw")
+  pub return_whole : IsToken key_end (codes "return")
+  pub break_whole : IsToken key_end (codes "break")
+  pub continue_whole : IsToken key_end (codes "continue")
+  pub in_whole : IsToken key_end (codes "in")
+  pub instanceof_whole : IsToken key_end (codes "instanceof")
 
 module _ (words : Words) where
-  more_soft : {es : List Node} (is : AreExpressions es) (numeral : Bool) (us : Items) → Soft numeral (more_tokens is (sign_of (codes ")") us))
-  more_soft shapes.no_expressions numeral us = closing
-  more_soft (shapes.more_expressions e es) numeral us = comma
+  more_soft : {es : List Node} (is : AreExpressions es) (object : Bool) (us : Items) → Soft object (more_tokens is (sign_of (codes ")") us))
+  more_soft shapes.no_expressions object us = closing
+  more_soft (shapes.more_expressions e es) object us = comma
+
+  update_fine : (o : UpdateOp) → Fine (update_token o)
+  unfolding punctuators
+  update_fine PlusPlus = refl
+  update_fine MinusMinus = refl
+
+  update_behind : (o : UpdateOp) {object : Bool} {us : Items} → Soft object (it no_gap (update_token o) us)
+  update_behind PlusPlus = increment
+  update_behind MinusMinus = decrement
+
+  assign_fine : (o : AssignOp) → Fine (assign_token o)
+  unfolding punctuators
+  assign_fine Assign = refl
+  assign_fine AddAssign = refl
+  assign_fine SubAssign = refl
+  assign_fine MulAssign = refl
+  assign_fine DivAssign = refl
+  assign_fine ModAssign = refl
+  assign_fine LShiftAssign = refl
+  assign_fine RShiftAssign = refl
+  assign_fine ZeroFillRShiftAssign = refl
+  assign_fine BitOrAssign = refl
+  assign_fine BitXorAssign = refl
+  assign_fine BitAndAssign = refl
+  assign_fine ExpAssign = refl
+  assign_fine AndAssign = refl
+  assign_fine OrAssign = refl
+  assign_fine NullishAssign = refl
+
+  unary_fine : (o : UnaryOp) → Fine (unary_token o)
+  unfolding punctuators
+  unary_fine Minus = refl
+  unary_fine Plus = refl
+  unary_fine Bang = refl
+  unary_fine Tilde = refl
+  unary_fine TypeOf = words.typeof_whole
+  unary_fine Void = words.void_whole
+  unary_fine Delete = words.delete_whole
+
+  binary_fine : (o : BinaryOp) → Fine (binary_token o)
+  unfolding punctuators
+  binary_fine In = words.in_whole
+  binary_fine InstanceOf = words.instanceof_whole
+  binary_fine o = refl
+
+  -- behind the right side of an operator no point stands either
+  right_soft : {o : BinaryOp} {l t : Level} {us : Items} → IsOperator o l t → Soft (is_object l) us → Soft (is_object t) us
+  right_soft shapes.times z = z
+  right_soft i z = z
 
   mutual
     unfolding punctuators
 
-    expression_joined : {numeral : Bool} {e : Node} (is : IsExpression numeral e) (g : Gap) → IsGap g → (us : Items) → Soft numeral us → Joined us → Joined (expression_tokens is g us)
+    expression_joined : {level : Level} {e : Node} (is : IsExpression level e) (g : Gap) → IsGap g → (us : Items) → Soft (is_object level) us → Joined us → Joined (expression_tokens is g us)
     expression_joined (shapes.name i) g h us z j = (h, ident_whole i, key_soft (ident_word i) z, j)
     expression_joined (shapes.string at raw t) g h us z j = (h, t, string_soft raw z, j)
     expression_joined (shapes.number at raw t) g h us z j = (h, t, number_soft raw z, j)
@@ -152,26 +569,48 @@ module _ (words : Words) where
         expression_joined o g h (sign_of (codes ".") (it no_gap (items.key (key_word k)) us)) point (no_gap_is, refl, refl, (no_gap_is, key_whole k, key_soft (key_word k) z, j))
     expression_joined (shapes.call at c es none) g h us z j = expression_joined c g h (sign_of (codes "(") (arguments_tokens es (sign_of (codes ")") us))) opening (arguments_joined es us (no_gap_is, refl, closing_soft z, j))
     expression_joined (shapes.parenthesized at e) g h us z j = (h, refl, opening_joins e (sign_of (codes ")") us), expression_joined e no_gap no_gap_is (sign_of (codes ")") us) closing (no_gap_is, refl, closing_soft z, j))
+    expression_joined (shapes.looser {level = l} e) g h us z j = expression_joined e g h us (softer l z) j
+    expression_joined (shapes.element at at' {level = l} o e) g h us z j =
+        expression_joined o g h (sign_of (codes "[") (expression_tokens e no_gap (sign_of (codes "]") us))) opening_bracket
+        (no_gap_is, refl, bracket_joins e (sign_of (codes "]") us), expression_joined e no_gap no_gap_is (sign_of (codes "]") us) closing_bracket (no_gap_is, refl, bracket_soft z, j))
+    expression_joined (shapes.prefix_update at o e) g h us z j = (h, update_fine o, update_joins o e us, expression_joined e no_gap no_gap_is us z j)
+    expression_joined (shapes.postfix_update at o e) g h us z j = expression_joined e g h (it no_gap (update_token o) us) (update_behind o) (no_gap_is, update_fine o, update_soft o z, j)
+    expression_joined (shapes.await_expression at e) g h us z j = (h, words.await_whole, blank_joins (items.key (codes "await")) e us, expression_joined e blank blank_is us z j)
+    expression_joined (shapes.unary_expression at o e) g h us z j = (h, unary_fine o, unary_joins o e us, expression_joined e (unary_gap o (own_sign e)) (unary_gap_is o (own_sign e)) us z j)
+    expression_joined (shapes.binary_expression at {operator = o} i x y) g h us z j =
+        expression_joined x g h (it blank (binary_token o) (expression_tokens y blank us)) parted (blank_is, binary_fine o, blank_joins (binary_token o) y us, expression_joined y blank blank_is us (right_soft i z) j)
+    expression_joined (shapes.exponentiation at x y) g h us z j =
+        expression_joined x g h (it blank (sign (codes "**")) (expression_tokens y blank us)) parted (blank_is, refl, blank_joins (sign (codes "**")) y us, expression_joined y blank blank_is us z j)
+    expression_joined (shapes.both at x y) g h us z j =
+        expression_joined x g h (it blank (sign (codes "&&")) (expression_tokens y blank us)) parted (blank_is, refl, blank_joins (sign (codes "&&")) y us, expression_joined y blank blank_is us z j)
+    expression_joined (shapes.either at x y) g h us z j =
+        expression_joined x g h (it blank (sign (codes "||")) (expression_tokens y blank us)) parted (blank_is, refl, blank_joins (sign (codes "||")) y us, expression_joined y blank blank_is us z j)
+    expression_joined (shapes.assignment_expression at o t v) g h us z j =
+        expression_joined t g h (it blank (assign_token o) (expression_tokens v blank us)) parted (blank_is, assign_fine o, blank_joins (assign_token o) v us, expression_joined v blank blank_is us z j)
+    expression_joined (shapes.conditional_expression at t x y) g h us z j =
+        let seconds = it blank (sign (codes ":")) (expression_tokens y blank us) in
+        expression_joined t g h (it blank (sign (codes "?")) (expression_tokens x blank seconds)) parted
+        (blank_is, refl, blank_joins (sign (codes "?")) x seconds, expression_joined x blank blank_is seconds parted (blank_is, refl, blank_joins (sign (codes ":")) y us, expression_joined y blank blank_is us z j))
 
     arguments_joined : {n : Node} (is : IsArguments n) (us : Items) → Joined (sign_of (codes ")") us) → Joined (sign_of (codes "(") (arguments_tokens is (sign_of (codes ")") us)))
     arguments_joined (shapes.no_arguments at) us j = (no_gap_is, refl, refl, j)
-    arguments_joined (shapes.arguments at {numeral = n} e es) us j =
-        (no_gap_is, refl, opening_joins e (more_tokens es (sign_of (codes ")") us)), expression_joined e no_gap no_gap_is (more_tokens es (sign_of (codes ")") us)) (more_soft es n us) (more_joined es us j))
+    arguments_joined (shapes.arguments at {level = l} e es) us j =
+        (no_gap_is, refl, opening_joins e (more_tokens es (sign_of (codes ")") us)), expression_joined e no_gap no_gap_is (more_tokens es (sign_of (codes ")") us)) (more_soft es (is_object l) us) (more_joined es us j))
 
     more_joined : {es : List Node} (is : AreExpressions es) (us : Items) → Joined (sign_of (codes ")") us) → Joined (more_tokens is (sign_of (codes ")") us))
     more_joined shapes.no_expressions us j = j
-    more_joined (shapes.more_expressions {numeral = n} e es) us j =
-        (no_gap_is, refl, blank_joins (sign (codes ",")) e (more_tokens es (sign_of (codes ")") us)), expression_joined e blank blank_is (more_tokens es (sign_of (codes ")") us)) (more_soft es n us) (more_joined es us j))
+    more_joined (shapes.more_expressions {level = l} e es) us j =
+        (no_gap_is, refl, blank_joins (sign (codes ",")) e (more_tokens es (sign_of (codes ")") us)), expression_joined e blank blank_is (more_tokens es (sign_of (codes ")") us)) (more_soft es (is_object l) us) (more_joined es us j))
 
   -- a declarator ends before `,` or `;`
-  declarators_soft : {ds : List Node} (is : AreDeclarators ds) (numeral : Bool) (us : Items) → Soft numeral (declarators_tokens is (sign_of (codes ";") us))
-  declarators_soft shapes.no_declarators numeral us = semicolon
-  declarators_soft (shapes.more_declarators d ds) numeral us = comma
+  declarators_soft : {ds : List Node} (is : AreDeclarators ds) (object : Bool) (us : Items) → Soft object (declarators_tokens is (sign_of (codes ";") us))
+  declarators_soft shapes.no_declarators object us = semicolon
+  declarators_soft (shapes.more_declarators d ds) object us = comma
 
-  declarator_joined : {n : Node} (is : IsDeclarator n) (us : Items) → ((numeral : Bool) → Soft numeral us) → Joined us → Joined (declarator_tokens is us)
+  declarator_joined : {n : Node} (is : IsDeclarator n) (us : Items) → ((object : Bool) → Soft object us) → Joined us → Joined (declarator_tokens is us)
   unfolding punctuators
   declarator_joined (shapes.declarator at at' i a (shapes.no_initializer b)) us z j = (blank_is, ident_whole i, key_soft (ident_word i) (z false), j)
-  declarator_joined (shapes.declarator at at' i a (shapes.initializer {numeral = n} e)) us z j = (blank_is, ident_whole i, refl, (blank_is, refl, blank_joins (sign (codes "=")) e us, expression_joined e blank blank_is us (z n) j))
+  declarator_joined (shapes.declarator at at' i a (shapes.initializer {level = l} e)) us z j = (blank_is, ident_whole i, refl, (blank_is, refl, blank_joins (sign (codes "=")) e us, expression_joined e blank blank_is us (z (is_object l)) j))
 
   declarators_joined : {ds : List Node} (is : AreDeclarators ds) (us : Items) → Joined (sign_of (codes ";") us) → Joined (declarators_tokens is (sign_of (codes ";") us))
   unfolding punctuators
@@ -184,6 +623,13 @@ module _ (words : Words) where
   lexical_whole const_word = words.const_whole
 
   statement_joined : {n : Node} (is : IsStatement n) (g : Gap) → IsGap g → (us : Items) → Joined (sign_of (codes ";") us) → Joined (statement_tokens is g us)
+  statement_joined (shapes.empty at) g h us j = let n = j.1 in (h, n, j.2, j.3)
+  statement_joined (shapes.debugger_word at) g h us j = (h, words.debugger_whole, refl, j)
+  statement_joined (shapes.throw at e) g h us j = (h, words.throw_whole, blank_joins (items.key (codes "throw")) e (sign_of (codes ";") us), expression_joined e blank blank_is (sign_of (codes ";") us) semicolon j)
+  statement_joined (shapes.return_value at e) g h us j = (h, words.return_whole, blank_joins (items.key (codes "return")) e (sign_of (codes ";") us), expression_joined e blank blank_is (sign_of (codes ";") us) semicolon j)
+  statement_joined (shapes.return_nothing at a) g h us j = (h, words.return_whole, refl, j)
+  statement_joined (shapes.break_nothing at a) g h us j = (h, words.break_whole, refl, j)
+  statement_joined (shapes.continue_nothing at a) g h us j = (h, words.continue_whole, refl, j)
   statement_joined (shapes.expression at e) g h us j = expression_joined e g h (sign_of (codes ";") us) semicolon j
   statement_joined (shapes.declaration at at' w (shapes.declarator a b i c e) ds) g h us j =
       (h, lexical_whole w, refl, declarator_joined (shapes.declarator a b i c e) (declarators_tokens ds (sign_of (codes ";") us)) (λ n. declarators_soft ds n us) (declarators_joined ds us j))
@@ -192,6 +638,13 @@ module _ (words : Words) where
   line_joins shapes.no_statements = refl
   line_joins (shapes.more_statements (shapes.expression at e) ss) = after_line e (sign_of (codes ";") (statements_tokens ss line))
   line_joins (shapes.more_statements (shapes.declaration at at' w d ds) ss) = refl
+  line_joins (shapes.more_statements (shapes.empty at) ss) = refl
+  line_joins (shapes.more_statements (shapes.debugger_word at) ss) = refl
+  line_joins (shapes.more_statements (shapes.return_nothing at a) ss) = refl
+  line_joins (shapes.more_statements (shapes.break_nothing at a) ss) = refl
+  line_joins (shapes.more_statements (shapes.continue_nothing at a) ss) = refl
+  line_joins (shapes.more_statements (shapes.throw at e) ss) = refl
+  line_joins (shapes.more_statements (shapes.return_value at e) ss) = refl
 
   statements_joined : {ss : List Node} (is : AreStatements ss) (g : Gap) → IsGap g → Joined (statements_tokens is g)
   unfolding punctuators

@@ -1,28 +1,39 @@
 -- The layout of a tree is the text of its tokens.
-use Rattle.std.proofs.Common.{◌≡◌, ℕ, Bool, true, false, ltb, List, [], ◌∷◌, ◌++◌, map, codes, refl, ap, sym, ◌∙◌, append-nil, None}
-use Rattle.std.proofs.lemmas.Bool.{false≢true}
+use Rattle.std.proofs.Common.{◌≡◌, ◌≤◌, ℕ, Bool, true, false, ◌&&◌, ltb, List, [], ◌∷◌, ◌++◌, map, codes, refl, ap, sym, ◌∙◌, append-nil, None, arith}
+use Rattle.std.proofs.lemmas.Bool.{false≢true, le-ltb, ltb-false}
+use Rattle.ecma_kind.specs.declared.operators.UnaryOp.{UnaryOp}
+use Rattle.ecma_kind.specs.declared.operators.UnaryOp.TheVariants.{Minus, Plus, Bang, Tilde, TypeOf, Void, Delete}
+use Rattle.ecma_kind.specs.declared.operators.UpdateOp.{UpdateOp}
+use Rattle.ecma_kind.specs.declared.operators.UpdateOp.TheVariants.{PlusPlus, MinusMinus}
+use Rattle.ecma_kind.specs.declared.operators.AssignOp.{AssignOp}
+use Rattle.ecma_kind.specs.declared.operators.AssignOp.TheVariants.{Assign, AddAssign, SubAssign, MulAssign, DivAssign, ModAssign, LShiftAssign, RShiftAssign, ZeroFillRShiftAssign, BitOrAssign, BitXorAssign, BitAndAssign, ExpAssign, AndAssign, OrAssign, NullishAssign}
+use Rattle.ecma_kind.specs.declared.operators.BinaryOp.{BinaryOp}
+use Rattle.ecma_kind.specs.declared.operators.BinaryOp.TheVariants as op
 use Rattle.ecma_kind.specs.declared.span.Span.{Span}
 use Rattle.ecma_kind.specs.declared.kind.Kind.{Kind}
 use Rattle.ecma_kind.specs.declared.kind.Kind.TheVariants as kind
 use Rattle.ecma_tree.specs.declared.node.Node.{Node, fold-roll-Node}
 use Rattle.ecma_tree.specs.Nodes.{node_of}
 use Rattle.ecma_print.specs.declared.place.Begins.TheVariants.{StatementStart}
-use Rattle.ecma_print.specs.declared.place.Beside.TheVariants.{BeforeDot, BeforeLink}
-use Rattle.ecma_print.specs.declared.place.Between.TheVariants.{Equals}
+use Rattle.ecma_print.specs.declared.place.Beside.{Beside}
+use Rattle.ecma_print.specs.declared.place.Beside.TheVariants.{UnderLogical, NoNeighbor, BeforeDot, BeforeLink, BehindMinus, BehindPlus}
+use Rattle.ecma_print.specs.declared.place.Between.{Between}
+use Rattle.ecma_print.specs.declared.place.Between.TheVariants.{Blank, Equals}
 use Rattle.ecma_print.specs.declared.place.Spot.{Spot}
 use Rattle.ecma_print.specs.declared.place.Place.{Place}
 use Rattle.ecma_print.specs.declared.place.Place.TheVariants.{At, Within, Arguments, Lines, Commas}
-use Rattle.ecma_print.specs.Places.{free, left, beginning}
-use Rattle.ecma_print.specs.Laid.{Laid}
-use Rattle.ecma_print.specs.Levels.{is_before_dot}
-use Rattle.ecma_print.specs.Expressions.{object_beside, is_optional}
+use Rattle.ecma_print.specs.Places.{before, after, free, left, right, beginning, gap, opens_a_block}
+use Rattle.ecma_print.specs.Laid.{Laid, is_object_pattern}
+use Rattle.ecma_print.specs.Levels.{is_before_dot, clashes}
+use Rattle.ecma_print.specs.Operators.{assign_word, unary_word, unary_sign, update_word, update_sign, binary_word, binary_level, left_level, right_level, under}
+use Rattle.ecma_print.specs.Expressions.{before_key, object_beside, is_optional}
 use Rattle.ecma_print.specs.Lists.{lines, more_commas}
 use Rattle.ecma_print.specs.Layout.{in_place, by_itself, lay_step, laid, layout}
 use Rattle.ecma_tokens.specs.Items as items
-use Rattle.ecma_tokens.specs.Items.{Tok, sign, Gap, no_gap, Items, ends, it, render}
+use Rattle.ecma_tokens.specs.Items.{Tok, sign, Gap, no_gap, Items, ends, it, token_text, render}
 use Rattle.ecma_reread.specs.Shapes as shapes
-use Rattle.ecma_reread.specs.Shapes.{IsIdent, ident, IsKey, key, IsAbsent, IsLexical, let_word, const_word, IsExpression, IsArguments, AreExpressions, IsInitializer, IsDeclarator, AreDeclarators, IsStatement, AreStatements, IsModule}
-use Rattle.ecma_reread.specs.Tokens.{blank, line, sign_of, expression_tokens, arguments_tokens, more_tokens, initializer_tokens, declarator_tokens, declarators_tokens, statement_tokens, statements_tokens, module_tokens}
+use Rattle.ecma_reread.specs.Shapes.{Level, looser_than, IsOperator, IsIdent, ident, IsKey, key, IsAbsent, IsLexical, let_word, const_word, IsExpression, IsArguments, AreExpressions, IsInitializer, IsDeclarator, AreDeclarators, IsStatement, AreStatements, IsModule}
+use Rattle.ecma_reread.specs.Tokens.{blank, line, sign_of, assign_token, update_token, unary_token, binary_token, own_sign, unary_gap, expression_tokens, arguments_tokens, more_tokens, initializer_tokens, declarator_tokens, declarators_tokens, statement_tokens, statements_tokens, module_tokens}
 
 laid_node : (at : Span) (k : Kind) (cs : List Node) → laid (node_of at k cs) ≡ record { kind = k; at = in_place k (map laid cs); parts = map by_itself (map laid cs) }
 laid_node at k cs = fold-roll-Node Laid lay_step (record { span = at; kind = k; children = cs })
@@ -30,16 +41,232 @@ laid_node at k cs = fold-roll-Node Laid lay_step (record { span = at; kind = k; 
 at_node : (at : Span) (k : Kind) (cs : List Node) (place : Place) (m rest : List ℕ) → (laid (node_of at k cs)).at place m rest ≡ in_place k (map laid cs) place m rest
 at_node at k cs place m rest = ap (λ x. x.at place m rest) (laid_node at k cs)
 
--- a place where members and calls stand without parentheses, in no optional chain
-record Calm (spot : Spot) : Type 0 where
-  pub low : ltb 16 spot.level ≡ false
-  pub lower : ltb 17 spot.level ≡ false
+-- the level of the printer that is each level
+abbrev number_of : Level → ℕ
+number_of shapes.object = 16
+number_of shapes.callee = 16
+number_of shapes.update = 15
+number_of shapes.unary = 14
+number_of shapes.power = 13
+number_of shapes.product = 12
+number_of shapes.sum = 11
+number_of shapes.shift = 10
+number_of shapes.relation = 9
+number_of shapes.equality = 8
+number_of shapes.bit_and = 7
+number_of shapes.bit_xor = 6
+number_of shapes.bit_or = 5
+number_of shapes.logical_and = 4
+number_of shapes.logical_or = 3
+number_of shapes.assignment = 1
+
+abbrev is_object : Level → Bool
+is_object shapes.object = true
+is_object l = false
+
+-- a place where expressions of the level stand without parentheses, in no optional chain
+record Calm (l : Level) (spot : Spot) : Type 0 where
+  pub low : ltb (number_of l) spot.level ≡ false
+  pub with_in : spot.without_in ≡ false
   pub no_new : spot.in_callee_of_new ≡ false
-  pub dot : object_beside spot.beside false ≡ BeforeDot
+  pub outside : (computed : Bool) → object_beside spot.beside computed ≡ before_key computed
   pub own : is_optional spot.beside ≡ false
+  pub both_fits : clashes op.LogicalAnd spot spot.beside ≡ false
+  pub either_fits : clashes op.LogicalOr spot spot.beside ≡ false
+  pub no_dot : is_object l ≡ false → is_before_dot spot.beside ≡ false
+
+-- what stands where a looser level stands is a tighter one
+lowered : (l : Level) → number_of (looser_than l) ≤ number_of l
+lowered shapes.object = omega arith
+lowered shapes.callee = omega arith
+lowered shapes.update = omega arith
+lowered shapes.unary = omega arith
+lowered shapes.power = omega arith
+lowered shapes.product = omega arith
+lowered shapes.sum = omega arith
+lowered shapes.shift = omega arith
+lowered shapes.relation = omega arith
+lowered shapes.equality = omega arith
+lowered shapes.bit_and = omega arith
+lowered shapes.bit_xor = omega arith
+lowered shapes.bit_or = omega arith
+lowered shapes.logical_and = omega arith
+lowered shapes.logical_or = omega arith
+lowered shapes.assignment = omega arith
+
+tightly : (a b n : ℕ) → b ≤ a → ltb b n ≡ false → ltb a n ≡ false
+tightly a b n h k = le-ltb a n (let c = ltb-false b n k in omega arith)
+
+no_object : (l : Level) → is_object (looser_than l) ≡ false
+no_object shapes.object = refl
+no_object l = refl
+
+calmer : {l : Level} {spot : Spot} → Calm (looser_than l) spot → Calm l spot
+calmer {l} {spot} c = record {
+  low = tightly (number_of l) (number_of (looser_than l)) spot.level (lowered l) c.low;
+  with_in = c.with_in;
+  no_new = c.no_new;
+  outside = c.outside;
+  own = c.own;
+  both_fits = c.both_fits;
+  either_fits = c.either_fits;
+  no_dot = λ h. c.no_dot (no_object l);
+}
+
+same_low : (n : ℕ) → ltb n n ≡ false
+same_low n = le-ltb n n (omega arith)
+
+low_0 : (l : Level) → ltb (number_of l) 0 ≡ false
+low_0 shapes.object = refl
+low_0 l = refl
+
+low_1 : (l : Level) → ltb (number_of l) 1 ≡ false
+low_1 shapes.object = refl
+low_1 l = refl
+
+calm_0 : (l : Level) → Calm l (free 0)
+calm_0 l = record { low = low_0 l; with_in = refl; no_new = refl; outside = λ b. refl; own = refl; both_fits = refl; either_fits = refl; no_dot = λ x. refl }
+
+calm_1 : (l : Level) → Calm l (free 1)
+calm_1 l = record { low = low_1 l; with_in = refl; no_new = refl; outside = λ b. refl; own = refl; both_fits = refl; either_fits = refl; no_dot = λ x. refl }
+
+calm_start : (l : Level) → Calm l (beginning 0 StatementStart false)
+calm_start l = record { low = low_0 l; with_in = refl; no_new = refl; outside = λ b. refl; own = refl; both_fits = refl; either_fits = refl; no_dot = λ x. refl }
+
+-- signs
+
+no_sign : (b : Beside) → gap b NoNeighbor ≡ []
+no_sign BehindMinus = refl
+no_sign BehindPlus = refl
+no_sign b = refl
+
+word_gap : (o : UnaryOp) (b : Beside) (x : List ℕ) → unary_word o ++ (gap (unary_sign o) b ++ x) ≡ token_text (unary_token o) ++ (let g = unary_gap o b in g.blanks ++ x)
+word_gap Minus BehindMinus x = refl
+word_gap Minus b x = refl
+word_gap Plus BehindPlus x = refl
+word_gap Plus b x = refl
+word_gap Bang b x = refl
+word_gap Tilde b x = refl
+word_gap TypeOf b x = refl
+word_gap Void b x = refl
+word_gap Delete b x = refl
+
+update_text : (o : UpdateOp) → update_word o ≡ token_text (update_token o)
+update_text PlusPlus = refl
+update_text MinusMinus = refl
+
+update_calm : (o : UpdateOp) (spot : Spot) → spot.without_in ≡ false → Calm shapes.callee (right spot 16 (update_sign o))
+update_calm PlusPlus spot h = record { low = refl; with_in = h; no_new = refl; outside = λ b. refl; own = refl; both_fits = refl; either_fits = refl; no_dot = λ z. refl }
+update_calm MinusMinus spot h = record { low = refl; with_in = h; no_new = refl; outside = λ b. refl; own = refl; both_fits = refl; either_fits = refl; no_dot = λ z. refl }
+
+abbrev is_linked : Level → Bool
+is_linked shapes.object = true
+is_linked shapes.callee = true
+is_linked l = false
+
+linked_first : (l : Level) → is_linked (looser_than l) ≡ true → is_linked l ≡ true
+linked_first shapes.object h = refl
+linked_first shapes.callee h = refl
+linked_first l h = h
+
+-- members, calls and what they begin with begin with no sign
+unsigned : {level : Level} {e : Node} (is : IsExpression level e) → is_linked level ≡ true → own_sign is ≡ NoNeighbor
+unsigned (shapes.looser {level = l} e) h = unsigned e (linked_first l h)
+unsigned (shapes.unary_expression at o e) h = absurd (false≢true h)
+unsigned (shapes.prefix_update at o e) h = absurd (false≢true h)
+unsigned e h = refl
+
+no_gap_before : (o : UpdateOp) {e : Node} (is : IsExpression shapes.callee e) → gap (update_sign o) (own_sign is) ≡ []
+no_gap_before o is = rw (unsigned is refl) (no_sign (update_sign o))
+
+-- the operand of a unary operator stands behind its sign
+unary_calm : (o : UnaryOp) (spot : Spot) → spot.without_in ≡ false → Calm shapes.unary (right spot 14 (unary_sign o))
+unary_calm Minus spot h = record { low = refl; with_in = h; no_new = refl; outside = λ b. refl; own = refl; both_fits = refl; either_fits = refl; no_dot = λ z. refl }
+unary_calm Plus spot h = record { low = refl; with_in = h; no_new = refl; outside = λ b. refl; own = refl; both_fits = refl; either_fits = refl; no_dot = λ z. refl }
+unary_calm o spot h = record { low = refl; with_in = h; no_new = refl; outside = λ b. refl; own = refl; both_fits = refl; either_fits = refl; no_dot = λ z. refl }
+
+-- no expression is a pattern
+no_pattern : {level : Level} {e : Node} → IsExpression level e → is_object_pattern (laid e).kind ≡ false
+no_pattern (shapes.looser e) = no_pattern e
+no_pattern (shapes.name (ident at w i)) = ap (λ x. is_object_pattern x.kind) (laid_node at (kind.Ident w 0 false) [])
+no_pattern (shapes.string at raw t) = ap (λ x. is_object_pattern x.kind) (laid_node at _ [])
+no_pattern (shapes.number at raw t) = ap (λ x. is_object_pattern x.kind) (laid_node at _ [])
+no_pattern (shapes.this_word at) = ap (λ x. is_object_pattern x.kind) (laid_node at _ [])
+no_pattern (shapes.big_int at raw t) = ap (λ x. is_object_pattern x.kind) (laid_node at _ [])
+no_pattern (shapes.null_word at) = ap (λ x. is_object_pattern x.kind) (laid_node at _ [])
+no_pattern (shapes.true_word at) = ap (λ x. is_object_pattern x.kind) (laid_node at _ [])
+no_pattern (shapes.false_word at) = ap (λ x. is_object_pattern x.kind) (laid_node at _ [])
+no_pattern (shapes.member at o k) = ap (λ x. is_object_pattern x.kind) (laid_node at kind.MemberExpr _)
+no_pattern (shapes.element at at' o e) = ap (λ x. is_object_pattern x.kind) (laid_node at kind.MemberExpr _)
+no_pattern (shapes.call at c es none) = ap (λ x. is_object_pattern x.kind) (laid_node at kind.CallExpr _)
+no_pattern (shapes.parenthesized at e) = ap (λ x. is_object_pattern x.kind) (laid_node at kind.ParenExpr _)
+no_pattern (shapes.prefix_update at o e) = ap (λ x. is_object_pattern x.kind) (laid_node at (kind.UpdateExpr o true) _)
+no_pattern (shapes.postfix_update at o e) = ap (λ x. is_object_pattern x.kind) (laid_node at (kind.UpdateExpr o false) _)
+no_pattern (shapes.await_expression at e) = ap (λ x. is_object_pattern x.kind) (laid_node at kind.AwaitExpr _)
+no_pattern (shapes.unary_expression at o e) = ap (λ x. is_object_pattern x.kind) (laid_node at (kind.UnaryExpr o) _)
+no_pattern (shapes.binary_expression at {operator = o} i x y) = ap (λ x. is_object_pattern x.kind) (laid_node at (kind.BinExpr o) _)
+no_pattern (shapes.exponentiation at l r) = ap (λ x. is_object_pattern x.kind) (laid_node at (kind.BinExpr op.Exp) _)
+no_pattern (shapes.both at l r) = ap (λ x. is_object_pattern x.kind) (laid_node at (kind.BinExpr op.LogicalAnd) _)
+no_pattern (shapes.either at l r) = ap (λ x. is_object_pattern x.kind) (laid_node at (kind.BinExpr op.LogicalOr) _)
+no_pattern (shapes.assignment_expression at o t v) = ap (λ x. is_object_pattern x.kind) (laid_node at (kind.AssignExpr o) _)
+no_pattern (shapes.conditional_expression at t x y) = ap (λ x. is_object_pattern x.kind) (laid_node at kind.CondExpr _)
+
+and_false : (b : Bool) → (b && false) ≡ false
+and_false true = refl
+and_false false = refl
+
+assign_text : (o : AssignOp) (x : List ℕ) → assign_word o ++ x ≡ codes " " ++ (token_text (assign_token o) ++ (codes " " ++ x))
+assign_text Assign x = refl
+assign_text AddAssign x = refl
+assign_text SubAssign x = refl
+assign_text MulAssign x = refl
+assign_text DivAssign x = refl
+assign_text ModAssign x = refl
+assign_text LShiftAssign x = refl
+assign_text RShiftAssign x = refl
+assign_text ZeroFillRShiftAssign x = refl
+assign_text BitOrAssign x = refl
+assign_text BitXorAssign x = refl
+assign_text BitAndAssign x = refl
+assign_text ExpAssign x = refl
+assign_text AndAssign x = refl
+assign_text OrAssign x = refl
+assign_text NullishAssign x = refl
+
+-- what the printer says of an operator between two operands
+record Printed (o : BinaryOp) (l t : Level) : Type 0 where
+  pub own : binary_level o ≡ number_of l
+  pub left_is : left_level o ≡ number_of l
+  pub right_is : right_level o ≡ number_of t
+  pub alone : under o ≡ NoNeighbor
+  pub fits : (spot : Spot) (b : Beside) → spot.without_in ≡ false → clashes o spot b ≡ false
+  pub word_is : (x : List ℕ) → binary_word o ++ x ≡ codes " " ++ (token_text (binary_token o) ++ (codes " " ++ x))
+
+printed : {o : BinaryOp} {l t : Level} → IsOperator o l t → Printed o l t
+printed shapes.times = record { own = refl; left_is = refl; right_is = refl; alone = refl; fits = λ spot b h. refl; word_is = λ x. refl }
+printed shapes.divided = record { own = refl; left_is = refl; right_is = refl; alone = refl; fits = λ spot b h. refl; word_is = λ x. refl }
+printed shapes.modulo = record { own = refl; left_is = refl; right_is = refl; alone = refl; fits = λ spot b h. refl; word_is = λ x. refl }
+printed shapes.plus = record { own = refl; left_is = refl; right_is = refl; alone = refl; fits = λ spot b h. refl; word_is = λ x. refl }
+printed shapes.minus = record { own = refl; left_is = refl; right_is = refl; alone = refl; fits = λ spot b h. refl; word_is = λ x. refl }
+printed shapes.left_shift = record { own = refl; left_is = refl; right_is = refl; alone = refl; fits = λ spot b h. refl; word_is = λ x. refl }
+printed shapes.right_shift = record { own = refl; left_is = refl; right_is = refl; alone = refl; fits = λ spot b h. refl; word_is = λ x. refl }
+printed shapes.unsigned_shift = record { own = refl; left_is = refl; right_is = refl; alone = refl; fits = λ spot b h. refl; word_is = λ x. refl }
+printed shapes.less = record { own = refl; left_is = refl; right_is = refl; alone = refl; fits = λ spot b h. refl; word_is = λ x. refl }
+printed shapes.greater = record { own = refl; left_is = refl; right_is = refl; alone = refl; fits = λ spot b h. refl; word_is = λ x. refl }
+printed shapes.at_most = record { own = refl; left_is = refl; right_is = refl; alone = refl; fits = λ spot b h. refl; word_is = λ x. refl }
+printed shapes.at_least = record { own = refl; left_is = refl; right_is = refl; alone = refl; fits = λ spot b h. refl; word_is = λ x. refl }
+printed shapes.instance_of = record { own = refl; left_is = refl; right_is = refl; alone = refl; fits = λ spot b h. refl; word_is = λ x. refl }
+printed shapes.contained = record { own = refl; left_is = refl; right_is = refl; alone = refl; fits = λ spot b h. h; word_is = λ x. refl }
+printed shapes.equal = record { own = refl; left_is = refl; right_is = refl; alone = refl; fits = λ spot b h. refl; word_is = λ x. refl }
+printed shapes.unequal = record { own = refl; left_is = refl; right_is = refl; alone = refl; fits = λ spot b h. refl; word_is = λ x. refl }
+printed shapes.same = record { own = refl; left_is = refl; right_is = refl; alone = refl; fits = λ spot b h. refl; word_is = λ x. refl }
+printed shapes.other = record { own = refl; left_is = refl; right_is = refl; alone = refl; fits = λ spot b h. refl; word_is = λ x. refl }
+printed shapes.conjunction = record { own = refl; left_is = refl; right_is = refl; alone = refl; fits = λ spot b h. refl; word_is = λ x. refl }
+printed shapes.exclusion = record { own = refl; left_is = refl; right_is = refl; alone = refl; fits = λ spot b h. refl; word_is = λ x. refl }
+printed shapes.disjunction = record { own = refl; left_is = refl; right_is = refl; alone = refl; fits = λ spot b h. refl; word_is = λ x. refl }
 
 -- the gap stands in front
-gap_out : {numeral : Bool} {e : Node} (is : IsExpression numeral e) (g : Gap) (us : Items) → render (expression_tokens is g us) ≡ g.blanks ++ render (expression_tokens is no_gap us)
+gap_out : {level : Level} {e : Node} (is : IsExpression level e) (g : Gap) (us : Items) → render (expression_tokens is g us) ≡ g.blanks ++ render (expression_tokens is no_gap us)
 unfolding render
 gap_out (shapes.name i) g us = refl
 gap_out (shapes.string at raw t) g us = refl
@@ -52,67 +279,143 @@ gap_out (shapes.false_word at) g us = refl
 gap_out (shapes.member at o (key at' w t)) g us = gap_out o g (sign_of (codes ".") (it no_gap (items.key w) us))
 gap_out (shapes.call at c es none) g us = gap_out c g (sign_of (codes "(") (arguments_tokens es (sign_of (codes ")") us)))
 gap_out (shapes.parenthesized at e) g us = refl
+gap_out (shapes.looser e) g us = gap_out e g us
+gap_out (shapes.element at at' o e) g us = gap_out o g (sign_of (codes "[") (expression_tokens e no_gap (sign_of (codes "]") us)))
+gap_out (shapes.prefix_update at o e) g us = refl
+gap_out (shapes.postfix_update at o e) g us = gap_out e g (it no_gap (update_token o) us)
+gap_out (shapes.await_expression at e) g us = refl
+gap_out (shapes.unary_expression at o e) g us = refl
+gap_out (shapes.binary_expression at {operator = o} i l r) g us = gap_out l g (it blank (binary_token o) (expression_tokens r blank us))
+gap_out (shapes.exponentiation at l r) g us = gap_out l g (it blank (sign (codes "**")) (expression_tokens r blank us))
+gap_out (shapes.both at l r) g us = gap_out l g (it blank (sign (codes "&&")) (expression_tokens r blank us))
+gap_out (shapes.either at l r) g us = gap_out l g (it blank (sign (codes "||")) (expression_tokens r blank us))
+gap_out (shapes.assignment_expression at o t v) g us = gap_out t g (it blank (assign_token o) (expression_tokens v blank us))
+gap_out (shapes.conditional_expression at t x y) g us = gap_out t g (it blank (sign (codes "?")) (expression_tokens x blank (it blank (sign (codes ":")) (expression_tokens y blank us))))
 
 mutual
   unfolding render
 
-  expression_laid : {numeral : Bool} {e : Node} (is : IsExpression numeral e) (spot : Spot) → Calm spot → (numeral ≡ true → is_before_dot spot.beside ≡ false) → (m : List ℕ) (us : Items) → (laid e).at (At spot) m (render us) ≡ render (expression_tokens is no_gap us)
-  expression_laid (shapes.name (ident at w i)) spot c h m us = at_node at (kind.Ident w 0 false) [] (At spot) m (render us) ∙ rw c.lower refl
-  expression_laid (shapes.string at raw t) spot c h m us = at_node at _ [] (At spot) m (render us) ∙ rw c.lower refl
-  expression_laid (shapes.number at raw t) spot c h m us = at_node at _ [] (At spot) m (render us) ∙ rw (c.lower, h refl) refl
-  expression_laid (shapes.this_word at) spot c h m us = at_node at _ [] (At spot) m (render us) ∙ rw c.lower refl
-  expression_laid (shapes.big_int at raw t) spot c h m us = at_node at _ [] (At spot) m (render us) ∙ rw c.lower refl
-  expression_laid (shapes.null_word at) spot c h m us = at_node at _ [] (At spot) m (render us) ∙ rw c.lower refl
-  expression_laid (shapes.true_word at) spot c h m us = at_node at _ [] (At spot) m (render us) ∙ rw c.lower refl
-  expression_laid (shapes.false_word at) spot c h m us = at_node at _ [] (At spot) m (render us) ∙ rw c.lower refl
-  expression_laid (shapes.member at {object = o'} o (key at' w t)) spot c h m us =
+  expression_laid : {level : Level} {e : Node} (is : IsExpression level e) (spot : Spot) → Calm level spot → (m : List ℕ) (us : Items) → (laid e).at (At spot) m (render us) ≡ gap spot.beside (own_sign is) ++ render (expression_tokens is no_gap us)
+  expression_laid (shapes.looser e) spot c m us = expression_laid e spot (calmer c) m us
+  expression_laid (shapes.name (ident at w i)) spot c m us = at_node at (kind.Ident w 0 false) [] (At spot) m (render us) ∙ rw (tightly 17 16 spot.level (omega arith) c.low, no_sign spot.beside) refl
+  expression_laid (shapes.string at raw t) spot c m us = at_node at _ [] (At spot) m (render us) ∙ rw (tightly 17 16 spot.level (omega arith) c.low, no_sign spot.beside) refl
+  expression_laid (shapes.number at raw t) spot c m us = at_node at _ [] (At spot) m (render us) ∙ rw (tightly 17 16 spot.level (omega arith) c.low, c.no_dot refl, no_sign spot.beside) refl
+  expression_laid (shapes.this_word at) spot c m us = at_node at _ [] (At spot) m (render us) ∙ rw (tightly 17 16 spot.level (omega arith) c.low, no_sign spot.beside) refl
+  expression_laid (shapes.big_int at raw t) spot c m us = at_node at _ [] (At spot) m (render us) ∙ rw (tightly 17 16 spot.level (omega arith) c.low, no_sign spot.beside) refl
+  expression_laid (shapes.null_word at) spot c m us = at_node at _ [] (At spot) m (render us) ∙ rw (tightly 17 16 spot.level (omega arith) c.low, no_sign spot.beside) refl
+  expression_laid (shapes.true_word at) spot c m us = at_node at _ [] (At spot) m (render us) ∙ rw (tightly 17 16 spot.level (omega arith) c.low, no_sign spot.beside) refl
+  expression_laid (shapes.false_word at) spot c m us = at_node at _ [] (At spot) m (render us) ∙ rw (tightly 17 16 spot.level (omega arith) c.low, no_sign spot.beside) refl
+  expression_laid (shapes.member at {holder = o'} o (key at' w t)) spot c m us =
       at_node at kind.MemberExpr (o' ∷ node_of at' (kind.IdentName w) [] ∷ []) (At spot) m (render us)
-      ∙ rw (c.lower, laid_node at' (kind.IdentName w) [], c.dot, c.own)
-      (expression_laid o (left spot 16 BeforeDot) (record { low = refl; lower = refl; no_new = c.no_new; dot = refl; own = refl }) (λ z. absurd (false≢true z)) m (sign_of (codes ".") (it no_gap (items.key w) us)))
-  expression_laid (shapes.call at {callee = c'} {args = a'} {none = n'} e es none) spot c h m us =
+      ∙ rw (tightly 17 16 spot.level (omega arith) c.low, laid_node at' (kind.IdentName w) [], c.outside false, c.own, no_sign spot.beside)
+      (expression_laid o (left spot 16 BeforeDot) (record { low = refl; with_in = c.with_in; no_new = c.no_new; outside = λ b. refl; own = refl; both_fits = refl; either_fits = refl; no_dot = λ z. absurd (false≢true (sym z)) }) m (sign_of (codes ".") (it no_gap (items.key w) us)))
+  expression_laid (shapes.call at {function = c'} {args = a'} {none = n'} e es none) spot c m us =
       at_node at kind.CallExpr (c' ∷ a' ∷ n' ∷ []) (At spot) m (render us)
-      ∙ rw (c.low, c.no_new)
+      ∙ rw (c.low, c.no_new, no_sign spot.beside)
       (ap (λ z. (laid c').at (At (record { level = 16; begins = spot.begins; without_in = spot.without_in; in_callee_of_new = false; beside = BeforeLink })) m z) (arguments_laid es m us)
-      ∙ expression_laid e (record { level = 16; begins = spot.begins; without_in = spot.without_in; in_callee_of_new = false; beside = BeforeLink }) (record { low = refl; lower = refl; no_new = refl; dot = refl; own = refl }) (λ z. refl) m (sign_of (codes "(") (arguments_tokens es (sign_of (codes ")") us))))
-  expression_laid (shapes.parenthesized at {e = e'} e) spot c h m us =
+      ∙ expression_laid e (record { level = 16; begins = spot.begins; without_in = spot.without_in; in_callee_of_new = false; beside = BeforeLink }) (record { low = refl; with_in = c.with_in; no_new = refl; outside = λ b. refl; own = refl; both_fits = refl; either_fits = refl; no_dot = λ z. refl }) m (sign_of (codes "(") (arguments_tokens es (sign_of (codes ")") us))))
+  expression_laid (shapes.parenthesized at {level = l} {e = e'} e) spot c m us =
       at_node at kind.ParenExpr (e' ∷ []) (At spot) m (render us)
-      ∙ rw c.lower (ap (λ z. codes "(" ++ z) (expression_laid e (free 0) (record { low = refl; lower = refl; no_new = refl; dot = refl; own = refl }) (λ z. refl) m (sign_of (codes ")") us)))
+      ∙ rw (tightly 17 16 spot.level (omega arith) c.low, no_sign spot.beside) (ap (λ z. codes "(" ++ z) (expression_laid e (free 0) (calm_0 l) m (sign_of (codes ")") us)))
+  expression_laid (shapes.element at at' {level = l} {holder = o'} {e = e'} o e) spot c m us =
+      at_node at kind.MemberExpr (o' ∷ node_of at' kind.ComputedPropName (e' ∷ []) ∷ []) (At spot) m (render us)
+      ∙ rw (tightly 17 16 spot.level (omega arith) c.low, laid_node at' kind.ComputedPropName (e' ∷ []), c.outside true, c.own, no_sign spot.beside)
+      (ap (λ z. (laid o').at (At (left spot 16 BeforeLink)) m (codes "[" ++ z)) (expression_laid e (free 0) (calm_0 l) m (sign_of (codes "]") us))
+      ∙ expression_laid o (left spot 16 BeforeLink) (record { low = refl; with_in = c.with_in; no_new = c.no_new; outside = λ b. refl; own = refl; both_fits = refl; either_fits = refl; no_dot = λ z. refl }) m (sign_of (codes "[") (expression_tokens e no_gap (sign_of (codes "]") us))))
+  expression_laid (shapes.prefix_update at o {e = e'} e) spot c m us =
+      at_node at (kind.UpdateExpr o true) (e' ∷ []) (At spot) m (render us)
+      ∙ rw (c.low, update_text o) (ap (λ z. gap spot.beside (update_sign o) ++ (token_text (update_token o) ++ z)) (expression_laid e (right spot 16 (update_sign o)) (update_calm o spot c.with_in) m us ∙ rw (no_gap_before o e) refl))
+  expression_laid (shapes.postfix_update at o {e = e'} e) spot c m us =
+      at_node at (kind.UpdateExpr o false) (e' ∷ []) (At spot) m (render us)
+      ∙ rw (c.low, no_sign spot.beside, update_text o)
+      (expression_laid e (left spot 16 NoNeighbor) (record { low = refl; with_in = c.with_in; no_new = c.no_new; outside = λ b. refl; own = refl; both_fits = refl; either_fits = refl; no_dot = λ z. refl }) m (it no_gap (update_token o) us))
+  expression_laid (shapes.await_expression at {e = e'} e) spot c m us =
+      at_node at kind.AwaitExpr (e' ∷ []) (At spot) m (render us)
+      ∙ rw (c.low, no_sign spot.beside)
+      (ap (λ z. codes "await " ++ z) (expression_laid e (right spot 14 NoNeighbor) (record { low = refl; with_in = c.with_in; no_new = refl; outside = λ b. refl; own = refl; both_fits = refl; either_fits = refl; no_dot = λ z. refl }) m us) ∙ ap (λ z. codes "await" ++ z) (sym (gap_out e blank us)))
+  expression_laid (shapes.unary_expression at o {e = e'} e) spot c m us =
+      at_node at (kind.UnaryExpr o) (e' ∷ []) (At spot) m (render us)
+      ∙ rw (c.low) (ap (λ z. gap spot.beside (unary_sign o) ++ z) (ap (λ z. unary_word o ++ z) (expression_laid e (right spot 14 (unary_sign o)) (unary_calm o spot c.with_in) m us) ∙ (word_gap o (own_sign e) (render (expression_tokens e no_gap us)) ∙ ap (λ z. token_text (unary_token o) ++ z) (sym (gap_out e (unary_gap o (own_sign e)) us)))))
+  expression_laid (shapes.binary_expression at {operator = o} {level = l} {tighter = t} {left = l'} {right = r'} i x y) spot c m us =
+      let F = printed i in
+      at_node at (kind.BinExpr o) (l' ∷ r' ∷ []) (At spot) m (render us)
+      ∙ rw (F.own, c.low, F.fits spot spot.beside c.with_in, F.left_is, F.right_is, F.alone, no_sign spot.beside)
+      (ap (λ z. (laid l').at (At (left spot (number_of l) NoNeighbor)) m z) (ap (λ z. binary_word o ++ z) (expression_laid y (right spot (number_of t) NoNeighbor) (record { low = same_low (number_of t); with_in = c.with_in; no_new = refl; outside = λ b. refl; own = refl; both_fits = refl; either_fits = refl; no_dot = λ z. refl }) m us) ∙ (F.word_is (render (expression_tokens y no_gap us)) ∙ ap (λ z. codes " " ++ (token_text (binary_token o) ++ z)) (sym (gap_out y blank us))))
+      ∙ expression_laid x (left spot (number_of l) NoNeighbor) (record { low = same_low (number_of l); with_in = c.with_in; no_new = c.no_new; outside = λ b. refl; own = refl; both_fits = refl; either_fits = refl; no_dot = λ z. refl }) m (it blank (binary_token o) (expression_tokens y blank us)))
+  expression_laid (shapes.exponentiation at {left = l'} {right = r'} x y) spot c m us =
+      at_node at (kind.BinExpr op.Exp) (l' ∷ r' ∷ []) (At spot) m (render us)
+      ∙ rw (c.low, no_sign spot.beside)
+      (ap (λ z. (laid l').at (At (left spot 15 NoNeighbor)) m z) (ap (λ z. codes " ** " ++ z) (expression_laid y (right spot 13 NoNeighbor) (record { low = refl; with_in = c.with_in; no_new = refl; outside = λ b. refl; own = refl; both_fits = refl; either_fits = refl; no_dot = λ z. refl }) m us) ∙ ap (λ z. codes " **" ++ z) (sym (gap_out y blank us)))
+      ∙ expression_laid x (left spot 15 NoNeighbor) (record { low = refl; with_in = c.with_in; no_new = c.no_new; outside = λ b. refl; own = refl; both_fits = refl; either_fits = refl; no_dot = λ z. refl }) m (it blank (sign (codes "**")) (expression_tokens y blank us)))
+  expression_laid (shapes.both at {left = l'} {right = r'} x y) spot c m us =
+      at_node at (kind.BinExpr op.LogicalAnd) (l' ∷ r' ∷ []) (At spot) m (render us)
+      ∙ rw (c.low, c.both_fits, no_sign spot.beside)
+      (ap (λ z. (laid l').at (At (left spot 4 UnderLogical)) m z) (ap (λ z. codes " && " ++ z) (expression_laid y (right spot 5 UnderLogical) (record { low = refl; with_in = c.with_in; no_new = refl; outside = λ b. refl; own = refl; both_fits = refl; either_fits = refl; no_dot = λ z. refl }) m us) ∙ ap (λ z. codes " &&" ++ z) (sym (gap_out y blank us)))
+      ∙ expression_laid x (left spot 4 UnderLogical) (record { low = refl; with_in = c.with_in; no_new = c.no_new; outside = λ b. refl; own = refl; both_fits = refl; either_fits = refl; no_dot = λ z. refl }) m (it blank (sign (codes "&&")) (expression_tokens y blank us)))
+  expression_laid (shapes.either at {left = l'} {right = r'} x y) spot c m us =
+      at_node at (kind.BinExpr op.LogicalOr) (l' ∷ r' ∷ []) (At spot) m (render us)
+      ∙ rw (c.low, c.either_fits, no_sign spot.beside)
+      (ap (λ z. (laid l').at (At (left spot 3 UnderLogical)) m z) (ap (λ z. codes " || " ++ z) (expression_laid y (right spot 4 UnderLogical) (record { low = refl; with_in = c.with_in; no_new = refl; outside = λ b. refl; own = refl; both_fits = refl; either_fits = refl; no_dot = λ z. refl }) m us) ∙ ap (λ z. codes " ||" ++ z) (sym (gap_out y blank us)))
+      ∙ expression_laid x (left spot 3 UnderLogical) (record { low = refl; with_in = c.with_in; no_new = c.no_new; outside = λ b. refl; own = refl; both_fits = refl; either_fits = refl; no_dot = λ z. refl }) m (it blank (sign (codes "||")) (expression_tokens y blank us)))
+  expression_laid (shapes.assignment_expression at o {target = t'} {value = v'} t v) spot c m us =
+      at_node at (kind.AssignExpr o) (t' ∷ v' ∷ []) (At spot) m (render us)
+      ∙ rw (c.low, no_pattern t, and_false (opens_a_block spot.begins), no_sign spot.beside)
+      (ap (λ z. (laid t').at (At (left spot 16 NoNeighbor)) m z) (ap (λ z. assign_word o ++ z) (expression_laid v (right spot 1 NoNeighbor) (record { low = refl; with_in = c.with_in; no_new = refl; outside = λ b. refl; own = refl; both_fits = refl; either_fits = refl; no_dot = λ z. refl }) m us) ∙ (assign_text o (render (expression_tokens v no_gap us)) ∙ ap (λ z. codes " " ++ (token_text (assign_token o) ++ z)) (sym (gap_out v blank us))))
+      ∙ expression_laid t (left spot 16 NoNeighbor) (record { low = refl; with_in = c.with_in; no_new = c.no_new; outside = λ b. refl; own = refl; both_fits = refl; either_fits = refl; no_dot = λ z. refl }) m (it blank (assign_token o) (expression_tokens v blank us)))
+  expression_laid (shapes.conditional_expression at {test = t'} {first = x'} {second = y'} t x y) spot c m us =
+      let right_calm : Calm shapes.assignment (right spot 1 NoNeighbor) = record { low = refl; with_in = c.with_in; no_new = refl; outside = λ b. refl; own = refl; both_fits = refl; either_fits = refl; no_dot = λ z. refl } in
+      let second_text = ap (λ z. codes " : " ++ z) (expression_laid y (right spot 1 NoNeighbor) right_calm m us) ∙ ap (λ z. codes " :" ++ z) (sym (gap_out y blank us)) in
+      let seconds = it blank (sign (codes ":")) (expression_tokens y blank us) in
+      let first_text = ap (λ z. codes " ? " ++ z) (ap (λ z. (laid x').at (At (right spot 1 NoNeighbor)) m z) second_text ∙ expression_laid x (right spot 1 NoNeighbor) right_calm m seconds) ∙ ap (λ z. codes " ?" ++ z) (sym (gap_out x blank seconds)) in
+      at_node at kind.CondExpr (t' ∷ x' ∷ y' ∷ []) (At spot) m (render us)
+      ∙ rw (tightly 2 1 spot.level (omega arith) c.low, no_sign spot.beside)
+      (ap (λ z. (laid t').at (At (left spot 3 NoNeighbor)) m z) first_text
+      ∙ expression_laid t (left spot 3 NoNeighbor) (record { low = refl; with_in = c.with_in; no_new = c.no_new; outside = λ b. refl; own = refl; both_fits = refl; either_fits = refl; no_dot = λ z. refl }) m (it blank (sign (codes "?")) (expression_tokens x blank seconds)))
 
   arguments_laid : {n : Node} (is : IsArguments n) (m : List ℕ) (us : Items) → (laid n).at Arguments m (render us) ≡ render (sign_of (codes "(") (arguments_tokens is (sign_of (codes ")") us)))
   arguments_laid (shapes.no_arguments at) m us = at_node at kind.List [] Arguments m (render us)
-  arguments_laid (shapes.arguments at {e = e'} {es = es'} e es) m us =
+  arguments_laid (shapes.arguments at {level = l} {e = e'} {es = es'} e es) m us =
       at_node at kind.List (e' ∷ es') Arguments m (render us)
-      ∙ ap (λ z. codes "(" ++ z) (ap (λ z. (laid e').at (At (free 1)) m z) (more_laid es m us) ∙ expression_laid e (free 1) (record { low = refl; lower = refl; no_new = refl; dot = refl; own = refl }) (λ z. refl) m (more_tokens es (sign_of (codes ")") us)))
+      ∙ ap (λ z. codes "(" ++ z) (ap (λ z. (laid e').at (At (free 1)) m z) (more_laid es m us) ∙ expression_laid e (free 1) (calm_1 l) m (more_tokens es (sign_of (codes ")") us)))
 
   more_laid : {es : List Node} (is : AreExpressions es) (m : List ℕ) (us : Items) → more_commas (free 1) (map laid es) m (codes ")" ++ render us) ≡ render (more_tokens is (sign_of (codes ")") us))
   more_laid shapes.no_expressions m us = refl
-  more_laid (shapes.more_expressions {e = e'} e es) m us =
-      ap (λ z. codes ", " ++ z) (ap (λ z. (laid e').at (At (free 1)) m z) (more_laid es m us) ∙ expression_laid e (free 1) (record { low = refl; lower = refl; no_new = refl; dot = refl; own = refl }) (λ z. refl) m (more_tokens es (sign_of (codes ")") us)))
+  more_laid (shapes.more_expressions {level = l} {e = e'} e es) m us =
+      ap (λ z. codes ", " ++ z) (ap (λ z. (laid e').at (At (free 1)) m z) (more_laid es m us) ∙ expression_laid e (free 1) (calm_1 l) m (more_tokens es (sign_of (codes ")") us)))
       ∙ ap (λ z. codes "," ++ z) (sym (gap_out e blank (more_tokens es (sign_of (codes ")") us))))
 
--- behind ` = `
-within_laid : {numeral : Bool} {e : Node} (is : IsExpression numeral e) (spot : Spot) (m rest : List ℕ) → (laid e).at (Within Equals spot) m rest ≡ codes " = " ++ (laid e).at (At spot) m rest
-within_laid (shapes.name (ident at w i)) spot m rest = at_node at _ [] (Within Equals spot) m rest ∙ ap (λ z. codes " = " ++ z) (sym (at_node at _ [] (At spot) m rest))
-within_laid (shapes.string at raw t) spot m rest = at_node at _ [] (Within Equals spot) m rest ∙ ap (λ z. codes " = " ++ z) (sym (at_node at _ [] (At spot) m rest))
-within_laid (shapes.number at raw t) spot m rest = at_node at _ [] (Within Equals spot) m rest ∙ ap (λ z. codes " = " ++ z) (sym (at_node at _ [] (At spot) m rest))
-within_laid (shapes.this_word at) spot m rest = at_node at _ [] (Within Equals spot) m rest ∙ ap (λ z. codes " = " ++ z) (sym (at_node at _ [] (At spot) m rest))
-within_laid (shapes.big_int at raw t) spot m rest = at_node at _ [] (Within Equals spot) m rest ∙ ap (λ z. codes " = " ++ z) (sym (at_node at _ [] (At spot) m rest))
-within_laid (shapes.null_word at) spot m rest = at_node at _ [] (Within Equals spot) m rest ∙ ap (λ z. codes " = " ++ z) (sym (at_node at _ [] (At spot) m rest))
-within_laid (shapes.true_word at) spot m rest = at_node at _ [] (Within Equals spot) m rest ∙ ap (λ z. codes " = " ++ z) (sym (at_node at _ [] (At spot) m rest))
-within_laid (shapes.false_word at) spot m rest = at_node at _ [] (Within Equals spot) m rest ∙ ap (λ z. codes " = " ++ z) (sym (at_node at _ [] (At spot) m rest))
-within_laid (shapes.member at o k) spot m rest = at_node at kind.MemberExpr _ (Within Equals spot) m rest ∙ ap (λ z. codes " = " ++ z) (sym (at_node at kind.MemberExpr _ (At spot) m rest))
-within_laid (shapes.call at c es none) spot m rest = at_node at kind.CallExpr _ (Within Equals spot) m rest ∙ ap (λ z. codes " = " ++ z) (sym (at_node at kind.CallExpr _ (At spot) m rest))
-within_laid (shapes.parenthesized at e) spot m rest = at_node at kind.ParenExpr _ (Within Equals spot) m rest ∙ ap (λ z. codes " = " ++ z) (sym (at_node at kind.ParenExpr _ (At spot) m rest))
-
-free_calm : Calm (free 1)
-free_calm = record { low = refl; lower = refl; no_new = refl; dot = refl; own = refl }
+-- with what stands before and behind a child that is there
+within_laid : {level : Level} {e : Node} (is : IsExpression level e) (between : Between) (spot : Spot) (m rest : List ℕ) → (laid e).at (Within between spot) m rest ≡ before between m ((laid e).at (At spot) m (after between m rest))
+within_laid (shapes.name (ident at w i)) between spot m rest = at_node at _ [] (Within between spot) m rest ∙ ap (before between m) (sym (at_node at _ [] (At spot) m (after between m rest)))
+within_laid (shapes.string at raw t) between spot m rest = at_node at _ [] (Within between spot) m rest ∙ ap (before between m) (sym (at_node at _ [] (At spot) m (after between m rest)))
+within_laid (shapes.number at raw t) between spot m rest = at_node at _ [] (Within between spot) m rest ∙ ap (before between m) (sym (at_node at _ [] (At spot) m (after between m rest)))
+within_laid (shapes.this_word at) between spot m rest = at_node at _ [] (Within between spot) m rest ∙ ap (before between m) (sym (at_node at _ [] (At spot) m (after between m rest)))
+within_laid (shapes.big_int at raw t) between spot m rest = at_node at _ [] (Within between spot) m rest ∙ ap (before between m) (sym (at_node at _ [] (At spot) m (after between m rest)))
+within_laid (shapes.null_word at) between spot m rest = at_node at _ [] (Within between spot) m rest ∙ ap (before between m) (sym (at_node at _ [] (At spot) m (after between m rest)))
+within_laid (shapes.true_word at) between spot m rest = at_node at _ [] (Within between spot) m rest ∙ ap (before between m) (sym (at_node at _ [] (At spot) m (after between m rest)))
+within_laid (shapes.false_word at) between spot m rest = at_node at _ [] (Within between spot) m rest ∙ ap (before between m) (sym (at_node at _ [] (At spot) m (after between m rest)))
+within_laid (shapes.member at o k) between spot m rest = at_node at kind.MemberExpr _ (Within between spot) m rest ∙ ap (before between m) (sym (at_node at kind.MemberExpr _ (At spot) m (after between m rest)))
+within_laid (shapes.call at c es none) between spot m rest = at_node at kind.CallExpr _ (Within between spot) m rest ∙ ap (before between m) (sym (at_node at kind.CallExpr _ (At spot) m (after between m rest)))
+within_laid (shapes.parenthesized at e) between spot m rest = at_node at kind.ParenExpr _ (Within between spot) m rest ∙ ap (before between m) (sym (at_node at kind.ParenExpr _ (At spot) m (after between m rest)))
+within_laid (shapes.looser e) between spot m rest = within_laid e between spot m rest
+within_laid (shapes.element at at' o e) between spot m rest = at_node at kind.MemberExpr _ (Within between spot) m rest ∙ ap (before between m) (sym (at_node at kind.MemberExpr _ (At spot) m (after between m rest)))
+within_laid (shapes.prefix_update at o e) between spot m rest = at_node at (kind.UpdateExpr o true) _ (Within between spot) m rest ∙ ap (before between m) (sym (at_node at (kind.UpdateExpr o true) _ (At spot) m (after between m rest)))
+within_laid (shapes.postfix_update at o e) between spot m rest = at_node at (kind.UpdateExpr o false) _ (Within between spot) m rest ∙ ap (before between m) (sym (at_node at (kind.UpdateExpr o false) _ (At spot) m (after between m rest)))
+within_laid (shapes.await_expression at e) between spot m rest = at_node at kind.AwaitExpr _ (Within between spot) m rest ∙ ap (before between m) (sym (at_node at kind.AwaitExpr _ (At spot) m (after between m rest)))
+within_laid (shapes.unary_expression at o e) between spot m rest = at_node at (kind.UnaryExpr o) _ (Within between spot) m rest ∙ ap (before between m) (sym (at_node at (kind.UnaryExpr o) _ (At spot) m (after between m rest)))
+within_laid (shapes.binary_expression at {operator = o} i x y) between spot m rest = at_node at (kind.BinExpr o) _ (Within between spot) m rest ∙ ap (before between m) (sym (at_node at (kind.BinExpr o) _ (At spot) m (after between m rest)))
+within_laid (shapes.exponentiation at l r) between spot m rest = at_node at (kind.BinExpr op.Exp) _ (Within between spot) m rest ∙ ap (before between m) (sym (at_node at (kind.BinExpr op.Exp) _ (At spot) m (after between m rest)))
+within_laid (shapes.both at l r) between spot m rest = at_node at (kind.BinExpr op.LogicalAnd) _ (Within between spot) m rest ∙ ap (before between m) (sym (at_node at (kind.BinExpr op.LogicalAnd) _ (At spot) m (after between m rest)))
+within_laid (shapes.either at l r) between spot m rest = at_node at (kind.BinExpr op.LogicalOr) _ (Within between spot) m rest ∙ ap (before between m) (sym (at_node at (kind.BinExpr op.LogicalOr) _ (At spot) m (after between m rest)))
+within_laid (shapes.assignment_expression at o t v) between spot m rest = at_node at (kind.AssignExpr o) _ (Within between spot) m rest ∙ ap (before between m) (sym (at_node at (kind.AssignExpr o) _ (At spot) m (after between m rest)))
+within_laid (shapes.conditional_expression at t x y) between spot m rest = at_node at kind.CondExpr _ (Within between spot) m rest ∙ ap (before between m) (sym (at_node at kind.CondExpr _ (At spot) m (after between m rest)))
 
 initializer_laid : {n : Node} (is : IsInitializer n) (m : List ℕ) (us : Items) → (laid n).at (Within Equals (free 1)) m (render us) ≡ render (initializer_tokens is us)
 unfolding render
 initializer_laid (shapes.no_initializer (shapes.absent at)) m us = at_node at kind.Absent [] (Within Equals (free 1)) m (render us)
-initializer_laid (shapes.initializer e) m us =
-    within_laid e (free 1) m (render us)
-    ∙ (ap (λ z. codes " = " ++ z) (expression_laid e (free 1) free_calm (λ z. refl) m us) ∙ ap (λ z. codes " =" ++ z) (sym (gap_out e blank us)))
+initializer_laid (shapes.initializer {level = l} e) m us =
+    within_laid e Equals (free 1) m (render us)
+    ∙ (ap (λ z. codes " = " ++ z) (expression_laid e (free 1) (calm_1 l) m us) ∙ ap (λ z. codes " =" ++ z) (sym (gap_out e blank us)))
 
 declarator_laid : {n : Node} (is : IsDeclarator n) (m : List ℕ) (us : Items) → codes " " ++ (laid n).at (At (free 1)) m (render us) ≡ render (declarator_tokens is us)
 unfolding render
@@ -128,13 +431,35 @@ more_declarators_laid shapes.no_declarators m us = refl
 more_declarators_laid (shapes.more_declarators {d = d'} d ds) m us =
     ap (λ z. codes "," ++ z) (ap (λ z. codes " " ++ (laid d').at (At (free 1)) m z) (more_declarators_laid ds m us) ∙ declarator_laid d m (declarators_tokens ds (sign_of (codes ";") us)))
 
+-- an expression behind a word, and the end of the statement
+argument_laid : {level : Level} {e : Node} (is : IsExpression level e) (m : List ℕ) (us : Items) → (laid e).at (Within Blank (free 0)) m (codes ";" ++ render us) ≡ render (expression_tokens is blank (sign_of (codes ";") us))
+unfolding render
+argument_laid {level} is m us =
+    within_laid is Blank (free 0) m (codes ";" ++ render us)
+    ∙ (ap (λ z. codes " " ++ z) (expression_laid is (free 0) (calm_0 level) m (sign_of (codes ";") us)) ∙ sym (gap_out is blank (sign_of (codes ";") us)))
+
 statement_laid : {n : Node} (is : IsStatement n) (g : Gap) (m : List ℕ) (us : Items) → render (statement_tokens is g us) ≡ g.blanks ++ (laid n).at (At (free 0)) m (render us)
 unfolding render
-statement_laid (shapes.expression at {e = e'} e) g m us =
+statement_laid (shapes.empty at) g m us = ap (λ z. g.blanks ++ z) (sym (at_node at kind.EmptyStmt [] (At (free 0)) m (render us)))
+statement_laid (shapes.debugger_word at) g m us = ap (λ z. g.blanks ++ z) (sym (at_node at kind.DebuggerStmt [] (At (free 0)) m (render us)))
+statement_laid (shapes.throw at {e = e'} e) g m us =
+    ap (λ z. g.blanks ++ z) (sym (at_node at kind.ThrowStmt (e' ∷ []) (At (free 0)) m (render us) ∙ ap (λ z. codes "throw" ++ z) (argument_laid e m us)))
+statement_laid (shapes.return_value at {e = e'} e) g m us =
+    ap (λ z. g.blanks ++ z) (sym (at_node at kind.ReturnStmt (e' ∷ []) (At (free 0)) m (render us) ∙ ap (λ z. codes "return" ++ z) (argument_laid e m us)))
+statement_laid (shapes.return_nothing at (shapes.absent at')) g m us =
+    ap (λ z. g.blanks ++ z)
+    (sym (at_node at kind.ReturnStmt (node_of at' kind.Absent [] ∷ []) (At (free 0)) m (render us) ∙ ap (λ z. codes "return" ++ z) (at_node at' kind.Absent [] (Within Blank (free 0)) m (codes ";" ++ render us))))
+statement_laid (shapes.break_nothing at (shapes.absent at')) g m us =
+    ap (λ z. g.blanks ++ z)
+    (sym (at_node at kind.BreakStmt (node_of at' kind.Absent [] ∷ []) (At (free 0)) m (render us) ∙ ap (λ z. codes "break" ++ z) (at_node at' kind.Absent [] (Within Blank (free 0)) m (codes ";" ++ render us))))
+statement_laid (shapes.continue_nothing at (shapes.absent at')) g m us =
+    ap (λ z. g.blanks ++ z)
+    (sym (at_node at kind.ContinueStmt (node_of at' kind.Absent [] ∷ []) (At (free 0)) m (render us) ∙ ap (λ z. codes "continue" ++ z) (at_node at' kind.Absent [] (Within Blank (free 0)) m (codes ";" ++ render us))))
+statement_laid (shapes.expression at {level = l} {e = e'} e) g m us =
     gap_out e g (sign_of (codes ";") us)
     ∙ ap (λ z. g.blanks ++ z)
     (sym (at_node at kind.ExprStmt (e' ∷ []) (At (free 0)) m (render us)
-    ∙ expression_laid e (beginning 0 StatementStart false) (record { low = refl; lower = refl; no_new = refl; dot = refl; own = refl }) (λ z. refl) m (sign_of (codes ";") us)))
+    ∙ expression_laid e (beginning 0 StatementStart false) (calm_start l) m (sign_of (codes ";") us)))
 statement_laid (shapes.declaration at at' {d = d'} {ds = ds'} let_word d ds) g m us =
     ap (λ z. g.blanks ++ z)
     (sym (at_node at (kind.VarDecl _ false) (node_of at' kind.List (d' ∷ ds') ∷ []) (At (free 0)) m (render us)

@@ -11,6 +11,13 @@ pub mod Towers
 pub mod Heads
 pub mod Forms
 pub mod Repeats
+pub mod Bindings
+pub mod Operations
+pub mod Logicals
+pub mod Choices
+pub mod Elements
+pub mod Assignments
+pub mod Updates
 pub mod Params
 pub mod Expressions
 pub mod Async

@@ -1,5 +1,5 @@
 -- A module that has the shape, and its text.
-use Rattle.std.proofs.Common.{◌≡◌, false, [], ◌∷◌, refl, ◌∙◌, codes, None}
+use Rattle.std.proofs.Common.{◌≡◌, ℕ, zero, suc, false, [], ◌∷◌, refl, ◌∙◌, codes, None}
 use Rattle.std.proofs.lemmas.Str.{IsUtf8-from_is_utf8}
 use Rattle.std.specs.Str.{chars, is_utf8}
 use lib.Utf8.{encode}
@@ -11,13 +11,18 @@ use Rattle.ecma_lex.specs.Keys.{is_reserved, reserved_words}
 use Rattle.ecma_lex.proofs.Spelled.{Spelled, IsKey as IsKeySpelling}
 use Rattle.ecma_kind.specs.declared.span.Span.{Span}
 use Rattle.ecma_kind.specs.declared.operators.VarDeclKind.TheVariants.{Const}
+use Rattle.ecma_kind.specs.declared.operators.UnaryOp.TheVariants.{Minus}
+use Rattle.ecma_kind.specs.declared.operators.UpdateOp.TheVariants.{PlusPlus}
+use Rattle.ecma_kind.specs.declared.operators.BinaryOp.TheVariants.{Add, Mul}
+use Rattle.ecma_kind.specs.declared.operators.AssignOp.TheVariants.{Assign}
 use Rattle.ecma_kind.specs.declared.kind.Kind.TheVariants as kind
 use Rattle.ecma_tree.specs.declared.node.Node.{Node}
 use Rattle.ecma_tree.specs.Nodes.{node_of}
 use Rattle.ecma_print.specs.Layout.{layout}
 use Rattle.ecma_tokens.specs.Items.{render}
-use Rattle.ecma_reread.specs.Shapes.{IsPlainName, ident, key, absent, const_word, name, null_word, this_word, member, call, parenthesized, arguments, no_expressions, more_expressions, initializer, declarator, no_declarators, expression, declaration, no_statements, more_statements, IsModule, module_of}
+use Rattle.ecma_reread.specs.Shapes.{Level, assignment, IsExpression, element, postfix_update, conditional_expression, assignment_expression, unary_expression, binary_expression, plus, times, IsPlainName, ident, key, absent, const_word, looser, name, null_word, this_word, member, call, parenthesized, arguments, no_expressions, more_expressions, initializer, declarator, no_declarators, expression, declaration, no_statements, more_statements, IsModule, module_of}
 use Rattle.ecma_reread.specs.Tokens.{module_tokens}
+use Rattle.ecma_reread.proofs.Bindings.{further_out}
 use Rattle.ecma_reread.proofs.Layouts.{module_laid}
 use Rattle.ecma_reread.proofs.Words.{whole}
 
@@ -49,7 +54,28 @@ a = node_of at (kind.Ident (codes "a") 0 false) []
 abbrev async : Node
 async = node_of at (kind.Ident (codes "async") 0 false) []
 
--- `const async = (this);`, `a.a(a, null);` and `async(a, async).a;`
+abbrev product : Node
+product =
+    node_of at (kind.BinExpr Mul)
+    (node_of at kind.MemberExpr (a ∷ node_of at kind.ComputedPropName (node_of at (kind.UpdateExpr PlusPlus false) (a ∷ []) ∷ []) ∷ [])
+    ∷ node_of at kind.ParenExpr (node_of at kind.CondExpr (a ∷ a ∷ a ∷ []) ∷ []) ∷ [])
+
+abbrev value : Node
+value = node_of at (kind.BinExpr Add) (node_of at (kind.UnaryExpr Minus) (node_of at (kind.UnaryExpr Minus) (a ∷ []) ∷ []) ∷ product ∷ [])
+
+-- an expression so many levels further out
+abbrev out : (n : ℕ) {level : Level} {e : Node} → IsExpression level e → IsExpression (further_out n level) e
+out zero is = is
+out (suc n) is = out n (looser is)
+
+value_shape : IsExpression assignment value
+value_shape =
+    let id = name (ident at (codes "a") a_name) in
+    let held = element at at (out 1 id) (postfix_update at PlusPlus (out 1 id)) in
+    let chosen = parenthesized at (conditional_expression at (out 14 id) (out 15 id) (out 15 id)) in
+    out 9 (binary_expression at plus (out 3 (unary_expression at Minus (unary_expression at Minus (out 3 id)))) (binary_expression at times (out 5 held) (out 4 chosen)))
+
+-- `const async = (this);`, `a.a(a, null);`, `async(a, async).a;` and `a = - -a + a[a++] * (a ? a : a);`
 abbrev tree : Node
 tree =
     node_of at (kind.Module None)
@@ -62,6 +88,7 @@ tree =
     ∷ node_of at kind.ExprStmt
     (node_of at kind.MemberExpr
     (node_of at kind.CallExpr (async ∷ node_of at kind.List (a ∷ async ∷ []) ∷ gone ∷ []) ∷ node_of at (kind.IdentName (codes "a")) [] ∷ []) ∷ [])
+    ∷ node_of at kind.ExprStmt (node_of at (kind.AssignExpr Assign) (a ∷ value ∷ []) ∷ [])
     ∷ [])
     ∷ [])
 
@@ -72,12 +99,13 @@ shape =
     let it' = whole (codes "a") a_spelled in
     module_of at at
     (more_statements (declaration at at const_word (declarator at at async' (absent at) (initializer (parenthesized at (this_word at)))) no_declarators)
-    (more_statements (expression at (call at (member at (name id) (key at (codes "a") it')) (arguments at (name id) (more_expressions (null_word at) no_expressions)) (absent at)))
-    (more_statements (expression at (member at (call at (name async') (arguments at (name id) (more_expressions (name async') no_expressions)) (absent at)) (key at (codes "a") it'))) no_statements)))
+    (more_statements (expression at (call at (looser (member at (name id) (key at (codes "a") it'))) (arguments at (name id) (more_expressions (null_word at) no_expressions)) (absent at)))
+    (more_statements (expression at (member at (call at (looser (name async')) (arguments at (name id) (more_expressions (name async') no_expressions)) (absent at)) (key at (codes "a") it')))
+    (more_statements (expression at (assignment_expression at Assign (out 1 (name id)) value_shape)) no_statements))))
 
-text : render (module_tokens shape) ≡ codes "const async = (this);\na.a(a, null);\nasync(a, async).a;\n"
-unfolding render shape
+text : render (module_tokens shape) ≡ codes "const async = (this);\na.a(a, null);\nasync(a, async).a;\na = - -a + a[a++] * (a ? a : a);\n"
+unfolding render shape value_shape
 text = refl
 
-laid : layout tree ≡ codes "const async = (this);\na.a(a, null);\nasync(a, async).a;\n"
+laid : layout tree ≡ codes "const async = (this);\na.a(a, null);\nasync(a, async).a;\na = - -a + a[a++] * (a ? a : a);\n"
 laid = module_laid shape ∙ text

@@ -12,15 +12,18 @@ use Rattle.ecma_grammar.specs.declared.production.Form.TheVariants as form
 use Rattle.ecma_grammar.specs.Grammar as grammar
 use Rattle.ecma_grammar.specs.Grammar.{Grammar, nothing, same_line, keep, ◌▸◌, ◌//◌, build, word, punct, behind_punct, optional, node, item}
 use Rattle.ecma_grammar.specs.productions.Names.{assign_in}
-use Rattle.ecma_grammar.specs.productions.Chains.{chain}
-use Rattle.ecma_grammar.specs.productions.Operators.{update, prefixed, exponentiation, factors, terms, shifts, shift, relations, relation, equalities, equality, conjunctions, exclusions, disjunctions, bit_and, bit_xor, bit_or, coalescing, logicals, short_circuit}
+use Rattle.ecma_grammar.specs.productions.Functions.{arrow_rest, arrow_body}
+use Rattle.ecma_grammar.specs.productions.Chains.{links}
+use Rattle.ecma_grammar.specs.productions.Operators.{prefixed, factors, terms, shifts, shift, relations, equalities, conjunctions, exclusions, disjunctions, coalescing, logicals}
 use Rattle.ecma_grammar.specs.productions.Expressions.{conditional, yield_, assignments}
 use Rattle.ecma_grammar.specs.productions.Declarations.{declaration}
 use Rattle.ecma_grammar.specs.productions.Statements.{statement_body}
 use Rattle.ecma_grammar.specs.productions.Modules.{module_item}
-use Rattle.ecma_tokens.specs.Items.{Items, sign}
+use Rattle.ecma_tokens.specs.Items.{Items}
+use Rattle.ecma_reread.specs.Shapes as shapes
+use Rattle.ecma_reread.specs.Shapes.{Level}
 use Rattle.ecma_reread.specs.Machine.{read, Turn, followed_on, or_on, with_front, built_on, interp}
-use Rattle.ecma_reread.proofs.Fronts.{Front, exactly, Begins, refuses_at, passes_at, refused_at, passed_at}
+use Rattle.ecma_reread.proofs.Fronts.{Front, Begins, refuses_at, passes_at, refused_at, passed_at}
 
 -- a grammar around another: the front is f, and k stands behind what is read
 pub data Tower (f k : Front) (base : Grammar) : Grammar → Type 0 where
@@ -77,11 +80,15 @@ module _ (assigned : Bool) (p : Part → Turn) where
 abbrev pub excluded : Grammar
 excluded = punct (codes "{") // word (codes "function") // word (codes "class") // word (codes "async") ▸ same_line ▸ word (codes "function")
 
+-- a private name before `in`
+abbrev pub private_in : Grammar
+private_in = keep leaf.PrivateName ▸ item (plain.BinExpr binary.In) (word (codes "in") ▸ shift)
+
 -- what an expression begins with that no operator stands before
 pub record Opens (f : Front) : Type 0 where
   pub no_spread : refuses_at f (punct (codes "...")) ≡ true
   pub no_yield : refuses_at f (yield_ false) ≡ true
-  pub no_private : refuses_at f (keep leaf.PrivateName ▸ item (plain.BinExpr binary.In) (word (codes "in") ▸ shift)) ≡ true
+  pub no_private : refuses_at f private_in ≡ true
   pub no_prefix : refuses_at f prefixed ≡ true
   pub no_increment : refuses_at f (node (plain.UpdateExpr update_op.PlusPlus true) (behind_punct (codes "++") part.Operand)) ≡ true
   pub no_decrement : refuses_at f (node (plain.UpdateExpr update_op.MinusMinus true) (behind_punct (codes "--") part.Operand)) ≡ true
@@ -105,85 +112,72 @@ pub record Undeclared (f : Front) : Type 0 where
   pub no_declaration : refuses_at f declaration ≡ true
   pub no_word : refuses_at f excluded ≡ true
 
--- what ends an expression: no operator
-pub record Closes (k : Front) : Type 0 where
-  pub no_suffix : passes_at k suffix ≡ true
-  pub no_power : passes_at k power_tail ≡ true
-  pub no_factor : passes_at k factors ≡ true
-  pub no_term : passes_at k terms ≡ true
-  pub no_shift : passes_at k shifts ≡ true
-  pub no_relation : passes_at k (relations false) ≡ true
-  pub no_equality : passes_at k (equalities false) ≡ true
-  pub no_and : passes_at k (conjunctions false) ≡ true
-  pub no_xor : passes_at k (exclusions false) ≡ true
-  pub no_or : passes_at k (disjunctions false) ≡ true
-  pub no_logical : passes_at k (coalescing false // logicals false) ≡ true
-  pub no_choice : passes_at k choice_tail ≡ true
-  pub no_assignment : passes_at k (assignments false) ≡ true
+-- what stands behind an expression of each level is none of its operators, and nothing that `async` would stand before
+
+abbrev closes_chain : Front → Bool
+closes_chain e = passes_at e links && refuses_at e (word (codes "function"))
+
+abbrev closes_update : Front → Bool
+closes_update e = passes_at e suffix && closes_chain e
+
+abbrev closes_power : Front → Bool
+closes_power e = passes_at e power_tail && closes_update e
+
+abbrev closes_product : Front → Bool
+closes_product e = passes_at e factors && closes_power e
+
+abbrev closes_sum : Front → Bool
+closes_sum e = passes_at e terms && closes_product e
+
+abbrev closes_shift : Front → Bool
+closes_shift e = passes_at e shifts && closes_sum e
+
+abbrev closes_relation : Front → Bool
+closes_relation e = passes_at e (relations false) && closes_shift e
+
+abbrev closes_equality : Front → Bool
+closes_equality e = passes_at e (equalities false) && closes_relation e
+
+abbrev closes_bit_and : Front → Bool
+closes_bit_and e = passes_at e (conjunctions false) && closes_equality e
+
+abbrev closes_bit_xor : Front → Bool
+closes_bit_xor e = passes_at e (exclusions false) && closes_bit_and e
+
+abbrev closes_bit_or : Front → Bool
+closes_bit_or e = passes_at e (disjunctions false) && closes_bit_xor e
+
+abbrev pub closes_logical : Front → Bool
+closes_logical e = passes_at e (coalescing false // logicals false) && closes_bit_or e
+
+abbrev pub closes_conditional : Front → Bool
+closes_conditional e = passes_at e choice_tail && closes_logical e
+
+-- and no arrow
+abbrev closes_assignment : Front → Bool
+closes_assignment e = refuses_at e (arrow_body false) && (refuses_at e (arrow_rest false false) && (passes_at e (assignments false) && closes_conditional e))
+
+abbrev pub closes : Level → Front → Bool
+closes shapes.object e = closes_chain e
+closes shapes.callee e = closes_chain e
+closes shapes.update e = closes_update e
+closes shapes.unary e = closes_update e
+closes shapes.power e = closes_power e
+closes shapes.product e = closes_product e
+closes shapes.sum e = closes_sum e
+closes shapes.shift e = closes_shift e
+closes shapes.relation e = closes_relation e
+closes shapes.equality e = closes_equality e
+closes shapes.bit_and e = closes_bit_and e
+closes shapes.bit_xor e = closes_bit_xor e
+closes shapes.bit_or e = closes_bit_or e
+closes shapes.logical_and e = closes_logical e
+closes shapes.logical_or e = closes_logical e
+closes shapes.assignment e = closes_assignment e
+
+-- what ends an expression
+abbrev pub Ends : Front → Type 0
+Ends e = closes shapes.assignment e ≡ true
 
 abbrev pub behind_arrow : Grammar
 behind_arrow = yield_ false // build form.Chain (conditional false ▸ assignments false)
-
-pub assign_tower : {f k : Front} → Opens f → Closes k → Tower f k chain behind_arrow
-unfolding conditional short_circuit bit_or bit_xor bit_and equality relation shift exponentiation update
-assign_tower o c =
-    let up = later o.no_increment (later o.no_decrement (chained (before here c.no_suffix))) in
-    let power = later o.no_prefix (chained (before up c.no_power)) in
-    let sums = chained (before (chained (before power c.no_factor)) c.no_term) in
-    let relations = chained (before (later o.no_private (chained (before sums c.no_shift))) c.no_relation) in
-    let bits = chained (before (chained (before (chained (before (chained (before relations c.no_equality)) c.no_and)) c.no_xor)) c.no_or) in
-    later o.no_yield (chained (before (chained (before (logical (before bits c.no_logical)) c.no_choice)) c.no_assignment))
-
-pub comma_closes : Closes (exactly (sign (codes ",")))
-unfolding factors terms shifts relations equalities assignments
-comma_closes = record {
-  no_suffix = refl;
-  no_power = refl;
-  no_factor = refl;
-  no_term = refl;
-  no_shift = refl;
-  no_relation = refl;
-  no_equality = refl;
-  no_and = refl;
-  no_xor = refl;
-  no_or = refl;
-  no_logical = refl;
-  no_choice = refl;
-  no_assignment = refl;
-}
-
-pub parenthesis_closes : Closes (exactly (sign (codes ")")))
-unfolding factors terms shifts relations equalities assignments
-parenthesis_closes = record {
-  no_suffix = refl;
-  no_power = refl;
-  no_factor = refl;
-  no_term = refl;
-  no_shift = refl;
-  no_relation = refl;
-  no_equality = refl;
-  no_and = refl;
-  no_xor = refl;
-  no_or = refl;
-  no_logical = refl;
-  no_choice = refl;
-  no_assignment = refl;
-}
-
-pub semicolon_closes : Closes (exactly (sign (codes ";")))
-unfolding factors terms shifts relations equalities assignments
-semicolon_closes = record {
-  no_suffix = refl;
-  no_power = refl;
-  no_factor = refl;
-  no_term = refl;
-  no_shift = refl;
-  no_relation = refl;
-  no_equality = refl;
-  no_and = refl;
-  no_xor = refl;
-  no_or = refl;
-  no_logical = refl;
-  no_choice = refl;
-  no_assignment = refl;
-}

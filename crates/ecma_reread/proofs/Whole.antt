@@ -1,5 +1,6 @@
 -- The text of a module is read again by the grammar over texts, as the same tree up to spans.
-use Rattle.std.proofs.Common.{false, None, ◌≡◌, ℕ, ◌+◌, ◌*◌, ◌≤◌, Bool, List, [], ◌∷◌, map, length, refl, ap, ap₂, sym, ◌∙◌, subst, arith}
+use Rattle.std.proofs.Common.{true, false, None, ◌≡◌, ℕ, ◌+◌, ◌*◌, ◌≤◌, Bool, List, [], ◌∷◌, map, length, refl, ap, ap₂, sym, ◌∙◌, subst, arith}
+use Rattle.ecma_kind.specs.declared.operators.BinaryOp.TheVariants as op
 use Rattle.ecma_kind.specs.declared.kind.Kind.TheVariants as kind
 use Rattle.ecma_tree.specs.declared.node.Node.{Node}
 use Rattle.ecma_tree.specs.Nodes.{absent, list_node}
@@ -11,7 +12,7 @@ use Rattle.ecma_tokens.specs.Items.{Items, ends, no_gap, render}
 use Rattle.ecma_tokens.specs.Lexing.{At, Goes, Lexes}
 use Rattle.ecma_reread.specs.Machine.{count}
 use Rattle.ecma_reread.specs.Shapes as shapes
-use Rattle.ecma_reread.specs.Shapes.{IsIdent, ident, IsKey, key, IsAbsent, IsExpression, IsArguments, AreExpressions, IsInitializer, IsDeclarator, AreDeclarators, IsStatement, AreStatements, IsModule}
+use Rattle.ecma_reread.specs.Shapes.{Level, IsIdent, ident, IsKey, key, IsAbsent, IsExpression, IsArguments, AreExpressions, IsInitializer, IsDeclarator, AreDeclarators, IsStatement, AreStatements, IsModule}
 use Rattle.ecma_reread.specs.Tokens.{bare, bare_ident, key_word, module_tokens, bare_expression, bare_arguments, bare_expressions, bare_initializer, bare_declarator, bare_declarators, bare_statement, bare_statements, bare_module}
 use Rattle.ecma_reread.proofs.Ranks.{module_leads}
 use Rattle.ecma_reread.proofs.Unplaced.{without_spans-node}
@@ -30,7 +31,7 @@ key_bare : {n : Node} (k : IsKey n) → without_spans n ≡ bare (kind.IdentName
 key_bare (key at w t) = without_spans-node at _ []
 
 mutual
-  expression_bare : {numeral : Bool} {e : Node} (is : IsExpression numeral e) → without_spans e ≡ bare_expression is
+  expression_bare : {level : Level} {e : Node} (is : IsExpression level e) → without_spans e ≡ bare_expression is
   expression_bare (shapes.name i) = ident_bare i
   expression_bare (shapes.string at raw t) = without_spans-node at _ []
   expression_bare (shapes.number at raw t) = without_spans-node at _ []
@@ -42,6 +43,21 @@ mutual
   expression_bare (shapes.member at o k) = without_spans-node at kind.MemberExpr _ ∙ ap₂ (λ x y. bare kind.MemberExpr (x ∷ y ∷ [])) (expression_bare o) (key_bare k)
   expression_bare (shapes.call at {none = gone} c es none) = without_spans-node at kind.CallExpr _ ∙ (ap₂ (λ x y. bare kind.CallExpr (x ∷ y ∷ without_spans gone ∷ [])) (expression_bare c) (arguments_bare es) ∙ ap (λ z. bare kind.CallExpr (bare_expression c ∷ list_node (bare_arguments es) ∷ z ∷ [])) (absent_bare none))
   expression_bare (shapes.parenthesized at e) = without_spans-node at kind.ParenExpr _ ∙ ap (λ x. bare kind.ParenExpr (x ∷ [])) (expression_bare e)
+  expression_bare (shapes.looser e) = expression_bare e
+  expression_bare (shapes.element at at' o e) =
+      without_spans-node at kind.MemberExpr _ ∙ ap₂ (λ x y. bare kind.MemberExpr (x ∷ y ∷ [])) (expression_bare o) (without_spans-node at' kind.ComputedPropName _ ∙ ap (λ x. bare kind.ComputedPropName (x ∷ [])) (expression_bare e))
+  expression_bare (shapes.prefix_update at o e) = without_spans-node at (kind.UpdateExpr o true) _ ∙ ap (λ x. bare (kind.UpdateExpr o true) (x ∷ [])) (expression_bare e)
+  expression_bare (shapes.postfix_update at o e) = without_spans-node at (kind.UpdateExpr o false) _ ∙ ap (λ x. bare (kind.UpdateExpr o false) (x ∷ [])) (expression_bare e)
+  expression_bare (shapes.await_expression at e) = without_spans-node at kind.AwaitExpr _ ∙ ap (λ x. bare kind.AwaitExpr (x ∷ [])) (expression_bare e)
+  expression_bare (shapes.unary_expression at o e) = without_spans-node at (kind.UnaryExpr o) _ ∙ ap (λ x. bare (kind.UnaryExpr o) (x ∷ [])) (expression_bare e)
+  expression_bare (shapes.binary_expression at {operator = o} i l r) = without_spans-node at (kind.BinExpr o) _ ∙ ap₂ (λ x y. bare (kind.BinExpr o) (x ∷ y ∷ [])) (expression_bare l) (expression_bare r)
+  expression_bare (shapes.exponentiation at l r) = without_spans-node at (kind.BinExpr op.Exp) _ ∙ ap₂ (λ x y. bare (kind.BinExpr op.Exp) (x ∷ y ∷ [])) (expression_bare l) (expression_bare r)
+  expression_bare (shapes.both at l r) = without_spans-node at (kind.BinExpr op.LogicalAnd) _ ∙ ap₂ (λ x y. bare (kind.BinExpr op.LogicalAnd) (x ∷ y ∷ [])) (expression_bare l) (expression_bare r)
+  expression_bare (shapes.either at l r) = without_spans-node at (kind.BinExpr op.LogicalOr) _ ∙ ap₂ (λ x y. bare (kind.BinExpr op.LogicalOr) (x ∷ y ∷ [])) (expression_bare l) (expression_bare r)
+  expression_bare (shapes.assignment_expression at o t v) = without_spans-node at (kind.AssignExpr o) _ ∙ ap₂ (λ x y. bare (kind.AssignExpr o) (x ∷ y ∷ [])) (expression_bare t) (expression_bare v)
+  expression_bare (shapes.conditional_expression at {second = y'} t x y) =
+      without_spans-node at kind.CondExpr _
+      ∙ (ap₂ (λ a b. bare kind.CondExpr (a ∷ b ∷ without_spans y' ∷ [])) (expression_bare t) (expression_bare x) ∙ ap (λ c. bare kind.CondExpr (bare_expression t ∷ bare_expression x ∷ c ∷ [])) (expression_bare y))
 
   arguments_bare : {n : Node} (is : IsArguments n) → without_spans n ≡ list_node (bare_arguments is)
   arguments_bare (shapes.no_arguments at) = without_spans-node at kind.List []
@@ -65,6 +81,13 @@ declarators_bare shapes.no_declarators = refl
 declarators_bare (shapes.more_declarators d ds) = ap₂ (λ x xs. x ∷ xs) (declarator_bare d) (declarators_bare ds)
 
 statement_bare : {n : Node} (is : IsStatement n) → without_spans n ≡ bare_statement is
+statement_bare (shapes.empty at) = without_spans-node at kind.EmptyStmt []
+statement_bare (shapes.debugger_word at) = without_spans-node at kind.DebuggerStmt []
+statement_bare (shapes.throw at e) = without_spans-node at kind.ThrowStmt _ ∙ ap (λ x. bare kind.ThrowStmt (x ∷ [])) (expression_bare e)
+statement_bare (shapes.return_value at e) = without_spans-node at kind.ReturnStmt _ ∙ ap (λ x. bare kind.ReturnStmt (x ∷ [])) (expression_bare e)
+statement_bare (shapes.return_nothing at a) = without_spans-node at kind.ReturnStmt _ ∙ ap (λ x. bare kind.ReturnStmt (x ∷ [])) (absent_bare a)
+statement_bare (shapes.break_nothing at a) = without_spans-node at kind.BreakStmt _ ∙ ap (λ x. bare kind.BreakStmt (x ∷ [])) (absent_bare a)
+statement_bare (shapes.continue_nothing at a) = without_spans-node at kind.ContinueStmt _ ∙ ap (λ x. bare kind.ContinueStmt (x ∷ [])) (absent_bare a)
 statement_bare (shapes.expression at e) = without_spans-node at kind.ExprStmt _ ∙ ap (λ x. bare kind.ExprStmt (x ∷ [])) (expression_bare e)
 statement_bare (shapes.declaration at at' {k = k} w d ds) =
     without_spans-node at (kind.VarDecl k false) _ ∙ ap (λ x. bare (kind.VarDecl k false) (x ∷ [])) (without_spans-node at' kind.List _ ∙ ap₂ (λ x xs. list_node (x ∷ xs)) (declarator_bare d) (declarators_bare ds))

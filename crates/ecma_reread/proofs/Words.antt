@@ -39,6 +39,50 @@ const_spelled : Spelled IsKey (codes "const")
 unfolding chars is_utf8 encode is_xid_start is_xid_continue in_ranges xid_start_ranges xid_continue_ranges
 const_spelled = (IsUtf8-from_is_utf8 (codes "const") refl, (refl, refl))
 
+typeof_spelled : Spelled IsKey (codes "typeof")
+unfolding chars is_utf8 encode is_xid_start is_xid_continue in_ranges xid_start_ranges xid_continue_ranges
+typeof_spelled = (IsUtf8-from_is_utf8 (codes "typeof") refl, (refl, refl))
+
+void_spelled : Spelled IsKey (codes "void")
+unfolding chars is_utf8 encode is_xid_start is_xid_continue in_ranges xid_start_ranges xid_continue_ranges
+void_spelled = (IsUtf8-from_is_utf8 (codes "void") refl, (refl, refl))
+
+delete_spelled : Spelled IsKey (codes "delete")
+unfolding chars is_utf8 encode is_xid_start is_xid_continue in_ranges xid_start_ranges xid_continue_ranges
+delete_spelled = (IsUtf8-from_is_utf8 (codes "delete") refl, (refl, refl))
+
+in_spelled : Spelled IsKey (codes "in")
+unfolding chars is_utf8 encode is_xid_start is_xid_continue in_ranges xid_start_ranges xid_continue_ranges
+in_spelled = (IsUtf8-from_is_utf8 (codes "in") refl, (refl, refl))
+
+instanceof_spelled : Spelled IsKey (codes "instanceof")
+unfolding chars is_utf8 encode is_xid_start is_xid_continue in_ranges xid_start_ranges xid_continue_ranges
+instanceof_spelled = (IsUtf8-from_is_utf8 (codes "instanceof") refl, (refl, refl))
+
+await_spelled : Spelled IsKey (codes "await")
+unfolding chars is_utf8 encode is_xid_start is_xid_continue in_ranges xid_start_ranges xid_continue_ranges
+await_spelled = (IsUtf8-from_is_utf8 (codes "await") refl, (refl, refl))
+
+debugger_spelled : Spelled IsKey (codes "debugger")
+unfolding chars is_utf8 encode is_xid_start is_xid_continue in_ranges xid_start_ranges xid_continue_ranges
+debugger_spelled = (IsUtf8-from_is_utf8 (codes "debugger") refl, (refl, refl))
+
+throw_spelled : Spelled IsKey (codes "throw")
+unfolding chars is_utf8 encode is_xid_start is_xid_continue in_ranges xid_start_ranges xid_continue_ranges
+throw_spelled = (IsUtf8-from_is_utf8 (codes "throw") refl, (refl, refl))
+
+return_spelled : Spelled IsKey (codes "return")
+unfolding chars is_utf8 encode is_xid_start is_xid_continue in_ranges xid_start_ranges xid_continue_ranges
+return_spelled = (IsUtf8-from_is_utf8 (codes "return") refl, (refl, refl))
+
+break_spelled : Spelled IsKey (codes "break")
+unfolding chars is_utf8 encode is_xid_start is_xid_continue in_ranges xid_start_ranges xid_continue_ranges
+break_spelled = (IsUtf8-from_is_utf8 (codes "break") refl, (refl, refl))
+
+continue_spelled : Spelled IsKey (codes "continue")
+unfolding chars is_utf8 encode is_xid_start is_xid_continue in_ranges xid_start_ranges xid_continue_ranges
+continue_spelled = (IsUtf8-from_is_utf8 (codes "continue") refl, (refl, refl))
+
 pub layout_words : Words
 layout_words = record {
   this_whole = whole (codes "this") this_spelled;
@@ -47,4 +91,15 @@ layout_words = record {
   false_whole = whole (codes "false") false_spelled;
   let_whole = whole (codes "let") let_spelled;
   const_whole = whole (codes "const") const_spelled;
+  typeof_whole = whole (codes "typeof") typeof_spelled;
+  void_whole = whole (codes "void") void_spelled;
+  delete_whole = whole (codes "delete") delete_spelled;
+  await_whole = whole (codes "await") await_spelled;
+  debugger_whole = whole (codes "debugger") debugger_spelled;
+  throw_whole = whole (codes "throw") throw_spelled;
+  return_whole = whole (codes "return") return_spelled;
+  break_whole = whole (codes "break") break_spelled;
+  continue_whole = whole (codes "continue") continue_spelled;
+  in_whole = whole (codes "in") in_spelled;
+  instanceof_whole = whole (codes "instanceof") instanceof_spelled;
 }

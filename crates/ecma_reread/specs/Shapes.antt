@@ -1,5 +1,5 @@
--- The trees of modules, a constructor for each form.
-use Rattle.std.specs.Prelude.{◌≡◌, ℕ, ◌-◌, Bool, true, false, List, [], ◌∷◌, length, Some, None}
+-- The trees of modules, a constructor for each form. Parentheses are parts of these trees: none have to be added.
+use Rattle.std.specs.Prelude.{◌≡◌, ℕ, ◌-◌, true, false, List, [], ◌∷◌, length, Some, None}
 use Rattle.ecma_number.specs.Numeral.{numeral_of}
 use Rattle.ecma_lex.specs.Text.{piece}
 use Rattle.ecma_lex.specs.Keys.{is_reserved, key_end}
@@ -8,6 +8,11 @@ use Rattle.ecma_lex.specs.Strings.{str_end, str_value}
 use Rattle.ecma_kind.specs.declared.span.Span.{Span}
 use Rattle.ecma_kind.specs.declared.operators.VarDeclKind.{VarDeclKind}
 use Rattle.ecma_kind.specs.declared.operators.VarDeclKind.TheVariants.{Let, Const}
+use Rattle.ecma_kind.specs.declared.operators.UnaryOp.{UnaryOp}
+use Rattle.ecma_kind.specs.declared.operators.UpdateOp.{UpdateOp}
+use Rattle.ecma_kind.specs.declared.operators.AssignOp.{AssignOp}
+use Rattle.ecma_kind.specs.declared.operators.BinaryOp.{BinaryOp}
+use Rattle.ecma_kind.specs.declared.operators.BinaryOp.TheVariants as op
 use Rattle.ecma_kind.specs.declared.kind.Kind.TheVariants as kind
 use Rattle.ecma_tree.specs.declared.node.Node.{Node}
 use Rattle.ecma_tree.specs.Nodes.{node_of}
@@ -33,32 +38,97 @@ pub data IsLexical : VarDeclKind → Type 0 where
   let_word : IsLexical Let
   const_word : IsLexical Const
 
+-- how loosely an expression binds: by its outermost operator, the tightest first (ECMAScript, 13). A conditional expression stands where
+-- an assignment does
+pub data Level : Type 0 where
+  -- what may stand before a point; a call's callee, which may be a numeral too
+  object callee : Level
+  update unary power product sum shift relation equality bit_and bit_xor bit_or logical_and logical_or assignment : Level
+
+-- the next level, whose expressions are also those of this one
+abbrev pub looser_than : Level → Level
+looser_than object = callee
+looser_than callee = update
+looser_than update = unary
+looser_than unary = power
+looser_than power = product
+looser_than product = sum
+looser_than sum = shift
+looser_than shift = relation
+looser_than relation = equality
+looser_than equality = bit_and
+looser_than bit_and = bit_xor
+looser_than bit_xor = bit_or
+looser_than bit_or = logical_and
+looser_than logical_and = logical_or
+looser_than logical_or = assignment
+looser_than assignment = assignment
+
+-- an operator of two operands: its own level, and that of its right side; its left side has its own level
+pub data IsOperator : BinaryOp → Level → Level → Type 0 where
+  times : IsOperator op.Mul product power
+  divided : IsOperator op.Div product power
+  modulo : IsOperator op.Mod product power
+  plus : IsOperator op.Add sum product
+  minus : IsOperator op.Sub sum product
+  left_shift : IsOperator op.LShift shift sum
+  right_shift : IsOperator op.RShift shift sum
+  unsigned_shift : IsOperator op.ZeroFillRShift shift sum
+  less : IsOperator op.Lt relation shift
+  greater : IsOperator op.Gt relation shift
+  at_most : IsOperator op.LtEq relation shift
+  at_least : IsOperator op.GtEq relation shift
+  instance_of : IsOperator op.InstanceOf relation shift
+  contained : IsOperator op.In relation shift
+  equal : IsOperator op.EqEq equality relation
+  unequal : IsOperator op.NotEq equality relation
+  same : IsOperator op.EqEqEq equality relation
+  other : IsOperator op.NotEqEq equality relation
+  conjunction : IsOperator op.BitAnd bit_and equality
+  exclusion : IsOperator op.BitXor bit_xor bit_and
+  disjunction : IsOperator op.BitOr bit_or bit_xor
+
 mutual
-  -- whether it is a numeral, which does not stand before a point
-  pub data IsExpression : Bool → Node → Type 0 where
-    name : {id : Node} → IsIdent id → IsExpression false id
-    string : (at : Span) (raw : List ℕ) → IsToken str_end raw → IsExpression false (node_of at (kind.Str (str_value (piece raw 1 (length raw - 1))) (Some raw)) [])
-    number : (at : Span) (raw : List ℕ) → IsToken num_end raw → IsExpression true (node_of at (kind.Number (numeral_of raw) (Some raw)) [])
-    this_word : (at : Span) → IsExpression false (node_of at kind.ThisExpr [])
-    big_int : (at : Span) (raw : List ℕ) → IsToken big_end raw → IsExpression false (node_of at (kind.BigInt (without_separators (piece raw 0 (length raw - 1))) (Some raw)) [])
-    null_word : (at : Span) → IsExpression false (node_of at kind.Null [])
-    true_word : (at : Span) → IsExpression false (node_of at (kind.Bool true) [])
-    false_word : (at : Span) → IsExpression false (node_of at (kind.Bool false) [])
-    member : (at : Span) {object property : Node} → IsExpression false object → IsKey property → IsExpression false (node_of at kind.MemberExpr (object ∷ property ∷ []))
-    call : (at : Span) {numeral : Bool} {callee args none : Node} → IsExpression numeral callee → IsArguments args → IsAbsent none → IsExpression false (node_of at kind.CallExpr (callee ∷ args ∷ none ∷ []))
-    parenthesized : (at : Span) {numeral : Bool} {e : Node} → IsExpression numeral e → IsExpression false (node_of at kind.ParenExpr (e ∷ []))
+  -- at a level: its own, or a looser one
+  pub data IsExpression : Level → Node → Type 0 where
+    looser : {level : Level} {e : Node} → IsExpression level e → IsExpression (looser_than level) e
+    name : {id : Node} → IsIdent id → IsExpression object id
+    string : (at : Span) (raw : List ℕ) → IsToken str_end raw → IsExpression object (node_of at (kind.Str (str_value (piece raw 1 (length raw - 1))) (Some raw)) [])
+    number : (at : Span) (raw : List ℕ) → IsToken num_end raw → IsExpression callee (node_of at (kind.Number (numeral_of raw) (Some raw)) [])
+    this_word : (at : Span) → IsExpression object (node_of at kind.ThisExpr [])
+    big_int : (at : Span) (raw : List ℕ) → IsToken big_end raw → IsExpression object (node_of at (kind.BigInt (without_separators (piece raw 0 (length raw - 1))) (Some raw)) [])
+    null_word : (at : Span) → IsExpression object (node_of at kind.Null [])
+    true_word : (at : Span) → IsExpression object (node_of at (kind.Bool true) [])
+    false_word : (at : Span) → IsExpression object (node_of at (kind.Bool false) [])
+    member : (at : Span) {holder property : Node} → IsExpression object holder → IsKey property → IsExpression object (node_of at kind.MemberExpr (holder ∷ property ∷ []))
+    call : (at : Span) {function args none : Node} → IsExpression callee function → IsArguments args → IsAbsent none → IsExpression object (node_of at kind.CallExpr (function ∷ args ∷ none ∷ []))
+    parenthesized : (at : Span) {level : Level} {e : Node} → IsExpression level e → IsExpression object (node_of at kind.ParenExpr (e ∷ []))
+    element : (at of_key : Span) {level : Level} {holder e : Node} → IsExpression callee holder → IsExpression level e → IsExpression object (node_of at kind.MemberExpr (holder ∷ node_of of_key kind.ComputedPropName (e ∷ []) ∷ []))
+    prefix_update : (at : Span) (operator : UpdateOp) {e : Node} → IsExpression callee e → IsExpression update (node_of at (kind.UpdateExpr operator true) (e ∷ []))
+    postfix_update : (at : Span) (operator : UpdateOp) {e : Node} → IsExpression callee e → IsExpression update (node_of at (kind.UpdateExpr operator false) (e ∷ []))
+    await_expression : (at : Span) {e : Node} → IsExpression unary e → IsExpression unary (node_of at kind.AwaitExpr (e ∷ []))
+    unary_expression : (at : Span) (operator : UnaryOp) {e : Node} → IsExpression unary e → IsExpression unary (node_of at (kind.UnaryExpr operator) (e ∷ []))
+    binary_expression : (at : Span) {operator : BinaryOp} {level tighter : Level} {left right : Node} → IsOperator operator level tighter → IsExpression level left → IsExpression tighter right
+        → IsExpression level (node_of at (kind.BinExpr operator) (left ∷ right ∷ []))
+    -- `**` groups to the right, and no operator stands before its left side
+    exponentiation : (at : Span) {left right : Node} → IsExpression update left → IsExpression power right → IsExpression power (node_of at (kind.BinExpr op.Exp) (left ∷ right ∷ []))
+    both : (at : Span) {left right : Node} → IsExpression logical_and left → IsExpression bit_or right → IsExpression logical_and (node_of at (kind.BinExpr op.LogicalAnd) (left ∷ right ∷ []))
+    either : (at : Span) {left right : Node} → IsExpression logical_or left → IsExpression logical_and right → IsExpression logical_or (node_of at (kind.BinExpr op.LogicalOr) (left ∷ right ∷ []))
+    assignment_expression : (at : Span) (operator : AssignOp) {target value : Node} → IsExpression callee target → IsExpression assignment value → IsExpression assignment (node_of at (kind.AssignExpr operator) (target ∷ value ∷ []))
+    conditional_expression : (at : Span) {test first second : Node} → IsExpression logical_or test → IsExpression assignment first → IsExpression assignment second
+        → IsExpression assignment (node_of at kind.CondExpr (test ∷ first ∷ second ∷ []))
 
   pub data IsArguments : Node → Type 0 where
     no_arguments : (at : Span) → IsArguments (node_of at kind.List [])
-    arguments : (at : Span) {numeral : Bool} {e : Node} {es : List Node} → IsExpression numeral e → AreExpressions es → IsArguments (node_of at kind.List (e ∷ es))
+    arguments : (at : Span) {level : Level} {e : Node} {es : List Node} → IsExpression level e → AreExpressions es → IsArguments (node_of at kind.List (e ∷ es))
 
   pub data AreExpressions : List Node → Type 0 where
     no_expressions : AreExpressions []
-    more_expressions : {numeral : Bool} {e : Node} {es : List Node} → IsExpression numeral e → AreExpressions es → AreExpressions (e ∷ es)
+    more_expressions : {level : Level} {e : Node} {es : List Node} → IsExpression level e → AreExpressions es → AreExpressions (e ∷ es)
 
 pub data IsInitializer : Node → Type 0 where
   no_initializer : {none : Node} → IsAbsent none → IsInitializer none
-  initializer : {numeral : Bool} {e : Node} → IsExpression numeral e → IsInitializer e
+  initializer : {level : Level} {e : Node} → IsExpression level e → IsInitializer e
 
 pub data IsDeclarator : Node → Type 0 where
   declarator : (at at_binding : Span) {id none init : Node} → IsIdent id → IsAbsent none → IsInitializer init
@@ -69,9 +139,16 @@ pub data AreDeclarators : List Node → Type 0 where
   more_declarators : {d : Node} {ds : List Node} → IsDeclarator d → AreDeclarators ds → AreDeclarators (d ∷ ds)
 
 pub data IsStatement : Node → Type 0 where
-  expression : (at : Span) {numeral : Bool} {e : Node} → IsExpression numeral e → IsStatement (node_of at kind.ExprStmt (e ∷ []))
+  expression : (at : Span) {level : Level} {e : Node} → IsExpression level e → IsStatement (node_of at kind.ExprStmt (e ∷ []))
   declaration : (at of_list : Span) {k : VarDeclKind} {d : Node} {ds : List Node} → IsLexical k → IsDeclarator d → AreDeclarators ds
       → IsStatement (node_of at (kind.VarDecl k false) (node_of of_list kind.List (d ∷ ds) ∷ []))
+  empty : (at : Span) → IsStatement (node_of at kind.EmptyStmt [])
+  debugger_word : (at : Span) → IsStatement (node_of at kind.DebuggerStmt [])
+  throw : (at : Span) {level : Level} {e : Node} → IsExpression level e → IsStatement (node_of at kind.ThrowStmt (e ∷ []))
+  return_value : (at : Span) {level : Level} {e : Node} → IsExpression level e → IsStatement (node_of at kind.ReturnStmt (e ∷ []))
+  return_nothing : (at : Span) {none : Node} → IsAbsent none → IsStatement (node_of at kind.ReturnStmt (none ∷ []))
+  break_nothing : (at : Span) {none : Node} → IsAbsent none → IsStatement (node_of at kind.BreakStmt (none ∷ []))
+  continue_nothing : (at : Span) {none : Node} → IsAbsent none → IsStatement (node_of at kind.ContinueStmt (none ∷ []))
 
 pub data AreStatements : List Node → Type 0 where
   no_statements : AreStatements []

@@ -1,17 +1,28 @@
 -- The tokens that a tree is laid out as, in front of others, and the tree without spans.
-use Rattle.std.specs.Prelude.{ℕ, ◌-◌, Bool, true, false, List, [], ◌∷◌, length, Some, None, codes}
+use Rattle.std.specs.Prelude.{ℕ, ◌-◌, true, false, List, [], ◌∷◌, length, Some, None, codes}
 use Rattle.ecma_number.specs.Numeral.{numeral_of}
 use Rattle.ecma_lex.specs.Text.{piece}
 use Rattle.ecma_lex.specs.Strings.{str_value}
 use Rattle.ecma_kind.specs.declared.operators.VarDeclKind.{VarDeclKind}
+use Rattle.ecma_kind.specs.declared.operators.UnaryOp.{UnaryOp}
+use Rattle.ecma_kind.specs.declared.operators.UnaryOp.TheVariants.{Minus, Plus, Bang, Tilde, TypeOf, Void, Delete}
+use Rattle.ecma_kind.specs.declared.operators.UpdateOp.{UpdateOp}
+use Rattle.ecma_kind.specs.declared.operators.UpdateOp.TheVariants.{PlusPlus, MinusMinus}
+use Rattle.ecma_kind.specs.declared.operators.AssignOp.{AssignOp}
+use Rattle.ecma_kind.specs.declared.operators.AssignOp.TheVariants.{Assign, AddAssign, SubAssign, MulAssign, DivAssign, ModAssign, LShiftAssign, RShiftAssign, ZeroFillRShiftAssign, BitOrAssign, BitXorAssign, BitAndAssign, ExpAssign, AndAssign, OrAssign, NullishAssign}
+use Rattle.ecma_kind.specs.declared.operators.BinaryOp.{BinaryOp}
+use Rattle.ecma_kind.specs.declared.operators.BinaryOp.TheVariants as op
 use Rattle.ecma_kind.specs.declared.kind.Kind.{Kind}
 use Rattle.ecma_kind.specs.declared.kind.Kind.TheVariants as kind
 use Rattle.ecma_tree.specs.declared.node.Node.{Node}
 use Rattle.ecma_tree.specs.Nodes.{node_of, dummy_span, absent, list_node}
 use Rattle.ecma_grammar.specs.Reads.{without_separators}
+use Rattle.ecma_print.specs.declared.place.Beside.{Beside}
+use Rattle.ecma_print.specs.declared.place.Beside.TheVariants.{NoNeighbor, BehindMinus, BehindPlus}
+use Rattle.ecma_print.specs.Operators.{unary_sign, update_sign}
 use Rattle.ecma_tokens.specs.Items as items
 use Rattle.ecma_tokens.specs.Items.{Tok, sign, Gap, no_gap, Items, ends, it}
-use Rattle.ecma_reread.specs.Shapes.{IsIdent, ident, IsKey, key, IsLexical, let_word, const_word, IsExpression, name, string, number, this_word, big_int, null_word, true_word, false_word, member, call, parenthesized, IsArguments, no_arguments, arguments, AreExpressions, no_expressions, more_expressions, IsInitializer, no_initializer, initializer, IsDeclarator, declarator, AreDeclarators, no_declarators, more_declarators, IsStatement, expression, declaration, AreStatements, no_statements, more_statements, IsModule, module_of}
+use Rattle.ecma_reread.specs.Shapes.{IsIdent, ident, IsKey, key, IsLexical, let_word, const_word, Level, IsExpression, looser, element, prefix_update, postfix_update, await_expression, unary_expression, binary_expression, exponentiation, both, either, assignment_expression, conditional_expression, name, string, number, this_word, big_int, null_word, true_word, false_word, member, call, parenthesized, IsArguments, no_arguments, arguments, AreExpressions, no_expressions, more_expressions, IsInitializer, no_initializer, initializer, IsDeclarator, declarator, AreDeclarators, no_declarators, more_declarators, IsStatement, expression, declaration, empty, debugger_word, throw, return_value, return_nothing, break_nothing, continue_nothing, AreStatements, no_statements, more_statements, IsModule, module_of}
 
 abbrev pub blank : Gap
 blank = record { blanks = codes " "; new_line = false }
@@ -28,8 +39,82 @@ ident_word (ident at word i) = word
 abbrev pub key_word : {n : Node} → IsKey n → List ℕ
 key_word (key at word t) = word
 
+abbrev pub unary_token : UnaryOp → Tok
+unary_token Minus = sign (codes "-")
+unary_token Plus = sign (codes "+")
+unary_token Bang = sign (codes "!")
+unary_token Tilde = sign (codes "~")
+unary_token TypeOf = items.key (codes "typeof")
+unary_token Void = items.key (codes "void")
+unary_token Delete = items.key (codes "delete")
+
+abbrev pub update_token : UpdateOp → Tok
+update_token PlusPlus = sign (codes "++")
+update_token MinusMinus = sign (codes "--")
+
+abbrev pub binary_token : BinaryOp → Tok
+binary_token op.EqEq = sign (codes "==")
+binary_token op.NotEq = sign (codes "!=")
+binary_token op.EqEqEq = sign (codes "===")
+binary_token op.NotEqEq = sign (codes "!==")
+binary_token op.Lt = sign (codes "<")
+binary_token op.LtEq = sign (codes "<=")
+binary_token op.Gt = sign (codes ">")
+binary_token op.GtEq = sign (codes ">=")
+binary_token op.LShift = sign (codes "<<")
+binary_token op.RShift = sign (codes ">>")
+binary_token op.ZeroFillRShift = sign (codes ">>>")
+binary_token op.Add = sign (codes "+")
+binary_token op.Sub = sign (codes "-")
+binary_token op.Mul = sign (codes "*")
+binary_token op.Div = sign (codes "/")
+binary_token op.Mod = sign (codes "%")
+binary_token op.BitOr = sign (codes "|")
+binary_token op.BitXor = sign (codes "^")
+binary_token op.BitAnd = sign (codes "&")
+binary_token op.LogicalOr = sign (codes "||")
+binary_token op.LogicalAnd = sign (codes "&&")
+binary_token op.In = items.key (codes "in")
+binary_token op.InstanceOf = items.key (codes "instanceof")
+binary_token op.Exp = sign (codes "**")
+binary_token op.NullishCoalescing = sign (codes "??")
+
+abbrev pub assign_token : AssignOp → Tok
+assign_token Assign = sign (codes "=")
+assign_token AddAssign = sign (codes "+=")
+assign_token SubAssign = sign (codes "-=")
+assign_token MulAssign = sign (codes "*=")
+assign_token DivAssign = sign (codes "/=")
+assign_token ModAssign = sign (codes "%=")
+assign_token LShiftAssign = sign (codes "<<=")
+assign_token RShiftAssign = sign (codes ">>=")
+assign_token ZeroFillRShiftAssign = sign (codes ">>>=")
+assign_token BitOrAssign = sign (codes "|=")
+assign_token BitXorAssign = sign (codes "^=")
+assign_token BitAndAssign = sign (codes "&=")
+assign_token ExpAssign = sign (codes "**=")
+assign_token AndAssign = sign (codes "&&=")
+assign_token OrAssign = sign (codes "||=")
+assign_token NullishAssign = sign (codes "??=")
+
+-- the sign that an expression begins with, where it is an operator
+abbrev pub own_sign : {level : Level} {e : Node} → IsExpression level e → Beside
+own_sign (looser e) = own_sign e
+own_sign (unary_expression at o e) = unary_sign o
+own_sign (prefix_update at o e) = update_sign o
+own_sign e = NoNeighbor
+
+-- what stands between a unary operator and its operand
+abbrev pub unary_gap : UnaryOp → Beside → Gap
+unary_gap Minus BehindMinus = blank
+unary_gap Plus BehindPlus = blank
+unary_gap TypeOf b = blank
+unary_gap Void b = blank
+unary_gap Delete b = blank
+unary_gap o b = no_gap
+
 abbrev mutual
-  pub expression_tokens : {numeral : Bool} {e : Node} → IsExpression numeral e → Gap → Items → Items
+  pub expression_tokens : {level : Level} {e : Node} → IsExpression level e → Gap → Items → Items
   expression_tokens (name i) g us = it g (items.key (ident_word i)) us
   expression_tokens (string at raw t) g us = it g (items.string raw) us
   expression_tokens (number at raw t) g us = it g (items.number raw) us
@@ -41,6 +126,18 @@ abbrev mutual
   expression_tokens (member at o k) g us = expression_tokens o g (sign_of (codes ".") (it no_gap (items.key (key_word k)) us))
   expression_tokens (call at c es none) g us = expression_tokens c g (sign_of (codes "(") (arguments_tokens es (sign_of (codes ")") us)))
   expression_tokens (parenthesized at e) g us = it g (sign (codes "(")) (expression_tokens e no_gap (sign_of (codes ")") us))
+  expression_tokens (looser e) g us = expression_tokens e g us
+  expression_tokens (element at at' o e) g us = expression_tokens o g (sign_of (codes "[") (expression_tokens e no_gap (sign_of (codes "]") us)))
+  expression_tokens (prefix_update at o e) g us = it g (update_token o) (expression_tokens e no_gap us)
+  expression_tokens (postfix_update at o e) g us = expression_tokens e g (it no_gap (update_token o) us)
+  expression_tokens (await_expression at e) g us = it g (items.key (codes "await")) (expression_tokens e blank us)
+  expression_tokens (unary_expression at o e) g us = it g (unary_token o) (expression_tokens e (unary_gap o (own_sign e)) us)
+  expression_tokens (binary_expression at {operator = o} i l r) g us = expression_tokens l g (it blank (binary_token o) (expression_tokens r blank us))
+  expression_tokens (exponentiation at l r) g us = expression_tokens l g (it blank (sign (codes "**")) (expression_tokens r blank us))
+  expression_tokens (both at l r) g us = expression_tokens l g (it blank (sign (codes "&&")) (expression_tokens r blank us))
+  expression_tokens (either at l r) g us = expression_tokens l g (it blank (sign (codes "||")) (expression_tokens r blank us))
+  expression_tokens (assignment_expression at o t v) g us = expression_tokens t g (it blank (assign_token o) (expression_tokens v blank us))
+  expression_tokens (conditional_expression at t x y) g us = expression_tokens t g (it blank (sign (codes "?")) (expression_tokens x blank (it blank (sign (codes ":")) (expression_tokens y blank us))))
 
   pub arguments_tokens : {n : Node} → IsArguments n → Items → Items
   arguments_tokens (no_arguments at) us = us
@@ -66,6 +163,13 @@ lexical_word let_word = codes "let"
 lexical_word const_word = codes "const"
 
 abbrev pub statement_tokens : {s : Node} → IsStatement s → Gap → Items → Items
+statement_tokens (empty at) g us = it g (sign (codes ";")) us
+statement_tokens (debugger_word at) g us = it g (items.key (codes "debugger")) (sign_of (codes ";") us)
+statement_tokens (throw at e) g us = it g (items.key (codes "throw")) (expression_tokens e blank (sign_of (codes ";") us))
+statement_tokens (return_value at e) g us = it g (items.key (codes "return")) (expression_tokens e blank (sign_of (codes ";") us))
+statement_tokens (return_nothing at a) g us = it g (items.key (codes "return")) (sign_of (codes ";") us)
+statement_tokens (break_nothing at a) g us = it g (items.key (codes "break")) (sign_of (codes ";") us)
+statement_tokens (continue_nothing at a) g us = it g (items.key (codes "continue")) (sign_of (codes ";") us)
 statement_tokens (expression at e) g us = expression_tokens e g (sign_of (codes ";") us)
 statement_tokens (declaration at at' w d ds) g us = it g (items.key (lexical_word w)) (declarator_tokens d (declarators_tokens ds (sign_of (codes ";") us)))
 
@@ -85,7 +189,7 @@ bare k ns = node_of dummy_span k ns
 abbrev pub bare_ident : {n : Node} → IsIdent n → Node
 bare_ident i = bare (kind.Ident (ident_word i) 0 false) []
 
-abbrev pub expression_kind : {numeral : Bool} {e : Node} → IsExpression numeral e → Kind
+abbrev pub expression_kind : {level : Level} {e : Node} → IsExpression level e → Kind
 expression_kind (name i) = kind.Ident (ident_word i) 0 false
 expression_kind (string at raw t) = kind.Str (str_value (piece raw 1 (length raw - 1))) (Some raw)
 expression_kind (number at raw t) = kind.Number (numeral_of raw) (Some raw)
@@ -97,12 +201,36 @@ expression_kind (false_word at) = kind.Bool false
 expression_kind (member at o k) = kind.MemberExpr
 expression_kind (call at c es none) = kind.CallExpr
 expression_kind (parenthesized at e) = kind.ParenExpr
+expression_kind (looser e) = expression_kind e
+expression_kind (element at at' o e) = kind.MemberExpr
+expression_kind (prefix_update at o e) = kind.UpdateExpr o true
+expression_kind (postfix_update at o e) = kind.UpdateExpr o false
+expression_kind (await_expression at e) = kind.AwaitExpr
+expression_kind (unary_expression at o e) = kind.UnaryExpr o
+expression_kind (binary_expression at {operator = o} i l r) = kind.BinExpr o
+expression_kind (exponentiation at l r) = kind.BinExpr op.Exp
+expression_kind (both at l r) = kind.BinExpr op.LogicalAnd
+expression_kind (either at l r) = kind.BinExpr op.LogicalOr
+expression_kind (assignment_expression at o t v) = kind.AssignExpr o
+expression_kind (conditional_expression at t x y) = kind.CondExpr
 
 abbrev mutual
-  pub expression_parts : {numeral : Bool} {e : Node} → IsExpression numeral e → List Node
+  pub expression_parts : {level : Level} {e : Node} → IsExpression level e → List Node
   expression_parts (member at o k) = bare (expression_kind o) (expression_parts o) ∷ bare (kind.IdentName (key_word k)) [] ∷ []
   expression_parts (call at c es none) = bare (expression_kind c) (expression_parts c) ∷ list_node (bare_arguments es) ∷ absent ∷ []
   expression_parts (parenthesized at e) = bare (expression_kind e) (expression_parts e) ∷ []
+  expression_parts (looser e) = expression_parts e
+  expression_parts (element at at' o e) = bare (expression_kind o) (expression_parts o) ∷ bare kind.ComputedPropName (bare (expression_kind e) (expression_parts e) ∷ []) ∷ []
+  expression_parts (prefix_update at o e) = bare (expression_kind e) (expression_parts e) ∷ []
+  expression_parts (postfix_update at o e) = bare (expression_kind e) (expression_parts e) ∷ []
+  expression_parts (await_expression at e) = bare (expression_kind e) (expression_parts e) ∷ []
+  expression_parts (unary_expression at o e) = bare (expression_kind e) (expression_parts e) ∷ []
+  expression_parts (binary_expression at i l r) = bare (expression_kind l) (expression_parts l) ∷ bare (expression_kind r) (expression_parts r) ∷ []
+  expression_parts (exponentiation at l r) = bare (expression_kind l) (expression_parts l) ∷ bare (expression_kind r) (expression_parts r) ∷ []
+  expression_parts (both at l r) = bare (expression_kind l) (expression_parts l) ∷ bare (expression_kind r) (expression_parts r) ∷ []
+  expression_parts (either at l r) = bare (expression_kind l) (expression_parts l) ∷ bare (expression_kind r) (expression_parts r) ∷ []
+  expression_parts (assignment_expression at o t v) = bare (expression_kind t) (expression_parts t) ∷ bare (expression_kind v) (expression_parts v) ∷ []
+  expression_parts (conditional_expression at t x y) = bare (expression_kind t) (expression_parts t) ∷ bare (expression_kind x) (expression_parts x) ∷ bare (expression_kind y) (expression_parts y) ∷ []
   expression_parts e = []
 
   pub bare_arguments : {n : Node} → IsArguments n → List Node
@@ -113,7 +241,7 @@ abbrev mutual
   bare_expressions no_expressions = []
   bare_expressions (more_expressions e es) = bare (expression_kind e) (expression_parts e) ∷ bare_expressions es
 
-abbrev pub bare_expression : {numeral : Bool} {e : Node} → IsExpression numeral e → Node
+abbrev pub bare_expression : {level : Level} {e : Node} → IsExpression level e → Node
 bare_expression e = bare (expression_kind e) (expression_parts e)
 
 abbrev pub bare_initializer : {n : Node} → IsInitializer n → Node
@@ -128,6 +256,13 @@ bare_declarators no_declarators = []
 bare_declarators (more_declarators d ds) = bare_declarator d ∷ bare_declarators ds
 
 abbrev pub bare_statement : {s : Node} → IsStatement s → Node
+bare_statement (empty at) = bare kind.EmptyStmt []
+bare_statement (debugger_word at) = bare kind.DebuggerStmt []
+bare_statement (throw at e) = bare kind.ThrowStmt (bare_expression e ∷ [])
+bare_statement (return_value at e) = bare kind.ReturnStmt (bare_expression e ∷ [])
+bare_statement (return_nothing at a) = bare kind.ReturnStmt (absent ∷ [])
+bare_statement (break_nothing at a) = bare kind.BreakStmt (absent ∷ [])
+bare_statement (continue_nothing at a) = bare kind.ContinueStmt (absent ∷ [])
 bare_statement (expression at e) = bare kind.ExprStmt (bare_expression e ∷ [])
 bare_statement (declaration at at' {k = k} w d ds) = bare (kind.VarDecl k false) (list_node (bare_declarator d ∷ bare_declarators ds) ∷ [])
 

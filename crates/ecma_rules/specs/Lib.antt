@@ -5,6 +5,7 @@ pub mod Targets
 pub mod Lists
 pub mod Members
 pub mod Statements
+pub mod Supers
 pub mod Surroundings
 pub mod Strays
 pub mod Jumps

@@ -7,6 +7,7 @@ use Rattle.ecma_rules.specs.Targets.{is_no_target, is_stray_default}
 use Rattle.ecma_rules.specs.Lists.{is_early_rest, is_wrong_head}
 use Rattle.ecma_rules.specs.Members.{is_stray_property, is_wrong_accessor, is_special_constructor, second_constructor}
 use Rattle.ecma_rules.specs.Statements.{is_quoted_local, is_declared_body}
+use Rattle.ecma_rules.specs.Supers.{is_lone_super, is_private_of_super}
 use Rattle.ecma_rules.specs.Surroundings.{around_in, at_root}
 use Rattle.ecma_rules.specs.Jumps.{first_stray}
 
@@ -22,9 +23,12 @@ fails_member around node = is_stray_property around.standing node || (is_wrong_a
 abbrev pub fails_statement : Around → Node → Bool
 fails_statement around node = is_quoted_local around.standing node || is_declared_body around.standing node
 
+abbrev pub fails_super : Around → Node → Bool
+fails_super around node = is_lone_super around.standing node || is_private_of_super node
+
 -- a node that is not what it has to be where it stands
 unfoldable pub is_misplaced : Around → Node → Bool
-is_misplaced around node = fails_target around node || (fails_list around node || (fails_member around node || fails_statement around node))
+is_misplaced around node = fails_target around node || (fails_list around node || (fails_member around node || (fails_statement around node || fails_super around node)))
 
 -- its place; or, in a class, that of its second constructor with a body
 abbrev pub misplaced_here : Around → Node → Option ℕ

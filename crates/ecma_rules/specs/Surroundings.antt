@@ -24,6 +24,8 @@ in_branch i = cond (i == 0) standing.Plain standing.Body
 -- how the child at an index stands: `first` says whether the child at 1 is there, and `second` the one at 2
 unfoldable pub standing_by : Standing → Kind → Bool → Bool → ℕ → Standing
 standing_by s kind.List first second i = s
+standing_by s kind.SuperPropExpr first second i = at_child 0 i standing.Linked
+standing_by s kind.CallExpr first second i = at_child 0 i standing.Linked
 standing_by s (kind.Constructor accessibility is_optional) first second i = at_child 1 i (if_there second standing.Declaring)
 standing_by s (kind.NamedExport type_only) first second i = at_child 0 i (if_there (not first) standing.Exported)
 standing_by s (kind.ExportNamedSpecifier is_type_only) first second i = at_child 0 i s

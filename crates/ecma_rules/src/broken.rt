@@ -1,15 +1,16 @@
 //! The least place at which a rule is broken.
 ghost use Rattle.std.specs.Prelude.{◌≡◌};
-ghost use Rattle.ecma_rules.specs.Rules.{fails_list, fails_member, fails_statement, fails_target, first_broken, first_misplaced, is_misplaced, misplaced_here};
+ghost use Rattle.ecma_rules.specs.Rules.{fails_list, fails_member, fails_statement, fails_super, fails_target, first_broken, first_misplaced, is_misplaced, misplaced_here};
 
+use crate::failing::{failing_here, least};
 use crate::jumps::first_stray;
-use crate::least::{failing_here, least};
 use crate::lists::{is_early_rest, is_wrong_head};
 use crate::members::{
     is_special_constructor, is_stray_property, is_wrong_accessor, second_constructor,
 };
 use crate::standing::{Around, around_in, at_root};
 use crate::statements::{is_declared_body, is_quoted_local};
+use crate::supers::{is_lone_super, is_private_of_super};
 use crate::target::{is_no_target, is_stray_default};
 use ecma_tree::Node;
 
@@ -19,13 +20,15 @@ fn fails_target(around: Around, node: &Node) -> bool
     is_no_target(around.target, node) || is_stray_default(around.target, node)
 }
 
-fn fails_list(around: Around, node: &Node) -> bool
+/// Whether a node takes the rest of a list and does not stand last, or is a wrong declaration in the head of a loop.
+pub fn fails_list(around: Around, node: &Node) -> bool
     ensures { result ≡ fails_list around node.now }
 {
     is_wrong_head(around.target, node) || is_early_rest(around.target, around.is_last, node)
 }
 
-fn fails_member(around: Around, node: &Node) -> bool
+/// Whether a node is a parameter or a member that may not stand where it does.
+pub fn fails_member(around: Around, node: &Node) -> bool
     ensures { result ≡ fails_member around node.now }
 {
     is_stray_property(around.standing, node)
@@ -33,10 +36,17 @@ fn fails_member(around: Around, node: &Node) -> bool
         || is_special_constructor(node)
 }
 
-fn fails_statement(around: Around, node: &Node) -> bool
+/// Whether a node is a quoted local name, or a declaration as the body of a statement.
+pub fn fails_statement(around: Around, node: &Node) -> bool
     ensures { result ≡ fails_statement around node.now }
 {
     is_quoted_local(around.standing, node) || is_declared_body(around.standing, node)
+}
+
+fn fails_super(around: Around, node: &Node) -> bool
+    ensures { result ≡ fails_super around node.now }
+{
+    is_lone_super(around.standing, node) || is_private_of_super(node)
 }
 
 /// Whether a node is not what it has to be where it stands.
@@ -48,6 +58,7 @@ fn is_misplaced(around: Around, node: &Node) -> bool
         || fails_list(around, node)
         || fails_member(around, node)
         || fails_statement(around, node)
+        || fails_super(around, node)
 }
 
 /// Its place; or, in a class, that of its second constructor with a body.

@@ -11,7 +11,7 @@ fn is_present(kind: &Kind) -> bool
 }
 
 /// Whether the child at an index is there.
-pub(crate) fn has_child(node: &Node, index: usize) -> bool
+pub fn has_child(node: &Node, index: usize) -> bool
     ensures { result ≡ has_child node.now index }
 {
     match node.children.get(index) {
@@ -21,7 +21,7 @@ pub(crate) fn has_child(node: &Node, index: usize) -> bool
 }
 
 /// The items of the list that is the child at an index; none where there is no such child.
-pub(crate) fn items_at(node: &Node, index: usize) -> &[Node]
+pub fn items_at(node: &Node, index: usize) -> &[Node]
     ensures { result.now ≡ items_at node.now index }
 {
     match node.children.get(index) {

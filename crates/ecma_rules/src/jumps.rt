@@ -5,8 +5,8 @@ ghost use Rattle.ecma_tree.specs.declared.node.Node.{out-Node};
 ghost use Rattle.ecma_rules.specs.Frames.{held_of, labels_of};
 ghost use Rattle.ecma_rules.specs.Jumps.{ends_jumps, first_held_stray, first_stray, held_behind, is_held_stray, is_stray_jump, label_of, own_label, text_by};
 
+use crate::failing::{failing_here, least};
 use crate::labels::{Labels, has_label};
-use crate::least::{failing_here, least};
 use crate::strays::{Strays, is_stray, nothing_held, strays_in};
 use ecma_tree::{JsWord, Kind, Node};
 
@@ -128,7 +128,7 @@ fn first_stray_behind(
 }
 
 /// The least place of what belongs to nothing inside the enum initialiser or namespace body around it.
-pub(crate) fn first_stray(tree: &Node) -> Option<u32>
+pub fn first_stray(tree: &Node) -> Option<u32>
     ensures { result ≡ first_stray tree.now }
 {
     first_held_stray(tree, nothing_held(), &Labels::Nothing)

@@ -6,24 +6,29 @@
 
 mod broken;
 mod children;
+mod failing;
 mod jumps;
 mod labels;
 mod laws;
-mod least;
 mod lists;
 mod members;
 mod patterns;
 mod standing;
 mod statements;
 mod strays;
+mod supers;
 mod target;
 
-pub use broken::first_broken;
+pub use broken::{fails_list, fails_member, fails_statement, first_broken};
+pub use children::{has_child, items_at};
+pub use failing::{failing_here, least};
+pub use jumps::first_stray;
 pub use laws::{finishing_keeps_all_but_patterns, the_first_broken_is_the_least};
+pub use members::second_constructor;
 pub use patterns::finish;
-pub use standing::{Around, Standing};
+pub use standing::{Around, Standing, around_in, at_root};
 pub use strays::Strays;
-pub use target::Target;
+pub use target::{Target, is_simple_target};
 
 #[cfg(test)]
 mod tests;

@@ -173,7 +173,7 @@ fn second_member(list: &Node) -> Option<u32>
 }
 
 /// The place of the second constructor of a class that has a body.
-pub(crate) fn second_constructor(node: &Node) -> Option<u32>
+pub fn second_constructor(node: &Node) -> Option<u32>
     ensures { result ≡ second_constructor node.now }
 {
     match &node.kind {

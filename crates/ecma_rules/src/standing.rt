@@ -19,6 +19,8 @@ pub enum Standing {
     Body,
     /// As the specifiers of an export without a source, one of them, or its local name.
     Exported,
+    /// Before a member or the arguments of a call, as `super` may.
+    Linked,
 }
 
 /// What stands around a node.
@@ -62,6 +64,7 @@ fn standing_in(standing: Standing, node: &Node, index: usize) -> Standing
 {
     match &node.kind {
         Kind::List => standing,
+        Kind::SuperPropExpr | Kind::CallExpr => at_child(0, index, Standing::Linked),
         Kind::Constructor { .. } => {
             at_child(1, index, if_there(has_child(node, 2), Standing::Declaring))
         }
@@ -81,7 +84,7 @@ fn standing_in(standing: Standing, node: &Node, index: usize) -> Standing
 }
 
 /// What stands around the child at an index.
-pub(crate) fn around_in(around: Around, node: &Node, index: usize) -> Around
+pub fn around_in(around: Around, node: &Node, index: usize) -> Around
     requires { index < length (out-Node node.now).children }
     ensures { result ≡ around_in around node.now index }
 {
@@ -93,7 +96,7 @@ pub(crate) fn around_in(around: Around, node: &Node, index: usize) -> Around
 }
 
 /// What stands around the root.
-pub(crate) fn at_root() -> Around
+pub fn at_root() -> Around
     ensures { result ≡ at_root }
 {
     Around {

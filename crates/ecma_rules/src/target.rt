@@ -59,7 +59,7 @@ fn is_wrapper(kind: &Kind) -> bool
 /// Whether a node is a name, a member that is no optional chain, a member of `super`, or one of these in parentheses or under
 /// type wrappers.
 #[tactic(auto, using(crate::proofs::Simple::simple))]
-fn is_simple_target(node: &Node) -> bool
+pub fn is_simple_target(node: &Node) -> bool
     ensures { result ≡ is_simple_target node.now }
 {
     if is_plain_target(&node.kind) {

@@ -47,6 +47,8 @@ here_layer n kind.TsNonNullExpr (e ∷ []) = e.1
 here_layer n kind.TsInstantiation (e ∷ types ∷ []) = e.1
 here_layer n kind.TsSatisfiesExpr (e ∷ type ∷ []) = e.1
 here_layer n kind.TsTypeAnn ns = refl
+here_layer n kind.TsTypeParamDecl ns = refl
+here_layer n kind.TsTypeParamInstantiation ns = refl
 here_layer n k ns = none_listed (has_no_effect k (map meaning (map (λ e. e.0) ns))) (no_effect n) (role_by n k (map meaning (map (λ e. e.0) ns))) refl refl
 
 here_is : (n : Node) → Listed n

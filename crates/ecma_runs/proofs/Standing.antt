@@ -170,6 +170,8 @@ module _ (test : Id → Bool) where
   layer_declares n kind.TsInstantiation (e ∷ types ∷ []) h = e.1
   layer_declares n kind.TsSatisfiesExpr (e ∷ type ∷ []) h = e.1
   layer_declares n kind.TsTypeAnn ps h = role_declares n kind.Absent [] refl
+  layer_declares n kind.TsTypeParamDecl ps h = role_declares n kind.Absent [] refl
+  layer_declares n kind.TsTypeParamInstantiation ps h = role_declares n kind.Absent [] refl
   layer_declares n k ps h = either_declares (has_no_effect k (parts ps)) (no_effect n) (role_by n k (parts ps)) (role_declares n (kind.TsTypeAliasDecl false) [] refl) (role_declares n k ps h)
 
   -- a tree whose identifiers pass

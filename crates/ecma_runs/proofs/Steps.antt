@@ -135,6 +135,8 @@ module _ (c : Change) where
   step_same n fine kind.TsInstantiation (e ∷ types ∷ []) kept = e.2
   step_same n fine kind.TsSatisfiesExpr (e ∷ type ∷ []) kept = e.2
   step_same n fine kind.TsTypeAnn ps kept = role_same n fine kind.Absent [] tt
+  step_same n fine kind.TsTypeParamDecl ps kept = role_same n fine kind.Absent [] tt
+  step_same n fine kind.TsTypeParamInstantiation ps kept = role_same n fine kind.Absent [] tt
   step_same n fine k ps kept = kind_same n fine k ps kept
 
   -- lists

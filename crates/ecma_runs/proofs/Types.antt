@@ -4,8 +4,8 @@ use Rattle.ecma_kind.specs.declared.kind.Kind.{Kind}
 use Rattle.ecma_kind.specs.declared.kind.Kind.TheVariants as kind
 use Rattle.ecma_kind.specs.declared.span.Span.{Span}
 use Rattle.ecma_tree.specs.declared.node.Node.{Node, Node-F, fold-roll-Node, roll-Node, out-Node}
-use Rattle.ecma_tree.specs.Nodes.{node_of}
-use Rattle.ecma_strip.specs.Erasure.{stays_by, stays, erased_by, erased, without_types}
+use Rattle.ecma_tree.specs.Nodes.{absent, node_of}
+use Rattle.ecma_runs.specs.Erasure.{stays_by, stays, erased_by, erased, without_types}
 use Rattle.ecma_runs.specs.State.{Id}
 use Rattle.ecma_runs.specs.Meaning.{Meaning}
 use Rattle.ecma_runs.specs.Evaluation.{meaning_by, meaning}
@@ -89,6 +89,7 @@ alias_silent c n' m texts same = record {
 }
 
 alias_by : (n : Node) (k : Kind) (ms : List Meaning) → stays_by k ≡ false → meaning_by n k ms ≡ meaning_by n (kind.TsTypeAliasDecl false) []
+alias_by n (kind.TsInterfaceDecl declare) ms e = refl
 alias_by n (kind.TsTypeAliasDecl declare) ms e = refl
 alias_by n _ ms e = absurd (cc)
 
@@ -122,6 +123,17 @@ module _ (declared : List Id) where
       → meaning (without_types (roll-Node (Layer span k cs))) ≡ meaning_by (without_types (roll-Node (Layer span k cs))) k (map meaning (map without_types cs))
   erased_meaning span k cs e = rw (fold-roll-Node Node erased (Layer span k cs), e) (meaning-roll (Layer span k (map without_types cs)))
 
+  -- what is missing then
+  missing_meaning : (span : Span) (k : Kind) (cs : List Node) → erased_by k (map without_types cs) (Layer span k (map without_types cs)) ≡ absent
+      → ((n : Node) (ms : List Meaning) → meaning_by n k ms ≡ meaning_by n kind.Absent [])
+      → meaning (without_types (roll-Node (Layer span k cs))) ≡ meaning_by (without_types (roll-Node (Layer span k cs))) k (map meaning (map without_types cs))
+  missing_meaning span k cs e same =
+      rw (fold-roll-Node Node erased (Layer span k cs), e) (meaning-roll (record { span = record { lo = 0; hi = 0 }; kind = kind.Absent; children = [] }) ∙ sym (same absent (map meaning (map without_types cs))))
+
+  -- an expression with a type round it
+  wrapped_meaning : (span : Span) (k : Kind) (cs : List Node) → meaning (without_types (roll-Node (Layer span k cs))) ≡ meaning (erased (Layer span k (map without_types cs)))
+  wrapped_meaning span k cs = ap meaning (fold-roll-Node Node erased (Layer span k cs))
+
   list_step : (span : Span) (cs : List Node) (ns : List ((n : Node) × Kept untyped n)) → map (λ e. e.0) ns ≡ cs
       → Same untyped (meaning (roll-Node (Layer span kind.List cs))) (meaning (without_types (roll-Node (Layer span kind.List cs))))
   list_step span cs ns is =
@@ -136,9 +148,15 @@ module _ (declared : List Id) where
   layer_step : (span : Span) (k : Kind) (cs : List Node) (ns : List ((n : Node) × Kept untyped n)) → map (λ e. e.0) ns ≡ cs
       → Same untyped (meaning (roll-Node (Layer span k cs))) (meaning (without_types (roll-Node (Layer span k cs))))
   layer_step span kind.List cs ns is = list_step span cs ns is
-  layer_step span kind.TsTypeAnn cs ns is =
-      other_same span kind.TsTypeAnn cs ns is (ap meaning (fold-roll-Node Node erased (Layer span kind.TsTypeAnn cs)) ∙ meaning-roll (record { span = record { lo = 0; hi = 0 }; kind = kind.Absent; children = [] }))
-  layer_step span kind.TsAsExpr (e ∷ type ∷ []) ns is = other_same span kind.TsAsExpr (e ∷ type ∷ []) ns is (ap meaning (fold-roll-Node Node erased (Layer span kind.TsAsExpr (e ∷ type ∷ []))))
+  layer_step span kind.TsTypeAnn cs ns is = other_same span kind.TsTypeAnn cs ns is (missing_meaning span kind.TsTypeAnn cs refl (λ n ms. refl))
+  layer_step span kind.TsTypeParamDecl cs ns is = other_same span kind.TsTypeParamDecl cs ns is (missing_meaning span kind.TsTypeParamDecl cs refl (λ n ms. refl))
+  layer_step span kind.TsTypeParamInstantiation cs ns is = other_same span kind.TsTypeParamInstantiation cs ns is (missing_meaning span kind.TsTypeParamInstantiation cs refl (λ n ms. refl))
+  layer_step span kind.TsAsExpr (e ∷ type ∷ []) ns is = other_same span kind.TsAsExpr _ ns is (wrapped_meaning span kind.TsAsExpr (e ∷ type ∷ []))
+  layer_step span kind.TsTypeAssertion (e ∷ type ∷ []) ns is = other_same span kind.TsTypeAssertion _ ns is (wrapped_meaning span kind.TsTypeAssertion (e ∷ type ∷ []))
+  layer_step span kind.TsConstAssertion (e ∷ []) ns is = other_same span kind.TsConstAssertion _ ns is (wrapped_meaning span kind.TsConstAssertion (e ∷ []))
+  layer_step span kind.TsNonNullExpr (e ∷ []) ns is = other_same span kind.TsNonNullExpr _ ns is (wrapped_meaning span kind.TsNonNullExpr (e ∷ []))
+  layer_step span kind.TsInstantiation (e ∷ types ∷ []) ns is = other_same span kind.TsInstantiation _ ns is (wrapped_meaning span kind.TsInstantiation (e ∷ types ∷ []))
+  layer_step span kind.TsSatisfiesExpr (e ∷ type ∷ []) ns is = other_same span kind.TsSatisfiesExpr _ ns is (wrapped_meaning span kind.TsSatisfiesExpr (e ∷ type ∷ []))
   layer_step span k cs ns is = other_same span k cs ns is (erased_meaning span k cs refl)
 
   types_steps : StepsAlike untyped

@@ -75,7 +75,7 @@ ending_chain m = record m { chain = λ x. m.reference x >>= λ r. give (Some r) 
 abbrev pub no_effect : Node → Meaning
 no_effect node = role_by node (kind.TsTypeAliasDecl false) []
 
--- an expression with a type means what the expression means, an annotation what a missing child means, and what has no effect what an alias means, in every role
+-- an expression with a type means what the expression means, annotations, type parameters and type arguments what a missing child means, and what has no effect what an alias means, in every role
 abbrev pub meaning_by : Node → Kind → List Meaning → Meaning
 meaning_by node kind.ParenExpr (e ∷ []) = ending_chain e
 meaning_by node kind.TsAsExpr (e ∷ type ∷ []) = e
@@ -85,6 +85,8 @@ meaning_by node kind.TsNonNullExpr (e ∷ []) = e
 meaning_by node kind.TsInstantiation (e ∷ types ∷ []) = e
 meaning_by node kind.TsSatisfiesExpr (e ∷ type ∷ []) = e
 meaning_by node kind.TsTypeAnn children = role_by node kind.Absent []
+meaning_by node kind.TsTypeParamDecl children = role_by node kind.Absent []
+meaning_by node kind.TsTypeParamInstantiation children = role_by node kind.Absent []
 meaning_by node k children = cond (has_no_effect k children) (no_effect node) (role_by node k children)
 
 -- a node, and what it means

@@ -1,7 +1,7 @@
 -- The laws of `observe`.
 use Rattle.std.specs.Prelude.{◌≡◌, ◌≢◌, ℕ, ◌+◌, List, [], ◌++◌, IsTrue}
 use Rattle.ecma_tree.specs.declared.node.Node.{Node}
-use Rattle.ecma_strip.specs.Erasure.{without_types}
+use Rattle.ecma_runs.specs.Erasure.{without_types}
 use Rattle.ecma_runs.specs.declared.config.Config.{Config}
 use Rattle.ecma_runs.specs.declared.observation.Event.{Event}
 use Rattle.ecma_runs.specs.declared.observation.Ending.TheVariants as ending

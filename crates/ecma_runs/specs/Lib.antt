@@ -17,6 +17,7 @@ pub mod Evaluation
 pub mod Observation
 pub mod Sources
 pub mod Wrappers
+pub mod Erasure
 pub mod Names
 pub mod Uses
 pub mod Laws

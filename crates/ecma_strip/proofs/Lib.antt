@@ -1,4 +1,3 @@
-pub mod Erasing
 pub mod Valuing
 pub mod ChangingAt
 pub mod Smaller

@@ -4,12 +4,10 @@
 mod laws;
 mod plain;
 mod staying;
-mod strip;
 mod stripper;
 mod values;
 
 pub use laws::{no_types_are_left, sorts_are_kept, trees_without_types_stay};
-pub use strip::strip_types;
 pub use stripper::{TypeStripper, strip_type};
 
 #[cfg(test)]

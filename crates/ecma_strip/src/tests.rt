@@ -76,21 +76,6 @@ fn is_plain(alloc: Global, module: &Node) -> Result<bool, NoMemory> {
     Ok(is_module(module, plain_module(alloc)?))
 }
 
-fn is_plain_then(alloc: Global, mut module: Node) -> Result<bool, NoMemory> {
-    strip_types(alloc, &mut module);
-    let answer = is_plain(alloc, &module);
-    let_go(module);
-    answer
-}
-
-#[test]
-fn types_are_taken_out(rt: HostRuntime) -> Result<(), Fail> {
-    let alloc = rt.alloc();
-    assert!(rt; is_plain_then(alloc, typed_module(alloc)?)?);
-    assert!(rt; is_plain_then(alloc, plain_module(alloc)?)?);
-    Ok(())
-}
-
 fn is_plain_once_visited(alloc: Global, mut module: Node) -> Result<bool, NoMemory> {
     let done = strip_type().visit_mut_module(alloc, &mut module);
     let answer = is_plain(alloc, &module);

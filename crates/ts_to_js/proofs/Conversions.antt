@@ -6,7 +6,8 @@ use Rattle.std.specs.Prelude.{Result, IfOk, IsOk, if◌then◌else◌}
 use Rattle.std.specs.Str.{IsUtf8, is_utf8}
 use Rattle.std.proofs.lemmas.Str.{IsUtf8-from_is_utf8, is_utf8-from_IsUtf8}
 use Rattle.ecma_tree.specs.declared.node.Node.{Node}
-use Rattle.ecma_strip.specs.Erasure.{without_types}
+use Rattle.ecma_strip.specs.Stripping.{stripped}
+use Rattle.ecma_runs.specs.Erasure.{without_types}
 use Rattle.ecma_tree.specs.Spans.{without_spans}
 use Rattle.ecma_text.specs.declared.modules.ReadError.{ReadError}
 use Rattle.ecma_text.specs.Modules.{reads_as, typescript, deepest}
@@ -30,7 +31,7 @@ record IsConverted (long valid : Bool) (answer : Result Node ReadError) (text : 
   utf8 : valid ≡ true
   tree : Node
   read : answer ≡ Ok tree
-  text_is : text ≡ layout (without_types tree)
+  text_is : text ≡ layout (stripped tree)
 
 converted_by : (long valid : Bool) (answer : Result Node ReadError) (text : List ℕ)
     → (if long then Err error.TooLong else if valid then printed answer else Err error.NotUtf8) ≡ Ok text → IsConverted long valid answer text
@@ -45,12 +46,12 @@ short_by src is = grind (arith, nat_tests)
 long_by : (src : List ℕ) → length src ≤ byte_limit → nat_lt byte_limit (length src) ≡ false
 long_by src short = grind (arith, nat_tests)
 
--- trees that are equal up to spans to a source without its types run as it does
-runs_kept : (source written : Node) → without_spans written ≡ without_spans (without_types source) → (options : Config) (turns : ℕ) (script : Script)
+-- trees that are equal up to spans to a source that is stripped run as it does, where what is stripped is what is erased
+runs_kept : (source written : Node) → stripped source ≡ without_types source → without_spans written ≡ without_spans (stripped source) → (options : Config) (turns : ℕ) (script : Script)
     → observe turns options written script ≡ observe turns options source script
-runs_kept source written same options turns script =
+runs_kept source written erased same options turns script =
     sym (without_spans_kept turns options written script)
-    ∙ (ap (λ tree. observe turns options tree script) same
+    ∙ (ap (λ tree. observe turns options tree script) (same ∙ ap without_spans erased)
     ∙ (without_spans_kept turns options (without_types source) script
     ∙ types_do_not_matter turns options source script))
 
@@ -66,10 +67,10 @@ is_conversion src text is =
       plain = subst (λ t. IsPlainModule t again.again) (sym parts.text_is) again.plain_module;
       tree = again.same;
       interface = λ options. refl;
-      runs = λ options turns script. inr (runs_kept parts.tree again.again again.same options turns script);
+      runs = λ options turns script. inr (runs_kept parts.tree again.again again.erased again.same options turns script);
     }
 
-pub converted-valid : (src : List ℕ) (tree : Node) → IsValidModule src tree → converted src ≡ Ok (layout (without_types tree))
+pub converted-valid : (src : List ℕ) (tree : Node) → IsValidModule src tree → converted src ≡ Ok (layout (stripped tree))
 converted-valid src tree valid = rw (long_by src valid.short, is_utf8-from_IsUtf8 src valid.utf8, valid.reads_as) refl
 
 pub answered-conversion : (src : List ℕ) (result : Result (Vec ℕ Global) TsError) → Answers result (converted src) → IfOk result (λ text. IsConversion src text.items)
@@ -77,7 +78,7 @@ answered-conversion src (Ok text) is = is_conversion src text.items is
 answered-conversion src (Err refusal) is = tt
 
 answered_refusal : (src : List ℕ) (refusal : TsError) → converted src ≡ Err refusal → IsValid src → ⊥
-answered_refusal src refusal is (tree, valid) = let other : converted src ≡ Ok (layout (without_types tree)) = converted-valid src tree valid in cc
+answered_refusal src refusal is (tree, valid) = let other : converted src ≡ Ok (layout (stripped tree)) = converted-valid src tree valid in cc
 
 pub answered-valid : (src : List ℕ) (result : Result (Vec ℕ Global) TsError) → Answers result (converted src) → IsValid src → (IsOk result) ⊎ (result ≡ Err error.NoMemory)
 answered-valid src (Ok text) is valid = inl refl

@@ -2,7 +2,7 @@
 use Rattle.std.proofs.Common.{◌≡◌, ◌⊎◌, ◌≢◌, ℕ, List, Some, None, Ok, Err, inl, inr, refl, sym, ◌∙◌, subst, arith}
 use Rattle.std.specs.Prelude.{Option, Result, IfSome}
 use Rattle.ecma_print.specs.Layout.{layout}
-use Rattle.ecma_strip.specs.Erasure.{without_types}
+use Rattle.ecma_strip.specs.Stripping.{stripped}
 use Rattle.devices.specs.Counts.{Counted, Rose}
 use Rattle.ts_to_js.specs.declared.error.TsError.{TsError}
 use Rattle.ts_to_js.specs.declared.program.TheConstants.{DONE, REFUSED, BAD_WORD, READ_FAULT, WRITE_FAULT, NO_MEMORY}
@@ -43,7 +43,7 @@ converts_by (Some word) src status ends done = absurd (not_done BAD_WORD status 
 
 refuses_by : (bad : Option (List ℕ)) (src : List ℕ) (status : ℕ) → EndsWith (expected bad src).status status → status ≡ REFUSED → IsValid src → ⊥
 refuses_by None src status ends refused (tree, valid) =
-    let is : converted src ≡ Ok (layout (without_types tree)) = converted-valid src tree valid in
+    let is : converted src ≡ Ok (layout (stripped tree)) = converted-valid src tree valid in
     not_refused DONE status (λ e. omega (arith, e)) (subst (λ answer. EndsWith (expected_of answer).status status) is ends) refused
 refuses_by (Some word) src status ends refused valid = not_refused BAD_WORD status (λ e. omega (arith, e)) ends refused
 

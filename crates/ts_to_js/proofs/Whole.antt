@@ -18,18 +18,21 @@ use Rattle.ecma_rules.specs.Finishing.{finished}
 use Rattle.ecma_spelling.specs.Everywhere.{Everywhere, everywhere, Each, none, more}
 use Rattle.ecma_spelling.specs.Spelling.{IsSpelled}
 use Rattle.ecma_spelling.proofs.Readings.{leaves_are_spelled}
-use Rattle.ecma_strip.specs.Erasure.{without_types}
+use Rattle.ecma_strip.specs.Stripping.{stripped}
+use Rattle.ecma_runs.specs.Erasure.{without_types}
 use Rattle.ecma_print.specs.Layout.{layout}
 use Rattle.ecma_text.specs.declared.modules.ReadError.{ReadError}
 use Rattle.ecma_text.specs.Modules.{reads_as, answer_by, kept_by, typescript, plain, deepest}
 use Rattle.ecma_forms.specs.Forms.{first_untaken}
 use Rattle.ecma_forms.specs.Repeated.{first_repeated, repeated_behind}
+use Rattle.ecma_reread.specs.Shapes as plain_shapes
 use Rattle.ecma_forms.specs.Shapes.{IsModule}
 use Rattle.ecma_forms.proofs.Taken.{taken_shape}
 use Rattle.ecma_forms.proofs.Finished.{finished_spelled}
-use Rattle.ecma_forms.proofs.Erased.{plain_module}
-use Rattle.ecma_forms.proofs.Placed.{module_again}
-use Rattle.ecma_forms.proofs.Kept.{module_quiet, keeps_rules, finished_same}
+use Rattle.ecma_forms.proofs.Plain.{plain_module}
+use Rattle.ecma_forms.proofs.Placed as placed
+use Rattle.ecma_forms.proofs.Kept.{IsQuiet, module_quiet, keeps_rules, finished_same}
+use Rattle.ecma_forms.proofs.Stripped.{module_same}
 use Rattle.ecma_forms.proofs.Names.{module_declares, repeated_unspan}
 use Rattle.ts_to_js.specs.Acceptance.{accepted, accepted_by}
 use Rattle.ts_to_js.specs.Headline.{IsPlainModule}
@@ -94,7 +97,7 @@ raw_spelled text mode bound (fails at) u e raw h = cc
 raw_spelled text mode bound (too_deep at) u e raw h = cc
 
 -- an accepted module has its shape
-pub shape_of : (src : List ℕ) (tree : Node) → IsUtf8 src → accepted (reads_as src typescript deepest) ≡ Ok tree → IsModule true tree × (first_repeated tree ≡ None)
+pub shape_of : (src : List ℕ) (tree : Node) → IsUtf8 src → accepted (reads_as src typescript deepest) ≡ Ok tree → IsModule tree × (first_repeated tree ≡ None)
 shape_of src tree u h =
     let a = is_accepted (reads_as src typescript deepest) tree h in
     let f = is_finished (grammar.answer_of (reads_module src typescript deepest)) tree a.read_as in
@@ -105,22 +108,24 @@ shape_of src tree u h =
 read_as_is : (text : List ℕ) (mode : Mode) (bound : ℕ) (raw : Node) (s : Position) → reads_module text mode bound ≡ read (raw ∷ []) s → first_broken raw ≡ None → finished raw ≡ raw → reads_as text mode bound ≡ Ok raw
 read_as_is text mode bound raw s e b f = ap (λ o. answer_by (grammar.answer_of o)) e ∙ (ap (kept_by raw) b ∙ ap Ok f)
 
--- the layout of an accepted module without its types is a plain module, of that tree up to spans
+-- the layout of an accepted module that is stripped is a plain module, of that tree up to spans; and what is stripped of it is what is erased
 pub record IsPrinted (tree : Node) : Type 0 where
   pub again : Node
-  pub plain_module : IsPlainModule (layout (without_types tree)) again
-  pub same : without_spans again ≡ without_spans (without_types tree)
+  pub plain_module : IsPlainModule (layout (stripped tree)) again
+  pub same : without_spans again ≡ without_spans (stripped tree)
+  pub erased : stripped tree ≡ without_types tree
 
 pub read_back : (src : List ℕ) (tree : Node) → IsUtf8 src → accepted (reads_as src typescript deepest) ≡ Ok tree → IsPrinted tree
 read_back src tree u h =
     let a = shape_of src tree u h in
-    let shape = plain_module a.0 in
-    let p = printed_again (without_types tree) shape in
-    let again = module_again p.again shape p.same in
-    let quiet = module_quiet again in
-    let distinct : first_repeated (without_types tree) ≡ None = ap (repeated_behind []) (module_declares a.0) ∙ a.1 in
+    let erased = module_same a.0 in
+    let shape : plain_shapes.IsModule (stripped tree) = subst plain_shapes.IsModule (sym erased) (plain_module a.0) in
+    let p = printed_again (stripped tree) shape in
+    let quiet = placed.again IsQuiet p.again (module_quiet a.0) (p.same ∙ ap without_spans erased) in
+    let distinct : first_repeated (stripped tree) ≡ None = ap first_repeated erased ∙ ap (repeated_behind []) (module_declares a.0) ∙ a.1 in
     record {
       again = p.again;
-      plain_module = record { levels = p.levels; read_plain = read_as_is (layout (without_types tree)) (plain false) p.levels p.again p.state p.is (keeps_rules quiet) (finished_same quiet); distinct = repeated_unspan (without_types tree) p.again p.same distinct };
+      plain_module = record { levels = p.levels; read_plain = read_as_is (layout (stripped tree)) (plain false) p.levels p.again p.state p.is (keeps_rules quiet) (finished_same quiet); distinct = repeated_unspan (stripped tree) p.again p.same distinct };
       same = p.same;
+      erased = erased;
     }

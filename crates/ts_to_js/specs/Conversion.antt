@@ -5,7 +5,7 @@ use Rattle.ecma_tree.specs.declared.node.Node.{Node}
 use Rattle.ecma_text.specs.declared.modules.ReadError.{ReadError}
 use Rattle.ecma_text.specs.Modules.{reads_as, typescript, deepest}
 use Rattle.ecma_print.specs.Layout.{layout}
-use Rattle.ecma_strip.specs.Erasure.{without_types}
+use Rattle.ecma_strip.specs.Stripping.{stripped}
 use Rattle.ts_to_js.specs.Acceptance.{accepted}
 use Rattle.ts_to_js.specs.Refusals.{refusal_of}
 use Rattle.ts_to_js.specs.declared.error.TsError.{TsError}
@@ -17,7 +17,7 @@ byte_limit = 4194304
 
 -- the layout of the tree without its types, or why there is no tree
 abbrev pub printed : Result Node ReadError → Result (List ℕ) TsError
-printed (Ok tree) = Ok (layout (without_types tree))
+printed (Ok tree) = Ok (layout (stripped tree))
 printed (Err reason) = Err (refusal_of reason)
 
 -- the text of the module that these bytes are converted to, or the first refusal that holds

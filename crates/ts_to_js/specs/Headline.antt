@@ -2,7 +2,7 @@
 use Rattle.std.specs.Prelude.{◌≡◌, ◌⊎◌, ◌≤◌, ℕ, false, List, None, Ok, length}
 use Rattle.std.specs.Str.{IsUtf8}
 use Rattle.ecma_tree.specs.declared.node.Node.{Node}
-use Rattle.ecma_strip.specs.Erasure.{without_types}
+use Rattle.ecma_strip.specs.Stripping.{stripped}
 use Rattle.ecma_tree.specs.Spans.{without_spans}
 use Rattle.ecma_text.specs.Modules.{reads_as, typescript, plain, deepest}
 use Rattle.ecma_forms.specs.Repeated.{first_repeated}
@@ -40,7 +40,7 @@ pub record IsConversion (src text : List ℕ) : Type 0 where
   pub written : Node
   pub plain : IsPlainModule text written
   -- the tree of the source without its types
-  pub tree : without_spans written ≡ without_spans (without_types source)
+  pub tree : without_spans written ≡ without_spans (stripped source)
   -- the imports and exports that the use rule keeps
   pub interface : (options : Config) → interface_of written ≡ kept_interface options source
   -- for every script of host answers and every number of turns

@@ -12,7 +12,7 @@ ghost use Rattle.ts_to_js.specs.Refusals.{refusal_of};
 use crate::error::TsError;
 use ecma_forms::{first_repeated, first_untaken};
 use ecma_print::print_module;
-use ecma_strip::strip_types;
+use ecma_strip::strip_type;
 use ecma_text::{ReadError, read_module};
 use ecma_tree::{Module, NoMemory, Session};
 use std::alloc::Global;
@@ -57,7 +57,7 @@ fn convert_bytes(alloc: Global, src: &[u8]) -> Result<Vec<u8>, TsError>
 
 /// The bytes as a text, if they are UTF-8.
 #[tactic(auto, using(crate::proofs::Utf8::tests))]
-fn decoded(src: &[u8]) -> Option<&str>
+pub fn decoded(src: &[u8]) -> Option<&str>
     ensures { MatchOption result (is_utf8 src.now ≡ false) (λ text. (is_utf8 src.now ≡ true) × (text.now ≡ src.now)) }
 {
     match str::from_utf8(src) {
@@ -107,6 +107,6 @@ fn convert_reading(alloc: Global, reading: Result<Module, ReadError>) -> Result<
     ensures refusal { IfErr reading (λ reason. result ≡ Err (refusal_of reason)) }
 {
     let mut tree = reading?;
-    strip_types(alloc, &mut tree);
+    strip_type().visit_mut_module(alloc, &mut tree)?;
     Ok(print_module(alloc, &tree)?)
 }

@@ -8,13 +8,13 @@ mod program;
 mod report;
 mod words;
 
-pub use convert::{LIMIT, Options, ts_to_js};
+pub use convert::{LIMIT, Options, decoded, ts_to_js};
 pub use devices::{
     Failed, MemSink, MemSource, Sink, SinkError, SliceSource, Source, StdSink, StdSource, VecSink,
 };
 pub use error::TsError;
 pub use host::command;
-pub use program::{BAD_WORD, DONE, NO_MEMORY, READ_FAULT, REFUSED, WRITE_FAULT, run};
+pub use program::{BAD_WORD, DONE, NO_MEMORY, READ_FAULT, REFUSED, WRITE_FAULT, run, tell};
 
 #[cfg(test)]
 mod tests;

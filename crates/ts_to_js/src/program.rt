@@ -100,8 +100,8 @@ fn convert<O: Sink, E: Sink>(alloc: Global, src: &[u8], out: &mut O, err: &mut E
     tell(answer, out, err)
 }
 
-/// Writes the text or the line of the refusal.
-fn tell<O: Sink, E: Sink>(answer: Result<Vec<u8>, TsError>, out: &mut O, err: &mut E) -> u8
+/// Writes the text to `out` or the line of the refusal to `err`, and gives the status.
+pub fn tell<O: Sink, E: Sink>(answer: Result<Vec<u8>, TsError>, out: &mut O, err: &mut E) -> u8
     ensures write_fault { CountedExactlyIf (result ≡ WRITE_FAULT) (O.faults out.old) (O.faults out.new) }
     ensures no_read_fault { result ≢ READ_FAULT }
     // Want of memory is that of the answer, or that of a sink.

@@ -1,5 +1,8 @@
 use super::*;
 use devices::VecSink;
+use ecma_print::print_module;
+use ecma_strip::strip_type;
+use ecma_text::read_module;
 use std::alloc::{AllocError, Global};
 use std::env::{Env, FillError};
 use std::process::Abort;
@@ -15,7 +18,7 @@ struct Row {
     err: &'static str,
 }
 
-const ROWS: [Row; 17] = [
+const ROWS: [Row; 21] = [
     Row {
         word: "",
         src: "let x: number = f(1);",
@@ -123,7 +126,7 @@ const ROWS: [Row; 17] = [
     },
     Row {
         word: "",
-        src: "f(a); a == b",
+        src: "f(a); a ?? b",
         status: REFUSED,
         out: "",
         err: "error: Syntax at 6\n",
@@ -134,6 +137,34 @@ const ROWS: [Row; 17] = [
         status: DONE,
         out: "((a).b)(1, (2));\nlet x = (f)(1);\n",
         err: "",
+    },
+    Row {
+        word: "",
+        src: "interface f { g<T>(this: f, a?: T): asserts a is T } let k: { [x: string]: (a) => void }[] = <any>f(1)!;",
+        status: DONE,
+        out: "let k = f(1);\n",
+        err: "",
+    },
+    Row {
+        word: "",
+        src: "const a = <T>b!.c<U>(null!, 1 satisfies V) as const; declare type W = X; \"s\".t<Y>;",
+        status: DONE,
+        out: "const a = b.c(null, 1);\n\"s\".t;\n",
+        err: "",
+    },
+    Row {
+        word: "",
+        src: "let x: number = -a[i as number] * (2 + b!) ** 2 && !c ? typeof d : void 0; this; await (<T>e == f || 1 < 2 as any);",
+        status: DONE,
+        out: "let x = -a[i] * (2 + b) ** 2 && !c ? typeof d : void 0;\nthis;\nawait (e == f || 1 < 2);\n",
+        err: "",
+    },
+    Row {
+        word: "",
+        src: "enum E { A =",
+        status: REFUSED,
+        out: "",
+        err: "error: Syntax at 12\n",
     },
 ];
 
@@ -161,6 +192,93 @@ fn check(rt: &impl Abort, alloc: Global, row: &Row) -> Result<(), AllocError> {
 fn modules_are_converted_or_refused(rt: HostRuntime) -> Result<(), Fail> {
     for row in &ROWS {
         check(&rt, rt.alloc(), row)?;
+    }
+    Ok(())
+}
+
+/// A module, and its text without types.
+struct Stripped {
+    src: &'static str,
+    text: &'static str,
+}
+
+const STRIPPED: [Stripped; 2] = [
+    Stripped {
+        src: "a?.b!.c; (<any>a).b; f<T>(x) ; a < b > c; f<T> || g",
+        text: "a?.b.c;\n(a).b;\nf(x);\na < b > c;\nf || g;\n",
+    },
+    Stripped {
+        src: r#"import { Logger, type Level } from "./logger";
+import type { Store } from "./store";
+export interface User { id: number; name?: string }
+type Key = string | number;
+const cache: Map<Key, User> = new Map<Key, User>();
+export class UserService {
+    private hits: number = 0;
+    static readonly limit = 10 as const;
+    find(id: number): User | undefined;
+    find(id: Key): User | undefined {
+        const hit = cache.get(id);
+        if (hit) {
+            this.hits++;
+            return hit;
+        }
+        const user = this.store.load(id)!;
+        cache.set(id, user as User);
+        return user;
+    }
+    role(user?: User): Role {
+        return user?.name === "root" ? Role.Admin : Role.Guest;
+    }
+}
+export const names = <T extends User>(list: T[]): string[] => list.map((u) => u.name ?? "?");
+declare const DEBUG: boolean;
+if (DEBUG) console.log(Role[Role.Member]);
+"#,
+        text: r#"import { Logger } from "./logger";
+const cache = new Map();
+export class UserService {
+    hits = 0;
+    static limit = 10;
+    find(id) {
+        const hit = cache.get(id);
+        if (hit) {
+            this.hits++;
+            return hit;
+        }
+        const user = this.store.load(id);
+        cache.set(id, user);
+        return user;
+    }
+    role(user) {
+        return user?.name === "root" ? Role.Admin : Role.Guest;
+    }
+}
+export const names = (list) => list.map((u) => u.name ?? "?");
+if (DEBUG) console.log(Role[Role.Member]);
+"#,
+    },
+];
+
+/// The text of a module without its types, also where it has forms that the program does not take.
+fn text_without_types(alloc: Global, src: &str) -> Result<Vec<u8>, TsError> {
+    if src.len() > LIMIT {
+        return Err(TsError::TooLong);
+    }
+    let mut tree = read_module(alloc, src)?;
+    strip_type().visit_mut_module(alloc, &mut tree)?;
+    Ok(print_module(alloc, &tree)?)
+}
+
+// Over the calls that read, strip and print.
+#[test]
+fn modules_are_stripped(rt: HostRuntime) -> Result<(), Fail> {
+    let alloc = rt.alloc();
+    for row in &STRIPPED {
+        assert_eq!(rt;
+            text_without_types(alloc, row.src)?.as_slice(),
+            row.text.as_bytes()
+        );
     }
     Ok(())
 }

@@ -3,8 +3,8 @@ ghost use Rattle.std.specs.Prelude.{◌≡◌};
 ghost use Rattle.ecma_grammar.specs.Outlook.{ahead_outlook, build_outlook, found_outlook, many_outlook, or_outlook, then_outlook, unless_outlook};
 
 use super::Reader;
-use crate::production::{Leaf, Production, TemplatePart, Terminal, TokenKind};
-use crate::productions::rule_body;
+use crate::production::{Leaf, Production, Rule, TemplatePart, Terminal, TokenKind};
+use crate::productions::{Glance, rule_body, rule_glance};
 use ecma_lex::NoToken;
 
 /// What is known of a reading by the tokens that stand ahead.
@@ -87,6 +87,17 @@ impl Outlook {
     }
 }
 
+/// What is known of a reading without its being tried.
+#[derive(Clone, Copy, Debug)]
+pub(crate) enum Known {
+    /// Nothing.
+    Open,
+    /// It fails.
+    Fails,
+    /// Nothing is read.
+    Passes,
+}
+
 /// Of a token that was looked for.
 fn of_token<A: Drop>(found: Result<A, NoToken>) -> Outlook
     ensures { result ≡ found_outlook found }
@@ -98,29 +109,23 @@ fn of_token<A: Drop>(found: Result<A, NoToken>) -> Outlook
 }
 
 impl Reader<'_> {
-    ghost use Rattle.std.specs.Prelude.{◌≡◌, IsTrue};
+    ghost use Rattle.std.specs.Prelude.{◌≡◌, IfSome, IsTrue};
+    ghost use Rattle.ecma_lex.specs.Blanks.{skipped};
+    ghost use Rattle.ecma_lex.specs.Tokens.{punct};
+    ghost use Rattle.ecma_grammar.specs.Rules.{rule_grammar};
+    ghost use Rattle.ecma_grammar.specs.Outlook.{Tells};
     ghost use Rattle.ecma_grammar.specs.Written.{written, written_token};
     ghost use Rattle.ecma_grammar.specs.Reading.{fails};
     ghost use Rattle.ecma_grammar.specs.Grammar.{same_line};
     ghost use Rattle.ecma_grammar.specs.Reads.{Parts, reads};
-    ghost use Rattle.ecma_grammar.specs.Outlook.{first_byte, kind_outlook, leaf_outlook, outlook, template_outlook, token_outlook, word_outlook};
-    ghost use Rattle.ecma_grammar.specs.Agreement.{SameText, kept, position};
-
-    /// The byte that stands behind the blanks.
-    fn first_byte(&self) -> u8
-        requires { self.now.ahead.place ≡ self.now.place }
-        ensures { result ≡ first_byte self.now.text.now self.now.place }
-    {
-        let bytes = self.text.as_bytes();
-        let to = self.ahead.skipped().to as usize;
-        if to < bytes.len() { bytes[to] } else { 0 }
-    }
+    ghost use Rattle.ecma_grammar.specs.Outlook.{found_outlook, kind_outlook, leaf_outlook, outlook, template_outlook, token_outlook, word_outlook};
+    ghost use Rattle.ecma_grammar.specs.Agreement.{Knows, SameText, kept, position};
 
     fn template_outlook(&self, part: TemplatePart) -> Outlook
         requires { self.now.ahead.place ≡ self.now.place }
         ensures { result ≡ template_outlook self.now.text.now self.now.place part }
     {
-        if self.first_byte() == if part.first { b'`' } else { b'}' } {
+        if self.first == if part.first { b'`' } else { b'}' } {
             return Outlook::Open;
         }
         of_token(self.ahead.template_text(self.text, part.first, part.tagged))
@@ -130,7 +135,7 @@ impl Reader<'_> {
         requires { self.now.ahead.place ≡ self.now.place }
         ensures { result ≡ kind_outlook self.now.text.now self.now.place kind }
     {
-        let first = self.first_byte();
+        let first = self.first;
         let may_begin = match kind {
             TokenKind::PrivateName => first == b'#',
             TokenKind::Str => first == b'"' || first == b'\'',
@@ -156,11 +161,28 @@ impl Reader<'_> {
         }
     }
 
+    #[tactic(auto, using(crate::proofs::Firsts::wording))]
     fn word_outlook(&self, word: &str) -> Outlook
         requires { self.now.ahead.place ≡ self.now.place }
         ensures { result ≡ word_outlook self.now.text.now self.now.place word.now }
     {
+        let letters = word.as_bytes();
+        if 0 < letters.len() && letters[0] != self.first {
+            return Outlook::Fails(self.ahead.skipped().to);
+        }
         of_token(self.ahead.word(self.text, word))
+    }
+
+    #[tactic(auto, using(crate::proofs::Firsts::wording))]
+    fn punct_outlook(&self, punctuator: &str) -> Outlook
+        requires { self.now.ahead.place ≡ self.now.place }
+        ensures { result ≡ found_outlook (punct self.now.text.now self.now.place punctuator.now) }
+    {
+        let signs = punctuator.as_bytes();
+        if 0 < signs.len() && signs[0] != self.first {
+            return Outlook::Fails(self.ahead.skipped().to);
+        }
+        of_token(self.ahead.punct(self.text, punctuator))
     }
 
     fn token_outlook(&self, terminal: Terminal) -> Outlook
@@ -169,7 +191,7 @@ impl Reader<'_> {
     {
         match terminal {
             Terminal::Word(word) => self.word_outlook(word),
-            Terminal::Punct(punctuator) => of_token(self.ahead.punct(self.text, punctuator)),
+            Terminal::Punct(punctuator) => self.punct_outlook(punctuator),
             Terminal::Kind(kind) => self.kind_outlook(kind),
         }
     }
@@ -201,7 +223,7 @@ impl Reader<'_> {
         requires { self.now.ahead.place ≡ self.now.place }
         ensures { result ≡ leaf_outlook self.now.text.now self.now.place Leaf.Regex }
     {
-        if self.first_byte() == b'/' {
+        if self.first == b'/' {
             return Outlook::Open;
         }
         of_token(self.ahead.regex(self.text))
@@ -259,7 +281,11 @@ impl Reader<'_> {
                 }
             }
             Production::Up(_) | Production::Enter(_) => Outlook::Open,
-            Production::The(rule) => self.outlook(rule_body(*rule)),
+            Production::The(rule) => match self.glance(*rule) {
+                Glance::Open => self.outlook(rule_body(*rule)),
+                Glance::Fails => Outlook::Fails(self.ahead.skipped().to),
+                Glance::Passes => Outlook::Passes(self.ahead.skipped().to),
+            },
             Production::Build(_, part) => self.outlook(part).build(),
         }
     }
@@ -280,6 +306,54 @@ impl Reader<'_> {
                 true
             }
             _ => false,
+        }
+    }
+
+    /// What is known of the production of a name by the first byte of the token ahead alone.
+    #[tactic(auto, using(crate::proofs::Sights::seeing))]
+    fn glance(&self, rule: Rule) -> Glance
+        requires { self.now.ahead.place ≡ self.now.place }
+        ensures { Tells (outlook self.now.text.now self.now.place self.now.mode (rule_grammar rule)) (skipped self.now.text.now self.now.place).to result }
+    {
+        let first = self.first;
+        if self.mode.typescript && self.mode.assignments && 0 < first && first < 128 {
+            return rule_glance(rule, first);
+        }
+        Glance::Open
+    }
+
+    /// What is known of reading by the production of a name, where its tokens need not be asked for.
+    fn at_a_glance(&self, rule: Rule) -> Option<Outlook>
+        requires { self.now.ahead.place ≡ self.now.place }
+        ensures { IfSome result (λ o. o ≡ outlook self.now.text.now self.now.place self.now.mode (rule_grammar rule)) }
+    {
+        let to = self.ahead.skipped().to;
+        match self.glance(rule) {
+            Glance::Open => None,
+            Glance::Fails => Some(Outlook::Fails(to)),
+            Glance::Passes => Some(Outlook::Passes(to)),
+        }
+    }
+
+    /// What the production of a name reads, where that is known by the first byte of the token ahead: what fails is marked as the reading would.
+    #[inline(never)]
+    pub(crate) fn known(&mut self, rule: Rule) -> Known
+        ensures text { SameText self.old self.new }
+        ensures place { self.new.place ≡ self.old.place }
+        ensures kept { kept self.new ≡ kept self.old }
+        ensures known { Knows self.old self.new (rule_grammar rule) result }
+    {
+        self.look();
+        match self.at_a_glance(rule) {
+            Some(Outlook::Fails(at)) => {
+                self.failed = self.failed.max(at);
+                Known::Fails
+            }
+            Some(Outlook::Passes(at)) => {
+                self.failed = self.failed.max(at);
+                Known::Passes
+            }
+            _ => Known::Open,
         }
     }
 }

@@ -1,4 +1,6 @@
 //! Terminals.
+ghost use Rattle.std.specs.Prelude.{◌≡◌, get_or};
+
 use super::Reader;
 use crate::failure::Failure;
 use crate::production::{TemplatePart, Terminal, TokenKind};
@@ -15,7 +17,7 @@ impl Reader<'_> {
     ghost use Rattle.ecma_grammar.specs.Reads.{any_token, next_start, part_on, same_line_on, taken, template_part, token};
     ghost use Rattle.ecma_grammar.specs.Agreement.{position, kept, Reads, SameText, EndsAs, Keeps, KeepsAs};
 
-    /// Looks at what stands at the reader's place.
+    /// Looks at what stands at the reader's place, if that was not seen last.
     pub(super) fn look(&mut self)
         ensures text { SameText self.old self.new }
         ensures position { position self.new ≡ position self.old }
@@ -23,8 +25,19 @@ impl Reader<'_> {
         ensures place { self.new.ahead.place ≡ self.new.place }
     {
         if self.ahead.place != self.place {
-            self.ahead = ecma_lex::look(self.text, self.place);
+            self.look_anew();
         }
+    }
+
+    /// Looks at what stands at the reader's place.
+    fn look_anew(&mut self)
+        ensures text { SameText self.old self.new }
+        ensures position { position self.new ≡ position self.old }
+        ensures kept { kept self.new ≡ kept self.old }
+        ensures place { self.new.ahead.place ≡ self.new.place }
+    {
+        self.ahead = ecma_lex::look(self.text, self.place);
+        self.first = byte_at(self.text, self.ahead.skipped().to);
     }
 
     /// What stands at the reader's place: what is known of it, or what is seen there now.
@@ -35,7 +48,9 @@ impl Reader<'_> {
         ensures place { result.place ≡ self.old.place }
         ensures known { result ≡ look self.old.text.now result.place }
     {
-        self.look();
+        if self.ahead.place != self.place {
+            self.look_anew();
+        }
         self.ahead
     }
 
@@ -178,4 +193,13 @@ impl Reader<'_> {
         }
         Ok(())
     }
+}
+
+/// The byte at a place, or 0 behind the end.
+pub(super) fn byte_at(text: &str, at: u32) -> u8
+    ensures { result ≡ get_or text.now at 0 }
+{
+    let bytes = text.as_bytes();
+    let at = at as usize;
+    if at < bytes.len() { bytes[at] } else { 0 }
 }

@@ -1,0 +1,285 @@
+-- What is read of an expression at each level: what stands at one level stands at each looser one.
+use Rattle.std.proofs.Common.{◌≡◌, ℕ, zero, suc, Bool, true, false, List, [], ◌∷◌, ◌++◌, codes, refl, ap, subst, ◌∙◌, append-nil, Some, None, unwrap_or}
+use Rattle.std.proofs.lemmas.Bool.{and_parts, false≢true}
+use Rattle.ecma_kind.specs.declared.operators.BinaryOp.TheVariants as op
+use Rattle.ecma_kind.specs.declared.kind.Kind.{Kind}
+use Rattle.ecma_kind.specs.declared.kind.Kind.TheVariants as kind
+use Rattle.ecma_tree.specs.declared.node.Node.{Node}
+use Rattle.ecma_tree.specs.Nodes.{dummy_span, absent}
+use Rattle.ecma_grammar.specs.declared.production.Part.TheVariants as part
+use Rattle.ecma_grammar.specs.declared.production.Form.TheVariants as form
+use Rattle.ecma_grammar.specs.trees.Parts.{kind_of, in_front}
+use Rattle.ecma_grammar.specs.trees.Chains.{steps, in_front_logical, is_or}
+use Rattle.ecma_grammar.specs.Grammar as grammar
+use Rattle.ecma_grammar.specs.Grammar.{Grammar, ◌▸◌, ◌//◌, build, word, punct}
+use Rattle.ecma_grammar.specs.productions.Names.{expression}
+use Rattle.ecma_grammar.specs.productions.Functions.{arrow_rest, arrow_body}
+use Rattle.ecma_grammar.specs.productions.Chains.{chain}
+use Rattle.ecma_grammar.specs.productions.Operators as operators
+use Rattle.ecma_grammar.specs.productions.Operators.{prefixed, factors, terms, shifts, relations, equalities, conjunctions, exclusions, disjunctions, coalescing, logicals, operand, exponentiation}
+use Rattle.ecma_grammar.specs.productions.Expressions as expressions
+use Rattle.ecma_grammar.specs.productions.Expressions.{assignments, yield_}
+use Rattle.ecma_tokens.specs.Items.{Gap, Items}
+use Rattle.ecma_reread.specs.Machine.{read, with_front, followed_on, or_on, built_on, many_up_to, interp, means}
+use Rattle.ecma_reread.specs.Shapes as shapes
+use Rattle.ecma_reread.specs.Shapes.{Level, looser_than}
+use Rattle.ecma_reread.proofs.Levels.{means_is}
+use Rattle.ecma_reread.proofs.Fronts.{Front, Begins, refuses_at, refused_at, refuses_first, passes_at, passed_at}
+use Rattle.ecma_reread.proofs.Towers.{Tower, here, later, before, chained, climb, suffix, power_tail, choice_tail, private_in, behind_arrow, closes_conditional, closes, Ends}
+use Rattle.ecma_reread.proofs.Heads.{is_head, kind-node, bare}
+use Rattle.ecma_reread.proofs.Forms.{Laid, Reads, AsParam, Form, chain_read, Lead, lead_of}
+
+-- the production of each level
+abbrev pub grammar_of : Level → Grammar
+grammar_of shapes.object = chain
+grammar_of shapes.callee = chain
+grammar_of shapes.update = operators.update
+grammar_of shapes.unary = operand
+grammar_of shapes.power = exponentiation
+grammar_of shapes.product = operators.product
+grammar_of shapes.sum = operators.sum
+grammar_of shapes.shift = operators.shift
+grammar_of shapes.relation = operators.relation false
+grammar_of shapes.equality = operators.equality false
+grammar_of shapes.bit_and = operators.bit_and false
+grammar_of shapes.bit_xor = operators.bit_xor false
+grammar_of shapes.bit_or = operators.bit_or false
+grammar_of shapes.logical_and = operators.short_circuit false
+grammar_of shapes.logical_or = operators.short_circuit false
+grammar_of shapes.assignment = grammar.up (part.Assign false false)
+
+-- a relation's first part
+abbrev pub related : Grammar
+related = private_in // operators.shift
+
+-- what stands behind it as a parameter: no `=`
+abbrev pub EndOf : Level → Front → Type 0
+EndOf shapes.assignment e = (refuses_at e (punct (codes "=")) ≡ true) × Ends e
+EndOf l e = refuses_at e (punct (codes "=")) ≡ true
+
+-- no `||`, where `&&` would take its right side
+abbrev pub NotOr : Level → Kind → Type 0
+NotOr shapes.logical_or k = Unit {0}
+NotOr shapes.assignment k = Unit {0}
+NotOr l k = is_or k ≡ false
+
+pub head_is_no_or : (k : Kind) → is_head k ≡ true → is_or k ≡ false
+head_is_no_or (kind.BinExpr o) h = absurd (false≢true h)
+head_is_no_or k h = refl
+
+-- right sides of `&&`
+pub data AllAnd : List Node → Type 0 where
+  no_and : AllAnd []
+  more_and : {ns : List Node} (x : Node) → AllAnd ns → AllAnd (bare (kind.BinExpr op.LogicalAnd) (absent ∷ x ∷ []) ∷ ns)
+
+-- behind an assignment expression stands none of its operators, and none of a conditional one
+ends_parts : (e : Front) → Ends e → (passes_at e (assignments false) ≡ true) × (closes_conditional e ≡ true)
+ends_parts e z =
+    let c = and_parts (refuses_at e (arrow_body false)) _ z in
+    let d = and_parts (refuses_at e (arrow_rest false false)) _ c.1 in
+    and_parts (passes_at e (assignments false)) (closes_conditional e) d.1
+
+abbrev pub further_out : ℕ → Level → Level
+further_out zero l = l
+further_out (suc n) l = further_out n (looser_than l)
+
+loosest : (l : Level) → further_out 15 l ≡ shapes.assignment
+loosest shapes.object = refl
+loosest l = refl
+
+module _ (assigned : Bool) where
+  abbrev pub Direct : Level → Laid → Node → Type 0
+  Direct l f n = (g : Gap) (us : Items) (e : Front) → Begins e us → closes l e ≡ true → Reads assigned (grammar_of l) (f g us) (n ∷ []) us
+
+  -- a first part of a tighter level, and operators behind it
+  pub record Chained (base tail : Grammar) (tighter : Level) (f : Laid) (n : Node) : Type 0 where
+    pub pieces : List Node
+    pub own : (g : Gap) (us : Items) (e : Front) → Begins e us → closes tighter e ≡ true → (ys : List Node) (vs : Items) → Reads assigned tail us ys vs → Reads assigned (base ▸ tail) (f g us) (pieces ++ ys) vs
+    pub whole : steps in_front None pieces ≡ Some n
+
+  -- an operator and its operand, or none in front
+  pub data Operand (c : Front) (f : Laid) (n : Node) : Type 0 where
+    with_operator : ((g : Gap) (us : Items) (e : Front) → Begins e us → closes shapes.unary e ≡ true → Reads assigned prefixed (f g us) (n ∷ []) us) → Operand c f n
+    without_operator : refuses_at c prefixed ≡ true → Direct shapes.update f n → Operand c f n
+
+  -- a first part, and `&&` and `||` behind it, wherever they are read on
+  pub record Split (ts vs : Items) (first : Node) (more : List Node) : Type 0 where
+    pub mid : Items
+    pub first_read : Reads assigned (operators.bit_or false) ts (first ∷ []) mid
+    pub few : Reads assigned (logicals false) mid more vs
+    pub all : Reads assigned (coalescing false // logicals false) mid more vs
+
+  pub record Logical (f : Laid) (n : Node) : Type 0 where
+    pub first : Node
+    pub more : List Node
+    pub own : (g : Gap) (us : Items) (e : Front) → Begins e us → closes shapes.bit_or e ≡ true → (ys : List Node) (vs : Items) → Reads assigned (logicals false) us ys vs → Reads assigned (coalescing false // logicals false) us ys vs → Split (f g us) vs first (more ++ ys)
+    pub whole : steps in_front_logical (Some first) more ≡ Some n
+
+  pub record Ands (f : Laid) (n : Node) : Type 0 where
+    pub chain : Logical f n
+    pub ands : AllAnd chain.more
+    pub no_or : is_or (kind_of chain.first) ≡ false
+
+  abbrev pub Reading : Level → Front → Laid → Kind → List Node → Type 0
+  Reading shapes.object c f k ns = Form assigned f k ns
+  Reading shapes.callee c f k ns = Form assigned f k ns
+  Reading shapes.update c f k ns = (refuses_at c prefixed ≡ true) × Direct shapes.update f (bare k ns)
+  Reading shapes.unary c f k ns = Operand c f (bare k ns)
+  Reading shapes.power c f k ns = Direct shapes.power f (bare k ns)
+  Reading shapes.product c f k ns = Chained exponentiation factors shapes.power f (bare k ns)
+  Reading shapes.sum c f k ns = Chained operators.product terms shapes.product f (bare k ns)
+  Reading shapes.shift c f k ns = Chained operators.sum shifts shapes.sum f (bare k ns)
+  Reading shapes.relation c f k ns = Chained related (relations false) shapes.shift f (bare k ns)
+  Reading shapes.equality c f k ns = Chained (operators.relation false) (equalities false) shapes.relation f (bare k ns)
+  Reading shapes.bit_and c f k ns = Chained (operators.equality false) (conjunctions false) shapes.equality f (bare k ns)
+  Reading shapes.bit_xor c f k ns = Chained (operators.bit_and false) (exclusions false) shapes.bit_and f (bare k ns)
+  Reading shapes.bit_or c f k ns = Chained (operators.bit_xor false) (disjunctions false) shapes.bit_xor f (bare k ns)
+  Reading shapes.logical_and c f k ns = Ands f (bare k ns)
+  Reading shapes.logical_or c f k ns = Logical f (bare k ns)
+  Reading shapes.assignment c f k ns = Direct shapes.assignment f (bare k ns)
+
+  -- an expression at a level
+  pub record Stands (l : Level) (f : Laid) (k : Kind) (ns : List Node) : Type 0 where
+    pub lead : Lead assigned f
+    pub reading : Reading l lead.front f k ns
+    pub no_or : NotOr l k
+    pub param : (g : Gap) (us : Items) (e : Front) → Begins e us → EndOf l e → AsParam assigned (f g us) us
+
+  pub from_form : {f : Laid} {k : Kind} {ns : List Node} → Form assigned f k ns → Stands shapes.object f k ns
+  from_form {k = k} F = record { lead = lead_of assigned F; no_or = head_is_no_or k F.head; param = F.as_param; reading = F }
+
+  pub chained_read : {base tail : Grammar} {l : Level} {f : Laid} {n : Node} → Chained base tail l f n → (g : Gap) (us : Items) (e : Front) → Begins e us → passes_at e tail ≡ true → closes l e ≡ true
+      → Reads assigned (build form.Chain (base ▸ tail)) (f g us) (n ∷ []) us
+  chained_read {tail = tail} C g us e b p z =
+      ap (built_on form.Chain) (C.own g us e b z [] us (passed_at assigned (means assigned) tail e us b p))
+      ∙ ap (λ o. read (unwrap_or o absent ∷ []) us) (ap (steps in_front None) (append-nil C.pieces) ∙ C.whole)
+
+  logical_read : {f : Laid} {n : Node} → Logical f n → (g : Gap) (us : Items) (e : Front) → Begins e us → closes shapes.logical_or e ≡ true → Reads assigned (operators.short_circuit false) (f g us) (n ∷ []) us
+  unfolding operators.short_circuit
+  logical_read C g us e b z =
+      let c = and_parts (passes_at e (coalescing false // logicals false)) (closes shapes.bit_or e) z in
+      let d = and_parts (refuses_at e (coalescing false)) (passes_at e (logicals false)) c.0 in
+      let x = C.own g us e b c.1 [] us (passed_at assigned (means assigned) (logicals false) e us b d.1) (passed_at assigned (means assigned) (coalescing false // logicals false) e us b c.0) in
+      ap (built_on form.Logical) (ap (followed_on (interp assigned (means assigned) (coalescing false // logicals false))) x.first_read ∙ ap (with_front (C.first ∷ [])) x.all)
+      ∙ ap (λ o. read (unwrap_or o absent ∷ []) us) (ap (steps in_front_logical (Some C.first)) (append-nil C.more) ∙ C.whole)
+
+  single : (base tail : Grammar) (l : Level) {f : Laid} {n : Node} → ((g : Gap) (us : Items) (e : Front) → Begins e us → closes l e ≡ true → Reads assigned base (f g us) (n ∷ []) us) → Chained base tail l f n
+  single base tail l {n = n} d = record {
+    pieces = n ∷ [];
+    own = λ g us e b z ys vs h. ap (followed_on (interp assigned (means assigned) tail)) (d g us e b z) ∙ ap (with_front (n ∷ [])) h;
+    whole = refl;
+  }
+
+  power_read : {f : Laid} {n : Node} (L : Lead assigned f) → Operand (let l = L in l.front) f n → Direct shapes.power f n
+  unfolding exponentiation
+  power_read {f} {n} L (with_operator d) g us e b z =
+      let c = and_parts (passes_at e power_tail) (closes shapes.unary e) z in
+      ap (or_on (interp assigned (means assigned) (build form.Chain (operators.update ▸ power_tail))) (f g us)) (d g us e b c.1)
+  power_read {f} {n} L (without_operator r d) g us e b z =
+      let c = and_parts (passes_at e power_tail) (closes shapes.unary e) z in
+      let t : Tower L.front e operators.update exponentiation = later r (chained (before here c.0)) in
+      climb assigned (means assigned) t (f g us) us n (L.begins g us) b (d g us e b c.1)
+
+  pub assignment_read : {f : Laid} {n : Node} → Lead assigned f → ((g : Gap) (us : Items) (e : Front) → Begins e us → Ends e → Reads assigned (expressions.conditional false) (f g us) (n ∷ []) us) → Direct shapes.assignment f n
+  assignment_read {f} {n} L D g us e b z =
+      let c = and_parts (refuses_at e (arrow_body false)) _ z in
+      let d = and_parts (refuses_at e (arrow_rest false false)) _ c.1 in
+      let t : Tower L.front e (expressions.conditional false) behind_arrow = later L.no_yield (chained (before here (ends_parts e z).0)) in
+      means_is assigned (part.Assign false false) (f g us)
+      ∙ (ap (or_on (interp assigned (means assigned) behind_arrow) (f g us)) (L.no_arrow g us e b c.0 (refused_at assigned (means assigned) (arrow_rest false false) e us b d.0))
+      ∙ climb assigned (means assigned) t (f g us) us n (L.begins g us) b (D g us e b z))
+
+  module _ {f : Laid} {k : Kind} {ns : List Node} where
+    -- at each level, all of it is read
+    pub direct : (l : Level) → Stands l f k ns → Direct l f (bare k ns)
+    unfolding operand operators.shift operators.relation operators.equality operators.bit_and operators.bit_xor operators.bit_or
+    direct shapes.object S g us e b z = chain_read assigned S.reading g us e b z
+    direct shapes.callee S g us e b z = chain_read assigned S.reading g us e b z
+    direct shapes.update S g us e b z = let r = S.reading in r.1 g us e b z
+    direct shapes.unary S g us e b z = by_operand S.reading
+      where
+        by_operand : Operand (let l = S.lead in l.front) f (bare k ns) → Reads assigned operand (f g us) (bare k ns ∷ []) us
+        by_operand (with_operator d) = ap (or_on (interp assigned (means assigned) operators.update) (f g us)) (d g us e b z)
+        by_operand (without_operator c d) = let l = S.lead in ap (or_on (interp assigned (means assigned) operators.update) (f g us)) (refused_at assigned (means assigned) prefixed l.front (f g us) (l.begins g us) c) ∙ d g us e b z
+    direct shapes.power S g us e b z = S.reading g us e b z
+    direct shapes.product S g us e b z = let c = and_parts (passes_at e factors) (closes shapes.power e) z in chained_read S.reading g us e b c.0 c.1
+    direct shapes.sum S g us e b z = let c = and_parts (passes_at e terms) (closes shapes.product e) z in chained_read S.reading g us e b c.0 c.1
+    direct shapes.shift S g us e b z = let c = and_parts (passes_at e shifts) (closes shapes.sum e) z in chained_read S.reading g us e b c.0 c.1
+    direct shapes.relation S g us e b z = let c = and_parts (passes_at e (relations false)) (closes shapes.shift e) z in chained_read S.reading g us e b c.0 c.1
+    direct shapes.equality S g us e b z = let c = and_parts (passes_at e (equalities false)) (closes shapes.relation e) z in chained_read S.reading g us e b c.0 c.1
+    direct shapes.bit_and S g us e b z = let c = and_parts (passes_at e (conjunctions false)) (closes shapes.equality e) z in chained_read S.reading g us e b c.0 c.1
+    direct shapes.bit_xor S g us e b z = let c = and_parts (passes_at e (exclusions false)) (closes shapes.bit_and e) z in chained_read S.reading g us e b c.0 c.1
+    direct shapes.bit_or S g us e b z = let c = and_parts (passes_at e (disjunctions false)) (closes shapes.bit_xor e) z in chained_read S.reading g us e b c.0 c.1
+    direct shapes.logical_and S g us e b z = let r = S.reading in logical_read r.chain g us e b z
+    direct shapes.logical_or S g us e b z = logical_read S.reading g us e b z
+    direct shapes.assignment S g us e b z = S.reading g us e b z
+
+    -- a level further out
+
+    update_read : Form assigned f k ns → Direct shapes.update f (bare k ns)
+    unfolding operators.update
+    update_read F g us e b z =
+        let o = F.opens in
+        let c = and_parts (passes_at e suffix) (closes shapes.callee e) z in
+        let t : Tower F.front e chain operators.update = later o.no_increment (later o.no_decrement (chained (before here c.0))) in
+        climb assigned (means assigned) t (f g us) us (bare k ns) (F.begins g us) b (chain_read assigned F g us e b c.1)
+
+    related_read : Stands shapes.shift f k ns → (g : Gap) (us : Items) (e : Front) → Begins e us → closes shapes.shift e ≡ true → Reads assigned related (f g us) (bare k ns ∷ []) us
+    related_read S g us e b z =
+        let l = S.lead in
+        ap (or_on (interp assigned (means assigned) operators.shift) (f g us)) (refused_at assigned (means assigned) private_in l.front (f g us) (l.begins g us) l.no_private) ∙ direct shapes.shift S g us e b z
+
+    ands_read : Stands shapes.bit_or f k ns → Ands f (bare k ns)
+    ands_read S = record {
+      chain = record {
+        first = bare k ns;
+        more = [];
+        own = λ g us e b z ys vs h h'. record { mid = us; first_read = direct shapes.bit_or S g us e b z; few = h; all = h' };
+        whole = refl;
+      };
+      ands = no_and;
+      no_or = ap is_or (kind-node dummy_span k ns) ∙ S.no_or;
+    }
+
+    pub conditional_read : Stands shapes.logical_or f k ns → (g : Gap) (us : Items) (e : Front) → Begins e us → closes_conditional e ≡ true → Reads assigned (expressions.conditional false) (f g us) (bare k ns ∷ []) us
+    unfolding expressions.conditional
+    conditional_read S g us e b z =
+        let l = S.lead in
+        let c = and_parts (passes_at e choice_tail) (closes shapes.logical_or e) z in
+        let t : Tower l.front e (operators.short_circuit false) (expressions.conditional false) = chained (before here c.0) in
+        climb assigned (means assigned) t (f g us) us (bare k ns) (l.begins g us) b (direct shapes.logical_or S g us e b c.1)
+
+    pub loosened : (l : Level) → Stands l f k ns → Stands (looser_than l) f k ns
+    loosened shapes.object S = record { lead = S.lead; no_or = S.no_or; param = S.param; reading = S.reading }
+    loosened shapes.callee S = let F = S.reading in let o = F.opens in record { lead = lead_of assigned F; no_or = S.no_or; param = S.param; reading = (o.no_prefix, update_read F) }
+    loosened shapes.update S = let r = S.reading in record { lead = S.lead; no_or = S.no_or; param = S.param; reading = without_operator r.0 r.1 }
+    loosened shapes.unary S = record { lead = S.lead; no_or = S.no_or; param = S.param; reading = power_read S.lead S.reading }
+    loosened shapes.power S = record { lead = S.lead; no_or = S.no_or; param = S.param; reading = single exponentiation factors shapes.power (direct shapes.power S) }
+    loosened shapes.product S = record { lead = S.lead; no_or = S.no_or; param = S.param; reading = single operators.product terms shapes.product (direct shapes.product S) }
+    loosened shapes.sum S = record { lead = S.lead; no_or = S.no_or; param = S.param; reading = single operators.sum shifts shapes.sum (direct shapes.sum S) }
+    loosened shapes.shift S = record { lead = S.lead; no_or = S.no_or; param = S.param; reading = single related (relations false) shapes.shift (related_read S) }
+    loosened shapes.relation S = record { lead = S.lead; no_or = S.no_or; param = S.param; reading = single (operators.relation false) (equalities false) shapes.relation (direct shapes.relation S) }
+    loosened shapes.equality S = record { lead = S.lead; no_or = S.no_or; param = S.param; reading = single (operators.equality false) (conjunctions false) shapes.equality (direct shapes.equality S) }
+    loosened shapes.bit_and S = record { lead = S.lead; no_or = S.no_or; param = S.param; reading = single (operators.bit_and false) (exclusions false) shapes.bit_and (direct shapes.bit_and S) }
+    loosened shapes.bit_xor S = record { lead = S.lead; no_or = S.no_or; param = S.param; reading = single (operators.bit_xor false) (disjunctions false) shapes.bit_xor (direct shapes.bit_xor S) }
+    loosened shapes.bit_or S = record { lead = S.lead; no_or = S.no_or; param = S.param; reading = ands_read S }
+    loosened shapes.logical_and S = let r = S.reading in record { lead = S.lead; no_or = tt; param = S.param; reading = r.chain }
+    loosened shapes.logical_or S = record { lead = S.lead; no_or = tt; param = λ g us e b z. S.param g us e b z.0; reading = assignment_read S.lead (λ g us e b z. conditional_read S g us e b (ends_parts e z).1) }
+    loosened shapes.assignment S = S
+
+    -- at the loosest
+    pub go_out : (n : ℕ) (l : Level) → Stands l f k ns → Stands (further_out n l) f k ns
+    go_out zero l S = S
+    go_out (suc n) l S = go_out n (looser_than l) (loosened l S)
+
+    pub standing : {l : Level} → Stands l f k ns → Stands shapes.assignment f k ns
+    standing {l} S = subst (λ m. Stands m f k ns) (loosest l) (go_out 15 l S)
+
+  module _ {f : Laid} {k : Kind} {ns : List Node} (S : Stands shapes.assignment f k ns) where
+    -- as an assignment expression, and as an expression
+    pub used : (g : Gap) (us : Items) (e : Front) → Begins e us → Ends e → means assigned (part.Assign false false) (f g us) ≡ read (bare k ns ∷ []) us
+    used g us e b z = S.reading g us e b z
+
+    pub expression_read : (g : Gap) (us : Items) (e : Front) → Begins e us → Ends e → refuses_at e (punct (codes ",")) ≡ true → Reads assigned (expression false) (f g us) (bare k ns ∷ []) us
+    unfolding expression many_up_to
+    expression_read g us e b z c = rw (used g us e b z, refused_at assigned (means assigned) (punct (codes ",") ▸ grammar.up (part.Assign false false)) e us b (refuses_first e (punct (codes ",")) (grammar.up (part.Assign false false)) c)) refl

@@ -1,0 +1,7 @@
+mod Turning
+mod KindsTurned
+mod Children
+mod Making
+mod Keeping
+mod Refining
+mod Finished
