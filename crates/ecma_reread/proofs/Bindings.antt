@@ -2,6 +2,7 @@
 use Rattle.std.proofs.Common.{◌≡◌, ℕ, zero, suc, Bool, true, false, List, [], ◌∷◌, ◌++◌, codes, refl, ap, subst, ◌∙◌, append-nil, Some, None, unwrap_or}
 use Rattle.std.proofs.lemmas.Bool.{and_parts, false≢true}
 use Rattle.ecma_kind.specs.declared.operators.BinaryOp.TheVariants as op
+use Rattle.ecma_kind.specs.declared.operators.AssignOp.TheVariants.{Assign}
 use Rattle.ecma_kind.specs.declared.kind.Kind.{Kind}
 use Rattle.ecma_kind.specs.declared.kind.Kind.TheVariants as kind
 use Rattle.ecma_tree.specs.declared.node.Node.{Node}
@@ -13,6 +14,7 @@ use Rattle.ecma_grammar.specs.trees.Chains.{steps, in_front_logical, is_or}
 use Rattle.ecma_grammar.specs.Grammar as grammar
 use Rattle.ecma_grammar.specs.Grammar.{Grammar, ◌▸◌, ◌//◌, build, word, punct}
 use Rattle.ecma_grammar.specs.productions.Names.{expression}
+use Rattle.ecma_grammar.specs.productions.Types.{params}
 use Rattle.ecma_grammar.specs.productions.Functions.{arrow_rest, arrow_body}
 use Rattle.ecma_grammar.specs.productions.Chains.{chain}
 use Rattle.ecma_grammar.specs.productions.Operators as operators
@@ -24,10 +26,11 @@ use Rattle.ecma_reread.specs.Machine.{read, with_front, followed_on, or_on, buil
 use Rattle.ecma_reread.specs.Shapes as shapes
 use Rattle.ecma_reread.specs.Shapes.{Level, looser_than}
 use Rattle.ecma_reread.proofs.Levels.{means_is}
-use Rattle.ecma_reread.proofs.Fronts.{Front, Begins, refuses_at, refused_at, refuses_first, passes_at, passed_at}
+use Rattle.ecma_reread.proofs.Fronts.{Front, Begins, Verdict, refuses, idles, open_, behind_verdict, verdict, unknown, is_refuses, refuses_at, refused_at, refuses_first, passes_at, passed_at}
 use Rattle.ecma_reread.proofs.Towers.{Tower, here, later, before, chained, climb, suffix, power_tail, choice_tail, private_in, behind_arrow, closes_conditional, closes, Ends}
 use Rattle.ecma_reread.proofs.Heads.{is_head, kind-node, bare}
-use Rattle.ecma_reread.proofs.Forms.{Laid, Reads, AsParam, Form, chain_read, Lead, lead_of}
+use Rattle.ecma_reread.proofs.Forms.{Laid, behind_params, Reads, Refuses, AsParam, Form, chain_read, Lead, lead_of}
+use Rattle.ecma_reread.proofs.Params.{Params, params_by}
 
 -- the production of each level
 abbrev pub grammar_of : Level → Grammar
@@ -47,6 +50,7 @@ grammar_of shapes.bit_or = operators.bit_or false
 grammar_of shapes.logical_and = operators.short_circuit false
 grammar_of shapes.logical_or = operators.short_circuit false
 grammar_of shapes.assignment = grammar.up (part.Assign false false)
+grammar_of shapes.sequence = expression false
 
 -- a relation's first part
 abbrev pub related : Grammar
@@ -55,12 +59,14 @@ related = private_in // operators.shift
 -- what stands behind it as a parameter: no `=`
 abbrev pub EndOf : Level → Front → Type 0
 EndOf shapes.assignment e = (refuses_at e (punct (codes "=")) ≡ true) × Ends e
+EndOf shapes.sequence e = (refuses_at e (punct (codes "=")) ≡ true) × Ends e
 EndOf l e = refuses_at e (punct (codes "=")) ≡ true
 
 -- no `||`, where `&&` would take its right side
 abbrev pub NotOr : Level → Kind → Type 0
 NotOr shapes.logical_or k = Unit {0}
 NotOr shapes.assignment k = Unit {0}
+NotOr shapes.sequence k = Unit {0}
 NotOr l k = is_or k ≡ false
 
 pub head_is_no_or : (k : Kind) → is_head k ≡ true → is_or k ≡ false
@@ -79,11 +85,22 @@ ends_parts e z =
     let d = and_parts (refuses_at e (arrow_rest false false)) _ c.1 in
     and_parts (passes_at e (assignments false)) (closes_conditional e) d.1
 
+-- what refuses behind what keeps nothing refuses by itself
+by_first : (v : Verdict) → is_refuses (behind_verdict idles (behind_verdict v open_)) ≡ true → is_refuses v ≡ true
+by_first refuses h = refl
+by_first idles h = absurd (false≢true h)
+by_first open_ h = absurd (false≢true h)
+
+-- nor `=`
+pub ends_no_equals : (e : Front) → Ends e → refuses_at e (punct (codes "=")) ≡ true
+unfolding assignments
+ends_no_equals e z = let c = ends_parts e z in let a = and_parts (refuses_at e (expressions.assignment (codes "=") Assign false)) _ c.0 in by_first (verdict unknown e (punct (codes "="))) a.0
+
 abbrev pub further_out : ℕ → Level → Level
 further_out zero l = l
 further_out (suc n) l = further_out n (looser_than l)
 
-loosest : (l : Level) → further_out 15 l ≡ shapes.assignment
+loosest : (l : Level) → further_out 16 l ≡ shapes.sequence
 loosest shapes.object = refl
 loosest l = refl
 
@@ -137,13 +154,19 @@ module _ (assigned : Bool) where
   Reading shapes.logical_and c f k ns = Ands f (bare k ns)
   Reading shapes.logical_or c f k ns = Logical f (bare k ns)
   Reading shapes.assignment c f k ns = Direct shapes.assignment f (bare k ns)
+  Reading shapes.sequence c f k ns = Direct shapes.sequence f (bare k ns)
+
+  -- what is read of it as a parameter; a sequence is read as several, and those behind it
+  abbrev pub ParamOf : Level → Items → Items → Type 0
+  ParamOf shapes.sequence ts us = Params assigned us → Refuses assigned (params ▸ behind_params) ts
+  ParamOf l ts us = AsParam assigned ts us
 
   -- an expression at a level
   pub record Stands (l : Level) (f : Laid) (k : Kind) (ns : List Node) : Type 0 where
     pub lead : Lead assigned f
     pub reading : Reading l lead.front f k ns
     pub no_or : NotOr l k
-    pub param : (g : Gap) (us : Items) (e : Front) → Begins e us → EndOf l e → AsParam assigned (f g us) us
+    pub param : (g : Gap) (us : Items) (e : Front) → Begins e us → EndOf l e → ParamOf l (f g us) us
 
   pub from_form : {f : Laid} {k : Kind} {ns : List Node} → Form assigned f k ns → Stands shapes.object f k ns
   from_form {k = k} F = record { lead = lead_of assigned F; no_or = head_is_no_or k F.head; param = F.as_param; reading = F }
@@ -213,6 +236,7 @@ module _ (assigned : Bool) where
     direct shapes.logical_and S g us e b z = let r = S.reading in logical_read r.chain g us e b z
     direct shapes.logical_or S g us e b z = logical_read S.reading g us e b z
     direct shapes.assignment S g us e b z = S.reading g us e b z
+    direct shapes.sequence S g us e b z = S.reading g us e b z
 
     -- a level further out
 
@@ -249,6 +273,12 @@ module _ (assigned : Bool) where
         let t : Tower l.front e (operators.short_circuit false) (expressions.conditional false) = chained (before here c.0) in
         climb assigned (means assigned) t (f g us) us (bare k ns) (l.begins g us) b (direct shapes.logical_or S g us e b c.1)
 
+    one_read : Stands shapes.assignment f k ns → Direct shapes.sequence f (bare k ns)
+    unfolding expression many_up_to
+    one_read S g us e b z =
+        let c = and_parts (refuses_at e (punct (codes ","))) (closes shapes.assignment e) z in
+        rw (S.reading g us e b c.1, refused_at assigned (means assigned) (punct (codes ",") ▸ grammar.up (part.Assign false false)) e us b (refuses_first e (punct (codes ",")) (grammar.up (part.Assign false false)) c.0)) refl
+
     pub loosened : (l : Level) → Stands l f k ns → Stands (looser_than l) f k ns
     loosened shapes.object S = record { lead = S.lead; no_or = S.no_or; param = S.param; reading = S.reading }
     loosened shapes.callee S = let F = S.reading in let o = F.opens in record { lead = lead_of assigned F; no_or = S.no_or; param = S.param; reading = (o.no_prefix, update_read F) }
@@ -265,21 +295,21 @@ module _ (assigned : Bool) where
     loosened shapes.bit_or S = record { lead = S.lead; no_or = S.no_or; param = S.param; reading = ands_read S }
     loosened shapes.logical_and S = let r = S.reading in record { lead = S.lead; no_or = tt; param = S.param; reading = r.chain }
     loosened shapes.logical_or S = record { lead = S.lead; no_or = tt; param = λ g us e b z. S.param g us e b z.0; reading = assignment_read S.lead (λ g us e b z. conditional_read S g us e b (ends_parts e z).1) }
-    loosened shapes.assignment S = S
+    loosened shapes.assignment S = record { lead = S.lead; no_or = tt; param = λ g us e b z P. params_by assigned (f g us) us (S.param g us e b z) P; reading = one_read S }
+    loosened shapes.sequence S = S
 
     -- at the loosest
     pub go_out : (n : ℕ) (l : Level) → Stands l f k ns → Stands (further_out n l) f k ns
     go_out zero l S = S
     go_out (suc n) l S = go_out n (looser_than l) (loosened l S)
 
-    pub standing : {l : Level} → Stands l f k ns → Stands shapes.assignment f k ns
-    standing {l} S = subst (λ m. Stands m f k ns) (loosest l) (go_out 15 l S)
+    pub standing : {l : Level} → Stands l f k ns → Stands shapes.sequence f k ns
+    standing {l} S = subst (λ m. Stands m f k ns) (loosest l) (go_out 16 l S)
 
-  module _ {f : Laid} {k : Kind} {ns : List Node} (S : Stands shapes.assignment f k ns) where
-    -- as an assignment expression, and as an expression
-    pub used : (g : Gap) (us : Items) (e : Front) → Begins e us → Ends e → means assigned (part.Assign false false) (f g us) ≡ read (bare k ns ∷ []) us
-    used g us e b z = S.reading g us e b z
+  -- as an assignment expression, and as an expression
+  module _ {f : Laid} {k : Kind} {ns : List Node} where
+    pub used : Stands shapes.assignment f k ns → (g : Gap) (us : Items) (e : Front) → Begins e us → Ends e → means assigned (part.Assign false false) (f g us) ≡ read (bare k ns ∷ []) us
+    used S g us e b z = S.reading g us e b z
 
-    pub expression_read : (g : Gap) (us : Items) (e : Front) → Begins e us → Ends e → refuses_at e (punct (codes ",")) ≡ true → Reads assigned (expression false) (f g us) (bare k ns ∷ []) us
-    unfolding expression many_up_to
-    expression_read g us e b z c = rw (used g us e b z, refused_at assigned (means assigned) (punct (codes ",") ▸ grammar.up (part.Assign false false)) e us b (refuses_first e (punct (codes ",")) (grammar.up (part.Assign false false)) c)) refl
+    pub expression_read : Stands shapes.sequence f k ns → (g : Gap) (us : Items) (e : Front) → Begins e us → Ends e → refuses_at e (punct (codes ",")) ≡ true → Reads assigned (expression false) (f g us) (bare k ns ∷ []) us
+    expression_read S g us e b z c = S.reading g us e b (rw (c, z) refl)

@@ -34,7 +34,7 @@ use Rattle.ecma_reread.proofs.Fronts.{Front, exactly, Begins, at_token, IsName, 
 use Rattle.ecma_reread.proofs.Heads.{call_made}
 use Rattle.ecma_reread.proofs.Forms.{Laid, s, behind_params, Reads, Refuses, linked_param, Form}
 use Rattle.ecma_reread.proofs.Towers.{Ends}
-use Rattle.ecma_reread.proofs.Bindings.{Stands, from_form, loosened, standing, used}
+use Rattle.ecma_reread.proofs.Bindings.{ends_no_equals, Stands, from_form, loosened, standing, used}
 use Rattle.ecma_reread.proofs.Operations.{await_form, power_form, unary_form, binary_form}
 use Rattle.ecma_reread.proofs.Elements.{element_form}
 use Rattle.ecma_reread.proofs.Updates.{prefix_form, postfix_form}
@@ -42,8 +42,10 @@ use Rattle.ecma_reread.proofs.Choices.{choice_form}
 use Rattle.ecma_reread.proofs.Logicals.{both_form, either_form}
 use Rattle.ecma_reread.proofs.Assignments.{assignment_form}
 use Rattle.ecma_reread.proofs.Repeats.{Repeats, repeats_end, repeats_more, repeated}
-use Rattle.ecma_reread.proofs.Expressions.{Single, string_single, number_single, this_single, big_int_single, null_single, true_single, false_single, single_form, name_form, member_form, parenthesized_form, parenthesis_ends, comma_ends}
-use Rattle.ecma_reread.proofs.Params.{Params, params_end, params_more, params_by, parameters_refused, no_body_behind}
+use Rattle.ecma_reread.proofs.Expressions.{Single, string_single, number_single, this_single, big_int_single, null_single, true_single, false_single, single_form, name_form, member_form, parenthesized_form, parenthesis_ends}
+use Rattle.ecma_reread.proofs.Params.{params_end, params_by, parameters_refused, no_body_behind}
+use Rattle.ecma_reread.proofs.Lists.{Forms, Followed, more_followed, more_params}
+use Rattle.ecma_reread.proofs.Sequences.{sequence_form}
 use Rattle.ecma_reread.proofs.Async.{async_form}
 
 -- no argument begins with `)`
@@ -63,30 +65,19 @@ module _ (assigned : Bool) where
       let L = S.lead in
       rw (refused_at assigned (means assigned) (punct (codes "...")) L.front (f g us) (L.begins g us) L.no_spread, used assigned S g us e b z) refl
 
-  -- what is said of each of a list
-  abbrev Forms : {es : List Node} → AreExpressions es → Type 0
-  Forms shapes.no_expressions = Unit {0}
-  Forms (shapes.more_expressions e es) = Stands assigned shapes.assignment (expression_tokens e) (expression_kind e) (expression_parts e) × Forms es
-
   abbrev ArgumentForms : {n : Node} → IsArguments n → Type 0
   ArgumentForms (shapes.no_arguments at) = Unit {0}
-  ArgumentForms (shapes.arguments at e es) = Stands assigned shapes.assignment (expression_tokens e) (expression_kind e) (expression_parts e) × Forms es
+  ArgumentForms (shapes.arguments at e es) = Stands assigned shapes.assignment (expression_tokens e) (expression_kind e) (expression_parts e) × Forms assigned es
 
-  record Followed (us : Items) : Type 0 where
-    pub front : Front
-    pub begins : Begins front us
-    pub ends : Ends front
-    pub no_equals : refuses_at front (punct (codes "=")) ≡ true
+  -- behind the arguments
+  abbrev closed : (us : Items) → Followed (s (codes ")") us)
+  closed us = record { front = exactly (sign (codes ")")); begins = at_token; ends = parenthesis_ends }
 
-  more_followed : {es : List Node} (is : AreExpressions es) (us : Items) → Followed (more_tokens is (s (codes ")") us))
-  more_followed shapes.no_expressions us = record { front = exactly (sign (codes ")")); begins = at_token; ends = parenthesis_ends; no_equals = refl }
-  more_followed (shapes.more_expressions e es) us = record { front = exactly (sign (codes ",")); begins = at_token; ends = comma_ends; no_equals = refl }
-
-  more_read : {es : List Node} (is : AreExpressions es) → Forms is → (us : Items) → Repeats assigned (punct (codes ",") ▸ element) (more_tokens is (s (codes ")") us)) (bare_expressions is) (s (codes ")") us)
+  more_read : {es : List Node} (is : AreExpressions es) → Forms assigned is → (us : Items) → Repeats assigned (punct (codes ",") ▸ element) (more_tokens is (s (codes ")") us)) (bare_expressions is) (s (codes ")") us)
   unfolding element spread
   more_read shapes.no_expressions F us = repeats_end assigned (punct (codes ",") ▸ element) (s (codes ")") us) refl
   more_read (shapes.more_expressions e es) F us =
-      let w = more_followed es us in
+      let w = more_followed es (s (codes ")") us) (closed us) in
       repeats_more assigned (punct (codes ",") ▸ element) refl _ (more_tokens es (s (codes ")") us)) (s (codes ")") us) (bare_expression e ∷ []) (bare_expressions es)
       (ap (with_front []) (element_read F.0 blank (more_tokens es (s (codes ")") us)) w.front w.begins w.ends)) (more_read es F.1 us)
 
@@ -94,7 +85,7 @@ module _ (assigned : Bool) where
   unfolding arguments
   arguments_read (shapes.no_arguments at) F us = rw (all_refused assigned element (exactly (sign (codes ")"))) (s (codes ")") us) at_token no_argument) refl
   arguments_read (shapes.arguments at e es) F us =
-      let w = more_followed es us in
+      let w = more_followed es (s (codes ")") us) (closed us) in
       rw (element_read F.0 no_gap (more_tokens es (s (codes ")") us)) w.front w.begins w.ends, repeated assigned (punct (codes ",") ▸ element) (more_tokens es (s (codes ")") us)) (s (codes ")") us) (bare_expressions es) (more_read es F.1 us), append-nil (bare_expressions es)) refl
 
   call_read : {n : Node} (is : IsArguments n) → ArgumentForms is → (us : Items) (ys : List Node) (vs : Items) → Reads assigned links us ys vs
@@ -104,20 +95,15 @@ module _ (assigned : Bool) where
 
   -- the arguments are no parameters of an arrow function where no body of one follows
 
-  more_params : {es : List Node} (is : AreExpressions es) → Forms is → (us : Items) → Refuses assigned behind_params (s (codes ")") us) → Params assigned (more_tokens is (s (codes ")") us))
-  more_params shapes.no_expressions F us h = params_end assigned (s (codes ")") us) (exactly (sign (codes ")"))) at_token refl h
-  more_params (shapes.more_expressions e es) F us h =
-      let w = more_followed es us in
-      let E = F.0 in
-      params_more assigned (expression_tokens e blank (more_tokens es (s (codes ")") us))) (more_tokens es (s (codes ")") us)) (E.param blank (more_tokens es (s (codes ")") us)) w.front w.begins (w.no_equals, w.ends)) (more_params es F.1 us h)
-
   no_params : {n : Node} (is : IsArguments n) → ArgumentForms is → (us : Items) → Refuses assigned behind_params (s (codes ")") us) → Refuses assigned (params ▸ behind_params) (arguments_tokens is (s (codes ")") us))
   unfolding params
   no_params (shapes.no_arguments at) F us h = rw (all_refused assigned param (exactly (sign (codes ")"))) (s (codes ")") us) at_token no_param_there, h) refl
   no_params (shapes.arguments at e es) F us h =
-      let w = more_followed es us in
+      let c = closed us in
+      let w = more_followed es (s (codes ")") us) c in
       let E = F.0 in
-      params_by assigned (expression_tokens e no_gap (more_tokens es (s (codes ")") us))) (more_tokens es (s (codes ")") us)) (E.param no_gap (more_tokens es (s (codes ")") us)) w.front w.begins (w.no_equals, w.ends)) (more_params es F.1 us h)
+      params_by assigned (expression_tokens e no_gap (more_tokens es (s (codes ")") us))) (more_tokens es (s (codes ")") us)) (E.param no_gap (more_tokens es (s (codes ")") us)) w.front w.begins (ends_no_equals w.front w.ends, w.ends))
+      (more_params assigned es F.1 (s (codes ")") us) c (params_end assigned (s (codes ")") us) c.front c.begins refl h))
 
   call_no_rest : {n : Node} (is : IsArguments n) → ArgumentForms is → (us : Items) (e : Front) → Begins e us → refuses_at e (arrow_body false) ≡ true
       → Refuses assigned (arrow_rest false false) (s (codes "(") (arguments_tokens is (s (codes ")") us)))
@@ -209,11 +195,12 @@ module _ (assigned : Bool) where
     expression_form (shapes.either at l r) = either_form assigned (expression_form l) (expression_form r)
     expression_form (shapes.assignment_expression at o t v) = assignment_form assigned o (expression_form t) (expression_form v)
     expression_form (shapes.conditional_expression at t x y) = choice_form assigned (expression_form t) (expression_form x) (expression_form y)
+    expression_form (shapes.sequence_expression at x y es) = sequence_form assigned (expression_form x) (expression_form y) es (expression_forms es)
 
     argument_forms : {n : Node} (is : IsArguments n) → ArgumentForms is
     argument_forms (shapes.no_arguments at) = tt
-    argument_forms (shapes.arguments at e es) = (standing assigned (expression_form e), expression_forms es)
+    argument_forms (shapes.arguments at e es) = (expression_form e, expression_forms es)
 
-    expression_forms : {es : List Node} (is : AreExpressions es) → Forms is
+    expression_forms : {es : List Node} (is : AreExpressions es) → Forms assigned is
     expression_forms shapes.no_expressions = tt
-    expression_forms (shapes.more_expressions e es) = (standing assigned (expression_form e), expression_forms es)
+    expression_forms (shapes.more_expressions e es) = (expression_form e, expression_forms es)

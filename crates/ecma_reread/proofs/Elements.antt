@@ -29,7 +29,7 @@ bracket_ends : Ends (exactly (sign (codes "]")))
 unfolding factors terms shifts relations equalities assignments links chains.template_start arrow_rest names.binding_ident
 bracket_ends = refl
 
-module _ (assigned : Bool) {f f' : Laid} {k k' : Kind} {ns ns' : List Node} (F : Form assigned f k ns) (S : Stands assigned shapes.assignment f' k' ns') where
+module _ (assigned : Bool) {f f' : Laid} {k k' : Kind} {ns ns' : List Node} (F : Form assigned f k ns) (S : Stands assigned shapes.sequence f' k' ns') where
   abbrev key : Node
   key = bare kind.ComputedPropName (bare k' ns' ∷ [])
 

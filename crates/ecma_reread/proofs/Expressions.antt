@@ -44,7 +44,7 @@ use Rattle.ecma_reread.proofs.Towers.{Tower, here, later, sooner, climb, exclude
 use Rattle.ecma_reread.proofs.Heads.{is_head, member_made}
 use Rattle.ecma_reread.proofs.Forms.{Laid, s, heads, Reads, Refuses, AsParam, no_param, whole_param, linked_param, Form}
 use Rattle.ecma_reread.proofs.Bindings.{Stands, expression_read}
-use Rattle.ecma_reread.proofs.Params.{params_end, params_by, parameters_refused, no_body_behind}
+use Rattle.ecma_reread.proofs.Params.{params_end, parameters_refused, no_body_behind}
 
 name_starts : Starts a_name
 unfolding statements.statement_body names.block statements.if_ statements.for_await statements.for_ statements.while_ statements.do_while statements.switch statements.try_ statements.jump modules.module_item modules.import modules.import_equals modules.export modules.export_default is_reserved reserved_words
@@ -321,7 +321,7 @@ module _ (assigned : Bool) where
   unfolding super_of_link import_meta import_call construction primary function_expression class_expression primaries.template primaries.array primaries.object
   parenthesis_tower e = later refl (later refl (later refl (later refl (later refl (later refl (later refl (later refl (later refl (later refl (later refl (later refl (later refl (later refl (later refl (later refl (later refl (later refl here)))))))))))))))))
 
-  module _ {f : Laid} {k : Kind} {ns : List Node} (S : Stands assigned shapes.assignment f k ns) where
+  module _ {f : Laid} {k : Kind} {ns : List Node} (S : Stands assigned shapes.sequence f k ns) where
     parenthesized_read : (g : Gap) (us : Items) → Reads assigned parenthesized (it g (sign (codes "(")) (f no_gap (s (codes ")") us))) (bare kind.ParenExpr (bare k ns ∷ []) ∷ []) us
     unfolding parenthesized
     parenthesized_read g us = rw (expression_read assigned S no_gap (s (codes ")") us) (exactly (sign (codes ")"))) at_token parenthesis_ends refl) refl
@@ -330,9 +330,8 @@ module _ (assigned : Bool) where
     unfolding arrow
     parenthesized_no_arrow g us e b z r =
         let end = s (codes ")") us in
-        let p = S.param no_gap end (exactly (sign (codes ")"))) at_token (refl, parenthesis_ends) in
         let rest = params_end assigned end (exactly (sign (codes ")"))) at_token refl (no_body_behind assigned us e b z) in
-        ap (built_on form.Arrow) (ap (with_front (absent ∷ [])) (parameters_refused assigned g (f no_gap end) (params_by assigned (f no_gap end) end p rest)))
+        ap (built_on form.Arrow) (ap (with_front (absent ∷ [])) (parameters_refused assigned g (f no_gap end) (S.param no_gap end (exactly (sign (codes ")"))) at_token (refl, parenthesis_ends) rest)))
 
     pub parenthesized_form : Form assigned (λ g us. it g (sign (codes "(")) (f no_gap (s (codes ")") us))) kind.ParenExpr (bare k ns ∷ [])
     unfolding prefixed labeled param rest_pattern default_value pattern_body array_pattern object_pattern names.binding_ident statements.statement_body names.block statements.if_ statements.for_await statements.for_ statements.while_ statements.do_while statements.switch statements.try_ statements.jump declarations.declaration functions.function_declaration classes.class_declaration modules.module_item modules.import modules.import_equals modules.export modules.export_default

@@ -176,6 +176,7 @@ softer shapes.bit_or z = z
 softer shapes.logical_and z = z
 softer shapes.logical_or z = z
 softer shapes.assignment z = z
+softer shapes.sequence z = z
 
 -- what an expression begins with, and the sign that this is as a unary operator
 data Opens : Tok → Beside → Type 0 where
@@ -218,6 +219,7 @@ begun (shapes.both at l r) us = begun l (it blank (sign (codes "&&")) (expressio
 begun (shapes.either at l r) us = begun l (it blank (sign (codes "||")) (expression_tokens r blank us))
 begun (shapes.assignment_expression at o t v) us = begun t (it blank (assign_token o) (expression_tokens v blank us))
 begun (shapes.conditional_expression at t x y) us = begun t (it blank (sign (codes "?")) (expression_tokens x blank (it blank (sign (codes ":")) (expression_tokens y blank us))))
+begun (shapes.sequence_expression at x y es) us = begun x (sign_of (codes ",") (expression_tokens y blank (more_tokens es us)))
 
 -- behind `(`, behind a blank, and on a new line
 
@@ -353,6 +355,7 @@ plain (shapes.both at l r) us h = absurd (false≢true h)
 plain (shapes.either at l r) us h = absurd (false≢true h)
 plain (shapes.assignment_expression at o t v) us h = absurd (false≢true h)
 plain (shapes.conditional_expression at t x y) us h = absurd (false≢true h)
+plain (shapes.sequence_expression at x y es) us h = absurd (false≢true h)
 plain (shapes.name i) us h = refl
 plain (shapes.string at raw t) us h = refl
 plain (shapes.number at raw t) us h = refl
@@ -379,6 +382,7 @@ signed (shapes.both at l r) us h = absurd (false≢true h)
 signed (shapes.either at l r) us h = absurd (false≢true h)
 signed (shapes.assignment_expression at o t v) us h = absurd (false≢true h)
 signed (shapes.conditional_expression at t x y) us h = absurd (false≢true h)
+signed (shapes.sequence_expression at x y es) us h = absurd (false≢true h)
 signed (shapes.name i) us h = refl
 signed (shapes.string at raw t) us h = refl
 signed (shapes.number at raw t) us h = refl
@@ -500,9 +504,9 @@ pub record Words : Type 0 where
   pub instanceof_whole : IsToken key_end (codes "instanceof")
 
 module _ (words : Words) where
-  more_soft : {es : List Node} (is : AreExpressions es) (object : Bool) (us : Items) → Soft object (more_tokens is (sign_of (codes ")") us))
-  more_soft shapes.no_expressions object us = closing
-  more_soft (shapes.more_expressions e es) object us = comma
+  more_soft : {es : List Node} (is : AreExpressions es) {us : Items} → Soft false us → Soft false (more_tokens is us)
+  more_soft shapes.no_expressions z = z
+  more_soft (shapes.more_expressions e es) z = comma
 
   update_fine : (o : UpdateOp) → Fine (update_token o)
   unfolding punctuators
@@ -591,16 +595,18 @@ module _ (words : Words) where
         let seconds = it blank (sign (codes ":")) (expression_tokens y blank us) in
         expression_joined t g h (it blank (sign (codes "?")) (expression_tokens x blank seconds)) parted
         (blank_is, refl, blank_joins (sign (codes "?")) x seconds, expression_joined x blank blank_is seconds parted (blank_is, refl, blank_joins (sign (codes ":")) y us, expression_joined y blank blank_is us z j))
+    expression_joined (shapes.sequence_expression at x y es) g h us z j =
+        let rest = more_tokens es us in
+        expression_joined x g h (sign_of (codes ",") (expression_tokens y blank rest)) comma (no_gap_is, refl, blank_joins (sign (codes ",")) y rest, expression_joined y blank blank_is rest (more_soft es z) (more_joined es us z j))
 
     arguments_joined : {n : Node} (is : IsArguments n) (us : Items) → Joined (sign_of (codes ")") us) → Joined (sign_of (codes "(") (arguments_tokens is (sign_of (codes ")") us)))
     arguments_joined (shapes.no_arguments at) us j = (no_gap_is, refl, refl, j)
-    arguments_joined (shapes.arguments at {level = l} e es) us j =
-        (no_gap_is, refl, opening_joins e (more_tokens es (sign_of (codes ")") us)), expression_joined e no_gap no_gap_is (more_tokens es (sign_of (codes ")") us)) (more_soft es (is_object l) us) (more_joined es us j))
+    arguments_joined (shapes.arguments at e es) us j =
+        (no_gap_is, refl, opening_joins e (more_tokens es (sign_of (codes ")") us)), expression_joined e no_gap no_gap_is (more_tokens es (sign_of (codes ")") us)) (more_soft es closing) (more_joined es (sign_of (codes ")") us) closing j))
 
-    more_joined : {es : List Node} (is : AreExpressions es) (us : Items) → Joined (sign_of (codes ")") us) → Joined (more_tokens is (sign_of (codes ")") us))
-    more_joined shapes.no_expressions us j = j
-    more_joined (shapes.more_expressions {level = l} e es) us j =
-        (no_gap_is, refl, blank_joins (sign (codes ",")) e (more_tokens es (sign_of (codes ")") us)), expression_joined e blank blank_is (more_tokens es (sign_of (codes ")") us)) (more_soft es (is_object l) us) (more_joined es us j))
+    more_joined : {es : List Node} (is : AreExpressions es) (us : Items) → Soft false us → Joined us → Joined (more_tokens is us)
+    more_joined shapes.no_expressions us z j = j
+    more_joined (shapes.more_expressions e es) us z j = (no_gap_is, refl, blank_joins (sign (codes ",")) e (more_tokens es us), expression_joined e blank blank_is (more_tokens es us) (more_soft es z) (more_joined es us z j))
 
   -- a declarator ends before `,` or `;`
   declarators_soft : {ds : List Node} (is : AreDeclarators ds) (object : Bool) (us : Items) → Soft object (declarators_tokens is (sign_of (codes ";") us))
@@ -610,7 +616,7 @@ module _ (words : Words) where
   declarator_joined : {n : Node} (is : IsDeclarator n) (us : Items) → ((object : Bool) → Soft object us) → Joined us → Joined (declarator_tokens is us)
   unfolding punctuators
   declarator_joined (shapes.declarator at at' i a (shapes.no_initializer b)) us z j = (blank_is, ident_whole i, key_soft (ident_word i) (z false), j)
-  declarator_joined (shapes.declarator at at' i a (shapes.initializer {level = l} e)) us z j = (blank_is, ident_whole i, refl, (blank_is, refl, blank_joins (sign (codes "=")) e us, expression_joined e blank blank_is us (z (is_object l)) j))
+  declarator_joined (shapes.declarator at at' i a (shapes.initializer e)) us z j = (blank_is, ident_whole i, refl, (blank_is, refl, blank_joins (sign (codes "=")) e us, expression_joined e blank blank_is us (z false) j))
 
   declarators_joined : {ds : List Node} (is : AreDeclarators ds) (us : Items) → Joined (sign_of (codes ";") us) → Joined (declarators_tokens is (sign_of (codes ";") us))
   unfolding punctuators

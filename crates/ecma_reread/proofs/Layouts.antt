@@ -26,7 +26,7 @@ use Rattle.ecma_print.specs.Places.{before, after, free, left, right, beginning,
 use Rattle.ecma_print.specs.Laid.{Laid, is_object_pattern}
 use Rattle.ecma_print.specs.Levels.{is_before_dot, clashes}
 use Rattle.ecma_print.specs.Operators.{assign_word, unary_word, unary_sign, update_word, update_sign, binary_word, binary_level, left_level, right_level, under}
-use Rattle.ecma_print.specs.Expressions.{before_key, object_beside, is_optional}
+use Rattle.ecma_print.specs.Expressions.{before_key, object_beside, is_optional, more_of_sequence}
 use Rattle.ecma_print.specs.Lists.{lines, more_commas}
 use Rattle.ecma_print.specs.Layout.{in_place, by_itself, lay_step, laid, layout}
 use Rattle.ecma_tokens.specs.Items as items
@@ -59,6 +59,7 @@ number_of shapes.bit_or = 5
 number_of shapes.logical_and = 4
 number_of shapes.logical_or = 3
 number_of shapes.assignment = 1
+number_of shapes.sequence = 0
 
 abbrev is_object : Level → Bool
 is_object shapes.object = true
@@ -93,6 +94,7 @@ lowered shapes.bit_or = omega arith
 lowered shapes.logical_and = omega arith
 lowered shapes.logical_or = omega arith
 lowered shapes.assignment = omega arith
+lowered shapes.sequence = omega arith
 
 tightly : (a b n : ℕ) → b ≤ a → ltb b n ≡ false → ltb a n ≡ false
 tightly a b n h k = le-ltb a n (let c = ltb-false b n k in omega arith)
@@ -120,15 +122,15 @@ low_0 : (l : Level) → ltb (number_of l) 0 ≡ false
 low_0 shapes.object = refl
 low_0 l = refl
 
-low_1 : (l : Level) → ltb (number_of l) 1 ≡ false
-low_1 shapes.object = refl
-low_1 l = refl
-
 calm_0 : (l : Level) → Calm l (free 0)
 calm_0 l = record { low = low_0 l; with_in = refl; no_new = refl; outside = λ b. refl; own = refl; both_fits = refl; either_fits = refl; no_dot = λ x. refl }
 
-calm_1 : (l : Level) → Calm l (free 1)
-calm_1 l = record { low = low_1 l; with_in = refl; no_new = refl; outside = λ b. refl; own = refl; both_fits = refl; either_fits = refl; no_dot = λ x. refl }
+calm_1 : Calm shapes.assignment (free 1)
+calm_1 = record { low = refl; with_in = refl; no_new = refl; outside = λ b. refl; own = refl; both_fits = refl; either_fits = refl; no_dot = λ x. refl }
+
+-- further on in what stands at a spot
+further : (spot : Spot) → spot.without_in ≡ false → Calm shapes.assignment (right spot 1 NoNeighbor)
+further spot h = record { low = refl; with_in = h; no_new = refl; outside = λ b. refl; own = refl; both_fits = refl; either_fits = refl; no_dot = λ z. refl }
 
 calm_start : (l : Level) → Calm l (beginning 0 StatementStart false)
 calm_start l = record { low = low_0 l; with_in = refl; no_new = refl; outside = λ b. refl; own = refl; both_fits = refl; either_fits = refl; no_dot = λ x. refl }
@@ -210,6 +212,7 @@ no_pattern (shapes.both at l r) = ap (λ x. is_object_pattern x.kind) (laid_node
 no_pattern (shapes.either at l r) = ap (λ x. is_object_pattern x.kind) (laid_node at (kind.BinExpr op.LogicalOr) _)
 no_pattern (shapes.assignment_expression at o t v) = ap (λ x. is_object_pattern x.kind) (laid_node at (kind.AssignExpr o) _)
 no_pattern (shapes.conditional_expression at t x y) = ap (λ x. is_object_pattern x.kind) (laid_node at kind.CondExpr _)
+no_pattern (shapes.sequence_expression at x y es) = ap (λ x. is_object_pattern x.kind) (laid_node at kind.SeqExpr _)
 
 and_false : (b : Bool) → (b && false) ≡ false
 and_false true = refl
@@ -291,6 +294,7 @@ gap_out (shapes.both at l r) g us = gap_out l g (it blank (sign (codes "&&")) (e
 gap_out (shapes.either at l r) g us = gap_out l g (it blank (sign (codes "||")) (expression_tokens r blank us))
 gap_out (shapes.assignment_expression at o t v) g us = gap_out t g (it blank (assign_token o) (expression_tokens v blank us))
 gap_out (shapes.conditional_expression at t x y) g us = gap_out t g (it blank (sign (codes "?")) (expression_tokens x blank (it blank (sign (codes ":")) (expression_tokens y blank us))))
+gap_out (shapes.sequence_expression at x y es) g us = gap_out x g (sign_of (codes ",") (expression_tokens y blank (more_tokens es us)))
 
 mutual
   unfolding render
@@ -363,25 +367,38 @@ mutual
       (ap (λ z. (laid t').at (At (left spot 16 NoNeighbor)) m z) (ap (λ z. assign_word o ++ z) (expression_laid v (right spot 1 NoNeighbor) (record { low = refl; with_in = c.with_in; no_new = refl; outside = λ b. refl; own = refl; both_fits = refl; either_fits = refl; no_dot = λ z. refl }) m us) ∙ (assign_text o (render (expression_tokens v no_gap us)) ∙ ap (λ z. codes " " ++ (token_text (assign_token o) ++ z)) (sym (gap_out v blank us))))
       ∙ expression_laid t (left spot 16 NoNeighbor) (record { low = refl; with_in = c.with_in; no_new = c.no_new; outside = λ b. refl; own = refl; both_fits = refl; either_fits = refl; no_dot = λ z. refl }) m (it blank (assign_token o) (expression_tokens v blank us)))
   expression_laid (shapes.conditional_expression at {test = t'} {first = x'} {second = y'} t x y) spot c m us =
-      let right_calm : Calm shapes.assignment (right spot 1 NoNeighbor) = record { low = refl; with_in = c.with_in; no_new = refl; outside = λ b. refl; own = refl; both_fits = refl; either_fits = refl; no_dot = λ z. refl } in
-      let second_text = ap (λ z. codes " : " ++ z) (expression_laid y (right spot 1 NoNeighbor) right_calm m us) ∙ ap (λ z. codes " :" ++ z) (sym (gap_out y blank us)) in
+      let second_text = ap (λ z. codes " : " ++ z) (expression_laid y (right spot 1 NoNeighbor) (further spot c.with_in) m us) ∙ ap (λ z. codes " :" ++ z) (sym (gap_out y blank us)) in
       let seconds = it blank (sign (codes ":")) (expression_tokens y blank us) in
-      let first_text = ap (λ z. codes " ? " ++ z) (ap (λ z. (laid x').at (At (right spot 1 NoNeighbor)) m z) second_text ∙ expression_laid x (right spot 1 NoNeighbor) right_calm m seconds) ∙ ap (λ z. codes " ?" ++ z) (sym (gap_out x blank seconds)) in
+      let first_text = ap (λ z. codes " ? " ++ z) (ap (λ z. (laid x').at (At (right spot 1 NoNeighbor)) m z) second_text ∙ expression_laid x (right spot 1 NoNeighbor) (further spot c.with_in) m seconds) ∙ ap (λ z. codes " ?" ++ z) (sym (gap_out x blank seconds)) in
       at_node at kind.CondExpr (t' ∷ x' ∷ y' ∷ []) (At spot) m (render us)
       ∙ rw (tightly 2 1 spot.level (omega arith) c.low, no_sign spot.beside)
       (ap (λ z. (laid t').at (At (left spot 3 NoNeighbor)) m z) first_text
       ∙ expression_laid t (left spot 3 NoNeighbor) (record { low = refl; with_in = c.with_in; no_new = c.no_new; outside = λ b. refl; own = refl; both_fits = refl; either_fits = refl; no_dot = λ z. refl }) m (it blank (sign (codes "?")) (expression_tokens x blank seconds)))
+  expression_laid (shapes.sequence_expression at {first = x'} {second = y'} {more = es'} x y es) spot c m us =
+      let rest = more_tokens es us in
+      at_node at kind.SeqExpr (x' ∷ y' ∷ es') (At spot) m (render us)
+      ∙ rw (c.low, no_sign spot.beside)
+      (ap (λ z. (laid x').at (At (left spot 1 NoNeighbor)) m z)
+      (ap (λ z. codes ", " ++ z) (ap (λ z. (laid y').at (At (right spot 1 NoNeighbor)) m z) (sequence_laid es spot c.with_in m us) ∙ expression_laid y (right spot 1 NoNeighbor) (further spot c.with_in) m rest) ∙ ap (λ z. codes "," ++ z) (sym (gap_out y blank rest)))
+      ∙ expression_laid x (left spot 1 NoNeighbor) (record { low = refl; with_in = c.with_in; no_new = c.no_new; outside = λ b. refl; own = refl; both_fits = refl; either_fits = refl; no_dot = λ z. refl }) m (sign_of (codes ",") (expression_tokens y blank rest)))
+
+  -- those behind the first of a sequence
+  sequence_laid : {es : List Node} (is : AreExpressions es) (spot : Spot) → spot.without_in ≡ false → (m : List ℕ) (us : Items) → more_of_sequence (map laid es) spot m (render us) ≡ render (more_tokens is us)
+  sequence_laid shapes.no_expressions spot h m us = refl
+  sequence_laid (shapes.more_expressions {e = e'} e es) spot h m us =
+      let rest = more_tokens es us in
+      ap (λ z. codes ", " ++ z) (ap (λ z. (laid e').at (At (right spot 1 NoNeighbor)) m z) (sequence_laid es spot h m us) ∙ expression_laid e (right spot 1 NoNeighbor) (further spot h) m rest) ∙ ap (λ z. codes "," ++ z) (sym (gap_out e blank rest))
 
   arguments_laid : {n : Node} (is : IsArguments n) (m : List ℕ) (us : Items) → (laid n).at Arguments m (render us) ≡ render (sign_of (codes "(") (arguments_tokens is (sign_of (codes ")") us)))
   arguments_laid (shapes.no_arguments at) m us = at_node at kind.List [] Arguments m (render us)
-  arguments_laid (shapes.arguments at {level = l} {e = e'} {es = es'} e es) m us =
+  arguments_laid (shapes.arguments at {e = e'} {es = es'} e es) m us =
       at_node at kind.List (e' ∷ es') Arguments m (render us)
-      ∙ ap (λ z. codes "(" ++ z) (ap (λ z. (laid e').at (At (free 1)) m z) (more_laid es m us) ∙ expression_laid e (free 1) (calm_1 l) m (more_tokens es (sign_of (codes ")") us)))
+      ∙ ap (λ z. codes "(" ++ z) (ap (λ z. (laid e').at (At (free 1)) m z) (more_laid es m us) ∙ expression_laid e (free 1) calm_1 m (more_tokens es (sign_of (codes ")") us)))
 
   more_laid : {es : List Node} (is : AreExpressions es) (m : List ℕ) (us : Items) → more_commas (free 1) (map laid es) m (codes ")" ++ render us) ≡ render (more_tokens is (sign_of (codes ")") us))
   more_laid shapes.no_expressions m us = refl
-  more_laid (shapes.more_expressions {level = l} {e = e'} e es) m us =
-      ap (λ z. codes ", " ++ z) (ap (λ z. (laid e').at (At (free 1)) m z) (more_laid es m us) ∙ expression_laid e (free 1) (calm_1 l) m (more_tokens es (sign_of (codes ")") us)))
+  more_laid (shapes.more_expressions {e = e'} e es) m us =
+      ap (λ z. codes ", " ++ z) (ap (λ z. (laid e').at (At (free 1)) m z) (more_laid es m us) ∙ expression_laid e (free 1) calm_1 m (more_tokens es (sign_of (codes ")") us)))
       ∙ ap (λ z. codes "," ++ z) (sym (gap_out e blank (more_tokens es (sign_of (codes ")") us))))
 
 -- with what stands before and behind a child that is there
@@ -409,13 +426,14 @@ within_laid (shapes.both at l r) between spot m rest = at_node at (kind.BinExpr 
 within_laid (shapes.either at l r) between spot m rest = at_node at (kind.BinExpr op.LogicalOr) _ (Within between spot) m rest ∙ ap (before between m) (sym (at_node at (kind.BinExpr op.LogicalOr) _ (At spot) m (after between m rest)))
 within_laid (shapes.assignment_expression at o t v) between spot m rest = at_node at (kind.AssignExpr o) _ (Within between spot) m rest ∙ ap (before between m) (sym (at_node at (kind.AssignExpr o) _ (At spot) m (after between m rest)))
 within_laid (shapes.conditional_expression at t x y) between spot m rest = at_node at kind.CondExpr _ (Within between spot) m rest ∙ ap (before between m) (sym (at_node at kind.CondExpr _ (At spot) m (after between m rest)))
+within_laid (shapes.sequence_expression at x y es) between spot m rest = at_node at kind.SeqExpr _ (Within between spot) m rest ∙ ap (before between m) (sym (at_node at kind.SeqExpr _ (At spot) m (after between m rest)))
 
 initializer_laid : {n : Node} (is : IsInitializer n) (m : List ℕ) (us : Items) → (laid n).at (Within Equals (free 1)) m (render us) ≡ render (initializer_tokens is us)
 unfolding render
 initializer_laid (shapes.no_initializer (shapes.absent at)) m us = at_node at kind.Absent [] (Within Equals (free 1)) m (render us)
-initializer_laid (shapes.initializer {level = l} e) m us =
+initializer_laid (shapes.initializer e) m us =
     within_laid e Equals (free 1) m (render us)
-    ∙ (ap (λ z. codes " = " ++ z) (expression_laid e (free 1) (calm_1 l) m us) ∙ ap (λ z. codes " =" ++ z) (sym (gap_out e blank us)))
+    ∙ (ap (λ z. codes " = " ++ z) (expression_laid e (free 1) calm_1 m us) ∙ ap (λ z. codes " =" ++ z) (sym (gap_out e blank us)))
 
 declarator_laid : {n : Node} (is : IsDeclarator n) (m : List ℕ) (us : Items) → codes " " ++ (laid n).at (At (free 1)) m (render us) ≡ render (declarator_tokens is us)
 unfolding render

@@ -21,6 +21,8 @@ pub mod Updates
 pub mod Params
 pub mod Expressions
 pub mod Async
+pub mod Lists
+pub mod Sequences
 pub mod Calls
 pub mod Statements
 pub mod Modules

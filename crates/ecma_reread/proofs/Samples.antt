@@ -98,9 +98,9 @@ shape =
     let async' = ident at (codes "async") async_name in
     let it' = whole (codes "a") a_spelled in
     module_of at at
-    (more_statements (declaration at at const_word (declarator at at async' (absent at) (initializer (parenthesized at (this_word at)))) no_declarators)
-    (more_statements (expression at (call at (looser (member at (name id) (key at (codes "a") it'))) (arguments at (name id) (more_expressions (null_word at) no_expressions)) (absent at)))
-    (more_statements (expression at (member at (call at (looser (name async')) (arguments at (name id) (more_expressions (name async') no_expressions)) (absent at)) (key at (codes "a") it')))
+    (more_statements (declaration at at const_word (declarator at at async' (absent at) (initializer (out 15 (parenthesized at (this_word at))))) no_declarators)
+    (more_statements (expression at (call at (looser (member at (name id) (key at (codes "a") it'))) (arguments at (out 15 (name id)) (more_expressions (out 15 (null_word at)) no_expressions)) (absent at)))
+    (more_statements (expression at (member at (call at (looser (name async')) (arguments at (out 15 (name id)) (more_expressions (out 15 (name async')) no_expressions)) (absent at)) (key at (codes "a") it')))
     (more_statements (expression at (assignment_expression at Assign (out 1 (name id)) value_shape)) no_statements))))
 
 text : render (module_tokens shape) ≡ codes "const async = (this);\na.a(a, null);\nasync(a, async).a;\na = - -a + a[a++] * (a ? a : a);\n"

@@ -76,7 +76,7 @@ no_expression = refl
 module _ (assigned : Bool) where
   -- expression statements
 
-  module _ {f : Laid} {k : Kind} {ns : List Node} (S : Stands assigned shapes.assignment f k ns) where
+  module _ {f : Laid} {k : Kind} {ns : List Node} (S : Stands assigned shapes.sequence f k ns) where
     expression_statement_read : (g : Gap) (us : Items) → Reads assigned expression_statement (f g (s (codes ";") us)) (bare kind.ExprStmt (bare k ns ∷ []) ∷ []) us
     unfolding expression_statement
     expression_statement_read g us =
@@ -116,7 +116,7 @@ module _ (assigned : Bool) where
 
   initializer_read : {n : Node} (i : IsInitializer n) (us : Items) → Follows us → Reads assigned (maybe (punct (codes "=") ▸ assign_in false)) (initializer_tokens i us) (bare_initializer i ∷ []) us
   initializer_read (shapes.no_initializer a) us F = rw (refused_at assigned (means assigned) (punct (codes "=")) F.front us F.begins F.no_equals) refl
-  initializer_read (shapes.initializer e) us F = rw (used assigned (standing assigned (expression_form assigned e)) blank us F.front F.begins F.ends) refl
+  initializer_read (shapes.initializer e) us F = rw (used assigned (expression_form assigned e) blank us F.front F.begins F.ends) refl
 
   declarator_read : {n : Node} (d : IsDeclarator n) (us : Items) → Follows us → Reads assigned (declarator false) (declarator_tokens d us) (bare_declarator d ∷ []) us
   declarator_read (shapes.declarator at at' i a e) us F =

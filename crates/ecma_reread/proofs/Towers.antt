@@ -157,6 +157,10 @@ closes_conditional e = passes_at e choice_tail && closes_logical e
 abbrev closes_assignment : Front → Bool
 closes_assignment e = refuses_at e (arrow_body false) && (refuses_at e (arrow_rest false false) && (passes_at e (assignments false) && closes_conditional e))
 
+-- and no comma
+abbrev closes_sequence : Front → Bool
+closes_sequence e = refuses_at e (punct (codes ",")) && closes_assignment e
+
 abbrev pub closes : Level → Front → Bool
 closes shapes.object e = closes_chain e
 closes shapes.callee e = closes_chain e
@@ -174,8 +178,9 @@ closes shapes.bit_or e = closes_bit_or e
 closes shapes.logical_and e = closes_logical e
 closes shapes.logical_or e = closes_logical e
 closes shapes.assignment e = closes_assignment e
+closes shapes.sequence e = closes_sequence e
 
--- what ends an expression
+-- what ends an assignment expression
 abbrev pub Ends : Front → Type 0
 Ends e = closes shapes.assignment e ≡ true
 

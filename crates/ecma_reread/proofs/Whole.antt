@@ -58,6 +58,7 @@ mutual
   expression_bare (shapes.conditional_expression at {second = y'} t x y) =
       without_spans-node at kind.CondExpr _
       ∙ (ap₂ (λ a b. bare kind.CondExpr (a ∷ b ∷ without_spans y' ∷ [])) (expression_bare t) (expression_bare x) ∙ ap (λ c. bare kind.CondExpr (bare_expression t ∷ bare_expression x ∷ c ∷ [])) (expression_bare y))
+  expression_bare (shapes.sequence_expression at x y es) = without_spans-node at kind.SeqExpr _ ∙ ap₂ (λ z zs. bare kind.SeqExpr (z ∷ zs)) (expression_bare x) (ap₂ (λ b bs. b ∷ bs) (expression_bare y) (expressions_bare es))
 
   arguments_bare : {n : Node} (is : IsArguments n) → without_spans n ≡ list_node (bare_arguments is)
   arguments_bare (shapes.no_arguments at) = without_spans-node at kind.List []

@@ -43,7 +43,7 @@ pub data IsLexical : VarDeclKind → Type 0 where
 pub data Level : Type 0 where
   -- what may stand before a point; a call's callee, which may be a numeral too
   object callee : Level
-  update unary power product sum shift relation equality bit_and bit_xor bit_or logical_and logical_or assignment : Level
+  update unary power product sum shift relation equality bit_and bit_xor bit_or logical_and logical_or assignment sequence : Level
 
 -- the next level, whose expressions are also those of this one
 abbrev pub looser_than : Level → Level
@@ -62,7 +62,8 @@ looser_than bit_xor = bit_or
 looser_than bit_or = logical_and
 looser_than logical_and = logical_or
 looser_than logical_or = assignment
-looser_than assignment = assignment
+looser_than assignment = sequence
+looser_than sequence = sequence
 
 -- an operator of two operands: its own level, and that of its right side; its left side has its own level
 pub data IsOperator : BinaryOp → Level → Level → Type 0 where
@@ -117,18 +118,19 @@ mutual
     assignment_expression : (at : Span) (operator : AssignOp) {target value : Node} → IsExpression callee target → IsExpression assignment value → IsExpression assignment (node_of at (kind.AssignExpr operator) (target ∷ value ∷ []))
     conditional_expression : (at : Span) {test first second : Node} → IsExpression logical_or test → IsExpression assignment first → IsExpression assignment second
         → IsExpression assignment (node_of at kind.CondExpr (test ∷ first ∷ second ∷ []))
+    sequence_expression : (at : Span) {first second : Node} {more : List Node} → IsExpression assignment first → IsExpression assignment second → AreExpressions more → IsExpression sequence (node_of at kind.SeqExpr (first ∷ second ∷ more))
 
   pub data IsArguments : Node → Type 0 where
     no_arguments : (at : Span) → IsArguments (node_of at kind.List [])
-    arguments : (at : Span) {level : Level} {e : Node} {es : List Node} → IsExpression level e → AreExpressions es → IsArguments (node_of at kind.List (e ∷ es))
+    arguments : (at : Span) {e : Node} {es : List Node} → IsExpression assignment e → AreExpressions es → IsArguments (node_of at kind.List (e ∷ es))
 
   pub data AreExpressions : List Node → Type 0 where
     no_expressions : AreExpressions []
-    more_expressions : {level : Level} {e : Node} {es : List Node} → IsExpression level e → AreExpressions es → AreExpressions (e ∷ es)
+    more_expressions : {e : Node} {es : List Node} → IsExpression assignment e → AreExpressions es → AreExpressions (e ∷ es)
 
 pub data IsInitializer : Node → Type 0 where
   no_initializer : {none : Node} → IsAbsent none → IsInitializer none
-  initializer : {level : Level} {e : Node} → IsExpression level e → IsInitializer e
+  initializer : {e : Node} → IsExpression assignment e → IsInitializer e
 
 pub data IsDeclarator : Node → Type 0 where
   declarator : (at at_binding : Span) {id none init : Node} → IsIdent id → IsAbsent none → IsInitializer init

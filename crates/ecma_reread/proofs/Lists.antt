@@ -1,0 +1,36 @@
+-- Expressions behind commas, in front of what ends an expression.
+use Rattle.std.proofs.Common.{Bool, List, codes}
+use Rattle.ecma_tree.specs.declared.node.Node.{Node}
+use Rattle.ecma_tokens.specs.Items.{sign, Items}
+use Rattle.ecma_reread.specs.Shapes as shapes
+use Rattle.ecma_reread.specs.Shapes.{AreExpressions}
+use Rattle.ecma_reread.specs.Tokens.{blank, expression_tokens, more_tokens, expression_kind, expression_parts}
+use Rattle.ecma_reread.proofs.Fronts.{Front, exactly, Begins, at_token}
+use Rattle.ecma_reread.proofs.Towers.{Ends}
+use Rattle.ecma_reread.proofs.Bindings.{ends_no_equals, Stands}
+use Rattle.ecma_reread.proofs.Params.{Params, params_more}
+use Rattle.ecma_reread.proofs.Expressions.{comma_ends}
+
+-- what stands behind an assignment expression
+pub record Followed (us : Items) : Type 0 where
+  pub front : Front
+  pub begins : Begins front us
+  pub ends : Ends front
+
+pub more_followed : {es : List Node} (is : AreExpressions es) (us : Items) → Followed us → Followed (more_tokens is us)
+more_followed shapes.no_expressions us w = w
+more_followed (shapes.more_expressions e es) us w = record { front = exactly (sign (codes ",")); begins = at_token; ends = comma_ends }
+
+module _ (assigned : Bool) where
+  -- what is said of each
+  abbrev pub Forms : {es : List Node} → AreExpressions es → Type 0
+  Forms shapes.no_expressions = Unit {0}
+  Forms (shapes.more_expressions e es) = Stands assigned shapes.assignment (expression_tokens e) (expression_kind e) (expression_parts e) × Forms es
+
+  -- as parameters of an arrow function
+  pub more_params : {es : List Node} (is : AreExpressions es) → Forms is → (us : Items) → Followed us → Params assigned us → Params assigned (more_tokens is us)
+  more_params shapes.no_expressions F us w P = P
+  more_params (shapes.more_expressions e es) F us w P =
+      let v = more_followed es us w in
+      let E = F.0 in
+      params_more assigned (expression_tokens e blank (more_tokens es us)) (more_tokens es us) (E.param blank (more_tokens es us) v.front v.begins (ends_no_equals v.front v.ends, v.ends)) (more_params es F.1 us w P)
