@@ -12,7 +12,7 @@ use Rattle.ecma_grammar.specs.declared.production.Form.TheVariants as form
 use Rattle.ecma_grammar.specs.trees.Parts.{kind_of, in_front}
 use Rattle.ecma_grammar.specs.trees.Chains.{steps, in_front_logical, is_or}
 use Rattle.ecma_grammar.specs.Grammar as grammar
-use Rattle.ecma_grammar.specs.Grammar.{Grammar, ◌▸◌, ◌//◌, build, word, punct}
+use Rattle.ecma_grammar.specs.Grammar.{Grammar, ◌▸◌, ◌//◌, build, word, punct, optional}
 use Rattle.ecma_grammar.specs.productions.Names.{expression}
 use Rattle.ecma_grammar.specs.productions.Types.{params}
 use Rattle.ecma_grammar.specs.productions.Functions.{arrow_rest, arrow_body}
@@ -49,6 +49,8 @@ grammar_of shapes.bit_xor = operators.bit_xor false
 grammar_of shapes.bit_or = operators.bit_or false
 grammar_of shapes.logical_and = operators.short_circuit false
 grammar_of shapes.logical_or = operators.short_circuit false
+grammar_of shapes.coalescing = operators.short_circuit false
+grammar_of shapes.short_circuit = operators.short_circuit false
 grammar_of shapes.assignment = grammar.up (part.Assign false false)
 grammar_of shapes.sequence = expression false
 
@@ -65,6 +67,7 @@ EndOf l e = refuses_at e (punct (codes "=")) ≡ true
 -- no `||`, where `&&` would take its right side
 abbrev pub NotOr : Level → Kind → Type 0
 NotOr shapes.logical_or k = Unit {0}
+NotOr shapes.short_circuit k = Unit {0}
 NotOr shapes.assignment k = Unit {0}
 NotOr shapes.sequence k = Unit {0}
 NotOr l k = is_or k ≡ false
@@ -100,7 +103,7 @@ abbrev pub further_out : ℕ → Level → Level
 further_out zero l = l
 further_out (suc n) l = further_out n (looser_than l)
 
-loosest : (l : Level) → further_out 16 l ≡ shapes.sequence
+loosest : (l : Level) → further_out 17 l ≡ shapes.sequence
 loosest shapes.object = refl
 loosest l = refl
 
@@ -137,6 +140,18 @@ module _ (assigned : Bool) where
     pub ands : AllAnd chain.more
     pub no_or : is_or (kind_of chain.first) ≡ false
 
+  -- a first part, and `??` behind it
+  pub record Coalesces (ts vs : Items) (first : Node) (more : List Node) : Type 0 where
+    pub mid : Items
+    pub first_read : Reads assigned (operators.bit_or false) ts (first ∷ []) mid
+    pub all : Reads assigned (coalescing false) mid more vs
+
+  pub record Coalesced (f : Laid) (n : Node) : Type 0 where
+    pub first : Node
+    pub more : List Node
+    pub own : (g : Gap) (us : Items) (e : Front) → Begins e us → closes shapes.bit_or e ≡ true → (ys : List Node) (vs : Items) → Reads assigned (optional (coalescing false)) us ys vs → Coalesces (f g us) vs first (more ++ ys)
+    pub whole : steps in_front_logical (Some first) more ≡ Some n
+
   abbrev pub Reading : Level → Front → Laid → Kind → List Node → Type 0
   Reading shapes.object c f k ns = Form assigned f k ns
   Reading shapes.callee c f k ns = Form assigned f k ns
@@ -153,6 +168,8 @@ module _ (assigned : Bool) where
   Reading shapes.bit_or c f k ns = Chained (operators.bit_xor false) (disjunctions false) shapes.bit_xor f (bare k ns)
   Reading shapes.logical_and c f k ns = Ands f (bare k ns)
   Reading shapes.logical_or c f k ns = Logical f (bare k ns)
+  Reading shapes.coalescing c f k ns = Coalesced f (bare k ns)
+  Reading shapes.short_circuit c f k ns = Direct shapes.short_circuit f (bare k ns)
   Reading shapes.assignment c f k ns = Direct shapes.assignment f (bare k ns)
   Reading shapes.sequence c f k ns = Direct shapes.sequence f (bare k ns)
 
@@ -184,6 +201,16 @@ module _ (assigned : Bool) where
       let d = and_parts (refuses_at e (coalescing false)) (passes_at e (logicals false)) c.0 in
       let x = C.own g us e b c.1 [] us (passed_at assigned (means assigned) (logicals false) e us b d.1) (passed_at assigned (means assigned) (coalescing false // logicals false) e us b c.0) in
       ap (built_on form.Logical) (ap (followed_on (interp assigned (means assigned) (coalescing false // logicals false))) x.first_read ∙ ap (with_front (C.first ∷ [])) x.all)
+      ∙ ap (λ o. read (unwrap_or o absent ∷ []) us) (ap (steps in_front_logical (Some C.first)) (append-nil C.more) ∙ C.whole)
+
+  coalesced_read : {f : Laid} {n : Node} → Coalesced f n → Direct shapes.short_circuit f n
+  unfolding operators.short_circuit
+  coalesced_read C g us e b z =
+      let c = and_parts (passes_at e (coalescing false // logicals false)) (closes shapes.bit_or e) z in
+      let d = and_parts (refuses_at e (coalescing false)) (passes_at e (logicals false)) c.0 in
+      let x = C.own g us e b c.1 [] us (passed_at assigned (means assigned) (optional (coalescing false)) e us b (rw d.0 refl)) in
+      let I = interp assigned (means assigned) in
+      ap (built_on form.Logical) (ap (followed_on (I (coalescing false // logicals false))) x.first_read ∙ ap (with_front (C.first ∷ [])) (ap (or_on (I (logicals false)) x.mid) x.all))
       ∙ ap (λ o. read (unwrap_or o absent ∷ []) us) (ap (steps in_front_logical (Some C.first)) (append-nil C.more) ∙ C.whole)
 
   single : (base tail : Grammar) (l : Level) {f : Laid} {n : Node} → ((g : Gap) (us : Items) (e : Front) → Begins e us → closes l e ≡ true → Reads assigned base (f g us) (n ∷ []) us) → Chained base tail l f n
@@ -235,6 +262,8 @@ module _ (assigned : Bool) where
     direct shapes.bit_or S g us e b z = let c = and_parts (passes_at e (disjunctions false)) (closes shapes.bit_xor e) z in chained_read S.reading g us e b c.0 c.1
     direct shapes.logical_and S g us e b z = let r = S.reading in logical_read r.chain g us e b z
     direct shapes.logical_or S g us e b z = logical_read S.reading g us e b z
+    direct shapes.coalescing S g us e b z = coalesced_read S.reading g us e b z
+    direct shapes.short_circuit S g us e b z = S.reading g us e b z
     direct shapes.assignment S g us e b z = S.reading g us e b z
     direct shapes.sequence S g us e b z = S.reading g us e b z
 
@@ -265,13 +294,13 @@ module _ (assigned : Bool) where
       no_or = ap is_or (kind-node dummy_span k ns) ∙ S.no_or;
     }
 
-    pub conditional_read : Stands shapes.logical_or f k ns → (g : Gap) (us : Items) (e : Front) → Begins e us → closes_conditional e ≡ true → Reads assigned (expressions.conditional false) (f g us) (bare k ns ∷ []) us
+    pub conditional_read : Stands shapes.short_circuit f k ns → (g : Gap) (us : Items) (e : Front) → Begins e us → closes_conditional e ≡ true → Reads assigned (expressions.conditional false) (f g us) (bare k ns ∷ []) us
     unfolding expressions.conditional
     conditional_read S g us e b z =
         let l = S.lead in
-        let c = and_parts (passes_at e choice_tail) (closes shapes.logical_or e) z in
+        let c = and_parts (passes_at e choice_tail) (closes shapes.short_circuit e) z in
         let t : Tower l.front e (operators.short_circuit false) (expressions.conditional false) = chained (before here c.0) in
-        climb assigned (means assigned) t (f g us) us (bare k ns) (l.begins g us) b (direct shapes.logical_or S g us e b c.1)
+        climb assigned (means assigned) t (f g us) us (bare k ns) (l.begins g us) b (direct shapes.short_circuit S g us e b c.1)
 
     one_read : Stands shapes.assignment f k ns → Direct shapes.sequence f (bare k ns)
     unfolding expression many_up_to
@@ -294,7 +323,9 @@ module _ (assigned : Bool) where
     loosened shapes.bit_xor S = record { lead = S.lead; no_or = S.no_or; param = S.param; reading = single (operators.bit_xor false) (disjunctions false) shapes.bit_xor (direct shapes.bit_xor S) }
     loosened shapes.bit_or S = record { lead = S.lead; no_or = S.no_or; param = S.param; reading = ands_read S }
     loosened shapes.logical_and S = let r = S.reading in record { lead = S.lead; no_or = tt; param = S.param; reading = r.chain }
-    loosened shapes.logical_or S = record { lead = S.lead; no_or = tt; param = λ g us e b z. S.param g us e b z.0; reading = assignment_read S.lead (λ g us e b z. conditional_read S g us e b (ends_parts e z).1) }
+    loosened shapes.logical_or S = record { lead = S.lead; no_or = tt; param = S.param; reading = logical_read S.reading }
+    loosened shapes.coalescing S = record { lead = S.lead; no_or = tt; param = S.param; reading = coalesced_read S.reading }
+    loosened shapes.short_circuit S = record { lead = S.lead; no_or = tt; param = λ g us e b z. S.param g us e b z.0; reading = assignment_read S.lead (λ g us e b z. conditional_read S g us e b (ends_parts e z).1) }
     loosened shapes.assignment S = record { lead = S.lead; no_or = tt; param = λ g us e b z P. params_by assigned (f g us) us (S.param g us e b z) P; reading = one_read S }
     loosened shapes.sequence S = S
 
@@ -304,7 +335,7 @@ module _ (assigned : Bool) where
     go_out (suc n) l S = go_out n (looser_than l) (loosened l S)
 
     pub standing : {l : Level} → Stands l f k ns → Stands shapes.sequence f k ns
-    standing {l} S = subst (λ m. Stands m f k ns) (loosest l) (go_out 16 l S)
+    standing {l} S = subst (λ m. Stands m f k ns) (loosest l) (go_out 17 l S)
 
   -- as an assignment expression, and as an expression
   module _ {f : Laid} {k : Kind} {ns : List Node} where

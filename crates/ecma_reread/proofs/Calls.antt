@@ -40,6 +40,7 @@ use Rattle.ecma_reread.proofs.Elements.{element_form}
 use Rattle.ecma_reread.proofs.Updates.{prefix_form, postfix_form}
 use Rattle.ecma_reread.proofs.Choices.{choice_form}
 use Rattle.ecma_reread.proofs.Logicals.{both_form, either_form}
+use Rattle.ecma_reread.proofs.Coalescing.{coalesced_form}
 use Rattle.ecma_reread.proofs.Assignments.{assignment_form}
 use Rattle.ecma_reread.proofs.Repeats.{Repeats, repeats_end, repeats_more, repeated}
 use Rattle.ecma_reread.proofs.Expressions.{Single, string_single, number_single, this_single, big_int_single, null_single, true_single, false_single, single_form, name_form, member_form, parenthesized_form, parenthesis_ends}
@@ -193,6 +194,7 @@ module _ (assigned : Bool) where
     expression_form (shapes.exponentiation at l r) = power_form assigned (expression_form l) (expression_form r)
     expression_form (shapes.both at l r) = both_form assigned (expression_form l) (expression_form r)
     expression_form (shapes.either at l r) = either_form assigned (expression_form l) (expression_form r)
+    expression_form (shapes.coalesced at i l r) = coalesced_form assigned i (expression_form l) (expression_form r)
     expression_form (shapes.assignment_expression at o t v) = assignment_form assigned o (expression_form t) (expression_form v)
     expression_form (shapes.conditional_expression at t x y) = choice_form assigned (expression_form t) (expression_form x) (expression_form y)
     expression_form (shapes.sequence_expression at x y es) = sequence_form assigned (expression_form x) (expression_form y) es (expression_forms es)

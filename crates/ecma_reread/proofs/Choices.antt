@@ -34,7 +34,7 @@ module _ (assigned : Bool) where
   unfolding arrow arrow_rest
   middle_is ts = rw (means_is assigned (part.Assign false true) ts, means_is assigned (part.Assign false false) ts) refl
 
-  module _ {f f' f'' : Laid} {k k' k'' : Kind} {ns ns' ns'' : List Node} (S : Stands assigned shapes.logical_or f k ns) (X : Stands assigned shapes.assignment f' k' ns') (Y : Stands assigned shapes.assignment f'' k'' ns'') where
+  module _ {f f' f'' : Laid} {k k' k'' : Kind} {ns ns' ns'' : List Node} (S : Stands assigned shapes.short_circuit f k ns) (X : Stands assigned shapes.assignment f' k' ns') (Y : Stands assigned shapes.assignment f'' k'' ns'') where
     abbrev second : Items → Items
     second us = it blank (sign (codes ":")) (f'' blank us)
 
@@ -47,7 +47,7 @@ module _ (assigned : Bool) where
 
     test_read : (g : Gap) (us : Items) → Reads assigned (short_circuit false) (f g (first us)) (bare k ns ∷ []) (first us)
     unfolding factors terms shifts relations equalities links template_start
-    test_read g us = direct assigned shapes.logical_or S g (first us) (exactly (sign (codes "?"))) at_token refl
+    test_read g us = direct assigned shapes.short_circuit S g (first us) (exactly (sign (codes "?"))) at_token refl
 
     choice_whole : (g : Gap) (us : Items) (e : Front) → Begins e us → Ends e → Reads assigned (expressions.conditional false) (f g (first us)) (bare kind.CondExpr (bare k ns ∷ bare k' ns' ∷ bare k'' ns'' ∷ []) ∷ []) us
     unfolding expressions.conditional

@@ -175,6 +175,8 @@ softer shapes.bit_xor z = z
 softer shapes.bit_or z = z
 softer shapes.logical_and z = z
 softer shapes.logical_or z = z
+softer shapes.coalescing z = z
+softer shapes.short_circuit z = z
 softer shapes.assignment z = z
 softer shapes.sequence z = z
 
@@ -217,6 +219,7 @@ begun (shapes.binary_expression at {operator = o} i l r) us = begun l (it blank 
 begun (shapes.exponentiation at l r) us = begun l (it blank (sign (codes "**")) (expression_tokens r blank us))
 begun (shapes.both at l r) us = begun l (it blank (sign (codes "&&")) (expression_tokens r blank us))
 begun (shapes.either at l r) us = begun l (it blank (sign (codes "||")) (expression_tokens r blank us))
+begun (shapes.coalesced at i l r) us = begun l (it blank (sign (codes "??")) (expression_tokens r blank us))
 begun (shapes.assignment_expression at o t v) us = begun t (it blank (assign_token o) (expression_tokens v blank us))
 begun (shapes.conditional_expression at t x y) us = begun t (it blank (sign (codes "?")) (expression_tokens x blank (it blank (sign (codes ":")) (expression_tokens y blank us))))
 begun (shapes.sequence_expression at x y es) us = begun x (sign_of (codes ",") (expression_tokens y blank (more_tokens es us)))
@@ -353,6 +356,7 @@ plain (shapes.binary_expression at {level = l} i x y) us h = absurd (false≢tru
 plain (shapes.exponentiation at l r) us h = absurd (false≢true h)
 plain (shapes.both at l r) us h = absurd (false≢true h)
 plain (shapes.either at l r) us h = absurd (false≢true h)
+plain (shapes.coalesced at i l r) us h = absurd (false≢true h)
 plain (shapes.assignment_expression at o t v) us h = absurd (false≢true h)
 plain (shapes.conditional_expression at t x y) us h = absurd (false≢true h)
 plain (shapes.sequence_expression at x y es) us h = absurd (false≢true h)
@@ -380,6 +384,7 @@ signed (shapes.binary_expression at {level = l} i x y) us h = absurd (false≢tr
 signed (shapes.exponentiation at l r) us h = absurd (false≢true h)
 signed (shapes.both at l r) us h = absurd (false≢true h)
 signed (shapes.either at l r) us h = absurd (false≢true h)
+signed (shapes.coalesced at i l r) us h = absurd (false≢true h)
 signed (shapes.assignment_expression at o t v) us h = absurd (false≢true h)
 signed (shapes.conditional_expression at t x y) us h = absurd (false≢true h)
 signed (shapes.sequence_expression at x y es) us h = absurd (false≢true h)
@@ -589,6 +594,8 @@ module _ (words : Words) where
         expression_joined x g h (it blank (sign (codes "&&")) (expression_tokens y blank us)) parted (blank_is, refl, blank_joins (sign (codes "&&")) y us, expression_joined y blank blank_is us z j)
     expression_joined (shapes.either at x y) g h us z j =
         expression_joined x g h (it blank (sign (codes "||")) (expression_tokens y blank us)) parted (blank_is, refl, blank_joins (sign (codes "||")) y us, expression_joined y blank blank_is us z j)
+    expression_joined (shapes.coalesced at i x y) g h us z j =
+        expression_joined x g h (it blank (sign (codes "??")) (expression_tokens y blank us)) parted (blank_is, refl, blank_joins (sign (codes "??")) y us, expression_joined y blank blank_is us z j)
     expression_joined (shapes.assignment_expression at o t v) g h us z j =
         expression_joined t g h (it blank (assign_token o) (expression_tokens v blank us)) parted (blank_is, assign_fine o, blank_joins (assign_token o) v us, expression_joined v blank blank_is us z j)
     expression_joined (shapes.conditional_expression at t x y) g h us z j =

@@ -16,7 +16,7 @@ use Rattle.ecma_tree.specs.declared.node.Node.{Node, fold-roll-Node}
 use Rattle.ecma_tree.specs.Nodes.{node_of}
 use Rattle.ecma_print.specs.declared.place.Begins.TheVariants.{StatementStart}
 use Rattle.ecma_print.specs.declared.place.Beside.{Beside}
-use Rattle.ecma_print.specs.declared.place.Beside.TheVariants.{UnderLogical, NoNeighbor, BeforeDot, BeforeLink, BehindMinus, BehindPlus}
+use Rattle.ecma_print.specs.declared.place.Beside.TheVariants.{UnderLogical, UnderNullish, NoNeighbor, BeforeDot, BeforeLink, BehindMinus, BehindPlus}
 use Rattle.ecma_print.specs.declared.place.Between.{Between}
 use Rattle.ecma_print.specs.declared.place.Between.TheVariants.{Blank, Equals}
 use Rattle.ecma_print.specs.declared.place.Spot.{Spot}
@@ -58,12 +58,39 @@ number_of shapes.bit_xor = 6
 number_of shapes.bit_or = 5
 number_of shapes.logical_and = 4
 number_of shapes.logical_or = 3
+number_of shapes.coalescing = 3
+number_of shapes.short_circuit = 3
 number_of shapes.assignment = 1
 number_of shapes.sequence = 0
 
 abbrev is_object : Level → Bool
 is_object shapes.object = true
 is_object l = false
+
+-- where `&&` and `||` may stand by themselves, and where `??` may
+abbrev holds_logical : Level → Bool
+holds_logical shapes.logical_and = true
+holds_logical shapes.logical_or = true
+holds_logical shapes.short_circuit = true
+holds_logical shapes.assignment = true
+holds_logical shapes.sequence = true
+holds_logical l = false
+
+abbrev holds_nullish : Level → Bool
+holds_nullish shapes.coalescing = true
+holds_nullish shapes.short_circuit = true
+holds_nullish shapes.assignment = true
+holds_nullish shapes.sequence = true
+holds_nullish l = false
+
+logical_out : (l : Level) → holds_logical l ≡ true → holds_logical (looser_than l) ≡ true
+logical_out shapes.bit_or h = refl
+logical_out shapes.coalescing h = refl
+logical_out l h = h
+
+nullish_out : (l : Level) → holds_nullish l ≡ true → holds_nullish (looser_than l) ≡ true
+nullish_out shapes.logical_or h = refl
+nullish_out l h = h
 
 -- a place where expressions of the level stand without parentheses, in no optional chain
 record Calm (l : Level) (spot : Spot) : Type 0 where
@@ -72,8 +99,9 @@ record Calm (l : Level) (spot : Spot) : Type 0 where
   pub no_new : spot.in_callee_of_new ≡ false
   pub outside : (computed : Bool) → object_beside spot.beside computed ≡ before_key computed
   pub own : is_optional spot.beside ≡ false
-  pub both_fits : clashes op.LogicalAnd spot spot.beside ≡ false
-  pub either_fits : clashes op.LogicalOr spot spot.beside ≡ false
+  pub both_fits : holds_logical l ≡ true → clashes op.LogicalAnd spot spot.beside ≡ false
+  pub either_fits : holds_logical l ≡ true → clashes op.LogicalOr spot spot.beside ≡ false
+  pub nullish_fits : holds_nullish l ≡ true → clashes op.NullishCoalescing spot spot.beside ≡ false
   pub no_dot : is_object l ≡ false → is_before_dot spot.beside ≡ false
 
 -- what stands where a looser level stands is a tighter one
@@ -93,6 +121,8 @@ lowered shapes.bit_xor = omega arith
 lowered shapes.bit_or = omega arith
 lowered shapes.logical_and = omega arith
 lowered shapes.logical_or = omega arith
+lowered shapes.coalescing = omega arith
+lowered shapes.short_circuit = omega arith
 lowered shapes.assignment = omega arith
 lowered shapes.sequence = omega arith
 
@@ -110,8 +140,9 @@ calmer {l} {spot} c = record {
   no_new = c.no_new;
   outside = c.outside;
   own = c.own;
-  both_fits = c.both_fits;
-  either_fits = c.either_fits;
+  both_fits = λ h. c.both_fits (logical_out l h);
+  either_fits = λ h. c.either_fits (logical_out l h);
+  nullish_fits = λ h. c.nullish_fits (nullish_out l h);
   no_dot = λ h. c.no_dot (no_object l);
 }
 
@@ -122,18 +153,86 @@ low_0 : (l : Level) → ltb (number_of l) 0 ≡ false
 low_0 shapes.object = refl
 low_0 l = refl
 
+-- beside nothing
+quiet : {l : Level} {spot : Spot} → ltb (number_of l) spot.level ≡ false → spot.without_in ≡ false → spot.in_callee_of_new ≡ false → spot.beside ≡ NoNeighbor → Calm l spot
+quiet a h n e = record {
+  low = a;
+  with_in = h;
+  no_new = n;
+  outside = λ b. rw e refl;
+  own = rw e refl;
+  both_fits = λ z. rw e refl;
+  either_fits = λ z. rw e refl;
+  nullish_fits = λ z. rw e refl;
+  no_dot = λ z. rw e refl;
+}
+
+-- beside `&&` or `||`, and beside `??`
+under_logical : {l : Level} {spot : Spot} → ltb (number_of l) spot.level ≡ false → spot.without_in ≡ false → spot.in_callee_of_new ≡ false → spot.beside ≡ UnderLogical → holds_nullish l ≡ false → Calm l spot
+under_logical a h n e k = record {
+  low = a;
+  with_in = h;
+  no_new = n;
+  outside = λ b. rw e refl;
+  own = rw e refl;
+  both_fits = λ z. rw e refl;
+  either_fits = λ z. rw e refl;
+  nullish_fits = λ z. absurd (false≢true (sym k ∙ z));
+  no_dot = λ z. rw e refl;
+}
+
+under_nullish : {l : Level} {spot : Spot} → ltb (number_of l) spot.level ≡ false → spot.without_in ≡ false → spot.in_callee_of_new ≡ false → spot.beside ≡ UnderNullish → holds_logical l ≡ false → Calm l spot
+under_nullish a h n e k = record {
+  low = a;
+  with_in = h;
+  no_new = n;
+  outside = λ b. rw e refl;
+  own = rw e refl;
+  both_fits = λ z. absurd (false≢true (sym k ∙ z));
+  either_fits = λ z. absurd (false≢true (sym k ∙ z));
+  nullish_fits = λ z. rw e refl;
+  no_dot = λ z. rw e refl;
+}
+
+-- before a link, and before a point
+before_link : {l : Level} {spot : Spot} → ltb (number_of l) spot.level ≡ false → spot.without_in ≡ false → spot.in_callee_of_new ≡ false → spot.beside ≡ BeforeLink → Calm l spot
+before_link a h n e = record {
+  low = a;
+  with_in = h;
+  no_new = n;
+  outside = λ b. rw e refl;
+  own = rw e refl;
+  both_fits = λ z. rw e refl;
+  either_fits = λ z. rw e refl;
+  nullish_fits = λ z. rw e refl;
+  no_dot = λ z. rw e refl;
+}
+
+before_dot : {spot : Spot} → ltb 16 spot.level ≡ false → spot.without_in ≡ false → spot.in_callee_of_new ≡ false → spot.beside ≡ BeforeDot → Calm shapes.object spot
+before_dot a h n e = record {
+  low = a;
+  with_in = h;
+  no_new = n;
+  outside = λ b. rw e refl;
+  own = rw e refl;
+  both_fits = λ z. rw e refl;
+  either_fits = λ z. rw e refl;
+  nullish_fits = λ z. rw e refl;
+  no_dot = λ z. absurd (false≢true (sym z));
+}
+
 calm_0 : (l : Level) → Calm l (free 0)
-calm_0 l = record { low = low_0 l; with_in = refl; no_new = refl; outside = λ b. refl; own = refl; both_fits = refl; either_fits = refl; no_dot = λ x. refl }
+calm_0 l = quiet (low_0 l) refl refl refl
 
 calm_1 : Calm shapes.assignment (free 1)
-calm_1 = record { low = refl; with_in = refl; no_new = refl; outside = λ b. refl; own = refl; both_fits = refl; either_fits = refl; no_dot = λ x. refl }
+calm_1 = quiet refl refl refl refl
 
 -- further on in what stands at a spot
 further : (spot : Spot) → spot.without_in ≡ false → Calm shapes.assignment (right spot 1 NoNeighbor)
-further spot h = record { low = refl; with_in = h; no_new = refl; outside = λ b. refl; own = refl; both_fits = refl; either_fits = refl; no_dot = λ z. refl }
+further spot h = quiet refl h refl refl
 
 calm_start : (l : Level) → Calm l (beginning 0 StatementStart false)
-calm_start l = record { low = low_0 l; with_in = refl; no_new = refl; outside = λ b. refl; own = refl; both_fits = refl; either_fits = refl; no_dot = λ x. refl }
+calm_start l = quiet (low_0 l) refl refl refl
 
 -- signs
 
@@ -158,8 +257,8 @@ update_text PlusPlus = refl
 update_text MinusMinus = refl
 
 update_calm : (o : UpdateOp) (spot : Spot) → spot.without_in ≡ false → Calm shapes.callee (right spot 16 (update_sign o))
-update_calm PlusPlus spot h = record { low = refl; with_in = h; no_new = refl; outside = λ b. refl; own = refl; both_fits = refl; either_fits = refl; no_dot = λ z. refl }
-update_calm MinusMinus spot h = record { low = refl; with_in = h; no_new = refl; outside = λ b. refl; own = refl; both_fits = refl; either_fits = refl; no_dot = λ z. refl }
+update_calm PlusPlus spot h = record { low = refl; with_in = h; no_new = refl; outside = λ b. refl; own = refl; both_fits = λ z. refl; either_fits = λ z. refl; nullish_fits = λ z. refl; no_dot = λ z. refl }
+update_calm MinusMinus spot h = record { low = refl; with_in = h; no_new = refl; outside = λ b. refl; own = refl; both_fits = λ z. refl; either_fits = λ z. refl; nullish_fits = λ z. refl; no_dot = λ z. refl }
 
 abbrev is_linked : Level → Bool
 is_linked shapes.object = true
@@ -183,9 +282,9 @@ no_gap_before o is = rw (unsigned is refl) (no_sign (update_sign o))
 
 -- the operand of a unary operator stands behind its sign
 unary_calm : (o : UnaryOp) (spot : Spot) → spot.without_in ≡ false → Calm shapes.unary (right spot 14 (unary_sign o))
-unary_calm Minus spot h = record { low = refl; with_in = h; no_new = refl; outside = λ b. refl; own = refl; both_fits = refl; either_fits = refl; no_dot = λ z. refl }
-unary_calm Plus spot h = record { low = refl; with_in = h; no_new = refl; outside = λ b. refl; own = refl; both_fits = refl; either_fits = refl; no_dot = λ z. refl }
-unary_calm o spot h = record { low = refl; with_in = h; no_new = refl; outside = λ b. refl; own = refl; both_fits = refl; either_fits = refl; no_dot = λ z. refl }
+unary_calm Minus spot h = record { low = refl; with_in = h; no_new = refl; outside = λ b. refl; own = refl; both_fits = λ z. refl; either_fits = λ z. refl; nullish_fits = λ z. refl; no_dot = λ z. refl }
+unary_calm Plus spot h = record { low = refl; with_in = h; no_new = refl; outside = λ b. refl; own = refl; both_fits = λ z. refl; either_fits = λ z. refl; nullish_fits = λ z. refl; no_dot = λ z. refl }
+unary_calm o spot h = record { low = refl; with_in = h; no_new = refl; outside = λ b. refl; own = refl; both_fits = λ z. refl; either_fits = λ z. refl; nullish_fits = λ z. refl; no_dot = λ z. refl }
 
 -- no expression is a pattern
 no_pattern : {level : Level} {e : Node} → IsExpression level e → is_object_pattern (laid e).kind ≡ false
@@ -210,6 +309,7 @@ no_pattern (shapes.binary_expression at {operator = o} i x y) = ap (λ x. is_obj
 no_pattern (shapes.exponentiation at l r) = ap (λ x. is_object_pattern x.kind) (laid_node at (kind.BinExpr op.Exp) _)
 no_pattern (shapes.both at l r) = ap (λ x. is_object_pattern x.kind) (laid_node at (kind.BinExpr op.LogicalAnd) _)
 no_pattern (shapes.either at l r) = ap (λ x. is_object_pattern x.kind) (laid_node at (kind.BinExpr op.LogicalOr) _)
+no_pattern (shapes.coalesced at i l r) = ap (λ x. is_object_pattern x.kind) (laid_node at (kind.BinExpr op.NullishCoalescing) _)
 no_pattern (shapes.assignment_expression at o t v) = ap (λ x. is_object_pattern x.kind) (laid_node at (kind.AssignExpr o) _)
 no_pattern (shapes.conditional_expression at t x y) = ap (λ x. is_object_pattern x.kind) (laid_node at kind.CondExpr _)
 no_pattern (shapes.sequence_expression at x y es) = ap (λ x. is_object_pattern x.kind) (laid_node at kind.SeqExpr _)
@@ -268,6 +368,11 @@ printed shapes.conjunction = record { own = refl; left_is = refl; right_is = ref
 printed shapes.exclusion = record { own = refl; left_is = refl; right_is = refl; alone = refl; fits = λ spot b h. refl; word_is = λ x. refl }
 printed shapes.disjunction = record { own = refl; left_is = refl; right_is = refl; alone = refl; fits = λ spot b h. refl; word_is = λ x. refl }
 
+-- on the left side of `??`
+head_calm : {l : Level} → shapes.IsCoalesceHead l → (spot : Spot) → spot.without_in ≡ false → spot.in_callee_of_new ≡ false → Calm l (left spot 3 UnderNullish)
+head_calm shapes.first_head spot h n = under_nullish refl h n refl refl
+head_calm shapes.next_head spot h n = under_nullish refl h n refl refl
+
 -- the gap stands in front
 gap_out : {level : Level} {e : Node} (is : IsExpression level e) (g : Gap) (us : Items) → render (expression_tokens is g us) ≡ g.blanks ++ render (expression_tokens is no_gap us)
 unfolding render
@@ -292,6 +397,7 @@ gap_out (shapes.binary_expression at {operator = o} i l r) g us = gap_out l g (i
 gap_out (shapes.exponentiation at l r) g us = gap_out l g (it blank (sign (codes "**")) (expression_tokens r blank us))
 gap_out (shapes.both at l r) g us = gap_out l g (it blank (sign (codes "&&")) (expression_tokens r blank us))
 gap_out (shapes.either at l r) g us = gap_out l g (it blank (sign (codes "||")) (expression_tokens r blank us))
+gap_out (shapes.coalesced at i l r) g us = gap_out l g (it blank (sign (codes "??")) (expression_tokens r blank us))
 gap_out (shapes.assignment_expression at o t v) g us = gap_out t g (it blank (assign_token o) (expression_tokens v blank us))
 gap_out (shapes.conditional_expression at t x y) g us = gap_out t g (it blank (sign (codes "?")) (expression_tokens x blank (it blank (sign (codes ":")) (expression_tokens y blank us))))
 gap_out (shapes.sequence_expression at x y es) g us = gap_out x g (sign_of (codes ",") (expression_tokens y blank (more_tokens es us)))
@@ -312,12 +418,12 @@ mutual
   expression_laid (shapes.member at {holder = o'} o (key at' w t)) spot c m us =
       at_node at kind.MemberExpr (o' ∷ node_of at' (kind.IdentName w) [] ∷ []) (At spot) m (render us)
       ∙ rw (tightly 17 16 spot.level (omega arith) c.low, laid_node at' (kind.IdentName w) [], c.outside false, c.own, no_sign spot.beside)
-      (expression_laid o (left spot 16 BeforeDot) (record { low = refl; with_in = c.with_in; no_new = c.no_new; outside = λ b. refl; own = refl; both_fits = refl; either_fits = refl; no_dot = λ z. absurd (false≢true (sym z)) }) m (sign_of (codes ".") (it no_gap (items.key w) us)))
+      (expression_laid o (left spot 16 BeforeDot) (before_dot refl c.with_in c.no_new refl) m (sign_of (codes ".") (it no_gap (items.key w) us)))
   expression_laid (shapes.call at {function = c'} {args = a'} {none = n'} e es none) spot c m us =
       at_node at kind.CallExpr (c' ∷ a' ∷ n' ∷ []) (At spot) m (render us)
       ∙ rw (c.low, c.no_new, no_sign spot.beside)
       (ap (λ z. (laid c').at (At (record { level = 16; begins = spot.begins; without_in = spot.without_in; in_callee_of_new = false; beside = BeforeLink })) m z) (arguments_laid es m us)
-      ∙ expression_laid e (record { level = 16; begins = spot.begins; without_in = spot.without_in; in_callee_of_new = false; beside = BeforeLink }) (record { low = refl; with_in = c.with_in; no_new = refl; outside = λ b. refl; own = refl; both_fits = refl; either_fits = refl; no_dot = λ z. refl }) m (sign_of (codes "(") (arguments_tokens es (sign_of (codes ")") us))))
+      ∙ expression_laid e (record { level = 16; begins = spot.begins; without_in = spot.without_in; in_callee_of_new = false; beside = BeforeLink }) (before_link refl c.with_in refl refl) m (sign_of (codes "(") (arguments_tokens es (sign_of (codes ")") us))))
   expression_laid (shapes.parenthesized at {level = l} {e = e'} e) spot c m us =
       at_node at kind.ParenExpr (e' ∷ []) (At spot) m (render us)
       ∙ rw (tightly 17 16 spot.level (omega arith) c.low, no_sign spot.beside) (ap (λ z. codes "(" ++ z) (expression_laid e (free 0) (calm_0 l) m (sign_of (codes ")") us)))
@@ -325,18 +431,18 @@ mutual
       at_node at kind.MemberExpr (o' ∷ node_of at' kind.ComputedPropName (e' ∷ []) ∷ []) (At spot) m (render us)
       ∙ rw (tightly 17 16 spot.level (omega arith) c.low, laid_node at' kind.ComputedPropName (e' ∷ []), c.outside true, c.own, no_sign spot.beside)
       (ap (λ z. (laid o').at (At (left spot 16 BeforeLink)) m (codes "[" ++ z)) (expression_laid e (free 0) (calm_0 l) m (sign_of (codes "]") us))
-      ∙ expression_laid o (left spot 16 BeforeLink) (record { low = refl; with_in = c.with_in; no_new = c.no_new; outside = λ b. refl; own = refl; both_fits = refl; either_fits = refl; no_dot = λ z. refl }) m (sign_of (codes "[") (expression_tokens e no_gap (sign_of (codes "]") us))))
+      ∙ expression_laid o (left spot 16 BeforeLink) (before_link refl c.with_in c.no_new refl) m (sign_of (codes "[") (expression_tokens e no_gap (sign_of (codes "]") us))))
   expression_laid (shapes.prefix_update at o {e = e'} e) spot c m us =
       at_node at (kind.UpdateExpr o true) (e' ∷ []) (At spot) m (render us)
       ∙ rw (c.low, update_text o) (ap (λ z. gap spot.beside (update_sign o) ++ (token_text (update_token o) ++ z)) (expression_laid e (right spot 16 (update_sign o)) (update_calm o spot c.with_in) m us ∙ rw (no_gap_before o e) refl))
   expression_laid (shapes.postfix_update at o {e = e'} e) spot c m us =
       at_node at (kind.UpdateExpr o false) (e' ∷ []) (At spot) m (render us)
       ∙ rw (c.low, no_sign spot.beside, update_text o)
-      (expression_laid e (left spot 16 NoNeighbor) (record { low = refl; with_in = c.with_in; no_new = c.no_new; outside = λ b. refl; own = refl; both_fits = refl; either_fits = refl; no_dot = λ z. refl }) m (it no_gap (update_token o) us))
+      (expression_laid e (left spot 16 NoNeighbor) (quiet refl c.with_in c.no_new refl) m (it no_gap (update_token o) us))
   expression_laid (shapes.await_expression at {e = e'} e) spot c m us =
       at_node at kind.AwaitExpr (e' ∷ []) (At spot) m (render us)
       ∙ rw (c.low, no_sign spot.beside)
-      (ap (λ z. codes "await " ++ z) (expression_laid e (right spot 14 NoNeighbor) (record { low = refl; with_in = c.with_in; no_new = refl; outside = λ b. refl; own = refl; both_fits = refl; either_fits = refl; no_dot = λ z. refl }) m us) ∙ ap (λ z. codes "await" ++ z) (sym (gap_out e blank us)))
+      (ap (λ z. codes "await " ++ z) (expression_laid e (right spot 14 NoNeighbor) (quiet refl c.with_in refl refl) m us) ∙ ap (λ z. codes "await" ++ z) (sym (gap_out e blank us)))
   expression_laid (shapes.unary_expression at o {e = e'} e) spot c m us =
       at_node at (kind.UnaryExpr o) (e' ∷ []) (At spot) m (render us)
       ∙ rw (c.low) (ap (λ z. gap spot.beside (unary_sign o) ++ z) (ap (λ z. unary_word o ++ z) (expression_laid e (right spot 14 (unary_sign o)) (unary_calm o spot c.with_in) m us) ∙ (word_gap o (own_sign e) (render (expression_tokens e no_gap us)) ∙ ap (λ z. token_text (unary_token o) ++ z) (sym (gap_out e (unary_gap o (own_sign e)) us)))))
@@ -344,28 +450,33 @@ mutual
       let F = printed i in
       at_node at (kind.BinExpr o) (l' ∷ r' ∷ []) (At spot) m (render us)
       ∙ rw (F.own, c.low, F.fits spot spot.beside c.with_in, F.left_is, F.right_is, F.alone, no_sign spot.beside)
-      (ap (λ z. (laid l').at (At (left spot (number_of l) NoNeighbor)) m z) (ap (λ z. binary_word o ++ z) (expression_laid y (right spot (number_of t) NoNeighbor) (record { low = same_low (number_of t); with_in = c.with_in; no_new = refl; outside = λ b. refl; own = refl; both_fits = refl; either_fits = refl; no_dot = λ z. refl }) m us) ∙ (F.word_is (render (expression_tokens y no_gap us)) ∙ ap (λ z. codes " " ++ (token_text (binary_token o) ++ z)) (sym (gap_out y blank us))))
-      ∙ expression_laid x (left spot (number_of l) NoNeighbor) (record { low = same_low (number_of l); with_in = c.with_in; no_new = c.no_new; outside = λ b. refl; own = refl; both_fits = refl; either_fits = refl; no_dot = λ z. refl }) m (it blank (binary_token o) (expression_tokens y blank us)))
+      (ap (λ z. (laid l').at (At (left spot (number_of l) NoNeighbor)) m z) (ap (λ z. binary_word o ++ z) (expression_laid y (right spot (number_of t) NoNeighbor) (quiet (same_low (number_of t)) c.with_in refl refl) m us) ∙ (F.word_is (render (expression_tokens y no_gap us)) ∙ ap (λ z. codes " " ++ (token_text (binary_token o) ++ z)) (sym (gap_out y blank us))))
+      ∙ expression_laid x (left spot (number_of l) NoNeighbor) (quiet (same_low (number_of l)) c.with_in c.no_new refl) m (it blank (binary_token o) (expression_tokens y blank us)))
   expression_laid (shapes.exponentiation at {left = l'} {right = r'} x y) spot c m us =
       at_node at (kind.BinExpr op.Exp) (l' ∷ r' ∷ []) (At spot) m (render us)
       ∙ rw (c.low, no_sign spot.beside)
-      (ap (λ z. (laid l').at (At (left spot 15 NoNeighbor)) m z) (ap (λ z. codes " ** " ++ z) (expression_laid y (right spot 13 NoNeighbor) (record { low = refl; with_in = c.with_in; no_new = refl; outside = λ b. refl; own = refl; both_fits = refl; either_fits = refl; no_dot = λ z. refl }) m us) ∙ ap (λ z. codes " **" ++ z) (sym (gap_out y blank us)))
-      ∙ expression_laid x (left spot 15 NoNeighbor) (record { low = refl; with_in = c.with_in; no_new = c.no_new; outside = λ b. refl; own = refl; both_fits = refl; either_fits = refl; no_dot = λ z. refl }) m (it blank (sign (codes "**")) (expression_tokens y blank us)))
+      (ap (λ z. (laid l').at (At (left spot 15 NoNeighbor)) m z) (ap (λ z. codes " ** " ++ z) (expression_laid y (right spot 13 NoNeighbor) (quiet refl c.with_in refl refl) m us) ∙ ap (λ z. codes " **" ++ z) (sym (gap_out y blank us)))
+      ∙ expression_laid x (left spot 15 NoNeighbor) (quiet refl c.with_in c.no_new refl) m (it blank (sign (codes "**")) (expression_tokens y blank us)))
   expression_laid (shapes.both at {left = l'} {right = r'} x y) spot c m us =
       at_node at (kind.BinExpr op.LogicalAnd) (l' ∷ r' ∷ []) (At spot) m (render us)
-      ∙ rw (c.low, c.both_fits, no_sign spot.beside)
-      (ap (λ z. (laid l').at (At (left spot 4 UnderLogical)) m z) (ap (λ z. codes " && " ++ z) (expression_laid y (right spot 5 UnderLogical) (record { low = refl; with_in = c.with_in; no_new = refl; outside = λ b. refl; own = refl; both_fits = refl; either_fits = refl; no_dot = λ z. refl }) m us) ∙ ap (λ z. codes " &&" ++ z) (sym (gap_out y blank us)))
-      ∙ expression_laid x (left spot 4 UnderLogical) (record { low = refl; with_in = c.with_in; no_new = c.no_new; outside = λ b. refl; own = refl; both_fits = refl; either_fits = refl; no_dot = λ z. refl }) m (it blank (sign (codes "&&")) (expression_tokens y blank us)))
+      ∙ rw (c.low, c.both_fits refl, no_sign spot.beside)
+      (ap (λ z. (laid l').at (At (left spot 4 UnderLogical)) m z) (ap (λ z. codes " && " ++ z) (expression_laid y (right spot 5 UnderLogical) (under_logical refl c.with_in refl refl refl) m us) ∙ ap (λ z. codes " &&" ++ z) (sym (gap_out y blank us)))
+      ∙ expression_laid x (left spot 4 UnderLogical) (under_logical refl c.with_in c.no_new refl refl) m (it blank (sign (codes "&&")) (expression_tokens y blank us)))
   expression_laid (shapes.either at {left = l'} {right = r'} x y) spot c m us =
       at_node at (kind.BinExpr op.LogicalOr) (l' ∷ r' ∷ []) (At spot) m (render us)
-      ∙ rw (c.low, c.either_fits, no_sign spot.beside)
-      (ap (λ z. (laid l').at (At (left spot 3 UnderLogical)) m z) (ap (λ z. codes " || " ++ z) (expression_laid y (right spot 4 UnderLogical) (record { low = refl; with_in = c.with_in; no_new = refl; outside = λ b. refl; own = refl; both_fits = refl; either_fits = refl; no_dot = λ z. refl }) m us) ∙ ap (λ z. codes " ||" ++ z) (sym (gap_out y blank us)))
-      ∙ expression_laid x (left spot 3 UnderLogical) (record { low = refl; with_in = c.with_in; no_new = c.no_new; outside = λ b. refl; own = refl; both_fits = refl; either_fits = refl; no_dot = λ z. refl }) m (it blank (sign (codes "||")) (expression_tokens y blank us)))
+      ∙ rw (c.low, c.either_fits refl, no_sign spot.beside)
+      (ap (λ z. (laid l').at (At (left spot 3 UnderLogical)) m z) (ap (λ z. codes " || " ++ z) (expression_laid y (right spot 4 UnderLogical) (under_logical refl c.with_in refl refl refl) m us) ∙ ap (λ z. codes " ||" ++ z) (sym (gap_out y blank us)))
+      ∙ expression_laid x (left spot 3 UnderLogical) (under_logical refl c.with_in c.no_new refl refl) m (it blank (sign (codes "||")) (expression_tokens y blank us)))
+  expression_laid (shapes.coalesced at {left = l'} {right = r'} i x y) spot c m us =
+      at_node at (kind.BinExpr op.NullishCoalescing) (l' ∷ r' ∷ []) (At spot) m (render us)
+      ∙ rw (c.low, c.nullish_fits refl, no_sign spot.beside)
+      (ap (λ z. (laid l').at (At (left spot 3 UnderNullish)) m z) (ap (λ z. codes " ?? " ++ z) (expression_laid y (right spot 4 UnderNullish) (under_nullish refl c.with_in refl refl refl) m us) ∙ ap (λ z. codes " ??" ++ z) (sym (gap_out y blank us)))
+      ∙ expression_laid x (left spot 3 UnderNullish) (head_calm i spot c.with_in c.no_new) m (it blank (sign (codes "??")) (expression_tokens y blank us)))
   expression_laid (shapes.assignment_expression at o {target = t'} {value = v'} t v) spot c m us =
       at_node at (kind.AssignExpr o) (t' ∷ v' ∷ []) (At spot) m (render us)
       ∙ rw (c.low, no_pattern t, and_false (opens_a_block spot.begins), no_sign spot.beside)
-      (ap (λ z. (laid t').at (At (left spot 16 NoNeighbor)) m z) (ap (λ z. assign_word o ++ z) (expression_laid v (right spot 1 NoNeighbor) (record { low = refl; with_in = c.with_in; no_new = refl; outside = λ b. refl; own = refl; both_fits = refl; either_fits = refl; no_dot = λ z. refl }) m us) ∙ (assign_text o (render (expression_tokens v no_gap us)) ∙ ap (λ z. codes " " ++ (token_text (assign_token o) ++ z)) (sym (gap_out v blank us))))
-      ∙ expression_laid t (left spot 16 NoNeighbor) (record { low = refl; with_in = c.with_in; no_new = c.no_new; outside = λ b. refl; own = refl; both_fits = refl; either_fits = refl; no_dot = λ z. refl }) m (it blank (assign_token o) (expression_tokens v blank us)))
+      (ap (λ z. (laid t').at (At (left spot 16 NoNeighbor)) m z) (ap (λ z. assign_word o ++ z) (expression_laid v (right spot 1 NoNeighbor) (quiet refl c.with_in refl refl) m us) ∙ (assign_text o (render (expression_tokens v no_gap us)) ∙ ap (λ z. codes " " ++ (token_text (assign_token o) ++ z)) (sym (gap_out v blank us))))
+      ∙ expression_laid t (left spot 16 NoNeighbor) (quiet refl c.with_in c.no_new refl) m (it blank (assign_token o) (expression_tokens v blank us)))
   expression_laid (shapes.conditional_expression at {test = t'} {first = x'} {second = y'} t x y) spot c m us =
       let second_text = ap (λ z. codes " : " ++ z) (expression_laid y (right spot 1 NoNeighbor) (further spot c.with_in) m us) ∙ ap (λ z. codes " :" ++ z) (sym (gap_out y blank us)) in
       let seconds = it blank (sign (codes ":")) (expression_tokens y blank us) in
@@ -373,14 +484,14 @@ mutual
       at_node at kind.CondExpr (t' ∷ x' ∷ y' ∷ []) (At spot) m (render us)
       ∙ rw (tightly 2 1 spot.level (omega arith) c.low, no_sign spot.beside)
       (ap (λ z. (laid t').at (At (left spot 3 NoNeighbor)) m z) first_text
-      ∙ expression_laid t (left spot 3 NoNeighbor) (record { low = refl; with_in = c.with_in; no_new = c.no_new; outside = λ b. refl; own = refl; both_fits = refl; either_fits = refl; no_dot = λ z. refl }) m (it blank (sign (codes "?")) (expression_tokens x blank seconds)))
+      ∙ expression_laid t (left spot 3 NoNeighbor) (quiet refl c.with_in c.no_new refl) m (it blank (sign (codes "?")) (expression_tokens x blank seconds)))
   expression_laid (shapes.sequence_expression at {first = x'} {second = y'} {more = es'} x y es) spot c m us =
       let rest = more_tokens es us in
       at_node at kind.SeqExpr (x' ∷ y' ∷ es') (At spot) m (render us)
       ∙ rw (c.low, no_sign spot.beside)
       (ap (λ z. (laid x').at (At (left spot 1 NoNeighbor)) m z)
       (ap (λ z. codes ", " ++ z) (ap (λ z. (laid y').at (At (right spot 1 NoNeighbor)) m z) (sequence_laid es spot c.with_in m us) ∙ expression_laid y (right spot 1 NoNeighbor) (further spot c.with_in) m rest) ∙ ap (λ z. codes "," ++ z) (sym (gap_out y blank rest)))
-      ∙ expression_laid x (left spot 1 NoNeighbor) (record { low = refl; with_in = c.with_in; no_new = c.no_new; outside = λ b. refl; own = refl; both_fits = refl; either_fits = refl; no_dot = λ z. refl }) m (sign_of (codes ",") (expression_tokens y blank rest)))
+      ∙ expression_laid x (left spot 1 NoNeighbor) (quiet refl c.with_in c.no_new refl) m (sign_of (codes ",") (expression_tokens y blank rest)))
 
   -- those behind the first of a sequence
   sequence_laid : {es : List Node} (is : AreExpressions es) (spot : Spot) → spot.without_in ≡ false → (m : List ℕ) (us : Items) → more_of_sequence (map laid es) spot m (render us) ≡ render (more_tokens is us)
@@ -424,6 +535,7 @@ within_laid (shapes.binary_expression at {operator = o} i x y) between spot m re
 within_laid (shapes.exponentiation at l r) between spot m rest = at_node at (kind.BinExpr op.Exp) _ (Within between spot) m rest ∙ ap (before between m) (sym (at_node at (kind.BinExpr op.Exp) _ (At spot) m (after between m rest)))
 within_laid (shapes.both at l r) between spot m rest = at_node at (kind.BinExpr op.LogicalAnd) _ (Within between spot) m rest ∙ ap (before between m) (sym (at_node at (kind.BinExpr op.LogicalAnd) _ (At spot) m (after between m rest)))
 within_laid (shapes.either at l r) between spot m rest = at_node at (kind.BinExpr op.LogicalOr) _ (Within between spot) m rest ∙ ap (before between m) (sym (at_node at (kind.BinExpr op.LogicalOr) _ (At spot) m (after between m rest)))
+within_laid (shapes.coalesced at i l r) between spot m rest = at_node at (kind.BinExpr op.NullishCoalescing) _ (Within between spot) m rest ∙ ap (before between m) (sym (at_node at (kind.BinExpr op.NullishCoalescing) _ (At spot) m (after between m rest)))
 within_laid (shapes.assignment_expression at o t v) between spot m rest = at_node at (kind.AssignExpr o) _ (Within between spot) m rest ∙ ap (before between m) (sym (at_node at (kind.AssignExpr o) _ (At spot) m (after between m rest)))
 within_laid (shapes.conditional_expression at t x y) between spot m rest = at_node at kind.CondExpr _ (Within between spot) m rest ∙ ap (before between m) (sym (at_node at kind.CondExpr _ (At spot) m (after between m rest)))
 within_laid (shapes.sequence_expression at x y es) between spot m rest = at_node at kind.SeqExpr _ (Within between spot) m rest ∙ ap (before between m) (sym (at_node at kind.SeqExpr _ (At spot) m (after between m rest)))

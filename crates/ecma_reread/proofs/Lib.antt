@@ -14,6 +14,7 @@ pub mod Repeats
 pub mod Bindings
 pub mod Operations
 pub mod Logicals
+pub mod Coalescing
 pub mod Choices
 pub mod Elements
 pub mod Assignments

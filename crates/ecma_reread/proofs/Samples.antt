@@ -72,8 +72,8 @@ value_shape : IsExpression assignment value
 value_shape =
     let id = name (ident at (codes "a") a_name) in
     let held = element at at (out 1 id) (postfix_update at PlusPlus (out 1 id)) in
-    let chosen = parenthesized at (conditional_expression at (out 14 id) (out 15 id) (out 15 id)) in
-    out 9 (binary_expression at plus (out 3 (unary_expression at Minus (unary_expression at Minus (out 3 id)))) (binary_expression at times (out 5 held) (out 4 chosen)))
+    let chosen = parenthesized at (conditional_expression at (out 15 id) (out 16 id) (out 16 id)) in
+    out 10 (binary_expression at plus (out 3 (unary_expression at Minus (unary_expression at Minus (out 3 id)))) (binary_expression at times (out 5 held) (out 4 chosen)))
 
 -- `const async = (this);`, `a.a(a, null);`, `async(a, async).a;` and `a = - -a + a[a++] * (a ? a : a);`
 abbrev tree : Node
@@ -98,9 +98,9 @@ shape =
     let async' = ident at (codes "async") async_name in
     let it' = whole (codes "a") a_spelled in
     module_of at at
-    (more_statements (declaration at at const_word (declarator at at async' (absent at) (initializer (out 15 (parenthesized at (this_word at))))) no_declarators)
-    (more_statements (expression at (call at (looser (member at (name id) (key at (codes "a") it'))) (arguments at (out 15 (name id)) (more_expressions (out 15 (null_word at)) no_expressions)) (absent at)))
-    (more_statements (expression at (member at (call at (looser (name async')) (arguments at (out 15 (name id)) (more_expressions (out 15 (name async')) no_expressions)) (absent at)) (key at (codes "a") it')))
+    (more_statements (declaration at at const_word (declarator at at async' (absent at) (initializer (out 16 (parenthesized at (this_word at))))) no_declarators)
+    (more_statements (expression at (call at (looser (member at (name id) (key at (codes "a") it'))) (arguments at (out 16 (name id)) (more_expressions (out 16 (null_word at)) no_expressions)) (absent at)))
+    (more_statements (expression at (member at (call at (looser (name async')) (arguments at (out 16 (name id)) (more_expressions (out 16 (name async')) no_expressions)) (absent at)) (key at (codes "a") it')))
     (more_statements (expression at (assignment_expression at Assign (out 1 (name id)) value_shape)) no_statements))))
 
 text : render (module_tokens shape) ≡ codes "const async = (this);\na.a(a, null);\nasync(a, async).a;\na = - -a + a[a++] * (a ? a : a);\n"

@@ -177,6 +177,8 @@ closes shapes.bit_xor e = closes_bit_xor e
 closes shapes.bit_or e = closes_bit_or e
 closes shapes.logical_and e = closes_logical e
 closes shapes.logical_or e = closes_logical e
+closes shapes.coalescing e = closes_logical e
+closes shapes.short_circuit e = closes_logical e
 closes shapes.assignment e = closes_assignment e
 closes shapes.sequence e = closes_sequence e
 

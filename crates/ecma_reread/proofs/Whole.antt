@@ -54,6 +54,7 @@ mutual
   expression_bare (shapes.exponentiation at l r) = without_spans-node at (kind.BinExpr op.Exp) _ ∙ ap₂ (λ x y. bare (kind.BinExpr op.Exp) (x ∷ y ∷ [])) (expression_bare l) (expression_bare r)
   expression_bare (shapes.both at l r) = without_spans-node at (kind.BinExpr op.LogicalAnd) _ ∙ ap₂ (λ x y. bare (kind.BinExpr op.LogicalAnd) (x ∷ y ∷ [])) (expression_bare l) (expression_bare r)
   expression_bare (shapes.either at l r) = without_spans-node at (kind.BinExpr op.LogicalOr) _ ∙ ap₂ (λ x y. bare (kind.BinExpr op.LogicalOr) (x ∷ y ∷ [])) (expression_bare l) (expression_bare r)
+  expression_bare (shapes.coalesced at i l r) = without_spans-node at (kind.BinExpr op.NullishCoalescing) _ ∙ ap₂ (λ x y. bare (kind.BinExpr op.NullishCoalescing) (x ∷ y ∷ [])) (expression_bare l) (expression_bare r)
   expression_bare (shapes.assignment_expression at o t v) = without_spans-node at (kind.AssignExpr o) _ ∙ ap₂ (λ x y. bare (kind.AssignExpr o) (x ∷ y ∷ [])) (expression_bare t) (expression_bare v)
   expression_bare (shapes.conditional_expression at {second = y'} t x y) =
       without_spans-node at kind.CondExpr _

@@ -43,7 +43,7 @@ pub data IsLexical : VarDeclKind → Type 0 where
 pub data Level : Type 0 where
   -- what may stand before a point; a call's callee, which may be a numeral too
   object callee : Level
-  update unary power product sum shift relation equality bit_and bit_xor bit_or logical_and logical_or assignment sequence : Level
+  update unary power product sum shift relation equality bit_and bit_xor bit_or logical_and logical_or coalescing short_circuit assignment sequence : Level
 
 -- the next level, whose expressions are also those of this one
 abbrev pub looser_than : Level → Level
@@ -61,7 +61,9 @@ looser_than bit_and = bit_xor
 looser_than bit_xor = bit_or
 looser_than bit_or = logical_and
 looser_than logical_and = logical_or
-looser_than logical_or = assignment
+looser_than logical_or = short_circuit
+looser_than coalescing = short_circuit
+looser_than short_circuit = assignment
 looser_than assignment = sequence
 looser_than sequence = sequence
 
@@ -89,6 +91,11 @@ pub data IsOperator : BinaryOp → Level → Level → Type 0 where
   exclusion : IsOperator op.BitXor bit_xor bit_and
   disjunction : IsOperator op.BitOr bit_or bit_xor
 
+-- what stands on the left side of `??`: another one, or neither `&&` nor `||`
+pub data IsCoalesceHead : Level → Type 0 where
+  first_head : IsCoalesceHead bit_or
+  next_head : IsCoalesceHead coalescing
+
 mutual
   -- at a level: its own, or a looser one
   pub data IsExpression : Level → Node → Type 0 where
@@ -115,8 +122,9 @@ mutual
     exponentiation : (at : Span) {left right : Node} → IsExpression update left → IsExpression power right → IsExpression power (node_of at (kind.BinExpr op.Exp) (left ∷ right ∷ []))
     both : (at : Span) {left right : Node} → IsExpression logical_and left → IsExpression bit_or right → IsExpression logical_and (node_of at (kind.BinExpr op.LogicalAnd) (left ∷ right ∷ []))
     either : (at : Span) {left right : Node} → IsExpression logical_or left → IsExpression logical_and right → IsExpression logical_or (node_of at (kind.BinExpr op.LogicalOr) (left ∷ right ∷ []))
+    coalesced : (at : Span) {head : Level} {left right : Node} → IsCoalesceHead head → IsExpression head left → IsExpression bit_or right → IsExpression coalescing (node_of at (kind.BinExpr op.NullishCoalescing) (left ∷ right ∷ []))
     assignment_expression : (at : Span) (operator : AssignOp) {target value : Node} → IsExpression callee target → IsExpression assignment value → IsExpression assignment (node_of at (kind.AssignExpr operator) (target ∷ value ∷ []))
-    conditional_expression : (at : Span) {test first second : Node} → IsExpression logical_or test → IsExpression assignment first → IsExpression assignment second
+    conditional_expression : (at : Span) {test first second : Node} → IsExpression short_circuit test → IsExpression assignment first → IsExpression assignment second
         → IsExpression assignment (node_of at kind.CondExpr (test ∷ first ∷ second ∷ []))
     sequence_expression : (at : Span) {first second : Node} {more : List Node} → IsExpression assignment first → IsExpression assignment second → AreExpressions more → IsExpression sequence (node_of at kind.SeqExpr (first ∷ second ∷ more))
 

@@ -22,7 +22,7 @@ use Rattle.ecma_print.specs.declared.place.Beside.TheVariants.{NoNeighbor, Behin
 use Rattle.ecma_print.specs.Operators.{unary_sign, update_sign}
 use Rattle.ecma_tokens.specs.Items as items
 use Rattle.ecma_tokens.specs.Items.{Tok, sign, Gap, no_gap, Items, ends, it}
-use Rattle.ecma_reread.specs.Shapes.{IsIdent, ident, IsKey, key, IsLexical, let_word, const_word, Level, IsExpression, looser, element, prefix_update, postfix_update, await_expression, unary_expression, binary_expression, exponentiation, both, either, assignment_expression, conditional_expression, sequence_expression, name, string, number, this_word, big_int, null_word, true_word, false_word, member, call, parenthesized, IsArguments, no_arguments, arguments, AreExpressions, no_expressions, more_expressions, IsInitializer, no_initializer, initializer, IsDeclarator, declarator, AreDeclarators, no_declarators, more_declarators, IsStatement, expression, declaration, empty, debugger_word, throw, return_value, return_nothing, break_nothing, continue_nothing, AreStatements, no_statements, more_statements, IsModule, module_of}
+use Rattle.ecma_reread.specs.Shapes.{IsIdent, ident, IsKey, key, IsLexical, let_word, const_word, Level, IsExpression, looser, element, prefix_update, postfix_update, await_expression, unary_expression, binary_expression, exponentiation, both, either, coalesced, assignment_expression, conditional_expression, sequence_expression, name, string, number, this_word, big_int, null_word, true_word, false_word, member, call, parenthesized, IsArguments, no_arguments, arguments, AreExpressions, no_expressions, more_expressions, IsInitializer, no_initializer, initializer, IsDeclarator, declarator, AreDeclarators, no_declarators, more_declarators, IsStatement, expression, declaration, empty, debugger_word, throw, return_value, return_nothing, break_nothing, continue_nothing, AreStatements, no_statements, more_statements, IsModule, module_of}
 
 abbrev pub blank : Gap
 blank = record { blanks = codes " "; new_line = false }
@@ -136,6 +136,7 @@ abbrev mutual
   expression_tokens (exponentiation at l r) g us = expression_tokens l g (it blank (sign (codes "**")) (expression_tokens r blank us))
   expression_tokens (both at l r) g us = expression_tokens l g (it blank (sign (codes "&&")) (expression_tokens r blank us))
   expression_tokens (either at l r) g us = expression_tokens l g (it blank (sign (codes "||")) (expression_tokens r blank us))
+  expression_tokens (coalesced at i l r) g us = expression_tokens l g (it blank (sign (codes "??")) (expression_tokens r blank us))
   expression_tokens (assignment_expression at o t v) g us = expression_tokens t g (it blank (assign_token o) (expression_tokens v blank us))
   expression_tokens (conditional_expression at t x y) g us = expression_tokens t g (it blank (sign (codes "?")) (expression_tokens x blank (it blank (sign (codes ":")) (expression_tokens y blank us))))
   expression_tokens (sequence_expression at x y es) g us = expression_tokens x g (sign_of (codes ",") (expression_tokens y blank (more_tokens es us)))
@@ -212,6 +213,7 @@ expression_kind (binary_expression at {operator = o} i l r) = kind.BinExpr o
 expression_kind (exponentiation at l r) = kind.BinExpr op.Exp
 expression_kind (both at l r) = kind.BinExpr op.LogicalAnd
 expression_kind (either at l r) = kind.BinExpr op.LogicalOr
+expression_kind (coalesced at i l r) = kind.BinExpr op.NullishCoalescing
 expression_kind (assignment_expression at o t v) = kind.AssignExpr o
 expression_kind (conditional_expression at t x y) = kind.CondExpr
 expression_kind (sequence_expression at x y es) = kind.SeqExpr
@@ -231,6 +233,7 @@ abbrev mutual
   expression_parts (exponentiation at l r) = bare (expression_kind l) (expression_parts l) ∷ bare (expression_kind r) (expression_parts r) ∷ []
   expression_parts (both at l r) = bare (expression_kind l) (expression_parts l) ∷ bare (expression_kind r) (expression_parts r) ∷ []
   expression_parts (either at l r) = bare (expression_kind l) (expression_parts l) ∷ bare (expression_kind r) (expression_parts r) ∷ []
+  expression_parts (coalesced at i l r) = bare (expression_kind l) (expression_parts l) ∷ bare (expression_kind r) (expression_parts r) ∷ []
   expression_parts (assignment_expression at o t v) = bare (expression_kind t) (expression_parts t) ∷ bare (expression_kind v) (expression_parts v) ∷ []
   expression_parts (conditional_expression at t x y) = bare (expression_kind t) (expression_parts t) ∷ bare (expression_kind x) (expression_parts x) ∷ bare (expression_kind y) (expression_parts y) ∷ []
   expression_parts (sequence_expression at x y es) = bare (expression_kind x) (expression_parts x) ∷ bare (expression_kind y) (expression_parts y) ∷ bare_expressions es
