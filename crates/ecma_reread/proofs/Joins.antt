@@ -52,99 +52,36 @@ data Soft : Bool → Items → Type 0 where
 
 key_soft : {object : Bool} (w : List ℕ) {us : Items} → Soft object us → joins_next (items.key w) us ≡ true
 key_soft w point = refl
-key_soft w opening = refl
-key_soft w closing = refl
-key_soft w comma = refl
-key_soft w semicolon = refl
-key_soft w increment = refl
-key_soft w decrement = refl
-key_soft w opening_bracket = refl
-key_soft w closing_bracket = refl
-key_soft w parted = refl
+key_soft w z = refl
 
 string_soft : {object : Bool} (w : List ℕ) {us : Items} → Soft object us → joins_next (items.string w) us ≡ true
 string_soft w point = refl
-string_soft w opening = refl
-string_soft w closing = refl
-string_soft w comma = refl
-string_soft w semicolon = refl
-string_soft w increment = refl
-string_soft w decrement = refl
-string_soft w opening_bracket = refl
-string_soft w closing_bracket = refl
-string_soft w parted = refl
+string_soft w z = refl
 
 big_int_soft : {object : Bool} (w : List ℕ) {us : Items} → Soft object us → joins_next (items.big_int w) us ≡ true
 big_int_soft w point = refl
-big_int_soft w opening = refl
-big_int_soft w closing = refl
-big_int_soft w comma = refl
-big_int_soft w semicolon = refl
-big_int_soft w increment = refl
-big_int_soft w decrement = refl
-big_int_soft w opening_bracket = refl
-big_int_soft w closing_bracket = refl
-big_int_soft w parted = refl
+big_int_soft w z = refl
 
 number_soft : (w : List ℕ) {us : Items} → Soft false us → joins_next (items.number w) us ≡ true
 number_soft w opening = refl
-number_soft w closing = refl
-number_soft w comma = refl
-number_soft w semicolon = refl
-number_soft w increment = refl
-number_soft w decrement = refl
-number_soft w opening_bracket = refl
-number_soft w closing_bracket = refl
-number_soft w parted = refl
+number_soft w z = refl
 
 closing_soft : {object : Bool} {us : Items} → Soft object us → joins_next (sign (codes ")")) us ≡ true
 unfolding punctuators
 closing_soft point = refl
-closing_soft opening = refl
-closing_soft closing = refl
-closing_soft comma = refl
-closing_soft semicolon = refl
-closing_soft increment = refl
-closing_soft decrement = refl
-closing_soft opening_bracket = refl
-closing_soft closing_bracket = refl
-closing_soft parted = refl
+closing_soft z = refl
 
 bracket_soft : {object : Bool} {us : Items} → Soft object us → joins_next (sign (codes "]")) us ≡ true
 unfolding punctuators
 bracket_soft point = refl
-bracket_soft opening = refl
-bracket_soft closing = refl
-bracket_soft comma = refl
-bracket_soft semicolon = refl
-bracket_soft increment = refl
-bracket_soft decrement = refl
-bracket_soft opening_bracket = refl
-bracket_soft closing_bracket = refl
-bracket_soft parted = refl
+bracket_soft z = refl
 
 update_soft : (o : UpdateOp) {object : Bool} {us : Items} → Soft object us → joins_next (update_token o) us ≡ true
 unfolding punctuators
 update_soft PlusPlus point = refl
-update_soft PlusPlus opening = refl
-update_soft PlusPlus closing = refl
-update_soft PlusPlus comma = refl
-update_soft PlusPlus semicolon = refl
-update_soft PlusPlus increment = refl
-update_soft PlusPlus decrement = refl
-update_soft PlusPlus opening_bracket = refl
-update_soft PlusPlus closing_bracket = refl
-update_soft PlusPlus parted = refl
+update_soft PlusPlus z = refl
 update_soft MinusMinus point = refl
-update_soft MinusMinus opening = refl
-update_soft MinusMinus closing = refl
-update_soft MinusMinus comma = refl
-update_soft MinusMinus semicolon = refl
-update_soft MinusMinus increment = refl
-update_soft MinusMinus decrement = refl
-update_soft MinusMinus opening_bracket = refl
-update_soft MinusMinus closing_bracket = refl
-update_soft MinusMinus parted = refl
+update_soft MinusMinus z = refl
 
 abbrev is_object : Level → Bool
 is_object shapes.object = true
@@ -161,24 +98,7 @@ softer shapes.object decrement = decrement
 softer shapes.object opening_bracket = opening_bracket
 softer shapes.object closing_bracket = closing_bracket
 softer shapes.object parted = parted
-softer shapes.callee z = z
-softer shapes.update z = z
-softer shapes.unary z = z
-softer shapes.power z = z
-softer shapes.product z = z
-softer shapes.sum z = z
-softer shapes.shift z = z
-softer shapes.relation z = z
-softer shapes.equality z = z
-softer shapes.bit_and z = z
-softer shapes.bit_xor z = z
-softer shapes.bit_or z = z
-softer shapes.logical_and z = z
-softer shapes.logical_or z = z
-softer shapes.coalescing z = z
-softer shapes.short_circuit z = z
-softer shapes.assignment z = z
-softer shapes.sequence z = z
+softer l z = z
 
 -- what an expression begins with, and the sign that this is as a unary operator
 data Opens : Tok → Beside → Type 0 where
@@ -228,71 +148,27 @@ begun (shapes.sequence_expression at x y es) us = begun x (sign_of (codes ",") (
 
 opening_by : {t : Tok} {b : Beside} → Opens t b → (us : Items) → joins_next (sign (codes "(")) (it no_gap t us) ≡ true
 unfolding punctuators
-opening_by (by_key w) us = refl
-opening_by (by_string w) us = refl
-opening_by (by_number w) us = refl
-opening_by (by_big_int w) us = refl
-opening_by by_parenthesis us = refl
 opening_by (by_update PlusPlus) us = refl
-opening_by (by_update MinusMinus) us = refl
 opening_by (by_operator Minus) us = refl
-opening_by (by_operator Plus) us = refl
-opening_by (by_operator Bang) us = refl
-opening_by (by_operator Tilde) us = refl
-opening_by (by_operator TypeOf) us = refl
-opening_by (by_operator Void) us = refl
-opening_by (by_operator Delete) us = refl
+opening_by h us = refl
 
 bracket_by : {t : Tok} {b : Beside} → Opens t b → (us : Items) → joins_next (sign (codes "[")) (it no_gap t us) ≡ true
 unfolding punctuators
-bracket_by (by_key w) us = refl
-bracket_by (by_string w) us = refl
-bracket_by (by_number w) us = refl
-bracket_by (by_big_int w) us = refl
-bracket_by by_parenthesis us = refl
 bracket_by (by_update PlusPlus) us = refl
-bracket_by (by_update MinusMinus) us = refl
 bracket_by (by_operator Minus) us = refl
-bracket_by (by_operator Plus) us = refl
-bracket_by (by_operator Bang) us = refl
-bracket_by (by_operator Tilde) us = refl
-bracket_by (by_operator TypeOf) us = refl
-bracket_by (by_operator Void) us = refl
-bracket_by (by_operator Delete) us = refl
+bracket_by h us = refl
 
 opening_joins : {level : Level} {e : Node} (is : IsExpression level e) (us : Items) → joins_next (sign (codes "(")) (expression_tokens is no_gap us) ≡ true
 opening_joins is us = let b = begun is us in rw (b.is no_gap) (opening_by b.opens b.rest)
 
 update_by : (o : UpdateOp) {t : Tok} {b : Beside} → Opens t b → (us : Items) → joins_next (update_token o) (it no_gap t us) ≡ true
 unfolding punctuators
-update_by PlusPlus (by_key w) us = refl
-update_by PlusPlus (by_string w) us = refl
-update_by PlusPlus (by_number w) us = refl
-update_by PlusPlus (by_big_int w) us = refl
-update_by PlusPlus by_parenthesis us = refl
 update_by PlusPlus (by_update PlusPlus) us = refl
-update_by PlusPlus (by_update MinusMinus) us = refl
 update_by PlusPlus (by_operator Minus) us = refl
-update_by PlusPlus (by_operator Plus) us = refl
-update_by PlusPlus (by_operator Bang) us = refl
-update_by PlusPlus (by_operator Tilde) us = refl
-update_by PlusPlus (by_operator TypeOf) us = refl
-update_by PlusPlus (by_operator Void) us = refl
-update_by PlusPlus (by_operator Delete) us = refl
-update_by MinusMinus (by_key w) us = refl
-update_by MinusMinus (by_string w) us = refl
-update_by MinusMinus (by_number w) us = refl
-update_by MinusMinus (by_big_int w) us = refl
-update_by MinusMinus by_parenthesis us = refl
+update_by PlusPlus h us = refl
 update_by MinusMinus (by_update PlusPlus) us = refl
-update_by MinusMinus (by_update MinusMinus) us = refl
 update_by MinusMinus (by_operator Minus) us = refl
-update_by MinusMinus (by_operator Plus) us = refl
-update_by MinusMinus (by_operator Bang) us = refl
-update_by MinusMinus (by_operator Tilde) us = refl
-update_by MinusMinus (by_operator TypeOf) us = refl
-update_by MinusMinus (by_operator Void) us = refl
-update_by MinusMinus (by_operator Delete) us = refl
+update_by MinusMinus h us = refl
 
 update_joins : (o : UpdateOp) {level : Level} {e : Node} (is : IsExpression level e) (us : Items) → joins_next (update_token o) (expression_tokens is no_gap us) ≡ true
 update_joins o is us = let b = begun is us in rw (b.is no_gap) (update_by o b.opens b.rest)
@@ -401,62 +277,18 @@ signed (shapes.parenthesized at e) us h = refl
 -- a unary operator joins its operand
 unary_by : (o : UnaryOp) {t : Tok} {b : Beside} → Opens t b → (us : Items) → joins_next (unary_token o) (it (unary_gap o b) t us) ≡ true
 unfolding punctuators
-unary_by Minus (by_key w) us = refl
-unary_by Minus (by_string w) us = refl
-unary_by Minus (by_number w) us = refl
-unary_by Minus (by_big_int w) us = refl
-unary_by Minus by_parenthesis us = refl
 unary_by Minus (by_update PlusPlus) us = refl
-unary_by Minus (by_update MinusMinus) us = refl
 unary_by Minus (by_operator Minus) us = refl
-unary_by Minus (by_operator Plus) us = refl
-unary_by Minus (by_operator Bang) us = refl
-unary_by Minus (by_operator Tilde) us = refl
-unary_by Minus (by_operator TypeOf) us = refl
-unary_by Minus (by_operator Void) us = refl
-unary_by Minus (by_operator Delete) us = refl
-unary_by Plus (by_key w) us = refl
-unary_by Plus (by_string w) us = refl
-unary_by Plus (by_number w) us = refl
-unary_by Plus (by_big_int w) us = refl
-unary_by Plus by_parenthesis us = refl
+unary_by Minus h us = refl
 unary_by Plus (by_update PlusPlus) us = refl
-unary_by Plus (by_update MinusMinus) us = refl
 unary_by Plus (by_operator Minus) us = refl
-unary_by Plus (by_operator Plus) us = refl
-unary_by Plus (by_operator Bang) us = refl
-unary_by Plus (by_operator Tilde) us = refl
-unary_by Plus (by_operator TypeOf) us = refl
-unary_by Plus (by_operator Void) us = refl
-unary_by Plus (by_operator Delete) us = refl
-unary_by Bang (by_key w) us = refl
-unary_by Bang (by_string w) us = refl
-unary_by Bang (by_number w) us = refl
-unary_by Bang (by_big_int w) us = refl
-unary_by Bang by_parenthesis us = refl
+unary_by Plus h us = refl
 unary_by Bang (by_update PlusPlus) us = refl
-unary_by Bang (by_update MinusMinus) us = refl
 unary_by Bang (by_operator Minus) us = refl
-unary_by Bang (by_operator Plus) us = refl
-unary_by Bang (by_operator Bang) us = refl
-unary_by Bang (by_operator Tilde) us = refl
-unary_by Bang (by_operator TypeOf) us = refl
-unary_by Bang (by_operator Void) us = refl
-unary_by Bang (by_operator Delete) us = refl
-unary_by Tilde (by_key w) us = refl
-unary_by Tilde (by_string w) us = refl
-unary_by Tilde (by_number w) us = refl
-unary_by Tilde (by_big_int w) us = refl
-unary_by Tilde by_parenthesis us = refl
+unary_by Bang h us = refl
 unary_by Tilde (by_update PlusPlus) us = refl
-unary_by Tilde (by_update MinusMinus) us = refl
 unary_by Tilde (by_operator Minus) us = refl
-unary_by Tilde (by_operator Plus) us = refl
-unary_by Tilde (by_operator Bang) us = refl
-unary_by Tilde (by_operator Tilde) us = refl
-unary_by Tilde (by_operator TypeOf) us = refl
-unary_by Tilde (by_operator Void) us = refl
-unary_by Tilde (by_operator Delete) us = refl
+unary_by Tilde h us = refl
 unary_by TypeOf h us = refl
 unary_by Void h us = refl
 unary_by Delete h us = refl

@@ -286,33 +286,32 @@ unary_calm Minus spot h = record { low = refl; with_in = h; no_new = refl; outsi
 unary_calm Plus spot h = record { low = refl; with_in = h; no_new = refl; outside = λ b. refl; own = refl; both_fits = λ z. refl; either_fits = λ z. refl; nullish_fits = λ z. refl; no_dot = λ z. refl }
 unary_calm o spot h = record { low = refl; with_in = h; no_new = refl; outside = λ b. refl; own = refl; both_fits = λ z. refl; either_fits = λ z. refl; nullish_fits = λ z. refl; no_dot = λ z. refl }
 
--- no expression is a pattern
+-- a node with a text of its own, and no pattern
+abbrev is_plain : Kind → Bool
+is_plain kind.Absent = false
+is_plain kind.List = false
+is_plain (kind.ObjectPat optional) = false
+is_plain k = true
+
+record Plain (e : Node) : Type 0 where
+  pub at : Span
+  pub kind : Kind
+  pub children : List Node
+  pub is : e ≡ node_of at kind children
+  pub plain : is_plain kind ≡ true
+
+-- an expression is one
+plain : {level : Level} {e : Node} → IsExpression level e → Plain e
+plain (shapes.looser e) = plain e
+plain (shapes.name (ident at w i)) = record { at = at; kind = kind.Ident w 0 false; children = []; is = refl; plain = refl }
+plain is = record { at = _; kind = _; children = _; is = refl; plain = refl }
+
+no_pattern_by : (k : Kind) → is_plain k ≡ true → is_object_pattern k ≡ false
+no_pattern_by (kind.ObjectPat optional) h = absurd (false≢true h)
+no_pattern_by k h = refl
+
 no_pattern : {level : Level} {e : Node} → IsExpression level e → is_object_pattern (laid e).kind ≡ false
-no_pattern (shapes.looser e) = no_pattern e
-no_pattern (shapes.name (ident at w i)) = ap (λ x. is_object_pattern x.kind) (laid_node at (kind.Ident w 0 false) [])
-no_pattern (shapes.string at raw t) = ap (λ x. is_object_pattern x.kind) (laid_node at _ [])
-no_pattern (shapes.number at raw t) = ap (λ x. is_object_pattern x.kind) (laid_node at _ [])
-no_pattern (shapes.this_word at) = ap (λ x. is_object_pattern x.kind) (laid_node at _ [])
-no_pattern (shapes.big_int at raw t) = ap (λ x. is_object_pattern x.kind) (laid_node at _ [])
-no_pattern (shapes.null_word at) = ap (λ x. is_object_pattern x.kind) (laid_node at _ [])
-no_pattern (shapes.true_word at) = ap (λ x. is_object_pattern x.kind) (laid_node at _ [])
-no_pattern (shapes.false_word at) = ap (λ x. is_object_pattern x.kind) (laid_node at _ [])
-no_pattern (shapes.member at o k) = ap (λ x. is_object_pattern x.kind) (laid_node at kind.MemberExpr _)
-no_pattern (shapes.element at at' o e) = ap (λ x. is_object_pattern x.kind) (laid_node at kind.MemberExpr _)
-no_pattern (shapes.call at c es none) = ap (λ x. is_object_pattern x.kind) (laid_node at kind.CallExpr _)
-no_pattern (shapes.parenthesized at e) = ap (λ x. is_object_pattern x.kind) (laid_node at kind.ParenExpr _)
-no_pattern (shapes.prefix_update at o e) = ap (λ x. is_object_pattern x.kind) (laid_node at (kind.UpdateExpr o true) _)
-no_pattern (shapes.postfix_update at o e) = ap (λ x. is_object_pattern x.kind) (laid_node at (kind.UpdateExpr o false) _)
-no_pattern (shapes.await_expression at e) = ap (λ x. is_object_pattern x.kind) (laid_node at kind.AwaitExpr _)
-no_pattern (shapes.unary_expression at o e) = ap (λ x. is_object_pattern x.kind) (laid_node at (kind.UnaryExpr o) _)
-no_pattern (shapes.binary_expression at {operator = o} i x y) = ap (λ x. is_object_pattern x.kind) (laid_node at (kind.BinExpr o) _)
-no_pattern (shapes.exponentiation at l r) = ap (λ x. is_object_pattern x.kind) (laid_node at (kind.BinExpr op.Exp) _)
-no_pattern (shapes.both at l r) = ap (λ x. is_object_pattern x.kind) (laid_node at (kind.BinExpr op.LogicalAnd) _)
-no_pattern (shapes.either at l r) = ap (λ x. is_object_pattern x.kind) (laid_node at (kind.BinExpr op.LogicalOr) _)
-no_pattern (shapes.coalesced at i l r) = ap (λ x. is_object_pattern x.kind) (laid_node at (kind.BinExpr op.NullishCoalescing) _)
-no_pattern (shapes.assignment_expression at o t v) = ap (λ x. is_object_pattern x.kind) (laid_node at (kind.AssignExpr o) _)
-no_pattern (shapes.conditional_expression at t x y) = ap (λ x. is_object_pattern x.kind) (laid_node at kind.CondExpr _)
-no_pattern (shapes.sequence_expression at x y es) = ap (λ x. is_object_pattern x.kind) (laid_node at kind.SeqExpr _)
+no_pattern is = let p = plain is in rw p.is (ap (λ x. is_object_pattern x.kind) (laid_node p.at p.kind p.children) ∙ no_pattern_by p.kind p.plain)
 
 and_false : (b : Bool) → (b && false) ≡ false
 and_false true = refl
@@ -513,32 +512,16 @@ mutual
       ∙ ap (λ z. codes "," ++ z) (sym (gap_out e blank (more_tokens es (sign_of (codes ")") us))))
 
 -- with what stands before and behind a child that is there
+within_by : (k : Kind) → is_plain k ≡ true → (cs : List Laid) (between : Between) (spot : Spot) (m rest : List ℕ) → in_place k cs (Within between spot) m rest ≡ before between m (in_place k cs (At spot) m (after between m rest))
+within_by kind.Absent h cs between spot m rest = absurd (false≢true h)
+within_by kind.List h cs between spot m rest = absurd (false≢true h)
+within_by k h cs between spot m rest = refl
+
 within_laid : {level : Level} {e : Node} (is : IsExpression level e) (between : Between) (spot : Spot) (m rest : List ℕ) → (laid e).at (Within between spot) m rest ≡ before between m ((laid e).at (At spot) m (after between m rest))
-within_laid (shapes.name (ident at w i)) between spot m rest = at_node at _ [] (Within between spot) m rest ∙ ap (before between m) (sym (at_node at _ [] (At spot) m (after between m rest)))
-within_laid (shapes.string at raw t) between spot m rest = at_node at _ [] (Within between spot) m rest ∙ ap (before between m) (sym (at_node at _ [] (At spot) m (after between m rest)))
-within_laid (shapes.number at raw t) between spot m rest = at_node at _ [] (Within between spot) m rest ∙ ap (before between m) (sym (at_node at _ [] (At spot) m (after between m rest)))
-within_laid (shapes.this_word at) between spot m rest = at_node at _ [] (Within between spot) m rest ∙ ap (before between m) (sym (at_node at _ [] (At spot) m (after between m rest)))
-within_laid (shapes.big_int at raw t) between spot m rest = at_node at _ [] (Within between spot) m rest ∙ ap (before between m) (sym (at_node at _ [] (At spot) m (after between m rest)))
-within_laid (shapes.null_word at) between spot m rest = at_node at _ [] (Within between spot) m rest ∙ ap (before between m) (sym (at_node at _ [] (At spot) m (after between m rest)))
-within_laid (shapes.true_word at) between spot m rest = at_node at _ [] (Within between spot) m rest ∙ ap (before between m) (sym (at_node at _ [] (At spot) m (after between m rest)))
-within_laid (shapes.false_word at) between spot m rest = at_node at _ [] (Within between spot) m rest ∙ ap (before between m) (sym (at_node at _ [] (At spot) m (after between m rest)))
-within_laid (shapes.member at o k) between spot m rest = at_node at kind.MemberExpr _ (Within between spot) m rest ∙ ap (before between m) (sym (at_node at kind.MemberExpr _ (At spot) m (after between m rest)))
-within_laid (shapes.call at c es none) between spot m rest = at_node at kind.CallExpr _ (Within between spot) m rest ∙ ap (before between m) (sym (at_node at kind.CallExpr _ (At spot) m (after between m rest)))
-within_laid (shapes.parenthesized at e) between spot m rest = at_node at kind.ParenExpr _ (Within between spot) m rest ∙ ap (before between m) (sym (at_node at kind.ParenExpr _ (At spot) m (after between m rest)))
-within_laid (shapes.looser e) between spot m rest = within_laid e between spot m rest
-within_laid (shapes.element at at' o e) between spot m rest = at_node at kind.MemberExpr _ (Within between spot) m rest ∙ ap (before between m) (sym (at_node at kind.MemberExpr _ (At spot) m (after between m rest)))
-within_laid (shapes.prefix_update at o e) between spot m rest = at_node at (kind.UpdateExpr o true) _ (Within between spot) m rest ∙ ap (before between m) (sym (at_node at (kind.UpdateExpr o true) _ (At spot) m (after between m rest)))
-within_laid (shapes.postfix_update at o e) between spot m rest = at_node at (kind.UpdateExpr o false) _ (Within between spot) m rest ∙ ap (before between m) (sym (at_node at (kind.UpdateExpr o false) _ (At spot) m (after between m rest)))
-within_laid (shapes.await_expression at e) between spot m rest = at_node at kind.AwaitExpr _ (Within between spot) m rest ∙ ap (before between m) (sym (at_node at kind.AwaitExpr _ (At spot) m (after between m rest)))
-within_laid (shapes.unary_expression at o e) between spot m rest = at_node at (kind.UnaryExpr o) _ (Within between spot) m rest ∙ ap (before between m) (sym (at_node at (kind.UnaryExpr o) _ (At spot) m (after between m rest)))
-within_laid (shapes.binary_expression at {operator = o} i x y) between spot m rest = at_node at (kind.BinExpr o) _ (Within between spot) m rest ∙ ap (before between m) (sym (at_node at (kind.BinExpr o) _ (At spot) m (after between m rest)))
-within_laid (shapes.exponentiation at l r) between spot m rest = at_node at (kind.BinExpr op.Exp) _ (Within between spot) m rest ∙ ap (before between m) (sym (at_node at (kind.BinExpr op.Exp) _ (At spot) m (after between m rest)))
-within_laid (shapes.both at l r) between spot m rest = at_node at (kind.BinExpr op.LogicalAnd) _ (Within between spot) m rest ∙ ap (before between m) (sym (at_node at (kind.BinExpr op.LogicalAnd) _ (At spot) m (after between m rest)))
-within_laid (shapes.either at l r) between spot m rest = at_node at (kind.BinExpr op.LogicalOr) _ (Within between spot) m rest ∙ ap (before between m) (sym (at_node at (kind.BinExpr op.LogicalOr) _ (At spot) m (after between m rest)))
-within_laid (shapes.coalesced at i l r) between spot m rest = at_node at (kind.BinExpr op.NullishCoalescing) _ (Within between spot) m rest ∙ ap (before between m) (sym (at_node at (kind.BinExpr op.NullishCoalescing) _ (At spot) m (after between m rest)))
-within_laid (shapes.assignment_expression at o t v) between spot m rest = at_node at (kind.AssignExpr o) _ (Within between spot) m rest ∙ ap (before between m) (sym (at_node at (kind.AssignExpr o) _ (At spot) m (after between m rest)))
-within_laid (shapes.conditional_expression at t x y) between spot m rest = at_node at kind.CondExpr _ (Within between spot) m rest ∙ ap (before between m) (sym (at_node at kind.CondExpr _ (At spot) m (after between m rest)))
-within_laid (shapes.sequence_expression at x y es) between spot m rest = at_node at kind.SeqExpr _ (Within between spot) m rest ∙ ap (before between m) (sym (at_node at kind.SeqExpr _ (At spot) m (after between m rest)))
+within_laid is between spot m rest =
+    let p = plain is in
+    let cs = map laid p.children in
+    rw p.is (at_node p.at p.kind p.children (Within between spot) m rest ∙ (within_by p.kind p.plain cs between spot m rest ∙ ap (before between m) (sym (at_node p.at p.kind p.children (At spot) m (after between m rest)))))
 
 initializer_laid : {n : Node} (is : IsInitializer n) (m : List ℕ) (us : Items) → (laid n).at (Within Equals (free 1)) m (render us) ≡ render (initializer_tokens is us)
 unfolding render
