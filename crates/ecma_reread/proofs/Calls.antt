@@ -27,14 +27,13 @@ use Rattle.ecma_tokens.specs.Items as items
 use Rattle.ecma_tokens.specs.Items.{Tok, sign, Gap, no_gap, Items, it}
 use Rattle.ecma_reread.specs.Machine.{with_front, means}
 use Rattle.ecma_reread.specs.Shapes as shapes
-use Rattle.ecma_reread.specs.Shapes.{Level, IsPlainName, IsIdent, ident, IsKey, key, IsExpression, IsArguments, AreExpressions}
-use Rattle.ecma_reread.specs.Tokens.{bare, blank, ident_word, key_word, own_sign, unary_gap, expression_tokens, arguments_tokens, more_tokens, expression_kind, expression_parts, bare_expression, bare_arguments, bare_expressions}
+use Rattle.ecma_reread.specs.Shapes.{Level, IsPlainName, IsIdent, ident, IsKey, key, IsExpression, IsElement, IsArguments, AreElements, AreExpressions}
+use Rattle.ecma_reread.specs.Tokens.{bare, blank, ident_word, key_word, own_sign, unary_gap, expression_tokens, element_tokens, arguments_tokens, elements_tokens, expression_kind, expression_parts, bare_element, bare_arguments, bare_elements}
 use Rattle.ecma_reread.proofs.Levels.{means_is}
 use Rattle.ecma_reread.proofs.Fronts.{Front, exactly, Begins, at_token, IsName, is_known, refuses_at, refused_at, refuses_all, all_refused}
 use Rattle.ecma_reread.proofs.Heads.{call_made}
 use Rattle.ecma_reread.proofs.Forms.{Laid, s, behind_params, Reads, Refuses, linked_param, Form}
-use Rattle.ecma_reread.proofs.Towers.{Ends}
-use Rattle.ecma_reread.proofs.Bindings.{ends_no_equals, Stands, from_form, loosened, standing, used}
+use Rattle.ecma_reread.proofs.Bindings.{Stands, from_form, loosened, standing}
 use Rattle.ecma_reread.proofs.Operations.{await_form, power_form, unary_form, binary_form}
 use Rattle.ecma_reread.proofs.Elements.{element_form}
 use Rattle.ecma_reread.proofs.Updates.{prefix_form, postfix_form}
@@ -43,11 +42,12 @@ use Rattle.ecma_reread.proofs.Logicals.{both_form, either_form}
 use Rattle.ecma_reread.proofs.Coalescing.{coalesced_form}
 use Rattle.ecma_reread.proofs.Assignments.{assignment_form}
 use Rattle.ecma_reread.proofs.Repeats.{Repeats, repeats_end, repeats_more, repeated}
-use Rattle.ecma_reread.proofs.Expressions.{Single, string_single, number_single, this_single, big_int_single, null_single, true_single, false_single, single_form, name_form, member_form, parenthesized_form, parenthesis_ends}
-use Rattle.ecma_reread.proofs.Params.{params_end, params_by, parameters_refused, no_body_behind}
-use Rattle.ecma_reread.proofs.Lists.{Forms, Followed, more_followed, more_params}
+use Rattle.ecma_reread.proofs.Expressions.{Single, string_single, number_single, this_single, big_int_single, null_single, true_single, false_single, single_form, name_form, member_form, parenthesized_form, parenthesis_ends, comma_ends}
+use Rattle.ecma_reread.proofs.Params.{Params, params_end, params_more, params_by, parameters_refused, no_body_behind}
+use Rattle.ecma_reread.proofs.Lists.{Forms, Followed}
 use Rattle.ecma_reread.proofs.Sequences.{sequence_form}
 use Rattle.ecma_reread.proofs.Async.{async_form}
+use Rattle.ecma_reread.proofs.Spreads.{ElementForm, element_read, element_param}
 
 -- no argument begins with `)`
 no_argument : refuses_all (exactly (sign (codes ")"))) element ≡ true
@@ -60,34 +60,31 @@ unfolding param rest_pattern default_value pattern_body array_pattern object_pat
 no_param_there = refl
 
 module _ (assigned : Bool) where
-  element_read : {f : Laid} {k : Kind} {ns : List Node} → Stands assigned shapes.assignment f k ns → (g : Gap) (us : Items) (e : Front) → Begins e us → Ends e → Reads assigned element (f g us) (bare k ns ∷ []) us
-  unfolding element spread
-  element_read {f} S g us e b z =
-      let L = S.lead in
-      rw (refused_at assigned (means assigned) (punct (codes "...")) L.front (f g us) (L.begins g us) L.no_spread, used assigned S g us e b z) refl
+  -- what is said of each argument
+  abbrev ElementForms : {es : List Node} → AreElements es → Type 0
+  ElementForms shapes.no_elements = Unit {0}
+  ElementForms (shapes.more_elements e es) = ElementForm assigned e × ElementForms es
 
   abbrev ArgumentForms : {n : Node} → IsArguments n → Type 0
   ArgumentForms (shapes.no_arguments at) = Unit {0}
-  ArgumentForms (shapes.arguments at e es) = Stands assigned shapes.assignment (expression_tokens e) (expression_kind e) (expression_parts e) × Forms assigned es
+  ArgumentForms (shapes.arguments at e es) = ElementForm assigned e × ElementForms es
 
-  -- behind the arguments
-  abbrev closed : (us : Items) → Followed (s (codes ")") us)
-  closed us = record { front = exactly (sign (codes ")")); begins = at_token; ends = parenthesis_ends }
+  more_followed : {es : List Node} (is : AreElements es) (us : Items) → Followed (elements_tokens is (s (codes ")") us))
+  more_followed shapes.no_elements us = record { front = exactly (sign (codes ")")); begins = at_token; ends = parenthesis_ends }
+  more_followed (shapes.more_elements e es) us = record { front = exactly (sign (codes ",")); begins = at_token; ends = comma_ends }
 
-  more_read : {es : List Node} (is : AreExpressions es) → Forms assigned is → (us : Items) → Repeats assigned (punct (codes ",") ▸ element) (more_tokens is (s (codes ")") us)) (bare_expressions is) (s (codes ")") us)
+  more_read : {es : List Node} (is : AreElements es) → ElementForms is → (us : Items) → Repeats assigned (punct (codes ",") ▸ element) (elements_tokens is (s (codes ")") us)) (bare_elements is) (s (codes ")") us)
   unfolding element spread
-  more_read shapes.no_expressions F us = repeats_end assigned (punct (codes ",") ▸ element) (s (codes ")") us) refl
-  more_read (shapes.more_expressions e es) F us =
-      let w = more_followed es (s (codes ")") us) (closed us) in
-      repeats_more assigned (punct (codes ",") ▸ element) refl _ (more_tokens es (s (codes ")") us)) (s (codes ")") us) (bare_expression e ∷ []) (bare_expressions es)
-      (ap (with_front []) (element_read F.0 blank (more_tokens es (s (codes ")") us)) w.front w.begins w.ends)) (more_read es F.1 us)
+  more_read shapes.no_elements F us = repeats_end assigned (punct (codes ",") ▸ element) (s (codes ")") us) refl
+  more_read (shapes.more_elements e es) F us =
+      repeats_more assigned (punct (codes ",") ▸ element) refl _ (elements_tokens es (s (codes ")") us)) (s (codes ")") us) (bare_element e ∷ []) (bare_elements es)
+      (ap (with_front []) (element_read assigned e F.0 blank (elements_tokens es (s (codes ")") us)) (more_followed es us))) (more_read es F.1 us)
 
   arguments_read : {n : Node} (is : IsArguments n) → ArgumentForms is → (us : Items) → Reads assigned arguments (s (codes "(") (arguments_tokens is (s (codes ")") us))) (list_node (bare_arguments is) ∷ []) us
   unfolding arguments
   arguments_read (shapes.no_arguments at) F us = rw (all_refused assigned element (exactly (sign (codes ")"))) (s (codes ")") us) at_token no_argument) refl
   arguments_read (shapes.arguments at e es) F us =
-      let w = more_followed es (s (codes ")") us) (closed us) in
-      rw (element_read F.0 no_gap (more_tokens es (s (codes ")") us)) w.front w.begins w.ends, repeated assigned (punct (codes ",") ▸ element) (more_tokens es (s (codes ")") us)) (s (codes ")") us) (bare_expressions es) (more_read es F.1 us), append-nil (bare_expressions es)) refl
+      rw (element_read assigned e F.0 no_gap (elements_tokens es (s (codes ")") us)) (more_followed es us), repeated assigned (punct (codes ",") ▸ element) (elements_tokens es (s (codes ")") us)) (s (codes ")") us) (bare_elements es) (more_read es F.1 us), append-nil (bare_elements es)) refl
 
   call_read : {n : Node} (is : IsArguments n) → ArgumentForms is → (us : Items) (ys : List Node) (vs : Items) → Reads assigned links us ys vs
       → Reads assigned links (s (codes "(") (arguments_tokens is (s (codes ")") us))) (bare kind.CallExpr (absent ∷ list_node (bare_arguments is) ∷ absent ∷ []) ∷ ys) vs
@@ -96,15 +93,18 @@ module _ (assigned : Bool) where
 
   -- the arguments are no parameters of an arrow function where no body of one follows
 
+  more_params : {es : List Node} (is : AreElements es) → ElementForms is → (us : Items) → Refuses assigned behind_params (s (codes ")") us) → Params assigned (elements_tokens is (s (codes ")") us))
+  more_params shapes.no_elements F us h = params_end assigned (s (codes ")") us) (exactly (sign (codes ")"))) at_token refl h
+  more_params (shapes.more_elements e es) F us h =
+      let vs = elements_tokens es (s (codes ")") us) in
+      params_more assigned (element_tokens e blank vs) vs (element_param assigned e F.0 blank vs (more_followed es us)) (more_params es F.1 us h)
+
   no_params : {n : Node} (is : IsArguments n) → ArgumentForms is → (us : Items) → Refuses assigned behind_params (s (codes ")") us) → Refuses assigned (params ▸ behind_params) (arguments_tokens is (s (codes ")") us))
   unfolding params
   no_params (shapes.no_arguments at) F us h = rw (all_refused assigned param (exactly (sign (codes ")"))) (s (codes ")") us) at_token no_param_there, h) refl
   no_params (shapes.arguments at e es) F us h =
-      let c = closed us in
-      let w = more_followed es (s (codes ")") us) c in
-      let E = F.0 in
-      params_by assigned (expression_tokens e no_gap (more_tokens es (s (codes ")") us))) (more_tokens es (s (codes ")") us)) (E.param no_gap (more_tokens es (s (codes ")") us)) w.front w.begins (ends_no_equals w.front w.ends, w.ends))
-      (more_params assigned es F.1 (s (codes ")") us) c (params_end assigned (s (codes ")") us) c.front c.begins refl h))
+      let vs = elements_tokens es (s (codes ")") us) in
+      params_by assigned (element_tokens e no_gap vs) vs (element_param assigned e F.0 no_gap vs (more_followed es us)) (more_params es F.1 us h)
 
   call_no_rest : {n : Node} (is : IsArguments n) → ArgumentForms is → (us : Items) (e : Front) → Begins e us → refuses_at e (arrow_body false) ≡ true
       → Refuses assigned (arrow_rest false false) (s (codes "(") (arguments_tokens is (s (codes ")") us)))
@@ -201,7 +201,15 @@ module _ (assigned : Bool) where
 
     argument_forms : {n : Node} (is : IsArguments n) → ArgumentForms is
     argument_forms (shapes.no_arguments at) = tt
-    argument_forms (shapes.arguments at e es) = (expression_form e, expression_forms es)
+    argument_forms (shapes.arguments at e es) = (element_form_of e, element_forms es)
+
+    element_form_of : {n : Node} (is : IsElement n) → ElementForm assigned is
+    element_form_of (shapes.one e) = expression_form e
+    element_form_of (shapes.spread at e) = expression_form e
+
+    element_forms : {es : List Node} (is : AreElements es) → ElementForms is
+    element_forms shapes.no_elements = tt
+    element_forms (shapes.more_elements e es) = (element_form_of e, element_forms es)
 
     expression_forms : {es : List Node} (is : AreExpressions es) → Forms assigned is
     expression_forms shapes.no_expressions = tt

@@ -42,7 +42,7 @@ use Rattle.ecma_grammar.specs.Made.{made}
 use Rattle.ecma_reread.proofs.Fronts.{is_known, Front, exactly, a_name, Begins, at_token, at_name, IsName, front_of, refuses_at, refused_at, refuses_all, all_refused}
 use Rattle.ecma_reread.proofs.Towers.{Tower, here, later, sooner, climb, excluded, Opens, Starts, Undeclared, Ends}
 use Rattle.ecma_reread.proofs.Heads.{is_head, member_made}
-use Rattle.ecma_reread.proofs.Forms.{Laid, s, heads, Reads, Refuses, AsParam, no_param, whole_param, linked_param, Form}
+use Rattle.ecma_reread.proofs.Forms.{Laid, s, heads, Reads, Refuses, ends_no_item, AsParam, item_refused, whole_item, linked_param, Form}
 use Rattle.ecma_reread.proofs.Bindings.{Stands, expression_read}
 use Rattle.ecma_reread.proofs.Params.{params_end, parameters_refused, no_body_behind}
 
@@ -77,7 +77,7 @@ pub record Single (t : Tok) (k : Kind) : Type 0 where
   pub no_arrow : refuses_all (exactly t) (arrow false false) ≡ true
   pub no_label : refuses_at (exactly t) labeled ≡ true
   pub no_param : refuses_all (exactly t) param ≡ true
-  pub no_end : refuses_at (exactly t) (punct (codes ")")) ≡ true
+  pub no_end : ends_no_item (exactly t) ≡ true
   pub taken : (assigned : Bool) (g : Gap) (us : Items) → interp assigned (means assigned) leaf_of (it g t us) ≡ read (bare k [] ∷ []) us
 
 pub string_single : (raw : List ℕ) → Single (items.string raw) (kind.Str (str_value (piece raw 1 (length raw - 1))) (Some raw))
@@ -211,9 +211,9 @@ module _ (assigned : Bool) where
       let k = front_of us in
       ap (followed_on (interp assigned (means assigned) links)) (climb assigned (means assigned) (t k.0) ts us x b k.1 h) ∙ ap (with_front (x ∷ [])) e
 
-  -- no parameter begins there, and `)` does not stand there
-  no_param_at : (f : Front) (ts us : Items) → Begins f ts → refuses_all f param ≡ true → refuses_at f (punct (codes ")")) ≡ true → AsParam assigned ts us
-  no_param_at f ts us b e z = no_param (all_refused assigned param f ts b e) (refused_at assigned (means assigned) (punct (codes ")")) f ts b z)
+  -- no parameter begins there, and nothing ends there
+  no_param_at : (f : Front) (ts us : Items) → Begins f ts → refuses_all f param ≡ true → ends_no_item f ≡ true → AsParam assigned ts us
+  no_param_at f ts us b e z = item_refused (all_refused assigned param f ts b e) f b z
 
   pub single_form : (t : Tok) (k : Kind) → Single t k → Form assigned (λ g us. it g t us) k []
   single_form t k S = record {
@@ -243,7 +243,7 @@ module _ (assigned : Bool) where
   parameter_read w n g us e b y = rw (means_is assigned part.Pattern (it g (items.key w) us), n, refused_at assigned (means assigned) (punct (codes "=")) e us b y) refl
 
   pub name_as_param : (w : List ℕ) → is_reserved w ≡ false → (g : Gap) (us : Items) (e : Front) → Begins e us → refuses_at e (punct (codes "=")) ≡ true → AsParam assigned (it g (items.key w) us) us
-  name_as_param w n g us e b y = whole_param (parameter w ∷ []) (parameter_read w n g us e b y)
+  name_as_param w n g us e b y = whole_item (parameter w ∷ []) (parameter_read w n g us e b y)
 
   abbrev defaulted : List ℕ → Node → Node
   defaulted w n =
@@ -254,7 +254,7 @@ module _ (assigned : Bool) where
   default_read w z g ts us n h = rw (means_is assigned part.Pattern (it g (items.key w) (it blank (sign (codes "=")) ts)), z, h) refl
 
   pub name_with_default : (w : List ℕ) → is_reserved w ≡ false → (g : Gap) (ts us : Items) (n : Node) → means assigned (part.Assign false false) ts ≡ read (n ∷ []) us → AsParam assigned (it g (items.key w) (it blank (sign (codes "=")) ts)) us
-  name_with_default w z g ts us n h = whole_param (defaulted w n ∷ []) (default_read w z g ts us n h)
+  name_with_default w z g ts us n h = whole_item (defaulted w n ∷ []) (default_read w z g ts us n h)
 
   pub name_no_rest : (w : List ℕ) → is_reserved w ≡ false → (g : Gap) (us : Items) (e : Front) → Begins e us → refuses_at e (arrow_body false) ≡ true → Refuses assigned (arrow_rest false false) (it g (items.key w) us)
   unfolding arrow_rest names.binding_ident

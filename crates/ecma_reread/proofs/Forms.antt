@@ -1,5 +1,5 @@
 -- What an expression that is laid out is read as: what is said of each form, and what follows from it in each place.
-use Rattle.std.proofs.Common.{◌≡◌, ℕ, Bool, true, false, ◌&&◌, List, [], ◌∷◌, ◌++◌, codes, ap, ◌∙◌, append-nil, Some, None, unwrap_or}
+use Rattle.std.proofs.Common.{◌≡◌, ℕ, Bool, true, false, ◌&&◌, List, [], ◌∷◌, ◌++◌, codes, refl, ap, ◌∙◌, append-nil, Some, None, unwrap_or}
 use Rattle.std.proofs.lemmas.Bool.{and_parts}
 use Rattle.ecma_kind.specs.declared.kind.Kind.{Kind}
 use Rattle.ecma_tree.specs.declared.node.Node.{Node}
@@ -22,7 +22,7 @@ use Rattle.ecma_reread.specs.Tokens.{blank}
 use Rattle.ecma_reread.specs.Machine.{read, fails, built_on, interp, means}
 use Rattle.ecma_reread.specs.Shapes as shapes
 use Rattle.ecma_reread.proofs.Fronts.{Front, exactly, Begins, at_token, refuses_at, refused_at, refuses_all, all_refused, passes_at, passed_at}
-use Rattle.ecma_reread.proofs.Towers.{refuses_choices, excluded, private_in, Opens, Starts, closes}
+use Rattle.ecma_reread.proofs.Towers.{without, refuses_choices, excluded, private_in, Opens, Starts, closes}
 use Rattle.ecma_reread.proofs.Heads.{bare, is_head}
 
 abbrev pub Laid : Type 0
@@ -39,6 +39,13 @@ heads = super_of_link // import_meta // import_call // construction // primary
 abbrev pub behind_params : Grammar
 behind_params = punct (codes ")") ▸ (marked some_return_annotation ▸ arrow_body false ▸ before_colon false // put Absent ▸ arrow_body false)
 
+-- no token that ends a list, or an item of one
+abbrev pub ends_no_list : Front → Bool
+ends_no_list e = refuses_at e (punct (codes ")")) && (refuses_at e (punct (codes "]")) && refuses_at e (punct (codes "}")))
+
+abbrev pub ends_no_item : Front → Bool
+ends_no_item e = refuses_at e (punct (codes ",")) && ends_no_list e
+
 module _ (assigned : Bool) where
   abbrev pub Reads : Grammar → Items → List Node → Items → Type 0
   Reads g ts xs us = interp assigned (means assigned) g ts ≡ read xs us
@@ -46,17 +53,21 @@ module _ (assigned : Bool) where
   abbrev pub Refuses : Grammar → Items → Type 0
   Refuses g ts = interp assigned (means assigned) g ts ≡ fails
 
-  -- what is read of an expression as a parameter: nothing, where no `)` stands; all of it; or what stands before a link
-  pub data AsParam (ts us : Items) : Type 0 where
-    no_param : Refuses param ts → Refuses (punct (codes ")")) ts → AsParam ts us
-    whole_param : (xs : List Node) → Reads param ts xs us → AsParam ts us
-    param_before : (xs : List Node) (vs : Items) (e : Front) → Begins e vs → refuses_at e (punct (codes ",")) ≡ true → refuses_at e (punct (codes ")")) ≡ true → Reads param ts xs vs → AsParam ts us
+  -- what is read of an expression as an item of another list: nothing; all of it; or what stands before a token that ends no item
+  pub data AsItem (item : Grammar) (ts us : Items) : Type 0 where
+    item_refused : Refuses item ts → (e : Front) → Begins e ts → ends_no_item e ≡ true → AsItem item ts us
+    whole_item : (xs : List Node) → Reads item ts xs us → AsItem item ts us
+    item_before : (xs : List Node) (vs : Items) (e : Front) → Begins e vs → ends_no_item e ≡ true → Reads item ts xs vs → AsItem item ts us
+
+  -- as a parameter
+  abbrev pub AsParam : Items → Items → Type 0
+  AsParam ts us = AsItem param ts us
 
   -- with links behind it
-  pub linked_param : {ts us vs : Items} {e : Front} → Begins e us → refuses_at e (punct (codes ",")) ≡ true → refuses_at e (punct (codes ")")) ≡ true → AsParam ts us → AsParam ts vs
-  linked_param b c p (no_param h z) = no_param h z
-  linked_param {us = us} {e = e} b c p (whole_param xs h) = param_before xs us e b c p h
-  linked_param b c p (param_before xs vs e d x y h) = param_before xs vs e d x y h
+  pub linked_param : {ts us vs : Items} {e : Front} → Begins e us → refuses_at e (punct (codes ",")) ≡ true → ends_no_list e ≡ true → AsParam ts us → AsParam ts vs
+  linked_param b c p (item_refused h e d z) = item_refused h e d z
+  linked_param {us = us} {e = e} b c p (whole_item xs h) = item_before xs us e b (rw (c, p) refl) h
+  linked_param b c p (item_before xs vs e d z h) = item_before xs vs e d z h
 
   -- members, calls and what they begin with, as they are laid out
   pub record Form (f : Laid) (k : Kind) (ns : List Node) : Type 0 where
@@ -121,15 +132,15 @@ apart e = refuses_at e (arrow_body false) && (refuses_at e (arrow_rest false fal
 
 -- and no parameter does
 abbrev pub ends_no_param : Front → Bool
-ends_no_param e = refuses_at e (punct (codes "=")) && (refuses_at e (punct (codes ",")) && refuses_at e (punct (codes ")")))
+ends_no_param e = refuses_at e (punct (codes "=")) && ends_no_item e
 
 abbrev begins_no_param : Front → Bool
-begins_no_param e = refuses_all e param && refuses_at e (punct (codes ")"))
+begins_no_param e = refuses_all e param && ends_no_item e
 
 -- a token with which an expression begins, but nothing that is tried before one
 abbrev pub only_opens : Front → Bool
 only_opens e =
-    refuses_choices 10 e statement_body && (refuses_choices 3 e module_item && (refuses_at e (punct (codes "...")) && (refuses_at e (yield_ false) && (refuses_at e private_in
+    refuses_choices 9 e (without 1 statement_body) && (refuses_choices 3 e module_item && (refuses_at e (punct (codes "...")) && (refuses_at e (yield_ false) && (refuses_at e private_in
     && (refuses_all e (arrow false false) && (refuses_at e labeled && (refuses_at e declaration && (refuses_at e excluded && begins_no_param e))))))))
 
 module _ (assigned : Bool) where
@@ -156,7 +167,7 @@ module _ (assigned : Bool) where
   lead_by t z rest =
       let e = exactly t in
       let p = means assigned in
-      let a = and_parts (refuses_choices 10 e statement_body) _ z in
+      let a = and_parts (refuses_choices 9 e (without 1 statement_body)) _ z in
       let b = and_parts (refuses_choices 3 e module_item) _ a.1 in
       let c = and_parts (refuses_at e (punct (codes "..."))) _ b.1 in
       let d = and_parts (refuses_at e (yield_ false)) _ c.1 in
@@ -192,7 +203,7 @@ module _ (assigned : Bool) where
   pub param_by : (t : Tok) → only_opens (exactly t) ≡ true → (rest : Items → Items) (g : Gap) (us : Items) → AsParam assigned (it g t (rest us)) us
   param_by t z rest g us =
       let e = exactly t in
-      let a = and_parts (refuses_choices 10 e statement_body) _ z in
+      let a = and_parts (refuses_choices 9 e (without 1 statement_body)) _ z in
       let b = and_parts (refuses_choices 3 e module_item) _ a.1 in
       let c = and_parts (refuses_at e (punct (codes "..."))) _ b.1 in
       let d = and_parts (refuses_at e (yield_ false)) _ c.1 in
@@ -202,4 +213,4 @@ module _ (assigned : Bool) where
       let m = and_parts (refuses_at e declaration) _ l.1 in
       let n = and_parts (refuses_at e excluded) _ m.1 in
       let o = and_parts (refuses_all e param) _ n.1 in
-      no_param (all_refused assigned param e (it g t (rest us)) at_token o.0) (refused_at assigned (means assigned) (punct (codes ")")) e (it g t (rest us)) at_token o.1)
+      item_refused (all_refused assigned param e (it g t (rest us)) at_token o.0) e at_token o.1

@@ -16,7 +16,7 @@ use Rattle.ecma_tree.specs.declared.node.Node.{Node}
 use Rattle.ecma_tokens.specs.Items as items
 use Rattle.ecma_tokens.specs.Items.{Tok, sign, Gap, no_gap, Items, ends, it, render, token_text}
 use Rattle.ecma_tokens.specs.Good.{IsGap, IsToken, Good}
-use Rattle.ecma_tokens.specs.Taking.{new_line_in}
+use Rattle.ecma_tokens.specs.Taking.{refused, new_line_in, punct_in}
 use Rattle.ecma_tokens.specs.Joins.{joins_next, Fine, Joined}
 use Rattle.ecma_print.specs.declared.place.Beside.{Beside}
 use Rattle.ecma_print.specs.declared.place.Beside.TheVariants.{NoNeighbor, BehindMinus, BehindPlus}
@@ -24,8 +24,8 @@ use Rattle.ecma_print.specs.Operators.{unary_sign, update_sign}
 use Rattle.ecma_tokens.proofs.Wholes.{some_text}
 use Rattle.ecma_reread.specs.Machine.{count}
 use Rattle.ecma_reread.specs.Shapes as shapes
-use Rattle.ecma_reread.specs.Shapes.{Level, looser_than, IsOperator, IsIdent, ident, IsKey, key, IsLexical, let_word, const_word, IsExpression, IsArguments, AreExpressions, IsInitializer, IsDeclarator, AreDeclarators, IsStatement, AreStatements, IsModule}
-use Rattle.ecma_reread.specs.Tokens.{blank, line, sign_of, assign_token, update_token, unary_token, binary_token, own_sign, unary_gap, ident_word, key_word, lexical_word, expression_tokens, arguments_tokens, more_tokens, declarator_tokens, declarators_tokens, statement_tokens, statements_tokens, module_tokens}
+use Rattle.ecma_reread.specs.Shapes.{Level, looser_than, IsOperator, IsIdent, ident, IsKey, key, IsLexical, let_word, const_word, IsExpression, IsElement, IsArguments, AreElements, AreExpressions, IsInitializer, IsDeclarator, AreDeclarators, IsStatement, AreStatements, IsModule}
+use Rattle.ecma_reread.specs.Tokens.{blank, line, sign_of, assign_token, update_token, unary_token, binary_token, own_sign, unary_gap, ident_word, key_word, lexical_word, expression_tokens, element_tokens, arguments_tokens, elements_tokens, more_tokens, declarator_tokens, declarators_tokens, statement_tokens, statements_tokens, module_tokens}
 
 -- each token has a text
 pub good_long : (ts : Items) → Good ts → count ts ≤ length (render ts)
@@ -158,8 +158,22 @@ bracket_by (by_update PlusPlus) us = refl
 bracket_by (by_operator Minus) us = refl
 bracket_by h us = refl
 
+dots_by : {t : Tok} {b : Beside} → Opens t b → (us : Items) → joins_next (sign (codes "...")) (it no_gap t us) ≡ true
+unfolding punctuators
+dots_by (by_update PlusPlus) us = refl
+dots_by (by_operator Minus) us = refl
+dots_by h us = refl
+
+dots_join : {level : Level} {e : Node} (is : IsExpression level e) (us : Items) → joins_next (sign (codes "...")) (expression_tokens is no_gap us) ≡ true
+dots_join is us = let b = begun is us in rw (b.is no_gap) (dots_by b.opens b.rest)
+
 opening_joins : {level : Level} {e : Node} (is : IsExpression level e) (us : Items) → joins_next (sign (codes "(")) (expression_tokens is no_gap us) ≡ true
 opening_joins is us = let b = begun is us in rw (b.is no_gap) (opening_by b.opens b.rest)
+
+element_opening_joins : {n : Node} (is : IsElement n) (us : Items) → joins_next (sign (codes "(")) (element_tokens is no_gap us) ≡ true
+unfolding punctuators
+element_opening_joins (shapes.one e) us = opening_joins e us
+element_opening_joins (shapes.spread at e) us = refl
 
 update_by : (o : UpdateOp) {t : Tok} {b : Beside} → Opens t b → (us : Items) → joins_next (update_token o) (it no_gap t us) ≡ true
 unfolding punctuators
@@ -179,8 +193,21 @@ bracket_joins is us = let b = begun is us in rw (b.is no_gap) (bracket_by b.open
 pub no_new_line : {level : Level} {e : Node} (is : IsExpression level e) (us : Items) → new_line_in (expression_tokens is blank us) ≡ false
 no_new_line is us = let b = begun is us in rw (b.is blank) refl
 
+brace_by : {t : Tok} {b : Beside} → Opens t b → (g : Gap) (us : Items) → punct_in (codes "{") (it g t us) ≡ refused
+brace_by (by_update PlusPlus) g us = refl
+brace_by (by_operator Minus) g us = refl
+brace_by h g us = refl
+
+-- it begins with no `{`
+pub no_brace : {level : Level} {e : Node} (is : IsExpression level e) (g : Gap) (us : Items) → punct_in (codes "{") (expression_tokens is g us) ≡ refused
+no_brace is g us = let b = begun is us in rw (b.is g) (brace_by b.opens g b.rest)
+
 blank_joins : (t : Tok) {level : Level} {e : Node} (is : IsExpression level e) (us : Items) → joins_next t (expression_tokens is blank us) ≡ true
 blank_joins t is us = let b = begun is us in rw (b.is blank) refl
+
+element_blank_joins : (t : Tok) {n : Node} (is : IsElement n) (us : Items) → joins_next t (element_tokens is blank us) ≡ true
+element_blank_joins t (shapes.one e) us = blank_joins t e us
+element_blank_joins t (shapes.spread at e) us = refl
 
 after_line : {level : Level} {e : Node} (is : IsExpression level e) (us : Items) → joins_next (sign (codes ";")) (expression_tokens is line us) ≡ true
 after_line is us = let b = begun is us in rw (b.is line) refl
@@ -345,6 +372,10 @@ module _ (words : Words) where
   more_soft shapes.no_expressions z = z
   more_soft (shapes.more_expressions e es) z = comma
 
+  elements_soft : {es : List Node} (is : AreElements es) {us : Items} → Soft false us → Soft false (elements_tokens is us)
+  elements_soft shapes.no_elements z = z
+  elements_soft (shapes.more_elements e es) z = comma
+
   update_fine : (o : UpdateOp) → Fine (update_token o)
   unfolding punctuators
   update_fine PlusPlus = refl
@@ -441,7 +472,16 @@ module _ (words : Words) where
     arguments_joined : {n : Node} (is : IsArguments n) (us : Items) → Joined (sign_of (codes ")") us) → Joined (sign_of (codes "(") (arguments_tokens is (sign_of (codes ")") us)))
     arguments_joined (shapes.no_arguments at) us j = (no_gap_is, refl, refl, j)
     arguments_joined (shapes.arguments at e es) us j =
-        (no_gap_is, refl, opening_joins e (more_tokens es (sign_of (codes ")") us)), expression_joined e no_gap no_gap_is (more_tokens es (sign_of (codes ")") us)) (more_soft es closing) (more_joined es (sign_of (codes ")") us) closing j))
+        (no_gap_is, refl, element_opening_joins e (elements_tokens es (sign_of (codes ")") us)), element_joined e no_gap no_gap_is (elements_tokens es (sign_of (codes ")") us)) (elements_soft es closing) (elements_joined es us j))
+
+    element_joined : {n : Node} (is : IsElement n) (g : Gap) → IsGap g → (us : Items) → Soft false us → Joined us → Joined (element_tokens is g us)
+    element_joined (shapes.one e) g h us z j = expression_joined e g h us z j
+    element_joined (shapes.spread at e) g h us z j = (h, refl, dots_join e us, expression_joined e no_gap no_gap_is us z j)
+
+    elements_joined : {es : List Node} (is : AreElements es) (us : Items) → Joined (sign_of (codes ")") us) → Joined (elements_tokens is (sign_of (codes ")") us))
+    elements_joined shapes.no_elements us j = j
+    elements_joined (shapes.more_elements e es) us j =
+        (no_gap_is, refl, element_blank_joins (sign (codes ",")) e (elements_tokens es (sign_of (codes ")") us)), element_joined e blank blank_is (elements_tokens es (sign_of (codes ")") us)) (elements_soft es closing) (elements_joined es us j))
 
     more_joined : {es : List Node} (is : AreExpressions es) (us : Items) → Soft false us → Joined us → Joined (more_tokens is us)
     more_joined shapes.no_expressions us z j = j

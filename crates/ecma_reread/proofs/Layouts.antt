@@ -32,8 +32,8 @@ use Rattle.ecma_print.specs.Layout.{in_place, by_itself, lay_step, laid, layout}
 use Rattle.ecma_tokens.specs.Items as items
 use Rattle.ecma_tokens.specs.Items.{Tok, sign, Gap, no_gap, Items, ends, it, token_text, render}
 use Rattle.ecma_reread.specs.Shapes as shapes
-use Rattle.ecma_reread.specs.Shapes.{Level, looser_than, IsOperator, IsIdent, ident, IsKey, key, IsAbsent, IsLexical, let_word, const_word, IsExpression, IsArguments, AreExpressions, IsInitializer, IsDeclarator, AreDeclarators, IsStatement, AreStatements, IsModule}
-use Rattle.ecma_reread.specs.Tokens.{blank, line, sign_of, assign_token, update_token, unary_token, binary_token, own_sign, unary_gap, expression_tokens, arguments_tokens, more_tokens, initializer_tokens, declarator_tokens, declarators_tokens, statement_tokens, statements_tokens, module_tokens}
+use Rattle.ecma_reread.specs.Shapes.{Level, looser_than, IsOperator, IsIdent, ident, IsKey, key, IsAbsent, IsLexical, let_word, const_word, IsExpression, IsElement, IsArguments, AreElements, AreExpressions, IsInitializer, IsDeclarator, AreDeclarators, IsStatement, AreStatements, IsModule}
+use Rattle.ecma_reread.specs.Tokens.{blank, line, sign_of, assign_token, update_token, unary_token, binary_token, own_sign, unary_gap, expression_tokens, element_tokens, arguments_tokens, elements_tokens, more_tokens, initializer_tokens, declarator_tokens, declarators_tokens, statement_tokens, statements_tokens, module_tokens}
 
 laid_node : (at : Span) (k : Kind) (cs : List Node) → laid (node_of at k cs) ≡ record { kind = k; at = in_place k (map laid cs); parts = map by_itself (map laid cs) }
 laid_node at k cs = fold-roll-Node Laid lay_step (record { span = at; kind = k; children = cs })
@@ -401,6 +401,11 @@ gap_out (shapes.assignment_expression at o t v) g us = gap_out t g (it blank (as
 gap_out (shapes.conditional_expression at t x y) g us = gap_out t g (it blank (sign (codes "?")) (expression_tokens x blank (it blank (sign (codes ":")) (expression_tokens y blank us))))
 gap_out (shapes.sequence_expression at x y es) g us = gap_out x g (sign_of (codes ",") (expression_tokens y blank (more_tokens es us)))
 
+element_gap_out : {n : Node} (is : IsElement n) (g : Gap) (us : Items) → render (element_tokens is g us) ≡ g.blanks ++ render (element_tokens is no_gap us)
+unfolding render
+element_gap_out (shapes.one e) g us = gap_out e g us
+element_gap_out (shapes.spread at e) g us = refl
+
 mutual
   unfolding render
 
@@ -503,7 +508,17 @@ mutual
   arguments_laid (shapes.no_arguments at) m us = at_node at kind.List [] Arguments m (render us)
   arguments_laid (shapes.arguments at {e = e'} {es = es'} e es) m us =
       at_node at kind.List (e' ∷ es') Arguments m (render us)
-      ∙ ap (λ z. codes "(" ++ z) (ap (λ z. (laid e').at (At (free 1)) m z) (more_laid es m us) ∙ expression_laid e (free 1) calm_1 m (more_tokens es (sign_of (codes ")") us)))
+      ∙ ap (λ z. codes "(" ++ z) (ap (λ z. (laid e').at (At (free 1)) m z) (elements_laid es m us) ∙ element_laid e m (elements_tokens es (sign_of (codes ")") us)))
+
+  element_laid : {n : Node} (is : IsElement n) (m : List ℕ) (us : Items) → (laid n).at (At (free 1)) m (render us) ≡ render (element_tokens is no_gap us)
+  element_laid (shapes.one e) m us = expression_laid e (free 1) calm_1 m us
+  element_laid (shapes.spread at {e = e'} e) m us = at_node at kind.SpreadElement (e' ∷ []) (At (free 1)) m (render us) ∙ ap (λ z. codes "..." ++ z) (expression_laid e (free 1) calm_1 m us)
+
+  elements_laid : {es : List Node} (is : AreElements es) (m : List ℕ) (us : Items) → more_commas (free 1) (map laid es) m (codes ")" ++ render us) ≡ render (elements_tokens is (sign_of (codes ")") us))
+  elements_laid shapes.no_elements m us = refl
+  elements_laid (shapes.more_elements {e = e'} e es) m us =
+      ap (λ z. codes ", " ++ z) (ap (λ z. (laid e').at (At (free 1)) m z) (elements_laid es m us) ∙ element_laid e m (elements_tokens es (sign_of (codes ")") us)))
+      ∙ ap (λ z. codes "," ++ z) (sym (element_gap_out e blank (elements_tokens es (sign_of (codes ")") us))))
 
   more_laid : {es : List Node} (is : AreExpressions es) (m : List ℕ) (us : Items) → more_commas (free 1) (map laid es) m (codes ")" ++ render us) ≡ render (more_tokens is (sign_of (codes ")") us))
   more_laid shapes.no_expressions m us = refl

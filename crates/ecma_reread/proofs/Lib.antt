@@ -19,7 +19,10 @@ pub mod Choices
 pub mod Elements
 pub mod Assignments
 pub mod Updates
+pub mod Further
 pub mod Params
+pub mod Tried
+pub mod Spreads
 pub mod Expressions
 pub mod Async
 pub mod Lists

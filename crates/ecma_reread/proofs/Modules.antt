@@ -64,7 +64,7 @@ module _ (assigned : Bool) where
   no_statement_at_end : (g : Gap) → Refuses assigned expression_statement (ends g)
   unfolding expression_statement expression
   no_statement_at_end g =
-      ap (built_on (form.Node plain.ExprStmt)) (ap (followed_on (interp assigned (means assigned) (expression false ▸ end))) (ap (unless_on (ends g)) (refused_at assigned (means assigned) excluded the_end (ends g) at_end refl))
+      ap (built_on (form.Node plain.ExprStmt)) (ap (followed_on (interp assigned (means assigned) (expression false ▸ end))) (ap (unless_on (ends g)) (refused_at assigned (means assigned) (punct (codes "{") // excluded) the_end (ends g) at_end refl))
       ∙ ap (with_front []) (ap (followed_on (interp assigned (means assigned) end)) (ap (built_on form.Sequence) (ap (followed_on (interp assigned (means assigned) (grammar.many (punct (codes ",") ▸ assign_in false)))) (all_refused assigned (assign_in false) the_end (ends g) at_end no_expression_there)))))
 
   no_item_at_end : (g : Gap) → Refuses assigned module_item (ends g)

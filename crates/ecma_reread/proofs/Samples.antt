@@ -20,7 +20,7 @@ use Rattle.ecma_tree.specs.declared.node.Node.{Node}
 use Rattle.ecma_tree.specs.Nodes.{node_of}
 use Rattle.ecma_print.specs.Layout.{layout}
 use Rattle.ecma_tokens.specs.Items.{render}
-use Rattle.ecma_reread.specs.Shapes.{Level, assignment, IsExpression, element, postfix_update, conditional_expression, assignment_expression, unary_expression, binary_expression, plus, times, IsPlainName, ident, key, absent, const_word, looser, name, null_word, this_word, member, call, parenthesized, arguments, no_expressions, more_expressions, initializer, declarator, no_declarators, expression, declaration, no_statements, more_statements, IsModule, module_of}
+use Rattle.ecma_reread.specs.Shapes.{Level, assignment, IsExpression, element, postfix_update, conditional_expression, assignment_expression, unary_expression, binary_expression, plus, times, IsPlainName, ident, key, absent, const_word, looser, name, null_word, this_word, member, call, parenthesized, one, spread, arguments, no_elements, more_elements, initializer, declarator, no_declarators, expression, declaration, no_statements, more_statements, IsModule, module_of}
 use Rattle.ecma_reread.specs.Tokens.{module_tokens}
 use Rattle.ecma_reread.proofs.Bindings.{further_out}
 use Rattle.ecma_reread.proofs.Layouts.{module_laid}
@@ -75,7 +75,7 @@ value_shape =
     let chosen = parenthesized at (conditional_expression at (out 15 id) (out 16 id) (out 16 id)) in
     out 10 (binary_expression at plus (out 3 (unary_expression at Minus (unary_expression at Minus (out 3 id)))) (binary_expression at times (out 5 held) (out 4 chosen)))
 
--- `const async = (this);`, `a.a(a, null);`, `async(a, async).a;` and `a = - -a + a[a++] * (a ? a : a);`
+-- `const async = (this);`, `a.a(...a, null);`, `async(a, async).a;` and `a = - -a + a[a++] * (a ? a : a);`
 abbrev tree : Node
 tree =
     node_of at (kind.Module None)
@@ -84,7 +84,7 @@ tree =
     (node_of at kind.List (node_of at (kind.VarDeclarator false) (node_of at kind.BindingIdent (async ∷ gone ∷ []) ∷ node_of at kind.ParenExpr (node_of at kind.ThisExpr [] ∷ []) ∷ []) ∷ []) ∷ [])
     ∷ node_of at kind.ExprStmt
     (node_of at kind.CallExpr
-    (node_of at kind.MemberExpr (a ∷ node_of at (kind.IdentName (codes "a")) [] ∷ []) ∷ node_of at kind.List (a ∷ node_of at kind.Null [] ∷ []) ∷ gone ∷ []) ∷ [])
+    (node_of at kind.MemberExpr (a ∷ node_of at (kind.IdentName (codes "a")) [] ∷ []) ∷ node_of at kind.List (node_of at kind.SpreadElement (a ∷ []) ∷ node_of at kind.Null [] ∷ []) ∷ gone ∷ []) ∷ [])
     ∷ node_of at kind.ExprStmt
     (node_of at kind.MemberExpr
     (node_of at kind.CallExpr (async ∷ node_of at kind.List (a ∷ async ∷ []) ∷ gone ∷ []) ∷ node_of at (kind.IdentName (codes "a")) [] ∷ []) ∷ [])
@@ -99,13 +99,13 @@ shape =
     let it' = whole (codes "a") a_spelled in
     module_of at at
     (more_statements (declaration at at const_word (declarator at at async' (absent at) (initializer (out 16 (parenthesized at (this_word at))))) no_declarators)
-    (more_statements (expression at (call at (looser (member at (name id) (key at (codes "a") it'))) (arguments at (out 16 (name id)) (more_expressions (out 16 (null_word at)) no_expressions)) (absent at)))
-    (more_statements (expression at (member at (call at (looser (name async')) (arguments at (out 16 (name id)) (more_expressions (out 16 (name async')) no_expressions)) (absent at)) (key at (codes "a") it')))
+    (more_statements (expression at (call at (looser (member at (name id) (key at (codes "a") it'))) (arguments at (spread at (out 16 (name id))) (more_elements (one (out 16 (null_word at))) no_elements)) (absent at)))
+    (more_statements (expression at (member at (call at (looser (name async')) (arguments at (one (out 16 (name id))) (more_elements (one (out 16 (name async'))) no_elements)) (absent at)) (key at (codes "a") it')))
     (more_statements (expression at (assignment_expression at Assign (out 1 (name id)) value_shape)) no_statements))))
 
-text : render (module_tokens shape) ≡ codes "const async = (this);\na.a(a, null);\nasync(a, async).a;\na = - -a + a[a++] * (a ? a : a);\n"
+text : render (module_tokens shape) ≡ codes "const async = (this);\na.a(...a, null);\nasync(a, async).a;\na = - -a + a[a++] * (a ? a : a);\n"
 unfolding render shape value_shape
 text = refl
 
-laid : layout tree ≡ codes "const async = (this);\na.a(a, null);\nasync(a, async).a;\na = - -a + a[a++] * (a ? a : a);\n"
+laid : layout tree ≡ codes "const async = (this);\na.a(...a, null);\nasync(a, async).a;\na = - -a + a[a++] * (a ? a : a);\n"
 laid = module_laid shape ∙ text

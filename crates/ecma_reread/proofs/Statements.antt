@@ -31,19 +31,19 @@ use Rattle.ecma_grammar.specs.productions.Modules as modules
 use Rattle.ecma_grammar.specs.productions.Modules.{module_item}
 use Rattle.ecma_tokens.specs.Items as items
 use Rattle.ecma_tokens.specs.Items.{Tok, sign, Gap, no_gap, Items, it}
-use Rattle.ecma_reread.specs.Machine.{read, with_front, followed_on, or_on, unless_on, built_on, interp, means}
+use Rattle.ecma_reread.specs.Machine.{read, taken, with_front, followed_on, or_on, unless_on, built_on, interp, means}
 use Rattle.ecma_reread.specs.Shapes as shapes
 use Rattle.ecma_reread.specs.Shapes.{Level, IsExpression, IsIdent, IsLexical, let_word, const_word, IsInitializer, IsDeclarator, AreDeclarators, IsStatement}
 use Rattle.ecma_reread.specs.Tokens.{bare, blank, expression_tokens, bare_expression, ident_word, lexical_word, initializer_tokens, declarator_tokens, declarators_tokens, statement_tokens, bare_initializer, bare_declarator, bare_declarators, bare_statement}
 use Rattle.ecma_reread.proofs.Levels.{means_is}
 use Rattle.ecma_reread.proofs.Fronts.{Front, exactly, Begins, at_token, refuses_at, refused_at, refuses_all, all_refused}
-use Rattle.ecma_reread.proofs.Towers.{skipped, refuses_choices, Ends}
+use Rattle.ecma_reread.proofs.Towers.{without, skipped, refuses_choices, excluded, Ends}
 use Rattle.ecma_reread.proofs.Heads.{nodes}
-use Rattle.ecma_reread.proofs.Forms.{Laid, s, Reads}
+use Rattle.ecma_reread.proofs.Forms.{Laid, s, Reads, Refuses}
 use Rattle.ecma_reread.proofs.Bindings.{Stands, standing, used, expression_read}
 use Rattle.ecma_reread.proofs.Repeats.{Repeats, repeats_end, repeats_more, repeated}
 use Rattle.ecma_reread.proofs.Expressions.{comma_ends, semicolon_ends}
-use Rattle.ecma_reread.proofs.Joins.{no_new_line}
+use Rattle.ecma_reread.proofs.Joins.{no_new_line, no_brace}
 use Rattle.ecma_reread.proofs.Calls.{ident_free, expression_form}
 
 -- what a statement begins with that is `let` or `const`
@@ -76,26 +76,29 @@ no_expression = refl
 module _ (assigned : Bool) where
   -- expression statements
 
-  module _ {f : Laid} {k : Kind} {ns : List Node} (S : Stands assigned shapes.sequence f k ns) where
+  module _ {f : Laid} {k : Kind} {ns : List Node} (S : Stands assigned shapes.sequence f k ns) (no_block : (g : Gap) (us : Items) → Refuses assigned (punct (codes "{")) (f g us)) where
     expression_statement_read : (g : Gap) (us : Items) → Reads assigned expression_statement (f g (s (codes ";") us)) (bare kind.ExprStmt (bare k ns ∷ []) ∷ []) us
     unfolding expression_statement
     expression_statement_read g us =
+        let I = interp assigned (means assigned) in
         let ts = f g (s (codes ";") us) in
         let L = S.lead in
-        ap (built_on (form.Node plain.ExprStmt)) (ap (followed_on (interp assigned (means assigned) (expression false ▸ end))) (ap (unless_on ts) (L.no_word g (s (codes ";") us) (exactly (sign (codes ";"))) at_token refl))
-        ∙ ap (with_front []) (ap (followed_on (interp assigned (means assigned) end)) (expression_read assigned S g (s (codes ";") us) (exactly (sign (codes ";"))) at_token semicolon_ends refl)))
+        ap (built_on (form.Node plain.ExprStmt)) (ap (followed_on (I (expression false ▸ end))) (ap (unless_on ts) (ap (or_on (I excluded) ts) (no_block g (s (codes ";") us)) ∙ L.no_word g (s (codes ";") us) (exactly (sign (codes ";"))) at_token refl))
+        ∙ ap (with_front []) (ap (followed_on (I end)) (expression_read assigned S g (s (codes ";") us) (exactly (sign (codes ";"))) at_token semicolon_ends refl)))
 
     statement_read : (g : Gap) (us : Items) → means assigned part.Statement (f g (s (codes ";") us)) ≡ read (bare kind.ExprStmt (bare k ns ∷ []) ∷ []) us
-    unfolding statement_body
+    unfolding statement_body names.block
     statement_read g us =
+        let I = interp assigned (means assigned) in
         let ts = f g (s (codes ";") us) in
         let L = S.lead in
         let st = L.starts in
         let b = L.begins g (s (codes ";") us) in
         means_is assigned part.Statement ts
-        ∙ (skipped assigned (means assigned) 10 statement_body L.front ts b st.no_statement
-        ∙ (ap (or_on (interp assigned (means assigned) (declaration // expression_statement)) ts) (L.no_label g (s (codes ";") us) (exactly (sign (codes ";"))) at_token refl)
-        ∙ (ap (or_on (interp assigned (means assigned) expression_statement) ts) (L.no_declaration g (s (codes ";") us) (exactly (sign (codes ";"))) at_token refl) ∙ expression_statement_read g us)))
+        ∙ (ap (or_on (I (without 1 statement_body)) ts) (ap (built_on (form.Node plain.BlockStmt)) (ap (followed_on (I (grammar.list (grammar.many names.statement) ▸ punct (codes "}")))) (no_block g (s (codes ";") us))))
+        ∙ (skipped assigned (means assigned) 9 (without 1 statement_body) L.front ts b st.no_statement
+        ∙ (ap (or_on (I (declaration // expression_statement)) ts) (L.no_label g (s (codes ";") us) (exactly (sign (codes ";"))) at_token refl)
+        ∙ (ap (or_on (I expression_statement) ts) (L.no_declaration g (s (codes ";") us) (exactly (sign (codes ";"))) at_token refl) ∙ expression_statement_read g us))))
 
     expression_item : (g : Gap) (us : Items) → Reads assigned module_item (f g (s (codes ";") us)) (bare kind.ExprStmt (bare k ns ∷ []) ∷ []) us
     unfolding module_item
@@ -210,7 +213,7 @@ module _ (assigned : Bool) where
   item_read (shapes.return_nothing at a) g us = return_nothing g us
   item_read (shapes.break_nothing at a) g us = break_nothing g us
   item_read (shapes.continue_nothing at a) g us = continue_nothing g us
-  item_read (shapes.expression at e) g us = expression_item (standing assigned (expression_form assigned e)) g us
+  item_read (shapes.expression at e) g us = expression_item (standing assigned (expression_form assigned e)) (λ g us. ap taken (no_brace e g us)) g us
   item_read (shapes.declaration at at' w d ds) g us =
       let l = lexical_declares w in
       skipped assigned (means assigned) 3 module_item (exactly (items.key (lexical_word w))) (it g (items.key (lexical_word w)) (declarator_tokens d (declarators_tokens ds (s (codes ";") us)))) at_token l.no_item ∙ declaration_read w d ds g us

@@ -78,7 +78,7 @@ module _ (assigned : Bool) (p : Part → Turn) where
 
 -- the words with which an expression statement does not begin
 abbrev pub excluded : Grammar
-excluded = punct (codes "{") // word (codes "function") // word (codes "class") // word (codes "async") ▸ same_line ▸ word (codes "function")
+excluded = word (codes "function") // word (codes "class") // word (codes "async") ▸ same_line ▸ word (codes "function")
 
 -- a private name before `in`
 abbrev pub private_in : Grammar
@@ -102,9 +102,9 @@ power_tail = optional (behind_punct (codes "**") part.Power)
 abbrev pub choice_tail : Grammar
 choice_tail = optional (item plain.CondExpr (punct (codes "?") ▸ grammar.up (part.Assign false true) ▸ punct (codes ":") ▸ assign_in false))
 
--- what a statement does not begin with, but for a label, a declaration or an expression
+-- what a statement does not begin with, but for a block, a label, a declaration or an expression
 pub record Starts (f : Front) : Type 0 where
-  pub no_statement : refuses_choices 10 f statement_body ≡ true
+  pub no_statement : refuses_choices 9 f (without 1 statement_body) ≡ true
   pub no_item : refuses_choices 3 f module_item ≡ true
 
 -- what no declaration begins with, and no function

@@ -12,8 +12,8 @@ use Rattle.ecma_tokens.specs.Items.{Items, ends, no_gap, render}
 use Rattle.ecma_tokens.specs.Lexing.{At, Goes, Lexes}
 use Rattle.ecma_reread.specs.Machine.{count}
 use Rattle.ecma_reread.specs.Shapes as shapes
-use Rattle.ecma_reread.specs.Shapes.{Level, IsIdent, ident, IsKey, key, IsAbsent, IsExpression, IsArguments, AreExpressions, IsInitializer, IsDeclarator, AreDeclarators, IsStatement, AreStatements, IsModule}
-use Rattle.ecma_reread.specs.Tokens.{bare, bare_ident, key_word, module_tokens, bare_expression, bare_arguments, bare_expressions, bare_initializer, bare_declarator, bare_declarators, bare_statement, bare_statements, bare_module}
+use Rattle.ecma_reread.specs.Shapes.{Level, IsIdent, ident, IsKey, key, IsAbsent, IsExpression, IsElement, IsArguments, AreElements, AreExpressions, IsInitializer, IsDeclarator, AreDeclarators, IsStatement, AreStatements, IsModule}
+use Rattle.ecma_reread.specs.Tokens.{bare, bare_ident, key_word, module_tokens, bare_expression, bare_element, bare_arguments, bare_elements, bare_expressions, bare_initializer, bare_declarator, bare_declarators, bare_statement, bare_statements, bare_module}
 use Rattle.ecma_reread.proofs.Ranks.{module_leads}
 use Rattle.ecma_reread.proofs.Unplaced.{without_spans-node}
 use Rattle.ecma_reread.proofs.Simulation.{plain, Sims, means_simulate}
@@ -63,7 +63,15 @@ mutual
 
   arguments_bare : {n : Node} (is : IsArguments n) → without_spans n ≡ list_node (bare_arguments is)
   arguments_bare (shapes.no_arguments at) = without_spans-node at kind.List []
-  arguments_bare (shapes.arguments at e es) = without_spans-node at kind.List _ ∙ ap₂ (λ x xs. list_node (x ∷ xs)) (expression_bare e) (expressions_bare es)
+  arguments_bare (shapes.arguments at e es) = without_spans-node at kind.List _ ∙ ap₂ (λ x xs. list_node (x ∷ xs)) (element_bare e) (elements_bare es)
+
+  element_bare : {n : Node} (is : IsElement n) → without_spans n ≡ bare_element is
+  element_bare (shapes.one e) = expression_bare e
+  element_bare (shapes.spread at e) = without_spans-node at kind.SpreadElement _ ∙ ap (λ x. bare kind.SpreadElement (x ∷ [])) (expression_bare e)
+
+  elements_bare : {es : List Node} (is : AreElements es) → map without_spans es ≡ bare_elements is
+  elements_bare shapes.no_elements = refl
+  elements_bare (shapes.more_elements e es) = ap₂ (λ x xs. x ∷ xs) (element_bare e) (elements_bare es)
 
   expressions_bare : {es : List Node} (is : AreExpressions es) → map without_spans es ≡ bare_expressions is
   expressions_bare shapes.no_expressions = refl

@@ -128,9 +128,18 @@ mutual
         → IsExpression assignment (node_of at kind.CondExpr (test ∷ first ∷ second ∷ []))
     sequence_expression : (at : Span) {first second : Node} {more : List Node} → IsExpression assignment first → IsExpression assignment second → AreExpressions more → IsExpression sequence (node_of at kind.SeqExpr (first ∷ second ∷ more))
 
+  -- an argument: an expression, or the values of one
+  pub data IsElement : Node → Type 0 where
+    one : {e : Node} → IsExpression assignment e → IsElement e
+    spread : (at : Span) {e : Node} → IsExpression assignment e → IsElement (node_of at kind.SpreadElement (e ∷ []))
+
   pub data IsArguments : Node → Type 0 where
     no_arguments : (at : Span) → IsArguments (node_of at kind.List [])
-    arguments : (at : Span) {e : Node} {es : List Node} → IsExpression assignment e → AreExpressions es → IsArguments (node_of at kind.List (e ∷ es))
+    arguments : (at : Span) {e : Node} {es : List Node} → IsElement e → AreElements es → IsArguments (node_of at kind.List (e ∷ es))
+
+  pub data AreElements : List Node → Type 0 where
+    no_elements : AreElements []
+    more_elements : {e : Node} {es : List Node} → IsElement e → AreElements es → AreElements (e ∷ es)
 
   pub data AreExpressions : List Node → Type 0 where
     no_expressions : AreExpressions []

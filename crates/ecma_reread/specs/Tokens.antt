@@ -22,7 +22,7 @@ use Rattle.ecma_print.specs.declared.place.Beside.TheVariants.{NoNeighbor, Behin
 use Rattle.ecma_print.specs.Operators.{unary_sign, update_sign}
 use Rattle.ecma_tokens.specs.Items as items
 use Rattle.ecma_tokens.specs.Items.{Tok, sign, Gap, no_gap, Items, ends, it}
-use Rattle.ecma_reread.specs.Shapes.{IsIdent, ident, IsKey, key, IsLexical, let_word, const_word, Level, IsExpression, looser, element, prefix_update, postfix_update, await_expression, unary_expression, binary_expression, exponentiation, both, either, coalesced, assignment_expression, conditional_expression, sequence_expression, name, string, number, this_word, big_int, null_word, true_word, false_word, member, call, parenthesized, IsArguments, no_arguments, arguments, AreExpressions, no_expressions, more_expressions, IsInitializer, no_initializer, initializer, IsDeclarator, declarator, AreDeclarators, no_declarators, more_declarators, IsStatement, expression, declaration, empty, debugger_word, throw, return_value, return_nothing, break_nothing, continue_nothing, AreStatements, no_statements, more_statements, IsModule, module_of}
+use Rattle.ecma_reread.specs.Shapes.{IsIdent, ident, IsKey, key, IsLexical, let_word, const_word, Level, IsExpression, looser, element, prefix_update, postfix_update, await_expression, unary_expression, binary_expression, exponentiation, both, either, coalesced, assignment_expression, conditional_expression, sequence_expression, name, string, number, this_word, big_int, null_word, true_word, false_word, member, call, parenthesized, IsElement, one, spread, IsArguments, no_arguments, arguments, AreElements, no_elements, more_elements, AreExpressions, no_expressions, more_expressions, IsInitializer, no_initializer, initializer, IsDeclarator, declarator, AreDeclarators, no_declarators, more_declarators, IsStatement, expression, declaration, empty, debugger_word, throw, return_value, return_nothing, break_nothing, continue_nothing, AreStatements, no_statements, more_statements, IsModule, module_of}
 
 abbrev pub blank : Gap
 blank = record { blanks = codes " "; new_line = false }
@@ -141,9 +141,17 @@ abbrev mutual
   expression_tokens (conditional_expression at t x y) g us = expression_tokens t g (it blank (sign (codes "?")) (expression_tokens x blank (it blank (sign (codes ":")) (expression_tokens y blank us))))
   expression_tokens (sequence_expression at x y es) g us = expression_tokens x g (sign_of (codes ",") (expression_tokens y blank (more_tokens es us)))
 
+  pub element_tokens : {n : Node} → IsElement n → Gap → Items → Items
+  element_tokens (one e) g us = expression_tokens e g us
+  element_tokens (spread at e) g us = it g (sign (codes "...")) (expression_tokens e no_gap us)
+
   pub arguments_tokens : {n : Node} → IsArguments n → Items → Items
   arguments_tokens (no_arguments at) us = us
-  arguments_tokens (arguments at e es) us = expression_tokens e no_gap (more_tokens es us)
+  arguments_tokens (arguments at e es) us = element_tokens e no_gap (elements_tokens es us)
+
+  pub elements_tokens : {es : List Node} → AreElements es → Items → Items
+  elements_tokens no_elements us = us
+  elements_tokens (more_elements e es) us = sign_of (codes ",") (element_tokens e blank (elements_tokens es us))
 
   pub more_tokens : {es : List Node} → AreExpressions es → Items → Items
   more_tokens no_expressions us = us
@@ -239,9 +247,17 @@ abbrev mutual
   expression_parts (sequence_expression at x y es) = bare (expression_kind x) (expression_parts x) ∷ bare (expression_kind y) (expression_parts y) ∷ bare_expressions es
   expression_parts e = []
 
+  pub bare_element : {n : Node} → IsElement n → Node
+  bare_element (one e) = bare (expression_kind e) (expression_parts e)
+  bare_element (spread at e) = bare kind.SpreadElement (bare (expression_kind e) (expression_parts e) ∷ [])
+
   pub bare_arguments : {n : Node} → IsArguments n → List Node
   bare_arguments (no_arguments at) = []
-  bare_arguments (arguments at e es) = bare (expression_kind e) (expression_parts e) ∷ bare_expressions es
+  bare_arguments (arguments at e es) = bare_element e ∷ bare_elements es
+
+  pub bare_elements : {es : List Node} → AreElements es → List Node
+  bare_elements no_elements = []
+  bare_elements (more_elements e es) = bare_element e ∷ bare_elements es
 
   pub bare_expressions : {es : List Node} → AreExpressions es → List Node
   bare_expressions no_expressions = []
