@@ -1,4 +1,4 @@
--- The tokens of a module are good: each joins the next.
+-- The tokens of a statement are good: each joins the next.
 use Rattle.std.proofs.Common.{◌≡◌, ℕ, ◌≤◌, Bool, true, false, List, ◌++◌, length, codes, refl, sym, ◌∙◌, arith, length-append}
 use Rattle.std.proofs.lemmas.Bool.{false≢true}
 use Rattle.ecma_kind.specs.declared.operators.UnaryOp.{UnaryOp}
@@ -24,8 +24,8 @@ use Rattle.ecma_print.specs.Operators.{unary_sign, update_sign}
 use Rattle.ecma_tokens.proofs.Wholes.{some_text}
 use Rattle.ecma_reread.specs.Machine.{count}
 use Rattle.ecma_reread.specs.Shapes as shapes
-use Rattle.ecma_reread.specs.Shapes.{Level, looser_than, IsOperator, IsIdent, ident, IsKey, key, IsLexical, let_word, const_word, IsExpression, IsElement, IsArguments, AreElements, AreExpressions, IsInitializer, IsDeclarator, AreDeclarators, IsStatement, AreStatements, IsModule}
-use Rattle.ecma_reread.specs.Tokens.{blank, line, sign_of, assign_token, update_token, unary_token, binary_token, own_sign, unary_gap, ident_word, key_word, lexical_word, expression_tokens, element_tokens, arguments_tokens, elements_tokens, more_tokens, declarator_tokens, declarators_tokens, statement_tokens, statements_tokens, module_tokens}
+use Rattle.ecma_reread.specs.Shapes.{Level, looser_than, IsOperator, IsIdent, ident, IsKey, key, IsLexical, let_word, const_word, IsExpression, IsElement, IsArguments, AreElements, AreExpressions, IsInitializer, IsDeclarator, AreDeclarators, IsStatement}
+use Rattle.ecma_reread.specs.Tokens.{blank, line, sign_of, assign_token, update_token, unary_token, binary_token, own_sign, unary_gap, ident_word, key_word, lexical_word, expression_tokens, element_tokens, arguments_tokens, elements_tokens, more_tokens, declarator_tokens, declarators_tokens, statement_tokens}
 
 -- each token has a text
 pub good_long : (ts : Items) → Good ts → count ts ≤ length (render ts)
@@ -101,7 +101,7 @@ softer shapes.object parted = parted
 softer l z = z
 
 -- what an expression begins with, and the sign that this is as a unary operator
-data Opens : Tok → Beside → Type 0 where
+pub data Opens : Tok → Beside → Type 0 where
   by_key : (w : List ℕ) → Opens (items.key w) NoNeighbor
   by_string : (w : List ℕ) → Opens (items.string w) NoNeighbor
   by_number : (w : List ℕ) → Opens (items.number w) NoNeighbor
@@ -110,14 +110,14 @@ data Opens : Tok → Beside → Type 0 where
   by_update : (o : UpdateOp) → Opens (update_token o) (update_sign o)
   by_operator : (o : UnaryOp) → Opens (unary_token o) (unary_sign o)
 
-record Begun (tokens : Gap → Items) : Type 0 where
+pub record Begun (tokens : Gap → Items) : Type 0 where
   pub first : Tok
   pub by : Beside
   pub rest : Items
   pub opens : Opens first by
   pub is : (g : Gap) → tokens g ≡ it g first rest
 
-begun : {level : Level} {e : Node} (is : IsExpression level e) (us : Items) → Begun (λ g. expression_tokens is g us)
+pub begun : {level : Level} {e : Node} (is : IsExpression level e) (us : Items) → Begun (λ g. expression_tokens is g us)
 begun (shapes.looser e) us = begun e us
 begun (shapes.name i) us = record { first = items.key (ident_word i); by = NoNeighbor; rest = us; opens = by_key (ident_word i); is = λ g. refl }
 begun (shapes.string at raw t) us = record { first = items.string raw; by = NoNeighbor; rest = us; opens = by_string raw; is = λ g. refl }
@@ -208,9 +208,6 @@ blank_joins t is us = let b = begun is us in rw (b.is blank) refl
 element_blank_joins : (t : Tok) {n : Node} (is : IsElement n) (us : Items) → joins_next t (element_tokens is blank us) ≡ true
 element_blank_joins t (shapes.one e) us = blank_joins t e us
 element_blank_joins t (shapes.spread at e) us = refl
-
-after_line : {level : Level} {e : Node} (is : IsExpression level e) (us : Items) → joins_next (sign (codes ";")) (expression_tokens is line us) ≡ true
-after_line is us = let b = begun is us in rw (b.is line) refl
 
 -- the operand of a unary operator: it begins with no sign but that of an operator of its own
 
@@ -323,13 +320,13 @@ unary_by Delete h us = refl
 unary_joins : (o : UnaryOp) {e : Node} (is : IsExpression shapes.unary e) (us : Items) → joins_next (unary_token o) (expression_tokens is (unary_gap o (own_sign is)) us) ≡ true
 unary_joins o is us = let b = begun is us in rw (b.is (unary_gap o (own_sign is)), ← signed is us refl) (unary_by o b.opens b.rest)
 
-no_gap_is : IsGap no_gap
+pub no_gap_is : IsGap no_gap
 no_gap_is = record { blank = refl; told = refl }
 
-blank_is : IsGap blank
+pub blank_is : IsGap blank
 blank_is = record { blank = refl; told = refl }
 
-line_is : IsGap line
+pub line_is : IsGap line
 line_is = record { blank = refl; told = refl }
 
 unary_gap_is : (o : UnaryOp) (b : Beside) → IsGap (unary_gap o b)
@@ -507,7 +504,7 @@ module _ (words : Words) where
   lexical_whole let_word = words.let_whole
   lexical_whole const_word = words.const_whole
 
-  statement_joined : {n : Node} (is : IsStatement n) (g : Gap) → IsGap g → (us : Items) → Joined (sign_of (codes ";") us) → Joined (statement_tokens is g us)
+  pub statement_joined : {n : Node} (is : IsStatement n) (g : Gap) → IsGap g → (us : Items) → Joined (sign_of (codes ";") us) → Joined (statement_tokens is g us)
   statement_joined (shapes.empty at) g h us j = let n = j.1 in (h, n, j.2, j.3)
   statement_joined (shapes.debugger_word at) g h us j = (h, words.debugger_whole, refl, j)
   statement_joined (shapes.throw at e) g h us j = (h, words.throw_whole, blank_joins (items.key (codes "throw")) e (sign_of (codes ";") us), expression_joined e blank blank_is (sign_of (codes ";") us) semicolon j)
@@ -518,23 +515,3 @@ module _ (words : Words) where
   statement_joined (shapes.expression at e) g h us j = expression_joined e g h (sign_of (codes ";") us) semicolon j
   statement_joined (shapes.declaration at at' w (shapes.declarator a b i c e) ds) g h us j =
       (h, lexical_whole w, refl, declarator_joined (shapes.declarator a b i c e) (declarators_tokens ds (sign_of (codes ";") us)) (λ n. declarators_soft ds n us) (declarators_joined ds us j))
-
-  line_joins : {ss : List Node} (is : AreStatements ss) → joins_next (sign (codes ";")) (statements_tokens is line) ≡ true
-  line_joins shapes.no_statements = refl
-  line_joins (shapes.more_statements (shapes.expression at e) ss) = after_line e (sign_of (codes ";") (statements_tokens ss line))
-  line_joins (shapes.more_statements (shapes.declaration at at' w d ds) ss) = refl
-  line_joins (shapes.more_statements (shapes.empty at) ss) = refl
-  line_joins (shapes.more_statements (shapes.debugger_word at) ss) = refl
-  line_joins (shapes.more_statements (shapes.return_nothing at a) ss) = refl
-  line_joins (shapes.more_statements (shapes.break_nothing at a) ss) = refl
-  line_joins (shapes.more_statements (shapes.continue_nothing at a) ss) = refl
-  line_joins (shapes.more_statements (shapes.throw at e) ss) = refl
-  line_joins (shapes.more_statements (shapes.return_value at e) ss) = refl
-
-  statements_joined : {ss : List Node} (is : AreStatements ss) (g : Gap) → IsGap g → Joined (statements_tokens is g)
-  unfolding punctuators
-  statements_joined shapes.no_statements g h = h
-  statements_joined (shapes.more_statements s ss) g h = statement_joined s g h (statements_tokens ss line) (no_gap_is, refl, line_joins ss, statements_joined ss line line_is)
-
-  pub module_joined : {tree : Node} (is : IsModule tree) → Joined (module_tokens is)
-  module_joined (shapes.module_of at at' ss) = statements_joined ss no_gap no_gap_is

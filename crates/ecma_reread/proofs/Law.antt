@@ -9,11 +9,12 @@ use Rattle.ecma_tokens.specs.Good.{Good}
 use Rattle.ecma_tokens.proofs.Leaves.{lexes}
 use Rattle.ecma_tokens.proofs.Joining.{joined_good}
 use Rattle.ecma_reread.specs.Machine.{count}
-use Rattle.ecma_reread.specs.Tokens.{module_tokens}
+use Rattle.ecma_reread.specs.ModuleTokens.{module_tokens}
 use Rattle.ecma_reread.specs.Theorems.{ModulesAreReadAgain}
-use Rattle.ecma_reread.proofs.Whole.{text_read}
-use Rattle.ecma_reread.proofs.Layouts.{module_laid}
-use Rattle.ecma_reread.proofs.Joins.{good_long, module_joined}
+use Rattle.ecma_reread.proofs.Texts.{text_read}
+use Rattle.ecma_reread.proofs.ModuleLayouts.{module_laid}
+use Rattle.ecma_reread.proofs.Joins.{good_long}
+use Rattle.ecma_reread.proofs.ModuleJoins.{module_joined}
 use Rattle.ecma_reread.proofs.Words.{layout_words}
 
 -- the one tree that is read

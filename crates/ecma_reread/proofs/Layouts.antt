@@ -1,5 +1,5 @@
 -- The layout of a tree is the text of its tokens.
-use Rattle.std.proofs.Common.{◌≡◌, ◌≤◌, ℕ, Bool, true, false, ◌&&◌, ltb, List, [], ◌∷◌, ◌++◌, map, codes, refl, ap, sym, ◌∙◌, append-nil, None, arith}
+use Rattle.std.proofs.Common.{◌≡◌, ◌≤◌, ℕ, Bool, true, false, ◌&&◌, ltb, List, [], ◌∷◌, ◌++◌, map, codes, refl, ap, sym, ◌∙◌, arith}
 use Rattle.std.proofs.lemmas.Bool.{false≢true, le-ltb, ltb-false}
 use Rattle.ecma_kind.specs.declared.operators.UnaryOp.{UnaryOp}
 use Rattle.ecma_kind.specs.declared.operators.UnaryOp.TheVariants.{Minus, Plus, Bang, Tilde, TypeOf, Void, Delete}
@@ -21,24 +21,24 @@ use Rattle.ecma_print.specs.declared.place.Between.{Between}
 use Rattle.ecma_print.specs.declared.place.Between.TheVariants.{Blank, Equals}
 use Rattle.ecma_print.specs.declared.place.Spot.{Spot}
 use Rattle.ecma_print.specs.declared.place.Place.{Place}
-use Rattle.ecma_print.specs.declared.place.Place.TheVariants.{At, Within, Arguments, Lines, Commas}
+use Rattle.ecma_print.specs.declared.place.Place.TheVariants.{At, Within, Arguments, Commas}
 use Rattle.ecma_print.specs.Places.{before, after, free, left, right, beginning, gap, opens_a_block}
 use Rattle.ecma_print.specs.Laid.{Laid, is_object_pattern}
 use Rattle.ecma_print.specs.Levels.{is_before_dot, clashes}
 use Rattle.ecma_print.specs.Operators.{assign_word, unary_word, unary_sign, update_word, update_sign, binary_word, binary_level, left_level, right_level, under}
 use Rattle.ecma_print.specs.Expressions.{before_key, object_beside, is_optional, more_of_sequence}
-use Rattle.ecma_print.specs.Lists.{lines, more_commas}
-use Rattle.ecma_print.specs.Layout.{in_place, by_itself, lay_step, laid, layout}
+use Rattle.ecma_print.specs.Lists.{more_commas}
+use Rattle.ecma_print.specs.Layout.{in_place, by_itself, lay_step, laid}
 use Rattle.ecma_tokens.specs.Items as items
-use Rattle.ecma_tokens.specs.Items.{Tok, sign, Gap, no_gap, Items, ends, it, token_text, render}
+use Rattle.ecma_tokens.specs.Items.{Tok, sign, Gap, no_gap, Items, it, token_text, render}
 use Rattle.ecma_reread.specs.Shapes as shapes
-use Rattle.ecma_reread.specs.Shapes.{Level, looser_than, IsOperator, IsIdent, ident, IsKey, key, IsAbsent, IsLexical, let_word, const_word, IsExpression, IsElement, IsArguments, AreElements, AreExpressions, IsInitializer, IsDeclarator, AreDeclarators, IsStatement, AreStatements, IsModule}
-use Rattle.ecma_reread.specs.Tokens.{blank, line, sign_of, assign_token, update_token, unary_token, binary_token, own_sign, unary_gap, expression_tokens, element_tokens, arguments_tokens, elements_tokens, more_tokens, initializer_tokens, declarator_tokens, declarators_tokens, statement_tokens, statements_tokens, module_tokens}
+use Rattle.ecma_reread.specs.Shapes.{Level, looser_than, IsOperator, IsIdent, ident, IsKey, key, IsAbsent, IsLexical, let_word, const_word, IsExpression, IsElement, IsArguments, AreElements, AreExpressions, IsInitializer, IsDeclarator, AreDeclarators, IsStatement}
+use Rattle.ecma_reread.specs.Tokens.{blank, sign_of, assign_token, update_token, unary_token, binary_token, own_sign, unary_gap, expression_tokens, element_tokens, arguments_tokens, elements_tokens, more_tokens, initializer_tokens, declarator_tokens, declarators_tokens, statement_tokens}
 
-laid_node : (at : Span) (k : Kind) (cs : List Node) → laid (node_of at k cs) ≡ record { kind = k; at = in_place k (map laid cs); parts = map by_itself (map laid cs) }
+pub laid_node : (at : Span) (k : Kind) (cs : List Node) → laid (node_of at k cs) ≡ record { kind = k; at = in_place k (map laid cs); parts = map by_itself (map laid cs) }
 laid_node at k cs = fold-roll-Node Laid lay_step (record { span = at; kind = k; children = cs })
 
-at_node : (at : Span) (k : Kind) (cs : List Node) (place : Place) (m rest : List ℕ) → (laid (node_of at k cs)).at place m rest ≡ in_place k (map laid cs) place m rest
+pub at_node : (at : Span) (k : Kind) (cs : List Node) (place : Place) (m rest : List ℕ) → (laid (node_of at k cs)).at place m rest ≡ in_place k (map laid cs) place m rest
 at_node at k cs place m rest = ap (λ x. x.at place m rest) (laid_node at k cs)
 
 -- the level of the printer that is each level
@@ -566,7 +566,7 @@ argument_laid {level} is m us =
     within_laid is Blank (free 0) m (codes ";" ++ render us)
     ∙ (ap (λ z. codes " " ++ z) (expression_laid is (free 0) (calm_0 level) m (sign_of (codes ";") us)) ∙ sym (gap_out is blank (sign_of (codes ";") us)))
 
-statement_laid : {n : Node} (is : IsStatement n) (g : Gap) (m : List ℕ) (us : Items) → render (statement_tokens is g us) ≡ g.blanks ++ (laid n).at (At (free 0)) m (render us)
+pub statement_laid : {n : Node} (is : IsStatement n) (g : Gap) (m : List ℕ) (us : Items) → render (statement_tokens is g us) ≡ g.blanks ++ (laid n).at (At (free 0)) m (render us)
 unfolding render
 statement_laid (shapes.empty at) g m us = ap (λ z. g.blanks ++ z) (sym (at_node at kind.EmptyStmt [] (At (free 0)) m (render us)))
 statement_laid (shapes.debugger_word at) g m us = ap (λ z. g.blanks ++ z) (sym (at_node at kind.DebuggerStmt [] (At (free 0)) m (render us)))
@@ -598,13 +598,3 @@ statement_laid (shapes.declaration at at' {d = d'} {ds = ds'} const_word d ds) g
     (sym (at_node at (kind.VarDecl _ false) (node_of at' kind.List (d' ∷ ds') ∷ []) (At (free 0)) m (render us)
     ∙ (ap (λ z. codes "const " ++ z) (at_node at' kind.List (d' ∷ ds') (Commas (free 1)) m (codes ";" ++ render us))
     ∙ ap (λ z. codes "const" ++ z) (ap (λ z. codes " " ++ (laid d').at (At (free 1)) m z) (more_declarators_laid ds m us) ∙ declarator_laid d m (declarators_tokens ds (sign_of (codes ";") us))))))
-
-lines_laid : {ss : List Node} (is : AreStatements ss) (g : Gap) → render (statements_tokens is g) ≡ g.blanks ++ lines (map laid ss) [] []
-unfolding render
-lines_laid shapes.no_statements g = sym (append-nil g.blanks)
-lines_laid (shapes.more_statements {s = s'} s ss) g = statement_laid s g [] (statements_tokens ss line) ∙ ap (λ z. g.blanks ++ (laid s').at (At (free 0)) [] z) (lines_laid ss line)
-
-pub module_laid : {tree : Node} (is : IsModule tree) → layout tree ≡ render (module_tokens is)
-module_laid (shapes.module_of at at' {body = body} ss) =
-    at_node at (kind.Module None) (node_of at' kind.List body ∷ []) (At (free 0)) [] []
-    ∙ (at_node at' kind.List body Lines [] [] ∙ sym (lines_laid ss no_gap))

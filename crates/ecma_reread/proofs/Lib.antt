@@ -31,8 +31,12 @@ pub mod Calls
 pub mod Statements
 pub mod Modules
 pub mod Whole
+pub mod ModuleTrees
+pub mod Texts
 pub mod Layouts
+pub mod ModuleLayouts
 pub mod Joins
+pub mod ModuleJoins
 pub mod Words
 pub mod Law
 mod Samples

@@ -24,11 +24,12 @@ use Rattle.ecma_grammar.specs.productions.Statements as statements
 use Rattle.ecma_grammar.specs.productions.Statements.{statement_body, expression_statement}
 use Rattle.ecma_grammar.specs.productions.Modules as modules
 use Rattle.ecma_grammar.specs.productions.Modules.{module_item, module_body}
-use Rattle.ecma_tokens.specs.Items.{Gap, no_gap, ends}
+use Rattle.ecma_tokens.specs.Items.{Gap, no_gap, Items, ends}
 use Rattle.ecma_reread.specs.Machine.{read, with_front, followed_on, unless_on, built_on, interp, means}
-use Rattle.ecma_reread.specs.Shapes as shapes
-use Rattle.ecma_reread.specs.Shapes.{AreStatements, IsModule}
-use Rattle.ecma_reread.specs.Tokens.{bare, line, statement_tokens, statements_tokens, module_tokens, bare_statement, bare_statements, bare_module}
+use Rattle.ecma_reread.specs.Modules as shapes
+use Rattle.ecma_reread.specs.Modules.{IsModuleItem, AreModuleItems, IsModule}
+use Rattle.ecma_reread.specs.Tokens.{bare, line}
+use Rattle.ecma_reread.specs.ModuleTokens.{item_tokens, items_tokens, module_tokens, bare_item, bare_items, bare_module}
 use Rattle.ecma_reread.proofs.Ranks.{item_eats}
 use Rattle.ecma_reread.proofs.Levels.{means_is}
 use Rattle.ecma_reread.proofs.Fronts.{the_end, at_end, refused_at, refuses_all, all_refused}
@@ -56,9 +57,9 @@ module_made : (xs : List Node) → made form.Module 0 0 (absent ∷ list_node xs
 module_made xs = ap (λ k. bare (kind.Module (text_of k)) (list_node xs ∷ [])) (kind-node _ kind.Absent [])
 
 -- the gap before the end
-abbrev last_gap : {ss : List Node} → AreStatements ss → Gap → Gap
-last_gap shapes.no_statements g = g
-last_gap (shapes.more_statements s ss) g = last_gap ss line
+abbrev last_gap : {ns : List Node} → AreModuleItems ns → Gap → Gap
+last_gap shapes.no_items g = g
+last_gap (shapes.more_items i is) g = last_gap is line
 
 module _ (assigned : Bool) where
   no_statement_at_end : (g : Gap) → Refuses assigned expression_statement (ends g)
@@ -73,14 +74,17 @@ module _ (assigned : Bool) where
       skipped assigned (means assigned) 3 module_item the_end (ends g) at_end no_item_there
       ∙ (means_is assigned part.Statement (ends g) ∙ (skipped assigned (means assigned) 12 statement_body the_end (ends g) at_end no_statement_there ∙ no_statement_at_end g))
 
-  items_read : {ss : List Node} (is : AreStatements ss) (g : Gap) → Repeats assigned module_item (statements_tokens is g) (bare_statements is) (ends (last_gap is g))
-  items_read shapes.no_statements g = repeats_end assigned module_item (ends g) (no_item_at_end g)
-  items_read (shapes.more_statements s ss) g =
-      repeats_more assigned module_item item_eats (statement_tokens s g (statements_tokens ss line)) (statements_tokens ss line) (ends (last_gap ss line)) (bare_statement s ∷ []) (bare_statements ss) (item_read assigned s g (statements_tokens ss line)) (items_read ss line)
+  module_item_read : {n : Node} (is : IsModuleItem n) (g : Gap) (us : Items) → Reads assigned module_item (item_tokens is g us) (bare_item is ∷ []) us
+  module_item_read (shapes.statement s) g us = item_read assigned s g us
+
+  items_read : {ns : List Node} (is : AreModuleItems ns) (g : Gap) → Repeats assigned module_item (items_tokens is g) (bare_items is) (ends (last_gap is g))
+  items_read shapes.no_items g = repeats_end assigned module_item (ends g) (no_item_at_end g)
+  items_read (shapes.more_items i is) g =
+      repeats_more assigned module_item item_eats (item_tokens i g (items_tokens is line)) (items_tokens is line) (ends (last_gap is line)) (bare_item i ∷ []) (bare_items is) (module_item_read i g (items_tokens is line)) (items_read is line)
 
   pub module_read : {tree : Node} (is : IsModule tree) → Reads assigned module_body (module_tokens is) (bare_module is ∷ []) (ends no_gap)
   unfolding module_body
-  module_read (shapes.module_of at at' ss) =
+  module_read (shapes.module_of at at' is) =
       ap (built_on form.Module) (ap (with_front (absent ∷ [])) (ap (followed_on (interp assigned (means assigned) (a token.EndOfText))) (ap (built_on form.List)
-      (repeated assigned module_item (statements_tokens ss no_gap) (ends (last_gap ss no_gap)) (bare_statements ss) (items_read ss no_gap)))))
-      ∙ ap (λ x. read (x ∷ []) (ends no_gap)) (module_made (bare_statements ss))
+      (repeated assigned module_item (items_tokens is no_gap) (ends (last_gap is no_gap)) (bare_items is) (items_read is no_gap)))))
+      ∙ ap (λ x. read (x ∷ []) (ends no_gap)) (module_made (bare_items is))

@@ -1,30 +1,19 @@
--- The text of a module is read again by the grammar over texts, as the same tree up to spans.
-use Rattle.std.proofs.Common.{true, false, None, ◌≡◌, ℕ, ◌+◌, ◌*◌, ◌≤◌, Bool, List, [], ◌∷◌, map, length, refl, ap, ap₂, sym, ◌∙◌, subst, arith}
+-- The tree that is read of a statement is the tree without spans.
+use Rattle.std.proofs.Common.{true, false, ◌≡◌, List, [], ◌∷◌, map, refl, ap, ap₂, ◌∙◌}
 use Rattle.ecma_kind.specs.declared.operators.BinaryOp.TheVariants as op
 use Rattle.ecma_kind.specs.declared.kind.Kind.TheVariants as kind
 use Rattle.ecma_tree.specs.declared.node.Node.{Node}
 use Rattle.ecma_tree.specs.Nodes.{absent, list_node}
 use Rattle.ecma_tree.specs.Spans.{without_spans}
-use Rattle.ecma_grammar.specs.Reading.{Position}
-use Rattle.ecma_grammar.specs.productions.Modules.{module_body}
-use Rattle.ecma_grammar.specs.Modules.{reads_module}
-use Rattle.ecma_tokens.specs.Items.{Items, ends, no_gap, render}
-use Rattle.ecma_tokens.specs.Lexing.{At, Goes, Lexes}
-use Rattle.ecma_reread.specs.Machine.{count}
 use Rattle.ecma_reread.specs.Shapes as shapes
-use Rattle.ecma_reread.specs.Shapes.{Level, IsIdent, ident, IsKey, key, IsAbsent, IsExpression, IsElement, IsArguments, AreElements, AreExpressions, IsInitializer, IsDeclarator, AreDeclarators, IsStatement, AreStatements, IsModule}
-use Rattle.ecma_reread.specs.Tokens.{bare, bare_ident, key_word, module_tokens, bare_expression, bare_element, bare_arguments, bare_elements, bare_expressions, bare_initializer, bare_declarator, bare_declarators, bare_statement, bare_statements, bare_module}
-use Rattle.ecma_reread.proofs.Ranks.{module_leads}
+use Rattle.ecma_reread.specs.Shapes.{Level, IsIdent, ident, IsKey, key, IsAbsent, IsExpression, IsElement, IsArguments, AreElements, AreExpressions, IsInitializer, IsDeclarator, AreDeclarators, IsStatement}
+use Rattle.ecma_reread.specs.Tokens.{bare, bare_ident, key_word, bare_expression, bare_element, bare_arguments, bare_elements, bare_expressions, bare_initializer, bare_declarator, bare_declarators, bare_statement}
 use Rattle.ecma_reread.proofs.Unplaced.{without_spans-node}
-use Rattle.ecma_reread.proofs.Simulation.{plain, Sims, means_simulate}
-use Rattle.ecma_reread.proofs.Modules.{module_read}
 
--- the tree that is read is the tree without spans
-
-absent_bare : {n : Node} → IsAbsent n → without_spans n ≡ absent
+pub absent_bare : {n : Node} → IsAbsent n → without_spans n ≡ absent
 absent_bare (shapes.absent at) = without_spans-node at kind.Absent []
 
-ident_bare : {n : Node} (i : IsIdent n) → without_spans n ≡ bare_ident i
+pub ident_bare : {n : Node} (i : IsIdent n) → without_spans n ≡ bare_ident i
 ident_bare (ident at w i) = without_spans-node at _ []
 
 key_bare : {n : Node} (k : IsKey n) → without_spans n ≡ bare (kind.IdentName (key_word k)) []
@@ -90,7 +79,7 @@ declarators_bare : {ds : List Node} (is : AreDeclarators ds) → map without_spa
 declarators_bare shapes.no_declarators = refl
 declarators_bare (shapes.more_declarators d ds) = ap₂ (λ x xs. x ∷ xs) (declarator_bare d) (declarators_bare ds)
 
-statement_bare : {n : Node} (is : IsStatement n) → without_spans n ≡ bare_statement is
+pub statement_bare : {n : Node} (is : IsStatement n) → without_spans n ≡ bare_statement is
 statement_bare (shapes.empty at) = without_spans-node at kind.EmptyStmt []
 statement_bare (shapes.debugger_word at) = without_spans-node at kind.DebuggerStmt []
 statement_bare (shapes.throw at e) = without_spans-node at kind.ThrowStmt _ ∙ ap (λ x. bare kind.ThrowStmt (x ∷ [])) (expression_bare e)
@@ -101,19 +90,3 @@ statement_bare (shapes.continue_nothing at a) = without_spans-node at kind.Conti
 statement_bare (shapes.expression at e) = without_spans-node at kind.ExprStmt _ ∙ ap (λ x. bare kind.ExprStmt (x ∷ [])) (expression_bare e)
 statement_bare (shapes.declaration at at' {k = k} w d ds) =
     without_spans-node at (kind.VarDecl k false) _ ∙ ap (λ x. bare (kind.VarDecl k false) (x ∷ [])) (without_spans-node at' kind.List _ ∙ ap₂ (λ x xs. list_node (x ∷ xs)) (declarator_bare d) (declarators_bare ds))
-
-statements_bare : {ss : List Node} (is : AreStatements ss) → map without_spans ss ≡ bare_statements is
-statements_bare shapes.no_statements = refl
-statements_bare (shapes.more_statements s ss) = ap₂ (λ x xs. x ∷ xs) (statement_bare s) (statements_bare ss)
-
-pub module_bare : {tree : Node} (is : IsModule tree) → without_spans tree ≡ bare_module is
-module_bare (shapes.module_of at at' ss) = without_spans-node at (kind.Module None) _ ∙ ap (λ x. bare (kind.Module None) (x ∷ [])) (without_spans-node at' kind.List _ ∙ ap list_node (statements_bare ss))
-
--- wherever the terminals read the tokens of the text
-pub text_read : (assigned : Bool) (Good : Items → Type 0) (tree : Node) (is : IsModule tree) (text : List ℕ) → text ≡ render (module_tokens is) → Lexes text Good → ((ts : Items) → Good ts → count ts ≤ length (render ts)) → Good (module_tokens is)
-    → (bound : ℕ) → 3 * count (module_tokens is) + 2 ≤ bound → Goes text Good (reads_module text (plain assigned) bound) (λ trees. map without_spans trees ≡ without_spans tree ∷ []) (ends no_gap)
-text_read assigned Good tree is text t lexes long good bound enough =
-    let start : Position = record { place = 0; failed = 0 } in
-    let at : At text Good (module_tokens is) start = record { good = good; stands = record { rest = t; within = (let y = ap length t in omega arith) } } in
-    subst (λ x. Goes text Good (reads_module text (plain assigned) bound) (λ trees. map without_spans trees ≡ x ∷ []) (ends no_gap)) (sym (module_bare is))
-    (subst (λ o. Sims text Good o (reads_module text (plain assigned) bound)) (module_read assigned is) (means_simulate text Good assigned lexes long bound module_body 2 (module_tokens is) module_leads enough start at))

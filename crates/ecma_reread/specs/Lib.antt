@@ -1,4 +1,6 @@
 pub mod Machine
 pub mod Shapes
+pub mod Modules
 pub mod Tokens
+pub mod ModuleTokens
 pub mod Theorems

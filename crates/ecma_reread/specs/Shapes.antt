@@ -1,5 +1,5 @@
--- The trees of modules, a constructor for each form. Parentheses are parts of these trees: none have to be added.
-use Rattle.std.specs.Prelude.{◌≡◌, ℕ, ◌-◌, true, false, List, [], ◌∷◌, length, Some, None}
+-- The trees of expressions and statements, a constructor for each form. Parentheses are parts of these trees: none have to be added.
+use Rattle.std.specs.Prelude.{◌≡◌, ℕ, ◌-◌, true, false, List, [], ◌∷◌, length, Some}
 use Rattle.ecma_number.specs.Numeral.{numeral_of}
 use Rattle.ecma_lex.specs.Text.{piece}
 use Rattle.ecma_lex.specs.Keys.{is_reserved, key_end}
@@ -172,6 +172,3 @@ pub data IsStatement : Node → Type 0 where
 pub data AreStatements : List Node → Type 0 where
   no_statements : AreStatements []
   more_statements : {s : Node} {ss : List Node} → IsStatement s → AreStatements ss → AreStatements (s ∷ ss)
-
-pub data IsModule : Node → Type 0 where
-  module_of : (at of_list : Span) {body : List Node} → AreStatements body → IsModule (node_of at (kind.Module None) (node_of of_list kind.List body ∷ []))

@@ -1,5 +1,5 @@
 -- The tokens that a tree is laid out as, in front of others, and the tree without spans.
-use Rattle.std.specs.Prelude.{ℕ, ◌-◌, true, false, List, [], ◌∷◌, length, Some, None, codes}
+use Rattle.std.specs.Prelude.{ℕ, ◌-◌, true, false, List, [], ◌∷◌, length, Some, codes}
 use Rattle.ecma_number.specs.Numeral.{numeral_of}
 use Rattle.ecma_lex.specs.Text.{piece}
 use Rattle.ecma_lex.specs.Strings.{str_value}
@@ -21,8 +21,8 @@ use Rattle.ecma_print.specs.declared.place.Beside.{Beside}
 use Rattle.ecma_print.specs.declared.place.Beside.TheVariants.{NoNeighbor, BehindMinus, BehindPlus}
 use Rattle.ecma_print.specs.Operators.{unary_sign, update_sign}
 use Rattle.ecma_tokens.specs.Items as items
-use Rattle.ecma_tokens.specs.Items.{Tok, sign, Gap, no_gap, Items, ends, it}
-use Rattle.ecma_reread.specs.Shapes.{IsIdent, ident, IsKey, key, IsLexical, let_word, const_word, Level, IsExpression, looser, element, prefix_update, postfix_update, await_expression, unary_expression, binary_expression, exponentiation, both, either, coalesced, assignment_expression, conditional_expression, sequence_expression, name, string, number, this_word, big_int, null_word, true_word, false_word, member, call, parenthesized, IsElement, one, spread, IsArguments, no_arguments, arguments, AreElements, no_elements, more_elements, AreExpressions, no_expressions, more_expressions, IsInitializer, no_initializer, initializer, IsDeclarator, declarator, AreDeclarators, no_declarators, more_declarators, IsStatement, expression, declaration, empty, debugger_word, throw, return_value, return_nothing, break_nothing, continue_nothing, AreStatements, no_statements, more_statements, IsModule, module_of}
+use Rattle.ecma_tokens.specs.Items.{Tok, sign, Gap, no_gap, Items, it}
+use Rattle.ecma_reread.specs.Shapes.{IsIdent, ident, IsKey, key, IsLexical, let_word, const_word, Level, IsExpression, looser, element, prefix_update, postfix_update, await_expression, unary_expression, binary_expression, exponentiation, both, either, coalesced, assignment_expression, conditional_expression, sequence_expression, name, string, number, this_word, big_int, null_word, true_word, false_word, member, call, parenthesized, IsElement, one, spread, IsArguments, no_arguments, arguments, AreElements, no_elements, more_elements, AreExpressions, no_expressions, more_expressions, IsInitializer, no_initializer, initializer, IsDeclarator, declarator, AreDeclarators, no_declarators, more_declarators, IsStatement, expression, declaration, empty, debugger_word, throw, return_value, return_nothing, break_nothing, continue_nothing}
 
 abbrev pub blank : Gap
 blank = record { blanks = codes " "; new_line = false }
@@ -183,14 +183,6 @@ statement_tokens (continue_nothing at a) g us = it g (items.key (codes "continue
 statement_tokens (expression at e) g us = expression_tokens e g (sign_of (codes ";") us)
 statement_tokens (declaration at at' w d ds) g us = it g (items.key (lexical_word w)) (declarator_tokens d (declarators_tokens ds (sign_of (codes ";") us)))
 
--- each statement ends its line
-abbrev pub statements_tokens : {ss : List Node} → AreStatements ss → Gap → Items
-statements_tokens no_statements g = ends g
-statements_tokens (more_statements s ss) g = statement_tokens s g (statements_tokens ss line)
-
-abbrev pub module_tokens : {tree : Node} → IsModule tree → Items
-module_tokens (module_of at at' ss) = statements_tokens ss no_gap
-
 -- the trees without spans
 
 abbrev pub bare : Kind → List Node → Node
@@ -287,10 +279,3 @@ bare_statement (break_nothing at a) = bare kind.BreakStmt (absent ∷ [])
 bare_statement (continue_nothing at a) = bare kind.ContinueStmt (absent ∷ [])
 bare_statement (expression at e) = bare kind.ExprStmt (bare_expression e ∷ [])
 bare_statement (declaration at at' {k = k} w d ds) = bare (kind.VarDecl k false) (list_node (bare_declarator d ∷ bare_declarators ds) ∷ [])
-
-abbrev pub bare_statements : {ss : List Node} → AreStatements ss → List Node
-bare_statements no_statements = []
-bare_statements (more_statements s ss) = bare_statement s ∷ bare_statements ss
-
-abbrev pub bare_module : {tree : Node} → IsModule tree → Node
-bare_module (module_of at at' ss) = bare (kind.Module None) (list_node (bare_statements ss) ∷ [])
