@@ -338,10 +338,10 @@ unary_gap_is Bang b = no_gap_is
 unary_gap_is Tilde b = no_gap_is
 unary_gap_is o b = blank_is
 
-ident_whole : {n : Node} (i : IsIdent n) → IsToken key_end (ident_word i)
+pub ident_whole : {n : Node} (i : IsIdent n) → IsToken key_end (ident_word i)
 ident_whole (ident at w i) = i.whole
 
-key_whole : {n : Node} (k : IsKey n) → IsToken key_end (key_word k)
+pub key_whole : {n : Node} (k : IsKey n) → IsToken key_end (key_word k)
 key_whole (key at w t) = t
 
 -- the words of the layout are words
@@ -361,6 +361,10 @@ pub record Words : Type 0 where
   pub return_whole : IsToken key_end (codes "return")
   pub break_whole : IsToken key_end (codes "break")
   pub continue_whole : IsToken key_end (codes "continue")
+  pub import_whole : IsToken key_end (codes "import")
+  pub from_whole : IsToken key_end (codes "from")
+  pub as_whole : IsToken key_end (codes "as")
+  pub with_whole : IsToken key_end (codes "with")
   pub in_whole : IsToken key_end (codes "in")
   pub instanceof_whole : IsToken key_end (codes "instanceof")
 

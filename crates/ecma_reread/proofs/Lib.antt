@@ -29,6 +29,8 @@ pub mod Lists
 pub mod Sequences
 pub mod Calls
 pub mod Statements
+pub mod Sources
+pub mod Imports
 pub mod Modules
 pub mod Whole
 pub mod ModuleTrees

@@ -1,17 +1,19 @@
 -- The tokens of a module are good: each joins the next.
-use Rattle.std.proofs.Common.{◌≡◌, true, List, [], codes, refl, sym, subst}
+use Rattle.std.proofs.Common.{◌≡◌, ℕ, true, List, [], ◌∷◌, codes, refl, sym, subst}
+use Rattle.ecma_lex.specs.Strings.{str_end}
 use Rattle.ecma_lex.specs.Punctuators.{punctuators}
 use Rattle.ecma_tree.specs.declared.node.Node.{Node}
+use Rattle.ecma_tokens.specs.Items as items
 use Rattle.ecma_tokens.specs.Items.{Tok, sign, Gap, no_gap, Items, ends, it}
-use Rattle.ecma_tokens.specs.Good.{IsGap}
-use Rattle.ecma_tokens.specs.Joins.{joins_next, Joined}
+use Rattle.ecma_tokens.specs.Good.{IsGap, IsToken}
+use Rattle.ecma_tokens.specs.Joins.{parted_by, joins_next, Fine, Joined}
 use Rattle.ecma_reread.specs.Shapes as shapes
 use Rattle.ecma_reread.specs.Shapes.{IsStatement}
 use Rattle.ecma_reread.specs.Modules as modules
-use Rattle.ecma_reread.specs.Modules.{IsModuleItem, AreModuleItems, IsModule}
-use Rattle.ecma_reread.specs.Tokens.{line, sign_of, statement_tokens}
-use Rattle.ecma_reread.specs.ModuleTokens.{item_tokens, items_tokens, module_tokens}
-use Rattle.ecma_reread.proofs.Joins.{Words, begun, no_gap_is, line_is, statement_joined}
+use Rattle.ecma_reread.specs.Modules.{IsString, IsExportName, IsAttributeKey, IsAttribute, AreAttributes, IsWithClause, IsDefaultImport, IsNamespaceImport, IsNamedImport, AreNamedImports, IsImportClause, IsModuleItem, AreModuleItems, IsModule}
+use Rattle.ecma_reread.specs.Tokens.{line, sign_of, ident_word, statement_tokens}
+use Rattle.ecma_reread.specs.ModuleTokens.{spaced, spaced_sign, string_raw, export_name_token, attribute_key_token, attribute_tokens, more_attributes_tokens, with_tokens, source_tokens, default_import_tokens, namespace_import_tokens, named_import_tokens, more_imports_tokens, named_imports_tokens, import_clause_tokens, item_tokens, items_tokens, module_tokens}
+use Rattle.ecma_reread.proofs.Joins.{Words, begun, no_gap_is, blank_is, line_is, ident_whole, key_whole, statement_joined}
 
 -- on a new line each token may stand
 data OnLine : Items → Type 0 where
@@ -35,14 +37,120 @@ statement_on_line (shapes.continue_nothing at a) us = line_start
 
 item_on_line : {n : Node} (is : IsModuleItem n) (us : Items) → OnLine (item_tokens is line us)
 item_on_line (modules.statement s) us = statement_on_line s us
+item_on_line (modules.import_alone at at' s w) us = line_start
+item_on_line (modules.import_bindings at at' c s w) us = line_start
 
 items_on_line : {ns : List Node} (is : AreModuleItems ns) → OnLine (items_tokens is line)
 items_on_line modules.no_items = line_end
 items_on_line (modules.more_items i is) = item_on_line i (items_tokens is line)
 
+-- behind a text each token may stand
+
+parted_anyway : (blanks : List ℕ) → parted_by blanks true ≡ true
+parted_anyway [] = refl
+parted_anyway (c ∷ cs) = refl
+
+string_joins : (w : List ℕ) (us : Items) → joins_next (items.string w) us ≡ true
+string_joins w (ends g) = refl
+string_joins w (it g t us) = parted_anyway g.blanks
+
+string_whole : {n : Node} (s : IsString n) → IsToken str_end (string_raw s)
+string_whole (modules.string_literal at raw t) = t
+
+export_name_fine : {n : Node} (x : IsExportName n) → Fine (export_name_token x)
+export_name_fine (modules.word_name at w t) = t
+export_name_fine (modules.string_name s) = string_whole s
+
+attribute_key_fine : {n : Node} (k : IsAttributeKey n) → Fine (attribute_key_token k)
+attribute_key_fine (modules.word_key k) = key_whole k
+attribute_key_fine (modules.string_key s) = string_whole s
+
+attribute_key_joins : {n : Node} (k : IsAttributeKey n) (us : Items) → joins_next (attribute_key_token k) (sign_of (codes ":") us) ≡ true
+attribute_key_joins (modules.word_key k) us = refl
+attribute_key_joins (modules.string_key s) us = refl
+
+-- what a name in a list stands before: a comma, or a blank
+data Between : Items → Type 0 where
+  comma : {us : Items} → Between (sign_of (codes ",") us)
+  parted : {t : Tok} {us : Items} → Between (spaced t us)
+
+key_joins : (w : List ℕ) {us : Items} → Between us → joins_next (items.key w) us ≡ true
+key_joins w comma = refl
+key_joins w parted = refl
+
+more_imports_between : {ns : List Node} (is : AreNamedImports ns) (us : Items) → Between (more_imports_tokens is (spaced_sign (codes "}") us))
+more_imports_between modules.no_imports us = parted
+more_imports_between (modules.more_imports n ns) us = comma
+
+-- a specifier stands behind a blank
+spaced_import : (t : Tok) {n : Node} (is : IsNamedImport n) (us : Items) → joins_next t (named_import_tokens is us) ≡ true
+spaced_import t (modules.same_import at i a) us = refl
+spaced_import t (modules.other_import at i x) us = refl
+
+spaced_clause : (t : Tok) {ns : List Node} (is : IsImportClause ns) (us : Items) → joins_next t (import_clause_tokens is us) ≡ true
+spaced_clause t (modules.import_default (modules.default_import at i)) us = refl
+spaced_clause t (modules.import_namespace (modules.namespace_import at i)) us = refl
+spaced_clause t (modules.import_names n ns) us = refl
+spaced_clause t (modules.import_default_and_namespace (modules.default_import at i) a) us = refl
+spaced_clause t (modules.import_default_and_names (modules.default_import at i) n ns) us = refl
+
 module _ (words : Words) where
+  attribute_joined : {n : Node} (is : IsAttribute n) (us : Items) → Joined us → Joined (attribute_tokens is us)
+  unfolding punctuators
+  attribute_joined (modules.attribute at k s) us j = (blank_is, attribute_key_fine k, attribute_key_joins k (spaced (items.string (string_raw s)) us), (no_gap_is, refl, refl, (blank_is, string_whole s, string_joins (string_raw s) us, j)))
+
+  more_attributes_joined : {ns : List Node} (is : AreAttributes ns) (us : Items) → Joined us → Joined (more_attributes_tokens is us)
+  unfolding punctuators
+  more_attributes_joined modules.no_attributes us j = j
+  more_attributes_joined (modules.more_attributes (modules.attribute at k s) more) us j = (no_gap_is, refl, refl, attribute_joined (modules.attribute at k s) (more_attributes_tokens more us) (more_attributes_joined more us j))
+
+  closing_joined : (us : Items) → Joined (sign_of (codes ";") us) → Joined (spaced_sign (codes "}") (sign_of (codes ";") us))
+  unfolding punctuators
+  closing_joined us j = (blank_is, refl, refl, j)
+
+  with_joined : {n : Node} (is : IsWithClause n) (us : Items) → Joined (sign_of (codes ";") us) → Joined (with_tokens is (sign_of (codes ";") us))
+  unfolding punctuators
+  with_joined (modules.no_with a) us j = j
+  with_joined (modules.with_nothing at at') us j = (blank_is, words.with_whole, refl, (blank_is, refl, refl, (no_gap_is, refl, refl, j)))
+  with_joined (modules.with_attributes at at' (modules.attribute of k s) more) us j =
+      (blank_is, words.with_whole, refl, (blank_is, refl, refl, attribute_joined (modules.attribute of k s) _ (more_attributes_joined more _ (closing_joined us j))))
+
+  source_joined : {n k : Node} (s : IsString n) (w : IsWithClause k) (us : Items) → Joined (sign_of (codes ";") us) → Joined (source_tokens s w (sign_of (codes ";") us))
+  source_joined s w us j = (blank_is, string_whole s, string_joins (string_raw s) _, with_joined w us j)
+
+  default_joined : {n : Node} (is : IsDefaultImport n) (us : Items) → Between us → Joined us → Joined (default_import_tokens is us)
+  default_joined (modules.default_import at i) us b j = (blank_is, ident_whole i, key_joins (ident_word i) b, j)
+
+  namespace_joined : {n : Node} (is : IsNamespaceImport n) (us : Items) → Between us → Joined us → Joined (namespace_import_tokens is us)
+  unfolding punctuators
+  namespace_joined (modules.namespace_import at i) us b j = (blank_is, refl, refl, (blank_is, words.as_whole, refl, (blank_is, ident_whole i, key_joins (ident_word i) b, j)))
+
+  named_import_joined : {n : Node} (is : IsNamedImport n) (us : Items) → Between us → Joined us → Joined (named_import_tokens is us)
+  named_import_joined (modules.same_import at i a) us b j = (blank_is, ident_whole i, key_joins (ident_word i) b, j)
+  named_import_joined (modules.other_import at i x) us b j = (blank_is, export_name_fine x, refl, (blank_is, words.as_whole, refl, (blank_is, ident_whole i, key_joins (ident_word i) b, j)))
+
+  more_imports_joined : {ns : List Node} (is : AreNamedImports ns) (us : Items) → Joined (spaced_sign (codes "}") us) → Joined (more_imports_tokens is (spaced_sign (codes "}") us))
+  unfolding punctuators
+  more_imports_joined modules.no_imports us j = j
+  more_imports_joined (modules.more_imports n ns) us j = (no_gap_is, refl, spaced_import (sign (codes ",")) n _, named_import_joined n _ (more_imports_between ns us) (more_imports_joined ns us j))
+
+  named_imports_joined : {n : Node} {ns : List Node} (i : IsNamedImport n) (is : AreNamedImports ns) (us : Items) → Joined (spaced_sign (codes "}") us) → Joined (named_imports_tokens i is us)
+  unfolding punctuators
+  named_imports_joined i is us j = (blank_is, refl, spaced_import (sign (codes "{")) i _, named_import_joined i _ (more_imports_between is us) (more_imports_joined is us j))
+
+  import_clause_joined : {ns : List Node} (is : IsImportClause ns) (t : Tok) (us : Items) → Joined (spaced t us) → Joined (import_clause_tokens is (spaced t us))
+  unfolding punctuators
+  import_clause_joined (modules.import_default d) t us j = default_joined d (spaced t us) parted j
+  import_clause_joined (modules.import_namespace a) t us j = namespace_joined a (spaced t us) parted j
+  import_clause_joined (modules.import_names n ns) t us j = named_imports_joined n ns (spaced t us) (blank_is, refl, refl, j)
+  import_clause_joined (modules.import_default_and_namespace d (modules.namespace_import at i)) t us j = default_joined d _ comma (no_gap_is, refl, refl, namespace_joined (modules.namespace_import at i) (spaced t us) parted j)
+  import_clause_joined (modules.import_default_and_names d n ns) t us j = default_joined d _ comma (no_gap_is, refl, refl, named_imports_joined n ns (spaced t us) (blank_is, refl, refl, j))
+
   item_joined : {n : Node} (is : IsModuleItem n) (g : Gap) → IsGap g → (us : Items) → Joined (sign_of (codes ";") us) → Joined (item_tokens is g us)
   item_joined (modules.statement s) g h us j = statement_joined words s g h us j
+  item_joined (modules.import_alone at at' s w) g h us j = (h, words.import_whole, refl, source_joined s w us j)
+  item_joined (modules.import_bindings at at' c s w) g h us j =
+      (h, words.import_whole, spaced_clause (items.key (codes "import")) c _, import_clause_joined c (items.key (codes "from")) _ (blank_is, words.from_whole, refl, source_joined s w us j))
 
   items_joined : {ns : List Node} (is : AreModuleItems ns) (g : Gap) → IsGap g → Joined (items_tokens is g)
   unfolding punctuators

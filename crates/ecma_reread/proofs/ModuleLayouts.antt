@@ -1,21 +1,130 @@
 -- The layout of a module is the text of its tokens.
-use Rattle.std.proofs.Common.{◌≡◌, List, [], ◌∷◌, ◌++◌, map, ap, sym, ◌∙◌, append-nil, None}
+use Rattle.std.proofs.Common.{◌≡◌, ℕ, true, false, List, [], ◌∷◌, ◌++◌, map, codes, refl, ap, sym, ◌∙◌, append-nil, None}
 use Rattle.ecma_kind.specs.declared.kind.Kind.TheVariants as kind
 use Rattle.ecma_tree.specs.declared.node.Node.{Node}
 use Rattle.ecma_tree.specs.Nodes.{node_of}
-use Rattle.ecma_print.specs.declared.place.Place.TheVariants.{At, Lines}
-use Rattle.ecma_print.specs.Places.{free}
-use Rattle.ecma_print.specs.Lists.{lines}
+use Rattle.ecma_print.specs.declared.place.Between.{Between}
+use Rattle.ecma_print.specs.declared.place.Between.TheVariants.{Attributes, BeforeAs}
+use Rattle.ecma_print.specs.declared.place.Place.TheVariants.{At, Within, Braces, Lines, Imports}
+use Rattle.ecma_print.specs.Places.{free, before, after}
+use Rattle.ecma_print.specs.Laid.{is_named}
+use Rattle.ecma_print.specs.Lists.{lines, more_commas, specifiers, more_specifiers, imports}
 use Rattle.ecma_print.specs.Layout.{laid, layout}
-use Rattle.ecma_tokens.specs.Items.{Gap, no_gap, Items, render}
+use Rattle.ecma_tokens.specs.Items.{Gap, no_gap, Items, token_text, render}
+use Rattle.ecma_reread.specs.Shapes.{ident, key, absent}
 use Rattle.ecma_reread.specs.Modules as modules
-use Rattle.ecma_reread.specs.Modules.{IsModuleItem, AreModuleItems, IsModule}
-use Rattle.ecma_reread.specs.Tokens.{line}
-use Rattle.ecma_reread.specs.ModuleTokens.{item_tokens, items_tokens, module_tokens}
-use Rattle.ecma_reread.proofs.Layouts.{at_node, statement_laid}
+use Rattle.ecma_reread.specs.Modules.{IsString, IsExportName, IsAttribute, AreAttributes, IsWithClause, IsNamedImport, AreNamedImports, IsImportClause, IsModuleItem, AreModuleItems, IsModule}
+use Rattle.ecma_reread.specs.Tokens.{line, sign_of}
+use Rattle.ecma_reread.specs.ModuleTokens.{spaced_word, spaced_sign, string_raw, export_name_token, attribute_tokens, more_attributes_tokens, with_tokens, source_tokens, named_import_tokens, more_imports_tokens, named_imports_tokens, import_clause_tokens, item_tokens, items_tokens, module_tokens}
+use Rattle.ecma_reread.proofs.Layouts.{laid_node, at_node, statement_laid}
+
+string_laid : {n : Node} (s : IsString n) (m rest : List ℕ) → (laid n).at (At (free 0)) m rest ≡ string_raw s ++ rest
+string_laid (modules.string_literal at raw t) m rest = at_node at _ [] (At (free 0)) m rest
+
+export_name_laid : {n : Node} (x : IsExportName n) (between : Between) (m rest : List ℕ) → (laid n).at (Within between (free 0)) m rest ≡ before between m (token_text (export_name_token x) ++ after between m rest)
+export_name_laid (modules.word_name at w t) between m rest = at_node at (kind.Ident w 0 false) [] (Within between (free 0)) m rest
+export_name_laid (modules.string_name (modules.string_literal at raw t)) between m rest = at_node at _ [] (Within between (free 0)) m rest
+
+-- attributes
+
+attribute_laid : {n : Node} (is : IsAttribute n) (m : List ℕ) (us : Items) → codes " " ++ (laid n).at (At (free 1)) m (render us) ≡ render (attribute_tokens is us)
+unfolding render
+attribute_laid (modules.attribute at {name = name} {value = value} (modules.word_key (key at' w t)) (modules.string_literal of raw t')) m us =
+    ap (λ z. codes " " ++ z) (at_node at kind.KeyValueProp (name ∷ value ∷ []) (At (free 1)) m (render us) ∙ rw (laid_node at' (kind.IdentName w) [], laid_node of _ []) refl)
+attribute_laid (modules.attribute at {name = name} {value = value} (modules.string_key (modules.string_literal at' w t)) (modules.string_literal of raw t')) m us =
+    ap (λ z. codes " " ++ z) (at_node at kind.KeyValueProp (name ∷ value ∷ []) (At (free 1)) m (render us) ∙ rw (laid_node at' _ [], laid_node of _ []) refl)
+
+more_attributes_laid : {ns : List Node} (is : AreAttributes ns) (m : List ℕ) (us : Items) → more_commas (free 1) (map laid ns) m (codes " }" ++ render us) ≡ render (more_attributes_tokens is (spaced_sign (codes "}") us))
+unfolding render
+more_attributes_laid modules.no_attributes m us = refl
+more_attributes_laid (modules.more_attributes {n = n} a more) m us =
+    ap (λ z. codes ", " ++ (laid n).at (At (free 1)) m z) (more_attributes_laid more m us)
+    ∙ ap (λ z. codes "," ++ z) (attribute_laid a m (more_attributes_tokens more (spaced_sign (codes "}") us)))
+
+with_laid : {n : Node} (w : IsWithClause n) (m : List ℕ) (us : Items) → (laid n).at (Within Attributes (free 0)) m (render us) ≡ render (with_tokens w us)
+unfolding render
+with_laid (modules.no_with (absent at)) m us = at_node at kind.Absent [] (Within Attributes (free 0)) m (render us)
+with_laid (modules.with_nothing at at') m us =
+    at_node at kind.ObjectLit (node_of at' kind.List [] ∷ []) (Within Attributes (free 0)) m (render us) ∙ ap (λ z. codes " with " ++ z) (at_node at' kind.List [] Braces m (render us))
+with_laid (modules.with_attributes at at' {n = n} {ns = ns} a more) m us =
+    at_node at kind.ObjectLit (node_of at' kind.List (n ∷ ns) ∷ []) (Within Attributes (free 0)) m (render us)
+    ∙ ap (λ z. codes " with " ++ z) (at_node at' kind.List (n ∷ ns) Braces m (render us)
+    ∙ ap (λ z. codes "{ " ++ (laid n).at (At (free 1)) m z) (more_attributes_laid more m us)
+    ∙ ap (λ z. codes "{" ++ z) (attribute_laid a m (more_attributes_tokens more (spaced_sign (codes "}") us))))
+
+source_laid : {n k : Node} (s : IsString n) (w : IsWithClause k) (m : List ℕ) (us : Items)
+    → codes " " ++ (laid n).at (At (free 0)) m ((laid k).at (Within Attributes (free 0)) m (codes ";" ++ render us)) ≡ render (source_tokens s w (sign_of (codes ";") us))
+unfolding render
+source_laid {n} s w m us = ap (λ z. codes " " ++ (laid n).at (At (free 0)) m z) (with_laid w m (sign_of (codes ";") us)) ∙ ap (λ z. codes " " ++ z) (string_laid s m (render (with_tokens w (sign_of (codes ";") us))))
+
+-- imports
+
+is_named_import : {n : Node} → IsNamedImport n → is_named (laid n).kind ≡ true
+is_named_import (modules.same_import at i a) = ap (λ x. is_named x.kind) (laid_node at (kind.ImportNamedSpecifier false) _)
+is_named_import (modules.other_import at i x) = ap (λ x. is_named x.kind) (laid_node at (kind.ImportNamedSpecifier false) _)
+
+named_import_laid : {n : Node} (is : IsNamedImport n) (m : List ℕ) (us : Items) → codes " " ++ (laid n).at (At (free 0)) m (render us) ≡ render (named_import_tokens is us)
+unfolding render
+named_import_laid (modules.same_import at {local = local} {none = none} (ident at' w i) (absent at'')) m us =
+    ap (λ z. codes " " ++ z) (at_node at (kind.ImportNamedSpecifier false) (local ∷ none ∷ []) (At (free 0)) m (render us) ∙ rw (laid_node at' (kind.Ident w 0 false) [], laid_node at'' kind.Absent []) refl)
+named_import_laid (modules.other_import at {local = local} {imported = imported} (ident at' w i) x) m us =
+    ap (λ z. codes " " ++ z)
+    (at_node at (kind.ImportNamedSpecifier false) (local ∷ imported ∷ []) (At (free 0)) m (render us) ∙ rw (laid_node at' (kind.Ident w 0 false) [], export_name_laid x BeforeAs m (w ++ render us)) refl)
+
+more_imports_laid : {ns : List Node} (is : AreNamedImports ns) (m : List ℕ) (us : Items) → more_specifiers true (map laid ns) m (render us) ≡ render (more_imports_tokens is (spaced_sign (codes "}") us))
+unfolding render
+more_imports_laid modules.no_imports m us = refl
+more_imports_laid (modules.more_imports {n = n} {ns = ns} i is) m us =
+    rw (is_named_import i)
+    (ap (λ z. codes ", " ++ (laid n).at (At (free 0)) m z) (more_imports_laid is m us)
+    ∙ ap (λ z. codes "," ++ z) (named_import_laid i m (more_imports_tokens is (spaced_sign (codes "}") us))))
+
+-- in braces
+named_imports_laid : {n : Node} {ns : List Node} (i : IsNamedImport n) (is : AreNamedImports ns) (m : List ℕ) (us : Items)
+    → codes " { " ++ (laid n).at (At (free 0)) m (more_specifiers true (map laid ns) m (render us)) ≡ render (named_imports_tokens i is us)
+unfolding render
+named_imports_laid {n} i is m us =
+    ap (λ z. codes " { " ++ (laid n).at (At (free 0)) m z) (more_imports_laid is m us) ∙ ap (λ z. codes " {" ++ z) (named_import_laid i m (more_imports_tokens is (spaced_sign (codes "}") us)))
+
+import_clause_laid : {ns : List Node} (is : IsImportClause ns) (m : List ℕ) (us : Items) → codes " " ++ specifiers (map laid ns) m (render us) ≡ render (import_clause_tokens is us)
+unfolding render
+import_clause_laid (modules.import_default (modules.default_import at {local = local} (ident at' w i))) m us = rw (laid_node at kind.ImportDefaultSpecifier (local ∷ []), laid_node at' (kind.Ident w 0 false) []) refl
+import_clause_laid (modules.import_namespace (modules.namespace_import at {local = local} (ident at' w i))) m us = rw (laid_node at kind.ImportStarAsSpecifier (local ∷ []), laid_node at' (kind.Ident w 0 false) []) refl
+import_clause_laid (modules.import_names i is) m us = rw (is_named_import i) (named_imports_laid i is m us)
+import_clause_laid (modules.import_default_and_namespace (modules.default_import at {local = local} (ident at' w i)) (modules.namespace_import of {local = local'} (ident of' v j))) m us =
+    rw (laid_node at kind.ImportDefaultSpecifier (local ∷ []), laid_node at' (kind.Ident w 0 false) [], laid_node of kind.ImportStarAsSpecifier (local' ∷ []), laid_node of' (kind.Ident v 0 false) []) refl
+import_clause_laid (modules.import_default_and_names (modules.default_import at {local = local} (ident at' w i)) n ns) m us =
+    rw (laid_node at kind.ImportDefaultSpecifier (local ∷ []), laid_node at' (kind.Ident w 0 false) [], is_named_import n) (ap (λ z. codes " " ++ (w ++ (codes "," ++ z))) (named_imports_laid n ns m us))
+
+imports_laid : {ns : List Node} {n k : Node} (is : IsImportClause ns) (s : IsString n) (w : IsWithClause k) (m : List ℕ) (us : Items)
+    → imports (map laid ns) m ((laid n).at (At (free 0)) m ((laid k).at (Within Attributes (free 0)) m (codes ";" ++ render us))) ≡ render (import_clause_tokens is (spaced_word (codes "from") (source_tokens s w (sign_of (codes ";") us))))
+unfolding render
+imports_laid {ns} {n} {k} is s w m us =
+    some is _
+    ∙ (ap (λ z. codes " " ++ specifiers (map laid ns) m (codes " from" ++ z)) (source_laid s w m us) ∙ import_clause_laid is m (spaced_word (codes "from") (source_tokens s w (sign_of (codes ";") us))))
+  where
+    some : {ns : List Node} → IsImportClause ns → (rest : List ℕ) → imports (map laid ns) m rest ≡ codes " " ++ specifiers (map laid ns) m (codes " from " ++ rest)
+    some (modules.import_default d) rest = refl
+    some (modules.import_namespace a) rest = refl
+    some (modules.import_names n ns) rest = refl
+    some (modules.import_default_and_namespace d a) rest = refl
+    some (modules.import_default_and_names d n ns) rest = refl
+
+-- modules
 
 item_laid : {n : Node} (is : IsModuleItem n) (g : Gap) (us : Items) → render (item_tokens is g us) ≡ g.blanks ++ (laid n).at (At (free 0)) [] (render us)
+unfolding render
 item_laid (modules.statement s) g us = statement_laid s g [] us
+item_laid (modules.import_alone at at' {source = source} {attributes = attributes} s w) g us =
+    let rest = (laid source).at (At (free 0)) [] ((laid attributes).at (Within Attributes (free 0)) [] (codes ";" ++ render us)) in
+    ap (λ z. g.blanks ++ z)
+    (sym (at_node at (kind.ImportDecl false) (node_of at' kind.List [] ∷ source ∷ attributes ∷ []) (At (free 0)) [] (render us)
+    ∙ ap (λ z. codes "import" ++ z) (at_node at' kind.List [] Imports [] rest ∙ source_laid s w [] us)))
+item_laid (modules.import_bindings at at' {bindings = bindings} {source = source} {attributes = attributes} c s w) g us =
+    let rest = (laid source).at (At (free 0)) [] ((laid attributes).at (Within Attributes (free 0)) [] (codes ";" ++ render us)) in
+    ap (λ z. g.blanks ++ z)
+    (sym (at_node at (kind.ImportDecl false) (node_of at' kind.List bindings ∷ source ∷ attributes ∷ []) (At (free 0)) [] (render us)
+    ∙ ap (λ z. codes "import" ++ z) (at_node at' kind.List bindings Imports [] rest ∙ imports_laid c s w [] us)))
 
 lines_laid : {ns : List Node} (is : AreModuleItems ns) (g : Gap) → render (items_tokens is g) ≡ g.blanks ++ lines (map laid ns) [] []
 unfolding render

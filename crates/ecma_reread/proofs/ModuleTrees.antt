@@ -1,18 +1,74 @@
 -- The tree that is read of a module is the tree without spans.
-use Rattle.std.proofs.Common.{None, ◌≡◌, List, [], ◌∷◌, map, refl, ap, ap₂, ◌∙◌}
+use Rattle.std.proofs.Common.{None, false, ◌≡◌, List, [], ◌∷◌, map, refl, ap, ap₂, ◌∙◌}
+use Rattle.ecma_kind.specs.declared.span.Span.{Span}
 use Rattle.ecma_kind.specs.declared.kind.Kind.TheVariants as kind
 use Rattle.ecma_tree.specs.declared.node.Node.{Node}
-use Rattle.ecma_tree.specs.Nodes.{list_node}
+use Rattle.ecma_tree.specs.Nodes.{node_of, list_node}
 use Rattle.ecma_tree.specs.Spans.{without_spans}
 use Rattle.ecma_reread.specs.Modules as modules
-use Rattle.ecma_reread.specs.Modules.{IsModuleItem, AreModuleItems, IsModule}
+use Rattle.ecma_reread.specs.Modules.{IsString, IsExportName, IsAttributeKey, IsAttribute, AreAttributes, IsWithClause, IsDefaultImport, IsNamespaceImport, IsNamedImport, AreNamedImports, IsImportClause, IsModuleItem, AreModuleItems, IsModule}
 use Rattle.ecma_reread.specs.Tokens.{bare}
-use Rattle.ecma_reread.specs.ModuleTokens.{bare_item, bare_items, bare_module}
+use Rattle.ecma_reread.specs.ModuleTokens.{bare_string, bare_export_name, bare_attribute_key, bare_attribute, bare_attributes, bare_with, bare_default_import, bare_namespace_import, bare_named_import, bare_named_imports, bare_import_clause, bare_item, bare_items, bare_module}
 use Rattle.ecma_reread.proofs.Unplaced.{without_spans-node}
-use Rattle.ecma_reread.proofs.Whole.{statement_bare}
+use Rattle.ecma_reread.proofs.Whole.{absent_bare, ident_bare, key_bare, statement_bare}
+
+string_bare : {n : Node} (s : IsString n) → without_spans n ≡ bare_string s
+string_bare (modules.string_literal at raw t) = without_spans-node at _ []
+
+export_name_bare : {n : Node} (x : IsExportName n) → without_spans n ≡ bare_export_name x
+export_name_bare (modules.word_name at w t) = without_spans-node at (kind.Ident w 0 false) []
+export_name_bare (modules.string_name s) = string_bare s
+
+attribute_key_bare : {n : Node} (k : IsAttributeKey n) → without_spans n ≡ bare_attribute_key k
+attribute_key_bare (modules.word_key k) = key_bare k
+attribute_key_bare (modules.string_key s) = string_bare s
+
+attribute_bare : {n : Node} (is : IsAttribute n) → without_spans n ≡ bare_attribute is
+attribute_bare (modules.attribute at k s) = without_spans-node at kind.KeyValueProp _ ∙ ap₂ (λ x y. bare kind.KeyValueProp (x ∷ y ∷ [])) (attribute_key_bare k) (string_bare s)
+
+attributes_bare : {ns : List Node} (is : AreAttributes ns) → map without_spans ns ≡ bare_attributes is
+attributes_bare modules.no_attributes = refl
+attributes_bare (modules.more_attributes a more) = ap₂ (λ x xs. x ∷ xs) (attribute_bare a) (attributes_bare more)
+
+with_bare : {n : Node} (is : IsWithClause n) → without_spans n ≡ bare_with is
+with_bare (modules.no_with a) = absent_bare a
+with_bare (modules.with_nothing at at') = without_spans-node at kind.ObjectLit _ ∙ ap (λ x. bare kind.ObjectLit (x ∷ [])) (without_spans-node at' kind.List [])
+with_bare (modules.with_attributes at at' a more) =
+    without_spans-node at kind.ObjectLit _ ∙ ap (λ x. bare kind.ObjectLit (x ∷ [])) (without_spans-node at' kind.List _ ∙ ap₂ (λ x xs. list_node (x ∷ xs)) (attribute_bare a) (attributes_bare more))
+
+default_import_bare : {n : Node} (is : IsDefaultImport n) → without_spans n ≡ bare_default_import is
+default_import_bare (modules.default_import at i) = without_spans-node at kind.ImportDefaultSpecifier _ ∙ ap (λ x. bare kind.ImportDefaultSpecifier (x ∷ [])) (ident_bare i)
+
+namespace_import_bare : {n : Node} (is : IsNamespaceImport n) → without_spans n ≡ bare_namespace_import is
+namespace_import_bare (modules.namespace_import at i) = without_spans-node at kind.ImportStarAsSpecifier _ ∙ ap (λ x. bare kind.ImportStarAsSpecifier (x ∷ [])) (ident_bare i)
+
+named_import_bare : {n : Node} (is : IsNamedImport n) → without_spans n ≡ bare_named_import is
+named_import_bare (modules.same_import at i a) = without_spans-node at _ _ ∙ ap₂ (λ x y. bare (kind.ImportNamedSpecifier false) (x ∷ y ∷ [])) (ident_bare i) (absent_bare a)
+named_import_bare (modules.other_import at i x) = without_spans-node at _ _ ∙ ap₂ (λ x y. bare (kind.ImportNamedSpecifier false) (x ∷ y ∷ [])) (ident_bare i) (export_name_bare x)
+
+named_imports_bare : {ns : List Node} (is : AreNamedImports ns) → map without_spans ns ≡ bare_named_imports is
+named_imports_bare modules.no_imports = refl
+named_imports_bare (modules.more_imports n ns) = ap₂ (λ x xs. x ∷ xs) (named_import_bare n) (named_imports_bare ns)
+
+import_clause_bare : {ns : List Node} (is : IsImportClause ns) → map without_spans ns ≡ bare_import_clause is
+import_clause_bare (modules.import_default d) = ap (λ x. x ∷ []) (default_import_bare d)
+import_clause_bare (modules.import_namespace a) = ap (λ x. x ∷ []) (namespace_import_bare a)
+import_clause_bare (modules.import_names n ns) = ap₂ (λ x xs. x ∷ xs) (named_import_bare n) (named_imports_bare ns)
+import_clause_bare (modules.import_default_and_namespace d a) = ap₂ (λ x y. x ∷ y ∷ []) (default_import_bare d) (namespace_import_bare a)
+import_clause_bare (modules.import_default_and_names d n ns) = ap₂ (λ x xs. x ∷ xs) (default_import_bare d) (ap₂ (λ x xs. x ∷ xs) (named_import_bare n) (named_imports_bare ns))
+
+-- bindings, source and attributes
+import_bare : (at of_list : Span) {n k : Node} (ns bs : List Node) → map without_spans ns ≡ bs → (s : IsString n) (w : IsWithClause k)
+    → without_spans (node_of at (kind.ImportDecl false) (node_of of_list kind.List ns ∷ n ∷ k ∷ [])) ≡ bare (kind.ImportDecl false) (list_node bs ∷ bare_string s ∷ bare_with w ∷ [])
+import_bare at of_list {n} {k} ns bs h s w =
+    without_spans-node at (kind.ImportDecl false) _
+    ∙ (ap (λ x. bare (kind.ImportDecl false) (x ∷ without_spans n ∷ without_spans k ∷ [])) (without_spans-node of_list kind.List _ ∙ ap list_node h)
+    ∙ ap₂ (λ x y. bare (kind.ImportDecl false) (list_node bs ∷ x ∷ y ∷ [])) (string_bare s) (with_bare w))
 
 item_bare : {n : Node} (is : IsModuleItem n) → without_spans n ≡ bare_item is
 item_bare (modules.statement s) = statement_bare s
+item_bare (modules.import_alone at at' s w) = import_bare at at' [] [] refl s w
+item_bare (modules.import_bindings at at' c s w) = import_bare at at' _ (bare_import_clause c) (import_clause_bare c) s w
 
 items_bare : {ns : List Node} (is : AreModuleItems ns) → map without_spans ns ≡ bare_items is
 items_bare modules.no_items = refl

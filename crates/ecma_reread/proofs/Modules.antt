@@ -24,20 +24,22 @@ use Rattle.ecma_grammar.specs.productions.Statements as statements
 use Rattle.ecma_grammar.specs.productions.Statements.{statement_body, expression_statement}
 use Rattle.ecma_grammar.specs.productions.Modules as modules
 use Rattle.ecma_grammar.specs.productions.Modules.{module_item, module_body}
-use Rattle.ecma_tokens.specs.Items.{Gap, no_gap, Items, ends}
-use Rattle.ecma_reread.specs.Machine.{read, with_front, followed_on, unless_on, built_on, interp, means}
+use Rattle.ecma_tokens.specs.Items as items
+use Rattle.ecma_tokens.specs.Items.{Gap, no_gap, Items, ends, it}
+use Rattle.ecma_reread.specs.Machine.{read, with_front, followed_on, or_on, unless_on, built_on, interp, means}
 use Rattle.ecma_reread.specs.Modules as shapes
 use Rattle.ecma_reread.specs.Modules.{IsModuleItem, AreModuleItems, IsModule}
-use Rattle.ecma_reread.specs.Tokens.{bare, line}
-use Rattle.ecma_reread.specs.ModuleTokens.{item_tokens, items_tokens, module_tokens, bare_item, bare_items, bare_module}
+use Rattle.ecma_reread.specs.Tokens.{bare, line, sign_of}
+use Rattle.ecma_reread.specs.ModuleTokens.{spaced_word, source_tokens, import_clause_tokens, item_tokens, items_tokens, module_tokens, bare_item, bare_items, bare_module}
 use Rattle.ecma_reread.proofs.Ranks.{item_eats}
 use Rattle.ecma_reread.proofs.Levels.{means_is}
 use Rattle.ecma_reread.proofs.Fronts.{the_end, at_end, refused_at, refuses_all, all_refused}
-use Rattle.ecma_reread.proofs.Towers.{excluded, skipped, refuses_choices}
+use Rattle.ecma_reread.proofs.Towers.{excluded, without, skipped, refuses_choices}
 use Rattle.ecma_reread.proofs.Heads.{kind-node}
 use Rattle.ecma_reread.proofs.Forms.{Reads, Refuses}
 use Rattle.ecma_reread.proofs.Repeats.{Repeats, repeats_end, repeats_more, repeated}
 use Rattle.ecma_reread.proofs.Statements.{item_read}
+use Rattle.ecma_reread.proofs.Imports.{import_alone_read, import_bindings_read}
 
 -- no statement stands at the end of a text
 
@@ -75,7 +77,12 @@ module _ (assigned : Bool) where
       ∙ (means_is assigned part.Statement (ends g) ∙ (skipped assigned (means assigned) 12 statement_body the_end (ends g) at_end no_statement_there ∙ no_statement_at_end g))
 
   module_item_read : {n : Node} (is : IsModuleItem n) (g : Gap) (us : Items) → Reads assigned module_item (item_tokens is g us) (bare_item is ∷ []) us
+  unfolding module_item
   module_item_read (shapes.statement s) g us = item_read assigned s g us
+  module_item_read (shapes.import_alone at at' s w) g us =
+      ap (or_on (interp assigned (means assigned) (without 1 module_item)) (it g (items.key (codes "import")) (source_tokens s w (sign_of (codes ";") us)))) (import_alone_read assigned s w g us)
+  module_item_read (shapes.import_bindings at at' c s w) g us =
+      ap (or_on (interp assigned (means assigned) (without 1 module_item)) (it g (items.key (codes "import")) (import_clause_tokens c (spaced_word (codes "from") (source_tokens s w (sign_of (codes ";") us)))))) (import_bindings_read assigned c s w g us)
 
   items_read : {ns : List Node} (is : AreModuleItems ns) (g : Gap) → Repeats assigned module_item (items_tokens is g) (bare_items is) (ends (last_gap is g))
   items_read shapes.no_items g = repeats_end assigned module_item (ends g) (no_item_at_end g)

@@ -16,7 +16,7 @@ absent_bare (shapes.absent at) = without_spans-node at kind.Absent []
 pub ident_bare : {n : Node} (i : IsIdent n) → without_spans n ≡ bare_ident i
 ident_bare (ident at w i) = without_spans-node at _ []
 
-key_bare : {n : Node} (k : IsKey n) → without_spans n ≡ bare (kind.IdentName (key_word k)) []
+pub key_bare : {n : Node} (k : IsKey n) → without_spans n ≡ bare (kind.IdentName (key_word k)) []
 key_bare (key at w t) = without_spans-node at _ []
 
 mutual

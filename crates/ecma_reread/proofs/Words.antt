@@ -83,6 +83,22 @@ continue_spelled : Spelled IsKey (codes "continue")
 unfolding chars is_utf8 encode is_xid_start is_xid_continue in_ranges xid_start_ranges xid_continue_ranges
 continue_spelled = (IsUtf8-from_is_utf8 (codes "continue") refl, (refl, refl))
 
+import_spelled : Spelled IsKey (codes "import")
+unfolding chars is_utf8 encode is_xid_start is_xid_continue in_ranges xid_start_ranges xid_continue_ranges
+import_spelled = (IsUtf8-from_is_utf8 (codes "import") refl, (refl, refl))
+
+from_spelled : Spelled IsKey (codes "from")
+unfolding chars is_utf8 encode is_xid_start is_xid_continue in_ranges xid_start_ranges xid_continue_ranges
+from_spelled = (IsUtf8-from_is_utf8 (codes "from") refl, (refl, refl))
+
+as_spelled : Spelled IsKey (codes "as")
+unfolding chars is_utf8 encode is_xid_start is_xid_continue in_ranges xid_start_ranges xid_continue_ranges
+as_spelled = (IsUtf8-from_is_utf8 (codes "as") refl, (refl, refl))
+
+with_spelled : Spelled IsKey (codes "with")
+unfolding chars is_utf8 encode is_xid_start is_xid_continue in_ranges xid_start_ranges xid_continue_ranges
+with_spelled = (IsUtf8-from_is_utf8 (codes "with") refl, (refl, refl))
+
 pub layout_words : Words
 layout_words = record {
   this_whole = whole (codes "this") this_spelled;
@@ -100,6 +116,10 @@ layout_words = record {
   return_whole = whole (codes "return") return_spelled;
   break_whole = whole (codes "break") break_spelled;
   continue_whole = whole (codes "continue") continue_spelled;
+  import_whole = whole (codes "import") import_spelled;
+  from_whole = whole (codes "from") from_spelled;
+  as_whole = whole (codes "as") as_spelled;
+  with_whole = whole (codes "with") with_spelled;
   in_whole = whole (codes "in") in_spelled;
   instanceof_whole = whole (codes "instanceof") instanceof_spelled;
 }

@@ -1,14 +1,80 @@
 -- The tokens that a module is laid out as, and its tree without spans.
-use Rattle.std.specs.Prelude.{List, [], ◌∷◌, None}
+use Rattle.std.specs.Prelude.{ℕ, ◌-◌, false, List, [], ◌∷◌, length, Some, None, codes}
+use Rattle.ecma_lex.specs.Text.{piece}
+use Rattle.ecma_lex.specs.Strings.{str_value}
 use Rattle.ecma_kind.specs.declared.kind.Kind.TheVariants as kind
 use Rattle.ecma_tree.specs.declared.node.Node.{Node}
-use Rattle.ecma_tree.specs.Nodes.{list_node}
-use Rattle.ecma_tokens.specs.Items.{Gap, no_gap, Items, ends}
-use Rattle.ecma_reread.specs.Modules.{IsModuleItem, statement, AreModuleItems, no_items, more_items, IsModule, module_of}
-use Rattle.ecma_reread.specs.Tokens.{line, statement_tokens, bare, bare_statement}
+use Rattle.ecma_tree.specs.Nodes.{absent, list_node}
+use Rattle.ecma_tokens.specs.Items as items
+use Rattle.ecma_tokens.specs.Items.{Tok, sign, Gap, no_gap, Items, ends, it}
+use Rattle.ecma_reread.specs.Modules.{IsString, string_literal, IsExportName, word_name, string_name, IsAttributeKey, word_key, string_key, IsAttribute, attribute, AreAttributes, no_attributes, more_attributes, IsWithClause, no_with, with_nothing, with_attributes, IsDefaultImport, default_import, IsNamespaceImport, namespace_import, IsNamedImport, same_import, other_import, AreNamedImports, no_imports, more_imports, IsImportClause, import_default, import_namespace, import_names, import_default_and_namespace, import_default_and_names, IsModuleItem, statement, import_alone, import_bindings, AreModuleItems, no_items, more_items, IsModule, module_of}
+use Rattle.ecma_reread.specs.Tokens.{blank, line, sign_of, ident_word, key_word, statement_tokens, bare, bare_ident, bare_statement}
+
+-- a token behind a blank
+abbrev pub spaced : Tok → Items → Items
+spaced t us = it blank t us
+
+abbrev pub spaced_word : List ℕ → Items → Items
+spaced_word w us = spaced (items.key w) us
+
+abbrev pub spaced_sign : List ℕ → Items → Items
+spaced_sign w us = spaced (sign w) us
+
+abbrev pub string_raw : {n : Node} → IsString n → List ℕ
+string_raw (string_literal at raw t) = raw
+
+abbrev pub export_name_token : {n : Node} → IsExportName n → Tok
+export_name_token (word_name at word t) = items.key word
+export_name_token (string_name s) = items.string (string_raw s)
+
+abbrev pub attribute_key_token : {n : Node} → IsAttributeKey n → Tok
+attribute_key_token (word_key k) = items.key (key_word k)
+attribute_key_token (string_key s) = items.string (string_raw s)
+
+abbrev pub attribute_tokens : {n : Node} → IsAttribute n → Items → Items
+attribute_tokens (attribute at k s) us = spaced (attribute_key_token k) (sign_of (codes ":") (spaced (items.string (string_raw s)) us))
+
+abbrev pub more_attributes_tokens : {ns : List Node} → AreAttributes ns → Items → Items
+more_attributes_tokens no_attributes us = us
+more_attributes_tokens (more_attributes a more) us = sign_of (codes ",") (attribute_tokens a (more_attributes_tokens more us))
+
+abbrev pub with_tokens : {n : Node} → IsWithClause n → Items → Items
+with_tokens (no_with a) us = us
+with_tokens (with_nothing at at') us = spaced_word (codes "with") (spaced_sign (codes "{") (sign_of (codes "}") us))
+with_tokens (with_attributes at at' a more) us = spaced_word (codes "with") (spaced_sign (codes "{") (attribute_tokens a (more_attributes_tokens more (spaced_sign (codes "}") us))))
+
+-- the module that is meant, and with which attributes
+abbrev pub source_tokens : {n m : Node} → IsString n → IsWithClause m → Items → Items
+source_tokens s w us = spaced (items.string (string_raw s)) (with_tokens w us)
+
+abbrev pub default_import_tokens : {n : Node} → IsDefaultImport n → Items → Items
+default_import_tokens (default_import at i) us = spaced_word (ident_word i) us
+
+abbrev pub namespace_import_tokens : {n : Node} → IsNamespaceImport n → Items → Items
+namespace_import_tokens (namespace_import at i) us = spaced_sign (codes "*") (spaced_word (codes "as") (spaced_word (ident_word i) us))
+
+abbrev pub named_import_tokens : {n : Node} → IsNamedImport n → Items → Items
+named_import_tokens (same_import at i a) us = spaced_word (ident_word i) us
+named_import_tokens (other_import at i x) us = spaced (export_name_token x) (spaced_word (codes "as") (spaced_word (ident_word i) us))
+
+abbrev pub more_imports_tokens : {ns : List Node} → AreNamedImports ns → Items → Items
+more_imports_tokens no_imports us = us
+more_imports_tokens (more_imports n ns) us = sign_of (codes ",") (named_import_tokens n (more_imports_tokens ns us))
+
+abbrev pub named_imports_tokens : {n : Node} {ns : List Node} → IsNamedImport n → AreNamedImports ns → Items → Items
+named_imports_tokens n ns us = spaced_sign (codes "{") (named_import_tokens n (more_imports_tokens ns (spaced_sign (codes "}") us)))
+
+abbrev pub import_clause_tokens : {ns : List Node} → IsImportClause ns → Items → Items
+import_clause_tokens (import_default d) us = default_import_tokens d us
+import_clause_tokens (import_namespace a) us = namespace_import_tokens a us
+import_clause_tokens (import_names n ns) us = named_imports_tokens n ns us
+import_clause_tokens (import_default_and_namespace d a) us = default_import_tokens d (sign_of (codes ",") (namespace_import_tokens a us))
+import_clause_tokens (import_default_and_names d n ns) us = default_import_tokens d (sign_of (codes ",") (named_imports_tokens n ns us))
 
 abbrev pub item_tokens : {n : Node} → IsModuleItem n → Gap → Items → Items
 item_tokens (statement s) g us = statement_tokens s g us
+item_tokens (import_alone at at' s w) g us = it g (items.key (codes "import")) (source_tokens s w (sign_of (codes ";") us))
+item_tokens (import_bindings at at' c s w) g us = it g (items.key (codes "import")) (import_clause_tokens c (spaced_word (codes "from") (source_tokens s w (sign_of (codes ";") us))))
 
 -- each item ends its line
 abbrev pub items_tokens : {ns : List Node} → AreModuleItems ns → Gap → Items
@@ -20,8 +86,54 @@ module_tokens (module_of at at' is) = items_tokens is no_gap
 
 -- the trees without spans
 
+abbrev pub bare_string : {n : Node} → IsString n → Node
+bare_string s = bare (kind.Str (str_value (piece (string_raw s) 1 (length (string_raw s) - 1))) (Some (string_raw s))) []
+
+abbrev pub bare_export_name : {n : Node} → IsExportName n → Node
+bare_export_name (word_name at word t) = bare (kind.Ident word 0 false) []
+bare_export_name (string_name s) = bare_string s
+
+abbrev pub bare_attribute_key : {n : Node} → IsAttributeKey n → Node
+bare_attribute_key (word_key k) = bare (kind.IdentName (key_word k)) []
+bare_attribute_key (string_key s) = bare_string s
+
+abbrev pub bare_attribute : {n : Node} → IsAttribute n → Node
+bare_attribute (attribute at k s) = bare kind.KeyValueProp (bare_attribute_key k ∷ bare_string s ∷ [])
+
+abbrev pub bare_attributes : {ns : List Node} → AreAttributes ns → List Node
+bare_attributes no_attributes = []
+bare_attributes (more_attributes a more) = bare_attribute a ∷ bare_attributes more
+
+abbrev pub bare_with : {n : Node} → IsWithClause n → Node
+bare_with (no_with a) = absent
+bare_with (with_nothing at at') = bare kind.ObjectLit (list_node [] ∷ [])
+bare_with (with_attributes at at' a more) = bare kind.ObjectLit (list_node (bare_attribute a ∷ bare_attributes more) ∷ [])
+
+abbrev pub bare_default_import : {n : Node} → IsDefaultImport n → Node
+bare_default_import (default_import at i) = bare kind.ImportDefaultSpecifier (bare_ident i ∷ [])
+
+abbrev pub bare_namespace_import : {n : Node} → IsNamespaceImport n → Node
+bare_namespace_import (namespace_import at i) = bare kind.ImportStarAsSpecifier (bare_ident i ∷ [])
+
+abbrev pub bare_named_import : {n : Node} → IsNamedImport n → Node
+bare_named_import (same_import at i a) = bare (kind.ImportNamedSpecifier false) (bare_ident i ∷ absent ∷ [])
+bare_named_import (other_import at i x) = bare (kind.ImportNamedSpecifier false) (bare_ident i ∷ bare_export_name x ∷ [])
+
+abbrev pub bare_named_imports : {ns : List Node} → AreNamedImports ns → List Node
+bare_named_imports no_imports = []
+bare_named_imports (more_imports n ns) = bare_named_import n ∷ bare_named_imports ns
+
+abbrev pub bare_import_clause : {ns : List Node} → IsImportClause ns → List Node
+bare_import_clause (import_default d) = bare_default_import d ∷ []
+bare_import_clause (import_namespace a) = bare_namespace_import a ∷ []
+bare_import_clause (import_names n ns) = bare_named_import n ∷ bare_named_imports ns
+bare_import_clause (import_default_and_namespace d a) = bare_default_import d ∷ bare_namespace_import a ∷ []
+bare_import_clause (import_default_and_names d n ns) = bare_default_import d ∷ bare_named_import n ∷ bare_named_imports ns
+
 abbrev pub bare_item : {n : Node} → IsModuleItem n → Node
 bare_item (statement s) = bare_statement s
+bare_item (import_alone at at' s w) = bare (kind.ImportDecl false) (list_node [] ∷ bare_string s ∷ bare_with w ∷ [])
+bare_item (import_bindings at at' c s w) = bare (kind.ImportDecl false) (list_node (bare_import_clause c) ∷ bare_string s ∷ bare_with w ∷ [])
 
 abbrev pub bare_items : {ns : List Node} → AreModuleItems ns → List Node
 bare_items no_items = []

@@ -1,13 +1,72 @@
 -- The trees of modules (ECMAScript, 16.2), a constructor for each form of their items.
-use Rattle.std.specs.Prelude.{List, [], ◌∷◌, None}
+use Rattle.std.specs.Prelude.{ℕ, ◌-◌, false, List, [], ◌∷◌, length, Some, None}
+use Rattle.ecma_lex.specs.Text.{piece}
+use Rattle.ecma_lex.specs.Keys.{key_end}
+use Rattle.ecma_lex.specs.Strings.{str_end, str_value}
 use Rattle.ecma_kind.specs.declared.span.Span.{Span}
 use Rattle.ecma_kind.specs.declared.kind.Kind.TheVariants as kind
 use Rattle.ecma_tree.specs.declared.node.Node.{Node}
 use Rattle.ecma_tree.specs.Nodes.{node_of}
-use Rattle.ecma_reread.specs.Shapes.{IsStatement}
+use Rattle.ecma_tokens.specs.Good.{IsToken}
+use Rattle.ecma_reread.specs.Shapes.{IsIdent, IsKey, IsAbsent, IsStatement}
+
+pub data IsString : Node → Type 0 where
+  string_literal : (at : Span) (raw : List ℕ) → IsToken str_end raw → IsString (node_of at (kind.Str (str_value (piece raw 1 (length raw - 1))) (Some raw)) [])
+
+-- what another module calls it: a key, also a reserved word, or a text (ModuleExportName)
+pub data IsExportName : Node → Type 0 where
+  word_name : (at : Span) (word : List ℕ) → IsToken key_end word → IsExportName (node_of at (kind.Ident word 0 false) [])
+  string_name : {n : Node} → IsString n → IsExportName n
+
+pub data IsAttributeKey : Node → Type 0 where
+  word_key : {n : Node} → IsKey n → IsAttributeKey n
+  string_key : {n : Node} → IsString n → IsAttributeKey n
+
+pub data IsAttribute : Node → Type 0 where
+  attribute : (at : Span) {name value : Node} → IsAttributeKey name → IsString value → IsAttribute (node_of at kind.KeyValueProp (name ∷ value ∷ []))
+
+pub data AreAttributes : List Node → Type 0 where
+  no_attributes : AreAttributes []
+  more_attributes : {n : Node} {ns : List Node} → IsAttribute n → AreAttributes ns → AreAttributes (n ∷ ns)
+
+-- `with { type: "json" }` (WithClause), or nothing
+pub data IsWithClause : Node → Type 0 where
+  no_with : {none : Node} → IsAbsent none → IsWithClause none
+  with_nothing : (at of_list : Span) → IsWithClause (node_of at kind.ObjectLit (node_of of_list kind.List [] ∷ []))
+  with_attributes : (at of_list : Span) {n : Node} {ns : List Node} → IsAttribute n → AreAttributes ns → IsWithClause (node_of at kind.ObjectLit (node_of of_list kind.List (n ∷ ns) ∷ []))
+
+-- imports (ECMAScript, 16.2.2)
+
+pub data IsDefaultImport : Node → Type 0 where
+  default_import : (at : Span) {local : Node} → IsIdent local → IsDefaultImport (node_of at kind.ImportDefaultSpecifier (local ∷ []))
+
+pub data IsNamespaceImport : Node → Type 0 where
+  namespace_import : (at : Span) {local : Node} → IsIdent local → IsNamespaceImport (node_of at kind.ImportStarAsSpecifier (local ∷ []))
+
+pub data IsNamedImport : Node → Type 0 where
+  same_import : (at : Span) {local none : Node} → IsIdent local → IsAbsent none → IsNamedImport (node_of at (kind.ImportNamedSpecifier false) (local ∷ none ∷ []))
+  other_import : (at : Span) {local imported : Node} → IsIdent local → IsExportName imported → IsNamedImport (node_of at (kind.ImportNamedSpecifier false) (local ∷ imported ∷ []))
+
+pub data AreNamedImports : List Node → Type 0 where
+  no_imports : AreNamedImports []
+  more_imports : {n : Node} {ns : List Node} → IsNamedImport n → AreNamedImports ns → AreNamedImports (n ∷ ns)
+
+-- what an import binds (ImportClause)
+pub data IsImportClause : List Node → Type 0 where
+  import_default : {d : Node} → IsDefaultImport d → IsImportClause (d ∷ [])
+  import_namespace : {a : Node} → IsNamespaceImport a → IsImportClause (a ∷ [])
+  import_names : {n : Node} {ns : List Node} → IsNamedImport n → AreNamedImports ns → IsImportClause (n ∷ ns)
+  import_default_and_namespace : {d a : Node} → IsDefaultImport d → IsNamespaceImport a → IsImportClause (d ∷ a ∷ [])
+  import_default_and_names : {d n : Node} {ns : List Node} → IsDefaultImport d → IsNamedImport n → AreNamedImports ns → IsImportClause (d ∷ n ∷ ns)
+
+-- modules
 
 pub data IsModuleItem : Node → Type 0 where
   statement : {s : Node} → IsStatement s → IsModuleItem s
+  import_alone : (at of_list : Span) {source attributes : Node} → IsString source → IsWithClause attributes
+      → IsModuleItem (node_of at (kind.ImportDecl false) (node_of of_list kind.List [] ∷ source ∷ attributes ∷ []))
+  import_bindings : (at of_list : Span) {bindings : List Node} {source attributes : Node} → IsImportClause bindings → IsString source → IsWithClause attributes
+      → IsModuleItem (node_of at (kind.ImportDecl false) (node_of of_list kind.List bindings ∷ source ∷ attributes ∷ []))
 
 pub data AreModuleItems : List Node → Type 0 where
   no_items : AreModuleItems []
