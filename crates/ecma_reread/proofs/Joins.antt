@@ -11,7 +11,6 @@ use Rattle.ecma_kind.specs.declared.operators.BinaryOp.{BinaryOp}
 use Rattle.ecma_kind.specs.declared.operators.BinaryOp.TheVariants.{In, InstanceOf}
 use Rattle.ecma_lex.specs.Keys.{key_end}
 use Rattle.ecma_lex.specs.Punctuators.{punctuators}
-use Rattle.ecma_kind.specs.declared.operators.VarDeclKind.{VarDeclKind}
 use Rattle.ecma_tree.specs.declared.node.Node.{Node}
 use Rattle.ecma_tokens.specs.Items as items
 use Rattle.ecma_tokens.specs.Items.{Tok, sign, Gap, no_gap, Items, ends, it, render, token_text}
@@ -24,8 +23,8 @@ use Rattle.ecma_print.specs.Operators.{unary_sign, update_sign}
 use Rattle.ecma_tokens.proofs.Wholes.{some_text}
 use Rattle.ecma_reread.specs.Machine.{count}
 use Rattle.ecma_reread.specs.Shapes as shapes
-use Rattle.ecma_reread.specs.Shapes.{Level, looser_than, IsOperator, IsIdent, ident, IsKey, key, IsLexical, let_word, const_word, IsExpression, IsElement, IsArguments, AreElements, AreExpressions, IsInitializer, IsDeclarator, AreDeclarators, IsStatement}
-use Rattle.ecma_reread.specs.Tokens.{blank, line, sign_of, assign_token, update_token, unary_token, binary_token, own_sign, unary_gap, ident_word, key_word, lexical_word, expression_tokens, element_tokens, arguments_tokens, elements_tokens, more_tokens, declarator_tokens, declarators_tokens, statement_tokens}
+use Rattle.ecma_reread.specs.Shapes.{Level, looser_than, IsOperator, IsIdent, ident, IsKey, key, IsExpression, IsElement, IsArguments, AreElements, AreExpressions, IsInitializer, IsDeclarator, AreDeclarators}
+use Rattle.ecma_reread.specs.Tokens.{blank, sign_of, assign_token, update_token, unary_token, binary_token, own_sign, unary_gap, ident_word, key_word, expression_tokens, element_tokens, arguments_tokens, elements_tokens, more_tokens, declarator_tokens, declarators_tokens}
 
 -- each token has a text
 pub good_long : (ts : Items) → Good ts → count ts ≤ length (render ts)
@@ -37,7 +36,7 @@ good_long (it g t ts) h =
     omega (arith, length-append g.blanks (token_text t ++ render ts), length-append (token_text t) (render ts))
 
 -- what may stand directly behind an expression; a point behind an object alone
-data Soft : Bool → Items → Type 0 where
+pub data Soft : Bool → Items → Type 0 where
   point : {us : Items} → Soft true (sign_of (codes ".") us)
   opening : {object : Bool} {us : Items} → Soft object (sign_of (codes "(") us)
   closing : {object : Bool} {us : Items} → Soft object (sign_of (codes ")") us)
@@ -66,7 +65,7 @@ number_soft : (w : List ℕ) {us : Items} → Soft false us → joins_next (item
 number_soft w opening = refl
 number_soft w z = refl
 
-closing_soft : {object : Bool} {us : Items} → Soft object us → joins_next (sign (codes ")")) us ≡ true
+pub closing_soft : {object : Bool} {us : Items} → Soft object us → joins_next (sign (codes ")")) us ≡ true
 unfolding punctuators
 closing_soft point = refl
 closing_soft z = refl
@@ -167,7 +166,7 @@ dots_by h us = refl
 dots_join : {level : Level} {e : Node} (is : IsExpression level e) (us : Items) → joins_next (sign (codes "...")) (expression_tokens is no_gap us) ≡ true
 dots_join is us = let b = begun is us in rw (b.is no_gap) (dots_by b.opens b.rest)
 
-opening_joins : {level : Level} {e : Node} (is : IsExpression level e) (us : Items) → joins_next (sign (codes "(")) (expression_tokens is no_gap us) ≡ true
+pub opening_joins : {level : Level} {e : Node} (is : IsExpression level e) (us : Items) → joins_next (sign (codes "(")) (expression_tokens is no_gap us) ≡ true
 opening_joins is us = let b = begun is us in rw (b.is no_gap) (opening_by b.opens b.rest)
 
 element_opening_joins : {n : Node} (is : IsElement n) (us : Items) → joins_next (sign (codes "(")) (element_tokens is no_gap us) ≡ true
@@ -202,7 +201,7 @@ brace_by h g us = refl
 pub no_brace : {level : Level} {e : Node} (is : IsExpression level e) (g : Gap) (us : Items) → punct_in (codes "{") (expression_tokens is g us) ≡ refused
 no_brace is g us = let b = begun is us in rw (b.is g) (brace_by b.opens g b.rest)
 
-blank_joins : (t : Tok) {level : Level} {e : Node} (is : IsExpression level e) (us : Items) → joins_next t (expression_tokens is blank us) ≡ true
+pub blank_joins : (t : Tok) {level : Level} {e : Node} (is : IsExpression level e) (us : Items) → joins_next t (expression_tokens is blank us) ≡ true
 blank_joins t is us = let b = begun is us in rw (b.is blank) refl
 
 element_blank_joins : (t : Tok) {n : Node} (is : IsElement n) (us : Items) → joins_next t (element_tokens is blank us) ≡ true
@@ -326,9 +325,6 @@ no_gap_is = record { blank = refl; told = refl }
 pub blank_is : IsGap blank
 blank_is = record { blank = refl; told = refl }
 
-pub line_is : IsGap line
-line_is = record { blank = refl; told = refl }
-
 unary_gap_is : (o : UnaryOp) (b : Beside) → IsGap (unary_gap o b)
 unary_gap_is Minus BehindMinus = blank_is
 unary_gap_is Minus b = no_gap_is
@@ -350,6 +346,7 @@ pub record Words : Type 0 where
   pub null_whole : IsToken key_end (codes "null")
   pub true_whole : IsToken key_end (codes "true")
   pub false_whole : IsToken key_end (codes "false")
+  pub var_whole : IsToken key_end (codes "var")
   pub let_whole : IsToken key_end (codes "let")
   pub const_whole : IsToken key_end (codes "const")
   pub typeof_whole : IsToken key_end (codes "typeof")
@@ -359,6 +356,10 @@ pub record Words : Type 0 where
   pub debugger_whole : IsToken key_end (codes "debugger")
   pub throw_whole : IsToken key_end (codes "throw")
   pub return_whole : IsToken key_end (codes "return")
+  pub if_whole : IsToken key_end (codes "if")
+  pub else_whole : IsToken key_end (codes "else")
+  pub while_whole : IsToken key_end (codes "while")
+  pub do_whole : IsToken key_end (codes "do")
   pub break_whole : IsToken key_end (codes "break")
   pub continue_whole : IsToken key_end (codes "continue")
   pub import_whole : IsToken key_end (codes "import")
@@ -429,7 +430,7 @@ module _ (words : Words) where
   mutual
     unfolding punctuators
 
-    expression_joined : {level : Level} {e : Node} (is : IsExpression level e) (g : Gap) → IsGap g → (us : Items) → Soft (is_object level) us → Joined us → Joined (expression_tokens is g us)
+    pub expression_joined : {level : Level} {e : Node} (is : IsExpression level e) (g : Gap) → IsGap g → (us : Items) → Soft (is_object level) us → Joined us → Joined (expression_tokens is g us)
     expression_joined (shapes.name i) g h us z j = (h, ident_whole i, key_soft (ident_word i) z, j)
     expression_joined (shapes.string at raw t) g h us z j = (h, t, string_soft raw z, j)
     expression_joined (shapes.number at raw t) g h us z j = (h, t, number_soft raw z, j)
@@ -489,33 +490,17 @@ module _ (words : Words) where
     more_joined (shapes.more_expressions e es) us z j = (no_gap_is, refl, blank_joins (sign (codes ",")) e (more_tokens es us), expression_joined e blank blank_is (more_tokens es us) (more_soft es z) (more_joined es us z j))
 
   -- a declarator ends before `,` or `;`
-  declarators_soft : {ds : List Node} (is : AreDeclarators ds) (object : Bool) (us : Items) → Soft object (declarators_tokens is (sign_of (codes ";") us))
+  pub declarators_soft : {ds : List Node} (is : AreDeclarators ds) (object : Bool) (us : Items) → Soft object (declarators_tokens is (sign_of (codes ";") us))
   declarators_soft shapes.no_declarators object us = semicolon
   declarators_soft (shapes.more_declarators d ds) object us = comma
 
-  declarator_joined : {n : Node} (is : IsDeclarator n) (us : Items) → ((object : Bool) → Soft object us) → Joined us → Joined (declarator_tokens is us)
+  pub declarator_joined : {n : Node} (is : IsDeclarator n) (us : Items) → ((object : Bool) → Soft object us) → Joined us → Joined (declarator_tokens is us)
   unfolding punctuators
   declarator_joined (shapes.declarator at at' i a (shapes.no_initializer b)) us z j = (blank_is, ident_whole i, key_soft (ident_word i) (z false), j)
   declarator_joined (shapes.declarator at at' i a (shapes.initializer e)) us z j = (blank_is, ident_whole i, refl, (blank_is, refl, blank_joins (sign (codes "=")) e us, expression_joined e blank blank_is us (z false) j))
 
-  declarators_joined : {ds : List Node} (is : AreDeclarators ds) (us : Items) → Joined (sign_of (codes ";") us) → Joined (declarators_tokens is (sign_of (codes ";") us))
+  pub declarators_joined : {ds : List Node} (is : AreDeclarators ds) (us : Items) → Joined (sign_of (codes ";") us) → Joined (declarators_tokens is (sign_of (codes ";") us))
   unfolding punctuators
   declarators_joined shapes.no_declarators us j = j
   declarators_joined (shapes.more_declarators (shapes.declarator at at' i a e) ds) us j =
       (no_gap_is, refl, refl, declarator_joined (shapes.declarator at at' i a e) (declarators_tokens ds (sign_of (codes ";") us)) (λ n. declarators_soft ds n us) (declarators_joined ds us j))
-
-  lexical_whole : {k : VarDeclKind} (w : IsLexical k) → IsToken key_end (lexical_word w)
-  lexical_whole let_word = words.let_whole
-  lexical_whole const_word = words.const_whole
-
-  pub statement_joined : {n : Node} (is : IsStatement n) (g : Gap) → IsGap g → (us : Items) → Joined (sign_of (codes ";") us) → Joined (statement_tokens is g us)
-  statement_joined (shapes.empty at) g h us j = let n = j.1 in (h, n, j.2, j.3)
-  statement_joined (shapes.debugger_word at) g h us j = (h, words.debugger_whole, refl, j)
-  statement_joined (shapes.throw at e) g h us j = (h, words.throw_whole, blank_joins (items.key (codes "throw")) e (sign_of (codes ";") us), expression_joined e blank blank_is (sign_of (codes ";") us) semicolon j)
-  statement_joined (shapes.return_value at e) g h us j = (h, words.return_whole, blank_joins (items.key (codes "return")) e (sign_of (codes ";") us), expression_joined e blank blank_is (sign_of (codes ";") us) semicolon j)
-  statement_joined (shapes.return_nothing at a) g h us j = (h, words.return_whole, refl, j)
-  statement_joined (shapes.break_nothing at a) g h us j = (h, words.break_whole, refl, j)
-  statement_joined (shapes.continue_nothing at a) g h us j = (h, words.continue_whole, refl, j)
-  statement_joined (shapes.expression at e) g h us j = expression_joined e g h (sign_of (codes ";") us) semicolon j
-  statement_joined (shapes.declaration at at' w (shapes.declarator a b i c e) ds) g h us j =
-      (h, lexical_whole w, refl, declarator_joined (shapes.declarator a b i c e) (declarators_tokens ds (sign_of (codes ";") us)) (λ n. declarators_soft ds n us) (declarators_joined ds us j))

@@ -32,8 +32,8 @@ use Rattle.ecma_print.specs.Layout.{in_place, by_itself, lay_step, laid}
 use Rattle.ecma_tokens.specs.Items as items
 use Rattle.ecma_tokens.specs.Items.{Tok, sign, Gap, no_gap, Items, it, token_text, render}
 use Rattle.ecma_reread.specs.Shapes as shapes
-use Rattle.ecma_reread.specs.Shapes.{Level, looser_than, IsOperator, IsIdent, ident, IsKey, key, IsAbsent, IsLexical, let_word, const_word, IsExpression, IsElement, IsArguments, AreElements, AreExpressions, IsInitializer, IsDeclarator, AreDeclarators, IsStatement}
-use Rattle.ecma_reread.specs.Tokens.{blank, sign_of, assign_token, update_token, unary_token, binary_token, own_sign, unary_gap, expression_tokens, element_tokens, arguments_tokens, elements_tokens, more_tokens, initializer_tokens, declarator_tokens, declarators_tokens, statement_tokens}
+use Rattle.ecma_reread.specs.Shapes.{Level, looser_than, IsOperator, IsIdent, ident, IsKey, key, IsAbsent, IsExpression, IsElement, IsArguments, AreElements, AreExpressions, IsInitializer, IsDeclarator, AreDeclarators}
+use Rattle.ecma_reread.specs.Tokens.{blank, sign_of, assign_token, update_token, unary_token, binary_token, own_sign, unary_gap, expression_tokens, element_tokens, arguments_tokens, elements_tokens, more_tokens, initializer_tokens, declarator_tokens, declarators_tokens}
 
 pub laid_node : (at : Span) (k : Kind) (cs : List Node) → laid (node_of at k cs) ≡ record { kind = k; at = in_place k (map laid cs); parts = map by_itself (map laid cs) }
 laid_node at k cs = fold-roll-Node Laid lay_step (record { span = at; kind = k; children = cs })
@@ -42,7 +42,7 @@ pub at_node : (at : Span) (k : Kind) (cs : List Node) (place : Place) (m rest : 
 at_node at k cs place m rest = ap (λ x. x.at place m rest) (laid_node at k cs)
 
 -- the level of the printer that is each level
-abbrev number_of : Level → ℕ
+abbrev pub number_of : Level → ℕ
 number_of shapes.object = 16
 number_of shapes.callee = 16
 number_of shapes.update = 15
@@ -63,7 +63,7 @@ number_of shapes.short_circuit = 3
 number_of shapes.assignment = 1
 number_of shapes.sequence = 0
 
-abbrev is_object : Level → Bool
+abbrev pub is_object : Level → Bool
 is_object shapes.object = true
 is_object l = false
 
@@ -93,7 +93,7 @@ nullish_out shapes.logical_or h = refl
 nullish_out l h = h
 
 -- a place where expressions of the level stand without parentheses, in no optional chain
-record Calm (l : Level) (spot : Spot) : Type 0 where
+pub record Calm (l : Level) (spot : Spot) : Type 0 where
   pub low : ltb (number_of l) spot.level ≡ false
   pub with_in : spot.without_in ≡ false
   pub no_new : spot.in_callee_of_new ≡ false
@@ -221,17 +221,17 @@ before_dot a h n e = record {
   no_dot = λ z. absurd (false≢true (sym z));
 }
 
-calm_0 : (l : Level) → Calm l (free 0)
+pub calm_0 : (l : Level) → Calm l (free 0)
 calm_0 l = quiet (low_0 l) refl refl refl
 
-calm_1 : Calm shapes.assignment (free 1)
+pub calm_1 : Calm shapes.assignment (free 1)
 calm_1 = quiet refl refl refl refl
 
 -- further on in what stands at a spot
-further : (spot : Spot) → spot.without_in ≡ false → Calm shapes.assignment (right spot 1 NoNeighbor)
+pub further : (spot : Spot) → spot.without_in ≡ false → Calm shapes.assignment (right spot 1 NoNeighbor)
 further spot h = quiet refl h refl refl
 
-calm_start : (l : Level) → Calm l (beginning 0 StatementStart false)
+pub calm_start : (l : Level) → Calm l (beginning 0 StatementStart false)
 calm_start l = quiet (low_0 l) refl refl refl
 
 -- signs
@@ -373,7 +373,7 @@ head_calm shapes.first_head spot h n = under_nullish refl h n refl refl
 head_calm shapes.next_head spot h n = under_nullish refl h n refl refl
 
 -- the gap stands in front
-gap_out : {level : Level} {e : Node} (is : IsExpression level e) (g : Gap) (us : Items) → render (expression_tokens is g us) ≡ g.blanks ++ render (expression_tokens is no_gap us)
+pub gap_out : {level : Level} {e : Node} (is : IsExpression level e) (g : Gap) (us : Items) → render (expression_tokens is g us) ≡ g.blanks ++ render (expression_tokens is no_gap us)
 unfolding render
 gap_out (shapes.name i) g us = refl
 gap_out (shapes.string at raw t) g us = refl
@@ -409,7 +409,7 @@ element_gap_out (shapes.spread at e) g us = refl
 mutual
   unfolding render
 
-  expression_laid : {level : Level} {e : Node} (is : IsExpression level e) (spot : Spot) → Calm level spot → (m : List ℕ) (us : Items) → (laid e).at (At spot) m (render us) ≡ gap spot.beside (own_sign is) ++ render (expression_tokens is no_gap us)
+  pub expression_laid : {level : Level} {e : Node} (is : IsExpression level e) (spot : Spot) → Calm level spot → (m : List ℕ) (us : Items) → (laid e).at (At spot) m (render us) ≡ gap spot.beside (own_sign is) ++ render (expression_tokens is no_gap us)
   expression_laid (shapes.looser e) spot c m us = expression_laid e spot (calmer c) m us
   expression_laid (shapes.name (ident at w i)) spot c m us = at_node at (kind.Ident w 0 false) [] (At spot) m (render us) ∙ rw (tightly 17 16 spot.level (omega arith) c.low, no_sign spot.beside) refl
   expression_laid (shapes.string at raw t) spot c m us = at_node at _ [] (At spot) m (render us) ∙ rw (tightly 17 16 spot.level (omega arith) c.low, no_sign spot.beside) refl
@@ -532,7 +532,7 @@ within_by kind.Absent h cs between spot m rest = absurd (false≢true h)
 within_by kind.List h cs between spot m rest = absurd (false≢true h)
 within_by k h cs between spot m rest = refl
 
-within_laid : {level : Level} {e : Node} (is : IsExpression level e) (between : Between) (spot : Spot) (m rest : List ℕ) → (laid e).at (Within between spot) m rest ≡ before between m ((laid e).at (At spot) m (after between m rest))
+pub within_laid : {level : Level} {e : Node} (is : IsExpression level e) (between : Between) (spot : Spot) (m rest : List ℕ) → (laid e).at (Within between spot) m rest ≡ before between m ((laid e).at (At spot) m (after between m rest))
 within_laid is between spot m rest =
     let p = plain is in
     let cs = map laid p.children in
@@ -545,7 +545,7 @@ initializer_laid (shapes.initializer e) m us =
     within_laid e Equals (free 1) m (render us)
     ∙ (ap (λ z. codes " = " ++ z) (expression_laid e (free 1) calm_1 m us) ∙ ap (λ z. codes " =" ++ z) (sym (gap_out e blank us)))
 
-declarator_laid : {n : Node} (is : IsDeclarator n) (m : List ℕ) (us : Items) → codes " " ++ (laid n).at (At (free 1)) m (render us) ≡ render (declarator_tokens is us)
+pub declarator_laid : {n : Node} (is : IsDeclarator n) (m : List ℕ) (us : Items) → codes " " ++ (laid n).at (At (free 1)) m (render us) ≡ render (declarator_tokens is us)
 unfolding render
 declarator_laid (shapes.declarator at at' {none = n'} {init = e'} (ident of w i) a e) m us =
     ap (λ z. codes " " ++ z)
@@ -553,48 +553,8 @@ declarator_laid (shapes.declarator at at' {none = n'} {init = e'} (ident of w i)
     ∙ (at_node at' kind.BindingIdent (node_of of (kind.Ident w 0 false) [] ∷ n' ∷ []) (At (free 1)) m ((laid e').at (Within Equals (free 1)) m (render us))
     ∙ rw (laid_node of (kind.Ident w 0 false) []) (ap (λ z. w ++ z) (initializer_laid e m us))))
 
-more_declarators_laid : {ds : List Node} (is : AreDeclarators ds) (m : List ℕ) (us : Items) → more_commas (free 1) (map laid ds) m (codes ";" ++ render us) ≡ render (declarators_tokens is (sign_of (codes ";") us))
+pub more_declarators_laid : {ds : List Node} (is : AreDeclarators ds) (m : List ℕ) (us : Items) → more_commas (free 1) (map laid ds) m (codes ";" ++ render us) ≡ render (declarators_tokens is (sign_of (codes ";") us))
 unfolding render
 more_declarators_laid shapes.no_declarators m us = refl
 more_declarators_laid (shapes.more_declarators {d = d'} d ds) m us =
     ap (λ z. codes "," ++ z) (ap (λ z. codes " " ++ (laid d').at (At (free 1)) m z) (more_declarators_laid ds m us) ∙ declarator_laid d m (declarators_tokens ds (sign_of (codes ";") us)))
-
--- an expression behind a word, and the end of the statement
-argument_laid : {level : Level} {e : Node} (is : IsExpression level e) (m : List ℕ) (us : Items) → (laid e).at (Within Blank (free 0)) m (codes ";" ++ render us) ≡ render (expression_tokens is blank (sign_of (codes ";") us))
-unfolding render
-argument_laid {level} is m us =
-    within_laid is Blank (free 0) m (codes ";" ++ render us)
-    ∙ (ap (λ z. codes " " ++ z) (expression_laid is (free 0) (calm_0 level) m (sign_of (codes ";") us)) ∙ sym (gap_out is blank (sign_of (codes ";") us)))
-
-pub statement_laid : {n : Node} (is : IsStatement n) (g : Gap) (m : List ℕ) (us : Items) → render (statement_tokens is g us) ≡ g.blanks ++ (laid n).at (At (free 0)) m (render us)
-unfolding render
-statement_laid (shapes.empty at) g m us = ap (λ z. g.blanks ++ z) (sym (at_node at kind.EmptyStmt [] (At (free 0)) m (render us)))
-statement_laid (shapes.debugger_word at) g m us = ap (λ z. g.blanks ++ z) (sym (at_node at kind.DebuggerStmt [] (At (free 0)) m (render us)))
-statement_laid (shapes.throw at {e = e'} e) g m us =
-    ap (λ z. g.blanks ++ z) (sym (at_node at kind.ThrowStmt (e' ∷ []) (At (free 0)) m (render us) ∙ ap (λ z. codes "throw" ++ z) (argument_laid e m us)))
-statement_laid (shapes.return_value at {e = e'} e) g m us =
-    ap (λ z. g.blanks ++ z) (sym (at_node at kind.ReturnStmt (e' ∷ []) (At (free 0)) m (render us) ∙ ap (λ z. codes "return" ++ z) (argument_laid e m us)))
-statement_laid (shapes.return_nothing at (shapes.absent at')) g m us =
-    ap (λ z. g.blanks ++ z)
-    (sym (at_node at kind.ReturnStmt (node_of at' kind.Absent [] ∷ []) (At (free 0)) m (render us) ∙ ap (λ z. codes "return" ++ z) (at_node at' kind.Absent [] (Within Blank (free 0)) m (codes ";" ++ render us))))
-statement_laid (shapes.break_nothing at (shapes.absent at')) g m us =
-    ap (λ z. g.blanks ++ z)
-    (sym (at_node at kind.BreakStmt (node_of at' kind.Absent [] ∷ []) (At (free 0)) m (render us) ∙ ap (λ z. codes "break" ++ z) (at_node at' kind.Absent [] (Within Blank (free 0)) m (codes ";" ++ render us))))
-statement_laid (shapes.continue_nothing at (shapes.absent at')) g m us =
-    ap (λ z. g.blanks ++ z)
-    (sym (at_node at kind.ContinueStmt (node_of at' kind.Absent [] ∷ []) (At (free 0)) m (render us) ∙ ap (λ z. codes "continue" ++ z) (at_node at' kind.Absent [] (Within Blank (free 0)) m (codes ";" ++ render us))))
-statement_laid (shapes.expression at {level = l} {e = e'} e) g m us =
-    gap_out e g (sign_of (codes ";") us)
-    ∙ ap (λ z. g.blanks ++ z)
-    (sym (at_node at kind.ExprStmt (e' ∷ []) (At (free 0)) m (render us)
-    ∙ expression_laid e (beginning 0 StatementStart false) (calm_start l) m (sign_of (codes ";") us)))
-statement_laid (shapes.declaration at at' {d = d'} {ds = ds'} let_word d ds) g m us =
-    ap (λ z. g.blanks ++ z)
-    (sym (at_node at (kind.VarDecl _ false) (node_of at' kind.List (d' ∷ ds') ∷ []) (At (free 0)) m (render us)
-    ∙ (ap (λ z. codes "let " ++ z) (at_node at' kind.List (d' ∷ ds') (Commas (free 1)) m (codes ";" ++ render us))
-    ∙ ap (λ z. codes "let" ++ z) (ap (λ z. codes " " ++ (laid d').at (At (free 1)) m z) (more_declarators_laid ds m us) ∙ declarator_laid d m (declarators_tokens ds (sign_of (codes ";") us))))))
-statement_laid (shapes.declaration at at' {d = d'} {ds = ds'} const_word d ds) g m us =
-    ap (λ z. g.blanks ++ z)
-    (sym (at_node at (kind.VarDecl _ false) (node_of at' kind.List (d' ∷ ds') ∷ []) (At (free 0)) m (render us)
-    ∙ (ap (λ z. codes "const " ++ z) (at_node at' kind.List (d' ∷ ds') (Commas (free 1)) m (codes ";" ++ render us))
-    ∙ ap (λ z. codes "const" ++ z) (ap (λ z. codes " " ++ (laid d').at (At (free 1)) m z) (more_declarators_laid ds m us) ∙ declarator_laid d m (declarators_tokens ds (sign_of (codes ";") us))))))

@@ -31,14 +31,23 @@ pub mod Calls
 pub mod Statements
 pub mod Sources
 pub mod Imports
+pub mod Variables
+pub mod Jumps
+pub mod Blocks
+pub mod Branches
+pub mod Loops
+pub mod Labels
+pub mod StatementForms
 pub mod Modules
 pub mod Whole
 pub mod ModuleTrees
 pub mod Texts
 pub mod Layouts
 pub mod ModuleLayouts
+pub mod StatementLayouts
 pub mod Joins
 pub mod ModuleJoins
+pub mod StatementJoins
 pub mod Words
 pub mod Law
 mod Samples

@@ -1,5 +1,5 @@
 -- The tokens of a module are good: each joins the next.
-use Rattle.std.proofs.Common.{◌≡◌, ℕ, true, List, [], ◌∷◌, codes, refl, sym, subst}
+use Rattle.std.proofs.Common.{◌≡◌, ℕ, true, List, [], ◌∷◌, codes, refl}
 use Rattle.ecma_lex.specs.Strings.{str_end}
 use Rattle.ecma_lex.specs.Punctuators.{punctuators}
 use Rattle.ecma_tree.specs.declared.node.Node.{Node}
@@ -7,42 +7,21 @@ use Rattle.ecma_tokens.specs.Items as items
 use Rattle.ecma_tokens.specs.Items.{Tok, sign, Gap, no_gap, Items, ends, it}
 use Rattle.ecma_tokens.specs.Good.{IsGap, IsToken}
 use Rattle.ecma_tokens.specs.Joins.{parted_by, joins_next, Fine, Joined}
-use Rattle.ecma_reread.specs.Shapes as shapes
-use Rattle.ecma_reread.specs.Shapes.{IsStatement}
 use Rattle.ecma_reread.specs.Modules as modules
 use Rattle.ecma_reread.specs.Modules.{IsString, IsExportName, IsAttributeKey, IsAttribute, AreAttributes, IsWithClause, IsDefaultImport, IsNamespaceImport, IsNamedImport, AreNamedImports, IsImportClause, IsModuleItem, AreModuleItems, IsModule}
-use Rattle.ecma_reread.specs.Tokens.{line, sign_of, ident_word, statement_tokens}
+use Rattle.ecma_reread.specs.Tokens.{line, sign_of, ident_word}
 use Rattle.ecma_reread.specs.ModuleTokens.{spaced, spaced_sign, string_raw, export_name_token, attribute_key_token, attribute_tokens, more_attributes_tokens, with_tokens, source_tokens, default_import_tokens, namespace_import_tokens, named_import_tokens, more_imports_tokens, named_imports_tokens, import_clause_tokens, item_tokens, items_tokens, module_tokens}
-use Rattle.ecma_reread.proofs.Joins.{Words, begun, no_gap_is, blank_is, line_is, ident_whole, key_whole, statement_joined}
+use Rattle.ecma_reread.proofs.Joins.{Words, no_gap_is, blank_is, ident_whole, key_whole}
+use Rattle.ecma_reread.proofs.StatementJoins.{line_wide, line_is, Apart, statement_apart, ended, statement_joined}
 
--- on a new line each token may stand
-data OnLine : Items → Type 0 where
-  line_end : OnLine (ends line)
-  line_start : {t : Tok} {us : Items} → OnLine (it line t us)
+item_apart : {n : Node} (is : IsModuleItem n) (us : Items) → Apart (item_tokens is line us)
+item_apart (modules.statement s) us t = statement_apart s 0 line (line_wide 0) us t
+item_apart (modules.import_alone at at' s w) us t = refl
+item_apart (modules.import_bindings at at' c s w) us t = refl
 
-joins_line : (t : Tok) {us : Items} → OnLine us → joins_next t us ≡ true
-joins_line t line_end = refl
-joins_line t line_start = refl
-
-statement_on_line : {n : Node} (is : IsStatement n) (us : Items) → OnLine (statement_tokens is line us)
-statement_on_line (shapes.expression at e) us = let b = begun e (sign_of (codes ";") us) in subst OnLine (sym (b.is line)) line_start
-statement_on_line (shapes.declaration at at' w d ds) us = line_start
-statement_on_line (shapes.empty at) us = line_start
-statement_on_line (shapes.debugger_word at) us = line_start
-statement_on_line (shapes.throw at e) us = line_start
-statement_on_line (shapes.return_value at e) us = line_start
-statement_on_line (shapes.return_nothing at a) us = line_start
-statement_on_line (shapes.break_nothing at a) us = line_start
-statement_on_line (shapes.continue_nothing at a) us = line_start
-
-item_on_line : {n : Node} (is : IsModuleItem n) (us : Items) → OnLine (item_tokens is line us)
-item_on_line (modules.statement s) us = statement_on_line s us
-item_on_line (modules.import_alone at at' s w) us = line_start
-item_on_line (modules.import_bindings at at' c s w) us = line_start
-
-items_on_line : {ns : List Node} (is : AreModuleItems ns) → OnLine (items_tokens is line)
-items_on_line modules.no_items = line_end
-items_on_line (modules.more_items i is) = item_on_line i (items_tokens is line)
+items_apart : {ns : List Node} (is : AreModuleItems ns) → Apart (items_tokens is line)
+items_apart modules.no_items t = refl
+items_apart (modules.more_items i is) t = item_apart i (items_tokens is line) t
 
 -- behind a text each token may stand
 
@@ -146,16 +125,16 @@ module _ (words : Words) where
   import_clause_joined (modules.import_default_and_namespace d (modules.namespace_import at i)) t us j = default_joined d _ comma (no_gap_is, refl, refl, namespace_joined (modules.namespace_import at i) (spaced t us) parted j)
   import_clause_joined (modules.import_default_and_names d n ns) t us j = default_joined d _ comma (no_gap_is, refl, refl, named_imports_joined n ns (spaced t us) (blank_is, refl, refl, j))
 
-  item_joined : {n : Node} (is : IsModuleItem n) (g : Gap) → IsGap g → (us : Items) → Joined (sign_of (codes ";") us) → Joined (item_tokens is g us)
-  item_joined (modules.statement s) g h us j = statement_joined words s g h us j
-  item_joined (modules.import_alone at at' s w) g h us j = (h, words.import_whole, refl, source_joined s w us j)
-  item_joined (modules.import_bindings at at' c s w) g h us j =
-      (h, words.import_whole, spaced_clause (items.key (codes "import")) c _, import_clause_joined c (items.key (codes "from")) _ (blank_is, words.from_whole, refl, source_joined s w us j))
+  item_joined : {n : Node} (is : IsModuleItem n) (g : Gap) → IsGap g → (us : Items) → Apart us → Joined us → Joined (item_tokens is g us)
+  item_joined (modules.statement s) g h us a j = statement_joined words s 0 g h us a j
+  item_joined (modules.import_alone at at' s w) g h us a j = (h, words.import_whole, refl, source_joined s w us (ended words us a j))
+  item_joined (modules.import_bindings at at' c s w) g h us a j =
+      (h, words.import_whole, spaced_clause (items.key (codes "import")) c _, import_clause_joined c (items.key (codes "from")) _ (blank_is, words.from_whole, refl, source_joined s w us (ended words us a j)))
 
   items_joined : {ns : List Node} (is : AreModuleItems ns) (g : Gap) → IsGap g → Joined (items_tokens is g)
   unfolding punctuators
   items_joined modules.no_items g h = h
-  items_joined (modules.more_items i is) g h = item_joined i g h (items_tokens is line) (no_gap_is, refl, joins_line (sign (codes ";")) (items_on_line is), items_joined is line line_is)
+  items_joined (modules.more_items i is) g h = item_joined i g h (items_tokens is line) (items_apart is) (items_joined is line (line_is 0))
 
   pub module_joined : {tree : Node} (is : IsModule tree) → Joined (module_tokens is)
   module_joined (modules.module_of at at' is) = items_joined is no_gap no_gap_is

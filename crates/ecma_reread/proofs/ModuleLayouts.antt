@@ -16,7 +16,8 @@ use Rattle.ecma_reread.specs.Modules as modules
 use Rattle.ecma_reread.specs.Modules.{IsString, IsExportName, IsAttribute, AreAttributes, IsWithClause, IsNamedImport, AreNamedImports, IsImportClause, IsModuleItem, AreModuleItems, IsModule}
 use Rattle.ecma_reread.specs.Tokens.{line, sign_of}
 use Rattle.ecma_reread.specs.ModuleTokens.{spaced_word, spaced_sign, string_raw, export_name_token, attribute_tokens, more_attributes_tokens, with_tokens, source_tokens, named_import_tokens, more_imports_tokens, named_imports_tokens, import_clause_tokens, item_tokens, items_tokens, module_tokens}
-use Rattle.ecma_reread.proofs.Layouts.{laid_node, at_node, statement_laid}
+use Rattle.ecma_reread.proofs.Layouts.{laid_node, at_node}
+use Rattle.ecma_reread.proofs.StatementLayouts.{statement_laid}
 
 string_laid : {n : Node} (s : IsString n) (m rest : List ℕ) → (laid n).at (At (free 0)) m rest ≡ string_raw s ++ rest
 string_laid (modules.string_literal at raw t) m rest = at_node at _ [] (At (free 0)) m rest
@@ -114,7 +115,7 @@ imports_laid {ns} {n} {k} is s w m us =
 
 item_laid : {n : Node} (is : IsModuleItem n) (g : Gap) (us : Items) → render (item_tokens is g us) ≡ g.blanks ++ (laid n).at (At (free 0)) [] (render us)
 unfolding render
-item_laid (modules.statement s) g us = statement_laid s g [] us
+item_laid (modules.statement s) g us = statement_laid s 0 g us
 item_laid (modules.import_alone at at' {source = source} {attributes = attributes} s w) g us =
     let rest = (laid source).at (At (free 0)) [] ((laid attributes).at (Within Attributes (free 0)) [] (codes ";" ++ render us)) in
     ap (λ z. g.blanks ++ z)

@@ -33,13 +33,15 @@ use Rattle.ecma_reread.specs.Tokens.{bare, line, sign_of}
 use Rattle.ecma_reread.specs.ModuleTokens.{spaced_word, source_tokens, import_clause_tokens, item_tokens, items_tokens, module_tokens, bare_item, bare_items, bare_module}
 use Rattle.ecma_reread.proofs.Ranks.{item_eats}
 use Rattle.ecma_reread.proofs.Levels.{means_is}
-use Rattle.ecma_reread.proofs.Fronts.{the_end, at_end, refused_at, refuses_all, all_refused}
+use Rattle.ecma_reread.proofs.Fronts.{exactly, the_end, at_token, at_end, refused_at, refuses_all, all_refused}
 use Rattle.ecma_reread.proofs.Towers.{excluded, without, skipped, refuses_choices}
 use Rattle.ecma_reread.proofs.Heads.{kind-node}
 use Rattle.ecma_reread.proofs.Forms.{Reads, Refuses}
 use Rattle.ecma_reread.proofs.Repeats.{Repeats, repeats_end, repeats_more, repeated}
-use Rattle.ecma_reread.proofs.Statements.{item_read}
+use Rattle.ecma_reread.proofs.Statements.{item_read, closes_any}
 use Rattle.ecma_reread.proofs.Imports.{import_alone_read, import_bindings_read}
+use Rattle.ecma_reread.proofs.Blocks.{Closing}
+use Rattle.ecma_reread.proofs.StatementForms.{statement_form}
 
 -- no statement stands at the end of a text
 
@@ -76,18 +78,27 @@ module _ (assigned : Bool) where
       skipped assigned (means assigned) 3 module_item the_end (ends g) at_end no_item_there
       ∙ (means_is assigned part.Statement (ends g) ∙ (skipped assigned (means assigned) 12 statement_body the_end (ends g) at_end no_statement_there ∙ no_statement_at_end g))
 
-  module_item_read : {n : Node} (is : IsModuleItem n) (g : Gap) (us : Items) → Reads assigned module_item (item_tokens is g us) (bare_item is ∷ []) us
+  item_closing : {n : Node} (is : IsModuleItem n) (us : Items) → Closing (item_tokens is line us)
+  item_closing (shapes.statement s) us = let S = statement_form assigned s 0 in record { front = S.front; begins = S.begins line us; closes = S.closes }
+  item_closing (shapes.import_alone at at' s w) us = record { front = exactly (items.key (codes "import")); begins = at_token; closes = refl }
+  item_closing (shapes.import_bindings at at' c s w) us = record { front = exactly (items.key (codes "import")); begins = at_token; closes = refl }
+
+  items_closing : {ns : List Node} (is : AreModuleItems ns) → Closing (items_tokens is line)
+  items_closing shapes.no_items = record { front = the_end; begins = at_end; closes = refl }
+  items_closing (shapes.more_items i is) = item_closing i (items_tokens is line)
+
+  module_item_read : {n : Node} (is : IsModuleItem n) (g : Gap) (us : Items) → Closing us → Reads assigned module_item (item_tokens is g us) (bare_item is ∷ []) us
   unfolding module_item
-  module_item_read (shapes.statement s) g us = item_read assigned s g us
-  module_item_read (shapes.import_alone at at' s w) g us =
+  module_item_read (shapes.statement {ending = ending} s) g us c = item_read assigned (statement_form assigned s 0) g us c.front c.begins (closes_any ending c.front c.closes)
+  module_item_read (shapes.import_alone at at' s w) g us c =
       ap (or_on (interp assigned (means assigned) (without 1 module_item)) (it g (items.key (codes "import")) (source_tokens s w (sign_of (codes ";") us)))) (import_alone_read assigned s w g us)
-  module_item_read (shapes.import_bindings at at' c s w) g us =
+  module_item_read (shapes.import_bindings at at' c s w) g us z =
       ap (or_on (interp assigned (means assigned) (without 1 module_item)) (it g (items.key (codes "import")) (import_clause_tokens c (spaced_word (codes "from") (source_tokens s w (sign_of (codes ";") us)))))) (import_bindings_read assigned c s w g us)
 
   items_read : {ns : List Node} (is : AreModuleItems ns) (g : Gap) → Repeats assigned module_item (items_tokens is g) (bare_items is) (ends (last_gap is g))
   items_read shapes.no_items g = repeats_end assigned module_item (ends g) (no_item_at_end g)
   items_read (shapes.more_items i is) g =
-      repeats_more assigned module_item item_eats (item_tokens i g (items_tokens is line)) (items_tokens is line) (ends (last_gap is line)) (bare_item i ∷ []) (bare_items is) (module_item_read i g (items_tokens is line)) (items_read is line)
+      repeats_more assigned module_item item_eats (item_tokens i g (items_tokens is line)) (items_tokens is line) (ends (last_gap is line)) (bare_item i ∷ []) (bare_items is) (module_item_read i g (items_tokens is line) (items_closing is)) (items_read is line)
 
   pub module_read : {tree : Node} (is : IsModule tree) → Reads assigned module_body (module_tokens is) (bare_module is ∷ []) (ends no_gap)
   unfolding module_body

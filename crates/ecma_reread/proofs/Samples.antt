@@ -20,7 +20,7 @@ use Rattle.ecma_tree.specs.declared.node.Node.{Node}
 use Rattle.ecma_tree.specs.Nodes.{node_of}
 use Rattle.ecma_print.specs.Layout.{layout}
 use Rattle.ecma_tokens.specs.Items.{render}
-use Rattle.ecma_reread.specs.Shapes.{Level, assignment, IsExpression, element, postfix_update, conditional_expression, assignment_expression, unary_expression, binary_expression, plus, times, IsPlainName, ident, key, absent, const_word, looser, name, null_word, this_word, member, call, parenthesized, one, spread, arguments, no_elements, more_elements, initializer, declarator, no_declarators, expression, declaration}
+use Rattle.ecma_reread.specs.Shapes.{Level, assignment, IsExpression, element, postfix_update, conditional_expression, assignment_expression, unary_expression, binary_expression, plus, times, IsPlainName, ident, key, absent, looser, name, null_word, this_word, member, call, parenthesized, one, spread, arguments, no_elements, more_elements, initializer, declarator, no_declarators, expression, declaration}
 use Rattle.ecma_reread.specs.Modules.{statement, no_items, more_items, IsModule, module_of}
 use Rattle.ecma_reread.specs.ModuleTokens.{module_tokens}
 use Rattle.ecma_reread.proofs.Bindings.{further_out}
@@ -99,7 +99,7 @@ shape =
     let async' = ident at (codes "async") async_name in
     let it' = whole (codes "a") a_spelled in
     module_of at at
-    (more_items (statement (declaration at at const_word (declarator at at async' (absent at) (initializer (out 16 (parenthesized at (this_word at))))) no_declarators))
+    (more_items (statement (declaration at at Const (declarator at at async' (absent at) (initializer (out 16 (parenthesized at (this_word at))))) no_declarators))
     (more_items (statement (expression at (call at (looser (member at (name id) (key at (codes "a") it'))) (arguments at (spread at (out 16 (name id))) (more_elements (one (out 16 (null_word at))) no_elements)) (absent at))))
     (more_items (statement (expression at (member at (call at (looser (name async')) (arguments at (one (out 16 (name id))) (more_elements (one (out 16 (name async'))) no_elements)) (absent at)) (key at (codes "a") it'))))
     (more_items (statement (expression at (assignment_expression at Assign (out 1 (name id)) value_shape))) no_items))))

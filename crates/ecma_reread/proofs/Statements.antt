@@ -1,80 +1,139 @@
--- Each form of statement is read as it is laid out.
-use Rattle.std.proofs.Common.{◌≡◌, ℕ, Bool, true, false, List, [], ◌∷◌, codes, refl, ap, ◌∙◌}
+-- What is said of a statement that is laid out, and of an expression as one.
+use Rattle.std.proofs.Common.{◌≡◌, ℕ, ◌&&◌, Bool, true, false, List, [], ◌∷◌, bytes_eq, codes, refl, ap, sym, subst, ◌∙◌}
+use Rattle.std.proofs.lemmas.Bool.{and_parts, false≢true}
+use Rattle.std.proofs.lemmas.Slice.Eq.{bytes_eq-Decides}
 use Rattle.ecma_lex.specs.Keys.{is_reserved, reserved_words}
-use Rattle.ecma_kind.specs.declared.operators.VarDeclKind.{VarDeclKind}
-use Rattle.ecma_kind.specs.declared.operators.VarDeclKind.TheVariants.{Let, Const}
 use Rattle.ecma_kind.specs.declared.kind.Kind.{Kind}
 use Rattle.ecma_kind.specs.declared.kind.Kind.TheVariants as kind
 use Rattle.ecma_tree.specs.declared.node.Node.{Node}
-use Rattle.ecma_tree.specs.Nodes.{absent, list_node}
 use Rattle.ecma_grammar.specs.declared.production.Part.TheVariants as part
 use Rattle.ecma_grammar.specs.declared.production.Plain.TheVariants as plain
 use Rattle.ecma_grammar.specs.declared.production.Form.TheVariants as form
-use Rattle.ecma_grammar.specs.Made.{made}
 use Rattle.ecma_grammar.specs.Grammar as grammar
-use Rattle.ecma_grammar.specs.Grammar.{Grammar, ◌▸◌, ◌//◌, punct, word, maybe, whether, marked, node}
+use Rattle.ecma_grammar.specs.Grammar.{Grammar, ◌▸◌, ◌//◌, punct, word}
 use Rattle.ecma_grammar.specs.productions.Names as names
-use Rattle.ecma_grammar.specs.productions.Names.{assign_in, pattern, end, expression}
-use Rattle.ecma_grammar.specs.productions.Types.{annotation}
-use Rattle.ecma_grammar.specs.productions.Patterns.{pattern_body}
+use Rattle.ecma_grammar.specs.productions.Names.{end, expression}
 use Rattle.ecma_grammar.specs.productions.Functions as functions
 use Rattle.ecma_grammar.specs.productions.Expressions as expressions
 use Rattle.ecma_grammar.specs.productions.Operators as operators
 use Rattle.ecma_grammar.specs.productions.Chains as chains
 use Rattle.ecma_grammar.specs.productions.Primary as primaries
-use Rattle.ecma_grammar.specs.productions.Classes as classes
-use Rattle.ecma_grammar.specs.productions.Declarations as declarations
-use Rattle.ecma_grammar.specs.productions.Declarations.{declarator, declarators, variables, declaration}
-use Rattle.ecma_grammar.specs.productions.Statements as statements
-use Rattle.ecma_grammar.specs.productions.Statements.{statement_body, labeled, expression_statement, jump}
-use Rattle.ecma_grammar.specs.productions.Modules as modules
+use Rattle.ecma_grammar.specs.productions.Declarations.{declaration}
+use Rattle.ecma_grammar.specs.productions.Statements.{statement_body, expression_statement}
 use Rattle.ecma_grammar.specs.productions.Modules.{module_item}
 use Rattle.ecma_tokens.specs.Items as items
-use Rattle.ecma_tokens.specs.Items.{Tok, sign, Gap, no_gap, Items, it}
-use Rattle.ecma_reread.specs.Machine.{read, taken, with_front, followed_on, or_on, unless_on, built_on, interp, means}
+use Rattle.ecma_tokens.specs.Items.{Tok, sign, Gap, no_gap, Items, it, key, private_name, string, number, big_int, regex, template, ends}
+use Rattle.ecma_reread.specs.Machine.{read, fails, with_front, followed_on, or_on, unless_on, built_on, interp, means}
 use Rattle.ecma_reread.specs.Shapes as shapes
-use Rattle.ecma_reread.specs.Shapes.{Level, IsExpression, IsIdent, IsLexical, let_word, const_word, IsInitializer, IsDeclarator, AreDeclarators, IsStatement}
-use Rattle.ecma_reread.specs.Tokens.{bare, blank, expression_tokens, bare_expression, ident_word, lexical_word, initializer_tokens, declarator_tokens, declarators_tokens, statement_tokens, bare_initializer, bare_declarator, bare_declarators, bare_statement}
+use Rattle.ecma_reread.specs.Shapes.{Ending}
+use Rattle.ecma_reread.specs.Tokens.{bare}
 use Rattle.ecma_reread.proofs.Levels.{means_is}
-use Rattle.ecma_reread.proofs.Fronts.{Front, exactly, Begins, at_token, refuses_at, refused_at, refuses_all, all_refused}
-use Rattle.ecma_reread.proofs.Towers.{without, skipped, refuses_choices, excluded, Ends}
-use Rattle.ecma_reread.proofs.Heads.{nodes}
+use Rattle.ecma_reread.proofs.Fronts.{Front, exactly, Begins, at_token, refuses_at, refuses_all, all_refused, a_name, the_end, is_known}
+use Rattle.ecma_reread.proofs.Towers.{without, skipped, refuses_choices, excluded}
 use Rattle.ecma_reread.proofs.Forms.{Laid, s, Reads, Refuses}
-use Rattle.ecma_reread.proofs.Bindings.{Stands, standing, used, expression_read}
-use Rattle.ecma_reread.proofs.Repeats.{Repeats, repeats_end, repeats_more, repeated}
-use Rattle.ecma_reread.proofs.Expressions.{comma_ends, semicolon_ends}
-use Rattle.ecma_reread.proofs.Joins.{no_new_line, no_brace}
-use Rattle.ecma_reread.proofs.Calls.{ident_free, expression_form}
+use Rattle.ecma_reread.proofs.Bindings.{Stands, expression_read}
+use Rattle.ecma_reread.proofs.Expressions.{semicolon_ends}
 
--- what a statement begins with that is `let` or `const`
-record Declares (w : List ℕ) : Type 0 where
-  pub no_statement : refuses_choices 11 (exactly (items.key w)) statement_body ≡ true
-  pub no_item : refuses_choices 3 (exactly (items.key w)) module_item ≡ true
+-- what stands behind a statement is no part of it
+abbrev pub closes_statement : Ending → Front → Bool
+closes_statement shapes.closed e = refuses_at e (word (codes "finally"))
+closes_statement shapes.dangling e = refuses_at e (word (codes "else")) && refuses_at e (word (codes "finally"))
 
-lexical_declares : {k : VarDeclKind} (w : IsLexical k) → Declares (lexical_word w)
-unfolding statement_body names.block statements.if_ statements.for_await statements.for_ statements.while_ statements.do_while statements.switch statements.try_ statements.jump labeled module_item modules.import modules.import_equals modules.export modules.export_default is_reserved reserved_words
-lexical_declares let_word = record { no_statement = refl; no_item = refl }
-lexical_declares const_word = record { no_statement = refl; no_item = refl }
+pub closes_any : (ending : Ending) (e : Front) → closes_statement shapes.dangling e ≡ true → closes_statement ending e ≡ true
+closes_any shapes.closed e z = (and_parts (refuses_at e (word (codes "else"))) (refuses_at e (word (codes "finally"))) z).1
+closes_any shapes.dangling e z = z
 
--- a declaration that is none of variables
-abbrev other_declarations : Grammar
-other_declarations =
-    functions.function_declaration // classes.class_declaration // marked classes.abstract_class_declaration // marked declarations.type_alias // marked declarations.interface
-    // marked declarations.enum_ // marked declarations.namespace // marked (grammar.build form.Declared (grammar.behind_word (codes "declare") part.Declared))
+-- a front that refuses no word is that word
+the_word_there : (w : List ℕ) → is_known w ≡ true → (e : Front) → refuses_at e (word w) ≡ false → e ≡ exactly (key w)
+the_word_there w k (exactly (key v)) z = go (bytes_eq v w) refl
+  where
+    go : (b : Bool) → bytes_eq v w ≡ b → exactly (key v) ≡ exactly (key w)
+    go true h = ap (λ x. exactly (key x)) ((bytes_eq-Decides v w).0 h)
+    go false h = absurd (false≢true (sym z ∙ rw h refl))
+the_word_there w k (exactly (private_name v)) z = absurd (false≢true (sym z))
+the_word_there w k (exactly (sign v)) z = absurd (false≢true (sym z))
+the_word_there w k (exactly (string v)) z = absurd (false≢true (sym z))
+the_word_there w k (exactly (number v)) z = absurd (false≢true (sym z))
+the_word_there w k (exactly (big_int v)) z = absurd (false≢true (sym z))
+the_word_there w k (exactly (regex v)) z = absurd (false≢true (sym z))
+the_word_there w k (exactly (template first last v)) z = absurd (false≢true (sym z))
+the_word_there w k a_name z = absurd (false≢true (sym z ∙ rw k refl))
+the_word_there w k the_end z = absurd (false≢true (sym z))
 
-abbrev binding : List ℕ → Node
-binding w = bare kind.BindingIdent (bare (kind.Ident w 0 false) [] ∷ absent ∷ [])
+-- the end of a statement alone
+abbrev the_end_alone : Items
+the_end_alone = s (codes ";") (ends no_gap)
 
-declarator_made : (w : List ℕ) (init : Node) → made form.Declarator 0 0 (binding w ∷ absent ∷ absent ∷ init ∷ []) ≡ bare (kind.VarDeclarator false) (binding w ∷ init ∷ [])
-declarator_made w init = simp nodes
+-- no expression begins with `else` or `finally`
 
--- no expression begins with `;`
-no_expression : refuses_all (exactly (sign (codes ";"))) (expression false) ≡ true
-unfolding expression functions.arrow functions.arrow_rest names.binding_ident expressions.conditional operators.short_circuit operators.bit_or operators.bit_xor operators.bit_and operators.equality operators.relation operators.shift operators.exponentiation operators.prefixed operators.update chains.chain chains.super_of_link chains.import_meta chains.import_call chains.construction primaries.primary functions.function_expression primaries.class_expression primaries.template primaries.array primaries.object primaries.parenthesized
-no_expression = refl
+no_else : refuses_all (exactly (key (codes "else"))) (expression false) ≡ true
+unfolding is_reserved reserved_words expression functions.arrow functions.arrow_rest names.binding_ident expressions.conditional operators.short_circuit operators.bit_or operators.bit_xor operators.bit_and operators.equality operators.relation operators.shift operators.exponentiation operators.prefixed operators.update chains.chain chains.super_of_link chains.import_meta chains.import_call chains.construction primaries.primary functions.function_expression primaries.class_expression primaries.template primaries.array primaries.object primaries.parenthesized
+no_else = refl
+
+no_finally : refuses_all (exactly (key (codes "finally"))) (expression false) ≡ true
+unfolding is_reserved reserved_words expression functions.arrow functions.arrow_rest names.binding_ident expressions.conditional operators.short_circuit operators.bit_or operators.bit_xor operators.bit_and operators.equality operators.relation operators.shift operators.exponentiation operators.prefixed operators.update chains.chain chains.super_of_link chains.import_meta chains.import_call chains.construction primaries.primary functions.function_expression primaries.class_expression primaries.template primaries.array primaries.object primaries.parenthesized
+no_finally = refl
+
+else_known : is_known (codes "else") ≡ true
+unfolding is_reserved reserved_words
+else_known = refl
+
+finally_known : is_known (codes "finally") ≡ true
+unfolding is_reserved reserved_words
+finally_known = refl
 
 module _ (assigned : Bool) where
+  -- a statement as it is laid out, in front of what closes it
+  pub record ReadAsStatement (ending : Ending) (f : Laid) (n : Node) : Type 0 where
+    pub front : Front
+    pub begins : (g : Gap) (us : Items) → Begins front (f g us)
+    -- no part of a statement before it, and nothing that stands in modules alone
+    pub closes : closes_statement shapes.dangling front ≡ true
+    pub no_item : refuses_choices 3 front module_item ≡ true
+    pub reads : (g : Gap) (us : Items) (e : Front) → Begins e us → closes_statement ending e ≡ true → means assigned part.Statement (f g us) ≡ read (n ∷ []) us
+
+  pub item_read : {ending : Ending} {f : Laid} {n : Node} → ReadAsStatement ending f n → (g : Gap) (us : Items) (e : Front) → Begins e us → closes_statement ending e ≡ true → Reads assigned module_item (f g us) (n ∷ []) us
+  unfolding module_item
+  item_read {f = f} S g us e b z = skipped assigned (means assigned) 3 module_item S.front (f g us) (S.begins g us) S.no_item ∙ S.reads g us e b z
+
+  -- the alternative of a statement that is read behind some that refuse the front
+  pub chosen : (k : ℕ) (a b : Grammar) → without k statement_body ≡ a // b → (f : Front) (ts us : Items) (n : Node) → Begins f ts → refuses_choices k f statement_body ≡ true → Reads assigned a ts (n ∷ []) us
+      → means assigned part.Statement ts ≡ read (n ∷ []) us
+  chosen k a b e f ts us n c z h =
+      means_is assigned part.Statement ts
+      ∙ (skipped assigned (means assigned) k statement_body f ts c z ∙ (ap (λ g. interp assigned (means assigned) g ts) e ∙ ap (or_on (interp assigned (means assigned) b) ts) h))
+
+  -- a statement that its first token tells
+  pub token_form : {ending : Ending} (k : ℕ) (a b : Grammar) → without k statement_body ≡ a // b → (t : Tok) → refuses_choices k (exactly t) statement_body ≡ true → refuses_choices 3 (exactly t) module_item ≡ true → closes_statement shapes.dangling (exactly t) ≡ true
+      → {rest : Items → Items} {n : Node} → ((g : Gap) (us : Items) (e : Front) → Begins e us → closes_statement ending e ≡ true → Reads assigned a (it g t (rest us)) (n ∷ []) us)
+      → ReadAsStatement ending (λ g us. it g t (rest us)) n
+  token_form k a b i t z y c {rest} {n} h = record {
+    front = exactly t;
+    begins = λ g us. at_token;
+    closes = c;
+    no_item = y;
+    reads = λ g us e d w. chosen k a b i (exactly t) (it g t (rest us)) us n at_token z (h g us e d w);
+  }
+
   -- expression statements
+
+  module _ {f : Laid} {k : Kind} {ns : List Node} (S : Stands assigned shapes.sequence f k ns) where
+    no_word_there : (w : List ℕ) → is_known w ≡ true → refuses_all (exactly (key w)) (expression false) ≡ true → (let L = S.lead in refuses_at L.front (word w) ≡ true)
+    no_word_there w h z = let L = S.lead in go L.front (L.begins no_gap the_end_alone) (refuses_at L.front (word w)) refl
+      where
+        go : (e : Front) → Begins e (f no_gap the_end_alone) → (b : Bool) → refuses_at e (word w) ≡ b → refuses_at e (word w) ≡ true
+        go e c true r = r
+        go e c false r =
+            let ts = the_end_alone in
+            let same : e ≡ exactly (key w) = the_word_there w h e r in
+            let no : Refuses assigned (expression false) (f no_gap ts) = all_refused assigned (expression false) (exactly (key w)) (f no_gap ts) (subst (λ x. Begins x (f no_gap ts)) same c) z in
+            let yes' : Reads assigned (expression false) (f no_gap ts) (bare k ns ∷ []) ts = expression_read assigned S no_gap ts (exactly (sign (codes ";"))) at_token semicolon_ends refl in
+            let both : fails ≡ read (bare k ns ∷ []) ts = sym no ∙ yes' in
+            absurd (let never : ⊥ = cc in never)
+
+    -- what an expression begins with closes a statement before it
+    pub lead_closes : (let L = S.lead in closes_statement shapes.dangling L.front ≡ true)
+    lead_closes = rw (no_word_there (codes "else") else_known no_else, no_word_there (codes "finally") finally_known no_finally) refl
 
   module _ {f : Laid} {k : Kind} {ns : List Node} (S : Stands assigned shapes.sequence f k ns) (no_block : (g : Gap) (us : Items) → Refuses assigned (punct (codes "{")) (f g us)) where
     expression_statement_read : (g : Gap) (us : Items) → Reads assigned expression_statement (f g (s (codes ";") us)) (bare kind.ExprStmt (bare k ns ∷ []) ∷ []) us
@@ -100,120 +159,14 @@ module _ (assigned : Bool) where
         ∙ (ap (or_on (I (declaration // expression_statement)) ts) (L.no_label g (s (codes ";") us) (exactly (sign (codes ";"))) at_token refl)
         ∙ (ap (or_on (I expression_statement) ts) (L.no_declaration g (s (codes ";") us) (exactly (sign (codes ";"))) at_token refl) ∙ expression_statement_read g us))))
 
-    expression_item : (g : Gap) (us : Items) → Reads assigned module_item (f g (s (codes ";") us)) (bare kind.ExprStmt (bare k ns ∷ []) ∷ []) us
-    unfolding module_item
-    expression_item g us = let L = S.lead in let st = L.starts in skipped assigned (means assigned) 3 module_item L.front (f g (s (codes ";") us)) (L.begins g (s (codes ";") us)) st.no_item ∙ statement_read g us
-
-  -- declarations
-
-  pattern_read : (w : List ℕ) → is_reserved w ≡ false → (g : Gap) (us : Items) → means assigned part.Pattern (it g (items.key w) us) ≡ read (binding w ∷ []) us
-  unfolding pattern_body names.binding_ident
-  pattern_read w n g us = rw (means_is assigned part.Pattern (it g (items.key w) us), n) refl
-
-  -- what follows a declarator
-  record Follows (us : Items) : Type 0 where
-    pub front : Front
-    pub begins : Begins front us
-    pub ends : Ends front
-    pub no_equals : refuses_at front (punct (codes "=")) ≡ true
-
-  initializer_read : {n : Node} (i : IsInitializer n) (us : Items) → Follows us → Reads assigned (maybe (punct (codes "=") ▸ assign_in false)) (initializer_tokens i us) (bare_initializer i ∷ []) us
-  initializer_read (shapes.no_initializer a) us F = rw (refused_at assigned (means assigned) (punct (codes "=")) F.front us F.begins F.no_equals) refl
-  initializer_read (shapes.initializer e) us F = rw (used assigned (expression_form assigned e) blank us F.front F.begins F.ends) refl
-
-  declarator_read : {n : Node} (d : IsDeclarator n) (us : Items) → Follows us → Reads assigned (declarator false) (declarator_tokens d us) (bare_declarator d ∷ []) us
-  declarator_read (shapes.declarator at at' i a e) us F =
-      ap (built_on form.Declarator) (ap (followed_on (interp assigned (means assigned) (whether (marked (punct (codes "!"))) ▸ annotation ▸ maybe (punct (codes "=") ▸ assign_in false)))) (pattern_read (ident_word i) (ident_free assigned i) blank (initializer_tokens e us))
-      ∙ ap (with_front (binding (ident_word i) ∷ [])) (ap (with_front (absent ∷ [])) (ap (with_front (absent ∷ [])) (initializer_read e us F))))
-      ∙ ap (λ x. read (x ∷ []) us) (declarator_made (ident_word i) (bare_initializer e))
-
-  more_follow : {ds : List Node} (is : AreDeclarators ds) (us : Items) → Follows (declarators_tokens is (s (codes ";") us))
-  more_follow shapes.no_declarators us = record { front = exactly (sign (codes ";")); begins = at_token; ends = semicolon_ends; no_equals = refl }
-  more_follow (shapes.more_declarators d ds) us = record { front = exactly (sign (codes ",")); begins = at_token; ends = comma_ends; no_equals = refl }
-
-  more_read : {ds : List Node} (is : AreDeclarators ds) (us : Items) → Repeats assigned (punct (codes ",") ▸ declarator false) (declarators_tokens is (s (codes ";") us)) (bare_declarators is) (s (codes ";") us)
-  more_read shapes.no_declarators us = repeats_end assigned (punct (codes ",") ▸ declarator false) (s (codes ";") us) refl
-  more_read (shapes.more_declarators d ds) us =
-      repeats_more assigned (punct (codes ",") ▸ declarator false) refl _ (declarators_tokens ds (s (codes ";") us)) (s (codes ";") us) (bare_declarator d ∷ []) (bare_declarators ds)
-      (ap (with_front []) (declarator_read d (declarators_tokens ds (s (codes ";") us)) (more_follow ds us))) (more_read ds us)
-
-  declarators_read : {d : Node} {ds : List Node} (i : IsDeclarator d) (is : AreDeclarators ds) (us : Items)
-      → Reads assigned (declarators false ▸ end) (declarator_tokens i (declarators_tokens is (s (codes ";") us))) (list_node (bare_declarator i ∷ bare_declarators is) ∷ []) us
-  declarators_read i is us =
-      ap (followed_on (interp assigned (means assigned) end)) (ap (built_on form.List)
-      (ap (followed_on (interp assigned (means assigned) (grammar.many (punct (codes ",") ▸ declarator false)))) (declarator_read i (declarators_tokens is (s (codes ";") us)) (more_follow is us))
-      ∙ ap (with_front (bare_declarator i ∷ [])) (repeated assigned (punct (codes ",") ▸ declarator false) (declarators_tokens is (s (codes ";") us)) (s (codes ";") us) (bare_declarators is) (more_read is us))))
-
-  variables_read : {k : VarDeclKind} (w : IsLexical k) {d : Node} {ds : List Node} (i : IsDeclarator d) (is : AreDeclarators ds) (g : Gap) (us : Items)
-      → Reads assigned (variables false end) (it g (items.key (lexical_word w)) (declarator_tokens i (declarators_tokens is (s (codes ";") us)))) (bare (kind.VarDecl k false) (list_node (bare_declarator i ∷ bare_declarators is) ∷ []) ∷ []) us
-  variables_read let_word i is g us =
-      ap (or_on (interp assigned (means assigned) (node (plain.VarDecl Const) (word (codes "const") ▸ declarators false ▸ end))) (it g (items.key (codes "let")) (declarator_tokens i (declarators_tokens is (s (codes ";") us)))))
-      (ap (built_on (form.Node (plain.VarDecl Let))) (ap (with_front []) (declarators_read i is us)))
-  variables_read const_word i is g us = ap (built_on (form.Node (plain.VarDecl Const))) (ap (with_front []) (declarators_read i is us))
-
-  declaration_read : {k : VarDeclKind} (w : IsLexical k) {d : Node} {ds : List Node} (i : IsDeclarator d) (is : AreDeclarators ds) (g : Gap) (us : Items)
-      → means assigned part.Statement (it g (items.key (lexical_word w)) (declarator_tokens i (declarators_tokens is (s (codes ";") us)))) ≡ read (bare (kind.VarDecl k false) (list_node (bare_declarator i ∷ bare_declarators is) ∷ []) ∷ []) us
-  unfolding statement_body declaration
-  declaration_read w i is g us =
-      let ts = it g (items.key (lexical_word w)) (declarator_tokens i (declarators_tokens is (s (codes ";") us))) in
-      let l = lexical_declares w in
-      means_is assigned part.Statement ts
-      ∙ (skipped assigned (means assigned) 11 statement_body (exactly (items.key (lexical_word w))) ts at_token l.no_statement
-      ∙ ap (or_on (interp assigned (means assigned) expression_statement) ts) (ap (or_on (interp assigned (means assigned) other_declarations) ts) (variables_read w i is g us)))
-
-  -- statements of a word
-
-  jump_word : (w : List ℕ) → refuses_choices 9 (exactly (items.key w)) statement_body ≡ true → refuses_choices 3 (exactly (items.key w)) module_item ≡ true → (g : Gap) (ts us : Items) (n : Node)
-      → Reads assigned jump (it g (items.key w) ts) (n ∷ []) us → Reads assigned module_item (it g (items.key w) ts) (n ∷ []) us
-  unfolding module_item statement_body
-  jump_word w z y g ts us n h =
-      let us' = it g (items.key w) ts in
-      skipped assigned (means assigned) 3 module_item (exactly (items.key w)) us' at_token y
-      ∙ (means_is assigned part.Statement us' ∙ (skipped assigned (means assigned) 9 statement_body (exactly (items.key w)) us' at_token z ∙ ap (or_on (interp assigned (means assigned) (labeled // declaration // expression_statement)) us') h))
-
-  empty_read : (g : Gap) (us : Items) → Reads assigned module_item (it g (sign (codes ";")) us) (bare kind.EmptyStmt [] ∷ []) us
-  unfolding module_item statement_body names.block statements.if_ statements.for_await statements.for_ statements.while_ statements.do_while statements.switch statements.try_ statements.jump labeled modules.import modules.import_equals modules.export modules.export_default is_reserved reserved_words
-  empty_read g us = skipped assigned (means assigned) 3 module_item (exactly (sign (codes ";"))) (it g (sign (codes ";")) us) at_token refl ∙ means_is assigned part.Statement (it g (sign (codes ";")) us)
-
-  return_nothing : (g : Gap) (us : Items) → Reads assigned module_item (it g (items.key (codes "return")) (s (codes ";") us)) (bare kind.ReturnStmt (absent ∷ []) ∷ []) us
-  unfolding module_item statement_body names.block statements.if_ statements.for_await statements.for_ statements.while_ statements.do_while statements.switch statements.try_ statements.jump labeled modules.import modules.import_equals modules.export modules.export_default is_reserved reserved_words
-  return_nothing g us = jump_word (codes "return") refl refl g (s (codes ";") us) us (bare kind.ReturnStmt (absent ∷ [])) (rw (all_refused assigned (expression false) (exactly (sign (codes ";"))) (s (codes ";") us) at_token no_expression) refl)
-
-  break_nothing : (g : Gap) (us : Items) → Reads assigned module_item (it g (items.key (codes "break")) (s (codes ";") us)) (bare kind.BreakStmt (absent ∷ []) ∷ []) us
-  unfolding module_item statement_body names.block statements.if_ statements.for_await statements.for_ statements.while_ statements.do_while statements.switch statements.try_ statements.jump labeled modules.import modules.import_equals modules.export modules.export_default is_reserved reserved_words
-  break_nothing g us = jump_word (codes "break") refl refl g (s (codes ";") us) us (bare kind.BreakStmt (absent ∷ [])) refl
-
-  continue_nothing : (g : Gap) (us : Items) → Reads assigned module_item (it g (items.key (codes "continue")) (s (codes ";") us)) (bare kind.ContinueStmt (absent ∷ []) ∷ []) us
-  unfolding module_item statement_body names.block statements.if_ statements.for_await statements.for_ statements.while_ statements.do_while statements.switch statements.try_ statements.jump labeled modules.import modules.import_equals modules.export modules.export_default is_reserved reserved_words
-  continue_nothing g us = jump_word (codes "continue") refl refl g (s (codes ";") us) us (bare kind.ContinueStmt (absent ∷ [])) refl
-
-  debugger_read : (g : Gap) (us : Items) → Reads assigned module_item (it g (items.key (codes "debugger")) (s (codes ";") us)) (bare kind.DebuggerStmt [] ∷ []) us
-  unfolding module_item statement_body names.block statements.if_ statements.for_await statements.for_ statements.while_ statements.do_while statements.switch statements.try_ statements.jump labeled modules.import modules.import_equals modules.export modules.export_default is_reserved reserved_words
-  debugger_read g us = jump_word (codes "debugger") refl refl g (s (codes ";") us) us (bare kind.DebuggerStmt []) refl
-
-  throw_read : {level : Level} {e : Node} (is : IsExpression level e) (g : Gap) (us : Items) → Reads assigned module_item (it g (items.key (codes "throw")) (expression_tokens is blank (s (codes ";") us))) (bare kind.ThrowStmt (bare_expression is ∷ []) ∷ []) us
-  unfolding module_item statement_body names.block statements.if_ statements.for_await statements.for_ statements.while_ statements.do_while statements.switch statements.try_ statements.jump labeled modules.import modules.import_equals modules.export modules.export_default is_reserved reserved_words
-  throw_read is g us =
-      jump_word (codes "throw") refl refl g (expression_tokens is blank (s (codes ";") us)) us (bare kind.ThrowStmt (bare_expression is ∷ []))
-      (rw (no_new_line is (s (codes ";") us), expression_read assigned (standing assigned (expression_form assigned is)) blank (s (codes ";") us) (exactly (sign (codes ";"))) at_token semicolon_ends refl) refl)
-
-  return_read : {level : Level} {e : Node} (is : IsExpression level e) (g : Gap) (us : Items) → Reads assigned module_item (it g (items.key (codes "return")) (expression_tokens is blank (s (codes ";") us))) (bare kind.ReturnStmt (bare_expression is ∷ []) ∷ []) us
-  unfolding module_item statement_body names.block statements.if_ statements.for_await statements.for_ statements.while_ statements.do_while statements.switch statements.try_ statements.jump labeled modules.import modules.import_equals modules.export modules.export_default is_reserved reserved_words
-  return_read is g us =
-      jump_word (codes "return") refl refl g (expression_tokens is blank (s (codes ";") us)) us (bare kind.ReturnStmt (bare_expression is ∷ []))
-      (rw (no_new_line is (s (codes ";") us), expression_read assigned (standing assigned (expression_form assigned is)) blank (s (codes ";") us) (exactly (sign (codes ";"))) at_token semicolon_ends refl) refl)
-
-  -- a statement of each shape, as an item of a module
-  pub item_read : {n : Node} (is : IsStatement n) (g : Gap) (us : Items) → Reads assigned module_item (statement_tokens is g us) (bare_statement is ∷ []) us
-  unfolding module_item
-  item_read (shapes.empty at) g us = empty_read g us
-  item_read (shapes.debugger_word at) g us = debugger_read g us
-  item_read (shapes.throw at e) g us = throw_read e g us
-  item_read (shapes.return_value at e) g us = return_read e g us
-  item_read (shapes.return_nothing at a) g us = return_nothing g us
-  item_read (shapes.break_nothing at a) g us = break_nothing g us
-  item_read (shapes.continue_nothing at a) g us = continue_nothing g us
-  item_read (shapes.expression at e) g us = expression_item (standing assigned (expression_form assigned e)) (λ g us. ap taken (no_brace e g us)) g us
-  item_read (shapes.declaration at at' w d ds) g us =
-      let l = lexical_declares w in
-      skipped assigned (means assigned) 3 module_item (exactly (items.key (lexical_word w))) (it g (items.key (lexical_word w)) (declarator_tokens d (declarators_tokens ds (s (codes ";") us)))) at_token l.no_item ∙ declaration_read w d ds g us
+    pub expression_statement_form : ReadAsStatement shapes.closed (λ g us. f g (s (codes ";") us)) (bare kind.ExprStmt (bare k ns ∷ []))
+    expression_statement_form =
+        let L = S.lead in
+        let st = L.starts in
+        record {
+          front = L.front;
+          begins = λ g us. L.begins g (s (codes ";") us);
+          closes = lead_closes S;
+          no_item = st.no_item;
+          reads = λ g us e b z. statement_read g us;
+        }

@@ -6,8 +6,8 @@ use Rattle.ecma_tree.specs.declared.node.Node.{Node}
 use Rattle.ecma_tree.specs.Nodes.{absent, list_node}
 use Rattle.ecma_tree.specs.Spans.{without_spans}
 use Rattle.ecma_reread.specs.Shapes as shapes
-use Rattle.ecma_reread.specs.Shapes.{Level, IsIdent, ident, IsKey, key, IsAbsent, IsExpression, IsElement, IsArguments, AreElements, AreExpressions, IsInitializer, IsDeclarator, AreDeclarators, IsStatement}
-use Rattle.ecma_reread.specs.Tokens.{bare, bare_ident, key_word, bare_expression, bare_element, bare_arguments, bare_elements, bare_expressions, bare_initializer, bare_declarator, bare_declarators, bare_statement}
+use Rattle.ecma_reread.specs.Shapes.{Level, IsIdent, ident, IsKey, key, IsAbsent, IsExpression, IsElement, IsArguments, AreElements, AreExpressions, IsInitializer, IsDeclarator, AreDeclarators, Ending, IsStatement, IsBlock, AreStatements}
+use Rattle.ecma_reread.specs.Tokens.{bare, bare_ident, key_word, bare_expression, bare_element, bare_arguments, bare_elements, bare_expressions, bare_initializer, bare_declarator, bare_declarators, bare_statement, bare_block, bare_statements}
 use Rattle.ecma_reread.proofs.Unplaced.{without_spans-node}
 
 pub absent_bare : {n : Node} → IsAbsent n → without_spans n ≡ absent
@@ -79,14 +79,34 @@ declarators_bare : {ds : List Node} (is : AreDeclarators ds) → map without_spa
 declarators_bare shapes.no_declarators = refl
 declarators_bare (shapes.more_declarators d ds) = ap₂ (λ x xs. x ∷ xs) (declarator_bare d) (declarators_bare ds)
 
-pub statement_bare : {n : Node} (is : IsStatement n) → without_spans n ≡ bare_statement is
-statement_bare (shapes.empty at) = without_spans-node at kind.EmptyStmt []
-statement_bare (shapes.debugger_word at) = without_spans-node at kind.DebuggerStmt []
-statement_bare (shapes.throw at e) = without_spans-node at kind.ThrowStmt _ ∙ ap (λ x. bare kind.ThrowStmt (x ∷ [])) (expression_bare e)
-statement_bare (shapes.return_value at e) = without_spans-node at kind.ReturnStmt _ ∙ ap (λ x. bare kind.ReturnStmt (x ∷ [])) (expression_bare e)
-statement_bare (shapes.return_nothing at a) = without_spans-node at kind.ReturnStmt _ ∙ ap (λ x. bare kind.ReturnStmt (x ∷ [])) (absent_bare a)
-statement_bare (shapes.break_nothing at a) = without_spans-node at kind.BreakStmt _ ∙ ap (λ x. bare kind.BreakStmt (x ∷ [])) (absent_bare a)
-statement_bare (shapes.continue_nothing at a) = without_spans-node at kind.ContinueStmt _ ∙ ap (λ x. bare kind.ContinueStmt (x ∷ [])) (absent_bare a)
-statement_bare (shapes.expression at e) = without_spans-node at kind.ExprStmt _ ∙ ap (λ x. bare kind.ExprStmt (x ∷ [])) (expression_bare e)
-statement_bare (shapes.declaration at at' {k = k} w d ds) =
-    without_spans-node at (kind.VarDecl k false) _ ∙ ap (λ x. bare (kind.VarDecl k false) (x ∷ [])) (without_spans-node at' kind.List _ ∙ ap₂ (λ x xs. list_node (x ∷ xs)) (declarator_bare d) (declarators_bare ds))
+mutual
+  pub statement_bare : {ending : Ending} {n : Node} (is : IsStatement ending n) → without_spans n ≡ bare_statement is
+  statement_bare (shapes.empty at) = without_spans-node at kind.EmptyStmt []
+  statement_bare (shapes.debugger_word at) = without_spans-node at kind.DebuggerStmt []
+  statement_bare (shapes.throw at e) = without_spans-node at kind.ThrowStmt _ ∙ ap (λ x. bare kind.ThrowStmt (x ∷ [])) (expression_bare e)
+  statement_bare (shapes.return_value at e) = without_spans-node at kind.ReturnStmt _ ∙ ap (λ x. bare kind.ReturnStmt (x ∷ [])) (expression_bare e)
+  statement_bare (shapes.return_nothing at a) = without_spans-node at kind.ReturnStmt _ ∙ ap (λ x. bare kind.ReturnStmt (x ∷ [])) (absent_bare a)
+  statement_bare (shapes.break_nothing at a) = without_spans-node at kind.BreakStmt _ ∙ ap (λ x. bare kind.BreakStmt (x ∷ [])) (absent_bare a)
+  statement_bare (shapes.continue_nothing at a) = without_spans-node at kind.ContinueStmt _ ∙ ap (λ x. bare kind.ContinueStmt (x ∷ [])) (absent_bare a)
+  statement_bare (shapes.expression at e) = without_spans-node at kind.ExprStmt _ ∙ ap (λ x. bare kind.ExprStmt (x ∷ [])) (expression_bare e)
+  statement_bare (shapes.declaration at at' k d ds) =
+      without_spans-node at (kind.VarDecl k false) _ ∙ ap (λ x. bare (kind.VarDecl k false) (x ∷ [])) (without_spans-node at' kind.List _ ∙ ap₂ (λ x xs. list_node (x ∷ xs)) (declarator_bare d) (declarators_bare ds))
+  statement_bare (shapes.break_label at i) = without_spans-node at kind.BreakStmt _ ∙ ap (λ x. bare kind.BreakStmt (x ∷ [])) (ident_bare i)
+  statement_bare (shapes.continue_label at i) = without_spans-node at kind.ContinueStmt _ ∙ ap (λ x. bare kind.ContinueStmt (x ∷ [])) (ident_bare i)
+  statement_bare (shapes.block b) = block_bare b
+  statement_bare (shapes.if_only at {none = n'} e b a) =
+      without_spans-node at kind.IfStmt _
+      ∙ (ap₂ (λ x y. bare kind.IfStmt (x ∷ y ∷ without_spans n' ∷ [])) (expression_bare e) (statement_bare b) ∙ ap (λ z. bare kind.IfStmt (bare_expression e ∷ bare_statement b ∷ z ∷ [])) (absent_bare a))
+  statement_bare (shapes.if_else at {alternative = a'} e b a) =
+      without_spans-node at kind.IfStmt _
+      ∙ (ap₂ (λ x y. bare kind.IfStmt (x ∷ y ∷ without_spans a' ∷ [])) (expression_bare e) (statement_bare b) ∙ ap (λ z. bare kind.IfStmt (bare_expression e ∷ bare_statement b ∷ z ∷ [])) (statement_bare a))
+  statement_bare (shapes.while_loop at e b) = without_spans-node at kind.WhileStmt _ ∙ ap₂ (λ x y. bare kind.WhileStmt (x ∷ y ∷ [])) (expression_bare e) (statement_bare b)
+  statement_bare (shapes.do_loop at e b) = without_spans-node at kind.DoWhileStmt _ ∙ ap₂ (λ x y. bare kind.DoWhileStmt (x ∷ y ∷ [])) (expression_bare e) (statement_bare b)
+  statement_bare (shapes.labeled at i b) = without_spans-node at kind.LabeledStmt _ ∙ ap₂ (λ x y. bare kind.LabeledStmt (x ∷ y ∷ [])) (ident_bare i) (statement_bare b)
+
+  block_bare : {n : Node} (is : IsBlock n) → without_spans n ≡ bare_block is
+  block_bare (shapes.block_of at at' ss) = without_spans-node at kind.BlockStmt _ ∙ ap (λ x. bare kind.BlockStmt (x ∷ [])) (without_spans-node at' kind.List _ ∙ ap list_node (statements_bare ss))
+
+  statements_bare : {ss : List Node} (is : AreStatements ss) → map without_spans ss ≡ bare_statements is
+  statements_bare shapes.no_statements = refl
+  statements_bare (shapes.more_statements s ss) = ap₂ (λ x xs. x ∷ xs) (statement_bare s) (statements_bare ss)

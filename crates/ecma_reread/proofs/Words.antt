@@ -31,6 +31,10 @@ false_spelled : Spelled IsKey (codes "false")
 unfolding chars is_utf8 encode is_xid_start is_xid_continue in_ranges xid_start_ranges xid_continue_ranges
 false_spelled = (IsUtf8-from_is_utf8 (codes "false") refl, (refl, refl))
 
+var_spelled : Spelled IsKey (codes "var")
+unfolding chars is_utf8 encode is_xid_start is_xid_continue in_ranges xid_start_ranges xid_continue_ranges
+var_spelled = (IsUtf8-from_is_utf8 (codes "var") refl, (refl, refl))
+
 let_spelled : Spelled IsKey (codes "let")
 unfolding chars is_utf8 encode is_xid_start is_xid_continue in_ranges xid_start_ranges xid_continue_ranges
 let_spelled = (IsUtf8-from_is_utf8 (codes "let") refl, (refl, refl))
@@ -75,6 +79,22 @@ return_spelled : Spelled IsKey (codes "return")
 unfolding chars is_utf8 encode is_xid_start is_xid_continue in_ranges xid_start_ranges xid_continue_ranges
 return_spelled = (IsUtf8-from_is_utf8 (codes "return") refl, (refl, refl))
 
+if_spelled : Spelled IsKey (codes "if")
+unfolding chars is_utf8 encode is_xid_start is_xid_continue in_ranges xid_start_ranges xid_continue_ranges
+if_spelled = (IsUtf8-from_is_utf8 (codes "if") refl, (refl, refl))
+
+else_spelled : Spelled IsKey (codes "else")
+unfolding chars is_utf8 encode is_xid_start is_xid_continue in_ranges xid_start_ranges xid_continue_ranges
+else_spelled = (IsUtf8-from_is_utf8 (codes "else") refl, (refl, refl))
+
+while_spelled : Spelled IsKey (codes "while")
+unfolding chars is_utf8 encode is_xid_start is_xid_continue in_ranges xid_start_ranges xid_continue_ranges
+while_spelled = (IsUtf8-from_is_utf8 (codes "while") refl, (refl, refl))
+
+do_spelled : Spelled IsKey (codes "do")
+unfolding chars is_utf8 encode is_xid_start is_xid_continue in_ranges xid_start_ranges xid_continue_ranges
+do_spelled = (IsUtf8-from_is_utf8 (codes "do") refl, (refl, refl))
+
 break_spelled : Spelled IsKey (codes "break")
 unfolding chars is_utf8 encode is_xid_start is_xid_continue in_ranges xid_start_ranges xid_continue_ranges
 break_spelled = (IsUtf8-from_is_utf8 (codes "break") refl, (refl, refl))
@@ -105,6 +125,7 @@ layout_words = record {
   null_whole = whole (codes "null") null_spelled;
   true_whole = whole (codes "true") true_spelled;
   false_whole = whole (codes "false") false_spelled;
+  var_whole = whole (codes "var") var_spelled;
   let_whole = whole (codes "let") let_spelled;
   const_whole = whole (codes "const") const_spelled;
   typeof_whole = whole (codes "typeof") typeof_spelled;
@@ -114,6 +135,10 @@ layout_words = record {
   debugger_whole = whole (codes "debugger") debugger_spelled;
   throw_whole = whole (codes "throw") throw_spelled;
   return_whole = whole (codes "return") return_spelled;
+  if_whole = whole (codes "if") if_spelled;
+  else_whole = whole (codes "else") else_spelled;
+  while_whole = whole (codes "while") while_spelled;
+  do_whole = whole (codes "do") do_spelled;
   break_whole = whole (codes "break") break_spelled;
   continue_whole = whole (codes "continue") continue_spelled;
   import_whole = whole (codes "import") import_spelled;

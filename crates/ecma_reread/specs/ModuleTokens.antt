@@ -72,7 +72,7 @@ import_clause_tokens (import_default_and_namespace d a) us = default_import_toke
 import_clause_tokens (import_default_and_names d n ns) us = default_import_tokens d (sign_of (codes ",") (named_imports_tokens n ns us))
 
 abbrev pub item_tokens : {n : Node} → IsModuleItem n → Gap → Items → Items
-item_tokens (statement s) g us = statement_tokens s g us
+item_tokens (statement s) g us = statement_tokens s 0 g us
 item_tokens (import_alone at at' s w) g us = it g (items.key (codes "import")) (source_tokens s w (sign_of (codes ";") us))
 item_tokens (import_bindings at at' c s w) g us = it g (items.key (codes "import")) (import_clause_tokens c (spaced_word (codes "from") (source_tokens s w (sign_of (codes ";") us))))
 

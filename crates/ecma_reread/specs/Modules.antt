@@ -8,7 +8,7 @@ use Rattle.ecma_kind.specs.declared.kind.Kind.TheVariants as kind
 use Rattle.ecma_tree.specs.declared.node.Node.{Node}
 use Rattle.ecma_tree.specs.Nodes.{node_of}
 use Rattle.ecma_tokens.specs.Good.{IsToken}
-use Rattle.ecma_reread.specs.Shapes.{IsIdent, IsKey, IsAbsent, IsStatement}
+use Rattle.ecma_reread.specs.Shapes.{IsIdent, IsKey, IsAbsent, Ending, IsStatement}
 
 pub data IsString : Node → Type 0 where
   string_literal : (at : Span) (raw : List ℕ) → IsToken str_end raw → IsString (node_of at (kind.Str (str_value (piece raw 1 (length raw - 1))) (Some raw)) [])
@@ -62,7 +62,7 @@ pub data IsImportClause : List Node → Type 0 where
 -- modules
 
 pub data IsModuleItem : Node → Type 0 where
-  statement : {s : Node} → IsStatement s → IsModuleItem s
+  statement : {ending : Ending} {s : Node} → IsStatement ending s → IsModuleItem s
   import_alone : (at of_list : Span) {source attributes : Node} → IsString source → IsWithClause attributes
       → IsModuleItem (node_of at (kind.ImportDecl false) (node_of of_list kind.List [] ∷ source ∷ attributes ∷ []))
   import_bindings : (at of_list : Span) {bindings : List Node} {source attributes : Node} → IsImportClause bindings → IsString source → IsWithClause attributes

@@ -7,7 +7,6 @@ use Rattle.ecma_lex.specs.Numerals.{num_end, big_end}
 use Rattle.ecma_lex.specs.Strings.{str_end, str_value}
 use Rattle.ecma_kind.specs.declared.span.Span.{Span}
 use Rattle.ecma_kind.specs.declared.operators.VarDeclKind.{VarDeclKind}
-use Rattle.ecma_kind.specs.declared.operators.VarDeclKind.TheVariants.{Let, Const}
 use Rattle.ecma_kind.specs.declared.operators.UnaryOp.{UnaryOp}
 use Rattle.ecma_kind.specs.declared.operators.UpdateOp.{UpdateOp}
 use Rattle.ecma_kind.specs.declared.operators.AssignOp.{AssignOp}
@@ -32,11 +31,6 @@ pub data IsKey : Node → Type 0 where
 
 pub data IsAbsent : Node → Type 0 where
   absent : (at : Span) → IsAbsent (node_of at kind.Absent [])
-
--- `let` and `const`
-pub data IsLexical : VarDeclKind → Type 0 where
-  let_word : IsLexical Let
-  const_word : IsLexical Const
 
 -- how loosely an expression binds: by its outermost operator, the tightest first (ECMAScript, 13). A conditional expression stands where
 -- an assignment does
@@ -157,18 +151,35 @@ pub data AreDeclarators : List Node → Type 0 where
   no_declarators : AreDeclarators []
   more_declarators : {d : Node} {ds : List Node} → IsDeclarator d → AreDeclarators ds → AreDeclarators (d ∷ ds)
 
-pub data IsStatement : Node → Type 0 where
-  expression : (at : Span) {level : Level} {e : Node} → IsExpression level e → IsStatement (node_of at kind.ExprStmt (e ∷ []))
-  declaration : (at of_list : Span) {k : VarDeclKind} {d : Node} {ds : List Node} → IsLexical k → IsDeclarator d → AreDeclarators ds
-      → IsStatement (node_of at (kind.VarDecl k false) (node_of of_list kind.List (d ∷ ds) ∷ []))
-  empty : (at : Span) → IsStatement (node_of at kind.EmptyStmt [])
-  debugger_word : (at : Span) → IsStatement (node_of at kind.DebuggerStmt [])
-  throw : (at : Span) {level : Level} {e : Node} → IsExpression level e → IsStatement (node_of at kind.ThrowStmt (e ∷ []))
-  return_value : (at : Span) {level : Level} {e : Node} → IsExpression level e → IsStatement (node_of at kind.ReturnStmt (e ∷ []))
-  return_nothing : (at : Span) {none : Node} → IsAbsent none → IsStatement (node_of at kind.ReturnStmt (none ∷ []))
-  break_nothing : (at : Span) {none : Node} → IsAbsent none → IsStatement (node_of at kind.BreakStmt (none ∷ []))
-  continue_nothing : (at : Span) {none : Node} → IsAbsent none → IsStatement (node_of at kind.ContinueStmt (none ∷ []))
+-- whether a statement ends with an `if` without `else`: that would take an `else` behind it as its own
+pub data Ending : Type 0 where
+  closed dangling : Ending
 
-pub data AreStatements : List Node → Type 0 where
-  no_statements : AreStatements []
-  more_statements : {s : Node} {ss : List Node} → IsStatement s → AreStatements ss → AreStatements (s ∷ ss)
+mutual
+  pub data IsStatement : Ending → Node → Type 0 where
+    expression : (at : Span) {level : Level} {e : Node} → IsExpression level e → IsStatement closed (node_of at kind.ExprStmt (e ∷ []))
+    declaration : (at of_list : Span) (k : VarDeclKind) {d : Node} {ds : List Node} → IsDeclarator d → AreDeclarators ds → IsStatement closed (node_of at (kind.VarDecl k false) (node_of of_list kind.List (d ∷ ds) ∷ []))
+    empty : (at : Span) → IsStatement closed (node_of at kind.EmptyStmt [])
+    debugger_word : (at : Span) → IsStatement closed (node_of at kind.DebuggerStmt [])
+    throw : (at : Span) {level : Level} {e : Node} → IsExpression level e → IsStatement closed (node_of at kind.ThrowStmt (e ∷ []))
+    return_value : (at : Span) {level : Level} {e : Node} → IsExpression level e → IsStatement closed (node_of at kind.ReturnStmt (e ∷ []))
+    return_nothing : (at : Span) {none : Node} → IsAbsent none → IsStatement closed (node_of at kind.ReturnStmt (none ∷ []))
+    break_nothing : (at : Span) {none : Node} → IsAbsent none → IsStatement closed (node_of at kind.BreakStmt (none ∷ []))
+    continue_nothing : (at : Span) {none : Node} → IsAbsent none → IsStatement closed (node_of at kind.ContinueStmt (none ∷ []))
+    break_label : (at : Span) {label : Node} → IsIdent label → IsStatement closed (node_of at kind.BreakStmt (label ∷ []))
+    continue_label : (at : Span) {label : Node} → IsIdent label → IsStatement closed (node_of at kind.ContinueStmt (label ∷ []))
+    block : {b : Node} → IsBlock b → IsStatement closed b
+    if_only : (at : Span) {level : Level} {ending : Ending} {test body none : Node} → IsExpression level test → IsStatement ending body → IsAbsent none → IsStatement dangling (node_of at kind.IfStmt (test ∷ body ∷ none ∷ []))
+    -- nothing before `else` would take it
+    if_else : (at : Span) {level : Level} {ending : Ending} {test body alternative : Node} → IsExpression level test → IsStatement closed body → IsStatement ending alternative
+        → IsStatement ending (node_of at kind.IfStmt (test ∷ body ∷ alternative ∷ []))
+    while_loop : (at : Span) {level : Level} {ending : Ending} {test body : Node} → IsExpression level test → IsStatement ending body → IsStatement ending (node_of at kind.WhileStmt (test ∷ body ∷ []))
+    do_loop : (at : Span) {level : Level} {ending : Ending} {test body : Node} → IsExpression level test → IsStatement ending body → IsStatement closed (node_of at kind.DoWhileStmt (test ∷ body ∷ []))
+    labeled : (at : Span) {ending : Ending} {label body : Node} → IsIdent label → IsStatement ending body → IsStatement ending (node_of at kind.LabeledStmt (label ∷ body ∷ []))
+
+  pub data IsBlock : Node → Type 0 where
+    block_of : (at of_list : Span) {ss : List Node} → AreStatements ss → IsBlock (node_of at kind.BlockStmt (node_of of_list kind.List ss ∷ []))
+
+  pub data AreStatements : List Node → Type 0 where
+    no_statements : AreStatements []
+    more_statements : {ending : Ending} {s : Node} {ss : List Node} → IsStatement ending s → AreStatements ss → AreStatements (s ∷ ss)

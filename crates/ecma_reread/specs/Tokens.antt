@@ -1,9 +1,8 @@
 -- The tokens that a tree is laid out as, in front of others, and the tree without spans.
-use Rattle.std.specs.Prelude.{ℕ, ◌-◌, true, false, List, [], ◌∷◌, length, Some, codes}
+use Rattle.std.specs.Prelude.{ℕ, ◌-◌, true, false, List, [], ◌∷◌, length, Some, codes, zero, suc, Bool, ◌++◌}
 use Rattle.ecma_number.specs.Numeral.{numeral_of}
 use Rattle.ecma_lex.specs.Text.{piece}
 use Rattle.ecma_lex.specs.Strings.{str_value}
-use Rattle.ecma_kind.specs.declared.operators.VarDeclKind.{VarDeclKind}
 use Rattle.ecma_kind.specs.declared.operators.UnaryOp.{UnaryOp}
 use Rattle.ecma_kind.specs.declared.operators.UnaryOp.TheVariants.{Minus, Plus, Bang, Tilde, TypeOf, Void, Delete}
 use Rattle.ecma_kind.specs.declared.operators.UpdateOp.{UpdateOp}
@@ -20,15 +19,24 @@ use Rattle.ecma_grammar.specs.Reads.{without_separators}
 use Rattle.ecma_print.specs.declared.place.Beside.{Beside}
 use Rattle.ecma_print.specs.declared.place.Beside.TheVariants.{NoNeighbor, BehindMinus, BehindPlus}
 use Rattle.ecma_print.specs.Operators.{unary_sign, update_sign}
+use Rattle.ecma_print.specs.Statements.{keyword}
 use Rattle.ecma_tokens.specs.Items as items
 use Rattle.ecma_tokens.specs.Items.{Tok, sign, Gap, no_gap, Items, it}
-use Rattle.ecma_reread.specs.Shapes.{IsIdent, ident, IsKey, key, IsLexical, let_word, const_word, Level, IsExpression, looser, element, prefix_update, postfix_update, await_expression, unary_expression, binary_expression, exponentiation, both, either, coalesced, assignment_expression, conditional_expression, sequence_expression, name, string, number, this_word, big_int, null_word, true_word, false_word, member, call, parenthesized, IsElement, one, spread, IsArguments, no_arguments, arguments, AreElements, no_elements, more_elements, AreExpressions, no_expressions, more_expressions, IsInitializer, no_initializer, initializer, IsDeclarator, declarator, AreDeclarators, no_declarators, more_declarators, IsStatement, expression, declaration, empty, debugger_word, throw, return_value, return_nothing, break_nothing, continue_nothing}
+use Rattle.ecma_reread.specs.Shapes.{IsIdent, ident, IsKey, key, Level, IsExpression, looser, element, prefix_update, postfix_update, await_expression, unary_expression, binary_expression, exponentiation, both, either, coalesced, assignment_expression, conditional_expression, sequence_expression, name, string, number, this_word, big_int, null_word, true_word, false_word, member, call, parenthesized, IsElement, one, spread, IsArguments, no_arguments, arguments, AreElements, no_elements, more_elements, AreExpressions, no_expressions, more_expressions, IsInitializer, no_initializer, initializer, IsDeclarator, declarator, AreDeclarators, no_declarators, more_declarators, IsStatement, expression, declaration, empty, debugger_word, throw, return_value, return_nothing, break_nothing, continue_nothing, Ending, break_label, continue_label, block, if_only, if_else, while_loop, do_loop, labeled, IsBlock, block_of, AreStatements, no_statements, more_statements}
 
 abbrev pub blank : Gap
 blank = record { blanks = codes " "; new_line = false }
 
+-- what the lines begin with that stand so many levels further in
+abbrev pub margin : ℕ → List ℕ
+margin zero = []
+margin (suc depth) = margin depth ++ codes "    "
+
+abbrev pub line_at : ℕ → Gap
+line_at depth = record { blanks = codes "\n" ++ margin depth; new_line = true }
+
 abbrev pub line : Gap
-line = record { blanks = codes "\n"; new_line = true }
+line = line_at 0
 
 abbrev pub sign_of : List ℕ → Items → Items
 sign_of w us = it no_gap (sign w) us
@@ -168,20 +176,52 @@ abbrev pub declarators_tokens : {ds : List Node} → AreDeclarators ds → Items
 declarators_tokens no_declarators us = us
 declarators_tokens (more_declarators d ds) us = sign_of (codes ",") (declarator_tokens d (declarators_tokens ds us))
 
-abbrev pub lexical_word : {k : VarDeclKind} → IsLexical k → List ℕ
-lexical_word let_word = codes "let"
-lexical_word const_word = codes "const"
+-- what stands before `}`
+abbrev pub closing_gap : List Node → ℕ → Gap
+closing_gap [] depth = no_gap
+closing_gap (x ∷ xs) depth = line_at depth
 
-abbrev pub statement_tokens : {s : Node} → IsStatement s → Gap → Items → Items
-statement_tokens (empty at) g us = it g (sign (codes ";")) us
-statement_tokens (debugger_word at) g us = it g (items.key (codes "debugger")) (sign_of (codes ";") us)
-statement_tokens (throw at e) g us = it g (items.key (codes "throw")) (expression_tokens e blank (sign_of (codes ";") us))
-statement_tokens (return_value at e) g us = it g (items.key (codes "return")) (expression_tokens e blank (sign_of (codes ";") us))
-statement_tokens (return_nothing at a) g us = it g (items.key (codes "return")) (sign_of (codes ";") us)
-statement_tokens (break_nothing at a) g us = it g (items.key (codes "break")) (sign_of (codes ";") us)
-statement_tokens (continue_nothing at a) g us = it g (items.key (codes "continue")) (sign_of (codes ";") us)
-statement_tokens (expression at e) g us = expression_tokens e g (sign_of (codes ";") us)
-statement_tokens (declaration at at' w d ds) g us = it g (items.key (lexical_word w)) (declarator_tokens d (declarators_tokens ds (sign_of (codes ";") us)))
+abbrev pub is_braced : {ending : Ending} {s : Node} → IsStatement ending s → Bool
+is_braced (block b) = true
+is_braced s = false
+
+-- what stands before `else`, and before the `while` of `do`: it stands on the line of `}`
+abbrev pub branch_gap : Bool → ℕ → Gap
+branch_gap true depth = blank
+branch_gap false depth = line_at depth
+
+-- `(`, a test, `)`
+abbrev pub test_tokens : {level : Level} {e : Node} → IsExpression level e → Items → Items
+test_tokens e us = it blank (sign (codes "(")) (expression_tokens e no_gap (sign_of (codes ")") us))
+
+-- a statement so many levels further in
+abbrev mutual
+  pub statement_tokens : {ending : Ending} {s : Node} → IsStatement ending s → ℕ → Gap → Items → Items
+  statement_tokens (empty at) d g us = it g (sign (codes ";")) us
+  statement_tokens (debugger_word at) d g us = it g (items.key (codes "debugger")) (sign_of (codes ";") us)
+  statement_tokens (throw at e) d g us = it g (items.key (codes "throw")) (expression_tokens e blank (sign_of (codes ";") us))
+  statement_tokens (return_value at e) d g us = it g (items.key (codes "return")) (expression_tokens e blank (sign_of (codes ";") us))
+  statement_tokens (return_nothing at a) d g us = it g (items.key (codes "return")) (sign_of (codes ";") us)
+  statement_tokens (break_nothing at a) d g us = it g (items.key (codes "break")) (sign_of (codes ";") us)
+  statement_tokens (continue_nothing at a) d g us = it g (items.key (codes "continue")) (sign_of (codes ";") us)
+  statement_tokens (expression at e) d g us = expression_tokens e g (sign_of (codes ";") us)
+  statement_tokens (declaration at at' k i is) d g us = it g (items.key (keyword k)) (declarator_tokens i (declarators_tokens is (sign_of (codes ";") us)))
+  statement_tokens (break_label at i) d g us = it g (items.key (codes "break")) (it blank (items.key (ident_word i)) (sign_of (codes ";") us))
+  statement_tokens (continue_label at i) d g us = it g (items.key (codes "continue")) (it blank (items.key (ident_word i)) (sign_of (codes ";") us))
+  statement_tokens (block b) d g us = block_tokens b d g us
+  statement_tokens (if_only at e b a) d g us = it g (items.key (codes "if")) (test_tokens e (statement_tokens b d blank us))
+  statement_tokens (if_else at e b a) d g us = it g (items.key (codes "if")) (test_tokens e (statement_tokens b d blank (it (branch_gap (is_braced b) d) (items.key (codes "else")) (statement_tokens a d blank us))))
+  statement_tokens (while_loop at e b) d g us = it g (items.key (codes "while")) (test_tokens e (statement_tokens b d blank us))
+  statement_tokens (do_loop at e b) d g us = it g (items.key (codes "do")) (statement_tokens b d blank (it (branch_gap (is_braced b) d) (items.key (codes "while")) (test_tokens e (sign_of (codes ";") us))))
+  statement_tokens (labeled at i b) d g us = it g (items.key (ident_word i)) (sign_of (codes ":") (statement_tokens b d blank us))
+
+  pub block_tokens : {b : Node} → IsBlock b → ℕ → Gap → Items → Items
+  block_tokens (block_of at at' {ss = ss'} ss) d g us = it g (sign (codes "{")) (lined_tokens ss (suc d) (it (closing_gap ss' d) (sign (codes "}")) us))
+
+  -- each on a line of its own
+  pub lined_tokens : {ss : List Node} → AreStatements ss → ℕ → Items → Items
+  lined_tokens no_statements d us = us
+  lined_tokens (more_statements s ss) d us = statement_tokens s d (line_at d) (lined_tokens ss d us)
 
 -- the trees without spans
 
@@ -269,13 +309,29 @@ abbrev pub bare_declarators : {ds : List Node} → AreDeclarators ds → List No
 bare_declarators no_declarators = []
 bare_declarators (more_declarators d ds) = bare_declarator d ∷ bare_declarators ds
 
-abbrev pub bare_statement : {s : Node} → IsStatement s → Node
-bare_statement (empty at) = bare kind.EmptyStmt []
-bare_statement (debugger_word at) = bare kind.DebuggerStmt []
-bare_statement (throw at e) = bare kind.ThrowStmt (bare_expression e ∷ [])
-bare_statement (return_value at e) = bare kind.ReturnStmt (bare_expression e ∷ [])
-bare_statement (return_nothing at a) = bare kind.ReturnStmt (absent ∷ [])
-bare_statement (break_nothing at a) = bare kind.BreakStmt (absent ∷ [])
-bare_statement (continue_nothing at a) = bare kind.ContinueStmt (absent ∷ [])
-bare_statement (expression at e) = bare kind.ExprStmt (bare_expression e ∷ [])
-bare_statement (declaration at at' {k = k} w d ds) = bare (kind.VarDecl k false) (list_node (bare_declarator d ∷ bare_declarators ds) ∷ [])
+abbrev mutual
+  pub bare_statement : {ending : Ending} {s : Node} → IsStatement ending s → Node
+  bare_statement (empty at) = bare kind.EmptyStmt []
+  bare_statement (debugger_word at) = bare kind.DebuggerStmt []
+  bare_statement (throw at e) = bare kind.ThrowStmt (bare_expression e ∷ [])
+  bare_statement (return_value at e) = bare kind.ReturnStmt (bare_expression e ∷ [])
+  bare_statement (return_nothing at a) = bare kind.ReturnStmt (absent ∷ [])
+  bare_statement (break_nothing at a) = bare kind.BreakStmt (absent ∷ [])
+  bare_statement (continue_nothing at a) = bare kind.ContinueStmt (absent ∷ [])
+  bare_statement (expression at e) = bare kind.ExprStmt (bare_expression e ∷ [])
+  bare_statement (declaration at at' k d ds) = bare (kind.VarDecl k false) (list_node (bare_declarator d ∷ bare_declarators ds) ∷ [])
+  bare_statement (break_label at i) = bare kind.BreakStmt (bare_ident i ∷ [])
+  bare_statement (continue_label at i) = bare kind.ContinueStmt (bare_ident i ∷ [])
+  bare_statement (block b) = bare_block b
+  bare_statement (if_only at e b a) = bare kind.IfStmt (bare_expression e ∷ bare_statement b ∷ absent ∷ [])
+  bare_statement (if_else at e b a) = bare kind.IfStmt (bare_expression e ∷ bare_statement b ∷ bare_statement a ∷ [])
+  bare_statement (while_loop at e b) = bare kind.WhileStmt (bare_expression e ∷ bare_statement b ∷ [])
+  bare_statement (do_loop at e b) = bare kind.DoWhileStmt (bare_expression e ∷ bare_statement b ∷ [])
+  bare_statement (labeled at i b) = bare kind.LabeledStmt (bare_ident i ∷ bare_statement b ∷ [])
+
+  pub bare_block : {b : Node} → IsBlock b → Node
+  bare_block (block_of at at' ss) = bare kind.BlockStmt (list_node (bare_statements ss) ∷ [])
+
+  pub bare_statements : {ss : List Node} → AreStatements ss → List Node
+  bare_statements no_statements = []
+  bare_statements (more_statements s ss) = bare_statement s ∷ bare_statements ss

@@ -1,0 +1,56 @@
+-- Statements by their shape.
+use Rattle.std.proofs.Common.{ℕ, suc, Bool, List, ap}
+use Rattle.ecma_tree.specs.declared.node.Node.{Node}
+use Rattle.ecma_reread.specs.Machine.{taken}
+use Rattle.ecma_reread.specs.Shapes as shapes
+use Rattle.ecma_reread.specs.Shapes.{IsInitializer, IsDeclarator, AreDeclarators, Ending, IsStatement, IsBlock, AreStatements}
+use Rattle.ecma_reread.specs.Tokens.{line_at, ident_word, closing_gap, is_braced, branch_gap, statement_tokens, block_tokens, lined_tokens, bare_statement, bare_block, bare_statements}
+use Rattle.ecma_reread.proofs.Bindings.{standing}
+use Rattle.ecma_reread.proofs.Joins.{no_new_line, no_brace}
+use Rattle.ecma_reread.proofs.Calls.{ident_free, expression_form}
+use Rattle.ecma_reread.proofs.Statements.{ReadAsStatement, expression_statement_form}
+use Rattle.ecma_reread.proofs.Variables.{InitializerForm, DeclaratorForm, DeclaratorForms, declaration_form}
+use Rattle.ecma_reread.proofs.Jumps.{empty_form, debugger_form, return_form, break_form, continue_form, throw_form, return_value_form}
+use Rattle.ecma_reread.proofs.Blocks.{ReadAsStatements, no_statements_form, more_statements_form, ReadAsBlock, braces_form, block_statement}
+use Rattle.ecma_reread.proofs.Branches.{if_form, if_else_form}
+use Rattle.ecma_reread.proofs.Loops.{while_form, do_form}
+use Rattle.ecma_reread.proofs.Labels.{labeled_form, break_label_form, continue_label_form}
+
+module _ (assigned : Bool) where
+  initializer_form : {n : Node} (is : IsInitializer n) → InitializerForm assigned is
+  initializer_form (shapes.no_initializer a) = tt
+  initializer_form (shapes.initializer e) = expression_form assigned e
+
+  declarator_form : {n : Node} (is : IsDeclarator n) → DeclaratorForm assigned is
+  declarator_form (shapes.declarator at at' i a e) = initializer_form e
+
+  declarator_forms : {ds : List Node} (is : AreDeclarators ds) → DeclaratorForms assigned is
+  declarator_forms shapes.no_declarators = tt
+  declarator_forms (shapes.more_declarators d ds) = (declarator_form d, declarator_forms ds)
+
+  mutual
+    pub statement_form : {ending : Ending} {n : Node} (is : IsStatement ending n) (d : ℕ) → ReadAsStatement assigned ending (statement_tokens is d) (bare_statement is)
+    statement_form (shapes.empty at) d = empty_form assigned
+    statement_form (shapes.debugger_word at) d = debugger_form assigned
+    statement_form (shapes.throw at e) d = throw_form assigned (standing assigned (expression_form assigned e)) (λ us. no_new_line e us)
+    statement_form (shapes.return_value at e) d = return_value_form assigned (standing assigned (expression_form assigned e)) (λ us. no_new_line e us)
+    statement_form (shapes.return_nothing at a) d = return_form assigned
+    statement_form (shapes.break_nothing at a) d = break_form assigned
+    statement_form (shapes.continue_nothing at a) d = continue_form assigned
+    statement_form (shapes.expression at e) d = expression_statement_form assigned (standing assigned (expression_form assigned e)) (λ g us. ap taken (no_brace e g us))
+    statement_form (shapes.declaration at at' k i is) d = declaration_form assigned k i is (declarator_form i) (declarator_forms is)
+    statement_form (shapes.break_label at i) d = break_label_form assigned (ident_word i) (ident_free assigned i)
+    statement_form (shapes.continue_label at i) d = continue_label_form assigned (ident_word i) (ident_free assigned i)
+    statement_form (shapes.block b) d = block_statement assigned (block_form b d)
+    statement_form (shapes.if_only at e b a) d = if_form assigned (standing assigned (expression_form assigned e)) (statement_form b d)
+    statement_form (shapes.if_else at e b a) d = if_else_form assigned (standing assigned (expression_form assigned e)) (statement_form b d) (statement_form a d) (branch_gap (is_braced b) d)
+    statement_form (shapes.while_loop at e b) d = while_form assigned (standing assigned (expression_form assigned e)) (statement_form b d)
+    statement_form (shapes.do_loop at e b) d = do_form assigned (standing assigned (expression_form assigned e)) (statement_form b d) (branch_gap (is_braced b) d)
+    statement_form (shapes.labeled at i b) d = labeled_form assigned (ident_word i) (ident_free assigned i) (standing assigned (expression_form assigned (shapes.name i))) (statement_form b d)
+
+    block_form : {n : Node} (is : IsBlock n) (d : ℕ) → ReadAsBlock assigned (block_tokens is d) (bare_block is)
+    block_form (shapes.block_of at at' {ss = ss'} ss) d = braces_form assigned (statement_forms ss (suc d)) (closing_gap ss' d)
+
+    statement_forms : {ss : List Node} (is : AreStatements ss) (d : ℕ) → ReadAsStatements assigned (lined_tokens is d) (bare_statements is)
+    statement_forms shapes.no_statements d = no_statements_form assigned
+    statement_forms (shapes.more_statements s ss) d = more_statements_form assigned (statement_form s d) (statement_forms ss d) (line_at d)

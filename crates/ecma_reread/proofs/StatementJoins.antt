@@ -1,0 +1,144 @@
+-- The tokens of statements are good: each joins the next.
+use Rattle.std.proofs.Common.{◌≡◌, ℕ, zero, suc, ◌&&◌, Bool, true, false, List, [], ◌∷◌, codes, refl, ap₂, ◌∙◌}
+use Rattle.std.specs.List.{list_all}
+use Rattle.std.proofs.lemmas.List.Folds.{list_all-append}
+use Rattle.ecma_lex.specs.Keys.{key_end}
+use Rattle.ecma_lex.specs.Punctuators.{punctuators}
+use Rattle.ecma_kind.specs.declared.operators.VarDeclKind.{VarDeclKind}
+use Rattle.ecma_kind.specs.declared.operators.VarDeclKind.TheVariants.{Var, Let, Const}
+use Rattle.ecma_tree.specs.declared.node.Node.{Node}
+use Rattle.ecma_print.specs.Statements.{keyword}
+use Rattle.ecma_tokens.specs.Items as items
+use Rattle.ecma_tokens.specs.Items.{Tok, sign, Gap, no_gap, Items, it}
+use Rattle.ecma_tokens.specs.Good.{IsGap, IsToken, is_gap_character}
+use Rattle.ecma_tokens.specs.Joins.{joins, joins_next, Joined}
+use Rattle.ecma_reread.specs.Shapes as shapes
+use Rattle.ecma_reread.specs.Shapes.{Level, IsExpression, Ending, IsStatement, IsBlock, AreStatements}
+use Rattle.ecma_reread.specs.Tokens.{margin, line_at, blank, sign_of, expression_tokens, ident_word, declarators_tokens, closing_gap, is_braced, branch_gap, test_tokens, statement_tokens, block_tokens, lined_tokens}
+use Rattle.ecma_reread.proofs.Joins.{begun, closing, semicolon, ident_whole, blank_joins, opening_joins, no_gap_is, blank_is, Words, expression_joined, declarators_soft, declarator_joined, declarators_joined}
+
+-- gaps that keep any two tokens apart
+abbrev pub Wide : Gap → Type 0
+Wide g = (t u : Tok) → joins t g u ≡ true
+
+pub line_wide : (d : ℕ) → Wide (line_at d)
+line_wide d t u = refl
+
+blank_wide : Wide blank
+blank_wide t u = refl
+
+margin_blank : (d : ℕ) → list_all is_gap_character (margin d) ≡ true
+margin_blank zero = refl
+margin_blank (suc d) = list_all-append is_gap_character (margin d) (codes "    ") ∙ ap₂ (λ a b. a && b) (margin_blank d) refl
+
+pub line_is : (d : ℕ) → IsGap (line_at d)
+line_is d = record { blank = margin_blank d; told = refl }
+
+-- any token may stand in front of these
+abbrev pub Apart : Items → Type 0
+Apart us = (t : Tok) → joins_next t us ≡ true
+
+block_apart : {n : Node} (is : IsBlock n) (d : ℕ) (g : Gap) → Wide g → (us : Items) → Apart (block_tokens is d g us)
+block_apart (shapes.block_of at at' ss) d g w us t = w t (sign (codes "{"))
+
+pub statement_apart : {ending : Ending} {n : Node} (is : IsStatement ending n) (d : ℕ) (g : Gap) → Wide g → (us : Items) → Apart (statement_tokens is d g us)
+statement_apart (shapes.expression at e) d g w us t = let b = begun e (sign_of (codes ";") us) in rw (b.is g) (w t b.first)
+statement_apart (shapes.declaration at at' k i is) d g w us t = w t (items.key (keyword k))
+statement_apart (shapes.empty at) d g w us t = w t (sign (codes ";"))
+statement_apart (shapes.debugger_word at) d g w us t = w t (items.key (codes "debugger"))
+statement_apart (shapes.throw at e) d g w us t = w t (items.key (codes "throw"))
+statement_apart (shapes.return_value at e) d g w us t = w t (items.key (codes "return"))
+statement_apart (shapes.return_nothing at a) d g w us t = w t (items.key (codes "return"))
+statement_apart (shapes.break_nothing at a) d g w us t = w t (items.key (codes "break"))
+statement_apart (shapes.continue_nothing at a) d g w us t = w t (items.key (codes "continue"))
+statement_apart (shapes.break_label at i) d g w us t = w t (items.key (codes "break"))
+statement_apart (shapes.continue_label at i) d g w us t = w t (items.key (codes "continue"))
+statement_apart (shapes.block b) d g w us t = block_apart b d g w us t
+statement_apart (shapes.if_only at e b a) d g w us t = w t (items.key (codes "if"))
+statement_apart (shapes.if_else at e b a) d g w us t = w t (items.key (codes "if"))
+statement_apart (shapes.while_loop at e b) d g w us t = w t (items.key (codes "while"))
+statement_apart (shapes.do_loop at e b) d g w us t = w t (items.key (codes "do"))
+statement_apart (shapes.labeled at i b) d g w us t = w t (items.key (ident_word i))
+
+lined_apart : {ss : List Node} (is : AreStatements ss) (d : ℕ) (us : Items) (t : Tok) → joins_next t us ≡ true → joins_next t (lined_tokens is d us) ≡ true
+lined_apart shapes.no_statements d us t a = a
+lined_apart (shapes.more_statements s ss) d us t a = statement_apart s d (line_at d) (line_wide d) (lined_tokens ss d us) t
+
+lined_empty : {ss : List Node} (is : AreStatements ss) (d : ℕ) (us : Items) → ss ≡ [] → lined_tokens is d us ≡ us
+lined_empty shapes.no_statements d us e = refl
+lined_empty (shapes.more_statements s ss) d us e = cc
+
+branch_is : (after_block : Bool) (d : ℕ) → IsGap (branch_gap after_block d)
+branch_is true d = blank_is
+branch_is false d = line_is d
+
+branch_apart : (after_block : Bool) (d : ℕ) (u : Tok) (us : Items) → Apart (it (branch_gap after_block d) u us)
+branch_apart true d u us t = refl
+branch_apart false d u us t = refl
+
+module _ (words : Words) where
+  pub ended : (us : Items) → Apart us → Joined us → Joined (sign_of (codes ";") us)
+  unfolding punctuators
+  ended us a j = (no_gap_is, refl, a (sign (codes ";")), j)
+
+  keyword_whole : (k : VarDeclKind) → IsToken key_end (keyword k)
+  keyword_whole Var = words.var_whole
+  keyword_whole Let = words.let_whole
+  keyword_whole Const = words.const_whole
+
+  -- several in braces, where each is on a line of its own
+  braces_joined : (ss : List Node) (d : ℕ) (f : Items → Items) → ((vs : Items) → ss ≡ [] → f vs ≡ vs) → ((vs : Items) → Apart vs → joins_next (sign (codes "{")) (f vs) ≡ true) → ((vs : Items) → Apart vs → Joined vs → Joined (f vs))
+      → (g : Gap) → IsGap g → (us : Items) → Apart us → Joined us → Joined (it g (sign (codes "{")) (f (it (closing_gap ss d) (sign (codes "}")) us)))
+  unfolding punctuators
+  braces_joined [] d f e o k g h us a j = rw (e (it no_gap (sign (codes "}")) us) refl) (h, refl, refl, (no_gap_is, refl, a (sign (codes "}")), j))
+  braces_joined (x ∷ xs) d f e o k g h us a j =
+      let vs = it (line_at d) (sign (codes "}")) us in
+      let b : Apart vs = λ t. line_wide d t (sign (codes "}")) in
+      (h, refl, o vs b, k vs b (line_is d, refl, a (sign (codes "}")), j))
+
+  test_joined : {level : Level} {e : Node} (is : IsExpression level e) (us : Items) → joins_next (sign (codes ")")) us ≡ true → Joined us → Joined (test_tokens is us)
+  unfolding punctuators
+  test_joined is us a j = (blank_is, refl, opening_joins is (sign_of (codes ")") us), expression_joined words is no_gap no_gap_is (sign_of (codes ")") us) closing (no_gap_is, refl, a, j))
+
+  mutual
+    unfolding punctuators
+
+    pub statement_joined : {ending : Ending} {n : Node} (is : IsStatement ending n) (d : ℕ) (g : Gap) → IsGap g → (us : Items) → Apart us → Joined us → Joined (statement_tokens is d g us)
+    statement_joined (shapes.empty at) d g h us a j = (h, refl, a (sign (codes ";")), j)
+    statement_joined (shapes.debugger_word at) d g h us a j = (h, words.debugger_whole, refl, ended us a j)
+    statement_joined (shapes.throw at e) d g h us a j =
+        (h, words.throw_whole, blank_joins (items.key (codes "throw")) e (sign_of (codes ";") us), expression_joined words e blank blank_is (sign_of (codes ";") us) semicolon (ended us a j))
+    statement_joined (shapes.return_value at e) d g h us a j =
+        (h, words.return_whole, blank_joins (items.key (codes "return")) e (sign_of (codes ";") us), expression_joined words e blank blank_is (sign_of (codes ";") us) semicolon (ended us a j))
+    statement_joined (shapes.return_nothing at n) d g h us a j = (h, words.return_whole, refl, ended us a j)
+    statement_joined (shapes.break_nothing at n) d g h us a j = (h, words.break_whole, refl, ended us a j)
+    statement_joined (shapes.continue_nothing at n) d g h us a j = (h, words.continue_whole, refl, ended us a j)
+    statement_joined (shapes.expression at e) d g h us a j = expression_joined words e g h (sign_of (codes ";") us) semicolon (ended us a j)
+    statement_joined (shapes.declaration at at' k (shapes.declarator p q i c e) ds) d g h us a j =
+        (h, keyword_whole k, refl, declarator_joined words (shapes.declarator p q i c e) (declarators_tokens ds (sign_of (codes ";") us)) (λ n. declarators_soft words ds n us) (declarators_joined words ds us (ended us a j)))
+    statement_joined (shapes.break_label at i) d g h us a j = (h, words.break_whole, refl, (blank_is, ident_whole i, refl, ended us a j))
+    statement_joined (shapes.continue_label at i) d g h us a j = (h, words.continue_whole, refl, (blank_is, ident_whole i, refl, ended us a j))
+    statement_joined (shapes.block b) d g h us a j = block_joined b d g h us a j
+    statement_joined (shapes.if_only at e b n) d g h us a j =
+        (h, words.if_whole, refl, test_joined e (statement_tokens b d blank us) (statement_apart b d blank blank_wide us (sign (codes ")"))) (statement_joined b d blank blank_is us a j))
+    statement_joined (shapes.if_else at e b c) d g h us a j =
+        let cs = statement_tokens c d blank us in
+        let es = it (branch_gap (is_braced b) d) (items.key (codes "else")) cs in
+        let rest : Joined es = (branch_is (is_braced b) d, words.else_whole, statement_apart c d blank blank_wide us (items.key (codes "else")), statement_joined c d blank blank_is us a j) in
+        (h, words.if_whole, refl, test_joined e (statement_tokens b d blank es) (statement_apart b d blank blank_wide es (sign (codes ")"))) (statement_joined b d blank blank_is es (branch_apart (is_braced b) d (items.key (codes "else")) cs) rest))
+    statement_joined (shapes.while_loop at e b) d g h us a j =
+        (h, words.while_whole, refl, test_joined e (statement_tokens b d blank us) (statement_apart b d blank blank_wide us (sign (codes ")"))) (statement_joined b d blank blank_is us a j))
+    statement_joined (shapes.do_loop at e b) d g h us a j =
+        let ts = test_tokens e (sign_of (codes ";") us) in
+        let ws = it (branch_gap (is_braced b) d) (items.key (codes "while")) ts in
+        let rest : Joined ws = (branch_is (is_braced b) d, words.while_whole, refl, test_joined e (sign_of (codes ";") us) refl (ended us a j)) in
+        (h, words.do_whole, statement_apart b d blank blank_wide ws (items.key (codes "do")), statement_joined b d blank blank_is ws (branch_apart (is_braced b) d (items.key (codes "while")) ts) rest)
+    statement_joined (shapes.labeled at i b) d g h us a j = (h, ident_whole i, refl, (no_gap_is, refl, statement_apart b d blank blank_wide us (sign (codes ":")), statement_joined b d blank blank_is us a j))
+
+    block_joined : {n : Node} (is : IsBlock n) (d : ℕ) (g : Gap) → IsGap g → (us : Items) → Apart us → Joined us → Joined (block_tokens is d g us)
+    block_joined (shapes.block_of at at' {ss = ss'} ss) d g h us a j =
+        braces_joined ss' d (lined_tokens ss (suc d)) (λ vs e. lined_empty ss (suc d) vs e) (λ vs b. lined_apart ss (suc d) vs (sign (codes "{")) (b (sign (codes "{")))) (lined_joined ss (suc d)) g h us a j
+
+    lined_joined : {ss : List Node} (is : AreStatements ss) (d : ℕ) (us : Items) → Apart us → Joined us → Joined (lined_tokens is d us)
+    lined_joined shapes.no_statements d us a j = j
+    lined_joined (shapes.more_statements s ss) d us a j = statement_joined s d (line_at d) (line_is d) (lined_tokens ss d us) (λ t. lined_apart ss d us t (a t)) (lined_joined ss d us a j)

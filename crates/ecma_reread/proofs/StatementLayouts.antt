@@ -1,0 +1,196 @@
+-- The layout of a statement is the text of its tokens.
+use Rattle.std.proofs.Common.{◌≡◌, ℕ, suc, Bool, true, false, List, [], ◌∷◌, ◌++◌, map, codes, refl, ap, sym, ◌∙◌}
+use Rattle.std.proofs.lemmas.Bool.{false≢true}
+use Rattle.ecma_kind.specs.declared.operators.VarDeclKind.{VarDeclKind}
+use Rattle.ecma_kind.specs.declared.operators.VarDeclKind.TheVariants.{Var, Let, Const}
+use Rattle.ecma_kind.specs.declared.kind.Kind.{Kind}
+use Rattle.ecma_kind.specs.declared.kind.Kind.TheVariants as kind
+use Rattle.ecma_kind.specs.declared.span.Span.{Span}
+use Rattle.ecma_tree.specs.declared.node.Node.{Node, fold_out-Node}
+use Rattle.ecma_tree.specs.Nodes.{node_of}
+use Rattle.ecma_print.specs.declared.place.Begins.TheVariants.{StatementStart}
+use Rattle.ecma_print.specs.declared.place.Between.{Between}
+use Rattle.ecma_print.specs.declared.place.Between.TheVariants.{Blank, Else, LineElse}
+use Rattle.ecma_print.specs.declared.place.Spot.{Spot}
+use Rattle.ecma_print.specs.declared.place.Place.TheVariants.{At, Within, Block, Commas}
+use Rattle.ecma_print.specs.Places.{before, after, free, beginning}
+use Rattle.ecma_print.specs.Laid.{Laid, is_block}
+use Rattle.ecma_print.specs.Lists.{new_lines, block}
+use Rattle.ecma_print.specs.Statements.{else_behind, behind_body, keyword}
+use Rattle.ecma_print.specs.Layout.{in_place, lay_step, laid}
+use Rattle.ecma_tokens.specs.Items as items
+use Rattle.ecma_tokens.specs.Items.{sign, Gap, no_gap, Items, it, render}
+use Rattle.ecma_reread.specs.Shapes as shapes
+use Rattle.ecma_reread.specs.Shapes.{Level, IsExpression, IsDeclarator, AreDeclarators, Ending, IsStatement, IsBlock, AreStatements}
+use Rattle.ecma_reread.specs.Tokens.{margin, line_at, blank, sign_of, expression_tokens, declarator_tokens, declarators_tokens, closing_gap, is_braced, branch_gap, test_tokens, statement_tokens, block_tokens, lined_tokens}
+use Rattle.ecma_reread.proofs.Layouts.{laid_node, at_node, calm_0, calm_start, gap_out, expression_laid, within_laid, declarator_laid, more_declarators_laid}
+
+-- an expression behind a word, and the end of the statement
+argument_laid : {level : Level} {e : Node} (is : IsExpression level e) (m : List ℕ) (us : Items) → (laid e).at (Within Blank (free 0)) m (codes ";" ++ render us) ≡ render (expression_tokens is blank (sign_of (codes ";") us))
+unfolding render
+argument_laid {level} is m us =
+    within_laid is Blank (free 0) m (codes ";" ++ render us)
+    ∙ (ap (λ z. codes " " ++ z) (expression_laid is (free 0) (calm_0 level) m (sign_of (codes ";") us)) ∙ sym (gap_out is blank (sign_of (codes ";") us)))
+
+keyword_laid : (k : VarDeclKind) {d : Node} {ds : List Node} (is : IsDeclarator d) (more : AreDeclarators ds) (at at' : Span) (m : List ℕ) (us : Items)
+    → (laid (node_of at (kind.VarDecl k false) (node_of at' kind.List (d ∷ ds) ∷ []))).at (At (free 0)) m (render us) ≡ keyword k ++ render (declarator_tokens is (declarators_tokens more (sign_of (codes ";") us)))
+unfolding render
+keyword_laid k {d = d'} {ds = ds'} is more at at' m us =
+    at_node at (kind.VarDecl k false) (node_of at' kind.List (d' ∷ ds') ∷ []) (At (free 0)) m (render us)
+    ∙ (ap (λ z. keyword k ++ (codes " " ++ z)) (at_node at' kind.List (d' ∷ ds') (Commas (free 1)) m (codes ";" ++ render us))
+    ∙ ap (λ z. keyword k ++ z) (ap (λ z. codes " " ++ (laid d').at (At (free 1)) m z) (more_declarators_laid more m us) ∙ declarator_laid is m (declarators_tokens more (sign_of (codes ";") us))))
+
+-- several in braces, where each is on a line of its own
+in_braces : (ss : List Node) (d : ℕ) (f : Items → Items) → ((vs : Items) → new_lines (map laid ss) (margin (suc d)) (render vs) ≡ render (f vs)) → (us : Items)
+    → block (map laid ss) (margin d) (render us) ≡ codes "{" ++ render (f (it (closing_gap ss d) (sign (codes "}")) us))
+unfolding render
+in_braces [] d f h us = ap (λ z. codes "{" ++ z) (h (it no_gap (sign (codes "}")) us))
+in_braces (x ∷ xs) d f h us = ap (λ z. codes "{" ++ z) (h (it (line_at d) (sign (codes "}")) us))
+
+-- a node that is there, and no list
+abbrev is_there : Kind → Bool
+is_there kind.Absent = false
+is_there kind.List = false
+is_there k = true
+
+within_placed : (k : Kind) (cs : List Laid) → is_there k ≡ true → (between : Between) (spot : Spot) (m rest : List ℕ) → in_place k cs (Within between spot) m rest ≡ before between m (in_place k cs (At spot) m (after between m rest))
+within_placed kind.Absent cs h between spot m rest = absurd (false≢true h)
+within_placed kind.List cs h between spot m rest = absurd (false≢true h)
+within_placed k cs h between spot m rest = refl
+
+-- with what stands before and behind it
+within_there : (n : Node) → is_there (laid n).kind ≡ true → (between : Between) (spot : Spot) (m rest : List ℕ) → (laid n).at (Within between spot) m rest ≡ before between m ((laid n).at (At spot) m (after between m rest))
+within_there n h between spot m rest =
+    let e = fold_out-Node Laid lay_step n in
+    ap (λ x. x.at (Within between spot) m rest) e
+    ∙ (within_placed _ _ (sym (ap (λ x. is_there x.kind) e) ∙ h) between spot m rest ∙ ap (λ x. before between m (x.at (At spot) m (after between m rest))) (sym e))
+
+-- what the layout of a statement asks of its kind
+record Seen (n : Node) (braced : Bool) : Type 0 where
+  pub there : is_there (laid n).kind ≡ true
+  pub block_is : is_block (laid n).kind ≡ braced
+
+seen : (at : Span) (k : Kind) (cs : List Node) (braced : Bool) → is_there k ≡ true → is_block k ≡ braced → Seen (node_of at k cs) braced
+seen at k cs braced h e = record { there = ap (λ x. is_there x.kind) (laid_node at k cs) ∙ h; block_is = ap (λ x. is_block x.kind) (laid_node at k cs) ∙ e }
+
+statement_seen : {ending : Ending} {n : Node} (is : IsStatement ending n) → Seen n (is_braced is)
+statement_seen (shapes.expression at e) = seen at _ _ false refl refl
+statement_seen (shapes.declaration at at' k i is) = seen at _ _ false refl refl
+statement_seen (shapes.empty at) = seen at _ _ false refl refl
+statement_seen (shapes.debugger_word at) = seen at _ _ false refl refl
+statement_seen (shapes.throw at e) = seen at _ _ false refl refl
+statement_seen (shapes.return_value at e) = seen at _ _ false refl refl
+statement_seen (shapes.return_nothing at a) = seen at _ _ false refl refl
+statement_seen (shapes.break_nothing at a) = seen at _ _ false refl refl
+statement_seen (shapes.continue_nothing at a) = seen at _ _ false refl refl
+statement_seen (shapes.break_label at i) = seen at _ _ false refl refl
+statement_seen (shapes.continue_label at i) = seen at _ _ false refl refl
+statement_seen (shapes.block (shapes.block_of at at' ss)) = seen at _ _ true refl refl
+statement_seen (shapes.if_only at e b a) = seen at _ _ false refl refl
+statement_seen (shapes.if_else at e b a) = seen at _ _ false refl refl
+statement_seen (shapes.while_loop at e b) = seen at _ _ false refl refl
+statement_seen (shapes.do_loop at e b) = seen at _ _ false refl refl
+statement_seen (shapes.labeled at i b) = seen at _ _ false refl refl
+
+-- a body behind a blank
+body_laid : {n : Node} {braced : Bool} → Seen n braced → (m : List ℕ) (us ts : Items) → render ts ≡ codes " " ++ (laid n).at (At (free 0)) m (render us) → (laid n).at (Within Blank (free 0)) m (render us) ≡ render ts
+body_laid {n} s m us ts e = within_there n s.there Blank (free 0) m (render us) ∙ sym e
+
+-- `else` behind a body
+else_laid : (after_block : Bool) {n : Node} {braced : Bool} → Seen n braced → (d : ℕ) (us ts : Items) → render ts ≡ codes " " ++ (laid n).at (At (free 0)) (margin d) (render us)
+    → (laid n).at (Within (else_behind after_block) (free 0)) (margin d) (render us) ≡ render (it (branch_gap after_block d) (items.key (codes "else")) ts)
+unfolding render
+else_laid true {n} s d us ts e = within_there n s.there Else (free 0) (margin d) (render us) ∙ ap (λ z. codes " else" ++ z) (sym e)
+else_laid false {n} s d us ts e = within_there n s.there LineElse (free 0) (margin d) (render us) ∙ ap (λ z. codes "\n" ++ (margin d ++ (codes "else" ++ z))) (sym e)
+
+branch_text : (after_block : Bool) (d : ℕ) (x : List ℕ) → behind_body after_block (margin d) x ≡ (let g = branch_gap after_block d in g.blanks ++ x)
+branch_text true d x = refl
+branch_text false d x = refl
+
+-- `(`, a test, `)`
+test_laid : {level : Level} {e : Node} (is : IsExpression level e) (m : List ℕ) (us : Items) → codes " (" ++ (laid e).at (At (free 0)) m (codes ")" ++ render us) ≡ render (test_tokens is us)
+unfolding render
+test_laid {level} is m us = ap (λ z. codes " (" ++ z) (expression_laid is (free 0) (calm_0 level) m (sign_of (codes ")") us))
+
+mutual
+  unfolding render
+
+  pub statement_laid : {ending : Ending} {n : Node} (is : IsStatement ending n) (d : ℕ) (g : Gap) (us : Items) → render (statement_tokens is d g us) ≡ g.blanks ++ (laid n).at (At (free 0)) (margin d) (render us)
+  statement_laid (shapes.empty at) d g us = ap (λ z. g.blanks ++ z) (sym (at_node at kind.EmptyStmt [] (At (free 0)) (margin d) (render us)))
+  statement_laid (shapes.debugger_word at) d g us = ap (λ z. g.blanks ++ z) (sym (at_node at kind.DebuggerStmt [] (At (free 0)) (margin d) (render us)))
+  statement_laid (shapes.throw at {e = e'} e) d g us =
+      ap (λ z. g.blanks ++ z) (sym (at_node at kind.ThrowStmt (e' ∷ []) (At (free 0)) (margin d) (render us) ∙ ap (λ z. codes "throw" ++ z) (argument_laid e (margin d) us)))
+  statement_laid (shapes.return_value at {e = e'} e) d g us =
+      ap (λ z. g.blanks ++ z) (sym (at_node at kind.ReturnStmt (e' ∷ []) (At (free 0)) (margin d) (render us) ∙ ap (λ z. codes "return" ++ z) (argument_laid e (margin d) us)))
+  statement_laid (shapes.return_nothing at (shapes.absent at')) d g us =
+      ap (λ z. g.blanks ++ z)
+      (sym (at_node at kind.ReturnStmt (node_of at' kind.Absent [] ∷ []) (At (free 0)) (margin d) (render us) ∙ ap (λ z. codes "return" ++ z) (at_node at' kind.Absent [] (Within Blank (free 0)) (margin d) (codes ";" ++ render us))))
+  statement_laid (shapes.break_nothing at (shapes.absent at')) d g us =
+      ap (λ z. g.blanks ++ z)
+      (sym (at_node at kind.BreakStmt (node_of at' kind.Absent [] ∷ []) (At (free 0)) (margin d) (render us) ∙ ap (λ z. codes "break" ++ z) (at_node at' kind.Absent [] (Within Blank (free 0)) (margin d) (codes ";" ++ render us))))
+  statement_laid (shapes.continue_nothing at (shapes.absent at')) d g us =
+      ap (λ z. g.blanks ++ z)
+      (sym (at_node at kind.ContinueStmt (node_of at' kind.Absent [] ∷ []) (At (free 0)) (margin d) (render us) ∙ ap (λ z. codes "continue" ++ z) (at_node at' kind.Absent [] (Within Blank (free 0)) (margin d) (codes ";" ++ render us))))
+  statement_laid (shapes.expression at {level = l} {e = e'} e) d g us =
+      gap_out e g (sign_of (codes ";") us)
+      ∙ ap (λ z. g.blanks ++ z)
+      (sym (at_node at kind.ExprStmt (e' ∷ []) (At (free 0)) (margin d) (render us)
+      ∙ expression_laid e (beginning 0 StatementStart false) (calm_start l) (margin d) (sign_of (codes ";") us)))
+  statement_laid (shapes.declaration at at' k i is) d g us = ap (λ z. g.blanks ++ z) (sym (keyword_laid k i is at at' (margin d) us))
+  statement_laid (shapes.break_label at (shapes.ident of w i)) d g us =
+      ap (λ z. g.blanks ++ z)
+      (sym (at_node at kind.BreakStmt (node_of of (kind.Ident w 0 false) [] ∷ []) (At (free 0)) (margin d) (render us) ∙ ap (λ z. codes "break" ++ z) (at_node of (kind.Ident w 0 false) [] (Within Blank (free 0)) (margin d) (codes ";" ++ render us))))
+  statement_laid (shapes.continue_label at (shapes.ident of w i)) d g us =
+      ap (λ z. g.blanks ++ z)
+      (sym (at_node at kind.ContinueStmt (node_of of (kind.Ident w 0 false) [] ∷ []) (At (free 0)) (margin d) (render us) ∙ ap (λ z. codes "continue" ++ z) (at_node of (kind.Ident w 0 false) [] (Within Blank (free 0)) (margin d) (codes ";" ++ render us))))
+  statement_laid (shapes.if_only at {test = t'} {body = b'} t b (shapes.absent at')) d g us =
+      let m = margin d in
+      let bs = statement_tokens b d blank us in
+      ap (λ z. g.blanks ++ z)
+      (sym (at_node at kind.IfStmt (t' ∷ b' ∷ node_of at' kind.Absent [] ∷ []) (At (free 0)) m (render us)
+      ∙ ap (λ z. codes "if" ++ z)
+      (ap (λ z. codes " (" ++ (laid t').at (At (free 0)) m (codes ")" ++ (laid b').at (Within Blank (free 0)) m z)) (at_node at' kind.Absent [] (Within (else_behind (is_block (laid b').kind)) (free 0)) m (render us))
+      ∙ (ap (λ z. codes " (" ++ (laid t').at (At (free 0)) m (codes ")" ++ z)) (body_laid (statement_seen b) m us (statement_tokens b d blank us) (statement_laid b d blank us)) ∙ test_laid t m bs))))
+  statement_laid (shapes.if_else at {test = t'} {body = b'} {alternative = a'} t b a) d g us =
+      let m = margin d in
+      let es = it (branch_gap (is_braced b) d) (items.key (codes "else")) (statement_tokens a d blank us) in
+      let bs = statement_tokens b d blank es in
+      let sb = statement_seen b in
+      ap (λ z. g.blanks ++ z)
+      (sym (at_node at kind.IfStmt (t' ∷ b' ∷ a' ∷ []) (At (free 0)) m (render us)
+      ∙ ap (λ z. codes "if" ++ z)
+      (ap (λ z. codes " (" ++ (laid t').at (At (free 0)) m (codes ")" ++ (laid b').at (Within Blank (free 0)) m z))
+      (ap (λ c. (laid a').at (Within (else_behind c) (free 0)) m (render us)) sb.block_is ∙ else_laid (is_braced b) (statement_seen a) d us (statement_tokens a d blank us) (statement_laid a d blank us))
+      ∙ (ap (λ z. codes " (" ++ (laid t').at (At (free 0)) m (codes ")" ++ z)) (body_laid sb m es bs (statement_laid b d blank es)) ∙ test_laid t m bs))))
+  statement_laid (shapes.while_loop at {test = t'} {body = b'} t b) d g us =
+      let m = margin d in
+      ap (λ z. g.blanks ++ z)
+      (sym (at_node at kind.WhileStmt (t' ∷ b' ∷ []) (At (free 0)) m (render us)
+      ∙ ap (λ z. codes "while" ++ z)
+      (ap (λ z. codes " (" ++ (laid t').at (At (free 0)) m (codes ")" ++ z)) (body_laid (statement_seen b) m us (statement_tokens b d blank us) (statement_laid b d blank us)) ∙ test_laid t m (statement_tokens b d blank us))))
+  statement_laid (shapes.do_loop at {test = t'} {body = b'} t b) d g us =
+      let m = margin d in
+      let ws = it (branch_gap (is_braced b) d) (items.key (codes "while")) (test_tokens t (sign_of (codes ";") us)) in
+      let sb = statement_seen b in
+      ap (λ z. g.blanks ++ z)
+      (sym (at_node at kind.DoWhileStmt (t' ∷ b' ∷ []) (At (free 0)) m (render us)
+      ∙ ap (λ z. codes "do" ++ z)
+      (ap (λ c. (laid b').at (Within Blank (free 0)) m (behind_body c m (codes "while (" ++ (laid t').at (At (free 0)) m (codes ");" ++ render us)))) sb.block_is
+      ∙ (ap (λ z. (laid b').at (Within Blank (free 0)) m z) (branch_text (is_braced b) d (codes "while (" ++ (laid t').at (At (free 0)) m (codes ");" ++ render us)) ∙ ap (λ z. (let h = branch_gap (is_braced b) d in h.blanks ++ (codes "while" ++ z))) (test_laid t m (sign_of (codes ";") us)))
+      ∙ body_laid sb m ws (statement_tokens b d blank ws) (statement_laid b d blank ws)))))
+  statement_laid (shapes.labeled at {body = b'} (shapes.ident of w i) b) d g us =
+      let m = margin d in
+      ap (λ z. g.blanks ++ z)
+      (sym (at_node at kind.LabeledStmt (node_of of (kind.Ident w 0 false) [] ∷ b' ∷ []) (At (free 0)) m (render us)
+      ∙ (at_node of (kind.Ident w 0 false) [] (At (free 0)) m (codes ": " ++ (laid b').at (At (free 0)) m (render us)) ∙ ap (λ z. w ++ (codes ":" ++ z)) (sym (statement_laid b d blank us)))))
+  statement_laid (shapes.block b) d g us = sym (block_laid b d g us)
+
+  block_laid : {n : Node} (is : IsBlock n) (d : ℕ) (g : Gap) (us : Items) → g.blanks ++ (laid n).at (At (free 0)) (margin d) (render us) ≡ render (block_tokens is d g us)
+  block_laid (shapes.block_of at at' {ss = ss'} ss) d g us =
+      ap (λ z. g.blanks ++ z)
+      (at_node at kind.BlockStmt (node_of at' kind.List ss' ∷ []) (At (free 0)) (margin d) (render us)
+      ∙ (at_node at' kind.List ss' Block (margin d) (render us) ∙ in_braces ss' d (lined_tokens ss (suc d)) (lined_laid ss (suc d)) us))
+
+  lined_laid : {ss : List Node} (is : AreStatements ss) (d : ℕ) (us : Items) → new_lines (map laid ss) (margin d) (render us) ≡ render (lined_tokens is d us)
+  lined_laid shapes.no_statements d us = refl
+  lined_laid (shapes.more_statements {s = s'} s ss) d us = ap (λ z. codes "\n" ++ (margin d ++ (laid s').at (At (free 0)) (margin d) z)) (lined_laid ss d us) ∙ sym (statement_laid s d (line_at d) (lined_tokens ss d us))

@@ -1,0 +1,137 @@
+-- Declarations of variables are read as they are laid out.
+use Rattle.std.proofs.Common.{◌≡◌, ℕ, Bool, true, false, List, [], ◌∷◌, codes, refl, ap, ◌∙◌}
+use Rattle.ecma_lex.specs.Keys.{is_reserved, reserved_words}
+use Rattle.ecma_kind.specs.declared.operators.VarDeclKind.{VarDeclKind}
+use Rattle.ecma_kind.specs.declared.operators.VarDeclKind.TheVariants.{Var, Let, Const}
+use Rattle.ecma_kind.specs.declared.kind.Kind.TheVariants as kind
+use Rattle.ecma_tree.specs.declared.node.Node.{Node}
+use Rattle.ecma_tree.specs.Nodes.{absent, list_node}
+use Rattle.ecma_grammar.specs.declared.production.Part.TheVariants as part
+use Rattle.ecma_grammar.specs.declared.production.Plain.TheVariants as plain
+use Rattle.ecma_grammar.specs.declared.production.Form.TheVariants as form
+use Rattle.ecma_grammar.specs.Made.{made}
+use Rattle.ecma_grammar.specs.Grammar as grammar
+use Rattle.ecma_grammar.specs.Grammar.{Grammar, ◌▸◌, ◌//◌, punct, word, maybe, whether, marked, node}
+use Rattle.ecma_grammar.specs.productions.Names as names
+use Rattle.ecma_grammar.specs.productions.Names.{assign_in, end}
+use Rattle.ecma_grammar.specs.productions.Types.{annotation}
+use Rattle.ecma_grammar.specs.productions.Patterns.{pattern_body}
+use Rattle.ecma_grammar.specs.productions.Functions as functions
+use Rattle.ecma_grammar.specs.productions.Classes as classes
+use Rattle.ecma_grammar.specs.productions.Declarations as declarations
+use Rattle.ecma_grammar.specs.productions.Declarations.{declarator, declarators, variables, declaration}
+use Rattle.ecma_grammar.specs.productions.Statements as statements
+use Rattle.ecma_grammar.specs.productions.Statements.{statement_body, labeled, expression_statement}
+use Rattle.ecma_grammar.specs.productions.Modules as modules
+use Rattle.ecma_grammar.specs.productions.Modules.{module_item}
+use Rattle.ecma_print.specs.Statements.{keyword}
+use Rattle.ecma_tokens.specs.Items as items
+use Rattle.ecma_tokens.specs.Items.{sign, Gap, Items, it}
+use Rattle.ecma_reread.specs.Machine.{read, with_front, followed_on, or_on, built_on, interp, means}
+use Rattle.ecma_reread.specs.Shapes as shapes
+use Rattle.ecma_reread.specs.Shapes.{IsInitializer, IsDeclarator, AreDeclarators}
+use Rattle.ecma_reread.specs.Tokens.{bare, blank, expression_tokens, expression_kind, expression_parts, ident_word, initializer_tokens, declarator_tokens, declarators_tokens, bare_initializer, bare_declarator, bare_declarators}
+use Rattle.ecma_reread.proofs.Levels.{means_is}
+use Rattle.ecma_reread.proofs.Fronts.{Front, exactly, Begins, at_token, refuses_at, refused_at}
+use Rattle.ecma_reread.proofs.Towers.{refuses_choices, Ends}
+use Rattle.ecma_reread.proofs.Heads.{nodes}
+use Rattle.ecma_reread.proofs.Forms.{s, Reads}
+use Rattle.ecma_reread.proofs.Bindings.{Stands, used}
+use Rattle.ecma_reread.proofs.Repeats.{Repeats, repeats_end, repeats_more, repeated}
+use Rattle.ecma_reread.proofs.Expressions.{comma_ends, semicolon_ends}
+use Rattle.ecma_reread.proofs.Calls.{ident_free}
+use Rattle.ecma_reread.proofs.Statements.{closes_statement, ReadAsStatement, token_form}
+
+-- the word of a declaration begins nothing that is tried before one
+record Declares (w : List ℕ) : Type 0 where
+  pub no_statement : refuses_choices 11 (exactly (items.key w)) statement_body ≡ true
+  pub no_item : refuses_choices 3 (exactly (items.key w)) module_item ≡ true
+  pub closes : closes_statement shapes.dangling (exactly (items.key w)) ≡ true
+
+keyword_declares : (k : VarDeclKind) → Declares (keyword k)
+unfolding statement_body names.block statements.if_ statements.for_await statements.for_ statements.while_ statements.do_while statements.switch statements.try_ statements.jump labeled module_item modules.import modules.import_equals modules.export modules.export_default is_reserved reserved_words
+keyword_declares Var = record { no_statement = refl; no_item = refl; closes = refl }
+keyword_declares Let = record { no_statement = refl; no_item = refl; closes = refl }
+keyword_declares Const = record { no_statement = refl; no_item = refl; closes = refl }
+
+-- a declaration that is none of variables
+abbrev other_declarations : Grammar
+other_declarations =
+    functions.function_declaration // classes.class_declaration // marked classes.abstract_class_declaration // marked declarations.type_alias // marked declarations.interface
+    // marked declarations.enum_ // marked declarations.namespace // marked (grammar.build form.Declared (grammar.behind_word (codes "declare") part.Declared))
+
+abbrev binding : List ℕ → Node
+binding w = bare kind.BindingIdent (bare (kind.Ident w 0 false) [] ∷ absent ∷ [])
+
+declarator_made : (w : List ℕ) (init : Node) → made form.Declarator 0 0 (binding w ∷ absent ∷ absent ∷ init ∷ []) ≡ bare (kind.VarDeclarator false) (binding w ∷ init ∷ [])
+declarator_made w init = simp nodes
+
+module _ (assigned : Bool) where
+  -- what is said of each value
+  abbrev pub InitializerForm : {n : Node} → IsInitializer n → Type 0
+  InitializerForm (shapes.no_initializer a) = Unit {0}
+  InitializerForm (shapes.initializer e) = Stands assigned shapes.assignment (expression_tokens e) (expression_kind e) (expression_parts e)
+
+  abbrev pub DeclaratorForm : {n : Node} → IsDeclarator n → Type 0
+  DeclaratorForm (shapes.declarator at at' i a e) = InitializerForm e
+
+  abbrev pub DeclaratorForms : {ds : List Node} → AreDeclarators ds → Type 0
+  DeclaratorForms shapes.no_declarators = Unit {0}
+  DeclaratorForms (shapes.more_declarators d ds) = DeclaratorForm d × DeclaratorForms ds
+
+  pattern_read : (w : List ℕ) → is_reserved w ≡ false → (g : Gap) (us : Items) → means assigned part.Pattern (it g (items.key w) us) ≡ read (binding w ∷ []) us
+  unfolding pattern_body names.binding_ident
+  pattern_read w n g us = rw (means_is assigned part.Pattern (it g (items.key w) us), n) refl
+
+  -- what follows a declarator
+  record Follows (us : Items) : Type 0 where
+    pub front : Front
+    pub begins : Begins front us
+    pub ends : Ends front
+    pub no_equals : refuses_at front (punct (codes "=")) ≡ true
+
+  initializer_read : {n : Node} (i : IsInitializer n) → InitializerForm i → (us : Items) → Follows us → Reads assigned (maybe (punct (codes "=") ▸ assign_in false)) (initializer_tokens i us) (bare_initializer i ∷ []) us
+  initializer_read (shapes.no_initializer a) S us F = rw (refused_at assigned (means assigned) (punct (codes "=")) F.front us F.begins F.no_equals) refl
+  initializer_read (shapes.initializer e) S us F = rw (used assigned S blank us F.front F.begins F.ends) refl
+
+  declarator_read : {n : Node} (d : IsDeclarator n) → DeclaratorForm d → (us : Items) → Follows us → Reads assigned (declarator false) (declarator_tokens d us) (bare_declarator d ∷ []) us
+  declarator_read (shapes.declarator at at' i a e) S us F =
+      ap (built_on form.Declarator) (ap (followed_on (interp assigned (means assigned) (whether (marked (punct (codes "!"))) ▸ annotation ▸ maybe (punct (codes "=") ▸ assign_in false)))) (pattern_read (ident_word i) (ident_free assigned i) blank (initializer_tokens e us))
+      ∙ ap (with_front (binding (ident_word i) ∷ [])) (ap (with_front (absent ∷ [])) (ap (with_front (absent ∷ [])) (initializer_read e S us F))))
+      ∙ ap (λ x. read (x ∷ []) us) (declarator_made (ident_word i) (bare_initializer e))
+
+  more_follow : {ds : List Node} (is : AreDeclarators ds) (us : Items) → Follows (declarators_tokens is (s (codes ";") us))
+  more_follow shapes.no_declarators us = record { front = exactly (sign (codes ";")); begins = at_token; ends = semicolon_ends; no_equals = refl }
+  more_follow (shapes.more_declarators d ds) us = record { front = exactly (sign (codes ",")); begins = at_token; ends = comma_ends; no_equals = refl }
+
+  more_read : {ds : List Node} (is : AreDeclarators ds) → DeclaratorForms is → (us : Items) → Repeats assigned (punct (codes ",") ▸ declarator false) (declarators_tokens is (s (codes ";") us)) (bare_declarators is) (s (codes ";") us)
+  more_read shapes.no_declarators S us = repeats_end assigned (punct (codes ",") ▸ declarator false) (s (codes ";") us) refl
+  more_read (shapes.more_declarators d ds) S us =
+      repeats_more assigned (punct (codes ",") ▸ declarator false) refl _ (declarators_tokens ds (s (codes ";") us)) (s (codes ";") us) (bare_declarator d ∷ []) (bare_declarators ds)
+      (ap (with_front []) (declarator_read d S.0 (declarators_tokens ds (s (codes ";") us)) (more_follow ds us))) (more_read ds S.1 us)
+
+  declarators_read : {d : Node} {ds : List Node} (i : IsDeclarator d) (is : AreDeclarators ds) → DeclaratorForm i → DeclaratorForms is → (us : Items)
+      → Reads assigned (declarators false ▸ end) (declarator_tokens i (declarators_tokens is (s (codes ";") us))) (list_node (bare_declarator i ∷ bare_declarators is) ∷ []) us
+  declarators_read i is S T us =
+      ap (followed_on (interp assigned (means assigned) end)) (ap (built_on form.List)
+      (ap (followed_on (interp assigned (means assigned) (grammar.many (punct (codes ",") ▸ declarator false)))) (declarator_read i S (declarators_tokens is (s (codes ";") us)) (more_follow is us))
+      ∙ ap (with_front (bare_declarator i ∷ [])) (repeated assigned (punct (codes ",") ▸ declarator false) (declarators_tokens is (s (codes ";") us)) (s (codes ";") us) (bare_declarators is) (more_read is T us))))
+
+  variables_read : (k : VarDeclKind) {d : Node} {ds : List Node} (i : IsDeclarator d) (is : AreDeclarators ds) → DeclaratorForm i → DeclaratorForms is → (g : Gap) (us : Items)
+      → Reads assigned (variables false end) (it g (items.key (keyword k)) (declarator_tokens i (declarators_tokens is (s (codes ";") us)))) (bare (kind.VarDecl k false) (list_node (bare_declarator i ∷ bare_declarators is) ∷ []) ∷ []) us
+  variables_read Var i is S T g us =
+      let ts = it g (items.key (codes "var")) (declarator_tokens i (declarators_tokens is (s (codes ";") us))) in
+      ap (or_on (interp assigned (means assigned) (node (plain.VarDecl Let) (word (codes "let") ▸ declarators false ▸ end) // node (plain.VarDecl Const) (word (codes "const") ▸ declarators false ▸ end))) ts)
+      (ap (built_on (form.Node (plain.VarDecl Var))) (ap (with_front []) (declarators_read i is S T us)))
+  variables_read Let i is S T g us =
+      ap (or_on (interp assigned (means assigned) (node (plain.VarDecl Const) (word (codes "const") ▸ declarators false ▸ end))) (it g (items.key (codes "let")) (declarator_tokens i (declarators_tokens is (s (codes ";") us)))))
+      (ap (built_on (form.Node (plain.VarDecl Let))) (ap (with_front []) (declarators_read i is S T us)))
+  variables_read Const i is S T g us = ap (built_on (form.Node (plain.VarDecl Const))) (ap (with_front []) (declarators_read i is S T us))
+
+  pub declaration_form : (k : VarDeclKind) {d : Node} {ds : List Node} (i : IsDeclarator d) (is : AreDeclarators ds) → DeclaratorForm i → DeclaratorForms is
+      → ReadAsStatement assigned shapes.closed (λ g us. it g (items.key (keyword k)) (declarator_tokens i (declarators_tokens is (s (codes ";") us)))) (bare (kind.VarDecl k false) (list_node (bare_declarator i ∷ bare_declarators is) ∷ []))
+  unfolding statement_body declaration
+  declaration_form k i is S T =
+      let D = keyword_declares k in
+      token_form assigned 11 declaration expression_statement refl (items.key (keyword k)) D.no_statement D.no_item D.closes
+      (λ g us e b z. ap (or_on (interp assigned (means assigned) other_declarations) (it g (items.key (keyword k)) (declarator_tokens i (declarators_tokens is (s (codes ";") us))))) (variables_read k i is S T g us))
