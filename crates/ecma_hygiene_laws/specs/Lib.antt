@@ -1,0 +1,2 @@
+pub mod DeclaredIds
+pub mod Scopes

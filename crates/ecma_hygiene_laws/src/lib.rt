@@ -1,0 +1,12 @@
+//! Laws of the tree that `hygiene` of `ecma_hygiene` gives, read again by its texts alone: over the definitions of scopes, of
+//! resolving and of final texts.
+//!
+//! Each function carries one law, and does nothing. The laws are stated in `specs/`.
+#![tactic(auto)]
+
+ghost use Rattle.ecma_hygiene_laws.specs.Scopes.{ScopesDeclareFinalTexts};
+
+/// A node with other texts opens a scope where it did, and that scope declares the final texts of what it declared.
+pub fn scopes_declare_final_texts()
+    ensures { ScopesDeclareFinalTexts }
+{}
