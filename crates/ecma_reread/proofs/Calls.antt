@@ -27,7 +27,7 @@ use Rattle.ecma_tokens.specs.Items as items
 use Rattle.ecma_tokens.specs.Items.{Tok, sign, Gap, no_gap, Items, it}
 use Rattle.ecma_reread.specs.Machine.{with_front, means}
 use Rattle.ecma_reread.specs.Shapes as shapes
-use Rattle.ecma_reread.specs.Shapes.{Level, IsPlainName, IsIdent, ident, IsKey, key, IsExpression, IsElement, IsArguments, AreElements, AreExpressions}
+use Rattle.ecma_reread.specs.Shapes.{Level, IsPlainName, IsIdent, ident, IsKey, key, IsExpression, IsElement, AreSlots, IsArguments, AreElements, AreExpressions}
 use Rattle.ecma_reread.specs.Tokens.{bare, blank, ident_word, key_word, own_sign, unary_gap, expression_tokens, element_tokens, arguments_tokens, elements_tokens, expression_kind, expression_parts, bare_element, bare_arguments, bare_elements}
 use Rattle.ecma_reread.proofs.Levels.{means_is}
 use Rattle.ecma_reread.proofs.Fronts.{Front, exactly, Begins, at_token, IsName, is_known, refuses_at, refused_at, refuses_all, all_refused}
@@ -47,6 +47,7 @@ use Rattle.ecma_reread.proofs.Params.{Params, params_end, params_more, params_by
 use Rattle.ecma_reread.proofs.Lists.{Forms, Followed}
 use Rattle.ecma_reread.proofs.Sequences.{sequence_form}
 use Rattle.ecma_reread.proofs.Async.{async_form}
+use Rattle.ecma_reread.proofs.Arrays.{SlotForms, array_form}
 use Rattle.ecma_reread.proofs.Spreads.{ElementForm, element_read, element_param}
 
 -- no argument begins with `)`
@@ -197,6 +198,7 @@ module _ (assigned : Bool) where
     expression_form (shapes.coalesced at i l r) = coalesced_form assigned i (expression_form l) (expression_form r)
     expression_form (shapes.assignment_expression at o t v) = assignment_form assigned o (expression_form t) (expression_form v)
     expression_form (shapes.conditional_expression at t x y) = choice_form assigned (expression_form t) (expression_form x) (expression_form y)
+    expression_form (shapes.array at at' es) = from_form assigned (array_form assigned es (slot_forms es))
     expression_form (shapes.sequence_expression at x y es) = sequence_form assigned (expression_form x) (expression_form y) es (expression_forms es)
 
     argument_forms : {n : Node} (is : IsArguments n) → ArgumentForms is
@@ -206,6 +208,11 @@ module _ (assigned : Bool) where
     element_form_of : {n : Node} (is : IsElement n) → ElementForm assigned is
     element_form_of (shapes.one e) = expression_form e
     element_form_of (shapes.spread at e) = expression_form e
+
+    slot_forms : {ns : List Node} (is : AreSlots ns) → SlotForms assigned is
+    slot_forms shapes.no_slots = tt
+    slot_forms (shapes.filled e es) = (element_form_of e, slot_forms es)
+    slot_forms (shapes.hole a es) = slot_forms es
 
     element_forms : {es : List Node} (is : AreElements es) → ElementForms is
     element_forms shapes.no_elements = tt

@@ -25,7 +25,7 @@ use Rattle.ecma_reread.proofs.Heads.{bare, member_made}
 use Rattle.ecma_reread.proofs.Forms.{Laid, s, Reads, linked_param, Form}
 use Rattle.ecma_reread.proofs.Bindings.{Stands, expression_read}
 
-bracket_ends : Ends (exactly (sign (codes "]")))
+pub bracket_ends : Ends (exactly (sign (codes "]")))
 unfolding factors terms shifts relations equalities assignments links chains.template_start arrow_rest names.binding_ident
 bracket_ends = refl
 

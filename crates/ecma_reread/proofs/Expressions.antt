@@ -206,13 +206,13 @@ semicolon_ends = refl
 
 module _ (assigned : Bool) where
   -- what begins a chain, and the links behind it
-  head_read : (f : Front) (base : Grammar) (ts us : Items) (x : Node) → ((k : Front) → Tower f k base heads) → Begins f ts → Reads assigned base ts (x ∷ []) us → (ys : List Node) (vs : Items) → Reads assigned links us ys vs → Reads assigned (heads ▸ links) ts (x ∷ ys) vs
+  pub head_read : (f : Front) (base : Grammar) (ts us : Items) (x : Node) → ((k : Front) → Tower f k base heads) → Begins f ts → Reads assigned base ts (x ∷ []) us → (ys : List Node) (vs : Items) → Reads assigned links us ys vs → Reads assigned (heads ▸ links) ts (x ∷ ys) vs
   head_read f base ts us x t b h ys vs e =
       let k = front_of us in
       ap (followed_on (interp assigned (means assigned) links)) (climb assigned (means assigned) (t k.0) ts us x b k.1 h) ∙ ap (with_front (x ∷ [])) e
 
   -- no parameter begins there, and nothing ends there
-  no_param_at : (f : Front) (ts us : Items) → Begins f ts → refuses_all f param ≡ true → ends_no_item f ≡ true → AsParam assigned ts us
+  pub no_param_at : (f : Front) (ts us : Items) → Begins f ts → refuses_all f param ≡ true → ends_no_item f ≡ true → AsParam assigned ts us
   no_param_at f ts us b e z = item_refused (all_refused assigned param f ts b e) f b z
 
   pub single_form : (t : Tok) (k : Kind) → Single t k → Form assigned (λ g us. it g t us) k []

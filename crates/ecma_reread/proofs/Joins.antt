@@ -23,8 +23,8 @@ use Rattle.ecma_print.specs.Operators.{unary_sign, update_sign}
 use Rattle.ecma_tokens.proofs.Wholes.{some_text}
 use Rattle.ecma_reread.specs.Machine.{count}
 use Rattle.ecma_reread.specs.Shapes as shapes
-use Rattle.ecma_reread.specs.Shapes.{Level, looser_than, IsOperator, IsIdent, ident, IsKey, key, IsExpression, IsElement, IsArguments, AreElements, AreExpressions, IsInitializer, IsDeclarator, AreDeclarators}
-use Rattle.ecma_reread.specs.Tokens.{blank, sign_of, assign_token, update_token, unary_token, binary_token, own_sign, unary_gap, ident_word, key_word, expression_tokens, element_tokens, arguments_tokens, elements_tokens, more_tokens, declarator_tokens, declarators_tokens}
+use Rattle.ecma_reread.specs.Shapes.{Level, looser_than, IsOperator, IsIdent, ident, IsKey, key, IsExpression, IsElement, IsArguments, AreElements, AreExpressions, IsInitializer, IsDeclarator, AreDeclarators, AreSlots}
+use Rattle.ecma_reread.specs.Tokens.{blank, sign_of, assign_token, update_token, unary_token, binary_token, own_sign, unary_gap, ident_word, key_word, expression_tokens, element_tokens, arguments_tokens, elements_tokens, more_tokens, declarator_tokens, declarators_tokens, slots_tokens, more_slots_tokens}
 
 -- each token has a text
 pub good_long : (ts : Items) → Good ts → count ts ≤ length (render ts)
@@ -105,6 +105,7 @@ pub data Opens : Tok → Beside → Type 0 where
   by_string : (w : List ℕ) → Opens (items.string w) NoNeighbor
   by_number : (w : List ℕ) → Opens (items.number w) NoNeighbor
   by_big_int : (w : List ℕ) → Opens (items.big_int w) NoNeighbor
+  by_bracket : Opens (sign (codes "[")) NoNeighbor
   by_parenthesis : Opens (sign (codes "(")) NoNeighbor
   by_update : (o : UpdateOp) → Opens (update_token o) (update_sign o)
   by_operator : (o : UnaryOp) → Opens (unary_token o) (unary_sign o)
@@ -141,6 +142,7 @@ begun (shapes.either at l r) us = begun l (it blank (sign (codes "||")) (express
 begun (shapes.coalesced at i l r) us = begun l (it blank (sign (codes "??")) (expression_tokens r blank us))
 begun (shapes.assignment_expression at o t v) us = begun t (it blank (assign_token o) (expression_tokens v blank us))
 begun (shapes.conditional_expression at t x y) us = begun t (it blank (sign (codes "?")) (expression_tokens x blank (it blank (sign (codes ":")) (expression_tokens y blank us))))
+begun (shapes.array at at' es) us = record { first = sign (codes "["); by = NoNeighbor; rest = slots_tokens es us; opens = by_bracket; is = λ g. refl }
 begun (shapes.sequence_expression at x y es) us = begun x (sign_of (codes ",") (expression_tokens y blank (more_tokens es us)))
 
 -- behind `(`, behind a blank, and on a new line
@@ -208,6 +210,29 @@ element_blank_joins : (t : Tok) {n : Node} (is : IsElement n) (us : Items) → j
 element_blank_joins t (shapes.one e) us = blank_joins t e us
 element_blank_joins t (shapes.spread at e) us = refl
 
+-- in brackets
+
+element_bracket_joins : {n : Node} (is : IsElement n) (us : Items) → joins_next (sign (codes "[")) (element_tokens is no_gap us) ≡ true
+unfolding punctuators
+element_bracket_joins (shapes.one e) us = bracket_joins e us
+element_bracket_joins (shapes.spread at e) us = refl
+
+slots_open : {ns : List Node} (is : AreSlots ns) (us : Items) → joins_next (sign (codes "[")) (slots_tokens is us) ≡ true
+unfolding punctuators
+slots_open shapes.no_slots us = refl
+slots_open (shapes.filled e es) us = element_bracket_joins e (more_slots_tokens es false no_gap us)
+slots_open (shapes.hole a shapes.no_slots) us = refl
+slots_open (shapes.hole a es) us = refl
+
+slots_parted : {ns : List Node} (is : AreSlots ns) (us : Items) → joins_next (sign (codes ",")) (more_slots_tokens is true blank us) ≡ true
+slots_parted shapes.no_slots us = refl
+slots_parted is us = refl
+
+slots_soft : {ns : List Node} (is : AreSlots ns) (us : Items) → Soft false (more_slots_tokens is false no_gap us)
+slots_soft shapes.no_slots us = closing_bracket
+slots_soft (shapes.filled e es) us = comma
+slots_soft (shapes.hole a es) us = comma
+
 -- the operand of a unary operator: it begins with no sign but that of an operator of its own
 
 abbrev is_linked : Level → Bool
@@ -268,6 +293,7 @@ plain (shapes.null_word at) us h = refl
 plain (shapes.true_word at) us h = refl
 plain (shapes.false_word at) us h = refl
 plain (shapes.parenthesized at e) us h = refl
+plain (shapes.array at at' es) us h = refl
 
 signed : {level : Level} {e : Node} (is : IsExpression level e) (us : Items) → is_operand level ≡ true → (let b = begun is us in b.by) ≡ own_sign is
 unfolding begun
@@ -296,6 +322,7 @@ signed (shapes.null_word at) us h = refl
 signed (shapes.true_word at) us h = refl
 signed (shapes.false_word at) us h = refl
 signed (shapes.parenthesized at e) us h = refl
+signed (shapes.array at at' es) us h = refl
 
 -- a unary operator joins its operand
 unary_by : (o : UnaryOp) {t : Tok} {b : Beside} → Opens t b → (us : Items) → joins_next (unary_token o) (it (unary_gap o b) t us) ≡ true
@@ -467,6 +494,7 @@ module _ (words : Words) where
         let seconds = it blank (sign (codes ":")) (expression_tokens y blank us) in
         expression_joined t g h (it blank (sign (codes "?")) (expression_tokens x blank seconds)) parted
         (blank_is, refl, blank_joins (sign (codes "?")) x seconds, expression_joined x blank blank_is seconds parted (blank_is, refl, blank_joins (sign (codes ":")) y us, expression_joined y blank blank_is us z j))
+    expression_joined (shapes.array at at' es) g h us z j = (h, refl, slots_open es us, slots_joined es us (no_gap_is, refl, bracket_soft z, j))
     expression_joined (shapes.sequence_expression at x y es) g h us z j =
         let rest = more_tokens es us in
         expression_joined x g h (sign_of (codes ",") (expression_tokens y blank rest)) comma (no_gap_is, refl, blank_joins (sign (codes ",")) y rest, expression_joined y blank blank_is rest (more_soft es z) (more_joined es us z j))
@@ -479,6 +507,19 @@ module _ (words : Words) where
     element_joined : {n : Node} (is : IsElement n) (g : Gap) → IsGap g → (us : Items) → Soft false us → Joined us → Joined (element_tokens is g us)
     element_joined (shapes.one e) g h us z j = expression_joined e g h us z j
     element_joined (shapes.spread at e) g h us z j = (h, refl, dots_join e us, expression_joined e no_gap no_gap_is us z j)
+
+    slots_joined : {ns : List Node} (is : AreSlots ns) (us : Items) → Joined (sign_of (codes "]") us) → Joined (slots_tokens is us)
+    slots_joined shapes.no_slots us j = j
+    slots_joined (shapes.filled e es) us j = element_joined e no_gap no_gap_is (more_slots_tokens es false no_gap us) (slots_soft es us) (more_slots_joined es false no_gap no_gap_is us j)
+    slots_joined (shapes.hole a es) us j = more_slots_joined es true no_gap no_gap_is us j
+
+    more_slots_joined : {ns : List Node} (is : AreSlots ns) (b : Bool) (g : Gap) → IsGap g → (us : Items) → Joined (sign_of (codes "]") us) → Joined (more_slots_tokens is b g us)
+    more_slots_joined shapes.no_slots false g h us j = j
+    more_slots_joined shapes.no_slots true g h us j = (h, refl, refl, j)
+    more_slots_joined (shapes.filled e es) b g h us j =
+        let rest = more_slots_tokens es false no_gap us in
+        (h, refl, element_blank_joins (sign (codes ",")) e rest, element_joined e blank blank_is rest (slots_soft es us) (more_slots_joined es false no_gap no_gap_is us j))
+    more_slots_joined (shapes.hole a es) b g h us j = (h, refl, slots_parted es us, more_slots_joined es true blank blank_is us j)
 
     elements_joined : {es : List Node} (is : AreElements es) (us : Items) → Joined (sign_of (codes ")") us) → Joined (elements_tokens is (sign_of (codes ")") us))
     elements_joined shapes.no_elements us j = j

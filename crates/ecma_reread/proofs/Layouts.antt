@@ -21,19 +21,19 @@ use Rattle.ecma_print.specs.declared.place.Between.{Between}
 use Rattle.ecma_print.specs.declared.place.Between.TheVariants.{Blank, Equals}
 use Rattle.ecma_print.specs.declared.place.Spot.{Spot}
 use Rattle.ecma_print.specs.declared.place.Place.{Place}
-use Rattle.ecma_print.specs.declared.place.Place.TheVariants.{At, Within, Arguments, Commas}
+use Rattle.ecma_print.specs.declared.place.Place.TheVariants.{At, Within, Arguments, Commas, Brackets}
 use Rattle.ecma_print.specs.Places.{before, after, free, left, right, beginning, gap, opens_a_block}
-use Rattle.ecma_print.specs.Laid.{Laid, is_object_pattern}
+use Rattle.ecma_print.specs.Laid.{Laid, is_absent, is_object_pattern}
 use Rattle.ecma_print.specs.Levels.{is_before_dot, clashes}
 use Rattle.ecma_print.specs.Operators.{assign_word, unary_word, unary_sign, update_word, update_sign, binary_word, binary_level, left_level, right_level, under}
 use Rattle.ecma_print.specs.Expressions.{before_key, object_beside, is_optional, more_of_sequence}
-use Rattle.ecma_print.specs.Lists.{more_commas}
+use Rattle.ecma_print.specs.Lists.{more_commas, ends_in_hole, hole_comma, brackets}
 use Rattle.ecma_print.specs.Layout.{in_place, by_itself, lay_step, laid}
 use Rattle.ecma_tokens.specs.Items as items
 use Rattle.ecma_tokens.specs.Items.{Tok, sign, Gap, no_gap, Items, it, token_text, render}
 use Rattle.ecma_reread.specs.Shapes as shapes
-use Rattle.ecma_reread.specs.Shapes.{Level, looser_than, IsOperator, IsIdent, ident, IsKey, key, IsAbsent, IsExpression, IsElement, IsArguments, AreElements, AreExpressions, IsInitializer, IsDeclarator, AreDeclarators}
-use Rattle.ecma_reread.specs.Tokens.{blank, sign_of, assign_token, update_token, unary_token, binary_token, own_sign, unary_gap, expression_tokens, element_tokens, arguments_tokens, elements_tokens, more_tokens, initializer_tokens, declarator_tokens, declarators_tokens}
+use Rattle.ecma_reread.specs.Shapes.{Level, looser_than, IsOperator, IsIdent, ident, IsKey, key, IsAbsent, IsExpression, IsElement, IsArguments, AreElements, AreExpressions, IsInitializer, IsDeclarator, AreDeclarators, AreSlots}
+use Rattle.ecma_reread.specs.Tokens.{blank, sign_of, assign_token, update_token, unary_token, binary_token, own_sign, unary_gap, expression_tokens, element_tokens, arguments_tokens, elements_tokens, more_tokens, initializer_tokens, declarator_tokens, declarators_tokens, slots_tokens, more_slots_tokens}
 
 pub laid_node : (at : Span) (k : Kind) (cs : List Node) → laid (node_of at k cs) ≡ record { kind = k; at = in_place k (map laid cs); parts = map by_itself (map laid cs) }
 laid_node at k cs = fold-roll-Node Laid lay_step (record { span = at; kind = k; children = cs })
@@ -399,12 +399,26 @@ gap_out (shapes.either at l r) g us = gap_out l g (it blank (sign (codes "||")) 
 gap_out (shapes.coalesced at i l r) g us = gap_out l g (it blank (sign (codes "??")) (expression_tokens r blank us))
 gap_out (shapes.assignment_expression at o t v) g us = gap_out t g (it blank (assign_token o) (expression_tokens v blank us))
 gap_out (shapes.conditional_expression at t x y) g us = gap_out t g (it blank (sign (codes "?")) (expression_tokens x blank (it blank (sign (codes ":")) (expression_tokens y blank us))))
+gap_out (shapes.array at at' es) g us = refl
 gap_out (shapes.sequence_expression at x y es) g us = gap_out x g (sign_of (codes ",") (expression_tokens y blank (more_tokens es us)))
 
 element_gap_out : {n : Node} (is : IsElement n) (g : Gap) (us : Items) → render (element_tokens is g us) ≡ g.blanks ++ render (element_tokens is no_gap us)
 unfolding render
 element_gap_out (shapes.one e) g us = gap_out e g us
 element_gap_out (shapes.spread at e) g us = refl
+
+slots_gap_out : {ns : List Node} (is : AreSlots ns) (us : Items) → render (more_slots_tokens is true blank us) ≡ codes " " ++ render (more_slots_tokens is true no_gap us)
+unfolding render
+slots_gap_out shapes.no_slots us = refl
+slots_gap_out is us = refl
+
+no_absent_by : (k : Kind) → is_plain k ≡ true → is_absent k ≡ false
+no_absent_by kind.Absent h = absurd (false≢true h)
+no_absent_by k h = refl
+
+element_there : {n : Node} → IsElement n → is_absent (laid n).kind ≡ false
+element_there (shapes.one e) = let p = plain e in rw p.is (ap (λ x. is_absent x.kind) (laid_node p.at p.kind p.children) ∙ no_absent_by p.kind p.plain)
+element_there (shapes.spread at e) = ap (λ x. is_absent x.kind) (laid_node at kind.SpreadElement _)
 
 mutual
   unfolding render
@@ -489,6 +503,8 @@ mutual
       ∙ rw (tightly 2 1 spot.level (omega arith) c.low, no_sign spot.beside)
       (ap (λ z. (laid t').at (At (left spot 3 NoNeighbor)) m z) first_text
       ∙ expression_laid t (left spot 3 NoNeighbor) (quiet refl c.with_in c.no_new refl) m (it blank (sign (codes "?")) (expression_tokens x blank seconds)))
+  expression_laid (shapes.array at at' {slots = ns} es) spot c m us =
+      at_node at kind.ArrayLit (node_of at' kind.List ns ∷ []) (At spot) m (render us) ∙ rw (tightly 17 16 spot.level (omega arith) c.low, no_sign spot.beside) (at_node at' kind.List ns Brackets m (render us) ∙ slots_laid es m us)
   expression_laid (shapes.sequence_expression at {first = x'} {second = y'} {more = es'} x y es) spot c m us =
       let rest = more_tokens es us in
       at_node at kind.SeqExpr (x' ∷ y' ∷ es') (At spot) m (render us)
@@ -513,6 +529,25 @@ mutual
   element_laid : {n : Node} (is : IsElement n) (m : List ℕ) (us : Items) → (laid n).at (At (free 1)) m (render us) ≡ render (element_tokens is no_gap us)
   element_laid (shapes.one e) m us = expression_laid e (free 1) calm_1 m us
   element_laid (shapes.spread at {e = e'} e) m us = at_node at kind.SpreadElement (e' ∷ []) (At (free 1)) m (render us) ∙ ap (λ z. codes "..." ++ z) (expression_laid e (free 1) calm_1 m us)
+
+  slots_laid : {ns : List Node} (is : AreSlots ns) (m : List ℕ) (us : Items) → brackets (map laid ns) m (render us) ≡ codes "[" ++ render (slots_tokens is us)
+  slots_laid shapes.no_slots m us = refl
+  slots_laid (shapes.filled {e = e'} e es) m us =
+      ap (λ z. codes "[" ++ z) (ap (λ z. (laid e').at (At (free 1)) m z) (more_slots_laid es (laid e') false (element_there e) m us) ∙ element_laid e m (more_slots_tokens es false no_gap us))
+  slots_laid (shapes.hole (shapes.absent at) es) m us =
+      ap (λ z. codes "[" ++ z) (at_node at kind.Absent [] (At (free 1)) m _ ∙ more_slots_laid es (laid (node_of at kind.Absent [])) true (ap (λ x. is_absent x.kind) (laid_node at kind.Absent [])) m us)
+
+  -- behind an element or a hole
+  more_slots_laid : {ns : List Node} (is : AreSlots ns) (x : Laid) (b : Bool) → is_absent x.kind ≡ b → (m : List ℕ) (us : Items)
+      → more_commas (free 1) (map laid ns) m (hole_comma (ends_in_hole (x ∷ map laid ns)) ++ (codes "]" ++ render us)) ≡ render (more_slots_tokens is b no_gap us)
+  more_slots_laid shapes.no_slots x false h m us = rw h refl
+  more_slots_laid shapes.no_slots x true h m us = rw h refl
+  more_slots_laid (shapes.filled {e = e'} e es) x b h m us =
+      ap (λ z. codes ", " ++ z) (ap (λ z. (laid e').at (At (free 1)) m z) (more_slots_laid es (laid e') false (element_there e) m us) ∙ element_laid e m (more_slots_tokens es false no_gap us))
+      ∙ ap (λ z. codes "," ++ z) (sym (element_gap_out e blank (more_slots_tokens es false no_gap us)))
+  more_slots_laid (shapes.hole (shapes.absent at) es) x b h m us =
+      ap (λ z. codes ", " ++ z) (at_node at kind.Absent [] (At (free 1)) m _ ∙ more_slots_laid es (laid (node_of at kind.Absent [])) true (ap (λ x. is_absent x.kind) (laid_node at kind.Absent [])) m us)
+      ∙ ap (λ z. codes "," ++ z) (sym (slots_gap_out es us))
 
   elements_laid : {es : List Node} (is : AreElements es) (m : List ℕ) (us : Items) → more_commas (free 1) (map laid es) m (codes ")" ++ render us) ≡ render (elements_tokens is (sign_of (codes ")") us))
   elements_laid shapes.no_elements m us = refl

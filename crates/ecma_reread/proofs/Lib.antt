@@ -26,6 +26,8 @@ pub mod Spreads
 pub mod Expressions
 pub mod Async
 pub mod Lists
+pub mod Literals
+pub mod Arrays
 pub mod Sequences
 pub mod Calls
 pub mod Statements

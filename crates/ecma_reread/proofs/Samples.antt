@@ -20,7 +20,7 @@ use Rattle.ecma_tree.specs.declared.node.Node.{Node}
 use Rattle.ecma_tree.specs.Nodes.{node_of}
 use Rattle.ecma_print.specs.Layout.{layout}
 use Rattle.ecma_tokens.specs.Items.{render}
-use Rattle.ecma_reread.specs.Shapes.{Level, assignment, IsExpression, element, postfix_update, conditional_expression, assignment_expression, unary_expression, binary_expression, plus, times, IsPlainName, ident, key, absent, looser, name, null_word, this_word, member, call, parenthesized, one, spread, arguments, no_elements, more_elements, initializer, declarator, no_declarators, expression, declaration}
+use Rattle.ecma_reread.specs.Shapes.{Level, assignment, IsExpression, element, postfix_update, conditional_expression, assignment_expression, unary_expression, binary_expression, plus, times, IsPlainName, ident, key, absent, looser, name, null_word, this_word, member, call, parenthesized, one, spread, arguments, no_elements, more_elements, initializer, declarator, no_declarators, expression, declaration, array, no_slots, filled, hole}
 use Rattle.ecma_reread.specs.Modules.{statement, no_items, more_items, IsModule, module_of}
 use Rattle.ecma_reread.specs.ModuleTokens.{module_tokens}
 use Rattle.ecma_reread.proofs.Bindings.{further_out}
@@ -55,6 +55,9 @@ a = node_of at (kind.Ident (codes "a") 0 false) []
 abbrev async : Node
 async = node_of at (kind.Ident (codes "async") 0 false) []
 
+abbrev elements : Node
+elements = node_of at kind.ArrayLit (node_of at kind.List (a ∷ gone ∷ node_of at kind.Null [] ∷ gone ∷ []) ∷ [])
+
 abbrev product : Node
 product =
     node_of at (kind.BinExpr Mul)
@@ -76,7 +79,7 @@ value_shape =
     let chosen = parenthesized at (conditional_expression at (out 15 id) (out 16 id) (out 16 id)) in
     out 10 (binary_expression at plus (out 3 (unary_expression at Minus (unary_expression at Minus (out 3 id)))) (binary_expression at times (out 5 held) (out 4 chosen)))
 
--- `const async = (this);`, `a.a(...a, null);`, `async(a, async).a;` and `a = - -a + a[a++] * (a ? a : a);`
+-- `const async = (this);`, `a.a(...a, [a, , null, ,]);`, `async(a, async).a;` and `a = - -a + a[a++] * (a ? a : a);`
 abbrev tree : Node
 tree =
     node_of at (kind.Module None)
@@ -85,7 +88,7 @@ tree =
     (node_of at kind.List (node_of at (kind.VarDeclarator false) (node_of at kind.BindingIdent (async ∷ gone ∷ []) ∷ node_of at kind.ParenExpr (node_of at kind.ThisExpr [] ∷ []) ∷ []) ∷ []) ∷ [])
     ∷ node_of at kind.ExprStmt
     (node_of at kind.CallExpr
-    (node_of at kind.MemberExpr (a ∷ node_of at (kind.IdentName (codes "a")) [] ∷ []) ∷ node_of at kind.List (node_of at kind.SpreadElement (a ∷ []) ∷ node_of at kind.Null [] ∷ []) ∷ gone ∷ []) ∷ [])
+    (node_of at kind.MemberExpr (a ∷ node_of at (kind.IdentName (codes "a")) [] ∷ []) ∷ node_of at kind.List (node_of at kind.SpreadElement (a ∷ []) ∷ elements ∷ []) ∷ gone ∷ []) ∷ [])
     ∷ node_of at kind.ExprStmt
     (node_of at kind.MemberExpr
     (node_of at kind.CallExpr (async ∷ node_of at kind.List (a ∷ async ∷ []) ∷ gone ∷ []) ∷ node_of at (kind.IdentName (codes "a")) [] ∷ []) ∷ [])
@@ -98,15 +101,16 @@ shape =
     let id = ident at (codes "a") a_name in
     let async' = ident at (codes "async") async_name in
     let it' = whole (codes "a") a_spelled in
+    let slots = array at at (filled (one (out 16 (name id))) (hole (absent at) (filled (one (out 16 (null_word at))) (hole (absent at) no_slots)))) in
     module_of at at
     (more_items (statement (declaration at at Const (declarator at at async' (absent at) (initializer (out 16 (parenthesized at (this_word at))))) no_declarators))
-    (more_items (statement (expression at (call at (looser (member at (name id) (key at (codes "a") it'))) (arguments at (spread at (out 16 (name id))) (more_elements (one (out 16 (null_word at))) no_elements)) (absent at))))
+    (more_items (statement (expression at (call at (looser (member at (name id) (key at (codes "a") it'))) (arguments at (spread at (out 16 (name id))) (more_elements (one (out 16 slots)) no_elements)) (absent at))))
     (more_items (statement (expression at (member at (call at (looser (name async')) (arguments at (one (out 16 (name id))) (more_elements (one (out 16 (name async'))) no_elements)) (absent at)) (key at (codes "a") it'))))
     (more_items (statement (expression at (assignment_expression at Assign (out 1 (name id)) value_shape))) no_items))))
 
-text : render (module_tokens shape) ≡ codes "const async = (this);\na.a(...a, null);\nasync(a, async).a;\na = - -a + a[a++] * (a ? a : a);\n"
+text : render (module_tokens shape) ≡ codes "const async = (this);\na.a(...a, [a, , null, ,]);\nasync(a, async).a;\na = - -a + a[a++] * (a ? a : a);\n"
 unfolding render shape value_shape
 text = refl
 
-laid : layout tree ≡ codes "const async = (this);\na.a(...a, null);\nasync(a, async).a;\na = - -a + a[a++] * (a ? a : a);\n"
+laid : layout tree ≡ codes "const async = (this);\na.a(...a, [a, , null, ,]);\nasync(a, async).a;\na = - -a + a[a++] * (a ? a : a);\n"
 laid = module_laid shape ∙ text

@@ -1,7 +1,9 @@
 -- What is read of an expression as a pattern, by what is read of it as a parameter.
 use Rattle.std.proofs.Common.{◌≡◌, ℕ, bytes_eq, ◌⊎◌, inl, inr, Bool, true, false, List, [], ◌∷◌, ◌++◌, codes, refl, ap, sym, subst, ◌∙◌}
 use Rattle.std.proofs.lemmas.Slice.Eq.{bytes_eq-Decides}
+use Rattle.ecma_kind.specs.declared.kind.Kind.TheVariants as kind
 use Rattle.ecma_tree.specs.declared.node.Node.{Node}
+use Rattle.ecma_tree.specs.Nodes.{node_of, dummy_span}
 use Rattle.ecma_grammar.specs.declared.production.Part.TheVariants as part
 use Rattle.ecma_grammar.specs.declared.production.Plain.TheVariants as plain
 use Rattle.ecma_grammar.specs.declared.production.Form.TheVariants as form
@@ -18,6 +20,7 @@ use Rattle.ecma_tokens.specs.Items.{Tok, key, private_name, sign, string, number
 use Rattle.ecma_tokens.specs.Taking as taking
 use Rattle.ecma_tokens.specs.Taking.{Took, took, refused, took_if, unsure_if, punct_in}
 use Rattle.ecma_reread.specs.Machine.{Out, read, fails, unsure, taken, with_front, followed_on, or_on, built_on, interp, means}
+use Rattle.ecma_reread.specs.Tokens.{blank}
 use Rattle.ecma_reread.proofs.Fronts.{Front, exactly, Begins, at_token, refuses_at, refused_at, refuses_all, all_refused}
 use Rattle.ecma_reread.proofs.Forms.{Reads, Refuses, ends_no_item, AsItem, item_refused, whole_item, item_before, AsParam}
 
@@ -212,3 +215,23 @@ module _ (assigned : Bool) where
     spread_as_element (a_pattern xs vs h ys ws d s) =
         let r = rest_read xs vs h in
         stopped pattern_element dots us vs r.0 (ap (or_on (interp assigned (means assigned) defaulted) dots) r.1) (pattern_stop us vs ws ys d s)
+
+  -- a pattern in brackets or braces is read whole, or not
+
+  pub data Wholly (ts us : Items) : Type 0 where
+    wholly_refused : means assigned part.Pattern ts ≡ fails → Wholly ts us
+    wholly_read : (xs : List Node) → means assigned part.Pattern ts ≡ read xs us → Wholly ts us
+
+  pub wholly_param : (ts us ws : Items) → Refuses assigned rest_pattern ts → (e : Front) → Begins e ts → ends_no_item e ≡ true → Wholly ts us → (ys : List Node) → Reads assigned default_value us ys ws → AsParam assigned ts ws
+  wholly_param ts us ws r e b z (wholly_refused h) ys d = item_refused (pattern_param ts r ∙ ap param_on h) e b z
+  wholly_param ts us ws r e b z (wholly_read xs h) ys d =
+      whole_item (made form.Param 0 0 (flag_node Absent ∷ made form.Chain 0 0 (annotated xs ∷ ys) ∷ []) ∷ [])
+      (pattern_param ts r ∙ (ap param_on h ∙ ap (λ o. built_on form.Param (with_front (flag_node Absent ∷ []) (built_on form.Chain (with_front (annotated xs ∷ []) o)))) d))
+
+  pub no_default : (us : Items) (e : Front) → Begins e us → refuses_at e (punct (codes "=")) ≡ true → Reads assigned default_value us [] us
+  unfolding default_value
+  no_default us e b z = rw (refused_at assigned (means assigned) (punct (codes "=")) e us b z) refl
+
+  pub some_default : (ts us : Items) (n : Node) → means assigned (part.Assign false false) ts ≡ read (n ∷ []) us → Reads assigned default_value (it blank (sign (codes "=")) ts) (node_of dummy_span kind.AssignPat (flag_node Absent ∷ n ∷ []) ∷ []) us
+  unfolding default_value
+  some_default ts us n h = rw h refl

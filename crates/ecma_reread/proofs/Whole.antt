@@ -6,8 +6,8 @@ use Rattle.ecma_tree.specs.declared.node.Node.{Node}
 use Rattle.ecma_tree.specs.Nodes.{absent, list_node}
 use Rattle.ecma_tree.specs.Spans.{without_spans}
 use Rattle.ecma_reread.specs.Shapes as shapes
-use Rattle.ecma_reread.specs.Shapes.{Level, IsIdent, ident, IsKey, key, IsAbsent, IsExpression, IsElement, IsArguments, AreElements, AreExpressions, IsInitializer, IsDeclarator, AreDeclarators, Ending, IsStatement, IsBlock, AreStatements}
-use Rattle.ecma_reread.specs.Tokens.{bare, bare_ident, key_word, bare_expression, bare_element, bare_arguments, bare_elements, bare_expressions, bare_initializer, bare_declarator, bare_declarators, bare_statement, bare_block, bare_statements}
+use Rattle.ecma_reread.specs.Shapes.{Level, IsIdent, ident, IsKey, key, IsAbsent, IsExpression, IsElement, IsArguments, AreElements, AreExpressions, IsInitializer, IsDeclarator, AreDeclarators, Ending, IsStatement, IsBlock, AreStatements, AreSlots}
+use Rattle.ecma_reread.specs.Tokens.{bare, bare_ident, key_word, bare_expression, bare_element, bare_arguments, bare_elements, bare_expressions, bare_initializer, bare_declarator, bare_declarators, bare_statement, bare_block, bare_statements, bare_slots}
 use Rattle.ecma_reread.proofs.Unplaced.{without_spans-node}
 
 pub absent_bare : {n : Node} → IsAbsent n → without_spans n ≡ absent
@@ -48,6 +48,7 @@ mutual
   expression_bare (shapes.conditional_expression at {second = y'} t x y) =
       without_spans-node at kind.CondExpr _
       ∙ (ap₂ (λ a b. bare kind.CondExpr (a ∷ b ∷ without_spans y' ∷ [])) (expression_bare t) (expression_bare x) ∙ ap (λ c. bare kind.CondExpr (bare_expression t ∷ bare_expression x ∷ c ∷ [])) (expression_bare y))
+  expression_bare (shapes.array at at' es) = without_spans-node at kind.ArrayLit _ ∙ ap (λ x. bare kind.ArrayLit (x ∷ [])) (without_spans-node at' kind.List _ ∙ ap list_node (slots_bare es))
   expression_bare (shapes.sequence_expression at x y es) = without_spans-node at kind.SeqExpr _ ∙ ap₂ (λ z zs. bare kind.SeqExpr (z ∷ zs)) (expression_bare x) (ap₂ (λ b bs. b ∷ bs) (expression_bare y) (expressions_bare es))
 
   arguments_bare : {n : Node} (is : IsArguments n) → without_spans n ≡ list_node (bare_arguments is)
@@ -57,6 +58,11 @@ mutual
   element_bare : {n : Node} (is : IsElement n) → without_spans n ≡ bare_element is
   element_bare (shapes.one e) = expression_bare e
   element_bare (shapes.spread at e) = without_spans-node at kind.SpreadElement _ ∙ ap (λ x. bare kind.SpreadElement (x ∷ [])) (expression_bare e)
+
+  slots_bare : {ns : List Node} (is : AreSlots ns) → map without_spans ns ≡ bare_slots is
+  slots_bare shapes.no_slots = refl
+  slots_bare (shapes.filled e es) = ap₂ (λ x xs. x ∷ xs) (element_bare e) (slots_bare es)
+  slots_bare (shapes.hole a es) = ap₂ (λ x xs. x ∷ xs) (absent_bare a) (slots_bare es)
 
   elements_bare : {es : List Node} (is : AreElements es) → map without_spans es ≡ bare_elements is
   elements_bare shapes.no_elements = refl

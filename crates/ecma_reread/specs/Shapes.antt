@@ -120,12 +120,19 @@ mutual
     assignment_expression : (at : Span) (operator : AssignOp) {target value : Node} → IsExpression callee target → IsExpression assignment value → IsExpression assignment (node_of at (kind.AssignExpr operator) (target ∷ value ∷ []))
     conditional_expression : (at : Span) {test first second : Node} → IsExpression short_circuit test → IsExpression assignment first → IsExpression assignment second
         → IsExpression assignment (node_of at kind.CondExpr (test ∷ first ∷ second ∷ []))
+    array : (at of_list : Span) {slots : List Node} → AreSlots slots → IsExpression object (node_of at kind.ArrayLit (node_of of_list kind.List slots ∷ []))
     sequence_expression : (at : Span) {first second : Node} {more : List Node} → IsExpression assignment first → IsExpression assignment second → AreExpressions more → IsExpression sequence (node_of at kind.SeqExpr (first ∷ second ∷ more))
 
-  -- an argument: an expression, or the values of one
+  -- an argument, or an element of an array: an expression, or the values of one
   pub data IsElement : Node → Type 0 where
     one : {e : Node} → IsExpression assignment e → IsElement e
     spread : (at : Span) {e : Node} → IsExpression assignment e → IsElement (node_of at kind.SpreadElement (e ∷ []))
+
+  -- the elements of an array, and its holes
+  pub data AreSlots : List Node → Type 0 where
+    no_slots : AreSlots []
+    filled : {e : Node} {slots : List Node} → IsElement e → AreSlots slots → AreSlots (e ∷ slots)
+    hole : {none : Node} {slots : List Node} → IsAbsent none → AreSlots slots → AreSlots (none ∷ slots)
 
   pub data IsArguments : Node → Type 0 where
     no_arguments : (at : Span) → IsArguments (node_of at kind.List [])

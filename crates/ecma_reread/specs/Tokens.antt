@@ -22,7 +22,7 @@ use Rattle.ecma_print.specs.Operators.{unary_sign, update_sign}
 use Rattle.ecma_print.specs.Statements.{keyword}
 use Rattle.ecma_tokens.specs.Items as items
 use Rattle.ecma_tokens.specs.Items.{Tok, sign, Gap, no_gap, Items, it}
-use Rattle.ecma_reread.specs.Shapes.{IsIdent, ident, IsKey, key, Level, IsExpression, looser, element, prefix_update, postfix_update, await_expression, unary_expression, binary_expression, exponentiation, both, either, coalesced, assignment_expression, conditional_expression, sequence_expression, name, string, number, this_word, big_int, null_word, true_word, false_word, member, call, parenthesized, IsElement, one, spread, IsArguments, no_arguments, arguments, AreElements, no_elements, more_elements, AreExpressions, no_expressions, more_expressions, IsInitializer, no_initializer, initializer, IsDeclarator, declarator, AreDeclarators, no_declarators, more_declarators, IsStatement, expression, declaration, empty, debugger_word, throw, return_value, return_nothing, break_nothing, continue_nothing, Ending, break_label, continue_label, block, if_only, if_else, while_loop, do_loop, labeled, IsBlock, block_of, AreStatements, no_statements, more_statements}
+use Rattle.ecma_reread.specs.Shapes.{IsIdent, ident, IsKey, key, Level, IsExpression, looser, element, prefix_update, postfix_update, await_expression, unary_expression, binary_expression, exponentiation, both, either, coalesced, assignment_expression, conditional_expression, sequence_expression, name, string, number, this_word, big_int, null_word, true_word, false_word, member, call, parenthesized, IsElement, one, spread, IsArguments, no_arguments, arguments, AreElements, no_elements, more_elements, AreExpressions, no_expressions, more_expressions, IsInitializer, no_initializer, initializer, IsDeclarator, declarator, AreDeclarators, no_declarators, more_declarators, IsStatement, expression, declaration, empty, debugger_word, throw, return_value, return_nothing, break_nothing, continue_nothing, Ending, break_label, continue_label, block, if_only, if_else, while_loop, do_loop, labeled, IsBlock, block_of, AreStatements, no_statements, more_statements, array, AreSlots, no_slots, filled, hole}
 
 abbrev pub blank : Gap
 blank = record { blanks = codes " "; new_line = false }
@@ -147,11 +147,25 @@ abbrev mutual
   expression_tokens (coalesced at i l r) g us = expression_tokens l g (it blank (sign (codes "??")) (expression_tokens r blank us))
   expression_tokens (assignment_expression at o t v) g us = expression_tokens t g (it blank (assign_token o) (expression_tokens v blank us))
   expression_tokens (conditional_expression at t x y) g us = expression_tokens t g (it blank (sign (codes "?")) (expression_tokens x blank (it blank (sign (codes ":")) (expression_tokens y blank us))))
+  expression_tokens (array at at' es) g us = it g (sign (codes "[")) (slots_tokens es us)
   expression_tokens (sequence_expression at x y es) g us = expression_tokens x g (sign_of (codes ",") (expression_tokens y blank (more_tokens es us)))
 
   pub element_tokens : {n : Node} → IsElement n → Gap → Items → Items
   element_tokens (one e) g us = expression_tokens e g us
   element_tokens (spread at e) g us = it g (sign (codes "...")) (expression_tokens e no_gap us)
+
+  -- behind `[`
+  pub slots_tokens : {ns : List Node} → AreSlots ns → Items → Items
+  slots_tokens no_slots us = sign_of (codes "]") us
+  slots_tokens (filled e es) us = element_tokens e no_gap (more_slots_tokens es false no_gap us)
+  slots_tokens (hole a es) us = more_slots_tokens es true no_gap us
+
+  -- behind an element, or behind a hole and this gap: behind a last hole stands one comma more
+  pub more_slots_tokens : {ns : List Node} → AreSlots ns → Bool → Gap → Items → Items
+  more_slots_tokens no_slots false g us = sign_of (codes "]") us
+  more_slots_tokens no_slots true g us = it g (sign (codes ",")) (sign_of (codes "]") us)
+  more_slots_tokens (filled e es) b g us = it g (sign (codes ",")) (element_tokens e blank (more_slots_tokens es false no_gap us))
+  more_slots_tokens (hole a es) b g us = it g (sign (codes ",")) (more_slots_tokens es true blank us)
 
   pub arguments_tokens : {n : Node} → IsArguments n → Items → Items
   arguments_tokens (no_arguments at) us = us
@@ -256,6 +270,7 @@ expression_kind (either at l r) = kind.BinExpr op.LogicalOr
 expression_kind (coalesced at i l r) = kind.BinExpr op.NullishCoalescing
 expression_kind (assignment_expression at o t v) = kind.AssignExpr o
 expression_kind (conditional_expression at t x y) = kind.CondExpr
+expression_kind (array at at' es) = kind.ArrayLit
 expression_kind (sequence_expression at x y es) = kind.SeqExpr
 
 abbrev mutual
@@ -276,12 +291,18 @@ abbrev mutual
   expression_parts (coalesced at i l r) = bare (expression_kind l) (expression_parts l) ∷ bare (expression_kind r) (expression_parts r) ∷ []
   expression_parts (assignment_expression at o t v) = bare (expression_kind t) (expression_parts t) ∷ bare (expression_kind v) (expression_parts v) ∷ []
   expression_parts (conditional_expression at t x y) = bare (expression_kind t) (expression_parts t) ∷ bare (expression_kind x) (expression_parts x) ∷ bare (expression_kind y) (expression_parts y) ∷ []
+  expression_parts (array at at' es) = list_node (bare_slots es) ∷ []
   expression_parts (sequence_expression at x y es) = bare (expression_kind x) (expression_parts x) ∷ bare (expression_kind y) (expression_parts y) ∷ bare_expressions es
   expression_parts e = []
 
   pub bare_element : {n : Node} → IsElement n → Node
   bare_element (one e) = bare (expression_kind e) (expression_parts e)
   bare_element (spread at e) = bare kind.SpreadElement (bare (expression_kind e) (expression_parts e) ∷ [])
+
+  pub bare_slots : {ns : List Node} → AreSlots ns → List Node
+  bare_slots no_slots = []
+  bare_slots (filled e es) = bare_element e ∷ bare_slots es
+  bare_slots (hole a es) = absent ∷ bare_slots es
 
   pub bare_arguments : {n : Node} → IsArguments n → List Node
   bare_arguments (no_arguments at) = []

@@ -1,0 +1,60 @@
+-- Literals in brackets or braces, of which a pattern may be read.
+use Rattle.std.proofs.Common.{◌≡◌, Bool, true, false, List, [], ◌∷◌, codes, refl, ap, ◌∙◌, None, Some}
+use Rattle.ecma_kind.specs.declared.kind.Kind.{Kind}
+use Rattle.ecma_tree.specs.declared.node.Node.{Node}
+use Rattle.ecma_grammar.specs.declared.production.Form.TheVariants as form
+use Rattle.ecma_grammar.specs.Grammar.{Grammar, punct}
+use Rattle.ecma_grammar.specs.productions.Types.{rest_pattern}
+use Rattle.ecma_grammar.specs.productions.Functions.{arrow}
+use Rattle.ecma_grammar.specs.productions.Declarations.{declaration}
+use Rattle.ecma_grammar.specs.productions.Statements.{labeled}
+use Rattle.ecma_tokens.specs.Items.{Tok, sign, Gap, Items, it}
+use Rattle.ecma_reread.specs.Machine.{means}
+use Rattle.ecma_reread.specs.Tokens.{blank}
+use Rattle.ecma_reread.proofs.Fronts.{Front, exactly, at_token, refuses_at, refused_at, refuses_all, all_refused}
+use Rattle.ecma_reread.proofs.Towers.{Tower, excluded, Opens, Starts}
+use Rattle.ecma_reread.proofs.Heads.{bare, is_head}
+use Rattle.ecma_reread.proofs.Forms.{Laid, heads, Reads, ends_no_item, Form}
+use Rattle.ecma_reread.proofs.Expressions.{head_read}
+use Rattle.ecma_reread.proofs.Tried.{Wholly, wholly_param, no_default, some_default}
+
+-- the token that it begins with
+pub record Literal (t : Tok) (base : Grammar) : Type 0 where
+  pub tower : (e : Front) → Tower (exactly t) e base heads
+  pub opens : Opens (exactly t)
+  pub starts : Starts (exactly t)
+  pub no_arrow : refuses_all (exactly t) (arrow false false) ≡ true
+  pub no_label : refuses_at (exactly t) labeled ≡ true
+  pub no_declaration : refuses_at (exactly t) declaration ≡ true
+  pub no_word : refuses_at (exactly t) excluded ≡ true
+  pub no_rest : refuses_at (exactly t) rest_pattern ≡ true
+  pub no_end : ends_no_item (exactly t) ≡ true
+
+module _ (assigned : Bool) {t : Tok} {base : Grammar} (L : Literal t base) (rest : Items → Items) (k : Kind) (ns : List Node) (head : is_head k ≡ true) where
+  abbrev literal : Laid
+  literal g us = it g t (rest us)
+
+  module _ (reads : (g : Gap) (us : Items) → Reads assigned base (literal g us) (bare k ns ∷ []) us) (tried : (g : Gap) (us : Items) → Wholly assigned (literal g us) us) where
+    pub literal_form : Form assigned literal k ns
+    literal_form =
+        let e = exactly t in
+        let p = means assigned in
+        record {
+          front = e;
+          begins = λ g us. at_token;
+          opens = L.opens;
+          starts = L.starts;
+          pieces = bare k ns ∷ [];
+          own = λ g us f b z ys vs h. head_read assigned e base (literal g us) us (bare k ns) L.tower at_token (reads g us) ys vs h;
+          whole = refl;
+          head = head;
+          no_arrow = λ g us f b z r. all_refused assigned (arrow false false) e (literal g us) at_token L.no_arrow;
+          no_label = λ g us f b z. refused_at assigned p labeled e (literal g us) at_token L.no_label;
+          no_declaration = λ g us f b z. refused_at assigned p declaration e (literal g us) at_token L.no_declaration;
+          no_word = λ g us f b z. refused_at assigned p excluded e (literal g us) at_token L.no_word;
+          as_param = λ g us f b z.
+              wholly_param assigned (literal g us) us us (refused_at assigned p rest_pattern e (literal g us) at_token L.no_rest) e at_token L.no_end (tried g us) [] (no_default assigned us f b z);
+          with_default = λ g ts us n h.
+              (let behind = it blank (sign (codes "=")) ts in
+              wholly_param assigned (literal g behind) behind us (refused_at assigned p rest_pattern e (literal g behind) at_token L.no_rest) e at_token L.no_end (tried g behind) _ (some_default assigned ts us n h));
+        }
