@@ -40,9 +40,12 @@ pub record Closing (us : Items) : Type 0 where
   pub closes : closes_statement shapes.dangling front ≡ true
 
 -- no statement begins with `}`
-no_statement : refuses_all (exactly (sign (codes "}"))) statement_body ≡ true
+pub no_statement : refuses_all (exactly (sign (codes "}"))) statement_body ≡ true
 unfolding statement_body names.block statements.if_ statements.for_await statements.for_ statements.while_ statements.do_while statements.switch statements.try_ statements.jump statements.labeled statements.expression_statement declarations.declaration functions.function_declaration classes.class_declaration names.expression functions.arrow functions.arrow_rest names.binding_ident expressions.conditional operators.short_circuit operators.bit_or operators.bit_xor operators.bit_and operators.equality operators.relation operators.shift operators.exponentiation operators.prefixed operators.update chains.chain chains.super_of_link chains.import_meta chains.import_call chains.construction primaries.primary functions.function_expression primaries.class_expression primaries.template primaries.array primaries.object primaries.parenthesized
 no_statement = refl
+
+pub closing_brace : (h : Gap) (us : Items) → Closing (it h (sign (codes "}")) us)
+closing_brace h us = record { front = exactly (sign (codes "}")); begins = at_token; closes = refl }
 
 brace_no_item : refuses_choices 3 (exactly (sign (codes "{"))) module_item ≡ true
 unfolding module_item modules.import modules.import_equals modules.export modules.export_default
@@ -79,7 +82,7 @@ module _ (assigned : Bool) where
     reads = λ g us.
         (let end = it h (sign (codes "}")) us in
         ap (built_on (form.Node plain.BlockStmt)) (ap (with_front []) (ap (followed_on (interp assigned (means assigned) (punct (codes "}")))) (ap (built_on form.List)
-        (repeated assigned statement (f end) end ns (S.reads end (record { front = exactly (sign (codes "}")); begins = at_token; closes = refl }) (refused_statement (exactly (sign (codes "}"))) end at_token no_statement)))))));
+        (repeated assigned statement (f end) end ns (S.reads end (closing_brace h us) (refused_statement (exactly (sign (codes "}"))) end at_token no_statement)))))));
   }
 
   pub block_statement : {f : Laid} {n : Node} → ReadAsBlock f n → ReadAsStatement assigned shapes.closed f n

@@ -42,6 +42,7 @@ pub data Soft : Bool → Items → Type 0 where
   closing : {object : Bool} {us : Items} → Soft object (sign_of (codes ")") us)
   comma : {object : Bool} {us : Items} → Soft object (sign_of (codes ",") us)
   semicolon : {object : Bool} {us : Items} → Soft object (sign_of (codes ";") us)
+  colon : {object : Bool} {us : Items} → Soft object (sign_of (codes ":") us)
   increment : {object : Bool} {us : Items} → Soft object (sign_of (codes "++") us)
   decrement : {object : Bool} {us : Items} → Soft object (sign_of (codes "--") us)
   opening_bracket : {object : Bool} {us : Items} → Soft object (sign_of (codes "[") us)
@@ -92,6 +93,7 @@ softer shapes.object opening = opening
 softer shapes.object closing = closing
 softer shapes.object comma = comma
 softer shapes.object semicolon = semicolon
+softer shapes.object colon = colon
 softer shapes.object increment = increment
 softer shapes.object decrement = decrement
 softer shapes.object opening_bracket = opening_bracket
@@ -387,6 +389,9 @@ pub record Words : Type 0 where
   pub else_whole : IsToken key_end (codes "else")
   pub while_whole : IsToken key_end (codes "while")
   pub do_whole : IsToken key_end (codes "do")
+  pub switch_whole : IsToken key_end (codes "switch")
+  pub case_whole : IsToken key_end (codes "case")
+  pub default_whole : IsToken key_end (codes "default")
   pub break_whole : IsToken key_end (codes "break")
   pub continue_whole : IsToken key_end (codes "continue")
   pub import_whole : IsToken key_end (codes "import")

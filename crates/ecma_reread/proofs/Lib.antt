@@ -39,6 +39,7 @@ pub mod Blocks
 pub mod Branches
 pub mod Loops
 pub mod Labels
+pub mod Switches
 pub mod StatementForms
 pub mod Modules
 pub mod Whole

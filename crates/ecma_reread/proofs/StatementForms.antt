@@ -3,8 +3,8 @@ use Rattle.std.proofs.Common.{ℕ, suc, Bool, List, ap}
 use Rattle.ecma_tree.specs.declared.node.Node.{Node}
 use Rattle.ecma_reread.specs.Machine.{taken}
 use Rattle.ecma_reread.specs.Shapes as shapes
-use Rattle.ecma_reread.specs.Shapes.{IsInitializer, IsDeclarator, AreDeclarators, Ending, IsStatement, IsBlock, AreStatements}
-use Rattle.ecma_reread.specs.Tokens.{line_at, ident_word, closing_gap, is_braced, branch_gap, statement_tokens, block_tokens, lined_tokens, bare_statement, bare_block, bare_statements}
+use Rattle.ecma_reread.specs.Shapes.{IsInitializer, IsDeclarator, AreDeclarators, Ending, IsStatement, IsBlock, IsCase, AreCases, AreStatements}
+use Rattle.ecma_reread.specs.Tokens.{line_at, ident_word, closing_gap, is_braced, branch_gap, statement_tokens, block_tokens, case_tokens, cases_tokens, lined_tokens, bare_statement, bare_block, bare_case, bare_cases, bare_statements}
 use Rattle.ecma_reread.proofs.Bindings.{standing}
 use Rattle.ecma_reread.proofs.Joins.{no_new_line, no_brace}
 use Rattle.ecma_reread.proofs.Calls.{ident_free, expression_form}
@@ -14,6 +14,7 @@ use Rattle.ecma_reread.proofs.Jumps.{empty_form, debugger_form, return_form, bre
 use Rattle.ecma_reread.proofs.Blocks.{ReadAsStatements, no_statements_form, more_statements_form, ReadAsBlock, braces_form, block_statement}
 use Rattle.ecma_reread.proofs.Branches.{if_form, if_else_form}
 use Rattle.ecma_reread.proofs.Loops.{while_form, do_form}
+use Rattle.ecma_reread.proofs.Switches.{ReadAsCase, ReadAsCases, no_cases_form, more_cases_form, case_form, default_form, switch_form}
 use Rattle.ecma_reread.proofs.Labels.{labeled_form, break_label_form, continue_label_form}
 
 module _ (assigned : Bool) where
@@ -46,10 +47,19 @@ module _ (assigned : Bool) where
     statement_form (shapes.if_else at e b a) d = if_else_form assigned (standing assigned (expression_form assigned e)) (statement_form b d) (statement_form a d) (branch_gap (is_braced b) d)
     statement_form (shapes.while_loop at e b) d = while_form assigned (standing assigned (expression_form assigned e)) (statement_form b d)
     statement_form (shapes.do_loop at e b) d = do_form assigned (standing assigned (expression_form assigned e)) (statement_form b d) (branch_gap (is_braced b) d)
+    statement_form (shapes.switch_statement at at' {cs = cs'} e cs) d = switch_form assigned (standing assigned (expression_form assigned e)) (case_forms cs (suc d)) (closing_gap cs' d)
     statement_form (shapes.labeled at i b) d = labeled_form assigned (ident_word i) (ident_free assigned i) (standing assigned (expression_form assigned (shapes.name i))) (statement_form b d)
 
     block_form : {n : Node} (is : IsBlock n) (d : ℕ) → ReadAsBlock assigned (block_tokens is d) (bare_block is)
     block_form (shapes.block_of at at' {ss = ss'} ss) d = braces_form assigned (statement_forms ss (suc d)) (closing_gap ss' d)
+
+    case_of_form : {n : Node} (is : IsCase n) (d : ℕ) → ReadAsCase assigned (case_tokens is d) (bare_case is)
+    case_of_form (shapes.case_of at at' e ss) d = case_form assigned (standing assigned (expression_form assigned e)) (statement_forms ss (suc d))
+    case_of_form (shapes.default_of at at' a ss) d = default_form assigned (statement_forms ss (suc d))
+
+    case_forms : {cs : List Node} (is : AreCases cs) (d : ℕ) → ReadAsCases assigned (cases_tokens is d) (bare_cases is)
+    case_forms shapes.no_cases d = no_cases_form assigned
+    case_forms (shapes.more_cases c cs) d = more_cases_form assigned (case_of_form c d) (case_forms cs d) (line_at d)
 
     statement_forms : {ss : List Node} (is : AreStatements ss) (d : ℕ) → ReadAsStatements assigned (lined_tokens is d) (bare_statements is)
     statement_forms shapes.no_statements d = no_statements_form assigned

@@ -13,9 +13,9 @@ use Rattle.ecma_tokens.specs.Items.{Tok, sign, Gap, no_gap, Items, it}
 use Rattle.ecma_tokens.specs.Good.{IsGap, IsToken, is_gap_character}
 use Rattle.ecma_tokens.specs.Joins.{joins, joins_next, Joined}
 use Rattle.ecma_reread.specs.Shapes as shapes
-use Rattle.ecma_reread.specs.Shapes.{Level, IsExpression, Ending, IsStatement, IsBlock, AreStatements}
-use Rattle.ecma_reread.specs.Tokens.{margin, line_at, blank, sign_of, expression_tokens, ident_word, declarators_tokens, closing_gap, is_braced, branch_gap, test_tokens, statement_tokens, block_tokens, lined_tokens}
-use Rattle.ecma_reread.proofs.Joins.{begun, closing, semicolon, ident_whole, blank_joins, opening_joins, no_gap_is, blank_is, Words, expression_joined, declarators_soft, declarator_joined, declarators_joined}
+use Rattle.ecma_reread.specs.Shapes.{Level, IsExpression, Ending, IsStatement, IsBlock, IsCase, AreCases, AreStatements}
+use Rattle.ecma_reread.specs.Tokens.{margin, line_at, blank, sign_of, expression_tokens, ident_word, declarators_tokens, closing_gap, is_braced, branch_gap, test_tokens, statement_tokens, block_tokens, case_tokens, cases_tokens, lined_tokens}
+use Rattle.ecma_reread.proofs.Joins.{begun, closing, semicolon, colon, ident_whole, blank_joins, opening_joins, no_gap_is, blank_is, Words, expression_joined, declarators_soft, declarator_joined, declarators_joined}
 
 -- gaps that keep any two tokens apart
 abbrev pub Wide : Gap → Type 0
@@ -58,11 +58,24 @@ statement_apart (shapes.if_only at e b a) d g w us t = w t (items.key (codes "if
 statement_apart (shapes.if_else at e b a) d g w us t = w t (items.key (codes "if"))
 statement_apart (shapes.while_loop at e b) d g w us t = w t (items.key (codes "while"))
 statement_apart (shapes.do_loop at e b) d g w us t = w t (items.key (codes "do"))
+statement_apart (shapes.switch_statement at at' e cs) d g w us t = w t (items.key (codes "switch"))
 statement_apart (shapes.labeled at i b) d g w us t = w t (items.key (ident_word i))
 
 lined_apart : {ss : List Node} (is : AreStatements ss) (d : ℕ) (us : Items) (t : Tok) → joins_next t us ≡ true → joins_next t (lined_tokens is d us) ≡ true
 lined_apart shapes.no_statements d us t a = a
 lined_apart (shapes.more_statements s ss) d us t a = statement_apart s d (line_at d) (line_wide d) (lined_tokens ss d us) t
+
+case_apart : {n : Node} (is : IsCase n) (d : ℕ) (g : Gap) → Wide g → (us : Items) → Apart (case_tokens is d g us)
+case_apart (shapes.case_of at at' e ss) d g w us t = w t (items.key (codes "case"))
+case_apart (shapes.default_of at at' a ss) d g w us t = w t (items.key (codes "default"))
+
+cases_apart : {cs : List Node} (is : AreCases cs) (d : ℕ) (us : Items) (t : Tok) → joins_next t us ≡ true → joins_next t (cases_tokens is d us) ≡ true
+cases_apart shapes.no_cases d us t a = a
+cases_apart (shapes.more_cases c cs) d us t a = case_apart c d (line_at d) (line_wide d) (cases_tokens cs d us) t
+
+cases_empty : {cs : List Node} (is : AreCases cs) (d : ℕ) (us : Items) → cs ≡ [] → cases_tokens is d us ≡ us
+cases_empty shapes.no_cases d us e = refl
+cases_empty (shapes.more_cases c cs) d us e = cc
 
 lined_empty : {ss : List Node} (is : AreStatements ss) (d : ℕ) (us : Items) → ss ≡ [] → lined_tokens is d us ≡ us
 lined_empty shapes.no_statements d us e = refl
@@ -133,11 +146,28 @@ module _ (words : Words) where
         let ws = it (branch_gap (is_braced b) d) (items.key (codes "while")) ts in
         let rest : Joined ws = (branch_is (is_braced b) d, words.while_whole, refl, test_joined e (sign_of (codes ";") us) refl (ended us a j)) in
         (h, words.do_whole, statement_apart b d blank blank_wide ws (items.key (codes "do")), statement_joined b d blank blank_is ws (branch_apart (is_braced b) d (items.key (codes "while")) ts) rest)
+    statement_joined (shapes.switch_statement at at' {cs = cs'} e cs) d g h us a j = (
+      h,
+      words.switch_whole,
+      refl,
+      test_joined e (it blank (sign (codes "{")) (cases_tokens cs (suc d) (it (closing_gap cs' d) (sign (codes "}")) us))) refl
+          (braces_joined cs' d (cases_tokens cs (suc d)) (λ vs e. cases_empty cs (suc d) vs e) (λ vs b. cases_apart cs (suc d) vs (sign (codes "{")) (b (sign (codes "{")))) (cases_joined cs (suc d)) blank blank_is us a j),
+    )
     statement_joined (shapes.labeled at i b) d g h us a j = (h, ident_whole i, refl, (no_gap_is, refl, statement_apart b d blank blank_wide us (sign (codes ":")), statement_joined b d blank blank_is us a j))
 
     block_joined : {n : Node} (is : IsBlock n) (d : ℕ) (g : Gap) → IsGap g → (us : Items) → Apart us → Joined us → Joined (block_tokens is d g us)
     block_joined (shapes.block_of at at' {ss = ss'} ss) d g h us a j =
         braces_joined ss' d (lined_tokens ss (suc d)) (λ vs e. lined_empty ss (suc d) vs e) (λ vs b. lined_apart ss (suc d) vs (sign (codes "{")) (b (sign (codes "{")))) (lined_joined ss (suc d)) g h us a j
+
+    case_joined : {n : Node} (is : IsCase n) (d : ℕ) (g : Gap) → IsGap g → (us : Items) → Apart us → Joined us → Joined (case_tokens is d g us)
+    case_joined (shapes.case_of at at' e ss) d g h us a j =
+        let body = sign_of (codes ":") (lined_tokens ss (suc d) us) in
+        (h, words.case_whole, blank_joins (items.key (codes "case")) e body, expression_joined words e blank blank_is body colon (no_gap_is, refl, lined_apart ss (suc d) us (sign (codes ":")) (a (sign (codes ":"))), lined_joined ss (suc d) us a j))
+    case_joined (shapes.default_of at at' n ss) d g h us a j = (h, words.default_whole, refl, (no_gap_is, refl, lined_apart ss (suc d) us (sign (codes ":")) (a (sign (codes ":"))), lined_joined ss (suc d) us a j))
+
+    cases_joined : {cs : List Node} (is : AreCases cs) (d : ℕ) (us : Items) → Apart us → Joined us → Joined (cases_tokens is d us)
+    cases_joined shapes.no_cases d us a j = j
+    cases_joined (shapes.more_cases c cs) d us a j = case_joined c d (line_at d) (line_is d) (cases_tokens cs d us) (λ t. cases_apart cs d us t (a t)) (cases_joined cs d us a j)
 
     lined_joined : {ss : List Node} (is : AreStatements ss) (d : ℕ) (us : Items) → Apart us → Joined us → Joined (lined_tokens is d us)
     lined_joined shapes.no_statements d us a j = j

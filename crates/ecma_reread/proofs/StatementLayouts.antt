@@ -12,17 +12,17 @@ use Rattle.ecma_print.specs.declared.place.Begins.TheVariants.{StatementStart}
 use Rattle.ecma_print.specs.declared.place.Between.{Between}
 use Rattle.ecma_print.specs.declared.place.Between.TheVariants.{Blank, Else, LineElse}
 use Rattle.ecma_print.specs.declared.place.Spot.{Spot}
-use Rattle.ecma_print.specs.declared.place.Place.TheVariants.{At, Within, Block, Commas}
+use Rattle.ecma_print.specs.declared.place.Place.TheVariants.{At, Within, Deeper, Block, Commas}
 use Rattle.ecma_print.specs.Places.{before, after, free, beginning}
-use Rattle.ecma_print.specs.Laid.{Laid, is_block}
+use Rattle.ecma_print.specs.Laid.{Laid, is_absent, is_block}
 use Rattle.ecma_print.specs.Lists.{new_lines, block}
-use Rattle.ecma_print.specs.Statements.{else_behind, behind_body, keyword}
+use Rattle.ecma_print.specs.Statements.{else_behind, behind_body, case_word, keyword}
 use Rattle.ecma_print.specs.Layout.{in_place, lay_step, laid}
 use Rattle.ecma_tokens.specs.Items as items
 use Rattle.ecma_tokens.specs.Items.{sign, Gap, no_gap, Items, it, render}
 use Rattle.ecma_reread.specs.Shapes as shapes
-use Rattle.ecma_reread.specs.Shapes.{Level, IsExpression, IsDeclarator, AreDeclarators, Ending, IsStatement, IsBlock, AreStatements}
-use Rattle.ecma_reread.specs.Tokens.{margin, line_at, blank, sign_of, expression_tokens, declarator_tokens, declarators_tokens, closing_gap, is_braced, branch_gap, test_tokens, statement_tokens, block_tokens, lined_tokens}
+use Rattle.ecma_reread.specs.Shapes.{Level, IsExpression, IsDeclarator, AreDeclarators, Ending, IsStatement, IsBlock, IsCase, AreCases, AreStatements}
+use Rattle.ecma_reread.specs.Tokens.{margin, line_at, blank, sign_of, expression_tokens, declarator_tokens, declarators_tokens, closing_gap, is_braced, branch_gap, test_tokens, statement_tokens, block_tokens, case_tokens, cases_tokens, lined_tokens}
 use Rattle.ecma_reread.proofs.Layouts.{laid_node, at_node, calm_0, calm_start, gap_out, expression_laid, within_laid, declarator_laid, more_declarators_laid}
 
 -- an expression behind a word, and the end of the statement
@@ -65,6 +65,16 @@ within_there n h between spot m rest =
     ap (λ x. x.at (Within between spot) m rest) e
     ∙ (within_placed _ _ (sym (ap (λ x. is_there x.kind) e) ∙ h) between spot m rest ∙ ap (λ x. before between m (x.at (At spot) m (after between m rest))) (sym e))
 
+-- an expression is there: a blank stands before it
+no_absent : {level : Level} {e : Node} → IsExpression level e → is_absent (laid e).kind ≡ false
+no_absent {e = e} is =
+    let h = fold_out-Node Laid lay_step e in
+    ap (λ x. is_absent x.kind) h ∙ go _ _ (sym (ap (λ x. x.at (Within Blank (free 0)) [] []) h) ∙ within_laid is Blank (free 0) [] [])
+  where
+    go : (k : Kind) (cs : List Laid) {rest : List ℕ} → in_place k cs (Within Blank (free 0)) [] [] ≡ codes " " ++ rest → is_absent k ≡ false
+    go kind.Absent cs e = cc
+    go k cs e = refl
+
 -- what the layout of a statement asks of its kind
 record Seen (n : Node) (braced : Bool) : Type 0 where
   pub there : is_there (laid n).kind ≡ true
@@ -90,6 +100,7 @@ statement_seen (shapes.if_only at e b a) = seen at _ _ false refl refl
 statement_seen (shapes.if_else at e b a) = seen at _ _ false refl refl
 statement_seen (shapes.while_loop at e b) = seen at _ _ false refl refl
 statement_seen (shapes.do_loop at e b) = seen at _ _ false refl refl
+statement_seen (shapes.switch_statement at at' e cs) = seen at _ _ false refl refl
 statement_seen (shapes.labeled at i b) = seen at _ _ false refl refl
 
 -- a body behind a blank
@@ -178,6 +189,13 @@ mutual
       (ap (λ c. (laid b').at (Within Blank (free 0)) m (behind_body c m (codes "while (" ++ (laid t').at (At (free 0)) m (codes ");" ++ render us)))) sb.block_is
       ∙ (ap (λ z. (laid b').at (Within Blank (free 0)) m z) (branch_text (is_braced b) d (codes "while (" ++ (laid t').at (At (free 0)) m (codes ");" ++ render us)) ∙ ap (λ z. (let h = branch_gap (is_braced b) d in h.blanks ++ (codes "while" ++ z))) (test_laid t m (sign_of (codes ";") us)))
       ∙ body_laid sb m ws (statement_tokens b d blank ws) (statement_laid b d blank ws)))))
+  statement_laid (shapes.switch_statement at at' {test = t'} {cs = cs'} t cs) d g us =
+      let m = margin d in
+      ap (λ z. g.blanks ++ z)
+      (sym (at_node at kind.SwitchStmt (t' ∷ node_of at' kind.List cs' ∷ []) (At (free 0)) m (render us)
+      ∙ ap (λ z. codes "switch" ++ z)
+      (ap (λ z. codes " (" ++ (laid t').at (At (free 0)) m (codes ") " ++ z)) (at_node at' kind.List cs' Block m (render us) ∙ in_braces cs' d (cases_tokens cs (suc d)) (cases_laid cs (suc d)) us)
+      ∙ test_laid t m (it blank (sign (codes "{")) (cases_tokens cs (suc d) (it (closing_gap cs' d) (sign (codes "}")) us))))))
   statement_laid (shapes.labeled at {body = b'} (shapes.ident of w i) b) d g us =
       let m = margin d in
       ap (λ z. g.blanks ++ z)
@@ -190,6 +208,27 @@ mutual
       ap (λ z. g.blanks ++ z)
       (at_node at kind.BlockStmt (node_of at' kind.List ss' ∷ []) (At (free 0)) (margin d) (render us)
       ∙ (at_node at' kind.List ss' Block (margin d) (render us) ∙ in_braces ss' d (lined_tokens ss (suc d)) (lined_laid ss (suc d)) us))
+
+  case_laid : {n : Node} (is : IsCase n) (d : ℕ) (g : Gap) (us : Items) → render (case_tokens is d g us) ≡ g.blanks ++ (laid n).at (At (free 0)) (margin d) (render us)
+  case_laid (shapes.case_of at at' {level = l} {test = t'} {ss = ss'} t ss) d g us =
+      let m = margin d in
+      let body = lined_tokens ss (suc d) us in
+      ap (λ z. g.blanks ++ z)
+      (sym (at_node at kind.SwitchCase (t' ∷ node_of at' kind.List ss' ∷ []) (At (free 0)) m (render us)
+      ∙ (ap (λ b. case_word b ++ (laid t').at (At (free 0)) m (codes ":" ++ (laid (node_of at' kind.List ss')).at Deeper m (render us))) (no_absent t)
+      ∙ (ap (λ z. codes "case " ++ (laid t').at (At (free 0)) m (codes ":" ++ z)) (at_node at' kind.List ss' Deeper m (render us) ∙ lined_laid ss (suc d) us)
+      ∙ (ap (λ z. codes "case " ++ z) (expression_laid t (free 0) (calm_0 l) m (sign_of (codes ":") body)) ∙ ap (λ z. codes "case" ++ z) (sym (gap_out t blank (sign_of (codes ":") body))))))))
+  case_laid (shapes.default_of at at' {ss = ss'} (shapes.absent at'') ss) d g us =
+      let m = margin d in
+      let none = node_of at'' kind.Absent [] in
+      ap (λ z. g.blanks ++ z)
+      (sym (at_node at kind.SwitchCase (none ∷ node_of at' kind.List ss' ∷ []) (At (free 0)) m (render us)
+      ∙ (ap (λ b. case_word b ++ (laid none).at (At (free 0)) m (codes ":" ++ (laid (node_of at' kind.List ss')).at Deeper m (render us))) (ap (λ x. is_absent x.kind) (laid_node at'' kind.Absent []))
+      ∙ ap (λ z. codes "default" ++ z) (at_node at'' kind.Absent [] (At (free 0)) m (codes ":" ++ (laid (node_of at' kind.List ss')).at Deeper m (render us)) ∙ ap (λ z. codes ":" ++ z) (at_node at' kind.List ss' Deeper m (render us) ∙ lined_laid ss (suc d) us)))))
+
+  cases_laid : {cs : List Node} (is : AreCases cs) (d : ℕ) (us : Items) → new_lines (map laid cs) (margin d) (render us) ≡ render (cases_tokens is d us)
+  cases_laid shapes.no_cases d us = refl
+  cases_laid (shapes.more_cases {c = c'} c cs) d us = ap (λ z. codes "\n" ++ (margin d ++ (laid c').at (At (free 0)) (margin d) z)) (cases_laid cs d us) ∙ sym (case_laid c d (line_at d) (cases_tokens cs d us))
 
   lined_laid : {ss : List Node} (is : AreStatements ss) (d : ℕ) (us : Items) → new_lines (map laid ss) (margin d) (render us) ≡ render (lined_tokens is d us)
   lined_laid shapes.no_statements d us = refl

@@ -6,8 +6,8 @@ use Rattle.ecma_tree.specs.declared.node.Node.{Node}
 use Rattle.ecma_tree.specs.Nodes.{absent, list_node}
 use Rattle.ecma_tree.specs.Spans.{without_spans}
 use Rattle.ecma_reread.specs.Shapes as shapes
-use Rattle.ecma_reread.specs.Shapes.{Level, IsIdent, ident, IsKey, key, IsAbsent, IsExpression, IsElement, IsArguments, AreElements, AreExpressions, IsInitializer, IsDeclarator, AreDeclarators, Ending, IsStatement, IsBlock, AreStatements, AreSlots}
-use Rattle.ecma_reread.specs.Tokens.{bare, bare_ident, key_word, bare_expression, bare_element, bare_arguments, bare_elements, bare_expressions, bare_initializer, bare_declarator, bare_declarators, bare_statement, bare_block, bare_statements, bare_slots}
+use Rattle.ecma_reread.specs.Shapes.{Level, IsIdent, ident, IsKey, key, IsAbsent, IsExpression, IsElement, IsArguments, AreElements, AreExpressions, IsInitializer, IsDeclarator, AreDeclarators, Ending, IsStatement, IsBlock, AreStatements, AreSlots, IsCase, AreCases}
+use Rattle.ecma_reread.specs.Tokens.{bare, bare_ident, key_word, bare_expression, bare_element, bare_arguments, bare_elements, bare_expressions, bare_initializer, bare_declarator, bare_declarators, bare_statement, bare_block, bare_statements, bare_slots, bare_case, bare_cases}
 use Rattle.ecma_reread.proofs.Unplaced.{without_spans-node}
 
 pub absent_bare : {n : Node} → IsAbsent n → without_spans n ≡ absent
@@ -108,10 +108,19 @@ mutual
       ∙ (ap₂ (λ x y. bare kind.IfStmt (x ∷ y ∷ without_spans a' ∷ [])) (expression_bare e) (statement_bare b) ∙ ap (λ z. bare kind.IfStmt (bare_expression e ∷ bare_statement b ∷ z ∷ [])) (statement_bare a))
   statement_bare (shapes.while_loop at e b) = without_spans-node at kind.WhileStmt _ ∙ ap₂ (λ x y. bare kind.WhileStmt (x ∷ y ∷ [])) (expression_bare e) (statement_bare b)
   statement_bare (shapes.do_loop at e b) = without_spans-node at kind.DoWhileStmt _ ∙ ap₂ (λ x y. bare kind.DoWhileStmt (x ∷ y ∷ [])) (expression_bare e) (statement_bare b)
+  statement_bare (shapes.switch_statement at at' e cs) = without_spans-node at kind.SwitchStmt _ ∙ ap₂ (λ x y. bare kind.SwitchStmt (x ∷ y ∷ [])) (expression_bare e) (without_spans-node at' kind.List _ ∙ ap list_node (cases_bare cs))
   statement_bare (shapes.labeled at i b) = without_spans-node at kind.LabeledStmt _ ∙ ap₂ (λ x y. bare kind.LabeledStmt (x ∷ y ∷ [])) (ident_bare i) (statement_bare b)
 
   block_bare : {n : Node} (is : IsBlock n) → without_spans n ≡ bare_block is
   block_bare (shapes.block_of at at' ss) = without_spans-node at kind.BlockStmt _ ∙ ap (λ x. bare kind.BlockStmt (x ∷ [])) (without_spans-node at' kind.List _ ∙ ap list_node (statements_bare ss))
+
+  case_bare : {n : Node} (is : IsCase n) → without_spans n ≡ bare_case is
+  case_bare (shapes.case_of at at' e ss) = without_spans-node at kind.SwitchCase _ ∙ ap₂ (λ x y. bare kind.SwitchCase (x ∷ y ∷ [])) (expression_bare e) (without_spans-node at' kind.List _ ∙ ap list_node (statements_bare ss))
+  case_bare (shapes.default_of at at' a ss) = without_spans-node at kind.SwitchCase _ ∙ ap₂ (λ x y. bare kind.SwitchCase (x ∷ y ∷ [])) (absent_bare a) (without_spans-node at' kind.List _ ∙ ap list_node (statements_bare ss))
+
+  cases_bare : {cs : List Node} (is : AreCases cs) → map without_spans cs ≡ bare_cases is
+  cases_bare shapes.no_cases = refl
+  cases_bare (shapes.more_cases c cs) = ap₂ (λ x xs. x ∷ xs) (case_bare c) (cases_bare cs)
 
   statements_bare : {ss : List Node} (is : AreStatements ss) → map without_spans ss ≡ bare_statements is
   statements_bare shapes.no_statements = refl

@@ -95,6 +95,18 @@ do_spelled : Spelled IsKey (codes "do")
 unfolding chars is_utf8 encode is_xid_start is_xid_continue in_ranges xid_start_ranges xid_continue_ranges
 do_spelled = (IsUtf8-from_is_utf8 (codes "do") refl, (refl, refl))
 
+switch_spelled : Spelled IsKey (codes "switch")
+unfolding chars is_utf8 encode is_xid_start is_xid_continue in_ranges xid_start_ranges xid_continue_ranges
+switch_spelled = (IsUtf8-from_is_utf8 (codes "switch") refl, (refl, refl))
+
+case_spelled : Spelled IsKey (codes "case")
+unfolding chars is_utf8 encode is_xid_start is_xid_continue in_ranges xid_start_ranges xid_continue_ranges
+case_spelled = (IsUtf8-from_is_utf8 (codes "case") refl, (refl, refl))
+
+default_spelled : Spelled IsKey (codes "default")
+unfolding chars is_utf8 encode is_xid_start is_xid_continue in_ranges xid_start_ranges xid_continue_ranges
+default_spelled = (IsUtf8-from_is_utf8 (codes "default") refl, (refl, refl))
+
 break_spelled : Spelled IsKey (codes "break")
 unfolding chars is_utf8 encode is_xid_start is_xid_continue in_ranges xid_start_ranges xid_continue_ranges
 break_spelled = (IsUtf8-from_is_utf8 (codes "break") refl, (refl, refl))
@@ -139,6 +151,9 @@ layout_words = record {
   else_whole = whole (codes "else") else_spelled;
   while_whole = whole (codes "while") while_spelled;
   do_whole = whole (codes "do") do_spelled;
+  switch_whole = whole (codes "switch") switch_spelled;
+  case_whole = whole (codes "case") case_spelled;
+  default_whole = whole (codes "default") default_spelled;
   break_whole = whole (codes "break") break_spelled;
   continue_whole = whole (codes "continue") continue_spelled;
   import_whole = whole (codes "import") import_spelled;

@@ -182,10 +182,19 @@ mutual
         → IsStatement ending (node_of at kind.IfStmt (test ∷ body ∷ alternative ∷ []))
     while_loop : (at : Span) {level : Level} {ending : Ending} {test body : Node} → IsExpression level test → IsStatement ending body → IsStatement ending (node_of at kind.WhileStmt (test ∷ body ∷ []))
     do_loop : (at : Span) {level : Level} {ending : Ending} {test body : Node} → IsExpression level test → IsStatement ending body → IsStatement closed (node_of at kind.DoWhileStmt (test ∷ body ∷ []))
+    switch_statement : (at of_list : Span) {level : Level} {test : Node} {cs : List Node} → IsExpression level test → AreCases cs → IsStatement closed (node_of at kind.SwitchStmt (test ∷ node_of of_list kind.List cs ∷ []))
     labeled : (at : Span) {ending : Ending} {label body : Node} → IsIdent label → IsStatement ending body → IsStatement ending (node_of at kind.LabeledStmt (label ∷ body ∷ []))
 
   pub data IsBlock : Node → Type 0 where
     block_of : (at of_list : Span) {ss : List Node} → AreStatements ss → IsBlock (node_of at kind.BlockStmt (node_of of_list kind.List ss ∷ []))
+
+  pub data IsCase : Node → Type 0 where
+    case_of : (at of_list : Span) {level : Level} {test : Node} {ss : List Node} → IsExpression level test → AreStatements ss → IsCase (node_of at kind.SwitchCase (test ∷ node_of of_list kind.List ss ∷ []))
+    default_of : (at of_list : Span) {none : Node} {ss : List Node} → IsAbsent none → AreStatements ss → IsCase (node_of at kind.SwitchCase (none ∷ node_of of_list kind.List ss ∷ []))
+
+  pub data AreCases : List Node → Type 0 where
+    no_cases : AreCases []
+    more_cases : {c : Node} {cs : List Node} → IsCase c → AreCases cs → AreCases (c ∷ cs)
 
   pub data AreStatements : List Node → Type 0 where
     no_statements : AreStatements []

@@ -22,7 +22,7 @@ use Rattle.ecma_print.specs.Operators.{unary_sign, update_sign}
 use Rattle.ecma_print.specs.Statements.{keyword}
 use Rattle.ecma_tokens.specs.Items as items
 use Rattle.ecma_tokens.specs.Items.{Tok, sign, Gap, no_gap, Items, it}
-use Rattle.ecma_reread.specs.Shapes.{IsIdent, ident, IsKey, key, Level, IsExpression, looser, element, prefix_update, postfix_update, await_expression, unary_expression, binary_expression, exponentiation, both, either, coalesced, assignment_expression, conditional_expression, sequence_expression, name, string, number, this_word, big_int, null_word, true_word, false_word, member, call, parenthesized, IsElement, one, spread, IsArguments, no_arguments, arguments, AreElements, no_elements, more_elements, AreExpressions, no_expressions, more_expressions, IsInitializer, no_initializer, initializer, IsDeclarator, declarator, AreDeclarators, no_declarators, more_declarators, IsStatement, expression, declaration, empty, debugger_word, throw, return_value, return_nothing, break_nothing, continue_nothing, Ending, break_label, continue_label, block, if_only, if_else, while_loop, do_loop, labeled, IsBlock, block_of, AreStatements, no_statements, more_statements, array, AreSlots, no_slots, filled, hole}
+use Rattle.ecma_reread.specs.Shapes.{IsIdent, ident, IsKey, key, Level, IsExpression, looser, element, prefix_update, postfix_update, await_expression, unary_expression, binary_expression, exponentiation, both, either, coalesced, assignment_expression, conditional_expression, sequence_expression, name, string, number, this_word, big_int, null_word, true_word, false_word, member, call, parenthesized, IsElement, one, spread, IsArguments, no_arguments, arguments, AreElements, no_elements, more_elements, AreExpressions, no_expressions, more_expressions, IsInitializer, no_initializer, initializer, IsDeclarator, declarator, AreDeclarators, no_declarators, more_declarators, IsStatement, expression, declaration, empty, debugger_word, throw, return_value, return_nothing, break_nothing, continue_nothing, Ending, break_label, continue_label, block, if_only, if_else, while_loop, do_loop, labeled, IsBlock, block_of, AreStatements, no_statements, more_statements, array, AreSlots, no_slots, filled, hole, switch_statement, IsCase, case_of, default_of, AreCases, no_cases, more_cases}
 
 abbrev pub blank : Gap
 blank = record { blanks = codes " "; new_line = false }
@@ -227,12 +227,21 @@ abbrev mutual
   statement_tokens (if_else at e b a) d g us = it g (items.key (codes "if")) (test_tokens e (statement_tokens b d blank (it (branch_gap (is_braced b) d) (items.key (codes "else")) (statement_tokens a d blank us))))
   statement_tokens (while_loop at e b) d g us = it g (items.key (codes "while")) (test_tokens e (statement_tokens b d blank us))
   statement_tokens (do_loop at e b) d g us = it g (items.key (codes "do")) (statement_tokens b d blank (it (branch_gap (is_braced b) d) (items.key (codes "while")) (test_tokens e (sign_of (codes ";") us))))
+  statement_tokens (switch_statement at at' {cs = cs'} e cs) d g us = it g (items.key (codes "switch")) (test_tokens e (it blank (sign (codes "{")) (cases_tokens cs (suc d) (it (closing_gap cs' d) (sign (codes "}")) us))))
   statement_tokens (labeled at i b) d g us = it g (items.key (ident_word i)) (sign_of (codes ":") (statement_tokens b d blank us))
 
   pub block_tokens : {b : Node} → IsBlock b → ℕ → Gap → Items → Items
   block_tokens (block_of at at' {ss = ss'} ss) d g us = it g (sign (codes "{")) (lined_tokens ss (suc d) (it (closing_gap ss' d) (sign (codes "}")) us))
 
+  pub case_tokens : {c : Node} → IsCase c → ℕ → Gap → Items → Items
+  case_tokens (case_of at at' e ss) d g us = it g (items.key (codes "case")) (expression_tokens e blank (sign_of (codes ":") (lined_tokens ss (suc d) us)))
+  case_tokens (default_of at at' a ss) d g us = it g (items.key (codes "default")) (sign_of (codes ":") (lined_tokens ss (suc d) us))
+
   -- each on a line of its own
+  pub cases_tokens : {cs : List Node} → AreCases cs → ℕ → Items → Items
+  cases_tokens no_cases d us = us
+  cases_tokens (more_cases c cs) d us = case_tokens c d (line_at d) (cases_tokens cs d us)
+
   pub lined_tokens : {ss : List Node} → AreStatements ss → ℕ → Items → Items
   lined_tokens no_statements d us = us
   lined_tokens (more_statements s ss) d us = statement_tokens s d (line_at d) (lined_tokens ss d us)
@@ -348,10 +357,19 @@ abbrev mutual
   bare_statement (if_else at e b a) = bare kind.IfStmt (bare_expression e ∷ bare_statement b ∷ bare_statement a ∷ [])
   bare_statement (while_loop at e b) = bare kind.WhileStmt (bare_expression e ∷ bare_statement b ∷ [])
   bare_statement (do_loop at e b) = bare kind.DoWhileStmt (bare_expression e ∷ bare_statement b ∷ [])
+  bare_statement (switch_statement at at' e cs) = bare kind.SwitchStmt (bare_expression e ∷ list_node (bare_cases cs) ∷ [])
   bare_statement (labeled at i b) = bare kind.LabeledStmt (bare_ident i ∷ bare_statement b ∷ [])
 
   pub bare_block : {b : Node} → IsBlock b → Node
   bare_block (block_of at at' ss) = bare kind.BlockStmt (list_node (bare_statements ss) ∷ [])
+
+  pub bare_case : {c : Node} → IsCase c → Node
+  bare_case (case_of at at' e ss) = bare kind.SwitchCase (bare_expression e ∷ list_node (bare_statements ss) ∷ [])
+  bare_case (default_of at at' a ss) = bare kind.SwitchCase (absent ∷ list_node (bare_statements ss) ∷ [])
+
+  pub bare_cases : {cs : List Node} → AreCases cs → List Node
+  bare_cases no_cases = []
+  bare_cases (more_cases c cs) = bare_case c ∷ bare_cases cs
 
   pub bare_statements : {ss : List Node} → AreStatements ss → List Node
   bare_statements no_statements = []
