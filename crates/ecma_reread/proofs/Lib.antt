@@ -41,6 +41,7 @@ pub mod Loops
 pub mod Labels
 pub mod Switches
 pub mod StatementForms
+pub mod Exports
 pub mod Modules
 pub mod Whole
 pub mod ModuleTrees

@@ -8,9 +8,9 @@ use Rattle.ecma_tokens.specs.Items.{Tok, sign, Gap, no_gap, Items, ends, it}
 use Rattle.ecma_tokens.specs.Good.{IsGap, IsToken}
 use Rattle.ecma_tokens.specs.Joins.{parted_by, joins_next, Fine, Joined}
 use Rattle.ecma_reread.specs.Modules as modules
-use Rattle.ecma_reread.specs.Modules.{IsString, IsExportName, IsAttributeKey, IsAttribute, AreAttributes, IsWithClause, IsDefaultImport, IsNamespaceImport, IsNamedImport, AreNamedImports, IsImportClause, IsModuleItem, AreModuleItems, IsModule}
+use Rattle.ecma_reread.specs.Modules.{IsString, IsExportName, IsAttributeKey, IsAttribute, AreAttributes, IsWithClause, IsDefaultImport, IsNamespaceImport, IsNamedImport, AreNamedImports, IsImportClause, IsModuleItem, AreModuleItems, IsModule, IsNamedExport, AreNamedExports, IsExportClause}
 use Rattle.ecma_reread.specs.Tokens.{line, sign_of, ident_word}
-use Rattle.ecma_reread.specs.ModuleTokens.{spaced, spaced_sign, string_raw, export_name_token, attribute_key_token, attribute_tokens, more_attributes_tokens, with_tokens, source_tokens, default_import_tokens, namespace_import_tokens, named_import_tokens, more_imports_tokens, named_imports_tokens, import_clause_tokens, item_tokens, items_tokens, module_tokens}
+use Rattle.ecma_reread.specs.ModuleTokens.{spaced, spaced_sign, string_raw, export_name_token, attribute_key_token, attribute_tokens, more_attributes_tokens, with_tokens, source_tokens, default_import_tokens, namespace_import_tokens, named_import_tokens, more_imports_tokens, named_imports_tokens, import_clause_tokens, item_tokens, items_tokens, module_tokens, spaced_word, from_tokens, named_export_tokens, more_exports_tokens, export_clause_tokens}
 use Rattle.ecma_reread.proofs.Joins.{Words, no_gap_is, blank_is, ident_whole, key_whole}
 use Rattle.ecma_reread.proofs.StatementJoins.{line_wide, line_is, Apart, statement_apart, ended, statement_joined}
 
@@ -18,6 +18,10 @@ item_apart : {n : Node} (is : IsModuleItem n) (us : Items) → Apart (item_token
 item_apart (modules.statement s) us t = statement_apart s 0 line (line_wide 0) us t
 item_apart (modules.import_alone at at' s w) us t = refl
 item_apart (modules.import_bindings at at' c s w) us t = refl
+item_apart (modules.export_bindings at at' c n n') us t = refl
+item_apart (modules.export_bindings_from at at' c s w) us t = refl
+item_apart (modules.export_namespace at at' of x s w) us t = refl
+item_apart (modules.export_all at s w) us t = refl
 
 items_apart : {ns : List Node} (is : AreModuleItems ns) → Apart (items_tokens is line)
 items_apart modules.no_items t = refl
@@ -56,6 +60,22 @@ data Between : Items → Type 0 where
 key_joins : (w : List ℕ) {us : Items} → Between us → joins_next (items.key w) us ≡ true
 key_joins w comma = refl
 key_joins w parted = refl
+
+export_name_joins : {n : Node} (x : IsExportName n) (us : Items) → Between us → joins_next (export_name_token x) us ≡ true
+export_name_joins (modules.word_name at w t) us b = key_joins w b
+export_name_joins (modules.string_name s) us b = string_joins (string_raw s) us
+
+more_exports_between : {ns : List Node} (is : AreNamedExports ns) (us : Items) → Between (more_exports_tokens is (spaced_sign (codes "}") us))
+more_exports_between modules.no_exports us = parted
+more_exports_between (modules.more_exports n ns) us = comma
+
+spaced_export : (t : Tok) {n : Node} (is : IsNamedExport n) (us : Items) → joins_next t (named_export_tokens is us) ≡ true
+spaced_export t (modules.same_export at x a) us = refl
+spaced_export t (modules.other_export at x y) us = refl
+
+spaced_names : (t : Tok) {ns : List Node} (is : IsExportClause ns) (us : Items) → joins_next t (export_clause_tokens is us) ≡ true
+spaced_names t modules.export_nothing us = refl
+spaced_names t (modules.export_names n ns) us = refl
 
 more_imports_between : {ns : List Node} (is : AreNamedImports ns) (us : Items) → Between (more_imports_tokens is (spaced_sign (codes "}") us))
 more_imports_between modules.no_imports us = parted
@@ -125,11 +145,34 @@ module _ (words : Words) where
   import_clause_joined (modules.import_default_and_namespace d (modules.namespace_import at i)) t us j = default_joined d _ comma (no_gap_is, refl, refl, namespace_joined (modules.namespace_import at i) (spaced t us) parted j)
   import_clause_joined (modules.import_default_and_names d n ns) t us j = default_joined d _ comma (no_gap_is, refl, refl, named_imports_joined n ns (spaced t us) (blank_is, refl, refl, j))
 
+  named_export_joined : {n : Node} (is : IsNamedExport n) (us : Items) → Between us → Joined us → Joined (named_export_tokens is us)
+  named_export_joined (modules.same_export at x a) us b j = (blank_is, export_name_fine x, export_name_joins x us b, j)
+  named_export_joined (modules.other_export at x y) us b j = (blank_is, export_name_fine x, export_name_joins x (spaced_word (codes "as") (spaced (export_name_token y) us)) parted, (blank_is, words.as_whole, refl, (blank_is, export_name_fine y, export_name_joins y us b, j)))
+
+  more_exports_joined : {ns : List Node} (is : AreNamedExports ns) (us : Items) → Joined (spaced_sign (codes "}") us) → Joined (more_exports_tokens is (spaced_sign (codes "}") us))
+  unfolding punctuators
+  more_exports_joined modules.no_exports us j = j
+  more_exports_joined (modules.more_exports n ns) us j = (no_gap_is, refl, spaced_export (sign (codes ",")) n _, named_export_joined n _ (more_exports_between ns us) (more_exports_joined ns us j))
+
+  export_clause_joined : {ns : List Node} (is : IsExportClause ns) (us : Items) → joins_next (sign (codes "}")) us ≡ true → Joined us → Joined (export_clause_tokens is us)
+  unfolding punctuators
+  export_clause_joined modules.export_nothing us z j = (blank_is, refl, refl, (no_gap_is, refl, z, j))
+  export_clause_joined (modules.export_names n ns) us z j = (blank_is, refl, spaced_export (sign (codes "{")) n _, named_export_joined n _ (more_exports_between ns us) (more_exports_joined ns us (blank_is, refl, z, j)))
+
+  from_joined : {n k : Node} (s : IsString n) (w : IsWithClause k) (us : Items) → Joined (sign_of (codes ";") us) → Joined (from_tokens s w (sign_of (codes ";") us))
+  from_joined s w us j = (blank_is, words.from_whole, refl, source_joined s w us j)
+
   item_joined : {n : Node} (is : IsModuleItem n) (g : Gap) → IsGap g → (us : Items) → Apart us → Joined us → Joined (item_tokens is g us)
+  unfolding punctuators
   item_joined (modules.statement s) g h us a j = statement_joined words s 0 g h us a j
   item_joined (modules.import_alone at at' s w) g h us a j = (h, words.import_whole, refl, source_joined s w us (ended words us a j))
   item_joined (modules.import_bindings at at' c s w) g h us a j =
       (h, words.import_whole, spaced_clause (items.key (codes "import")) c _, import_clause_joined c (items.key (codes "from")) _ (blank_is, words.from_whole, refl, source_joined s w us (ended words us a j)))
+  item_joined (modules.export_bindings at at' c n n') g h us a j = (h, words.export_whole, spaced_names (items.key (codes "export")) c _, export_clause_joined c _ refl (ended words us a j))
+  item_joined (modules.export_bindings_from at at' c s w) g h us a j = (h, words.export_whole, spaced_names (items.key (codes "export")) c _, export_clause_joined c _ refl (from_joined s w us (ended words us a j)))
+  item_joined (modules.export_namespace at at' of x s w) g h us a j =
+      (h, words.export_whole, refl, (blank_is, refl, refl, (blank_is, words.as_whole, refl, (blank_is, export_name_fine x, export_name_joins x (from_tokens s w (sign_of (codes ";") us)) parted, from_joined s w us (ended words us a j)))))
+  item_joined (modules.export_all at s w) g h us a j = (h, words.export_whole, refl, (blank_is, refl, refl, from_joined s w us (ended words us a j)))
 
   items_joined : {ns : List Node} (is : AreModuleItems ns) (g : Gap) → IsGap g → Joined (items_tokens is g)
   unfolding punctuators

@@ -4,18 +4,18 @@ use Rattle.ecma_kind.specs.declared.kind.Kind.TheVariants as kind
 use Rattle.ecma_tree.specs.declared.node.Node.{Node}
 use Rattle.ecma_tree.specs.Nodes.{node_of}
 use Rattle.ecma_print.specs.declared.place.Between.{Between}
-use Rattle.ecma_print.specs.declared.place.Between.TheVariants.{Attributes, BeforeAs}
-use Rattle.ecma_print.specs.declared.place.Place.TheVariants.{At, Within, Braces, Lines, Imports}
+use Rattle.ecma_print.specs.declared.place.Between.TheVariants.{Attributes, From, As, BeforeAs}
+use Rattle.ecma_print.specs.declared.place.Place.TheVariants.{At, Within, Braces, Lines, Imports, Exports}
 use Rattle.ecma_print.specs.Places.{free, before, after}
 use Rattle.ecma_print.specs.Laid.{is_named}
-use Rattle.ecma_print.specs.Lists.{lines, more_commas, specifiers, more_specifiers, imports}
+use Rattle.ecma_print.specs.Lists.{lines, more_commas, specifiers, more_specifiers, imports, exports}
 use Rattle.ecma_print.specs.Layout.{laid, layout}
 use Rattle.ecma_tokens.specs.Items.{Gap, no_gap, Items, token_text, render}
 use Rattle.ecma_reread.specs.Shapes.{ident, key, absent}
 use Rattle.ecma_reread.specs.Modules as modules
-use Rattle.ecma_reread.specs.Modules.{IsString, IsExportName, IsAttribute, AreAttributes, IsWithClause, IsNamedImport, AreNamedImports, IsImportClause, IsModuleItem, AreModuleItems, IsModule}
+use Rattle.ecma_reread.specs.Modules.{IsString, IsExportName, IsAttribute, AreAttributes, IsWithClause, IsNamedImport, AreNamedImports, IsImportClause, IsNamedExport, AreNamedExports, IsExportClause, IsModuleItem, AreModuleItems, IsModule}
 use Rattle.ecma_reread.specs.Tokens.{line, sign_of}
-use Rattle.ecma_reread.specs.ModuleTokens.{spaced_word, spaced_sign, string_raw, export_name_token, attribute_tokens, more_attributes_tokens, with_tokens, source_tokens, named_import_tokens, more_imports_tokens, named_imports_tokens, import_clause_tokens, item_tokens, items_tokens, module_tokens}
+use Rattle.ecma_reread.specs.ModuleTokens.{spaced_word, spaced_sign, string_raw, export_name_token, attribute_tokens, more_attributes_tokens, with_tokens, source_tokens, named_import_tokens, more_imports_tokens, named_imports_tokens, import_clause_tokens, item_tokens, items_tokens, module_tokens, from_tokens, named_export_tokens, more_exports_tokens, export_clause_tokens}
 use Rattle.ecma_reread.proofs.Layouts.{laid_node, at_node}
 use Rattle.ecma_reread.proofs.StatementLayouts.{statement_laid}
 
@@ -25,6 +25,10 @@ string_laid (modules.string_literal at raw t) m rest = at_node at _ [] (At (free
 export_name_laid : {n : Node} (x : IsExportName n) (between : Between) (m rest : List ℕ) → (laid n).at (Within between (free 0)) m rest ≡ before between m (token_text (export_name_token x) ++ after between m rest)
 export_name_laid (modules.word_name at w t) between m rest = at_node at (kind.Ident w 0 false) [] (Within between (free 0)) m rest
 export_name_laid (modules.string_name (modules.string_literal at raw t)) between m rest = at_node at _ [] (Within between (free 0)) m rest
+
+export_name_at : {n : Node} (x : IsExportName n) (m rest : List ℕ) → (laid n).at (At (free 0)) m rest ≡ token_text (export_name_token x) ++ rest
+export_name_at (modules.word_name at w t) m rest = at_node at (kind.Ident w 0 false) [] (At (free 0)) m rest
+export_name_at (modules.string_name s) m rest = string_laid s m rest
 
 -- attributes
 
@@ -111,6 +115,42 @@ imports_laid {ns} {n} {k} is s w m us =
     some (modules.import_default_and_namespace d a) rest = refl
     some (modules.import_default_and_names d n ns) rest = refl
 
+-- exports
+
+is_named_export : {n : Node} → IsNamedExport n → is_named (laid n).kind ≡ true
+is_named_export (modules.same_export at x a) = ap (λ x. is_named x.kind) (laid_node at (kind.ExportNamedSpecifier false) _)
+is_named_export (modules.other_export at x y) = ap (λ x. is_named x.kind) (laid_node at (kind.ExportNamedSpecifier false) _)
+
+named_export_laid : {n : Node} (is : IsNamedExport n) (m : List ℕ) (us : Items) → codes " " ++ (laid n).at (At (free 0)) m (render us) ≡ render (named_export_tokens is us)
+unfolding render
+named_export_laid (modules.same_export at {name = name} {none = none} x (absent at')) m us =
+    ap (λ z. codes " " ++ z) (at_node at (kind.ExportNamedSpecifier false) (name ∷ none ∷ []) (At (free 0)) m (render us) ∙ rw (laid_node at' kind.Absent []) (export_name_at x m (render us)))
+named_export_laid (modules.other_export at {name = name} {exported = exported} x y) m us =
+    ap (λ z. codes " " ++ z)
+    (at_node at (kind.ExportNamedSpecifier false) (name ∷ exported ∷ []) (At (free 0)) m (render us)
+    ∙ ap (λ z. (laid name).at (At (free 0)) m z) (export_name_laid y As m (render us)) ∙ export_name_at x m (codes " as " ++ (token_text (export_name_token y) ++ render us)))
+
+more_exports_laid : {ns : List Node} (is : AreNamedExports ns) (m : List ℕ) (us : Items) → more_specifiers true (map laid ns) m (render us) ≡ render (more_exports_tokens is (spaced_sign (codes "}") us))
+unfolding render
+more_exports_laid modules.no_exports m us = refl
+more_exports_laid (modules.more_exports {n = n} i is) m us =
+    rw (is_named_export i)
+    (ap (λ z. codes ", " ++ (laid n).at (At (free 0)) m z) (more_exports_laid is m us)
+    ∙ ap (λ z. codes "," ++ z) (named_export_laid i m (more_exports_tokens is (spaced_sign (codes "}") us))))
+
+export_clause_laid : {ns : List Node} (is : IsExportClause ns) (m : List ℕ) (us : Items) → codes " " ++ exports (map laid ns) m (render us) ≡ render (export_clause_tokens is us)
+unfolding render
+export_clause_laid modules.export_nothing m us = refl
+export_clause_laid (modules.export_names {n = n} i is) m us =
+    rw (is_named_export i)
+    (ap (λ z. codes " { " ++ (laid n).at (At (free 0)) m z) (more_exports_laid is m us) ∙ ap (λ z. codes " {" ++ z) (named_export_laid i m (more_exports_tokens is (spaced_sign (codes "}") us))))
+
+-- a source behind `from`, with its attributes
+from_laid : {n k : Node} (s : IsString n) (w : IsWithClause k) (m : List ℕ) (us : Items)
+    → (laid n).at (Within From (free 0)) m ((laid k).at (Within Attributes (free 0)) m (codes ";" ++ render us)) ≡ render (from_tokens s w (sign_of (codes ";") us))
+unfolding render
+from_laid (modules.string_literal at raw t) w m us = at_node at _ [] (Within From (free 0)) m _ ∙ ap (λ z. codes " from " ++ (raw ++ z)) (with_laid w m (sign_of (codes ";") us))
+
 -- modules
 
 item_laid : {n : Node} (is : IsModuleItem n) (g : Gap) (us : Items) → render (item_tokens is g us) ≡ g.blanks ++ (laid n).at (At (free 0)) [] (render us)
@@ -126,6 +166,26 @@ item_laid (modules.import_bindings at at' {bindings = bindings} {source = source
     ap (λ z. g.blanks ++ z)
     (sym (at_node at (kind.ImportDecl false) (node_of at' kind.List bindings ∷ source ∷ attributes ∷ []) (At (free 0)) [] (render us)
     ∙ ap (λ z. codes "import" ++ z) (at_node at' kind.List bindings Imports [] rest ∙ imports_laid c s w [] us)))
+item_laid (modules.export_bindings at at' {bindings = bindings} c (absent of) (absent of')) g us =
+    ap (λ z. g.blanks ++ z)
+    (sym (at_node at (kind.NamedExport false) (node_of at' kind.List bindings ∷ node_of of kind.Absent [] ∷ node_of of' kind.Absent [] ∷ []) (At (free 0)) [] (render us)
+    ∙ rw (laid_node of kind.Absent [], laid_node of' kind.Absent [])
+    (ap (λ z. codes "export " ++ z) (at_node at' kind.List bindings Exports [] (codes ";" ++ render us)) ∙ ap (λ z. codes "export" ++ z) (export_clause_laid c [] (sign_of (codes ";") us)))))
+item_laid (modules.export_bindings_from at at' {bindings = bindings} {source = source} {attributes = attributes} c s w) g us =
+    ap (λ z. g.blanks ++ z)
+    (sym (at_node at (kind.NamedExport false) (node_of at' kind.List bindings ∷ source ∷ attributes ∷ []) (At (free 0)) [] (render us)
+    ∙ (ap (λ z. codes "export " ++ (laid (node_of at' kind.List bindings)).at Exports [] z) (from_laid s w [] us)
+    ∙ ap (λ z. codes "export " ++ z) (at_node at' kind.List bindings Exports [] (render (from_tokens s w (sign_of (codes ";") us))))
+    ∙ ap (λ z. codes "export" ++ z) (export_clause_laid c [] (from_tokens s w (sign_of (codes ";") us))))))
+item_laid (modules.export_namespace at at' of {name = name} {source = source} {attributes = attributes} x s w) g us =
+    let names = node_of of kind.ExportNamespaceSpecifier (name ∷ []) ∷ [] in
+    let rest = from_tokens s w (sign_of (codes ";") us) in
+    ap (λ z. g.blanks ++ z)
+    (sym (at_node at (kind.NamedExport false) (node_of at' kind.List names ∷ source ∷ attributes ∷ []) (At (free 0)) [] (render us)
+    ∙ (ap (λ z. codes "export " ++ (laid (node_of at' kind.List names)).at Exports [] z) (from_laid s w [] us)
+    ∙ ap (λ z. codes "export " ++ z) (at_node at' kind.List names Exports [] (render rest) ∙ rw (laid_node of kind.ExportNamespaceSpecifier (name ∷ [])) (ap (λ z. codes "* as " ++ z) (export_name_at x [] (render rest)))))))
+item_laid (modules.export_all at {source = source} {attributes = attributes} s w) g us =
+    ap (λ z. g.blanks ++ z) (sym (at_node at (kind.ExportAll false) (source ∷ attributes ∷ []) (At (free 0)) [] (render us) ∙ ap (λ z. codes "export * from" ++ z) (source_laid s w [] us)))
 
 lines_laid : {ns : List Node} (is : AreModuleItems ns) (g : Gap) → render (items_tokens is g) ≡ g.blanks ++ lines (map laid ns) [] []
 unfolding render

@@ -1,14 +1,15 @@
 -- The tree that is read of a module is the tree without spans.
 use Rattle.std.proofs.Common.{None, false, ◌≡◌, List, [], ◌∷◌, map, refl, ap, ap₂, ◌∙◌}
 use Rattle.ecma_kind.specs.declared.span.Span.{Span}
+use Rattle.ecma_kind.specs.declared.kind.Kind.{Kind}
 use Rattle.ecma_kind.specs.declared.kind.Kind.TheVariants as kind
 use Rattle.ecma_tree.specs.declared.node.Node.{Node}
 use Rattle.ecma_tree.specs.Nodes.{node_of, list_node}
 use Rattle.ecma_tree.specs.Spans.{without_spans}
 use Rattle.ecma_reread.specs.Modules as modules
-use Rattle.ecma_reread.specs.Modules.{IsString, IsExportName, IsAttributeKey, IsAttribute, AreAttributes, IsWithClause, IsDefaultImport, IsNamespaceImport, IsNamedImport, AreNamedImports, IsImportClause, IsModuleItem, AreModuleItems, IsModule}
+use Rattle.ecma_reread.specs.Modules.{IsString, IsExportName, IsAttributeKey, IsAttribute, AreAttributes, IsWithClause, IsDefaultImport, IsNamespaceImport, IsNamedImport, AreNamedImports, IsImportClause, IsNamedExport, AreNamedExports, IsExportClause, IsModuleItem, AreModuleItems, IsModule}
 use Rattle.ecma_reread.specs.Tokens.{bare}
-use Rattle.ecma_reread.specs.ModuleTokens.{bare_string, bare_export_name, bare_attribute_key, bare_attribute, bare_attributes, bare_with, bare_default_import, bare_namespace_import, bare_named_import, bare_named_imports, bare_import_clause, bare_item, bare_items, bare_module}
+use Rattle.ecma_reread.specs.ModuleTokens.{bare_string, bare_export_name, bare_attribute_key, bare_attribute, bare_attributes, bare_with, bare_default_import, bare_namespace_import, bare_named_import, bare_named_imports, bare_import_clause, bare_named_export, bare_named_exports, bare_export_clause, bare_item, bare_items, bare_module}
 use Rattle.ecma_reread.proofs.Unplaced.{without_spans-node}
 use Rattle.ecma_reread.proofs.Whole.{absent_bare, ident_bare, key_bare, statement_bare}
 
@@ -57,18 +58,36 @@ import_clause_bare (modules.import_names n ns) = ap₂ (λ x xs. x ∷ xs) (name
 import_clause_bare (modules.import_default_and_namespace d a) = ap₂ (λ x y. x ∷ y ∷ []) (default_import_bare d) (namespace_import_bare a)
 import_clause_bare (modules.import_default_and_names d n ns) = ap₂ (λ x xs. x ∷ xs) (default_import_bare d) (ap₂ (λ x xs. x ∷ xs) (named_import_bare n) (named_imports_bare ns))
 
+named_export_bare : {n : Node} (is : IsNamedExport n) → without_spans n ≡ bare_named_export is
+named_export_bare (modules.same_export at x a) = without_spans-node at _ _ ∙ ap₂ (λ x y. bare (kind.ExportNamedSpecifier false) (x ∷ y ∷ [])) (export_name_bare x) (absent_bare a)
+named_export_bare (modules.other_export at x y) = without_spans-node at _ _ ∙ ap₂ (λ x y. bare (kind.ExportNamedSpecifier false) (x ∷ y ∷ [])) (export_name_bare x) (export_name_bare y)
+
+named_exports_bare : {ns : List Node} (is : AreNamedExports ns) → map without_spans ns ≡ bare_named_exports is
+named_exports_bare modules.no_exports = refl
+named_exports_bare (modules.more_exports n ns) = ap₂ (λ x xs. x ∷ xs) (named_export_bare n) (named_exports_bare ns)
+
+export_clause_bare : {ns : List Node} (is : IsExportClause ns) → map without_spans ns ≡ bare_export_clause is
+export_clause_bare modules.export_nothing = refl
+export_clause_bare (modules.export_names n ns) = ap₂ (λ x xs. x ∷ xs) (named_export_bare n) (named_exports_bare ns)
+
 -- bindings, source and attributes
-import_bare : (at of_list : Span) {n k : Node} (ns bs : List Node) → map without_spans ns ≡ bs → (s : IsString n) (w : IsWithClause k)
-    → without_spans (node_of at (kind.ImportDecl false) (node_of of_list kind.List ns ∷ n ∷ k ∷ [])) ≡ bare (kind.ImportDecl false) (list_node bs ∷ bare_string s ∷ bare_with w ∷ [])
-import_bare at of_list {n} {k} ns bs h s w =
-    without_spans-node at (kind.ImportDecl false) _
-    ∙ (ap (λ x. bare (kind.ImportDecl false) (x ∷ without_spans n ∷ without_spans k ∷ [])) (without_spans-node of_list kind.List _ ∙ ap list_node h)
-    ∙ ap₂ (λ x y. bare (kind.ImportDecl false) (list_node bs ∷ x ∷ y ∷ [])) (string_bare s) (with_bare w))
+sourced_bare : (k : Kind) (at of_list : Span) (n m : Node) (ns bs : List Node) (x y : Node) → map without_spans ns ≡ bs → without_spans n ≡ x → without_spans m ≡ y
+    → without_spans (node_of at k (node_of of_list kind.List ns ∷ n ∷ m ∷ [])) ≡ bare k (list_node bs ∷ x ∷ y ∷ [])
+sourced_bare k at of_list n m ns bs x y h i j =
+    without_spans-node at k _
+    ∙ (ap (λ l. bare k (l ∷ without_spans n ∷ without_spans m ∷ [])) (without_spans-node of_list kind.List _ ∙ ap list_node h)
+    ∙ ap₂ (λ a b. bare k (list_node bs ∷ a ∷ b ∷ [])) i j)
 
 item_bare : {n : Node} (is : IsModuleItem n) → without_spans n ≡ bare_item is
 item_bare (modules.statement s) = statement_bare s
-item_bare (modules.import_alone at at' s w) = import_bare at at' [] [] refl s w
-item_bare (modules.import_bindings at at' c s w) = import_bare at at' _ (bare_import_clause c) (import_clause_bare c) s w
+item_bare (modules.import_alone at at' s w) = sourced_bare (kind.ImportDecl false) at at' _ _ [] [] _ _ refl (string_bare s) (with_bare w)
+item_bare (modules.import_bindings at at' c s w) = sourced_bare (kind.ImportDecl false) at at' _ _ _ (bare_import_clause c) _ _ (import_clause_bare c) (string_bare s) (with_bare w)
+item_bare (modules.export_bindings at at' c a b) = sourced_bare (kind.NamedExport false) at at' _ _ _ (bare_export_clause c) _ _ (export_clause_bare c) (absent_bare a) (absent_bare b)
+item_bare (modules.export_bindings_from at at' c s w) = sourced_bare (kind.NamedExport false) at at' _ _ _ (bare_export_clause c) _ _ (export_clause_bare c) (string_bare s) (with_bare w)
+item_bare (modules.export_namespace at at' of {name = name} x s w) =
+    sourced_bare (kind.NamedExport false) at at' _ _ (node_of of kind.ExportNamespaceSpecifier (name ∷ []) ∷ []) _ _ _
+    (ap (λ x. x ∷ []) (without_spans-node of kind.ExportNamespaceSpecifier _ ∙ ap (λ x. bare kind.ExportNamespaceSpecifier (x ∷ [])) (export_name_bare x))) (string_bare s) (with_bare w)
+item_bare (modules.export_all at s w) = without_spans-node at (kind.ExportAll false) _ ∙ ap₂ (λ x y. bare (kind.ExportAll false) (x ∷ y ∷ [])) (string_bare s) (with_bare w)
 
 items_bare : {ns : List Node} (is : AreModuleItems ns) → map without_spans ns ≡ bare_items is
 items_bare modules.no_items = refl

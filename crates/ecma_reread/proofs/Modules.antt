@@ -30,7 +30,7 @@ use Rattle.ecma_reread.specs.Machine.{read, with_front, followed_on, or_on, unle
 use Rattle.ecma_reread.specs.Modules as shapes
 use Rattle.ecma_reread.specs.Modules.{IsModuleItem, AreModuleItems, IsModule}
 use Rattle.ecma_reread.specs.Tokens.{bare, line, sign_of}
-use Rattle.ecma_reread.specs.ModuleTokens.{spaced_word, source_tokens, import_clause_tokens, item_tokens, items_tokens, module_tokens, bare_item, bare_items, bare_module}
+use Rattle.ecma_reread.specs.ModuleTokens.{source_tokens, from_tokens, import_clause_tokens, item_tokens, items_tokens, module_tokens, bare_item, bare_items, bare_module}
 use Rattle.ecma_reread.proofs.Ranks.{item_eats}
 use Rattle.ecma_reread.proofs.Levels.{means_is}
 use Rattle.ecma_reread.proofs.Fronts.{exactly, the_end, at_token, at_end, refused_at, refuses_all, all_refused}
@@ -42,6 +42,7 @@ use Rattle.ecma_reread.proofs.Statements.{item_read, closes_any}
 use Rattle.ecma_reread.proofs.Imports.{import_alone_read, import_bindings_read}
 use Rattle.ecma_reread.proofs.Blocks.{Closing}
 use Rattle.ecma_reread.proofs.StatementForms.{statement_form}
+use Rattle.ecma_reread.proofs.Exports.{export_bindings_read, export_bindings_from_read, export_namespace_read, export_all_read}
 
 -- no statement stands at the end of a text
 
@@ -82,6 +83,10 @@ module _ (assigned : Bool) where
   item_closing (shapes.statement s) us = let S = statement_form assigned s 0 in record { front = S.front; begins = S.begins line us; closes = S.closes }
   item_closing (shapes.import_alone at at' s w) us = record { front = exactly (items.key (codes "import")); begins = at_token; closes = refl }
   item_closing (shapes.import_bindings at at' c s w) us = record { front = exactly (items.key (codes "import")); begins = at_token; closes = refl }
+  item_closing (shapes.export_bindings at at' c n n') us = record { front = exactly (items.key (codes "export")); begins = at_token; closes = refl }
+  item_closing (shapes.export_bindings_from at at' c s w) us = record { front = exactly (items.key (codes "export")); begins = at_token; closes = refl }
+  item_closing (shapes.export_namespace at at' of x s w) us = record { front = exactly (items.key (codes "export")); begins = at_token; closes = refl }
+  item_closing (shapes.export_all at s w) us = record { front = exactly (items.key (codes "export")); begins = at_token; closes = refl }
 
   items_closing : {ns : List Node} (is : AreModuleItems ns) → Closing (items_tokens is line)
   items_closing shapes.no_items = record { front = the_end; begins = at_end; closes = refl }
@@ -93,7 +98,11 @@ module _ (assigned : Bool) where
   module_item_read (shapes.import_alone at at' s w) g us c =
       ap (or_on (interp assigned (means assigned) (without 1 module_item)) (it g (items.key (codes "import")) (source_tokens s w (sign_of (codes ";") us)))) (import_alone_read assigned s w g us)
   module_item_read (shapes.import_bindings at at' c s w) g us z =
-      ap (or_on (interp assigned (means assigned) (without 1 module_item)) (it g (items.key (codes "import")) (import_clause_tokens c (spaced_word (codes "from") (source_tokens s w (sign_of (codes ";") us)))))) (import_bindings_read assigned c s w g us)
+      ap (or_on (interp assigned (means assigned) (without 1 module_item)) (it g (items.key (codes "import")) (import_clause_tokens c (from_tokens s w (sign_of (codes ";") us))))) (import_bindings_read assigned c s w g us)
+  module_item_read (shapes.export_bindings at at' c n n') g us z = export_bindings_read assigned c g us
+  module_item_read (shapes.export_bindings_from at at' c s w) g us z = export_bindings_from_read assigned c s w g us
+  module_item_read (shapes.export_namespace at at' of x s w) g us z = export_namespace_read assigned x s w g us
+  module_item_read (shapes.export_all at s w) g us z = export_all_read assigned s w g us
 
   items_read : {ns : List Node} (is : AreModuleItems ns) (g : Gap) → Repeats assigned module_item (items_tokens is g) (bare_items is) (ends (last_gap is g))
   items_read shapes.no_items g = repeats_end assigned module_item (ends g) (no_item_at_end g)

@@ -131,6 +131,10 @@ with_spelled : Spelled IsKey (codes "with")
 unfolding chars is_utf8 encode is_xid_start is_xid_continue in_ranges xid_start_ranges xid_continue_ranges
 with_spelled = (IsUtf8-from_is_utf8 (codes "with") refl, (refl, refl))
 
+export_spelled : Spelled IsKey (codes "export")
+unfolding chars is_utf8 encode is_xid_start is_xid_continue in_ranges xid_start_ranges xid_continue_ranges
+export_spelled = (IsUtf8-from_is_utf8 (codes "export") refl, (refl, refl))
+
 pub layout_words : Words
 layout_words = record {
   this_whole = whole (codes "this") this_spelled;
@@ -156,6 +160,7 @@ layout_words = record {
   default_whole = whole (codes "default") default_spelled;
   break_whole = whole (codes "break") break_spelled;
   continue_whole = whole (codes "continue") continue_spelled;
+  export_whole = whole (codes "export") export_spelled;
   import_whole = whole (codes "import") import_spelled;
   from_whole = whole (codes "from") from_spelled;
   as_whole = whole (codes "as") as_spelled;

@@ -7,7 +7,7 @@ use Rattle.ecma_tree.specs.declared.node.Node.{Node}
 use Rattle.ecma_tree.specs.Nodes.{absent, list_node}
 use Rattle.ecma_tokens.specs.Items as items
 use Rattle.ecma_tokens.specs.Items.{Tok, sign, Gap, no_gap, Items, ends, it}
-use Rattle.ecma_reread.specs.Modules.{IsString, string_literal, IsExportName, word_name, string_name, IsAttributeKey, word_key, string_key, IsAttribute, attribute, AreAttributes, no_attributes, more_attributes, IsWithClause, no_with, with_nothing, with_attributes, IsDefaultImport, default_import, IsNamespaceImport, namespace_import, IsNamedImport, same_import, other_import, AreNamedImports, no_imports, more_imports, IsImportClause, import_default, import_namespace, import_names, import_default_and_namespace, import_default_and_names, IsModuleItem, statement, import_alone, import_bindings, AreModuleItems, no_items, more_items, IsModule, module_of}
+use Rattle.ecma_reread.specs.Modules.{IsString, string_literal, IsExportName, word_name, string_name, IsAttributeKey, word_key, string_key, IsAttribute, attribute, AreAttributes, no_attributes, more_attributes, IsWithClause, no_with, with_nothing, with_attributes, IsDefaultImport, default_import, IsNamespaceImport, namespace_import, IsNamedImport, same_import, other_import, AreNamedImports, no_imports, more_imports, IsImportClause, import_default, import_namespace, import_names, import_default_and_namespace, import_default_and_names, IsNamedExport, same_export, other_export, AreNamedExports, no_exports, more_exports, IsExportClause, export_nothing, export_names, IsModuleItem, statement, import_alone, import_bindings, export_bindings, export_bindings_from, export_namespace, export_all, AreModuleItems, no_items, more_items, IsModule, module_of}
 use Rattle.ecma_reread.specs.Tokens.{blank, line, sign_of, ident_word, key_word, statement_tokens, bare, bare_ident, bare_statement}
 
 -- a token behind a blank
@@ -47,6 +47,9 @@ with_tokens (with_attributes at at' a more) us = spaced_word (codes "with") (spa
 abbrev pub source_tokens : {n m : Node} → IsString n → IsWithClause m → Items → Items
 source_tokens s w us = spaced (items.string (string_raw s)) (with_tokens w us)
 
+abbrev pub from_tokens : {n m : Node} → IsString n → IsWithClause m → Items → Items
+from_tokens s w us = spaced_word (codes "from") (source_tokens s w us)
+
 abbrev pub default_import_tokens : {n : Node} → IsDefaultImport n → Items → Items
 default_import_tokens (default_import at i) us = spaced_word (ident_word i) us
 
@@ -71,10 +74,26 @@ import_clause_tokens (import_names n ns) us = named_imports_tokens n ns us
 import_clause_tokens (import_default_and_namespace d a) us = default_import_tokens d (sign_of (codes ",") (namespace_import_tokens a us))
 import_clause_tokens (import_default_and_names d n ns) us = default_import_tokens d (sign_of (codes ",") (named_imports_tokens n ns us))
 
+abbrev pub named_export_tokens : {n : Node} → IsNamedExport n → Items → Items
+named_export_tokens (same_export at x a) us = spaced (export_name_token x) us
+named_export_tokens (other_export at x y) us = spaced (export_name_token x) (spaced_word (codes "as") (spaced (export_name_token y) us))
+
+abbrev pub more_exports_tokens : {ns : List Node} → AreNamedExports ns → Items → Items
+more_exports_tokens no_exports us = us
+more_exports_tokens (more_exports n ns) us = sign_of (codes ",") (named_export_tokens n (more_exports_tokens ns us))
+
+abbrev pub export_clause_tokens : {ns : List Node} → IsExportClause ns → Items → Items
+export_clause_tokens export_nothing us = spaced_sign (codes "{") (sign_of (codes "}") us)
+export_clause_tokens (export_names n ns) us = spaced_sign (codes "{") (named_export_tokens n (more_exports_tokens ns (spaced_sign (codes "}") us)))
+
 abbrev pub item_tokens : {n : Node} → IsModuleItem n → Gap → Items → Items
 item_tokens (statement s) g us = statement_tokens s 0 g us
 item_tokens (import_alone at at' s w) g us = it g (items.key (codes "import")) (source_tokens s w (sign_of (codes ";") us))
-item_tokens (import_bindings at at' c s w) g us = it g (items.key (codes "import")) (import_clause_tokens c (spaced_word (codes "from") (source_tokens s w (sign_of (codes ";") us))))
+item_tokens (import_bindings at at' c s w) g us = it g (items.key (codes "import")) (import_clause_tokens c (from_tokens s w (sign_of (codes ";") us)))
+item_tokens (export_bindings at at' c a b) g us = it g (items.key (codes "export")) (export_clause_tokens c (sign_of (codes ";") us))
+item_tokens (export_bindings_from at at' c s w) g us = it g (items.key (codes "export")) (export_clause_tokens c (from_tokens s w (sign_of (codes ";") us)))
+item_tokens (export_namespace at at' of x s w) g us = it g (items.key (codes "export")) (spaced_sign (codes "*") (spaced_word (codes "as") (spaced (export_name_token x) (from_tokens s w (sign_of (codes ";") us)))))
+item_tokens (export_all at s w) g us = it g (items.key (codes "export")) (spaced_sign (codes "*") (from_tokens s w (sign_of (codes ";") us)))
 
 -- each item ends its line
 abbrev pub items_tokens : {ns : List Node} → AreModuleItems ns → Gap → Items
@@ -130,10 +149,26 @@ bare_import_clause (import_names n ns) = bare_named_import n ∷ bare_named_impo
 bare_import_clause (import_default_and_namespace d a) = bare_default_import d ∷ bare_namespace_import a ∷ []
 bare_import_clause (import_default_and_names d n ns) = bare_default_import d ∷ bare_named_import n ∷ bare_named_imports ns
 
+abbrev pub bare_named_export : {n : Node} → IsNamedExport n → Node
+bare_named_export (same_export at x a) = bare (kind.ExportNamedSpecifier false) (bare_export_name x ∷ absent ∷ [])
+bare_named_export (other_export at x y) = bare (kind.ExportNamedSpecifier false) (bare_export_name x ∷ bare_export_name y ∷ [])
+
+abbrev pub bare_named_exports : {ns : List Node} → AreNamedExports ns → List Node
+bare_named_exports no_exports = []
+bare_named_exports (more_exports n ns) = bare_named_export n ∷ bare_named_exports ns
+
+abbrev pub bare_export_clause : {ns : List Node} → IsExportClause ns → List Node
+bare_export_clause export_nothing = []
+bare_export_clause (export_names n ns) = bare_named_export n ∷ bare_named_exports ns
+
 abbrev pub bare_item : {n : Node} → IsModuleItem n → Node
 bare_item (statement s) = bare_statement s
 bare_item (import_alone at at' s w) = bare (kind.ImportDecl false) (list_node [] ∷ bare_string s ∷ bare_with w ∷ [])
 bare_item (import_bindings at at' c s w) = bare (kind.ImportDecl false) (list_node (bare_import_clause c) ∷ bare_string s ∷ bare_with w ∷ [])
+bare_item (export_bindings at at' c a b) = bare (kind.NamedExport false) (list_node (bare_export_clause c) ∷ absent ∷ absent ∷ [])
+bare_item (export_bindings_from at at' c s w) = bare (kind.NamedExport false) (list_node (bare_export_clause c) ∷ bare_string s ∷ bare_with w ∷ [])
+bare_item (export_namespace at at' of x s w) = bare (kind.NamedExport false) (list_node (bare kind.ExportNamespaceSpecifier (bare_export_name x ∷ []) ∷ []) ∷ bare_string s ∷ bare_with w ∷ [])
+bare_item (export_all at s w) = bare (kind.ExportAll false) (bare_string s ∷ bare_with w ∷ [])
 
 abbrev pub bare_items : {ns : List Node} → AreModuleItems ns → List Node
 bare_items no_items = []

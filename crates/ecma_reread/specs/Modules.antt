@@ -59,6 +59,21 @@ pub data IsImportClause : List Node → Type 0 where
   import_default_and_namespace : {d a : Node} → IsDefaultImport d → IsNamespaceImport a → IsImportClause (d ∷ a ∷ [])
   import_default_and_names : {d n : Node} {ns : List Node} → IsDefaultImport d → IsNamedImport n → AreNamedImports ns → IsImportClause (d ∷ n ∷ ns)
 
+-- exports (ECMAScript, 16.2.3)
+
+pub data IsNamedExport : Node → Type 0 where
+  same_export : (at : Span) {name none : Node} → IsExportName name → IsAbsent none → IsNamedExport (node_of at (kind.ExportNamedSpecifier false) (name ∷ none ∷ []))
+  other_export : (at : Span) {name exported : Node} → IsExportName name → IsExportName exported → IsNamedExport (node_of at (kind.ExportNamedSpecifier false) (name ∷ exported ∷ []))
+
+pub data AreNamedExports : List Node → Type 0 where
+  no_exports : AreNamedExports []
+  more_exports : {n : Node} {ns : List Node} → IsNamedExport n → AreNamedExports ns → AreNamedExports (n ∷ ns)
+
+-- what stands in braces (NamedExports)
+pub data IsExportClause : List Node → Type 0 where
+  export_nothing : IsExportClause []
+  export_names : {n : Node} {ns : List Node} → IsNamedExport n → AreNamedExports ns → IsExportClause (n ∷ ns)
+
 -- modules
 
 pub data IsModuleItem : Node → Type 0 where
@@ -67,6 +82,13 @@ pub data IsModuleItem : Node → Type 0 where
       → IsModuleItem (node_of at (kind.ImportDecl false) (node_of of_list kind.List [] ∷ source ∷ attributes ∷ []))
   import_bindings : (at of_list : Span) {bindings : List Node} {source attributes : Node} → IsImportClause bindings → IsString source → IsWithClause attributes
       → IsModuleItem (node_of at (kind.ImportDecl false) (node_of of_list kind.List bindings ∷ source ∷ attributes ∷ []))
+  export_bindings : (at of_list : Span) {bindings : List Node} {none none' : Node} → IsExportClause bindings → IsAbsent none → IsAbsent none'
+      → IsModuleItem (node_of at (kind.NamedExport false) (node_of of_list kind.List bindings ∷ none ∷ none' ∷ []))
+  export_bindings_from : (at of_list : Span) {bindings : List Node} {source attributes : Node} → IsExportClause bindings → IsString source → IsWithClause attributes
+      → IsModuleItem (node_of at (kind.NamedExport false) (node_of of_list kind.List bindings ∷ source ∷ attributes ∷ []))
+  export_namespace : (at of_list of_name : Span) {name source attributes : Node} → IsExportName name → IsString source → IsWithClause attributes
+      → IsModuleItem (node_of at (kind.NamedExport false) (node_of of_list kind.List (node_of of_name kind.ExportNamespaceSpecifier (name ∷ []) ∷ []) ∷ source ∷ attributes ∷ []))
+  export_all : (at : Span) {source attributes : Node} → IsString source → IsWithClause attributes → IsModuleItem (node_of at (kind.ExportAll false) (source ∷ attributes ∷ []))
 
 pub data AreModuleItems : List Node → Type 0 where
   no_items : AreModuleItems []
