@@ -38,7 +38,7 @@ use Rattle.ecma_reread.proofs.Moves.{eats}
 use Rattle.ecma_reread.proofs.Levels.{means_is}
 use Rattle.ecma_reread.proofs.Fronts.{Front, exactly, Begins, at_token, refuses_at, refused_at, refuses_all, all_refused}
 use Rattle.ecma_reread.proofs.Heads.{bare, kind-node}
-use Rattle.ecma_reread.proofs.Forms.{s, Reads, Refuses, ends_no_item, AsItem, item_refused, whole_item, item_before, Form}
+use Rattle.ecma_reread.proofs.Forms.{s, Reads, Refuses, ends_no_item, AsItem, item_refused, whole_item, item_before, NewForm}
 use Rattle.ecma_reread.proofs.Towers.{here, later, sooner}
 use Rattle.ecma_reread.proofs.Repeats.{Repeats, repeats_end, repeats_more, repeated}
 use Rattle.ecma_reread.proofs.Further.{more, Lasts, Further, further_end, further_more, Listed, none_listed, some_listed, listed}
@@ -47,7 +47,7 @@ use Rattle.ecma_reread.proofs.Elements.{bracket_ends}
 use Rattle.ecma_reread.proofs.Lists.{Followed}
 use Rattle.ecma_reread.proofs.Spreads.{ElementForm, element_read, element_as_pattern}
 use Rattle.ecma_reread.proofs.Tried.{Wholly, wholly_refused, wholly_read}
-use Rattle.ecma_reread.proofs.Literals.{Literal, literal_form}
+use Rattle.ecma_reread.proofs.Literals.{Literal, literal_new}
 
 -- neither an element nor one of a pattern begins with `,` or `]`
 
@@ -68,9 +68,11 @@ unfolding pattern_element rest_pattern pattern_body array_pattern object_pattern
 no_pattern_at_bracket = refl
 
 bracket : Literal (sign (codes "[")) array
-unfolding chains.super_of_link chains.import_meta chains.import_call chains.construction primaries.primary functions.function_expression primaries.class_expression primaries.template operators.prefixed functions.arrow functions.arrow_rest statements.labeled param rest_pattern names.binding_ident statements.statement_body names.block statements.if_ statements.for_await statements.for_ statements.while_ statements.do_while statements.switch statements.try_ statements.jump declarations.declaration functions.function_declaration classes.class_declaration modules.module_item modules.import modules.import_equals modules.export modules.export_default
+unfolding chains.super_of_member chains.super_of_link chains.import_meta chains.import_call chains.construction primaries.primary functions.function_expression primaries.class_expression primaries.template operators.prefixed functions.arrow functions.arrow_rest statements.labeled param rest_pattern names.binding_ident statements.statement_body names.block statements.if_ statements.for_await statements.for_ statements.while_ statements.do_while statements.switch statements.try_ statements.jump declarations.declaration functions.function_declaration classes.class_declaration modules.module_item modules.import modules.import_equals modules.export modules.export_default
 bracket = record {
-  tower = λ e. later refl (later refl (later refl (later refl (later refl (later refl (later refl (later refl (later refl (later refl (later refl (later refl (later refl (later refl (later refl (later refl (sooner here))))))))))))))));
+  tower = λ e. later refl (later refl (later refl (later refl (later refl (later refl (later refl (later refl (later refl (later refl (later refl (later refl (sooner here))))))))))));
+  apart = record { no_head = refl; no_new_head = refl };
+  no_point = refl;
   opens = record { no_spread = refl; no_yield = refl; no_private = refl; no_prefix = refl; no_increment = refl; no_decrement = refl };
   starts = record { no_statement = refl; no_item = refl };
   no_arrow = refl;
@@ -285,5 +287,5 @@ module _ (assigned : Bool) where
             (pattern_is ∙ ap (λ o. or_on (interp assigned (means assigned) object_pattern) (it g (sign (codes "[")) ts) (built_on (form.Node plain.ArrayPat) (with_front [] o)))
             (read_to ∙ ap (λ us'. with_front (list_node (elements (xs ++ F.nodes)) ∷ []) (interp assigned (means assigned) (punct (codes "]") ▸ put Absent) us')) k))
 
-  pub array_form : {ns : List Node} (is : AreSlots ns) → SlotForms is → Form assigned (λ g us. it g (sign (codes "[")) (slots_tokens is us)) kind.ArrayLit (list_node (bare_slots is) ∷ [])
-  array_form is F = literal_form assigned bracket (slots_tokens is) kind.ArrayLit (list_node (bare_slots is) ∷ []) refl (array_read is F) (λ g us. by_list g (slots_tokens is us) us (slots_tried is F us))
+  pub array_new : {ns : List Node} (is : AreSlots ns) → SlotForms is → NewForm assigned (λ g us. it g (sign (codes "[")) (slots_tokens is us)) kind.ArrayLit (list_node (bare_slots is) ∷ [])
+  array_new is F = literal_new assigned bracket (slots_tokens is) kind.ArrayLit (list_node (bare_slots is) ∷ []) refl (array_read is F) (λ g us. by_list g (slots_tokens is us) us (slots_tried is F us))

@@ -94,7 +94,7 @@ module _ (assigned : Bool) where
     rest us = it blank (assign_token o) (f' blank us)
 
     target_read : (g : Gap) (us : Items) → Reads assigned (expressions.conditional false) (f g (rest us)) (bare k ns ∷ []) (rest us)
-    target_read g us = conditional_read assigned (go_out assigned 14 shapes.callee T) g (rest us) (exactly (assign_token o)) at_token (assign_closes o)
+    target_read g us = conditional_read assigned (go_out assigned 15 shapes.callee T) g (rest us) (exactly (assign_token o)) at_token (assign_closes o)
 
     whole_read : (g : Gap) (us : Items) (e : Front) → Begins e us → Ends e → means assigned (part.Assign false false) (f g (rest us)) ≡ read (bare (kind.AssignExpr o) (bare k ns ∷ bare k' ns' ∷ []) ∷ []) us
     whole_read g us e b z =

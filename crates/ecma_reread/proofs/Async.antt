@@ -16,7 +16,7 @@ use Rattle.ecma_grammar.specs.productions.Functions as functions
 use Rattle.ecma_grammar.specs.productions.Functions.{arrow, arrow_rest, arrow_body, function, function_expression, signature}
 use Rattle.ecma_grammar.specs.productions.Primary.{primary, class_expression}
 use Rattle.ecma_grammar.specs.productions.Operators.{prefixed}
-use Rattle.ecma_grammar.specs.productions.Chains.{links, super_of_link, import_meta, import_call, construction}
+use Rattle.ecma_grammar.specs.productions.Chains.{super_of_member, super_of_link, import_meta, import_call, construction}
 use Rattle.ecma_grammar.specs.productions.Classes as classes
 use Rattle.ecma_grammar.specs.productions.Declarations.{declaration}
 use Rattle.ecma_grammar.specs.productions.Statements as statements
@@ -28,8 +28,8 @@ use Rattle.ecma_reread.specs.Machine.{read, fails, with_front, followed_on, or_o
 use Rattle.ecma_reread.proofs.Fronts.{Front, exactly, Begins, at_token, front_of, refuses_at, refused_at, refuses_first}
 use Rattle.ecma_reread.proofs.Towers.{Tower, later, sooner, here, climb, without, skipped, excluded, Opens, Starts}
 use Rattle.ecma_reread.proofs.Heads.{bare}
-use Rattle.ecma_reread.proofs.Forms.{heads, Reads, Refuses, Form}
-use Rattle.ecma_reread.proofs.Expressions.{name_as_param, name_with_default, name_no_rest, name_no_label}
+use Rattle.ecma_reread.proofs.Forms.{Reads, Refuses, Form, NewForm}
+use Rattle.ecma_reread.proofs.Expressions.{IsPrimary, head_read, new_head_read, name_as_param, name_with_default, name_no_rest, name_no_label}
 
 abbrev async : List ℕ
 async = codes "async"
@@ -48,6 +48,10 @@ async_starts = record { no_statement = refl; no_item = refl }
 async_opens : Opens front
 unfolding prefixed
 async_opens = record { no_spread = refl; no_yield = refl; no_private = refl; no_prefix = refl; no_increment = refl; no_decrement = refl }
+
+async_primary : IsPrimary front
+unfolding super_of_member super_of_link import_meta import_call construction
+async_primary = record { no_head = refl; no_new_head = refl }
 
 -- behind a function expression
 primary_tower : (k : Front) → Tower front k (keep leaf.Ident) (without 1 primary)
@@ -83,15 +87,11 @@ module _ (assigned : Bool) where
       async_no_word : Refuses assigned excluded ts
       async_no_word = async_refused (word (codes "function")) g us (refused_at assigned (means assigned) (word (codes "function")) e us b z)
 
-      async_own : (ys : List Node) (vs : Items) → Reads assigned links us ys vs → Reads assigned (heads ▸ links) ts (bare (kind.Ident async 0 false) [] ∷ ys) vs
-      unfolding primary function_expression super_of_link import_meta import_call construction is_reserved reserved_words
-      async_own ys vs h =
-          let I = interp assigned (means assigned) in
-          let n = bare (kind.Ident async 0 false) [] in
+      async_read : Reads assigned primary ts (bare (kind.Ident async 0 false) [] ∷ []) us
+      unfolding primary function_expression is_reserved reserved_words
+      async_read =
           let k = front_of us in
-          let base : Reads assigned (keep leaf.Ident) ts (n ∷ []) us = refl in
-          let first = ap (or_on (I (without 1 primary)) ts) (function_refused (form.Function plain.FnExpr) (maybe ident)) ∙ climb assigned (means assigned) (primary_tower k.0) ts us n at_token k.1 base in
-          ap (followed_on (I links)) (skipped assigned (means assigned) 4 heads front ts at_token refl ∙ first) ∙ ap (with_front (n ∷ [])) h
+          ap (or_on (interp assigned (means assigned) (without 1 primary)) ts) (function_refused (form.Function plain.FnExpr) (maybe ident)) ∙ climb assigned (means assigned) (primary_tower k.0) ts us (bare (kind.Ident async 0 false) []) at_token k.1 refl
 
     async_no_arrow : refuses_at e (arrow_body false) ≡ true → Refuses assigned (arrow_rest false false) us → Refuses assigned (arrow false false) ts
     unfolding arrow
@@ -108,7 +108,7 @@ module _ (assigned : Bool) where
     opens = async_opens;
     starts = async_starts;
     pieces = bare (kind.Ident async 0 false) [] ∷ [];
-    own = async_own;
+    own = λ g us e b z ys vs h. head_read assigned front (it g (items.key async) us) us (bare (kind.Ident async 0 false) []) async_primary at_token (async_read g us e b z) ys vs h;
     whole = refl;
     head = refl;
     no_arrow = async_no_arrow;
@@ -118,3 +118,7 @@ module _ (assigned : Bool) where
     as_param = name_as_param assigned async async_free;
     with_default = name_with_default assigned async async_free;
   }
+
+  pub async_new : NewForm assigned (λ g us. it g (items.key async) us) (kind.Ident async 0 false) []
+  unfolding async_form
+  async_new = record { form = async_form; no_point = refl; own = λ g us e b z ys vs h. new_head_read assigned front (it g (items.key async) us) us (bare (kind.Ident async 0 false) []) async_primary at_token (async_read g us e b z) ys vs h }

@@ -26,16 +26,18 @@ use Rattle.ecma_reread.specs.Machine.{read, with_front, followed_on, or_on, buil
 use Rattle.ecma_reread.specs.Shapes as shapes
 use Rattle.ecma_reread.specs.Shapes.{Level, looser_than}
 use Rattle.ecma_reread.proofs.Levels.{means_is}
-use Rattle.ecma_reread.proofs.Fronts.{Front, Begins, Verdict, refuses, idles, open_, behind_verdict, verdict, unknown, is_refuses, refuses_at, refused_at, refuses_first, passes_at, passed_at}
+use Rattle.ecma_reread.proofs.Fronts.{Front, Begins, refuses_at, refused_at, first_refuses, refuses_first, passes_at, passed_at}
 use Rattle.ecma_reread.proofs.Towers.{Tower, here, later, before, chained, climb, suffix, power_tail, choice_tail, private_in, behind_arrow, closes_conditional, closes, Ends}
 use Rattle.ecma_reread.proofs.Heads.{is_head, kind-node, bare}
-use Rattle.ecma_reread.proofs.Forms.{Laid, behind_params, Reads, Refuses, AsParam, Form, chain_read, Lead, lead_of}
+use Rattle.ecma_reread.proofs.Forms.{Laid, behind_params, Reads, Refuses, AsParam, Form, NewForm, Whole, chain_read, Lead, lead_of}
 use Rattle.ecma_reread.proofs.Params.{Params, params_by}
 
 -- the production of each level
 abbrev pub grammar_of : Level → Grammar
+grammar_of shapes.new_callee = chain
 grammar_of shapes.object = chain
 grammar_of shapes.callee = chain
+grammar_of shapes.left_hand_side = chain
 grammar_of shapes.update = operators.update
 grammar_of shapes.unary = operand
 grammar_of shapes.power = exponentiation
@@ -88,22 +90,16 @@ ends_parts e z =
     let d = and_parts (refuses_at e (arrow_rest false false)) _ c.1 in
     and_parts (passes_at e (assignments false)) (closes_conditional e) d.1
 
--- what refuses behind what keeps nothing refuses by itself
-by_first : (v : Verdict) → is_refuses (behind_verdict idles (behind_verdict v open_)) ≡ true → is_refuses v ≡ true
-by_first refuses h = refl
-by_first idles h = absurd (false≢true h)
-by_first open_ h = absurd (false≢true h)
-
 -- nor `=`
 pub ends_no_equals : (e : Front) → Ends e → refuses_at e (punct (codes "=")) ≡ true
 unfolding assignments
-ends_no_equals e z = let c = ends_parts e z in let a = and_parts (refuses_at e (expressions.assignment (codes "=") Assign false)) _ c.0 in by_first (verdict unknown e (punct (codes "="))) a.0
+ends_no_equals e z = let c = ends_parts e z in let a = and_parts (refuses_at e (expressions.assignment (codes "=") Assign false)) _ c.0 in first_refuses e (punct (codes "=")) a.0
 
 abbrev pub further_out : ℕ → Level → Level
 further_out zero l = l
 further_out (suc n) l = further_out n (looser_than l)
 
-loosest : (l : Level) → further_out 17 l ≡ shapes.sequence
+loosest : (l : Level) → further_out 19 l ≡ shapes.sequence
 loosest shapes.object = refl
 loosest l = refl
 
@@ -153,8 +149,10 @@ module _ (assigned : Bool) where
     pub whole : steps in_front_logical (Some first) more ≡ Some n
 
   abbrev pub Reading : Level → Front → Laid → Kind → List Node → Type 0
+  Reading shapes.new_callee c f k ns = NewForm assigned f k ns
   Reading shapes.object c f k ns = Form assigned f k ns
   Reading shapes.callee c f k ns = Form assigned f k ns
+  Reading shapes.left_hand_side c f k ns = Whole assigned c f (bare k ns)
   Reading shapes.update c f k ns = (refuses_at c prefixed ≡ true) × Direct shapes.update f (bare k ns)
   Reading shapes.unary c f k ns = Operand c f (bare k ns)
   Reading shapes.power c f k ns = Direct shapes.power f (bare k ns)
@@ -188,6 +186,9 @@ module _ (assigned : Bool) where
   pub from_form : {f : Laid} {k : Kind} {ns : List Node} → Form assigned f k ns → Stands shapes.object f k ns
   from_form {k = k} F = record { lead = lead_of assigned F; no_or = head_is_no_or k F.head; param = F.as_param; reading = F }
 
+  pub from_new : {f : Laid} {k : Kind} {ns : List Node} → NewForm assigned f k ns → Stands shapes.new_callee f k ns
+  from_new {k = k} N = let F = N.form in record { lead = lead_of assigned F; no_or = head_is_no_or k F.head; param = F.as_param; reading = N }
+
   pub chained_read : {base tail : Grammar} {l : Level} {f : Laid} {n : Node} → Chained base tail l f n → (g : Gap) (us : Items) (e : Front) → Begins e us → passes_at e tail ≡ true → closes l e ≡ true
       → Reads assigned (build form.Chain (base ▸ tail)) (f g us) (n ∷ []) us
   chained_read {tail = tail} C g us e b p z =
@@ -220,6 +221,14 @@ module _ (assigned : Bool) where
     whole = refl;
   }
 
+  update_read : {f : Laid} {n : Node} (L : Lead assigned f) → Whole assigned (let l = L in l.front) f n → Direct shapes.update f n
+  unfolding operators.update
+  update_read {f} {n} L w g us e b z =
+      let o = w.opens in
+      let c = and_parts (passes_at e suffix) (closes shapes.callee e) z in
+      let t : Tower L.front e chain operators.update = later o.no_increment (later o.no_decrement (chained (before here c.0))) in
+      climb assigned (means assigned) t (f g us) us n (L.begins g us) b (w.all g us e b c.1)
+
   power_read : {f : Laid} {n : Node} (L : Lead assigned f) → Operand (let l = L in l.front) f n → Direct shapes.power f n
   unfolding exponentiation
   power_read {f} {n} L (with_operator d) g us e b z =
@@ -243,8 +252,10 @@ module _ (assigned : Bool) where
     -- at each level, all of it is read
     pub direct : (l : Level) → Stands l f k ns → Direct l f (bare k ns)
     unfolding operand operators.shift operators.relation operators.equality operators.bit_and operators.bit_xor operators.bit_or
+    direct shapes.new_callee S g us e b z = let N = S.reading in chain_read assigned N.form g us e b z
     direct shapes.object S g us e b z = chain_read assigned S.reading g us e b z
     direct shapes.callee S g us e b z = chain_read assigned S.reading g us e b z
+    direct shapes.left_hand_side S g us e b z = let w = S.reading in w.all g us e b z
     direct shapes.update S g us e b z = let r = S.reading in r.1 g us e b z
     direct shapes.unary S g us e b z = by_operand S.reading
       where
@@ -268,14 +279,6 @@ module _ (assigned : Bool) where
     direct shapes.sequence S g us e b z = S.reading g us e b z
 
     -- a level further out
-
-    update_read : Form assigned f k ns → Direct shapes.update f (bare k ns)
-    unfolding operators.update
-    update_read F g us e b z =
-        let o = F.opens in
-        let c = and_parts (passes_at e suffix) (closes shapes.callee e) z in
-        let t : Tower F.front e chain operators.update = later o.no_increment (later o.no_decrement (chained (before here c.0))) in
-        climb assigned (means assigned) t (f g us) us (bare k ns) (F.begins g us) b (chain_read assigned F g us e b c.1)
 
     related_read : Stands shapes.shift f k ns → (g : Gap) (us : Items) (e : Front) → Begins e us → closes shapes.shift e ≡ true → Reads assigned related (f g us) (bare k ns ∷ []) us
     related_read S g us e b z =
@@ -309,8 +312,10 @@ module _ (assigned : Bool) where
         rw (S.reading g us e b c.1, refused_at assigned (means assigned) (punct (codes ",") ▸ grammar.up (part.Assign false false)) e us b (refuses_first e (punct (codes ",")) (grammar.up (part.Assign false false)) c.0)) refl
 
     pub loosened : (l : Level) → Stands l f k ns → Stands (looser_than l) f k ns
+    loosened shapes.new_callee S = let N = S.reading in from_form N.form
     loosened shapes.object S = record { lead = S.lead; no_or = S.no_or; param = S.param; reading = S.reading }
-    loosened shapes.callee S = let F = S.reading in let o = F.opens in record { lead = lead_of assigned F; no_or = S.no_or; param = S.param; reading = (o.no_prefix, update_read F) }
+    loosened shapes.callee S = let F = S.reading in record { lead = lead_of assigned F; no_or = S.no_or; param = S.param; reading = record { opens = F.opens; all = chain_read assigned F } }
+    loosened shapes.left_hand_side S = let w = S.reading in let o = w.opens in record { lead = S.lead; no_or = S.no_or; param = S.param; reading = (o.no_prefix, update_read S.lead w) }
     loosened shapes.update S = let r = S.reading in record { lead = S.lead; no_or = S.no_or; param = S.param; reading = without_operator r.0 r.1 }
     loosened shapes.unary S = record { lead = S.lead; no_or = S.no_or; param = S.param; reading = power_read S.lead S.reading }
     loosened shapes.power S = record { lead = S.lead; no_or = S.no_or; param = S.param; reading = single exponentiation factors shapes.power (direct shapes.power S) }
@@ -335,7 +340,7 @@ module _ (assigned : Bool) where
     go_out (suc n) l S = go_out n (looser_than l) (loosened l S)
 
     pub standing : {l : Level} → Stands l f k ns → Stands shapes.sequence f k ns
-    standing {l} S = subst (λ m. Stands m f k ns) (loosest l) (go_out 17 l S)
+    standing {l} S = subst (λ m. Stands m f k ns) (loosest l) (go_out 19 l S)
 
   -- as an assignment expression, and as an expression
   module _ {f : Laid} {k : Kind} {ns : List Node} where

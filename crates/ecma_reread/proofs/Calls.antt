@@ -27,27 +27,28 @@ use Rattle.ecma_tokens.specs.Items as items
 use Rattle.ecma_tokens.specs.Items.{Tok, sign, Gap, no_gap, Items, it}
 use Rattle.ecma_reread.specs.Machine.{with_front, means}
 use Rattle.ecma_reread.specs.Shapes as shapes
-use Rattle.ecma_reread.specs.Shapes.{Level, IsPlainName, IsIdent, ident, IsKey, key, IsExpression, IsElement, AreSlots, IsArguments, AreElements, AreExpressions}
+use Rattle.ecma_reread.specs.Shapes.{Level, IsPlainName, IsIdent, ident, IsKey, key, IsExpression, IsElement, AreSlots, IsArguments, AreElements, AreExpressions, IsMemberLevel, IsIndexed}
 use Rattle.ecma_reread.specs.Tokens.{bare, blank, ident_word, key_word, own_sign, unary_gap, expression_tokens, element_tokens, arguments_tokens, elements_tokens, expression_kind, expression_parts, bare_element, bare_arguments, bare_elements}
 use Rattle.ecma_reread.proofs.Levels.{means_is}
 use Rattle.ecma_reread.proofs.Fronts.{Front, exactly, Begins, at_token, IsName, is_known, refuses_at, refused_at, refuses_all, all_refused}
 use Rattle.ecma_reread.proofs.Heads.{call_made}
-use Rattle.ecma_reread.proofs.Forms.{Laid, s, behind_params, Reads, Refuses, linked_param, Form}
-use Rattle.ecma_reread.proofs.Bindings.{Stands, from_form, loosened, standing}
+use Rattle.ecma_reread.proofs.Forms.{Laid, s, behind_params, Reads, Refuses, linked_param, Form, NewForm}
+use Rattle.ecma_reread.proofs.Bindings.{Stands, from_form, loosened, standing, from_new}
 use Rattle.ecma_reread.proofs.Operations.{await_form, power_form, unary_form, binary_form}
-use Rattle.ecma_reread.proofs.Elements.{element_form}
+use Rattle.ecma_reread.proofs.Elements.{element_form, new_element_form}
+use Rattle.ecma_reread.proofs.Constructions.{new_form, alone_form, target_form}
 use Rattle.ecma_reread.proofs.Updates.{prefix_form, postfix_form}
 use Rattle.ecma_reread.proofs.Choices.{choice_form}
 use Rattle.ecma_reread.proofs.Logicals.{both_form, either_form}
 use Rattle.ecma_reread.proofs.Coalescing.{coalesced_form}
 use Rattle.ecma_reread.proofs.Assignments.{assignment_form}
 use Rattle.ecma_reread.proofs.Repeats.{Repeats, repeats_end, repeats_more, repeated}
-use Rattle.ecma_reread.proofs.Expressions.{Single, string_single, number_single, this_single, big_int_single, null_single, true_single, false_single, single_form, name_form, member_form, parenthesized_form, parenthesis_ends, comma_ends}
+use Rattle.ecma_reread.proofs.Expressions.{Single, string_single, number_single, this_single, big_int_single, null_single, true_single, false_single, single_form, member_form, parenthesis_ends, comma_ends, single_new, name_new, new_member_form, parenthesized_new}
 use Rattle.ecma_reread.proofs.Params.{Params, params_end, params_more, params_by, parameters_refused, no_body_behind}
 use Rattle.ecma_reread.proofs.Lists.{Forms, Followed}
 use Rattle.ecma_reread.proofs.Sequences.{sequence_form}
-use Rattle.ecma_reread.proofs.Async.{async_form}
-use Rattle.ecma_reread.proofs.Arrays.{SlotForms, array_form}
+use Rattle.ecma_reread.proofs.Async.{async_new}
+use Rattle.ecma_reread.proofs.Arrays.{SlotForms, array_new}
 use Rattle.ecma_reread.proofs.Spreads.{ElementForm, element_read, element_param}
 
 -- no argument begins with `)`
@@ -151,42 +152,55 @@ module _ (assigned : Bool) where
   ident_free (ident at w i) = i.free
 
   abbrev NameForm : List ℕ → Type 0
-  NameForm w = Form assigned (λ g us. it g (items.key w) us) (kind.Ident w 0 false) []
+  NameForm w = NewForm assigned (λ g us. it g (items.key w) us) (kind.Ident w 0 false) []
 
   ident_form : {n : Node} (i : IsIdent n) → NameForm (ident_word i)
   ident_form (ident at w i) = go (bytes_eq w (codes "async")) refl
     where
       go : (b : Bool) → bytes_eq w (codes "async") ≡ b → NameForm w
-      go false e = name_form assigned w (plain_name w i e)
-      go true e = subst NameForm (sym ((bytes_eq-Decides w (codes "async")).0 e)) (async_form assigned)
+      go false e = name_new assigned w (plain_name w i e)
+      go true e = subst NameForm (sym ((bytes_eq-Decides w (codes "async")).0 e)) (async_new assigned)
 
-  chain_form : {f : Laid} {k : Kind} {ns : List Node} → Stands assigned shapes.object f k ns → Form assigned f k ns
-  chain_form S = S.reading
+  -- members of the callee of `new`, and others
+  member_stands : {l : Level} → IsMemberLevel l → {f : Laid} {k : Kind} {ns : List Node} → Stands assigned l f k ns → (w : List ℕ) → Stands assigned l (λ g us. f g (s (codes ".") (it no_gap (items.key w) us))) kind.MemberExpr (bare k ns ∷ bare (kind.IdentName w) [] ∷ [])
+  member_stands shapes.member_of_new S w = from_new assigned (new_member_form assigned S.reading w)
+  member_stands shapes.member_of_object S w = from_form assigned (member_form assigned S.reading w)
+
+  element_stands : {h l : Level} → IsIndexed h l → {f f' : Laid} {k k' : Kind} {ns ns' : List Node} → Stands assigned h f k ns → Stands assigned shapes.sequence f' k' ns'
+      → Stands assigned l (λ g us. f g (s (codes "[") (f' no_gap (s (codes "]") us)))) kind.MemberExpr (bare k ns ∷ bare kind.ComputedPropName (bare k' ns' ∷ []) ∷ [])
+  element_stands shapes.index_of_new S E = from_new assigned (new_element_form assigned E S.reading)
+  element_stands shapes.index_of_callee S E = from_form assigned (element_form assigned E S.reading)
+
+  new_callee_form : {f : Laid} {k : Kind} {ns : List Node} → Stands assigned shapes.new_callee f k ns → NewForm assigned f k ns
+  new_callee_form S = S.reading
 
   callee_form : {f : Laid} {k : Kind} {ns : List Node} → Stands assigned shapes.callee f k ns → Form assigned f k ns
   callee_form S = S.reading
 
-  ident_stands : {n : Node} (i : IsIdent n) → Stands assigned shapes.object (λ g us. it g (items.key (ident_word i)) us) (kind.Ident (ident_word i) 0 false) []
-  ident_stands i = from_form assigned (ident_form i)
+  ident_stands : {n : Node} (i : IsIdent n) → Stands assigned shapes.new_callee (λ g us. it g (items.key (ident_word i)) us) (kind.Ident (ident_word i) 0 false) []
+  ident_stands i = from_new assigned (ident_form i)
 
-  single_stands : (t : Tok) (k : Kind) → Single t k → Stands assigned shapes.object (λ g us. it g t us) k []
-  single_stands t k s = from_form assigned (single_form assigned t k s)
+  single_stands : (t : Tok) (k : Kind) → Single t k → refuses_at (exactly t) (punct (codes ".")) ≡ true → Stands assigned shapes.new_callee (λ g us. it g t us) k []
+  single_stands t k S p = from_new assigned (single_new assigned t k S p)
 
   mutual
     pub expression_form : {level : Level} {e : Node} (is : IsExpression level e) → Stands assigned level (expression_tokens is) (expression_kind is) (expression_parts is)
     expression_form (shapes.looser {level = l} e) = loosened assigned l (expression_form e)
     expression_form (shapes.name i) = ident_stands i
-    expression_form (shapes.string at raw t) = single_stands (items.string raw) _ (string_single raw)
-    expression_form (shapes.number at raw t) = loosened assigned shapes.object (single_stands (items.number raw) _ (number_single raw))
-    expression_form (shapes.this_word at) = single_stands (items.key (codes "this")) _ this_single
-    expression_form (shapes.big_int at raw t) = single_stands (items.big_int raw) _ (big_int_single raw)
-    expression_form (shapes.null_word at) = single_stands (items.key (codes "null")) _ null_single
-    expression_form (shapes.true_word at) = single_stands (items.key (codes "true")) _ true_single
-    expression_form (shapes.false_word at) = single_stands (items.key (codes "false")) _ false_single
-    expression_form (shapes.member at o k) = from_form assigned (member_form assigned (chain_form (expression_form o)) (key_word k))
+    expression_form (shapes.string at raw t) = single_stands (items.string raw) _ (string_single raw) refl
+    expression_form (shapes.number at raw t) = loosened assigned shapes.object (from_form assigned (single_form assigned (items.number raw) _ (number_single raw)))
+    expression_form (shapes.this_word at) = single_stands (items.key (codes "this")) _ this_single refl
+    expression_form (shapes.big_int at raw t) = single_stands (items.big_int raw) _ (big_int_single raw) refl
+    expression_form (shapes.null_word at) = single_stands (items.key (codes "null")) _ null_single refl
+    expression_form (shapes.true_word at) = single_stands (items.key (codes "true")) _ true_single refl
+    expression_form (shapes.false_word at) = single_stands (items.key (codes "false")) _ false_single refl
+    expression_form (shapes.member at i o k) = member_stands i (expression_form o) (key_word k)
     expression_form (shapes.call at c es none) = from_form assigned (call_form (callee_form (expression_form c)) es (argument_forms es))
-    expression_form (shapes.parenthesized at e) = from_form assigned (parenthesized_form assigned (standing assigned (expression_form e)))
-    expression_form (shapes.element at at' o e) = from_form assigned (element_form assigned (callee_form (expression_form o)) (standing assigned (expression_form e)))
+    expression_form (shapes.parenthesized at e) = from_new assigned (parenthesized_new assigned (standing assigned (expression_form e)))
+    expression_form (shapes.element at at' i o e) = element_stands i (expression_form o) (standing assigned (expression_form e))
+    expression_form (shapes.new_expression at e es none) = from_new assigned (new_form assigned (new_callee_form (expression_form e)) (λ us. arguments_tokens es (s (codes ")") us)) (list_node (bare_arguments es)) (arguments_read es (argument_forms es)))
+    expression_form (shapes.new_alone at e none none') = alone_form assigned (new_callee_form (expression_form e))
+    expression_form (shapes.new_target at) = from_new assigned (target_form assigned)
     expression_form (shapes.prefix_update at o e) = prefix_form assigned o (expression_form e)
     expression_form (shapes.postfix_update at o e) = postfix_form assigned o (expression_form e)
     expression_form (shapes.await_expression at e) = await_form assigned (expression_form e)
@@ -198,7 +212,7 @@ module _ (assigned : Bool) where
     expression_form (shapes.coalesced at i l r) = coalesced_form assigned i (expression_form l) (expression_form r)
     expression_form (shapes.assignment_expression at o t v) = assignment_form assigned o (expression_form t) (expression_form v)
     expression_form (shapes.conditional_expression at t x y) = choice_form assigned (expression_form t) (expression_form x) (expression_form y)
-    expression_form (shapes.array at at' es) = from_form assigned (array_form assigned es (slot_forms es))
+    expression_form (shapes.array at at' es) = from_new assigned (array_new assigned es (slot_forms es))
     expression_form (shapes.sequence_expression at x y es) = sequence_form assigned (expression_form x) (expression_form y) es (expression_forms es)
 
     argument_forms : {n : Node} (is : IsArguments n) → ArgumentForms is

@@ -12,7 +12,7 @@ use Rattle.ecma_grammar.specs.productions.Functions.{arrow_rest}
 use Rattle.ecma_grammar.specs.productions.Operators.{factors, terms, shifts, relations, equalities}
 use Rattle.ecma_grammar.specs.productions.Expressions.{assignments}
 use Rattle.ecma_grammar.specs.productions.Chains as chains
-use Rattle.ecma_grammar.specs.productions.Chains.{links}
+use Rattle.ecma_grammar.specs.productions.Chains.{links, new_links}
 use Rattle.ecma_grammar.proofs.Steps.{steps-append}
 use Rattle.ecma_tokens.specs.Items.{sign, no_gap, Items, it}
 use Rattle.ecma_reread.specs.Machine.{means}
@@ -22,14 +22,14 @@ use Rattle.ecma_reread.proofs.Levels.{means_is}
 use Rattle.ecma_reread.proofs.Fronts.{exactly, at_token, refused_at}
 use Rattle.ecma_reread.proofs.Towers.{Ends}
 use Rattle.ecma_reread.proofs.Heads.{bare, member_made}
-use Rattle.ecma_reread.proofs.Forms.{Laid, s, Reads, linked_param, Form}
+use Rattle.ecma_reread.proofs.Forms.{Laid, s, Reads, linked_param, Form, NewForm}
 use Rattle.ecma_reread.proofs.Bindings.{Stands, expression_read}
 
 pub bracket_ends : Ends (exactly (sign (codes "]")))
 unfolding factors terms shifts relations equalities assignments links chains.template_start arrow_rest names.binding_ident
 bracket_ends = refl
 
-module _ (assigned : Bool) {f f' : Laid} {k k' : Kind} {ns ns' : List Node} (F : Form assigned f k ns) (S : Stands assigned shapes.sequence f' k' ns') where
+module _ (assigned : Bool) {f' : Laid} {k' : Kind} {ns' : List Node} (S : Stands assigned shapes.sequence f' k' ns') where
   abbrev key : Node
   key = bare kind.ComputedPropName (bare k' ns' ∷ [])
 
@@ -40,9 +40,13 @@ module _ (assigned : Bool) {f f' : Laid} {k k' : Kind} {ns ns' : List Node} (F :
   unfolding links chains.bracket_body chains.index
   key_read us ys vs h = rw (means_is assigned (part.Link link.Bracket) (behind us), expression_read assigned S no_gap (s (codes "]") us) (exactly (sign (codes "]"))) at_token bracket_ends refl, h) refl
 
-  pub element_form : Form assigned (λ g us. f g (behind us)) kind.MemberExpr (bare k ns ∷ key ∷ [])
+  new_key_read : (us : Items) (ys : List Node) (vs : Items) → Reads assigned new_links us ys vs → Reads assigned new_links (behind us) (bare kind.MemberExpr (absent ∷ key ∷ []) ∷ ys) vs
+  unfolding new_links chains.new_bracket_body chains.index
+  new_key_read us ys vs h = rw (means_is assigned (part.NewLink link.Bracket) (behind us), expression_read assigned S no_gap (s (codes "]") us) (exactly (sign (codes "]"))) at_token bracket_ends refl, h) refl
+
+  pub element_form : {f : Laid} {k : Kind} {ns : List Node} → Form assigned f k ns → Form assigned (λ g us. f g (behind us)) kind.MemberExpr (bare k ns ∷ key ∷ [])
   unfolding arrow_rest names.binding_ident
-  element_form =
+  element_form {f} {k} {ns} F =
       let m = bare kind.MemberExpr (absent ∷ key ∷ []) in
       let bracket = exactly (sign (codes "[")) in
       record {
@@ -61,3 +65,10 @@ module _ (assigned : Bool) {f f' : Laid} {k k' : Kind} {ns ns' : List Node} (F :
         as_param = λ g us e b z. linked_param assigned at_token refl refl (F.as_param g (behind us) bracket at_token refl);
         with_default = λ g ts us n h. linked_param assigned at_token refl refl (F.as_param g (behind (it blank (sign (codes "=")) ts)) bracket at_token refl);
       }
+
+  pub new_element_form : {f : Laid} {k : Kind} {ns : List Node} → NewForm assigned f k ns → NewForm assigned (λ g us. f g (behind us)) kind.MemberExpr (bare k ns ∷ key ∷ [])
+  unfolding element_form
+  new_element_form N =
+      let F = N.form in
+      let m = bare kind.MemberExpr (absent ∷ key ∷ []) in
+      record { form = element_form F; no_point = N.no_point; own = λ g us e b z ys vs h. rw (append_assoc F.pieces (m ∷ []) ys) (N.own g (behind us) (exactly (sign (codes "["))) at_token refl (m ∷ ys) vs (new_key_read us ys vs h)) }

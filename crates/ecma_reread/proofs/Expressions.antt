@@ -28,7 +28,7 @@ use Rattle.ecma_grammar.specs.productions.Primary.{primary, parenthesized, class
 use Rattle.ecma_grammar.specs.productions.Operators.{prefixed, factors, terms, shifts, relations, equalities}
 use Rattle.ecma_grammar.specs.productions.Expressions.{assignments}
 use Rattle.ecma_grammar.specs.productions.Chains as chains
-use Rattle.ecma_grammar.specs.productions.Chains.{links, super_of_link, import_meta, import_call, construction}
+use Rattle.ecma_grammar.specs.productions.Chains.{links, super_of_link, import_meta, import_call, construction, new_links, super_of_member}
 use Rattle.ecma_grammar.specs.productions.Statements.{labeled}
 use Rattle.ecma_grammar.proofs.Steps.{steps-append}
 use Rattle.ecma_grammar.specs.Reads.{without_separators}
@@ -40,11 +40,20 @@ use Rattle.ecma_reread.specs.Tokens.{bare, blank}
 use Rattle.ecma_reread.proofs.Levels.{means_is}
 use Rattle.ecma_grammar.specs.Made.{made}
 use Rattle.ecma_reread.proofs.Fronts.{is_known, Front, exactly, a_name, Begins, at_token, at_name, IsName, front_of, refuses_at, refused_at, refuses_all, all_refused}
-use Rattle.ecma_reread.proofs.Towers.{Tower, here, later, sooner, climb, excluded, Opens, Starts, Undeclared, Ends}
+use Rattle.ecma_reread.proofs.Towers.{Tower, here, later, sooner, climb, excluded, Opens, Starts, Undeclared, Ends, refuses_choices, skipped}
 use Rattle.ecma_reread.proofs.Heads.{is_head, member_made}
-use Rattle.ecma_reread.proofs.Forms.{Laid, s, heads, Reads, Refuses, ends_no_item, AsParam, item_refused, whole_item, linked_param, Form}
+use Rattle.ecma_reread.proofs.Forms.{Laid, s, heads, Reads, Refuses, ends_no_item, AsParam, item_refused, whole_item, linked_param, Form, new_heads, NewForm}
 use Rattle.ecma_reread.proofs.Bindings.{Stands, expression_read}
 use Rattle.ecma_reread.proofs.Params.{params_end, parameters_refused, no_body_behind}
+
+-- what a primary expression begins with: nothing else of a chain does
+pub record IsPrimary (f : Front) : Type 0 where
+  pub no_head : refuses_choices 4 f heads ≡ true
+  pub no_new_head : refuses_choices 3 f new_heads ≡ true
+
+name_primary : IsPrimary a_name
+unfolding super_of_member super_of_link import_meta import_call construction is_reserved reserved_words
+name_primary = record { no_head = refl; no_new_head = refl }
 
 name_starts : Starts a_name
 unfolding statements.statement_body names.block statements.if_ statements.for_await statements.for_ statements.while_ statements.do_while statements.switch statements.try_ statements.jump modules.module_item modules.import modules.import_equals modules.export modules.export_default is_reserved reserved_words
@@ -58,9 +67,9 @@ pub name_opens : Opens a_name
 unfolding prefixed is_reserved reserved_words
 name_opens = record { no_spread = refl; no_yield = refl; no_private = refl; no_prefix = refl; no_increment = refl; no_decrement = refl }
 
-name_tower : (k : Front) → Tower a_name k (keep leaf.Ident) heads
-unfolding super_of_link import_meta import_call construction primary function_expression class_expression is_reserved reserved_words
-name_tower k = later refl (later refl (later refl (later refl (later refl (later refl (later refl (later refl (later refl (later refl (sooner here))))))))))
+name_tower : (k : Front) → Tower a_name k (keep leaf.Ident) primary
+unfolding super_of_member super_of_link import_meta import_call construction primary function_expression class_expression is_reserved reserved_words
+name_tower k = later refl (later refl (later refl (later refl (later refl (later refl (sooner here))))))
 
 async_known : is_known (codes "async") ≡ true
 unfolding is_reserved reserved_words
@@ -69,7 +78,8 @@ async_known = refl
 -- a token by itself, of which the grammar makes one node
 pub record Single (t : Tok) (k : Kind) : Type 0 where
   pub leaf_of : Grammar
-  pub tower : (e : Front) → Tower (exactly t) e leaf_of heads
+  pub tower : (e : Front) → Tower (exactly t) e leaf_of primary
+  pub apart : IsPrimary (exactly t)
   pub opens : Opens (exactly t)
   pub starts : Starts (exactly t)
   pub undeclared : Undeclared (exactly t)
@@ -81,10 +91,11 @@ pub record Single (t : Tok) (k : Kind) : Type 0 where
   pub taken : (assigned : Bool) (g : Gap) (us : Items) → interp assigned (means assigned) leaf_of (it g t us) ≡ read (bare k [] ∷ []) us
 
 pub string_single : (raw : List ℕ) → Single (items.string raw) (kind.Str (str_value (piece raw 1 (length raw - 1))) (Some raw))
-unfolding super_of_link import_meta import_call construction primary function_expression class_expression prefixed arrow arrow_rest labeled param rest_pattern default_value pattern_body array_pattern object_pattern names.binding_ident statements.statement_body names.block statements.if_ statements.for_await statements.for_ statements.while_ statements.do_while statements.switch statements.try_ statements.jump declarations.declaration functions.function_declaration classes.class_declaration modules.module_item modules.import modules.import_equals modules.export modules.export_default
+unfolding super_of_member super_of_link import_meta import_call construction primary function_expression class_expression prefixed arrow arrow_rest labeled param rest_pattern default_value pattern_body array_pattern object_pattern names.binding_ident statements.statement_body names.block statements.if_ statements.for_await statements.for_ statements.while_ statements.do_while statements.switch statements.try_ statements.jump declarations.declaration functions.function_declaration classes.class_declaration modules.module_item modules.import modules.import_equals modules.export modules.export_default
 string_single raw = record {
   leaf_of = keep leaf.Str;
-  tower = λ e. later refl (later refl (later refl (later refl (later refl (later refl (later refl (later refl (later refl (later refl (later refl (later refl (later refl (sooner here)))))))))))));
+  tower = λ e. later refl (later refl (later refl (later refl (later refl (later refl (later refl (later refl (later refl (sooner here)))))))));
+  apart = record { no_head = refl; no_new_head = refl };
   opens = record { no_spread = refl; no_yield = refl; no_private = refl; no_prefix = refl; no_increment = refl; no_decrement = refl };
   starts = record { no_statement = refl; no_item = refl };
   undeclared = record { no_declaration = refl; no_word = refl };
@@ -97,10 +108,11 @@ string_single raw = record {
 }
 
 pub number_single : (raw : List ℕ) → Single (items.number raw) (kind.Number (numeral_of raw) (Some raw))
-unfolding super_of_link import_meta import_call construction primary function_expression class_expression prefixed arrow arrow_rest labeled param rest_pattern default_value pattern_body array_pattern object_pattern names.binding_ident is_reserved reserved_words statements.statement_body names.block statements.if_ statements.for_await statements.for_ statements.while_ statements.do_while statements.switch statements.try_ statements.jump declarations.declaration functions.function_declaration classes.class_declaration modules.module_item modules.import modules.import_equals modules.export modules.export_default
+unfolding super_of_member super_of_link import_meta import_call construction primary function_expression class_expression prefixed arrow arrow_rest labeled param rest_pattern default_value pattern_body array_pattern object_pattern names.binding_ident is_reserved reserved_words statements.statement_body names.block statements.if_ statements.for_await statements.for_ statements.while_ statements.do_while statements.switch statements.try_ statements.jump declarations.declaration functions.function_declaration classes.class_declaration modules.module_item modules.import modules.import_equals modules.export modules.export_default
 number_single raw = record {
   leaf_of = keep leaf.Number;
-  tower = λ e. later refl (later refl (later refl (later refl (later refl (later refl (later refl (later refl (later refl (later refl (later refl (sooner here)))))))))));
+  tower = λ e. later refl (later refl (later refl (later refl (later refl (later refl (later refl (sooner here)))))));
+  apart = record { no_head = refl; no_new_head = refl };
   opens = record { no_spread = refl; no_yield = refl; no_private = refl; no_prefix = refl; no_increment = refl; no_decrement = refl };
   starts = record { no_statement = refl; no_item = refl };
   undeclared = record { no_declaration = refl; no_word = refl };
@@ -113,10 +125,11 @@ number_single raw = record {
 }
 
 pub this_single : Single (items.key (codes "this")) kind.ThisExpr
-unfolding super_of_link import_meta import_call construction primary function_expression class_expression prefixed arrow arrow_rest labeled param rest_pattern default_value pattern_body array_pattern object_pattern names.binding_ident is_reserved reserved_words statements.statement_body names.block statements.if_ statements.for_await statements.for_ statements.while_ statements.do_while statements.switch statements.try_ statements.jump declarations.declaration functions.function_declaration classes.class_declaration modules.module_item modules.import modules.import_equals modules.export modules.export_default
+unfolding super_of_member super_of_link import_meta import_call construction primary function_expression class_expression prefixed arrow arrow_rest labeled param rest_pattern default_value pattern_body array_pattern object_pattern names.binding_ident is_reserved reserved_words statements.statement_body names.block statements.if_ statements.for_await statements.for_ statements.while_ statements.do_while statements.switch statements.try_ statements.jump declarations.declaration functions.function_declaration classes.class_declaration modules.module_item modules.import modules.import_equals modules.export modules.export_default
 this_single = record {
   leaf_of = keep leaf.This;
-  tower = λ e. later refl (later refl (later refl (later refl (later refl (later refl (sooner here))))));
+  tower = λ e. later refl (later refl (sooner here));
+  apart = record { no_head = refl; no_new_head = refl };
   opens = record { no_spread = refl; no_yield = refl; no_private = refl; no_prefix = refl; no_increment = refl; no_decrement = refl };
   starts = record { no_statement = refl; no_item = refl };
   undeclared = record { no_declaration = refl; no_word = refl };
@@ -129,10 +142,11 @@ this_single = record {
 }
 
 pub big_int_single : (raw : List ℕ) → Single (items.big_int raw) (kind.BigInt (without_separators (piece raw 0 (length raw - 1))) (Some raw))
-unfolding super_of_link import_meta import_call construction primary function_expression class_expression prefixed arrow arrow_rest labeled param rest_pattern default_value pattern_body array_pattern object_pattern names.binding_ident is_reserved reserved_words statements.statement_body names.block statements.if_ statements.for_await statements.for_ statements.while_ statements.do_while statements.switch statements.try_ statements.jump declarations.declaration functions.function_declaration classes.class_declaration modules.module_item modules.import modules.import_equals modules.export modules.export_default
+unfolding super_of_member super_of_link import_meta import_call construction primary function_expression class_expression prefixed arrow arrow_rest labeled param rest_pattern default_value pattern_body array_pattern object_pattern names.binding_ident is_reserved reserved_words statements.statement_body names.block statements.if_ statements.for_await statements.for_ statements.while_ statements.do_while statements.switch statements.try_ statements.jump declarations.declaration functions.function_declaration classes.class_declaration modules.module_item modules.import modules.import_equals modules.export modules.export_default
 big_int_single raw = record {
   leaf_of = keep leaf.BigInt;
-  tower = λ e. later refl (later refl (later refl (later refl (later refl (later refl (later refl (later refl (later refl (later refl (later refl (later refl (sooner here))))))))))));
+  tower = λ e. later refl (later refl (later refl (later refl (later refl (later refl (later refl (later refl (sooner here))))))));
+  apart = record { no_head = refl; no_new_head = refl };
   opens = record { no_spread = refl; no_yield = refl; no_private = refl; no_prefix = refl; no_increment = refl; no_decrement = refl };
   starts = record { no_statement = refl; no_item = refl };
   undeclared = record { no_declaration = refl; no_word = refl };
@@ -145,10 +159,11 @@ big_int_single raw = record {
 }
 
 pub null_single : Single (items.key (codes "null")) kind.Null
-unfolding super_of_link import_meta import_call construction primary function_expression class_expression prefixed arrow arrow_rest labeled param rest_pattern default_value pattern_body array_pattern object_pattern names.binding_ident is_reserved reserved_words statements.statement_body names.block statements.if_ statements.for_await statements.for_ statements.while_ statements.do_while statements.switch statements.try_ statements.jump declarations.declaration functions.function_declaration classes.class_declaration modules.module_item modules.import modules.import_equals modules.export modules.export_default
+unfolding super_of_member super_of_link import_meta import_call construction primary function_expression class_expression prefixed arrow arrow_rest labeled param rest_pattern default_value pattern_body array_pattern object_pattern names.binding_ident is_reserved reserved_words statements.statement_body names.block statements.if_ statements.for_await statements.for_ statements.while_ statements.do_while statements.switch statements.try_ statements.jump declarations.declaration functions.function_declaration classes.class_declaration modules.module_item modules.import modules.import_equals modules.export modules.export_default
 null_single = record {
   leaf_of = keep leaf.Null;
-  tower = λ e. later refl (later refl (later refl (later refl (later refl (later refl (later refl (sooner here)))))));
+  tower = λ e. later refl (later refl (later refl (sooner here)));
+  apart = record { no_head = refl; no_new_head = refl };
   opens = record { no_spread = refl; no_yield = refl; no_private = refl; no_prefix = refl; no_increment = refl; no_decrement = refl };
   starts = record { no_statement = refl; no_item = refl };
   undeclared = record { no_declaration = refl; no_word = refl };
@@ -161,10 +176,11 @@ null_single = record {
 }
 
 pub true_single : Single (items.key (codes "true")) (kind.Bool true)
-unfolding super_of_link import_meta import_call construction primary function_expression class_expression prefixed arrow arrow_rest labeled param rest_pattern default_value pattern_body array_pattern object_pattern names.binding_ident is_reserved reserved_words statements.statement_body names.block statements.if_ statements.for_await statements.for_ statements.while_ statements.do_while statements.switch statements.try_ statements.jump declarations.declaration functions.function_declaration classes.class_declaration modules.module_item modules.import modules.import_equals modules.export modules.export_default
+unfolding super_of_member super_of_link import_meta import_call construction primary function_expression class_expression prefixed arrow arrow_rest labeled param rest_pattern default_value pattern_body array_pattern object_pattern names.binding_ident is_reserved reserved_words statements.statement_body names.block statements.if_ statements.for_await statements.for_ statements.while_ statements.do_while statements.switch statements.try_ statements.jump declarations.declaration functions.function_declaration classes.class_declaration modules.module_item modules.import modules.import_equals modules.export modules.export_default
 true_single = record {
   leaf_of = keep leaf.True;
-  tower = λ e. later refl (later refl (later refl (later refl (later refl (later refl (later refl (later refl (sooner here))))))));
+  tower = λ e. later refl (later refl (later refl (later refl (sooner here))));
+  apart = record { no_head = refl; no_new_head = refl };
   opens = record { no_spread = refl; no_yield = refl; no_private = refl; no_prefix = refl; no_increment = refl; no_decrement = refl };
   starts = record { no_statement = refl; no_item = refl };
   undeclared = record { no_declaration = refl; no_word = refl };
@@ -177,10 +193,11 @@ true_single = record {
 }
 
 pub false_single : Single (items.key (codes "false")) (kind.Bool false)
-unfolding super_of_link import_meta import_call construction primary function_expression class_expression prefixed arrow arrow_rest labeled param rest_pattern default_value pattern_body array_pattern object_pattern names.binding_ident is_reserved reserved_words statements.statement_body names.block statements.if_ statements.for_await statements.for_ statements.while_ statements.do_while statements.switch statements.try_ statements.jump declarations.declaration functions.function_declaration classes.class_declaration modules.module_item modules.import modules.import_equals modules.export modules.export_default
+unfolding super_of_member super_of_link import_meta import_call construction primary function_expression class_expression prefixed arrow arrow_rest labeled param rest_pattern default_value pattern_body array_pattern object_pattern names.binding_ident is_reserved reserved_words statements.statement_body names.block statements.if_ statements.for_await statements.for_ statements.while_ statements.do_while statements.switch statements.try_ statements.jump declarations.declaration functions.function_declaration classes.class_declaration modules.module_item modules.import modules.import_equals modules.export modules.export_default
 false_single = record {
   leaf_of = keep leaf.False;
-  tower = λ e. later refl (later refl (later refl (later refl (later refl (later refl (later refl (later refl (later refl (sooner here)))))))));
+  tower = λ e. later refl (later refl (later refl (later refl (later refl (sooner here)))));
+  apart = record { no_head = refl; no_new_head = refl };
   opens = record { no_spread = refl; no_yield = refl; no_private = refl; no_prefix = refl; no_increment = refl; no_decrement = refl };
   starts = record { no_statement = refl; no_item = refl };
   undeclared = record { no_declaration = refl; no_word = refl };
@@ -206,14 +223,21 @@ semicolon_ends = refl
 
 module _ (assigned : Bool) where
   -- what begins a chain, and the links behind it
-  pub head_read : (f : Front) (base : Grammar) (ts us : Items) (x : Node) → ((k : Front) → Tower f k base heads) → Begins f ts → Reads assigned base ts (x ∷ []) us → (ys : List Node) (vs : Items) → Reads assigned links us ys vs → Reads assigned (heads ▸ links) ts (x ∷ ys) vs
-  head_read f base ts us x t b h ys vs e =
-      let k = front_of us in
-      ap (followed_on (interp assigned (means assigned) links)) (climb assigned (means assigned) (t k.0) ts us x b k.1 h) ∙ ap (with_front (x ∷ [])) e
+  pub head_read : (f : Front) (ts us : Items) (x : Node) → IsPrimary f → Begins f ts → Reads assigned primary ts (x ∷ []) us → (ys : List Node) (vs : Items) → Reads assigned links us ys vs → Reads assigned (heads ▸ links) ts (x ∷ ys) vs
+  head_read f ts us x i b h ys vs e = ap (followed_on (interp assigned (means assigned) links)) (skipped assigned (means assigned) 4 heads f ts b i.no_head ∙ h) ∙ ap (with_front (x ∷ [])) e
+
+  pub new_head_read : (f : Front) (ts us : Items) (x : Node) → IsPrimary f → Begins f ts → Reads assigned primary ts (x ∷ []) us → (ys : List Node) (vs : Items) → Reads assigned new_links us ys vs → Reads assigned (new_heads ▸ new_links) ts (x ∷ ys) vs
+  new_head_read f ts us x i b h ys vs e = ap (followed_on (interp assigned (means assigned) new_links)) (skipped assigned (means assigned) 3 new_heads f ts b i.no_new_head ∙ h) ∙ ap (with_front (x ∷ [])) e
+
+  pub primary_by : (f : Front) (base : Grammar) (ts us : Items) (x : Node) → ((k : Front) → Tower f k base primary) → Begins f ts → Reads assigned base ts (x ∷ []) us → Reads assigned primary ts (x ∷ []) us
+  primary_by f base ts us x t b h = let k = front_of us in climb assigned (means assigned) (t k.0) ts us x b k.1 h
 
   -- no parameter begins there, and nothing ends there
   pub no_param_at : (f : Front) (ts us : Items) → Begins f ts → refuses_all f param ≡ true → ends_no_item f ≡ true → AsParam assigned ts us
   no_param_at f ts us b e z = item_refused (all_refused assigned param f ts b e) f b z
+
+  single_read : (t : Tok) (k : Kind) → Single t k → (g : Gap) (us : Items) → Reads assigned primary (it g t us) (bare k [] ∷ []) us
+  single_read t k S g us = primary_by (exactly t) S.leaf_of (it g t us) us (bare k []) S.tower at_token (S.taken assigned g us)
 
   pub single_form : (t : Tok) (k : Kind) → Single t k → Form assigned (λ g us. it g t us) k []
   single_form t k S = record {
@@ -222,7 +246,7 @@ module _ (assigned : Bool) where
     opens = S.opens;
     starts = S.starts;
     pieces = bare k [] ∷ [];
-    own = λ g us e b z ys vs h. head_read (exactly t) S.leaf_of (it g t us) us (bare k []) S.tower at_token (S.taken assigned g us) ys vs h;
+    own = λ g us e b z ys vs h. head_read (exactly t) (it g t us) us (bare k []) S.apart at_token (single_read t k S g us) ys vs h;
     whole = refl;
     head = S.head;
     no_arrow = λ g us e b z r. all_refused assigned (arrow false false) (exactly t) (it g t us) at_token S.no_arrow;
@@ -232,6 +256,10 @@ module _ (assigned : Bool) where
     as_param = λ g us e b z. no_param_at (exactly t) (it g t us) us at_token S.no_param S.no_end;
     with_default = λ g ts us n h. no_param_at (exactly t) (it g t (it blank (sign (codes "=")) ts)) us at_token S.no_param S.no_end;
   }
+
+  pub single_new : (t : Tok) (k : Kind) → Single t k → refuses_at (exactly t) (punct (codes ".")) ≡ true → NewForm assigned (λ g us. it g t us) k []
+  unfolding single_form
+  single_new t k S p = record { form = single_form t k S; no_point = p; own = λ g us e b z ys vs h. new_head_read (exactly t) (it g t us) us (bare k []) S.apart at_token (single_read t k S g us) ys vs h }
 
   -- a name that might be a parameter, a label or what an arrow function begins with
 
@@ -268,6 +296,9 @@ module _ (assigned : Bool) where
   unfolding labeled
   name_no_label w n g us e b z = rw (n, refused_at assigned (means assigned) (punct (codes ":")) e us b z) refl
 
+  name_read : (w : List ℕ) → IsName w → (g : Gap) (us : Items) → Reads assigned primary (it g (items.key w) us) (bare (kind.Ident w 0 false) [] ∷ []) us
+  name_read w n g us = primary_by a_name (keep leaf.Ident) (it g (items.key w) us) us (bare (kind.Ident w 0 false) []) name_tower (at_name n) (rw n.free refl)
+
   pub name_form : (w : List ℕ) → IsName w → Form assigned (λ g us. it g (items.key w) us) (kind.Ident w 0 false) []
   name_form w n = record {
     front = a_name;
@@ -275,7 +306,7 @@ module _ (assigned : Bool) where
     opens = name_opens;
     starts = name_starts;
     pieces = bare (kind.Ident w 0 false) [] ∷ [];
-    own = λ g us e b z ys vs h. head_read a_name (keep leaf.Ident) (it g (items.key w) us) us (bare (kind.Ident w 0 false) []) name_tower (at_name n) (rw n.free refl) ys vs h;
+    own = λ g us e b z ys vs h. head_read a_name (it g (items.key w) us) us (bare (kind.Ident w 0 false) []) name_primary (at_name n) (name_read w n g us) ys vs h;
     whole = refl;
     head = refl;
     no_arrow = name_no_arrow w n;
@@ -285,6 +316,10 @@ module _ (assigned : Bool) where
     as_param = name_as_param w n.free;
     with_default = name_with_default w n.free;
   }
+
+  pub name_new : (w : List ℕ) → IsName w → NewForm assigned (λ g us. it g (items.key w) us) (kind.Ident w 0 false) []
+  unfolding name_form
+  name_new w n = record { form = name_form w n; no_point = refl; own = λ g us e b z ys vs h. new_head_read a_name (it g (items.key w) us) us (bare (kind.Ident w 0 false) []) name_primary (at_name n) (name_read w n g us) ys vs h }
 
   dot_read : (w : List ℕ) (us : Items) (ys : List Node) (vs : Items) → Reads assigned links us ys vs → Reads assigned links (s (codes ".") (it no_gap (items.key w) us)) (bare kind.MemberExpr (absent ∷ bare (kind.IdentName w) [] ∷ []) ∷ ys) vs
   unfolding links chains.dot_body chains.chain_key
@@ -312,19 +347,41 @@ module _ (assigned : Bool) where
         with_default = λ g ts us n h. linked_param assigned at_token refl refl (F.as_param g (s (codes ".") (it no_gap (items.key w) (it blank (sign (codes "=")) ts))) point at_token refl);
       }
 
+  new_dot_read : (w : List ℕ) (us : Items) (ys : List Node) (vs : Items) → Reads assigned new_links us ys vs → Reads assigned new_links (s (codes ".") (it no_gap (items.key w) us)) (bare kind.MemberExpr (absent ∷ bare (kind.IdentName w) [] ∷ []) ∷ ys) vs
+  unfolding new_links chains.new_dot_body chains.chain_key
+  new_dot_read w us ys vs h = rw (means_is assigned (part.NewLink link.Dot) (it no_gap (items.key w) us), h) refl
+
+  pub new_member_form : {f : Laid} {k : Kind} {ns : List Node} → NewForm assigned f k ns → (w : List ℕ) → NewForm assigned (λ g us. f g (s (codes ".") (it no_gap (items.key w) us))) kind.MemberExpr (bare k ns ∷ bare (kind.IdentName w) [] ∷ [])
+  unfolding member_form
+  new_member_form N w =
+      let F = N.form in
+      let m = bare kind.MemberExpr (absent ∷ bare (kind.IdentName w) [] ∷ []) in
+      record {
+        form = member_form F w;
+        no_point = N.no_point;
+        own = λ g us e b z ys vs h. rw (append_assoc F.pieces (m ∷ []) ys) (N.own g (s (codes ".") (it no_gap (items.key w) us)) (exactly (sign (codes "."))) at_token refl (m ∷ ys) vs (new_dot_read w us ys vs h));
+      }
+
   -- parentheses
 
   abbrev opening : Front
   opening = exactly (sign (codes "("))
 
-  parenthesis_tower : (e : Front) → Tower opening e parenthesized heads
-  unfolding super_of_link import_meta import_call construction primary function_expression class_expression primaries.template primaries.array primaries.object
-  parenthesis_tower e = later refl (later refl (later refl (later refl (later refl (later refl (later refl (later refl (later refl (later refl (later refl (later refl (later refl (later refl (later refl (later refl (later refl (later refl here)))))))))))))))))
+  parenthesis_primary : IsPrimary opening
+  unfolding super_of_member super_of_link import_meta import_call construction
+  parenthesis_primary = record { no_head = refl; no_new_head = refl }
+
+  parenthesis_tower : (e : Front) → Tower opening e parenthesized primary
+  unfolding super_of_member super_of_link import_meta import_call construction primary function_expression class_expression primaries.template primaries.array primaries.object
+  parenthesis_tower e = later refl (later refl (later refl (later refl (later refl (later refl (later refl (later refl (later refl (later refl (later refl (later refl (later refl (later refl here)))))))))))))
 
   module _ {f : Laid} {k : Kind} {ns : List Node} (S : Stands assigned shapes.sequence f k ns) where
     parenthesized_read : (g : Gap) (us : Items) → Reads assigned parenthesized (it g (sign (codes "(")) (f no_gap (s (codes ")") us))) (bare kind.ParenExpr (bare k ns ∷ []) ∷ []) us
     unfolding parenthesized
     parenthesized_read g us = rw (expression_read assigned S no_gap (s (codes ")") us) (exactly (sign (codes ")"))) at_token parenthesis_ends refl) refl
+
+    whole_read : (g : Gap) (us : Items) → Reads assigned primary (it g (sign (codes "(")) (f no_gap (s (codes ")") us))) (bare kind.ParenExpr (bare k ns ∷ []) ∷ []) us
+    whole_read g us = primary_by opening parenthesized (it g (sign (codes "(")) (f no_gap (s (codes ")") us))) us (bare kind.ParenExpr (bare k ns ∷ [])) parenthesis_tower at_token (parenthesized_read g us)
 
     parenthesized_no_arrow : (g : Gap) (us : Items) (e : Front) → Begins e us → refuses_at e (arrow_body false) ≡ true → Refuses assigned (arrow_rest false false) us → Refuses assigned (arrow false false) (it g (sign (codes "(")) (f no_gap (s (codes ")") us)))
     unfolding arrow
@@ -341,7 +398,7 @@ module _ (assigned : Bool) where
       opens = record { no_spread = refl; no_yield = refl; no_private = refl; no_prefix = refl; no_increment = refl; no_decrement = refl };
       starts = record { no_statement = refl; no_item = refl };
       pieces = bare kind.ParenExpr (bare k ns ∷ []) ∷ [];
-      own = λ g us e b z ys vs h. head_read opening parenthesized (it g (sign (codes "(")) (f no_gap (s (codes ")") us))) us (bare kind.ParenExpr (bare k ns ∷ [])) parenthesis_tower at_token (parenthesized_read g us) ys vs h;
+      own = λ g us e b z ys vs h. head_read opening (it g (sign (codes "(")) (f no_gap (s (codes ")") us))) us (bare kind.ParenExpr (bare k ns ∷ [])) parenthesis_primary at_token (whole_read g us) ys vs h;
       whole = refl;
       head = refl;
       no_arrow = parenthesized_no_arrow;
@@ -350,4 +407,12 @@ module _ (assigned : Bool) where
       no_word = λ g us e b z. refused_at assigned (means assigned) excluded opening (it g (sign (codes "(")) (f no_gap (s (codes ")") us))) at_token refl;
       as_param = λ g us e b z. no_param_at opening (it g (sign (codes "(")) (f no_gap (s (codes ")") us))) us at_token refl refl;
       with_default = λ g ts us n h. no_param_at opening (it g (sign (codes "(")) (f no_gap (s (codes ")") (it blank (sign (codes "=")) ts)))) us at_token refl refl;
+    }
+
+    pub parenthesized_new : NewForm assigned (λ g us. it g (sign (codes "(")) (f no_gap (s (codes ")") us))) kind.ParenExpr (bare k ns ∷ [])
+    unfolding parenthesized_form
+    parenthesized_new = record {
+      form = parenthesized_form;
+      no_point = refl;
+      own = λ g us e b z ys vs h. new_head_read opening (it g (sign (codes "(")) (f no_gap (s (codes ")") us))) us (bare kind.ParenExpr (bare k ns ∷ [])) parenthesis_primary at_token (whole_read g us) ys vs h;
     }

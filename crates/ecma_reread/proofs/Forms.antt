@@ -12,7 +12,7 @@ use Rattle.ecma_grammar.specs.productions.Expressions.{yield_}
 use Rattle.ecma_grammar.specs.productions.Types.{param, some_return_annotation}
 use Rattle.ecma_grammar.specs.productions.Functions.{arrow, arrow_rest, arrow_body, before_colon}
 use Rattle.ecma_grammar.specs.productions.Primary.{primary}
-use Rattle.ecma_grammar.specs.productions.Chains.{chain, links, super_of_link, import_meta, import_call, construction}
+use Rattle.ecma_grammar.specs.productions.Chains.{chain, links, super_of_link, import_meta, import_call, construction, new_links, super_of_member}
 use Rattle.ecma_grammar.specs.productions.Declarations.{declaration}
 use Rattle.ecma_grammar.specs.productions.Statements.{labeled, statement_body}
 use Rattle.ecma_grammar.specs.productions.Modules.{module_item}
@@ -34,6 +34,10 @@ s w u = it no_gap (sign w) u
 -- what may begin a chain of links
 abbrev pub heads : Grammar
 heads = super_of_link // import_meta // import_call // construction // primary
+
+-- and that of the callee of `new`
+abbrev pub new_heads : Grammar
+new_heads = super_of_member // import_meta // construction // primary
 
 -- behind `)` of what may be the parameters of an arrow function
 abbrev pub behind_params : Grammar
@@ -88,6 +92,17 @@ module _ (assigned : Bool) where
     pub as_param : (g : Gap) (us : Items) (e : Front) → Begins e us → refuses_at e (punct (codes "=")) ≡ true → AsParam (f g us) us
     -- with a default value
     pub with_default : (g : Gap) (ts vs : Items) (n : Node) → means assigned (part.Assign false false) ts ≡ read (n ∷ []) vs → AsParam (f g (it blank (sign (codes "=")) ts)) vs
+
+  -- as the callee of `new`
+  pub record NewForm (f : Laid) (k : Kind) (ns : List Node) : Type 0 where
+    pub form : Form f k ns
+    pub no_point : refuses_at (let F = form in F.front) (punct (codes ".")) ≡ true
+    pub own : (g : Gap) (us : Items) (e : Front) → Begins e us → refuses_at e (word (codes "function")) ≡ true → (ys : List Node) (vs : Items) → Reads new_links us ys vs → Reads (new_heads ▸ new_links) (f g us) ((let F = form in F.pieces) ++ ys) vs
+
+  -- all of a chain, and what begins none of what may stand before one
+  pub record Whole (c : Front) (f : Laid) (n : Node) : Type 0 where
+    pub opens : Opens c
+    pub all : (g : Gap) (us : Items) (e : Front) → Begins e us → closes shapes.object e ≡ true → Reads chain (f g us) (n ∷ []) us
 
   module _ {f : Laid} {k : Kind} {ns : List Node} (F : Form f k ns) where
     pub chain_read : (g : Gap) (us : Items) (e : Front) → Begins e us → closes shapes.object e ≡ true → Reads chain (f g us) (bare k ns ∷ []) us
@@ -214,3 +229,26 @@ module _ (assigned : Bool) where
       let n = and_parts (refuses_at e excluded) _ m.1 in
       let o = and_parts (refuses_all e param) _ n.1 in
       item_refused (all_refused assigned param e (it g t (rest us)) at_token o.0) e at_token o.1
+
+  -- a form by its first token, with which nothing begins that is tried before an expression
+  abbrev pub form_by : (t : Tok) → only_opens (exactly t) ≡ true → Opens (exactly t) → (rest : Items → Items) {k : Kind} {ns : List Node} → is_head k ≡ true
+      → ((g : Gap) (us : Items) (e : Front) → Begins e us → refuses_at e (word (codes "function")) ≡ true → (ys : List Node) (vs : Items) → Reads assigned links us ys vs → Reads assigned (heads ▸ links) (it g t (rest us)) (bare k ns ∷ ys) vs)
+      → Form assigned (λ g us. it g t (rest us)) k ns
+  form_by t z o rest {k} {ns} h own =
+      let L = lead_by t z rest in
+      record {
+        front = exactly t;
+        begins = L.begins;
+        opens = o;
+        starts = L.starts;
+        pieces = bare k ns ∷ [];
+        own = own;
+        whole = refl;
+        head = h;
+        no_arrow = L.no_arrow;
+        no_label = L.no_label;
+        no_declaration = L.no_declaration;
+        no_word = L.no_word;
+        as_param = λ g us e b c. param_by t z rest g us;
+        with_default = λ g ts vs n c. param_by t z (λ us. rest (it blank (sign (codes "=")) ts)) g vs;
+      }

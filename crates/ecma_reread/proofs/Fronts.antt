@@ -373,6 +373,15 @@ is_refuses v = false
 abbrev pub refuses_at : Front → Grammar → Bool
 refuses_at f g = is_refuses (verdict unknown f g)
 
+-- what refuses in front of what may do anything refuses by itself
+refuses_alone : (v : Verdict) → is_refuses (behind_verdict v open_) ≡ true → is_refuses v ≡ true
+refuses_alone refuses h = refl
+refuses_alone idles h = absurd (false≢true h)
+refuses_alone open_ h = absurd (false≢true h)
+
+pub first_refuses : (f : Front) (a : Grammar) → is_refuses (behind_verdict (verdict unknown f a) open_) ≡ true → refuses_at f a ≡ true
+first_refuses f a h = refuses_alone (verdict unknown f a) h
+
 refuses_by_first : (v w : Verdict) → is_refuses v ≡ true → is_refuses (behind_verdict v w) ≡ true
 refuses_by_first refuses w h = refl
 refuses_by_first idles w h = absurd (false≢true h)

@@ -23,7 +23,7 @@ use Rattle.ecma_print.specs.Operators.{unary_sign, update_sign}
 use Rattle.ecma_tokens.proofs.Wholes.{some_text}
 use Rattle.ecma_reread.specs.Machine.{count}
 use Rattle.ecma_reread.specs.Shapes as shapes
-use Rattle.ecma_reread.specs.Shapes.{Level, looser_than, IsOperator, IsIdent, ident, IsKey, key, IsExpression, IsElement, IsArguments, AreElements, AreExpressions, IsInitializer, IsDeclarator, AreDeclarators, AreSlots}
+use Rattle.ecma_reread.specs.Shapes.{Level, looser_than, IsOperator, IsIdent, ident, IsKey, key, IsExpression, IsElement, IsArguments, AreElements, AreExpressions, IsInitializer, IsDeclarator, AreDeclarators, AreSlots, IsMemberLevel, IsIndexed}
 use Rattle.ecma_reread.specs.Tokens.{blank, sign_of, assign_token, update_token, unary_token, binary_token, own_sign, unary_gap, ident_word, key_word, expression_tokens, element_tokens, arguments_tokens, elements_tokens, more_tokens, declarator_tokens, declarators_tokens, slots_tokens, more_slots_tokens}
 
 -- each token has a text
@@ -84,8 +84,13 @@ update_soft MinusMinus point = refl
 update_soft MinusMinus z = refl
 
 abbrev is_object : Level → Bool
+is_object shapes.new_callee = true
 is_object shapes.object = true
 is_object l = false
+
+point_behind : {l : Level} → IsMemberLevel l → {us : Items} → Soft (is_object l) (sign_of (codes ".") us)
+point_behind shapes.member_of_new = point
+point_behind shapes.member_of_object = point
 
 -- in front of a tighter expression the same may stand
 softer : (l : Level) {us : Items} → Soft (is_object (looser_than l)) us → Soft (is_object l) us
@@ -129,10 +134,13 @@ begun (shapes.big_int at raw t) us = record { first = items.big_int raw; by = No
 begun (shapes.null_word at) us = record { first = items.key (codes "null"); by = NoNeighbor; rest = us; opens = by_key (codes "null"); is = λ g. refl }
 begun (shapes.true_word at) us = record { first = items.key (codes "true"); by = NoNeighbor; rest = us; opens = by_key (codes "true"); is = λ g. refl }
 begun (shapes.false_word at) us = record { first = items.key (codes "false"); by = NoNeighbor; rest = us; opens = by_key (codes "false"); is = λ g. refl }
-begun (shapes.member at o k) us = begun o (sign_of (codes ".") (it no_gap (items.key (key_word k)) us))
+begun (shapes.member at i o k) us = begun o (sign_of (codes ".") (it no_gap (items.key (key_word k)) us))
 begun (shapes.call at c es none) us = begun c (sign_of (codes "(") (arguments_tokens es (sign_of (codes ")") us)))
 begun (shapes.parenthesized at e) us = record { first = sign (codes "("); by = NoNeighbor; rest = expression_tokens e no_gap (sign_of (codes ")") us); opens = by_parenthesis; is = λ g. refl }
-begun (shapes.element at at' o e) us = begun o (sign_of (codes "[") (expression_tokens e no_gap (sign_of (codes "]") us)))
+begun (shapes.element at at' i o e) us = begun o (sign_of (codes "[") (expression_tokens e no_gap (sign_of (codes "]") us)))
+begun (shapes.new_expression at e es none) us = record { first = items.key (codes "new"); by = NoNeighbor; rest = expression_tokens e blank (sign_of (codes "(") (arguments_tokens es (sign_of (codes ")") us))); opens = by_key (codes "new"); is = λ g. refl }
+begun (shapes.new_alone at e none none') us = record { first = items.key (codes "new"); by = NoNeighbor; rest = expression_tokens e blank us; opens = by_key (codes "new"); is = λ g. refl }
+begun (shapes.new_target at) us = record { first = items.key (codes "new"); by = NoNeighbor; rest = sign_of (codes ".") (it no_gap (items.key (codes "target")) us); opens = by_key (codes "new"); is = λ g. refl }
 begun (shapes.prefix_update at o e) us = record { first = update_token o; by = update_sign o; rest = expression_tokens e no_gap us; opens = by_update o; is = λ g. refl }
 begun (shapes.postfix_update at o e) us = begun e (it no_gap (update_token o) us)
 begun (shapes.await_expression at e) us = record { first = items.key (codes "await"); by = NoNeighbor; rest = expression_tokens e blank us; opens = by_key (codes "await"); is = λ g. refl }
@@ -238,8 +246,10 @@ slots_soft (shapes.hole a es) us = comma
 -- the operand of a unary operator: it begins with no sign but that of an operator of its own
 
 abbrev is_linked : Level → Bool
+is_linked shapes.new_callee = true
 is_linked shapes.object = true
 is_linked shapes.callee = true
+is_linked shapes.left_hand_side = true
 is_linked l = false
 
 abbrev is_operand : Level → Bool
@@ -250,6 +260,7 @@ is_operand l = is_linked l
 linked_first : (l : Level) → is_linked (looser_than l) ≡ true → is_linked l ≡ true
 linked_first shapes.object h = refl
 linked_first shapes.callee h = refl
+linked_first shapes.left_hand_side h = refl
 linked_first l h = h
 
 operand_first : (l : Level) → is_operand (looser_than l) ≡ true → is_operand l ≡ true
@@ -268,12 +279,23 @@ linked_operand shapes.update h = refl
 linked_operand shapes.unary h = refl
 linked_operand l h = h
 
+member_linked : {l : Level} → IsMemberLevel l → is_linked l ≡ true
+member_linked shapes.member_of_new = refl
+member_linked shapes.member_of_object = refl
+
+index_linked : {h l : Level} → IsIndexed h l → is_linked h ≡ true
+index_linked shapes.index_of_new = refl
+index_linked shapes.index_of_callee = refl
+
 plain : {level : Level} {e : Node} (is : IsExpression level e) (us : Items) → is_linked level ≡ true → (let b = begun is us in b.by) ≡ NoNeighbor
 unfolding begun
 plain (shapes.looser {level = l} e) us h = plain e us (linked_first l h)
-plain (shapes.member at o k) us h = plain o (sign_of (codes ".") (it no_gap (items.key (key_word k)) us)) refl
+plain (shapes.member at i o k) us h = plain o (sign_of (codes ".") (it no_gap (items.key (key_word k)) us)) h
 plain (shapes.call at c es none) us h = plain c (sign_of (codes "(") (arguments_tokens es (sign_of (codes ")") us))) refl
-plain (shapes.element at at' o e) us h = plain o (sign_of (codes "[") (expression_tokens e no_gap (sign_of (codes "]") us))) refl
+plain (shapes.element at at' i o e) us h = plain o (sign_of (codes "[") (expression_tokens e no_gap (sign_of (codes "]") us))) (index_linked i)
+plain (shapes.new_expression at e es none) us h = refl
+plain (shapes.new_alone at e none none') us h = refl
+plain (shapes.new_target at) us h = refl
 plain (shapes.prefix_update at o e) us h = absurd (false≢true h)
 plain (shapes.postfix_update at o e) us h = absurd (false≢true h)
 plain (shapes.await_expression at e) us h = refl
@@ -300,9 +322,12 @@ plain (shapes.array at at' es) us h = refl
 signed : {level : Level} {e : Node} (is : IsExpression level e) (us : Items) → is_operand level ≡ true → (let b = begun is us in b.by) ≡ own_sign is
 unfolding begun
 signed (shapes.looser {level = l} e) us h = signed e us (operand_first l h)
-signed (shapes.member at o k) us h = plain o (sign_of (codes ".") (it no_gap (items.key (key_word k)) us)) refl
+signed (shapes.member at i o k) us h = plain o (sign_of (codes ".") (it no_gap (items.key (key_word k)) us)) (member_linked i)
 signed (shapes.call at c es none) us h = plain c (sign_of (codes "(") (arguments_tokens es (sign_of (codes ")") us))) refl
-signed (shapes.element at at' o e) us h = plain o (sign_of (codes "[") (expression_tokens e no_gap (sign_of (codes "]") us))) refl
+signed (shapes.element at at' i o e) us h = plain o (sign_of (codes "[") (expression_tokens e no_gap (sign_of (codes "]") us))) (index_linked i)
+signed (shapes.new_expression at e es none) us h = refl
+signed (shapes.new_alone at e none none') us h = refl
+signed (shapes.new_target at) us h = refl
 signed (shapes.prefix_update at o e) us h = refl
 signed (shapes.postfix_update at o e) us h = plain e (it no_gap (update_token o) us) refl
 signed (shapes.await_expression at e) us h = refl
@@ -381,6 +406,8 @@ pub record Words : Type 0 where
   pub typeof_whole : IsToken key_end (codes "typeof")
   pub void_whole : IsToken key_end (codes "void")
   pub delete_whole : IsToken key_end (codes "delete")
+  pub new_whole : IsToken key_end (codes "new")
+  pub target_whole : IsToken key_end (codes "target")
   pub await_whole : IsToken key_end (codes "await")
   pub debugger_whole : IsToken key_end (codes "debugger")
   pub throw_whole : IsToken key_end (codes "throw")
@@ -472,14 +499,19 @@ module _ (words : Words) where
     expression_joined (shapes.null_word at) g h us z j = (h, words.null_whole, key_soft (codes "null") z, j)
     expression_joined (shapes.true_word at) g h us z j = (h, words.true_whole, key_soft (codes "true") z, j)
     expression_joined (shapes.false_word at) g h us z j = (h, words.false_whole, key_soft (codes "false") z, j)
-    expression_joined (shapes.member at o k) g h us z j =
-        expression_joined o g h (sign_of (codes ".") (it no_gap (items.key (key_word k)) us)) point (no_gap_is, refl, refl, (no_gap_is, key_whole k, key_soft (key_word k) z, j))
+    expression_joined (shapes.member at i o k) g h us z j =
+        expression_joined o g h (sign_of (codes ".") (it no_gap (items.key (key_word k)) us)) (point_behind i) (no_gap_is, refl, refl, (no_gap_is, key_whole k, key_soft (key_word k) z, j))
     expression_joined (shapes.call at c es none) g h us z j = expression_joined c g h (sign_of (codes "(") (arguments_tokens es (sign_of (codes ")") us))) opening (arguments_joined es us (no_gap_is, refl, closing_soft z, j))
     expression_joined (shapes.parenthesized at e) g h us z j = (h, refl, opening_joins e (sign_of (codes ")") us), expression_joined e no_gap no_gap_is (sign_of (codes ")") us) closing (no_gap_is, refl, closing_soft z, j))
     expression_joined (shapes.looser {level = l} e) g h us z j = expression_joined e g h us (softer l z) j
-    expression_joined (shapes.element at at' {level = l} o e) g h us z j =
+    expression_joined (shapes.element at at' {level = l} i o e) g h us z j =
         expression_joined o g h (sign_of (codes "[") (expression_tokens e no_gap (sign_of (codes "]") us))) opening_bracket
         (no_gap_is, refl, bracket_joins e (sign_of (codes "]") us), expression_joined e no_gap no_gap_is (sign_of (codes "]") us) closing_bracket (no_gap_is, refl, bracket_soft z, j))
+    expression_joined (shapes.new_expression at e es none) g h us z j =
+        let args = sign_of (codes "(") (arguments_tokens es (sign_of (codes ")") us)) in
+        (h, words.new_whole, blank_joins (items.key (codes "new")) e args, expression_joined e blank blank_is args opening (arguments_joined es us (no_gap_is, refl, closing_soft z, j)))
+    expression_joined (shapes.new_alone at e none none') g h us z j = (h, words.new_whole, blank_joins (items.key (codes "new")) e us, expression_joined e blank blank_is us (softer shapes.object z) j)
+    expression_joined (shapes.new_target at) g h us z j = (h, words.new_whole, refl, (no_gap_is, refl, refl, (no_gap_is, words.target_whole, key_soft (codes "target") z, j)))
     expression_joined (shapes.prefix_update at o e) g h us z j = (h, update_fine o, update_joins o e us, expression_joined e no_gap no_gap_is us z j)
     expression_joined (shapes.postfix_update at o e) g h us z j = expression_joined e g h (it no_gap (update_token o) us) (update_behind o) (no_gap_is, update_fine o, update_soft o z, j)
     expression_joined (shapes.await_expression at e) g h us z j = (h, words.await_whole, blank_joins (items.key (codes "await")) e us, expression_joined e blank blank_is us z j)

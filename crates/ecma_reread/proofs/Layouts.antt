@@ -9,6 +9,7 @@ use Rattle.ecma_kind.specs.declared.operators.AssignOp.{AssignOp}
 use Rattle.ecma_kind.specs.declared.operators.AssignOp.TheVariants.{Assign, AddAssign, SubAssign, MulAssign, DivAssign, ModAssign, LShiftAssign, RShiftAssign, ZeroFillRShiftAssign, BitOrAssign, BitXorAssign, BitAndAssign, ExpAssign, AndAssign, OrAssign, NullishAssign}
 use Rattle.ecma_kind.specs.declared.operators.BinaryOp.{BinaryOp}
 use Rattle.ecma_kind.specs.declared.operators.BinaryOp.TheVariants as op
+use Rattle.ecma_kind.specs.declared.operators.MetaPropKind.TheVariants.{NewTarget}
 use Rattle.ecma_kind.specs.declared.span.Span.{Span}
 use Rattle.ecma_kind.specs.declared.kind.Kind.{Kind}
 use Rattle.ecma_kind.specs.declared.kind.Kind.TheVariants as kind
@@ -22,17 +23,17 @@ use Rattle.ecma_print.specs.declared.place.Between.TheVariants.{Blank, Equals}
 use Rattle.ecma_print.specs.declared.place.Spot.{Spot}
 use Rattle.ecma_print.specs.declared.place.Place.{Place}
 use Rattle.ecma_print.specs.declared.place.Place.TheVariants.{At, Within, Arguments, Commas, Brackets}
-use Rattle.ecma_print.specs.Places.{before, after, free, left, right, beginning, gap, opens_a_block}
+use Rattle.ecma_print.specs.Places.{before, after, free, left, right, beginning, gap, opens_a_block, is_headed}
 use Rattle.ecma_print.specs.Laid.{Laid, is_absent, is_object_pattern}
 use Rattle.ecma_print.specs.Levels.{is_before_dot, clashes}
 use Rattle.ecma_print.specs.Operators.{assign_word, unary_word, unary_sign, update_word, update_sign, binary_word, binary_level, left_level, right_level, under}
-use Rattle.ecma_print.specs.Expressions.{before_key, object_beside, is_optional, more_of_sequence}
+use Rattle.ecma_print.specs.Expressions.{before_key, object_beside, is_optional, more_of_sequence, callee_spot}
 use Rattle.ecma_print.specs.Lists.{more_commas, ends_in_hole, hole_comma, brackets}
 use Rattle.ecma_print.specs.Layout.{in_place, by_itself, lay_step, laid}
 use Rattle.ecma_tokens.specs.Items as items
 use Rattle.ecma_tokens.specs.Items.{Tok, sign, Gap, no_gap, Items, it, token_text, render}
 use Rattle.ecma_reread.specs.Shapes as shapes
-use Rattle.ecma_reread.specs.Shapes.{Level, looser_than, IsOperator, IsIdent, ident, IsKey, key, IsAbsent, IsExpression, IsElement, IsArguments, AreElements, AreExpressions, IsInitializer, IsDeclarator, AreDeclarators, AreSlots}
+use Rattle.ecma_reread.specs.Shapes.{Level, looser_than, IsOperator, IsIdent, ident, IsKey, key, IsAbsent, IsExpression, IsElement, IsArguments, AreElements, AreExpressions, IsInitializer, IsDeclarator, AreDeclarators, AreSlots, IsMemberLevel, IsIndexed}
 use Rattle.ecma_reread.specs.Tokens.{blank, sign_of, assign_token, update_token, unary_token, binary_token, own_sign, unary_gap, expression_tokens, element_tokens, arguments_tokens, elements_tokens, more_tokens, initializer_tokens, declarator_tokens, declarators_tokens, slots_tokens, more_slots_tokens}
 
 pub laid_node : (at : Span) (k : Kind) (cs : List Node) → laid (node_of at k cs) ≡ record { kind = k; at = in_place k (map laid cs); parts = map by_itself (map laid cs) }
@@ -43,8 +44,10 @@ at_node at k cs place m rest = ap (λ x. x.at place m rest) (laid_node at k cs)
 
 -- the level of the printer that is each level
 abbrev pub number_of : Level → ℕ
+number_of shapes.new_callee = 17
 number_of shapes.object = 16
 number_of shapes.callee = 16
+number_of shapes.left_hand_side = 16
 number_of shapes.update = 15
 number_of shapes.unary = 14
 number_of shapes.power = 13
@@ -64,8 +67,32 @@ number_of shapes.assignment = 1
 number_of shapes.sequence = 0
 
 abbrev pub is_object : Level → Bool
+is_object shapes.new_callee = true
 is_object shapes.object = true
 is_object l = false
+
+-- where a call may stand by itself, and what may stand before a link
+abbrev holds_calls : Level → Bool
+holds_calls shapes.new_callee = false
+holds_calls l = true
+
+abbrev heads_links : Level → Bool
+heads_links shapes.new_callee = true
+heads_links shapes.object = true
+heads_links shapes.callee = true
+heads_links l = false
+
+calls_out : (l : Level) → holds_calls l ≡ true → holds_calls (looser_than l) ≡ true
+calls_out shapes.new_callee h = refl
+calls_out l h = h
+
+heads_out : (l : Level) → heads_links l ≡ false → heads_links (looser_than l) ≡ false
+heads_out shapes.callee h = refl
+heads_out l h = h
+
+object_out : (l : Level) → is_object l ≡ false → is_object (looser_than l) ≡ false
+object_out shapes.object h = refl
+object_out l h = h
 
 -- where `&&` and `||` may stand by themselves, and where `??` may
 abbrev holds_logical : Level → Bool
@@ -96,7 +123,8 @@ nullish_out l h = h
 pub record Calm (l : Level) (spot : Spot) : Type 0 where
   pub low : ltb (number_of l) spot.level ≡ false
   pub with_in : spot.without_in ≡ false
-  pub no_new : spot.in_callee_of_new ≡ false
+  pub no_new : holds_calls l ≡ true → spot.in_callee_of_new ≡ false
+  pub no_head : heads_links l ≡ false → is_headed spot.beside ≡ false
   pub outside : (computed : Bool) → object_beside spot.beside computed ≡ before_key computed
   pub own : is_optional spot.beside ≡ false
   pub both_fits : holds_logical l ≡ true → clashes op.LogicalAnd spot spot.beside ≡ false
@@ -106,8 +134,10 @@ pub record Calm (l : Level) (spot : Spot) : Type 0 where
 
 -- what stands where a looser level stands is a tighter one
 lowered : (l : Level) → number_of (looser_than l) ≤ number_of l
+lowered shapes.new_callee = omega arith
 lowered shapes.object = omega arith
 lowered shapes.callee = omega arith
+lowered shapes.left_hand_side = omega arith
 lowered shapes.update = omega arith
 lowered shapes.unary = omega arith
 lowered shapes.power = omega arith
@@ -129,21 +159,18 @@ lowered shapes.sequence = omega arith
 tightly : (a b n : ℕ) → b ≤ a → ltb b n ≡ false → ltb a n ≡ false
 tightly a b n h k = le-ltb a n (let c = ltb-false b n k in omega arith)
 
-no_object : (l : Level) → is_object (looser_than l) ≡ false
-no_object shapes.object = refl
-no_object l = refl
-
 calmer : {l : Level} {spot : Spot} → Calm (looser_than l) spot → Calm l spot
 calmer {l} {spot} c = record {
   low = tightly (number_of l) (number_of (looser_than l)) spot.level (lowered l) c.low;
   with_in = c.with_in;
-  no_new = c.no_new;
+  no_new = λ h. c.no_new (calls_out l h);
+  no_head = λ h. c.no_head (heads_out l h);
   outside = c.outside;
   own = c.own;
   both_fits = λ h. c.both_fits (logical_out l h);
   either_fits = λ h. c.either_fits (logical_out l h);
   nullish_fits = λ h. c.nullish_fits (nullish_out l h);
-  no_dot = λ h. c.no_dot (no_object l);
+  no_dot = λ h. c.no_dot (object_out l h);
 }
 
 same_low : (n : ℕ) → ltb n n ≡ false
@@ -158,7 +185,8 @@ quiet : {l : Level} {spot : Spot} → ltb (number_of l) spot.level ≡ false →
 quiet a h n e = record {
   low = a;
   with_in = h;
-  no_new = n;
+  no_new = λ z. n;
+  no_head = λ z. rw e refl;
   outside = λ b. rw e refl;
   own = rw e refl;
   both_fits = λ z. rw e refl;
@@ -172,7 +200,8 @@ under_logical : {l : Level} {spot : Spot} → ltb (number_of l) spot.level ≡ f
 under_logical a h n e k = record {
   low = a;
   with_in = h;
-  no_new = n;
+  no_new = λ z. n;
+  no_head = λ z. rw e refl;
   outside = λ b. rw e refl;
   own = rw e refl;
   both_fits = λ z. rw e refl;
@@ -185,7 +214,8 @@ under_nullish : {l : Level} {spot : Spot} → ltb (number_of l) spot.level ≡ f
 under_nullish a h n e k = record {
   low = a;
   with_in = h;
-  no_new = n;
+  no_new = λ z. n;
+  no_head = λ z. rw e refl;
   outside = λ b. rw e refl;
   own = rw e refl;
   both_fits = λ z. absurd (false≢true (sym k ∙ z));
@@ -195,11 +225,12 @@ under_nullish a h n e k = record {
 }
 
 -- before a link, and before a point
-before_link : {l : Level} {spot : Spot} → ltb (number_of l) spot.level ≡ false → spot.without_in ≡ false → spot.in_callee_of_new ≡ false → spot.beside ≡ BeforeLink → Calm l spot
-before_link a h n e = record {
+before_link : {l : Level} {spot : Spot} → ltb (number_of l) spot.level ≡ false → spot.without_in ≡ false → (holds_calls l ≡ true → spot.in_callee_of_new ≡ false) → spot.beside ≡ BeforeLink → heads_links l ≡ true → Calm l spot
+before_link a h n e k = record {
   low = a;
   with_in = h;
   no_new = n;
+  no_head = λ z. absurd (false≢true (sym z ∙ k));
   outside = λ b. rw e refl;
   own = rw e refl;
   both_fits = λ z. rw e refl;
@@ -208,18 +239,45 @@ before_link a h n e = record {
   no_dot = λ z. rw e refl;
 }
 
-before_dot : {spot : Spot} → ltb 16 spot.level ≡ false → spot.without_in ≡ false → spot.in_callee_of_new ≡ false → spot.beside ≡ BeforeDot → Calm shapes.object spot
-before_dot a h n e = record {
-  low = a;
+before_dot : {l : Level} → IsMemberLevel l → (spot : Spot) → spot.without_in ≡ false → (holds_calls l ≡ true → spot.in_callee_of_new ≡ false) → Calm l (left spot 16 BeforeDot)
+before_dot shapes.member_of_new spot h n = record {
+  low = refl;
   with_in = h;
   no_new = n;
-  outside = λ b. rw e refl;
-  own = rw e refl;
-  both_fits = λ z. rw e refl;
-  either_fits = λ z. rw e refl;
-  nullish_fits = λ z. rw e refl;
+  no_head = λ z. absurd (false≢true (sym z));
+  outside = λ b. refl;
+  own = refl;
+  both_fits = λ z. refl;
+  either_fits = λ z. refl;
+  nullish_fits = λ z. refl;
   no_dot = λ z. absurd (false≢true (sym z));
 }
+before_dot shapes.member_of_object spot h n = record {
+  low = refl;
+  with_in = h;
+  no_new = n;
+  no_head = λ z. absurd (false≢true (sym z));
+  outside = λ b. refl;
+  own = refl;
+  both_fits = λ z. refl;
+  either_fits = λ z. refl;
+  nullish_fits = λ z. refl;
+  no_dot = λ z. absurd (false≢true (sym z));
+}
+
+-- an object before brackets
+index_calm : {h l : Level} → IsIndexed h l → (spot : Spot) → spot.without_in ≡ false → (holds_calls l ≡ true → spot.in_callee_of_new ≡ false) → Calm h (left spot 16 BeforeLink)
+index_calm shapes.index_of_new spot h n = before_link refl h (λ z. absurd (false≢true z)) refl refl
+index_calm shapes.index_of_callee spot h n = before_link refl h (λ z. n refl) refl refl
+
+-- where a member stands, no level asks for parentheses
+member_low : {l : Level} → IsMemberLevel l → (n : ℕ) → ltb (number_of l) n ≡ false → ltb 17 n ≡ false
+member_low shapes.member_of_new n h = h
+member_low shapes.member_of_object n h = tightly 17 16 n (omega arith) h
+
+index_low : {h l : Level} → IsIndexed h l → (n : ℕ) → ltb (number_of l) n ≡ false → ltb 17 n ≡ false
+index_low shapes.index_of_new n h = h
+index_low shapes.index_of_callee n h = tightly 17 16 n (omega arith) h
 
 pub calm_0 : (l : Level) → Calm l (free 0)
 calm_0 l = quiet (low_0 l) refl refl refl
@@ -257,17 +315,20 @@ update_text PlusPlus = refl
 update_text MinusMinus = refl
 
 update_calm : (o : UpdateOp) (spot : Spot) → spot.without_in ≡ false → Calm shapes.callee (right spot 16 (update_sign o))
-update_calm PlusPlus spot h = record { low = refl; with_in = h; no_new = refl; outside = λ b. refl; own = refl; both_fits = λ z. refl; either_fits = λ z. refl; nullish_fits = λ z. refl; no_dot = λ z. refl }
-update_calm MinusMinus spot h = record { low = refl; with_in = h; no_new = refl; outside = λ b. refl; own = refl; both_fits = λ z. refl; either_fits = λ z. refl; nullish_fits = λ z. refl; no_dot = λ z. refl }
+update_calm PlusPlus spot h = record { low = refl; with_in = h; no_new = λ z. refl; no_head = λ z. refl; outside = λ b. refl; own = refl; both_fits = λ z. refl; either_fits = λ z. refl; nullish_fits = λ z. refl; no_dot = λ z. refl }
+update_calm MinusMinus spot h = record { low = refl; with_in = h; no_new = λ z. refl; no_head = λ z. refl; outside = λ b. refl; own = refl; both_fits = λ z. refl; either_fits = λ z. refl; nullish_fits = λ z. refl; no_dot = λ z. refl }
 
 abbrev is_linked : Level → Bool
+is_linked shapes.new_callee = true
 is_linked shapes.object = true
 is_linked shapes.callee = true
+is_linked shapes.left_hand_side = true
 is_linked l = false
 
 linked_first : (l : Level) → is_linked (looser_than l) ≡ true → is_linked l ≡ true
 linked_first shapes.object h = refl
 linked_first shapes.callee h = refl
+linked_first shapes.left_hand_side h = refl
 linked_first l h = h
 
 -- members, calls and what they begin with begin with no sign
@@ -282,9 +343,9 @@ no_gap_before o is = rw (unsigned is refl) (no_sign (update_sign o))
 
 -- the operand of a unary operator stands behind its sign
 unary_calm : (o : UnaryOp) (spot : Spot) → spot.without_in ≡ false → Calm shapes.unary (right spot 14 (unary_sign o))
-unary_calm Minus spot h = record { low = refl; with_in = h; no_new = refl; outside = λ b. refl; own = refl; both_fits = λ z. refl; either_fits = λ z. refl; nullish_fits = λ z. refl; no_dot = λ z. refl }
-unary_calm Plus spot h = record { low = refl; with_in = h; no_new = refl; outside = λ b. refl; own = refl; both_fits = λ z. refl; either_fits = λ z. refl; nullish_fits = λ z. refl; no_dot = λ z. refl }
-unary_calm o spot h = record { low = refl; with_in = h; no_new = refl; outside = λ b. refl; own = refl; both_fits = λ z. refl; either_fits = λ z. refl; nullish_fits = λ z. refl; no_dot = λ z. refl }
+unary_calm Minus spot h = record { low = refl; with_in = h; no_new = λ z. refl; no_head = λ z. refl; outside = λ b. refl; own = refl; both_fits = λ z. refl; either_fits = λ z. refl; nullish_fits = λ z. refl; no_dot = λ z. refl }
+unary_calm Plus spot h = record { low = refl; with_in = h; no_new = λ z. refl; no_head = λ z. refl; outside = λ b. refl; own = refl; both_fits = λ z. refl; either_fits = λ z. refl; nullish_fits = λ z. refl; no_dot = λ z. refl }
+unary_calm o spot h = record { low = refl; with_in = h; no_new = λ z. refl; no_head = λ z. refl; outside = λ b. refl; own = refl; both_fits = λ z. refl; either_fits = λ z. refl; nullish_fits = λ z. refl; no_dot = λ z. refl }
 
 -- a node with a text of its own, and no pattern
 abbrev is_plain : Kind → Bool
@@ -344,6 +405,10 @@ record Printed (o : BinaryOp) (l t : Level) : Type 0 where
   pub fits : (spot : Spot) (b : Beside) → spot.without_in ≡ false → clashes o spot b ≡ false
   pub word_is : (x : List ℕ) → binary_word o ++ x ≡ codes " " ++ (token_text (binary_token o) ++ (codes " " ++ x))
 
+operator_calls : {o : BinaryOp} {l t : Level} → IsOperator o l t → holds_calls l ≡ true
+operator_calls shapes.times = refl
+operator_calls i = refl
+
 printed : {o : BinaryOp} {l t : Level} → IsOperator o l t → Printed o l t
 printed shapes.times = record { own = refl; left_is = refl; right_is = refl; alone = refl; fits = λ spot b h. refl; word_is = λ x. refl }
 printed shapes.divided = record { own = refl; left_is = refl; right_is = refl; alone = refl; fits = λ spot b h. refl; word_is = λ x. refl }
@@ -372,6 +437,14 @@ head_calm : {l : Level} → shapes.IsCoalesceHead l → (spot : Spot) → spot.w
 head_calm shapes.first_head spot h n = under_nullish refl h n refl refl
 head_calm shapes.next_head spot h n = under_nullish refl h n refl refl
 
+-- in the callee of `new`
+callee_calm : (spot : Spot) → spot.without_in ≡ false → Calm shapes.new_callee (callee_spot spot)
+callee_calm spot h = before_link refl h (λ z. absurd (false≢true z)) refl refl
+
+arguments_there : {n : Node} → IsArguments n → is_absent (laid n).kind ≡ false
+arguments_there (shapes.no_arguments at) = ap (λ x. is_absent x.kind) (laid_node at kind.List [])
+arguments_there (shapes.arguments at e es) = ap (λ x. is_absent x.kind) (laid_node at kind.List _)
+
 -- the gap stands in front
 pub gap_out : {level : Level} {e : Node} (is : IsExpression level e) (g : Gap) (us : Items) → render (expression_tokens is g us) ≡ g.blanks ++ render (expression_tokens is no_gap us)
 unfolding render
@@ -383,11 +456,14 @@ gap_out (shapes.big_int at raw t) g us = refl
 gap_out (shapes.null_word at) g us = refl
 gap_out (shapes.true_word at) g us = refl
 gap_out (shapes.false_word at) g us = refl
-gap_out (shapes.member at o (key at' w t)) g us = gap_out o g (sign_of (codes ".") (it no_gap (items.key w) us))
+gap_out (shapes.member at i o (key at' w t)) g us = gap_out o g (sign_of (codes ".") (it no_gap (items.key w) us))
 gap_out (shapes.call at c es none) g us = gap_out c g (sign_of (codes "(") (arguments_tokens es (sign_of (codes ")") us)))
 gap_out (shapes.parenthesized at e) g us = refl
 gap_out (shapes.looser e) g us = gap_out e g us
-gap_out (shapes.element at at' o e) g us = gap_out o g (sign_of (codes "[") (expression_tokens e no_gap (sign_of (codes "]") us)))
+gap_out (shapes.element at at' i o e) g us = gap_out o g (sign_of (codes "[") (expression_tokens e no_gap (sign_of (codes "]") us)))
+gap_out (shapes.new_expression at e es none) g us = refl
+gap_out (shapes.new_alone at e none none') g us = refl
+gap_out (shapes.new_target at) g us = refl
 gap_out (shapes.prefix_update at o e) g us = refl
 gap_out (shapes.postfix_update at o e) g us = gap_out e g (it no_gap (update_token o) us)
 gap_out (shapes.await_expression at e) g us = refl
@@ -425,38 +501,48 @@ mutual
 
   pub expression_laid : {level : Level} {e : Node} (is : IsExpression level e) (spot : Spot) → Calm level spot → (m : List ℕ) (us : Items) → (laid e).at (At spot) m (render us) ≡ gap spot.beside (own_sign is) ++ render (expression_tokens is no_gap us)
   expression_laid (shapes.looser e) spot c m us = expression_laid e spot (calmer c) m us
-  expression_laid (shapes.name (ident at w i)) spot c m us = at_node at (kind.Ident w 0 false) [] (At spot) m (render us) ∙ rw (tightly 17 16 spot.level (omega arith) c.low, no_sign spot.beside) refl
-  expression_laid (shapes.string at raw t) spot c m us = at_node at _ [] (At spot) m (render us) ∙ rw (tightly 17 16 spot.level (omega arith) c.low, no_sign spot.beside) refl
+  expression_laid (shapes.name (ident at w i)) spot c m us = at_node at (kind.Ident w 0 false) [] (At spot) m (render us) ∙ rw (c.low, no_sign spot.beside) refl
+  expression_laid (shapes.string at raw t) spot c m us = at_node at _ [] (At spot) m (render us) ∙ rw (c.low, no_sign spot.beside) refl
   expression_laid (shapes.number at raw t) spot c m us = at_node at _ [] (At spot) m (render us) ∙ rw (tightly 17 16 spot.level (omega arith) c.low, c.no_dot refl, no_sign spot.beside) refl
-  expression_laid (shapes.this_word at) spot c m us = at_node at _ [] (At spot) m (render us) ∙ rw (tightly 17 16 spot.level (omega arith) c.low, no_sign spot.beside) refl
-  expression_laid (shapes.big_int at raw t) spot c m us = at_node at _ [] (At spot) m (render us) ∙ rw (tightly 17 16 spot.level (omega arith) c.low, no_sign spot.beside) refl
-  expression_laid (shapes.null_word at) spot c m us = at_node at _ [] (At spot) m (render us) ∙ rw (tightly 17 16 spot.level (omega arith) c.low, no_sign spot.beside) refl
-  expression_laid (shapes.true_word at) spot c m us = at_node at _ [] (At spot) m (render us) ∙ rw (tightly 17 16 spot.level (omega arith) c.low, no_sign spot.beside) refl
-  expression_laid (shapes.false_word at) spot c m us = at_node at _ [] (At spot) m (render us) ∙ rw (tightly 17 16 spot.level (omega arith) c.low, no_sign spot.beside) refl
-  expression_laid (shapes.member at {holder = o'} o (key at' w t)) spot c m us =
+  expression_laid (shapes.this_word at) spot c m us = at_node at _ [] (At spot) m (render us) ∙ rw (c.low, no_sign spot.beside) refl
+  expression_laid (shapes.big_int at raw t) spot c m us = at_node at _ [] (At spot) m (render us) ∙ rw (c.low, no_sign spot.beside) refl
+  expression_laid (shapes.null_word at) spot c m us = at_node at _ [] (At spot) m (render us) ∙ rw (c.low, no_sign spot.beside) refl
+  expression_laid (shapes.true_word at) spot c m us = at_node at _ [] (At spot) m (render us) ∙ rw (c.low, no_sign spot.beside) refl
+  expression_laid (shapes.false_word at) spot c m us = at_node at _ [] (At spot) m (render us) ∙ rw (c.low, no_sign spot.beside) refl
+  expression_laid (shapes.member at {holder = o'} i o (key at' w t)) spot c m us =
       at_node at kind.MemberExpr (o' ∷ node_of at' (kind.IdentName w) [] ∷ []) (At spot) m (render us)
-      ∙ rw (tightly 17 16 spot.level (omega arith) c.low, laid_node at' (kind.IdentName w) [], c.outside false, c.own, no_sign spot.beside)
-      (expression_laid o (left spot 16 BeforeDot) (before_dot refl c.with_in c.no_new refl) m (sign_of (codes ".") (it no_gap (items.key w) us)))
+      ∙ rw (member_low i spot.level c.low, laid_node at' (kind.IdentName w) [], c.outside false, c.own, no_sign spot.beside)
+      (expression_laid o (left spot 16 BeforeDot) (before_dot i spot c.with_in c.no_new) m (sign_of (codes ".") (it no_gap (items.key w) us)))
   expression_laid (shapes.call at {function = c'} {args = a'} {none = n'} e es none) spot c m us =
       at_node at kind.CallExpr (c' ∷ a' ∷ n' ∷ []) (At spot) m (render us)
-      ∙ rw (c.low, c.no_new, no_sign spot.beside)
+      ∙ rw (c.low, c.no_new refl, no_sign spot.beside)
       (ap (λ z. (laid c').at (At (record { level = 16; begins = spot.begins; without_in = spot.without_in; in_callee_of_new = false; beside = BeforeLink })) m z) (arguments_laid es m us)
-      ∙ expression_laid e (record { level = 16; begins = spot.begins; without_in = spot.without_in; in_callee_of_new = false; beside = BeforeLink }) (before_link refl c.with_in refl refl) m (sign_of (codes "(") (arguments_tokens es (sign_of (codes ")") us))))
+      ∙ expression_laid e (record { level = 16; begins = spot.begins; without_in = spot.without_in; in_callee_of_new = false; beside = BeforeLink }) (before_link refl c.with_in (λ z. refl) refl refl) m (sign_of (codes "(") (arguments_tokens es (sign_of (codes ")") us))))
   expression_laid (shapes.parenthesized at {level = l} {e = e'} e) spot c m us =
       at_node at kind.ParenExpr (e' ∷ []) (At spot) m (render us)
-      ∙ rw (tightly 17 16 spot.level (omega arith) c.low, no_sign spot.beside) (ap (λ z. codes "(" ++ z) (expression_laid e (free 0) (calm_0 l) m (sign_of (codes ")") us)))
-  expression_laid (shapes.element at at' {level = l} {holder = o'} {e = e'} o e) spot c m us =
+      ∙ rw (c.low, no_sign spot.beside) (ap (λ z. codes "(" ++ z) (expression_laid e (free 0) (calm_0 l) m (sign_of (codes ")") us)))
+  expression_laid (shapes.element at at' {level = l} {holder = o'} {e = e'} i o e) spot c m us =
       at_node at kind.MemberExpr (o' ∷ node_of at' kind.ComputedPropName (e' ∷ []) ∷ []) (At spot) m (render us)
-      ∙ rw (tightly 17 16 spot.level (omega arith) c.low, laid_node at' kind.ComputedPropName (e' ∷ []), c.outside true, c.own, no_sign spot.beside)
+      ∙ rw (index_low i spot.level c.low, laid_node at' kind.ComputedPropName (e' ∷ []), c.outside true, c.own, no_sign spot.beside)
       (ap (λ z. (laid o').at (At (left spot 16 BeforeLink)) m (codes "[" ++ z)) (expression_laid e (free 0) (calm_0 l) m (sign_of (codes "]") us))
-      ∙ expression_laid o (left spot 16 BeforeLink) (before_link refl c.with_in c.no_new refl) m (sign_of (codes "[") (expression_tokens e no_gap (sign_of (codes "]") us))))
+      ∙ expression_laid o (left spot 16 BeforeLink) (index_calm i spot c.with_in c.no_new) m (sign_of (codes "[") (expression_tokens e no_gap (sign_of (codes "]") us))))
+  expression_laid (shapes.new_expression at {constructor = c'} {args = a'} {none = n'} e es none) spot c m us =
+      let args = sign_of (codes "(") (arguments_tokens es (sign_of (codes ")") us)) in
+      at_node at kind.NewExpr (c' ∷ a' ∷ n' ∷ []) (At spot) m (render us)
+      ∙ rw (c.low, arguments_there es, and_false (is_headed spot.beside), no_sign spot.beside)
+      (ap (λ z. codes "new " ++ z) (ap (λ z. (laid c').at (At (callee_spot spot)) m z) (arguments_laid es m us) ∙ expression_laid e (callee_spot spot) (callee_calm spot c.with_in) m args) ∙ ap (λ z. codes "new" ++ z) (sym (gap_out e blank args)))
+  expression_laid (shapes.new_alone at {constructor = c'} e (shapes.absent at') (shapes.absent at'')) spot c m us =
+      at_node at kind.NewExpr (c' ∷ node_of at' kind.Absent [] ∷ node_of at'' kind.Absent [] ∷ []) (At spot) m (render us)
+      ∙ rw (tightly 17 16 spot.level (omega arith) c.low, c.no_head refl, no_sign spot.beside)
+      (ap (λ z. codes "new " ++ z) (ap (λ z. (laid c').at (At (callee_spot spot)) m z) (at_node at' kind.Absent [] Arguments m (render us)) ∙ expression_laid e (callee_spot spot) (callee_calm spot c.with_in) m us) ∙ ap (λ z. codes "new" ++ z) (sym (gap_out e blank us)))
+  expression_laid (shapes.new_target at) spot c m us = at_node at (kind.MetaPropExpr NewTarget) [] (At spot) m (render us) ∙ rw (c.low, no_sign spot.beside) refl
   expression_laid (shapes.prefix_update at o {e = e'} e) spot c m us =
       at_node at (kind.UpdateExpr o true) (e' ∷ []) (At spot) m (render us)
       ∙ rw (c.low, update_text o) (ap (λ z. gap spot.beside (update_sign o) ++ (token_text (update_token o) ++ z)) (expression_laid e (right spot 16 (update_sign o)) (update_calm o spot c.with_in) m us ∙ rw (no_gap_before o e) refl))
   expression_laid (shapes.postfix_update at o {e = e'} e) spot c m us =
       at_node at (kind.UpdateExpr o false) (e' ∷ []) (At spot) m (render us)
       ∙ rw (c.low, no_sign spot.beside, update_text o)
-      (expression_laid e (left spot 16 NoNeighbor) (quiet refl c.with_in c.no_new refl) m (it no_gap (update_token o) us))
+      (expression_laid e (left spot 16 NoNeighbor) (quiet refl c.with_in (c.no_new refl) refl) m (it no_gap (update_token o) us))
   expression_laid (shapes.await_expression at {e = e'} e) spot c m us =
       at_node at kind.AwaitExpr (e' ∷ []) (At spot) m (render us)
       ∙ rw (c.low, no_sign spot.beside)
@@ -469,32 +555,32 @@ mutual
       at_node at (kind.BinExpr o) (l' ∷ r' ∷ []) (At spot) m (render us)
       ∙ rw (F.own, c.low, F.fits spot spot.beside c.with_in, F.left_is, F.right_is, F.alone, no_sign spot.beside)
       (ap (λ z. (laid l').at (At (left spot (number_of l) NoNeighbor)) m z) (ap (λ z. binary_word o ++ z) (expression_laid y (right spot (number_of t) NoNeighbor) (quiet (same_low (number_of t)) c.with_in refl refl) m us) ∙ (F.word_is (render (expression_tokens y no_gap us)) ∙ ap (λ z. codes " " ++ (token_text (binary_token o) ++ z)) (sym (gap_out y blank us))))
-      ∙ expression_laid x (left spot (number_of l) NoNeighbor) (quiet (same_low (number_of l)) c.with_in c.no_new refl) m (it blank (binary_token o) (expression_tokens y blank us)))
+      ∙ expression_laid x (left spot (number_of l) NoNeighbor) (quiet (same_low (number_of l)) c.with_in (c.no_new (operator_calls i)) refl) m (it blank (binary_token o) (expression_tokens y blank us)))
   expression_laid (shapes.exponentiation at {left = l'} {right = r'} x y) spot c m us =
       at_node at (kind.BinExpr op.Exp) (l' ∷ r' ∷ []) (At spot) m (render us)
       ∙ rw (c.low, no_sign spot.beside)
       (ap (λ z. (laid l').at (At (left spot 15 NoNeighbor)) m z) (ap (λ z. codes " ** " ++ z) (expression_laid y (right spot 13 NoNeighbor) (quiet refl c.with_in refl refl) m us) ∙ ap (λ z. codes " **" ++ z) (sym (gap_out y blank us)))
-      ∙ expression_laid x (left spot 15 NoNeighbor) (quiet refl c.with_in c.no_new refl) m (it blank (sign (codes "**")) (expression_tokens y blank us)))
+      ∙ expression_laid x (left spot 15 NoNeighbor) (quiet refl c.with_in (c.no_new refl) refl) m (it blank (sign (codes "**")) (expression_tokens y blank us)))
   expression_laid (shapes.both at {left = l'} {right = r'} x y) spot c m us =
       at_node at (kind.BinExpr op.LogicalAnd) (l' ∷ r' ∷ []) (At spot) m (render us)
       ∙ rw (c.low, c.both_fits refl, no_sign spot.beside)
       (ap (λ z. (laid l').at (At (left spot 4 UnderLogical)) m z) (ap (λ z. codes " && " ++ z) (expression_laid y (right spot 5 UnderLogical) (under_logical refl c.with_in refl refl refl) m us) ∙ ap (λ z. codes " &&" ++ z) (sym (gap_out y blank us)))
-      ∙ expression_laid x (left spot 4 UnderLogical) (under_logical refl c.with_in c.no_new refl refl) m (it blank (sign (codes "&&")) (expression_tokens y blank us)))
+      ∙ expression_laid x (left spot 4 UnderLogical) (under_logical refl c.with_in (c.no_new refl) refl refl) m (it blank (sign (codes "&&")) (expression_tokens y blank us)))
   expression_laid (shapes.either at {left = l'} {right = r'} x y) spot c m us =
       at_node at (kind.BinExpr op.LogicalOr) (l' ∷ r' ∷ []) (At spot) m (render us)
       ∙ rw (c.low, c.either_fits refl, no_sign spot.beside)
       (ap (λ z. (laid l').at (At (left spot 3 UnderLogical)) m z) (ap (λ z. codes " || " ++ z) (expression_laid y (right spot 4 UnderLogical) (under_logical refl c.with_in refl refl refl) m us) ∙ ap (λ z. codes " ||" ++ z) (sym (gap_out y blank us)))
-      ∙ expression_laid x (left spot 3 UnderLogical) (under_logical refl c.with_in c.no_new refl refl) m (it blank (sign (codes "||")) (expression_tokens y blank us)))
+      ∙ expression_laid x (left spot 3 UnderLogical) (under_logical refl c.with_in (c.no_new refl) refl refl) m (it blank (sign (codes "||")) (expression_tokens y blank us)))
   expression_laid (shapes.coalesced at {left = l'} {right = r'} i x y) spot c m us =
       at_node at (kind.BinExpr op.NullishCoalescing) (l' ∷ r' ∷ []) (At spot) m (render us)
       ∙ rw (c.low, c.nullish_fits refl, no_sign spot.beside)
       (ap (λ z. (laid l').at (At (left spot 3 UnderNullish)) m z) (ap (λ z. codes " ?? " ++ z) (expression_laid y (right spot 4 UnderNullish) (under_nullish refl c.with_in refl refl refl) m us) ∙ ap (λ z. codes " ??" ++ z) (sym (gap_out y blank us)))
-      ∙ expression_laid x (left spot 3 UnderNullish) (head_calm i spot c.with_in c.no_new) m (it blank (sign (codes "??")) (expression_tokens y blank us)))
+      ∙ expression_laid x (left spot 3 UnderNullish) (head_calm i spot c.with_in (c.no_new refl)) m (it blank (sign (codes "??")) (expression_tokens y blank us)))
   expression_laid (shapes.assignment_expression at o {target = t'} {value = v'} t v) spot c m us =
       at_node at (kind.AssignExpr o) (t' ∷ v' ∷ []) (At spot) m (render us)
       ∙ rw (c.low, no_pattern t, and_false (opens_a_block spot.begins), no_sign spot.beside)
       (ap (λ z. (laid t').at (At (left spot 16 NoNeighbor)) m z) (ap (λ z. assign_word o ++ z) (expression_laid v (right spot 1 NoNeighbor) (quiet refl c.with_in refl refl) m us) ∙ (assign_text o (render (expression_tokens v no_gap us)) ∙ ap (λ z. codes " " ++ (token_text (assign_token o) ++ z)) (sym (gap_out v blank us))))
-      ∙ expression_laid t (left spot 16 NoNeighbor) (quiet refl c.with_in c.no_new refl) m (it blank (assign_token o) (expression_tokens v blank us)))
+      ∙ expression_laid t (left spot 16 NoNeighbor) (quiet refl c.with_in (c.no_new refl) refl) m (it blank (assign_token o) (expression_tokens v blank us)))
   expression_laid (shapes.conditional_expression at {test = t'} {first = x'} {second = y'} t x y) spot c m us =
       let second_text = ap (λ z. codes " : " ++ z) (expression_laid y (right spot 1 NoNeighbor) (further spot c.with_in) m us) ∙ ap (λ z. codes " :" ++ z) (sym (gap_out y blank us)) in
       let seconds = it blank (sign (codes ":")) (expression_tokens y blank us) in
@@ -502,16 +588,16 @@ mutual
       at_node at kind.CondExpr (t' ∷ x' ∷ y' ∷ []) (At spot) m (render us)
       ∙ rw (tightly 2 1 spot.level (omega arith) c.low, no_sign spot.beside)
       (ap (λ z. (laid t').at (At (left spot 3 NoNeighbor)) m z) first_text
-      ∙ expression_laid t (left spot 3 NoNeighbor) (quiet refl c.with_in c.no_new refl) m (it blank (sign (codes "?")) (expression_tokens x blank seconds)))
+      ∙ expression_laid t (left spot 3 NoNeighbor) (quiet refl c.with_in (c.no_new refl) refl) m (it blank (sign (codes "?")) (expression_tokens x blank seconds)))
   expression_laid (shapes.array at at' {slots = ns} es) spot c m us =
-      at_node at kind.ArrayLit (node_of at' kind.List ns ∷ []) (At spot) m (render us) ∙ rw (tightly 17 16 spot.level (omega arith) c.low, no_sign spot.beside) (at_node at' kind.List ns Brackets m (render us) ∙ slots_laid es m us)
+      at_node at kind.ArrayLit (node_of at' kind.List ns ∷ []) (At spot) m (render us) ∙ rw (c.low, no_sign spot.beside) (at_node at' kind.List ns Brackets m (render us) ∙ slots_laid es m us)
   expression_laid (shapes.sequence_expression at {first = x'} {second = y'} {more = es'} x y es) spot c m us =
       let rest = more_tokens es us in
       at_node at kind.SeqExpr (x' ∷ y' ∷ es') (At spot) m (render us)
       ∙ rw (c.low, no_sign spot.beside)
       (ap (λ z. (laid x').at (At (left spot 1 NoNeighbor)) m z)
       (ap (λ z. codes ", " ++ z) (ap (λ z. (laid y').at (At (right spot 1 NoNeighbor)) m z) (sequence_laid es spot c.with_in m us) ∙ expression_laid y (right spot 1 NoNeighbor) (further spot c.with_in) m rest) ∙ ap (λ z. codes "," ++ z) (sym (gap_out y blank rest)))
-      ∙ expression_laid x (left spot 1 NoNeighbor) (quiet refl c.with_in c.no_new refl) m (sign_of (codes ",") (expression_tokens y blank rest)))
+      ∙ expression_laid x (left spot 1 NoNeighbor) (quiet refl c.with_in (c.no_new refl) refl) m (sign_of (codes ",") (expression_tokens y blank rest)))
 
   -- those behind the first of a sequence
   sequence_laid : {es : List Node} (is : AreExpressions es) (spot : Spot) → spot.without_in ≡ false → (m : List ℕ) (us : Items) → more_of_sequence (map laid es) spot m (render us) ≡ render (more_tokens is us)

@@ -16,7 +16,6 @@ pub mod Operations
 pub mod Logicals
 pub mod Coalescing
 pub mod Choices
-pub mod Elements
 pub mod Assignments
 pub mod Updates
 pub mod Further
@@ -24,6 +23,8 @@ pub mod Params
 pub mod Tried
 pub mod Spreads
 pub mod Expressions
+pub mod Elements
+pub mod Constructions
 pub mod Async
 pub mod Lists
 pub mod Literals

@@ -6,6 +6,7 @@ use Rattle.ecma_grammar.specs.declared.production.Form.TheVariants as form
 use Rattle.ecma_grammar.specs.Grammar.{Grammar, punct}
 use Rattle.ecma_grammar.specs.productions.Types.{rest_pattern}
 use Rattle.ecma_grammar.specs.productions.Functions.{arrow}
+use Rattle.ecma_grammar.specs.productions.Primary.{primary}
 use Rattle.ecma_grammar.specs.productions.Declarations.{declaration}
 use Rattle.ecma_grammar.specs.productions.Statements.{labeled}
 use Rattle.ecma_tokens.specs.Items.{Tok, sign, Gap, Items, it}
@@ -14,13 +15,15 @@ use Rattle.ecma_reread.specs.Tokens.{blank}
 use Rattle.ecma_reread.proofs.Fronts.{Front, exactly, at_token, refuses_at, refused_at, refuses_all, all_refused}
 use Rattle.ecma_reread.proofs.Towers.{Tower, excluded, Opens, Starts}
 use Rattle.ecma_reread.proofs.Heads.{bare, is_head}
-use Rattle.ecma_reread.proofs.Forms.{Laid, heads, Reads, ends_no_item, Form}
-use Rattle.ecma_reread.proofs.Expressions.{head_read}
+use Rattle.ecma_reread.proofs.Forms.{Laid, Reads, ends_no_item, Form, NewForm}
+use Rattle.ecma_reread.proofs.Expressions.{IsPrimary, primary_by, head_read, new_head_read}
 use Rattle.ecma_reread.proofs.Tried.{Wholly, wholly_param, no_default, some_default}
 
 -- the token that it begins with
 pub record Literal (t : Tok) (base : Grammar) : Type 0 where
-  pub tower : (e : Front) → Tower (exactly t) e base heads
+  pub tower : (e : Front) → Tower (exactly t) e base primary
+  pub apart : IsPrimary (exactly t)
+  pub no_point : refuses_at (exactly t) (punct (codes ".")) ≡ true
   pub opens : Opens (exactly t)
   pub starts : Starts (exactly t)
   pub no_arrow : refuses_all (exactly t) (arrow false false) ≡ true
@@ -35,6 +38,9 @@ module _ (assigned : Bool) {t : Tok} {base : Grammar} (L : Literal t base) (rest
   literal g us = it g t (rest us)
 
   module _ (reads : (g : Gap) (us : Items) → Reads assigned base (literal g us) (bare k ns ∷ []) us) (tried : (g : Gap) (us : Items) → Wholly assigned (literal g us) us) where
+    primary_read : (g : Gap) (us : Items) → Reads assigned primary (literal g us) (bare k ns ∷ []) us
+    primary_read g us = primary_by assigned (exactly t) base (literal g us) us (bare k ns) L.tower at_token (reads g us)
+
     pub literal_form : Form assigned literal k ns
     literal_form =
         let e = exactly t in
@@ -45,7 +51,7 @@ module _ (assigned : Bool) {t : Tok} {base : Grammar} (L : Literal t base) (rest
           opens = L.opens;
           starts = L.starts;
           pieces = bare k ns ∷ [];
-          own = λ g us f b z ys vs h. head_read assigned e base (literal g us) us (bare k ns) L.tower at_token (reads g us) ys vs h;
+          own = λ g us f b z ys vs h. head_read assigned e (literal g us) us (bare k ns) L.apart at_token (primary_read g us) ys vs h;
           whole = refl;
           head = head;
           no_arrow = λ g us f b z r. all_refused assigned (arrow false false) e (literal g us) at_token L.no_arrow;
@@ -58,3 +64,7 @@ module _ (assigned : Bool) {t : Tok} {base : Grammar} (L : Literal t base) (rest
               (let behind = it blank (sign (codes "=")) ts in
               wholly_param assigned (literal g behind) behind us (refused_at assigned p rest_pattern e (literal g behind) at_token L.no_rest) e at_token L.no_end (tried g behind) _ (some_default assigned ts us n h));
         }
+
+    pub literal_new : NewForm assigned literal k ns
+    unfolding literal_form
+    literal_new = record { form = literal_form; no_point = L.no_point; own = λ g us f b z ys vs h. new_head_read assigned (exactly t) (literal g us) us (bare k ns) L.apart at_token (primary_read g us) ys vs h }

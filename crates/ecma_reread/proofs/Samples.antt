@@ -20,7 +20,7 @@ use Rattle.ecma_tree.specs.declared.node.Node.{Node}
 use Rattle.ecma_tree.specs.Nodes.{node_of}
 use Rattle.ecma_print.specs.Layout.{layout}
 use Rattle.ecma_tokens.specs.Items.{render}
-use Rattle.ecma_reread.specs.Shapes.{Level, assignment, IsExpression, element, postfix_update, conditional_expression, assignment_expression, unary_expression, binary_expression, plus, times, IsPlainName, ident, key, absent, looser, name, null_word, this_word, member, call, parenthesized, one, spread, arguments, no_elements, more_elements, initializer, declarator, no_declarators, expression, declaration, array, no_slots, filled, hole}
+use Rattle.ecma_reread.specs.Shapes.{Level, assignment, IsExpression, element, postfix_update, conditional_expression, assignment_expression, unary_expression, binary_expression, plus, times, IsPlainName, ident, key, absent, looser, name, null_word, this_word, member, call, parenthesized, one, spread, arguments, no_elements, more_elements, initializer, declarator, no_declarators, expression, declaration, array, no_slots, filled, hole, member_of_new, member_of_object, index_of_callee}
 use Rattle.ecma_reread.specs.Modules.{statement, no_items, more_items, IsModule, module_of}
 use Rattle.ecma_reread.specs.ModuleTokens.{module_tokens}
 use Rattle.ecma_reread.proofs.Bindings.{further_out}
@@ -75,9 +75,9 @@ out (suc n) is = out n (looser is)
 value_shape : IsExpression assignment value
 value_shape =
     let id = name (ident at (codes "a") a_name) in
-    let held = element at at (out 1 id) (postfix_update at PlusPlus (out 1 id)) in
-    let chosen = parenthesized at (conditional_expression at (out 15 id) (out 16 id) (out 16 id)) in
-    out 10 (binary_expression at plus (out 3 (unary_expression at Minus (unary_expression at Minus (out 3 id)))) (binary_expression at times (out 5 held) (out 4 chosen)))
+    let held = element at at index_of_callee (out 2 id) (postfix_update at PlusPlus (out 2 id)) in
+    let chosen = parenthesized at (conditional_expression at (out 17 id) (out 18 id) (out 18 id)) in
+    out 10 (binary_expression at plus (out 3 (unary_expression at Minus (unary_expression at Minus (out 5 id)))) (binary_expression at times (out 6 held) (out 6 chosen)))
 
 -- `const async = (this);`, `a.a(...a, [a, , null, ,]);`, `async(a, async).a;` and `a = - -a + a[a++] * (a ? a : a);`
 abbrev tree : Node
@@ -101,12 +101,12 @@ shape =
     let id = ident at (codes "a") a_name in
     let async' = ident at (codes "async") async_name in
     let it' = whole (codes "a") a_spelled in
-    let slots = array at at (filled (one (out 16 (name id))) (hole (absent at) (filled (one (out 16 (null_word at))) (hole (absent at) no_slots)))) in
+    let slots = array at at (filled (one (out 18 (name id))) (hole (absent at) (filled (one (out 18 (null_word at))) (hole (absent at) no_slots)))) in
     module_of at at
-    (more_items (statement (declaration at at Const (declarator at at async' (absent at) (initializer (out 16 (parenthesized at (this_word at))))) no_declarators))
-    (more_items (statement (expression at (call at (looser (member at (name id) (key at (codes "a") it'))) (arguments at (spread at (out 16 (name id))) (more_elements (one (out 16 slots)) no_elements)) (absent at))))
-    (more_items (statement (expression at (member at (call at (looser (name async')) (arguments at (one (out 16 (name id))) (more_elements (one (out 16 (name async'))) no_elements)) (absent at)) (key at (codes "a") it'))))
-    (more_items (statement (expression at (assignment_expression at Assign (out 1 (name id)) value_shape))) no_items))))
+    (more_items (statement (declaration at at Const (declarator at at async' (absent at) (initializer (out 18 (parenthesized at (this_word at))))) no_declarators))
+    (more_items (statement (expression at (call at (out 2 (member at member_of_new (name id) (key at (codes "a") it'))) (arguments at (spread at (out 18 (name id))) (more_elements (one (out 18 slots)) no_elements)) (absent at))))
+    (more_items (statement (expression at (member at member_of_object (call at (out 2 (name async')) (arguments at (one (out 18 (name id))) (more_elements (one (out 18 (name async'))) no_elements)) (absent at)) (key at (codes "a") it'))))
+    (more_items (statement (expression at (assignment_expression at Assign (out 2 (name id)) value_shape))) no_items))))
 
 text : render (module_tokens shape) ≡ codes "const async = (this);\na.a(...a, [a, , null, ,]);\nasync(a, async).a;\na = - -a + a[a++] * (a ? a : a);\n"
 unfolding render shape value_shape

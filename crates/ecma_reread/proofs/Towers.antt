@@ -162,8 +162,10 @@ abbrev closes_sequence : Front → Bool
 closes_sequence e = refuses_at e (punct (codes ",")) && closes_assignment e
 
 abbrev pub closes : Level → Front → Bool
+closes shapes.new_callee e = closes_chain e
 closes shapes.object e = closes_chain e
 closes shapes.callee e = closes_chain e
+closes shapes.left_hand_side e = closes_chain e
 closes shapes.update e = closes_update e
 closes shapes.unary e = closes_update e
 closes shapes.power e = closes_power e

@@ -32,7 +32,7 @@ use Rattle.ecma_reread.proofs.Fronts.{Front, exactly, Begins, at_token, refuses_
 use Rattle.ecma_reread.proofs.Towers.{suffix, closes, skipped}
 use Rattle.ecma_reread.proofs.Heads.{bare, nodes}
 use Rattle.ecma_reread.proofs.Forms.{Laid, Reads, Form, chain_read, apart, ends_no_param, only_opens, lead_of, lead_before, lead_by, param_in_front, param_by}
-use Rattle.ecma_reread.proofs.Bindings.{Stands, loosened, direct}
+use Rattle.ecma_reread.proofs.Bindings.{Stands, go_out, direct}
 
 update_opens : (o : UpdateOp) → only_opens (exactly (update_token o)) ≡ true
 unfolding arrow arrow_rest labeled param rest_pattern default_value pattern_body array_pattern object_pattern names.binding_ident is_reserved reserved_words statements.statement_body names.block statements.if_ statements.for_await statements.for_ statements.while_ statements.do_while statements.switch statements.try_ statements.jump declarations.declaration functions.function_declaration classes.class_declaration modules.module_item modules.import modules.import_equals modules.export modules.export_default
@@ -73,7 +73,7 @@ module _ (assigned : Bool) where
 
   module _ (o : UpdateOp) {f : Laid} {k : Kind} {ns : List Node} (S : Stands assigned shapes.callee f k ns) where
     operand_read : (us : Items) (e : Front) → Begins e us → closes shapes.update e ≡ true → means assigned part.Operand (f no_gap us) ≡ read (bare k ns ∷ []) us
-    operand_read us e b z = means_is assigned part.Operand (f no_gap us) ∙ direct assigned shapes.unary (loosened assigned shapes.update (loosened assigned shapes.callee S)) no_gap us e b z
+    operand_read us e b z = means_is assigned part.Operand (f no_gap us) ∙ direct assigned shapes.unary (go_out assigned 3 shapes.callee S) no_gap us e b z
 
     pub prefix_form : Stands assigned shapes.update (λ g us. it g (update_token o) (f no_gap us)) (kind.UpdateExpr o true) (bare k ns ∷ [])
     prefix_form = record {

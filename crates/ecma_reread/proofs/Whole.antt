@@ -29,12 +29,17 @@ mutual
   expression_bare (shapes.null_word at) = without_spans-node at _ []
   expression_bare (shapes.true_word at) = without_spans-node at _ []
   expression_bare (shapes.false_word at) = without_spans-node at _ []
-  expression_bare (shapes.member at o k) = without_spans-node at kind.MemberExpr _ ∙ ap₂ (λ x y. bare kind.MemberExpr (x ∷ y ∷ [])) (expression_bare o) (key_bare k)
+  expression_bare (shapes.member at i o k) = without_spans-node at kind.MemberExpr _ ∙ ap₂ (λ x y. bare kind.MemberExpr (x ∷ y ∷ [])) (expression_bare o) (key_bare k)
   expression_bare (shapes.call at {none = gone} c es none) = without_spans-node at kind.CallExpr _ ∙ (ap₂ (λ x y. bare kind.CallExpr (x ∷ y ∷ without_spans gone ∷ [])) (expression_bare c) (arguments_bare es) ∙ ap (λ z. bare kind.CallExpr (bare_expression c ∷ list_node (bare_arguments es) ∷ z ∷ [])) (absent_bare none))
   expression_bare (shapes.parenthesized at e) = without_spans-node at kind.ParenExpr _ ∙ ap (λ x. bare kind.ParenExpr (x ∷ [])) (expression_bare e)
   expression_bare (shapes.looser e) = expression_bare e
-  expression_bare (shapes.element at at' o e) =
+  expression_bare (shapes.element at at' i o e) =
       without_spans-node at kind.MemberExpr _ ∙ ap₂ (λ x y. bare kind.MemberExpr (x ∷ y ∷ [])) (expression_bare o) (without_spans-node at' kind.ComputedPropName _ ∙ ap (λ x. bare kind.ComputedPropName (x ∷ [])) (expression_bare e))
+  expression_bare (shapes.new_expression at {none = gone} e es none) =
+      without_spans-node at kind.NewExpr _ ∙ (ap₂ (λ x y. bare kind.NewExpr (x ∷ y ∷ without_spans gone ∷ [])) (expression_bare e) (arguments_bare es) ∙ ap (λ z. bare kind.NewExpr (bare_expression e ∷ list_node (bare_arguments es) ∷ z ∷ [])) (absent_bare none))
+  expression_bare (shapes.new_alone at {none' = gone} e none none') =
+      without_spans-node at kind.NewExpr _ ∙ (ap₂ (λ x y. bare kind.NewExpr (x ∷ y ∷ without_spans gone ∷ [])) (expression_bare e) (absent_bare none) ∙ ap (λ z. bare kind.NewExpr (bare_expression e ∷ absent ∷ z ∷ [])) (absent_bare none'))
+  expression_bare (shapes.new_target at) = without_spans-node at _ []
   expression_bare (shapes.prefix_update at o e) = without_spans-node at (kind.UpdateExpr o true) _ ∙ ap (λ x. bare (kind.UpdateExpr o true) (x ∷ [])) (expression_bare e)
   expression_bare (shapes.postfix_update at o e) = without_spans-node at (kind.UpdateExpr o false) _ ∙ ap (λ x. bare (kind.UpdateExpr o false) (x ∷ [])) (expression_bare e)
   expression_bare (shapes.await_expression at e) = without_spans-node at kind.AwaitExpr _ ∙ ap (λ x. bare kind.AwaitExpr (x ∷ [])) (expression_bare e)

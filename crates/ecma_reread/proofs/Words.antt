@@ -135,6 +135,14 @@ export_spelled : Spelled IsKey (codes "export")
 unfolding chars is_utf8 encode is_xid_start is_xid_continue in_ranges xid_start_ranges xid_continue_ranges
 export_spelled = (IsUtf8-from_is_utf8 (codes "export") refl, (refl, refl))
 
+new_spelled : Spelled IsKey (codes "new")
+unfolding chars is_utf8 encode is_xid_start is_xid_continue in_ranges xid_start_ranges xid_continue_ranges
+new_spelled = (IsUtf8-from_is_utf8 (codes "new") refl, (refl, refl))
+
+target_spelled : Spelled IsKey (codes "target")
+unfolding chars is_utf8 encode is_xid_start is_xid_continue in_ranges xid_start_ranges xid_continue_ranges
+target_spelled = (IsUtf8-from_is_utf8 (codes "target") refl, (refl, refl))
+
 pub layout_words : Words
 layout_words = record {
   this_whole = whole (codes "this") this_spelled;
@@ -147,6 +155,8 @@ layout_words = record {
   typeof_whole = whole (codes "typeof") typeof_spelled;
   void_whole = whole (codes "void") void_spelled;
   delete_whole = whole (codes "delete") delete_spelled;
+  new_whole = whole (codes "new") new_spelled;
+  target_whole = whole (codes "target") target_spelled;
   await_whole = whole (codes "await") await_spelled;
   debugger_whole = whole (codes "debugger") debugger_spelled;
   throw_whole = whole (codes "throw") throw_spelled;

@@ -12,6 +12,7 @@ use Rattle.ecma_kind.specs.declared.operators.UpdateOp.{UpdateOp}
 use Rattle.ecma_kind.specs.declared.operators.AssignOp.{AssignOp}
 use Rattle.ecma_kind.specs.declared.operators.BinaryOp.{BinaryOp}
 use Rattle.ecma_kind.specs.declared.operators.BinaryOp.TheVariants as op
+use Rattle.ecma_kind.specs.declared.operators.MetaPropKind.TheVariants.{NewTarget}
 use Rattle.ecma_kind.specs.declared.kind.Kind.TheVariants as kind
 use Rattle.ecma_tree.specs.declared.node.Node.{Node}
 use Rattle.ecma_tree.specs.Nodes.{node_of}
@@ -35,14 +36,18 @@ pub data IsAbsent : Node → Type 0 where
 -- how loosely an expression binds: by its outermost operator, the tightest first (ECMAScript, 13). A conditional expression stands where
 -- an assignment does
 pub data Level : Type 0 where
-  -- what may stand before a point; a call's callee, which may be a numeral too
-  object callee : Level
+  -- the callee of `new`, in which no call stands; what may stand before a point; a call's callee, which may be a numeral too
+  new_callee object callee : Level
+  -- also `new` without arguments
+  left_hand_side : Level
   update unary power product sum shift relation equality bit_and bit_xor bit_or logical_and logical_or coalescing short_circuit assignment sequence : Level
 
 -- the next level, whose expressions are also those of this one
 abbrev pub looser_than : Level → Level
+looser_than new_callee = object
 looser_than object = callee
-looser_than callee = update
+looser_than callee = left_hand_side
+looser_than left_hand_side = update
 looser_than update = unary
 looser_than unary = power
 looser_than power = product
@@ -60,6 +65,16 @@ looser_than coalescing = short_circuit
 looser_than short_circuit = assignment
 looser_than assignment = sequence
 looser_than sequence = sequence
+
+-- a member by a name stands at the level of its object
+pub data IsMemberLevel : Level → Type 0 where
+  member_of_new : IsMemberLevel new_callee
+  member_of_object : IsMemberLevel object
+
+-- a member by brackets: the level of its object, and its own
+pub data IsIndexed : Level → Level → Type 0 where
+  index_of_new : IsIndexed new_callee new_callee
+  index_of_callee : IsIndexed callee object
 
 -- an operator of two operands: its own level, and that of its right side; its left side has its own level
 pub data IsOperator : BinaryOp → Level → Level → Type 0 where
@@ -94,18 +109,22 @@ mutual
   -- at a level: its own, or a looser one
   pub data IsExpression : Level → Node → Type 0 where
     looser : {level : Level} {e : Node} → IsExpression level e → IsExpression (looser_than level) e
-    name : {id : Node} → IsIdent id → IsExpression object id
-    string : (at : Span) (raw : List ℕ) → IsToken str_end raw → IsExpression object (node_of at (kind.Str (str_value (piece raw 1 (length raw - 1))) (Some raw)) [])
+    name : {id : Node} → IsIdent id → IsExpression new_callee id
+    string : (at : Span) (raw : List ℕ) → IsToken str_end raw → IsExpression new_callee (node_of at (kind.Str (str_value (piece raw 1 (length raw - 1))) (Some raw)) [])
     number : (at : Span) (raw : List ℕ) → IsToken num_end raw → IsExpression callee (node_of at (kind.Number (numeral_of raw) (Some raw)) [])
-    this_word : (at : Span) → IsExpression object (node_of at kind.ThisExpr [])
-    big_int : (at : Span) (raw : List ℕ) → IsToken big_end raw → IsExpression object (node_of at (kind.BigInt (without_separators (piece raw 0 (length raw - 1))) (Some raw)) [])
-    null_word : (at : Span) → IsExpression object (node_of at kind.Null [])
-    true_word : (at : Span) → IsExpression object (node_of at (kind.Bool true) [])
-    false_word : (at : Span) → IsExpression object (node_of at (kind.Bool false) [])
-    member : (at : Span) {holder property : Node} → IsExpression object holder → IsKey property → IsExpression object (node_of at kind.MemberExpr (holder ∷ property ∷ []))
+    this_word : (at : Span) → IsExpression new_callee (node_of at kind.ThisExpr [])
+    big_int : (at : Span) (raw : List ℕ) → IsToken big_end raw → IsExpression new_callee (node_of at (kind.BigInt (without_separators (piece raw 0 (length raw - 1))) (Some raw)) [])
+    null_word : (at : Span) → IsExpression new_callee (node_of at kind.Null [])
+    true_word : (at : Span) → IsExpression new_callee (node_of at (kind.Bool true) [])
+    false_word : (at : Span) → IsExpression new_callee (node_of at (kind.Bool false) [])
+    member : (at : Span) {level : Level} {holder property : Node} → IsMemberLevel level → IsExpression level holder → IsKey property → IsExpression level (node_of at kind.MemberExpr (holder ∷ property ∷ []))
     call : (at : Span) {function args none : Node} → IsExpression callee function → IsArguments args → IsAbsent none → IsExpression object (node_of at kind.CallExpr (function ∷ args ∷ none ∷ []))
-    parenthesized : (at : Span) {level : Level} {e : Node} → IsExpression level e → IsExpression object (node_of at kind.ParenExpr (e ∷ []))
-    element : (at of_key : Span) {level : Level} {holder e : Node} → IsExpression callee holder → IsExpression level e → IsExpression object (node_of at kind.MemberExpr (holder ∷ node_of of_key kind.ComputedPropName (e ∷ []) ∷ []))
+    parenthesized : (at : Span) {level : Level} {e : Node} → IsExpression level e → IsExpression new_callee (node_of at kind.ParenExpr (e ∷ []))
+    -- with arguments, and without
+    new_expression : (at : Span) {constructor args none : Node} → IsExpression new_callee constructor → IsArguments args → IsAbsent none → IsExpression new_callee (node_of at kind.NewExpr (constructor ∷ args ∷ none ∷ []))
+    new_alone : (at : Span) {constructor none none' : Node} → IsExpression new_callee constructor → IsAbsent none → IsAbsent none' → IsExpression left_hand_side (node_of at kind.NewExpr (constructor ∷ none ∷ none' ∷ []))
+    new_target : (at : Span) → IsExpression new_callee (node_of at (kind.MetaPropExpr NewTarget) [])
+    element : (at of_key : Span) {of_holder own level : Level} {holder e : Node} → IsIndexed of_holder own → IsExpression of_holder holder → IsExpression level e → IsExpression own (node_of at kind.MemberExpr (holder ∷ node_of of_key kind.ComputedPropName (e ∷ []) ∷ []))
     prefix_update : (at : Span) (operator : UpdateOp) {e : Node} → IsExpression callee e → IsExpression update (node_of at (kind.UpdateExpr operator true) (e ∷ []))
     postfix_update : (at : Span) (operator : UpdateOp) {e : Node} → IsExpression callee e → IsExpression update (node_of at (kind.UpdateExpr operator false) (e ∷ []))
     await_expression : (at : Span) {e : Node} → IsExpression unary e → IsExpression unary (node_of at kind.AwaitExpr (e ∷ []))
@@ -120,7 +139,7 @@ mutual
     assignment_expression : (at : Span) (operator : AssignOp) {target value : Node} → IsExpression callee target → IsExpression assignment value → IsExpression assignment (node_of at (kind.AssignExpr operator) (target ∷ value ∷ []))
     conditional_expression : (at : Span) {test first second : Node} → IsExpression short_circuit test → IsExpression assignment first → IsExpression assignment second
         → IsExpression assignment (node_of at kind.CondExpr (test ∷ first ∷ second ∷ []))
-    array : (at of_list : Span) {slots : List Node} → AreSlots slots → IsExpression object (node_of at kind.ArrayLit (node_of of_list kind.List slots ∷ []))
+    array : (at of_list : Span) {slots : List Node} → AreSlots slots → IsExpression new_callee (node_of at kind.ArrayLit (node_of of_list kind.List slots ∷ []))
     sequence_expression : (at : Span) {first second : Node} {more : List Node} → IsExpression assignment first → IsExpression assignment second → AreExpressions more → IsExpression sequence (node_of at kind.SeqExpr (first ∷ second ∷ more))
 
   -- an argument, or an element of an array: an expression, or the values of one

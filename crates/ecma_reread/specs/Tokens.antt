@@ -11,6 +11,7 @@ use Rattle.ecma_kind.specs.declared.operators.AssignOp.{AssignOp}
 use Rattle.ecma_kind.specs.declared.operators.AssignOp.TheVariants.{Assign, AddAssign, SubAssign, MulAssign, DivAssign, ModAssign, LShiftAssign, RShiftAssign, ZeroFillRShiftAssign, BitOrAssign, BitXorAssign, BitAndAssign, ExpAssign, AndAssign, OrAssign, NullishAssign}
 use Rattle.ecma_kind.specs.declared.operators.BinaryOp.{BinaryOp}
 use Rattle.ecma_kind.specs.declared.operators.BinaryOp.TheVariants as op
+use Rattle.ecma_kind.specs.declared.operators.MetaPropKind.TheVariants.{NewTarget}
 use Rattle.ecma_kind.specs.declared.kind.Kind.{Kind}
 use Rattle.ecma_kind.specs.declared.kind.Kind.TheVariants as kind
 use Rattle.ecma_tree.specs.declared.node.Node.{Node}
@@ -22,7 +23,7 @@ use Rattle.ecma_print.specs.Operators.{unary_sign, update_sign}
 use Rattle.ecma_print.specs.Statements.{keyword}
 use Rattle.ecma_tokens.specs.Items as items
 use Rattle.ecma_tokens.specs.Items.{Tok, sign, Gap, no_gap, Items, it}
-use Rattle.ecma_reread.specs.Shapes.{IsIdent, ident, IsKey, key, Level, IsExpression, looser, element, prefix_update, postfix_update, await_expression, unary_expression, binary_expression, exponentiation, both, either, coalesced, assignment_expression, conditional_expression, sequence_expression, name, string, number, this_word, big_int, null_word, true_word, false_word, member, call, parenthesized, IsElement, one, spread, IsArguments, no_arguments, arguments, AreElements, no_elements, more_elements, AreExpressions, no_expressions, more_expressions, IsInitializer, no_initializer, initializer, IsDeclarator, declarator, AreDeclarators, no_declarators, more_declarators, IsStatement, expression, declaration, empty, debugger_word, throw, return_value, return_nothing, break_nothing, continue_nothing, Ending, break_label, continue_label, block, if_only, if_else, while_loop, do_loop, labeled, IsBlock, block_of, AreStatements, no_statements, more_statements, array, AreSlots, no_slots, filled, hole, switch_statement, IsCase, case_of, default_of, AreCases, no_cases, more_cases}
+use Rattle.ecma_reread.specs.Shapes.{IsIdent, ident, IsKey, key, Level, IsExpression, looser, element, prefix_update, postfix_update, await_expression, unary_expression, binary_expression, exponentiation, both, either, coalesced, assignment_expression, conditional_expression, sequence_expression, name, string, number, this_word, big_int, null_word, true_word, false_word, member, call, parenthesized, IsElement, one, spread, IsArguments, no_arguments, arguments, AreElements, no_elements, more_elements, AreExpressions, no_expressions, more_expressions, IsInitializer, no_initializer, initializer, IsDeclarator, declarator, AreDeclarators, no_declarators, more_declarators, IsStatement, expression, declaration, empty, debugger_word, throw, return_value, return_nothing, break_nothing, continue_nothing, Ending, break_label, continue_label, block, if_only, if_else, while_loop, do_loop, labeled, IsBlock, block_of, AreStatements, no_statements, more_statements, array, AreSlots, no_slots, filled, hole, switch_statement, IsCase, case_of, default_of, AreCases, no_cases, more_cases, new_expression, new_alone, new_target}
 
 abbrev pub blank : Gap
 blank = record { blanks = codes " "; new_line = false }
@@ -131,11 +132,14 @@ abbrev mutual
   expression_tokens (null_word at) g us = it g (items.key (codes "null")) us
   expression_tokens (true_word at) g us = it g (items.key (codes "true")) us
   expression_tokens (false_word at) g us = it g (items.key (codes "false")) us
-  expression_tokens (member at o k) g us = expression_tokens o g (sign_of (codes ".") (it no_gap (items.key (key_word k)) us))
+  expression_tokens (member at i o k) g us = expression_tokens o g (sign_of (codes ".") (it no_gap (items.key (key_word k)) us))
   expression_tokens (call at c es none) g us = expression_tokens c g (sign_of (codes "(") (arguments_tokens es (sign_of (codes ")") us)))
   expression_tokens (parenthesized at e) g us = it g (sign (codes "(")) (expression_tokens e no_gap (sign_of (codes ")") us))
   expression_tokens (looser e) g us = expression_tokens e g us
-  expression_tokens (element at at' o e) g us = expression_tokens o g (sign_of (codes "[") (expression_tokens e no_gap (sign_of (codes "]") us)))
+  expression_tokens (element at at' i o e) g us = expression_tokens o g (sign_of (codes "[") (expression_tokens e no_gap (sign_of (codes "]") us)))
+  expression_tokens (new_expression at e es none) g us = it g (items.key (codes "new")) (expression_tokens e blank (sign_of (codes "(") (arguments_tokens es (sign_of (codes ")") us))))
+  expression_tokens (new_alone at e none none') g us = it g (items.key (codes "new")) (expression_tokens e blank us)
+  expression_tokens (new_target at) g us = it g (items.key (codes "new")) (sign_of (codes ".") (it no_gap (items.key (codes "target")) us))
   expression_tokens (prefix_update at o e) g us = it g (update_token o) (expression_tokens e no_gap us)
   expression_tokens (postfix_update at o e) g us = expression_tokens e g (it no_gap (update_token o) us)
   expression_tokens (await_expression at e) g us = it g (items.key (codes "await")) (expression_tokens e blank us)
@@ -263,11 +267,14 @@ expression_kind (big_int at raw t) = kind.BigInt (without_separators (piece raw 
 expression_kind (null_word at) = kind.Null
 expression_kind (true_word at) = kind.Bool true
 expression_kind (false_word at) = kind.Bool false
-expression_kind (member at o k) = kind.MemberExpr
+expression_kind (member at i o k) = kind.MemberExpr
 expression_kind (call at c es none) = kind.CallExpr
 expression_kind (parenthesized at e) = kind.ParenExpr
 expression_kind (looser e) = expression_kind e
-expression_kind (element at at' o e) = kind.MemberExpr
+expression_kind (element at at' i o e) = kind.MemberExpr
+expression_kind (new_expression at e es none) = kind.NewExpr
+expression_kind (new_alone at e none none') = kind.NewExpr
+expression_kind (new_target at) = kind.MetaPropExpr NewTarget
 expression_kind (prefix_update at o e) = kind.UpdateExpr o true
 expression_kind (postfix_update at o e) = kind.UpdateExpr o false
 expression_kind (await_expression at e) = kind.AwaitExpr
@@ -284,11 +291,13 @@ expression_kind (sequence_expression at x y es) = kind.SeqExpr
 
 abbrev mutual
   pub expression_parts : {level : Level} {e : Node} → IsExpression level e → List Node
-  expression_parts (member at o k) = bare (expression_kind o) (expression_parts o) ∷ bare (kind.IdentName (key_word k)) [] ∷ []
+  expression_parts (member at i o k) = bare (expression_kind o) (expression_parts o) ∷ bare (kind.IdentName (key_word k)) [] ∷ []
   expression_parts (call at c es none) = bare (expression_kind c) (expression_parts c) ∷ list_node (bare_arguments es) ∷ absent ∷ []
   expression_parts (parenthesized at e) = bare (expression_kind e) (expression_parts e) ∷ []
   expression_parts (looser e) = expression_parts e
-  expression_parts (element at at' o e) = bare (expression_kind o) (expression_parts o) ∷ bare kind.ComputedPropName (bare (expression_kind e) (expression_parts e) ∷ []) ∷ []
+  expression_parts (element at at' i o e) = bare (expression_kind o) (expression_parts o) ∷ bare kind.ComputedPropName (bare (expression_kind e) (expression_parts e) ∷ []) ∷ []
+  expression_parts (new_expression at e es none) = bare (expression_kind e) (expression_parts e) ∷ list_node (bare_arguments es) ∷ absent ∷ []
+  expression_parts (new_alone at e none none') = bare (expression_kind e) (expression_parts e) ∷ absent ∷ absent ∷ []
   expression_parts (prefix_update at o e) = bare (expression_kind e) (expression_parts e) ∷ []
   expression_parts (postfix_update at o e) = bare (expression_kind e) (expression_parts e) ∷ []
   expression_parts (await_expression at e) = bare (expression_kind e) (expression_parts e) ∷ []
