@@ -41,6 +41,7 @@ pub mod Branches
 pub mod Loops
 pub mod Labels
 pub mod Switches
+pub mod Tries
 pub mod StatementForms
 pub mod Exports
 pub mod Modules

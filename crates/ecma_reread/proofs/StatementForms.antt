@@ -3,8 +3,8 @@ use Rattle.std.proofs.Common.{ℕ, suc, Bool, List, ap}
 use Rattle.ecma_tree.specs.declared.node.Node.{Node}
 use Rattle.ecma_reread.specs.Machine.{taken}
 use Rattle.ecma_reread.specs.Shapes as shapes
-use Rattle.ecma_reread.specs.Shapes.{IsInitializer, IsDeclarator, AreDeclarators, Ending, IsStatement, IsBlock, IsCase, AreCases, AreStatements}
-use Rattle.ecma_reread.specs.Tokens.{line_at, ident_word, closing_gap, is_braced, branch_gap, statement_tokens, block_tokens, case_tokens, cases_tokens, lined_tokens, bare_statement, bare_block, bare_case, bare_cases, bare_statements}
+use Rattle.ecma_reread.specs.Shapes.{IsInitializer, IsDeclarator, AreDeclarators, Ending, IsStatement, IsBlock, IsCase, AreCases, IsCatch, AreStatements}
+use Rattle.ecma_reread.specs.Tokens.{line_at, ident_word, closing_gap, is_braced, branch_gap, statement_tokens, block_tokens, case_tokens, cases_tokens, catch_tokens, lined_tokens, bare_statement, bare_block, bare_case, bare_cases, bare_catch, bare_statements}
 use Rattle.ecma_reread.proofs.Bindings.{standing}
 use Rattle.ecma_reread.proofs.Joins.{no_new_line, no_brace}
 use Rattle.ecma_reread.proofs.Calls.{ident_free, expression_form}
@@ -15,6 +15,7 @@ use Rattle.ecma_reread.proofs.Blocks.{ReadAsStatements, no_statements_form, more
 use Rattle.ecma_reread.proofs.Branches.{if_form, if_else_form}
 use Rattle.ecma_reread.proofs.Loops.{while_form, do_form}
 use Rattle.ecma_reread.proofs.Switches.{ReadAsCase, ReadAsCases, no_cases_form, more_cases_form, case_form, default_form, switch_form}
+use Rattle.ecma_reread.proofs.Tries.{ReadAsCatch, catch_any_form, catch_name_form, try_catch_form, try_finally_form, try_catch_finally_form}
 use Rattle.ecma_reread.proofs.Labels.{labeled_form, break_label_form, continue_label_form}
 
 module _ (assigned : Bool) where
@@ -48,6 +49,9 @@ module _ (assigned : Bool) where
     statement_form (shapes.while_loop at e b) d = while_form assigned (standing assigned (expression_form assigned e)) (statement_form b d)
     statement_form (shapes.do_loop at e b) d = do_form assigned (standing assigned (expression_form assigned e)) (statement_form b d) (branch_gap (is_braced b) d)
     statement_form (shapes.switch_statement at at' {cs = cs'} e cs) d = switch_form assigned (standing assigned (expression_form assigned e)) (case_forms cs (suc d)) (closing_gap cs' d)
+    statement_form (shapes.try_catch at b c a) d = try_catch_form assigned (block_form b d) (catch_form c d)
+    statement_form (shapes.try_finally at b a f) d = try_finally_form assigned (block_form b d) (block_form f d)
+    statement_form (shapes.try_catch_finally at b c f) d = try_catch_finally_form assigned (block_form b d) (catch_form c d) (block_form f d)
     statement_form (shapes.labeled at i b) d = labeled_form assigned (ident_word i) (ident_free assigned i) (standing assigned (expression_form assigned (shapes.name i))) (statement_form b d)
 
     block_form : {n : Node} (is : IsBlock n) (d : ℕ) → ReadAsBlock assigned (block_tokens is d) (bare_block is)
@@ -60,6 +64,10 @@ module _ (assigned : Bool) where
     case_forms : {cs : List Node} (is : AreCases cs) (d : ℕ) → ReadAsCases assigned (cases_tokens is d) (bare_cases is)
     case_forms shapes.no_cases d = no_cases_form assigned
     case_forms (shapes.more_cases c cs) d = more_cases_form assigned (case_of_form c d) (case_forms cs d) (line_at d)
+
+    catch_form : {n : Node} (is : IsCatch n) (d : ℕ) → ReadAsCatch assigned (catch_tokens is d) (bare_catch is)
+    catch_form (shapes.catch_any at a b) d = catch_any_form assigned (block_form b d)
+    catch_form (shapes.catch_name at at' i a b) d = catch_name_form assigned (block_form b d) (ident_word i) (ident_free assigned i)
 
     statement_forms : {ss : List Node} (is : AreStatements ss) (d : ℕ) → ReadAsStatements assigned (lined_tokens is d) (bare_statements is)
     statement_forms shapes.no_statements d = no_statements_form assigned

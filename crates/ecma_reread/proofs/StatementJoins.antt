@@ -13,8 +13,8 @@ use Rattle.ecma_tokens.specs.Items.{Tok, sign, Gap, no_gap, Items, it}
 use Rattle.ecma_tokens.specs.Good.{IsGap, IsToken, is_gap_character}
 use Rattle.ecma_tokens.specs.Joins.{joins, joins_next, Joined}
 use Rattle.ecma_reread.specs.Shapes as shapes
-use Rattle.ecma_reread.specs.Shapes.{Level, IsExpression, Ending, IsStatement, IsBlock, IsCase, AreCases, AreStatements}
-use Rattle.ecma_reread.specs.Tokens.{margin, line_at, blank, sign_of, expression_tokens, ident_word, declarators_tokens, closing_gap, is_braced, branch_gap, test_tokens, statement_tokens, block_tokens, case_tokens, cases_tokens, lined_tokens}
+use Rattle.ecma_reread.specs.Shapes.{Level, IsExpression, Ending, IsStatement, IsBlock, IsCase, AreCases, IsCatch, AreStatements}
+use Rattle.ecma_reread.specs.Tokens.{margin, line_at, blank, sign_of, expression_tokens, ident_word, declarators_tokens, closing_gap, is_braced, branch_gap, test_tokens, statement_tokens, block_tokens, case_tokens, cases_tokens, catch_tokens, lined_tokens}
 use Rattle.ecma_reread.proofs.Joins.{begun, closing, semicolon, colon, ident_whole, blank_joins, opening_joins, no_gap_is, blank_is, Words, expression_joined, declarators_soft, declarator_joined, declarators_joined}
 
 -- gaps that keep any two tokens apart
@@ -59,6 +59,9 @@ statement_apart (shapes.if_else at e b a) d g w us t = w t (items.key (codes "if
 statement_apart (shapes.while_loop at e b) d g w us t = w t (items.key (codes "while"))
 statement_apart (shapes.do_loop at e b) d g w us t = w t (items.key (codes "do"))
 statement_apart (shapes.switch_statement at at' e cs) d g w us t = w t (items.key (codes "switch"))
+statement_apart (shapes.try_catch at b c n) d g w us t = w t (items.key (codes "try"))
+statement_apart (shapes.try_finally at b n f) d g w us t = w t (items.key (codes "try"))
+statement_apart (shapes.try_catch_finally at b c f) d g w us t = w t (items.key (codes "try"))
 statement_apart (shapes.labeled at i b) d g w us t = w t (items.key (ident_word i))
 
 lined_apart : {ss : List Node} (is : AreStatements ss) (d : ℕ) (us : Items) (t : Tok) → joins_next t us ≡ true → joins_next t (lined_tokens is d us) ≡ true
@@ -76,6 +79,10 @@ cases_apart (shapes.more_cases c cs) d us t a = case_apart c d (line_at d) (line
 cases_empty : {cs : List Node} (is : AreCases cs) (d : ℕ) (us : Items) → cs ≡ [] → cases_tokens is d us ≡ us
 cases_empty shapes.no_cases d us e = refl
 cases_empty (shapes.more_cases c cs) d us e = cc
+
+catch_apart : {n : Node} (is : IsCatch n) (d : ℕ) (us : Items) → Apart (catch_tokens is d us)
+catch_apart (shapes.catch_any at n b) d us t = refl
+catch_apart (shapes.catch_name at at' i n b) d us t = refl
 
 lined_empty : {ss : List Node} (is : AreStatements ss) (d : ℕ) (us : Items) → ss ≡ [] → lined_tokens is d us ≡ us
 lined_empty shapes.no_statements d us e = refl
@@ -112,6 +119,9 @@ module _ (words : Words) where
   test_joined : {level : Level} {e : Node} (is : IsExpression level e) (us : Items) → joins_next (sign (codes ")")) us ≡ true → Joined us → Joined (test_tokens is us)
   unfolding punctuators
   test_joined is us a j = (blank_is, refl, opening_joins is (sign_of (codes ")") us), expression_joined words is no_gap no_gap_is (sign_of (codes ")") us) closing (no_gap_is, refl, a, j))
+
+  finally_joined : {n : Node} (is : IsBlock n) (d : ℕ) (us : Items) → Joined (block_tokens is d blank us) → Joined (it blank (items.key (codes "finally")) (block_tokens is d blank us))
+  finally_joined is d us j = (blank_is, words.finally_whole, block_apart is d blank blank_wide us (items.key (codes "finally")), j)
 
   mutual
     unfolding punctuators
@@ -153,6 +163,16 @@ module _ (words : Words) where
       test_joined e (it blank (sign (codes "{")) (cases_tokens cs (suc d) (it (closing_gap cs' d) (sign (codes "}")) us))) refl
           (braces_joined cs' d (cases_tokens cs (suc d)) (λ vs e. cases_empty cs (suc d) vs e) (λ vs b. cases_apart cs (suc d) vs (sign (codes "{")) (b (sign (codes "{")))) (cases_joined cs (suc d)) blank blank_is us a j),
     )
+    statement_joined (shapes.try_catch at b c n) d g h us a j =
+        let cs = catch_tokens c d us in
+        (h, words.try_whole, block_apart b d blank blank_wide cs (items.key (codes "try")), block_joined b d blank blank_is cs (catch_apart c d us) (catch_joined c d us a j))
+    statement_joined (shapes.try_finally at b n f) d g h us a j =
+        let end = it blank (items.key (codes "finally")) (block_tokens f d blank us) in
+        (h, words.try_whole, block_apart b d blank blank_wide end (items.key (codes "try")), block_joined b d blank blank_is end (λ t. refl) (finally_joined f d us (block_joined f d blank blank_is us a j)))
+    statement_joined (shapes.try_catch_finally at b c f) d g h us a j =
+        let end = it blank (items.key (codes "finally")) (block_tokens f d blank us) in
+        let cs = catch_tokens c d end in
+        (h, words.try_whole, block_apart b d blank blank_wide cs (items.key (codes "try")), block_joined b d blank blank_is cs (catch_apart c d end) (catch_joined c d end (λ t. refl) (finally_joined f d us (block_joined f d blank blank_is us a j))))
     statement_joined (shapes.labeled at i b) d g h us a j = (h, ident_whole i, refl, (no_gap_is, refl, statement_apart b d blank blank_wide us (sign (codes ":")), statement_joined b d blank blank_is us a j))
 
     block_joined : {n : Node} (is : IsBlock n) (d : ℕ) (g : Gap) → IsGap g → (us : Items) → Apart us → Joined us → Joined (block_tokens is d g us)
@@ -168,6 +188,11 @@ module _ (words : Words) where
     cases_joined : {cs : List Node} (is : AreCases cs) (d : ℕ) (us : Items) → Apart us → Joined us → Joined (cases_tokens is d us)
     cases_joined shapes.no_cases d us a j = j
     cases_joined (shapes.more_cases c cs) d us a j = case_joined c d (line_at d) (line_is d) (cases_tokens cs d us) (λ t. cases_apart cs d us t (a t)) (cases_joined cs d us a j)
+
+    catch_joined : {n : Node} (is : IsCatch n) (d : ℕ) (us : Items) → Apart us → Joined us → Joined (catch_tokens is d us)
+    catch_joined (shapes.catch_any at n b) d us a j = (blank_is, words.catch_whole, block_apart b d blank blank_wide us (items.key (codes "catch")), block_joined b d blank blank_is us a j)
+    catch_joined (shapes.catch_name at at' i n b) d us a j =
+        (blank_is, words.catch_whole, refl, (blank_is, refl, refl, (no_gap_is, ident_whole i, refl, (no_gap_is, refl, block_apart b d blank blank_wide us (sign (codes ")")), block_joined b d blank blank_is us a j))))
 
     lined_joined : {ss : List Node} (is : AreStatements ss) (d : ℕ) (us : Items) → Apart us → Joined us → Joined (lined_tokens is d us)
     lined_joined shapes.no_statements d us a j = j

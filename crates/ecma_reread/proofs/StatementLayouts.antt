@@ -10,7 +10,7 @@ use Rattle.ecma_tree.specs.declared.node.Node.{Node, fold_out-Node}
 use Rattle.ecma_tree.specs.Nodes.{node_of}
 use Rattle.ecma_print.specs.declared.place.Begins.TheVariants.{StatementStart}
 use Rattle.ecma_print.specs.declared.place.Between.{Between}
-use Rattle.ecma_print.specs.declared.place.Between.TheVariants.{Blank, Else, LineElse}
+use Rattle.ecma_print.specs.declared.place.Between.TheVariants.{Blank, Finally, Else, LineElse, Parentheses}
 use Rattle.ecma_print.specs.declared.place.Spot.{Spot}
 use Rattle.ecma_print.specs.declared.place.Place.TheVariants.{At, Within, Deeper, Block, Commas}
 use Rattle.ecma_print.specs.Places.{before, after, free, beginning}
@@ -21,8 +21,8 @@ use Rattle.ecma_print.specs.Layout.{in_place, lay_step, laid}
 use Rattle.ecma_tokens.specs.Items as items
 use Rattle.ecma_tokens.specs.Items.{sign, Gap, no_gap, Items, it, render}
 use Rattle.ecma_reread.specs.Shapes as shapes
-use Rattle.ecma_reread.specs.Shapes.{Level, IsExpression, IsDeclarator, AreDeclarators, Ending, IsStatement, IsBlock, IsCase, AreCases, AreStatements}
-use Rattle.ecma_reread.specs.Tokens.{margin, line_at, blank, sign_of, expression_tokens, declarator_tokens, declarators_tokens, closing_gap, is_braced, branch_gap, test_tokens, statement_tokens, block_tokens, case_tokens, cases_tokens, lined_tokens}
+use Rattle.ecma_reread.specs.Shapes.{Level, IsExpression, IsDeclarator, AreDeclarators, Ending, IsStatement, IsBlock, IsCase, AreCases, IsCatch, AreStatements}
+use Rattle.ecma_reread.specs.Tokens.{margin, line_at, blank, sign_of, expression_tokens, declarator_tokens, declarators_tokens, closing_gap, is_braced, branch_gap, test_tokens, statement_tokens, block_tokens, case_tokens, cases_tokens, catch_tokens, lined_tokens}
 use Rattle.ecma_reread.proofs.Layouts.{laid_node, at_node, calm_0, calm_start, gap_out, expression_laid, within_laid, declarator_laid, more_declarators_laid}
 
 -- an expression behind a word, and the end of the statement
@@ -83,6 +83,9 @@ record Seen (n : Node) (braced : Bool) : Type 0 where
 seen : (at : Span) (k : Kind) (cs : List Node) (braced : Bool) → is_there k ≡ true → is_block k ≡ braced → Seen (node_of at k cs) braced
 seen at k cs braced h e = record { there = ap (λ x. is_there x.kind) (laid_node at k cs) ∙ h; block_is = ap (λ x. is_block x.kind) (laid_node at k cs) ∙ e }
 
+block_seen : {n : Node} → IsBlock n → Seen n true
+block_seen (shapes.block_of at at' ss) = seen at _ _ true refl refl
+
 statement_seen : {ending : Ending} {n : Node} (is : IsStatement ending n) → Seen n (is_braced is)
 statement_seen (shapes.expression at e) = seen at _ _ false refl refl
 statement_seen (shapes.declaration at at' k i is) = seen at _ _ false refl refl
@@ -95,12 +98,15 @@ statement_seen (shapes.break_nothing at a) = seen at _ _ false refl refl
 statement_seen (shapes.continue_nothing at a) = seen at _ _ false refl refl
 statement_seen (shapes.break_label at i) = seen at _ _ false refl refl
 statement_seen (shapes.continue_label at i) = seen at _ _ false refl refl
-statement_seen (shapes.block (shapes.block_of at at' ss)) = seen at _ _ true refl refl
+statement_seen (shapes.block b) = block_seen b
 statement_seen (shapes.if_only at e b a) = seen at _ _ false refl refl
 statement_seen (shapes.if_else at e b a) = seen at _ _ false refl refl
 statement_seen (shapes.while_loop at e b) = seen at _ _ false refl refl
 statement_seen (shapes.do_loop at e b) = seen at _ _ false refl refl
 statement_seen (shapes.switch_statement at at' e cs) = seen at _ _ false refl refl
+statement_seen (shapes.try_catch at b c a) = seen at _ _ false refl refl
+statement_seen (shapes.try_finally at b a f) = seen at _ _ false refl refl
+statement_seen (shapes.try_catch_finally at b c f) = seen at _ _ false refl refl
 statement_seen (shapes.labeled at i b) = seen at _ _ false refl refl
 
 -- a body behind a blank
@@ -113,6 +119,11 @@ else_laid : (after_block : Bool) {n : Node} {braced : Bool} → Seen n braced �
 unfolding render
 else_laid true {n} s d us ts e = within_there n s.there Else (free 0) (margin d) (render us) ∙ ap (λ z. codes " else" ++ z) (sym e)
 else_laid false {n} s d us ts e = within_there n s.there LineElse (free 0) (margin d) (render us) ∙ ap (λ z. codes "\n" ++ (margin d ++ (codes "else" ++ z))) (sym e)
+
+-- `finally` and its block
+finally_laid : {n : Node} {braced : Bool} → Seen n braced → (m : List ℕ) (us ts : Items) → codes " " ++ (laid n).at (At (free 0)) m (render us) ≡ render ts → (laid n).at (Within Finally (free 0)) m (render us) ≡ render (it blank (items.key (codes "finally")) ts)
+unfolding render
+finally_laid {n} s m us ts e = within_there n s.there Finally (free 0) m (render us) ∙ ap (λ z. codes " finally" ++ z) e
 
 branch_text : (after_block : Bool) (d : ℕ) (x : List ℕ) → behind_body after_block (margin d) x ≡ (let g = branch_gap after_block d in g.blanks ++ x)
 branch_text true d x = refl
@@ -196,6 +207,28 @@ mutual
       ∙ ap (λ z. codes "switch" ++ z)
       (ap (λ z. codes " (" ++ (laid t').at (At (free 0)) m (codes ") " ++ z)) (at_node at' kind.List cs' Block m (render us) ∙ in_braces cs' d (cases_tokens cs (suc d)) (cases_laid cs (suc d)) us)
       ∙ test_laid t m (it blank (sign (codes "{")) (cases_tokens cs (suc d) (it (closing_gap cs' d) (sign (codes "}")) us))))))
+  statement_laid (shapes.try_catch at {b = b'} {c = c'} b c (shapes.absent at')) d g us =
+      let m = margin d in
+      ap (λ z. g.blanks ++ z)
+      (sym (at_node at kind.TryStmt (b' ∷ c' ∷ node_of at' kind.Absent [] ∷ []) (At (free 0)) m (render us)
+      ∙ (ap (λ z. codes "try " ++ (laid b').at (At (free 0)) m ((laid c').at (Within Blank (free 0)) m z)) (at_node at' kind.Absent [] (Within Finally (free 0)) m (render us))
+      ∙ (ap (λ z. codes "try " ++ (laid b').at (At (free 0)) m z) (catch_laid c d us) ∙ ap (λ z. codes "try" ++ z) (block_laid b d blank (catch_tokens c d us))))))
+  statement_laid (shapes.try_finally at {b = b'} {f = f'} b (shapes.absent at') f) d g us =
+      let m = margin d in
+      let fs = block_tokens f d blank us in
+      let end = it blank (items.key (codes "finally")) fs in
+      ap (λ z. g.blanks ++ z)
+      (sym (at_node at kind.TryStmt (b' ∷ node_of at' kind.Absent [] ∷ f' ∷ []) (At (free 0)) m (render us)
+      ∙ (ap (λ z. codes "try " ++ (laid b').at (At (free 0)) m z) (at_node at' kind.Absent [] (Within Blank (free 0)) m ((laid f').at (Within Finally (free 0)) m (render us)) ∙ finally_laid (block_seen f) m us fs (block_laid f d blank us))
+      ∙ ap (λ z. codes "try" ++ z) (block_laid b d blank end))))
+  statement_laid (shapes.try_catch_finally at {b = b'} {c = c'} {f = f'} b c f) d g us =
+      let m = margin d in
+      let fs = block_tokens f d blank us in
+      let end = it blank (items.key (codes "finally")) fs in
+      ap (λ z. g.blanks ++ z)
+      (sym (at_node at kind.TryStmt (b' ∷ c' ∷ f' ∷ []) (At (free 0)) m (render us)
+      ∙ (ap (λ z. codes "try " ++ (laid b').at (At (free 0)) m ((laid c').at (Within Blank (free 0)) m z)) (finally_laid (block_seen f) m us fs (block_laid f d blank us))
+      ∙ (ap (λ z. codes "try " ++ (laid b').at (At (free 0)) m z) (catch_laid c d end) ∙ ap (λ z. codes "try" ++ z) (block_laid b d blank (catch_tokens c d end))))))
   statement_laid (shapes.labeled at {body = b'} (shapes.ident of w i) b) d g us =
       let m = margin d in
       ap (λ z. g.blanks ++ z)
@@ -229,6 +262,21 @@ mutual
   cases_laid : {cs : List Node} (is : AreCases cs) (d : ℕ) (us : Items) → new_lines (map laid cs) (margin d) (render us) ≡ render (cases_tokens is d us)
   cases_laid shapes.no_cases d us = refl
   cases_laid (shapes.more_cases {c = c'} c cs) d us = ap (λ z. codes "\n" ++ (margin d ++ (laid c').at (At (free 0)) (margin d) z)) (cases_laid cs d us) ∙ sym (case_laid c d (line_at d) (cases_tokens cs d us))
+
+  catch_laid : {n : Node} (is : IsCatch n) (d : ℕ) (us : Items) → (laid n).at (Within Blank (free 0)) (margin d) (render us) ≡ render (catch_tokens is d us)
+  catch_laid (shapes.catch_any at {b = b'} (shapes.absent at') b) d us =
+      let m = margin d in
+      let bs = block_tokens b d blank us in
+      at_node at kind.CatchClause (node_of at' kind.Absent [] ∷ b' ∷ []) (Within Blank (free 0)) m (render us)
+      ∙ ap (λ z. codes " catch" ++ z) (at_node at' kind.Absent [] (Within Parentheses (free 1)) m ((laid b').at (Within Blank (free 0)) m (render us)) ∙ body_laid (block_seen b) m us bs (sym (block_laid b d blank us)))
+  catch_laid (shapes.catch_name at at' {none = n'} {b = b'} (shapes.ident of w i) a b) d us =
+      let m = margin d in
+      let bs = block_tokens b d blank us in
+      let name = node_of of (kind.Ident w 0 false) [] in
+      at_node at kind.CatchClause (node_of at' kind.BindingIdent (name ∷ n' ∷ []) ∷ b' ∷ []) (Within Blank (free 0)) m (render us)
+      ∙ ap (λ z. codes " catch" ++ z)
+      (at_node at' kind.BindingIdent (name ∷ n' ∷ []) (Within Parentheses (free 1)) m ((laid b').at (Within Blank (free 0)) m (render us))
+      ∙ rw (laid_node of (kind.Ident w 0 false) []) (ap (λ z. codes " (" ++ (w ++ (codes ")" ++ z))) (body_laid (block_seen b) m us bs (sym (block_laid b d blank us)))))
 
   lined_laid : {ss : List Node} (is : AreStatements ss) (d : ℕ) (us : Items) → new_lines (map laid ss) (margin d) (render us) ≡ render (lined_tokens is d us)
   lined_laid shapes.no_statements d us = refl

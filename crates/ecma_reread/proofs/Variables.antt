@@ -60,7 +60,7 @@ other_declarations =
     functions.function_declaration // classes.class_declaration // marked classes.abstract_class_declaration // marked declarations.type_alias // marked declarations.interface
     // marked declarations.enum_ // marked declarations.namespace // marked (grammar.build form.Declared (grammar.behind_word (codes "declare") part.Declared))
 
-abbrev binding : List ℕ → Node
+abbrev pub binding : List ℕ → Node
 binding w = bare kind.BindingIdent (bare (kind.Ident w 0 false) [] ∷ absent ∷ [])
 
 declarator_made : (w : List ℕ) (init : Node) → made form.Declarator 0 0 (binding w ∷ absent ∷ absent ∷ init ∷ []) ≡ bare (kind.VarDeclarator false) (binding w ∷ init ∷ [])
@@ -79,7 +79,7 @@ module _ (assigned : Bool) where
   DeclaratorForms shapes.no_declarators = Unit {0}
   DeclaratorForms (shapes.more_declarators d ds) = DeclaratorForm d × DeclaratorForms ds
 
-  pattern_read : (w : List ℕ) → is_reserved w ≡ false → (g : Gap) (us : Items) → means assigned part.Pattern (it g (items.key w) us) ≡ read (binding w ∷ []) us
+  pub pattern_read : (w : List ℕ) → is_reserved w ≡ false → (g : Gap) (us : Items) → means assigned part.Pattern (it g (items.key w) us) ≡ read (binding w ∷ []) us
   unfolding pattern_body names.binding_ident
   pattern_read w n g us = rw (means_is assigned part.Pattern (it g (items.key w) us), n) refl
 

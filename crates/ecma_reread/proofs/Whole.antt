@@ -6,8 +6,8 @@ use Rattle.ecma_tree.specs.declared.node.Node.{Node}
 use Rattle.ecma_tree.specs.Nodes.{absent, list_node}
 use Rattle.ecma_tree.specs.Spans.{without_spans}
 use Rattle.ecma_reread.specs.Shapes as shapes
-use Rattle.ecma_reread.specs.Shapes.{Level, IsIdent, ident, IsKey, key, IsAbsent, IsExpression, IsElement, IsArguments, AreElements, AreExpressions, IsInitializer, IsDeclarator, AreDeclarators, Ending, IsStatement, IsBlock, AreStatements, AreSlots, IsCase, AreCases}
-use Rattle.ecma_reread.specs.Tokens.{bare, bare_ident, key_word, bare_expression, bare_element, bare_arguments, bare_elements, bare_expressions, bare_initializer, bare_declarator, bare_declarators, bare_statement, bare_block, bare_statements, bare_slots, bare_case, bare_cases}
+use Rattle.ecma_reread.specs.Shapes.{Level, IsIdent, ident, IsKey, key, IsAbsent, IsExpression, IsElement, IsArguments, AreElements, AreExpressions, IsInitializer, IsDeclarator, AreDeclarators, Ending, IsStatement, IsBlock, AreStatements, AreSlots, IsCase, AreCases, IsCatch}
+use Rattle.ecma_reread.specs.Tokens.{bare, bare_ident, key_word, bare_expression, bare_element, bare_arguments, bare_elements, bare_expressions, bare_initializer, bare_declarator, bare_declarators, bare_statement, bare_block, bare_statements, bare_slots, bare_case, bare_cases, bare_catch}
 use Rattle.ecma_reread.proofs.Unplaced.{without_spans-node}
 
 pub absent_bare : {n : Node} → IsAbsent n → without_spans n ≡ absent
@@ -114,6 +114,15 @@ mutual
   statement_bare (shapes.while_loop at e b) = without_spans-node at kind.WhileStmt _ ∙ ap₂ (λ x y. bare kind.WhileStmt (x ∷ y ∷ [])) (expression_bare e) (statement_bare b)
   statement_bare (shapes.do_loop at e b) = without_spans-node at kind.DoWhileStmt _ ∙ ap₂ (λ x y. bare kind.DoWhileStmt (x ∷ y ∷ [])) (expression_bare e) (statement_bare b)
   statement_bare (shapes.switch_statement at at' e cs) = without_spans-node at kind.SwitchStmt _ ∙ ap₂ (λ x y. bare kind.SwitchStmt (x ∷ y ∷ [])) (expression_bare e) (without_spans-node at' kind.List _ ∙ ap list_node (cases_bare cs))
+  statement_bare (shapes.try_catch at {none = n'} b c a) =
+      without_spans-node at kind.TryStmt _
+      ∙ (ap₂ (λ x y. bare kind.TryStmt (x ∷ y ∷ without_spans n' ∷ [])) (block_bare b) (catch_bare c) ∙ ap (λ z. bare kind.TryStmt (bare_block b ∷ bare_catch c ∷ z ∷ [])) (absent_bare a))
+  statement_bare (shapes.try_finally at {f = f'} b a f) =
+      without_spans-node at kind.TryStmt _
+      ∙ (ap₂ (λ x y. bare kind.TryStmt (x ∷ y ∷ without_spans f' ∷ [])) (block_bare b) (absent_bare a) ∙ ap (λ z. bare kind.TryStmt (bare_block b ∷ absent ∷ z ∷ [])) (block_bare f))
+  statement_bare (shapes.try_catch_finally at {f = f'} b c f) =
+      without_spans-node at kind.TryStmt _
+      ∙ (ap₂ (λ x y. bare kind.TryStmt (x ∷ y ∷ without_spans f' ∷ [])) (block_bare b) (catch_bare c) ∙ ap (λ z. bare kind.TryStmt (bare_block b ∷ bare_catch c ∷ z ∷ [])) (block_bare f))
   statement_bare (shapes.labeled at i b) = without_spans-node at kind.LabeledStmt _ ∙ ap₂ (λ x y. bare kind.LabeledStmt (x ∷ y ∷ [])) (ident_bare i) (statement_bare b)
 
   block_bare : {n : Node} (is : IsBlock n) → without_spans n ≡ bare_block is
@@ -126,6 +135,12 @@ mutual
   cases_bare : {cs : List Node} (is : AreCases cs) → map without_spans cs ≡ bare_cases is
   cases_bare shapes.no_cases = refl
   cases_bare (shapes.more_cases c cs) = ap₂ (λ x xs. x ∷ xs) (case_bare c) (cases_bare cs)
+
+  catch_bare : {n : Node} (is : IsCatch n) → without_spans n ≡ bare_catch is
+  catch_bare (shapes.catch_any at a b) = without_spans-node at kind.CatchClause _ ∙ ap₂ (λ x y. bare kind.CatchClause (x ∷ y ∷ [])) (absent_bare a) (block_bare b)
+  catch_bare (shapes.catch_name at at' i a b) =
+      without_spans-node at kind.CatchClause _
+      ∙ ap₂ (λ x y. bare kind.CatchClause (x ∷ y ∷ [])) (without_spans-node at' kind.BindingIdent _ ∙ ap₂ (λ x y. bare kind.BindingIdent (x ∷ y ∷ [])) (ident_bare i) (absent_bare a)) (block_bare b)
 
   statements_bare : {ss : List Node} (is : AreStatements ss) → map without_spans ss ≡ bare_statements is
   statements_bare shapes.no_statements = refl

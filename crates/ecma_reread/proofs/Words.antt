@@ -107,6 +107,18 @@ default_spelled : Spelled IsKey (codes "default")
 unfolding chars is_utf8 encode is_xid_start is_xid_continue in_ranges xid_start_ranges xid_continue_ranges
 default_spelled = (IsUtf8-from_is_utf8 (codes "default") refl, (refl, refl))
 
+try_spelled : Spelled IsKey (codes "try")
+unfolding chars is_utf8 encode is_xid_start is_xid_continue in_ranges xid_start_ranges xid_continue_ranges
+try_spelled = (IsUtf8-from_is_utf8 (codes "try") refl, (refl, refl))
+
+catch_spelled : Spelled IsKey (codes "catch")
+unfolding chars is_utf8 encode is_xid_start is_xid_continue in_ranges xid_start_ranges xid_continue_ranges
+catch_spelled = (IsUtf8-from_is_utf8 (codes "catch") refl, (refl, refl))
+
+finally_spelled : Spelled IsKey (codes "finally")
+unfolding chars is_utf8 encode is_xid_start is_xid_continue in_ranges xid_start_ranges xid_continue_ranges
+finally_spelled = (IsUtf8-from_is_utf8 (codes "finally") refl, (refl, refl))
+
 break_spelled : Spelled IsKey (codes "break")
 unfolding chars is_utf8 encode is_xid_start is_xid_continue in_ranges xid_start_ranges xid_continue_ranges
 break_spelled = (IsUtf8-from_is_utf8 (codes "break") refl, (refl, refl))
@@ -168,6 +180,9 @@ layout_words = record {
   switch_whole = whole (codes "switch") switch_spelled;
   case_whole = whole (codes "case") case_spelled;
   default_whole = whole (codes "default") default_spelled;
+  try_whole = whole (codes "try") try_spelled;
+  catch_whole = whole (codes "catch") catch_spelled;
+  finally_whole = whole (codes "finally") finally_spelled;
   break_whole = whole (codes "break") break_spelled;
   continue_whole = whole (codes "continue") continue_spelled;
   export_whole = whole (codes "export") export_spelled;

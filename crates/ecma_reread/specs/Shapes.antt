@@ -202,6 +202,9 @@ mutual
     while_loop : (at : Span) {level : Level} {ending : Ending} {test body : Node} → IsExpression level test → IsStatement ending body → IsStatement ending (node_of at kind.WhileStmt (test ∷ body ∷ []))
     do_loop : (at : Span) {level : Level} {ending : Ending} {test body : Node} → IsExpression level test → IsStatement ending body → IsStatement closed (node_of at kind.DoWhileStmt (test ∷ body ∷ []))
     switch_statement : (at of_list : Span) {level : Level} {test : Node} {cs : List Node} → IsExpression level test → AreCases cs → IsStatement closed (node_of at kind.SwitchStmt (test ∷ node_of of_list kind.List cs ∷ []))
+    try_catch : (at : Span) {b c none : Node} → IsBlock b → IsCatch c → IsAbsent none → IsStatement closed (node_of at kind.TryStmt (b ∷ c ∷ none ∷ []))
+    try_finally : (at : Span) {b none f : Node} → IsBlock b → IsAbsent none → IsBlock f → IsStatement closed (node_of at kind.TryStmt (b ∷ none ∷ f ∷ []))
+    try_catch_finally : (at : Span) {b c f : Node} → IsBlock b → IsCatch c → IsBlock f → IsStatement closed (node_of at kind.TryStmt (b ∷ c ∷ f ∷ []))
     labeled : (at : Span) {ending : Ending} {label body : Node} → IsIdent label → IsStatement ending body → IsStatement ending (node_of at kind.LabeledStmt (label ∷ body ∷ []))
 
   pub data IsBlock : Node → Type 0 where
@@ -214,6 +217,10 @@ mutual
   pub data AreCases : List Node → Type 0 where
     no_cases : AreCases []
     more_cases : {c : Node} {cs : List Node} → IsCase c → AreCases cs → AreCases (c ∷ cs)
+
+  pub data IsCatch : Node → Type 0 where
+    catch_any : (at : Span) {none b : Node} → IsAbsent none → IsBlock b → IsCatch (node_of at kind.CatchClause (none ∷ b ∷ []))
+    catch_name : (at at_binding : Span) {id none b : Node} → IsIdent id → IsAbsent none → IsBlock b → IsCatch (node_of at kind.CatchClause (node_of at_binding kind.BindingIdent (id ∷ none ∷ []) ∷ b ∷ []))
 
   pub data AreStatements : List Node → Type 0 where
     no_statements : AreStatements []

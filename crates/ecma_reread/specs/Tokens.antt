@@ -23,7 +23,7 @@ use Rattle.ecma_print.specs.Operators.{unary_sign, update_sign}
 use Rattle.ecma_print.specs.Statements.{keyword}
 use Rattle.ecma_tokens.specs.Items as items
 use Rattle.ecma_tokens.specs.Items.{Tok, sign, Gap, no_gap, Items, it}
-use Rattle.ecma_reread.specs.Shapes.{IsIdent, ident, IsKey, key, Level, IsExpression, looser, element, prefix_update, postfix_update, await_expression, unary_expression, binary_expression, exponentiation, both, either, coalesced, assignment_expression, conditional_expression, sequence_expression, name, string, number, this_word, big_int, null_word, true_word, false_word, member, call, parenthesized, IsElement, one, spread, IsArguments, no_arguments, arguments, AreElements, no_elements, more_elements, AreExpressions, no_expressions, more_expressions, IsInitializer, no_initializer, initializer, IsDeclarator, declarator, AreDeclarators, no_declarators, more_declarators, IsStatement, expression, declaration, empty, debugger_word, throw, return_value, return_nothing, break_nothing, continue_nothing, Ending, break_label, continue_label, block, if_only, if_else, while_loop, do_loop, labeled, IsBlock, block_of, AreStatements, no_statements, more_statements, array, AreSlots, no_slots, filled, hole, switch_statement, IsCase, case_of, default_of, AreCases, no_cases, more_cases, new_expression, new_alone, new_target}
+use Rattle.ecma_reread.specs.Shapes.{IsIdent, ident, IsKey, key, Level, IsExpression, looser, element, prefix_update, postfix_update, await_expression, unary_expression, binary_expression, exponentiation, both, either, coalesced, assignment_expression, conditional_expression, sequence_expression, name, string, number, this_word, big_int, null_word, true_word, false_word, member, call, parenthesized, IsElement, one, spread, IsArguments, no_arguments, arguments, AreElements, no_elements, more_elements, AreExpressions, no_expressions, more_expressions, IsInitializer, no_initializer, initializer, IsDeclarator, declarator, AreDeclarators, no_declarators, more_declarators, IsStatement, expression, declaration, empty, debugger_word, throw, return_value, return_nothing, break_nothing, continue_nothing, Ending, break_label, continue_label, block, if_only, if_else, while_loop, do_loop, labeled, IsBlock, block_of, AreStatements, no_statements, more_statements, array, AreSlots, no_slots, filled, hole, switch_statement, IsCase, case_of, default_of, AreCases, no_cases, more_cases, new_expression, new_alone, new_target, try_catch, try_finally, try_catch_finally, IsCatch, catch_any, catch_name}
 
 abbrev pub blank : Gap
 blank = record { blanks = codes " "; new_line = false }
@@ -232,6 +232,9 @@ abbrev mutual
   statement_tokens (while_loop at e b) d g us = it g (items.key (codes "while")) (test_tokens e (statement_tokens b d blank us))
   statement_tokens (do_loop at e b) d g us = it g (items.key (codes "do")) (statement_tokens b d blank (it (branch_gap (is_braced b) d) (items.key (codes "while")) (test_tokens e (sign_of (codes ";") us))))
   statement_tokens (switch_statement at at' {cs = cs'} e cs) d g us = it g (items.key (codes "switch")) (test_tokens e (it blank (sign (codes "{")) (cases_tokens cs (suc d) (it (closing_gap cs' d) (sign (codes "}")) us))))
+  statement_tokens (try_catch at b c a) d g us = it g (items.key (codes "try")) (block_tokens b d blank (catch_tokens c d us))
+  statement_tokens (try_finally at b a f) d g us = it g (items.key (codes "try")) (block_tokens b d blank (it blank (items.key (codes "finally")) (block_tokens f d blank us)))
+  statement_tokens (try_catch_finally at b c f) d g us = it g (items.key (codes "try")) (block_tokens b d blank (catch_tokens c d (it blank (items.key (codes "finally")) (block_tokens f d blank us))))
   statement_tokens (labeled at i b) d g us = it g (items.key (ident_word i)) (sign_of (codes ":") (statement_tokens b d blank us))
 
   pub block_tokens : {b : Node} → IsBlock b → ℕ → Gap → Items → Items
@@ -240,6 +243,10 @@ abbrev mutual
   pub case_tokens : {c : Node} → IsCase c → ℕ → Gap → Items → Items
   case_tokens (case_of at at' e ss) d g us = it g (items.key (codes "case")) (expression_tokens e blank (sign_of (codes ":") (lined_tokens ss (suc d) us)))
   case_tokens (default_of at at' a ss) d g us = it g (items.key (codes "default")) (sign_of (codes ":") (lined_tokens ss (suc d) us))
+
+  pub catch_tokens : {c : Node} → IsCatch c → ℕ → Items → Items
+  catch_tokens (catch_any at a b) d us = it blank (items.key (codes "catch")) (block_tokens b d blank us)
+  catch_tokens (catch_name at at' i a b) d us = it blank (items.key (codes "catch")) (it blank (sign (codes "(")) (it no_gap (items.key (ident_word i)) (sign_of (codes ")") (block_tokens b d blank us))))
 
   -- each on a line of its own
   pub cases_tokens : {cs : List Node} → AreCases cs → ℕ → Items → Items
@@ -367,6 +374,9 @@ abbrev mutual
   bare_statement (while_loop at e b) = bare kind.WhileStmt (bare_expression e ∷ bare_statement b ∷ [])
   bare_statement (do_loop at e b) = bare kind.DoWhileStmt (bare_expression e ∷ bare_statement b ∷ [])
   bare_statement (switch_statement at at' e cs) = bare kind.SwitchStmt (bare_expression e ∷ list_node (bare_cases cs) ∷ [])
+  bare_statement (try_catch at b c a) = bare kind.TryStmt (bare_block b ∷ bare_catch c ∷ absent ∷ [])
+  bare_statement (try_finally at b a f) = bare kind.TryStmt (bare_block b ∷ absent ∷ bare_block f ∷ [])
+  bare_statement (try_catch_finally at b c f) = bare kind.TryStmt (bare_block b ∷ bare_catch c ∷ bare_block f ∷ [])
   bare_statement (labeled at i b) = bare kind.LabeledStmt (bare_ident i ∷ bare_statement b ∷ [])
 
   pub bare_block : {b : Node} → IsBlock b → Node
@@ -379,6 +389,10 @@ abbrev mutual
   pub bare_cases : {cs : List Node} → AreCases cs → List Node
   bare_cases no_cases = []
   bare_cases (more_cases c cs) = bare_case c ∷ bare_cases cs
+
+  pub bare_catch : {c : Node} → IsCatch c → Node
+  bare_catch (catch_any at a b) = bare kind.CatchClause (absent ∷ bare_block b ∷ [])
+  bare_catch (catch_name at at' i a b) = bare kind.CatchClause (bare kind.BindingIdent (bare_ident i ∷ absent ∷ []) ∷ bare_block b ∷ [])
 
   pub bare_statements : {ss : List Node} → AreStatements ss → List Node
   bare_statements no_statements = []
