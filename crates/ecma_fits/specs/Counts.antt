@@ -4,7 +4,8 @@ use Rattle.std.specs.List.{list_all}
 use Rattle.ecma_kind.specs.declared.kind.Kind.{Kind}
 use Rattle.ecma_kind.specs.declared.kind.Kind.TheVariants as kind
 use Rattle.ecma_tree.specs.declared.node.Node.{Node, out-Node}
-use Rattle.ecma_rules.specs.Children.{kind_of, has_child, items_at}
+use Rattle.ecma_rules.specs.Children.{kind_of, child_holds, child_is, has_child, items_at}
+use Rattle.ecma_rules.specs.Targets.{is_key_value}
 
 abbrev pub ends_template : Kind → Bool
 ends_template (kind.TplElement raw cooked tail) = tail
@@ -67,6 +68,25 @@ abbrev pub are_exports : Bool → Bool → List Node → Bool
 are_exports has_source has_attributes specifiers =
     (are is_named_export specifiers || is_star_of has_source specifiers) && (has_source || not has_attributes)
 
+-- `with { .. }` holds keys and texts alone
+abbrev pub is_attribute_key : Kind → Bool
+is_attribute_key (kind.IdentName sym) = true
+is_attribute_key (kind.Str value raw) = true
+is_attribute_key _ = false
+
+abbrev pub is_text : Kind → Bool
+is_text (kind.Str value raw) = true
+is_text _ = false
+
+abbrev pub is_attribute : Node → Bool
+is_attribute node = is_key_value (kind_of node) && (child_is is_attribute_key node 0 && child_is is_text node 1)
+
+abbrev pub holds_attributes : Node → Bool
+holds_attributes object = list_all is_attribute (items_at object 0)
+
+abbrev pub has_attributes_at : ℕ → Node → Bool
+has_attributes_at i node = child_holds holds_attributes node i
+
 -- whether a node has what its production asks for
 unfoldable pub is_full_by : Kind → Node → Bool
 is_full_by kind.Tpl node = is_whole_template (items_at node 0) (items_at node 1)
@@ -75,8 +95,9 @@ is_full_by (kind.YieldExpr delegate) node = has_child node 0 || not delegate
 is_full_by (kind.ArrowExpr is_async is_generator) node = not is_generator
 is_full_by kind.TryStmt node = has_child node 1 || has_child node 2
 is_full_by (kind.VarDecl k declare) node = not (is_empty (items_at node 0))
-is_full_by (kind.ImportDecl type_only) node = are_imports (items_at node 0)
-is_full_by (kind.NamedExport type_only) node = are_exports (has_child node 1) (has_child node 2) (items_at node 0)
+is_full_by (kind.ImportDecl type_only) node = are_imports (items_at node 0) && has_attributes_at 2 node
+is_full_by (kind.NamedExport type_only) node = are_exports (has_child node 1) (has_child node 2) (items_at node 0) && has_attributes_at 2 node
+is_full_by (kind.ExportAll type_only) node = has_attributes_at 1 node
 is_full_by _ node = true
 
 -- one that has not

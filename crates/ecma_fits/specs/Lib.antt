@@ -1,5 +1,7 @@
 pub mod Roles
 pub mod Counts
 pub mod Branches
-pub mod Words
+pub mod Chains
+pub mod Members
+pub mod Strays
 pub mod Fitting

@@ -122,6 +122,7 @@ in_list role.DeclaredElements = role.DeclaredElement
 in_list role.DeclaredProperties = role.DeclaredProperty
 in_list role.AssignedElements = role.AssignedElement
 in_list role.AssignedProperties = role.AssignedProperty
+in_list role.TaggedTexts = role.TaggedText
 in_list _ = role.Free
 
 -- a pattern's parts, and its type, which one that is assigned to has not
@@ -138,6 +139,16 @@ in_rest r = by r role.Assigned role.Declared
 abbrev pub bound_name_of : Role → Role
 bound_name_of role.Parameter = role.NameOrThis
 bound_name_of _ = role.Free
+
+-- the text parts of a template
+abbrev pub in_template : Role → Role
+in_template role.Tagged = role.TaggedTexts
+in_template _ = role.Free
+
+-- a text part behind a tag
+abbrev pub is_tagged : Role → Bool
+is_tagged role.TaggedText = true
+is_tagged _ = false
 
 -- before a default
 abbrev pub in_default : Role → Role
@@ -182,4 +193,6 @@ role_in r (kind.ImportNamedSpecifier is_type_only) i = at_child 1 i role.Key
 role_in r (kind.ExportNamedSpecifier is_type_only) i = role.Key
 role_in r kind.ExportNamespaceSpecifier i = role.Key
 role_in r kind.TsEnumMember i = at_child 0 i role.Key
+role_in r kind.TaggedTpl i = at_child 2 i role.Tagged
+role_in r kind.Tpl i = at_child 1 i (in_template r)
 role_in r _ i = role.Free

@@ -1,7 +1,10 @@
 //! What the grammar asks of what stands directly in a node, beyond sorts.
 ghost use Rattle.std.specs.Prelude.{◌≡◌};
 ghost use Rattle.ecma_tree.specs.declared.node.Node.{out-Node};
-ghost use Rattle.ecma_fits.specs.Counts.{are, are_exports, are_imports, are_stars_or_names, ends_once, ends_template, is_default_import, is_empty, is_full_by, is_named_export, is_named_import, is_short, is_star_export, is_star_import, is_star_of, is_whole_template};
+ghost use Rattle.std.specs.List.{list_all};
+ghost use Rattle.ecma_rules.specs.Children.{child_is};
+ghost use Rattle.ecma_rules.specs.Targets.{is_key_value};
+ghost use Rattle.ecma_fits.specs.Counts.{are, are_exports, are_imports, are_stars_or_names, ends_once, ends_template, has_attributes_at, is_attribute, is_attribute_key, is_default_import, is_empty, is_full_by, is_named_export, is_named_import, is_short, is_star_export, is_star_import, is_star_of, is_text, is_whole_template};
 
 use ecma_rules::{has_child, items_at};
 use ecma_tree::{Kind, Node};
@@ -125,6 +128,70 @@ fn are_exports(has_source: bool, has_attributes: bool, specifiers: &[Node]) -> b
         && (has_source || !has_attributes)
 }
 
+fn is_attribute_key(kind: &Kind) -> bool
+    ensures { result ≡ is_attribute_key kind.now }
+{
+    matches!(kind, Kind::IdentName { .. } | Kind::Str { .. })
+}
+
+fn is_text(kind: &Kind) -> bool
+    ensures { result ≡ is_text kind.now }
+{
+    matches!(kind, Kind::Str { .. })
+}
+
+fn is_key_value(kind: &Kind) -> bool
+    ensures { result ≡ is_key_value kind.now }
+{
+    matches!(kind, Kind::KeyValueProp)
+}
+
+fn child_is_key(node: &Node) -> bool
+    ensures { result ≡ child_is is_attribute_key node.now 0 }
+{
+    match node.children.get(0) {
+        Some(child) => is_attribute_key(&child.kind),
+        None => false,
+    }
+}
+
+fn child_is_text(node: &Node) -> bool
+    ensures { result ≡ child_is is_text node.now 1 }
+{
+    match node.children.get(1) {
+        Some(child) => is_text(&child.kind),
+        None => false,
+    }
+}
+
+/// Whether a property is a key and a text, as an import attribute is.
+fn is_attribute(node: &Node) -> bool
+    ensures { result ≡ is_attribute node.now }
+{
+    is_key_value(&node.kind) && child_is_key(node) && child_is_text(node)
+}
+
+fn are_attributes(items: &[Node]) -> bool
+    ensures { result ≡ list_all is_attribute items.now }
+{
+    for item in items {
+        if !is_attribute(item) {
+            return false;
+        }
+    }
+    true
+}
+
+/// Whether the child at an index, if it is there, holds attributes alone.
+fn has_attributes_at(node: &Node, index: usize) -> bool
+    ensures { result ≡ has_attributes_at index node.now }
+{
+    match node.children.get(index) {
+        Some(object) => are_attributes(items_at(object, 0)),
+        None => false,
+    }
+}
+
 fn is_empty(nodes: &[Node]) -> bool
     ensures { result ≡ is_empty nodes.now }
 {
@@ -143,10 +210,12 @@ fn is_full(node: &Node) -> bool
         Kind::ArrowExpr { is_generator, .. } => !*is_generator,
         Kind::TryStmt => has_child(node, 1) || has_child(node, 2),
         Kind::VarDecl { .. } => !is_empty(items_at(node, 0)),
-        Kind::ImportDecl { .. } => are_imports(items_at(node, 0)),
+        Kind::ImportDecl { .. } => are_imports(items_at(node, 0)) && has_attributes_at(node, 2),
         Kind::NamedExport { .. } => {
             are_exports(has_child(node, 1), has_child(node, 2), items_at(node, 0))
+                && has_attributes_at(node, 2)
         }
+        Kind::ExportAll { .. } => has_attributes_at(node, 1),
         _ => true,
     }
 }

@@ -1,14 +1,17 @@
-//! Which finished trees have nodes that are what they have to be where they stand: docs/FITS.md.
+//! Which finished trees fit: docs/FITS.md.
 #![tactic(auto)]
 
 mod branches;
+mod chains;
 mod counts;
+mod members;
 mod role;
+mod strays;
 mod unfit;
-mod words;
 
 pub use role::Role;
-pub use unfit::{Where, first_unfit, has_fitting_nodes};
+pub use strays::Arguments;
+pub use unfit::{Where, first_unfit, fits};
 
 #[cfg(test)]
 mod tests;

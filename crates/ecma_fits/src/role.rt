@@ -2,7 +2,7 @@
 ghost use Rattle.std.specs.Prelude.{◌≡◌};
 ghost use Rattle.ecma_tree.specs.Sorted.{is_absent};
 ghost use Rattle.ecma_rules.specs.Targets.{is_plain};
-ghost use Rattle.ecma_fits.specs.Roles.{at_child, bound_name_of, by, in_default, in_list, in_pattern, in_rest, is_assigned, is_binding, is_bound_name, is_default, is_free, is_in, is_name, is_out_of_role, is_pattern, is_rest, is_variables, is_wrong_name, is_wrong_text, left_of, may_be, operand_of, role_in, takes};
+ghost use Rattle.ecma_fits.specs.Roles.{at_child, bound_name_of, by, in_default, in_list, in_pattern, in_rest, in_template, is_assigned, is_binding, is_bound_name, is_default, is_free, is_in, is_name, is_out_of_role, is_pattern, is_rest, is_tagged, is_variables, is_wrong_name, is_wrong_text, left_of, may_be, operand_of, role_in, takes};
 
 use ecma_lex::is_reserved;
 use ecma_rules::is_simple_target;
@@ -61,6 +61,12 @@ pub enum Role {
     AssignedProperties,
     /// A target that is no pattern, in a pattern that is assigned to.
     AssignedName,
+    /// A template behind a tag.
+    Tagged,
+    /// Its text parts.
+    TaggedTexts,
+    /// One of them.
+    TaggedText,
 }
 
 fn is_absent(kind: &Kind) -> bool
@@ -75,7 +81,7 @@ fn is_pattern(kind: &Kind) -> bool
     matches!(kind, Kind::ArrayPat { .. } | Kind::ObjectPat { .. })
 }
 
-fn is_bound_name(kind: &Kind) -> bool
+pub(crate) fn is_bound_name(kind: &Kind) -> bool
     ensures { result ≡ is_bound_name kind.now }
 {
     matches!(kind, Kind::BindingIdent)
@@ -188,7 +194,7 @@ pub(crate) fn is_out_of_role(role: Role, node: &Node) -> bool
         || !(may_be(role, &node.kind) || (takes(role, &node.kind) && is_simple_target(node)))
 }
 
-fn is_assigned(role: Role) -> bool
+pub(crate) fn is_assigned(role: Role) -> bool
     ensures { result ≡ is_assigned role }
 {
     matches!(
@@ -228,6 +234,7 @@ fn in_list(role: Role) -> Role
         Role::DeclaredProperties => Role::DeclaredProperty,
         Role::AssignedElements => Role::AssignedElement,
         Role::AssignedProperties => Role::AssignedProperty,
+        Role::TaggedTexts => Role::TaggedText,
         _ => Role::Free,
     }
 }
@@ -259,6 +266,23 @@ fn bound_name_of(role: Role) -> Role
         Role::Parameter => Role::NameOrThis,
         _ => Role::Free,
     }
+}
+
+/// The text parts of a template.
+fn in_template(role: Role) -> Role
+    ensures { result ≡ in_template role }
+{
+    match role {
+        Role::Tagged => Role::TaggedTexts,
+        _ => Role::Free,
+    }
+}
+
+/// Whether a text part stands behind a tag.
+pub(crate) fn is_tagged(role: Role) -> bool
+    ensures { result ≡ is_tagged role }
+{
+    matches!(role, Role::TaggedText)
 }
 
 fn in_default(role: Role) -> Role
@@ -338,6 +362,8 @@ pub(crate) fn role_in(role: Role, kind: &Kind, index: usize) -> Role
         Kind::ExportNamedSpecifier { .. } => Role::Key,
         Kind::ExportNamespaceSpecifier => Role::Key,
         Kind::TsEnumMember => at_child(0, index, Role::Key),
+        Kind::TaggedTpl => at_child(2, index, Role::Tagged),
+        Kind::Tpl => at_child(1, index, in_template(role)),
         _ => Role::Free,
     }
 }

@@ -80,7 +80,7 @@ fn let_go(_node: Node) {}
 fn told(alloc: Global, case: Case) -> Result<(Option<u32>, bool), NoMemory> {
     let items = Nodes::from_array(alloc, [made(alloc, case)?])?;
     let module = Node::module(alloc, at(0), None, items)?;
-    let answer = (first_unfit(&module), has_fitting_nodes(&module));
+    let answer = (first_unfit(&module), fits(&module));
     let_go(module);
     Ok(answer)
 }

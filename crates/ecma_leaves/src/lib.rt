@@ -1,0 +1,15 @@
+//! Whether leaves say what their source texts say.
+#![tactic(auto)]
+
+mod chars;
+mod escapes;
+mod parts;
+mod regexes;
+mod says;
+mod templates;
+mod words;
+
+pub use words::is_spelled;
+
+#[cfg(test)]
+mod tests;
