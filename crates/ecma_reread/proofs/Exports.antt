@@ -1,5 +1,8 @@
 -- Each form of export is read as it is laid out.
 use Rattle.std.proofs.Common.{◌≡◌, ℕ, true, false, nat_le, if◌then◌else◌, Bool, List, [], ◌∷◌, codes, refl, ap, ◌∙◌, append-nil}
+use Rattle.std.proofs.lemmas.Bool.{false≢true}
+use Rattle.ecma_kind.specs.declared.operators.VarDeclKind.{VarDeclKind}
+use Rattle.ecma_kind.specs.declared.operators.VarDeclKind.TheVariants.{Var, Let, Const}
 use Rattle.ecma_kind.specs.declared.kind.Kind.TheVariants as kind
 use Rattle.ecma_tree.specs.declared.node.Node.{Node}
 use Rattle.ecma_tree.specs.Nodes.{absent, list_node}
@@ -8,20 +11,26 @@ use Rattle.ecma_grammar.specs.declared.production.Plain.TheVariants as plain
 use Rattle.ecma_grammar.specs.declared.production.Form.TheVariants as form
 use Rattle.ecma_grammar.specs.Grammar.{Grammar, put, ◌▸◌, ◌//◌, punct, word}
 use Rattle.ecma_grammar.specs.productions.Names.{statement, end, module_export_name}
+use Rattle.ecma_grammar.specs.productions.Declarations.{declaration}
 use Rattle.ecma_grammar.specs.productions.Modules as productions
 use Rattle.ecma_grammar.specs.productions.Modules.{import_equals, from, export_specifier, export_names, export_star_as, export_star, export_default, export, module_item}
+use Rattle.ecma_print.specs.Statements.{keyword}
 use Rattle.ecma_tokens.specs.Items as items
 use Rattle.ecma_tokens.specs.Items.{Gap, Items, it}
 use Rattle.ecma_reread.specs.Machine.{fails, built_on, with_front, or_on, interp, means}
+use Rattle.ecma_reread.specs.Shapes as shapes
+use Rattle.ecma_reread.specs.Shapes.{Ending, IsStatement}
 use Rattle.ecma_reread.specs.Modules as modules
-use Rattle.ecma_reread.specs.Modules.{IsString, IsExportName, IsWithClause, IsNamedExport, AreNamedExports, IsExportClause}
-use Rattle.ecma_reread.specs.Tokens.{blank, sign_of, bare}
+use Rattle.ecma_reread.specs.Modules.{IsString, IsExportName, IsWithClause, IsNamedExport, AreNamedExports, IsExportClause, is_declaration}
+use Rattle.ecma_reread.specs.Tokens.{blank, sign_of, statement_tokens, bare, bare_statement}
 use Rattle.ecma_reread.specs.ModuleTokens.{spaced, spaced_word, spaced_sign, export_name_token, from_tokens, named_export_tokens, more_exports_tokens, export_clause_tokens, bare_string, bare_export_name, bare_with, bare_named_export, bare_named_exports, bare_export_clause}
 use Rattle.ecma_reread.proofs.Moves.{eats}
 use Rattle.ecma_reread.proofs.Fronts.{exactly, at_token}
 use Rattle.ecma_reread.proofs.Towers.{without, skipped}
 use Rattle.ecma_reread.proofs.Forms.{Reads, Refuses}
 use Rattle.ecma_reread.proofs.Repeats.{Repeats, repeats_end, repeats_more, repeated}
+use Rattle.ecma_reread.proofs.Variables.{declaration_read}
+use Rattle.ecma_reread.proofs.StatementForms.{declarator_form, declarator_forms}
 use Rattle.ecma_reread.proofs.Sources.{from_read}
 
 specifier_eats : nat_le 1 (eats (punct (codes ",") ▸ export_specifier)) ≡ true
@@ -132,3 +141,41 @@ module _ (assigned : Bool) where
       → Reads assigned module_item (it g (items.key (codes "export")) (spaced_sign (codes "*") (from_tokens source w (sign_of (codes ";") us)))) (bare (kind.ExportAll false) (bare_string source ∷ bare_with w ∷ []) ∷ []) us
   unfolding export export_default export_names export_star_as export_star
   export_all_read source w g us = export_item g (spaced_sign (codes "*") (from_tokens source w (sign_of (codes ";") us))) _ us refl (rw (from_read assigned source w us) refl)
+
+  -- declarations
+
+  no_names : (us : Items) → Refuses assigned (punct (codes "{")) us → Refuses assigned export_names us
+  unfolding export_names
+  no_names us h = rw h refl
+
+  no_star_as : (us : Items) → Refuses assigned (punct (codes "*")) us → Refuses assigned export_star_as us
+  unfolding export_star_as
+  no_star_as us h = rw h refl
+
+  no_star : (us : Items) → Refuses assigned (punct (codes "*")) us → Refuses assigned export_star us
+  unfolding export_star
+  no_star us h = rw h refl
+
+  -- what stands behind `export` is none of its other alternatives
+  record Declared (us : Items) : Type 0 where
+    pub no_import : Refuses assigned (word (codes "import")) us
+    pub no_default_word : Refuses assigned (word (codes "default")) us
+    pub no_brace : Refuses assigned (punct (codes "{")) us
+    pub no_asterisk : Refuses assigned (punct (codes "*")) us
+    pub no_equals : Refuses assigned (punct (codes "=")) us
+
+  declaration_item : (g : Gap) (us : Items) (n : Node) (vs : Items) → Declared us → Reads assigned declaration us (n ∷ []) vs → Reads assigned module_item (it g (items.key (codes "export")) us) (bare kind.ExportDecl (n ∷ []) ∷ []) vs
+  unfolding export
+  declaration_item g us n vs D h =
+      export_item g us _ vs D.no_import (rw (no_default g us D.no_default_word, no_names us D.no_brace, no_star_as us D.no_asterisk, no_star us D.no_asterisk, D.no_equals, never assigned, h) refl)
+
+  keyword_declared : (k : VarDeclKind) (us : Items) → Declared (spaced_word (keyword k) us)
+  keyword_declared Var us = record { no_import = refl; no_default_word = refl; no_brace = refl; no_asterisk = refl; no_equals = refl }
+  keyword_declared Let us = record { no_import = refl; no_default_word = refl; no_brace = refl; no_asterisk = refl; no_equals = refl }
+  keyword_declared Const us = record { no_import = refl; no_default_word = refl; no_brace = refl; no_asterisk = refl; no_equals = refl }
+
+  pub export_declaration_read : {ending : Ending} {n : Node} (is : IsStatement ending n) → is_declaration is ≡ true → (g : Gap) (us : Items)
+      → Reads assigned module_item (it g (items.key (codes "export")) (statement_tokens is 0 blank us)) (bare kind.ExportDecl (bare_statement is ∷ []) ∷ []) us
+  export_declaration_read (shapes.declaration at at' k d ds) z g us =
+      declaration_item g _ _ us (keyword_declared k _) (declaration_read assigned k d ds (declarator_form assigned d) (declarator_forms assigned ds) blank us)
+  export_declaration_read is z g us = absurd (false≢true z)

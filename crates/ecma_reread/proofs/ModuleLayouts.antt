@@ -14,7 +14,7 @@ use Rattle.ecma_tokens.specs.Items.{Gap, no_gap, Items, token_text, render}
 use Rattle.ecma_reread.specs.Shapes.{ident, key, absent}
 use Rattle.ecma_reread.specs.Modules as modules
 use Rattle.ecma_reread.specs.Modules.{IsString, IsExportName, IsAttribute, AreAttributes, IsWithClause, IsNamedImport, AreNamedImports, IsImportClause, IsNamedExport, AreNamedExports, IsExportClause, IsModuleItem, AreModuleItems, IsModule}
-use Rattle.ecma_reread.specs.Tokens.{line, sign_of}
+use Rattle.ecma_reread.specs.Tokens.{blank, line, sign_of}
 use Rattle.ecma_reread.specs.ModuleTokens.{spaced_word, spaced_sign, string_raw, export_name_token, attribute_tokens, more_attributes_tokens, with_tokens, source_tokens, named_import_tokens, more_imports_tokens, named_imports_tokens, import_clause_tokens, item_tokens, items_tokens, module_tokens, from_tokens, named_export_tokens, more_exports_tokens, export_clause_tokens}
 use Rattle.ecma_reread.proofs.Layouts.{laid_node, at_node}
 use Rattle.ecma_reread.proofs.StatementLayouts.{statement_laid}
@@ -186,6 +186,8 @@ item_laid (modules.export_namespace at at' of {name = name} {source = source} {a
     ∙ ap (λ z. codes "export " ++ z) (at_node at' kind.List names Exports [] (render rest) ∙ rw (laid_node of kind.ExportNamespaceSpecifier (name ∷ [])) (ap (λ z. codes "* as " ++ z) (export_name_at x [] (render rest)))))))
 item_laid (modules.export_all at {source = source} {attributes = attributes} s w) g us =
     ap (λ z. g.blanks ++ z) (sym (at_node at (kind.ExportAll false) (source ∷ attributes ∷ []) (At (free 0)) [] (render us) ∙ ap (λ z. codes "export * from" ++ z) (source_laid s w [] us)))
+item_laid (modules.export_declaration at {s = s} is d) g us =
+    ap (λ z. g.blanks ++ z) (sym (at_node at kind.ExportDecl (s ∷ []) (At (free 0)) [] (render us) ∙ ap (λ z. codes "export" ++ z) (sym (statement_laid is 0 blank us))))
 
 lines_laid : {ns : List Node} (is : AreModuleItems ns) (g : Gap) → render (items_tokens is g) ≡ g.blanks ++ lines (map laid ns) [] []
 unfolding render

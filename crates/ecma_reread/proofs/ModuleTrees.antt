@@ -88,6 +88,7 @@ item_bare (modules.export_namespace at at' of {name = name} x s w) =
     sourced_bare (kind.NamedExport false) at at' _ _ (node_of of kind.ExportNamespaceSpecifier (name ∷ []) ∷ []) _ _ _
     (ap (λ x. x ∷ []) (without_spans-node of kind.ExportNamespaceSpecifier _ ∙ ap (λ x. bare kind.ExportNamespaceSpecifier (x ∷ [])) (export_name_bare x))) (string_bare s) (with_bare w)
 item_bare (modules.export_all at s w) = without_spans-node at (kind.ExportAll false) _ ∙ ap₂ (λ x y. bare (kind.ExportAll false) (x ∷ y ∷ [])) (string_bare s) (with_bare w)
+item_bare (modules.export_declaration at is d) = without_spans-node at kind.ExportDecl _ ∙ ap (λ x. bare kind.ExportDecl (x ∷ [])) (statement_bare is)
 
 items_bare : {ns : List Node} (is : AreModuleItems ns) → map without_spans ns ≡ bare_items is
 items_bare modules.no_items = refl

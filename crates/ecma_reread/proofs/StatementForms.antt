@@ -23,10 +23,10 @@ module _ (assigned : Bool) where
   initializer_form (shapes.no_initializer a) = tt
   initializer_form (shapes.initializer e) = expression_form assigned e
 
-  declarator_form : {n : Node} (is : IsDeclarator n) → DeclaratorForm assigned is
+  pub declarator_form : {n : Node} (is : IsDeclarator n) → DeclaratorForm assigned is
   declarator_form (shapes.declarator at at' i a e) = initializer_form e
 
-  declarator_forms : {ds : List Node} (is : AreDeclarators ds) → DeclaratorForms assigned is
+  pub declarator_forms : {ds : List Node} (is : AreDeclarators ds) → DeclaratorForms assigned is
   declarator_forms shapes.no_declarators = tt
   declarator_forms (shapes.more_declarators d ds) = (declarator_form d, declarator_forms ds)
 

@@ -24,7 +24,7 @@ Wide g = (t u : Tok) → joins t g u ≡ true
 pub line_wide : (d : ℕ) → Wide (line_at d)
 line_wide d t u = refl
 
-blank_wide : Wide blank
+pub blank_wide : Wide blank
 blank_wide t u = refl
 
 margin_blank : (d : ℕ) → list_all is_gap_character (margin d) ≡ true

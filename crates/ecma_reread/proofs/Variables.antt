@@ -128,10 +128,14 @@ module _ (assigned : Bool) where
       (ap (built_on (form.Node (plain.VarDecl Let))) (ap (with_front []) (declarators_read i is S T us)))
   variables_read Const i is S T g us = ap (built_on (form.Node (plain.VarDecl Const))) (ap (with_front []) (declarators_read i is S T us))
 
+  pub declaration_read : (k : VarDeclKind) {d : Node} {ds : List Node} (i : IsDeclarator d) (is : AreDeclarators ds) → DeclaratorForm i → DeclaratorForms is → (g : Gap) (us : Items)
+      → Reads assigned declaration (it g (items.key (keyword k)) (declarator_tokens i (declarators_tokens is (s (codes ";") us)))) (bare (kind.VarDecl k false) (list_node (bare_declarator i ∷ bare_declarators is) ∷ []) ∷ []) us
+  unfolding declaration
+  declaration_read k i is S T g us = ap (or_on (interp assigned (means assigned) other_declarations) (it g (items.key (keyword k)) (declarator_tokens i (declarators_tokens is (s (codes ";") us))))) (variables_read k i is S T g us)
+
   pub declaration_form : (k : VarDeclKind) {d : Node} {ds : List Node} (i : IsDeclarator d) (is : AreDeclarators ds) → DeclaratorForm i → DeclaratorForms is
       → ReadAsStatement assigned shapes.closed (λ g us. it g (items.key (keyword k)) (declarator_tokens i (declarators_tokens is (s (codes ";") us)))) (bare (kind.VarDecl k false) (list_node (bare_declarator i ∷ bare_declarators is) ∷ []))
-  unfolding statement_body declaration
+  unfolding statement_body
   declaration_form k i is S T =
       let D = keyword_declares k in
-      token_form assigned 11 declaration expression_statement refl (items.key (keyword k)) D.no_statement D.no_item D.closes
-      (λ g us e b z. ap (or_on (interp assigned (means assigned) other_declarations) (it g (items.key (keyword k)) (declarator_tokens i (declarators_tokens is (s (codes ";") us))))) (variables_read k i is S T g us))
+      token_form assigned 11 declaration expression_statement refl (items.key (keyword k)) D.no_statement D.no_item D.closes (λ g us e b z. declaration_read k i is S T g us)

@@ -1,5 +1,5 @@
 -- The trees of modules (ECMAScript, 16.2), a constructor for each form of their items.
-use Rattle.std.specs.Prelude.{ℕ, ◌-◌, false, List, [], ◌∷◌, length, Some, None}
+use Rattle.std.specs.Prelude.{◌≡◌, ℕ, ◌-◌, Bool, true, false, List, [], ◌∷◌, length, Some, None}
 use Rattle.ecma_lex.specs.Text.{piece}
 use Rattle.ecma_lex.specs.Keys.{key_end}
 use Rattle.ecma_lex.specs.Strings.{str_end, str_value}
@@ -8,7 +8,7 @@ use Rattle.ecma_kind.specs.declared.kind.Kind.TheVariants as kind
 use Rattle.ecma_tree.specs.declared.node.Node.{Node}
 use Rattle.ecma_tree.specs.Nodes.{node_of}
 use Rattle.ecma_tokens.specs.Good.{IsToken}
-use Rattle.ecma_reread.specs.Shapes.{IsIdent, IsKey, IsAbsent, Ending, IsStatement}
+use Rattle.ecma_reread.specs.Shapes.{IsIdent, IsKey, IsAbsent, Ending, IsStatement, declaration}
 
 pub data IsString : Node → Type 0 where
   string_literal : (at : Span) (raw : List ℕ) → IsToken str_end raw → IsString (node_of at (kind.Str (str_value (piece raw 1 (length raw - 1))) (Some raw)) [])
@@ -74,6 +74,11 @@ pub data IsExportClause : List Node → Type 0 where
   export_nothing : IsExportClause []
   export_names : {n : Node} {ns : List Node} → IsNamedExport n → AreNamedExports ns → IsExportClause (n ∷ ns)
 
+-- what stands behind `export` as it is
+abbrev pub is_declaration : {ending : Ending} {s : Node} → IsStatement ending s → Bool
+is_declaration (declaration at at' k d ds) = true
+is_declaration s = false
+
 -- modules
 
 pub data IsModuleItem : Node → Type 0 where
@@ -89,6 +94,7 @@ pub data IsModuleItem : Node → Type 0 where
   export_namespace : (at of_list of_name : Span) {name source attributes : Node} → IsExportName name → IsString source → IsWithClause attributes
       → IsModuleItem (node_of at (kind.NamedExport false) (node_of of_list kind.List (node_of of_name kind.ExportNamespaceSpecifier (name ∷ []) ∷ []) ∷ source ∷ attributes ∷ []))
   export_all : (at : Span) {source attributes : Node} → IsString source → IsWithClause attributes → IsModuleItem (node_of at (kind.ExportAll false) (source ∷ attributes ∷ []))
+  export_declaration : (at : Span) {ending : Ending} {s : Node} (is : IsStatement ending s) → is_declaration is ≡ true → IsModuleItem (node_of at kind.ExportDecl (s ∷ []))
 
 pub data AreModuleItems : List Node → Type 0 where
   no_items : AreModuleItems []
