@@ -15,7 +15,7 @@ use Rattle.ecma_kind.specs.declared.kind.Kind.{Kind}
 use Rattle.ecma_kind.specs.declared.kind.Kind.TheVariants as kind
 use Rattle.ecma_tree.specs.declared.node.Node.{Node, fold-roll-Node}
 use Rattle.ecma_tree.specs.Nodes.{node_of}
-use Rattle.ecma_print.specs.declared.place.Begins.TheVariants.{StatementStart}
+use Rattle.ecma_print.specs.declared.place.Begins.TheVariants.{StatementStart, DefaultStart}
 use Rattle.ecma_print.specs.declared.place.Beside.{Beside}
 use Rattle.ecma_print.specs.declared.place.Beside.TheVariants.{UnderLogical, UnderNullish, NoNeighbor, BeforeDot, BeforeLink, BehindMinus, BehindPlus}
 use Rattle.ecma_print.specs.declared.place.Between.{Between}
@@ -288,6 +288,9 @@ calm_1 = quiet refl refl refl refl
 -- further on in what stands at a spot
 pub further : (spot : Spot) → spot.without_in ≡ false → Calm shapes.assignment (right spot 1 NoNeighbor)
 further spot h = quiet refl h refl refl
+
+pub calm_default : Calm shapes.assignment (beginning 1 DefaultStart false)
+calm_default = quiet refl refl refl refl
 
 pub calm_start : (l : Level) → Calm l (beginning 0 StatementStart false)
 calm_start l = quiet (low_0 l) refl refl refl

@@ -11,7 +11,7 @@ use Rattle.ecma_reread.specs.Modules as modules
 use Rattle.ecma_reread.specs.Modules.{IsString, IsExportName, IsAttributeKey, IsAttribute, AreAttributes, IsWithClause, IsDefaultImport, IsNamespaceImport, IsNamedImport, AreNamedImports, IsImportClause, IsModuleItem, AreModuleItems, IsModule, IsNamedExport, AreNamedExports, IsExportClause}
 use Rattle.ecma_reread.specs.Tokens.{blank, line, sign_of, ident_word}
 use Rattle.ecma_reread.specs.ModuleTokens.{spaced, spaced_sign, string_raw, export_name_token, attribute_key_token, attribute_tokens, more_attributes_tokens, with_tokens, source_tokens, default_import_tokens, namespace_import_tokens, named_import_tokens, more_imports_tokens, named_imports_tokens, import_clause_tokens, item_tokens, items_tokens, module_tokens, spaced_word, from_tokens, named_export_tokens, more_exports_tokens, export_clause_tokens}
-use Rattle.ecma_reread.proofs.Joins.{Words, no_gap_is, blank_is, ident_whole, key_whole}
+use Rattle.ecma_reread.proofs.Joins.{Words, semicolon, blank_joins, expression_joined, no_gap_is, blank_is, ident_whole, key_whole}
 use Rattle.ecma_reread.proofs.StatementJoins.{line_wide, blank_wide, line_is, Apart, statement_apart, ended, statement_joined}
 
 item_apart : {n : Node} (is : IsModuleItem n) (us : Items) → Apart (item_tokens is line us)
@@ -23,6 +23,7 @@ item_apart (modules.export_bindings_from at at' c s w) us t = refl
 item_apart (modules.export_namespace at at' of x s w) us t = refl
 item_apart (modules.export_all at s w) us t = refl
 item_apart (modules.export_declaration at is d) us t = refl
+item_apart (modules.export_default at e) us t = refl
 
 items_apart : {ns : List Node} (is : AreModuleItems ns) → Apart (items_tokens is line)
 items_apart modules.no_items t = refl
@@ -175,6 +176,9 @@ module _ (words : Words) where
       (h, words.export_whole, refl, (blank_is, refl, refl, (blank_is, words.as_whole, refl, (blank_is, export_name_fine x, export_name_joins x (from_tokens s w (sign_of (codes ";") us)) parted, from_joined s w us (ended words us a j)))))
   item_joined (modules.export_all at s w) g h us a j = (h, words.export_whole, refl, (blank_is, refl, refl, from_joined s w us (ended words us a j)))
   item_joined (modules.export_declaration at is d) g h us a j = (h, words.export_whole, statement_apart is 0 blank blank_wide us (items.key (codes "export")), statement_joined words is 0 blank blank_is us a j)
+  item_joined (modules.export_default at e) g h us a j =
+      let after = sign_of (codes ";") us in
+      (h, words.export_whole, refl, (blank_is, words.default_whole, blank_joins (items.key (codes "default")) e after, expression_joined words e blank blank_is after semicolon (ended words us a j)))
 
   items_joined : {ns : List Node} (is : AreModuleItems ns) (g : Gap) → IsGap g → Joined (items_tokens is g)
   unfolding punctuators

@@ -3,10 +3,11 @@ use Rattle.std.proofs.Common.{◌≡◌, ℕ, true, false, List, [], ◌∷◌, 
 use Rattle.ecma_kind.specs.declared.kind.Kind.TheVariants as kind
 use Rattle.ecma_tree.specs.declared.node.Node.{Node}
 use Rattle.ecma_tree.specs.Nodes.{node_of}
+use Rattle.ecma_print.specs.declared.place.Begins.TheVariants.{DefaultStart}
 use Rattle.ecma_print.specs.declared.place.Between.{Between}
 use Rattle.ecma_print.specs.declared.place.Between.TheVariants.{Attributes, From, As, BeforeAs}
 use Rattle.ecma_print.specs.declared.place.Place.TheVariants.{At, Within, Braces, Lines, Imports, Exports}
-use Rattle.ecma_print.specs.Places.{free, before, after}
+use Rattle.ecma_print.specs.Places.{free, beginning, before, after}
 use Rattle.ecma_print.specs.Laid.{is_named}
 use Rattle.ecma_print.specs.Lists.{lines, more_commas, specifiers, more_specifiers, imports, exports}
 use Rattle.ecma_print.specs.Layout.{laid, layout}
@@ -16,7 +17,7 @@ use Rattle.ecma_reread.specs.Modules as modules
 use Rattle.ecma_reread.specs.Modules.{IsString, IsExportName, IsAttribute, AreAttributes, IsWithClause, IsNamedImport, AreNamedImports, IsImportClause, IsNamedExport, AreNamedExports, IsExportClause, IsModuleItem, AreModuleItems, IsModule}
 use Rattle.ecma_reread.specs.Tokens.{blank, line, sign_of}
 use Rattle.ecma_reread.specs.ModuleTokens.{spaced_word, spaced_sign, string_raw, export_name_token, attribute_tokens, more_attributes_tokens, with_tokens, source_tokens, named_import_tokens, more_imports_tokens, named_imports_tokens, import_clause_tokens, item_tokens, items_tokens, module_tokens, from_tokens, named_export_tokens, more_exports_tokens, export_clause_tokens}
-use Rattle.ecma_reread.proofs.Layouts.{laid_node, at_node}
+use Rattle.ecma_reread.proofs.Layouts.{laid_node, at_node, calm_default, gap_out, expression_laid}
 use Rattle.ecma_reread.proofs.StatementLayouts.{statement_laid}
 
 string_laid : {n : Node} (s : IsString n) (m rest : List ℕ) → (laid n).at (At (free 0)) m rest ≡ string_raw s ++ rest
@@ -188,6 +189,11 @@ item_laid (modules.export_all at {source = source} {attributes = attributes} s w
     ap (λ z. g.blanks ++ z) (sym (at_node at (kind.ExportAll false) (source ∷ attributes ∷ []) (At (free 0)) [] (render us) ∙ ap (λ z. codes "export * from" ++ z) (source_laid s w [] us)))
 item_laid (modules.export_declaration at {s = s} is d) g us =
     ap (λ z. g.blanks ++ z) (sym (at_node at kind.ExportDecl (s ∷ []) (At (free 0)) [] (render us) ∙ ap (λ z. codes "export" ++ z) (sym (statement_laid is 0 blank us))))
+item_laid (modules.export_default at {e = e'} e) g us =
+    ap (λ z. g.blanks ++ z)
+    (sym (at_node at kind.ExportDefaultExpr (e' ∷ []) (At (free 0)) [] (render us)
+    ∙ (ap (λ z. codes "export default " ++ z) (expression_laid e (beginning 1 DefaultStart false) calm_default [] (sign_of (codes ";") us))
+    ∙ ap (λ z. codes "export default" ++ z) (sym (gap_out e blank (sign_of (codes ";") us))))))
 
 lines_laid : {ns : List Node} (is : AreModuleItems ns) (g : Gap) → render (items_tokens is g) ≡ g.blanks ++ lines (map laid ns) [] []
 unfolding render

@@ -42,7 +42,7 @@ use Rattle.ecma_reread.proofs.Statements.{item_read, closes_any}
 use Rattle.ecma_reread.proofs.Imports.{import_alone_read, import_bindings_read}
 use Rattle.ecma_reread.proofs.Blocks.{Closing}
 use Rattle.ecma_reread.proofs.StatementForms.{statement_form}
-use Rattle.ecma_reread.proofs.Exports.{export_bindings_read, export_bindings_from_read, export_namespace_read, export_all_read, export_declaration_read}
+use Rattle.ecma_reread.proofs.Exports.{export_bindings_read, export_bindings_from_read, export_namespace_read, export_all_read, export_declaration_read, export_default_read}
 
 -- no statement stands at the end of a text
 
@@ -88,6 +88,7 @@ module _ (assigned : Bool) where
   item_closing (shapes.export_namespace at at' of x s w) us = record { front = exactly (items.key (codes "export")); begins = at_token; closes = refl }
   item_closing (shapes.export_all at s w) us = record { front = exactly (items.key (codes "export")); begins = at_token; closes = refl }
   item_closing (shapes.export_declaration at is d) us = record { front = exactly (items.key (codes "export")); begins = at_token; closes = refl }
+  item_closing (shapes.export_default at e) us = record { front = exactly (items.key (codes "export")); begins = at_token; closes = refl }
 
   items_closing : {ns : List Node} (is : AreModuleItems ns) → Closing (items_tokens is line)
   items_closing shapes.no_items = record { front = the_end; begins = at_end; closes = refl }
@@ -105,6 +106,7 @@ module _ (assigned : Bool) where
   module_item_read (shapes.export_namespace at at' of x s w) g us z = export_namespace_read assigned x s w g us
   module_item_read (shapes.export_all at s w) g us z = export_all_read assigned s w g us
   module_item_read (shapes.export_declaration at is d) g us z = export_declaration_read assigned is d g us
+  module_item_read (shapes.export_default at e) g us z = export_default_read assigned e g us
 
   items_read : {ns : List Node} (is : AreModuleItems ns) (g : Gap) → Repeats assigned module_item (items_tokens is g) (bare_items is) (ends (last_gap is g))
   items_read shapes.no_items g = repeats_end assigned module_item (ends g) (no_item_at_end g)

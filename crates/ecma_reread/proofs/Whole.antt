@@ -20,7 +20,7 @@ pub key_bare : {n : Node} (k : IsKey n) → without_spans n ≡ bare (kind.Ident
 key_bare (key at w t) = without_spans-node at _ []
 
 mutual
-  expression_bare : {level : Level} {e : Node} (is : IsExpression level e) → without_spans e ≡ bare_expression is
+  pub expression_bare : {level : Level} {e : Node} (is : IsExpression level e) → without_spans e ≡ bare_expression is
   expression_bare (shapes.name i) = ident_bare i
   expression_bare (shapes.string at raw t) = without_spans-node at _ []
   expression_bare (shapes.number at raw t) = without_spans-node at _ []

@@ -7,8 +7,8 @@ use Rattle.ecma_tree.specs.declared.node.Node.{Node}
 use Rattle.ecma_tree.specs.Nodes.{absent, list_node}
 use Rattle.ecma_tokens.specs.Items as items
 use Rattle.ecma_tokens.specs.Items.{Tok, sign, Gap, no_gap, Items, ends, it}
-use Rattle.ecma_reread.specs.Modules.{IsString, string_literal, IsExportName, word_name, string_name, IsAttributeKey, word_key, string_key, IsAttribute, attribute, AreAttributes, no_attributes, more_attributes, IsWithClause, no_with, with_nothing, with_attributes, IsDefaultImport, default_import, IsNamespaceImport, namespace_import, IsNamedImport, same_import, other_import, AreNamedImports, no_imports, more_imports, IsImportClause, import_default, import_namespace, import_names, import_default_and_namespace, import_default_and_names, IsNamedExport, same_export, other_export, AreNamedExports, no_exports, more_exports, IsExportClause, export_nothing, export_names, IsModuleItem, statement, import_alone, import_bindings, export_bindings, export_bindings_from, export_namespace, export_all, export_declaration, AreModuleItems, no_items, more_items, IsModule, module_of}
-use Rattle.ecma_reread.specs.Tokens.{blank, line, sign_of, ident_word, key_word, statement_tokens, bare, bare_ident, bare_statement}
+use Rattle.ecma_reread.specs.Modules.{IsString, string_literal, IsExportName, word_name, string_name, IsAttributeKey, word_key, string_key, IsAttribute, attribute, AreAttributes, no_attributes, more_attributes, IsWithClause, no_with, with_nothing, with_attributes, IsDefaultImport, default_import, IsNamespaceImport, namespace_import, IsNamedImport, same_import, other_import, AreNamedImports, no_imports, more_imports, IsImportClause, import_default, import_namespace, import_names, import_default_and_namespace, import_default_and_names, IsNamedExport, same_export, other_export, AreNamedExports, no_exports, more_exports, IsExportClause, export_nothing, export_names, IsModuleItem, statement, import_alone, import_bindings, export_bindings, export_bindings_from, export_namespace, export_all, export_declaration, export_default, AreModuleItems, no_items, more_items, IsModule, module_of}
+use Rattle.ecma_reread.specs.Tokens.{blank, line, sign_of, ident_word, key_word, expression_tokens, statement_tokens, bare, bare_ident, bare_expression, bare_statement}
 
 -- a token behind a blank
 abbrev pub spaced : Tok → Items → Items
@@ -95,6 +95,7 @@ item_tokens (export_bindings_from at at' c s w) g us = it g (items.key (codes "e
 item_tokens (export_namespace at at' of x s w) g us = it g (items.key (codes "export")) (spaced_sign (codes "*") (spaced_word (codes "as") (spaced (export_name_token x) (from_tokens s w (sign_of (codes ";") us)))))
 item_tokens (export_all at s w) g us = it g (items.key (codes "export")) (spaced_sign (codes "*") (from_tokens s w (sign_of (codes ";") us)))
 item_tokens (export_declaration at is d) g us = it g (items.key (codes "export")) (statement_tokens is 0 blank us)
+item_tokens (export_default at e) g us = it g (items.key (codes "export")) (spaced_word (codes "default") (expression_tokens e blank (sign_of (codes ";") us)))
 
 -- each item ends its line
 abbrev pub items_tokens : {ns : List Node} → AreModuleItems ns → Gap → Items
@@ -171,6 +172,7 @@ bare_item (export_bindings_from at at' c s w) = bare (kind.NamedExport false) (l
 bare_item (export_namespace at at' of x s w) = bare (kind.NamedExport false) (list_node (bare kind.ExportNamespaceSpecifier (bare_export_name x ∷ []) ∷ []) ∷ bare_string s ∷ bare_with w ∷ [])
 bare_item (export_all at s w) = bare (kind.ExportAll false) (bare_string s ∷ bare_with w ∷ [])
 bare_item (export_declaration at is d) = bare kind.ExportDecl (bare_statement is ∷ [])
+bare_item (export_default at e) = bare kind.ExportDefaultExpr (bare_expression e ∷ [])
 
 abbrev pub bare_items : {ns : List Node} → AreModuleItems ns → List Node
 bare_items no_items = []

@@ -8,7 +8,7 @@ use Rattle.ecma_kind.specs.declared.kind.Kind.TheVariants as kind
 use Rattle.ecma_tree.specs.declared.node.Node.{Node}
 use Rattle.ecma_tree.specs.Nodes.{node_of}
 use Rattle.ecma_tokens.specs.Good.{IsToken}
-use Rattle.ecma_reread.specs.Shapes.{IsIdent, IsKey, IsAbsent, Ending, IsStatement, declaration}
+use Rattle.ecma_reread.specs.Shapes.{IsIdent, IsKey, IsAbsent, assignment, IsExpression, Ending, IsStatement, declaration}
 
 pub data IsString : Node → Type 0 where
   string_literal : (at : Span) (raw : List ℕ) → IsToken str_end raw → IsString (node_of at (kind.Str (str_value (piece raw 1 (length raw - 1))) (Some raw)) [])
@@ -95,6 +95,7 @@ pub data IsModuleItem : Node → Type 0 where
       → IsModuleItem (node_of at (kind.NamedExport false) (node_of of_list kind.List (node_of of_name kind.ExportNamespaceSpecifier (name ∷ []) ∷ []) ∷ source ∷ attributes ∷ []))
   export_all : (at : Span) {source attributes : Node} → IsString source → IsWithClause attributes → IsModuleItem (node_of at (kind.ExportAll false) (source ∷ attributes ∷ []))
   export_declaration : (at : Span) {ending : Ending} {s : Node} (is : IsStatement ending s) → is_declaration is ≡ true → IsModuleItem (node_of at kind.ExportDecl (s ∷ []))
+  export_default : (at : Span) {e : Node} → IsExpression assignment e → IsModuleItem (node_of at kind.ExportDefaultExpr (e ∷ []))
 
 pub data AreModuleItems : List Node → Type 0 where
   no_items : AreModuleItems []
