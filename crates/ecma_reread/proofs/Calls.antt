@@ -35,6 +35,8 @@ use Rattle.ecma_reread.proofs.Heads.{call_made}
 use Rattle.ecma_reread.proofs.Forms.{Laid, s, behind_params, Reads, Refuses, linked_param, Form, NewForm}
 use Rattle.ecma_reread.proofs.Bindings.{Stands, from_form, loosened, standing, from_new}
 use Rattle.ecma_reread.proofs.Operations.{await_form, power_form, unary_form, binary_form}
+use Rattle.ecma_reread.proofs.Members.{IsLinkKey, link_key, member_form, new_member_form}
+use Rattle.ecma_reread.proofs.Supers.{super_member_form, super_element_form, super_call_form}
 use Rattle.ecma_reread.proofs.Elements.{element_form, new_element_form}
 use Rattle.ecma_reread.proofs.Constructions.{new_form, alone_form, target_form}
 use Rattle.ecma_reread.proofs.Updates.{prefix_form, postfix_form}
@@ -43,7 +45,7 @@ use Rattle.ecma_reread.proofs.Logicals.{both_form, either_form}
 use Rattle.ecma_reread.proofs.Coalescing.{coalesced_form}
 use Rattle.ecma_reread.proofs.Assignments.{assignment_form}
 use Rattle.ecma_reread.proofs.Repeats.{Repeats, repeats_end, repeats_more, repeated}
-use Rattle.ecma_reread.proofs.Expressions.{Single, string_single, number_single, this_single, big_int_single, null_single, true_single, false_single, single_form, member_form, parenthesis_ends, comma_ends, single_new, name_new, new_member_form, parenthesized_new}
+use Rattle.ecma_reread.proofs.Expressions.{Single, string_single, number_single, this_single, big_int_single, null_single, true_single, false_single, single_form, parenthesis_ends, comma_ends, single_new, name_new, parenthesized_new}
 use Rattle.ecma_reread.proofs.Params.{Params, params_end, params_more, params_by, parameters_refused, no_body_behind}
 use Rattle.ecma_reread.proofs.Lists.{Forms, Followed}
 use Rattle.ecma_reread.proofs.Sequences.{sequence_form}
@@ -162,9 +164,9 @@ module _ (assigned : Bool) where
       go true e = subst NameForm (sym ((bytes_eq-Decides w (codes "async")).0 e)) (async_new assigned)
 
   -- members of the callee of `new`, and others
-  member_stands : {l : Level} → IsMemberLevel l → {f : Laid} {k : Kind} {ns : List Node} → Stands assigned l f k ns → (w : List ℕ) → Stands assigned l (λ g us. f g (s (codes ".") (it no_gap (items.key w) us))) kind.MemberExpr (bare k ns ∷ bare (kind.IdentName w) [] ∷ [])
-  member_stands shapes.member_of_new S w = from_new assigned (new_member_form assigned S.reading w)
-  member_stands shapes.member_of_object S w = from_form assigned (member_form assigned S.reading w)
+  member_stands : {l : Level} → IsMemberLevel l → {f : Laid} {k : Kind} {ns : List Node} → Stands assigned l f k ns → {t : Tok} {q : Kind} → IsLinkKey t q → Stands assigned l (λ g us. f g (s (codes ".") (it no_gap t us))) kind.MemberExpr (bare k ns ∷ bare q [] ∷ [])
+  member_stands shapes.member_of_new S K = from_new assigned (new_member_form assigned S.reading K)
+  member_stands shapes.member_of_object S K = from_form assigned (member_form assigned S.reading K)
 
   element_stands : {h l : Level} → IsIndexed h l → {f f' : Laid} {k k' : Kind} {ns ns' : List Node} → Stands assigned h f k ns → Stands assigned shapes.sequence f' k' ns'
       → Stands assigned l (λ g us. f g (s (codes "[") (f' no_gap (s (codes "]") us)))) kind.MemberExpr (bare k ns ∷ bare kind.ComputedPropName (bare k' ns' ∷ []) ∷ [])
@@ -194,10 +196,13 @@ module _ (assigned : Bool) where
     expression_form (shapes.null_word at) = single_stands (items.key (codes "null")) _ null_single refl
     expression_form (shapes.true_word at) = single_stands (items.key (codes "true")) _ true_single refl
     expression_form (shapes.false_word at) = single_stands (items.key (codes "false")) _ false_single refl
-    expression_form (shapes.member at i o k) = member_stands i (expression_form o) (key_word k)
+    expression_form (shapes.member at i o k) = member_stands i (expression_form o) (link_key k)
     expression_form (shapes.call at c es none) = from_form assigned (call_form (callee_form (expression_form c)) es (argument_forms es))
     expression_form (shapes.parenthesized at e) = from_new assigned (parenthesized_new assigned (standing assigned (expression_form e)))
     expression_form (shapes.element at at' i o e) = element_stands i (expression_form o) (standing assigned (expression_form e))
+    expression_form (shapes.super_member at at' k) = from_new assigned (super_member_form assigned (key_word k))
+    expression_form (shapes.super_element at at' at'' e) = from_new assigned (super_element_form assigned (standing assigned (expression_form e)))
+    expression_form (shapes.super_call at at' es none) = from_form assigned (super_call_form assigned (λ us. arguments_tokens es (s (codes ")") us)) (list_node (bare_arguments es)) (call_read es (argument_forms es)))
     expression_form (shapes.new_expression at e es none) = from_new assigned (new_form assigned (new_callee_form (expression_form e)) (λ us. arguments_tokens es (s (codes ")") us)) (list_node (bare_arguments es)) (arguments_read es (argument_forms es)))
     expression_form (shapes.new_alone at e none none') = alone_form assigned (new_callee_form (expression_form e))
     expression_form (shapes.new_target at) = from_new assigned (target_form assigned)

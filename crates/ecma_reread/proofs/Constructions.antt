@@ -88,7 +88,7 @@ module _ (assigned : Bool) where
   module _ (rest : Items → Items) {k : Kind} {ns : List Node} (h : is_head k ≡ true) (read_by : (g : Gap) (us : Items) → Reads assigned construction (it g (key (codes "new")) (rest us)) (bare k ns ∷ []) us) where
     by_word : NewForm assigned (λ g us. it g (key (codes "new")) (rest us)) k ns
     by_word = record {
-      form = form_by assigned (key (codes "new")) new_opens begins_operand rest h (λ g us e b z ys vs r. new_head g (rest us) us (bare k ns) (read_by g us) ys vs r);
+      form = form_by assigned (key (codes "new")) new_opens begins_operand rest h (bare k ns ∷ []) refl (λ g us e b z ys vs r. new_head g (rest us) us (bare k ns) (read_by g us) ys vs r);
       no_point = refl;
       own = λ g us e b z ys vs r. new_new_head g (rest us) us (bare k ns) (read_by g us) ys vs r;
     }

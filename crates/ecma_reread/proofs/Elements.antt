@@ -36,11 +36,11 @@ module _ (assigned : Bool) {f' : Laid} {k' : Kind} {ns' : List Node} (S : Stands
   abbrev behind : Items → Items
   behind us = s (codes "[") (f' no_gap (s (codes "]") us))
 
-  key_read : (us : Items) (ys : List Node) (vs : Items) → Reads assigned links us ys vs → Reads assigned links (behind us) (bare kind.MemberExpr (absent ∷ key ∷ []) ∷ ys) vs
+  pub key_read : (us : Items) (ys : List Node) (vs : Items) → Reads assigned links us ys vs → Reads assigned links (behind us) (bare kind.MemberExpr (absent ∷ key ∷ []) ∷ ys) vs
   unfolding links chains.bracket_body chains.index
   key_read us ys vs h = rw (means_is assigned (part.Link link.Bracket) (behind us), expression_read assigned S no_gap (s (codes "]") us) (exactly (sign (codes "]"))) at_token bracket_ends refl, h) refl
 
-  new_key_read : (us : Items) (ys : List Node) (vs : Items) → Reads assigned new_links us ys vs → Reads assigned new_links (behind us) (bare kind.MemberExpr (absent ∷ key ∷ []) ∷ ys) vs
+  pub new_key_read : (us : Items) (ys : List Node) (vs : Items) → Reads assigned new_links us ys vs → Reads assigned new_links (behind us) (bare kind.MemberExpr (absent ∷ key ∷ []) ∷ ys) vs
   unfolding new_links chains.new_bracket_body chains.index
   new_key_read us ys vs h = rw (means_is assigned (part.NewLink link.Bracket) (behind us), expression_read assigned S no_gap (s (codes "]") us) (exactly (sign (codes "]"))) at_token bracket_ends refl, h) refl
 

@@ -321,47 +321,6 @@ module _ (assigned : Bool) where
   unfolding name_form
   name_new w n = record { form = name_form w n; no_point = refl; own = λ g us e b z ys vs h. new_head_read a_name (it g (items.key w) us) us (bare (kind.Ident w 0 false) []) name_primary (at_name n) (name_read w n g us) ys vs h }
 
-  dot_read : (w : List ℕ) (us : Items) (ys : List Node) (vs : Items) → Reads assigned links us ys vs → Reads assigned links (s (codes ".") (it no_gap (items.key w) us)) (bare kind.MemberExpr (absent ∷ bare (kind.IdentName w) [] ∷ []) ∷ ys) vs
-  unfolding links chains.dot_body chains.chain_key
-  dot_read w us ys vs h = rw (means_is assigned (part.Link link.Dot) (it no_gap (items.key w) us), h) refl
-
-  pub member_form : {f : Laid} {k : Kind} {ns : List Node} → Form assigned f k ns → (w : List ℕ) → Form assigned (λ g us. f g (s (codes ".") (it no_gap (items.key w) us))) kind.MemberExpr (bare k ns ∷ bare (kind.IdentName w) [] ∷ [])
-  unfolding arrow_rest names.binding_ident
-  member_form {f} {k} {ns} F w =
-      let m = bare kind.MemberExpr (absent ∷ bare (kind.IdentName w) [] ∷ []) in
-      let point = exactly (sign (codes ".")) in
-      record {
-        front = F.front;
-        begins = λ g us. F.begins g (s (codes ".") (it no_gap (items.key w) us));
-        opens = F.opens;
-        starts = F.starts;
-        pieces = F.pieces ++ m ∷ [];
-        own = λ g us e b z ys vs h. rw (append_assoc F.pieces (m ∷ []) ys) (F.own g (s (codes ".") (it no_gap (items.key w) us)) point at_token refl (m ∷ ys) vs (dot_read w us ys vs h));
-        whole = steps-append in_front_link None F.pieces m ∙ (ap (λ o. step_on in_front_link o m) F.whole ∙ ap Some (member_made k F.head ns (bare (kind.IdentName w) [])));
-        head = refl;
-        no_arrow = λ g us e b z r. F.no_arrow g (s (codes ".") (it no_gap (items.key w) us)) point at_token refl (refused_at assigned (means assigned) (arrow_rest false false) point (s (codes ".") (it no_gap (items.key w) us)) at_token refl);
-        no_label = λ g us e b z. F.no_label g (s (codes ".") (it no_gap (items.key w) us)) point at_token refl;
-        no_declaration = λ g us e b z. F.no_declaration g (s (codes ".") (it no_gap (items.key w) us)) point at_token refl;
-        no_word = λ g us e b z. F.no_word g (s (codes ".") (it no_gap (items.key w) us)) point at_token refl;
-        as_param = λ g us e b z. linked_param assigned at_token refl refl (F.as_param g (s (codes ".") (it no_gap (items.key w) us)) point at_token refl);
-        with_default = λ g ts us n h. linked_param assigned at_token refl refl (F.as_param g (s (codes ".") (it no_gap (items.key w) (it blank (sign (codes "=")) ts))) point at_token refl);
-      }
-
-  new_dot_read : (w : List ℕ) (us : Items) (ys : List Node) (vs : Items) → Reads assigned new_links us ys vs → Reads assigned new_links (s (codes ".") (it no_gap (items.key w) us)) (bare kind.MemberExpr (absent ∷ bare (kind.IdentName w) [] ∷ []) ∷ ys) vs
-  unfolding new_links chains.new_dot_body chains.chain_key
-  new_dot_read w us ys vs h = rw (means_is assigned (part.NewLink link.Dot) (it no_gap (items.key w) us), h) refl
-
-  pub new_member_form : {f : Laid} {k : Kind} {ns : List Node} → NewForm assigned f k ns → (w : List ℕ) → NewForm assigned (λ g us. f g (s (codes ".") (it no_gap (items.key w) us))) kind.MemberExpr (bare k ns ∷ bare (kind.IdentName w) [] ∷ [])
-  unfolding member_form
-  new_member_form N w =
-      let F = N.form in
-      let m = bare kind.MemberExpr (absent ∷ bare (kind.IdentName w) [] ∷ []) in
-      record {
-        form = member_form F w;
-        no_point = N.no_point;
-        own = λ g us e b z ys vs h. rw (append_assoc F.pieces (m ∷ []) ys) (N.own g (s (codes ".") (it no_gap (items.key w) us)) (exactly (sign (codes "."))) at_token refl (m ∷ ys) vs (new_dot_read w us ys vs h));
-      }
-
   -- parentheses
 
   abbrev opening : Front

@@ -231,19 +231,19 @@ module _ (assigned : Bool) where
       item_refused (all_refused assigned param e (it g t (rest us)) at_token o.0) e at_token o.1
 
   -- a form by its first token, with which nothing begins that is tried before an expression
-  abbrev pub form_by : (t : Tok) → only_opens (exactly t) ≡ true → Opens (exactly t) → (rest : Items → Items) {k : Kind} {ns : List Node} → is_head k ≡ true
-      → ((g : Gap) (us : Items) (e : Front) → Begins e us → refuses_at e (word (codes "function")) ≡ true → (ys : List Node) (vs : Items) → Reads assigned links us ys vs → Reads assigned (heads ▸ links) (it g t (rest us)) (bare k ns ∷ ys) vs)
+  abbrev pub form_by : (t : Tok) → only_opens (exactly t) ≡ true → Opens (exactly t) → (rest : Items → Items) {k : Kind} {ns : List Node} → is_head k ≡ true → (pieces : List Node) → steps in_front_link None pieces ≡ Some (bare k ns)
+      → ((g : Gap) (us : Items) (e : Front) → Begins e us → refuses_at e (word (codes "function")) ≡ true → (ys : List Node) (vs : Items) → Reads assigned links us ys vs → Reads assigned (heads ▸ links) (it g t (rest us)) (pieces ++ ys) vs)
       → Form assigned (λ g us. it g t (rest us)) k ns
-  form_by t z o rest {k} {ns} h own =
+  form_by t z o rest h pieces whole own =
       let L = lead_by t z rest in
       record {
         front = exactly t;
         begins = L.begins;
         opens = o;
         starts = L.starts;
-        pieces = bare k ns ∷ [];
+        pieces = pieces;
         own = own;
-        whole = refl;
+        whole = whole;
         head = h;
         no_arrow = L.no_arrow;
         no_label = L.no_label;

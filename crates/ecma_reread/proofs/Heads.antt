@@ -39,6 +39,7 @@ is_head kind.CallExpr = true
 is_head kind.ParenExpr = true
 is_head kind.ArrayLit = true
 is_head kind.NewExpr = true
+is_head kind.SuperPropExpr = true
 is_head (kind.MetaPropExpr property) = true
 is_head k = false
 
@@ -64,3 +65,11 @@ member_made k h ns key = simp nodes (member_by k h (bare k ns) (bare kind.Member
 
 pub call_made : (k : Kind) → is_head k ≡ true → (ns : List Node) (args : Node) → in_front_link (bare k ns) (bare kind.CallExpr (absent ∷ args ∷ absent ∷ [])) ≡ bare kind.CallExpr (bare k ns ∷ args ∷ absent ∷ [])
 call_made k h ns args = simp nodes (rw (callee_by_itself k h (bare k ns), stays k h ns) refl)
+
+-- links behind `super`
+
+pub super_member_made : (key : Node) → in_front_link (bare kind.Super []) (bare kind.MemberExpr (absent ∷ key ∷ [])) ≡ bare kind.SuperPropExpr (bare kind.Super [] ∷ key ∷ [])
+super_member_made key = simp nodes
+
+pub super_call_made : (args : Node) → in_front_link (bare kind.Super []) (bare kind.CallExpr (absent ∷ args ∷ absent ∷ [])) ≡ bare kind.CallExpr (bare kind.Super [] ∷ args ∷ absent ∷ [])
+super_call_made args = simp nodes (rw (goes_on_node dummy_span kind.Super []) refl)

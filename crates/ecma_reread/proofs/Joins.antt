@@ -23,8 +23,8 @@ use Rattle.ecma_print.specs.Operators.{unary_sign, update_sign}
 use Rattle.ecma_tokens.proofs.Wholes.{some_text}
 use Rattle.ecma_reread.specs.Machine.{count}
 use Rattle.ecma_reread.specs.Shapes as shapes
-use Rattle.ecma_reread.specs.Shapes.{Level, looser_than, IsOperator, IsIdent, ident, IsKey, key, IsExpression, IsElement, IsArguments, AreElements, AreExpressions, IsInitializer, IsDeclarator, AreDeclarators, AreSlots, IsMemberLevel, IsIndexed}
-use Rattle.ecma_reread.specs.Tokens.{blank, sign_of, assign_token, update_token, unary_token, binary_token, own_sign, unary_gap, ident_word, key_word, expression_tokens, element_tokens, arguments_tokens, elements_tokens, more_tokens, declarator_tokens, declarators_tokens, slots_tokens, more_slots_tokens}
+use Rattle.ecma_reread.specs.Shapes.{Level, looser_than, IsOperator, IsIdent, ident, IsKey, key, IsExpression, IsElement, IsArguments, AreElements, AreExpressions, IsInitializer, IsDeclarator, AreDeclarators, AreSlots, IsMemberLevel, IsIndexed, IsChainKey}
+use Rattle.ecma_reread.specs.Tokens.{blank, sign_of, assign_token, update_token, unary_token, binary_token, own_sign, unary_gap, ident_word, key_word, expression_tokens, element_tokens, arguments_tokens, elements_tokens, more_tokens, declarator_tokens, declarators_tokens, slots_tokens, more_slots_tokens, chain_token}
 
 -- each token has a text
 pub good_long : (ts : Items) → Good ts → count ts ≤ length (render ts)
@@ -53,6 +53,10 @@ pub data Soft : Bool → Items → Type 0 where
 key_soft : {object : Bool} (w : List ℕ) {us : Items} → Soft object us → joins_next (items.key w) us ≡ true
 key_soft w point = refl
 key_soft w z = refl
+
+private_soft : {object : Bool} (w : List ℕ) {us : Items} → Soft object us → joins_next (items.private_name w) us ≡ true
+private_soft w point = refl
+private_soft w z = refl
 
 string_soft : {object : Bool} (w : List ℕ) {us : Items} → Soft object us → joins_next (items.string w) us ≡ true
 string_soft w point = refl
@@ -134,10 +138,13 @@ begun (shapes.big_int at raw t) us = record { first = items.big_int raw; by = No
 begun (shapes.null_word at) us = record { first = items.key (codes "null"); by = NoNeighbor; rest = us; opens = by_key (codes "null"); is = λ g. refl }
 begun (shapes.true_word at) us = record { first = items.key (codes "true"); by = NoNeighbor; rest = us; opens = by_key (codes "true"); is = λ g. refl }
 begun (shapes.false_word at) us = record { first = items.key (codes "false"); by = NoNeighbor; rest = us; opens = by_key (codes "false"); is = λ g. refl }
-begun (shapes.member at i o k) us = begun o (sign_of (codes ".") (it no_gap (items.key (key_word k)) us))
+begun (shapes.member at i o k) us = begun o (sign_of (codes ".") (it no_gap (chain_token k) us))
 begun (shapes.call at c es none) us = begun c (sign_of (codes "(") (arguments_tokens es (sign_of (codes ")") us)))
 begun (shapes.parenthesized at e) us = record { first = sign (codes "("); by = NoNeighbor; rest = expression_tokens e no_gap (sign_of (codes ")") us); opens = by_parenthesis; is = λ g. refl }
 begun (shapes.element at at' i o e) us = begun o (sign_of (codes "[") (expression_tokens e no_gap (sign_of (codes "]") us)))
+begun (shapes.super_member at at' k) us = record { first = items.key (codes "super"); by = NoNeighbor; rest = sign_of (codes ".") (it no_gap (items.key (key_word k)) us); opens = by_key (codes "super"); is = λ g. refl }
+begun (shapes.super_element at at' at'' e) us = record { first = items.key (codes "super"); by = NoNeighbor; rest = sign_of (codes "[") (expression_tokens e no_gap (sign_of (codes "]") us)); opens = by_key (codes "super"); is = λ g. refl }
+begun (shapes.super_call at at' es none) us = record { first = items.key (codes "super"); by = NoNeighbor; rest = sign_of (codes "(") (arguments_tokens es (sign_of (codes ")") us)); opens = by_key (codes "super"); is = λ g. refl }
 begun (shapes.new_expression at e es none) us = record { first = items.key (codes "new"); by = NoNeighbor; rest = expression_tokens e blank (sign_of (codes "(") (arguments_tokens es (sign_of (codes ")") us))); opens = by_key (codes "new"); is = λ g. refl }
 begun (shapes.new_alone at e none none') us = record { first = items.key (codes "new"); by = NoNeighbor; rest = expression_tokens e blank us; opens = by_key (codes "new"); is = λ g. refl }
 begun (shapes.new_target at) us = record { first = items.key (codes "new"); by = NoNeighbor; rest = sign_of (codes ".") (it no_gap (items.key (codes "target")) us); opens = by_key (codes "new"); is = λ g. refl }
@@ -290,9 +297,12 @@ index_linked shapes.index_of_callee = refl
 plain : {level : Level} {e : Node} (is : IsExpression level e) (us : Items) → is_linked level ≡ true → (let b = begun is us in b.by) ≡ NoNeighbor
 unfolding begun
 plain (shapes.looser {level = l} e) us h = plain e us (linked_first l h)
-plain (shapes.member at i o k) us h = plain o (sign_of (codes ".") (it no_gap (items.key (key_word k)) us)) h
+plain (shapes.member at i o k) us h = plain o (sign_of (codes ".") (it no_gap (chain_token k) us)) h
 plain (shapes.call at c es none) us h = plain c (sign_of (codes "(") (arguments_tokens es (sign_of (codes ")") us))) refl
 plain (shapes.element at at' i o e) us h = plain o (sign_of (codes "[") (expression_tokens e no_gap (sign_of (codes "]") us))) (index_linked i)
+plain (shapes.super_member at at' k) us h = refl
+plain (shapes.super_element at at' at'' e) us h = refl
+plain (shapes.super_call at at' es none) us h = refl
 plain (shapes.new_expression at e es none) us h = refl
 plain (shapes.new_alone at e none none') us h = refl
 plain (shapes.new_target at) us h = refl
@@ -322,9 +332,12 @@ plain (shapes.array at at' es) us h = refl
 signed : {level : Level} {e : Node} (is : IsExpression level e) (us : Items) → is_operand level ≡ true → (let b = begun is us in b.by) ≡ own_sign is
 unfolding begun
 signed (shapes.looser {level = l} e) us h = signed e us (operand_first l h)
-signed (shapes.member at i o k) us h = plain o (sign_of (codes ".") (it no_gap (items.key (key_word k)) us)) (member_linked i)
+signed (shapes.member at i o k) us h = plain o (sign_of (codes ".") (it no_gap (chain_token k) us)) (member_linked i)
 signed (shapes.call at c es none) us h = plain c (sign_of (codes "(") (arguments_tokens es (sign_of (codes ")") us))) refl
 signed (shapes.element at at' i o e) us h = plain o (sign_of (codes "[") (expression_tokens e no_gap (sign_of (codes "]") us))) (index_linked i)
+signed (shapes.super_member at at' k) us h = refl
+signed (shapes.super_element at at' at'' e) us h = refl
+signed (shapes.super_call at at' es none) us h = refl
 signed (shapes.new_expression at e es none) us h = refl
 signed (shapes.new_alone at e none none') us h = refl
 signed (shapes.new_target at) us h = refl
@@ -394,6 +407,18 @@ ident_whole (ident at w i) = i.whole
 pub key_whole : {n : Node} (k : IsKey n) → IsToken key_end (key_word k)
 key_whole (key at w t) = t
 
+chain_fine : {n : Node} (k : IsChainKey n) → Fine (chain_token k)
+chain_fine (shapes.plain_key k) = key_whole k
+chain_fine (shapes.private_key at name t) = t
+
+point_joins : {n : Node} (k : IsChainKey n) (us : Items) → joins_next (sign (codes ".")) (it no_gap (chain_token k) us) ≡ true
+point_joins (shapes.plain_key k) us = refl
+point_joins (shapes.private_key at name t) us = refl
+
+chain_soft : {object : Bool} {n : Node} (k : IsChainKey n) {us : Items} → Soft object us → joins_next (chain_token k) us ≡ true
+chain_soft (shapes.plain_key k) z = key_soft (key_word k) z
+chain_soft (shapes.private_key at name t) z = private_soft (codes "#" ++ name) z
+
 -- the words of the layout are words
 pub record Words : Type 0 where
   pub this_whole : IsToken key_end (codes "this")
@@ -406,6 +431,7 @@ pub record Words : Type 0 where
   pub typeof_whole : IsToken key_end (codes "typeof")
   pub void_whole : IsToken key_end (codes "void")
   pub delete_whole : IsToken key_end (codes "delete")
+  pub super_whole : IsToken key_end (codes "super")
   pub new_whole : IsToken key_end (codes "new")
   pub target_whole : IsToken key_end (codes "target")
   pub await_whole : IsToken key_end (codes "await")
@@ -503,13 +529,17 @@ module _ (words : Words) where
     expression_joined (shapes.true_word at) g h us z j = (h, words.true_whole, key_soft (codes "true") z, j)
     expression_joined (shapes.false_word at) g h us z j = (h, words.false_whole, key_soft (codes "false") z, j)
     expression_joined (shapes.member at i o k) g h us z j =
-        expression_joined o g h (sign_of (codes ".") (it no_gap (items.key (key_word k)) us)) (point_behind i) (no_gap_is, refl, refl, (no_gap_is, key_whole k, key_soft (key_word k) z, j))
+        expression_joined o g h (sign_of (codes ".") (it no_gap (chain_token k) us)) (point_behind i) (no_gap_is, refl, point_joins k us, (no_gap_is, chain_fine k, chain_soft k z, j))
     expression_joined (shapes.call at c es none) g h us z j = expression_joined c g h (sign_of (codes "(") (arguments_tokens es (sign_of (codes ")") us))) opening (arguments_joined es us (no_gap_is, refl, closing_soft z, j))
     expression_joined (shapes.parenthesized at e) g h us z j = (h, refl, opening_joins e (sign_of (codes ")") us), expression_joined e no_gap no_gap_is (sign_of (codes ")") us) closing (no_gap_is, refl, closing_soft z, j))
     expression_joined (shapes.looser {level = l} e) g h us z j = expression_joined e g h us (softer l z) j
     expression_joined (shapes.element at at' {level = l} i o e) g h us z j =
         expression_joined o g h (sign_of (codes "[") (expression_tokens e no_gap (sign_of (codes "]") us))) opening_bracket
         (no_gap_is, refl, bracket_joins e (sign_of (codes "]") us), expression_joined e no_gap no_gap_is (sign_of (codes "]") us) closing_bracket (no_gap_is, refl, bracket_soft z, j))
+    expression_joined (shapes.super_member at at' k) g h us z j = (h, words.super_whole, refl, (no_gap_is, refl, refl, (no_gap_is, key_whole k, key_soft (key_word k) z, j)))
+    expression_joined (shapes.super_element at at' at'' e) g h us z j =
+        (h, words.super_whole, refl, (no_gap_is, refl, bracket_joins e (sign_of (codes "]") us), expression_joined e no_gap no_gap_is (sign_of (codes "]") us) closing_bracket (no_gap_is, refl, bracket_soft z, j)))
+    expression_joined (shapes.super_call at at' es none) g h us z j = (h, words.super_whole, refl, arguments_joined es us (no_gap_is, refl, closing_soft z, j))
     expression_joined (shapes.new_expression at e es none) g h us z j =
         let args = sign_of (codes "(") (arguments_tokens es (sign_of (codes ")") us)) in
         (h, words.new_whole, blank_joins (items.key (codes "new")) e args, expression_joined e blank blank_is args opening (arguments_joined es us (no_gap_is, refl, closing_soft z, j)))

@@ -34,7 +34,7 @@ use Rattle.ecma_tokens.specs.Items as items
 use Rattle.ecma_tokens.specs.Items.{Tok, sign, Gap, no_gap, Items, it, token_text, render}
 use Rattle.ecma_reread.specs.Shapes as shapes
 use Rattle.ecma_reread.specs.Shapes.{Level, looser_than, IsOperator, IsIdent, ident, IsKey, key, IsAbsent, IsExpression, IsElement, IsArguments, AreElements, AreExpressions, IsInitializer, IsDeclarator, AreDeclarators, AreSlots, IsMemberLevel, IsIndexed}
-use Rattle.ecma_reread.specs.Tokens.{blank, sign_of, assign_token, update_token, unary_token, binary_token, own_sign, unary_gap, expression_tokens, element_tokens, arguments_tokens, elements_tokens, more_tokens, initializer_tokens, declarator_tokens, declarators_tokens, slots_tokens, more_slots_tokens}
+use Rattle.ecma_reread.specs.Tokens.{blank, sign_of, assign_token, update_token, unary_token, binary_token, own_sign, unary_gap, expression_tokens, element_tokens, arguments_tokens, elements_tokens, more_tokens, initializer_tokens, declarator_tokens, declarators_tokens, slots_tokens, more_slots_tokens, chain_token}
 
 pub laid_node : (at : Span) (k : Kind) (cs : List Node) → laid (node_of at k cs) ≡ record { kind = k; at = in_place k (map laid cs); parts = map by_itself (map laid cs) }
 laid_node at k cs = fold-roll-Node Laid lay_step (record { span = at; kind = k; children = cs })
@@ -459,11 +459,14 @@ gap_out (shapes.big_int at raw t) g us = refl
 gap_out (shapes.null_word at) g us = refl
 gap_out (shapes.true_word at) g us = refl
 gap_out (shapes.false_word at) g us = refl
-gap_out (shapes.member at i o (key at' w t)) g us = gap_out o g (sign_of (codes ".") (it no_gap (items.key w) us))
+gap_out (shapes.member at i o k) g us = gap_out o g (sign_of (codes ".") (it no_gap (chain_token k) us))
 gap_out (shapes.call at c es none) g us = gap_out c g (sign_of (codes "(") (arguments_tokens es (sign_of (codes ")") us)))
 gap_out (shapes.parenthesized at e) g us = refl
 gap_out (shapes.looser e) g us = gap_out e g us
 gap_out (shapes.element at at' i o e) g us = gap_out o g (sign_of (codes "[") (expression_tokens e no_gap (sign_of (codes "]") us)))
+gap_out (shapes.super_member at at' k) g us = refl
+gap_out (shapes.super_element at at' at'' e) g us = refl
+gap_out (shapes.super_call at at' es none) g us = refl
 gap_out (shapes.new_expression at e es none) g us = refl
 gap_out (shapes.new_alone at e none none') g us = refl
 gap_out (shapes.new_target at) g us = refl
@@ -512,10 +515,14 @@ mutual
   expression_laid (shapes.null_word at) spot c m us = at_node at _ [] (At spot) m (render us) ∙ rw (c.low, no_sign spot.beside) refl
   expression_laid (shapes.true_word at) spot c m us = at_node at _ [] (At spot) m (render us) ∙ rw (c.low, no_sign spot.beside) refl
   expression_laid (shapes.false_word at) spot c m us = at_node at _ [] (At spot) m (render us) ∙ rw (c.low, no_sign spot.beside) refl
-  expression_laid (shapes.member at {holder = o'} i o (key at' w t)) spot c m us =
+  expression_laid (shapes.member at {holder = o'} i o (shapes.plain_key (key at' w t))) spot c m us =
       at_node at kind.MemberExpr (o' ∷ node_of at' (kind.IdentName w) [] ∷ []) (At spot) m (render us)
       ∙ rw (member_low i spot.level c.low, laid_node at' (kind.IdentName w) [], c.outside false, c.own, no_sign spot.beside)
       (expression_laid o (left spot 16 BeforeDot) (before_dot i spot c.with_in c.no_new) m (sign_of (codes ".") (it no_gap (items.key w) us)))
+  expression_laid (shapes.member at {holder = o'} i o (shapes.private_key at' w t)) spot c m us =
+      at_node at kind.MemberExpr (o' ∷ node_of at' (kind.PrivateName w) [] ∷ []) (At spot) m (render us)
+      ∙ rw (member_low i spot.level c.low, laid_node at' (kind.PrivateName w) [], c.outside false, c.own, no_sign spot.beside)
+      (expression_laid o (left spot 16 BeforeDot) (before_dot i spot c.with_in c.no_new) m (sign_of (codes ".") (it no_gap (items.private_name (codes "#" ++ w)) us)))
   expression_laid (shapes.call at {function = c'} {args = a'} {none = n'} e es none) spot c m us =
       at_node at kind.CallExpr (c' ∷ a' ∷ n' ∷ []) (At spot) m (render us)
       ∙ rw (c.low, c.no_new refl, no_sign spot.beside)
@@ -529,6 +536,15 @@ mutual
       ∙ rw (index_low i spot.level c.low, laid_node at' kind.ComputedPropName (e' ∷ []), c.outside true, c.own, no_sign spot.beside)
       (ap (λ z. (laid o').at (At (left spot 16 BeforeLink)) m (codes "[" ++ z)) (expression_laid e (free 0) (calm_0 l) m (sign_of (codes "]") us))
       ∙ expression_laid o (left spot 16 BeforeLink) (index_calm i spot c.with_in c.no_new) m (sign_of (codes "[") (expression_tokens e no_gap (sign_of (codes "]") us))))
+  expression_laid (shapes.super_member at at' (key at'' w t)) spot c m us =
+      at_node at kind.SuperPropExpr (node_of at' kind.Super [] ∷ node_of at'' (kind.IdentName w) [] ∷ []) (At spot) m (render us)
+      ∙ rw (c.low, laid_node at' kind.Super [], laid_node at'' (kind.IdentName w) [], no_sign spot.beside) refl
+  expression_laid (shapes.super_element at at' at'' {level = l} {e = e'} e) spot c m us =
+      at_node at kind.SuperPropExpr (node_of at' kind.Super [] ∷ node_of at'' kind.ComputedPropName (e' ∷ []) ∷ []) (At spot) m (render us)
+      ∙ rw (c.low, laid_node at' kind.Super [], laid_node at'' kind.ComputedPropName (e' ∷ []), no_sign spot.beside) (ap (λ z. codes "super[" ++ z) (expression_laid e (free 0) (calm_0 l) m (sign_of (codes "]") us)))
+  expression_laid (shapes.super_call at at' {args = a'} {none = n'} es none) spot c m us =
+      at_node at kind.CallExpr (node_of at' kind.Super [] ∷ a' ∷ n' ∷ []) (At spot) m (render us)
+      ∙ rw (c.low, c.no_new refl, laid_node at' kind.Super [], no_sign spot.beside) (ap (λ z. codes "super" ++ z) (arguments_laid es m us))
   expression_laid (shapes.new_expression at {constructor = c'} {args = a'} {none = n'} e es none) spot c m us =
       let args = sign_of (codes "(") (arguments_tokens es (sign_of (codes ")") us)) in
       at_node at kind.NewExpr (c' ∷ a' ∷ n' ∷ []) (At spot) m (render us)

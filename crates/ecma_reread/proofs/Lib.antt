@@ -23,7 +23,9 @@ pub mod Params
 pub mod Tried
 pub mod Spreads
 pub mod Expressions
+pub mod Members
 pub mod Elements
+pub mod Supers
 pub mod Constructions
 pub mod Async
 pub mod Lists

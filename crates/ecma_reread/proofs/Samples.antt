@@ -20,7 +20,7 @@ use Rattle.ecma_tree.specs.declared.node.Node.{Node}
 use Rattle.ecma_tree.specs.Nodes.{node_of}
 use Rattle.ecma_print.specs.Layout.{layout}
 use Rattle.ecma_tokens.specs.Items.{render}
-use Rattle.ecma_reread.specs.Shapes.{Level, assignment, IsExpression, element, postfix_update, conditional_expression, assignment_expression, unary_expression, binary_expression, plus, times, IsPlainName, ident, key, absent, looser, name, null_word, this_word, member, call, parenthesized, one, spread, arguments, no_elements, more_elements, initializer, declarator, no_declarators, expression, declaration, array, no_slots, filled, hole, member_of_new, member_of_object, index_of_callee}
+use Rattle.ecma_reread.specs.Shapes.{Level, assignment, IsExpression, element, postfix_update, conditional_expression, assignment_expression, unary_expression, binary_expression, plus, times, IsPlainName, ident, key, absent, looser, name, null_word, this_word, member, call, parenthesized, one, spread, arguments, no_elements, more_elements, initializer, declarator, no_declarators, expression, declaration, array, no_slots, filled, hole, member_of_new, member_of_object, index_of_callee, plain_key}
 use Rattle.ecma_reread.specs.Modules.{statement, no_items, more_items, IsModule, module_of}
 use Rattle.ecma_reread.specs.ModuleTokens.{module_tokens}
 use Rattle.ecma_reread.proofs.Bindings.{further_out}
@@ -104,8 +104,8 @@ shape =
     let slots = array at at (filled (one (out 18 (name id))) (hole (absent at) (filled (one (out 18 (null_word at))) (hole (absent at) no_slots)))) in
     module_of at at
     (more_items (statement (declaration at at Const (declarator at at async' (absent at) (initializer (out 18 (parenthesized at (this_word at))))) no_declarators))
-    (more_items (statement (expression at (call at (out 2 (member at member_of_new (name id) (key at (codes "a") it'))) (arguments at (spread at (out 18 (name id))) (more_elements (one (out 18 slots)) no_elements)) (absent at))))
-    (more_items (statement (expression at (member at member_of_object (call at (out 2 (name async')) (arguments at (one (out 18 (name id))) (more_elements (one (out 18 (name async'))) no_elements)) (absent at)) (key at (codes "a") it'))))
+    (more_items (statement (expression at (call at (out 2 (member at member_of_new (name id) (plain_key (key at (codes "a") it')))) (arguments at (spread at (out 18 (name id))) (more_elements (one (out 18 slots)) no_elements)) (absent at))))
+    (more_items (statement (expression at (member at member_of_object (call at (out 2 (name async')) (arguments at (one (out 18 (name id))) (more_elements (one (out 18 (name async'))) no_elements)) (absent at)) (plain_key (key at (codes "a") it')))))
     (more_items (statement (expression at (assignment_expression at Assign (out 2 (name id)) value_shape))) no_items))))
 
 text : render (module_tokens shape) ≡ codes "const async = (this);\na.a(...a, [a, , null, ,]);\nasync(a, async).a;\na = - -a + a[a++] * (a ? a : a);\n"

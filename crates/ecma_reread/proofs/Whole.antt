@@ -6,8 +6,8 @@ use Rattle.ecma_tree.specs.declared.node.Node.{Node}
 use Rattle.ecma_tree.specs.Nodes.{absent, list_node}
 use Rattle.ecma_tree.specs.Spans.{without_spans}
 use Rattle.ecma_reread.specs.Shapes as shapes
-use Rattle.ecma_reread.specs.Shapes.{Level, IsIdent, ident, IsKey, key, IsAbsent, IsExpression, IsElement, IsArguments, AreElements, AreExpressions, IsInitializer, IsDeclarator, AreDeclarators, Ending, IsStatement, IsBlock, AreStatements, AreSlots, IsCase, AreCases, IsCatch}
-use Rattle.ecma_reread.specs.Tokens.{bare, bare_ident, key_word, bare_expression, bare_element, bare_arguments, bare_elements, bare_expressions, bare_initializer, bare_declarator, bare_declarators, bare_statement, bare_block, bare_statements, bare_slots, bare_case, bare_cases, bare_catch}
+use Rattle.ecma_reread.specs.Shapes.{Level, IsIdent, ident, IsKey, key, IsAbsent, IsExpression, IsElement, IsArguments, AreElements, AreExpressions, IsInitializer, IsDeclarator, AreDeclarators, Ending, IsStatement, IsBlock, AreStatements, AreSlots, IsCase, AreCases, IsCatch, IsChainKey}
+use Rattle.ecma_reread.specs.Tokens.{bare, bare_ident, key_word, bare_expression, bare_element, bare_arguments, bare_elements, bare_expressions, bare_initializer, bare_declarator, bare_declarators, bare_statement, bare_block, bare_statements, bare_slots, bare_case, bare_cases, bare_catch, chain_kind}
 use Rattle.ecma_reread.proofs.Unplaced.{without_spans-node}
 
 pub absent_bare : {n : Node} → IsAbsent n → without_spans n ≡ absent
@@ -19,6 +19,10 @@ ident_bare (ident at w i) = without_spans-node at _ []
 pub key_bare : {n : Node} (k : IsKey n) → without_spans n ≡ bare (kind.IdentName (key_word k)) []
 key_bare (key at w t) = without_spans-node at _ []
 
+chain_key_bare : {n : Node} (k : IsChainKey n) → without_spans n ≡ bare (chain_kind k) []
+chain_key_bare (shapes.plain_key k) = key_bare k
+chain_key_bare (shapes.private_key at name t) = without_spans-node at _ []
+
 mutual
   pub expression_bare : {level : Level} {e : Node} (is : IsExpression level e) → without_spans e ≡ bare_expression is
   expression_bare (shapes.name i) = ident_bare i
@@ -29,12 +33,17 @@ mutual
   expression_bare (shapes.null_word at) = without_spans-node at _ []
   expression_bare (shapes.true_word at) = without_spans-node at _ []
   expression_bare (shapes.false_word at) = without_spans-node at _ []
-  expression_bare (shapes.member at i o k) = without_spans-node at kind.MemberExpr _ ∙ ap₂ (λ x y. bare kind.MemberExpr (x ∷ y ∷ [])) (expression_bare o) (key_bare k)
+  expression_bare (shapes.member at i o k) = without_spans-node at kind.MemberExpr _ ∙ ap₂ (λ x y. bare kind.MemberExpr (x ∷ y ∷ [])) (expression_bare o) (chain_key_bare k)
   expression_bare (shapes.call at {none = gone} c es none) = without_spans-node at kind.CallExpr _ ∙ (ap₂ (λ x y. bare kind.CallExpr (x ∷ y ∷ without_spans gone ∷ [])) (expression_bare c) (arguments_bare es) ∙ ap (λ z. bare kind.CallExpr (bare_expression c ∷ list_node (bare_arguments es) ∷ z ∷ [])) (absent_bare none))
   expression_bare (shapes.parenthesized at e) = without_spans-node at kind.ParenExpr _ ∙ ap (λ x. bare kind.ParenExpr (x ∷ [])) (expression_bare e)
   expression_bare (shapes.looser e) = expression_bare e
   expression_bare (shapes.element at at' i o e) =
       without_spans-node at kind.MemberExpr _ ∙ ap₂ (λ x y. bare kind.MemberExpr (x ∷ y ∷ [])) (expression_bare o) (without_spans-node at' kind.ComputedPropName _ ∙ ap (λ x. bare kind.ComputedPropName (x ∷ [])) (expression_bare e))
+  expression_bare (shapes.super_member at at' k) = without_spans-node at kind.SuperPropExpr _ ∙ ap₂ (λ x y. bare kind.SuperPropExpr (x ∷ y ∷ [])) (without_spans-node at' kind.Super []) (key_bare k)
+  expression_bare (shapes.super_element at at' at'' e) =
+      without_spans-node at kind.SuperPropExpr _ ∙ ap₂ (λ x y. bare kind.SuperPropExpr (x ∷ y ∷ [])) (without_spans-node at' kind.Super []) (without_spans-node at'' kind.ComputedPropName _ ∙ ap (λ x. bare kind.ComputedPropName (x ∷ [])) (expression_bare e))
+  expression_bare (shapes.super_call at at' {none = gone} es none) =
+      without_spans-node at kind.CallExpr _ ∙ (ap₂ (λ x y. bare kind.CallExpr (x ∷ y ∷ without_spans gone ∷ [])) (without_spans-node at' kind.Super []) (arguments_bare es) ∙ ap (λ z. bare kind.CallExpr (bare kind.Super [] ∷ list_node (bare_arguments es) ∷ z ∷ [])) (absent_bare none))
   expression_bare (shapes.new_expression at {none = gone} e es none) =
       without_spans-node at kind.NewExpr _ ∙ (ap₂ (λ x y. bare kind.NewExpr (x ∷ y ∷ without_spans gone ∷ [])) (expression_bare e) (arguments_bare es) ∙ ap (λ z. bare kind.NewExpr (bare_expression e ∷ list_node (bare_arguments es) ∷ z ∷ [])) (absent_bare none))
   expression_bare (shapes.new_alone at {none' = gone} e none none') =

@@ -1,8 +1,8 @@
 -- The trees of expressions and statements, a constructor for each form. Parentheses are parts of these trees: none have to be added.
-use Rattle.std.specs.Prelude.{◌≡◌, ℕ, ◌-◌, true, false, List, [], ◌∷◌, length, Some}
+use Rattle.std.specs.Prelude.{◌≡◌, ℕ, ◌-◌, true, false, List, [], ◌∷◌, length, Some, ◌++◌, codes}
 use Rattle.ecma_number.specs.Numeral.{numeral_of}
 use Rattle.ecma_lex.specs.Text.{piece}
-use Rattle.ecma_lex.specs.Keys.{is_reserved, key_end}
+use Rattle.ecma_lex.specs.Keys.{is_reserved, key_end, priv_name_end}
 use Rattle.ecma_lex.specs.Numerals.{num_end, big_end}
 use Rattle.ecma_lex.specs.Strings.{str_end, str_value}
 use Rattle.ecma_kind.specs.declared.span.Span.{Span}
@@ -29,6 +29,11 @@ pub data IsIdent : Node → Type 0 where
 
 pub data IsKey : Node → Type 0 where
   key : (at : Span) (word : List ℕ) → IsToken key_end word → IsKey (node_of at (kind.IdentName word) [])
+
+-- what stands behind a point: a key, or a private name
+pub data IsChainKey : Node → Type 0 where
+  plain_key : {n : Node} → IsKey n → IsChainKey n
+  private_key : (at : Span) (name : List ℕ) → IsToken priv_name_end (codes "#" ++ name) → IsChainKey (node_of at (kind.PrivateName name) [])
 
 pub data IsAbsent : Node → Type 0 where
   absent : (at : Span) → IsAbsent (node_of at kind.Absent [])
@@ -117,9 +122,12 @@ mutual
     null_word : (at : Span) → IsExpression new_callee (node_of at kind.Null [])
     true_word : (at : Span) → IsExpression new_callee (node_of at (kind.Bool true) [])
     false_word : (at : Span) → IsExpression new_callee (node_of at (kind.Bool false) [])
-    member : (at : Span) {level : Level} {holder property : Node} → IsMemberLevel level → IsExpression level holder → IsKey property → IsExpression level (node_of at kind.MemberExpr (holder ∷ property ∷ []))
+    member : (at : Span) {level : Level} {holder property : Node} → IsMemberLevel level → IsExpression level holder → IsChainKey property → IsExpression level (node_of at kind.MemberExpr (holder ∷ property ∷ []))
     call : (at : Span) {function args none : Node} → IsExpression callee function → IsArguments args → IsAbsent none → IsExpression object (node_of at kind.CallExpr (function ∷ args ∷ none ∷ []))
     parenthesized : (at : Span) {level : Level} {e : Node} → IsExpression level e → IsExpression new_callee (node_of at kind.ParenExpr (e ∷ []))
+    super_member : (at at_super : Span) {property : Node} → IsKey property → IsExpression new_callee (node_of at kind.SuperPropExpr (node_of at_super kind.Super [] ∷ property ∷ []))
+    super_element : (at at_super of_key : Span) {level : Level} {e : Node} → IsExpression level e → IsExpression new_callee (node_of at kind.SuperPropExpr (node_of at_super kind.Super [] ∷ node_of of_key kind.ComputedPropName (e ∷ []) ∷ []))
+    super_call : (at at_super : Span) {args none : Node} → IsArguments args → IsAbsent none → IsExpression object (node_of at kind.CallExpr (node_of at_super kind.Super [] ∷ args ∷ none ∷ []))
     -- with arguments, and without
     new_expression : (at : Span) {constructor args none : Node} → IsExpression new_callee constructor → IsArguments args → IsAbsent none → IsExpression new_callee (node_of at kind.NewExpr (constructor ∷ args ∷ none ∷ []))
     new_alone : (at : Span) {constructor none none' : Node} → IsExpression new_callee constructor → IsAbsent none → IsAbsent none' → IsExpression left_hand_side (node_of at kind.NewExpr (constructor ∷ none ∷ none' ∷ []))

@@ -23,7 +23,7 @@ use Rattle.ecma_print.specs.Operators.{unary_sign, update_sign}
 use Rattle.ecma_print.specs.Statements.{keyword}
 use Rattle.ecma_tokens.specs.Items as items
 use Rattle.ecma_tokens.specs.Items.{Tok, sign, Gap, no_gap, Items, it}
-use Rattle.ecma_reread.specs.Shapes.{IsIdent, ident, IsKey, key, Level, IsExpression, looser, element, prefix_update, postfix_update, await_expression, unary_expression, binary_expression, exponentiation, both, either, coalesced, assignment_expression, conditional_expression, sequence_expression, name, string, number, this_word, big_int, null_word, true_word, false_word, member, call, parenthesized, IsElement, one, spread, IsArguments, no_arguments, arguments, AreElements, no_elements, more_elements, AreExpressions, no_expressions, more_expressions, IsInitializer, no_initializer, initializer, IsDeclarator, declarator, AreDeclarators, no_declarators, more_declarators, IsStatement, expression, declaration, empty, debugger_word, throw, return_value, return_nothing, break_nothing, continue_nothing, Ending, break_label, continue_label, block, if_only, if_else, while_loop, do_loop, labeled, IsBlock, block_of, AreStatements, no_statements, more_statements, array, AreSlots, no_slots, filled, hole, switch_statement, IsCase, case_of, default_of, AreCases, no_cases, more_cases, new_expression, new_alone, new_target, try_catch, try_finally, try_catch_finally, IsCatch, catch_any, catch_name}
+use Rattle.ecma_reread.specs.Shapes.{IsIdent, ident, IsKey, key, Level, IsExpression, looser, element, prefix_update, postfix_update, await_expression, unary_expression, binary_expression, exponentiation, both, either, coalesced, assignment_expression, conditional_expression, sequence_expression, name, string, number, this_word, big_int, null_word, true_word, false_word, member, call, parenthesized, IsElement, one, spread, IsArguments, no_arguments, arguments, AreElements, no_elements, more_elements, AreExpressions, no_expressions, more_expressions, IsInitializer, no_initializer, initializer, IsDeclarator, declarator, AreDeclarators, no_declarators, more_declarators, IsStatement, expression, declaration, empty, debugger_word, throw, return_value, return_nothing, break_nothing, continue_nothing, Ending, break_label, continue_label, block, if_only, if_else, while_loop, do_loop, labeled, IsBlock, block_of, AreStatements, no_statements, more_statements, array, AreSlots, no_slots, filled, hole, switch_statement, IsCase, case_of, default_of, AreCases, no_cases, more_cases, new_expression, new_alone, new_target, try_catch, try_finally, try_catch_finally, IsCatch, catch_any, catch_name, IsChainKey, plain_key, private_key, super_member, super_element, super_call}
 
 abbrev pub blank : Gap
 blank = record { blanks = codes " "; new_line = false }
@@ -47,6 +47,14 @@ ident_word (ident at word i) = word
 
 abbrev pub key_word : {n : Node} → IsKey n → List ℕ
 key_word (key at word t) = word
+
+abbrev pub chain_token : {n : Node} → IsChainKey n → Tok
+chain_token (plain_key k) = items.key (key_word k)
+chain_token (private_key at w t) = items.private_name (codes "#" ++ w)
+
+abbrev pub chain_kind : {n : Node} → IsChainKey n → Kind
+chain_kind (plain_key k) = kind.IdentName (key_word k)
+chain_kind (private_key at w t) = kind.PrivateName w
 
 abbrev pub unary_token : UnaryOp → Tok
 unary_token Minus = sign (codes "-")
@@ -132,11 +140,14 @@ abbrev mutual
   expression_tokens (null_word at) g us = it g (items.key (codes "null")) us
   expression_tokens (true_word at) g us = it g (items.key (codes "true")) us
   expression_tokens (false_word at) g us = it g (items.key (codes "false")) us
-  expression_tokens (member at i o k) g us = expression_tokens o g (sign_of (codes ".") (it no_gap (items.key (key_word k)) us))
+  expression_tokens (member at i o k) g us = expression_tokens o g (sign_of (codes ".") (it no_gap (chain_token k) us))
   expression_tokens (call at c es none) g us = expression_tokens c g (sign_of (codes "(") (arguments_tokens es (sign_of (codes ")") us)))
   expression_tokens (parenthesized at e) g us = it g (sign (codes "(")) (expression_tokens e no_gap (sign_of (codes ")") us))
   expression_tokens (looser e) g us = expression_tokens e g us
   expression_tokens (element at at' i o e) g us = expression_tokens o g (sign_of (codes "[") (expression_tokens e no_gap (sign_of (codes "]") us)))
+  expression_tokens (super_member at at' k) g us = it g (items.key (codes "super")) (sign_of (codes ".") (it no_gap (items.key (key_word k)) us))
+  expression_tokens (super_element at at' at'' e) g us = it g (items.key (codes "super")) (sign_of (codes "[") (expression_tokens e no_gap (sign_of (codes "]") us)))
+  expression_tokens (super_call at at' es none) g us = it g (items.key (codes "super")) (sign_of (codes "(") (arguments_tokens es (sign_of (codes ")") us)))
   expression_tokens (new_expression at e es none) g us = it g (items.key (codes "new")) (expression_tokens e blank (sign_of (codes "(") (arguments_tokens es (sign_of (codes ")") us))))
   expression_tokens (new_alone at e none none') g us = it g (items.key (codes "new")) (expression_tokens e blank us)
   expression_tokens (new_target at) g us = it g (items.key (codes "new")) (sign_of (codes ".") (it no_gap (items.key (codes "target")) us))
@@ -279,6 +290,9 @@ expression_kind (call at c es none) = kind.CallExpr
 expression_kind (parenthesized at e) = kind.ParenExpr
 expression_kind (looser e) = expression_kind e
 expression_kind (element at at' i o e) = kind.MemberExpr
+expression_kind (super_member at at' k) = kind.SuperPropExpr
+expression_kind (super_element at at' at'' e) = kind.SuperPropExpr
+expression_kind (super_call at at' es none) = kind.CallExpr
 expression_kind (new_expression at e es none) = kind.NewExpr
 expression_kind (new_alone at e none none') = kind.NewExpr
 expression_kind (new_target at) = kind.MetaPropExpr NewTarget
@@ -298,11 +312,14 @@ expression_kind (sequence_expression at x y es) = kind.SeqExpr
 
 abbrev mutual
   pub expression_parts : {level : Level} {e : Node} → IsExpression level e → List Node
-  expression_parts (member at i o k) = bare (expression_kind o) (expression_parts o) ∷ bare (kind.IdentName (key_word k)) [] ∷ []
+  expression_parts (member at i o k) = bare (expression_kind o) (expression_parts o) ∷ bare (chain_kind k) [] ∷ []
   expression_parts (call at c es none) = bare (expression_kind c) (expression_parts c) ∷ list_node (bare_arguments es) ∷ absent ∷ []
   expression_parts (parenthesized at e) = bare (expression_kind e) (expression_parts e) ∷ []
   expression_parts (looser e) = expression_parts e
   expression_parts (element at at' i o e) = bare (expression_kind o) (expression_parts o) ∷ bare kind.ComputedPropName (bare (expression_kind e) (expression_parts e) ∷ []) ∷ []
+  expression_parts (super_member at at' k) = bare kind.Super [] ∷ bare (kind.IdentName (key_word k)) [] ∷ []
+  expression_parts (super_element at at' at'' e) = bare kind.Super [] ∷ bare kind.ComputedPropName (bare (expression_kind e) (expression_parts e) ∷ []) ∷ []
+  expression_parts (super_call at at' es none) = bare kind.Super [] ∷ list_node (bare_arguments es) ∷ absent ∷ []
   expression_parts (new_expression at e es none) = bare (expression_kind e) (expression_parts e) ∷ list_node (bare_arguments es) ∷ absent ∷ []
   expression_parts (new_alone at e none none') = bare (expression_kind e) (expression_parts e) ∷ absent ∷ absent ∷ []
   expression_parts (prefix_update at o e) = bare (expression_kind e) (expression_parts e) ∷ []

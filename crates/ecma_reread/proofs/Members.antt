@@ -1,0 +1,101 @@
+-- Members by a name are read as they are laid out.
+use Rattle.std.proofs.Common.{◌≡◌, ℕ, Bool, false, List, [], ◌∷◌, ◌++◌, length, codes, refl, ap, sym, ◌∙◌, append_assoc, Some, None, ◌+◌, subst, arith}
+use Rattle.ecma_lex.specs.Text.{piece}
+use Rattle.ecma_lex.specs.Keys.{priv_name_end}
+use Rattle.ecma_kind.specs.declared.kind.Kind.{Kind}
+use Rattle.ecma_kind.specs.declared.kind.Kind.TheVariants as kind
+use Rattle.ecma_tree.specs.declared.node.Node.{Node}
+use Rattle.ecma_tree.specs.Nodes.{absent}
+use Rattle.ecma_grammar.specs.declared.production.Part.TheVariants as part
+use Rattle.ecma_grammar.specs.declared.production.Link.TheVariants as link
+use Rattle.ecma_grammar.specs.trees.Chains.{step_on, in_front_link}
+use Rattle.ecma_grammar.specs.productions.Names as names
+use Rattle.ecma_grammar.specs.productions.Functions.{arrow_rest}
+use Rattle.ecma_grammar.specs.productions.Chains as chains
+use Rattle.ecma_grammar.specs.productions.Chains.{links, new_links, chain_key}
+use Rattle.ecma_grammar.proofs.Steps.{steps-append}
+use Rattle.ecma_tokens.specs.Items as items
+use Rattle.ecma_tokens.specs.Items.{Tok, sign, no_gap, Items, it}
+use Rattle.ecma_tokens.specs.Good.{IsToken}
+use Rattle.ecma_tokens.proofs.Privates.{private_parts}
+use Rattle.ecma_reread.specs.Machine.{read, interp, means}
+use Rattle.ecma_reread.specs.Shapes as shapes
+use Rattle.ecma_reread.specs.Shapes.{IsChainKey}
+use Rattle.ecma_reread.specs.Tokens.{bare, blank, chain_token, chain_kind}
+use Rattle.ecma_reread.proofs.Levels.{means_is}
+use Rattle.ecma_reread.proofs.Fronts.{exactly, at_token, refused_at}
+use Rattle.ecma_reread.proofs.Heads.{member_made}
+use Rattle.ecma_reread.proofs.Forms.{Laid, s, Reads, linked_param, Form, NewForm}
+use Rattle.std.specs.Str.{IsUtf8}
+use Rattle.ecma_lex.proofs.Suffixes.{Cut, cut_utf8, past, piece_here}
+use Rattle.ecma_lex.proofs.Spelled.{alone}
+
+-- a token of which the grammar makes the key of a member
+pub record IsLinkKey (t : Tok) (k : Kind) : Type 0 where
+  pub taken : (assigned : Bool) (us : Items) → Reads assigned chain_key (it no_gap t us) (bare k [] ∷ []) us
+
+tail_of : List ℕ → List ℕ
+tail_of [] = []
+tail_of (x ∷ xs) = xs
+
+-- behind `#` the name stands
+name_behind : (name : List ℕ) → IsToken priv_name_end (codes "#" ++ name) → piece (codes "#" ++ name) 1 (length (codes "#" ++ name)) ≡ name
+unfolding tail_of
+name_behind name t =
+    let w = codes "#" ++ name in
+    let p = private_parts w t.utf8 t.whole in
+    let key = p.key in
+    let u : IsUtf8 name = subst IsUtf8 (ap tail_of (sym p.is)) key.0 in
+    let size : 1 + length name ≡ length w = omega arith in
+    subst (λ n. piece w 1 n ≡ name) size (piece_here w 1 name [] (past w (codes "#") (alone w)) (cut_utf8 name [] u refl) refl)
+
+pub link_key : {n : Node} (k : IsChainKey n) → IsLinkKey (chain_token k) (chain_kind k)
+unfolding chain_key
+link_key (shapes.plain_key k) = record { taken = λ assigned us. refl }
+link_key (shapes.private_key at name t) = record { taken = λ assigned us. ap (λ w. read (bare (kind.PrivateName w) [] ∷ []) us) (name_behind name t) }
+
+pub word_key : (w : List ℕ) → IsLinkKey (items.key w) (kind.IdentName w)
+unfolding chain_key
+word_key w = record { taken = λ assigned us. refl }
+
+module _ (assigned : Bool) where
+  pub dot_read : {t : Tok} {q : Kind} (K : IsLinkKey t q) (us : Items) (ys : List Node) (vs : Items) → Reads assigned links us ys vs → Reads assigned links (s (codes ".") (it no_gap t us)) (bare kind.MemberExpr (absent ∷ bare q [] ∷ []) ∷ ys) vs
+  unfolding links chains.dot_body
+  dot_read {t} K us ys vs h = rw (means_is assigned (part.Link link.Dot) (it no_gap t us), K.taken assigned us, h) refl
+
+  pub member_form : {f : Laid} {k : Kind} {ns : List Node} → Form assigned f k ns → {t : Tok} {q : Kind} (K : IsLinkKey t q) → Form assigned (λ g us. f g (s (codes ".") (it no_gap t us))) kind.MemberExpr (bare k ns ∷ bare q [] ∷ [])
+  unfolding arrow_rest names.binding_ident
+  member_form {f} {k} {ns} F {t} {q} K =
+      let m = bare kind.MemberExpr (absent ∷ bare q [] ∷ []) in
+      let point = exactly (sign (codes ".")) in
+      record {
+        front = F.front;
+        begins = λ g us. F.begins g (s (codes ".") (it no_gap t us));
+        opens = F.opens;
+        starts = F.starts;
+        pieces = F.pieces ++ m ∷ [];
+        own = λ g us e b z ys vs h. rw (append_assoc F.pieces (m ∷ []) ys) (F.own g (s (codes ".") (it no_gap t us)) point at_token refl (m ∷ ys) vs (dot_read K us ys vs h));
+        whole = steps-append in_front_link None F.pieces m ∙ (ap (λ o. step_on in_front_link o m) F.whole ∙ ap Some (member_made k F.head ns (bare q [])));
+        head = refl;
+        no_arrow = λ g us e b z r. F.no_arrow g (s (codes ".") (it no_gap t us)) point at_token refl (refused_at assigned (means assigned) (arrow_rest false false) point (s (codes ".") (it no_gap t us)) at_token refl);
+        no_label = λ g us e b z. F.no_label g (s (codes ".") (it no_gap t us)) point at_token refl;
+        no_declaration = λ g us e b z. F.no_declaration g (s (codes ".") (it no_gap t us)) point at_token refl;
+        no_word = λ g us e b z. F.no_word g (s (codes ".") (it no_gap t us)) point at_token refl;
+        as_param = λ g us e b z. linked_param assigned at_token refl refl (F.as_param g (s (codes ".") (it no_gap t us)) point at_token refl);
+        with_default = λ g ts us n h. linked_param assigned at_token refl refl (F.as_param g (s (codes ".") (it no_gap t (it blank (sign (codes "=")) ts))) point at_token refl);
+      }
+
+  pub new_dot_read : {t : Tok} {q : Kind} (K : IsLinkKey t q) (us : Items) (ys : List Node) (vs : Items) → Reads assigned new_links us ys vs → Reads assigned new_links (s (codes ".") (it no_gap t us)) (bare kind.MemberExpr (absent ∷ bare q [] ∷ []) ∷ ys) vs
+  unfolding new_links chains.new_dot_body
+  new_dot_read {t} K us ys vs h = rw (means_is assigned (part.NewLink link.Dot) (it no_gap t us), K.taken assigned us, h) refl
+
+  pub new_member_form : {f : Laid} {k : Kind} {ns : List Node} → NewForm assigned f k ns → {t : Tok} {q : Kind} (K : IsLinkKey t q) → NewForm assigned (λ g us. f g (s (codes ".") (it no_gap t us))) kind.MemberExpr (bare k ns ∷ bare q [] ∷ [])
+  unfolding member_form
+  new_member_form N {t} {q} K =
+      let F = N.form in
+      let m = bare kind.MemberExpr (absent ∷ bare q [] ∷ []) in
+      record {
+        form = member_form F K;
+        no_point = N.no_point;
+        own = λ g us e b z ys vs h. rw (append_assoc F.pieces (m ∷ []) ys) (N.own g (s (codes ".") (it no_gap t us)) (exactly (sign (codes "."))) at_token refl (m ∷ ys) vs (new_dot_read K us ys vs h));
+      }
