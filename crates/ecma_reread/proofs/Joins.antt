@@ -87,7 +87,7 @@ update_soft PlusPlus z = refl
 update_soft MinusMinus point = refl
 update_soft MinusMinus z = refl
 
-abbrev is_object : Level → Bool
+abbrev pub is_object : Level → Bool
 is_object shapes.new_callee = true
 is_object shapes.object = true
 is_object l = false
@@ -448,6 +448,8 @@ pub record Words : Type 0 where
   pub try_whole : IsToken key_end (codes "try")
   pub catch_whole : IsToken key_end (codes "catch")
   pub finally_whole : IsToken key_end (codes "finally")
+  pub for_whole : IsToken key_end (codes "for")
+  pub of_whole : IsToken key_end (codes "of")
   pub break_whole : IsToken key_end (codes "break")
   pub continue_whole : IsToken key_end (codes "continue")
   pub export_whole : IsToken key_end (codes "export")

@@ -30,7 +30,7 @@ use Rattle.ecma_reread.proofs.Expressions.{semicolon_ends}
 use Rattle.ecma_reread.proofs.Statements.{ReadAsStatement, token_form}
 
 -- no expression begins with `;`
-no_expression : refuses_all (exactly (sign (codes ";"))) (expression false) ≡ true
+pub no_expression : refuses_all (exactly (sign (codes ";"))) (expression false) ≡ true
 unfolding expression functions.arrow functions.arrow_rest names.binding_ident expressions.conditional operators.short_circuit operators.bit_or operators.bit_xor operators.bit_and operators.equality operators.relation operators.shift operators.exponentiation operators.prefixed operators.update chains.chain chains.super_of_link chains.import_meta chains.import_call chains.construction primaries.primary functions.function_expression primaries.class_expression primaries.template primaries.array primaries.object primaries.parenthesized
 no_expression = refl
 

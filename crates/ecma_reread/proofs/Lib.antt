@@ -44,6 +44,7 @@ pub mod Loops
 pub mod Labels
 pub mod Switches
 pub mod Tries
+pub mod ForLoops
 pub mod StatementForms
 pub mod Exports
 pub mod Modules

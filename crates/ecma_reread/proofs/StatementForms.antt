@@ -1,9 +1,9 @@
 -- Statements by their shape.
-use Rattle.std.proofs.Common.{ℕ, suc, Bool, List, ap}
+use Rattle.std.proofs.Common.{ℕ, suc, Bool, true, false, List, ap}
 use Rattle.ecma_tree.specs.declared.node.Node.{Node}
 use Rattle.ecma_reread.specs.Machine.{taken}
 use Rattle.ecma_reread.specs.Shapes as shapes
-use Rattle.ecma_reread.specs.Shapes.{IsInitializer, IsDeclarator, AreDeclarators, Ending, IsStatement, IsBlock, IsCase, AreCases, IsCatch, AreStatements}
+use Rattle.ecma_reread.specs.Shapes.{IsInitializer, IsDeclarator, AreDeclarators, Ending, IsStatement, IsBlock, IsCase, AreCases, IsCatch, AreStatements, IsOptional}
 use Rattle.ecma_reread.specs.Tokens.{line_at, ident_word, closing_gap, is_braced, branch_gap, statement_tokens, block_tokens, case_tokens, cases_tokens, catch_tokens, lined_tokens, bare_statement, bare_block, bare_case, bare_cases, bare_catch, bare_statements}
 use Rattle.ecma_reread.proofs.Bindings.{standing}
 use Rattle.ecma_reread.proofs.Joins.{no_new_line, no_brace}
@@ -16,6 +16,7 @@ use Rattle.ecma_reread.proofs.Branches.{if_form, if_else_form}
 use Rattle.ecma_reread.proofs.Loops.{while_form, do_form}
 use Rattle.ecma_reread.proofs.Switches.{ReadAsCase, ReadAsCases, no_cases_form, more_cases_form, case_form, default_form, switch_form}
 use Rattle.ecma_reread.proofs.Tries.{ReadAsCatch, catch_any_form, catch_name_form, try_catch_form, try_finally_form, try_catch_finally_form}
+use Rattle.ecma_reread.proofs.ForLoops.{OptionalForm, for_loop_form, for_in_form, for_of_form, for_await_form}
 use Rattle.ecma_reread.proofs.Labels.{labeled_form, break_label_form, continue_label_form}
 
 module _ (assigned : Bool) where
@@ -29,6 +30,10 @@ module _ (assigned : Bool) where
   pub declarator_forms : {ds : List Node} (is : AreDeclarators ds) → DeclaratorForms assigned is
   declarator_forms shapes.no_declarators = tt
   declarator_forms (shapes.more_declarators d ds) = (declarator_form d, declarator_forms ds)
+
+  optional_form : {n : Node} (is : IsOptional n) → OptionalForm assigned is
+  optional_form (shapes.left_out a) = tt
+  optional_form (shapes.given e) = standing assigned (expression_form assigned e)
 
   mutual
     pub statement_form : {ending : Ending} {n : Node} (is : IsStatement ending n) (d : ℕ) → ReadAsStatement assigned ending (statement_tokens is d) (bare_statement is)
@@ -52,6 +57,10 @@ module _ (assigned : Bool) where
     statement_form (shapes.try_catch at b c a) d = try_catch_form assigned (block_form b d) (catch_form c d)
     statement_form (shapes.try_finally at b a f) d = try_finally_form assigned (block_form b d) (block_form f d)
     statement_form (shapes.try_catch_finally at b c f) d = try_catch_finally_form assigned (block_form b d) (catch_form c d) (block_form f d)
+    statement_form (shapes.for_loop at a t u b) d = for_loop_form assigned (statement_form b d) t u (optional_form t) (optional_form u)
+    statement_form (shapes.for_in at (shapes.for_binding p q r x k i a c) e b) d = for_in_form assigned (statement_form b d) k (ident_word i) (ident_free assigned i) (standing assigned (expression_form assigned e))
+    statement_form (shapes.for_of at true (shapes.for_binding p q r x k i a c) e b) d = for_await_form assigned (statement_form b d) k (ident_word i) (ident_free assigned i) (expression_form assigned e)
+    statement_form (shapes.for_of at false (shapes.for_binding p q r x k i a c) e b) d = for_of_form assigned (statement_form b d) k (ident_word i) (ident_free assigned i) (expression_form assigned e)
     statement_form (shapes.labeled at i b) d = labeled_form assigned (ident_word i) (ident_free assigned i) (standing assigned (expression_form assigned (shapes.name i))) (statement_form b d)
 
     block_form : {n : Node} (is : IsBlock n) (d : ℕ) → ReadAsBlock assigned (block_tokens is d) (bare_block is)

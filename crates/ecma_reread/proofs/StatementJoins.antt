@@ -13,9 +13,9 @@ use Rattle.ecma_tokens.specs.Items.{Tok, sign, Gap, no_gap, Items, it}
 use Rattle.ecma_tokens.specs.Good.{IsGap, IsToken, is_gap_character}
 use Rattle.ecma_tokens.specs.Joins.{joins, joins_next, Joined}
 use Rattle.ecma_reread.specs.Shapes as shapes
-use Rattle.ecma_reread.specs.Shapes.{Level, IsExpression, Ending, IsStatement, IsBlock, IsCase, AreCases, IsCatch, AreStatements}
-use Rattle.ecma_reread.specs.Tokens.{margin, line_at, blank, sign_of, expression_tokens, ident_word, declarators_tokens, closing_gap, is_braced, branch_gap, test_tokens, statement_tokens, block_tokens, case_tokens, cases_tokens, catch_tokens, lined_tokens}
-use Rattle.ecma_reread.proofs.Joins.{begun, closing, semicolon, colon, ident_whole, blank_joins, opening_joins, no_gap_is, blank_is, Words, expression_joined, declarators_soft, declarator_joined, declarators_joined}
+use Rattle.ecma_reread.specs.Shapes.{Level, IsExpression, Ending, IsStatement, IsBlock, IsCase, AreCases, IsCatch, AreStatements, IsOptional, IsForBinding}
+use Rattle.ecma_reread.specs.Tokens.{margin, line_at, blank, sign_of, expression_tokens, ident_word, declarators_tokens, closing_gap, is_braced, branch_gap, test_tokens, statement_tokens, block_tokens, case_tokens, cases_tokens, catch_tokens, lined_tokens, optional_tokens, for_binding_tokens, for_tokens}
+use Rattle.ecma_reread.proofs.Joins.{begun, closing, semicolon, colon, ident_whole, blank_joins, opening_joins, no_gap_is, blank_is, Words, expression_joined, declarators_soft, declarator_joined, declarators_joined, Soft, is_object}
 
 -- gaps that keep any two tokens apart
 abbrev pub Wide : Gap → Type 0
@@ -62,6 +62,10 @@ statement_apart (shapes.switch_statement at at' e cs) d g w us t = w t (items.ke
 statement_apart (shapes.try_catch at b c n) d g w us t = w t (items.key (codes "try"))
 statement_apart (shapes.try_finally at b n f) d g w us t = w t (items.key (codes "try"))
 statement_apart (shapes.try_catch_finally at b c f) d g w us t = w t (items.key (codes "try"))
+statement_apart (shapes.for_loop at n t' u b) d g w us t = w t (items.key (codes "for"))
+statement_apart (shapes.for_in at l e b) d g w us t = w t (items.key (codes "for"))
+statement_apart (shapes.for_of at true l e b) d g w us t = w t (items.key (codes "for"))
+statement_apart (shapes.for_of at false l e b) d g w us t = w t (items.key (codes "for"))
 statement_apart (shapes.labeled at i b) d g w us t = w t (items.key (ident_word i))
 
 lined_apart : {ss : List Node} (is : AreStatements ss) (d : ℕ) (us : Items) (t : Tok) → joins_next t us ≡ true → joins_next t (lined_tokens is d us) ≡ true
@@ -105,6 +109,24 @@ module _ (words : Words) where
   keyword_whole Var = words.var_whole
   keyword_whole Let = words.let_whole
   keyword_whole Const = words.const_whole
+
+  optional_opens : (t : Tok) {n : Node} (is : IsOptional n) (us : Items) → joins_next t us ≡ true → joins_next t (optional_tokens is us) ≡ true
+  optional_opens t (shapes.left_out a) us h = h
+  optional_opens t (shapes.given e) us h = blank_joins t e us
+
+  optional_joined : {n : Node} (is : IsOptional n) (us : Items) → ((object : Bool) → Soft object us) → Joined us → Joined (optional_tokens is us)
+  optional_joined (shapes.left_out a) us z j = j
+  optional_joined (shapes.given {level = l} e) us z j = expression_joined words e blank blank_is us (z (is_object l)) j
+
+  for_binding_joined : {n : Node} (is : IsForBinding n) (t : Tok) (us : Items) → Joined (it blank t us) → Joined (for_binding_tokens is (it blank t us))
+  for_binding_joined (shapes.for_binding at of_list at_declarator at_binding k i a b) t us j = (no_gap_is, keyword_whole k, refl, (blank_is, ident_whole i, refl, j))
+
+  -- the head of a loop over what is given
+  for_joined : (is_await : Bool) {n : Node} (is : IsForBinding n) (t : Tok) (us : Items) (g : Gap) → IsGap g → Joined (it blank t us) → Joined (for_tokens is_await g (for_binding_tokens is (it blank t us)))
+  unfolding punctuators
+  for_joined true (shapes.for_binding at of_list at_declarator at_binding k i a b) t us g h j =
+      (h, words.for_whole, refl, (blank_is, words.await_whole, refl, (blank_is, refl, refl, for_binding_joined (shapes.for_binding at of_list at_declarator at_binding k i a b) t us j)))
+  for_joined false (shapes.for_binding at of_list at_declarator at_binding k i a b) t us g h j = (h, words.for_whole, refl, (blank_is, refl, refl, for_binding_joined (shapes.for_binding at of_list at_declarator at_binding k i a b) t us j))
 
   -- several in braces, where each is on a line of its own
   braces_joined : (ss : List Node) (d : ℕ) (f : Items → Items) → ((vs : Items) → ss ≡ [] → f vs ≡ vs) → ((vs : Items) → Apart vs → joins_next (sign (codes "{")) (f vs) ≡ true) → ((vs : Items) → Apart vs → Joined vs → Joined (f vs))
@@ -173,6 +195,37 @@ module _ (words : Words) where
         let end = it blank (items.key (codes "finally")) (block_tokens f d blank us) in
         let cs = catch_tokens c d end in
         (h, words.try_whole, block_apart b d blank blank_wide cs (items.key (codes "try")), block_joined b d blank blank_is cs (catch_apart c d end) (catch_joined c d end (λ t. refl) (finally_joined f d us (block_joined f d blank blank_is us a j))))
+    statement_joined (shapes.for_loop at n t u b) d g h us a j =
+        let bs = statement_tokens b d blank us in
+        let us' = optional_tokens u (sign_of (codes ")") bs) in (
+          h,
+          words.for_whole,
+          refl,
+          (
+            blank_is,
+            refl,
+            refl,
+            (
+              no_gap_is,
+              refl,
+              optional_opens (sign (codes ";")) t (sign_of (codes ";") us') refl,
+              optional_joined t (sign_of (codes ";") us') (λ o. semicolon) (
+                no_gap_is,
+                refl,
+                optional_opens (sign (codes ";")) u (sign_of (codes ")") bs) refl,
+                optional_joined u (sign_of (codes ")") bs) (λ o. closing) (no_gap_is, refl, statement_apart b d blank blank_wide us (sign (codes ")")), statement_joined b d blank blank_is us a j),
+              ),
+            ),
+          ),
+        )
+    statement_joined (shapes.for_in at l e b) d g h us a j =
+        let bs = sign_of (codes ")") (statement_tokens b d blank us) in
+        let rest : Joined bs = (no_gap_is, refl, statement_apart b d blank blank_wide us (sign (codes ")")), statement_joined b d blank blank_is us a j) in
+        for_joined false l (items.key (codes "in")) (expression_tokens e blank bs) g h (blank_is, words.in_whole, blank_joins (items.key (codes "in")) e bs, expression_joined words e blank blank_is bs closing rest)
+    statement_joined (shapes.for_of at w l e b) d g h us a j =
+        let bs = sign_of (codes ")") (statement_tokens b d blank us) in
+        let rest : Joined bs = (no_gap_is, refl, statement_apart b d blank blank_wide us (sign (codes ")")), statement_joined b d blank blank_is us a j) in
+        for_joined w l (items.key (codes "of")) (expression_tokens e blank bs) g h (blank_is, words.of_whole, blank_joins (items.key (codes "of")) e bs, expression_joined words e blank blank_is bs closing rest)
     statement_joined (shapes.labeled at i b) d g h us a j = (h, ident_whole i, refl, (no_gap_is, refl, statement_apart b d blank blank_wide us (sign (codes ":")), statement_joined b d blank blank_is us a j))
 
     block_joined : {n : Node} (is : IsBlock n) (d : ℕ) (g : Gap) → IsGap g → (us : Items) → Apart us → Joined us → Joined (block_tokens is d g us)

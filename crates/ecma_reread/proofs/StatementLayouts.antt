@@ -8,22 +8,23 @@ use Rattle.ecma_kind.specs.declared.kind.Kind.TheVariants as kind
 use Rattle.ecma_kind.specs.declared.span.Span.{Span}
 use Rattle.ecma_tree.specs.declared.node.Node.{Node, fold_out-Node}
 use Rattle.ecma_tree.specs.Nodes.{node_of}
-use Rattle.ecma_print.specs.declared.place.Begins.TheVariants.{StatementStart}
+use Rattle.ecma_print.specs.declared.place.Begins.TheVariants.{StatementStart, Anywhere}
+use Rattle.ecma_print.specs.declared.place.Beside.TheVariants.{NoNeighbor}
 use Rattle.ecma_print.specs.declared.place.Between.{Between}
-use Rattle.ecma_print.specs.declared.place.Between.TheVariants.{Blank, Finally, Else, LineElse, Parentheses}
+use Rattle.ecma_print.specs.declared.place.Between.TheVariants.{Blank, Finally, Else, LineElse, Parentheses, Equals}
 use Rattle.ecma_print.specs.declared.place.Spot.{Spot}
 use Rattle.ecma_print.specs.declared.place.Place.TheVariants.{At, Within, Deeper, Block, Commas}
-use Rattle.ecma_print.specs.Places.{before, after, free, beginning}
+use Rattle.ecma_print.specs.Places.{before, after, free, beginning, right}
 use Rattle.ecma_print.specs.Laid.{Laid, is_absent, is_block}
 use Rattle.ecma_print.specs.Lists.{new_lines, block}
-use Rattle.ecma_print.specs.Statements.{else_behind, behind_body, case_word, keyword}
+use Rattle.ecma_print.specs.Statements.{else_behind, behind_body, case_word, keyword, head, for_word}
 use Rattle.ecma_print.specs.Layout.{in_place, lay_step, laid}
 use Rattle.ecma_tokens.specs.Items as items
 use Rattle.ecma_tokens.specs.Items.{sign, Gap, no_gap, Items, it, render}
 use Rattle.ecma_reread.specs.Shapes as shapes
-use Rattle.ecma_reread.specs.Shapes.{Level, IsExpression, IsDeclarator, AreDeclarators, Ending, IsStatement, IsBlock, IsCase, AreCases, IsCatch, AreStatements}
-use Rattle.ecma_reread.specs.Tokens.{margin, line_at, blank, sign_of, expression_tokens, declarator_tokens, declarators_tokens, closing_gap, is_braced, branch_gap, test_tokens, statement_tokens, block_tokens, case_tokens, cases_tokens, catch_tokens, lined_tokens}
-use Rattle.ecma_reread.proofs.Layouts.{laid_node, at_node, calm_0, calm_start, gap_out, expression_laid, within_laid, declarator_laid, more_declarators_laid}
+use Rattle.ecma_reread.specs.Shapes.{Level, IsExpression, IsDeclarator, AreDeclarators, Ending, IsStatement, IsBlock, IsCase, AreCases, IsCatch, AreStatements, IsOptional, IsForBinding}
+use Rattle.ecma_reread.specs.Tokens.{margin, line_at, blank, sign_of, expression_tokens, declarator_tokens, declarators_tokens, closing_gap, is_braced, branch_gap, test_tokens, statement_tokens, block_tokens, case_tokens, cases_tokens, catch_tokens, lined_tokens, ident_word, optional_tokens, for_binding_tokens, for_tokens}
+use Rattle.ecma_reread.proofs.Layouts.{laid_node, at_node, calm_0, calm_start, gap_out, expression_laid, within_laid, declarator_laid, more_declarators_laid, calm_1}
 
 -- an expression behind a word, and the end of the statement
 argument_laid : {level : Level} {e : Node} (is : IsExpression level e) (m : List ℕ) (us : Items) → (laid e).at (Within Blank (free 0)) m (codes ";" ++ render us) ≡ render (expression_tokens is blank (sign_of (codes ";") us))
@@ -39,6 +40,35 @@ keyword_laid k {d = d'} {ds = ds'} is more at at' m us =
     at_node at (kind.VarDecl k false) (node_of at' kind.List (d' ∷ ds') ∷ []) (At (free 0)) m (render us)
     ∙ (ap (λ z. keyword k ++ (codes " " ++ z)) (at_node at' kind.List (d' ∷ ds') (Commas (free 1)) m (codes ";" ++ render us))
     ∙ ap (λ z. keyword k ++ z) (ap (λ z. codes " " ++ (laid d').at (At (free 1)) m z) (more_declarators_laid more m us) ∙ declarator_laid is m (declarators_tokens more (sign_of (codes ";") us))))
+
+-- what may be left out, behind a blank
+optional_laid : {n : Node} (is : IsOptional n) (m : List ℕ) (us : Items) → (laid n).at (Within Blank (free 0)) m (render us) ≡ render (optional_tokens is us)
+unfolding render
+optional_laid (shapes.left_out (shapes.absent at)) m us = at_node at kind.Absent [] (Within Blank (free 0)) m (render us)
+optional_laid (shapes.given {level = l} e) m us = within_laid e Blank (free 0) m (render us) ∙ (ap (λ z. codes " " ++ z) (expression_laid e (free 0) (calm_0 l) m us) ∙ sym (gap_out e blank us))
+
+for_binding_laid : {n : Node} (is : IsForBinding n) (m : List ℕ) (us : Items) → (laid n).at head m (render us) ≡ render (for_binding_tokens is us)
+unfolding render
+for_binding_laid (shapes.for_binding at of_list at_declarator at_binding k {none = n'} {init = i'} (shapes.ident of w i) a (shapes.absent at')) m us =
+    let spot = right (beginning 0 Anywhere true) 1 NoNeighbor in
+    let name = node_of at_binding kind.BindingIdent (node_of of (kind.Ident w 0 false) [] ∷ n' ∷ []) in
+    let d = node_of at_declarator (kind.VarDeclarator false) (name ∷ i' ∷ []) in
+    at_node at (kind.VarDecl k false) (node_of of_list kind.List (d ∷ []) ∷ []) head m (render us)
+    ∙ ap (λ z. keyword k ++ (codes " " ++ z))
+    (at_node of_list kind.List (d ∷ []) (Commas spot) m (render us)
+    ∙ (at_node at_declarator (kind.VarDeclarator false) (name ∷ i' ∷ []) (At spot) m (render us)
+    ∙ (at_node at_binding kind.BindingIdent (node_of of (kind.Ident w 0 false) [] ∷ n' ∷ []) (At (free 1)) m ((laid i').at (Within Equals (right spot 1 NoNeighbor)) m (render us))
+    ∙ rw (laid_node of (kind.Ident w 0 false) []) (ap (λ z. w ++ z) (at_node at' kind.Absent [] (Within Equals (right spot 1 NoNeighbor)) m (render us))))))
+
+for_laid : (is_await : Bool) (us : Items) → for_word is_await ++ render us ≡ render (for_tokens is_await no_gap us)
+unfolding render
+for_laid true us = refl
+for_laid false us = refl
+
+for_gap : (is_await : Bool) (g : Gap) (us : Items) → render (for_tokens is_await g us) ≡ g.blanks ++ render (for_tokens is_await no_gap us)
+unfolding render
+for_gap true g us = refl
+for_gap false g us = refl
 
 -- several in braces, where each is on a line of its own
 in_braces : (ss : List Node) (d : ℕ) (f : Items → Items) → ((vs : Items) → new_lines (map laid ss) (margin (suc d)) (render vs) ≡ render (f vs)) → (us : Items)
@@ -107,6 +137,9 @@ statement_seen (shapes.switch_statement at at' e cs) = seen at _ _ false refl re
 statement_seen (shapes.try_catch at b c a) = seen at _ _ false refl refl
 statement_seen (shapes.try_finally at b a f) = seen at _ _ false refl refl
 statement_seen (shapes.try_catch_finally at b c f) = seen at _ _ false refl refl
+statement_seen (shapes.for_loop at a t u b) = seen at _ _ false refl refl
+statement_seen (shapes.for_in at l e b) = seen at _ _ false refl refl
+statement_seen (shapes.for_of at w l e b) = seen at _ _ false refl refl
 statement_seen (shapes.labeled at i b) = seen at _ _ false refl refl
 
 -- a body behind a blank
@@ -229,6 +262,38 @@ mutual
       (sym (at_node at kind.TryStmt (b' ∷ c' ∷ f' ∷ []) (At (free 0)) m (render us)
       ∙ (ap (λ z. codes "try " ++ (laid b').at (At (free 0)) m ((laid c').at (Within Blank (free 0)) m z)) (finally_laid (block_seen f) m us fs (block_laid f d blank us))
       ∙ (ap (λ z. codes "try " ++ (laid b').at (At (free 0)) m z) (catch_laid c d end) ∙ ap (λ z. codes "try" ++ z) (block_laid b d blank (catch_tokens c d end))))))
+  statement_laid (shapes.for_loop at {test = t'} {update = u'} {body = b'} (shapes.absent at') t u b) d g us =
+      let m = margin d in
+      let bs = statement_tokens b d blank us in
+      let us' = optional_tokens u (sign_of (codes ")") bs) in
+      ap (λ z. g.blanks ++ z)
+      (sym (at_node at kind.ForStmt (node_of at' kind.Absent [] ∷ t' ∷ u' ∷ b' ∷ []) (At (free 0)) m (render us)
+      ∙ ap (λ z. codes "for (" ++ z)
+      (at_node at' kind.Absent [] head m (codes ";" ++ (laid t').at (Within Blank (free 0)) m (codes ";" ++ (laid u').at (Within Blank (free 0)) m (codes ")" ++ (laid b').at (Within Blank (free 0)) m (render us))))
+      ∙ ap (λ z. codes ";" ++ z)
+      (ap (λ z. (laid t').at (Within Blank (free 0)) m (codes ";" ++ z)) (ap (λ z. (laid u').at (Within Blank (free 0)) m (codes ")" ++ z)) (body_laid (statement_seen b) m us bs (statement_laid b d blank us)) ∙ optional_laid u m (sign_of (codes ")") bs))
+      ∙ optional_laid t m (sign_of (codes ";") us')))))
+  statement_laid (shapes.for_in at {level = l} {left = l'} {object = e'} {body = b'} left e b) d g us =
+      let m = margin d in
+      let bs = statement_tokens b d blank us in
+      let es = expression_tokens e blank (sign_of (codes ")") bs) in
+      ap (λ z. g.blanks ++ z)
+      (sym (at_node at kind.ForInStmt (l' ∷ e' ∷ b' ∷ []) (At (free 0)) m (render us)
+      ∙ ap (λ z. codes "for (" ++ z)
+      (ap (λ z. (laid l').at head m (codes " in " ++ z)) (ap (λ z. (laid e').at (At (free 0)) m (codes ")" ++ z)) (body_laid (statement_seen b) m us bs (statement_laid b d blank us)) ∙ expression_laid e (free 0) (calm_0 l) m (sign_of (codes ")") bs))
+      ∙ (ap (λ z. (laid l').at head m (codes " in" ++ z)) (sym (gap_out e blank (sign_of (codes ")") bs))) ∙ for_binding_laid left m (it blank (items.key (codes "in")) es)))))
+  statement_laid (shapes.for_of at w {left = l'} {iterable = e'} {body = b'} left e b) d g us =
+      let m = margin d in
+      let bs = statement_tokens b d blank us in
+      let es = expression_tokens e blank (sign_of (codes ")") bs) in
+      let ls = for_binding_tokens left (it blank (items.key (codes "of")) es) in
+      for_gap w g ls
+      ∙ ap (λ z. g.blanks ++ z)
+      (sym (at_node at (kind.ForOfStmt w) (l' ∷ e' ∷ b' ∷ []) (At (free 0)) m (render us)
+      ∙ (ap (λ z. for_word w ++ z)
+      (ap (λ z. (laid l').at head m (codes " of " ++ z)) (ap (λ z. (laid e').at (At (free 1)) m (codes ")" ++ z)) (body_laid (statement_seen b) m us bs (statement_laid b d blank us)) ∙ expression_laid e (free 1) calm_1 m (sign_of (codes ")") bs))
+      ∙ (ap (λ z. (laid l').at head m (codes " of" ++ z)) (sym (gap_out e blank (sign_of (codes ")") bs))) ∙ for_binding_laid left m (it blank (items.key (codes "of")) es)))
+      ∙ for_laid w ls)))
   statement_laid (shapes.labeled at {body = b'} (shapes.ident of w i) b) d g us =
       let m = margin d in
       ap (λ z. g.blanks ++ z)

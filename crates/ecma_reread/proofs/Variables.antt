@@ -63,7 +63,7 @@ other_declarations =
 abbrev pub binding : List ℕ → Node
 binding w = bare kind.BindingIdent (bare (kind.Ident w 0 false) [] ∷ absent ∷ [])
 
-declarator_made : (w : List ℕ) (init : Node) → made form.Declarator 0 0 (binding w ∷ absent ∷ absent ∷ init ∷ []) ≡ bare (kind.VarDeclarator false) (binding w ∷ init ∷ [])
+pub declarator_made : (w : List ℕ) (init : Node) → made form.Declarator 0 0 (binding w ∷ absent ∷ absent ∷ init ∷ []) ≡ bare (kind.VarDeclarator false) (binding w ∷ init ∷ [])
 declarator_made w init = simp nodes
 
 module _ (assigned : Bool) where

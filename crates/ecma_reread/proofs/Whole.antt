@@ -6,8 +6,8 @@ use Rattle.ecma_tree.specs.declared.node.Node.{Node}
 use Rattle.ecma_tree.specs.Nodes.{absent, list_node}
 use Rattle.ecma_tree.specs.Spans.{without_spans}
 use Rattle.ecma_reread.specs.Shapes as shapes
-use Rattle.ecma_reread.specs.Shapes.{Level, IsIdent, ident, IsKey, key, IsAbsent, IsExpression, IsElement, IsArguments, AreElements, AreExpressions, IsInitializer, IsDeclarator, AreDeclarators, Ending, IsStatement, IsBlock, AreStatements, AreSlots, IsCase, AreCases, IsCatch, IsChainKey}
-use Rattle.ecma_reread.specs.Tokens.{bare, bare_ident, key_word, bare_expression, bare_element, bare_arguments, bare_elements, bare_expressions, bare_initializer, bare_declarator, bare_declarators, bare_statement, bare_block, bare_statements, bare_slots, bare_case, bare_cases, bare_catch, chain_kind}
+use Rattle.ecma_reread.specs.Shapes.{Level, IsIdent, ident, IsKey, key, IsAbsent, IsExpression, IsElement, IsArguments, AreElements, AreExpressions, IsInitializer, IsDeclarator, AreDeclarators, Ending, IsStatement, IsBlock, AreStatements, AreSlots, IsCase, AreCases, IsCatch, IsChainKey, IsOptional, IsForBinding}
+use Rattle.ecma_reread.specs.Tokens.{bare, bare_ident, key_word, bare_expression, bare_element, bare_arguments, bare_elements, bare_expressions, bare_initializer, bare_declarator, bare_declarators, bare_statement, bare_block, bare_statements, bare_slots, bare_case, bare_cases, bare_catch, chain_kind, bare_optional, bare_for_binding}
 use Rattle.ecma_reread.proofs.Unplaced.{without_spans-node}
 
 pub absent_bare : {n : Node} → IsAbsent n → without_spans n ≡ absent
@@ -99,6 +99,19 @@ declarators_bare : {ds : List Node} (is : AreDeclarators ds) → map without_spa
 declarators_bare shapes.no_declarators = refl
 declarators_bare (shapes.more_declarators d ds) = ap₂ (λ x xs. x ∷ xs) (declarator_bare d) (declarators_bare ds)
 
+optional_bare : {n : Node} (is : IsOptional n) → without_spans n ≡ bare_optional is
+optional_bare (shapes.left_out a) = absent_bare a
+optional_bare (shapes.given e) = expression_bare e
+
+for_binding_bare : {n : Node} (is : IsForBinding n) → without_spans n ≡ bare_for_binding is
+for_binding_bare (shapes.for_binding at of_list at_declarator at_binding k i a b) =
+    without_spans-node at (kind.VarDecl k false) _
+    ∙ ap (λ x. bare (kind.VarDecl k false) (x ∷ []))
+    (without_spans-node of_list kind.List _
+    ∙ ap (λ x. list_node (x ∷ []))
+    (without_spans-node at_declarator (kind.VarDeclarator false) _
+    ∙ ap₂ (λ x y. bare (kind.VarDeclarator false) (x ∷ y ∷ [])) (without_spans-node at_binding kind.BindingIdent _ ∙ ap₂ (λ x y. bare kind.BindingIdent (x ∷ y ∷ [])) (ident_bare i) (absent_bare a)) (absent_bare b)))
+
 mutual
   pub statement_bare : {ending : Ending} {n : Node} (is : IsStatement ending n) → without_spans n ≡ bare_statement is
   statement_bare (shapes.empty at) = without_spans-node at kind.EmptyStmt []
@@ -132,6 +145,16 @@ mutual
   statement_bare (shapes.try_catch_finally at {f = f'} b c f) =
       without_spans-node at kind.TryStmt _
       ∙ (ap₂ (λ x y. bare kind.TryStmt (x ∷ y ∷ without_spans f' ∷ [])) (block_bare b) (catch_bare c) ∙ ap (λ z. bare kind.TryStmt (bare_block b ∷ bare_catch c ∷ z ∷ [])) (block_bare f))
+  statement_bare (shapes.for_loop at {update = u'} {body = b'} a t u b) =
+      without_spans-node at kind.ForStmt _
+      ∙ (ap₂ (λ x y. bare kind.ForStmt (x ∷ y ∷ without_spans u' ∷ without_spans b' ∷ [])) (absent_bare a) (optional_bare t)
+      ∙ ap₂ (λ x y. bare kind.ForStmt (absent ∷ bare_optional t ∷ x ∷ y ∷ [])) (optional_bare u) (statement_bare b))
+  statement_bare (shapes.for_in at {body = b'} l e b) =
+      without_spans-node at kind.ForInStmt _
+      ∙ (ap₂ (λ x y. bare kind.ForInStmt (x ∷ y ∷ without_spans b' ∷ [])) (for_binding_bare l) (expression_bare e) ∙ ap (λ z. bare kind.ForInStmt (bare_for_binding l ∷ bare_expression e ∷ z ∷ [])) (statement_bare b))
+  statement_bare (shapes.for_of at w {body = b'} l e b) =
+      without_spans-node at (kind.ForOfStmt w) _
+      ∙ (ap₂ (λ x y. bare (kind.ForOfStmt w) (x ∷ y ∷ without_spans b' ∷ [])) (for_binding_bare l) (expression_bare e) ∙ ap (λ z. bare (kind.ForOfStmt w) (bare_for_binding l ∷ bare_expression e ∷ z ∷ [])) (statement_bare b))
   statement_bare (shapes.labeled at i b) = without_spans-node at kind.LabeledStmt _ ∙ ap₂ (λ x y. bare kind.LabeledStmt (x ∷ y ∷ [])) (ident_bare i) (statement_bare b)
 
   block_bare : {n : Node} (is : IsBlock n) → without_spans n ≡ bare_block is

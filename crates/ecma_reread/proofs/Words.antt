@@ -119,6 +119,14 @@ finally_spelled : Spelled IsKey (codes "finally")
 unfolding chars is_utf8 encode is_xid_start is_xid_continue in_ranges xid_start_ranges xid_continue_ranges
 finally_spelled = (IsUtf8-from_is_utf8 (codes "finally") refl, (refl, refl))
 
+for_spelled : Spelled IsKey (codes "for")
+unfolding chars is_utf8 encode is_xid_start is_xid_continue in_ranges xid_start_ranges xid_continue_ranges
+for_spelled = (IsUtf8-from_is_utf8 (codes "for") refl, (refl, refl))
+
+of_spelled : Spelled IsKey (codes "of")
+unfolding chars is_utf8 encode is_xid_start is_xid_continue in_ranges xid_start_ranges xid_continue_ranges
+of_spelled = (IsUtf8-from_is_utf8 (codes "of") refl, (refl, refl))
+
 break_spelled : Spelled IsKey (codes "break")
 unfolding chars is_utf8 encode is_xid_start is_xid_continue in_ranges xid_start_ranges xid_continue_ranges
 break_spelled = (IsUtf8-from_is_utf8 (codes "break") refl, (refl, refl))
@@ -188,6 +196,8 @@ layout_words = record {
   try_whole = whole (codes "try") try_spelled;
   catch_whole = whole (codes "catch") catch_spelled;
   finally_whole = whole (codes "finally") finally_spelled;
+  for_whole = whole (codes "for") for_spelled;
+  of_whole = whole (codes "of") of_spelled;
   break_whole = whole (codes "break") break_spelled;
   continue_whole = whole (codes "continue") continue_spelled;
   export_whole = whole (codes "export") export_spelled;

@@ -1,5 +1,5 @@
 -- The trees of expressions and statements, a constructor for each form. Parentheses are parts of these trees: none have to be added.
-use Rattle.std.specs.Prelude.{◌≡◌, ℕ, ◌-◌, true, false, List, [], ◌∷◌, length, Some, ◌++◌, codes}
+use Rattle.std.specs.Prelude.{◌≡◌, ℕ, ◌-◌, true, false, List, [], ◌∷◌, length, Some, ◌++◌, codes, Bool}
 use Rattle.ecma_number.specs.Numeral.{numeral_of}
 use Rattle.ecma_lex.specs.Text.{piece}
 use Rattle.ecma_lex.specs.Keys.{is_reserved, key_end, priv_name_end}
@@ -185,6 +185,16 @@ pub data AreDeclarators : List Node → Type 0 where
   no_declarators : AreDeclarators []
   more_declarators : {d : Node} {ds : List Node} → IsDeclarator d → AreDeclarators ds → AreDeclarators (d ∷ ds)
 
+-- what may be left out
+pub data IsOptional : Node → Type 0 where
+  left_out : {none : Node} → IsAbsent none → IsOptional none
+  given : {level : Level} {e : Node} → IsExpression level e → IsOptional e
+
+-- a name that is declared in the head of a loop, for each of its turns
+pub data IsForBinding : Node → Type 0 where
+  for_binding : (at of_list at_declarator at_binding : Span) (k : VarDeclKind) {id none init : Node} → IsIdent id → IsAbsent none → IsAbsent init
+      → IsForBinding (node_of at (kind.VarDecl k false) (node_of of_list kind.List (node_of at_declarator (kind.VarDeclarator false) (node_of at_binding kind.BindingIdent (id ∷ none ∷ []) ∷ init ∷ []) ∷ []) ∷ []))
+
 -- whether a statement ends with an `if` without `else`: that would take an `else` behind it as its own
 pub data Ending : Type 0 where
   closed dangling : Ending
@@ -213,6 +223,10 @@ mutual
     try_catch : (at : Span) {b c none : Node} → IsBlock b → IsCatch c → IsAbsent none → IsStatement closed (node_of at kind.TryStmt (b ∷ c ∷ none ∷ []))
     try_finally : (at : Span) {b none f : Node} → IsBlock b → IsAbsent none → IsBlock f → IsStatement closed (node_of at kind.TryStmt (b ∷ none ∷ f ∷ []))
     try_catch_finally : (at : Span) {b c f : Node} → IsBlock b → IsCatch c → IsBlock f → IsStatement closed (node_of at kind.TryStmt (b ∷ c ∷ f ∷ []))
+    for_loop : (at : Span) {ending : Ending} {none test update body : Node} → IsAbsent none → IsOptional test → IsOptional update → IsStatement ending body → IsStatement ending (node_of at kind.ForStmt (none ∷ test ∷ update ∷ body ∷ []))
+    for_in : (at : Span) {level : Level} {ending : Ending} {left object body : Node} → IsForBinding left → IsExpression level object → IsStatement ending body → IsStatement ending (node_of at kind.ForInStmt (left ∷ object ∷ body ∷ []))
+    for_of : (at : Span) (is_await : Bool) {ending : Ending} {left iterable body : Node} → IsForBinding left → IsExpression assignment iterable → IsStatement ending body
+        → IsStatement ending (node_of at (kind.ForOfStmt is_await) (left ∷ iterable ∷ body ∷ []))
     labeled : (at : Span) {ending : Ending} {label body : Node} → IsIdent label → IsStatement ending body → IsStatement ending (node_of at kind.LabeledStmt (label ∷ body ∷ []))
 
   pub data IsBlock : Node → Type 0 where
