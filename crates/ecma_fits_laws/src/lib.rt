@@ -1,0 +1,12 @@
+//! Laws of trees that fit, over the definitions alone.
+//!
+//! Each function carries one law, and does nothing. The laws are stated in `specs/`.
+#![tactic(auto)]
+
+ghost use Rattle.ecma_fits_laws.specs.Finished.{FinishedTreesHaveNoStrays};
+
+/// In what is made of a raw tree that keeps the context rules, nothing belongs to nothing inside an enum initialiser or a namespace body.
+#[tactic(auto, using(crate::proofs::Strays::strayless))]
+pub fn finished_trees_have_no_strays()
+    ensures { FinishedTreesHaveNoStrays }
+{}
