@@ -102,7 +102,7 @@ module _ (assigned : Bool) where
   unfolding import_equals
   no_import_equals g us h = rw h (ap (or_on (λ x. fails) (it g (items.key (codes "export")) us)) (never assigned))
 
-  export_item : (g : Gap) (us : Items) (n : Node) (vs : Items) → Refuses assigned (word (codes "import")) us → Reads assigned export (it g (items.key (codes "export")) us) (n ∷ []) vs → Reads assigned module_item (it g (items.key (codes "export")) us) (n ∷ []) vs
+  pub export_item : (g : Gap) (us : Items) (n : Node) (vs : Items) → Refuses assigned (word (codes "import")) us → Reads assigned export (it g (items.key (codes "export")) us) (n ∷ []) vs → Reads assigned module_item (it g (items.key (codes "export")) us) (n ∷ []) vs
   unfolding module_item productions.import
   export_item g us n vs h r =
       let ts = it g (items.key (codes "export")) us in
@@ -114,7 +114,7 @@ module _ (assigned : Bool) where
   no_word modules.export_nothing us w = refl
   no_word (modules.export_names n ns) us w = refl
 
-  no_default : (g : Gap) (us : Items) → Refuses assigned (word (codes "default")) us → Refuses assigned export_default (it g (items.key (codes "export")) us)
+  pub no_default : (g : Gap) (us : Items) → Refuses assigned (word (codes "default")) us → Refuses assigned export_default (it g (items.key (codes "export")) us)
   unfolding export_default
   no_default g us h = rw (h, h) refl
 
@@ -153,15 +153,15 @@ module _ (assigned : Bool) where
 
   -- declarations
 
-  no_names : (us : Items) → Refuses assigned (punct (codes "{")) us → Refuses assigned export_names us
+  pub no_names : (us : Items) → Refuses assigned (punct (codes "{")) us → Refuses assigned export_names us
   unfolding export_names
   no_names us h = rw h refl
 
-  no_star_as : (us : Items) → Refuses assigned (punct (codes "*")) us → Refuses assigned export_star_as us
+  pub no_star_as : (us : Items) → Refuses assigned (punct (codes "*")) us → Refuses assigned export_star_as us
   unfolding export_star_as
   no_star_as us h = rw h refl
 
-  no_star : (us : Items) → Refuses assigned (punct (codes "*")) us → Refuses assigned export_star us
+  pub no_star : (us : Items) → Refuses assigned (punct (codes "*")) us → Refuses assigned export_star us
   unfolding export_star
   no_star us h = rw h refl
 

@@ -453,6 +453,7 @@ pub record Words : Type 0 where
   pub break_whole : IsToken key_end (codes "break")
   pub continue_whole : IsToken key_end (codes "continue")
   pub export_whole : IsToken key_end (codes "export")
+  pub require_whole : IsToken key_end (codes "require")
   pub import_whole : IsToken key_end (codes "import")
   pub from_whole : IsToken key_end (codes "from")
   pub as_whole : IsToken key_end (codes "as")

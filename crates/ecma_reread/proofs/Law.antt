@@ -24,7 +24,7 @@ the_tree o x (y ∷ []) t e h = (y, t, e, cc)
 the_tree o x (y ∷ z ∷ zs) t e h = absurd (let z : ⊥ = cc in z)
 
 pub modules_read : ModulesAreReadAgain
-modules_read tree is assignments = (
+modules_read assignments tree is = (
   3 * count (module_tokens is) + 2,
   λ bound e.
       (let g = text_read assignments Good tree is (layout tree) (module_laid is) (lexes (layout tree)) good_long (joined_good (module_tokens is) (module_joined layout_words is)) bound e in

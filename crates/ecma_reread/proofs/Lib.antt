@@ -47,6 +47,7 @@ pub mod Tries
 pub mod ForLoops
 pub mod StatementForms
 pub mod Exports
+pub mod ModuleAssignments
 pub mod Modules
 pub mod Whole
 pub mod ModuleTrees

@@ -1,5 +1,5 @@
 -- The tokens of a module are good: each joins the next.
-use Rattle.std.proofs.Common.{◌≡◌, ℕ, true, List, [], ◌∷◌, codes, refl}
+use Rattle.std.proofs.Common.{false, Bool, ◌≡◌, ℕ, true, List, [], ◌∷◌, codes, refl}
 use Rattle.ecma_lex.specs.Strings.{str_end}
 use Rattle.ecma_lex.specs.Punctuators.{punctuators}
 use Rattle.ecma_tree.specs.declared.node.Node.{Node}
@@ -10,11 +10,11 @@ use Rattle.ecma_tokens.specs.Joins.{parted_by, joins_next, Fine, Joined}
 use Rattle.ecma_reread.specs.Modules as modules
 use Rattle.ecma_reread.specs.Modules.{IsString, IsExportName, IsAttributeKey, IsAttribute, AreAttributes, IsWithClause, IsDefaultImport, IsNamespaceImport, IsNamedImport, AreNamedImports, IsImportClause, IsModuleItem, AreModuleItems, IsModule, IsNamedExport, AreNamedExports, IsExportClause}
 use Rattle.ecma_reread.specs.Tokens.{blank, line, sign_of, ident_word}
-use Rattle.ecma_reread.specs.ModuleTokens.{spaced, spaced_sign, string_raw, export_name_token, attribute_key_token, attribute_tokens, more_attributes_tokens, with_tokens, source_tokens, default_import_tokens, namespace_import_tokens, named_import_tokens, more_imports_tokens, named_imports_tokens, import_clause_tokens, item_tokens, items_tokens, module_tokens, spaced_word, from_tokens, named_export_tokens, more_exports_tokens, export_clause_tokens}
+use Rattle.ecma_reread.specs.ModuleTokens.{spaced, spaced_sign, string_raw, export_name_token, attribute_key_token, attribute_tokens, more_attributes_tokens, with_tokens, source_tokens, default_import_tokens, namespace_import_tokens, named_import_tokens, more_imports_tokens, named_imports_tokens, import_clause_tokens, import_equals_tokens, item_tokens, items_tokens, module_tokens, spaced_word, from_tokens, named_export_tokens, more_exports_tokens, export_clause_tokens}
 use Rattle.ecma_reread.proofs.Joins.{Words, semicolon, blank_joins, expression_joined, no_gap_is, blank_is, ident_whole, key_whole}
 use Rattle.ecma_reread.proofs.StatementJoins.{line_wide, blank_wide, line_is, Apart, statement_apart, ended, statement_joined}
 
-item_apart : {n : Node} (is : IsModuleItem n) (us : Items) → Apart (item_tokens is line us)
+item_apart : {assignments : Bool} {n : Node} (is : IsModuleItem assignments n) (us : Items) → Apart (item_tokens is line us)
 item_apart (modules.statement s) us t = statement_apart s 0 line (line_wide 0) us t
 item_apart (modules.import_alone at at' s w) us t = refl
 item_apart (modules.import_bindings at at' c s w) us t = refl
@@ -24,8 +24,11 @@ item_apart (modules.export_namespace at at' of x s w) us t = refl
 item_apart (modules.export_all at s w) us t = refl
 item_apart (modules.export_declaration at is d) us t = refl
 item_apart (modules.export_default at e) us t = refl
+item_apart (modules.import_require z at of true i s) us t = refl
+item_apart (modules.import_require z at of false i s) us t = refl
+item_apart (modules.export_assignment z at e) us t = refl
 
-items_apart : {ns : List Node} (is : AreModuleItems ns) → Apart (items_tokens is line)
+items_apart : {assignments : Bool} {ns : List Node} (is : AreModuleItems assignments ns) → Apart (items_tokens is line)
 items_apart modules.no_items t = refl
 items_apart (modules.more_items i is) t = item_apart i (items_tokens is line) t
 
@@ -164,7 +167,11 @@ module _ (words : Words) where
   from_joined : {n k : Node} (s : IsString n) (w : IsWithClause k) (us : Items) → Joined (sign_of (codes ";") us) → Joined (from_tokens s w (sign_of (codes ";") us))
   from_joined s w us j = (blank_is, words.from_whole, refl, source_joined s w us j)
 
-  item_joined : {n : Node} (is : IsModuleItem n) (g : Gap) → IsGap g → (us : Items) → Apart us → Joined us → Joined (item_tokens is g us)
+  import_equals_joined : (is_export : Bool) (g : Gap) → IsGap g → (t : Tok) (us : Items) → Joined (spaced t us) → Joined (import_equals_tokens is_export g (spaced t us))
+  import_equals_joined true g h t us j = (h, words.export_whole, refl, (blank_is, words.import_whole, refl, j))
+  import_equals_joined false g h t us j = (h, words.import_whole, refl, j)
+
+  item_joined : {assignments : Bool} {n : Node} (is : IsModuleItem assignments n) (g : Gap) → IsGap g → (us : Items) → Apart us → Joined us → Joined (item_tokens is g us)
   unfolding punctuators
   item_joined (modules.statement s) g h us a j = statement_joined words s 0 g h us a j
   item_joined (modules.import_alone at at' s w) g h us a j = (h, words.import_whole, refl, source_joined s w us (ended words us a j))
@@ -179,11 +186,17 @@ module _ (words : Words) where
   item_joined (modules.export_default at e) g h us a j =
       let after = sign_of (codes ";") us in
       (h, words.export_whole, refl, (blank_is, words.default_whole, blank_joins (items.key (codes "default")) e after, expression_joined words e blank blank_is after semicolon (ended words us a j)))
+  item_joined (modules.import_require z at of is_export i s) g h us a j =
+      import_equals_joined is_export g h (items.key (ident_word i)) _
+      (blank_is, ident_whole i, refl, (blank_is, refl, refl, (blank_is, words.require_whole, refl, (no_gap_is, refl, refl, (no_gap_is, string_whole s, refl, (no_gap_is, refl, refl, ended words us a j))))))
+  item_joined (modules.export_assignment z at e) g h us a j =
+      let after = sign_of (codes ";") us in
+      (h, words.export_whole, refl, (blank_is, refl, blank_joins (sign (codes "=")) e after, expression_joined words e blank blank_is after semicolon (ended words us a j)))
 
-  items_joined : {ns : List Node} (is : AreModuleItems ns) (g : Gap) → IsGap g → Joined (items_tokens is g)
+  items_joined : {assignments : Bool} {ns : List Node} (is : AreModuleItems assignments ns) (g : Gap) → IsGap g → Joined (items_tokens is g)
   unfolding punctuators
   items_joined modules.no_items g h = h
   items_joined (modules.more_items i is) g h = item_joined i g h (items_tokens is line) (items_apart is) (items_joined is line (line_is 0))
 
-  pub module_joined : {tree : Node} (is : IsModule tree) → Joined (module_tokens is)
+  pub module_joined : {assignments : Bool} {tree : Node} (is : IsModule assignments tree) → Joined (module_tokens is)
   module_joined (modules.module_of at at' is) = items_joined is no_gap no_gap_is

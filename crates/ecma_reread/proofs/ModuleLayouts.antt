@@ -1,5 +1,5 @@
 -- The layout of a module is the text of its tokens.
-use Rattle.std.proofs.Common.{◌≡◌, ℕ, true, false, List, [], ◌∷◌, ◌++◌, map, codes, refl, ap, sym, ◌∙◌, append-nil, None}
+use Rattle.std.proofs.Common.{Bool, ◌≡◌, ℕ, true, false, List, [], ◌∷◌, ◌++◌, map, codes, refl, ap, sym, ◌∙◌, append-nil, None}
 use Rattle.ecma_kind.specs.declared.kind.Kind.TheVariants as kind
 use Rattle.ecma_tree.specs.declared.node.Node.{Node}
 use Rattle.ecma_tree.specs.Nodes.{node_of}
@@ -10,14 +10,16 @@ use Rattle.ecma_print.specs.declared.place.Place.TheVariants.{At, Within, Braces
 use Rattle.ecma_print.specs.Places.{free, beginning, before, after}
 use Rattle.ecma_print.specs.Laid.{is_named}
 use Rattle.ecma_print.specs.Lists.{lines, more_commas, specifiers, more_specifiers, imports, exports}
+use Rattle.ecma_print.specs.Modules.{import_equals_word}
 use Rattle.ecma_print.specs.Layout.{laid, layout}
-use Rattle.ecma_tokens.specs.Items.{Gap, no_gap, Items, token_text, render}
+use Rattle.ecma_tokens.specs.Items as items
+use Rattle.ecma_tokens.specs.Items.{Tok, Gap, no_gap, Items, token_text, render}
 use Rattle.ecma_reread.specs.Shapes.{ident, key, absent}
 use Rattle.ecma_reread.specs.Modules as modules
 use Rattle.ecma_reread.specs.Modules.{IsString, IsExportName, IsAttribute, AreAttributes, IsWithClause, IsNamedImport, AreNamedImports, IsImportClause, IsNamedExport, AreNamedExports, IsExportClause, IsModuleItem, AreModuleItems, IsModule}
 use Rattle.ecma_reread.specs.Tokens.{blank, line, sign_of}
-use Rattle.ecma_reread.specs.ModuleTokens.{spaced_word, spaced_sign, string_raw, export_name_token, attribute_tokens, more_attributes_tokens, with_tokens, source_tokens, named_import_tokens, more_imports_tokens, named_imports_tokens, import_clause_tokens, item_tokens, items_tokens, module_tokens, from_tokens, named_export_tokens, more_exports_tokens, export_clause_tokens}
-use Rattle.ecma_reread.proofs.Layouts.{laid_node, at_node, calm_default, gap_out, expression_laid}
+use Rattle.ecma_reread.specs.ModuleTokens.{spaced, spaced_word, spaced_sign, string_raw, export_name_token, attribute_tokens, more_attributes_tokens, with_tokens, source_tokens, named_import_tokens, more_imports_tokens, named_imports_tokens, import_clause_tokens, require_tokens, import_equals_tokens, item_tokens, items_tokens, module_tokens, from_tokens, named_export_tokens, more_exports_tokens, export_clause_tokens}
+use Rattle.ecma_reread.proofs.Layouts.{laid_node, at_node, calm_0, calm_default, gap_out, expression_laid}
 use Rattle.ecma_reread.proofs.StatementLayouts.{statement_laid}
 
 string_laid : {n : Node} (s : IsString n) (m rest : List ℕ) → (laid n).at (At (free 0)) m rest ≡ string_raw s ++ rest
@@ -154,7 +156,12 @@ from_laid (modules.string_literal at raw t) w m us = at_node at _ [] (Within Fro
 
 -- modules
 
-item_laid : {n : Node} (is : IsModuleItem n) (g : Gap) (us : Items) → render (item_tokens is g us) ≡ g.blanks ++ (laid n).at (At (free 0)) [] (render us)
+import_equals_laid : (is_export : Bool) (g : Gap) (t : Tok) (us : Items) → g.blanks ++ (import_equals_word is_export ++ (token_text t ++ render us)) ≡ render (import_equals_tokens is_export g (spaced t us))
+unfolding render
+import_equals_laid true g t us = refl
+import_equals_laid false g t us = refl
+
+item_laid : {assignments : Bool} {n : Node} (is : IsModuleItem assignments n) (g : Gap) (us : Items) → render (item_tokens is g us) ≡ g.blanks ++ (laid n).at (At (free 0)) [] (render us)
 unfolding render
 item_laid (modules.statement s) g us = statement_laid s 0 g us
 item_laid (modules.import_alone at at' {source = source} {attributes = attributes} s w) g us =
@@ -194,13 +201,25 @@ item_laid (modules.export_default at {e = e'} e) g us =
     (sym (at_node at kind.ExportDefaultExpr (e' ∷ []) (At (free 0)) [] (render us)
     ∙ (ap (λ z. codes "export default " ++ z) (expression_laid e (beginning 1 DefaultStart false) calm_default [] (sign_of (codes ";") us))
     ∙ ap (λ z. codes "export default" ++ z) (sym (gap_out e blank (sign_of (codes ";") us))))))
+item_laid (modules.import_require z at of is_export {id = id} {source = source} (ident at' w i) s) g us =
+    let reference = node_of of kind.TsExternalModuleRef (source ∷ []) in
+    sym
+    (ap (λ z. g.blanks ++ z)
+    (at_node at (kind.TsImportEqualsDecl is_export false) (id ∷ reference ∷ []) (At (free 0)) [] (render us)
+    ∙ rw (laid_node at' (kind.Ident w 0 false) [])
+    (ap (λ z. import_equals_word is_export ++ (w ++ (codes " = " ++ z))) (at_node of kind.TsExternalModuleRef (source ∷ []) (At (free 0)) [] (codes ";" ++ render us) ∙ ap (λ z. codes "require(" ++ z) (string_laid s [] (codes ");" ++ render us)))))
+    ∙ import_equals_laid is_export g (items.key w) (spaced_sign (codes "=") (require_tokens s (sign_of (codes ";") us))))
+item_laid (modules.export_assignment z at {level = level} {e = e'} e) g us =
+    ap (λ z. g.blanks ++ z)
+    (sym (at_node at kind.TsExportAssignment (e' ∷ []) (At (free 0)) [] (render us)
+    ∙ (ap (λ z. codes "export = " ++ z) (expression_laid e (free 0) (calm_0 level) [] (sign_of (codes ";") us)) ∙ ap (λ z. codes "export =" ++ z) (sym (gap_out e blank (sign_of (codes ";") us))))))
 
-lines_laid : {ns : List Node} (is : AreModuleItems ns) (g : Gap) → render (items_tokens is g) ≡ g.blanks ++ lines (map laid ns) [] []
+lines_laid : {assignments : Bool} {ns : List Node} (is : AreModuleItems assignments ns) (g : Gap) → render (items_tokens is g) ≡ g.blanks ++ lines (map laid ns) [] []
 unfolding render
 lines_laid modules.no_items g = sym (append-nil g.blanks)
 lines_laid (modules.more_items {n = n} i is) g = item_laid i g (items_tokens is line) ∙ ap (λ z. g.blanks ++ (laid n).at (At (free 0)) [] z) (lines_laid is line)
 
-pub module_laid : {tree : Node} (is : IsModule tree) → layout tree ≡ render (module_tokens is)
+pub module_laid : {assignments : Bool} {tree : Node} (is : IsModule assignments tree) → layout tree ≡ render (module_tokens is)
 module_laid (modules.module_of at at' {body = body} is) =
     at_node at (kind.Module None) (node_of at' kind.List body ∷ []) (At (free 0)) [] []
     ∙ (at_node at' kind.List body Lines [] [] ∙ sym (lines_laid is no_gap))

@@ -1,5 +1,5 @@
 -- The tree that is read of a module is the tree without spans.
-use Rattle.std.proofs.Common.{None, false, ◌≡◌, List, [], ◌∷◌, map, refl, ap, ap₂, ◌∙◌}
+use Rattle.std.proofs.Common.{Bool, None, false, ◌≡◌, List, [], ◌∷◌, map, refl, ap, ap₂, ◌∙◌}
 use Rattle.ecma_kind.specs.declared.span.Span.{Span}
 use Rattle.ecma_kind.specs.declared.kind.Kind.{Kind}
 use Rattle.ecma_kind.specs.declared.kind.Kind.TheVariants as kind
@@ -78,7 +78,7 @@ sourced_bare k at of_list n m ns bs x y h i j =
     ∙ (ap (λ l. bare k (l ∷ without_spans n ∷ without_spans m ∷ [])) (without_spans-node of_list kind.List _ ∙ ap list_node h)
     ∙ ap₂ (λ a b. bare k (list_node bs ∷ a ∷ b ∷ [])) i j)
 
-item_bare : {n : Node} (is : IsModuleItem n) → without_spans n ≡ bare_item is
+item_bare : {assignments : Bool} {n : Node} (is : IsModuleItem assignments n) → without_spans n ≡ bare_item is
 item_bare (modules.statement s) = statement_bare s
 item_bare (modules.import_alone at at' s w) = sourced_bare (kind.ImportDecl false) at at' _ _ [] [] _ _ refl (string_bare s) (with_bare w)
 item_bare (modules.import_bindings at at' c s w) = sourced_bare (kind.ImportDecl false) at at' _ _ _ (bare_import_clause c) _ _ (import_clause_bare c) (string_bare s) (with_bare w)
@@ -90,10 +90,14 @@ item_bare (modules.export_namespace at at' of {name = name} x s w) =
 item_bare (modules.export_all at s w) = without_spans-node at (kind.ExportAll false) _ ∙ ap₂ (λ x y. bare (kind.ExportAll false) (x ∷ y ∷ [])) (string_bare s) (with_bare w)
 item_bare (modules.export_declaration at is d) = without_spans-node at kind.ExportDecl _ ∙ ap (λ x. bare kind.ExportDecl (x ∷ [])) (statement_bare is)
 item_bare (modules.export_default at e) = without_spans-node at kind.ExportDefaultExpr _ ∙ ap (λ x. bare kind.ExportDefaultExpr (x ∷ [])) (expression_bare e)
+item_bare (modules.import_require z at of is_export i s) =
+    without_spans-node at (kind.TsImportEqualsDecl is_export false) _
+    ∙ ap₂ (λ x y. bare (kind.TsImportEqualsDecl is_export false) (x ∷ y ∷ [])) (ident_bare i) (without_spans-node of kind.TsExternalModuleRef _ ∙ ap (λ x. bare kind.TsExternalModuleRef (x ∷ [])) (string_bare s))
+item_bare (modules.export_assignment z at e) = without_spans-node at kind.TsExportAssignment _ ∙ ap (λ x. bare kind.TsExportAssignment (x ∷ [])) (expression_bare e)
 
-items_bare : {ns : List Node} (is : AreModuleItems ns) → map without_spans ns ≡ bare_items is
+items_bare : {assignments : Bool} {ns : List Node} (is : AreModuleItems assignments ns) → map without_spans ns ≡ bare_items is
 items_bare modules.no_items = refl
 items_bare (modules.more_items i is) = ap₂ (λ x xs. x ∷ xs) (item_bare i) (items_bare is)
 
-pub module_bare : {tree : Node} (is : IsModule tree) → without_spans tree ≡ bare_module is
+pub module_bare : {assignments : Bool} {tree : Node} (is : IsModule assignments tree) → without_spans tree ≡ bare_module is
 module_bare (modules.module_of at at' is) = without_spans-node at (kind.Module None) _ ∙ ap (λ x. bare (kind.Module None) (x ∷ [])) (without_spans-node at' kind.List _ ∙ ap list_node (items_bare is))

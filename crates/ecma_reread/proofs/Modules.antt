@@ -42,6 +42,7 @@ use Rattle.ecma_reread.proofs.Statements.{item_read, closes_any}
 use Rattle.ecma_reread.proofs.Imports.{import_alone_read, import_bindings_read}
 use Rattle.ecma_reread.proofs.Blocks.{Closing}
 use Rattle.ecma_reread.proofs.StatementForms.{statement_form}
+use Rattle.ecma_reread.proofs.ModuleAssignments.{import_require_read, export_assignment_read}
 use Rattle.ecma_reread.proofs.Exports.{export_bindings_read, export_bindings_from_read, export_namespace_read, export_all_read, export_declaration_read, export_default_read}
 
 -- no statement stands at the end of a text
@@ -62,7 +63,7 @@ module_made : (xs : List Node) → made form.Module 0 0 (absent ∷ list_node xs
 module_made xs = ap (λ k. bare (kind.Module (text_of k)) (list_node xs ∷ [])) (kind-node _ kind.Absent [])
 
 -- the gap before the end
-abbrev last_gap : {ns : List Node} → AreModuleItems ns → Gap → Gap
+abbrev last_gap : {assignments : Bool} {ns : List Node} → AreModuleItems assignments ns → Gap → Gap
 last_gap shapes.no_items g = g
 last_gap (shapes.more_items i is) g = last_gap is line
 
@@ -79,7 +80,7 @@ module _ (assigned : Bool) where
       skipped assigned (means assigned) 3 module_item the_end (ends g) at_end no_item_there
       ∙ (means_is assigned part.Statement (ends g) ∙ (skipped assigned (means assigned) 12 statement_body the_end (ends g) at_end no_statement_there ∙ no_statement_at_end g))
 
-  item_closing : {n : Node} (is : IsModuleItem n) (us : Items) → Closing (item_tokens is line us)
+  item_closing : {n : Node} (is : IsModuleItem assigned n) (us : Items) → Closing (item_tokens is line us)
   item_closing (shapes.statement s) us = let S = statement_form assigned s 0 in record { front = S.front; begins = S.begins line us; closes = S.closes }
   item_closing (shapes.import_alone at at' s w) us = record { front = exactly (items.key (codes "import")); begins = at_token; closes = refl }
   item_closing (shapes.import_bindings at at' c s w) us = record { front = exactly (items.key (codes "import")); begins = at_token; closes = refl }
@@ -89,12 +90,15 @@ module _ (assigned : Bool) where
   item_closing (shapes.export_all at s w) us = record { front = exactly (items.key (codes "export")); begins = at_token; closes = refl }
   item_closing (shapes.export_declaration at is d) us = record { front = exactly (items.key (codes "export")); begins = at_token; closes = refl }
   item_closing (shapes.export_default at e) us = record { front = exactly (items.key (codes "export")); begins = at_token; closes = refl }
+  item_closing (shapes.import_require z at of true i s) us = record { front = exactly (items.key (codes "export")); begins = at_token; closes = refl }
+  item_closing (shapes.import_require z at of false i s) us = record { front = exactly (items.key (codes "import")); begins = at_token; closes = refl }
+  item_closing (shapes.export_assignment z at e) us = record { front = exactly (items.key (codes "export")); begins = at_token; closes = refl }
 
-  items_closing : {ns : List Node} (is : AreModuleItems ns) → Closing (items_tokens is line)
+  items_closing : {ns : List Node} (is : AreModuleItems assigned ns) → Closing (items_tokens is line)
   items_closing shapes.no_items = record { front = the_end; begins = at_end; closes = refl }
   items_closing (shapes.more_items i is) = item_closing i (items_tokens is line)
 
-  module_item_read : {n : Node} (is : IsModuleItem n) (g : Gap) (us : Items) → Closing us → Reads assigned module_item (item_tokens is g us) (bare_item is ∷ []) us
+  module_item_read : {n : Node} (is : IsModuleItem assigned n) (g : Gap) (us : Items) → Closing us → Reads assigned module_item (item_tokens is g us) (bare_item is ∷ []) us
   unfolding module_item
   module_item_read (shapes.statement {ending = ending} s) g us c = item_read assigned (statement_form assigned s 0) g us c.front c.begins (closes_any ending c.front c.closes)
   module_item_read (shapes.import_alone at at' s w) g us c =
@@ -107,13 +111,15 @@ module _ (assigned : Bool) where
   module_item_read (shapes.export_all at s w) g us z = export_all_read assigned s w g us
   module_item_read (shapes.export_declaration at is d) g us z = export_declaration_read assigned is d g us
   module_item_read (shapes.export_default at e) g us z = export_default_read assigned e g us
+  module_item_read (shapes.import_require z at of is_export i s) g us c = import_require_read assigned z is_export i s g us
+  module_item_read (shapes.export_assignment z at e) g us c = export_assignment_read assigned z e g us
 
-  items_read : {ns : List Node} (is : AreModuleItems ns) (g : Gap) → Repeats assigned module_item (items_tokens is g) (bare_items is) (ends (last_gap is g))
+  items_read : {ns : List Node} (is : AreModuleItems assigned ns) (g : Gap) → Repeats assigned module_item (items_tokens is g) (bare_items is) (ends (last_gap is g))
   items_read shapes.no_items g = repeats_end assigned module_item (ends g) (no_item_at_end g)
   items_read (shapes.more_items i is) g =
       repeats_more assigned module_item item_eats (item_tokens i g (items_tokens is line)) (items_tokens is line) (ends (last_gap is line)) (bare_item i ∷ []) (bare_items is) (module_item_read i g (items_tokens is line) (items_closing is)) (items_read is line)
 
-  pub module_read : {tree : Node} (is : IsModule tree) → Reads assigned module_body (module_tokens is) (bare_module is ∷ []) (ends no_gap)
+  pub module_read : {tree : Node} (is : IsModule assigned tree) → Reads assigned module_body (module_tokens is) (bare_module is ∷ []) (ends no_gap)
   unfolding module_body
   module_read (shapes.module_of at at' is) =
       ap (built_on form.Module) (ap (with_front (absent ∷ [])) (ap (followed_on (interp assigned (means assigned) (a token.EndOfText))) (ap (built_on form.List)

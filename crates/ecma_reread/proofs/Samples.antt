@@ -96,7 +96,7 @@ tree =
     ∷ [])
     ∷ [])
 
-shape : IsModule tree
+shape : IsModule false tree
 shape =
     let id = ident at (codes "a") a_name in
     let async' = ident at (codes "async") async_name in

@@ -16,7 +16,7 @@ use Rattle.ecma_reread.proofs.Modules.{module_read}
 use Rattle.ecma_reread.proofs.ModuleTrees.{module_bare}
 
 -- wherever the terminals read the tokens of the text
-pub text_read : (assigned : Bool) (Good : Items → Type 0) (tree : Node) (is : IsModule tree) (text : List ℕ) → text ≡ render (module_tokens is) → Lexes text Good → ((ts : Items) → Good ts → count ts ≤ length (render ts)) → Good (module_tokens is)
+pub text_read : (assigned : Bool) (Good : Items → Type 0) (tree : Node) (is : IsModule assigned tree) (text : List ℕ) → text ≡ render (module_tokens is) → Lexes text Good → ((ts : Items) → Good ts → count ts ≤ length (render ts)) → Good (module_tokens is)
     → (bound : ℕ) → 3 * count (module_tokens is) + 2 ≤ bound → Goes text Good (reads_module text (plain assigned) bound) (λ trees. map without_spans trees ≡ without_spans tree ∷ []) (ends no_gap)
 text_read assigned Good tree is text t lexes long good bound enough =
     let start : Position = record { place = 0; failed = 0 } in

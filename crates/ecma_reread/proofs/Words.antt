@@ -167,6 +167,10 @@ target_spelled : Spelled IsKey (codes "target")
 unfolding chars is_utf8 encode is_xid_start is_xid_continue in_ranges xid_start_ranges xid_continue_ranges
 target_spelled = (IsUtf8-from_is_utf8 (codes "target") refl, (refl, refl))
 
+require_spelled : Spelled IsKey (codes "require")
+unfolding chars is_utf8 encode is_xid_start is_xid_continue in_ranges xid_start_ranges xid_continue_ranges
+require_spelled = (IsUtf8-from_is_utf8 (codes "require") refl, (refl, refl))
+
 pub layout_words : Words
 layout_words = record {
   this_whole = whole (codes "this") this_spelled;
@@ -201,6 +205,7 @@ layout_words = record {
   break_whole = whole (codes "break") break_spelled;
   continue_whole = whole (codes "continue") continue_spelled;
   export_whole = whole (codes "export") export_spelled;
+  require_whole = whole (codes "require") require_spelled;
   import_whole = whole (codes "import") import_spelled;
   from_whole = whole (codes "from") from_spelled;
   as_whole = whole (codes "as") as_spelled;

@@ -1,5 +1,5 @@
 -- The tokens that a module is laid out as, and its tree without spans.
-use Rattle.std.specs.Prelude.{ℕ, ◌-◌, false, List, [], ◌∷◌, length, Some, None, codes}
+use Rattle.std.specs.Prelude.{ℕ, ◌-◌, Bool, true, false, List, [], ◌∷◌, length, Some, None, codes}
 use Rattle.ecma_lex.specs.Text.{piece}
 use Rattle.ecma_lex.specs.Strings.{str_value}
 use Rattle.ecma_kind.specs.declared.kind.Kind.TheVariants as kind
@@ -7,7 +7,7 @@ use Rattle.ecma_tree.specs.declared.node.Node.{Node}
 use Rattle.ecma_tree.specs.Nodes.{absent, list_node}
 use Rattle.ecma_tokens.specs.Items as items
 use Rattle.ecma_tokens.specs.Items.{Tok, sign, Gap, no_gap, Items, ends, it}
-use Rattle.ecma_reread.specs.Modules.{IsString, string_literal, IsExportName, word_name, string_name, IsAttributeKey, word_key, string_key, IsAttribute, attribute, AreAttributes, no_attributes, more_attributes, IsWithClause, no_with, with_nothing, with_attributes, IsDefaultImport, default_import, IsNamespaceImport, namespace_import, IsNamedImport, same_import, other_import, AreNamedImports, no_imports, more_imports, IsImportClause, import_default, import_namespace, import_names, import_default_and_namespace, import_default_and_names, IsNamedExport, same_export, other_export, AreNamedExports, no_exports, more_exports, IsExportClause, export_nothing, export_names, IsModuleItem, statement, import_alone, import_bindings, export_bindings, export_bindings_from, export_namespace, export_all, export_declaration, export_default, AreModuleItems, no_items, more_items, IsModule, module_of}
+use Rattle.ecma_reread.specs.Modules.{IsString, string_literal, IsExportName, word_name, string_name, IsAttributeKey, word_key, string_key, IsAttribute, attribute, AreAttributes, no_attributes, more_attributes, IsWithClause, no_with, with_nothing, with_attributes, IsDefaultImport, default_import, IsNamespaceImport, namespace_import, IsNamedImport, same_import, other_import, AreNamedImports, no_imports, more_imports, IsImportClause, import_default, import_namespace, import_names, import_default_and_namespace, import_default_and_names, IsNamedExport, same_export, other_export, AreNamedExports, no_exports, more_exports, IsExportClause, export_nothing, export_names, IsModuleItem, statement, import_alone, import_bindings, export_bindings, export_bindings_from, export_namespace, export_all, export_declaration, export_default, import_require, export_assignment, AreModuleItems, no_items, more_items, IsModule, module_of}
 use Rattle.ecma_reread.specs.Tokens.{blank, line, sign_of, ident_word, key_word, expression_tokens, statement_tokens, bare, bare_ident, bare_expression, bare_statement}
 
 -- a token behind a blank
@@ -86,7 +86,14 @@ abbrev pub export_clause_tokens : {ns : List Node} → IsExportClause ns → Ite
 export_clause_tokens export_nothing us = spaced_sign (codes "{") (sign_of (codes "}") us)
 export_clause_tokens (export_names n ns) us = spaced_sign (codes "{") (named_export_tokens n (more_exports_tokens ns (spaced_sign (codes "}") us)))
 
-abbrev pub item_tokens : {n : Node} → IsModuleItem n → Gap → Items → Items
+abbrev pub require_tokens : {n : Node} → IsString n → Items → Items
+require_tokens s us = spaced_word (codes "require") (sign_of (codes "(") (it no_gap (items.string (string_raw s)) (sign_of (codes ")") us)))
+
+abbrev pub import_equals_tokens : Bool → Gap → Items → Items
+import_equals_tokens true g us = it g (items.key (codes "export")) (spaced_word (codes "import") us)
+import_equals_tokens false g us = it g (items.key (codes "import")) us
+
+abbrev pub item_tokens : {assignments : Bool} {n : Node} → IsModuleItem assignments n → Gap → Items → Items
 item_tokens (statement s) g us = statement_tokens s 0 g us
 item_tokens (import_alone at at' s w) g us = it g (items.key (codes "import")) (source_tokens s w (sign_of (codes ";") us))
 item_tokens (import_bindings at at' c s w) g us = it g (items.key (codes "import")) (import_clause_tokens c (from_tokens s w (sign_of (codes ";") us)))
@@ -96,13 +103,15 @@ item_tokens (export_namespace at at' of x s w) g us = it g (items.key (codes "ex
 item_tokens (export_all at s w) g us = it g (items.key (codes "export")) (spaced_sign (codes "*") (from_tokens s w (sign_of (codes ";") us)))
 item_tokens (export_declaration at is d) g us = it g (items.key (codes "export")) (statement_tokens is 0 blank us)
 item_tokens (export_default at e) g us = it g (items.key (codes "export")) (spaced_word (codes "default") (expression_tokens e blank (sign_of (codes ";") us)))
+item_tokens (import_require z at of is_export i s) g us = import_equals_tokens is_export g (spaced_word (ident_word i) (spaced_sign (codes "=") (require_tokens s (sign_of (codes ";") us))))
+item_tokens (export_assignment z at e) g us = it g (items.key (codes "export")) (spaced_sign (codes "=") (expression_tokens e blank (sign_of (codes ";") us)))
 
 -- each item ends its line
-abbrev pub items_tokens : {ns : List Node} → AreModuleItems ns → Gap → Items
+abbrev pub items_tokens : {assignments : Bool} {ns : List Node} → AreModuleItems assignments ns → Gap → Items
 items_tokens no_items g = ends g
 items_tokens (more_items i is) g = item_tokens i g (items_tokens is line)
 
-abbrev pub module_tokens : {tree : Node} → IsModule tree → Items
+abbrev pub module_tokens : {assignments : Bool} {tree : Node} → IsModule assignments tree → Items
 module_tokens (module_of at at' is) = items_tokens is no_gap
 
 -- the trees without spans
@@ -163,7 +172,7 @@ abbrev pub bare_export_clause : {ns : List Node} → IsExportClause ns → List 
 bare_export_clause export_nothing = []
 bare_export_clause (export_names n ns) = bare_named_export n ∷ bare_named_exports ns
 
-abbrev pub bare_item : {n : Node} → IsModuleItem n → Node
+abbrev pub bare_item : {assignments : Bool} {n : Node} → IsModuleItem assignments n → Node
 bare_item (statement s) = bare_statement s
 bare_item (import_alone at at' s w) = bare (kind.ImportDecl false) (list_node [] ∷ bare_string s ∷ bare_with w ∷ [])
 bare_item (import_bindings at at' c s w) = bare (kind.ImportDecl false) (list_node (bare_import_clause c) ∷ bare_string s ∷ bare_with w ∷ [])
@@ -173,10 +182,12 @@ bare_item (export_namespace at at' of x s w) = bare (kind.NamedExport false) (li
 bare_item (export_all at s w) = bare (kind.ExportAll false) (bare_string s ∷ bare_with w ∷ [])
 bare_item (export_declaration at is d) = bare kind.ExportDecl (bare_statement is ∷ [])
 bare_item (export_default at e) = bare kind.ExportDefaultExpr (bare_expression e ∷ [])
+bare_item (import_require z at of is_export i s) = bare (kind.TsImportEqualsDecl is_export false) (bare_ident i ∷ bare kind.TsExternalModuleRef (bare_string s ∷ []) ∷ [])
+bare_item (export_assignment z at e) = bare kind.TsExportAssignment (bare_expression e ∷ [])
 
-abbrev pub bare_items : {ns : List Node} → AreModuleItems ns → List Node
+abbrev pub bare_items : {assignments : Bool} {ns : List Node} → AreModuleItems assignments ns → List Node
 bare_items no_items = []
 bare_items (more_items i is) = bare_item i ∷ bare_items is
 
-abbrev pub bare_module : {tree : Node} → IsModule tree → Node
+abbrev pub bare_module : {assignments : Bool} {tree : Node} → IsModule assignments tree → Node
 bare_module (module_of at at' is) = bare (kind.Module None) (list_node (bare_items is) ∷ [])

@@ -8,7 +8,7 @@ use Rattle.ecma_kind.specs.declared.kind.Kind.TheVariants as kind
 use Rattle.ecma_tree.specs.declared.node.Node.{Node}
 use Rattle.ecma_tree.specs.Nodes.{node_of}
 use Rattle.ecma_tokens.specs.Good.{IsToken}
-use Rattle.ecma_reread.specs.Shapes.{IsIdent, IsKey, IsAbsent, assignment, IsExpression, Ending, IsStatement, declaration}
+use Rattle.ecma_reread.specs.Shapes.{IsIdent, IsKey, IsAbsent, Level, assignment, IsExpression, Ending, IsStatement, declaration}
 
 pub data IsString : Node → Type 0 where
   string_literal : (at : Span) (raw : List ℕ) → IsToken str_end raw → IsString (node_of at (kind.Str (str_value (piece raw 1 (length raw - 1))) (Some raw)) [])
@@ -79,27 +79,30 @@ abbrev pub is_declaration : {ending : Ending} {s : Node} → IsStatement ending 
 is_declaration (declaration at at' k d ds) = true
 is_declaration s = false
 
--- modules
+-- modules, where `import a = require("m")` and `export =` may stand or not
 
-pub data IsModuleItem : Node → Type 0 where
-  statement : {ending : Ending} {s : Node} → IsStatement ending s → IsModuleItem s
+pub data IsModuleItem (assignments : Bool) : Node → Type 0 where
+  statement : {ending : Ending} {s : Node} → IsStatement ending s → IsModuleItem assignments s
   import_alone : (at of_list : Span) {source attributes : Node} → IsString source → IsWithClause attributes
-      → IsModuleItem (node_of at (kind.ImportDecl false) (node_of of_list kind.List [] ∷ source ∷ attributes ∷ []))
+      → IsModuleItem assignments (node_of at (kind.ImportDecl false) (node_of of_list kind.List [] ∷ source ∷ attributes ∷ []))
   import_bindings : (at of_list : Span) {bindings : List Node} {source attributes : Node} → IsImportClause bindings → IsString source → IsWithClause attributes
-      → IsModuleItem (node_of at (kind.ImportDecl false) (node_of of_list kind.List bindings ∷ source ∷ attributes ∷ []))
+      → IsModuleItem assignments (node_of at (kind.ImportDecl false) (node_of of_list kind.List bindings ∷ source ∷ attributes ∷ []))
   export_bindings : (at of_list : Span) {bindings : List Node} {none none' : Node} → IsExportClause bindings → IsAbsent none → IsAbsent none'
-      → IsModuleItem (node_of at (kind.NamedExport false) (node_of of_list kind.List bindings ∷ none ∷ none' ∷ []))
+      → IsModuleItem assignments (node_of at (kind.NamedExport false) (node_of of_list kind.List bindings ∷ none ∷ none' ∷ []))
   export_bindings_from : (at of_list : Span) {bindings : List Node} {source attributes : Node} → IsExportClause bindings → IsString source → IsWithClause attributes
-      → IsModuleItem (node_of at (kind.NamedExport false) (node_of of_list kind.List bindings ∷ source ∷ attributes ∷ []))
+      → IsModuleItem assignments (node_of at (kind.NamedExport false) (node_of of_list kind.List bindings ∷ source ∷ attributes ∷ []))
   export_namespace : (at of_list of_name : Span) {name source attributes : Node} → IsExportName name → IsString source → IsWithClause attributes
-      → IsModuleItem (node_of at (kind.NamedExport false) (node_of of_list kind.List (node_of of_name kind.ExportNamespaceSpecifier (name ∷ []) ∷ []) ∷ source ∷ attributes ∷ []))
-  export_all : (at : Span) {source attributes : Node} → IsString source → IsWithClause attributes → IsModuleItem (node_of at (kind.ExportAll false) (source ∷ attributes ∷ []))
-  export_declaration : (at : Span) {ending : Ending} {s : Node} (is : IsStatement ending s) → is_declaration is ≡ true → IsModuleItem (node_of at kind.ExportDecl (s ∷ []))
-  export_default : (at : Span) {e : Node} → IsExpression assignment e → IsModuleItem (node_of at kind.ExportDefaultExpr (e ∷ []))
+      → IsModuleItem assignments (node_of at (kind.NamedExport false) (node_of of_list kind.List (node_of of_name kind.ExportNamespaceSpecifier (name ∷ []) ∷ []) ∷ source ∷ attributes ∷ []))
+  export_all : (at : Span) {source attributes : Node} → IsString source → IsWithClause attributes → IsModuleItem assignments (node_of at (kind.ExportAll false) (source ∷ attributes ∷ []))
+  export_declaration : (at : Span) {ending : Ending} {s : Node} (is : IsStatement ending s) → is_declaration is ≡ true → IsModuleItem assignments (node_of at kind.ExportDecl (s ∷ []))
+  export_default : (at : Span) {e : Node} → IsExpression assignment e → IsModuleItem assignments (node_of at kind.ExportDefaultExpr (e ∷ []))
+  import_require : assignments ≡ true → (at of_source : Span) (is_export : Bool) {id source : Node} → IsIdent id → IsString source
+      → IsModuleItem assignments (node_of at (kind.TsImportEqualsDecl is_export false) (id ∷ node_of of_source kind.TsExternalModuleRef (source ∷ []) ∷ []))
+  export_assignment : assignments ≡ true → (at : Span) {level : Level} {e : Node} → IsExpression level e → IsModuleItem assignments (node_of at kind.TsExportAssignment (e ∷ []))
 
-pub data AreModuleItems : List Node → Type 0 where
-  no_items : AreModuleItems []
-  more_items : {n : Node} {ns : List Node} → IsModuleItem n → AreModuleItems ns → AreModuleItems (n ∷ ns)
+pub data AreModuleItems (assignments : Bool) : List Node → Type 0 where
+  no_items : AreModuleItems assignments []
+  more_items : {n : Node} {ns : List Node} → IsModuleItem assignments n → AreModuleItems assignments ns → AreModuleItems assignments (n ∷ ns)
 
-pub data IsModule : Node → Type 0 where
-  module_of : (at of_list : Span) {body : List Node} → AreModuleItems body → IsModule (node_of at (kind.Module None) (node_of of_list kind.List body ∷ []))
+pub data IsModule (assignments : Bool) : Node → Type 0 where
+  module_of : (at of_list : Span) {body : List Node} → AreModuleItems assignments body → IsModule assignments (node_of at (kind.Module None) (node_of of_list kind.List body ∷ []))

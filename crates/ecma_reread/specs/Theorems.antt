@@ -9,5 +9,5 @@ use Rattle.ecma_reread.specs.Modules.{IsModule}
 
 -- with some number of levels, and with any larger one, the layout of a module is read in plain reading as that module, up to spans
 abbrev pub ModulesAreReadAgain : Type 0
-ModulesAreReadAgain = (tree : Node) → IsModule tree → (assignments : Bool) → (enough : ℕ) × ((bound : ℕ) → enough ≤ bound →
+ModulesAreReadAgain = (assignments : Bool) (tree : Node) → IsModule assignments tree → (enough : ℕ) × ((bound : ℕ) → enough ≤ bound →
     (again : Node) × (s : Position) × (reads_module (layout tree) (record { typescript = false; assignments = assignments }) bound ≡ read (again ∷ []) s) × (without_spans again ≡ without_spans tree))
