@@ -28,7 +28,7 @@ use Rattle.ecma_reread.specs.Machine.{read, fails, with_front, followed_on, or_o
 use Rattle.ecma_reread.proofs.Fronts.{Front, exactly, Begins, at_token, front_of, refuses_at, refused_at, refuses_first}
 use Rattle.ecma_reread.proofs.Towers.{Tower, later, sooner, here, climb, without, skipped, excluded, Opens, Starts}
 use Rattle.ecma_reread.proofs.Heads.{bare}
-use Rattle.ecma_reread.proofs.Forms.{Reads, Refuses, Form, NewForm}
+use Rattle.ecma_reread.proofs.Forms.{Reads, Refuses, Form, NewForm, no_item_at}
 use Rattle.ecma_reread.proofs.Expressions.{IsPrimary, head_read, new_head_read, name_as_param, name_with_default, name_no_rest, name_no_label}
 
 abbrev async : List ℕ
@@ -106,7 +106,8 @@ module _ (assigned : Bool) where
     front = front;
     begins = λ g us. at_token;
     opens = async_opens;
-    starts = async_starts;
+    no_statement = (let s = async_starts in s.no_statement);
+    no_item = λ g us. (let s = async_starts in no_item_at assigned front (it g (items.key async) us) at_token s.no_item);
     pieces = bare (kind.Ident async 0 false) [] ∷ [];
     own = λ g us e b z ys vs h. head_read assigned front (it g (items.key async) us) us (bare (kind.Ident async 0 false) []) async_primary at_token (async_read g us e b z) ys vs h;
     whole = refl;

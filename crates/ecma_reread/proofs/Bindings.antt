@@ -21,15 +21,16 @@ use Rattle.ecma_grammar.specs.productions.Operators as operators
 use Rattle.ecma_grammar.specs.productions.Operators.{prefixed, factors, terms, shifts, relations, equalities, conjunctions, exclusions, disjunctions, coalescing, logicals, operand, exponentiation}
 use Rattle.ecma_grammar.specs.productions.Expressions as expressions
 use Rattle.ecma_grammar.specs.productions.Expressions.{assignments, yield_}
+use Rattle.ecma_grammar.specs.productions.Modules.{module_item}
 use Rattle.ecma_tokens.specs.Items.{Gap, Items}
 use Rattle.ecma_reread.specs.Machine.{read, with_front, followed_on, or_on, built_on, many_up_to, interp, means}
 use Rattle.ecma_reread.specs.Shapes as shapes
 use Rattle.ecma_reread.specs.Shapes.{Level, looser_than}
 use Rattle.ecma_reread.proofs.Levels.{means_is}
 use Rattle.ecma_reread.proofs.Fronts.{Front, Begins, refuses_at, refused_at, first_refuses, refuses_first, passes_at, passed_at}
-use Rattle.ecma_reread.proofs.Towers.{Tower, here, later, before, chained, climb, suffix, power_tail, choice_tail, private_in, behind_arrow, closes_conditional, closes, Ends}
+use Rattle.ecma_reread.proofs.Towers.{Tower, here, later, before, chained, climb, suffix, power_tail, choice_tail, private_in, behind_arrow, closes_conditional, closes, Ends, refuses_choices}
 use Rattle.ecma_reread.proofs.Heads.{is_head, kind-node, bare}
-use Rattle.ecma_reread.proofs.Forms.{Laid, behind_params, Reads, Refuses, AsParam, Form, NewForm, Whole, chain_read, Lead, lead_of}
+use Rattle.ecma_reread.proofs.Forms.{Laid, behind_params, Reads, Refuses, AsParam, Form, NewForm, Whole, chain_read, Lead, lead_of, only_opens, opens_plainly}
 use Rattle.ecma_reread.proofs.Params.{Params, params_by}
 
 -- the production of each level
@@ -77,6 +78,27 @@ NotOr l k = is_or k ≡ false
 pub head_is_no_or : (k : Kind) → is_head k ≡ true → is_or k ≡ false
 head_is_no_or (kind.BinExpr o) h = absurd (false≢true h)
 head_is_no_or k h = refl
+
+-- what it does not begin with: a private name before `in`, `yield`
+abbrev pub Tight : Level → Front → Type 0
+Tight shapes.sequence e = Unit {0}
+Tight shapes.assignment e = Unit {0}
+Tight shapes.short_circuit e = refuses_at e (yield_ false) ≡ true
+Tight shapes.coalescing e = refuses_at e (yield_ false) ≡ true
+Tight shapes.logical_or e = refuses_at e (yield_ false) ≡ true
+Tight shapes.logical_and e = refuses_at e (yield_ false) ≡ true
+Tight shapes.bit_or e = refuses_at e (yield_ false) ≡ true
+Tight shapes.bit_xor e = refuses_at e (yield_ false) ≡ true
+Tight shapes.bit_and e = refuses_at e (yield_ false) ≡ true
+Tight shapes.equality e = refuses_at e (yield_ false) ≡ true
+Tight shapes.relation e = refuses_at e (yield_ false) ≡ true
+Tight l e = (refuses_at e private_in ≡ true) × (refuses_at e (yield_ false) ≡ true)
+
+pub tight_by : (e : Front) → only_opens e ≡ true → (refuses_at e private_in ≡ true) × (refuses_at e (yield_ false) ≡ true)
+tight_by e z =
+    let a = and_parts (opens_plainly e) _ z in
+    let b = and_parts (refuses_choices 3 e module_item) _ a.1 in
+    and_parts (refuses_at e private_in) _ b.1
 
 -- right sides of `&&`
 pub data AllAnd : List Node → Type 0 where
@@ -180,14 +202,15 @@ module _ (assigned : Bool) where
   pub record Stands (l : Level) (f : Laid) (k : Kind) (ns : List Node) : Type 0 where
     pub lead : Lead assigned f
     pub reading : Reading l lead.front f k ns
+    pub tight : Tight l (let L = lead in L.front)
     pub no_or : NotOr l k
     pub param : (g : Gap) (us : Items) (e : Front) → Begins e us → EndOf l e → ParamOf l (f g us) us
 
   pub from_form : {f : Laid} {k : Kind} {ns : List Node} → Form assigned f k ns → Stands shapes.object f k ns
-  from_form {k = k} F = record { lead = lead_of assigned F; no_or = head_is_no_or k F.head; param = F.as_param; reading = F }
+  from_form {k = k} F = let o = F.opens in record { lead = lead_of assigned F; tight = (o.no_private, o.no_yield); no_or = head_is_no_or k F.head; param = F.as_param; reading = F }
 
   pub from_new : {f : Laid} {k : Kind} {ns : List Node} → NewForm assigned f k ns → Stands shapes.new_callee f k ns
-  from_new {k = k} N = let F = N.form in record { lead = lead_of assigned F; no_or = head_is_no_or k F.head; param = F.as_param; reading = N }
+  from_new {k = k} N = let F = N.form in let o = F.opens in record { lead = lead_of assigned F; tight = (o.no_private, o.no_yield); no_or = head_is_no_or k F.head; param = F.as_param; reading = N }
 
   pub chained_read : {base tail : Grammar} {l : Level} {f : Laid} {n : Node} → Chained base tail l f n → (g : Gap) (us : Items) (e : Front) → Begins e us → passes_at e tail ≡ true → closes l e ≡ true
       → Reads assigned (build form.Chain (base ▸ tail)) (f g us) (n ∷ []) us
@@ -239,11 +262,11 @@ module _ (assigned : Bool) where
       let t : Tower L.front e operators.update exponentiation = later r (chained (before here c.0)) in
       climb assigned (means assigned) t (f g us) us n (L.begins g us) b (d g us e b c.1)
 
-  pub assignment_read : {f : Laid} {n : Node} → Lead assigned f → ((g : Gap) (us : Items) (e : Front) → Begins e us → Ends e → Reads assigned (expressions.conditional false) (f g us) (n ∷ []) us) → Direct shapes.assignment f n
-  assignment_read {f} {n} L D g us e b z =
+  pub assignment_read : {f : Laid} {n : Node} (L : Lead assigned f) → refuses_at (let l = L in l.front) (yield_ false) ≡ true → ((g : Gap) (us : Items) (e : Front) → Begins e us → Ends e → Reads assigned (expressions.conditional false) (f g us) (n ∷ []) us) → Direct shapes.assignment f n
+  assignment_read {f} {n} L y D g us e b z =
       let c = and_parts (refuses_at e (arrow_body false)) _ z in
       let d = and_parts (refuses_at e (arrow_rest false false)) _ c.1 in
-      let t : Tower L.front e (expressions.conditional false) behind_arrow = later L.no_yield (chained (before here (ends_parts e z).0)) in
+      let t : Tower L.front e (expressions.conditional false) behind_arrow = later y (chained (before here (ends_parts e z).0)) in
       means_is assigned (part.Assign false false) (f g us)
       ∙ (ap (or_on (interp assigned (means assigned) behind_arrow) (f g us)) (L.no_arrow g us e b c.0 (refused_at assigned (means assigned) (arrow_rest false false) e us b d.0))
       ∙ climb assigned (means assigned) t (f g us) us n (L.begins g us) b (D g us e b z))
@@ -283,7 +306,8 @@ module _ (assigned : Bool) where
     related_read : Stands shapes.shift f k ns → (g : Gap) (us : Items) (e : Front) → Begins e us → closes shapes.shift e ≡ true → Reads assigned related (f g us) (bare k ns ∷ []) us
     related_read S g us e b z =
         let l = S.lead in
-        ap (or_on (interp assigned (means assigned) operators.shift) (f g us)) (refused_at assigned (means assigned) private_in l.front (f g us) (l.begins g us) l.no_private) ∙ direct shapes.shift S g us e b z
+        let t = S.tight in
+        ap (or_on (interp assigned (means assigned) operators.shift) (f g us)) (refused_at assigned (means assigned) private_in l.front (f g us) (l.begins g us) t.0) ∙ direct shapes.shift S g us e b z
 
     ands_read : Stands shapes.bit_or f k ns → Ands f (bare k ns)
     ands_read S = record {
@@ -313,25 +337,25 @@ module _ (assigned : Bool) where
 
     pub loosened : (l : Level) → Stands l f k ns → Stands (looser_than l) f k ns
     loosened shapes.new_callee S = let N = S.reading in from_form N.form
-    loosened shapes.object S = record { lead = S.lead; no_or = S.no_or; param = S.param; reading = S.reading }
-    loosened shapes.callee S = let F = S.reading in record { lead = lead_of assigned F; no_or = S.no_or; param = S.param; reading = record { opens = F.opens; all = chain_read assigned F } }
-    loosened shapes.left_hand_side S = let w = S.reading in let o = w.opens in record { lead = S.lead; no_or = S.no_or; param = S.param; reading = (o.no_prefix, update_read S.lead w) }
-    loosened shapes.update S = let r = S.reading in record { lead = S.lead; no_or = S.no_or; param = S.param; reading = without_operator r.0 r.1 }
-    loosened shapes.unary S = record { lead = S.lead; no_or = S.no_or; param = S.param; reading = power_read S.lead S.reading }
-    loosened shapes.power S = record { lead = S.lead; no_or = S.no_or; param = S.param; reading = single exponentiation factors shapes.power (direct shapes.power S) }
-    loosened shapes.product S = record { lead = S.lead; no_or = S.no_or; param = S.param; reading = single operators.product terms shapes.product (direct shapes.product S) }
-    loosened shapes.sum S = record { lead = S.lead; no_or = S.no_or; param = S.param; reading = single operators.sum shifts shapes.sum (direct shapes.sum S) }
-    loosened shapes.shift S = record { lead = S.lead; no_or = S.no_or; param = S.param; reading = single related (relations false) shapes.shift (related_read S) }
-    loosened shapes.relation S = record { lead = S.lead; no_or = S.no_or; param = S.param; reading = single (operators.relation false) (equalities false) shapes.relation (direct shapes.relation S) }
-    loosened shapes.equality S = record { lead = S.lead; no_or = S.no_or; param = S.param; reading = single (operators.equality false) (conjunctions false) shapes.equality (direct shapes.equality S) }
-    loosened shapes.bit_and S = record { lead = S.lead; no_or = S.no_or; param = S.param; reading = single (operators.bit_and false) (exclusions false) shapes.bit_and (direct shapes.bit_and S) }
-    loosened shapes.bit_xor S = record { lead = S.lead; no_or = S.no_or; param = S.param; reading = single (operators.bit_xor false) (disjunctions false) shapes.bit_xor (direct shapes.bit_xor S) }
-    loosened shapes.bit_or S = record { lead = S.lead; no_or = S.no_or; param = S.param; reading = ands_read S }
-    loosened shapes.logical_and S = let r = S.reading in record { lead = S.lead; no_or = tt; param = S.param; reading = r.chain }
-    loosened shapes.logical_or S = record { lead = S.lead; no_or = tt; param = S.param; reading = logical_read S.reading }
-    loosened shapes.coalescing S = record { lead = S.lead; no_or = tt; param = S.param; reading = coalesced_read S.reading }
-    loosened shapes.short_circuit S = record { lead = S.lead; no_or = tt; param = λ g us e b z. S.param g us e b z.0; reading = assignment_read S.lead (λ g us e b z. conditional_read S g us e b (ends_parts e z).1) }
-    loosened shapes.assignment S = record { lead = S.lead; no_or = tt; param = λ g us e b z P. params_by assigned (f g us) us (S.param g us e b z) P; reading = one_read S }
+    loosened shapes.object S = record { lead = S.lead; tight = S.tight; no_or = S.no_or; param = S.param; reading = S.reading }
+    loosened shapes.callee S = let F = S.reading in let o = F.opens in record { lead = lead_of assigned F; tight = (o.no_private, o.no_yield); no_or = S.no_or; param = S.param; reading = record { opens = F.opens; all = chain_read assigned F } }
+    loosened shapes.left_hand_side S = let w = S.reading in let o = w.opens in record { lead = S.lead; tight = S.tight; no_or = S.no_or; param = S.param; reading = (o.no_prefix, update_read S.lead w) }
+    loosened shapes.update S = let r = S.reading in record { lead = S.lead; tight = S.tight; no_or = S.no_or; param = S.param; reading = without_operator r.0 r.1 }
+    loosened shapes.unary S = record { lead = S.lead; tight = S.tight; no_or = S.no_or; param = S.param; reading = power_read S.lead S.reading }
+    loosened shapes.power S = record { lead = S.lead; tight = S.tight; no_or = S.no_or; param = S.param; reading = single exponentiation factors shapes.power (direct shapes.power S) }
+    loosened shapes.product S = record { lead = S.lead; tight = S.tight; no_or = S.no_or; param = S.param; reading = single operators.product terms shapes.product (direct shapes.product S) }
+    loosened shapes.sum S = record { lead = S.lead; tight = S.tight; no_or = S.no_or; param = S.param; reading = single operators.sum shifts shapes.sum (direct shapes.sum S) }
+    loosened shapes.shift S = let t = S.tight in record { lead = S.lead; tight = t.1; no_or = S.no_or; param = S.param; reading = single related (relations false) shapes.shift (related_read S) }
+    loosened shapes.relation S = record { lead = S.lead; tight = S.tight; no_or = S.no_or; param = S.param; reading = single (operators.relation false) (equalities false) shapes.relation (direct shapes.relation S) }
+    loosened shapes.equality S = record { lead = S.lead; tight = S.tight; no_or = S.no_or; param = S.param; reading = single (operators.equality false) (conjunctions false) shapes.equality (direct shapes.equality S) }
+    loosened shapes.bit_and S = record { lead = S.lead; tight = S.tight; no_or = S.no_or; param = S.param; reading = single (operators.bit_and false) (exclusions false) shapes.bit_and (direct shapes.bit_and S) }
+    loosened shapes.bit_xor S = record { lead = S.lead; tight = S.tight; no_or = S.no_or; param = S.param; reading = single (operators.bit_xor false) (disjunctions false) shapes.bit_xor (direct shapes.bit_xor S) }
+    loosened shapes.bit_or S = record { lead = S.lead; tight = S.tight; no_or = S.no_or; param = S.param; reading = ands_read S }
+    loosened shapes.logical_and S = let r = S.reading in record { lead = S.lead; tight = S.tight; no_or = tt; param = S.param; reading = r.chain }
+    loosened shapes.logical_or S = record { lead = S.lead; tight = S.tight; no_or = tt; param = S.param; reading = logical_read S.reading }
+    loosened shapes.coalescing S = record { lead = S.lead; tight = S.tight; no_or = tt; param = S.param; reading = coalesced_read S.reading }
+    loosened shapes.short_circuit S = record { lead = S.lead; tight = tt; no_or = tt; param = λ g us e b z. S.param g us e b z.0; reading = assignment_read S.lead S.tight (λ g us e b z. conditional_read S g us e b (ends_parts e z).1) }
+    loosened shapes.assignment S = record { lead = S.lead; tight = tt; no_or = tt; param = λ g us e b z P. params_by assigned (f g us) us (S.param g us e b z) P; reading = one_read S }
     loosened shapes.sequence S = S
 
     -- at the loosest

@@ -29,7 +29,7 @@ use Rattle.ecma_reread.specs.Tokens.{bare}
 use Rattle.ecma_reread.proofs.Levels.{means_is}
 use Rattle.ecma_reread.proofs.Fronts.{Front, exactly, Begins, at_token, refuses_all, all_refused}
 use Rattle.ecma_reread.proofs.Towers.{refuses_choices}
-use Rattle.ecma_reread.proofs.Forms.{Laid, Reads}
+use Rattle.ecma_reread.proofs.Forms.{Laid, Reads, no_item_at}
 use Rattle.ecma_reread.proofs.Repeats.{Repeats, repeats_end, repeats_more, repeated}
 use Rattle.ecma_reread.proofs.Statements.{closes_statement, closes_any, ReadAsStatement, chosen}
 
@@ -91,6 +91,6 @@ module _ (assigned : Bool) where
     front = exactly (sign (codes "{"));
     begins = B.begins;
     closes = refl;
-    no_item = brace_no_item;
+    no_item = λ g us. no_item_at assigned (exactly (sign (codes "{"))) (f g us) (B.begins g us) brace_no_item;
     reads = λ g us e b z. chosen assigned 0 block _ refl (exactly (sign (codes "{"))) (f g us) us n (B.begins g us) refl (B.reads g us);
   }

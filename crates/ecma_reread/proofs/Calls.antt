@@ -123,7 +123,8 @@ module _ (assigned : Bool) where
         front = F.front;
         begins = λ g us. F.begins g (s (codes "(") (arguments_tokens is (s (codes ")") us)));
         opens = F.opens;
-        starts = F.starts;
+        no_statement = F.no_statement;
+        no_item = λ g us. F.no_item g (s (codes "(") (arguments_tokens is (s (codes ")") us)));
         pieces = F.pieces ++ m ∷ [];
         own = λ g us e b z ys vs h. rw (append_assoc F.pieces (m ∷ []) ys) (F.own g (s (codes "(") (arguments_tokens is (s (codes ")") us))) opening at_token refl (m ∷ ys) vs (call_read is A us ys vs h));
         whole = steps-append in_front_link None F.pieces m ∙ (ap (λ o. step_on in_front_link o m) F.whole ∙ ap Some (call_made k F.head ns (list_node (bare_arguments is))));

@@ -57,4 +57,4 @@ module _ (assigned : Bool) where
 
     pub choice_form : Stands assigned shapes.assignment (λ g us. f g (first us)) kind.CondExpr (bare k ns ∷ bare k' ns' ∷ bare k'' ns'' ∷ [])
     unfolding arrow_rest names.binding_ident
-    choice_form = let L = lead_before assigned S.lead (sign (codes "?")) refl blank (λ us. f' blank (second us)) in record { lead = L; no_or = tt; param = λ g us e b z. param_in_front assigned S.param (sign (codes "?")) refl blank (λ us. f' blank (second us)) g us; reading = assignment_read assigned L choice_whole }
+    choice_form = let L = lead_before assigned S.lead (sign (codes "?")) refl blank (λ us. f' blank (second us)) in record { lead = L; tight = tt; no_or = tt; param = λ g us e b z. param_in_front assigned S.param (sign (codes "?")) refl blank (λ us. f' blank (second us)) g us; reading = assignment_read assigned L S.tight choice_whole }

@@ -55,6 +55,7 @@ module _ (assigned : Bool) {f f' : Laid} {k k' : Kind} {ns ns' : List Node} wher
       let n = nullish_item (bare k' ns') in
       record {
         lead = joined_lead assigned f' op.NullishCoalescing refl S.lead;
+        tight = S.tight;
         no_or = refl;
         param = joined_param assigned f' op.NullishCoalescing refl S.param;
         reading = record {
@@ -69,6 +70,7 @@ module _ (assigned : Bool) {f f' : Laid} {k k' : Kind} {ns ns' : List Node} wher
       let n = nullish_item (bare k' ns') in
       record {
         lead = joined_lead assigned f' op.NullishCoalescing refl S.lead;
+        tight = S.tight;
         no_or = refl;
         param = joined_param assigned f' op.NullishCoalescing refl S.param;
         reading = record {

@@ -35,7 +35,7 @@ use Rattle.ecma_reread.proofs.Fronts.{Front, exactly, Begins, at_token, refuses_
 use Rattle.ecma_reread.proofs.Towers.{Opens, closes, refuses_choices, skipped}
 use Rattle.ecma_reread.proofs.Heads.{is_head, bare}
 use Rattle.ecma_reread.proofs.Forms.{Laid, s, heads, new_heads, Reads, Refuses, Form, NewForm, only_opens, lead_by, param_by, form_by}
-use Rattle.ecma_reread.proofs.Bindings.{Stands}
+use Rattle.ecma_reread.proofs.Bindings.{Stands, tight_by}
 
 abbrev new : Front
 new = exactly (key (codes "new"))
@@ -135,6 +135,7 @@ module _ (assigned : Bool) where
     unfolding chain
     alone_form = record {
       lead = lead_by assigned (key (codes "new")) new_opens (f blank);
+      tight = tight_by new new_opens;
       no_or = refl;
       param = λ g us e b z. param_by assigned (key (codes "new")) new_opens (f blank) g us;
       reading = record {

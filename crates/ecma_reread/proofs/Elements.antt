@@ -53,7 +53,8 @@ module _ (assigned : Bool) {f' : Laid} {k' : Kind} {ns' : List Node} (S : Stands
         front = F.front;
         begins = λ g us. F.begins g (behind us);
         opens = F.opens;
-        starts = F.starts;
+        no_statement = F.no_statement;
+        no_item = λ g us. F.no_item g (behind us);
         pieces = F.pieces ++ m ∷ [];
         own = λ g us e b z ys vs h. rw (append_assoc F.pieces (m ∷ []) ys) (F.own g (behind us) bracket at_token refl (m ∷ ys) vs (key_read us ys vs h));
         whole = steps-append in_front_link None F.pieces m ∙ (ap (λ o. step_on in_front_link o m) F.whole ∙ ap Some (member_made k F.head ns key));

@@ -42,7 +42,7 @@ use Rattle.ecma_grammar.specs.Made.{made}
 use Rattle.ecma_reread.proofs.Fronts.{is_known, Front, exactly, a_name, Begins, at_token, at_name, IsName, front_of, refuses_at, refused_at, refuses_all, all_refused}
 use Rattle.ecma_reread.proofs.Towers.{Tower, here, later, sooner, climb, excluded, Opens, Starts, Undeclared, Ends, refuses_choices, skipped}
 use Rattle.ecma_reread.proofs.Heads.{is_head, member_made}
-use Rattle.ecma_reread.proofs.Forms.{Laid, s, heads, Reads, Refuses, ends_no_item, AsParam, item_refused, whole_item, linked_param, Form, new_heads, NewForm}
+use Rattle.ecma_reread.proofs.Forms.{Laid, s, heads, Reads, Refuses, ends_no_item, AsParam, item_refused, whole_item, linked_param, Form, new_heads, NewForm, no_item_at}
 use Rattle.ecma_reread.proofs.Bindings.{Stands, expression_read}
 use Rattle.ecma_reread.proofs.Params.{params_end, parameters_refused, no_body_behind}
 
@@ -244,7 +244,8 @@ module _ (assigned : Bool) where
     front = exactly t;
     begins = λ g us. at_token;
     opens = S.opens;
-    starts = S.starts;
+    no_statement = (let s = S.starts in s.no_statement);
+    no_item = λ g us. (let s = S.starts in no_item_at assigned (exactly t) (it g t us) at_token s.no_item);
     pieces = bare k [] ∷ [];
     own = λ g us e b z ys vs h. head_read (exactly t) (it g t us) us (bare k []) S.apart at_token (single_read t k S g us) ys vs h;
     whole = refl;
@@ -304,7 +305,8 @@ module _ (assigned : Bool) where
     front = a_name;
     begins = λ g us. at_name n;
     opens = name_opens;
-    starts = name_starts;
+    no_statement = (let s = name_starts in s.no_statement);
+    no_item = λ g us. (let s = name_starts in no_item_at assigned a_name (it g (items.key w) us) (at_name n) s.no_item);
     pieces = bare (kind.Ident w 0 false) [] ∷ [];
     own = λ g us e b z ys vs h. head_read a_name (it g (items.key w) us) us (bare (kind.Ident w 0 false) []) name_primary (at_name n) (name_read w n g us) ys vs h;
     whole = refl;
@@ -355,7 +357,8 @@ module _ (assigned : Bool) where
       front = opening;
       begins = λ g us. at_token;
       opens = record { no_spread = refl; no_yield = refl; no_private = refl; no_prefix = refl; no_increment = refl; no_decrement = refl };
-      starts = record { no_statement = refl; no_item = refl };
+      no_statement = refl;
+      no_item = λ g us. no_item_at assigned opening (it g (sign (codes "(")) (f no_gap (s (codes ")") us))) at_token refl;
       pieces = bare kind.ParenExpr (bare k ns ∷ []) ∷ [];
       own = λ g us e b z ys vs h. head_read opening (it g (sign (codes "(")) (f no_gap (s (codes ")") us))) us (bare kind.ParenExpr (bare k ns ∷ [])) parenthesis_primary at_token (whole_read g us) ys vs h;
       whole = refl;

@@ -34,7 +34,7 @@ use Rattle.ecma_reread.proofs.Levels.{means_is}
 use Rattle.ecma_reread.proofs.Fronts.{Front, exactly, Begins, at_token, refuses_all, all_refused}
 use Rattle.ecma_reread.proofs.Towers.{skipped}
 use Rattle.ecma_reread.proofs.Heads.{nodes}
-use Rattle.ecma_reread.proofs.Forms.{Laid, s, Reads}
+use Rattle.ecma_reread.proofs.Forms.{Laid, s, Reads, no_item_at}
 use Rattle.ecma_reread.proofs.Bindings.{Stands, used, expression_read}
 use Rattle.ecma_reread.proofs.Expressions.{parenthesis_ends, semicolon_ends}
 use Rattle.ecma_reread.proofs.Statements.{closes_statement, ReadAsStatement, token_form}
@@ -100,7 +100,7 @@ module _ (assigned : Bool) where
     front = exactly (items.key (codes "for"));
     begins = λ g us. at_token;
     closes = refl;
-    no_item = refl;
+    no_item = λ g us. no_item_at assigned (exactly (items.key (codes "for"))) (it g (items.key (codes "for")) (it blank (sign (codes "(")) (rest us))) at_token refl;
     reads = λ g us e b z.
         (let ts = it g (items.key (codes "for")) (it blank (sign (codes "(")) (rest us)) in
         means_is assigned part.Statement ts

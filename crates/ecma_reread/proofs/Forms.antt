@@ -15,14 +15,14 @@ use Rattle.ecma_grammar.specs.productions.Primary.{primary}
 use Rattle.ecma_grammar.specs.productions.Chains.{chain, links, super_of_link, import_meta, import_call, construction, new_links, super_of_member}
 use Rattle.ecma_grammar.specs.productions.Declarations.{declaration}
 use Rattle.ecma_grammar.specs.productions.Statements.{labeled, statement_body}
-use Rattle.ecma_grammar.specs.productions.Modules.{module_item}
+use Rattle.ecma_grammar.specs.productions.Modules.{module_item, import, import_equals, export}
 use Rattle.ecma_tokens.specs.Items.{Tok, sign, Gap, no_gap, Items, it}
 use Rattle.ecma_grammar.specs.declared.production.Part.TheVariants as part
 use Rattle.ecma_reread.specs.Tokens.{blank}
 use Rattle.ecma_reread.specs.Machine.{read, fails, built_on, interp, means}
 use Rattle.ecma_reread.specs.Shapes as shapes
 use Rattle.ecma_reread.proofs.Fronts.{Front, exactly, Begins, at_token, refuses_at, refused_at, refuses_all, all_refused, passes_at, passed_at}
-use Rattle.ecma_reread.proofs.Towers.{without, refuses_choices, excluded, private_in, Opens, Starts, closes}
+use Rattle.ecma_reread.proofs.Towers.{without, refuses_choices, excluded, private_in, Opens, closes}
 use Rattle.ecma_reread.proofs.Heads.{bare, is_head}
 
 abbrev pub Laid : Type 0
@@ -73,12 +73,28 @@ module _ (assigned : Bool) where
   linked_param {us = us} {e = e} b c p (whole_item xs h) = item_before xs us e b (rw (c, p) refl) h
   linked_param b c p (item_before xs vs e d z h) = item_before xs vs e d z h
 
+  -- nothing that stands in modules alone begins there
+  pub record NoItem (ts : Items) : Type 0 where
+    pub no_import : Refuses import ts
+    pub no_import_equals : Refuses import_equals ts
+    pub no_export : Refuses export ts
+
+  pub no_item_at : (f : Front) (ts : Items) → Begins f ts → refuses_choices 3 f module_item ≡ true → NoItem ts
+  unfolding module_item
+  no_item_at f ts b z =
+      let c = and_parts (refuses_at f import) _ z in
+      let d = and_parts (refuses_at f import_equals) _ c.1 in
+      let e = and_parts (refuses_at f export) _ d.1 in
+      let p = means assigned in
+      record { no_import = refused_at assigned p import f ts b c.0; no_import_equals = refused_at assigned p import_equals f ts b d.0; no_export = refused_at assigned p export f ts b e.0 }
+
   -- members, calls and what they begin with, as they are laid out
   pub record Form (f : Laid) (k : Kind) (ns : List Node) : Type 0 where
     pub front : Front
     pub begins : (g : Gap) (us : Items) → Begins front (f g us)
     pub opens : Opens front
-    pub starts : Starts front
+    pub no_statement : refuses_choices 9 front (without 1 statement_body) ≡ true
+    pub no_item : (g : Gap) (us : Items) → NoItem (f g us)
     -- its links are read, and then those that follow
     pub pieces : List Node
     pub own : (g : Gap) (us : Items) (e : Front) → Begins e us → refuses_at e (word (codes "function")) ≡ true → (ys : List Node) (vs : Items) → Reads links us ys vs → Reads (heads ▸ links) (f g us) (pieces ++ ys) vs
@@ -116,10 +132,9 @@ module _ (assigned : Bool) where
   pub record Lead (f : Laid) : Type 0 where
     pub front : Front
     pub begins : (g : Gap) (us : Items) → Begins front (f g us)
-    pub starts : Starts front
+    pub no_statement : refuses_choices 9 front (without 1 statement_body) ≡ true
+    pub no_item : (g : Gap) (us : Items) → NoItem (f g us)
     pub no_spread : refuses_at front (punct (codes "...")) ≡ true
-    pub no_yield : refuses_at front (yield_ false) ≡ true
-    pub no_private : refuses_at front private_in ≡ true
     pub no_arrow : (g : Gap) (us : Items) (e : Front) → Begins e us → refuses_at e (arrow_body false) ≡ true → Refuses (arrow_rest false false) us → Refuses (arrow false false) (f g us)
     pub no_label : (g : Gap) (us : Items) (e : Front) → Begins e us → refuses_at e (punct (codes ":")) ≡ true → Refuses labeled (f g us)
     pub no_declaration : (g : Gap) (us : Items) (e : Front) → Begins e us → refuses_at e (word (codes "function")) ≡ true → Refuses declaration (f g us)
@@ -131,10 +146,9 @@ module _ (assigned : Bool) where
       record {
         front = F.front;
         begins = F.begins;
-        starts = F.starts;
+        no_statement = F.no_statement;
+        no_item = F.no_item;
         no_spread = o.no_spread;
-        no_yield = o.no_yield;
-        no_private = o.no_private;
         no_arrow = F.no_arrow;
         no_label = F.no_label;
         no_declaration = F.no_declaration;
@@ -152,11 +166,14 @@ ends_no_param e = refuses_at e (punct (codes "=")) && ends_no_item e
 abbrev begins_no_param : Front → Bool
 begins_no_param e = refuses_all e param && ends_no_item e
 
--- a token with which an expression begins, but nothing that is tried before one
+-- a token with which an expression begins, but nothing that is tried before one, other than by itself
+abbrev pub opens_plainly : Front → Bool
+opens_plainly e =
+    refuses_choices 9 e (without 1 statement_body) && (refuses_at e (punct (codes "...")) && (refuses_all e (arrow false false) && (refuses_at e labeled && (refuses_at e declaration && (refuses_at e excluded && begins_no_param e)))))
+
+-- nor what stands in modules alone, `yield`, or a private name
 abbrev pub only_opens : Front → Bool
-only_opens e =
-    refuses_choices 9 e (without 1 statement_body) && (refuses_choices 3 e module_item && (refuses_at e (punct (codes "...")) && (refuses_at e (yield_ false) && (refuses_at e private_in
-    && (refuses_all e (arrow false false) && (refuses_at e labeled && (refuses_at e declaration && (refuses_at e excluded && begins_no_param e))))))))
+only_opens e = opens_plainly e && (refuses_choices 3 e module_item && (refuses_at e private_in && refuses_at e (yield_ false)))
 
 module _ (assigned : Bool) where
   abbrev pub lead_before : {f : Laid} → Lead assigned f → (t : Tok) → apart (exactly t) ≡ true → (h : Gap) (rest : Items → Items) → Lead assigned (λ g us. f g (it h t (rest us)))
@@ -168,41 +185,46 @@ module _ (assigned : Bool) where
       record {
         front = L.front;
         begins = λ g us. L.begins g (it h t (rest us));
-        starts = L.starts;
+        no_statement = L.no_statement;
+        no_item = λ g us. L.no_item g (it h t (rest us));
         no_spread = L.no_spread;
-        no_yield = L.no_yield;
-        no_private = L.no_private;
         no_arrow = λ g us k s r q. L.no_arrow g (it h t (rest us)) e at_token a.0 (refused_at assigned (means assigned) (arrow_rest false false) e (it h t (rest us)) at_token b.0);
         no_label = λ g us k s r. L.no_label g (it h t (rest us)) e at_token c.0;
         no_declaration = λ g us k s r. L.no_declaration g (it h t (rest us)) e at_token c.1;
         no_word = λ g us k s r. L.no_word g (it h t (rest us)) e at_token c.1;
       }
 
-  abbrev pub lead_by : (t : Tok) → only_opens (exactly t) ≡ true → (rest : Items → Items) → Lead assigned (λ g us. it g t (rest us))
-  lead_by t z rest =
+  abbrev pub lead_from : (t : Tok) → opens_plainly (exactly t) ≡ true → (rest : Items → Items) → ((g : Gap) (us : Items) → NoItem assigned (it g t (rest us))) → Lead assigned (λ g us. it g t (rest us))
+  lead_from t z rest i =
       let e = exactly t in
       let p = means assigned in
       let a = and_parts (refuses_choices 9 e (without 1 statement_body)) _ z in
-      let b = and_parts (refuses_choices 3 e module_item) _ a.1 in
-      let c = and_parts (refuses_at e (punct (codes "..."))) _ b.1 in
-      let d = and_parts (refuses_at e (yield_ false)) _ c.1 in
-      let x = and_parts (refuses_at e private_in) _ d.1 in
-      let y = and_parts (refuses_all e (arrow false false)) _ x.1 in
+      let c = and_parts (refuses_at e (punct (codes "..."))) _ a.1 in
+      let y = and_parts (refuses_all e (arrow false false)) _ c.1 in
       let l = and_parts (refuses_at e labeled) _ y.1 in
       let m = and_parts (refuses_at e declaration) _ l.1 in
       let n = and_parts (refuses_at e excluded) _ m.1 in
       record {
         front = e;
         begins = λ g us. at_token;
-        starts = record { no_statement = a.0; no_item = b.0 };
+        no_statement = a.0;
+        no_item = i;
         no_spread = c.0;
-        no_yield = d.0;
-        no_private = x.0;
         no_arrow = λ g us k s r q. all_refused assigned (arrow false false) e (it g t (rest us)) at_token y.0;
         no_label = λ g us k s r. refused_at assigned p labeled e (it g t (rest us)) at_token l.0;
         no_declaration = λ g us k s r. refused_at assigned p declaration e (it g t (rest us)) at_token m.0;
         no_word = λ g us k s r. refused_at assigned p excluded e (it g t (rest us)) at_token n.0;
       }
+
+  pub no_item_by : (t : Tok) → only_opens (exactly t) ≡ true → (g : Gap) (us : Items) → NoItem assigned (it g t us)
+  no_item_by t z g us =
+      let e = exactly t in
+      let a = and_parts (opens_plainly e) _ z in
+      let b = and_parts (refuses_choices 3 e module_item) _ a.1 in
+      no_item_at assigned e (it g t us) at_token b.0
+
+  abbrev pub lead_by : (t : Tok) → only_opens (exactly t) ≡ true → (rest : Items → Items) → Lead assigned (λ g us. it g t (rest us))
+  lead_by t z rest = let a = and_parts (opens_plainly (exactly t)) _ z in lead_from t a.0 rest (λ g us. no_item_by t z g (rest us))
 
   -- an expression as a parameter, in front of what is no `=`
   abbrev pub NoDefault : Laid → Type 0
@@ -215,32 +237,33 @@ module _ (assigned : Bool) where
       let y = and_parts (refuses_at e (punct (codes ","))) _ x.1 in
       linked_param assigned at_token y.0 y.1 (P g (it h t (rest us)) e at_token x.0)
 
-  pub param_by : (t : Tok) → only_opens (exactly t) ≡ true → (rest : Items → Items) (g : Gap) (us : Items) → AsParam assigned (it g t (rest us)) us
-  param_by t z rest g us =
+  pub param_from : (t : Tok) → opens_plainly (exactly t) ≡ true → (rest : Items → Items) (g : Gap) (us : Items) → AsParam assigned (it g t (rest us)) us
+  param_from t z rest g us =
       let e = exactly t in
       let a = and_parts (refuses_choices 9 e (without 1 statement_body)) _ z in
-      let b = and_parts (refuses_choices 3 e module_item) _ a.1 in
-      let c = and_parts (refuses_at e (punct (codes "..."))) _ b.1 in
-      let d = and_parts (refuses_at e (yield_ false)) _ c.1 in
-      let x = and_parts (refuses_at e private_in) _ d.1 in
-      let y = and_parts (refuses_all e (arrow false false)) _ x.1 in
+      let c = and_parts (refuses_at e (punct (codes "..."))) _ a.1 in
+      let y = and_parts (refuses_all e (arrow false false)) _ c.1 in
       let l = and_parts (refuses_at e labeled) _ y.1 in
       let m = and_parts (refuses_at e declaration) _ l.1 in
       let n = and_parts (refuses_at e excluded) _ m.1 in
       let o = and_parts (refuses_all e param) _ n.1 in
       item_refused (all_refused assigned param e (it g t (rest us)) at_token o.0) e at_token o.1
 
+  pub param_by : (t : Tok) → only_opens (exactly t) ≡ true → (rest : Items → Items) (g : Gap) (us : Items) → AsParam assigned (it g t (rest us)) us
+  param_by t z rest g us = let a = and_parts (opens_plainly (exactly t)) _ z in param_from t a.0 rest g us
+
   -- a form by its first token, with which nothing begins that is tried before an expression
-  abbrev pub form_by : (t : Tok) → only_opens (exactly t) ≡ true → Opens (exactly t) → (rest : Items → Items) {k : Kind} {ns : List Node} → is_head k ≡ true → (pieces : List Node) → steps in_front_link None pieces ≡ Some (bare k ns)
+  abbrev pub form_from : (t : Tok) → opens_plainly (exactly t) ≡ true → Opens (exactly t) → (rest : Items → Items) → ((g : Gap) (us : Items) → NoItem assigned (it g t (rest us))) → {k : Kind} {ns : List Node} → is_head k ≡ true → (pieces : List Node) → steps in_front_link None pieces ≡ Some (bare k ns)
       → ((g : Gap) (us : Items) (e : Front) → Begins e us → refuses_at e (word (codes "function")) ≡ true → (ys : List Node) (vs : Items) → Reads assigned links us ys vs → Reads assigned (heads ▸ links) (it g t (rest us)) (pieces ++ ys) vs)
       → Form assigned (λ g us. it g t (rest us)) k ns
-  form_by t z o rest h pieces whole own =
-      let L = lead_by t z rest in
+  form_from t z o rest i h pieces whole own =
+      let L = lead_from t z rest i in
       record {
         front = exactly t;
         begins = L.begins;
         opens = o;
-        starts = L.starts;
+        no_statement = L.no_statement;
+        no_item = L.no_item;
         pieces = pieces;
         own = own;
         whole = whole;
@@ -249,6 +272,11 @@ module _ (assigned : Bool) where
         no_label = L.no_label;
         no_declaration = L.no_declaration;
         no_word = L.no_word;
-        as_param = λ g us e b c. param_by t z rest g us;
-        with_default = λ g ts vs n c. param_by t z (λ us. rest (it blank (sign (codes "=")) ts)) g vs;
+        as_param = λ g us e b c. param_from t z rest g us;
+        with_default = λ g ts vs n c. param_from t z (λ us. rest (it blank (sign (codes "=")) ts)) g vs;
       }
+
+  abbrev pub form_by : (t : Tok) → only_opens (exactly t) ≡ true → Opens (exactly t) → (rest : Items → Items) {k : Kind} {ns : List Node} → is_head k ≡ true → (pieces : List Node) → steps in_front_link None pieces ≡ Some (bare k ns)
+      → ((g : Gap) (us : Items) (e : Front) → Begins e us → refuses_at e (word (codes "function")) ≡ true → (ys : List Node) (vs : Items) → Reads assigned links us ys vs → Reads assigned (heads ▸ links) (it g t (rest us)) (pieces ++ ys) vs)
+      → Form assigned (λ g us. it g t (rest us)) k ns
+  form_by t z o rest h pieces whole own = let a = and_parts (opens_plainly (exactly t)) _ z in form_from t a.0 o rest (λ g us. no_item_by t z g (rest us)) h pieces whole own

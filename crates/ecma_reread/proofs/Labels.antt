@@ -40,16 +40,15 @@ module _ (assigned : Bool) (w : List ℕ) (free : is_reserved w ≡ false) where
   unfolding statement_body names.block
   labeled_form {body = body} {n = n} S B =
       let L = S.lead in
-      let st = L.starts in
       record {
         front = L.front;
         begins = λ g us. L.begins g (s (codes ":") (body blank us));
         closes = lead_closes assigned S;
-        no_item = st.no_item;
+        no_item = λ g us. L.no_item g (s (codes ":") (body blank us));
         reads = λ g us e b z.
             (let ts = it g (items.key w) (s (codes ":") (body blank us)) in
             means_is assigned part.Statement ts
-            ∙ (skipped assigned (means assigned) 9 (without 1 statement_body) L.front ts (L.begins g (s (codes ":") (body blank us))) st.no_statement
+            ∙ (skipped assigned (means assigned) 9 (without 1 statement_body) L.front ts (L.begins g (s (codes ":") (body blank us))) L.no_statement
             ∙ ap (or_on (interp assigned (means assigned) (declaration // expression_statement)) ts) (label_read B g us e b z)));
       }
 

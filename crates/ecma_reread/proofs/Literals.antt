@@ -15,7 +15,7 @@ use Rattle.ecma_reread.specs.Tokens.{blank}
 use Rattle.ecma_reread.proofs.Fronts.{Front, exactly, at_token, refuses_at, refused_at, refuses_all, all_refused}
 use Rattle.ecma_reread.proofs.Towers.{Tower, excluded, Opens, Starts}
 use Rattle.ecma_reread.proofs.Heads.{bare, is_head}
-use Rattle.ecma_reread.proofs.Forms.{Laid, Reads, ends_no_item, Form, NewForm}
+use Rattle.ecma_reread.proofs.Forms.{Laid, Reads, ends_no_item, Form, NewForm, no_item_at}
 use Rattle.ecma_reread.proofs.Expressions.{IsPrimary, primary_by, head_read, new_head_read}
 use Rattle.ecma_reread.proofs.Tried.{Wholly, wholly_param, no_default, some_default}
 
@@ -44,12 +44,14 @@ module _ (assigned : Bool) {t : Tok} {base : Grammar} (L : Literal t base) (rest
     pub literal_form : Form assigned literal k ns
     literal_form =
         let e = exactly t in
+        let s = L.starts in
         let p = means assigned in
         record {
           front = e;
           begins = λ g us. at_token;
           opens = L.opens;
-          starts = L.starts;
+          no_statement = s.no_statement;
+          no_item = λ g us. no_item_at assigned e (literal g us) at_token s.no_item;
           pieces = bare k ns ∷ [];
           own = λ g us f b z ys vs h. head_read assigned e (literal g us) us (bare k ns) L.apart at_token (primary_read g us) ys vs h;
           whole = refl;

@@ -74,6 +74,7 @@ module _ (assigned : Bool) {f f' : Laid} {k k' : Kind} {ns ns' : List Node} wher
       let I = interp assigned (means assigned) in
       record {
         lead = joined_lead assigned f' op.LogicalAnd refl S.lead;
+        tight = S.tight;
         no_or = refl;
         param = joined_param assigned f' op.LogicalAnd refl S.param;
         reading = record {
@@ -102,6 +103,7 @@ module _ (assigned : Bool) {f f' : Laid} {k k' : Kind} {ns ns' : List Node} wher
       let I = interp assigned (means assigned) in
       record {
         lead = joined_lead assigned f' op.LogicalOr refl S.lead;
+        tight = S.tight;
         no_or = tt;
         param = joined_param assigned f' op.LogicalOr refl S.param;
         reading = record {

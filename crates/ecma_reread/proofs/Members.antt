@@ -72,7 +72,8 @@ module _ (assigned : Bool) where
         front = F.front;
         begins = λ g us. F.begins g (s (codes ".") (it no_gap t us));
         opens = F.opens;
-        starts = F.starts;
+        no_statement = F.no_statement;
+        no_item = λ g us. F.no_item g (s (codes ".") (it no_gap t us));
         pieces = F.pieces ++ m ∷ [];
         own = λ g us e b z ys vs h. rw (append_assoc F.pieces (m ∷ []) ys) (F.own g (s (codes ".") (it no_gap t us)) point at_token refl (m ∷ ys) vs (dot_read K us ys vs h));
         whole = steps-append in_front_link None F.pieces m ∙ (ap (λ o. step_on in_front_link o m) F.whole ∙ ap Some (member_made k F.head ns (bare q [])));

@@ -40,7 +40,7 @@ use Rattle.ecma_reread.proofs.Fronts.{Front, refused_at, exactly, Begins, at_tok
 use Rattle.ecma_reread.proofs.Towers.{power_tail, closes}
 use Rattle.ecma_reread.proofs.Heads.{bare, nodes}
 use Rattle.ecma_reread.proofs.Forms.{Laid, Reads, Lead, apart, ends_no_param, only_opens, lead_before, lead_by, NoDefault, param_in_front, param_by}
-use Rattle.ecma_reread.proofs.Bindings.{Chained, with_operator, Stands, direct}
+use Rattle.ecma_reread.proofs.Bindings.{Chained, with_operator, Stands, direct, tight_by}
 
 -- one operator before an operand
 
@@ -80,6 +80,7 @@ module _ (assigned : Bool) where
   pub unary_form : (o : UnaryOp) (h : Gap) {f : Laid} {k : Kind} {ns : List Node} → Stands assigned shapes.unary f k ns → Stands assigned shapes.unary (λ g us. it g (unary_token o) (f h us)) (kind.UnaryExpr o) (bare k ns ∷ [])
   unary_form o h {f} {k} {ns} S = record {
     lead = lead_by assigned (unary_token o) (unary_opens o) (f h);
+    tight = tight_by (exactly (unary_token o)) (unary_opens o);
     no_or = refl;
     param = λ g us e b z. param_by assigned (unary_token o) (unary_opens o) (f h) g us;
     reading = with_operator (λ g us e b z. prefix_read o g (f h us) us (bare k ns) (means_is assigned part.Operand (f h us) ∙ direct assigned shapes.unary S h us e b z));
@@ -92,6 +93,7 @@ module _ (assigned : Bool) where
   pub await_form : {f : Laid} {k : Kind} {ns : List Node} → Stands assigned shapes.unary f k ns → Stands assigned shapes.unary (λ g us. it g (key (codes "await")) (f blank us)) kind.AwaitExpr (bare k ns ∷ [])
   await_form {f} {k} {ns} S = record {
     lead = lead_by assigned (key (codes "await")) await_opens (f blank);
+    tight = tight_by (exactly (key (codes "await"))) await_opens;
     no_or = refl;
     param = λ g us e b z. param_by assigned (key (codes "await")) await_opens (f blank) g us;
     reading = with_operator (λ g us e b z. await_read g (f blank us) us (bare k ns) (means_is assigned part.Operand (f blank us) ∙ direct assigned shapes.unary S blank us e b z));
@@ -116,7 +118,7 @@ module _ (assigned : Bool) where
         whole = steps-append in_front None C.pieces n ∙ (ap (λ x. step_on in_front x n) C.whole ∙ ap Some (binary_made o k ns r));
       }
 
-  pub joined_lead : {f : Laid} (f' : Laid) (o : BinaryOp) → apart (exactly (binary_token o)) ≡ true → Lead assigned f → Lead assigned (joined f f' o)
+  abbrev pub joined_lead : {f : Laid} (f' : Laid) (o : BinaryOp) → apart (exactly (binary_token o)) ≡ true → Lead assigned f → Lead assigned (joined f f' o)
   joined_lead f' o z L = lead_before assigned L (binary_token o) z blank (f' blank)
 
   pub joined_param : {f : Laid} (f' : Laid) (o : BinaryOp) → ends_no_param (exactly (binary_token o)) ≡ true → NoDefault assigned f → NoDefault assigned (joined f f' o)
@@ -126,27 +128,27 @@ module _ (assigned : Bool) where
   module _ {f f' : Laid} {k k' : Kind} {ns ns' : List Node} where
     pub binary_form : {o : BinaryOp} {l t : Level} → IsOperator o l t → Stands assigned l f k ns → Stands assigned t f' k' ns' → Stands assigned l (joined f f' o) (kind.BinExpr o) (bare k ns ∷ bare k' ns' ∷ [])
     unfolding factors terms shifts relations equalities assignments links template_start arrow_rest names.binding_ident is_reserved reserved_words operators.shift
-    binary_form shapes.times S R = record { lead = joined_lead f' op.Mul refl S.lead; no_or = refl; param = joined_param f' op.Mul refl S.param; reading = chained_form op.Mul f' k ns (bare k' ns') refl (λ ts us xs h. rw h refl) S.reading (direct assigned shapes.power R) }
-    binary_form shapes.divided S R = record { lead = joined_lead f' op.Div refl S.lead; no_or = refl; param = joined_param f' op.Div refl S.param; reading = chained_form op.Div f' k ns (bare k' ns') refl (λ ts us xs h. rw h refl) S.reading (direct assigned shapes.power R) }
-    binary_form shapes.modulo S R = record { lead = joined_lead f' op.Mod refl S.lead; no_or = refl; param = joined_param f' op.Mod refl S.param; reading = chained_form op.Mod f' k ns (bare k' ns') refl (λ ts us xs h. rw h refl) S.reading (direct assigned shapes.power R) }
-    binary_form shapes.plus S R = record { lead = joined_lead f' op.Add refl S.lead; no_or = refl; param = joined_param f' op.Add refl S.param; reading = chained_form op.Add f' k ns (bare k' ns') refl (λ ts us xs h. rw h refl) S.reading (direct assigned shapes.product R) }
-    binary_form shapes.minus S R = record { lead = joined_lead f' op.Sub refl S.lead; no_or = refl; param = joined_param f' op.Sub refl S.param; reading = chained_form op.Sub f' k ns (bare k' ns') refl (λ ts us xs h. rw h refl) S.reading (direct assigned shapes.product R) }
-    binary_form shapes.left_shift S R = record { lead = joined_lead f' op.LShift refl S.lead; no_or = refl; param = joined_param f' op.LShift refl S.param; reading = chained_form op.LShift f' k ns (bare k' ns') refl (λ ts us xs h. rw h refl) S.reading (direct assigned shapes.sum R) }
-    binary_form shapes.right_shift S R = record { lead = joined_lead f' op.RShift refl S.lead; no_or = refl; param = joined_param f' op.RShift refl S.param; reading = chained_form op.RShift f' k ns (bare k' ns') refl (λ ts us xs h. rw h refl) S.reading (direct assigned shapes.sum R) }
-    binary_form shapes.unsigned_shift S R = record { lead = joined_lead f' op.ZeroFillRShift refl S.lead; no_or = refl; param = joined_param f' op.ZeroFillRShift refl S.param; reading = chained_form op.ZeroFillRShift f' k ns (bare k' ns') refl (λ ts us xs h. rw h refl) S.reading (direct assigned shapes.sum R) }
-    binary_form shapes.less S R = record { lead = joined_lead f' op.Lt refl S.lead; no_or = refl; param = joined_param f' op.Lt refl S.param; reading = chained_form op.Lt f' k ns (bare k' ns') refl (λ ts us xs h. rw h refl) S.reading (direct assigned shapes.shift R) }
-    binary_form shapes.greater S R = record { lead = joined_lead f' op.Gt refl S.lead; no_or = refl; param = joined_param f' op.Gt refl S.param; reading = chained_form op.Gt f' k ns (bare k' ns') refl (λ ts us xs h. rw h refl) S.reading (direct assigned shapes.shift R) }
-    binary_form shapes.at_most S R = record { lead = joined_lead f' op.LtEq refl S.lead; no_or = refl; param = joined_param f' op.LtEq refl S.param; reading = chained_form op.LtEq f' k ns (bare k' ns') refl (λ ts us xs h. rw h refl) S.reading (direct assigned shapes.shift R) }
-    binary_form shapes.at_least S R = record { lead = joined_lead f' op.GtEq refl S.lead; no_or = refl; param = joined_param f' op.GtEq refl S.param; reading = chained_form op.GtEq f' k ns (bare k' ns') refl (λ ts us xs h. rw h refl) S.reading (direct assigned shapes.shift R) }
-    binary_form shapes.instance_of S R = record { lead = joined_lead f' op.InstanceOf refl S.lead; no_or = refl; param = joined_param f' op.InstanceOf refl S.param; reading = chained_form op.InstanceOf f' k ns (bare k' ns') refl (λ ts us xs h. rw h refl) S.reading (direct assigned shapes.shift R) }
-    binary_form shapes.contained S R = record { lead = joined_lead f' op.In refl S.lead; no_or = refl; param = joined_param f' op.In refl S.param; reading = chained_form op.In f' k ns (bare k' ns') refl (λ ts us xs h. rw h refl) S.reading (direct assigned shapes.shift R) }
-    binary_form shapes.equal S R = record { lead = joined_lead f' op.EqEq refl S.lead; no_or = refl; param = joined_param f' op.EqEq refl S.param; reading = chained_form op.EqEq f' k ns (bare k' ns') refl (λ ts us xs h. rw h refl) S.reading (direct assigned shapes.relation R) }
-    binary_form shapes.unequal S R = record { lead = joined_lead f' op.NotEq refl S.lead; no_or = refl; param = joined_param f' op.NotEq refl S.param; reading = chained_form op.NotEq f' k ns (bare k' ns') refl (λ ts us xs h. rw h refl) S.reading (direct assigned shapes.relation R) }
-    binary_form shapes.same S R = record { lead = joined_lead f' op.EqEqEq refl S.lead; no_or = refl; param = joined_param f' op.EqEqEq refl S.param; reading = chained_form op.EqEqEq f' k ns (bare k' ns') refl (λ ts us xs h. rw h refl) S.reading (direct assigned shapes.relation R) }
-    binary_form shapes.other S R = record { lead = joined_lead f' op.NotEqEq refl S.lead; no_or = refl; param = joined_param f' op.NotEqEq refl S.param; reading = chained_form op.NotEqEq f' k ns (bare k' ns') refl (λ ts us xs h. rw h refl) S.reading (direct assigned shapes.relation R) }
-    binary_form shapes.conjunction S R = record { lead = joined_lead f' op.BitAnd refl S.lead; no_or = refl; param = joined_param f' op.BitAnd refl S.param; reading = chained_form op.BitAnd f' k ns (bare k' ns') refl (λ ts us xs h. rw h refl) S.reading (direct assigned shapes.equality R) }
-    binary_form shapes.exclusion S R = record { lead = joined_lead f' op.BitXor refl S.lead; no_or = refl; param = joined_param f' op.BitXor refl S.param; reading = chained_form op.BitXor f' k ns (bare k' ns') refl (λ ts us xs h. rw h refl) S.reading (direct assigned shapes.bit_and R) }
-    binary_form shapes.disjunction S R = record { lead = joined_lead f' op.BitOr refl S.lead; no_or = refl; param = joined_param f' op.BitOr refl S.param; reading = chained_form op.BitOr f' k ns (bare k' ns') refl (λ ts us xs h. rw h refl) S.reading (direct assigned shapes.bit_xor R) }
+    binary_form shapes.times S R = record { lead = joined_lead f' op.Mul refl S.lead; tight = S.tight; no_or = refl; param = joined_param f' op.Mul refl S.param; reading = chained_form op.Mul f' k ns (bare k' ns') refl (λ ts us xs h. rw h refl) S.reading (direct assigned shapes.power R) }
+    binary_form shapes.divided S R = record { lead = joined_lead f' op.Div refl S.lead; tight = S.tight; no_or = refl; param = joined_param f' op.Div refl S.param; reading = chained_form op.Div f' k ns (bare k' ns') refl (λ ts us xs h. rw h refl) S.reading (direct assigned shapes.power R) }
+    binary_form shapes.modulo S R = record { lead = joined_lead f' op.Mod refl S.lead; tight = S.tight; no_or = refl; param = joined_param f' op.Mod refl S.param; reading = chained_form op.Mod f' k ns (bare k' ns') refl (λ ts us xs h. rw h refl) S.reading (direct assigned shapes.power R) }
+    binary_form shapes.plus S R = record { lead = joined_lead f' op.Add refl S.lead; tight = S.tight; no_or = refl; param = joined_param f' op.Add refl S.param; reading = chained_form op.Add f' k ns (bare k' ns') refl (λ ts us xs h. rw h refl) S.reading (direct assigned shapes.product R) }
+    binary_form shapes.minus S R = record { lead = joined_lead f' op.Sub refl S.lead; tight = S.tight; no_or = refl; param = joined_param f' op.Sub refl S.param; reading = chained_form op.Sub f' k ns (bare k' ns') refl (λ ts us xs h. rw h refl) S.reading (direct assigned shapes.product R) }
+    binary_form shapes.left_shift S R = record { lead = joined_lead f' op.LShift refl S.lead; tight = S.tight; no_or = refl; param = joined_param f' op.LShift refl S.param; reading = chained_form op.LShift f' k ns (bare k' ns') refl (λ ts us xs h. rw h refl) S.reading (direct assigned shapes.sum R) }
+    binary_form shapes.right_shift S R = record { lead = joined_lead f' op.RShift refl S.lead; tight = S.tight; no_or = refl; param = joined_param f' op.RShift refl S.param; reading = chained_form op.RShift f' k ns (bare k' ns') refl (λ ts us xs h. rw h refl) S.reading (direct assigned shapes.sum R) }
+    binary_form shapes.unsigned_shift S R = record { lead = joined_lead f' op.ZeroFillRShift refl S.lead; tight = S.tight; no_or = refl; param = joined_param f' op.ZeroFillRShift refl S.param; reading = chained_form op.ZeroFillRShift f' k ns (bare k' ns') refl (λ ts us xs h. rw h refl) S.reading (direct assigned shapes.sum R) }
+    binary_form shapes.less S R = record { lead = joined_lead f' op.Lt refl S.lead; tight = S.tight; no_or = refl; param = joined_param f' op.Lt refl S.param; reading = chained_form op.Lt f' k ns (bare k' ns') refl (λ ts us xs h. rw h refl) S.reading (direct assigned shapes.shift R) }
+    binary_form shapes.greater S R = record { lead = joined_lead f' op.Gt refl S.lead; tight = S.tight; no_or = refl; param = joined_param f' op.Gt refl S.param; reading = chained_form op.Gt f' k ns (bare k' ns') refl (λ ts us xs h. rw h refl) S.reading (direct assigned shapes.shift R) }
+    binary_form shapes.at_most S R = record { lead = joined_lead f' op.LtEq refl S.lead; tight = S.tight; no_or = refl; param = joined_param f' op.LtEq refl S.param; reading = chained_form op.LtEq f' k ns (bare k' ns') refl (λ ts us xs h. rw h refl) S.reading (direct assigned shapes.shift R) }
+    binary_form shapes.at_least S R = record { lead = joined_lead f' op.GtEq refl S.lead; tight = S.tight; no_or = refl; param = joined_param f' op.GtEq refl S.param; reading = chained_form op.GtEq f' k ns (bare k' ns') refl (λ ts us xs h. rw h refl) S.reading (direct assigned shapes.shift R) }
+    binary_form shapes.instance_of S R = record { lead = joined_lead f' op.InstanceOf refl S.lead; tight = S.tight; no_or = refl; param = joined_param f' op.InstanceOf refl S.param; reading = chained_form op.InstanceOf f' k ns (bare k' ns') refl (λ ts us xs h. rw h refl) S.reading (direct assigned shapes.shift R) }
+    binary_form shapes.contained S R = record { lead = joined_lead f' op.In refl S.lead; tight = S.tight; no_or = refl; param = joined_param f' op.In refl S.param; reading = chained_form op.In f' k ns (bare k' ns') refl (λ ts us xs h. rw h refl) S.reading (direct assigned shapes.shift R) }
+    binary_form shapes.equal S R = record { lead = joined_lead f' op.EqEq refl S.lead; tight = S.tight; no_or = refl; param = joined_param f' op.EqEq refl S.param; reading = chained_form op.EqEq f' k ns (bare k' ns') refl (λ ts us xs h. rw h refl) S.reading (direct assigned shapes.relation R) }
+    binary_form shapes.unequal S R = record { lead = joined_lead f' op.NotEq refl S.lead; tight = S.tight; no_or = refl; param = joined_param f' op.NotEq refl S.param; reading = chained_form op.NotEq f' k ns (bare k' ns') refl (λ ts us xs h. rw h refl) S.reading (direct assigned shapes.relation R) }
+    binary_form shapes.same S R = record { lead = joined_lead f' op.EqEqEq refl S.lead; tight = S.tight; no_or = refl; param = joined_param f' op.EqEqEq refl S.param; reading = chained_form op.EqEqEq f' k ns (bare k' ns') refl (λ ts us xs h. rw h refl) S.reading (direct assigned shapes.relation R) }
+    binary_form shapes.other S R = record { lead = joined_lead f' op.NotEqEq refl S.lead; tight = S.tight; no_or = refl; param = joined_param f' op.NotEqEq refl S.param; reading = chained_form op.NotEqEq f' k ns (bare k' ns') refl (λ ts us xs h. rw h refl) S.reading (direct assigned shapes.relation R) }
+    binary_form shapes.conjunction S R = record { lead = joined_lead f' op.BitAnd refl S.lead; tight = S.tight; no_or = refl; param = joined_param f' op.BitAnd refl S.param; reading = chained_form op.BitAnd f' k ns (bare k' ns') refl (λ ts us xs h. rw h refl) S.reading (direct assigned shapes.equality R) }
+    binary_form shapes.exclusion S R = record { lead = joined_lead f' op.BitXor refl S.lead; tight = S.tight; no_or = refl; param = joined_param f' op.BitXor refl S.param; reading = chained_form op.BitXor f' k ns (bare k' ns') refl (λ ts us xs h. rw h refl) S.reading (direct assigned shapes.bit_and R) }
+    binary_form shapes.disjunction S R = record { lead = joined_lead f' op.BitOr refl S.lead; tight = S.tight; no_or = refl; param = joined_param f' op.BitOr refl S.param; reading = chained_form op.BitOr f' k ns (bare k' ns') refl (λ ts us xs h. rw h refl) S.reading (direct assigned shapes.bit_xor R) }
 
   -- `**`: on its left side an update, on its right side more of them
   module _ {f f' : Laid} {k k' : Kind} {ns ns' : List Node} (S : Stands assigned shapes.update f k ns) (R : Stands assigned shapes.power f' k' ns') where
@@ -172,6 +174,7 @@ module _ (assigned : Bool) where
     unfolding arrow_rest names.binding_ident
     power_form = record {
       lead = lead_before assigned S.lead (sign (codes "**")) refl blank (f' blank);
+      tight = S.tight;
       no_or = refl;
       param = λ g us e b z. param_in_front assigned S.param (sign (codes "**")) refl blank (f' blank) g us;
       reading = power_read;

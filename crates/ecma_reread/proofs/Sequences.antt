@@ -57,6 +57,7 @@ module _ (assigned : Bool) where
         let comma = exactly (sign (codes ",")) in
         record {
           lead = lead_before assigned X.lead (sign (codes ",")) refl no_gap (λ us. f' blank (more_tokens is us));
+          tight = tt;
           no_or = tt;
           param = λ g us e b z P.
               (let w : Followed us = record { front = e; begins = b; ends = z.1 } in

@@ -30,7 +30,7 @@ use Rattle.ecma_reread.specs.Tokens.{bare}
 use Rattle.ecma_reread.proofs.Levels.{means_is}
 use Rattle.ecma_reread.proofs.Fronts.{Front, exactly, Begins, at_token, refuses_at, refuses_all, all_refused, a_name, the_end, is_known}
 use Rattle.ecma_reread.proofs.Towers.{without, skipped, refuses_choices, excluded}
-use Rattle.ecma_reread.proofs.Forms.{Laid, s, Reads, Refuses}
+use Rattle.ecma_reread.proofs.Forms.{Laid, s, Reads, Refuses, NoItem, no_item_at}
 use Rattle.ecma_reread.proofs.Bindings.{Stands, expression_read}
 use Rattle.ecma_reread.proofs.Expressions.{semicolon_ends}
 
@@ -89,12 +89,12 @@ module _ (assigned : Bool) where
     pub begins : (g : Gap) (us : Items) → Begins front (f g us)
     -- no part of a statement before it, and nothing that stands in modules alone
     pub closes : closes_statement shapes.dangling front ≡ true
-    pub no_item : refuses_choices 3 front module_item ≡ true
+    pub no_item : (g : Gap) (us : Items) → NoItem assigned (f g us)
     pub reads : (g : Gap) (us : Items) (e : Front) → Begins e us → closes_statement ending e ≡ true → means assigned part.Statement (f g us) ≡ read (n ∷ []) us
 
   pub item_read : {ending : Ending} {f : Laid} {n : Node} → ReadAsStatement ending f n → (g : Gap) (us : Items) (e : Front) → Begins e us → closes_statement ending e ≡ true → Reads assigned module_item (f g us) (n ∷ []) us
   unfolding module_item
-  item_read {f = f} S g us e b z = skipped assigned (means assigned) 3 module_item S.front (f g us) (S.begins g us) S.no_item ∙ S.reads g us e b z
+  item_read {f = f} S g us e b z = let i = S.no_item g us in rw (i.no_import, i.no_import_equals, i.no_export) (S.reads g us e b z)
 
   -- the alternative of a statement that is read behind some that refuse the front
   pub chosen : (k : ℕ) (a b : Grammar) → without k statement_body ≡ a // b → (f : Front) (ts us : Items) (n : Node) → Begins f ts → refuses_choices k f statement_body ≡ true → Reads assigned a ts (n ∷ []) us
@@ -111,7 +111,7 @@ module _ (assigned : Bool) where
     front = exactly t;
     begins = λ g us. at_token;
     closes = c;
-    no_item = y;
+    no_item = λ g us. no_item_at assigned (exactly t) (it g t (rest us)) at_token y;
     reads = λ g us e d w. chosen k a b i (exactly t) (it g t (rest us)) us n at_token z (h g us e d w);
   }
 
@@ -151,22 +151,20 @@ module _ (assigned : Bool) where
         let I = interp assigned (means assigned) in
         let ts = f g (s (codes ";") us) in
         let L = S.lead in
-        let st = L.starts in
         let b = L.begins g (s (codes ";") us) in
         means_is assigned part.Statement ts
         ∙ (ap (or_on (I (without 1 statement_body)) ts) (ap (built_on (form.Node plain.BlockStmt)) (ap (followed_on (I (grammar.list (grammar.many names.statement) ▸ punct (codes "}")))) (no_block g (s (codes ";") us))))
-        ∙ (skipped assigned (means assigned) 9 (without 1 statement_body) L.front ts b st.no_statement
+        ∙ (skipped assigned (means assigned) 9 (without 1 statement_body) L.front ts b L.no_statement
         ∙ (ap (or_on (I (declaration // expression_statement)) ts) (L.no_label g (s (codes ";") us) (exactly (sign (codes ";"))) at_token refl)
         ∙ (ap (or_on (I expression_statement) ts) (L.no_declaration g (s (codes ";") us) (exactly (sign (codes ";"))) at_token refl) ∙ expression_statement_read g us))))
 
     pub expression_statement_form : ReadAsStatement shapes.closed (λ g us. f g (s (codes ";") us)) (bare kind.ExprStmt (bare k ns ∷ []))
     expression_statement_form =
         let L = S.lead in
-        let st = L.starts in
         record {
           front = L.front;
           begins = λ g us. L.begins g (s (codes ";") us);
           closes = lead_closes S;
-          no_item = st.no_item;
+          no_item = λ g us. L.no_item g (s (codes ";") us);
           reads = λ g us e b z. statement_read g us;
         }

@@ -32,7 +32,7 @@ use Rattle.ecma_reread.proofs.Fronts.{Front, exactly, Begins, at_token, refuses_
 use Rattle.ecma_reread.proofs.Towers.{suffix, closes, skipped}
 use Rattle.ecma_reread.proofs.Heads.{bare, nodes}
 use Rattle.ecma_reread.proofs.Forms.{Laid, Reads, Form, chain_read, apart, ends_no_param, only_opens, lead_of, lead_before, lead_by, param_in_front, param_by}
-use Rattle.ecma_reread.proofs.Bindings.{Stands, go_out, direct}
+use Rattle.ecma_reread.proofs.Bindings.{Stands, go_out, direct, tight_by}
 
 update_opens : (o : UpdateOp) → only_opens (exactly (update_token o)) ≡ true
 unfolding arrow arrow_rest labeled param rest_pattern default_value pattern_body array_pattern object_pattern names.binding_ident is_reserved reserved_words statements.statement_body names.block statements.if_ statements.for_await statements.for_ statements.while_ statements.do_while statements.switch statements.try_ statements.jump declarations.declaration functions.function_declaration classes.class_declaration modules.module_item modules.import modules.import_equals modules.export modules.export_default
@@ -78,6 +78,7 @@ module _ (assigned : Bool) where
     pub prefix_form : Stands assigned shapes.update (λ g us. it g (update_token o) (f no_gap us)) (kind.UpdateExpr o true) (bare k ns ∷ [])
     prefix_form = record {
       lead = lead_by assigned (update_token o) (update_opens o) (f no_gap);
+      tight = tight_by (exactly (update_token o)) (update_opens o);
       no_or = refl;
       param = λ g us e b z. param_by assigned (update_token o) (update_opens o) (f no_gap) g us;
       reading = (no_prefix o, λ g us e b z. prefix_read o g (f no_gap us) us (bare k ns) (operand_read us e b z));
@@ -96,4 +97,4 @@ module _ (assigned : Bool) where
     postfix_form =
         let F = S.reading in
         let p = F.opens in
-        record { lead = lead_before assigned (lead_of assigned F) (update_token o) (update_apart o) no_gap (λ us. us); no_or = refl; param = λ g us e b z. param_in_front assigned F.as_param (update_token o) (update_no_param o) no_gap (λ us. us) g us; reading = (p.no_prefix, λ g us e b z. updated F g us) }
+        record { lead = lead_before assigned (lead_of assigned F) (update_token o) (update_apart o) no_gap (λ us. us); tight = (p.no_private, p.no_yield); no_or = refl; param = λ g us e b z. param_in_front assigned F.as_param (update_token o) (update_no_param o) no_gap (λ us. us) g us; reading = (p.no_prefix, λ g us e b z. updated F g us) }
