@@ -1,5 +1,5 @@
 -- What nodes declare, and what else is known of them, is alike where it is so of their parts.
-use Rattle.std.proofs.Common.{◌≡◌, ℕ, ◌++◌, refl, sym, ap, ap₂, ◌∙◌, List, [], ◌∷◌, map, Option, Some, None, Bool, true, false, not, cond, codes}
+use Rattle.std.proofs.Common.{◌≡◌, ℕ, ◌++◌, ◌||◌, refl, sym, ap, ap₂, ◌∙◌, List, [], ◌∷◌, map, Option, Some, None, Bool, true, false, not, cond, codes}
 use Rattle.ecma_kind.specs.declared.kind.Kind.{Kind}
 use Rattle.ecma_kind.specs.declared.kind.Kind.TheVariants as kind
 use Rattle.ecma_kind.specs.declared.operators.VarDeclKind.TheVariants.{Var, Let, Const}
@@ -172,7 +172,8 @@ module _ (c : Change) where
   is_type_same kind.ExportDecl (declaration ∷ []) = declaration.2.is_type
   is_type_same kind.ExportDefaultDecl (declaration ∷ []) = declaration.2.is_type
   is_type_same (kind.FnDecl false) (name ∷ function ∷ []) = ap not function.2.has_body
-  is_type_same (kind.TsModuleDecl false global) (name ∷ body ∷ []) = body.2.is_type
+  is_type_same kind.FnExpr (name ∷ function ∷ []) = ap not function.2.has_body
+  is_type_same (kind.TsModuleDecl false global) (name ∷ body ∷ []) = ap₂ (λ a b. a || b) body.2.is_absent body.2.is_type
   is_type_same (kind.TsNamespaceDecl declare global) (name ∷ body ∷ []) = body.2.is_type
   is_type_same kind.TsModuleBlock (items ∷ []) = items.2.is_type
   is_type_same kind.EmptyStmt ps = refl
@@ -192,6 +193,7 @@ module _ (c : Change) where
 
   pub has_no_effect_same : (k : Kind) (ps : List (Both c)) → has_no_effect (renamed_kind c k) (seconds c ps) ≡ has_no_effect k (firsts c ps)
   has_no_effect_same kind.List ps = refl
+  has_no_effect_same kind.TsType ps = refl
   has_no_effect_same kind.TsModuleBlock ps = refl
   has_no_effect_same (kind.TsNamespaceDecl declare global) ps = refl
   has_no_effect_same (kind.VarDecl word true) ps = refl
@@ -203,6 +205,7 @@ module _ (c : Change) where
   has_no_effect_same (kind.ExportNamedSpecifier true) ps = refl
   has_no_effect_same (kind.TsIndexSignature readonly is_static) ps = refl
   has_no_effect_same (kind.ClassProp modifiers readonly declare definite) ps = refl
+  has_no_effect_same (kind.PrivateProp modifiers readonly declare definite) ps = refl
   has_no_effect_same (kind.ClassMethod sort modifiers) (key ∷ function ∷ []) = ap not function.2.has_body
   has_no_effect_same (kind.PrivateMethod sort modifiers) (key ∷ function ∷ []) = ap not function.2.has_body
   has_no_effect_same (kind.Constructor accessibility is_optional) (key ∷ parameters ∷ body ∷ []) = body.2.is_absent

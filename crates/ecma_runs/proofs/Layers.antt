@@ -62,11 +62,11 @@ nothing_excused why = false
 abbrev pub the_same : Telling
 the_same = record { more = 0; before = []; excused = nothing_excused; turns_excused = inl refl; holds = always; falls = λ n h. tt }
 
--- functions keep the images of their nodes
-abbrev pub images : (Node → Node) → List Id → Telling → Change
-images f declared t = record {
+-- functions keep the images of their nodes, and of these something is true
+abbrev pub images_where : (Node → Type 0) → (Node → Node) → List Id → Telling → Change
+images_where fine f declared t = record {
   node = f;
-  fine = λ n. Unit {0};
+  fine = fine;
   names = same_names;
   declared = declared;
   texts = λ id kept free. refl;
@@ -81,6 +81,9 @@ images f declared t = record {
   adds = λ u events event h. tt;
 }
 
+abbrev pub images : (Node → Node) → List Id → Telling → Change
+images = images_where (λ n. Unit {0})
+
 pub none_excused : (end : Ending) → IsNotExcused nothing_excused end
 none_excused end why excuse = absurd (cc)
 
@@ -92,9 +95,9 @@ all_units (n ∷ ns) = (tt, all_units ns)
 abbrev pub KeepsLayers : (Node → Node) → Type 0
 KeepsLayers f = (x : Node-F Node) → meaning (f (roll-Node x)) ≡ meaning_by (f (roll-Node x)) x.kind (map meaning (map f x.children))
 
-module _ (f : Node → Node) (declared : List Id) (t : Telling) where
+module _ (fine : Node → Type 0) (f : Node → Node) (declared : List Id) (t : Telling) where
   abbrev of : Change
-  of = images f declared t
+  of = images_where fine f declared t
 
   pub same_kind : (k : Kind) → renamed_kind of k ≡ k
   same_kind (kind.Ident text ctxt optional) = refl
@@ -122,9 +125,11 @@ module _ (f : Node → Node) (declared : List Id) (t : Telling) where
   kept_layer (kind.Constructor accessibility is_optional) (key ∷ parameters ∷ body ∷ []) = still parameters body
   kept_layer _ ms = tt
 
-  pub layers_alike : KeepsLayers f → StepsAlike of
+module _ (f : Node → Node) (declared : List Id) (t : Telling) where
+  pub layers_alike : KeepsLayers f → StepsAlike (images f declared t)
   layers_alike layers x ns is fine fine' =
-      layer_same of x ns is tt (all_units x.children) (kept_layer x.kind (map meaning x.children)) (layers x ∙ ap (λ k. meaning_by (f (roll-Node x)) k (map meaning (map f x.children))) (sym (same_kind x.kind)))
+      layer_same (images f declared t) x ns is tt (all_units x.children) (kept_layer (λ n. Unit {0}) f declared t x.kind (map meaning x.children))
+      (layers x ∙ ap (λ k. meaning_by (f (roll-Node x)) k (map meaning (map f x.children))) (sym (same_kind (λ n. Unit {0}) f declared t x.kind)))
 
 -- a map of trees that keeps the meaning of each layer keeps what is observed
 pub observe_kept : (f : Node → Node) → KeepsLayers f → (turns : ℕ) (options : Config) (m : Node) (script : Script) → observe turns options (f m) script ≡ observe turns options m script

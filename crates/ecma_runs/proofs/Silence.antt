@@ -57,10 +57,10 @@ module _ (declared : List Id) where
   quiet_layer kind.CallExpr ms h = absurd (cc)
   quiet_layer kind.OptCall ms h = absurd (cc)
   quiet_layer kind.NewExpr ms h = absurd (cc)
-  quiet_layer k ms h = kept_layer (λ n. n) declared the_same k ms
+  quiet_layer k ms h = kept_layer (λ n. Unit {0}) (λ n. n) declared the_same k ms
 
   quiet_kind : (k : Kind) → renamed_kind (quiet declared) k ≡ k
-  quiet_kind k = same_kind (λ n. n) declared the_same k
+  quiet_kind k = same_kind (λ n. Unit {0}) (λ n. n) declared the_same k
 
   quiet_steps : StepsAlike (quiet declared)
   quiet_steps x ns is fine fine' =

@@ -62,7 +62,7 @@ module _ (c : Change) (stay : Node → Bool) (silent : (n : Node) → Kept c n �
       (subst (λ l. Same c (meaning_by n kind.List (before c (items ns fine))) (meaning_by n' kind.List l)) (behind_items ns fine) (list_same c n n' (items ns fine)))
 
 -- what does as an alias does nothing
-alias_silent : (c : Change) (n' : Node) (m : Meaning) → KeepTexts c m.shorthands → Same c m (meaning_by n' (kind.TsTypeAliasDecl false) []) → Silent c m
+pub alias_silent : (c : Change) (n' : Node) (m : Meaning) → KeepTexts c m.shorthands → Same c m (meaning_by n' (kind.TsTypeAliasDecl false) []) → Silent c m
 alias_silent c n' m texts same = record {
   arguments = same.arguments;
   elements = same.elements;
@@ -116,8 +116,8 @@ module _ (declared : List Id) where
       → meaning (without_types (roll-Node (Layer span k cs))) ≡ meaning_by (without_types (roll-Node (Layer span k cs))) k (map meaning (map without_types cs))
       → Same untyped (meaning (roll-Node (Layer span k cs))) (meaning (without_types (roll-Node (Layer span k cs))))
   other_same span k cs ns is e =
-      layer_same untyped (Layer span k cs) ns is tt (all_units cs) (kept_layer without_types declared the_same k (map meaning cs))
-      (e ∙ ap (λ z. meaning_by (without_types (roll-Node (Layer span k cs))) z (map meaning (map without_types cs))) (sym (same_kind without_types declared the_same k)))
+      layer_same untyped (Layer span k cs) ns is tt (all_units cs) (kept_layer (λ n. Unit {0}) without_types declared the_same k (map meaning cs))
+      (e ∙ ap (λ z. meaning_by (without_types (roll-Node (Layer span k cs))) z (map meaning (map without_types cs))) (sym (same_kind (λ n. Unit {0}) without_types declared the_same k)))
 
   erased_meaning : (span : Span) (k : Kind) (cs : List Node) → erased_by k (map without_types cs) (Layer span k (map without_types cs)) ≡ roll-Node (Layer span k (map without_types cs))
       → meaning (without_types (roll-Node (Layer span k cs))) ≡ meaning_by (without_types (roll-Node (Layer span k cs))) k (map meaning (map without_types cs))

@@ -218,7 +218,8 @@ is_type_of kind.TsNamespaceExportDecl children = true
 is_type_of kind.ExportDecl (declaration ∷ []) = declaration.is_type
 is_type_of kind.ExportDefaultDecl (declaration ∷ []) = declaration.is_type
 is_type_of (kind.FnDecl false) (name ∷ function ∷ []) = not function.has_body
-is_type_of (kind.TsModuleDecl false global) (name ∷ body ∷ []) = body.is_type
+is_type_of kind.FnExpr (name ∷ function ∷ []) = not function.has_body
+is_type_of (kind.TsModuleDecl false global) (name ∷ body ∷ []) = body.is_absent || body.is_type
 is_type_of (kind.TsNamespaceDecl declare global) (name ∷ body ∷ []) = body.is_type
 is_type_of kind.TsModuleBlock (items ∷ []) = items.is_type
 is_type_of _ children = false
@@ -237,6 +238,7 @@ is_constructor_of _ children = false
 -- (TypeScript handbook, "Everyday Types", "Declaration Files", "Classes", "More on Functions")
 abbrev pub has_no_effect : Kind → List Meaning → Bool
 has_no_effect kind.List children = false
+has_no_effect kind.TsType children = true
 has_no_effect kind.TsModuleBlock children = false
 has_no_effect (kind.TsNamespaceDecl declare global) children = false
 has_no_effect (kind.VarDecl word true) children = true
@@ -248,6 +250,7 @@ has_no_effect (kind.ImportNamedSpecifier true) children = true
 has_no_effect (kind.ExportNamedSpecifier true) children = true
 has_no_effect (kind.TsIndexSignature readonly is_static) children = true
 has_no_effect (kind.ClassProp modifiers readonly declare definite) children = declare || modifiers.is_abstract
+has_no_effect (kind.PrivateProp modifiers readonly declare definite) children = declare || modifiers.is_abstract
 has_no_effect (kind.ClassMethod sort modifiers) (key ∷ function ∷ []) = not function.has_body
 has_no_effect (kind.PrivateMethod sort modifiers) (key ∷ function ∷ []) = not function.has_body
 has_no_effect (kind.Constructor accessibility is_optional) (key ∷ parameters ∷ body ∷ []) = body.is_absent

@@ -1,0 +1,4 @@
+mod Seeing
+mod Pairs
+mod Plain
+mod Steps
