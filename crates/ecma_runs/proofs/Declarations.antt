@@ -206,8 +206,8 @@ module _ (c : Change) where
   has_no_effect_same (kind.TsIndexSignature readonly is_static) ps = refl
   has_no_effect_same (kind.ClassProp modifiers readonly declare definite) ps = refl
   has_no_effect_same (kind.PrivateProp modifiers readonly declare definite) ps = refl
-  has_no_effect_same (kind.ClassMethod sort modifiers) (key ∷ function ∷ []) = ap not function.2.has_body
-  has_no_effect_same (kind.PrivateMethod sort modifiers) (key ∷ function ∷ []) = ap not function.2.has_body
+  has_no_effect_same (kind.ClassMethod sort modifiers) (key ∷ function ∷ []) = ap (λ b. modifiers.is_abstract || not b) function.2.has_body
+  has_no_effect_same (kind.PrivateMethod sort modifiers) (key ∷ function ∷ []) = ap (λ b. modifiers.is_abstract || not b) function.2.has_body
   has_no_effect_same (kind.Constructor accessibility is_optional) (key ∷ parameters ∷ body ∷ []) = body.2.is_absent
   has_no_effect_same kind.Param (pattern' ∷ []) = pattern'.2.is_this
   has_no_effect_same k ps = is_type_same k ps

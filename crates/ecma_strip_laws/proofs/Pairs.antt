@@ -1,12 +1,9 @@
 -- A layer whose children are exchanged for others that mean alike, and a list of which items that do nothing go.
-use Rattle.std.proofs.Common.{◌≡◌, refl, sym, ap, ◌∙◌, subst, List, [], ◌∷◌, map}
+use Rattle.std.proofs.Common.{◌≡◌, refl, sym, ap, subst, List, [], ◌∷◌, map}
 use Rattle.ecma_kind.specs.declared.kind.Kind.{Kind}
 use Rattle.ecma_kind.specs.declared.kind.Kind.TheVariants as kind
-use Rattle.ecma_tree.specs.declared.node.Node.{Node, Node-F, roll-Node}
-use Rattle.ecma_runs.specs.State.{Id}
-use Rattle.ecma_runs.specs.Meaning.{Meaning}
+use Rattle.ecma_tree.specs.declared.node.Node.{Node}
 use Rattle.ecma_runs.specs.Evaluation.{meaning_by, meaning}
-use Rattle.ecma_runs.proofs.Layer.{meaning-roll}
 use Rattle.ecma_runs.proofs.Alike.{Change}
 use Rattle.ecma_runs.proofs.Meanings.{Same, Both, firsts, seconds}
 use Rattle.ecma_runs.proofs.Premises.{renamed_kind, KeptLayer}

@@ -1,6 +1,5 @@
 -- The equation of what only types go from.
-use Rattle.std.proofs.Common.{◌≡◌, refl, sym, ap, ap₂, ◌∙◌, List, [], ◌∷◌, map, Bool}
-use Rattle.ecma_kind.specs.declared.kind.Kind.{Kind}
+use Rattle.std.proofs.Common.{◌≡◌, refl, sym, ap, ap₂, ◌∙◌, List, [], ◌∷◌, map}
 use Rattle.ecma_tree.specs.declared.node.Node.{Node, Node-F, fold-Node, fold-roll-Node, roll-Node, ind-Node}
 use Rattle.ecma_tree.specs.Nodes.{node_of}
 use Rattle.ecma_strip_laws.specs.Runs.{Seen, fine_by, seen_step, only_types_go}

@@ -24,9 +24,9 @@ use Rattle.ecma_runs.specs.Observation.{observe}
 use Rattle.ecma_runs.proofs.Kept.{StepsAlike, observe_unless}
 use Rattle.ecma_runs.proofs.Layers.{images_where, texts_stay, the_same, none_excused, same_kind, kept_layer}
 use Rattle.ecma_strip.specs.Staying.{is_empty_stmt, item_stays, stays}
-use Rattle.ecma_strip.specs.Stripping.{body_of, plain, plain_children, plain_kind, staying_nodes, stripped, without_empty, without_this}
+use Rattle.ecma_strip.specs.Stripping.{body_of, plain, plain_children, plain_kind, stripped, without_empty, without_this}
 use Rattle.ecma_strip.proofs.Stripping.{stripped-roll}
-use Rattle.ecma_strip_laws.specs.Runs.{does_nothing, Seen, fine_item, fine_body, fine_list, all_fine, fine_by, only_types_go, StrippingKeepsRuns}
+use Rattle.ecma_strip_laws.specs.Runs.{does_nothing, fine_item, fine_body, fine_list, all_fine, fine_by, only_types_go, StrippingKeepsRuns}
 use Rattle.ecma_strip_laws.proofs.Seeing.{seen, only_types_go-roll}
 use Rattle.ecma_strip_laws.proofs.Pairs.{Alike, none, more, layer_alike, Lessened, empty, stays as remains, goes, list_alike}
 use Rattle.ecma_strip_laws.proofs.Plain.{is_concrete, plain_meaning}
@@ -203,11 +203,11 @@ module _ (declared : List Id) where
       let second = and_parts (only_types_go right.0) (fine_body (seen body.0)) first.1 in
       layer span k fine concrete (more (left.1.same first.0) (more (right.1.same second.0) (more (body_alike body second.1) none))) e
 
-  field_step : (span : Span) (k : Kind) (children : List Child) (here there : Bool) → here && (there && all_fine (map seen (nodes children))) ≡ true → is_concrete k ≡ (here && there) → Fine (node_of span k (nodes children))
+  member_step : (span : Span) (k : Kind) (children : List Child) (here there : Bool) → here && (there && all_fine (map seen (nodes children))) ≡ true → is_concrete k ≡ (here && there) → Fine (node_of span k (nodes children))
       → stripped (node_of span k (nodes children)) ≡ node_of span (plain_kind k) (map stripped (nodes children)) → Same' (node_of span k (nodes children)) (stripped (node_of span k (nodes children)))
-  field_step span k children true true h concrete fine e = layer span k fine concrete (all_alike children h) e
-  field_step span k children true false h concrete fine e = absurd (cc)
-  field_step span k children false there h concrete fine e = absurd (cc)
+  member_step span k children true true h concrete fine e = layer span k fine concrete (all_alike children h) e
+  member_step span k children true false h concrete fine e = absurd (cc)
+  member_step span k children false there h concrete fine e = absurd (cc)
 
   setter_step : (span : Span) (key receiver parameter body : Child) → only_types_go key.0 && (only_types_go parameter.0 && only_types_go body.0) ≡ true → Fine (node_of span kind.SetterProp (key.0 ∷ receiver.0 ∷ parameter.0 ∷ body.0 ∷ []))
       → stripped (node_of span kind.SetterProp (key.0 ∷ receiver.0 ∷ parameter.0 ∷ body.0 ∷ [])) ≡ node_of span kind.SetterProp (stripped key.0 ∷ without_this (stripped receiver.0) ∷ stripped parameter.0 ∷ stripped body.0 ∷ [])
@@ -329,10 +329,16 @@ module _ (declared : List Id) where
   step span kind.SetterProp (a ∷ b ∷ d ∷ e ∷ f ∷ others) h fine = absurd (cc)
   step span (kind.ClassProp modifiers readonly declare definite) children h fine =
       let k = kind.ClassProp modifiers readonly declare definite in
-      field_step span k children (not declare) (not modifiers.is_abstract) h refl fine (stripped-roll (Layer span k (nodes children)))
+      member_step span k children (not declare) (not modifiers.is_abstract) h refl fine (stripped-roll (Layer span k (nodes children)))
   step span (kind.PrivateProp modifiers readonly declare definite) children h fine =
       let k = kind.PrivateProp modifiers readonly declare definite in
-      field_step span k children (not declare) (not modifiers.is_abstract) h refl fine (stripped-roll (Layer span k (nodes children)))
+      member_step span k children (not declare) (not modifiers.is_abstract) h refl fine (stripped-roll (Layer span k (nodes children)))
+  step span (kind.ClassMethod sort modifiers) children h fine =
+      let k = kind.ClassMethod sort modifiers in
+      member_step span k children true (not modifiers.is_abstract) h refl fine (stripped-roll (Layer span k (nodes children)))
+  step span (kind.PrivateMethod sort modifiers) children h fine =
+      let k = kind.PrivateMethod sort modifiers in
+      member_step span k children true (not modifiers.is_abstract) h refl fine (stripped-roll (Layer span k (nodes children)))
   step span k children h fine = layer span k fine refl (all_alike children h) (stripped-roll (Layer span k (nodes children)))
 
   -- each node

@@ -39,7 +39,7 @@ abbrev pub all_fine : List Seen → Bool
 all_fine children = list_all (λ child. child.fine) children
 
 -- a node whose children are told: what is a type, or has one, is not looked into; what types alone stand in is no list of statements, no body and no
--- field of a class that stays
+-- member of a class that stays
 unfoldable pub fine_by : Kind → List Seen → Bool
 fine_by kind.List items = list_all fine_item items
 fine_by kind.TsTypeAnn children = true
@@ -88,6 +88,8 @@ fine_by kind.SetterProp (key ∷ this_parameter ∷ parameter ∷ body ∷ []) =
 fine_by kind.SetterProp children = false
 fine_by (kind.ClassProp modifiers readonly declare definite) children = not declare && (not modifiers.is_abstract && all_fine children)
 fine_by (kind.PrivateProp modifiers readonly declare definite) children = not declare && (not modifiers.is_abstract && all_fine children)
+fine_by (kind.ClassMethod sort modifiers) children = not modifiers.is_abstract && all_fine children
+fine_by (kind.PrivateMethod sort modifiers) children = not modifiers.is_abstract && all_fine children
 fine_by k children = all_fine children
 
 abbrev pub seen_step : Node-F Seen → Seen

@@ -4,9 +4,15 @@
 #![tactic(auto)]
 
 ghost use Rattle.ecma_strip_laws.specs.Runs.{StrippingKeepsRuns};
+ghost use Rattle.ecma_strip_laws.specs.Usual.{OnlyTypesGo};
 
-/// A module without its types is observed to do what it does with them, for every script of the host and every number of turns, where what goes from
-/// its lists has no effect and its lists and bodies stand where their kinds have them.
+/// A module without its types is observed to do what it does with them, for every script of the host and every number of turns, where what goes does
+/// nothing: of each tree from which only types go.
 pub fn stripping_keeps_runs()
     ensures { StrippingKeepsRuns }
+{}
+
+/// From a tree with the sort of a module only types go, where no statement has a declaration as its body and no arrow function a parameter `this`.
+pub fn only_types_go_from_modules()
+    ensures { OnlyTypesGo }
 {}
