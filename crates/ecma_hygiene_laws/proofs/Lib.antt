@@ -6,3 +6,10 @@ pub mod Values
 pub mod Declaring
 pub mod Scoping
 pub mod Resolving
+pub mod Stopping
+pub mod Membership
+pub mod Alike
+pub mod Finding
+pub mod Shorthands
+pub mod Reading
+pub mod ReadingAgain

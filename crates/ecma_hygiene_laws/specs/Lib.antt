@@ -1,2 +1,4 @@
 pub mod DeclaredIds
 pub mod Scopes
+pub mod Stops
+pub mod ReadAgain

@@ -4,9 +4,16 @@
 //! Each function carries one law, and does nothing. The laws are stated in `specs/`.
 #![tactic(auto)]
 
+ghost use Rattle.ecma_hygiene_laws.specs.ReadAgain.{IsReadAgain};
 ghost use Rattle.ecma_hygiene_laws.specs.Scopes.{ScopesDeclareFinalTexts};
 
 /// A node with other texts opens a scope where it did, and that scope declares the final texts of what it declared.
 pub fn scopes_declare_final_texts()
     ensures { ScopesDeclareFinalTexts }
+{}
+
+/// Where the ids of a tree say which scopes declare its names, the tree with its final texts, read again without contexts and
+/// resolved, is that tree with its contexts mapped to those that the scopes get.
+pub fn what_is_read_again_has_its_ids()
+    ensures { IsReadAgain }
 {}
