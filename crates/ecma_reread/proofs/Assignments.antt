@@ -106,7 +106,7 @@ module _ (assigned : Bool) where
         let a = and_parts (refuses_at t (arrow_body false)) _ (assign_apart o) in
         let c = and_parts (refuses_at t (arrow_rest false false)) _ a.1 in
         means_is assigned (part.Assign false false) ts
-        ∙ (ap (or_on (I behind_arrow) ts) (L.no_arrow g (rest us) t at_token a.0 (refused_at assigned (means assigned) (arrow_rest false false) t (rest us) at_token c.0))
+        ∙ (ap (or_on (I behind_arrow) ts) (L.no_arrow false g (rest us) t at_token a.0 (refused_at assigned (means assigned) (arrow_rest false false) t (rest us) at_token c.0))
         ∙ (ap (or_on (I (build form.Chain (expressions.conditional false ▸ assignments false))) ts) (refused_at assigned (means assigned) (yield_ false) L.front ts (L.begins g (rest us)) y.1)
         ∙ (ap (built_on form.Chain) (ap (followed_on (I (assignments false))) (target_read g us) ∙ ap (with_front (bare k ns ∷ [])) (operator_read o (f' blank us) us (bare k' ns') (used assigned V blank us e b z)))
         ∙ ap (λ x. read (x ∷ []) us) (assigned_made o k ns (bare k' ns')))))

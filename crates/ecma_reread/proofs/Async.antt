@@ -93,13 +93,13 @@ module _ (assigned : Bool) where
           let k = front_of us in
           ap (or_on (interp assigned (means assigned) (without 1 primary)) ts) (function_refused (form.Function plain.FnExpr) (maybe ident)) ∙ climb assigned (means assigned) (primary_tower k.0) ts us (bare (kind.Ident async 0 false) []) at_token k.1 refl
 
-    async_no_arrow : refuses_at e (arrow_body false) ≡ true → Refuses assigned (arrow_rest false false) us → Refuses assigned (arrow false false) ts
+    async_no_arrow : (no_in : Bool) → refuses_at e (arrow_body no_in) ≡ true → Refuses assigned (arrow_rest no_in false) us → Refuses assigned (arrow no_in false) ts
     unfolding arrow
-    async_no_arrow z r =
+    async_no_arrow n z r =
         let I = interp assigned (means assigned) in
-        ap (or_on (I (build form.Arrow (put Absent ▸ arrow_rest false false))) ts)
-        (ap (built_on form.Arrow) (async_refused (put Present ▸ arrow_rest false false) g us (ap (with_front (flag_node Present ∷ [])) r)))
-        ∙ ap (built_on form.Arrow) (ap (with_front (flag_node Absent ∷ [])) (name_no_rest assigned async async_free g us e b z))
+        ap (or_on (I (build form.Arrow (put Absent ▸ arrow_rest n false))) ts)
+        (ap (built_on form.Arrow) (async_refused (put Present ▸ arrow_rest n false) g us (ap (with_front (flag_node Present ∷ [])) r)))
+        ∙ ap (built_on form.Arrow) (ap (with_front (flag_node Absent ∷ [])) (name_no_rest assigned async async_free n g us e b z))
 
   pub async_form : Form assigned (λ g us. it g (items.key async) us) (kind.Ident async 0 false) []
   async_form = record {
@@ -112,7 +112,7 @@ module _ (assigned : Bool) where
     own = λ g us e b z ys vs h. head_read assigned front (it g (items.key async) us) us (bare (kind.Ident async 0 false) []) async_primary at_token (async_read g us e b z) ys vs h;
     whole = refl;
     head = refl;
-    no_arrow = async_no_arrow;
+    no_arrow = λ n g us e b z r. async_no_arrow g us e b n z r;
     no_label = name_no_label assigned async async_free;
     no_declaration = async_no_declaration;
     no_word = async_no_word;

@@ -195,7 +195,7 @@ module _ (assigned : Bool) where
 
   -- what is read of it as a parameter; a sequence is read as several, and those behind it
   abbrev pub ParamOf : Level → Items → Items → Type 0
-  ParamOf shapes.sequence ts us = Params assigned us → Refuses assigned (params ▸ behind_params) ts
+  ParamOf shapes.sequence ts us = (no_in : Bool) → Params assigned no_in us → Refuses assigned (params ▸ behind_params no_in) ts
   ParamOf l ts us = AsParam assigned ts us
 
   -- an expression at a level
@@ -268,7 +268,7 @@ module _ (assigned : Bool) where
       let d = and_parts (refuses_at e (arrow_rest false false)) _ c.1 in
       let t : Tower L.front e (expressions.conditional false) behind_arrow = later y (chained (before here (ends_parts e z).0)) in
       means_is assigned (part.Assign false false) (f g us)
-      ∙ (ap (or_on (interp assigned (means assigned) behind_arrow) (f g us)) (L.no_arrow g us e b c.0 (refused_at assigned (means assigned) (arrow_rest false false) e us b d.0))
+      ∙ (ap (or_on (interp assigned (means assigned) behind_arrow) (f g us)) (L.no_arrow false g us e b c.0 (refused_at assigned (means assigned) (arrow_rest false false) e us b d.0))
       ∙ climb assigned (means assigned) t (f g us) us n (L.begins g us) b (D g us e b z))
 
   module _ {f : Laid} {k : Kind} {ns : List Node} where
@@ -355,7 +355,7 @@ module _ (assigned : Bool) where
     loosened shapes.logical_or S = record { lead = S.lead; tight = S.tight; no_or = tt; param = S.param; reading = logical_read S.reading }
     loosened shapes.coalescing S = record { lead = S.lead; tight = S.tight; no_or = tt; param = S.param; reading = coalesced_read S.reading }
     loosened shapes.short_circuit S = record { lead = S.lead; tight = tt; no_or = tt; param = λ g us e b z. S.param g us e b z.0; reading = assignment_read S.lead S.tight (λ g us e b z. conditional_read S g us e b (ends_parts e z).1) }
-    loosened shapes.assignment S = record { lead = S.lead; tight = tt; no_or = tt; param = λ g us e b z P. params_by assigned (f g us) us (S.param g us e b z) P; reading = one_read S }
+    loosened shapes.assignment S = record { lead = S.lead; tight = tt; no_or = tt; param = λ g us e b z n P. params_by assigned n (f g us) us (S.param g us e b z) P; reading = one_read S }
     loosened shapes.sequence S = S
 
     -- at the loosest

@@ -97,22 +97,22 @@ module _ (assigned : Bool) where
 
   -- the arguments are no parameters of an arrow function where no body of one follows
 
-  more_params : {es : List Node} (is : AreElements es) → ElementForms is → (us : Items) → Refuses assigned behind_params (s (codes ")") us) → Params assigned (elements_tokens is (s (codes ")") us))
-  more_params shapes.no_elements F us h = params_end assigned (s (codes ")") us) (exactly (sign (codes ")"))) at_token refl h
-  more_params (shapes.more_elements e es) F us h =
+  more_params : {es : List Node} (is : AreElements es) → ElementForms is → (no_in : Bool) (us : Items) → Refuses assigned (behind_params no_in) (s (codes ")") us) → Params assigned no_in (elements_tokens is (s (codes ")") us))
+  more_params shapes.no_elements F n us h = params_end assigned n (s (codes ")") us) (exactly (sign (codes ")"))) at_token refl h
+  more_params (shapes.more_elements e es) F n us h =
       let vs = elements_tokens es (s (codes ")") us) in
-      params_more assigned (element_tokens e blank vs) vs (element_param assigned e F.0 blank vs (more_followed es us)) (more_params es F.1 us h)
+      params_more assigned n (element_tokens e blank vs) vs (element_param assigned e F.0 blank vs (more_followed es us)) (more_params es F.1 n us h)
 
-  no_params : {n : Node} (is : IsArguments n) → ArgumentForms is → (us : Items) → Refuses assigned behind_params (s (codes ")") us) → Refuses assigned (params ▸ behind_params) (arguments_tokens is (s (codes ")") us))
+  no_params : {n : Node} (is : IsArguments n) → ArgumentForms is → (no_in : Bool) (us : Items) → Refuses assigned (behind_params no_in) (s (codes ")") us) → Refuses assigned (params ▸ behind_params no_in) (arguments_tokens is (s (codes ")") us))
   unfolding params
-  no_params (shapes.no_arguments at) F us h = rw (all_refused assigned param (exactly (sign (codes ")"))) (s (codes ")") us) at_token no_param_there, h) refl
-  no_params (shapes.arguments at e es) F us h =
+  no_params (shapes.no_arguments at) F n us h = rw (all_refused assigned param (exactly (sign (codes ")"))) (s (codes ")") us) at_token no_param_there, h) refl
+  no_params (shapes.arguments at e es) F n us h =
       let vs = elements_tokens es (s (codes ")") us) in
-      params_by assigned (element_tokens e no_gap vs) vs (element_param assigned e F.0 no_gap vs (more_followed es us)) (more_params es F.1 us h)
+      params_by assigned n (element_tokens e no_gap vs) vs (element_param assigned e F.0 no_gap vs (more_followed es us)) (more_params es F.1 n us h)
 
-  call_no_rest : {n : Node} (is : IsArguments n) → ArgumentForms is → (us : Items) (e : Front) → Begins e us → refuses_at e (arrow_body false) ≡ true
-      → Refuses assigned (arrow_rest false false) (s (codes "(") (arguments_tokens is (s (codes ")") us)))
-  call_no_rest is A us e b z = parameters_refused assigned no_gap (arguments_tokens is (s (codes ")") us)) (no_params is A us (no_body_behind assigned us e b z))
+  call_no_rest : {n : Node} (is : IsArguments n) → ArgumentForms is → (no_in : Bool) (us : Items) (e : Front) → Begins e us → refuses_at e (arrow_body no_in) ≡ true
+      → Refuses assigned (arrow_rest no_in false) (s (codes "(") (arguments_tokens is (s (codes ")") us)))
+  call_no_rest is A n us e b z = parameters_refused assigned n no_gap (arguments_tokens is (s (codes ")") us)) (no_params is A n us (no_body_behind assigned n us e b z))
 
   call_form : {f : Laid} {k : Kind} {ns : List Node} → Form assigned f k ns → {n : Node} (is : IsArguments n) → ArgumentForms is
       → Form assigned (λ g us. f g (s (codes "(") (arguments_tokens is (s (codes ")") us)))) kind.CallExpr (bare k ns ∷ list_node (bare_arguments is) ∷ absent ∷ [])
@@ -129,7 +129,7 @@ module _ (assigned : Bool) where
         own = λ g us e b z ys vs h. rw (append_assoc F.pieces (m ∷ []) ys) (F.own g (s (codes "(") (arguments_tokens is (s (codes ")") us))) opening at_token refl (m ∷ ys) vs (call_read is A us ys vs h));
         whole = steps-append in_front_link None F.pieces m ∙ (ap (λ o. step_on in_front_link o m) F.whole ∙ ap Some (call_made k F.head ns (list_node (bare_arguments is))));
         head = refl;
-        no_arrow = λ g us e b z r. F.no_arrow g (s (codes "(") (arguments_tokens is (s (codes ")") us))) opening at_token refl (call_no_rest is A us e b z);
+        no_arrow = λ n g us e b z r. F.no_arrow n g (s (codes "(") (arguments_tokens is (s (codes ")") us))) opening at_token refl (call_no_rest is A n us e b z);
         no_label = λ g us e b z. F.no_label g (s (codes "(") (arguments_tokens is (s (codes ")") us))) opening at_token refl;
         no_declaration = λ g us e b z. F.no_declaration g (s (codes "(") (arguments_tokens is (s (codes ")") us))) opening at_token refl;
         no_word = λ g us e b z. F.no_word g (s (codes "(") (arguments_tokens is (s (codes ")") us))) opening at_token refl;

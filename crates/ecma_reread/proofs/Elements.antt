@@ -59,7 +59,7 @@ module _ (assigned : Bool) {f' : Laid} {k' : Kind} {ns' : List Node} (S : Stands
         own = λ g us e b z ys vs h. rw (append_assoc F.pieces (m ∷ []) ys) (F.own g (behind us) bracket at_token refl (m ∷ ys) vs (key_read us ys vs h));
         whole = steps-append in_front_link None F.pieces m ∙ (ap (λ o. step_on in_front_link o m) F.whole ∙ ap Some (member_made k F.head ns key));
         head = refl;
-        no_arrow = λ g us e b z r. F.no_arrow g (behind us) bracket at_token refl (refused_at assigned (means assigned) (arrow_rest false false) bracket (behind us) at_token refl);
+        no_arrow = λ n g us e b z r. F.no_arrow n g (behind us) bracket at_token refl (refused_at assigned (means assigned) (arrow_rest n false) bracket (behind us) at_token refl);
         no_label = λ g us e b z. F.no_label g (behind us) bracket at_token refl;
         no_declaration = λ g us e b z. F.no_declaration g (behind us) bracket at_token refl;
         no_word = λ g us e b z. F.no_word g (behind us) bracket at_token refl;

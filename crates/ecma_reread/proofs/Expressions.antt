@@ -42,7 +42,7 @@ use Rattle.ecma_grammar.specs.Made.{made}
 use Rattle.ecma_reread.proofs.Fronts.{is_known, Front, exactly, a_name, Begins, at_token, at_name, IsName, front_of, refuses_at, refused_at, refuses_all, all_refused}
 use Rattle.ecma_reread.proofs.Towers.{Tower, here, later, sooner, climb, excluded, Opens, Starts, Undeclared, Ends, refuses_choices, skipped}
 use Rattle.ecma_reread.proofs.Heads.{is_head, member_made}
-use Rattle.ecma_reread.proofs.Forms.{Laid, s, heads, Reads, Refuses, ends_no_item, AsParam, item_refused, whole_item, linked_param, Form, new_heads, NewForm, no_item_at}
+use Rattle.ecma_reread.proofs.Forms.{Laid, s, heads, Reads, Refuses, ends_no_item, AsParam, item_refused, whole_item, linked_param, Form, new_heads, NewForm, no_item_at, no_arrow_at}
 use Rattle.ecma_reread.proofs.Bindings.{Stands, expression_read}
 use Rattle.ecma_reread.proofs.Params.{params_end, parameters_refused, no_body_behind}
 
@@ -84,7 +84,7 @@ pub record Single (t : Tok) (k : Kind) : Type 0 where
   pub starts : Starts (exactly t)
   pub undeclared : Undeclared (exactly t)
   pub head : is_head k ≡ true
-  pub no_arrow : refuses_all (exactly t) (arrow false false) ≡ true
+  pub no_arrow : refuses_at (exactly t) (arrow false false) ≡ true
   pub no_label : refuses_at (exactly t) labeled ≡ true
   pub no_param : refuses_all (exactly t) param ≡ true
   pub no_end : ends_no_item (exactly t) ≡ true
@@ -250,7 +250,7 @@ module _ (assigned : Bool) where
     own = λ g us e b z ys vs h. head_read (exactly t) (it g t us) us (bare k []) S.apart at_token (single_read t k S g us) ys vs h;
     whole = refl;
     head = S.head;
-    no_arrow = λ g us e b z r. all_refused assigned (arrow false false) (exactly t) (it g t us) at_token S.no_arrow;
+    no_arrow = λ n g us e b z r. refused_at assigned (means assigned) (arrow n false) (exactly t) (it g t us) at_token (no_arrow_at (exactly t) S.no_arrow n);
     no_label = λ g us e b z. refused_at assigned (means assigned) labeled (exactly t) (it g t us) at_token S.no_label;
     no_declaration = λ g us e b z. let u = S.undeclared in refused_at assigned (means assigned) declarations.declaration (exactly t) (it g t us) at_token u.no_declaration;
     no_word = λ g us e b z. let u = S.undeclared in refused_at assigned (means assigned) excluded (exactly t) (it g t us) at_token u.no_word;
@@ -285,13 +285,13 @@ module _ (assigned : Bool) where
   pub name_with_default : (w : List ℕ) → is_reserved w ≡ false → (g : Gap) (ts us : Items) (n : Node) → means assigned (part.Assign false false) ts ≡ read (n ∷ []) us → AsParam assigned (it g (items.key w) (it blank (sign (codes "=")) ts)) us
   name_with_default w z g ts us n h = whole_item (defaulted w n ∷ []) (default_read w z g ts us n h)
 
-  pub name_no_rest : (w : List ℕ) → is_reserved w ≡ false → (g : Gap) (us : Items) (e : Front) → Begins e us → refuses_at e (arrow_body false) ≡ true → Refuses assigned (arrow_rest false false) (it g (items.key w) us)
+  pub name_no_rest : (w : List ℕ) → is_reserved w ≡ false → (no_in : Bool) (g : Gap) (us : Items) (e : Front) → Begins e us → refuses_at e (arrow_body no_in) ≡ true → Refuses assigned (arrow_rest no_in false) (it g (items.key w) us)
   unfolding arrow_rest names.binding_ident
-  name_no_rest w n g us e b z = rw (n, refused_at assigned (means assigned) (arrow_body false) e us b z) refl
+  name_no_rest w n no_in g us e b z = rw (n, refused_at assigned (means assigned) (arrow_body no_in) e us b z) refl
 
-  name_no_arrow : (w : List ℕ) → IsName w → (g : Gap) (us : Items) (e : Front) → Begins e us → refuses_at e (arrow_body false) ≡ true → Refuses assigned (arrow_rest false false) us → Refuses assigned (arrow false false) (it g (items.key w) us)
+  name_no_arrow : (w : List ℕ) → IsName w → (no_in : Bool) (g : Gap) (us : Items) (e : Front) → Begins e us → refuses_at e (arrow_body no_in) ≡ true → Refuses assigned (arrow_rest no_in false) us → Refuses assigned (arrow no_in false) (it g (items.key w) us)
   unfolding arrow arrow_rest names.binding_ident
-  name_no_arrow w n g us e b z r = rw (n.apart (codes "async") async_known, n.free, refused_at assigned (means assigned) (arrow_body false) e us b z) refl
+  name_no_arrow w n no_in g us e b z r = rw (n.apart (codes "async") async_known, n.free, refused_at assigned (means assigned) (arrow_body no_in) e us b z) refl
 
   pub name_no_label : (w : List ℕ) → is_reserved w ≡ false → (g : Gap) (us : Items) (e : Front) → Begins e us → refuses_at e (punct (codes ":")) ≡ true → Refuses assigned labeled (it g (items.key w) us)
   unfolding labeled
@@ -344,12 +344,12 @@ module _ (assigned : Bool) where
     whole_read : (g : Gap) (us : Items) → Reads assigned primary (it g (sign (codes "(")) (f no_gap (s (codes ")") us))) (bare kind.ParenExpr (bare k ns ∷ []) ∷ []) us
     whole_read g us = primary_by opening parenthesized (it g (sign (codes "(")) (f no_gap (s (codes ")") us))) us (bare kind.ParenExpr (bare k ns ∷ [])) parenthesis_tower at_token (parenthesized_read g us)
 
-    parenthesized_no_arrow : (g : Gap) (us : Items) (e : Front) → Begins e us → refuses_at e (arrow_body false) ≡ true → Refuses assigned (arrow_rest false false) us → Refuses assigned (arrow false false) (it g (sign (codes "(")) (f no_gap (s (codes ")") us)))
+    parenthesized_no_arrow : (no_in : Bool) (g : Gap) (us : Items) (e : Front) → Begins e us → refuses_at e (arrow_body no_in) ≡ true → Refuses assigned (arrow_rest no_in false) us → Refuses assigned (arrow no_in false) (it g (sign (codes "(")) (f no_gap (s (codes ")") us)))
     unfolding arrow
-    parenthesized_no_arrow g us e b z r =
+    parenthesized_no_arrow n g us e b z r =
         let end = s (codes ")") us in
-        let rest = params_end assigned end (exactly (sign (codes ")"))) at_token refl (no_body_behind assigned us e b z) in
-        ap (built_on form.Arrow) (ap (with_front (absent ∷ [])) (parameters_refused assigned g (f no_gap end) (S.param no_gap end (exactly (sign (codes ")"))) at_token (refl, parenthesis_ends) rest)))
+        let rest = params_end assigned n end (exactly (sign (codes ")"))) at_token refl (no_body_behind assigned n us e b z) in
+        ap (built_on form.Arrow) (ap (with_front (absent ∷ [])) (parameters_refused assigned n g (f no_gap end) (S.param no_gap end (exactly (sign (codes ")"))) at_token (refl, parenthesis_ends) n rest)))
 
     pub parenthesized_form : Form assigned (λ g us. it g (sign (codes "(")) (f no_gap (s (codes ")") us))) kind.ParenExpr (bare k ns ∷ [])
     unfolding prefixed labeled param rest_pattern default_value pattern_body array_pattern object_pattern names.binding_ident statements.statement_body names.block statements.if_ statements.for_await statements.for_ statements.while_ statements.do_while statements.switch statements.try_ statements.jump declarations.declaration functions.function_declaration classes.class_declaration modules.module_item modules.import modules.import_equals modules.export modules.export_default

@@ -40,8 +40,18 @@ abbrev pub new_heads : Grammar
 new_heads = super_of_member // import_meta // construction // primary
 
 -- behind `)` of what may be the parameters of an arrow function
-abbrev pub behind_params : Grammar
-behind_params = punct (codes ")") ▸ (marked some_return_annotation ▸ arrow_body false ▸ before_colon false // put Absent ▸ arrow_body false)
+abbrev pub behind_params : Bool → Grammar
+behind_params no_in = punct (codes ")") ▸ (marked some_return_annotation ▸ arrow_body no_in ▸ before_colon false // put Absent ▸ arrow_body no_in)
+
+-- `in` stands in the body of an arrow function, if at all
+
+pub no_rest_at : (e : Front) → refuses_at e (arrow_rest false false) ≡ true → (no_in : Bool) → refuses_at e (arrow_rest no_in false) ≡ true
+unfolding arrow_rest
+no_rest_at e z no_in = z
+
+pub no_arrow_at : (e : Front) → refuses_at e (arrow false false) ≡ true → (no_in : Bool) → refuses_at e (arrow no_in false) ≡ true
+unfolding arrow arrow_rest
+no_arrow_at e z no_in = z
 
 -- no token that ends a list, or an item of one
 abbrev pub ends_no_list : Front → Bool
@@ -101,7 +111,7 @@ module _ (assigned : Bool) where
     pub whole : steps in_front_link None pieces ≡ Some (bare k ns)
     pub head : is_head k ≡ true
     -- what is tried before an expression
-    pub no_arrow : (g : Gap) (us : Items) (e : Front) → Begins e us → refuses_at e (arrow_body false) ≡ true → Refuses (arrow_rest false false) us → Refuses (arrow false false) (f g us)
+    pub no_arrow : (no_in : Bool) (g : Gap) (us : Items) (e : Front) → Begins e us → refuses_at e (arrow_body no_in) ≡ true → Refuses (arrow_rest no_in false) us → Refuses (arrow no_in false) (f g us)
     pub no_label : (g : Gap) (us : Items) (e : Front) → Begins e us → refuses_at e (punct (codes ":")) ≡ true → Refuses labeled (f g us)
     pub no_declaration : (g : Gap) (us : Items) (e : Front) → Begins e us → refuses_at e (word (codes "function")) ≡ true → Refuses declaration (f g us)
     pub no_word : (g : Gap) (us : Items) (e : Front) → Begins e us → refuses_at e (word (codes "function")) ≡ true → Refuses excluded (f g us)
@@ -135,7 +145,7 @@ module _ (assigned : Bool) where
     pub no_statement : refuses_choices 9 front (without 1 statement_body) ≡ true
     pub no_item : (g : Gap) (us : Items) → NoItem (f g us)
     pub no_spread : refuses_at front (punct (codes "...")) ≡ true
-    pub no_arrow : (g : Gap) (us : Items) (e : Front) → Begins e us → refuses_at e (arrow_body false) ≡ true → Refuses (arrow_rest false false) us → Refuses (arrow false false) (f g us)
+    pub no_arrow : (no_in : Bool) (g : Gap) (us : Items) (e : Front) → Begins e us → refuses_at e (arrow_body no_in) ≡ true → Refuses (arrow_rest no_in false) us → Refuses (arrow no_in false) (f g us)
     pub no_label : (g : Gap) (us : Items) (e : Front) → Begins e us → refuses_at e (punct (codes ":")) ≡ true → Refuses labeled (f g us)
     pub no_declaration : (g : Gap) (us : Items) (e : Front) → Begins e us → refuses_at e (word (codes "function")) ≡ true → Refuses declaration (f g us)
     pub no_word : (g : Gap) (us : Items) (e : Front) → Begins e us → refuses_at e (word (codes "function")) ≡ true → Refuses excluded (f g us)
@@ -169,7 +179,7 @@ begins_no_param e = refuses_all e param && ends_no_item e
 -- a token with which an expression begins, but nothing that is tried before one, other than by itself
 abbrev pub opens_plainly : Front → Bool
 opens_plainly e =
-    refuses_choices 9 e (without 1 statement_body) && (refuses_at e (punct (codes "...")) && (refuses_all e (arrow false false) && (refuses_at e labeled && (refuses_at e declaration && (refuses_at e excluded && begins_no_param e)))))
+    refuses_choices 9 e (without 1 statement_body) && (refuses_at e (punct (codes "...")) && (refuses_at e (arrow false false) && (refuses_at e labeled && (refuses_at e declaration && (refuses_at e excluded && begins_no_param e)))))
 
 -- nor what stands in modules alone, `yield`, or a private name
 abbrev pub only_opens : Front → Bool
@@ -188,7 +198,7 @@ module _ (assigned : Bool) where
         no_statement = L.no_statement;
         no_item = λ g us. L.no_item g (it h t (rest us));
         no_spread = L.no_spread;
-        no_arrow = λ g us k s r q. L.no_arrow g (it h t (rest us)) e at_token a.0 (refused_at assigned (means assigned) (arrow_rest false false) e (it h t (rest us)) at_token b.0);
+        no_arrow = λ n g us k s r q. L.no_arrow n g (it h t (rest us)) e at_token a.0 (refused_at assigned (means assigned) (arrow_rest n false) e (it h t (rest us)) at_token (no_rest_at e b.0 n));
         no_label = λ g us k s r. L.no_label g (it h t (rest us)) e at_token c.0;
         no_declaration = λ g us k s r. L.no_declaration g (it h t (rest us)) e at_token c.1;
         no_word = λ g us k s r. L.no_word g (it h t (rest us)) e at_token c.1;
@@ -200,20 +210,20 @@ module _ (assigned : Bool) where
       let p = means assigned in
       let a = and_parts (refuses_choices 9 e (without 1 statement_body)) _ z in
       let c = and_parts (refuses_at e (punct (codes "..."))) _ a.1 in
-      let y = and_parts (refuses_all e (arrow false false)) _ c.1 in
+      let y = and_parts (refuses_at e (arrow false false)) _ c.1 in
       let l = and_parts (refuses_at e labeled) _ y.1 in
       let m = and_parts (refuses_at e declaration) _ l.1 in
-      let n = and_parts (refuses_at e excluded) _ m.1 in
+      let o = and_parts (refuses_at e excluded) _ m.1 in
       record {
         front = e;
         begins = λ g us. at_token;
         no_statement = a.0;
         no_item = i;
         no_spread = c.0;
-        no_arrow = λ g us k s r q. all_refused assigned (arrow false false) e (it g t (rest us)) at_token y.0;
+        no_arrow = λ n g us k s r q. refused_at assigned p (arrow n false) e (it g t (rest us)) at_token (no_arrow_at e y.0 n);
         no_label = λ g us k s r. refused_at assigned p labeled e (it g t (rest us)) at_token l.0;
         no_declaration = λ g us k s r. refused_at assigned p declaration e (it g t (rest us)) at_token m.0;
-        no_word = λ g us k s r. refused_at assigned p excluded e (it g t (rest us)) at_token n.0;
+        no_word = λ g us k s r. refused_at assigned p excluded e (it g t (rest us)) at_token o.0;
       }
 
   pub no_item_by : (t : Tok) → only_opens (exactly t) ≡ true → (g : Gap) (us : Items) → NoItem assigned (it g t us)
@@ -242,7 +252,7 @@ module _ (assigned : Bool) where
       let e = exactly t in
       let a = and_parts (refuses_choices 9 e (without 1 statement_body)) _ z in
       let c = and_parts (refuses_at e (punct (codes "..."))) _ a.1 in
-      let y = and_parts (refuses_all e (arrow false false)) _ c.1 in
+      let y = and_parts (refuses_at e (arrow false false)) _ c.1 in
       let l = and_parts (refuses_at e labeled) _ y.1 in
       let m = and_parts (refuses_at e declaration) _ l.1 in
       let n = and_parts (refuses_at e excluded) _ m.1 in

@@ -28,9 +28,9 @@ module _ (assigned : Bool) where
   Forms (shapes.more_expressions e es) = Stands assigned shapes.assignment (expression_tokens e) (expression_kind e) (expression_parts e) × Forms es
 
   -- as parameters of an arrow function
-  pub more_params : {es : List Node} (is : AreExpressions es) → Forms is → (us : Items) → Followed us → Params assigned us → Params assigned (more_tokens is us)
-  more_params shapes.no_expressions F us w P = P
-  more_params (shapes.more_expressions e es) F us w P =
+  pub more_params : {es : List Node} (is : AreExpressions es) → Forms is → (no_in : Bool) (us : Items) → Followed us → Params assigned no_in us → Params assigned no_in (more_tokens is us)
+  more_params shapes.no_expressions F n us w P = P
+  more_params (shapes.more_expressions e es) F n us w P =
       let v = more_followed es us w in
       let E = F.0 in
-      params_more assigned (expression_tokens e blank (more_tokens es us)) (more_tokens es us) (E.param blank (more_tokens es us) v.front v.begins (ends_no_equals v.front v.ends, v.ends)) (more_params es F.1 us w P)
+      params_more assigned n (expression_tokens e blank (more_tokens es us)) (more_tokens es us) (E.param blank (more_tokens es us) v.front v.begins (ends_no_equals v.front v.ends, v.ends)) (more_params es F.1 n us w P)

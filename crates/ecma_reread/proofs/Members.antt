@@ -78,7 +78,7 @@ module _ (assigned : Bool) where
         own = λ g us e b z ys vs h. rw (append_assoc F.pieces (m ∷ []) ys) (F.own g (s (codes ".") (it no_gap t us)) point at_token refl (m ∷ ys) vs (dot_read K us ys vs h));
         whole = steps-append in_front_link None F.pieces m ∙ (ap (λ o. step_on in_front_link o m) F.whole ∙ ap Some (member_made k F.head ns (bare q [])));
         head = refl;
-        no_arrow = λ g us e b z r. F.no_arrow g (s (codes ".") (it no_gap t us)) point at_token refl (refused_at assigned (means assigned) (arrow_rest false false) point (s (codes ".") (it no_gap t us)) at_token refl);
+        no_arrow = λ n g us e b z r. F.no_arrow n g (s (codes ".") (it no_gap t us)) point at_token refl (refused_at assigned (means assigned) (arrow_rest n false) point (s (codes ".") (it no_gap t us)) at_token refl);
         no_label = λ g us e b z. F.no_label g (s (codes ".") (it no_gap t us)) point at_token refl;
         no_declaration = λ g us e b z. F.no_declaration g (s (codes ".") (it no_gap t us)) point at_token refl;
         no_word = λ g us e b z. F.no_word g (s (codes ".") (it no_gap t us)) point at_token refl;

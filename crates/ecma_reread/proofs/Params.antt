@@ -45,56 +45,56 @@ module _ (assigned : Bool) where
   }
 
   -- no body of an arrow function stands there
-  abbrev pub NoBody : Items → Type 0
-  NoBody ts = Refuses assigned behind_params ts
+  abbrev pub NoBody : Bool → Items → Type 0
+  NoBody no_in ts = Refuses assigned (behind_params no_in) ts
 
-  no_end : (ts : Items) (e : Front) → Begins e ts → ends_no_list e ≡ true → NoBody ts
-  no_end ts e b z =
+  no_end : (no_in : Bool) (ts : Items) (e : Front) → Begins e ts → ends_no_list e ≡ true → NoBody no_in ts
+  no_end no_in ts e b z =
       let c = and_parts (refuses_at e (punct (codes ")"))) _ z in
       rw (refused_at assigned (means assigned) (punct (codes ")")) e ts b c.0) refl
 
-  abbrev lasts : Lasts assigned param (Closes NoBody)
-  lasts = closing param NoBody more_eat no_end
+  abbrev lasts : (no_in : Bool) → Lasts assigned param (Closes (NoBody no_in))
+  lasts no_in = closing param (NoBody no_in) more_eat (no_end no_in)
 
   -- behind a parameter: those that are read further, and what stands behind them ends no parameters of an arrow function
-  abbrev pub Params : Items → Type 0
-  Params ts = Further assigned param (Closes NoBody) ts
+  abbrev pub Params : Bool → Items → Type 0
+  Params no_in ts = Further assigned param (Closes (NoBody no_in)) ts
 
-  pub params_end : (us : Items) (e : Front) → Begins e us → refuses_at e (punct (codes ",")) ≡ true → NoBody us → Params us
-  params_end us e b c h = further_end assigned param (Closes NoBody) us e b c (no_comma NoBody us e b c h)
+  pub params_end : (no_in : Bool) (us : Items) (e : Front) → Begins e us → refuses_at e (punct (codes ",")) ≡ true → NoBody no_in us → Params no_in us
+  params_end no_in us e b c h = further_end assigned param (Closes (NoBody no_in)) us e b c (no_comma (NoBody no_in) us e b c h)
 
   -- a comma, and an expression
-  pub params_more : (ts us : Items) → AsParam assigned ts us → Params us → Params (s (codes ",") ts)
-  params_more ts us p P = further_more assigned param (Closes NoBody) lasts _ ts us p P
+  pub params_more : (no_in : Bool) (ts us : Items) → AsParam assigned ts us → Params no_in us → Params no_in (s (codes ",") ts)
+  params_more no_in ts us p P = further_more assigned param (Closes (NoBody no_in)) (lasts no_in) _ ts us p P
 
-  with_param : (ts us : Items) (xs : List Node) → Reads assigned param ts xs us → Params us → Refuses assigned (params ▸ behind_params) ts
+  with_param : (no_in : Bool) (ts us : Items) (xs : List Node) → Reads assigned param ts xs us → Params no_in us → Refuses assigned (params ▸ behind_params no_in) ts
   unfolding params
-  with_param ts us xs h P =
+  with_param no_in ts us xs h P =
       let I = interp assigned (means assigned) in
       let l = P.last in
-      ap (followed_on (I behind_params)) (ap (built_on form.List) (ap (or_on (I grammar.nothing) ts)
+      ap (followed_on (I (behind_params no_in))) (ap (built_on form.List) (ap (or_on (I grammar.nothing) ts)
       (ap (followed_on (I (grammar.many (more param) ▸ last_comma))) h
       ∙ ap (with_front xs) (ap (followed_on (I last_comma)) (repeated assigned (more param) us P.stop P.nodes P.repeats) ∙ ap (with_front P.nodes) l.comma))))
       ∙ ap (with_front (_ ∷ [])) l.closed
 
-  by_list : (ts : Items) → Listed assigned param (Closes NoBody) lasts ts → Refuses assigned (params ▸ behind_params) ts
+  by_list : (no_in : Bool) (ts : Items) → Listed assigned param (Closes (NoBody no_in)) (lasts no_in) ts → Refuses assigned (params ▸ behind_params no_in) ts
   unfolding params
-  by_list ts (none_listed h e b z) =
+  by_list no_in ts (none_listed h e b z) =
       let I = interp assigned (means assigned) in
       let c = and_parts (refuses_at e (punct (codes ","))) (ends_no_list e) z in
-      ap (followed_on (I behind_params)) (ap (built_on form.List) (ap (or_on (I grammar.nothing) ts) (ap (followed_on (I (grammar.many (more param) ▸ last_comma))) h)))
-      ∙ ap (with_front (_ ∷ [])) (no_end ts e b c.1)
-  by_list ts (some_listed xs us h F) = with_param ts us xs h F
+      ap (followed_on (I (behind_params no_in))) (ap (built_on form.List) (ap (or_on (I grammar.nothing) ts) (ap (followed_on (I (grammar.many (more param) ▸ last_comma))) h)))
+      ∙ ap (with_front (_ ∷ [])) (no_end no_in ts e b c.1)
+  by_list no_in ts (some_listed xs us h F) = with_param no_in ts us xs h F
 
   -- an expression, and what stands behind it
-  pub params_by : (ts us : Items) → AsParam assigned ts us → Params us → Refuses assigned (params ▸ behind_params) ts
-  params_by ts us p P = by_list ts (listed assigned param (Closes NoBody) lasts ts us p P)
+  pub params_by : (no_in : Bool) (ts us : Items) → AsParam assigned ts us → Params no_in us → Refuses assigned (params ▸ behind_params no_in) ts
+  params_by no_in ts us p P = by_list no_in ts (listed assigned param (Closes (NoBody no_in)) (lasts no_in) ts us p P)
 
-  pub parameters_refused : (g : Gap) (ts : Items) → Refuses assigned (params ▸ behind_params) ts → Refuses assigned (arrow_rest false false) (it g (sign (codes "(")) ts)
+  pub parameters_refused : (no_in : Bool) (g : Gap) (ts : Items) → Refuses assigned (params ▸ behind_params no_in) ts → Refuses assigned (arrow_rest no_in false) (it g (sign (codes "(")) ts)
   unfolding arrow_rest binding_ident
-  parameters_refused g ts h = rw h refl
+  parameters_refused no_in g ts h = rw h refl
 
-  pub no_body_behind : (us : Items) (e : Front) → Begins e us → refuses_at e (arrow_body false) ≡ true → Refuses assigned behind_params (s (codes ")") us)
-  no_body_behind us e b z =
-      let body : Refuses assigned (arrow_body false) us = refused_at assigned (means assigned) (arrow_body false) e us b z in
+  pub no_body_behind : (no_in : Bool) (us : Items) (e : Front) → Begins e us → refuses_at e (arrow_body no_in) ≡ true → Refuses assigned (behind_params no_in) (s (codes ")") us)
+  no_body_behind no_in us e b z =
+      let body : Refuses assigned (arrow_body no_in) us = refused_at assigned (means assigned) (arrow_body no_in) e us b z in
       rw body refl

@@ -59,11 +59,11 @@ module _ (assigned : Bool) where
           lead = lead_before assigned X.lead (sign (codes ",")) refl no_gap (λ us. f' blank (more_tokens is us));
           tight = tt;
           no_or = tt;
-          param = λ g us e b z P.
+          param = λ g us e b z n P.
               (let w : Followed us = record { front = e; begins = b; ends = z.1 } in
               let v = more_followed is us w in
-              params_by assigned (f g (rest us)) (rest us) (X.param g (rest us) comma at_token (refl, comma_ends))
-              (params_more assigned (f' blank (more_tokens is us)) (more_tokens is us) (Y.param blank (more_tokens is us) v.front v.begins (ends_no_equals v.front v.ends, v.ends)) (more_params assigned is F us w P)));
+              params_by assigned n (f g (rest us)) (rest us) (X.param g (rest us) comma at_token (refl, comma_ends))
+              (params_more assigned n (f' blank (more_tokens is us)) (more_tokens is us) (Y.param blank (more_tokens is us) v.front v.begins (ends_no_equals v.front v.ends, v.ends)) (more_params assigned is F n us w P)));
           reading = λ g us e b z.
               (let c = and_parts (refuses_at e (punct (codes ","))) (closes shapes.assignment e) z in
               sequence_read g us (record { front = e; begins = b; ends = c.1 }) c.0);
