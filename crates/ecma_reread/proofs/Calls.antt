@@ -27,7 +27,7 @@ use Rattle.ecma_tokens.specs.Items as items
 use Rattle.ecma_tokens.specs.Items.{Tok, sign, Gap, no_gap, Items, it}
 use Rattle.ecma_reread.specs.Machine.{with_front, means}
 use Rattle.ecma_reread.specs.Shapes as shapes
-use Rattle.ecma_reread.specs.Shapes.{Level, IsPlainName, IsIdent, ident, IsKey, key, IsExpression, IsElement, AreSlots, IsArguments, AreElements, AreExpressions, IsMemberLevel, IsIndexed}
+use Rattle.ecma_reread.specs.Shapes.{Level, IsPlainName, IsIdent, ident, IsKey, key, IsExpression, IsElement, AreSlots, IsProperty, AreProperties, IsArguments, AreElements, AreExpressions, IsMemberLevel, IsIndexed}
 use Rattle.ecma_reread.specs.Tokens.{bare, blank, ident_word, key_word, own_sign, unary_gap, expression_tokens, element_tokens, arguments_tokens, elements_tokens, expression_kind, expression_parts, bare_element, bare_arguments, bare_elements}
 use Rattle.ecma_reread.proofs.Levels.{means_is}
 use Rattle.ecma_reread.proofs.Fronts.{Front, exactly, Begins, at_token, IsName, is_known, refuses_at, refused_at, refuses_all, all_refused}
@@ -51,6 +51,7 @@ use Rattle.ecma_reread.proofs.Lists.{Forms, Followed}
 use Rattle.ecma_reread.proofs.Sequences.{sequence_form}
 use Rattle.ecma_reread.proofs.Async.{async_new}
 use Rattle.ecma_reread.proofs.Arrays.{SlotForms, array_new}
+use Rattle.ecma_reread.proofs.Objects.{PropertyForm, PropertyForms, object_new}
 use Rattle.ecma_reread.proofs.Spreads.{ElementForm, element_read, element_param}
 
 -- no argument begins with `)`
@@ -219,6 +220,7 @@ module _ (assigned : Bool) where
     expression_form (shapes.assignment_expression at o t v) = assignment_form assigned o (expression_form t) (expression_form v)
     expression_form (shapes.conditional_expression at t x y) = choice_form assigned (expression_form t) (expression_form x) (expression_form y)
     expression_form (shapes.array at at' es) = from_new assigned (array_new assigned es (slot_forms es))
+    expression_form (shapes.object_literal at at' ps) = from_new assigned (object_new assigned ps (property_forms ps))
     expression_form (shapes.sequence_expression at x y es) = sequence_form assigned (expression_form x) (expression_form y) es (expression_forms es)
 
     argument_forms : {n : Node} (is : IsArguments n) → ArgumentForms is
@@ -233,6 +235,18 @@ module _ (assigned : Bool) where
     slot_forms shapes.no_slots = tt
     slot_forms (shapes.filled e es) = (element_form_of e, slot_forms es)
     slot_forms (shapes.hole a es) = slot_forms es
+
+    property_form_of : {n : Node} (is : IsProperty n) → PropertyForm assigned is
+    property_form_of (shapes.key_value at (shapes.computed_name at' e) v) = (expression_form e, expression_form v)
+    property_form_of (shapes.key_value at (shapes.key_name k) v) = (tt, expression_form v)
+    property_form_of (shapes.key_value at k v) = (tt, expression_form v)
+    property_form_of (shapes.shorthand i) = tt
+    property_form_of (shapes.initialized at i v) = expression_form v
+    property_form_of (shapes.spread_property at e) = expression_form e
+
+    property_forms : {ns : List Node} (is : AreProperties ns) → PropertyForms assigned is
+    property_forms shapes.no_properties = tt
+    property_forms (shapes.more_properties p ps) = (property_form_of p, property_forms ps)
 
     element_forms : {es : List Node} (is : AreElements es) → ElementForms is
     element_forms shapes.no_elements = tt

@@ -41,6 +41,7 @@ is_head kind.ArrayLit = true
 is_head kind.NewExpr = true
 is_head kind.SuperPropExpr = true
 is_head (kind.MetaPropExpr property) = true
+is_head kind.ObjectLit = true
 is_head k = false
 
 stays_by : (k : Kind) → is_head k ≡ true → (bs : List Bool) → goes_on_by k bs ≡ false

@@ -23,8 +23,8 @@ use Rattle.ecma_print.specs.Operators.{unary_sign, update_sign}
 use Rattle.ecma_tokens.proofs.Wholes.{some_text}
 use Rattle.ecma_reread.specs.Machine.{count}
 use Rattle.ecma_reread.specs.Shapes as shapes
-use Rattle.ecma_reread.specs.Shapes.{Level, looser_than, IsOperator, IsIdent, ident, IsKey, key, IsExpression, IsElement, IsArguments, AreElements, AreExpressions, IsInitializer, IsDeclarator, AreDeclarators, AreSlots, IsMemberLevel, IsIndexed, IsChainKey}
-use Rattle.ecma_reread.specs.Tokens.{blank, sign_of, assign_token, update_token, unary_token, binary_token, own_sign, unary_gap, ident_word, key_word, expression_tokens, element_tokens, arguments_tokens, elements_tokens, more_tokens, declarator_tokens, declarators_tokens, slots_tokens, more_slots_tokens, chain_token}
+use Rattle.ecma_reread.specs.Shapes.{Level, looser_than, IsOperator, IsIdent, ident, IsKey, key, IsExpression, IsElement, IsArguments, AreElements, AreExpressions, IsInitializer, IsDeclarator, AreDeclarators, AreSlots, IsMemberLevel, IsIndexed, IsChainKey, begins_with_brace, AreProperties, IsPropertyName, IsProperty}
+use Rattle.ecma_reread.specs.Tokens.{blank, sign_of, assign_token, update_token, unary_token, binary_token, own_sign, unary_gap, ident_word, key_word, expression_tokens, element_tokens, arguments_tokens, elements_tokens, more_tokens, declarator_tokens, declarators_tokens, slots_tokens, more_slots_tokens, chain_token, properties_tokens, more_properties_tokens, property_name_tokens, property_tokens}
 
 -- each token has a text
 pub good_long : (ts : Items) → Good ts → count ts ≤ length (render ts)
@@ -75,6 +75,11 @@ unfolding punctuators
 closing_soft point = refl
 closing_soft z = refl
 
+brace_soft : {object : Bool} {us : Items} → Soft object us → joins_next (sign (codes "}")) us ≡ true
+unfolding punctuators
+brace_soft point = refl
+brace_soft z = refl
+
 bracket_soft : {object : Bool} {us : Items} → Soft object us → joins_next (sign (codes "]")) us ≡ true
 unfolding punctuators
 bracket_soft point = refl
@@ -117,6 +122,7 @@ pub data Opens : Tok → Beside → Type 0 where
   by_number : (w : List ℕ) → Opens (items.number w) NoNeighbor
   by_big_int : (w : List ℕ) → Opens (items.big_int w) NoNeighbor
   by_bracket : Opens (sign (codes "[")) NoNeighbor
+  by_brace : Opens (sign (codes "{")) NoNeighbor
   by_parenthesis : Opens (sign (codes "(")) NoNeighbor
   by_update : (o : UpdateOp) → Opens (update_token o) (update_sign o)
   by_operator : (o : UnaryOp) → Opens (unary_token o) (unary_sign o)
@@ -160,6 +166,7 @@ begun (shapes.coalesced at i l r) us = begun l (it blank (sign (codes "??")) (ex
 begun (shapes.assignment_expression at o t v) us = begun t (it blank (assign_token o) (expression_tokens v blank us))
 begun (shapes.conditional_expression at t x y) us = begun t (it blank (sign (codes "?")) (expression_tokens x blank (it blank (sign (codes ":")) (expression_tokens y blank us))))
 begun (shapes.array at at' es) us = record { first = sign (codes "["); by = NoNeighbor; rest = slots_tokens es us; opens = by_bracket; is = λ g. refl }
+begun (shapes.object_literal at at' ps) us = record { first = sign (codes "{"); by = NoNeighbor; rest = properties_tokens ps us; opens = by_brace; is = λ g. refl }
 begun (shapes.sequence_expression at x y es) us = begun x (sign_of (codes ",") (expression_tokens y blank (more_tokens es us)))
 
 -- behind `(`, behind a blank, and on a new line
@@ -211,14 +218,33 @@ bracket_joins is us = let b = begun is us in rw (b.is no_gap) (bracket_by b.open
 pub no_new_line : {level : Level} {e : Node} (is : IsExpression level e) (us : Items) → new_line_in (expression_tokens is blank us) ≡ false
 no_new_line is us = let b = begun is us in rw (b.is blank) refl
 
-brace_by : {t : Tok} {b : Beside} → Opens t b → (g : Gap) (us : Items) → punct_in (codes "{") (it g t us) ≡ refused
-brace_by (by_update PlusPlus) g us = refl
-brace_by (by_operator Minus) g us = refl
-brace_by h g us = refl
+update_brace : (o : UpdateOp) (g : Gap) (us : Items) → punct_in (codes "{") (it g (update_token o) us) ≡ refused
+update_brace PlusPlus g us = refl
+update_brace MinusMinus g us = refl
+
+unary_brace : (o : UnaryOp) (g : Gap) (us : Items) → punct_in (codes "{") (it g (unary_token o) us) ≡ refused
+unary_brace Minus g us = refl
+unary_brace o g us = refl
 
 -- it begins with no `{`
-pub no_brace : {level : Level} {e : Node} (is : IsExpression level e) (g : Gap) (us : Items) → punct_in (codes "{") (expression_tokens is g us) ≡ refused
-no_brace is g us = let b = begun is us in rw (b.is g) (brace_by b.opens g b.rest)
+pub no_brace : {level : Level} {e : Node} (is : IsExpression level e) → begins_with_brace is ≡ false → (g : Gap) (us : Items) → punct_in (codes "{") (expression_tokens is g us) ≡ refused
+no_brace (shapes.looser e) z g us = no_brace e z g us
+no_brace (shapes.member at i o k) z g us = no_brace o z g (sign_of (codes ".") (it no_gap (chain_token k) us))
+no_brace (shapes.call at c es none) z g us = no_brace c z g (sign_of (codes "(") (arguments_tokens es (sign_of (codes ")") us)))
+no_brace (shapes.element at at' i o e) z g us = no_brace o z g (sign_of (codes "[") (expression_tokens e no_gap (sign_of (codes "]") us)))
+no_brace (shapes.prefix_update at o e) z g us = update_brace o g (expression_tokens e no_gap us)
+no_brace (shapes.postfix_update at o e) z g us = no_brace e z g (it no_gap (update_token o) us)
+no_brace (shapes.unary_expression at o e) z g us = unary_brace o g (expression_tokens e (unary_gap o (own_sign e)) us)
+no_brace (shapes.binary_expression at {operator = o} i l r) z g us = no_brace l z g (it blank (binary_token o) (expression_tokens r blank us))
+no_brace (shapes.exponentiation at l r) z g us = no_brace l z g (it blank (sign (codes "**")) (expression_tokens r blank us))
+no_brace (shapes.both at l r) z g us = no_brace l z g (it blank (sign (codes "&&")) (expression_tokens r blank us))
+no_brace (shapes.either at l r) z g us = no_brace l z g (it blank (sign (codes "||")) (expression_tokens r blank us))
+no_brace (shapes.coalesced at i l r) z g us = no_brace l z g (it blank (sign (codes "??")) (expression_tokens r blank us))
+no_brace (shapes.assignment_expression at o t v) z g us = no_brace t z g (it blank (assign_token o) (expression_tokens v blank us))
+no_brace (shapes.conditional_expression at t x y) z g us = no_brace t z g (it blank (sign (codes "?")) (expression_tokens x blank (it blank (sign (codes ":")) (expression_tokens y blank us))))
+no_brace (shapes.sequence_expression at x y es) z g us = no_brace x z g (sign_of (codes ",") (expression_tokens y blank (more_tokens es us)))
+no_brace (shapes.object_literal at at' ps) z g us = absurd (false≢true (sym z))
+no_brace is z g us = refl
 
 pub blank_joins : (t : Tok) {level : Level} {e : Node} (is : IsExpression level e) (us : Items) → joins_next t (expression_tokens is blank us) ≡ true
 blank_joins t is us = let b = begun is us in rw (b.is blank) refl
@@ -233,6 +259,20 @@ element_bracket_joins : {n : Node} (is : IsElement n) (us : Items) → joins_nex
 unfolding punctuators
 element_bracket_joins (shapes.one e) us = bracket_joins e us
 element_bracket_joins (shapes.spread at e) us = refl
+
+property_parted : (t : Tok) {n : Node} (is : IsProperty n) (us : Items) → joins_next t (property_tokens is blank us) ≡ true
+property_parted t (shapes.key_value at (shapes.key_name k) v) us = refl
+property_parted t (shapes.key_value at k v) us = refl
+property_parted t is us = refl
+
+properties_open : {ns : List Node} (is : AreProperties ns) (us : Items) → joins_next (sign (codes "{")) (properties_tokens is us) ≡ true
+unfolding punctuators
+properties_open shapes.no_properties us = refl
+properties_open (shapes.more_properties p ps) us = property_parted (sign (codes "{")) p (more_properties_tokens ps us)
+
+properties_soft : {ns : List Node} (is : AreProperties ns) (us : Items) → Soft false (more_properties_tokens is us)
+properties_soft shapes.no_properties us = parted
+properties_soft (shapes.more_properties p ps) us = comma
 
 slots_open : {ns : List Node} (is : AreSlots ns) (us : Items) → joins_next (sign (codes "[")) (slots_tokens is us) ≡ true
 unfolding punctuators
@@ -328,6 +368,7 @@ plain (shapes.true_word at) us h = refl
 plain (shapes.false_word at) us h = refl
 plain (shapes.parenthesized at e) us h = refl
 plain (shapes.array at at' es) us h = refl
+plain (shapes.object_literal at at' ps) us h = refl
 
 signed : {level : Level} {e : Node} (is : IsExpression level e) (us : Items) → is_operand level ≡ true → (let b = begun is us in b.by) ≡ own_sign is
 unfolding begun
@@ -363,6 +404,7 @@ signed (shapes.true_word at) us h = refl
 signed (shapes.false_word at) us h = refl
 signed (shapes.parenthesized at e) us h = refl
 signed (shapes.array at at' es) us h = refl
+signed (shapes.object_literal at at' ps) us h = refl
 
 -- a unary operator joins its operand
 unary_by : (o : UnaryOp) {t : Tok} {b : Beside} → Opens t b → (us : Items) → joins_next (unary_token o) (it (unary_gap o b) t us) ≡ true
@@ -569,6 +611,7 @@ module _ (words : Words) where
         expression_joined t g h (it blank (sign (codes "?")) (expression_tokens x blank seconds)) parted
         (blank_is, refl, blank_joins (sign (codes "?")) x seconds, expression_joined x blank blank_is seconds parted (blank_is, refl, blank_joins (sign (codes ":")) y us, expression_joined y blank blank_is us z j))
     expression_joined (shapes.array at at' es) g h us z j = (h, refl, slots_open es us, slots_joined es us (no_gap_is, refl, bracket_soft z, j))
+    expression_joined (shapes.object_literal at at' ps) g h us z j = (h, refl, properties_open ps us, properties_joined ps us (brace_soft z) j)
     expression_joined (shapes.sequence_expression at x y es) g h us z j =
         let rest = more_tokens es us in
         expression_joined x g h (sign_of (codes ",") (expression_tokens y blank rest)) comma (no_gap_is, refl, blank_joins (sign (codes ",")) y rest, expression_joined y blank blank_is rest (more_soft es z) (more_joined es us z j))
@@ -594,6 +637,31 @@ module _ (words : Words) where
         let rest = more_slots_tokens es false no_gap us in
         (h, refl, element_blank_joins (sign (codes ",")) e rest, element_joined e blank blank_is rest (slots_soft es us) (more_slots_joined es false no_gap no_gap_is us j))
     more_slots_joined (shapes.hole a es) b g h us j = (h, refl, slots_parted es us, more_slots_joined es true blank blank_is us j)
+
+    property_name_joined : {n : Node} (is : IsPropertyName n) (g : Gap) → IsGap g → (us : Items) → Joined (sign_of (codes ":") us) → Joined (property_name_tokens is g (sign_of (codes ":") us))
+    property_name_joined (shapes.key_name k) g h us j = (h, key_whole k, refl, j)
+    property_name_joined (shapes.string_name at raw t) g h us j = (h, t, refl, j)
+    property_name_joined (shapes.number_name at raw t) g h us j = (h, t, refl, j)
+    property_name_joined (shapes.big_int_name at raw t) g h us j = (h, t, refl, j)
+    property_name_joined (shapes.computed_name at e) g h us j =
+        let end = sign_of (codes "]") (sign_of (codes ":") us) in
+        (h, refl, bracket_joins e end, expression_joined e no_gap no_gap_is end closing_bracket (no_gap_is, refl, refl, j))
+
+    property_joined : {n : Node} (is : IsProperty n) (g : Gap) → IsGap g → (us : Items) → Soft false us → Joined us → Joined (property_tokens is g us)
+    property_joined (shapes.key_value at k v) g h us z j = property_name_joined k g h (expression_tokens v blank us) (no_gap_is, refl, blank_joins (sign (codes ":")) v us, expression_joined v blank blank_is us z j)
+    property_joined (shapes.shorthand i) g h us z j = (h, ident_whole i, key_soft (ident_word i) z, j)
+    property_joined (shapes.initialized at i v) g h us z j = (h, ident_whole i, refl, (blank_is, refl, blank_joins (sign (codes "=")) v us, expression_joined v blank blank_is us z j))
+    property_joined (shapes.spread_property at e) g h us z j = (h, refl, dots_join e us, expression_joined e no_gap no_gap_is us z j)
+
+    properties_joined : {ns : List Node} (is : AreProperties ns) (us : Items) → joins_next (sign (codes "}")) us ≡ true → Joined us → Joined (properties_tokens is us)
+    properties_joined shapes.no_properties us z j = (no_gap_is, refl, z, j)
+    properties_joined (shapes.more_properties p ps) us z j = property_joined p blank blank_is (more_properties_tokens ps us) (properties_soft ps us) (more_properties_joined ps us z j)
+
+    more_properties_joined : {ns : List Node} (is : AreProperties ns) (us : Items) → joins_next (sign (codes "}")) us ≡ true → Joined us → Joined (more_properties_tokens is us)
+    more_properties_joined shapes.no_properties us z j = (blank_is, refl, z, j)
+    more_properties_joined (shapes.more_properties p ps) us z j =
+        let rest = more_properties_tokens ps us in
+        (no_gap_is, refl, property_parted (sign (codes ",")) p rest, property_joined p blank blank_is rest (properties_soft ps us) (more_properties_joined ps us z j))
 
     elements_joined : {es : List Node} (is : AreElements es) (us : Items) → Joined (sign_of (codes ")") us) → Joined (elements_tokens is (sign_of (codes ")") us))
     elements_joined shapes.no_elements us j = j

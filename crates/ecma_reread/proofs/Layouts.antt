@@ -22,19 +22,19 @@ use Rattle.ecma_print.specs.declared.place.Between.{Between}
 use Rattle.ecma_print.specs.declared.place.Between.TheVariants.{Blank, Equals}
 use Rattle.ecma_print.specs.declared.place.Spot.{Spot}
 use Rattle.ecma_print.specs.declared.place.Place.{Place}
-use Rattle.ecma_print.specs.declared.place.Place.TheVariants.{At, Within, Arguments, Commas, Brackets}
+use Rattle.ecma_print.specs.declared.place.Place.TheVariants.{At, Within, Arguments, Commas, Braces, Brackets}
 use Rattle.ecma_print.specs.Places.{before, after, free, left, right, beginning, gap, opens_a_block, is_headed}
 use Rattle.ecma_print.specs.Laid.{Laid, is_absent, is_object_pattern}
 use Rattle.ecma_print.specs.Levels.{is_before_dot, clashes}
 use Rattle.ecma_print.specs.Operators.{assign_word, unary_word, unary_sign, update_word, update_sign, binary_word, binary_level, left_level, right_level, under}
 use Rattle.ecma_print.specs.Expressions.{before_key, object_beside, is_optional, more_of_sequence, callee_spot}
-use Rattle.ecma_print.specs.Lists.{more_commas, ends_in_hole, hole_comma, brackets}
+use Rattle.ecma_print.specs.Lists.{more_commas, ends_in_hole, hole_comma, brackets, braces}
 use Rattle.ecma_print.specs.Layout.{in_place, by_itself, lay_step, laid}
 use Rattle.ecma_tokens.specs.Items as items
 use Rattle.ecma_tokens.specs.Items.{Tok, sign, Gap, no_gap, Items, it, token_text, render}
 use Rattle.ecma_reread.specs.Shapes as shapes
-use Rattle.ecma_reread.specs.Shapes.{Level, looser_than, IsOperator, IsIdent, ident, IsKey, key, IsAbsent, IsExpression, IsElement, IsArguments, AreElements, AreExpressions, IsInitializer, IsDeclarator, AreDeclarators, AreSlots, IsMemberLevel, IsIndexed}
-use Rattle.ecma_reread.specs.Tokens.{blank, sign_of, assign_token, update_token, unary_token, binary_token, own_sign, unary_gap, expression_tokens, element_tokens, arguments_tokens, elements_tokens, more_tokens, initializer_tokens, declarator_tokens, declarators_tokens, slots_tokens, more_slots_tokens, chain_token}
+use Rattle.ecma_reread.specs.Shapes.{Level, looser_than, IsOperator, IsIdent, ident, IsKey, key, IsAbsent, IsExpression, IsElement, IsArguments, AreElements, AreExpressions, IsInitializer, IsDeclarator, AreDeclarators, AreSlots, IsMemberLevel, IsIndexed, begins_with_brace, IsProperty, IsPropertyName, AreProperties}
+use Rattle.ecma_reread.specs.Tokens.{blank, sign_of, assign_token, update_token, unary_token, binary_token, own_sign, unary_gap, expression_tokens, element_tokens, arguments_tokens, elements_tokens, more_tokens, initializer_tokens, declarator_tokens, declarators_tokens, slots_tokens, more_slots_tokens, chain_token, property_tokens, property_name_tokens, properties_tokens, more_properties_tokens}
 
 pub laid_node : (at : Span) (k : Kind) (cs : List Node) → laid (node_of at k cs) ≡ record { kind = k; at = in_place k (map laid cs); parts = map by_itself (map laid cs) }
 laid_node at k cs = fold-roll-Node Laid lay_step (record { span = at; kind = k; children = cs })
@@ -482,12 +482,19 @@ gap_out (shapes.coalesced at i l r) g us = gap_out l g (it blank (sign (codes "?
 gap_out (shapes.assignment_expression at o t v) g us = gap_out t g (it blank (assign_token o) (expression_tokens v blank us))
 gap_out (shapes.conditional_expression at t x y) g us = gap_out t g (it blank (sign (codes "?")) (expression_tokens x blank (it blank (sign (codes ":")) (expression_tokens y blank us))))
 gap_out (shapes.array at at' es) g us = refl
+gap_out (shapes.object_literal at at' ps) g us = refl
 gap_out (shapes.sequence_expression at x y es) g us = gap_out x g (sign_of (codes ",") (expression_tokens y blank (more_tokens es us)))
 
 element_gap_out : {n : Node} (is : IsElement n) (g : Gap) (us : Items) → render (element_tokens is g us) ≡ g.blanks ++ render (element_tokens is no_gap us)
 unfolding render
 element_gap_out (shapes.one e) g us = gap_out e g us
 element_gap_out (shapes.spread at e) g us = refl
+
+property_gap_out : {n : Node} (is : IsProperty n) (g : Gap) (us : Items) → render (property_tokens is g us) ≡ g.blanks ++ render (property_tokens is no_gap us)
+unfolding render
+property_gap_out (shapes.key_value at (shapes.key_name k) v) g us = refl
+property_gap_out (shapes.key_value at k v) g us = refl
+property_gap_out is g us = refl
 
 slots_gap_out : {ns : List Node} (is : AreSlots ns) (us : Items) → render (more_slots_tokens is true blank us) ≡ codes " " ++ render (more_slots_tokens is true no_gap us)
 unfolding render
@@ -502,128 +509,146 @@ element_there : {n : Node} → IsElement n → is_absent (laid n).kind ≡ false
 element_there (shapes.one e) = let p = plain e in rw p.is (ap (λ x. is_absent x.kind) (laid_node p.at p.kind p.children) ∙ no_absent_by p.kind p.plain)
 element_there (shapes.spread at e) = ap (λ x. is_absent x.kind) (laid_node at kind.SpreadElement _)
 
+-- with what stands before and behind a child that is there
+within_by : (k : Kind) → is_plain k ≡ true → (cs : List Laid) (between : Between) (spot : Spot) (m rest : List ℕ) → in_place k cs (Within between spot) m rest ≡ before between m (in_place k cs (At spot) m (after between m rest))
+within_by kind.Absent h cs between spot m rest = absurd (false≢true h)
+within_by kind.List h cs between spot m rest = absurd (false≢true h)
+within_by k h cs between spot m rest = refl
+
+pub within_laid : {level : Level} {e : Node} (is : IsExpression level e) (between : Between) (spot : Spot) (m rest : List ℕ) → (laid e).at (Within between spot) m rest ≡ before between m ((laid e).at (At spot) m (after between m rest))
+within_laid is between spot m rest =
+    let p = plain is in
+    let cs = map laid p.children in
+    rw p.is (at_node p.at p.kind p.children (Within between spot) m rest ∙ (within_by p.kind p.plain cs between spot m rest ∙ ap (before between m) (sym (at_node p.at p.kind p.children (At spot) m (after between m rest)))))
+
+and_true : (b : Bool) → (b && true) ≡ false → b ≡ false
+and_true false h = refl
+and_true true h = absurd (false≢true (sym h))
+
 mutual
   unfolding render
 
-  pub expression_laid : {level : Level} {e : Node} (is : IsExpression level e) (spot : Spot) → Calm level spot → (m : List ℕ) (us : Items) → (laid e).at (At spot) m (render us) ≡ gap spot.beside (own_sign is) ++ render (expression_tokens is no_gap us)
-  expression_laid (shapes.looser e) spot c m us = expression_laid e spot (calmer c) m us
-  expression_laid (shapes.name (ident at w i)) spot c m us = at_node at (kind.Ident w 0 false) [] (At spot) m (render us) ∙ rw (c.low, no_sign spot.beside) refl
-  expression_laid (shapes.string at raw t) spot c m us = at_node at _ [] (At spot) m (render us) ∙ rw (c.low, no_sign spot.beside) refl
-  expression_laid (shapes.number at raw t) spot c m us = at_node at _ [] (At spot) m (render us) ∙ rw (tightly 17 16 spot.level (omega arith) c.low, c.no_dot refl, no_sign spot.beside) refl
-  expression_laid (shapes.this_word at) spot c m us = at_node at _ [] (At spot) m (render us) ∙ rw (c.low, no_sign spot.beside) refl
-  expression_laid (shapes.big_int at raw t) spot c m us = at_node at _ [] (At spot) m (render us) ∙ rw (c.low, no_sign spot.beside) refl
-  expression_laid (shapes.null_word at) spot c m us = at_node at _ [] (At spot) m (render us) ∙ rw (c.low, no_sign spot.beside) refl
-  expression_laid (shapes.true_word at) spot c m us = at_node at _ [] (At spot) m (render us) ∙ rw (c.low, no_sign spot.beside) refl
-  expression_laid (shapes.false_word at) spot c m us = at_node at _ [] (At spot) m (render us) ∙ rw (c.low, no_sign spot.beside) refl
-  expression_laid (shapes.member at {holder = o'} i o (shapes.plain_key (key at' w t))) spot c m us =
+  pub expression_laid : {level : Level} {e : Node} (is : IsExpression level e) (spot : Spot) → Calm level spot → (opens_a_block spot.begins && begins_with_brace is) ≡ false → (m : List ℕ) (us : Items) → (laid e).at (At spot) m (render us) ≡ gap spot.beside (own_sign is) ++ render (expression_tokens is no_gap us)
+  expression_laid (shapes.looser e) spot c q m us = expression_laid e spot (calmer c) q m us
+  expression_laid (shapes.name (ident at w i)) spot c q m us = at_node at (kind.Ident w 0 false) [] (At spot) m (render us) ∙ rw (c.low, no_sign spot.beside) refl
+  expression_laid (shapes.string at raw t) spot c q m us = at_node at _ [] (At spot) m (render us) ∙ rw (c.low, no_sign spot.beside) refl
+  expression_laid (shapes.number at raw t) spot c q m us = at_node at _ [] (At spot) m (render us) ∙ rw (tightly 17 16 spot.level (omega arith) c.low, c.no_dot refl, no_sign spot.beside) refl
+  expression_laid (shapes.this_word at) spot c q m us = at_node at _ [] (At spot) m (render us) ∙ rw (c.low, no_sign spot.beside) refl
+  expression_laid (shapes.big_int at raw t) spot c q m us = at_node at _ [] (At spot) m (render us) ∙ rw (c.low, no_sign spot.beside) refl
+  expression_laid (shapes.null_word at) spot c q m us = at_node at _ [] (At spot) m (render us) ∙ rw (c.low, no_sign spot.beside) refl
+  expression_laid (shapes.true_word at) spot c q m us = at_node at _ [] (At spot) m (render us) ∙ rw (c.low, no_sign spot.beside) refl
+  expression_laid (shapes.false_word at) spot c q m us = at_node at _ [] (At spot) m (render us) ∙ rw (c.low, no_sign spot.beside) refl
+  expression_laid (shapes.member at {holder = o'} i o (shapes.plain_key (key at' w t))) spot c q m us =
       at_node at kind.MemberExpr (o' ∷ node_of at' (kind.IdentName w) [] ∷ []) (At spot) m (render us)
       ∙ rw (member_low i spot.level c.low, laid_node at' (kind.IdentName w) [], c.outside false, c.own, no_sign spot.beside)
-      (expression_laid o (left spot 16 BeforeDot) (before_dot i spot c.with_in c.no_new) m (sign_of (codes ".") (it no_gap (items.key w) us)))
-  expression_laid (shapes.member at {holder = o'} i o (shapes.private_key at' w t)) spot c m us =
+      (expression_laid o (left spot 16 BeforeDot) (before_dot i spot c.with_in c.no_new) q m (sign_of (codes ".") (it no_gap (items.key w) us)))
+  expression_laid (shapes.member at {holder = o'} i o (shapes.private_key at' w t)) spot c q m us =
       at_node at kind.MemberExpr (o' ∷ node_of at' (kind.PrivateName w) [] ∷ []) (At spot) m (render us)
       ∙ rw (member_low i spot.level c.low, laid_node at' (kind.PrivateName w) [], c.outside false, c.own, no_sign spot.beside)
-      (expression_laid o (left spot 16 BeforeDot) (before_dot i spot c.with_in c.no_new) m (sign_of (codes ".") (it no_gap (items.private_name (codes "#" ++ w)) us)))
-  expression_laid (shapes.call at {function = c'} {args = a'} {none = n'} e es none) spot c m us =
+      (expression_laid o (left spot 16 BeforeDot) (before_dot i spot c.with_in c.no_new) q m (sign_of (codes ".") (it no_gap (items.private_name (codes "#" ++ w)) us)))
+  expression_laid (shapes.call at {function = c'} {args = a'} {none = n'} e es none) spot c q m us =
       at_node at kind.CallExpr (c' ∷ a' ∷ n' ∷ []) (At spot) m (render us)
       ∙ rw (c.low, c.no_new refl, no_sign spot.beside)
       (ap (λ z. (laid c').at (At (record { level = 16; begins = spot.begins; without_in = spot.without_in; in_callee_of_new = false; beside = BeforeLink })) m z) (arguments_laid es m us)
-      ∙ expression_laid e (record { level = 16; begins = spot.begins; without_in = spot.without_in; in_callee_of_new = false; beside = BeforeLink }) (before_link refl c.with_in (λ z. refl) refl refl) m (sign_of (codes "(") (arguments_tokens es (sign_of (codes ")") us))))
-  expression_laid (shapes.parenthesized at {level = l} {e = e'} e) spot c m us =
+      ∙ expression_laid e (record { level = 16; begins = spot.begins; without_in = spot.without_in; in_callee_of_new = false; beside = BeforeLink }) (before_link refl c.with_in (λ z. refl) refl refl) q m (sign_of (codes "(") (arguments_tokens es (sign_of (codes ")") us))))
+  expression_laid (shapes.parenthesized at {level = l} {e = e'} e) spot c q m us =
       at_node at kind.ParenExpr (e' ∷ []) (At spot) m (render us)
-      ∙ rw (c.low, no_sign spot.beside) (ap (λ z. codes "(" ++ z) (expression_laid e (free 0) (calm_0 l) m (sign_of (codes ")") us)))
-  expression_laid (shapes.element at at' {level = l} {holder = o'} {e = e'} i o e) spot c m us =
+      ∙ rw (c.low, no_sign spot.beside) (ap (λ z. codes "(" ++ z) (expression_laid e (free 0) (calm_0 l) refl m (sign_of (codes ")") us)))
+  expression_laid (shapes.element at at' {level = l} {holder = o'} {e = e'} i o e) spot c q m us =
       at_node at kind.MemberExpr (o' ∷ node_of at' kind.ComputedPropName (e' ∷ []) ∷ []) (At spot) m (render us)
       ∙ rw (index_low i spot.level c.low, laid_node at' kind.ComputedPropName (e' ∷ []), c.outside true, c.own, no_sign spot.beside)
-      (ap (λ z. (laid o').at (At (left spot 16 BeforeLink)) m (codes "[" ++ z)) (expression_laid e (free 0) (calm_0 l) m (sign_of (codes "]") us))
-      ∙ expression_laid o (left spot 16 BeforeLink) (index_calm i spot c.with_in c.no_new) m (sign_of (codes "[") (expression_tokens e no_gap (sign_of (codes "]") us))))
-  expression_laid (shapes.super_member at at' (key at'' w t)) spot c m us =
+      (ap (λ z. (laid o').at (At (left spot 16 BeforeLink)) m (codes "[" ++ z)) (expression_laid e (free 0) (calm_0 l) refl m (sign_of (codes "]") us))
+      ∙ expression_laid o (left spot 16 BeforeLink) (index_calm i spot c.with_in c.no_new) q m (sign_of (codes "[") (expression_tokens e no_gap (sign_of (codes "]") us))))
+  expression_laid (shapes.super_member at at' (key at'' w t)) spot c q m us =
       at_node at kind.SuperPropExpr (node_of at' kind.Super [] ∷ node_of at'' (kind.IdentName w) [] ∷ []) (At spot) m (render us)
       ∙ rw (c.low, laid_node at' kind.Super [], laid_node at'' (kind.IdentName w) [], no_sign spot.beside) refl
-  expression_laid (shapes.super_element at at' at'' {level = l} {e = e'} e) spot c m us =
+  expression_laid (shapes.super_element at at' at'' {level = l} {e = e'} e) spot c q m us =
       at_node at kind.SuperPropExpr (node_of at' kind.Super [] ∷ node_of at'' kind.ComputedPropName (e' ∷ []) ∷ []) (At spot) m (render us)
-      ∙ rw (c.low, laid_node at' kind.Super [], laid_node at'' kind.ComputedPropName (e' ∷ []), no_sign spot.beside) (ap (λ z. codes "super[" ++ z) (expression_laid e (free 0) (calm_0 l) m (sign_of (codes "]") us)))
-  expression_laid (shapes.super_call at at' {args = a'} {none = n'} es none) spot c m us =
+      ∙ rw (c.low, laid_node at' kind.Super [], laid_node at'' kind.ComputedPropName (e' ∷ []), no_sign spot.beside) (ap (λ z. codes "super[" ++ z) (expression_laid e (free 0) (calm_0 l) refl m (sign_of (codes "]") us)))
+  expression_laid (shapes.super_call at at' {args = a'} {none = n'} es none) spot c q m us =
       at_node at kind.CallExpr (node_of at' kind.Super [] ∷ a' ∷ n' ∷ []) (At spot) m (render us)
       ∙ rw (c.low, c.no_new refl, laid_node at' kind.Super [], no_sign spot.beside) (ap (λ z. codes "super" ++ z) (arguments_laid es m us))
-  expression_laid (shapes.new_expression at {constructor = c'} {args = a'} {none = n'} e es none) spot c m us =
+  expression_laid (shapes.new_expression at {constructor = c'} {args = a'} {none = n'} e es none) spot c q m us =
       let args = sign_of (codes "(") (arguments_tokens es (sign_of (codes ")") us)) in
       at_node at kind.NewExpr (c' ∷ a' ∷ n' ∷ []) (At spot) m (render us)
       ∙ rw (c.low, arguments_there es, and_false (is_headed spot.beside), no_sign spot.beside)
-      (ap (λ z. codes "new " ++ z) (ap (λ z. (laid c').at (At (callee_spot spot)) m z) (arguments_laid es m us) ∙ expression_laid e (callee_spot spot) (callee_calm spot c.with_in) m args) ∙ ap (λ z. codes "new" ++ z) (sym (gap_out e blank args)))
-  expression_laid (shapes.new_alone at {constructor = c'} e (shapes.absent at') (shapes.absent at'')) spot c m us =
+      (ap (λ z. codes "new " ++ z) (ap (λ z. (laid c').at (At (callee_spot spot)) m z) (arguments_laid es m us) ∙ expression_laid e (callee_spot spot) (callee_calm spot c.with_in) refl m args) ∙ ap (λ z. codes "new" ++ z) (sym (gap_out e blank args)))
+  expression_laid (shapes.new_alone at {constructor = c'} e (shapes.absent at') (shapes.absent at'')) spot c q m us =
       at_node at kind.NewExpr (c' ∷ node_of at' kind.Absent [] ∷ node_of at'' kind.Absent [] ∷ []) (At spot) m (render us)
       ∙ rw (tightly 17 16 spot.level (omega arith) c.low, c.no_head refl, no_sign spot.beside)
-      (ap (λ z. codes "new " ++ z) (ap (λ z. (laid c').at (At (callee_spot spot)) m z) (at_node at' kind.Absent [] Arguments m (render us)) ∙ expression_laid e (callee_spot spot) (callee_calm spot c.with_in) m us) ∙ ap (λ z. codes "new" ++ z) (sym (gap_out e blank us)))
-  expression_laid (shapes.new_target at) spot c m us = at_node at (kind.MetaPropExpr NewTarget) [] (At spot) m (render us) ∙ rw (c.low, no_sign spot.beside) refl
-  expression_laid (shapes.prefix_update at o {e = e'} e) spot c m us =
+      (ap (λ z. codes "new " ++ z) (ap (λ z. (laid c').at (At (callee_spot spot)) m z) (at_node at' kind.Absent [] Arguments m (render us)) ∙ expression_laid e (callee_spot spot) (callee_calm spot c.with_in) refl m us) ∙ ap (λ z. codes "new" ++ z) (sym (gap_out e blank us)))
+  expression_laid (shapes.new_target at) spot c q m us = at_node at (kind.MetaPropExpr NewTarget) [] (At spot) m (render us) ∙ rw (c.low, no_sign spot.beside) refl
+  expression_laid (shapes.prefix_update at o {e = e'} e) spot c q m us =
       at_node at (kind.UpdateExpr o true) (e' ∷ []) (At spot) m (render us)
-      ∙ rw (c.low, update_text o) (ap (λ z. gap spot.beside (update_sign o) ++ (token_text (update_token o) ++ z)) (expression_laid e (right spot 16 (update_sign o)) (update_calm o spot c.with_in) m us ∙ rw (no_gap_before o e) refl))
-  expression_laid (shapes.postfix_update at o {e = e'} e) spot c m us =
+      ∙ rw (c.low, update_text o) (ap (λ z. gap spot.beside (update_sign o) ++ (token_text (update_token o) ++ z)) (expression_laid e (right spot 16 (update_sign o)) (update_calm o spot c.with_in) refl m us ∙ rw (no_gap_before o e) refl))
+  expression_laid (shapes.postfix_update at o {e = e'} e) spot c q m us =
       at_node at (kind.UpdateExpr o false) (e' ∷ []) (At spot) m (render us)
       ∙ rw (c.low, no_sign spot.beside, update_text o)
-      (expression_laid e (left spot 16 NoNeighbor) (quiet refl c.with_in (c.no_new refl) refl) m (it no_gap (update_token o) us))
-  expression_laid (shapes.await_expression at {e = e'} e) spot c m us =
+      (expression_laid e (left spot 16 NoNeighbor) (quiet refl c.with_in (c.no_new refl) refl) q m (it no_gap (update_token o) us))
+  expression_laid (shapes.await_expression at {e = e'} e) spot c q m us =
       at_node at kind.AwaitExpr (e' ∷ []) (At spot) m (render us)
       ∙ rw (c.low, no_sign spot.beside)
-      (ap (λ z. codes "await " ++ z) (expression_laid e (right spot 14 NoNeighbor) (quiet refl c.with_in refl refl) m us) ∙ ap (λ z. codes "await" ++ z) (sym (gap_out e blank us)))
-  expression_laid (shapes.unary_expression at o {e = e'} e) spot c m us =
+      (ap (λ z. codes "await " ++ z) (expression_laid e (right spot 14 NoNeighbor) (quiet refl c.with_in refl refl) refl m us) ∙ ap (λ z. codes "await" ++ z) (sym (gap_out e blank us)))
+  expression_laid (shapes.unary_expression at o {e = e'} e) spot c q m us =
       at_node at (kind.UnaryExpr o) (e' ∷ []) (At spot) m (render us)
-      ∙ rw (c.low) (ap (λ z. gap spot.beside (unary_sign o) ++ z) (ap (λ z. unary_word o ++ z) (expression_laid e (right spot 14 (unary_sign o)) (unary_calm o spot c.with_in) m us) ∙ (word_gap o (own_sign e) (render (expression_tokens e no_gap us)) ∙ ap (λ z. token_text (unary_token o) ++ z) (sym (gap_out e (unary_gap o (own_sign e)) us)))))
-  expression_laid (shapes.binary_expression at {operator = o} {level = l} {tighter = t} {left = l'} {right = r'} i x y) spot c m us =
+      ∙ rw (c.low) (ap (λ z. gap spot.beside (unary_sign o) ++ z) (ap (λ z. unary_word o ++ z) (expression_laid e (right spot 14 (unary_sign o)) (unary_calm o spot c.with_in) refl m us) ∙ (word_gap o (own_sign e) (render (expression_tokens e no_gap us)) ∙ ap (λ z. token_text (unary_token o) ++ z) (sym (gap_out e (unary_gap o (own_sign e)) us)))))
+  expression_laid (shapes.binary_expression at {operator = o} {level = l} {tighter = t} {left = l'} {right = r'} i x y) spot c q m us =
       let F = printed i in
       at_node at (kind.BinExpr o) (l' ∷ r' ∷ []) (At spot) m (render us)
       ∙ rw (F.own, c.low, F.fits spot spot.beside c.with_in, F.left_is, F.right_is, F.alone, no_sign spot.beside)
-      (ap (λ z. (laid l').at (At (left spot (number_of l) NoNeighbor)) m z) (ap (λ z. binary_word o ++ z) (expression_laid y (right spot (number_of t) NoNeighbor) (quiet (same_low (number_of t)) c.with_in refl refl) m us) ∙ (F.word_is (render (expression_tokens y no_gap us)) ∙ ap (λ z. codes " " ++ (token_text (binary_token o) ++ z)) (sym (gap_out y blank us))))
-      ∙ expression_laid x (left spot (number_of l) NoNeighbor) (quiet (same_low (number_of l)) c.with_in (c.no_new (operator_calls i)) refl) m (it blank (binary_token o) (expression_tokens y blank us)))
-  expression_laid (shapes.exponentiation at {left = l'} {right = r'} x y) spot c m us =
+      (ap (λ z. (laid l').at (At (left spot (number_of l) NoNeighbor)) m z) (ap (λ z. binary_word o ++ z) (expression_laid y (right spot (number_of t) NoNeighbor) (quiet (same_low (number_of t)) c.with_in refl refl) refl m us) ∙ (F.word_is (render (expression_tokens y no_gap us)) ∙ ap (λ z. codes " " ++ (token_text (binary_token o) ++ z)) (sym (gap_out y blank us))))
+      ∙ expression_laid x (left spot (number_of l) NoNeighbor) (quiet (same_low (number_of l)) c.with_in (c.no_new (operator_calls i)) refl) q m (it blank (binary_token o) (expression_tokens y blank us)))
+  expression_laid (shapes.exponentiation at {left = l'} {right = r'} x y) spot c q m us =
       at_node at (kind.BinExpr op.Exp) (l' ∷ r' ∷ []) (At spot) m (render us)
       ∙ rw (c.low, no_sign spot.beside)
-      (ap (λ z. (laid l').at (At (left spot 15 NoNeighbor)) m z) (ap (λ z. codes " ** " ++ z) (expression_laid y (right spot 13 NoNeighbor) (quiet refl c.with_in refl refl) m us) ∙ ap (λ z. codes " **" ++ z) (sym (gap_out y blank us)))
-      ∙ expression_laid x (left spot 15 NoNeighbor) (quiet refl c.with_in (c.no_new refl) refl) m (it blank (sign (codes "**")) (expression_tokens y blank us)))
-  expression_laid (shapes.both at {left = l'} {right = r'} x y) spot c m us =
+      (ap (λ z. (laid l').at (At (left spot 15 NoNeighbor)) m z) (ap (λ z. codes " ** " ++ z) (expression_laid y (right spot 13 NoNeighbor) (quiet refl c.with_in refl refl) refl m us) ∙ ap (λ z. codes " **" ++ z) (sym (gap_out y blank us)))
+      ∙ expression_laid x (left spot 15 NoNeighbor) (quiet refl c.with_in (c.no_new refl) refl) q m (it blank (sign (codes "**")) (expression_tokens y blank us)))
+  expression_laid (shapes.both at {left = l'} {right = r'} x y) spot c q m us =
       at_node at (kind.BinExpr op.LogicalAnd) (l' ∷ r' ∷ []) (At spot) m (render us)
       ∙ rw (c.low, c.both_fits refl, no_sign spot.beside)
-      (ap (λ z. (laid l').at (At (left spot 4 UnderLogical)) m z) (ap (λ z. codes " && " ++ z) (expression_laid y (right spot 5 UnderLogical) (under_logical refl c.with_in refl refl refl) m us) ∙ ap (λ z. codes " &&" ++ z) (sym (gap_out y blank us)))
-      ∙ expression_laid x (left spot 4 UnderLogical) (under_logical refl c.with_in (c.no_new refl) refl refl) m (it blank (sign (codes "&&")) (expression_tokens y blank us)))
-  expression_laid (shapes.either at {left = l'} {right = r'} x y) spot c m us =
+      (ap (λ z. (laid l').at (At (left spot 4 UnderLogical)) m z) (ap (λ z. codes " && " ++ z) (expression_laid y (right spot 5 UnderLogical) (under_logical refl c.with_in refl refl refl) refl m us) ∙ ap (λ z. codes " &&" ++ z) (sym (gap_out y blank us)))
+      ∙ expression_laid x (left spot 4 UnderLogical) (under_logical refl c.with_in (c.no_new refl) refl refl) q m (it blank (sign (codes "&&")) (expression_tokens y blank us)))
+  expression_laid (shapes.either at {left = l'} {right = r'} x y) spot c q m us =
       at_node at (kind.BinExpr op.LogicalOr) (l' ∷ r' ∷ []) (At spot) m (render us)
       ∙ rw (c.low, c.either_fits refl, no_sign spot.beside)
-      (ap (λ z. (laid l').at (At (left spot 3 UnderLogical)) m z) (ap (λ z. codes " || " ++ z) (expression_laid y (right spot 4 UnderLogical) (under_logical refl c.with_in refl refl refl) m us) ∙ ap (λ z. codes " ||" ++ z) (sym (gap_out y blank us)))
-      ∙ expression_laid x (left spot 3 UnderLogical) (under_logical refl c.with_in (c.no_new refl) refl refl) m (it blank (sign (codes "||")) (expression_tokens y blank us)))
-  expression_laid (shapes.coalesced at {left = l'} {right = r'} i x y) spot c m us =
+      (ap (λ z. (laid l').at (At (left spot 3 UnderLogical)) m z) (ap (λ z. codes " || " ++ z) (expression_laid y (right spot 4 UnderLogical) (under_logical refl c.with_in refl refl refl) refl m us) ∙ ap (λ z. codes " ||" ++ z) (sym (gap_out y blank us)))
+      ∙ expression_laid x (left spot 3 UnderLogical) (under_logical refl c.with_in (c.no_new refl) refl refl) q m (it blank (sign (codes "||")) (expression_tokens y blank us)))
+  expression_laid (shapes.coalesced at {left = l'} {right = r'} i x y) spot c q m us =
       at_node at (kind.BinExpr op.NullishCoalescing) (l' ∷ r' ∷ []) (At spot) m (render us)
       ∙ rw (c.low, c.nullish_fits refl, no_sign spot.beside)
-      (ap (λ z. (laid l').at (At (left spot 3 UnderNullish)) m z) (ap (λ z. codes " ?? " ++ z) (expression_laid y (right spot 4 UnderNullish) (under_nullish refl c.with_in refl refl refl) m us) ∙ ap (λ z. codes " ??" ++ z) (sym (gap_out y blank us)))
-      ∙ expression_laid x (left spot 3 UnderNullish) (head_calm i spot c.with_in (c.no_new refl)) m (it blank (sign (codes "??")) (expression_tokens y blank us)))
-  expression_laid (shapes.assignment_expression at o {target = t'} {value = v'} t v) spot c m us =
+      (ap (λ z. (laid l').at (At (left spot 3 UnderNullish)) m z) (ap (λ z. codes " ?? " ++ z) (expression_laid y (right spot 4 UnderNullish) (under_nullish refl c.with_in refl refl refl) refl m us) ∙ ap (λ z. codes " ??" ++ z) (sym (gap_out y blank us)))
+      ∙ expression_laid x (left spot 3 UnderNullish) (head_calm i spot c.with_in (c.no_new refl)) q m (it blank (sign (codes "??")) (expression_tokens y blank us)))
+  expression_laid (shapes.assignment_expression at o {target = t'} {value = v'} t v) spot c q m us =
       at_node at (kind.AssignExpr o) (t' ∷ v' ∷ []) (At spot) m (render us)
       ∙ rw (c.low, no_pattern t, and_false (opens_a_block spot.begins), no_sign spot.beside)
-      (ap (λ z. (laid t').at (At (left spot 16 NoNeighbor)) m z) (ap (λ z. assign_word o ++ z) (expression_laid v (right spot 1 NoNeighbor) (quiet refl c.with_in refl refl) m us) ∙ (assign_text o (render (expression_tokens v no_gap us)) ∙ ap (λ z. codes " " ++ (token_text (assign_token o) ++ z)) (sym (gap_out v blank us))))
-      ∙ expression_laid t (left spot 16 NoNeighbor) (quiet refl c.with_in (c.no_new refl) refl) m (it blank (assign_token o) (expression_tokens v blank us)))
-  expression_laid (shapes.conditional_expression at {test = t'} {first = x'} {second = y'} t x y) spot c m us =
-      let second_text = ap (λ z. codes " : " ++ z) (expression_laid y (right spot 1 NoNeighbor) (further spot c.with_in) m us) ∙ ap (λ z. codes " :" ++ z) (sym (gap_out y blank us)) in
+      (ap (λ z. (laid t').at (At (left spot 16 NoNeighbor)) m z) (ap (λ z. assign_word o ++ z) (expression_laid v (right spot 1 NoNeighbor) (quiet refl c.with_in refl refl) refl m us) ∙ (assign_text o (render (expression_tokens v no_gap us)) ∙ ap (λ z. codes " " ++ (token_text (assign_token o) ++ z)) (sym (gap_out v blank us))))
+      ∙ expression_laid t (left spot 16 NoNeighbor) (quiet refl c.with_in (c.no_new refl) refl) q m (it blank (assign_token o) (expression_tokens v blank us)))
+  expression_laid (shapes.conditional_expression at {test = t'} {first = x'} {second = y'} t x y) spot c q m us =
+      let second_text = ap (λ z. codes " : " ++ z) (expression_laid y (right spot 1 NoNeighbor) (further spot c.with_in) refl m us) ∙ ap (λ z. codes " :" ++ z) (sym (gap_out y blank us)) in
       let seconds = it blank (sign (codes ":")) (expression_tokens y blank us) in
-      let first_text = ap (λ z. codes " ? " ++ z) (ap (λ z. (laid x').at (At (right spot 1 NoNeighbor)) m z) second_text ∙ expression_laid x (right spot 1 NoNeighbor) (further spot c.with_in) m seconds) ∙ ap (λ z. codes " ?" ++ z) (sym (gap_out x blank seconds)) in
+      let first_text = ap (λ z. codes " ? " ++ z) (ap (λ z. (laid x').at (At (right spot 1 NoNeighbor)) m z) second_text ∙ expression_laid x (right spot 1 NoNeighbor) (further spot c.with_in) refl m seconds) ∙ ap (λ z. codes " ?" ++ z) (sym (gap_out x blank seconds)) in
       at_node at kind.CondExpr (t' ∷ x' ∷ y' ∷ []) (At spot) m (render us)
       ∙ rw (tightly 2 1 spot.level (omega arith) c.low, no_sign spot.beside)
       (ap (λ z. (laid t').at (At (left spot 3 NoNeighbor)) m z) first_text
-      ∙ expression_laid t (left spot 3 NoNeighbor) (quiet refl c.with_in (c.no_new refl) refl) m (it blank (sign (codes "?")) (expression_tokens x blank seconds)))
-  expression_laid (shapes.array at at' {slots = ns} es) spot c m us =
+      ∙ expression_laid t (left spot 3 NoNeighbor) (quiet refl c.with_in (c.no_new refl) refl) q m (it blank (sign (codes "?")) (expression_tokens x blank seconds)))
+  expression_laid (shapes.array at at' {slots = ns} es) spot c q m us =
       at_node at kind.ArrayLit (node_of at' kind.List ns ∷ []) (At spot) m (render us) ∙ rw (c.low, no_sign spot.beside) (at_node at' kind.List ns Brackets m (render us) ∙ slots_laid es m us)
-  expression_laid (shapes.sequence_expression at {first = x'} {second = y'} {more = es'} x y es) spot c m us =
+  expression_laid (shapes.object_literal at at' {properties = ns} ps) spot c q m us =
+      at_node at kind.ObjectLit (node_of at' kind.List ns ∷ []) (At spot) m (render us) ∙ rw (c.low, and_true (opens_a_block spot.begins) q, no_sign spot.beside) (at_node at' kind.List ns Braces m (render us) ∙ properties_laid ps m us)
+  expression_laid (shapes.sequence_expression at {first = x'} {second = y'} {more = es'} x y es) spot c q m us =
       let rest = more_tokens es us in
       at_node at kind.SeqExpr (x' ∷ y' ∷ es') (At spot) m (render us)
       ∙ rw (c.low, no_sign spot.beside)
       (ap (λ z. (laid x').at (At (left spot 1 NoNeighbor)) m z)
-      (ap (λ z. codes ", " ++ z) (ap (λ z. (laid y').at (At (right spot 1 NoNeighbor)) m z) (sequence_laid es spot c.with_in m us) ∙ expression_laid y (right spot 1 NoNeighbor) (further spot c.with_in) m rest) ∙ ap (λ z. codes "," ++ z) (sym (gap_out y blank rest)))
-      ∙ expression_laid x (left spot 1 NoNeighbor) (quiet refl c.with_in (c.no_new refl) refl) m (sign_of (codes ",") (expression_tokens y blank rest)))
+      (ap (λ z. codes ", " ++ z) (ap (λ z. (laid y').at (At (right spot 1 NoNeighbor)) m z) (sequence_laid es spot c.with_in m us) ∙ expression_laid y (right spot 1 NoNeighbor) (further spot c.with_in) refl m rest) ∙ ap (λ z. codes "," ++ z) (sym (gap_out y blank rest)))
+      ∙ expression_laid x (left spot 1 NoNeighbor) (quiet refl c.with_in (c.no_new refl) refl) q m (sign_of (codes ",") (expression_tokens y blank rest)))
 
   -- those behind the first of a sequence
   sequence_laid : {es : List Node} (is : AreExpressions es) (spot : Spot) → spot.without_in ≡ false → (m : List ℕ) (us : Items) → more_of_sequence (map laid es) spot m (render us) ≡ render (more_tokens is us)
   sequence_laid shapes.no_expressions spot h m us = refl
   sequence_laid (shapes.more_expressions {e = e'} e es) spot h m us =
       let rest = more_tokens es us in
-      ap (λ z. codes ", " ++ z) (ap (λ z. (laid e').at (At (right spot 1 NoNeighbor)) m z) (sequence_laid es spot h m us) ∙ expression_laid e (right spot 1 NoNeighbor) (further spot h) m rest) ∙ ap (λ z. codes "," ++ z) (sym (gap_out e blank rest))
+      ap (λ z. codes ", " ++ z) (ap (λ z. (laid e').at (At (right spot 1 NoNeighbor)) m z) (sequence_laid es spot h m us) ∙ expression_laid e (right spot 1 NoNeighbor) (further spot h) refl m rest) ∙ ap (λ z. codes "," ++ z) (sym (gap_out e blank rest))
 
   arguments_laid : {n : Node} (is : IsArguments n) (m : List ℕ) (us : Items) → (laid n).at Arguments m (render us) ≡ render (sign_of (codes "(") (arguments_tokens is (sign_of (codes ")") us)))
   arguments_laid (shapes.no_arguments at) m us = at_node at kind.List [] Arguments m (render us)
@@ -632,8 +657,8 @@ mutual
       ∙ ap (λ z. codes "(" ++ z) (ap (λ z. (laid e').at (At (free 1)) m z) (elements_laid es m us) ∙ element_laid e m (elements_tokens es (sign_of (codes ")") us)))
 
   element_laid : {n : Node} (is : IsElement n) (m : List ℕ) (us : Items) → (laid n).at (At (free 1)) m (render us) ≡ render (element_tokens is no_gap us)
-  element_laid (shapes.one e) m us = expression_laid e (free 1) calm_1 m us
-  element_laid (shapes.spread at {e = e'} e) m us = at_node at kind.SpreadElement (e' ∷ []) (At (free 1)) m (render us) ∙ ap (λ z. codes "..." ++ z) (expression_laid e (free 1) calm_1 m us)
+  element_laid (shapes.one e) m us = expression_laid e (free 1) calm_1 refl m us
+  element_laid (shapes.spread at {e = e'} e) m us = at_node at kind.SpreadElement (e' ∷ []) (At (free 1)) m (render us) ∙ ap (λ z. codes "..." ++ z) (expression_laid e (free 1) calm_1 refl m us)
 
   slots_laid : {ns : List Node} (is : AreSlots ns) (m : List ℕ) (us : Items) → brackets (map laid ns) m (render us) ≡ codes "[" ++ render (slots_tokens is us)
   slots_laid shapes.no_slots m us = refl
@@ -654,6 +679,38 @@ mutual
       ap (λ z. codes ", " ++ z) (at_node at kind.Absent [] (At (free 1)) m _ ∙ more_slots_laid es (laid (node_of at kind.Absent [])) true (ap (λ x. is_absent x.kind) (laid_node at kind.Absent [])) m us)
       ∙ ap (λ z. codes "," ++ z) (sym (slots_gap_out es us))
 
+  property_name_laid : {n : Node} (is : IsPropertyName n) (m : List ℕ) (us : Items) → (laid n).at (At (free 1)) m (render us) ≡ render (property_name_tokens is no_gap us)
+  property_name_laid (shapes.key_name (key at w t)) m us = at_node at (kind.IdentName w) [] (At (free 1)) m (render us)
+  property_name_laid (shapes.string_name at raw t) m us = at_node at _ [] (At (free 1)) m (render us)
+  property_name_laid (shapes.number_name at raw t) m us = at_node at _ [] (At (free 1)) m (render us)
+  property_name_laid (shapes.big_int_name at raw t) m us = at_node at _ [] (At (free 1)) m (render us)
+  property_name_laid (shapes.computed_name at {e = e'} e) m us =
+      at_node at kind.ComputedPropName (e' ∷ []) (At (free 1)) m (render us) ∙ ap (λ z. codes "[" ++ z) (expression_laid e (free 1) calm_1 refl m (sign_of (codes "]") us))
+
+  property_laid : {n : Node} (is : IsProperty n) (m : List ℕ) (us : Items) → (laid n).at (At (free 1)) m (render us) ≡ render (property_tokens is no_gap us)
+  property_laid (shapes.key_value at {name = k'} {value = v'} k v) m us =
+      at_node at kind.KeyValueProp (k' ∷ v' ∷ []) (At (free 1)) m (render us)
+      ∙ (ap (λ z. (laid k').at (At (free 1)) m (codes ":" ++ z)) (ap (λ z. codes " " ++ z) (expression_laid v (free 1) calm_1 refl m us) ∙ sym (gap_out v blank us))
+      ∙ property_name_laid k m (sign_of (codes ":") (expression_tokens v blank us)))
+  property_laid (shapes.shorthand (ident at w i)) m us = at_node at (kind.Ident w 0 false) [] (At (free 1)) m (render us)
+  property_laid (shapes.initialized at {value = v'} (ident at' w i) v) m us =
+      at_node at kind.AssignProp (node_of at' (kind.Ident w 0 false) [] ∷ v' ∷ []) (At (free 1)) m (render us)
+      ∙ (at_node at' (kind.Ident w 0 false) [] (At (free 1)) m ((laid v').at (Within Equals (free 1)) m (render us))
+      ∙ ap (λ z. w ++ z) (within_laid v Equals (free 1) m (render us) ∙ ap (λ z. codes " =" ++ z) (ap (λ z. codes " " ++ z) (expression_laid v (free 1) calm_1 refl m us) ∙ sym (gap_out v blank us))))
+  property_laid (shapes.spread_property at {e = e'} e) m us = at_node at kind.SpreadElement (e' ∷ []) (At (free 1)) m (render us) ∙ ap (λ z. codes "..." ++ z) (expression_laid e (free 1) calm_1 refl m us)
+
+  properties_laid : {ns : List Node} (is : AreProperties ns) (m : List ℕ) (us : Items) → braces (map laid ns) m (render us) ≡ codes "{" ++ render (properties_tokens is us)
+  properties_laid shapes.no_properties m us = refl
+  properties_laid (shapes.more_properties {p = p'} p ps) m us =
+      ap (λ z. codes "{ " ++ z) (ap (λ z. (laid p').at (At (free 1)) m z) (more_properties_laid ps m us) ∙ property_laid p m (more_properties_tokens ps us))
+      ∙ ap (λ z. codes "{" ++ z) (sym (property_gap_out p blank (more_properties_tokens ps us)))
+
+  more_properties_laid : {ns : List Node} (is : AreProperties ns) (m : List ℕ) (us : Items) → more_commas (free 1) (map laid ns) m (codes " }" ++ render us) ≡ render (more_properties_tokens is us)
+  more_properties_laid shapes.no_properties m us = refl
+  more_properties_laid (shapes.more_properties {p = p'} p ps) m us =
+      ap (λ z. codes ", " ++ z) (ap (λ z. (laid p').at (At (free 1)) m z) (more_properties_laid ps m us) ∙ property_laid p m (more_properties_tokens ps us))
+      ∙ ap (λ z. codes "," ++ z) (sym (property_gap_out p blank (more_properties_tokens ps us)))
+
   elements_laid : {es : List Node} (is : AreElements es) (m : List ℕ) (us : Items) → more_commas (free 1) (map laid es) m (codes ")" ++ render us) ≡ render (elements_tokens is (sign_of (codes ")") us))
   elements_laid shapes.no_elements m us = refl
   elements_laid (shapes.more_elements {e = e'} e es) m us =
@@ -663,27 +720,15 @@ mutual
   more_laid : {es : List Node} (is : AreExpressions es) (m : List ℕ) (us : Items) → more_commas (free 1) (map laid es) m (codes ")" ++ render us) ≡ render (more_tokens is (sign_of (codes ")") us))
   more_laid shapes.no_expressions m us = refl
   more_laid (shapes.more_expressions {e = e'} e es) m us =
-      ap (λ z. codes ", " ++ z) (ap (λ z. (laid e').at (At (free 1)) m z) (more_laid es m us) ∙ expression_laid e (free 1) calm_1 m (more_tokens es (sign_of (codes ")") us)))
+      ap (λ z. codes ", " ++ z) (ap (λ z. (laid e').at (At (free 1)) m z) (more_laid es m us) ∙ expression_laid e (free 1) calm_1 refl m (more_tokens es (sign_of (codes ")") us)))
       ∙ ap (λ z. codes "," ++ z) (sym (gap_out e blank (more_tokens es (sign_of (codes ")") us))))
-
--- with what stands before and behind a child that is there
-within_by : (k : Kind) → is_plain k ≡ true → (cs : List Laid) (between : Between) (spot : Spot) (m rest : List ℕ) → in_place k cs (Within between spot) m rest ≡ before between m (in_place k cs (At spot) m (after between m rest))
-within_by kind.Absent h cs between spot m rest = absurd (false≢true h)
-within_by kind.List h cs between spot m rest = absurd (false≢true h)
-within_by k h cs between spot m rest = refl
-
-pub within_laid : {level : Level} {e : Node} (is : IsExpression level e) (between : Between) (spot : Spot) (m rest : List ℕ) → (laid e).at (Within between spot) m rest ≡ before between m ((laid e).at (At spot) m (after between m rest))
-within_laid is between spot m rest =
-    let p = plain is in
-    let cs = map laid p.children in
-    rw p.is (at_node p.at p.kind p.children (Within between spot) m rest ∙ (within_by p.kind p.plain cs between spot m rest ∙ ap (before between m) (sym (at_node p.at p.kind p.children (At spot) m (after between m rest)))))
 
 initializer_laid : {n : Node} (is : IsInitializer n) (m : List ℕ) (us : Items) → (laid n).at (Within Equals (free 1)) m (render us) ≡ render (initializer_tokens is us)
 unfolding render
 initializer_laid (shapes.no_initializer (shapes.absent at)) m us = at_node at kind.Absent [] (Within Equals (free 1)) m (render us)
 initializer_laid (shapes.initializer e) m us =
     within_laid e Equals (free 1) m (render us)
-    ∙ (ap (λ z. codes " = " ++ z) (expression_laid e (free 1) calm_1 m us) ∙ ap (λ z. codes " =" ++ z) (sym (gap_out e blank us)))
+    ∙ (ap (λ z. codes " = " ++ z) (expression_laid e (free 1) calm_1 refl m us) ∙ ap (λ z. codes " =" ++ z) (sym (gap_out e blank us)))
 
 pub declarator_laid : {n : Node} (is : IsDeclarator n) (m : List ℕ) (us : Items) → codes " " ++ (laid n).at (At (free 1)) m (render us) ≡ render (declarator_tokens is us)
 unfolding render

@@ -31,6 +31,7 @@ pub mod Async
 pub mod Lists
 pub mod Literals
 pub mod Arrays
+pub mod Objects
 pub mod Sequences
 pub mod Calls
 pub mod Statements

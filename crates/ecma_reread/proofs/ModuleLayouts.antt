@@ -199,7 +199,7 @@ item_laid (modules.export_declaration at {s = s} is d) g us =
 item_laid (modules.export_default at {e = e'} e) g us =
     ap (λ z. g.blanks ++ z)
     (sym (at_node at kind.ExportDefaultExpr (e' ∷ []) (At (free 0)) [] (render us)
-    ∙ (ap (λ z. codes "export default " ++ z) (expression_laid e (beginning 1 DefaultStart false) calm_default [] (sign_of (codes ";") us))
+    ∙ (ap (λ z. codes "export default " ++ z) (expression_laid e (beginning 1 DefaultStart false) calm_default refl [] (sign_of (codes ";") us))
     ∙ ap (λ z. codes "export default" ++ z) (sym (gap_out e blank (sign_of (codes ";") us))))))
 item_laid (modules.import_require z at of is_export {id = id} {source = source} (ident at' w i) s) g us =
     let reference = node_of of kind.TsExternalModuleRef (source ∷ []) in
@@ -212,7 +212,7 @@ item_laid (modules.import_require z at of is_export {id = id} {source = source} 
 item_laid (modules.export_assignment z at {level = level} {e = e'} e) g us =
     ap (λ z. g.blanks ++ z)
     (sym (at_node at kind.TsExportAssignment (e' ∷ []) (At (free 0)) [] (render us)
-    ∙ (ap (λ z. codes "export = " ++ z) (expression_laid e (free 0) (calm_0 level) [] (sign_of (codes ";") us)) ∙ ap (λ z. codes "export =" ++ z) (sym (gap_out e blank (sign_of (codes ";") us))))))
+    ∙ (ap (λ z. codes "export = " ++ z) (expression_laid e (free 0) (calm_0 level) refl [] (sign_of (codes ";") us)) ∙ ap (λ z. codes "export =" ++ z) (sym (gap_out e blank (sign_of (codes ";") us))))))
 
 lines_laid : {assignments : Bool} {ns : List Node} (is : AreModuleItems assignments ns) (g : Gap) → render (items_tokens is g) ≡ g.blanks ++ lines (map laid ns) [] []
 unfolding render

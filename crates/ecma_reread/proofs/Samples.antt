@@ -20,7 +20,7 @@ use Rattle.ecma_tree.specs.declared.node.Node.{Node}
 use Rattle.ecma_tree.specs.Nodes.{node_of}
 use Rattle.ecma_print.specs.Layout.{layout}
 use Rattle.ecma_tokens.specs.Items.{render}
-use Rattle.ecma_reread.specs.Shapes.{Level, assignment, IsExpression, element, postfix_update, conditional_expression, assignment_expression, unary_expression, binary_expression, plus, times, IsPlainName, ident, key, absent, looser, name, null_word, this_word, member, call, parenthesized, one, spread, arguments, no_elements, more_elements, initializer, declarator, no_declarators, expression, declaration, array, no_slots, filled, hole, member_of_new, member_of_object, index_of_callee, plain_key}
+use Rattle.ecma_reread.specs.Shapes.{Level, assignment, IsExpression, element, postfix_update, conditional_expression, assignment_expression, unary_expression, binary_expression, plus, times, IsPlainName, ident, key, absent, looser, name, null_word, this_word, member, call, parenthesized, one, spread, arguments, no_elements, more_elements, initializer, declarator, no_declarators, expression, declaration, object_literal, key_name, key_value, shorthand, initialized, spread_property, no_properties, more_properties, array, no_slots, filled, hole, member_of_new, member_of_object, index_of_callee, plain_key}
 use Rattle.ecma_reread.specs.Modules.{statement, no_items, more_items, IsModule, module_of}
 use Rattle.ecma_reread.specs.ModuleTokens.{module_tokens}
 use Rattle.ecma_reread.proofs.Bindings.{further_out}
@@ -55,8 +55,14 @@ a = node_of at (kind.Ident (codes "a") 0 false) []
 abbrev async : Node
 async = node_of at (kind.Ident (codes "async") 0 false) []
 
+abbrev properties : Node
+properties =
+    node_of at kind.ObjectLit
+    (node_of at kind.List
+    (node_of at kind.KeyValueProp (node_of at (kind.IdentName (codes "a")) [] ∷ node_of at kind.Null [] ∷ []) ∷ a ∷ node_of at kind.AssignProp (a ∷ a ∷ []) ∷ node_of at kind.SpreadElement (a ∷ []) ∷ []) ∷ [])
+
 abbrev elements : Node
-elements = node_of at kind.ArrayLit (node_of at kind.List (a ∷ gone ∷ node_of at kind.Null [] ∷ gone ∷ []) ∷ [])
+elements = node_of at kind.ArrayLit (node_of at kind.List (a ∷ gone ∷ properties ∷ gone ∷ []) ∷ [])
 
 abbrev product : Node
 product =
@@ -79,7 +85,7 @@ value_shape =
     let chosen = parenthesized at (conditional_expression at (out 17 id) (out 18 id) (out 18 id)) in
     out 10 (binary_expression at plus (out 3 (unary_expression at Minus (unary_expression at Minus (out 5 id)))) (binary_expression at times (out 6 held) (out 6 chosen)))
 
--- `const async = (this);`, `a.a(...a, [a, , null, ,]);`, `async(a, async).a;` and `a = - -a + a[a++] * (a ? a : a);`
+-- `const async = (this);`, `a.a(...a, [a, , { a: null, a, a = a, ...a }, ,]);`, `async(a, async).a;` and `a = - -a + a[a++] * (a ? a : a);`
 abbrev tree : Node
 tree =
     node_of at (kind.Module None)
@@ -101,16 +107,18 @@ shape =
     let id = ident at (codes "a") a_name in
     let async' = ident at (codes "async") async_name in
     let it' = whole (codes "a") a_spelled in
-    let slots = array at at (filled (one (out 18 (name id))) (hole (absent at) (filled (one (out 18 (null_word at))) (hole (absent at) no_slots)))) in
+    let value = out 18 (name id) in
+    let object = object_literal at at (more_properties (key_value at (key_name (key at (codes "a") it')) (out 18 (null_word at))) (more_properties (shorthand id) (more_properties (initialized at id value) (more_properties (spread_property at value) no_properties)))) in
+    let slots = array at at (filled (one (out 18 (name id))) (hole (absent at) (filled (one (out 18 object)) (hole (absent at) no_slots)))) in
     module_of at at
     (more_items (statement (declaration at at Const (declarator at at async' (absent at) (initializer (out 18 (parenthesized at (this_word at))))) no_declarators))
-    (more_items (statement (expression at (call at (out 2 (member at member_of_new (name id) (plain_key (key at (codes "a") it')))) (arguments at (spread at (out 18 (name id))) (more_elements (one (out 18 slots)) no_elements)) (absent at))))
-    (more_items (statement (expression at (member at member_of_object (call at (out 2 (name async')) (arguments at (one (out 18 (name id))) (more_elements (one (out 18 (name async'))) no_elements)) (absent at)) (plain_key (key at (codes "a") it')))))
-    (more_items (statement (expression at (assignment_expression at Assign (out 2 (name id)) value_shape))) no_items))))
+    (more_items (statement (expression at (call at (out 2 (member at member_of_new (name id) (plain_key (key at (codes "a") it')))) (arguments at (spread at (out 18 (name id))) (more_elements (one (out 18 slots)) no_elements)) (absent at)) refl))
+    (more_items (statement (expression at (member at member_of_object (call at (out 2 (name async')) (arguments at (one (out 18 (name id))) (more_elements (one (out 18 (name async'))) no_elements)) (absent at)) (plain_key (key at (codes "a") it'))) refl))
+    (more_items (statement (expression at (assignment_expression at Assign (out 2 (name id)) value_shape) refl)) no_items))))
 
-text : render (module_tokens shape) ≡ codes "const async = (this);\na.a(...a, [a, , null, ,]);\nasync(a, async).a;\na = - -a + a[a++] * (a ? a : a);\n"
+text : render (module_tokens shape) ≡ codes "const async = (this);\na.a(...a, [a, , { a: null, a, a = a, ...a }, ,]);\nasync(a, async).a;\na = - -a + a[a++] * (a ? a : a);\n"
 unfolding render shape value_shape
 text = refl
 
-laid : layout tree ≡ codes "const async = (this);\na.a(...a, [a, , null, ,]);\nasync(a, async).a;\na = - -a + a[a++] * (a ? a : a);\n"
+laid : layout tree ≡ codes "const async = (this);\na.a(...a, [a, , { a: null, a, a = a, ...a }, ,]);\nasync(a, async).a;\na = - -a + a[a++] * (a ? a : a);\n"
 laid = module_laid shape ∙ text

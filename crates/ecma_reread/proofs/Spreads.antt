@@ -24,7 +24,7 @@ module _ (assigned : Bool) where
   ElementForm (shapes.one e) = Stands assigned shapes.assignment (expression_tokens e) (expression_kind e) (expression_parts e)
   ElementForm (shapes.spread at e) = Stands assigned shapes.assignment (expression_tokens e) (expression_kind e) (expression_parts e)
 
-  no_rest : {f : Laid} → Lead assigned f → (g : Gap) (us : Items) → Refuses assigned rest_pattern (f g us)
+  pub no_rest : {f : Laid} → Lead assigned f → (g : Gap) (us : Items) → Refuses assigned rest_pattern (f g us)
   unfolding rest_pattern
   no_rest {f} L g us = rw (refused_at assigned (means assigned) (punct (codes "...")) L.front (f g us) (L.begins g us) L.no_spread) refl
 

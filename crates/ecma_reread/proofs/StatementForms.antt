@@ -44,7 +44,7 @@ module _ (assigned : Bool) where
     statement_form (shapes.return_nothing at a) d = return_form assigned
     statement_form (shapes.break_nothing at a) d = break_form assigned
     statement_form (shapes.continue_nothing at a) d = continue_form assigned
-    statement_form (shapes.expression at e) d = expression_statement_form assigned (standing assigned (expression_form assigned e)) (λ g us. ap taken (no_brace e g us))
+    statement_form (shapes.expression at e z) d = expression_statement_form assigned (standing assigned (expression_form assigned e)) (λ g us. ap taken (no_brace e z g us))
     statement_form (shapes.declaration at at' k i is) d = declaration_form assigned k i is (declarator_form i) (declarator_forms is)
     statement_form (shapes.break_label at i) d = break_label_form assigned (ident_word i) (ident_free assigned i)
     statement_form (shapes.continue_label at i) d = continue_label_form assigned (ident_word i) (ident_free assigned i)

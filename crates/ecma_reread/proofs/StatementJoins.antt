@@ -42,7 +42,7 @@ block_apart : {n : Node} (is : IsBlock n) (d : ℕ) (g : Gap) → Wide g → (us
 block_apart (shapes.block_of at at' ss) d g w us t = w t (sign (codes "{"))
 
 pub statement_apart : {ending : Ending} {n : Node} (is : IsStatement ending n) (d : ℕ) (g : Gap) → Wide g → (us : Items) → Apart (statement_tokens is d g us)
-statement_apart (shapes.expression at e) d g w us t = let b = begun e (sign_of (codes ";") us) in rw (b.is g) (w t b.first)
+statement_apart (shapes.expression at e z) d g w us t = let b = begun e (sign_of (codes ";") us) in rw (b.is g) (w t b.first)
 statement_apart (shapes.declaration at at' k i is) d g w us t = w t (items.key (keyword k))
 statement_apart (shapes.empty at) d g w us t = w t (sign (codes ";"))
 statement_apart (shapes.debugger_word at) d g w us t = w t (items.key (codes "debugger"))
@@ -158,7 +158,7 @@ module _ (words : Words) where
     statement_joined (shapes.return_nothing at n) d g h us a j = (h, words.return_whole, refl, ended us a j)
     statement_joined (shapes.break_nothing at n) d g h us a j = (h, words.break_whole, refl, ended us a j)
     statement_joined (shapes.continue_nothing at n) d g h us a j = (h, words.continue_whole, refl, ended us a j)
-    statement_joined (shapes.expression at e) d g h us a j = expression_joined words e g h (sign_of (codes ";") us) semicolon (ended us a j)
+    statement_joined (shapes.expression at e z) d g h us a j = expression_joined words e g h (sign_of (codes ";") us) semicolon (ended us a j)
     statement_joined (shapes.declaration at at' k (shapes.declarator p q i c e) ds) d g h us a j =
         (h, keyword_whole k, refl, declarator_joined words (shapes.declarator p q i c e) (declarators_tokens ds (sign_of (codes ";") us)) (λ n. declarators_soft words ds n us) (declarators_joined words ds us (ended us a j)))
     statement_joined (shapes.break_label at i) d g h us a j = (h, words.break_whole, refl, (blank_is, ident_whole i, refl, ended us a j))

@@ -31,7 +31,7 @@ argument_laid : {level : Level} {e : Node} (is : IsExpression level e) (m : List
 unfolding render
 argument_laid {level} is m us =
     within_laid is Blank (free 0) m (codes ";" ++ render us)
-    ∙ (ap (λ z. codes " " ++ z) (expression_laid is (free 0) (calm_0 level) m (sign_of (codes ";") us)) ∙ sym (gap_out is blank (sign_of (codes ";") us)))
+    ∙ (ap (λ z. codes " " ++ z) (expression_laid is (free 0) (calm_0 level) refl m (sign_of (codes ";") us)) ∙ sym (gap_out is blank (sign_of (codes ";") us)))
 
 keyword_laid : (k : VarDeclKind) {d : Node} {ds : List Node} (is : IsDeclarator d) (more : AreDeclarators ds) (at at' : Span) (m : List ℕ) (us : Items)
     → (laid (node_of at (kind.VarDecl k false) (node_of at' kind.List (d ∷ ds) ∷ []))).at (At (free 0)) m (render us) ≡ keyword k ++ render (declarator_tokens is (declarators_tokens more (sign_of (codes ";") us)))
@@ -45,7 +45,7 @@ keyword_laid k {d = d'} {ds = ds'} is more at at' m us =
 optional_laid : {n : Node} (is : IsOptional n) (m : List ℕ) (us : Items) → (laid n).at (Within Blank (free 0)) m (render us) ≡ render (optional_tokens is us)
 unfolding render
 optional_laid (shapes.left_out (shapes.absent at)) m us = at_node at kind.Absent [] (Within Blank (free 0)) m (render us)
-optional_laid (shapes.given {level = l} e) m us = within_laid e Blank (free 0) m (render us) ∙ (ap (λ z. codes " " ++ z) (expression_laid e (free 0) (calm_0 l) m us) ∙ sym (gap_out e blank us))
+optional_laid (shapes.given {level = l} e) m us = within_laid e Blank (free 0) m (render us) ∙ (ap (λ z. codes " " ++ z) (expression_laid e (free 0) (calm_0 l) refl m us) ∙ sym (gap_out e blank us))
 
 for_binding_laid : {n : Node} (is : IsForBinding n) (m : List ℕ) (us : Items) → (laid n).at head m (render us) ≡ render (for_binding_tokens is us)
 unfolding render
@@ -117,7 +117,7 @@ block_seen : {n : Node} → IsBlock n → Seen n true
 block_seen (shapes.block_of at at' ss) = seen at _ _ true refl refl
 
 statement_seen : {ending : Ending} {n : Node} (is : IsStatement ending n) → Seen n (is_braced is)
-statement_seen (shapes.expression at e) = seen at _ _ false refl refl
+statement_seen (shapes.expression at e z) = seen at _ _ false refl refl
 statement_seen (shapes.declaration at at' k i is) = seen at _ _ false refl refl
 statement_seen (shapes.empty at) = seen at _ _ false refl refl
 statement_seen (shapes.debugger_word at) = seen at _ _ false refl refl
@@ -165,7 +165,7 @@ branch_text false d x = refl
 -- `(`, a test, `)`
 test_laid : {level : Level} {e : Node} (is : IsExpression level e) (m : List ℕ) (us : Items) → codes " (" ++ (laid e).at (At (free 0)) m (codes ")" ++ render us) ≡ render (test_tokens is us)
 unfolding render
-test_laid {level} is m us = ap (λ z. codes " (" ++ z) (expression_laid is (free 0) (calm_0 level) m (sign_of (codes ")") us))
+test_laid {level} is m us = ap (λ z. codes " (" ++ z) (expression_laid is (free 0) (calm_0 level) refl m (sign_of (codes ")") us))
 
 mutual
   unfolding render
@@ -186,11 +186,11 @@ mutual
   statement_laid (shapes.continue_nothing at (shapes.absent at')) d g us =
       ap (λ z. g.blanks ++ z)
       (sym (at_node at kind.ContinueStmt (node_of at' kind.Absent [] ∷ []) (At (free 0)) (margin d) (render us) ∙ ap (λ z. codes "continue" ++ z) (at_node at' kind.Absent [] (Within Blank (free 0)) (margin d) (codes ";" ++ render us))))
-  statement_laid (shapes.expression at {level = l} {e = e'} e) d g us =
+  statement_laid (shapes.expression at {level = l} {e = e'} e z) d g us =
       gap_out e g (sign_of (codes ";") us)
       ∙ ap (λ z. g.blanks ++ z)
       (sym (at_node at kind.ExprStmt (e' ∷ []) (At (free 0)) (margin d) (render us)
-      ∙ expression_laid e (beginning 0 StatementStart false) (calm_start l) (margin d) (sign_of (codes ";") us)))
+      ∙ expression_laid e (beginning 0 StatementStart false) (calm_start l) z (margin d) (sign_of (codes ";") us)))
   statement_laid (shapes.declaration at at' k i is) d g us = ap (λ z. g.blanks ++ z) (sym (keyword_laid k i is at at' (margin d) us))
   statement_laid (shapes.break_label at (shapes.ident of w i)) d g us =
       ap (λ z. g.blanks ++ z)
@@ -280,7 +280,7 @@ mutual
       ap (λ z. g.blanks ++ z)
       (sym (at_node at kind.ForInStmt (l' ∷ e' ∷ b' ∷ []) (At (free 0)) m (render us)
       ∙ ap (λ z. codes "for (" ++ z)
-      (ap (λ z. (laid l').at head m (codes " in " ++ z)) (ap (λ z. (laid e').at (At (free 0)) m (codes ")" ++ z)) (body_laid (statement_seen b) m us bs (statement_laid b d blank us)) ∙ expression_laid e (free 0) (calm_0 l) m (sign_of (codes ")") bs))
+      (ap (λ z. (laid l').at head m (codes " in " ++ z)) (ap (λ z. (laid e').at (At (free 0)) m (codes ")" ++ z)) (body_laid (statement_seen b) m us bs (statement_laid b d blank us)) ∙ expression_laid e (free 0) (calm_0 l) refl m (sign_of (codes ")") bs))
       ∙ (ap (λ z. (laid l').at head m (codes " in" ++ z)) (sym (gap_out e blank (sign_of (codes ")") bs))) ∙ for_binding_laid left m (it blank (items.key (codes "in")) es)))))
   statement_laid (shapes.for_of at w {left = l'} {iterable = e'} {body = b'} left e b) d g us =
       let m = margin d in
@@ -291,7 +291,7 @@ mutual
       ∙ ap (λ z. g.blanks ++ z)
       (sym (at_node at (kind.ForOfStmt w) (l' ∷ e' ∷ b' ∷ []) (At (free 0)) m (render us)
       ∙ (ap (λ z. for_word w ++ z)
-      (ap (λ z. (laid l').at head m (codes " of " ++ z)) (ap (λ z. (laid e').at (At (free 1)) m (codes ")" ++ z)) (body_laid (statement_seen b) m us bs (statement_laid b d blank us)) ∙ expression_laid e (free 1) calm_1 m (sign_of (codes ")") bs))
+      (ap (λ z. (laid l').at head m (codes " of " ++ z)) (ap (λ z. (laid e').at (At (free 1)) m (codes ")" ++ z)) (body_laid (statement_seen b) m us bs (statement_laid b d blank us)) ∙ expression_laid e (free 1) calm_1 refl m (sign_of (codes ")") bs))
       ∙ (ap (λ z. (laid l').at head m (codes " of" ++ z)) (sym (gap_out e blank (sign_of (codes ")") bs))) ∙ for_binding_laid left m (it blank (items.key (codes "of")) es)))
       ∙ for_laid w ls)))
   statement_laid (shapes.labeled at {body = b'} (shapes.ident of w i) b) d g us =
@@ -315,7 +315,7 @@ mutual
       (sym (at_node at kind.SwitchCase (t' ∷ node_of at' kind.List ss' ∷ []) (At (free 0)) m (render us)
       ∙ (ap (λ b. case_word b ++ (laid t').at (At (free 0)) m (codes ":" ++ (laid (node_of at' kind.List ss')).at Deeper m (render us))) (no_absent t)
       ∙ (ap (λ z. codes "case " ++ (laid t').at (At (free 0)) m (codes ":" ++ z)) (at_node at' kind.List ss' Deeper m (render us) ∙ lined_laid ss (suc d) us)
-      ∙ (ap (λ z. codes "case " ++ z) (expression_laid t (free 0) (calm_0 l) m (sign_of (codes ":") body)) ∙ ap (λ z. codes "case" ++ z) (sym (gap_out t blank (sign_of (codes ":") body))))))))
+      ∙ (ap (λ z. codes "case " ++ z) (expression_laid t (free 0) (calm_0 l) refl m (sign_of (codes ":") body)) ∙ ap (λ z. codes "case" ++ z) (sym (gap_out t blank (sign_of (codes ":") body))))))))
   case_laid (shapes.default_of at at' {ss = ss'} (shapes.absent at'') ss) d g us =
       let m = margin d in
       let none = node_of at'' kind.Absent [] in

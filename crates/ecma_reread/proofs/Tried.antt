@@ -21,6 +21,7 @@ use Rattle.ecma_tokens.specs.Taking as taking
 use Rattle.ecma_tokens.specs.Taking.{Took, took, refused, took_if, unsure_if, punct_in}
 use Rattle.ecma_reread.specs.Machine.{Out, read, fails, unsure, taken, with_front, followed_on, or_on, built_on, interp, means}
 use Rattle.ecma_reread.specs.Tokens.{blank}
+use Rattle.ecma_reread.proofs.Levels.{means_is}
 use Rattle.ecma_reread.proofs.Fronts.{Front, exactly, Begins, at_token, refuses_at, refused_at, refuses_all, all_refused}
 use Rattle.ecma_reread.proofs.Forms.{Reads, Refuses, ends_no_item, AsItem, item_refused, whole_item, item_before, AsParam}
 
@@ -172,7 +173,7 @@ module _ (assigned : Bool) where
   defaulted_pattern ts us (a_pattern xs vs h ys ws d s) =
       stopped defaulted ts us ws _ (ap (built_on form.Chain) (ap (followed_on (interp assigned (means assigned) default_value)) h ∙ ap (with_front xs) d)) s
 
-  same_item : (item item' : Grammar) (ts us : Items) → interp assigned (means assigned) item ts ≡ interp assigned (means assigned) item' ts → AsItem assigned item' ts us → AsItem assigned item ts us
+  pub same_item : (item item' : Grammar) (ts us : Items) → interp assigned (means assigned) item ts ≡ interp assigned (means assigned) item' ts → AsItem assigned item' ts us → AsItem assigned item ts us
   same_item item item' ts us q (item_refused h e b z) = item_refused (q ∙ h) e b z
   same_item item item' ts us q (whole_item xs h) = whole_item xs (q ∙ h)
   same_item item item' ts us q (item_before xs vs e b z h) = item_before xs vs e b z (q ∙ h)
@@ -215,6 +216,26 @@ module _ (assigned : Bool) where
     spread_as_element (a_pattern xs vs h ys ws d s) =
         let r = rest_read xs vs h in
         stopped pattern_element dots us vs r.0 (ap (or_on (interp assigned (means assigned) defaulted) dots) r.1) (pattern_stop us vs ws ys d s)
+
+  -- as a name by itself: none stands there; or it is read, and behind it stands the end, or what ends no item
+
+  pub data AsName (ts us : Items) : Type 0 where
+    no_name : Refuses assigned names.binding_ident ts → AsName ts us
+    a_name : (xs : List Node) (vs : Items) → Reads assigned names.binding_ident ts xs vs → Stopped us vs → AsName ts us
+
+  pub as_name : (ts us : Items) → AsPattern ts us → AsName ts us
+  unfolding pattern_body
+  as_name ts us p = go (interp assigned (means assigned) names.binding_ident ts) refl p
+    where
+      is : (o : Out) → interp assigned (means assigned) names.binding_ident ts ≡ o → means assigned part.Pattern ts ≡ or_on (interp assigned (means assigned) (array_pattern // object_pattern)) ts o
+      is o h = means_is assigned part.Pattern ts ∙ ap (or_on (interp assigned (means assigned) (array_pattern // object_pattern)) ts) h
+
+      go : (o : Out) → interp assigned (means assigned) names.binding_ident ts ≡ o → AsPattern ts us → AsName ts us
+      go fails h p = no_name h
+      go unsure h (no_pattern k e b z) = absurd (unsure_or_fails (is unsure h) k)
+      go unsure h (a_pattern xs vs k ys ws d st) = absurd (unsure_or_read (is unsure h) k)
+      go (read xs vs) h (no_pattern k e b z) = absurd (read_or_fails (is (read xs vs) h) k)
+      go (read xs vs) h (a_pattern xs' vs' k ys ws d st) = a_name xs vs h (subst (Stopped us) (same_end k (is (read xs vs) h)) (pattern_stop us vs' ws ys d st))
 
   -- a pattern in brackets or braces is read whole, or not
 

@@ -6,8 +6,8 @@ use Rattle.ecma_tree.specs.declared.node.Node.{Node}
 use Rattle.ecma_tree.specs.Nodes.{absent, list_node}
 use Rattle.ecma_tree.specs.Spans.{without_spans}
 use Rattle.ecma_reread.specs.Shapes as shapes
-use Rattle.ecma_reread.specs.Shapes.{Level, IsIdent, ident, IsKey, key, IsAbsent, IsExpression, IsElement, IsArguments, AreElements, AreExpressions, IsInitializer, IsDeclarator, AreDeclarators, Ending, IsStatement, IsBlock, AreStatements, AreSlots, IsCase, AreCases, IsCatch, IsChainKey, IsOptional, IsForBinding}
-use Rattle.ecma_reread.specs.Tokens.{bare, bare_ident, key_word, bare_expression, bare_element, bare_arguments, bare_elements, bare_expressions, bare_initializer, bare_declarator, bare_declarators, bare_statement, bare_block, bare_statements, bare_slots, bare_case, bare_cases, bare_catch, chain_kind, bare_optional, bare_for_binding}
+use Rattle.ecma_reread.specs.Shapes.{Level, IsIdent, ident, IsKey, key, IsAbsent, IsExpression, IsElement, IsArguments, AreElements, AreExpressions, IsInitializer, IsDeclarator, AreDeclarators, Ending, IsStatement, IsBlock, AreStatements, AreSlots, IsCase, AreCases, IsCatch, IsChainKey, IsOptional, IsForBinding, IsPropertyName, IsProperty, AreProperties}
+use Rattle.ecma_reread.specs.Tokens.{bare, bare_ident, key_word, bare_expression, bare_element, bare_arguments, bare_elements, bare_expressions, bare_initializer, bare_declarator, bare_declarators, bare_statement, bare_block, bare_statements, bare_slots, bare_case, bare_cases, bare_catch, chain_kind, bare_optional, bare_for_binding, bare_property_name, bare_property, bare_properties}
 use Rattle.ecma_reread.proofs.Unplaced.{without_spans-node}
 
 pub absent_bare : {n : Node} → IsAbsent n → without_spans n ≡ absent
@@ -63,6 +63,7 @@ mutual
       without_spans-node at kind.CondExpr _
       ∙ (ap₂ (λ a b. bare kind.CondExpr (a ∷ b ∷ without_spans y' ∷ [])) (expression_bare t) (expression_bare x) ∙ ap (λ c. bare kind.CondExpr (bare_expression t ∷ bare_expression x ∷ c ∷ [])) (expression_bare y))
   expression_bare (shapes.array at at' es) = without_spans-node at kind.ArrayLit _ ∙ ap (λ x. bare kind.ArrayLit (x ∷ [])) (without_spans-node at' kind.List _ ∙ ap list_node (slots_bare es))
+  expression_bare (shapes.object_literal at at' ps) = without_spans-node at kind.ObjectLit _ ∙ ap (λ x. bare kind.ObjectLit (x ∷ [])) (without_spans-node at' kind.List _ ∙ ap list_node (properties_bare ps))
   expression_bare (shapes.sequence_expression at x y es) = without_spans-node at kind.SeqExpr _ ∙ ap₂ (λ z zs. bare kind.SeqExpr (z ∷ zs)) (expression_bare x) (ap₂ (λ b bs. b ∷ bs) (expression_bare y) (expressions_bare es))
 
   arguments_bare : {n : Node} (is : IsArguments n) → without_spans n ≡ list_node (bare_arguments is)
@@ -77,6 +78,23 @@ mutual
   slots_bare shapes.no_slots = refl
   slots_bare (shapes.filled e es) = ap₂ (λ x xs. x ∷ xs) (element_bare e) (slots_bare es)
   slots_bare (shapes.hole a es) = ap₂ (λ x xs. x ∷ xs) (absent_bare a) (slots_bare es)
+
+  property_name_bare : {n : Node} (is : IsPropertyName n) → without_spans n ≡ bare_property_name is
+  property_name_bare (shapes.key_name k) = key_bare k
+  property_name_bare (shapes.string_name at raw t) = without_spans-node at _ []
+  property_name_bare (shapes.number_name at raw t) = without_spans-node at _ []
+  property_name_bare (shapes.big_int_name at raw t) = without_spans-node at _ []
+  property_name_bare (shapes.computed_name at e) = without_spans-node at kind.ComputedPropName _ ∙ ap (λ x. bare kind.ComputedPropName (x ∷ [])) (expression_bare e)
+
+  property_bare : {n : Node} (is : IsProperty n) → without_spans n ≡ bare_property is
+  property_bare (shapes.key_value at k v) = without_spans-node at kind.KeyValueProp _ ∙ ap₂ (λ x y. bare kind.KeyValueProp (x ∷ y ∷ [])) (property_name_bare k) (expression_bare v)
+  property_bare (shapes.shorthand i) = ident_bare i
+  property_bare (shapes.initialized at i v) = without_spans-node at kind.AssignProp _ ∙ ap₂ (λ x y. bare kind.AssignProp (x ∷ y ∷ [])) (ident_bare i) (expression_bare v)
+  property_bare (shapes.spread_property at e) = without_spans-node at kind.SpreadElement _ ∙ ap (λ x. bare kind.SpreadElement (x ∷ [])) (expression_bare e)
+
+  properties_bare : {ns : List Node} (is : AreProperties ns) → map without_spans ns ≡ bare_properties is
+  properties_bare shapes.no_properties = refl
+  properties_bare (shapes.more_properties p ps) = ap₂ (λ x xs. x ∷ xs) (property_bare p) (properties_bare ps)
 
   elements_bare : {es : List Node} (is : AreElements es) → map without_spans es ≡ bare_elements is
   elements_bare shapes.no_elements = refl
@@ -121,7 +139,7 @@ mutual
   statement_bare (shapes.return_nothing at a) = without_spans-node at kind.ReturnStmt _ ∙ ap (λ x. bare kind.ReturnStmt (x ∷ [])) (absent_bare a)
   statement_bare (shapes.break_nothing at a) = without_spans-node at kind.BreakStmt _ ∙ ap (λ x. bare kind.BreakStmt (x ∷ [])) (absent_bare a)
   statement_bare (shapes.continue_nothing at a) = without_spans-node at kind.ContinueStmt _ ∙ ap (λ x. bare kind.ContinueStmt (x ∷ [])) (absent_bare a)
-  statement_bare (shapes.expression at e) = without_spans-node at kind.ExprStmt _ ∙ ap (λ x. bare kind.ExprStmt (x ∷ [])) (expression_bare e)
+  statement_bare (shapes.expression at e z) = without_spans-node at kind.ExprStmt _ ∙ ap (λ x. bare kind.ExprStmt (x ∷ [])) (expression_bare e)
   statement_bare (shapes.declaration at at' k d ds) =
       without_spans-node at (kind.VarDecl k false) _ ∙ ap (λ x. bare (kind.VarDecl k false) (x ∷ [])) (without_spans-node at' kind.List _ ∙ ap₂ (λ x xs. list_node (x ∷ xs)) (declarator_bare d) (declarators_bare ds))
   statement_bare (shapes.break_label at i) = without_spans-node at kind.BreakStmt _ ∙ ap (λ x. bare kind.BreakStmt (x ∷ [])) (ident_bare i)

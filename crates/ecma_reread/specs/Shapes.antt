@@ -148,6 +148,7 @@ mutual
     conditional_expression : (at : Span) {test first second : Node} → IsExpression short_circuit test → IsExpression assignment first → IsExpression assignment second
         → IsExpression assignment (node_of at kind.CondExpr (test ∷ first ∷ second ∷ []))
     array : (at of_list : Span) {slots : List Node} → AreSlots slots → IsExpression new_callee (node_of at kind.ArrayLit (node_of of_list kind.List slots ∷ []))
+    object_literal : (at of_list : Span) {properties : List Node} → AreProperties properties → IsExpression new_callee (node_of at kind.ObjectLit (node_of of_list kind.List properties ∷ []))
     sequence_expression : (at : Span) {first second : Node} {more : List Node} → IsExpression assignment first → IsExpression assignment second → AreExpressions more → IsExpression sequence (node_of at kind.SeqExpr (first ∷ second ∷ more))
 
   -- an argument, or an element of an array: an expression, or the values of one
@@ -161,6 +162,25 @@ mutual
     filled : {e : Node} {slots : List Node} → IsElement e → AreSlots slots → AreSlots (e ∷ slots)
     hole : {none : Node} {slots : List Node} → IsAbsent none → AreSlots slots → AreSlots (none ∷ slots)
 
+  -- what stands before the `:` of a property
+  pub data IsPropertyName : Node → Type 0 where
+    key_name : {k : Node} → IsKey k → IsPropertyName k
+    string_name : (at : Span) (raw : List ℕ) → IsToken str_end raw → IsPropertyName (node_of at (kind.Str (str_value (piece raw 1 (length raw - 1))) (Some raw)) [])
+    number_name : (at : Span) (raw : List ℕ) → IsToken num_end raw → IsPropertyName (node_of at (kind.Number (numeral_of raw) (Some raw)) [])
+    big_int_name : (at : Span) (raw : List ℕ) → IsToken big_end raw → IsPropertyName (node_of at (kind.BigInt (without_separators (piece raw 0 (length raw - 1))) (Some raw)) [])
+    computed_name : (at : Span) {e : Node} → IsExpression assignment e → IsPropertyName (node_of at kind.ComputedPropName (e ∷ []))
+
+  pub data IsProperty : Node → Type 0 where
+    key_value : (at : Span) {name value : Node} → IsPropertyName name → IsExpression assignment value → IsProperty (node_of at kind.KeyValueProp (name ∷ value ∷ []))
+    shorthand : {id : Node} → IsIdent id → IsProperty id
+    -- a name and a default value, where the object is assigned to
+    initialized : (at : Span) {id value : Node} → IsIdent id → IsExpression assignment value → IsProperty (node_of at kind.AssignProp (id ∷ value ∷ []))
+    spread_property : (at : Span) {e : Node} → IsExpression assignment e → IsProperty (node_of at kind.SpreadElement (e ∷ []))
+
+  pub data AreProperties : List Node → Type 0 where
+    no_properties : AreProperties []
+    more_properties : {p : Node} {ps : List Node} → IsProperty p → AreProperties ps → AreProperties (p ∷ ps)
+
   pub data IsArguments : Node → Type 0 where
     no_arguments : (at : Span) → IsArguments (node_of at kind.List [])
     arguments : (at : Span) {e : Node} {es : List Node} → IsElement e → AreElements es → IsArguments (node_of at kind.List (e ∷ es))
@@ -172,6 +192,24 @@ mutual
   pub data AreExpressions : List Node → Type 0 where
     no_expressions : AreExpressions []
     more_expressions : {e : Node} {es : List Node} → IsExpression assignment e → AreExpressions es → AreExpressions (e ∷ es)
+
+-- it begins with `{`, with which no statement begins that is an expression
+abbrev pub begins_with_brace : {level : Level} {e : Node} → IsExpression level e → Bool
+begins_with_brace (looser e) = begins_with_brace e
+begins_with_brace (member at i o k) = begins_with_brace o
+begins_with_brace (call at c es none) = begins_with_brace c
+begins_with_brace (element at at' i o e) = begins_with_brace o
+begins_with_brace (postfix_update at o e) = begins_with_brace e
+begins_with_brace (binary_expression at i l r) = begins_with_brace l
+begins_with_brace (exponentiation at l r) = begins_with_brace l
+begins_with_brace (both at l r) = begins_with_brace l
+begins_with_brace (either at l r) = begins_with_brace l
+begins_with_brace (coalesced at i l r) = begins_with_brace l
+begins_with_brace (assignment_expression at o t v) = begins_with_brace t
+begins_with_brace (conditional_expression at t x y) = begins_with_brace t
+begins_with_brace (sequence_expression at x y es) = begins_with_brace x
+begins_with_brace (object_literal at at' ps) = true
+begins_with_brace e = false
 
 pub data IsInitializer : Node → Type 0 where
   no_initializer : {none : Node} → IsAbsent none → IsInitializer none
@@ -201,7 +239,7 @@ pub data Ending : Type 0 where
 
 mutual
   pub data IsStatement : Ending → Node → Type 0 where
-    expression : (at : Span) {level : Level} {e : Node} → IsExpression level e → IsStatement closed (node_of at kind.ExprStmt (e ∷ []))
+    expression : (at : Span) {level : Level} {e : Node} (is : IsExpression level e) → begins_with_brace is ≡ false → IsStatement closed (node_of at kind.ExprStmt (e ∷ []))
     declaration : (at of_list : Span) (k : VarDeclKind) {d : Node} {ds : List Node} → IsDeclarator d → AreDeclarators ds → IsStatement closed (node_of at (kind.VarDecl k false) (node_of of_list kind.List (d ∷ ds) ∷ []))
     empty : (at : Span) → IsStatement closed (node_of at kind.EmptyStmt [])
     debugger_word : (at : Span) → IsStatement closed (node_of at kind.DebuggerStmt [])

@@ -23,7 +23,7 @@ use Rattle.ecma_print.specs.Operators.{unary_sign, update_sign}
 use Rattle.ecma_print.specs.Statements.{keyword}
 use Rattle.ecma_tokens.specs.Items as items
 use Rattle.ecma_tokens.specs.Items.{Tok, sign, Gap, no_gap, Items, it}
-use Rattle.ecma_reread.specs.Shapes.{IsIdent, ident, IsKey, key, Level, IsExpression, looser, element, prefix_update, postfix_update, await_expression, unary_expression, binary_expression, exponentiation, both, either, coalesced, assignment_expression, conditional_expression, sequence_expression, name, string, number, this_word, big_int, null_word, true_word, false_word, member, call, parenthesized, IsElement, one, spread, IsArguments, no_arguments, arguments, AreElements, no_elements, more_elements, AreExpressions, no_expressions, more_expressions, IsInitializer, no_initializer, initializer, IsDeclarator, declarator, AreDeclarators, no_declarators, more_declarators, IsStatement, expression, declaration, empty, debugger_word, throw, return_value, return_nothing, break_nothing, continue_nothing, Ending, break_label, continue_label, block, if_only, if_else, while_loop, do_loop, labeled, IsBlock, block_of, AreStatements, no_statements, more_statements, array, AreSlots, no_slots, filled, hole, switch_statement, IsCase, case_of, default_of, AreCases, no_cases, more_cases, new_expression, new_alone, new_target, try_catch, try_finally, try_catch_finally, IsCatch, catch_any, catch_name, IsChainKey, plain_key, private_key, super_member, super_element, super_call, IsOptional, left_out, given, IsForBinding, for_binding, for_loop, for_in, for_of}
+use Rattle.ecma_reread.specs.Shapes.{IsIdent, ident, IsKey, key, Level, IsExpression, looser, element, prefix_update, postfix_update, await_expression, unary_expression, binary_expression, exponentiation, both, either, coalesced, assignment_expression, conditional_expression, sequence_expression, name, string, number, this_word, big_int, null_word, true_word, false_word, member, call, parenthesized, IsElement, one, spread, IsArguments, no_arguments, arguments, AreElements, no_elements, more_elements, AreExpressions, no_expressions, more_expressions, IsInitializer, no_initializer, initializer, IsDeclarator, declarator, AreDeclarators, no_declarators, more_declarators, IsStatement, expression, declaration, empty, debugger_word, throw, return_value, return_nothing, break_nothing, continue_nothing, Ending, break_label, continue_label, block, if_only, if_else, while_loop, do_loop, labeled, IsBlock, block_of, AreStatements, no_statements, more_statements, array, AreSlots, no_slots, filled, hole, switch_statement, IsCase, case_of, default_of, AreCases, no_cases, more_cases, new_expression, new_alone, new_target, try_catch, try_finally, try_catch_finally, IsCatch, catch_any, catch_name, IsChainKey, plain_key, private_key, super_member, super_element, super_call, IsOptional, left_out, given, IsForBinding, for_binding, for_loop, for_in, for_of, object_literal, IsPropertyName, key_name, string_name, number_name, big_int_name, computed_name, IsProperty, key_value, shorthand, initialized, spread_property, AreProperties, no_properties, more_properties}
 
 abbrev pub blank : Gap
 blank = record { blanks = codes " "; new_line = false }
@@ -163,6 +163,7 @@ abbrev mutual
   expression_tokens (assignment_expression at o t v) g us = expression_tokens t g (it blank (assign_token o) (expression_tokens v blank us))
   expression_tokens (conditional_expression at t x y) g us = expression_tokens t g (it blank (sign (codes "?")) (expression_tokens x blank (it blank (sign (codes ":")) (expression_tokens y blank us))))
   expression_tokens (array at at' es) g us = it g (sign (codes "[")) (slots_tokens es us)
+  expression_tokens (object_literal at at' ps) g us = it g (sign (codes "{")) (properties_tokens ps us)
   expression_tokens (sequence_expression at x y es) g us = expression_tokens x g (sign_of (codes ",") (expression_tokens y blank (more_tokens es us)))
 
   pub element_tokens : {n : Node} → IsElement n → Gap → Items → Items
@@ -181,6 +182,28 @@ abbrev mutual
   more_slots_tokens no_slots true g us = it g (sign (codes ",")) (sign_of (codes "]") us)
   more_slots_tokens (filled e es) b g us = it g (sign (codes ",")) (element_tokens e blank (more_slots_tokens es false no_gap us))
   more_slots_tokens (hole a es) b g us = it g (sign (codes ",")) (more_slots_tokens es true blank us)
+
+  pub property_name_tokens : {n : Node} → IsPropertyName n → Gap → Items → Items
+  property_name_tokens (key_name k) g us = it g (items.key (key_word k)) us
+  property_name_tokens (string_name at raw t) g us = it g (items.string raw) us
+  property_name_tokens (number_name at raw t) g us = it g (items.number raw) us
+  property_name_tokens (big_int_name at raw t) g us = it g (items.big_int raw) us
+  property_name_tokens (computed_name at e) g us = it g (sign (codes "[")) (expression_tokens e no_gap (sign_of (codes "]") us))
+
+  pub property_tokens : {n : Node} → IsProperty n → Gap → Items → Items
+  property_tokens (key_value at k v) g us = property_name_tokens k g (sign_of (codes ":") (expression_tokens v blank us))
+  property_tokens (shorthand i) g us = it g (items.key (ident_word i)) us
+  property_tokens (initialized at i v) g us = it g (items.key (ident_word i)) (it blank (sign (codes "=")) (expression_tokens v blank us))
+  property_tokens (spread_property at e) g us = it g (sign (codes "...")) (expression_tokens e no_gap us)
+
+  -- behind `{`, with a blank within each brace
+  pub properties_tokens : {ns : List Node} → AreProperties ns → Items → Items
+  properties_tokens no_properties us = sign_of (codes "}") us
+  properties_tokens (more_properties p ps) us = property_tokens p blank (more_properties_tokens ps us)
+
+  pub more_properties_tokens : {ns : List Node} → AreProperties ns → Items → Items
+  more_properties_tokens no_properties us = it blank (sign (codes "}")) us
+  more_properties_tokens (more_properties p ps) us = sign_of (codes ",") (property_tokens p blank (more_properties_tokens ps us))
 
   pub arguments_tokens : {n : Node} → IsArguments n → Items → Items
   arguments_tokens (no_arguments at) us = us
@@ -245,7 +268,7 @@ abbrev mutual
   statement_tokens (return_nothing at a) d g us = it g (items.key (codes "return")) (sign_of (codes ";") us)
   statement_tokens (break_nothing at a) d g us = it g (items.key (codes "break")) (sign_of (codes ";") us)
   statement_tokens (continue_nothing at a) d g us = it g (items.key (codes "continue")) (sign_of (codes ";") us)
-  statement_tokens (expression at e) d g us = expression_tokens e g (sign_of (codes ";") us)
+  statement_tokens (expression at e z) d g us = expression_tokens e g (sign_of (codes ";") us)
   statement_tokens (declaration at at' k i is) d g us = it g (items.key (keyword k)) (declarator_tokens i (declarators_tokens is (sign_of (codes ";") us)))
   statement_tokens (break_label at i) d g us = it g (items.key (codes "break")) (it blank (items.key (ident_word i)) (sign_of (codes ";") us))
   statement_tokens (continue_label at i) d g us = it g (items.key (codes "continue")) (it blank (items.key (ident_word i)) (sign_of (codes ";") us))
@@ -323,6 +346,7 @@ expression_kind (coalesced at i l r) = kind.BinExpr op.NullishCoalescing
 expression_kind (assignment_expression at o t v) = kind.AssignExpr o
 expression_kind (conditional_expression at t x y) = kind.CondExpr
 expression_kind (array at at' es) = kind.ArrayLit
+expression_kind (object_literal at at' ps) = kind.ObjectLit
 expression_kind (sequence_expression at x y es) = kind.SeqExpr
 
 abbrev mutual
@@ -349,6 +373,7 @@ abbrev mutual
   expression_parts (assignment_expression at o t v) = bare (expression_kind t) (expression_parts t) ∷ bare (expression_kind v) (expression_parts v) ∷ []
   expression_parts (conditional_expression at t x y) = bare (expression_kind t) (expression_parts t) ∷ bare (expression_kind x) (expression_parts x) ∷ bare (expression_kind y) (expression_parts y) ∷ []
   expression_parts (array at at' es) = list_node (bare_slots es) ∷ []
+  expression_parts (object_literal at at' ps) = list_node (bare_properties ps) ∷ []
   expression_parts (sequence_expression at x y es) = bare (expression_kind x) (expression_parts x) ∷ bare (expression_kind y) (expression_parts y) ∷ bare_expressions es
   expression_parts e = []
 
@@ -360,6 +385,23 @@ abbrev mutual
   bare_slots no_slots = []
   bare_slots (filled e es) = bare_element e ∷ bare_slots es
   bare_slots (hole a es) = absent ∷ bare_slots es
+
+  pub bare_property_name : {n : Node} → IsPropertyName n → Node
+  bare_property_name (key_name k) = bare (kind.IdentName (key_word k)) []
+  bare_property_name (string_name at raw t) = bare (kind.Str (str_value (piece raw 1 (length raw - 1))) (Some raw)) []
+  bare_property_name (number_name at raw t) = bare (kind.Number (numeral_of raw) (Some raw)) []
+  bare_property_name (big_int_name at raw t) = bare (kind.BigInt (without_separators (piece raw 0 (length raw - 1))) (Some raw)) []
+  bare_property_name (computed_name at e) = bare kind.ComputedPropName (bare (expression_kind e) (expression_parts e) ∷ [])
+
+  pub bare_property : {n : Node} → IsProperty n → Node
+  bare_property (key_value at k v) = bare kind.KeyValueProp (bare_property_name k ∷ bare (expression_kind v) (expression_parts v) ∷ [])
+  bare_property (shorthand i) = bare_ident i
+  bare_property (initialized at i v) = bare kind.AssignProp (bare_ident i ∷ bare (expression_kind v) (expression_parts v) ∷ [])
+  bare_property (spread_property at e) = bare kind.SpreadElement (bare (expression_kind e) (expression_parts e) ∷ [])
+
+  pub bare_properties : {ns : List Node} → AreProperties ns → List Node
+  bare_properties no_properties = []
+  bare_properties (more_properties p ps) = bare_property p ∷ bare_properties ps
 
   pub bare_arguments : {n : Node} → IsArguments n → List Node
   bare_arguments (no_arguments at) = []
@@ -404,7 +446,7 @@ abbrev mutual
   bare_statement (return_nothing at a) = bare kind.ReturnStmt (absent ∷ [])
   bare_statement (break_nothing at a) = bare kind.BreakStmt (absent ∷ [])
   bare_statement (continue_nothing at a) = bare kind.ContinueStmt (absent ∷ [])
-  bare_statement (expression at e) = bare kind.ExprStmt (bare_expression e ∷ [])
+  bare_statement (expression at e z) = bare kind.ExprStmt (bare_expression e ∷ [])
   bare_statement (declaration at at' k d ds) = bare (kind.VarDecl k false) (list_node (bare_declarator d ∷ bare_declarators ds) ∷ [])
   bare_statement (break_label at i) = bare kind.BreakStmt (bare_ident i ∷ [])
   bare_statement (continue_label at i) = bare kind.ContinueStmt (bare_ident i ∷ [])

@@ -1,0 +1,425 @@
+-- Objects are read as they are laid out; as a pattern they are read whole, or not.
+use Rattle.std.proofs.Common.{◌≡◌, ℕ, bytes_eq, ◌&&◌, ◌⊎◌, inl, inr, Bool, true, false, not, List, [], ◌∷◌, ◌++◌, codes, nat_le, refl, ap, sym, ◌∙◌, append-nil, Some, if◌then◌else◌}
+use Rattle.std.proofs.lemmas.Bool.{and_parts}
+use Rattle.ecma_lex.specs.Keys.{is_reserved}
+use Rattle.ecma_kind.specs.declared.kind.Kind.{Kind}
+use Rattle.ecma_kind.specs.declared.kind.Kind.TheVariants as kind
+use Rattle.ecma_tree.specs.declared.node.Node.{Node}
+use Rattle.ecma_tree.specs.Nodes.{absent, list_node}
+use Rattle.ecma_grammar.specs.declared.production.Part.TheVariants as part
+use Rattle.ecma_grammar.specs.declared.production.Plain.TheVariants as plain
+use Rattle.ecma_grammar.specs.declared.production.Form.TheVariants as form
+use Rattle.ecma_grammar.specs.declared.production.Flag.TheVariants.{Absent, Present}
+use Rattle.ecma_grammar.specs.trees.Parts.{flag_node}
+use Rattle.ecma_grammar.specs.Grammar as grammar
+use Rattle.ecma_grammar.specs.Grammar.{Grammar, same_line, put, ◌▸◌, ◌//◌, ahead, build, word, punct, maybe, whether, optional, commas, node, list}
+use Rattle.ecma_grammar.specs.productions.Names as names
+use Rattle.ecma_grammar.specs.productions.Names.{assign, pattern, prop_name, prop_start, member_start, binding_ident, computed_prop_name}
+use Rattle.ecma_grammar.specs.productions.Types.{params, param, rest_pattern, default_value}
+use Rattle.ecma_grammar.specs.productions.Patterns.{pattern_body, pattern_property, array_pattern, object_pattern}
+use Rattle.ecma_grammar.specs.productions.Functions as functions
+use Rattle.ecma_grammar.specs.productions.Functions.{signature, method_async, getter_property, setter_property, method_property}
+use Rattle.ecma_grammar.specs.productions.Operators as operators
+use Rattle.ecma_grammar.specs.productions.Operators.{factors, terms, shifts, relations, equalities}
+use Rattle.ecma_grammar.specs.productions.Expressions.{assignments}
+use Rattle.ecma_grammar.specs.productions.Primary as primaries
+use Rattle.ecma_grammar.specs.productions.Primary.{property, spread, object}
+use Rattle.ecma_grammar.specs.productions.Chains as chains
+use Rattle.ecma_grammar.specs.productions.Chains.{links}
+use Rattle.ecma_grammar.specs.productions.Classes as classes
+use Rattle.ecma_grammar.specs.productions.Declarations as declarations
+use Rattle.ecma_grammar.specs.productions.Statements as statements
+use Rattle.ecma_grammar.specs.productions.Modules as modules
+use Rattle.ecma_tokens.specs.Items as items
+use Rattle.ecma_tokens.specs.Items.{sign, no_gap, Gap, Items, it}
+use Rattle.ecma_tokens.specs.Taking.{took_if, new_line_in}
+use Rattle.ecma_reread.specs.Machine.{Turn, Out, read, fails, taken, with_front, followed_on, or_on, built_on, ahead_on, interp, means}
+use Rattle.ecma_reread.specs.Shapes as shapes
+use Rattle.ecma_reread.specs.Shapes.{IsIdent, ident, IsPropertyName, IsProperty, AreProperties}
+use Rattle.ecma_reread.specs.Tokens.{blank, key_word, ident_word, expression_tokens, expression_kind, expression_parts, property_name_tokens, property_tokens, properties_tokens, more_properties_tokens, bare_ident, bare_property_name, bare_property, bare_properties, bare_expression}
+use Rattle.ecma_reread.proofs.Moves.{eats}
+use Rattle.ecma_reread.proofs.Levels.{means_is}
+use Rattle.ecma_reread.proofs.Fronts.{Front, exactly, Begins, at_token, refuses_at, refused_at, refuses_all, all_refused}
+use Rattle.ecma_reread.proofs.Heads.{bare}
+use Rattle.ecma_reread.proofs.Forms.{s, Reads, Refuses, ends_no_list, ends_no_item, AsItem, item_refused, whole_item, item_before, NewForm}
+use Rattle.ecma_reread.proofs.Towers.{here, later, sooner, Ends}
+use Rattle.ecma_reread.proofs.Bindings.{ends_no_equals, Stands, used}
+use Rattle.ecma_reread.proofs.Repeats.{Repeats, repeats_end, repeats_more, repeated}
+use Rattle.ecma_reread.proofs.Further.{more, Lasts, Further, further_end, further_more, Listed, none_listed, some_listed, listed}
+use Rattle.ecma_reread.proofs.Params.{last_comma, Closes, no_comma, closing}
+use Rattle.ecma_reread.proofs.Expressions.{comma_ends}
+use Rattle.ecma_reread.proofs.Elements.{bracket_ends}
+use Rattle.ecma_reread.proofs.Lists.{Followed}
+use Rattle.ecma_reread.proofs.Spreads.{no_rest}
+use Rattle.ecma_reread.proofs.Tried.{same_item, AsPattern, as_pattern, defaulted, defaulted_pattern, AsName, no_name, a_name, as_name, Stopped, at_end, astray, stopped, Wholly, wholly_refused, wholly_read}
+use Rattle.ecma_reread.proofs.Literals.{Literal, literal_new}
+
+-- what stands behind the name of a property begins neither another name nor a function
+abbrev ends_name : Front → Bool
+ends_name e = refuses_at e prop_start && (refuses_at e member_start && refuses_at e signature)
+
+-- and what stands behind a property
+record Ended (us : Items) : Type 0 where
+  pub front : Front
+  pub begins : Begins front us
+  pub ends : Ends front
+  pub name : ends_name front ≡ true
+  pub no_colon : refuses_at front (punct (codes ":")) ≡ true
+
+colon_ends_name : ends_name (exactly (sign (codes ":"))) ≡ true
+unfolding prop_start member_start signature
+colon_ends_name = refl
+
+equals_ends_name : ends_name (exactly (sign (codes "="))) ≡ true
+unfolding prop_start member_start signature
+equals_ends_name = refl
+
+brace_ends : Ends (exactly (sign (codes "}")))
+unfolding factors terms shifts relations equalities assignments links chains.template_start functions.arrow_rest binding_ident
+brace_ends = refl
+
+ended : {ns : List Node} (is : AreProperties ns) (us : Items) → Ended (more_properties_tokens is us)
+unfolding prop_start member_start signature
+ended shapes.no_properties us = record { front = exactly (sign (codes "}")); begins = at_token; ends = brace_ends; name = refl; no_colon = refl }
+ended (shapes.more_properties p ps) us = record { front = exactly (sign (codes ",")); begins = at_token; ends = comma_ends; name = refl; no_colon = refl }
+
+no_property_at_brace : refuses_all (exactly (sign (codes "}"))) property ≡ true
+unfolding property spread getter_property setter_property method_property method_async prop_name computed_prop_name
+no_property_at_brace = refl
+
+no_pattern_at_brace : refuses_all (exactly (sign (codes "}"))) pattern_property ≡ true
+unfolding pattern_property prop_name computed_prop_name binding_ident
+no_pattern_at_brace = refl
+
+brace : Literal (sign (codes "{")) object
+unfolding chains.super_of_member chains.super_of_link chains.import_meta chains.import_call chains.construction primaries.primary functions.function_expression primaries.class_expression primaries.template operators.prefixed functions.arrow functions.arrow_rest statements.labeled param rest_pattern names.binding_ident statements.statement_body names.block statements.if_ statements.for_await statements.for_ statements.while_ statements.do_while statements.switch statements.try_ statements.jump declarations.declaration functions.function_declaration classes.class_declaration modules.module_item modules.import modules.import_equals modules.export modules.export_default primaries.array
+brace = record {
+  tower = λ e. later refl (later refl (later refl (later refl (later refl (later refl (later refl (later refl (later refl (later refl (later refl (later refl (later refl (sooner here)))))))))))));
+  apart = record { no_head = refl; no_new_head = refl };
+  no_point = refl;
+  opens = record { no_spread = refl; no_yield = refl; no_private = refl; no_prefix = refl; no_increment = refl; no_decrement = refl };
+  starts = record { no_statement = refl; no_item = refl };
+  no_arrow = refl;
+  no_label = refl;
+  no_declaration = refl;
+  no_word = refl;
+  no_rest = refl;
+  no_end = refl;
+}
+
+-- a word, and behind it what does not stand there
+no_word : (b : Bool) (w : List ℕ) (f : Turn) (us : Items) → f us ≡ fails → followed_on f (taken (took_if b w us)) ≡ fails
+no_word true w f us h = ap (with_front []) h
+no_word false w f us h = refl
+
+on_line : (b : Bool) (f : Turn) (us : Items) → f us ≡ fails → followed_on f (if b then fails else read [] us) ≡ fails
+on_line true f us h = refl
+on_line false f us h = ap (with_front []) h
+
+module _ (assigned : Bool) where
+  -- what is said of the name, and of a property
+  abbrev NameForm : {n : Node} → IsPropertyName n → Type 0
+  NameForm (shapes.computed_name at e) = Stands assigned shapes.assignment (expression_tokens e) (expression_kind e) (expression_parts e)
+  NameForm k = Unit {0}
+
+  abbrev pub PropertyForm : {n : Node} → IsProperty n → Type 0
+  PropertyForm (shapes.key_value at k v) = NameForm k × Stands assigned shapes.assignment (expression_tokens v) (expression_kind v) (expression_parts v)
+  PropertyForm (shapes.shorthand i) = Unit {0}
+  PropertyForm (shapes.initialized at i v) = Stands assigned shapes.assignment (expression_tokens v) (expression_kind v) (expression_parts v)
+  PropertyForm (shapes.spread_property at e) = Stands assigned shapes.assignment (expression_tokens e) (expression_kind e) (expression_parts e)
+
+  abbrev pub PropertyForms : {ns : List Node} → AreProperties ns → Type 0
+  PropertyForms shapes.no_properties = Unit {0}
+  PropertyForms (shapes.more_properties p ps) = PropertyForm p × PropertyForms ps
+
+  -- names
+
+  key_read : (w : List ℕ) (g : Gap) (us : Items) → Reads assigned prop_name (it g (items.key w) us) (bare (kind.IdentName w) [] ∷ []) us
+  unfolding prop_name
+  key_read w g us = refl
+
+  name_read : {n : Node} (is : IsPropertyName n) → NameForm is → (g : Gap) (us : Items) → Reads assigned prop_name (property_name_tokens is g us) (bare_property_name is ∷ []) us
+  unfolding prop_name computed_prop_name
+  name_read (shapes.key_name k) F g us = refl
+  name_read (shapes.string_name at raw t) F g us = refl
+  name_read (shapes.number_name at raw t) F g us = refl
+  name_read (shapes.big_int_name at raw t) F g us = refl
+  name_read (shapes.computed_name at e) F g us = rw (used assigned F no_gap (s (codes "]") us) (exactly (sign (codes "]"))) at_token bracket_ends) refl
+
+  record NoFunction (ts : Items) : Type 0 where
+    pub no_getter : Refuses assigned getter_property ts
+    pub no_setter : Refuses assigned setter_property ts
+    pub no_method : Refuses assigned method_property ts
+
+  -- the name of a property that is no function
+  module _ (us : Items) (e : Front) (b : Begins e us) (z : ends_name e ≡ true) where
+    ends : (refuses_at e prop_start ≡ true) × ((refuses_at e member_start && refuses_at e signature) ≡ true)
+    ends = and_parts (refuses_at e prop_start) (refuses_at e member_start && refuses_at e signature) z
+
+    no_start : Refuses assigned prop_start us
+    no_start = refused_at assigned (means assigned) prop_start e us b ends.0
+
+    no_member : Refuses assigned member_start us
+    no_member = let c = and_parts (refuses_at e member_start) (refuses_at e signature) ends.1 in refused_at assigned (means assigned) member_start e us b c.0
+
+    no_signature : Refuses assigned signature us
+    no_signature = let c = and_parts (refuses_at e member_start) (refuses_at e signature) ends.1 in refused_at assigned (means assigned) signature e us b c.1
+
+    key_no_function : (w : List ℕ) (g : Gap) → NoFunction (it g (items.key w) us)
+    unfolding getter_property setter_property method_property method_async
+    key_no_function w g =
+        let I = interp assigned (means assigned) in
+        let ts = it g (items.key w) us in
+        let rest = prop_name ▸ signature in
+        let starts : Refuses assigned (ahead prop_start ▸ rest) us = ap (followed_on (I rest)) (ap (ahead_on us) no_start) in
+        let async : Refuses assigned (word (codes "async") ▸ same_line ▸ ahead member_start) ts =
+        no_word (bytes_eq w (codes "async")) w (I (same_line ▸ ahead member_start)) us (on_line (new_line_in us) (I (ahead member_start)) us (ap (ahead_on us) no_member)) in
+        let none : Reads assigned method_async ts (absent ∷ []) ts = ap (or_on (I (put Absent)) ts) (ap (followed_on (I (put Present))) async) in
+        record {
+          no_getter = ap (built_on form.Getter) (no_word (bytes_eq w (codes "get")) w (I (ahead prop_start ▸ rest)) us starts);
+          no_setter = ap (built_on form.Setter) (no_word (bytes_eq w (codes "set")) w (I (ahead prop_start ▸ rest)) us starts);
+          no_method =
+              ap (built_on (form.Function plain.MethodProp)) (ap (followed_on (I (whether (punct (codes "*")) ▸ rest))) none
+              ∙ ap (with_front (absent ∷ [])) (ap (with_front (absent ∷ [])) (ap (followed_on (I signature)) (key_read w g us) ∙ ap (with_front (bare (kind.IdentName w) [] ∷ [])) no_signature)));
+        }
+
+    other_no_function : (ts : Items) (n : Node) → Refuses assigned (word (codes "get")) ts → Refuses assigned (word (codes "set")) ts → Refuses assigned (word (codes "async")) ts → Refuses assigned (punct (codes "*")) ts → Reads assigned prop_name ts (n ∷ []) us → NoFunction ts
+    unfolding getter_property setter_property method_property method_async
+    other_no_function ts n a c d k h = record { no_getter = rw a refl; no_setter = rw c refl; no_method = rw (d, k, h, no_signature) refl }
+
+    no_function : {n : Node} (is : IsPropertyName n) → NameForm is → (g : Gap) → NoFunction (property_name_tokens is g us)
+    no_function (shapes.key_name k) F g = key_no_function (key_word k) g
+    no_function (shapes.string_name at raw t) F g = other_no_function (it g (items.string raw) us) _ refl refl refl refl (name_read (shapes.string_name at raw t) F g us)
+    no_function (shapes.number_name at raw t) F g = other_no_function (it g (items.number raw) us) _ refl refl refl refl (name_read (shapes.number_name at raw t) F g us)
+    no_function (shapes.big_int_name at raw t) F g = other_no_function (it g (items.big_int raw) us) _ refl refl refl refl (name_read (shapes.big_int_name at raw t) F g us)
+    no_function (shapes.computed_name at e) F g = other_no_function (property_name_tokens (shapes.computed_name at e) g us) _ refl refl refl refl (name_read (shapes.computed_name at e) F g us)
+
+  no_spread : {n : Node} (is : IsPropertyName n) (g : Gap) (us : Items) → Refuses assigned (punct (codes "...")) (property_name_tokens is g us)
+  no_spread (shapes.key_name k) g us = refl
+  no_spread is g us = refl
+
+  -- the other alternatives
+
+  abbrev assigned_property : Grammar
+  assigned_property = node plain.AssignProp (names.ident ▸ punct (codes "=") ▸ assign)
+
+  abbrev valued : Grammar
+  valued = node plain.KeyValueProp (prop_name ▸ punct (codes ":") ▸ assign)
+
+  behind_functions : (ts us : Items) (xs : List Node) → Refuses assigned (punct (codes "...")) ts → NoFunction ts → Reads assigned (valued // assigned_property // names.ident) ts xs us → Reads assigned property ts xs us
+  unfolding property spread
+  behind_functions ts us xs a N h =
+      let I = interp assigned (means assigned) in
+      let others = valued // assigned_property // names.ident in
+      ap (or_on (I (getter_property // setter_property // method_property // others)) ts) (ap (built_on (form.Node plain.SpreadElement)) (ap (followed_on (I assign)) a))
+      ∙ (ap (or_on (I (setter_property // method_property // others)) ts) N.no_getter ∙ (ap (or_on (I (method_property // others)) ts) N.no_setter ∙ (ap (or_on (I others) ts) N.no_method ∙ h)))
+
+  property_read : {n : Node} (is : IsProperty n) → PropertyForm is → (g : Gap) (us : Items) → Ended us → Reads assigned property (property_tokens is g us) (bare_property is ∷ []) us
+  unfolding property spread
+  property_read (shapes.key_value at k v) F g us E =
+      let vs = expression_tokens v blank us in
+      let ts = property_name_tokens k g (s (codes ":") vs) in
+      behind_functions ts us _ (no_spread k g (s (codes ":") vs)) (no_function (s (codes ":") vs) (exactly (sign (codes ":"))) at_token colon_ends_name k F.0 g)
+      (rw (name_read k F.0 g (s (codes ":") vs), used assigned F.1 blank us E.front E.begins E.ends) refl)
+  property_read (shapes.shorthand (ident at w i)) F g us E =
+      let no_equals = refused_at assigned (means assigned) (punct (codes "=")) E.front us E.begins (ends_no_equals E.front E.ends) in
+      let no_colon = refused_at assigned (means assigned) (punct (codes ":")) E.front us E.begins E.no_colon in
+      behind_functions (it g (items.key w) us) us _ refl (key_no_function us E.front E.begins E.name w g) (rw (key_read w g us, no_colon, i.free, no_equals, i.free) refl)
+  property_read (shapes.initialized at (ident at' w i) v) F g us E =
+      let vs = it blank (sign (codes "=")) (expression_tokens v blank us) in
+      behind_functions (it g (items.key w) vs) us _ refl (key_no_function vs (exactly (sign (codes "="))) at_token equals_ends_name w g) (rw (key_read w g vs, i.free, used assigned F blank us E.front E.begins E.ends) refl)
+  property_read (shapes.spread_property at e) F g us E = rw (used assigned F no_gap us E.front E.begins E.ends) refl
+
+  -- as an object
+
+  property_eats : nat_le 1 (eats (more property)) ≡ true
+  unfolding property spread getter_property setter_property method_property method_async prop_name computed_prop_name signature params param rest_pattern default_value names.block
+  property_eats = refl
+
+  more_properties_read : {ns : List Node} (is : AreProperties ns) → PropertyForms is → (us : Items) → Repeats assigned (more property) (more_properties_tokens is us) (bare_properties is) (it blank (sign (codes "}")) us)
+  more_properties_read shapes.no_properties F us = repeats_end assigned (more property) (it blank (sign (codes "}")) us) refl
+  more_properties_read (shapes.more_properties p ps) F us =
+      let vs = more_properties_tokens ps us in
+      repeats_more assigned (more property) property_eats _ vs (it blank (sign (codes "}")) us) (bare_property p ∷ []) (bare_properties ps) (ap (with_front []) (property_read p F.0 blank vs (ended ps us))) (more_properties_read ps F.1 us)
+
+  object_read : {ns : List Node} (is : AreProperties ns) → PropertyForms is → (g : Gap) (us : Items) → Reads assigned object (it g (sign (codes "{")) (properties_tokens is us)) (bare kind.ObjectLit (list_node (bare_properties is) ∷ []) ∷ []) us
+  unfolding object
+  object_read shapes.no_properties F g us = rw (all_refused assigned property (exactly (sign (codes "}"))) (s (codes "}") us) at_token no_property_at_brace) refl
+  object_read (shapes.more_properties p ps) F g us =
+      let vs = more_properties_tokens ps us in
+      rw (property_read p F.0 blank vs (ended ps us), repeated assigned (more property) vs (it blank (sign (codes "}")) us) (bare_properties ps) (more_properties_read ps F.1 us), append-nil (bare_properties ps)) refl
+
+  -- as a pattern of properties
+
+  abbrev named : Grammar
+  named = node plain.AssignPatProp (binding_ident ▸ maybe (punct (codes "=") ▸ assign))
+
+  abbrev renamed : Grammar
+  renamed = node plain.KeyValuePatProp (prop_name ▸ punct (codes ":") ▸ defaulted assigned)
+
+  abbrev rest_property : Grammar
+  rest_property = node plain.RestPat (punct (codes "...") ▸ binding_ident ▸ put Absent)
+
+  behind_rest : (ts us : Items) → Refuses assigned (punct (codes "...")) ts → AsItem assigned (renamed // named) ts us → AsItem assigned pattern_property ts us
+  unfolding pattern_property
+  behind_rest ts us a p =
+      same_item assigned pattern_property (renamed // named) ts us
+      (ap (or_on (interp assigned (means assigned) (renamed // named)) ts) (ap (built_on (form.Node plain.RestPat)) (ap (followed_on (interp assigned (means assigned) (binding_ident ▸ put Absent))) a))) p
+
+  -- a name before `:`, by itself
+  module _ (vs : Items) where
+    abbrev colon : Items
+    colon = s (codes ":") vs
+
+    key_named : (b : Bool) (w : List ℕ) → is_reserved w ≡ b → (g : Gap) (us : Items) → AsItem assigned named (it g (items.key w) colon) us
+    unfolding binding_ident
+    key_named true w r g us = item_refused (rw r refl) (exactly (items.key w)) at_token refl
+    key_named false w r g us = item_before (bare kind.AssignPatProp (bare kind.BindingIdent (bare (kind.Ident w 0 false) [] ∷ absent ∷ []) ∷ absent ∷ []) ∷ []) colon (exactly (sign (codes ":"))) at_token refl (rw r refl)
+
+    name_named : {n : Node} (is : IsPropertyName n) (g : Gap) (us : Items) → AsItem assigned named (property_name_tokens is g colon) us
+    unfolding binding_ident
+    name_named (shapes.key_name k) g us = key_named (is_reserved (key_word k)) (key_word k) refl g us
+    name_named (shapes.string_name at raw t) g us = item_refused refl (exactly (items.string raw)) at_token refl
+    name_named (shapes.number_name at raw t) g us = item_refused refl (exactly (items.number raw)) at_token refl
+    name_named (shapes.big_int_name at raw t) g us = item_refused refl (exactly (items.big_int raw)) at_token refl
+    name_named (shapes.computed_name at e) g us = item_refused refl (exactly (sign (codes "["))) at_token refl
+
+    -- with what its value is as a pattern
+    name_renamed : {n : Node} (is : IsPropertyName n) → NameForm is → (g : Gap) (us : Items) → AsItem assigned (defaulted assigned) vs us → AsItem assigned (renamed // named) (property_name_tokens is g colon) us
+    name_renamed is F g us p =
+        let I = interp assigned (means assigned) in
+        let ts = property_name_tokens is g colon in
+        let n = bare_property_name is in
+        let step : (o : Out) → I (defaulted assigned) vs ≡ o → I renamed ts ≡ built_on (form.Node plain.KeyValuePatProp) (with_front (n ∷ []) (with_front [] o)) =
+        λ o h. ap (built_on (form.Node plain.KeyValuePatProp)) (ap (followed_on (I (punct (codes ":") ▸ defaulted assigned))) (name_read is F g colon) ∙ ap (λ x. with_front (n ∷ []) (with_front [] x)) h) in
+        by_value is g us step p
+      where
+        by_value : {n : Node} (is : IsPropertyName n) (g : Gap) (us : Items)
+            → ((o : Out) → interp assigned (means assigned) (defaulted assigned) vs ≡ o → interp assigned (means assigned) renamed (property_name_tokens is g colon) ≡ built_on (form.Node plain.KeyValuePatProp) (with_front (bare_property_name is ∷ []) (with_front [] o)))
+            → AsItem assigned (defaulted assigned) vs us → AsItem assigned (renamed // named) (property_name_tokens is g colon) us
+        by_value is g us step (item_refused h e b z) =
+            same_item assigned (renamed // named) named (property_name_tokens is g colon) us (ap (or_on (interp assigned (means assigned) named) (property_name_tokens is g colon)) (step fails h)) (name_named is g us)
+        by_value is g us step (whole_item xs h) = whole_item _ (ap (or_on (interp assigned (means assigned) named) (property_name_tokens is g colon)) (step (read xs us) h))
+        by_value is g us step (item_before xs ws e b z h) = item_before _ ws e b z (ap (or_on (interp assigned (means assigned) named) (property_name_tokens is g colon)) (step (read xs ws) h))
+
+  -- a name that no `:` follows
+  named_read : (w : List ℕ) (g : Gap) (vs us : Items) (xs : List Node) → is_reserved w ≡ false → Refuses assigned (punct (codes ":")) vs → Reads assigned (maybe (punct (codes "=") ▸ assign)) vs xs us
+      → Reads assigned (renamed // named) (it g (items.key w) vs) (bare kind.AssignPatProp (bare kind.BindingIdent (bare (kind.Ident w 0 false) [] ∷ absent ∷ []) ∷ xs) ∷ []) us
+  unfolding binding_ident
+  named_read w g vs us xs r c h = rw (key_read w g vs, c, r, h) refl
+
+  -- a name behind `...`
+  by_name : (g : Gap) (ts us : Items) → AsName assigned ts us → AsItem assigned pattern_property (it g (sign (codes "...")) ts) us
+  unfolding pattern_property prop_name computed_prop_name binding_ident
+  by_name g ts us (no_name h) =
+      let I = interp assigned (means assigned) in
+      let dots = it g (sign (codes "...")) ts in
+      item_refused (ap (or_on (I (renamed // named)) dots) (ap (built_on (form.Node plain.RestPat)) (ap (with_front []) (ap (followed_on (I (put Absent))) h)))) (exactly (sign (codes "..."))) at_token refl
+  by_name g ts us (a_name xs vs h st) =
+      let I = interp assigned (means assigned) in
+      let dots = it g (sign (codes "...")) ts in
+      stopped assigned pattern_property dots us vs (bare kind.RestPat (xs ++ flag_node Absent ∷ []) ∷ [])
+      (ap (or_on (I (renamed // named)) dots) (ap (built_on (form.Node plain.RestPat)) (ap (with_front []) (ap (followed_on (I (put Absent))) h)))) st
+
+  property_tried : {n : Node} (is : IsProperty n) → PropertyForm is → (g : Gap) (us : Items) → Ended us → AsItem assigned pattern_property (property_tokens is g us) us
+  property_tried (shapes.key_value at k v) F g us E =
+      let vs = expression_tokens v blank us in
+      let V = F.1 in
+      behind_rest (property_name_tokens k g (s (codes ":") vs)) us (no_spread k g (s (codes ":") vs))
+      (name_renamed vs k F.0 g us (defaulted_pattern assigned vs us (as_pattern assigned vs us (no_rest assigned V.lead blank us) (V.param blank us E.front E.begins (ends_no_equals E.front E.ends, E.ends)))))
+  property_tried (shapes.shorthand (ident at w i)) F g us E =
+      let no_equals = refused_at assigned (means assigned) (punct (codes "=")) E.front us E.begins (ends_no_equals E.front E.ends) in
+      let no_colon = refused_at assigned (means assigned) (punct (codes ":")) E.front us E.begins E.no_colon in
+      behind_rest (it g (items.key w) us) us refl (whole_item _ (named_read w g us us (absent ∷ []) i.free no_colon (rw no_equals refl)))
+  property_tried (shapes.initialized at (ident at' w i) v) F g us E =
+      let vs = it blank (sign (codes "=")) (expression_tokens v blank us) in
+      behind_rest (it g (items.key w) vs) us refl (whole_item _ (named_read w g vs us (bare_expression v ∷ []) i.free refl (rw (used assigned F blank us E.front E.begins E.ends) refl)))
+  property_tried (shapes.spread_property at e) F g us E =
+      let ts = expression_tokens e no_gap us in
+      by_name g ts us (as_name assigned ts us (as_pattern assigned ts us (no_rest assigned F.lead no_gap us) (F.param no_gap us E.front E.begins (ends_no_equals E.front E.ends, E.ends))))
+
+  -- `}` ends them, or does not stand there
+  data Braced (us ts : Items) : Type 0 where
+    at_brace : ts ≡ it blank (sign (codes "}")) us → Braced us ts
+    no_brace : Refuses assigned (punct (codes "}")) ts → Braced us ts
+
+  pattern_eats : nat_le 1 (eats (more pattern_property)) ≡ true
+  unfolding pattern_property prop_name computed_prop_name binding_ident default_value
+  pattern_eats = refl
+
+  never : (ts : Items) (e : Front) → Begins e ts → ends_no_list e ≡ true → Refuses assigned (punct (codes "}")) ts
+  never ts e b z =
+      let c = and_parts (refuses_at e (punct (codes ")"))) _ z in
+      let d = and_parts (refuses_at e (punct (codes "]"))) _ c.1 in
+      refused_at assigned (means assigned) (punct (codes "}")) e ts b d.1
+
+  abbrev Last : Items → Items → Type 0
+  Last us = Closes assigned (Braced us)
+
+  lasts : (us : Items) → Lasts assigned pattern_property (Last us)
+  lasts us = closing assigned pattern_property (Braced us) pattern_eats (λ ts e b z. no_brace (never ts e b z))
+
+  more_properties_tried : {ns : List Node} (is : AreProperties ns) → PropertyForms is → (us : Items) → Further assigned pattern_property (Last us) (more_properties_tokens is us)
+  more_properties_tried shapes.no_properties F us =
+      let end = it blank (sign (codes "}")) us in
+      let brace = exactly (sign (codes "}")) in
+      further_end assigned pattern_property (Last us) end brace at_token refl (no_comma assigned (Braced us) end brace at_token refl (at_brace refl))
+  more_properties_tried (shapes.more_properties p ps) F us =
+      let vs = more_properties_tokens ps us in
+      further_more assigned pattern_property (Last us) (lasts us) no_gap (property_tokens p blank vs) vs (property_tried p F.0 blank vs (ended ps us)) (more_properties_tried ps F.1 us)
+
+  abbrev behind_brace : Grammar
+  behind_brace = list (commas pattern_property) ▸ punct (codes "}") ▸ put Absent
+
+  module _ (g : Gap) (ts us : Items) where
+    abbrev braced : Items
+    braced = it g (sign (codes "{")) ts
+
+    pattern_is : means assigned part.Pattern braced ≡ built_on (form.Node plain.ObjectPat) (with_front [] (interp assigned (means assigned) behind_brace ts))
+    unfolding pattern_body array_pattern object_pattern binding_ident
+    pattern_is = means_is assigned part.Pattern braced
+
+    pattern_refused : Refuses assigned behind_brace ts → Wholly assigned braced us
+    pattern_refused h = wholly_refused (pattern_is ∙ ap (λ o. built_on (form.Node plain.ObjectPat) (with_front [] o)) h)
+
+    pattern_whole : (xs : List Node) → Reads assigned behind_brace ts xs us → Wholly assigned braced us
+    pattern_whole xs h = wholly_read (bare (kind.ObjectPat false) xs ∷ []) (pattern_is ∙ ap (λ o. built_on (form.Node plain.ObjectPat) (with_front [] o)) h)
+
+    -- some are read, up to the place where they end
+    module _ (xs : List Node) (vs : Items) (h : Reads assigned pattern_property ts xs vs) (F : Further assigned pattern_property (Last us) vs) where
+      abbrev place : Items
+      place = let l = F.last in l.rest
+
+      abbrev found : List Node
+      found = xs ++ (F.nodes ++ [])
+
+      read_to : interp assigned (means assigned) behind_brace ts ≡ with_front (list_node found ∷ []) (interp assigned (means assigned) (punct (codes "}") ▸ put Absent) place)
+      read_to =
+          let I = interp assigned (means assigned) in
+          let l = F.last in
+          ap (followed_on (I (punct (codes "}") ▸ put Absent))) (ap (built_on form.List) (ap (or_on (I grammar.nothing) ts)
+          (ap (followed_on (I (grammar.many (more pattern_property) ▸ last_comma))) h
+          ∙ ap (with_front xs) (ap (followed_on (I last_comma)) (repeated assigned (more pattern_property) vs F.stop F.nodes F.repeats) ∙ ap (with_front F.nodes) l.comma))))
+
+      some_tried : Braced us place → Wholly assigned braced us
+      some_tried (no_brace k) = pattern_refused (read_to ∙ ap (with_front (list_node found ∷ [])) (ap (followed_on (interp assigned (means assigned) (put Absent))) k))
+      some_tried (at_brace k) = pattern_whole (list_node found ∷ flag_node Absent ∷ []) (read_to ∙ ap (λ us'. with_front (list_node found ∷ []) (interp assigned (means assigned) (punct (codes "}") ▸ put Absent) us')) k)
+
+    by_list : Listed assigned pattern_property (Last us) (lasts us) ts → Wholly assigned braced us
+    by_list (none_listed h e b z) =
+        let I = interp assigned (means assigned) in
+        let c = and_parts (refuses_at e (punct (codes ","))) (ends_no_list e) z in
+        pattern_refused
+        (ap (followed_on (I (punct (codes "}") ▸ put Absent))) (ap (built_on form.List) (ap (or_on (I grammar.nothing) ts) (ap (followed_on (I (grammar.many (more pattern_property) ▸ last_comma))) h)))
+        ∙ ap (with_front (list_node [] ∷ [])) (ap (followed_on (I (put Absent))) (never ts e b c.1)))
+    by_list (some_listed xs vs h F) = some_tried xs vs h F (let l = F.last in l.closed)
+
+  properties_tried : {ns : List Node} (is : AreProperties ns) → PropertyForms is → (g : Gap) (us : Items) → Wholly assigned (it g (sign (codes "{")) (properties_tokens is us)) us
+  properties_tried shapes.no_properties F g us =
+      pattern_whole g (s (codes "}") us) us (list_node [] ∷ flag_node Absent ∷ []) (rw (all_refused assigned pattern_property (exactly (sign (codes "}"))) (s (codes "}") us) at_token no_pattern_at_brace) refl)
+  properties_tried (shapes.more_properties p ps) F g us =
+      let vs = more_properties_tokens ps us in
+      by_list g (property_tokens p blank vs) us (listed assigned pattern_property (Last us) (lasts us) (property_tokens p blank vs) vs (property_tried p F.0 blank vs (ended ps us)) (more_properties_tried ps F.1 us))
+
+  pub object_new : {ns : List Node} (is : AreProperties ns) → PropertyForms is → NewForm assigned (λ g us. it g (sign (codes "{")) (properties_tokens is us)) kind.ObjectLit (list_node (bare_properties is) ∷ [])
+  object_new is F = literal_new assigned brace (properties_tokens is) kind.ObjectLit (list_node (bare_properties is) ∷ []) refl (object_read is F) (properties_tried is F)
