@@ -27,6 +27,6 @@ pub modules_read : ModulesAreReadAgain
 modules_read assignments tree is = (
   3 * count (module_tokens is) + 2,
   λ bound e.
-      (let g = text_read assignments Good tree is (layout tree) (module_laid is) (lexes (layout tree)) good_long (joined_good (module_tokens is) (module_joined layout_words is)) bound e in
+      (let g = text_read assignments Good (layout tree) (lexes (layout tree)) good_long bound tree is (module_laid is) (joined_good (module_tokens is) (module_joined layout_words is)) e in
       the_tree _ (without_spans tree) g.value g.state g.is g.holds),
 )

@@ -52,12 +52,13 @@ pub mod ModuleAssignments
 pub mod Modules
 pub mod Whole
 pub mod ModuleTrees
-pub mod Texts
 pub mod Layouts
 pub mod ModuleLayouts
 pub mod StatementLayouts
 pub mod Joins
 pub mod ModuleJoins
+pub mod Hashbangs
+pub mod Texts
 pub mod StatementJoins
 pub mod Words
 pub mod Law

@@ -200,3 +200,4 @@ module _ (words : Words) where
 
   pub module_joined : {assignments : Bool} {tree : Node} (is : IsModule assignments tree) → Joined (module_tokens is)
   module_joined (modules.module_of at at' is) = items_joined is no_gap no_gap_is
+  module_joined (modules.module_behind_hashbang at at' h is) = items_joined is line (line_is 0)

@@ -1,5 +1,5 @@
 -- The layout of a module is the text of its tokens.
-use Rattle.std.proofs.Common.{Bool, ◌≡◌, ℕ, true, false, List, [], ◌∷◌, ◌++◌, map, codes, refl, ap, sym, ◌∙◌, append-nil, None}
+use Rattle.std.proofs.Common.{Bool, ◌≡◌, ℕ, true, false, List, [], ◌∷◌, ◌++◌, map, codes, refl, ap, sym, ◌∙◌, append-nil, None, Some}
 use Rattle.ecma_kind.specs.declared.kind.Kind.TheVariants as kind
 use Rattle.ecma_tree.specs.declared.node.Node.{Node}
 use Rattle.ecma_tree.specs.Nodes.{node_of}
@@ -18,7 +18,7 @@ use Rattle.ecma_reread.specs.Shapes.{ident, key, absent}
 use Rattle.ecma_reread.specs.Modules as modules
 use Rattle.ecma_reread.specs.Modules.{IsString, IsExportName, IsAttribute, AreAttributes, IsWithClause, IsNamedImport, AreNamedImports, IsImportClause, IsNamedExport, AreNamedExports, IsExportClause, IsModuleItem, AreModuleItems, IsModule}
 use Rattle.ecma_reread.specs.Tokens.{blank, line, sign_of}
-use Rattle.ecma_reread.specs.ModuleTokens.{spaced, spaced_word, spaced_sign, string_raw, export_name_token, attribute_tokens, more_attributes_tokens, with_tokens, source_tokens, named_import_tokens, more_imports_tokens, named_imports_tokens, import_clause_tokens, require_tokens, import_equals_tokens, item_tokens, items_tokens, module_tokens, from_tokens, named_export_tokens, more_exports_tokens, export_clause_tokens}
+use Rattle.ecma_reread.specs.ModuleTokens.{module_head, spaced, spaced_word, spaced_sign, string_raw, export_name_token, attribute_tokens, more_attributes_tokens, with_tokens, source_tokens, named_import_tokens, more_imports_tokens, named_imports_tokens, import_clause_tokens, require_tokens, import_equals_tokens, item_tokens, items_tokens, module_tokens, from_tokens, named_export_tokens, more_exports_tokens, export_clause_tokens}
 use Rattle.ecma_reread.proofs.Layouts.{laid_node, at_node, calm_0, calm_default, gap_out, expression_laid}
 use Rattle.ecma_reread.proofs.StatementLayouts.{statement_laid}
 
@@ -219,7 +219,15 @@ unfolding render
 lines_laid modules.no_items g = sym (append-nil g.blanks)
 lines_laid (modules.more_items {n = n} i is) g = item_laid i g (items_tokens is line) ∙ ap (λ z. g.blanks ++ (laid n).at (At (free 0)) [] z) (lines_laid is line)
 
-pub module_laid : {assignments : Bool} {tree : Node} (is : IsModule assignments tree) → layout tree ≡ render (module_tokens is)
+pub module_laid : {assignments : Bool} {tree : Node} (is : IsModule assignments tree) → layout tree ≡ module_head is ++ render (module_tokens is)
 module_laid (modules.module_of at at' {body = body} is) =
     at_node at (kind.Module None) (node_of at' kind.List body ∷ []) (At (free 0)) [] []
     ∙ (at_node at' kind.List body Lines [] [] ∙ sym (lines_laid is no_gap))
+module_laid (modules.module_behind_hashbang at at' {text = text} {body = body} h is) =
+    at_node at (kind.Module (Some text)) (node_of at' kind.List body ∷ []) (At (free 0)) [] []
+    ∙ (ap (λ z. codes "#!" ++ (text ++ (codes "\n" ++ z))) (at_node at' kind.List body Lines [] [])
+    ∙ ap (λ z. codes "#!" ++ (text ++ z)) (sym (lines_laid is line)))
+
+-- the items begin on a new line
+pub items_line : {assignments : Bool} {ns : List Node} (is : AreModuleItems assignments ns) → render (items_tokens is line) ≡ 10 ∷ lines (map laid ns) [] []
+items_line is = lines_laid is line

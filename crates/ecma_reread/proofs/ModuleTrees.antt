@@ -1,5 +1,5 @@
 -- The tree that is read of a module is the tree without spans.
-use Rattle.std.proofs.Common.{Bool, None, false, ◌≡◌, List, [], ◌∷◌, map, refl, ap, ap₂, ◌∙◌}
+use Rattle.std.proofs.Common.{Bool, None, Some, false, ◌≡◌, List, [], ◌∷◌, map, refl, ap, ap₂, ◌∙◌}
 use Rattle.ecma_kind.specs.declared.span.Span.{Span}
 use Rattle.ecma_kind.specs.declared.kind.Kind.{Kind}
 use Rattle.ecma_kind.specs.declared.kind.Kind.TheVariants as kind
@@ -101,3 +101,4 @@ items_bare (modules.more_items i is) = ap₂ (λ x xs. x ∷ xs) (item_bare i) (
 
 pub module_bare : {assignments : Bool} {tree : Node} (is : IsModule assignments tree) → without_spans tree ≡ bare_module is
 module_bare (modules.module_of at at' is) = without_spans-node at (kind.Module None) _ ∙ ap (λ x. bare (kind.Module None) (x ∷ [])) (without_spans-node at' kind.List _ ∙ ap list_node (items_bare is))
+module_bare (modules.module_behind_hashbang at at' {text = text} h is) = without_spans-node at (kind.Module (Some text)) _ ∙ ap (λ x. bare (kind.Module (Some text)) (x ∷ [])) (without_spans-node at' kind.List _ ∙ ap list_node (items_bare is))

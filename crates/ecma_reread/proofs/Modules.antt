@@ -1,5 +1,5 @@
 -- A module is read as it is laid out.
-use Rattle.std.proofs.Common.{None, ◌≡◌, Bool, true, false, List, [], ◌∷◌, codes, refl, ap, ◌∙◌}
+use Rattle.std.proofs.Common.{None, Some, ℕ, ◌≡◌, Bool, true, false, List, [], ◌∷◌, codes, refl, ap, ◌∙◌}
 use Rattle.ecma_kind.specs.declared.kind.Kind.TheVariants as kind
 use Rattle.ecma_tree.specs.declared.node.Node.{Node}
 use Rattle.ecma_tree.specs.Nodes.{absent, list_node}
@@ -30,7 +30,7 @@ use Rattle.ecma_reread.specs.Machine.{read, with_front, followed_on, or_on, unle
 use Rattle.ecma_reread.specs.Modules as shapes
 use Rattle.ecma_reread.specs.Modules.{IsModuleItem, AreModuleItems, IsModule}
 use Rattle.ecma_reread.specs.Tokens.{bare, line, sign_of}
-use Rattle.ecma_reread.specs.ModuleTokens.{source_tokens, from_tokens, import_clause_tokens, item_tokens, items_tokens, module_tokens, bare_item, bare_items, bare_module}
+use Rattle.ecma_reread.specs.ModuleTokens.{source_tokens, from_tokens, import_clause_tokens, item_tokens, items_tokens, bare_item, bare_items}
 use Rattle.ecma_reread.proofs.Ranks.{item_eats}
 use Rattle.ecma_reread.proofs.Levels.{means_is}
 use Rattle.ecma_reread.proofs.Fronts.{exactly, the_end, at_token, at_end, refused_at, refuses_all, all_refused}
@@ -61,6 +61,13 @@ no_expression_there = refl
 
 module_made : (xs : List Node) → made form.Module 0 0 (absent ∷ list_node xs ∷ []) ≡ bare (kind.Module None) (list_node xs ∷ [])
 module_made xs = ap (λ k. bare (kind.Module (text_of k)) (list_node xs ∷ [])) (kind-node _ kind.Absent [])
+
+pub hashbang_made : (text : List ℕ) (xs : List Node) → made form.Module 0 0 (bare (kind.IdentName text) [] ∷ list_node xs ∷ []) ≡ bare (kind.Module (Some text)) (list_node xs ∷ [])
+hashbang_made text xs = ap (λ k. bare (kind.Module (text_of k)) (list_node xs ∷ [])) (kind-node _ (kind.IdentName text) [])
+
+-- what stands behind a hashbang
+abbrev pub module_rest : Grammar
+module_rest = grammar.list (grammar.many module_item) ▸ a token.EndOfText
 
 -- the gap before the end
 abbrev last_gap : {assignments : Bool} {ns : List Node} → AreModuleItems assignments ns → Gap → Gap
@@ -119,9 +126,11 @@ module _ (assigned : Bool) where
   items_read (shapes.more_items i is) g =
       repeats_more assigned module_item item_eats (item_tokens i g (items_tokens is line)) (items_tokens is line) (ends (last_gap is line)) (bare_item i ∷ []) (bare_items is) (module_item_read i g (items_tokens is line) (items_closing is)) (items_read is line)
 
-  pub module_read : {tree : Node} (is : IsModule assigned tree) → Reads assigned module_body (module_tokens is) (bare_module is ∷ []) (ends no_gap)
+  pub rest_read : {ns : List Node} (is : AreModuleItems assigned ns) (g : Gap) → Reads assigned module_rest (items_tokens is g) (list_node (bare_items is) ∷ []) (ends no_gap)
+  rest_read is g =
+      ap (followed_on (interp assigned (means assigned) (a token.EndOfText))) (ap (built_on form.List) (repeated assigned module_item (items_tokens is g) (ends (last_gap is g)) (bare_items is) (items_read is g)))
+
+  -- without a hashbang
+  pub module_read : {ns : List Node} (is : AreModuleItems assigned ns) (g : Gap) → Reads assigned module_body (items_tokens is g) (bare (kind.Module None) (list_node (bare_items is) ∷ []) ∷ []) (ends no_gap)
   unfolding module_body
-  module_read (shapes.module_of at at' is) =
-      ap (built_on form.Module) (ap (with_front (absent ∷ [])) (ap (followed_on (interp assigned (means assigned) (a token.EndOfText))) (ap (built_on form.List)
-      (repeated assigned module_item (items_tokens is no_gap) (ends (last_gap is no_gap)) (bare_items is) (items_read is no_gap)))))
-      ∙ ap (λ x. read (x ∷ []) (ends no_gap)) (module_made (bare_items is))
+  module_read is g = ap (built_on form.Module) (ap (with_front (absent ∷ [])) (rest_read is g)) ∙ ap (λ x. read (x ∷ []) (ends no_gap)) (module_made (bare_items is))

@@ -121,4 +121,5 @@ unfolding render shape value_shape
 text = refl
 
 laid : layout tree ≡ codes "const async = (this);\na.a(...a, [a, , { a: null, a, a = a, ...a }, ,]);\nasync(a, async).a;\na = - -a + a[a++] * (a ? a : a);\n"
+unfolding shape
 laid = module_laid shape ∙ text

@@ -78,7 +78,7 @@ module _ (text : List ℕ) (Good : Items → Type 0) where
   sims_behind f F k ts refused o' h a r = record { failed = a.failed; is = ap (reading.then_on (λ x. F x.start)) a.is }
   sims_behind f F k ts taking.unsure o' h a r = tt
 
-  sims_front : (xs ys : List Node) → map without_spans ys ≡ xs → (o : Out) (o' : Outcome (List Node)) → Sims o o' → Sims (with_front xs o) (reading.with_front ys o')
+  pub sims_front : (xs ys : List Node) → map without_spans ys ≡ xs → (o : Out) (o' : Outcome (List Node)) → Sims o o' → Sims (with_front xs o) (reading.with_front ys o')
   sims_front xs ys e (read xs' us) o' a = record {
     value = ys ++ a.value;
     state = a.state;
@@ -139,7 +139,7 @@ module _ (text : List ℕ) (Good : Items → Type 0) where
       subst (λ z. Sims (read [] ts) (reading.unless_on s z)) (sym e) (sims_read [] [] ts refl (record { place = s.place; failed = a.failed }) (moved ts s a.failed at))
   sims_unless ts s unsure o' a at = tt
 
-  sims_built : (form : Form) (lo : ℕ) (o : Out) (o' : Outcome (List Node)) → Sims o o' → Sims (built_on form o) (reads.built_on form lo o')
+  pub sims_built : (form : Form) (lo : ℕ) (o : Out) (o' : Outcome (List Node)) → Sims o o' → Sims (built_on form o) (reads.built_on form lo o')
   sims_built form lo (read xs us) o' a =
       let t = a.state in
       record {

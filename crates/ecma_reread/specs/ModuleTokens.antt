@@ -1,5 +1,5 @@
 -- The tokens that a module is laid out as, and its tree without spans.
-use Rattle.std.specs.Prelude.{ℕ, ◌-◌, Bool, true, false, List, [], ◌∷◌, length, Some, None, codes}
+use Rattle.std.specs.Prelude.{ℕ, ◌-◌, Bool, true, false, List, [], ◌∷◌, ◌++◌, length, Some, None, codes}
 use Rattle.ecma_lex.specs.Text.{piece}
 use Rattle.ecma_lex.specs.Strings.{str_value}
 use Rattle.ecma_kind.specs.declared.kind.Kind.TheVariants as kind
@@ -7,7 +7,7 @@ use Rattle.ecma_tree.specs.declared.node.Node.{Node}
 use Rattle.ecma_tree.specs.Nodes.{absent, list_node}
 use Rattle.ecma_tokens.specs.Items as items
 use Rattle.ecma_tokens.specs.Items.{Tok, sign, Gap, no_gap, Items, ends, it}
-use Rattle.ecma_reread.specs.Modules.{IsString, string_literal, IsExportName, word_name, string_name, IsAttributeKey, word_key, string_key, IsAttribute, attribute, AreAttributes, no_attributes, more_attributes, IsWithClause, no_with, with_nothing, with_attributes, IsDefaultImport, default_import, IsNamespaceImport, namespace_import, IsNamedImport, same_import, other_import, AreNamedImports, no_imports, more_imports, IsImportClause, import_default, import_namespace, import_names, import_default_and_namespace, import_default_and_names, IsNamedExport, same_export, other_export, AreNamedExports, no_exports, more_exports, IsExportClause, export_nothing, export_names, IsModuleItem, statement, import_alone, import_bindings, export_bindings, export_bindings_from, export_namespace, export_all, export_declaration, export_default, import_require, export_assignment, AreModuleItems, no_items, more_items, IsModule, module_of}
+use Rattle.ecma_reread.specs.Modules.{IsString, string_literal, IsExportName, word_name, string_name, IsAttributeKey, word_key, string_key, IsAttribute, attribute, AreAttributes, no_attributes, more_attributes, IsWithClause, no_with, with_nothing, with_attributes, IsDefaultImport, default_import, IsNamespaceImport, namespace_import, IsNamedImport, same_import, other_import, AreNamedImports, no_imports, more_imports, IsImportClause, import_default, import_namespace, import_names, import_default_and_namespace, import_default_and_names, IsNamedExport, same_export, other_export, AreNamedExports, no_exports, more_exports, IsExportClause, export_nothing, export_names, IsModuleItem, statement, import_alone, import_bindings, export_bindings, export_bindings_from, export_namespace, export_all, export_declaration, export_default, import_require, export_assignment, AreModuleItems, no_items, more_items, IsModule, module_of, module_behind_hashbang}
 use Rattle.ecma_reread.specs.Tokens.{blank, line, sign_of, ident_word, key_word, expression_tokens, statement_tokens, bare, bare_ident, bare_expression, bare_statement}
 
 -- a token behind a blank
@@ -113,6 +113,12 @@ items_tokens (more_items i is) g = item_tokens i g (items_tokens is line)
 
 abbrev pub module_tokens : {assignments : Bool} {tree : Node} → IsModule assignments tree → Items
 module_tokens (module_of at at' is) = items_tokens is no_gap
+module_tokens (module_behind_hashbang at at' h is) = items_tokens is line
+
+-- the text before the tokens
+abbrev pub module_head : {assignments : Bool} {tree : Node} → IsModule assignments tree → List ℕ
+module_head (module_of at at' is) = []
+module_head (module_behind_hashbang at at' {text = text} h is) = codes "#!" ++ text
 
 -- the trees without spans
 
@@ -191,3 +197,4 @@ bare_items (more_items i is) = bare_item i ∷ bare_items is
 
 abbrev pub bare_module : {assignments : Bool} {tree : Node} → IsModule assignments tree → Node
 bare_module (module_of at at' is) = bare (kind.Module None) (list_node (bare_items is) ∷ [])
+bare_module (module_behind_hashbang at at' {text = text} h is) = bare (kind.Module (Some text)) (list_node (bare_items is) ∷ [])

@@ -1,5 +1,8 @@
 -- The trees of modules (ECMAScript, 16.2), a constructor for each form of their items.
-use Rattle.std.specs.Prelude.{◌≡◌, ℕ, ◌-◌, Bool, true, false, List, [], ◌∷◌, length, Some, None}
+use Rattle.std.specs.Prelude.{not, ◌≡◌, ℕ, ◌-◌, Bool, true, false, List, [], ◌∷◌, length, Some, None}
+use Rattle.std.specs.List.{list_all}
+use Rattle.std.specs.Str.{IsUtf8, chars}
+use Rattle.ecma_lex.specs.Blanks.{is_line_terminator}
 use Rattle.ecma_lex.specs.Text.{piece}
 use Rattle.ecma_lex.specs.Keys.{key_end}
 use Rattle.ecma_lex.specs.Strings.{str_end, str_value}
@@ -104,5 +107,11 @@ pub data AreModuleItems (assignments : Bool) : List Node → Type 0 where
   no_items : AreModuleItems assignments []
   more_items : {n : Node} {ns : List Node} → IsModuleItem assignments n → AreModuleItems assignments ns → AreModuleItems assignments (n ∷ ns)
 
+-- what stands behind `#!` in its line (HashbangComment, ECMAScript, 12.5)
+pub record IsHashbangText (text : List ℕ) : Type 0 where
+  pub utf8 : IsUtf8 text
+  pub on_line : list_all (λ c. not (is_line_terminator c)) (chars text) ≡ true
+
 pub data IsModule (assignments : Bool) : Node → Type 0 where
   module_of : (at of_list : Span) {body : List Node} → AreModuleItems assignments body → IsModule assignments (node_of at (kind.Module None) (node_of of_list kind.List body ∷ []))
+  module_behind_hashbang : (at of_list : Span) {text : List ℕ} {body : List Node} → IsHashbangText text → AreModuleItems assignments body → IsModule assignments (node_of at (kind.Module (Some text)) (node_of of_list kind.List body ∷ []))
