@@ -13,3 +13,4 @@ pub mod Finding
 pub mod Shorthands
 pub mod Reading
 pub mod ReadingAgain
+pub mod StayingApart

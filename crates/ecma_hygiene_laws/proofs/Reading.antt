@@ -235,3 +235,7 @@ module _ (unresolved top : ℕ) (to : ℕ → ℕ) (none : to 0 ≡ 0) (seen : L
   pub resolves-again : (n : Node) (s : Around) (spot : Spot) (frames : List Frame) (left : ℕ) → All Fine (stops_at n s left) → Like written to is_binding s.scopes frames → Proper (stand s.role spot)
       → res (bare n (stand s.role spot)) (place s.role frames) left ≡ final n (stand s.role spot)
   resolves-again n s spot frames left fine like proper = (keeps n s spot frames left fine like proper).resolves
+
+  pub counts-again : (n : Node) (s : Around) (spot : Spot) (frames : List Frame) (left : ℕ) → All Fine (stops_at n s left) → Like written to is_binding s.scopes frames → Proper (stand s.role spot)
+      → context_count (bare n (stand s.role spot)) s.role ≡ context_count n s.role
+  counts-again n s spot frames left fine like proper = (keeps n s spot frames left fine like proper).counts

@@ -1,7 +1,12 @@
 -- The tree with final texts, read again without contexts and resolved, has the ids that it had.
-use Rattle.std.proofs.Common.{◌≡◌, ℕ, List, []}
+use Rattle.std.proofs.Common.{◌≡◌, ℕ, ◌≤◌, List, [], sym, subst}
 use Rattle.std.specs.List.{All}
 use Rattle.ecma_tree.specs.declared.node.Node.{Node}
+use Rattle.ecma_scope.specs.Bindings.{FollowBindings}
+use Rattle.ecma_scope.specs.Laws.{without_contexts}
+use Rattle.ecma_scope.specs.Resolved.{contexts}
+use Rattle.ecma_scope.proofs.Following.{resolved-follows}
+use Rattle.ecma_hygiene.specs.Renamed.{renamed}
 use Rattle.ecma_hygiene.specs.declared.naming.Named.{Named}
 use Rattle.ecma_hygiene.specs.declared.sight.Meeting.{Meeting}
 use Rattle.ecma_hygiene.specs.declared.sight.Sight.{Sight}
@@ -11,9 +16,9 @@ use Rattle.ecma_hygiene.specs.Capture.{IsNotCaptured, Placed, placed_here}
 use Rattle.ecma_hygiene.specs.Sights.{meetings, meets, nowhere, sight_here, sights}
 use Rattle.ecma_hygiene.specs.Texts.{HygienicTexts, text_in}
 use Rattle.ecma_hygiene.proofs.Capturing.{nothing-is-captured}
-use Rattle.ecma_hygiene_laws.specs.ReadAgain.{IsReadAgain}
+use Rattle.ecma_hygiene_laws.specs.ReadAgain.{FollowsItsTexts, IsReadAgain}
 use Rattle.ecma_hygiene_laws.specs.Stops.{IsRight, stops}
-use Rattle.ecma_hygiene_laws.proofs.Reading.{Fine, resolves-again}
+use Rattle.ecma_hygiene_laws.proofs.Reading.{Fine, counts-again, resolves-again}
 use Rattle.ecma_hygiene_laws.proofs.Stopping.{IsAmong, all-among, any-among, inside}
 
 apart : ◌≡◌ {A = Spot} spot.Elsewhere spot.Property → ⊥
@@ -36,3 +41,11 @@ pub is-read-again : IsReadAgain
 is-read-again unresolved top left to tree names texts none right =
     resolves-again unresolved top to none (sights tree) (meetings tree) names texts tree nowhere spot.Elsewhere [] left
     (all-fine unresolved top left to tree names texts none right) tt (λ h. absurd (apart h))
+
+pub follows-its-texts : FollowsItsTexts
+follows-its-texts unresolved top left to tree names texts none right unresolved_above top_above apart_ enough =
+    let again : Node = without_contexts (renamed (text_in names) tree) in
+    let counts : contexts again ≡ contexts tree =
+    counts-again unresolved top to none (sights tree) (meetings tree) names texts tree nowhere spot.Elsewhere [] left (all-fine unresolved top left to tree names texts none right) tt (λ h. absurd (apart h)) in
+    subst (λ (t : Node). FollowBindings unresolved t again) (is-read-again unresolved top left to tree names texts none right)
+    (resolved-follows unresolved top left again unresolved_above top_above apart_ (subst (λ (n : ℕ). n ≤ left) (sym counts) enough))

@@ -4,7 +4,7 @@
 //! Each function carries one law, and does nothing. The laws are stated in `specs/`.
 #![tactic(auto)]
 
-ghost use Rattle.ecma_hygiene_laws.specs.ReadAgain.{IsReadAgain};
+ghost use Rattle.ecma_hygiene_laws.specs.ReadAgain.{FollowsItsTexts, IdsStayApart, IsReadAgain};
 ghost use Rattle.ecma_hygiene_laws.specs.Scopes.{ScopesDeclareFinalTexts};
 
 /// A node with other texts opens a scope where it did, and that scope declares the final texts of what it declared.
@@ -16,4 +16,15 @@ pub fn scopes_declare_final_texts()
 /// resolved, is that tree with its contexts mapped to those that the scopes get.
 pub fn what_is_read_again_has_its_ids()
     ensures { IsReadAgain }
+{}
+
+/// So its ids say what its texts name: two identifiers that are bound have one context exactly where their texts are bound in one
+/// scope, and a free one, and it alone, has the unresolved context.
+pub fn what_is_read_again_has_its_bindings()
+    ensures { FollowsItsTexts }
+{}
+
+/// Ids are mapped one to one: two that stand in a tree are written as two, if they have one context, and a free one keeps its text.
+pub fn ids_stay_apart()
+    ensures { IdsStayApart }
 {}
