@@ -28,7 +28,7 @@ use Rattle.ecma_reread.specs.Shapes as shapes
 use Rattle.ecma_reread.specs.Shapes.{Level, looser_than}
 use Rattle.ecma_reread.proofs.Levels.{means_is}
 use Rattle.ecma_reread.proofs.Fronts.{Front, Begins, refuses_at, refused_at, first_refuses, refuses_first, passes_at, passed_at}
-use Rattle.ecma_reread.proofs.Towers.{Tower, here, later, before, chained, climb, suffix, power_tail, choice_tail, private_in, behind_arrow, closes_conditional, closes, Ends, refuses_choices}
+use Rattle.ecma_reread.proofs.Towers.{Tower, here, later, before, chained, climb, suffix, power_tail, choice_tail, private_in, behind_arrow, closes_conditional, closes, Ends, refuses_choices, stops}
 use Rattle.ecma_reread.proofs.Heads.{is_head, kind-node, bare}
 use Rattle.ecma_reread.proofs.Forms.{Laid, behind_params, Reads, Refuses, AsParam, Form, NewForm, Whole, chain_read, Lead, lead_of, only_opens, opens_plainly}
 use Rattle.ecma_reread.proofs.Params.{Params, params_by}
@@ -108,7 +108,8 @@ pub data AllAnd : List Node → Type 0 where
 -- behind an assignment expression stands none of its operators, and none of a conditional one
 ends_parts : (e : Front) → Ends e → (passes_at e (assignments false) ≡ true) × (closes_conditional e ≡ true)
 ends_parts e z =
-    let c = and_parts (refuses_at e (arrow_body false)) _ z in
+    let s = and_parts (stops e) _ z in
+    let c = and_parts (refuses_at e (arrow_body false)) _ s.1 in
     let d = and_parts (refuses_at e (arrow_rest false false)) _ c.1 in
     and_parts (passes_at e (assignments false)) (closes_conditional e) d.1
 
@@ -264,7 +265,8 @@ module _ (assigned : Bool) where
 
   pub assignment_read : {f : Laid} {n : Node} (L : Lead assigned f) → refuses_at (let l = L in l.front) (yield_ false) ≡ true → ((g : Gap) (us : Items) (e : Front) → Begins e us → Ends e → Reads assigned (expressions.conditional false) (f g us) (n ∷ []) us) → Direct shapes.assignment f n
   assignment_read {f} {n} L y D g us e b z =
-      let c = and_parts (refuses_at e (arrow_body false)) _ z in
+      let s = and_parts (stops e) _ z in
+      let c = and_parts (refuses_at e (arrow_body false)) _ s.1 in
       let d = and_parts (refuses_at e (arrow_rest false false)) _ c.1 in
       let t : Tower L.front e (expressions.conditional false) behind_arrow = later y (chained (before here (ends_parts e z).0)) in
       means_is assigned (part.Assign false false) (f g us)

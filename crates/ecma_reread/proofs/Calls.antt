@@ -25,7 +25,7 @@ use Rattle.ecma_grammar.specs.productions.Chains.{arguments, links}
 use Rattle.ecma_grammar.proofs.Steps.{steps-append}
 use Rattle.ecma_tokens.specs.Items as items
 use Rattle.ecma_tokens.specs.Items.{Tok, sign, Gap, no_gap, Items, it}
-use Rattle.ecma_reread.specs.Machine.{with_front, means}
+use Rattle.ecma_reread.specs.Machine.{with_front, means, taken}
 use Rattle.ecma_reread.specs.Shapes as shapes
 use Rattle.ecma_reread.specs.Shapes.{Level, IsPlainName, IsIdent, ident, IsKey, key, IsExpression, IsElement, AreSlots, IsProperty, AreProperties, IsArguments, AreElements, AreExpressions, IsMemberLevel, IsIndexed}
 use Rattle.ecma_reread.specs.Tokens.{bare, blank, ident_word, key_word, own_sign, unary_gap, expression_tokens, element_tokens, arguments_tokens, elements_tokens, expression_kind, expression_parts, bare_element, bare_arguments, bare_elements}
@@ -53,6 +53,9 @@ use Rattle.ecma_reread.proofs.Async.{async_new}
 use Rattle.ecma_reread.proofs.Arrays.{SlotForms, array_new}
 use Rattle.ecma_reread.proofs.Objects.{PropertyForm, PropertyForms, object_new}
 use Rattle.ecma_reread.proofs.Spreads.{ElementForm, element_read, element_param}
+use Rattle.ecma_reread.proofs.PrivateTests.{private_form}
+use Rattle.ecma_reread.proofs.Yields.{yield_alone, yield_form}
+use Rattle.ecma_reread.proofs.Joins.{no_new_line, no_star}
 
 -- no argument begins with `)`
 no_argument : refuses_all (exactly (sign (codes ")"))) element ≡ true
@@ -213,10 +216,13 @@ module _ (assigned : Bool) where
     expression_form (shapes.await_expression at e) = await_form assigned (expression_form e)
     expression_form (shapes.unary_expression at o e) = unary_form assigned o (unary_gap o (own_sign e)) (expression_form e)
     expression_form (shapes.binary_expression at i l r) = binary_form assigned i (expression_form l) (expression_form r)
+    expression_form (shapes.private_in at at' w t r) = private_form assigned w t (expression_form r)
     expression_form (shapes.exponentiation at l r) = power_form assigned (expression_form l) (expression_form r)
     expression_form (shapes.both at l r) = both_form assigned (expression_form l) (expression_form r)
     expression_form (shapes.either at l r) = either_form assigned (expression_form l) (expression_form r)
     expression_form (shapes.coalesced at i l r) = coalesced_form assigned i (expression_form l) (expression_form r)
+    expression_form (shapes.yield_nothing at none) = yield_alone assigned
+    expression_form (shapes.yield_value at d e) = yield_form assigned (expression_form e) d (no_new_line e) (λ us. ap taken (no_star e blank us))
     expression_form (shapes.assignment_expression at o t v) = assignment_form assigned o (expression_form t) (expression_form v)
     expression_form (shapes.conditional_expression at t x y) = choice_form assigned (expression_form t) (expression_form x) (expression_form y)
     expression_form (shapes.array at at' es) = from_new assigned (array_new assigned es (slot_forms es))

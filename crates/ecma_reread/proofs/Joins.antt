@@ -24,7 +24,7 @@ use Rattle.ecma_tokens.proofs.Wholes.{some_text}
 use Rattle.ecma_reread.specs.Machine.{count}
 use Rattle.ecma_reread.specs.Shapes as shapes
 use Rattle.ecma_reread.specs.Shapes.{Level, looser_than, IsOperator, IsIdent, ident, IsKey, key, IsExpression, IsElement, IsArguments, AreElements, AreExpressions, IsInitializer, IsDeclarator, AreDeclarators, AreSlots, IsMemberLevel, IsIndexed, IsChainKey, begins_with_brace, AreProperties, IsPropertyName, IsProperty}
-use Rattle.ecma_reread.specs.Tokens.{blank, sign_of, assign_token, update_token, unary_token, binary_token, own_sign, unary_gap, ident_word, key_word, expression_tokens, element_tokens, arguments_tokens, elements_tokens, more_tokens, declarator_tokens, declarators_tokens, slots_tokens, more_slots_tokens, chain_token, properties_tokens, more_properties_tokens, property_name_tokens, property_tokens}
+use Rattle.ecma_reread.specs.Tokens.{blank, sign_of, assign_token, update_token, unary_token, binary_token, own_sign, unary_gap, ident_word, key_word, expression_tokens, element_tokens, arguments_tokens, elements_tokens, more_tokens, declarator_tokens, declarators_tokens, slots_tokens, more_slots_tokens, chain_token, properties_tokens, more_properties_tokens, property_name_tokens, property_tokens, star_of}
 
 -- each token has a text
 pub good_long : (ts : Items) → Good ts → count ts ≤ length (render ts)
@@ -118,6 +118,7 @@ softer l z = z
 -- what an expression begins with, and the sign that this is as a unary operator
 pub data Opens : Tok → Beside → Type 0 where
   by_key : (w : List ℕ) → Opens (items.key w) NoNeighbor
+  by_private : (w : List ℕ) → Opens (items.private_name w) NoNeighbor
   by_string : (w : List ℕ) → Opens (items.string w) NoNeighbor
   by_number : (w : List ℕ) → Opens (items.number w) NoNeighbor
   by_big_int : (w : List ℕ) → Opens (items.big_int w) NoNeighbor
@@ -159,10 +160,13 @@ begun (shapes.postfix_update at o e) us = begun e (it no_gap (update_token o) us
 begun (shapes.await_expression at e) us = record { first = items.key (codes "await"); by = NoNeighbor; rest = expression_tokens e blank us; opens = by_key (codes "await"); is = λ g. refl }
 begun (shapes.unary_expression at o e) us = record { first = unary_token o; by = unary_sign o; rest = expression_tokens e (unary_gap o (own_sign e)) us; opens = by_operator o; is = λ g. refl }
 begun (shapes.binary_expression at {operator = o} i l r) us = begun l (it blank (binary_token o) (expression_tokens r blank us))
+begun (shapes.private_in at at' w t r) us = record { first = items.private_name (codes "#" ++ w); by = NoNeighbor; rest = it blank (items.key (codes "in")) (expression_tokens r blank us); opens = by_private (codes "#" ++ w); is = λ g. refl }
 begun (shapes.exponentiation at l r) us = begun l (it blank (sign (codes "**")) (expression_tokens r blank us))
 begun (shapes.both at l r) us = begun l (it blank (sign (codes "&&")) (expression_tokens r blank us))
 begun (shapes.either at l r) us = begun l (it blank (sign (codes "||")) (expression_tokens r blank us))
 begun (shapes.coalesced at i l r) us = begun l (it blank (sign (codes "??")) (expression_tokens r blank us))
+begun (shapes.yield_nothing at none) us = record { first = items.key (codes "yield"); by = NoNeighbor; rest = us; opens = by_key (codes "yield"); is = λ g. refl }
+begun (shapes.yield_value at d e) us = record { first = items.key (codes "yield"); by = NoNeighbor; rest = star_of d (expression_tokens e blank us); opens = by_key (codes "yield"); is = λ g. refl }
 begun (shapes.assignment_expression at o t v) us = begun t (it blank (assign_token o) (expression_tokens v blank us))
 begun (shapes.conditional_expression at t x y) us = begun t (it blank (sign (codes "?")) (expression_tokens x blank (it blank (sign (codes ":")) (expression_tokens y blank us))))
 begun (shapes.array at at' es) us = record { first = sign (codes "["); by = NoNeighbor; rest = slots_tokens es us; opens = by_bracket; is = λ g. refl }
@@ -227,6 +231,14 @@ unary_brace Minus g us = refl
 unary_brace o g us = refl
 
 -- it begins with no `{`
+star_by : {t : Tok} {b : Beside} → Opens t b → (g : Gap) (us : Items) → punct_in (codes "*") (it g t us) ≡ refused
+star_by (by_update PlusPlus) g us = refl
+star_by (by_operator Minus) g us = refl
+star_by h g us = refl
+
+pub no_star : {level : Level} {e : Node} (is : IsExpression level e) (g : Gap) (us : Items) → punct_in (codes "*") (expression_tokens is g us) ≡ refused
+no_star is g us = let b = begun is us in rw (b.is g) (star_by b.opens g b.rest)
+
 pub no_brace : {level : Level} {e : Node} (is : IsExpression level e) → begins_with_brace is ≡ false → (g : Gap) (us : Items) → punct_in (codes "{") (expression_tokens is g us) ≡ refused
 no_brace (shapes.looser e) z g us = no_brace e z g us
 no_brace (shapes.member at i o k) z g us = no_brace o z g (sign_of (codes ".") (it no_gap (chain_token k) us))
@@ -351,10 +363,13 @@ plain (shapes.postfix_update at o e) us h = absurd (false≢true h)
 plain (shapes.await_expression at e) us h = refl
 plain (shapes.unary_expression at o e) us h = absurd (false≢true h)
 plain (shapes.binary_expression at {level = l} i x y) us h = absurd (false≢true (sym (no_operand i) ∙ linked_operand l h))
+plain (shapes.private_in at at' w t r) us h = refl
 plain (shapes.exponentiation at l r) us h = absurd (false≢true h)
 plain (shapes.both at l r) us h = absurd (false≢true h)
 plain (shapes.either at l r) us h = absurd (false≢true h)
 plain (shapes.coalesced at i l r) us h = absurd (false≢true h)
+plain (shapes.yield_nothing at none) us h = refl
+plain (shapes.yield_value at d e) us h = refl
 plain (shapes.assignment_expression at o t v) us h = absurd (false≢true h)
 plain (shapes.conditional_expression at t x y) us h = absurd (false≢true h)
 plain (shapes.sequence_expression at x y es) us h = absurd (false≢true h)
@@ -387,10 +402,13 @@ signed (shapes.postfix_update at o e) us h = plain e (it no_gap (update_token o)
 signed (shapes.await_expression at e) us h = refl
 signed (shapes.unary_expression at o e) us h = refl
 signed (shapes.binary_expression at {level = l} i x y) us h = absurd (false≢true (sym (no_operand i) ∙ h))
+signed (shapes.private_in at at' w t r) us h = refl
 signed (shapes.exponentiation at l r) us h = absurd (false≢true h)
 signed (shapes.both at l r) us h = absurd (false≢true h)
 signed (shapes.either at l r) us h = absurd (false≢true h)
 signed (shapes.coalesced at i l r) us h = absurd (false≢true h)
+signed (shapes.yield_nothing at none) us h = refl
+signed (shapes.yield_value at d e) us h = refl
 signed (shapes.assignment_expression at o t v) us h = absurd (false≢true h)
 signed (shapes.conditional_expression at t x y) us h = absurd (false≢true h)
 signed (shapes.sequence_expression at x y es) us h = absurd (false≢true h)
@@ -474,6 +492,7 @@ pub record Words : Type 0 where
   pub void_whole : IsToken key_end (codes "void")
   pub delete_whole : IsToken key_end (codes "delete")
   pub super_whole : IsToken key_end (codes "super")
+  pub yield_whole : IsToken key_end (codes "yield")
   pub new_whole : IsToken key_end (codes "new")
   pub target_whole : IsToken key_end (codes "target")
   pub await_whole : IsToken key_end (codes "await")
@@ -596,6 +615,7 @@ module _ (words : Words) where
     expression_joined (shapes.unary_expression at o e) g h us z j = (h, unary_fine o, unary_joins o e us, expression_joined e (unary_gap o (own_sign e)) (unary_gap_is o (own_sign e)) us z j)
     expression_joined (shapes.binary_expression at {operator = o} i x y) g h us z j =
         expression_joined x g h (it blank (binary_token o) (expression_tokens y blank us)) parted (blank_is, binary_fine o, blank_joins (binary_token o) y us, expression_joined y blank blank_is us (right_soft i z) j)
+    expression_joined (shapes.private_in at at' w t r) g h us z j = (h, t, refl, (blank_is, words.in_whole, blank_joins (items.key (codes "in")) r us, expression_joined r blank blank_is us z j))
     expression_joined (shapes.exponentiation at x y) g h us z j =
         expression_joined x g h (it blank (sign (codes "**")) (expression_tokens y blank us)) parted (blank_is, refl, blank_joins (sign (codes "**")) y us, expression_joined y blank blank_is us z j)
     expression_joined (shapes.both at x y) g h us z j =
@@ -604,6 +624,9 @@ module _ (words : Words) where
         expression_joined x g h (it blank (sign (codes "||")) (expression_tokens y blank us)) parted (blank_is, refl, blank_joins (sign (codes "||")) y us, expression_joined y blank blank_is us z j)
     expression_joined (shapes.coalesced at i x y) g h us z j =
         expression_joined x g h (it blank (sign (codes "??")) (expression_tokens y blank us)) parted (blank_is, refl, blank_joins (sign (codes "??")) y us, expression_joined y blank blank_is us z j)
+    expression_joined (shapes.yield_nothing at none) g h us z j = (h, words.yield_whole, key_soft (codes "yield") z, j)
+    expression_joined (shapes.yield_value at false e) g h us z j = (h, words.yield_whole, blank_joins (items.key (codes "yield")) e us, expression_joined e blank blank_is us z j)
+    expression_joined (shapes.yield_value at true e) g h us z j = (h, words.yield_whole, refl, (no_gap_is, refl, blank_joins (sign (codes "*")) e us, expression_joined e blank blank_is us z j))
     expression_joined (shapes.assignment_expression at o t v) g h us z j =
         expression_joined t g h (it blank (assign_token o) (expression_tokens v blank us)) parted (blank_is, assign_fine o, blank_joins (assign_token o) v us, expression_joined v blank blank_is us z j)
     expression_joined (shapes.conditional_expression at t x y) g h us z j =

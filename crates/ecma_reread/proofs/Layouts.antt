@@ -448,6 +448,18 @@ arguments_there : {n : Node} → IsArguments n → is_absent (laid n).kind ≡ f
 arguments_there (shapes.no_arguments at) = ap (λ x. is_absent x.kind) (laid_node at kind.List [])
 arguments_there (shapes.arguments at e es) = ap (λ x. is_absent x.kind) (laid_node at kind.List _)
 
+-- with what stands before and behind a child that is there
+within_by : (k : Kind) → is_plain k ≡ true → (cs : List Laid) (between : Between) (spot : Spot) (m rest : List ℕ) → in_place k cs (Within between spot) m rest ≡ before between m (in_place k cs (At spot) m (after between m rest))
+within_by kind.Absent h cs between spot m rest = absurd (false≢true h)
+within_by kind.List h cs between spot m rest = absurd (false≢true h)
+within_by k h cs between spot m rest = refl
+
+pub within_laid : {level : Level} {e : Node} (is : IsExpression level e) (between : Between) (spot : Spot) (m rest : List ℕ) → (laid e).at (Within between spot) m rest ≡ before between m ((laid e).at (At spot) m (after between m rest))
+within_laid is between spot m rest =
+    let p = plain is in
+    let cs = map laid p.children in
+    rw p.is (at_node p.at p.kind p.children (Within between spot) m rest ∙ (within_by p.kind p.plain cs between spot m rest ∙ ap (before between m) (sym (at_node p.at p.kind p.children (At spot) m (after between m rest)))))
+
 -- the gap stands in front
 pub gap_out : {level : Level} {e : Node} (is : IsExpression level e) (g : Gap) (us : Items) → render (expression_tokens is g us) ≡ g.blanks ++ render (expression_tokens is no_gap us)
 unfolding render
@@ -475,10 +487,13 @@ gap_out (shapes.postfix_update at o e) g us = gap_out e g (it no_gap (update_tok
 gap_out (shapes.await_expression at e) g us = refl
 gap_out (shapes.unary_expression at o e) g us = refl
 gap_out (shapes.binary_expression at {operator = o} i l r) g us = gap_out l g (it blank (binary_token o) (expression_tokens r blank us))
+gap_out (shapes.private_in at at' w t r) g us = refl
 gap_out (shapes.exponentiation at l r) g us = gap_out l g (it blank (sign (codes "**")) (expression_tokens r blank us))
 gap_out (shapes.both at l r) g us = gap_out l g (it blank (sign (codes "&&")) (expression_tokens r blank us))
 gap_out (shapes.either at l r) g us = gap_out l g (it blank (sign (codes "||")) (expression_tokens r blank us))
 gap_out (shapes.coalesced at i l r) g us = gap_out l g (it blank (sign (codes "??")) (expression_tokens r blank us))
+gap_out (shapes.yield_nothing at none) g us = refl
+gap_out (shapes.yield_value at d e) g us = refl
 gap_out (shapes.assignment_expression at o t v) g us = gap_out t g (it blank (assign_token o) (expression_tokens v blank us))
 gap_out (shapes.conditional_expression at t x y) g us = gap_out t g (it blank (sign (codes "?")) (expression_tokens x blank (it blank (sign (codes ":")) (expression_tokens y blank us))))
 gap_out (shapes.array at at' es) g us = refl
@@ -508,18 +523,6 @@ no_absent_by k h = refl
 element_there : {n : Node} → IsElement n → is_absent (laid n).kind ≡ false
 element_there (shapes.one e) = let p = plain e in rw p.is (ap (λ x. is_absent x.kind) (laid_node p.at p.kind p.children) ∙ no_absent_by p.kind p.plain)
 element_there (shapes.spread at e) = ap (λ x. is_absent x.kind) (laid_node at kind.SpreadElement _)
-
--- with what stands before and behind a child that is there
-within_by : (k : Kind) → is_plain k ≡ true → (cs : List Laid) (between : Between) (spot : Spot) (m rest : List ℕ) → in_place k cs (Within between spot) m rest ≡ before between m (in_place k cs (At spot) m (after between m rest))
-within_by kind.Absent h cs between spot m rest = absurd (false≢true h)
-within_by kind.List h cs between spot m rest = absurd (false≢true h)
-within_by k h cs between spot m rest = refl
-
-pub within_laid : {level : Level} {e : Node} (is : IsExpression level e) (between : Between) (spot : Spot) (m rest : List ℕ) → (laid e).at (Within between spot) m rest ≡ before between m ((laid e).at (At spot) m (after between m rest))
-within_laid is between spot m rest =
-    let p = plain is in
-    let cs = map laid p.children in
-    rw p.is (at_node p.at p.kind p.children (Within between spot) m rest ∙ (within_by p.kind p.plain cs between spot m rest ∙ ap (before between m) (sym (at_node p.at p.kind p.children (At spot) m (after between m rest)))))
 
 and_true : (b : Bool) → (b && true) ≡ false → b ≡ false
 and_true false h = refl
@@ -598,6 +601,10 @@ mutual
       ∙ rw (F.own, c.low, F.fits spot spot.beside c.with_in, F.left_is, F.right_is, F.alone, no_sign spot.beside)
       (ap (λ z. (laid l').at (At (left spot (number_of l) NoNeighbor)) m z) (ap (λ z. binary_word o ++ z) (expression_laid y (right spot (number_of t) NoNeighbor) (quiet (same_low (number_of t)) c.with_in refl refl) refl m us) ∙ (F.word_is (render (expression_tokens y no_gap us)) ∙ ap (λ z. codes " " ++ (token_text (binary_token o) ++ z)) (sym (gap_out y blank us))))
       ∙ expression_laid x (left spot (number_of l) NoNeighbor) (quiet (same_low (number_of l)) c.with_in (c.no_new (operator_calls i)) refl) q m (it blank (binary_token o) (expression_tokens y blank us)))
+  expression_laid (shapes.private_in at at' w {right = r'} t r) spot c q m us =
+      at_node at (kind.BinExpr op.In) (node_of at' (kind.PrivateName w) [] ∷ r' ∷ []) (At spot) m (render us)
+      ∙ rw (c.low, c.with_in, laid_node at' (kind.PrivateName w) [], no_sign spot.beside)
+      (ap (λ z. codes "#" ++ (w ++ (codes " in " ++ z))) (expression_laid r (right (record spot { without_in = false }) 10 NoNeighbor) (quiet refl refl refl refl) refl m us) ∙ ap (λ z. codes "#" ++ (w ++ (codes " in" ++ z))) (sym (gap_out r blank us)))
   expression_laid (shapes.exponentiation at {left = l'} {right = r'} x y) spot c q m us =
       at_node at (kind.BinExpr op.Exp) (l' ∷ r' ∷ []) (At spot) m (render us)
       ∙ rw (c.low, no_sign spot.beside)
@@ -618,6 +625,12 @@ mutual
       ∙ rw (c.low, c.nullish_fits refl, no_sign spot.beside)
       (ap (λ z. (laid l').at (At (left spot 3 UnderNullish)) m z) (ap (λ z. codes " ?? " ++ z) (expression_laid y (right spot 4 UnderNullish) (under_nullish refl c.with_in refl refl refl) refl m us) ∙ ap (λ z. codes " ??" ++ z) (sym (gap_out y blank us)))
       ∙ expression_laid x (left spot 3 UnderNullish) (head_calm i spot c.with_in (c.no_new refl)) q m (it blank (sign (codes "??")) (expression_tokens y blank us)))
+  expression_laid (shapes.yield_nothing at (shapes.absent at')) spot c q m us =
+      at_node at (kind.YieldExpr false) (node_of at' kind.Absent [] ∷ []) (At spot) m (render us) ∙ rw (c.low, no_sign spot.beside) (ap (λ z. codes "yield" ++ z) (at_node at' kind.Absent [] (Within Blank (right spot 1 NoNeighbor)) m (render us)))
+  expression_laid (shapes.yield_value at false {e = e'} e) spot c q m us =
+      at_node at (kind.YieldExpr false) (e' ∷ []) (At spot) m (render us) ∙ rw (c.low, no_sign spot.beside) (ap (λ z. codes "yield" ++ z) (within_laid e Blank (right spot 1 NoNeighbor) m (render us) ∙ (ap (λ z. codes " " ++ z) (expression_laid e (right spot 1 NoNeighbor) (further spot c.with_in) refl m us) ∙ sym (gap_out e blank us))))
+  expression_laid (shapes.yield_value at true {e = e'} e) spot c q m us =
+      at_node at (kind.YieldExpr true) (e' ∷ []) (At spot) m (render us) ∙ rw (c.low, no_sign spot.beside) (ap (λ z. codes "yield*" ++ z) (within_laid e Blank (right spot 1 NoNeighbor) m (render us) ∙ (ap (λ z. codes " " ++ z) (expression_laid e (right spot 1 NoNeighbor) (further spot c.with_in) refl m us) ∙ sym (gap_out e blank us))))
   expression_laid (shapes.assignment_expression at o {target = t'} {value = v'} t v) spot c q m us =
       at_node at (kind.AssignExpr o) (t' ∷ v' ∷ []) (At spot) m (render us)
       ∙ rw (c.low, no_pattern t, and_false (opens_a_block spot.begins), no_sign spot.beside)

@@ -26,6 +26,8 @@ pub mod Expressions
 pub mod Members
 pub mod Elements
 pub mod Supers
+pub mod PrivateTests
+pub mod Yields
 pub mod Constructions
 pub mod Async
 pub mod Lists

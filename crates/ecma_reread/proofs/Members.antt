@@ -39,7 +39,7 @@ tail_of [] = []
 tail_of (x ∷ xs) = xs
 
 -- behind `#` the name stands
-name_behind : (name : List ℕ) → IsToken priv_name_end (codes "#" ++ name) → piece (codes "#" ++ name) 1 (length (codes "#" ++ name)) ≡ name
+pub name_behind : (name : List ℕ) → IsToken priv_name_end (codes "#" ++ name) → piece (codes "#" ++ name) 1 (length (codes "#" ++ name)) ≡ name
 unfolding tail_of
 name_behind name t =
     let w = codes "#" ++ name in

@@ -1,5 +1,5 @@
 -- What is read by a production is read by those further out, where their other alternatives refuse the front and their tails what follows.
-use Rattle.std.proofs.Common.{◌≡◌, ℕ, zero, suc, ◌&&◌, Bool, true, false, [], ◌∷◌, codes, refl, ap, ◌∙◌}
+use Rattle.std.proofs.Common.{◌≡◌, ℕ, zero, suc, ◌&&◌, Bool, true, false, [], ◌∷◌, codes, refl, ap, ◌∙◌, ◌||◌, bytes_eq, List}
 use Rattle.std.proofs.lemmas.Bool.{and_parts}
 use Rattle.ecma_kind.specs.declared.operators.UpdateOp.TheVariants as update_op
 use Rattle.ecma_kind.specs.declared.operators.BinaryOp.TheVariants as binary
@@ -19,11 +19,11 @@ use Rattle.ecma_grammar.specs.productions.Expressions.{conditional, yield_, assi
 use Rattle.ecma_grammar.specs.productions.Declarations.{declaration}
 use Rattle.ecma_grammar.specs.productions.Statements.{statement_body}
 use Rattle.ecma_grammar.specs.productions.Modules.{module_item}
-use Rattle.ecma_tokens.specs.Items.{Items}
+use Rattle.ecma_tokens.specs.Items.{Items, sign, template}
 use Rattle.ecma_reread.specs.Shapes as shapes
 use Rattle.ecma_reread.specs.Shapes.{Level}
 use Rattle.ecma_reread.specs.Machine.{read, Turn, followed_on, or_on, with_front, built_on, interp}
-use Rattle.ecma_reread.proofs.Fronts.{Front, Begins, refuses_at, passes_at, refused_at, passed_at}
+use Rattle.ecma_reread.proofs.Fronts.{Front, Begins, refuses_at, passes_at, refused_at, passed_at, exactly}
 
 -- a grammar around another: the front is f, and k stands behind what is read
 pub data Tower (f k : Front) (base : Grammar) : Grammar → Type 0 where
@@ -153,9 +153,18 @@ closes_logical e = passes_at e (coalescing false // logicals false) && closes_bi
 abbrev pub closes_conditional : Front → Bool
 closes_conditional e = passes_at e choice_tail && closes_logical e
 
--- and no arrow
+-- signs and parts of templates with which no expression begins
+abbrev pub is_stop : List ℕ → Bool
+is_stop w = bytes_eq w (codes ")") || (bytes_eq w (codes "]") || (bytes_eq w (codes "}") || (bytes_eq w (codes ",") || (bytes_eq w (codes ";") || bytes_eq w (codes ":")))))
+
+abbrev pub stops : Front → Bool
+stops (exactly (sign w)) = is_stop w
+stops (exactly (template false last w)) = true
+stops e = false
+
+-- and no arrow, and no operand of `yield`
 abbrev closes_assignment : Front → Bool
-closes_assignment e = refuses_at e (arrow_body false) && (refuses_at e (arrow_rest false false) && (passes_at e (assignments false) && closes_conditional e))
+closes_assignment e = stops e && (refuses_at e (arrow_body false) && (refuses_at e (arrow_rest false false) && (passes_at e (assignments false) && closes_conditional e)))
 
 -- and no comma
 abbrev closes_sequence : Front → Bool

@@ -54,10 +54,13 @@ mutual
   expression_bare (shapes.await_expression at e) = without_spans-node at kind.AwaitExpr _ ∙ ap (λ x. bare kind.AwaitExpr (x ∷ [])) (expression_bare e)
   expression_bare (shapes.unary_expression at o e) = without_spans-node at (kind.UnaryExpr o) _ ∙ ap (λ x. bare (kind.UnaryExpr o) (x ∷ [])) (expression_bare e)
   expression_bare (shapes.binary_expression at {operator = o} i l r) = without_spans-node at (kind.BinExpr o) _ ∙ ap₂ (λ x y. bare (kind.BinExpr o) (x ∷ y ∷ [])) (expression_bare l) (expression_bare r)
+  expression_bare (shapes.private_in at at' w t r) = without_spans-node at (kind.BinExpr op.In) _ ∙ ap₂ (λ x y. bare (kind.BinExpr op.In) (x ∷ y ∷ [])) (without_spans-node at' (kind.PrivateName w) []) (expression_bare r)
   expression_bare (shapes.exponentiation at l r) = without_spans-node at (kind.BinExpr op.Exp) _ ∙ ap₂ (λ x y. bare (kind.BinExpr op.Exp) (x ∷ y ∷ [])) (expression_bare l) (expression_bare r)
   expression_bare (shapes.both at l r) = without_spans-node at (kind.BinExpr op.LogicalAnd) _ ∙ ap₂ (λ x y. bare (kind.BinExpr op.LogicalAnd) (x ∷ y ∷ [])) (expression_bare l) (expression_bare r)
   expression_bare (shapes.either at l r) = without_spans-node at (kind.BinExpr op.LogicalOr) _ ∙ ap₂ (λ x y. bare (kind.BinExpr op.LogicalOr) (x ∷ y ∷ [])) (expression_bare l) (expression_bare r)
   expression_bare (shapes.coalesced at i l r) = without_spans-node at (kind.BinExpr op.NullishCoalescing) _ ∙ ap₂ (λ x y. bare (kind.BinExpr op.NullishCoalescing) (x ∷ y ∷ [])) (expression_bare l) (expression_bare r)
+  expression_bare (shapes.yield_nothing at none) = without_spans-node at (kind.YieldExpr false) _ ∙ ap (λ x. bare (kind.YieldExpr false) (x ∷ [])) (absent_bare none)
+  expression_bare (shapes.yield_value at d e) = without_spans-node at (kind.YieldExpr d) _ ∙ ap (λ x. bare (kind.YieldExpr d) (x ∷ [])) (expression_bare e)
   expression_bare (shapes.assignment_expression at o t v) = without_spans-node at (kind.AssignExpr o) _ ∙ ap₂ (λ x y. bare (kind.AssignExpr o) (x ∷ y ∷ [])) (expression_bare t) (expression_bare v)
   expression_bare (shapes.conditional_expression at {second = y'} t x y) =
       without_spans-node at kind.CondExpr _

@@ -159,6 +159,10 @@ super_spelled : Spelled IsKey (codes "super")
 unfolding chars is_utf8 encode is_xid_start is_xid_continue in_ranges xid_start_ranges xid_continue_ranges
 super_spelled = (IsUtf8-from_is_utf8 (codes "super") refl, (refl, refl))
 
+yield_spelled : Spelled IsKey (codes "yield")
+unfolding chars is_utf8 encode is_xid_start is_xid_continue in_ranges xid_start_ranges xid_continue_ranges
+yield_spelled = (IsUtf8-from_is_utf8 (codes "yield") refl, (refl, refl))
+
 new_spelled : Spelled IsKey (codes "new")
 unfolding chars is_utf8 encode is_xid_start is_xid_continue in_ranges xid_start_ranges xid_continue_ranges
 new_spelled = (IsUtf8-from_is_utf8 (codes "new") refl, (refl, refl))
@@ -184,6 +188,7 @@ layout_words = record {
   void_whole = whole (codes "void") void_spelled;
   delete_whole = whole (codes "delete") delete_spelled;
   super_whole = whole (codes "super") super_spelled;
+  yield_whole = whole (codes "yield") yield_spelled;
   new_whole = whole (codes "new") new_spelled;
   target_whole = whole (codes "target") target_spelled;
   await_whole = whole (codes "await") await_spelled;

@@ -139,6 +139,9 @@ mutual
     unary_expression : (at : Span) (operator : UnaryOp) {e : Node} → IsExpression unary e → IsExpression unary (node_of at (kind.UnaryExpr operator) (e ∷ []))
     binary_expression : (at : Span) {operator : BinaryOp} {level tighter : Level} {left right : Node} → IsOperator operator level tighter → IsExpression level left → IsExpression tighter right
         → IsExpression level (node_of at (kind.BinExpr operator) (left ∷ right ∷ []))
+    -- whether an object has a private name
+    private_in : (at at_name : Span) (name : List ℕ) {right : Node} → IsToken priv_name_end (codes "#" ++ name) → IsExpression shift right
+        → IsExpression relation (node_of at (kind.BinExpr op.In) (node_of at_name (kind.PrivateName name) [] ∷ right ∷ []))
     -- `**` groups to the right, and no operator stands before its left side
     exponentiation : (at : Span) {left right : Node} → IsExpression update left → IsExpression power right → IsExpression power (node_of at (kind.BinExpr op.Exp) (left ∷ right ∷ []))
     both : (at : Span) {left right : Node} → IsExpression logical_and left → IsExpression bit_or right → IsExpression logical_and (node_of at (kind.BinExpr op.LogicalAnd) (left ∷ right ∷ []))
@@ -147,6 +150,9 @@ mutual
     assignment_expression : (at : Span) (operator : AssignOp) {target value : Node} → IsExpression callee target → IsExpression assignment value → IsExpression assignment (node_of at (kind.AssignExpr operator) (target ∷ value ∷ []))
     conditional_expression : (at : Span) {test first second : Node} → IsExpression short_circuit test → IsExpression assignment first → IsExpression assignment second
         → IsExpression assignment (node_of at kind.CondExpr (test ∷ first ∷ second ∷ []))
+    yield_nothing : (at : Span) {none : Node} → IsAbsent none → IsExpression assignment (node_of at (kind.YieldExpr false) (none ∷ []))
+    -- `yield`, or `yield*`
+    yield_value : (at : Span) (delegate : Bool) {e : Node} → IsExpression assignment e → IsExpression assignment (node_of at (kind.YieldExpr delegate) (e ∷ []))
     array : (at of_list : Span) {slots : List Node} → AreSlots slots → IsExpression new_callee (node_of at kind.ArrayLit (node_of of_list kind.List slots ∷ []))
     object_literal : (at of_list : Span) {properties : List Node} → AreProperties properties → IsExpression new_callee (node_of at kind.ObjectLit (node_of of_list kind.List properties ∷ []))
     sequence_expression : (at : Span) {first second : Node} {more : List Node} → IsExpression assignment first → IsExpression assignment second → AreExpressions more → IsExpression sequence (node_of at kind.SeqExpr (first ∷ second ∷ more))

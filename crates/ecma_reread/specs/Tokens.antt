@@ -23,7 +23,7 @@ use Rattle.ecma_print.specs.Operators.{unary_sign, update_sign}
 use Rattle.ecma_print.specs.Statements.{keyword}
 use Rattle.ecma_tokens.specs.Items as items
 use Rattle.ecma_tokens.specs.Items.{Tok, sign, Gap, no_gap, Items, it}
-use Rattle.ecma_reread.specs.Shapes.{IsIdent, ident, IsKey, key, Level, IsExpression, looser, element, prefix_update, postfix_update, await_expression, unary_expression, binary_expression, exponentiation, both, either, coalesced, assignment_expression, conditional_expression, sequence_expression, name, string, number, this_word, big_int, null_word, true_word, false_word, member, call, parenthesized, IsElement, one, spread, IsArguments, no_arguments, arguments, AreElements, no_elements, more_elements, AreExpressions, no_expressions, more_expressions, IsInitializer, no_initializer, initializer, IsDeclarator, declarator, AreDeclarators, no_declarators, more_declarators, IsStatement, expression, declaration, empty, debugger_word, throw, return_value, return_nothing, break_nothing, continue_nothing, Ending, break_label, continue_label, block, if_only, if_else, while_loop, do_loop, labeled, IsBlock, block_of, AreStatements, no_statements, more_statements, array, AreSlots, no_slots, filled, hole, switch_statement, IsCase, case_of, default_of, AreCases, no_cases, more_cases, new_expression, new_alone, new_target, try_catch, try_finally, try_catch_finally, IsCatch, catch_any, catch_name, IsChainKey, plain_key, private_key, super_member, super_element, super_call, IsOptional, left_out, given, IsForBinding, for_binding, for_loop, for_in, for_of, object_literal, IsPropertyName, key_name, string_name, number_name, big_int_name, computed_name, IsProperty, key_value, shorthand, initialized, spread_property, AreProperties, no_properties, more_properties}
+use Rattle.ecma_reread.specs.Shapes.{IsIdent, ident, IsKey, key, Level, IsExpression, looser, element, prefix_update, postfix_update, await_expression, unary_expression, binary_expression, exponentiation, both, either, coalesced, assignment_expression, conditional_expression, sequence_expression, name, string, number, this_word, big_int, null_word, true_word, false_word, member, call, parenthesized, IsElement, one, spread, IsArguments, no_arguments, arguments, AreElements, no_elements, more_elements, AreExpressions, no_expressions, more_expressions, IsInitializer, no_initializer, initializer, IsDeclarator, declarator, AreDeclarators, no_declarators, more_declarators, IsStatement, expression, declaration, empty, debugger_word, throw, return_value, return_nothing, break_nothing, continue_nothing, Ending, break_label, continue_label, block, if_only, if_else, while_loop, do_loop, labeled, IsBlock, block_of, AreStatements, no_statements, more_statements, array, AreSlots, no_slots, filled, hole, switch_statement, IsCase, case_of, default_of, AreCases, no_cases, more_cases, new_expression, new_alone, new_target, try_catch, try_finally, try_catch_finally, IsCatch, catch_any, catch_name, IsChainKey, plain_key, private_key, super_member, super_element, super_call, IsOptional, left_out, given, IsForBinding, for_binding, for_loop, for_in, for_of, object_literal, IsPropertyName, key_name, string_name, number_name, big_int_name, computed_name, IsProperty, key_value, shorthand, initialized, spread_property, AreProperties, no_properties, more_properties, private_in, yield_nothing, yield_value}
 
 abbrev pub blank : Gap
 blank = record { blanks = codes " "; new_line = false }
@@ -121,6 +121,11 @@ own_sign (unary_expression at o e) = unary_sign o
 own_sign (prefix_update at o e) = update_sign o
 own_sign e = NoNeighbor
 
+-- what stands between `yield` and its operand
+abbrev pub star_of : Bool → Items → Items
+star_of true us = sign_of (codes "*") us
+star_of false us = us
+
 -- what stands between a unary operator and its operand
 abbrev pub unary_gap : UnaryOp → Beside → Gap
 unary_gap Minus BehindMinus = blank
@@ -156,10 +161,13 @@ abbrev mutual
   expression_tokens (await_expression at e) g us = it g (items.key (codes "await")) (expression_tokens e blank us)
   expression_tokens (unary_expression at o e) g us = it g (unary_token o) (expression_tokens e (unary_gap o (own_sign e)) us)
   expression_tokens (binary_expression at {operator = o} i l r) g us = expression_tokens l g (it blank (binary_token o) (expression_tokens r blank us))
+  expression_tokens (private_in at at' w t r) g us = it g (items.private_name (codes "#" ++ w)) (it blank (items.key (codes "in")) (expression_tokens r blank us))
   expression_tokens (exponentiation at l r) g us = expression_tokens l g (it blank (sign (codes "**")) (expression_tokens r blank us))
   expression_tokens (both at l r) g us = expression_tokens l g (it blank (sign (codes "&&")) (expression_tokens r blank us))
   expression_tokens (either at l r) g us = expression_tokens l g (it blank (sign (codes "||")) (expression_tokens r blank us))
   expression_tokens (coalesced at i l r) g us = expression_tokens l g (it blank (sign (codes "??")) (expression_tokens r blank us))
+  expression_tokens (yield_nothing at none) g us = it g (items.key (codes "yield")) us
+  expression_tokens (yield_value at d e) g us = it g (items.key (codes "yield")) (star_of d (expression_tokens e blank us))
   expression_tokens (assignment_expression at o t v) g us = expression_tokens t g (it blank (assign_token o) (expression_tokens v blank us))
   expression_tokens (conditional_expression at t x y) g us = expression_tokens t g (it blank (sign (codes "?")) (expression_tokens x blank (it blank (sign (codes ":")) (expression_tokens y blank us))))
   expression_tokens (array at at' es) g us = it g (sign (codes "[")) (slots_tokens es us)
@@ -339,10 +347,13 @@ expression_kind (postfix_update at o e) = kind.UpdateExpr o false
 expression_kind (await_expression at e) = kind.AwaitExpr
 expression_kind (unary_expression at o e) = kind.UnaryExpr o
 expression_kind (binary_expression at {operator = o} i l r) = kind.BinExpr o
+expression_kind (private_in at at' w t r) = kind.BinExpr op.In
 expression_kind (exponentiation at l r) = kind.BinExpr op.Exp
 expression_kind (both at l r) = kind.BinExpr op.LogicalAnd
 expression_kind (either at l r) = kind.BinExpr op.LogicalOr
 expression_kind (coalesced at i l r) = kind.BinExpr op.NullishCoalescing
+expression_kind (yield_nothing at none) = kind.YieldExpr false
+expression_kind (yield_value at d e) = kind.YieldExpr d
 expression_kind (assignment_expression at o t v) = kind.AssignExpr o
 expression_kind (conditional_expression at t x y) = kind.CondExpr
 expression_kind (array at at' es) = kind.ArrayLit
@@ -366,10 +377,13 @@ abbrev mutual
   expression_parts (await_expression at e) = bare (expression_kind e) (expression_parts e) ∷ []
   expression_parts (unary_expression at o e) = bare (expression_kind e) (expression_parts e) ∷ []
   expression_parts (binary_expression at i l r) = bare (expression_kind l) (expression_parts l) ∷ bare (expression_kind r) (expression_parts r) ∷ []
+  expression_parts (private_in at at' w t r) = bare (kind.PrivateName w) [] ∷ bare (expression_kind r) (expression_parts r) ∷ []
   expression_parts (exponentiation at l r) = bare (expression_kind l) (expression_parts l) ∷ bare (expression_kind r) (expression_parts r) ∷ []
   expression_parts (both at l r) = bare (expression_kind l) (expression_parts l) ∷ bare (expression_kind r) (expression_parts r) ∷ []
   expression_parts (either at l r) = bare (expression_kind l) (expression_parts l) ∷ bare (expression_kind r) (expression_parts r) ∷ []
   expression_parts (coalesced at i l r) = bare (expression_kind l) (expression_parts l) ∷ bare (expression_kind r) (expression_parts r) ∷ []
+  expression_parts (yield_nothing at none) = absent ∷ []
+  expression_parts (yield_value at d e) = bare (expression_kind e) (expression_parts e) ∷ []
   expression_parts (assignment_expression at o t v) = bare (expression_kind t) (expression_parts t) ∷ bare (expression_kind v) (expression_parts v) ∷ []
   expression_parts (conditional_expression at t x y) = bare (expression_kind t) (expression_parts t) ∷ bare (expression_kind x) (expression_parts x) ∷ bare (expression_kind y) (expression_parts y) ∷ []
   expression_parts (array at at' es) = list_node (bare_slots es) ∷ []
