@@ -65,3 +65,4 @@ pub mod StatementJoins
 pub mod Words
 pub mod Law
 mod Samples
+mod ModuleSamples

@@ -27,32 +27,32 @@ use Rattle.ecma_reread.proofs.Bindings.{further_out}
 use Rattle.ecma_reread.proofs.ModuleLayouts.{module_laid}
 use Rattle.ecma_reread.proofs.Words.{whole}
 
-abbrev at : Span
+abbrev pub at : Span
 at = record { lo = 3; hi = 5 }
 
-a_spelled : Spelled IsKeySpelling (codes "a")
+pub a_spelled : Spelled IsKeySpelling (codes "a")
 unfolding chars is_utf8 encode is_xid_start is_xid_continue in_ranges xid_start_ranges xid_continue_ranges
 a_spelled = (IsUtf8-from_is_utf8 (codes "a") refl, (refl, refl))
 
-a_name : IsPlainName (codes "a")
+pub a_name : IsPlainName (codes "a")
 unfolding is_reserved reserved_words
 a_name = record { whole = whole (codes "a") a_spelled; free = refl }
 
-async_spelled : Spelled IsKeySpelling (codes "async")
+pub async_spelled : Spelled IsKeySpelling (codes "async")
 unfolding chars is_utf8 encode is_xid_start is_xid_continue in_ranges xid_start_ranges xid_continue_ranges
 async_spelled = (IsUtf8-from_is_utf8 (codes "async") refl, (refl, refl))
 
-async_name : IsPlainName (codes "async")
+pub async_name : IsPlainName (codes "async")
 unfolding is_reserved reserved_words
 async_name = record { whole = whole (codes "async") async_spelled; free = refl }
 
-abbrev gone : Node
+abbrev pub gone : Node
 gone = node_of at kind.Absent []
 
-abbrev a : Node
+abbrev pub a : Node
 a = node_of at (kind.Ident (codes "a") 0 false) []
 
-abbrev async : Node
+abbrev pub async : Node
 async = node_of at (kind.Ident (codes "async") 0 false) []
 
 abbrev properties : Node
@@ -74,7 +74,7 @@ abbrev value : Node
 value = node_of at (kind.BinExpr Add) (node_of at (kind.UnaryExpr Minus) (node_of at (kind.UnaryExpr Minus) (a ∷ []) ∷ []) ∷ product ∷ [])
 
 -- an expression so many levels further out
-abbrev out : (n : ℕ) {level : Level} {e : Node} → IsExpression level e → IsExpression (further_out n level) e
+abbrev pub out : (n : ℕ) {level : Level} {e : Node} → IsExpression level e → IsExpression (further_out n level) e
 out zero is = is
 out (suc n) is = out n (looser is)
 
