@@ -1,5 +1,5 @@
 -- `new` is read as it is laid out.
-use Rattle.std.proofs.Common.{◌≡◌, Bool, true, false, ◌&&◌, List, [], ◌∷◌, ◌++◌, codes, refl, ap, ◌∙◌, append-nil, unwrap_or, None}
+use Rattle.std.proofs.Common.{◌≡◌, Bool, true, List, [], ◌∷◌, codes, refl, ap, ◌∙◌, append-nil, unwrap_or, None}
 use Rattle.std.proofs.lemmas.Bool.{and_parts}
 use Rattle.ecma_lex.specs.Keys.{is_reserved, reserved_words}
 use Rattle.ecma_kind.specs.declared.operators.MetaPropKind.TheVariants.{NewTarget}
@@ -12,7 +12,7 @@ use Rattle.ecma_grammar.specs.declared.production.Link.TheVariants as link
 use Rattle.ecma_grammar.specs.declared.production.Flag.TheVariants.{Absent}
 use Rattle.ecma_grammar.specs.declared.production.Form.TheVariants as form
 use Rattle.ecma_grammar.specs.trees.Chains.{steps, in_front_link}
-use Rattle.ecma_grammar.specs.Grammar.{Grammar, put, ahead, enter, ◌▸◌, ◌//◌, build, behind_punct, punct, word, maybe, marked, commas, list}
+use Rattle.ecma_grammar.specs.Grammar.{Grammar, put, ahead, enter, ◌▸◌, build, behind_punct, punct, word, maybe, marked, commas, list}
 use Rattle.ecma_grammar.specs.productions.Names as names
 use Rattle.ecma_grammar.specs.productions.Types.{param, rest_pattern, default_value, type_param_instantiation, after_type_args}
 use Rattle.ecma_grammar.specs.productions.Patterns.{pattern_body, array_pattern, object_pattern}
@@ -34,7 +34,7 @@ use Rattle.ecma_reread.proofs.Levels.{means_is}
 use Rattle.ecma_reread.proofs.Fronts.{Front, exactly, Begins, at_token, refuses_at, refused_at, refuses_first, first_refuses, passes_at, passed_at}
 use Rattle.ecma_reread.proofs.Towers.{Opens, closes, refuses_choices, skipped}
 use Rattle.ecma_reread.proofs.Heads.{is_head, bare}
-use Rattle.ecma_reread.proofs.Forms.{Laid, s, heads, new_heads, Reads, Refuses, Form, NewForm, only_opens, lead_by, param_by, form_by}
+use Rattle.ecma_reread.proofs.Forms.{Laid, s, heads, new_heads, Reads, NewForm, only_opens, lead_by, param_by, form_by}
 use Rattle.ecma_reread.proofs.Bindings.{Stands, tight_by}
 
 abbrev new : Front

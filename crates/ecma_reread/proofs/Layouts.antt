@@ -1,13 +1,12 @@
 -- The layout of a tree is the text of its tokens.
-use Rattle.std.proofs.Common.{◌≡◌, ◌≤◌, ℕ, Bool, true, false, ◌&&◌, ltb, List, [], ◌∷◌, ◌++◌, map, codes, refl, ap, sym, ◌∙◌, arith}
-use Rattle.std.proofs.lemmas.Bool.{false≢true, le-ltb, ltb-false}
+use Rattle.std.proofs.Common.{◌≡◌, ℕ, Bool, true, false, ◌&&◌, List, [], ◌∷◌, ◌++◌, map, codes, refl, ap, sym, ◌∙◌, arith}
+use Rattle.std.proofs.lemmas.Bool.{false≢true}
 use Rattle.ecma_kind.specs.declared.operators.UnaryOp.{UnaryOp}
 use Rattle.ecma_kind.specs.declared.operators.UnaryOp.TheVariants.{Minus, Plus, Bang, Tilde, TypeOf, Void, Delete}
 use Rattle.ecma_kind.specs.declared.operators.UpdateOp.{UpdateOp}
 use Rattle.ecma_kind.specs.declared.operators.UpdateOp.TheVariants.{PlusPlus, MinusMinus}
 use Rattle.ecma_kind.specs.declared.operators.AssignOp.{AssignOp}
 use Rattle.ecma_kind.specs.declared.operators.AssignOp.TheVariants.{Assign, AddAssign, SubAssign, MulAssign, DivAssign, ModAssign, LShiftAssign, RShiftAssign, ZeroFillRShiftAssign, BitOrAssign, BitXorAssign, BitAndAssign, ExpAssign, AndAssign, OrAssign, NullishAssign}
-use Rattle.ecma_kind.specs.declared.operators.BinaryOp.{BinaryOp}
 use Rattle.ecma_kind.specs.declared.operators.BinaryOp.TheVariants as op
 use Rattle.ecma_kind.specs.declared.operators.MetaPropKind.TheVariants.{NewTarget}
 use Rattle.ecma_kind.specs.declared.span.Span.{Span}
@@ -15,19 +14,17 @@ use Rattle.ecma_kind.specs.declared.kind.Kind.{Kind}
 use Rattle.ecma_kind.specs.declared.kind.Kind.TheVariants as kind
 use Rattle.ecma_tree.specs.declared.node.Node.{Node, fold-roll-Node}
 use Rattle.ecma_tree.specs.Nodes.{node_of}
-use Rattle.ecma_print.specs.declared.place.Begins.TheVariants.{StatementStart, DefaultStart}
 use Rattle.ecma_print.specs.declared.place.Beside.{Beside}
 use Rattle.ecma_print.specs.declared.place.Beside.TheVariants.{UnderLogical, UnderNullish, NoNeighbor, BeforeDot, BeforeLink, BehindMinus, BehindPlus}
 use Rattle.ecma_print.specs.declared.place.Between.{Between}
 use Rattle.ecma_print.specs.declared.place.Between.TheVariants.{Blank, Equals}
 use Rattle.ecma_print.specs.declared.place.Spot.{Spot}
 use Rattle.ecma_print.specs.declared.place.Place.{Place}
-use Rattle.ecma_print.specs.declared.place.Place.TheVariants.{At, Within, Arguments, Commas, Braces, Brackets}
-use Rattle.ecma_print.specs.Places.{before, after, free, left, right, beginning, gap, opens_a_block, is_headed}
+use Rattle.ecma_print.specs.declared.place.Place.TheVariants.{At, Within, Arguments, Braces, Brackets}
+use Rattle.ecma_print.specs.Places.{before, after, free, left, right, gap, opens_a_block, is_headed}
 use Rattle.ecma_print.specs.Laid.{Laid, is_absent, is_object_pattern}
-use Rattle.ecma_print.specs.Levels.{is_before_dot, clashes}
-use Rattle.ecma_print.specs.Operators.{assign_word, unary_word, unary_sign, update_word, update_sign, binary_word, binary_level, left_level, right_level, under}
-use Rattle.ecma_print.specs.Expressions.{before_key, object_beside, is_optional, more_of_sequence, callee_spot}
+use Rattle.ecma_print.specs.Operators.{assign_word, unary_word, unary_sign, update_word, update_sign, binary_word}
+use Rattle.ecma_print.specs.Expressions.{more_of_sequence, callee_spot}
 use Rattle.ecma_print.specs.Lists.{more_commas, ends_in_hole, hole_comma, brackets, braces}
 use Rattle.ecma_print.specs.Layout.{in_place, by_itself, lay_step, laid}
 use Rattle.ecma_tokens.specs.Items as items
@@ -35,265 +32,13 @@ use Rattle.ecma_tokens.specs.Items.{Tok, sign, Gap, no_gap, Items, it, token_tex
 use Rattle.ecma_reread.specs.Shapes as shapes
 use Rattle.ecma_reread.specs.Shapes.{Level, looser_than, IsOperator, IsIdent, ident, IsKey, key, IsAbsent, IsExpression, IsElement, IsArguments, AreElements, AreExpressions, IsInitializer, IsDeclarator, AreDeclarators, AreSlots, IsMemberLevel, IsIndexed, begins_with_brace, IsProperty, IsPropertyName, AreProperties}
 use Rattle.ecma_reread.specs.Tokens.{blank, sign_of, assign_token, update_token, unary_token, binary_token, own_sign, unary_gap, expression_tokens, element_tokens, arguments_tokens, elements_tokens, more_tokens, initializer_tokens, declarator_tokens, declarators_tokens, slots_tokens, more_slots_tokens, chain_token, property_tokens, property_name_tokens, properties_tokens, more_properties_tokens}
+use Rattle.ecma_reread.proofs.Spots.{before_dot, number_of, Calm, tightly, calmer, same_low, quiet, under_logical, under_nullish, before_link, index_calm, member_low, index_low, calm_0, calm_1, further, update_calm, unary_calm, operator_calls, printed, head_calm, callee_calm}
 
 pub laid_node : (at : Span) (k : Kind) (cs : List Node) → laid (node_of at k cs) ≡ record { kind = k; at = in_place k (map laid cs); parts = map by_itself (map laid cs) }
 laid_node at k cs = fold-roll-Node Laid lay_step (record { span = at; kind = k; children = cs })
 
 pub at_node : (at : Span) (k : Kind) (cs : List Node) (place : Place) (m rest : List ℕ) → (laid (node_of at k cs)).at place m rest ≡ in_place k (map laid cs) place m rest
 at_node at k cs place m rest = ap (λ x. x.at place m rest) (laid_node at k cs)
-
--- the level of the printer that is each level
-abbrev pub number_of : Level → ℕ
-number_of shapes.new_callee = 17
-number_of shapes.object = 16
-number_of shapes.callee = 16
-number_of shapes.left_hand_side = 16
-number_of shapes.update = 15
-number_of shapes.unary = 14
-number_of shapes.power = 13
-number_of shapes.product = 12
-number_of shapes.sum = 11
-number_of shapes.shift = 10
-number_of shapes.relation = 9
-number_of shapes.equality = 8
-number_of shapes.bit_and = 7
-number_of shapes.bit_xor = 6
-number_of shapes.bit_or = 5
-number_of shapes.logical_and = 4
-number_of shapes.logical_or = 3
-number_of shapes.coalescing = 3
-number_of shapes.short_circuit = 3
-number_of shapes.assignment = 1
-number_of shapes.sequence = 0
-
-abbrev pub is_object : Level → Bool
-is_object shapes.new_callee = true
-is_object shapes.object = true
-is_object l = false
-
--- where a call may stand by itself, and what may stand before a link
-abbrev holds_calls : Level → Bool
-holds_calls shapes.new_callee = false
-holds_calls l = true
-
-abbrev heads_links : Level → Bool
-heads_links shapes.new_callee = true
-heads_links shapes.object = true
-heads_links shapes.callee = true
-heads_links l = false
-
-calls_out : (l : Level) → holds_calls l ≡ true → holds_calls (looser_than l) ≡ true
-calls_out shapes.new_callee h = refl
-calls_out l h = h
-
-heads_out : (l : Level) → heads_links l ≡ false → heads_links (looser_than l) ≡ false
-heads_out shapes.callee h = refl
-heads_out l h = h
-
-object_out : (l : Level) → is_object l ≡ false → is_object (looser_than l) ≡ false
-object_out shapes.object h = refl
-object_out l h = h
-
--- where `&&` and `||` may stand by themselves, and where `??` may
-abbrev holds_logical : Level → Bool
-holds_logical shapes.logical_and = true
-holds_logical shapes.logical_or = true
-holds_logical shapes.short_circuit = true
-holds_logical shapes.assignment = true
-holds_logical shapes.sequence = true
-holds_logical l = false
-
-abbrev holds_nullish : Level → Bool
-holds_nullish shapes.coalescing = true
-holds_nullish shapes.short_circuit = true
-holds_nullish shapes.assignment = true
-holds_nullish shapes.sequence = true
-holds_nullish l = false
-
-logical_out : (l : Level) → holds_logical l ≡ true → holds_logical (looser_than l) ≡ true
-logical_out shapes.bit_or h = refl
-logical_out shapes.coalescing h = refl
-logical_out l h = h
-
-nullish_out : (l : Level) → holds_nullish l ≡ true → holds_nullish (looser_than l) ≡ true
-nullish_out shapes.logical_or h = refl
-nullish_out l h = h
-
--- a place where expressions of the level stand without parentheses, in no optional chain
-pub record Calm (l : Level) (spot : Spot) : Type 0 where
-  pub low : ltb (number_of l) spot.level ≡ false
-  pub with_in : spot.without_in ≡ false
-  pub no_new : holds_calls l ≡ true → spot.in_callee_of_new ≡ false
-  pub no_head : heads_links l ≡ false → is_headed spot.beside ≡ false
-  pub outside : (computed : Bool) → object_beside spot.beside computed ≡ before_key computed
-  pub own : is_optional spot.beside ≡ false
-  pub both_fits : holds_logical l ≡ true → clashes op.LogicalAnd spot spot.beside ≡ false
-  pub either_fits : holds_logical l ≡ true → clashes op.LogicalOr spot spot.beside ≡ false
-  pub nullish_fits : holds_nullish l ≡ true → clashes op.NullishCoalescing spot spot.beside ≡ false
-  pub no_dot : is_object l ≡ false → is_before_dot spot.beside ≡ false
-
--- what stands where a looser level stands is a tighter one
-lowered : (l : Level) → number_of (looser_than l) ≤ number_of l
-lowered shapes.new_callee = omega arith
-lowered shapes.object = omega arith
-lowered shapes.callee = omega arith
-lowered shapes.left_hand_side = omega arith
-lowered shapes.update = omega arith
-lowered shapes.unary = omega arith
-lowered shapes.power = omega arith
-lowered shapes.product = omega arith
-lowered shapes.sum = omega arith
-lowered shapes.shift = omega arith
-lowered shapes.relation = omega arith
-lowered shapes.equality = omega arith
-lowered shapes.bit_and = omega arith
-lowered shapes.bit_xor = omega arith
-lowered shapes.bit_or = omega arith
-lowered shapes.logical_and = omega arith
-lowered shapes.logical_or = omega arith
-lowered shapes.coalescing = omega arith
-lowered shapes.short_circuit = omega arith
-lowered shapes.assignment = omega arith
-lowered shapes.sequence = omega arith
-
-tightly : (a b n : ℕ) → b ≤ a → ltb b n ≡ false → ltb a n ≡ false
-tightly a b n h k = le-ltb a n (let c = ltb-false b n k in omega arith)
-
-calmer : {l : Level} {spot : Spot} → Calm (looser_than l) spot → Calm l spot
-calmer {l} {spot} c = record {
-  low = tightly (number_of l) (number_of (looser_than l)) spot.level (lowered l) c.low;
-  with_in = c.with_in;
-  no_new = λ h. c.no_new (calls_out l h);
-  no_head = λ h. c.no_head (heads_out l h);
-  outside = c.outside;
-  own = c.own;
-  both_fits = λ h. c.both_fits (logical_out l h);
-  either_fits = λ h. c.either_fits (logical_out l h);
-  nullish_fits = λ h. c.nullish_fits (nullish_out l h);
-  no_dot = λ h. c.no_dot (object_out l h);
-}
-
-same_low : (n : ℕ) → ltb n n ≡ false
-same_low n = le-ltb n n (omega arith)
-
-low_0 : (l : Level) → ltb (number_of l) 0 ≡ false
-low_0 shapes.object = refl
-low_0 l = refl
-
--- beside nothing
-quiet : {l : Level} {spot : Spot} → ltb (number_of l) spot.level ≡ false → spot.without_in ≡ false → spot.in_callee_of_new ≡ false → spot.beside ≡ NoNeighbor → Calm l spot
-quiet a h n e = record {
-  low = a;
-  with_in = h;
-  no_new = λ z. n;
-  no_head = λ z. rw e refl;
-  outside = λ b. rw e refl;
-  own = rw e refl;
-  both_fits = λ z. rw e refl;
-  either_fits = λ z. rw e refl;
-  nullish_fits = λ z. rw e refl;
-  no_dot = λ z. rw e refl;
-}
-
--- beside `&&` or `||`, and beside `??`
-under_logical : {l : Level} {spot : Spot} → ltb (number_of l) spot.level ≡ false → spot.without_in ≡ false → spot.in_callee_of_new ≡ false → spot.beside ≡ UnderLogical → holds_nullish l ≡ false → Calm l spot
-under_logical a h n e k = record {
-  low = a;
-  with_in = h;
-  no_new = λ z. n;
-  no_head = λ z. rw e refl;
-  outside = λ b. rw e refl;
-  own = rw e refl;
-  both_fits = λ z. rw e refl;
-  either_fits = λ z. rw e refl;
-  nullish_fits = λ z. absurd (false≢true (sym k ∙ z));
-  no_dot = λ z. rw e refl;
-}
-
-under_nullish : {l : Level} {spot : Spot} → ltb (number_of l) spot.level ≡ false → spot.without_in ≡ false → spot.in_callee_of_new ≡ false → spot.beside ≡ UnderNullish → holds_logical l ≡ false → Calm l spot
-under_nullish a h n e k = record {
-  low = a;
-  with_in = h;
-  no_new = λ z. n;
-  no_head = λ z. rw e refl;
-  outside = λ b. rw e refl;
-  own = rw e refl;
-  both_fits = λ z. absurd (false≢true (sym k ∙ z));
-  either_fits = λ z. absurd (false≢true (sym k ∙ z));
-  nullish_fits = λ z. rw e refl;
-  no_dot = λ z. rw e refl;
-}
-
--- before a link, and before a point
-before_link : {l : Level} {spot : Spot} → ltb (number_of l) spot.level ≡ false → spot.without_in ≡ false → (holds_calls l ≡ true → spot.in_callee_of_new ≡ false) → spot.beside ≡ BeforeLink → heads_links l ≡ true → Calm l spot
-before_link a h n e k = record {
-  low = a;
-  with_in = h;
-  no_new = n;
-  no_head = λ z. absurd (false≢true (sym z ∙ k));
-  outside = λ b. rw e refl;
-  own = rw e refl;
-  both_fits = λ z. rw e refl;
-  either_fits = λ z. rw e refl;
-  nullish_fits = λ z. rw e refl;
-  no_dot = λ z. rw e refl;
-}
-
-before_dot : {l : Level} → IsMemberLevel l → (spot : Spot) → spot.without_in ≡ false → (holds_calls l ≡ true → spot.in_callee_of_new ≡ false) → Calm l (left spot 16 BeforeDot)
-before_dot shapes.member_of_new spot h n = record {
-  low = refl;
-  with_in = h;
-  no_new = n;
-  no_head = λ z. absurd (false≢true (sym z));
-  outside = λ b. refl;
-  own = refl;
-  both_fits = λ z. refl;
-  either_fits = λ z. refl;
-  nullish_fits = λ z. refl;
-  no_dot = λ z. absurd (false≢true (sym z));
-}
-before_dot shapes.member_of_object spot h n = record {
-  low = refl;
-  with_in = h;
-  no_new = n;
-  no_head = λ z. absurd (false≢true (sym z));
-  outside = λ b. refl;
-  own = refl;
-  both_fits = λ z. refl;
-  either_fits = λ z. refl;
-  nullish_fits = λ z. refl;
-  no_dot = λ z. absurd (false≢true (sym z));
-}
-
--- an object before brackets
-index_calm : {h l : Level} → IsIndexed h l → (spot : Spot) → spot.without_in ≡ false → (holds_calls l ≡ true → spot.in_callee_of_new ≡ false) → Calm h (left spot 16 BeforeLink)
-index_calm shapes.index_of_new spot h n = before_link refl h (λ z. absurd (false≢true z)) refl refl
-index_calm shapes.index_of_callee spot h n = before_link refl h (λ z. n refl) refl refl
-
--- where a member stands, no level asks for parentheses
-member_low : {l : Level} → IsMemberLevel l → (n : ℕ) → ltb (number_of l) n ≡ false → ltb 17 n ≡ false
-member_low shapes.member_of_new n h = h
-member_low shapes.member_of_object n h = tightly 17 16 n (omega arith) h
-
-index_low : {h l : Level} → IsIndexed h l → (n : ℕ) → ltb (number_of l) n ≡ false → ltb 17 n ≡ false
-index_low shapes.index_of_new n h = h
-index_low shapes.index_of_callee n h = tightly 17 16 n (omega arith) h
-
-pub calm_0 : (l : Level) → Calm l (free 0)
-calm_0 l = quiet (low_0 l) refl refl refl
-
-pub calm_1 : Calm shapes.assignment (free 1)
-calm_1 = quiet refl refl refl refl
-
--- further on in what stands at a spot
-pub further : (spot : Spot) → spot.without_in ≡ false → Calm shapes.assignment (right spot 1 NoNeighbor)
-further spot h = quiet refl h refl refl
-
-pub calm_default : Calm shapes.assignment (beginning 1 DefaultStart false)
-calm_default = quiet refl refl refl refl
-
-pub calm_start : (l : Level) → Calm l (beginning 0 StatementStart false)
-calm_start l = quiet (low_0 l) refl refl refl
 
 -- signs
 
@@ -317,10 +62,6 @@ update_text : (o : UpdateOp) → update_word o ≡ token_text (update_token o)
 update_text PlusPlus = refl
 update_text MinusMinus = refl
 
-update_calm : (o : UpdateOp) (spot : Spot) → spot.without_in ≡ false → Calm shapes.callee (right spot 16 (update_sign o))
-update_calm PlusPlus spot h = record { low = refl; with_in = h; no_new = λ z. refl; no_head = λ z. refl; outside = λ b. refl; own = refl; both_fits = λ z. refl; either_fits = λ z. refl; nullish_fits = λ z. refl; no_dot = λ z. refl }
-update_calm MinusMinus spot h = record { low = refl; with_in = h; no_new = λ z. refl; no_head = λ z. refl; outside = λ b. refl; own = refl; both_fits = λ z. refl; either_fits = λ z. refl; nullish_fits = λ z. refl; no_dot = λ z. refl }
-
 abbrev is_linked : Level → Bool
 is_linked shapes.new_callee = true
 is_linked shapes.object = true
@@ -343,12 +84,6 @@ unsigned e h = refl
 
 no_gap_before : (o : UpdateOp) {e : Node} (is : IsExpression shapes.callee e) → gap (update_sign o) (own_sign is) ≡ []
 no_gap_before o is = rw (unsigned is refl) (no_sign (update_sign o))
-
--- the operand of a unary operator stands behind its sign
-unary_calm : (o : UnaryOp) (spot : Spot) → spot.without_in ≡ false → Calm shapes.unary (right spot 14 (unary_sign o))
-unary_calm Minus spot h = record { low = refl; with_in = h; no_new = λ z. refl; no_head = λ z. refl; outside = λ b. refl; own = refl; both_fits = λ z. refl; either_fits = λ z. refl; nullish_fits = λ z. refl; no_dot = λ z. refl }
-unary_calm Plus spot h = record { low = refl; with_in = h; no_new = λ z. refl; no_head = λ z. refl; outside = λ b. refl; own = refl; both_fits = λ z. refl; either_fits = λ z. refl; nullish_fits = λ z. refl; no_dot = λ z. refl }
-unary_calm o spot h = record { low = refl; with_in = h; no_new = λ z. refl; no_head = λ z. refl; outside = λ b. refl; own = refl; both_fits = λ z. refl; either_fits = λ z. refl; nullish_fits = λ z. refl; no_dot = λ z. refl }
 
 -- a node with a text of its own, and no pattern
 abbrev is_plain : Kind → Bool
@@ -398,51 +133,6 @@ assign_text ExpAssign x = refl
 assign_text AndAssign x = refl
 assign_text OrAssign x = refl
 assign_text NullishAssign x = refl
-
--- what the printer says of an operator between two operands
-record Printed (o : BinaryOp) (l t : Level) : Type 0 where
-  pub own : binary_level o ≡ number_of l
-  pub left_is : left_level o ≡ number_of l
-  pub right_is : right_level o ≡ number_of t
-  pub alone : under o ≡ NoNeighbor
-  pub fits : (spot : Spot) (b : Beside) → spot.without_in ≡ false → clashes o spot b ≡ false
-  pub word_is : (x : List ℕ) → binary_word o ++ x ≡ codes " " ++ (token_text (binary_token o) ++ (codes " " ++ x))
-
-operator_calls : {o : BinaryOp} {l t : Level} → IsOperator o l t → holds_calls l ≡ true
-operator_calls shapes.times = refl
-operator_calls i = refl
-
-printed : {o : BinaryOp} {l t : Level} → IsOperator o l t → Printed o l t
-printed shapes.times = record { own = refl; left_is = refl; right_is = refl; alone = refl; fits = λ spot b h. refl; word_is = λ x. refl }
-printed shapes.divided = record { own = refl; left_is = refl; right_is = refl; alone = refl; fits = λ spot b h. refl; word_is = λ x. refl }
-printed shapes.modulo = record { own = refl; left_is = refl; right_is = refl; alone = refl; fits = λ spot b h. refl; word_is = λ x. refl }
-printed shapes.plus = record { own = refl; left_is = refl; right_is = refl; alone = refl; fits = λ spot b h. refl; word_is = λ x. refl }
-printed shapes.minus = record { own = refl; left_is = refl; right_is = refl; alone = refl; fits = λ spot b h. refl; word_is = λ x. refl }
-printed shapes.left_shift = record { own = refl; left_is = refl; right_is = refl; alone = refl; fits = λ spot b h. refl; word_is = λ x. refl }
-printed shapes.right_shift = record { own = refl; left_is = refl; right_is = refl; alone = refl; fits = λ spot b h. refl; word_is = λ x. refl }
-printed shapes.unsigned_shift = record { own = refl; left_is = refl; right_is = refl; alone = refl; fits = λ spot b h. refl; word_is = λ x. refl }
-printed shapes.less = record { own = refl; left_is = refl; right_is = refl; alone = refl; fits = λ spot b h. refl; word_is = λ x. refl }
-printed shapes.greater = record { own = refl; left_is = refl; right_is = refl; alone = refl; fits = λ spot b h. refl; word_is = λ x. refl }
-printed shapes.at_most = record { own = refl; left_is = refl; right_is = refl; alone = refl; fits = λ spot b h. refl; word_is = λ x. refl }
-printed shapes.at_least = record { own = refl; left_is = refl; right_is = refl; alone = refl; fits = λ spot b h. refl; word_is = λ x. refl }
-printed shapes.instance_of = record { own = refl; left_is = refl; right_is = refl; alone = refl; fits = λ spot b h. refl; word_is = λ x. refl }
-printed shapes.contained = record { own = refl; left_is = refl; right_is = refl; alone = refl; fits = λ spot b h. h; word_is = λ x. refl }
-printed shapes.equal = record { own = refl; left_is = refl; right_is = refl; alone = refl; fits = λ spot b h. refl; word_is = λ x. refl }
-printed shapes.unequal = record { own = refl; left_is = refl; right_is = refl; alone = refl; fits = λ spot b h. refl; word_is = λ x. refl }
-printed shapes.same = record { own = refl; left_is = refl; right_is = refl; alone = refl; fits = λ spot b h. refl; word_is = λ x. refl }
-printed shapes.other = record { own = refl; left_is = refl; right_is = refl; alone = refl; fits = λ spot b h. refl; word_is = λ x. refl }
-printed shapes.conjunction = record { own = refl; left_is = refl; right_is = refl; alone = refl; fits = λ spot b h. refl; word_is = λ x. refl }
-printed shapes.exclusion = record { own = refl; left_is = refl; right_is = refl; alone = refl; fits = λ spot b h. refl; word_is = λ x. refl }
-printed shapes.disjunction = record { own = refl; left_is = refl; right_is = refl; alone = refl; fits = λ spot b h. refl; word_is = λ x. refl }
-
--- on the left side of `??`
-head_calm : {l : Level} → shapes.IsCoalesceHead l → (spot : Spot) → spot.without_in ≡ false → spot.in_callee_of_new ≡ false → Calm l (left spot 3 UnderNullish)
-head_calm shapes.first_head spot h n = under_nullish refl h n refl refl
-head_calm shapes.next_head spot h n = under_nullish refl h n refl refl
-
--- in the callee of `new`
-callee_calm : (spot : Spot) → spot.without_in ≡ false → Calm shapes.new_callee (callee_spot spot)
-callee_calm spot h = before_link refl h (λ z. absurd (false≢true z)) refl refl
 
 arguments_there : {n : Node} → IsArguments n → is_absent (laid n).kind ≡ false
 arguments_there (shapes.no_arguments at) = ap (λ x. is_absent x.kind) (laid_node at kind.List [])

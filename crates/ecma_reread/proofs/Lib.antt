@@ -54,6 +54,7 @@ pub mod ModuleAssignments
 pub mod Modules
 pub mod Whole
 pub mod ModuleTrees
+pub mod Spots
 pub mod Layouts
 pub mod ModuleLayouts
 pub mod StatementLayouts

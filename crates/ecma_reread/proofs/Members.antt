@@ -18,7 +18,7 @@ use Rattle.ecma_tokens.specs.Items as items
 use Rattle.ecma_tokens.specs.Items.{Tok, sign, no_gap, Items, it}
 use Rattle.ecma_tokens.specs.Good.{IsToken}
 use Rattle.ecma_tokens.proofs.Privates.{private_parts}
-use Rattle.ecma_reread.specs.Machine.{read, interp, means}
+use Rattle.ecma_reread.specs.Machine.{read, means}
 use Rattle.ecma_reread.specs.Shapes as shapes
 use Rattle.ecma_reread.specs.Shapes.{IsChainKey}
 use Rattle.ecma_reread.specs.Tokens.{bare, blank, chain_token, chain_kind}
@@ -27,7 +27,7 @@ use Rattle.ecma_reread.proofs.Fronts.{exactly, at_token, refused_at}
 use Rattle.ecma_reread.proofs.Heads.{member_made}
 use Rattle.ecma_reread.proofs.Forms.{Laid, s, Reads, linked_param, Form, NewForm}
 use Rattle.std.specs.Str.{IsUtf8}
-use Rattle.ecma_lex.proofs.Suffixes.{Cut, cut_utf8, past, piece_here}
+use Rattle.ecma_lex.proofs.Suffixes.{cut_utf8, past, piece_here}
 use Rattle.ecma_lex.proofs.Spelled.{alone}
 
 -- a token of which the grammar makes the key of a member

@@ -16,7 +16,7 @@ use Rattle.ecma_reread.specs.Machine.{read, with_front, followed_on, built_on, i
 use Rattle.ecma_reread.specs.Shapes as shapes
 use Rattle.ecma_reread.specs.Shapes.{AreExpressions}
 use Rattle.ecma_reread.specs.Tokens.{bare, blank, more_tokens, bare_expression, bare_expressions}
-use Rattle.ecma_reread.proofs.Fronts.{Front, exactly, Begins, at_token, refuses_at, refused_at, refuses_first}
+use Rattle.ecma_reread.proofs.Fronts.{exactly, at_token, refuses_at, refused_at, refuses_first}
 use Rattle.ecma_reread.proofs.Towers.{closes}
 use Rattle.ecma_reread.proofs.Forms.{Laid, s, Reads, lead_before}
 use Rattle.ecma_reread.proofs.Bindings.{ends_no_equals, Stands, used}

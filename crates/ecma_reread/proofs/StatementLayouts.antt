@@ -24,7 +24,8 @@ use Rattle.ecma_tokens.specs.Items.{sign, Gap, no_gap, Items, it, render}
 use Rattle.ecma_reread.specs.Shapes as shapes
 use Rattle.ecma_reread.specs.Shapes.{Level, IsExpression, IsDeclarator, AreDeclarators, Ending, IsStatement, IsBlock, IsCase, AreCases, IsCatch, AreStatements, IsOptional, IsForBinding}
 use Rattle.ecma_reread.specs.Tokens.{margin, line_at, blank, sign_of, expression_tokens, declarator_tokens, declarators_tokens, closing_gap, is_braced, branch_gap, test_tokens, statement_tokens, block_tokens, case_tokens, cases_tokens, catch_tokens, lined_tokens, ident_word, optional_tokens, for_binding_tokens, for_tokens}
-use Rattle.ecma_reread.proofs.Layouts.{laid_node, at_node, calm_0, calm_start, gap_out, expression_laid, within_laid, declarator_laid, more_declarators_laid, calm_1}
+use Rattle.ecma_reread.proofs.Layouts.{laid_node, at_node, gap_out, expression_laid, within_laid, declarator_laid, more_declarators_laid}
+use Rattle.ecma_reread.proofs.Spots.{calm_start, calm_0, calm_1}
 
 -- an expression behind a word, and the end of the statement
 argument_laid : {level : Level} {e : Node} (is : IsExpression level e) (m : List ℕ) (us : Items) → (laid e).at (Within Blank (free 0)) m (codes ";" ++ render us) ≡ render (expression_tokens is blank (sign_of (codes ";") us))

@@ -1,12 +1,11 @@
 -- Members and calls of `super` are read as they are laid out.
-use Rattle.std.proofs.Common.{◌≡◌, ℕ, Bool, true, false, List, [], ◌∷◌, ◌++◌, codes, refl, ap, ◌∙◌, Some, None}
+use Rattle.std.proofs.Common.{◌≡◌, ℕ, Bool, true, List, [], ◌∷◌, codes, refl, ap, ◌∙◌, Some}
 use Rattle.ecma_lex.specs.Keys.{is_reserved, reserved_words}
 use Rattle.ecma_kind.specs.declared.kind.Kind.{Kind}
 use Rattle.ecma_kind.specs.declared.kind.Kind.TheVariants as kind
 use Rattle.ecma_tree.specs.declared.node.Node.{Node}
 use Rattle.ecma_tree.specs.Nodes.{absent}
 use Rattle.ecma_grammar.specs.trees.Chains.{in_front_link}
-use Rattle.ecma_grammar.specs.Grammar.{◌▸◌, ◌//◌}
 use Rattle.ecma_grammar.specs.productions.Names as names
 use Rattle.ecma_grammar.specs.productions.Types.{param, rest_pattern, default_value}
 use Rattle.ecma_grammar.specs.productions.Patterns.{pattern_body, array_pattern, object_pattern}
@@ -18,12 +17,11 @@ use Rattle.ecma_grammar.specs.productions.Statements as statements
 use Rattle.ecma_grammar.specs.productions.Statements.{labeled}
 use Rattle.ecma_grammar.specs.productions.Modules as modules
 use Rattle.ecma_grammar.specs.productions.Operators.{prefixed}
-use Rattle.ecma_grammar.specs.productions.Primary.{primary}
-use Rattle.ecma_grammar.specs.productions.Chains.{links, new_links, super_of_member, super_of_link, import_meta, import_call, construction}
-use Rattle.ecma_tokens.specs.Items.{key, sign, no_gap, Gap, Items, it}
-use Rattle.ecma_reread.specs.Machine.{with_front, followed_on, or_on, interp, means}
+use Rattle.ecma_grammar.specs.productions.Chains.{links, new_links, super_of_member, super_of_link}
+use Rattle.ecma_tokens.specs.Items.{key, no_gap, Gap, Items, it}
+use Rattle.ecma_reread.specs.Machine.{with_front, followed_on, interp, means}
 use Rattle.ecma_reread.specs.Shapes as shapes
-use Rattle.ecma_reread.proofs.Fronts.{Front, exactly}
+use Rattle.ecma_reread.proofs.Fronts.{exactly}
 use Rattle.ecma_reread.proofs.Towers.{Opens}
 use Rattle.ecma_reread.proofs.Heads.{bare, is_head, super_member_made, super_call_made}
 use Rattle.ecma_reread.proofs.Forms.{Laid, s, heads, new_heads, Reads, Form, NewForm, only_opens, form_by}

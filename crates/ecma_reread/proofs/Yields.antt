@@ -12,7 +12,7 @@ use Rattle.ecma_grammar.specs.declared.production.Form.TheVariants as form
 use Rattle.ecma_grammar.specs.declared.production.Flag.TheVariants.{Absent, Present}
 use Rattle.ecma_grammar.specs.Made.{made}
 use Rattle.ecma_grammar.specs.trees.Parts.{flag_node}
-use Rattle.ecma_grammar.specs.Grammar.{Grammar, same_line, put, ◌▸◌, ◌//◌, build, punct, word, maybe}
+use Rattle.ecma_grammar.specs.Grammar.{Grammar, same_line, put, ◌▸◌, ◌//◌, build, punct, maybe}
 use Rattle.ecma_grammar.specs.productions.Names as names
 use Rattle.ecma_grammar.specs.productions.Names.{assign_in}
 use Rattle.ecma_grammar.specs.productions.Types.{param, rest_pattern, default_value}
@@ -30,7 +30,7 @@ use Rattle.ecma_grammar.specs.productions.Statements as statements
 use Rattle.ecma_grammar.specs.productions.Statements.{labeled}
 use Rattle.ecma_grammar.specs.productions.Modules as modules
 use Rattle.ecma_grammar.specs.productions.Modules.{module_item}
-use Rattle.ecma_tokens.specs.Items.{Tok, key, private_name, sign, string, number, big_int, regex, template, Gap, Items, it}
+use Rattle.ecma_tokens.specs.Items.{key, private_name, sign, string, number, big_int, regex, template, Gap, Items, it}
 use Rattle.ecma_tokens.specs.Taking.{new_line_in}
 use Rattle.ecma_reread.specs.Machine.{read, fails, with_front, followed_on, or_on, built_on, interp, means}
 use Rattle.ecma_reread.specs.Shapes as shapes
