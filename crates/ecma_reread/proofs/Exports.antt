@@ -6,38 +6,29 @@ use Rattle.ecma_kind.specs.declared.operators.VarDeclKind.TheVariants.{Var, Let,
 use Rattle.ecma_kind.specs.declared.kind.Kind.TheVariants as kind
 use Rattle.ecma_tree.specs.declared.node.Node.{Node}
 use Rattle.ecma_tree.specs.Nodes.{absent, list_node}
-use Rattle.ecma_grammar.specs.declared.production.Part.TheVariants as part
-use Rattle.ecma_grammar.specs.declared.production.Flag.TheVariants.{Absent, Present}
+use Rattle.ecma_grammar.specs.declared.production.Flag.TheVariants.{Absent}
 use Rattle.ecma_grammar.specs.declared.production.Plain.TheVariants as plain
 use Rattle.ecma_grammar.specs.declared.production.Form.TheVariants as form
-use Rattle.ecma_grammar.specs.Grammar.{Grammar, put, ◌▸◌, ◌//◌, punct, word, marked, same_line, the_word}
+use Rattle.ecma_grammar.specs.Grammar.{Grammar, put, ◌▸◌, ◌//◌, punct, word}
 use Rattle.ecma_grammar.specs.productions.Names.{statement, end, module_export_name}
-use Rattle.ecma_grammar.specs.productions.Functions.{function_expression}
-use Rattle.ecma_grammar.specs.productions.Primary.{class_expression}
-use Rattle.ecma_grammar.specs.productions.Classes.{abstract_class_expression}
-use Rattle.ecma_grammar.specs.productions.Declarations.{interface, declaration}
+use Rattle.ecma_grammar.specs.productions.Declarations.{declaration}
 use Rattle.ecma_grammar.specs.productions.Modules as productions
 use Rattle.ecma_grammar.specs.productions.Modules.{import_equals, from, export_specifier, export_names, export_star_as, export_star, export_default, export, module_item}
 use Rattle.ecma_print.specs.Statements.{keyword}
 use Rattle.ecma_tokens.specs.Items as items
 use Rattle.ecma_tokens.specs.Items.{sign, Gap, Items, it}
-use Rattle.ecma_tokens.specs.Taking as taking
-use Rattle.ecma_tokens.specs.Taking.{Took, took, refused, token_in}
-use Rattle.ecma_reread.specs.Machine.{Out, read, unsure, Turn, taken, behind_on, followed_on, fails, built_on, with_front, or_on, interp, means}
+use Rattle.ecma_reread.specs.Machine.{fails, built_on, with_front, or_on, interp, means}
 use Rattle.ecma_reread.specs.Shapes as shapes
 use Rattle.ecma_reread.specs.Shapes.{IsExpression, Ending, IsStatement}
 use Rattle.ecma_reread.specs.Modules as modules
 use Rattle.ecma_reread.specs.Modules.{IsString, IsExportName, IsWithClause, IsNamedExport, AreNamedExports, IsExportClause, is_declaration}
-use Rattle.ecma_reread.specs.Tokens.{blank, sign_of, expression_tokens, statement_tokens, bare, bare_expression, bare_statement}
+use Rattle.ecma_reread.specs.Tokens.{blank, sign_of, statement_tokens, bare, bare_statement}
 use Rattle.ecma_reread.specs.ModuleTokens.{spaced, spaced_word, spaced_sign, export_name_token, from_tokens, named_export_tokens, more_exports_tokens, export_clause_tokens, bare_string, bare_export_name, bare_with, bare_named_export, bare_named_exports, bare_export_clause}
 use Rattle.ecma_reread.proofs.Moves.{eats}
 use Rattle.ecma_reread.proofs.Fronts.{exactly, at_token}
-use Rattle.ecma_reread.proofs.Towers.{without, skipped, excluded}
+use Rattle.ecma_reread.proofs.Towers.{without, skipped}
 use Rattle.ecma_reread.proofs.Forms.{Reads, Refuses}
 use Rattle.ecma_reread.proofs.Repeats.{Repeats, repeats_end, repeats_more, repeated}
-use Rattle.ecma_reread.proofs.Bindings.{used}
-use Rattle.ecma_reread.proofs.Expressions.{semicolon_ends}
-use Rattle.ecma_reread.proofs.Calls.{expression_form}
 use Rattle.ecma_reread.proofs.Variables.{declaration_read}
 use Rattle.ecma_reread.proofs.StatementForms.{declarator_form, declarator_forms}
 use Rattle.ecma_reread.proofs.Sources.{from_read}
@@ -188,66 +179,3 @@ module _ (assigned : Bool) where
   export_declaration_read (shapes.declaration at at' k d ds) z g us =
       declaration_item g _ _ us (keyword_declared k _) (declaration_read assigned k d ds (declarator_form assigned d) (declarator_forms assigned ds) blank us)
   export_declaration_read is z g us = absurd (false≢true z)
-
-  -- an expression by default
-
-  first_fails : (f : Turn) (ts : Items) (o : Out) → or_on f ts o ≡ fails → o ≡ fails
-  first_fails f ts fails h = refl
-  first_fails f ts (read xs us) h = h
-  first_fails f ts unsure h = h
-
-  second_fails : (f : Turn) (ts : Items) (o : Out) → or_on f ts o ≡ fails → f ts ≡ fails
-  second_fails f ts fails h = h
-  second_fails f ts (read xs us) h = absurd (let z : ⊥ = cc in z)
-  second_fails f ts unsure h = absurd (let z : ⊥ = cc in z)
-
-  behind_fails : (xs : List Node) (o : Out) → with_front xs o ≡ fails → o ≡ fails
-  behind_fails xs fails h = refl
-  behind_fails xs (read ys us) h = absurd (let z : ⊥ = cc in z)
-  behind_fails xs unsure h = h
-
-  -- where a part behind another fails, more behind it fails
-  further_fails : (f f' : Turn) → ((us : Items) → f us ≡ fails → f' us ≡ fails) → (o : Out) → followed_on f o ≡ fails → followed_on f' o ≡ fails
-  further_fails f f' k fails h = refl
-  further_fails f f' k (read xs us) h = ap (with_front xs) (k us (behind_fails xs (f us) h))
-  further_fails f f' k unsure h = h
-
-  class_refused : (ts : Items) → Refuses assigned (word (codes "class")) ts → Refuses assigned class_expression ts
-  unfolding class_expression
-  class_refused ts h = ap (built_on (form.Class plain.ClassExpr false)) (no_behind (token_in (the_word (codes "class")) ts) h)
-    where
-      no_behind : (o : Took) → taken o ≡ fails → behind_on (means assigned (part.Class false)) o ≡ fails
-      no_behind (took w us) h = absurd (let z : ⊥ = cc in z)
-      no_behind refused h = refl
-      no_behind taking.unsure h = h
-
-  -- what begins with no `function` and no `class` is no declaration
-  no_default_declaration : (ts : Items) → Refuses assigned excluded ts → Refuses assigned (function_expression // class_expression // marked abstract_class_expression // marked interface) ts
-  unfolding function_expression
-  no_default_declaration ts h =
-      let I = interp assigned (means assigned) in
-      let function_word = word (codes "function") in
-      let async_function = word (codes "async") ▸ same_line ▸ function_word in
-      let rest = second_fails (I (word (codes "class") // async_function)) ts (I function_word ts) h in
-      let no_function = first_fails (I (word (codes "class") // async_function)) ts (I function_word ts) h in
-      let no_class = first_fails (I async_function) ts (I (word (codes "class")) ts) rest in
-      let no_async = second_fails (I async_function) ts (I (word (codes "class")) ts) rest in
-      let no_async_behind =
-      further_fails (I (same_line ▸ function_word)) (I (same_line ▸ function_word ▸ put Present))
-      (λ us. further_fails (I function_word) (I (function_word ▸ put Present)) (λ vs k. ap (followed_on (I (put Present))) k) (I same_line us)) (I (word (codes "async")) ts) no_async in
-      rw (no_async_behind, no_function, class_refused ts no_class) refl
-
-  pub export_default_read : {e : Node} (is : IsExpression shapes.assignment e) (g : Gap) (us : Items)
-      → Reads assigned module_item (it g (items.key (codes "export")) (spaced_word (codes "default") (expression_tokens is blank (sign_of (codes ";") us)))) (bare kind.ExportDefaultExpr (bare_expression is ∷ []) ∷ []) us
-  unfolding export export_default
-  export_default_read is g us =
-      let I = interp assigned (means assigned) in
-      let S = expression_form assigned is in
-      let L = S.lead in
-      let e = expression_tokens is blank (sign_of (codes ";") us) in
-      let ts = it g (items.key (codes "export")) (spaced_word (codes "default") e) in
-      export_item g (spaced_word (codes "default") e) _ us refl
-      (ap (or_on (I (without 1 export)) ts)
-      (ap (or_on (I (without 1 export_default)) ts)
-      (ap (built_on (form.Node plain.ExportDefaultDecl)) (ap (with_front []) (ap (with_front []) (no_default_declaration e (L.no_word blank (sign_of (codes ";") us) (exactly (sign (codes ";"))) at_token refl)))))
-      ∙ ap (built_on (form.Node plain.ExportDefaultExpr)) (ap (with_front []) (ap (with_front []) (ap (followed_on (I end)) (used assigned S blank (sign_of (codes ";") us) (exactly (sign (codes ";"))) at_token semicolon_ends))))))

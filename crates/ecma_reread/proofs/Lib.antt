@@ -50,6 +50,7 @@ pub mod Tries
 pub mod ForLoops
 pub mod StatementForms
 pub mod Exports
+pub mod DefaultExports
 pub mod ModuleAssignments
 pub mod Modules
 pub mod Whole

@@ -43,7 +43,8 @@ use Rattle.ecma_reread.proofs.Imports.{import_alone_read, import_bindings_read}
 use Rattle.ecma_reread.proofs.Blocks.{Closing}
 use Rattle.ecma_reread.proofs.StatementForms.{statement_form}
 use Rattle.ecma_reread.proofs.ModuleAssignments.{import_require_read, export_assignment_read}
-use Rattle.ecma_reread.proofs.Exports.{export_bindings_read, export_bindings_from_read, export_namespace_read, export_all_read, export_declaration_read, export_default_read}
+use Rattle.ecma_reread.proofs.Exports.{export_bindings_read, export_bindings_from_read, export_namespace_read, export_all_read, export_declaration_read}
+use Rattle.ecma_reread.proofs.DefaultExports.{export_default_read}
 
 -- no statement stands at the end of a text
 
