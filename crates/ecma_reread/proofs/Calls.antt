@@ -55,7 +55,7 @@ use Rattle.ecma_reread.proofs.Objects.{PropertyForm, PropertyForms, object_new}
 use Rattle.ecma_reread.proofs.Spreads.{ElementForm, element_read, element_param}
 use Rattle.ecma_reread.proofs.PrivateTests.{private_form}
 use Rattle.ecma_reread.proofs.Yields.{yield_alone, yield_form}
-use Rattle.ecma_reread.proofs.Joins.{no_new_line, no_star}
+use Rattle.ecma_reread.proofs.Beginnings.{no_new_line, no_star}
 
 -- no argument begins with `)`
 no_argument : refuses_all (exactly (sign (codes ")"))) element ≡ true

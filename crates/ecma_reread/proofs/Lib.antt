@@ -59,6 +59,8 @@ pub mod Spots
 pub mod Layouts
 pub mod ModuleLayouts
 pub mod StatementLayouts
+pub mod Softs
+pub mod Beginnings
 pub mod Joins
 pub mod ModuleJoins
 pub mod Hashbangs

@@ -11,7 +11,9 @@ use Rattle.ecma_reread.specs.Modules as modules
 use Rattle.ecma_reread.specs.Modules.{IsString, IsExportName, IsAttributeKey, IsAttribute, AreAttributes, IsWithClause, IsDefaultImport, IsNamespaceImport, IsNamedImport, AreNamedImports, IsImportClause, IsModuleItem, AreModuleItems, IsModule, IsNamedExport, AreNamedExports, IsExportClause}
 use Rattle.ecma_reread.specs.Tokens.{blank, line, sign_of, ident_word}
 use Rattle.ecma_reread.specs.ModuleTokens.{spaced, spaced_sign, string_raw, export_name_token, attribute_key_token, attribute_tokens, more_attributes_tokens, with_tokens, source_tokens, default_import_tokens, namespace_import_tokens, named_import_tokens, more_imports_tokens, named_imports_tokens, import_clause_tokens, import_equals_tokens, item_tokens, items_tokens, module_tokens, spaced_word, from_tokens, named_export_tokens, more_exports_tokens, export_clause_tokens}
-use Rattle.ecma_reread.proofs.Joins.{Words, semicolon, blank_joins, expression_joined, no_gap_is, blank_is, ident_whole, key_whole}
+use Rattle.ecma_reread.proofs.Softs.{semicolon}
+use Rattle.ecma_reread.proofs.Beginnings.{blank_joins}
+use Rattle.ecma_reread.proofs.Joins.{Words, expression_joined, no_gap_is, blank_is, ident_whole, key_whole}
 use Rattle.ecma_reread.proofs.StatementJoins.{line_wide, blank_wide, line_is, Apart, statement_apart, ended, statement_joined}
 
 item_apart : {assignments : Bool} {n : Node} (is : IsModuleItem assignments n) (us : Items) → Apart (item_tokens is line us)

@@ -6,7 +6,7 @@ use Rattle.ecma_reread.specs.Shapes as shapes
 use Rattle.ecma_reread.specs.Shapes.{IsInitializer, IsDeclarator, AreDeclarators, Ending, IsStatement, IsBlock, IsCase, AreCases, IsCatch, AreStatements, IsOptional}
 use Rattle.ecma_reread.specs.Tokens.{line_at, ident_word, closing_gap, is_braced, branch_gap, statement_tokens, block_tokens, case_tokens, cases_tokens, catch_tokens, lined_tokens, bare_statement, bare_block, bare_case, bare_cases, bare_catch, bare_statements}
 use Rattle.ecma_reread.proofs.Bindings.{standing}
-use Rattle.ecma_reread.proofs.Joins.{no_new_line, no_brace}
+use Rattle.ecma_reread.proofs.Beginnings.{no_new_line, no_brace}
 use Rattle.ecma_reread.proofs.Calls.{ident_free, expression_form}
 use Rattle.ecma_reread.proofs.Statements.{ReadAsStatement, expression_statement_form}
 use Rattle.ecma_reread.proofs.Variables.{InitializerForm, DeclaratorForm, DeclaratorForms, declaration_form}

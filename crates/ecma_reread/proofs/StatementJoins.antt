@@ -15,7 +15,9 @@ use Rattle.ecma_tokens.specs.Joins.{joins, joins_next, Joined}
 use Rattle.ecma_reread.specs.Shapes as shapes
 use Rattle.ecma_reread.specs.Shapes.{Level, IsExpression, Ending, IsStatement, IsBlock, IsCase, AreCases, IsCatch, AreStatements, IsOptional, IsForBinding}
 use Rattle.ecma_reread.specs.Tokens.{margin, line_at, blank, sign_of, expression_tokens, ident_word, declarators_tokens, closing_gap, is_braced, branch_gap, test_tokens, statement_tokens, block_tokens, case_tokens, cases_tokens, catch_tokens, lined_tokens, optional_tokens, for_binding_tokens, for_tokens}
-use Rattle.ecma_reread.proofs.Joins.{begun, closing, semicolon, colon, ident_whole, blank_joins, opening_joins, no_gap_is, blank_is, Words, expression_joined, declarators_soft, declarator_joined, declarators_joined, Soft, is_object}
+use Rattle.ecma_reread.proofs.Softs.{closing, semicolon, colon, Soft, is_object}
+use Rattle.ecma_reread.proofs.Beginnings.{begun, blank_joins, opening_joins}
+use Rattle.ecma_reread.proofs.Joins.{ident_whole, no_gap_is, blank_is, Words, expression_joined, declarators_soft, declarator_joined, declarators_joined}
 
 -- gaps that keep any two tokens apart
 abbrev pub Wide : Gap → Type 0

@@ -1,0 +1,310 @@
+-- What an expression begins with, and what it may stand directly behind.
+use Rattle.std.proofs.Common.{◌≡◌, ℕ, Bool, true, false, List, ◌++◌, codes, refl, sym, ◌∙◌}
+use Rattle.std.proofs.lemmas.Bool.{false≢true}
+use Rattle.ecma_kind.specs.declared.operators.UnaryOp.{UnaryOp}
+use Rattle.ecma_kind.specs.declared.operators.UnaryOp.TheVariants.{Minus, Plus, Bang, Tilde, TypeOf, Void, Delete}
+use Rattle.ecma_kind.specs.declared.operators.UpdateOp.{UpdateOp}
+use Rattle.ecma_kind.specs.declared.operators.UpdateOp.TheVariants.{PlusPlus, MinusMinus}
+use Rattle.ecma_kind.specs.declared.operators.BinaryOp.{BinaryOp}
+use Rattle.ecma_lex.specs.Punctuators.{punctuators}
+use Rattle.ecma_tree.specs.declared.node.Node.{Node}
+use Rattle.ecma_tokens.specs.Items as items
+use Rattle.ecma_tokens.specs.Items.{Tok, sign, Gap, no_gap, Items, ends, it, render, token_text}
+use Rattle.ecma_tokens.specs.Taking.{refused, new_line_in, punct_in}
+use Rattle.ecma_tokens.specs.Joins.{joins_next}
+use Rattle.ecma_print.specs.declared.place.Beside.{Beside}
+use Rattle.ecma_print.specs.declared.place.Beside.TheVariants.{NoNeighbor}
+use Rattle.ecma_print.specs.Operators.{unary_sign, update_sign}
+use Rattle.ecma_reread.specs.Shapes as shapes
+use Rattle.ecma_reread.specs.Shapes.{Level, looser_than, IsOperator, IsIdent, ident, IsKey, key, IsExpression, IsElement, IsArguments, AreElements, AreExpressions, IsInitializer, IsDeclarator, AreDeclarators, AreSlots, IsMemberLevel, IsIndexed, IsChainKey, begins_with_brace, AreProperties, IsPropertyName, IsProperty}
+use Rattle.ecma_reread.specs.Tokens.{blank, sign_of, assign_token, update_token, unary_token, binary_token, own_sign, unary_gap, ident_word, key_word, expression_tokens, element_tokens, arguments_tokens, more_tokens, slots_tokens, more_slots_tokens, chain_token, properties_tokens, more_properties_tokens, property_tokens, star_of}
+use Rattle.ecma_reread.proofs.Softs.{Soft, comma, closing_bracket, parted}
+
+-- what an expression begins with, and the sign that this is as a unary operator
+pub data Opens : Tok → Beside → Type 0 where
+  by_key : (w : List ℕ) → Opens (items.key w) NoNeighbor
+  by_private : (w : List ℕ) → Opens (items.private_name w) NoNeighbor
+  by_string : (w : List ℕ) → Opens (items.string w) NoNeighbor
+  by_number : (w : List ℕ) → Opens (items.number w) NoNeighbor
+  by_big_int : (w : List ℕ) → Opens (items.big_int w) NoNeighbor
+  by_bracket : Opens (sign (codes "[")) NoNeighbor
+  by_brace : Opens (sign (codes "{")) NoNeighbor
+  by_parenthesis : Opens (sign (codes "(")) NoNeighbor
+  by_update : (o : UpdateOp) → Opens (update_token o) (update_sign o)
+  by_operator : (o : UnaryOp) → Opens (unary_token o) (unary_sign o)
+
+pub record Begun (tokens : Gap → Items) : Type 0 where
+  pub first : Tok
+  pub by : Beside
+  pub rest : Items
+  pub opens : Opens first by
+  pub is : (g : Gap) → tokens g ≡ it g first rest
+
+pub begun : {level : Level} {e : Node} (is : IsExpression level e) (us : Items) → Begun (λ g. expression_tokens is g us)
+begun (shapes.looser e) us = begun e us
+begun (shapes.name i) us = record { first = items.key (ident_word i); by = NoNeighbor; rest = us; opens = by_key (ident_word i); is = λ g. refl }
+begun (shapes.string at raw t) us = record { first = items.string raw; by = NoNeighbor; rest = us; opens = by_string raw; is = λ g. refl }
+begun (shapes.number at raw t) us = record { first = items.number raw; by = NoNeighbor; rest = us; opens = by_number raw; is = λ g. refl }
+begun (shapes.this_word at) us = record { first = items.key (codes "this"); by = NoNeighbor; rest = us; opens = by_key (codes "this"); is = λ g. refl }
+begun (shapes.big_int at raw t) us = record { first = items.big_int raw; by = NoNeighbor; rest = us; opens = by_big_int raw; is = λ g. refl }
+begun (shapes.null_word at) us = record { first = items.key (codes "null"); by = NoNeighbor; rest = us; opens = by_key (codes "null"); is = λ g. refl }
+begun (shapes.true_word at) us = record { first = items.key (codes "true"); by = NoNeighbor; rest = us; opens = by_key (codes "true"); is = λ g. refl }
+begun (shapes.false_word at) us = record { first = items.key (codes "false"); by = NoNeighbor; rest = us; opens = by_key (codes "false"); is = λ g. refl }
+begun (shapes.member at i o k) us = begun o (sign_of (codes ".") (it no_gap (chain_token k) us))
+begun (shapes.call at c es none) us = begun c (sign_of (codes "(") (arguments_tokens es (sign_of (codes ")") us)))
+begun (shapes.parenthesized at e) us = record { first = sign (codes "("); by = NoNeighbor; rest = expression_tokens e no_gap (sign_of (codes ")") us); opens = by_parenthesis; is = λ g. refl }
+begun (shapes.element at at' i o e) us = begun o (sign_of (codes "[") (expression_tokens e no_gap (sign_of (codes "]") us)))
+begun (shapes.super_member at at' k) us = record { first = items.key (codes "super"); by = NoNeighbor; rest = sign_of (codes ".") (it no_gap (items.key (key_word k)) us); opens = by_key (codes "super"); is = λ g. refl }
+begun (shapes.super_element at at' at'' e) us = record { first = items.key (codes "super"); by = NoNeighbor; rest = sign_of (codes "[") (expression_tokens e no_gap (sign_of (codes "]") us)); opens = by_key (codes "super"); is = λ g. refl }
+begun (shapes.super_call at at' es none) us = record { first = items.key (codes "super"); by = NoNeighbor; rest = sign_of (codes "(") (arguments_tokens es (sign_of (codes ")") us)); opens = by_key (codes "super"); is = λ g. refl }
+begun (shapes.new_expression at e es none) us = record { first = items.key (codes "new"); by = NoNeighbor; rest = expression_tokens e blank (sign_of (codes "(") (arguments_tokens es (sign_of (codes ")") us))); opens = by_key (codes "new"); is = λ g. refl }
+begun (shapes.new_alone at e none none') us = record { first = items.key (codes "new"); by = NoNeighbor; rest = expression_tokens e blank us; opens = by_key (codes "new"); is = λ g. refl }
+begun (shapes.new_target at) us = record { first = items.key (codes "new"); by = NoNeighbor; rest = sign_of (codes ".") (it no_gap (items.key (codes "target")) us); opens = by_key (codes "new"); is = λ g. refl }
+begun (shapes.prefix_update at o e) us = record { first = update_token o; by = update_sign o; rest = expression_tokens e no_gap us; opens = by_update o; is = λ g. refl }
+begun (shapes.postfix_update at o e) us = begun e (it no_gap (update_token o) us)
+begun (shapes.await_expression at e) us = record { first = items.key (codes "await"); by = NoNeighbor; rest = expression_tokens e blank us; opens = by_key (codes "await"); is = λ g. refl }
+begun (shapes.unary_expression at o e) us = record { first = unary_token o; by = unary_sign o; rest = expression_tokens e (unary_gap o (own_sign e)) us; opens = by_operator o; is = λ g. refl }
+begun (shapes.binary_expression at {operator = o} i l r) us = begun l (it blank (binary_token o) (expression_tokens r blank us))
+begun (shapes.private_in at at' w t r) us = record { first = items.private_name (codes "#" ++ w); by = NoNeighbor; rest = it blank (items.key (codes "in")) (expression_tokens r blank us); opens = by_private (codes "#" ++ w); is = λ g. refl }
+begun (shapes.exponentiation at l r) us = begun l (it blank (sign (codes "**")) (expression_tokens r blank us))
+begun (shapes.both at l r) us = begun l (it blank (sign (codes "&&")) (expression_tokens r blank us))
+begun (shapes.either at l r) us = begun l (it blank (sign (codes "||")) (expression_tokens r blank us))
+begun (shapes.coalesced at i l r) us = begun l (it blank (sign (codes "??")) (expression_tokens r blank us))
+begun (shapes.yield_nothing at none) us = record { first = items.key (codes "yield"); by = NoNeighbor; rest = us; opens = by_key (codes "yield"); is = λ g. refl }
+begun (shapes.yield_value at d e) us = record { first = items.key (codes "yield"); by = NoNeighbor; rest = star_of d (expression_tokens e blank us); opens = by_key (codes "yield"); is = λ g. refl }
+begun (shapes.assignment_expression at o t v) us = begun t (it blank (assign_token o) (expression_tokens v blank us))
+begun (shapes.conditional_expression at t x y) us = begun t (it blank (sign (codes "?")) (expression_tokens x blank (it blank (sign (codes ":")) (expression_tokens y blank us))))
+begun (shapes.array at at' es) us = record { first = sign (codes "["); by = NoNeighbor; rest = slots_tokens es us; opens = by_bracket; is = λ g. refl }
+begun (shapes.object_literal at at' ps) us = record { first = sign (codes "{"); by = NoNeighbor; rest = properties_tokens ps us; opens = by_brace; is = λ g. refl }
+begun (shapes.sequence_expression at x y es) us = begun x (sign_of (codes ",") (expression_tokens y blank (more_tokens es us)))
+
+-- behind `(`, behind a blank, and on a new line
+
+pub opening_by : {t : Tok} {b : Beside} → Opens t b → (us : Items) → joins_next (sign (codes "(")) (it no_gap t us) ≡ true
+unfolding punctuators
+opening_by (by_update PlusPlus) us = refl
+opening_by (by_operator Minus) us = refl
+opening_by h us = refl
+
+pub bracket_by : {t : Tok} {b : Beside} → Opens t b → (us : Items) → joins_next (sign (codes "[")) (it no_gap t us) ≡ true
+unfolding punctuators
+bracket_by (by_update PlusPlus) us = refl
+bracket_by (by_operator Minus) us = refl
+bracket_by h us = refl
+
+pub dots_by : {t : Tok} {b : Beside} → Opens t b → (us : Items) → joins_next (sign (codes "...")) (it no_gap t us) ≡ true
+unfolding punctuators
+dots_by (by_update PlusPlus) us = refl
+dots_by (by_operator Minus) us = refl
+dots_by h us = refl
+
+pub dots_join : {level : Level} {e : Node} (is : IsExpression level e) (us : Items) → joins_next (sign (codes "...")) (expression_tokens is no_gap us) ≡ true
+dots_join is us = let b = begun is us in rw (b.is no_gap) (dots_by b.opens b.rest)
+
+pub opening_joins : {level : Level} {e : Node} (is : IsExpression level e) (us : Items) → joins_next (sign (codes "(")) (expression_tokens is no_gap us) ≡ true
+opening_joins is us = let b = begun is us in rw (b.is no_gap) (opening_by b.opens b.rest)
+
+pub element_opening_joins : {n : Node} (is : IsElement n) (us : Items) → joins_next (sign (codes "(")) (element_tokens is no_gap us) ≡ true
+unfolding punctuators
+element_opening_joins (shapes.one e) us = opening_joins e us
+element_opening_joins (shapes.spread at e) us = refl
+
+pub update_by : (o : UpdateOp) {t : Tok} {b : Beside} → Opens t b → (us : Items) → joins_next (update_token o) (it no_gap t us) ≡ true
+unfolding punctuators
+update_by PlusPlus (by_update PlusPlus) us = refl
+update_by PlusPlus (by_operator Minus) us = refl
+update_by PlusPlus h us = refl
+update_by MinusMinus (by_update PlusPlus) us = refl
+update_by MinusMinus (by_operator Minus) us = refl
+update_by MinusMinus h us = refl
+
+pub update_joins : (o : UpdateOp) {level : Level} {e : Node} (is : IsExpression level e) (us : Items) → joins_next (update_token o) (expression_tokens is no_gap us) ≡ true
+update_joins o is us = let b = begun is us in rw (b.is no_gap) (update_by o b.opens b.rest)
+
+pub bracket_joins : {level : Level} {e : Node} (is : IsExpression level e) (us : Items) → joins_next (sign (codes "[")) (expression_tokens is no_gap us) ≡ true
+bracket_joins is us = let b = begun is us in rw (b.is no_gap) (bracket_by b.opens b.rest)
+
+pub no_new_line : {level : Level} {e : Node} (is : IsExpression level e) (us : Items) → new_line_in (expression_tokens is blank us) ≡ false
+no_new_line is us = let b = begun is us in rw (b.is blank) refl
+
+pub update_brace : (o : UpdateOp) (g : Gap) (us : Items) → punct_in (codes "{") (it g (update_token o) us) ≡ refused
+update_brace PlusPlus g us = refl
+update_brace MinusMinus g us = refl
+
+pub unary_brace : (o : UnaryOp) (g : Gap) (us : Items) → punct_in (codes "{") (it g (unary_token o) us) ≡ refused
+unary_brace Minus g us = refl
+unary_brace o g us = refl
+
+-- it begins with no `{`
+pub star_by : {t : Tok} {b : Beside} → Opens t b → (g : Gap) (us : Items) → punct_in (codes "*") (it g t us) ≡ refused
+star_by (by_update PlusPlus) g us = refl
+star_by (by_operator Minus) g us = refl
+star_by h g us = refl
+
+pub no_star : {level : Level} {e : Node} (is : IsExpression level e) (g : Gap) (us : Items) → punct_in (codes "*") (expression_tokens is g us) ≡ refused
+no_star is g us = let b = begun is us in rw (b.is g) (star_by b.opens g b.rest)
+
+pub no_brace : {level : Level} {e : Node} (is : IsExpression level e) → begins_with_brace is ≡ false → (g : Gap) (us : Items) → punct_in (codes "{") (expression_tokens is g us) ≡ refused
+no_brace (shapes.looser e) z g us = no_brace e z g us
+no_brace (shapes.member at i o k) z g us = no_brace o z g (sign_of (codes ".") (it no_gap (chain_token k) us))
+no_brace (shapes.call at c es none) z g us = no_brace c z g (sign_of (codes "(") (arguments_tokens es (sign_of (codes ")") us)))
+no_brace (shapes.element at at' i o e) z g us = no_brace o z g (sign_of (codes "[") (expression_tokens e no_gap (sign_of (codes "]") us)))
+no_brace (shapes.prefix_update at o e) z g us = update_brace o g (expression_tokens e no_gap us)
+no_brace (shapes.postfix_update at o e) z g us = no_brace e z g (it no_gap (update_token o) us)
+no_brace (shapes.unary_expression at o e) z g us = unary_brace o g (expression_tokens e (unary_gap o (own_sign e)) us)
+no_brace (shapes.binary_expression at {operator = o} i l r) z g us = no_brace l z g (it blank (binary_token o) (expression_tokens r blank us))
+no_brace (shapes.exponentiation at l r) z g us = no_brace l z g (it blank (sign (codes "**")) (expression_tokens r blank us))
+no_brace (shapes.both at l r) z g us = no_brace l z g (it blank (sign (codes "&&")) (expression_tokens r blank us))
+no_brace (shapes.either at l r) z g us = no_brace l z g (it blank (sign (codes "||")) (expression_tokens r blank us))
+no_brace (shapes.coalesced at i l r) z g us = no_brace l z g (it blank (sign (codes "??")) (expression_tokens r blank us))
+no_brace (shapes.assignment_expression at o t v) z g us = no_brace t z g (it blank (assign_token o) (expression_tokens v blank us))
+no_brace (shapes.conditional_expression at t x y) z g us = no_brace t z g (it blank (sign (codes "?")) (expression_tokens x blank (it blank (sign (codes ":")) (expression_tokens y blank us))))
+no_brace (shapes.sequence_expression at x y es) z g us = no_brace x z g (sign_of (codes ",") (expression_tokens y blank (more_tokens es us)))
+no_brace (shapes.object_literal at at' ps) z g us = absurd (false≢true (sym z))
+no_brace is z g us = refl
+
+pub blank_joins : (t : Tok) {level : Level} {e : Node} (is : IsExpression level e) (us : Items) → joins_next t (expression_tokens is blank us) ≡ true
+blank_joins t is us = let b = begun is us in rw (b.is blank) refl
+
+pub element_blank_joins : (t : Tok) {n : Node} (is : IsElement n) (us : Items) → joins_next t (element_tokens is blank us) ≡ true
+element_blank_joins t (shapes.one e) us = blank_joins t e us
+element_blank_joins t (shapes.spread at e) us = refl
+
+-- in brackets
+
+pub element_bracket_joins : {n : Node} (is : IsElement n) (us : Items) → joins_next (sign (codes "[")) (element_tokens is no_gap us) ≡ true
+unfolding punctuators
+element_bracket_joins (shapes.one e) us = bracket_joins e us
+element_bracket_joins (shapes.spread at e) us = refl
+
+pub property_parted : (t : Tok) {n : Node} (is : IsProperty n) (us : Items) → joins_next t (property_tokens is blank us) ≡ true
+property_parted t (shapes.key_value at (shapes.key_name k) v) us = refl
+property_parted t (shapes.key_value at k v) us = refl
+property_parted t is us = refl
+
+pub properties_open : {ns : List Node} (is : AreProperties ns) (us : Items) → joins_next (sign (codes "{")) (properties_tokens is us) ≡ true
+unfolding punctuators
+properties_open shapes.no_properties us = refl
+properties_open (shapes.more_properties p ps) us = property_parted (sign (codes "{")) p (more_properties_tokens ps us)
+
+pub properties_soft : {ns : List Node} (is : AreProperties ns) (us : Items) → Soft false (more_properties_tokens is us)
+properties_soft shapes.no_properties us = parted
+properties_soft (shapes.more_properties p ps) us = comma
+
+pub slots_open : {ns : List Node} (is : AreSlots ns) (us : Items) → joins_next (sign (codes "[")) (slots_tokens is us) ≡ true
+unfolding punctuators
+slots_open shapes.no_slots us = refl
+slots_open (shapes.filled e es) us = element_bracket_joins e (more_slots_tokens es false no_gap us)
+slots_open (shapes.hole a shapes.no_slots) us = refl
+slots_open (shapes.hole a es) us = refl
+
+pub slots_parted : {ns : List Node} (is : AreSlots ns) (us : Items) → joins_next (sign (codes ",")) (more_slots_tokens is true blank us) ≡ true
+slots_parted shapes.no_slots us = refl
+slots_parted is us = refl
+
+pub slots_soft : {ns : List Node} (is : AreSlots ns) (us : Items) → Soft false (more_slots_tokens is false no_gap us)
+slots_soft shapes.no_slots us = closing_bracket
+slots_soft (shapes.filled e es) us = comma
+slots_soft (shapes.hole a es) us = comma
+
+-- the operand of a unary operator: it begins with no sign but that of an operator of its own
+
+abbrev pub is_linked : Level → Bool
+is_linked shapes.new_callee = true
+is_linked shapes.object = true
+is_linked shapes.callee = true
+is_linked shapes.left_hand_side = true
+is_linked l = false
+
+abbrev pub is_operand : Level → Bool
+is_operand shapes.update = true
+is_operand shapes.unary = true
+is_operand l = is_linked l
+
+pub linked_first : (l : Level) → is_linked (looser_than l) ≡ true → is_linked l ≡ true
+linked_first shapes.object h = refl
+linked_first shapes.callee h = refl
+linked_first shapes.left_hand_side h = refl
+linked_first l h = h
+
+pub operand_first : (l : Level) → is_operand (looser_than l) ≡ true → is_operand l ≡ true
+operand_first shapes.object h = refl
+operand_first shapes.callee h = refl
+operand_first shapes.update h = refl
+operand_first shapes.unary h = refl
+operand_first l h = h
+
+pub no_operand : {o : BinaryOp} {l t : Level} → IsOperator o l t → is_operand l ≡ false
+no_operand shapes.times = refl
+no_operand i = refl
+
+pub linked_operand : (l : Level) → is_linked l ≡ true → is_operand l ≡ true
+linked_operand shapes.update h = refl
+linked_operand shapes.unary h = refl
+linked_operand l h = h
+
+pub member_linked : {l : Level} → IsMemberLevel l → is_linked l ≡ true
+member_linked shapes.member_of_new = refl
+member_linked shapes.member_of_object = refl
+
+pub index_linked : {h l : Level} → IsIndexed h l → is_linked h ≡ true
+index_linked shapes.index_of_new = refl
+index_linked shapes.index_of_callee = refl
+
+pub plain : {level : Level} {e : Node} (is : IsExpression level e) (us : Items) → is_linked level ≡ true → (let b = begun is us in b.by) ≡ NoNeighbor
+unfolding begun
+plain (shapes.looser {level = l} e) us h = plain e us (linked_first l h)
+plain (shapes.member at i o k) us h = plain o (sign_of (codes ".") (it no_gap (chain_token k) us)) h
+plain (shapes.call at c es none) us h = plain c (sign_of (codes "(") (arguments_tokens es (sign_of (codes ")") us))) refl
+plain (shapes.element at at' i o e) us h = plain o (sign_of (codes "[") (expression_tokens e no_gap (sign_of (codes "]") us))) (index_linked i)
+plain (shapes.prefix_update at o e) us h = absurd (false≢true h)
+plain (shapes.postfix_update at o e) us h = absurd (false≢true h)
+plain (shapes.unary_expression at o e) us h = absurd (false≢true h)
+plain (shapes.binary_expression at {level = l} i x y) us h = absurd (false≢true (sym (no_operand i) ∙ linked_operand l h))
+plain (shapes.exponentiation at l r) us h = absurd (false≢true h)
+plain (shapes.both at l r) us h = absurd (false≢true h)
+plain (shapes.either at l r) us h = absurd (false≢true h)
+plain (shapes.coalesced at i l r) us h = absurd (false≢true h)
+plain (shapes.assignment_expression at o t v) us h = absurd (false≢true h)
+plain (shapes.conditional_expression at t x y) us h = absurd (false≢true h)
+plain (shapes.sequence_expression at x y es) us h = absurd (false≢true h)
+plain is us h = refl
+
+pub signed : {level : Level} {e : Node} (is : IsExpression level e) (us : Items) → is_operand level ≡ true → (let b = begun is us in b.by) ≡ own_sign is
+unfolding begun
+signed (shapes.looser {level = l} e) us h = signed e us (operand_first l h)
+signed (shapes.member at i o k) us h = plain o (sign_of (codes ".") (it no_gap (chain_token k) us)) (member_linked i)
+signed (shapes.call at c es none) us h = plain c (sign_of (codes "(") (arguments_tokens es (sign_of (codes ")") us))) refl
+signed (shapes.element at at' i o e) us h = plain o (sign_of (codes "[") (expression_tokens e no_gap (sign_of (codes "]") us))) (index_linked i)
+signed (shapes.postfix_update at o e) us h = plain e (it no_gap (update_token o) us) refl
+signed (shapes.binary_expression at {level = l} i x y) us h = absurd (false≢true (sym (no_operand i) ∙ h))
+signed (shapes.exponentiation at l r) us h = absurd (false≢true h)
+signed (shapes.both at l r) us h = absurd (false≢true h)
+signed (shapes.either at l r) us h = absurd (false≢true h)
+signed (shapes.coalesced at i l r) us h = absurd (false≢true h)
+signed (shapes.assignment_expression at o t v) us h = absurd (false≢true h)
+signed (shapes.conditional_expression at t x y) us h = absurd (false≢true h)
+signed (shapes.sequence_expression at x y es) us h = absurd (false≢true h)
+signed is us h = refl
+
+-- a unary operator joins its operand
+pub unary_by : (o : UnaryOp) {t : Tok} {b : Beside} → Opens t b → (us : Items) → joins_next (unary_token o) (it (unary_gap o b) t us) ≡ true
+unfolding punctuators
+unary_by Minus (by_update PlusPlus) us = refl
+unary_by Minus (by_operator Minus) us = refl
+unary_by Minus h us = refl
+unary_by Plus (by_update PlusPlus) us = refl
+unary_by Plus (by_operator Minus) us = refl
+unary_by Plus h us = refl
+unary_by Bang (by_update PlusPlus) us = refl
+unary_by Bang (by_operator Minus) us = refl
+unary_by Bang h us = refl
+unary_by Tilde (by_update PlusPlus) us = refl
+unary_by Tilde (by_operator Minus) us = refl
+unary_by Tilde h us = refl
+unary_by TypeOf h us = refl
+unary_by Void h us = refl
+unary_by Delete h us = refl
+
+pub unary_joins : (o : UnaryOp) {e : Node} (is : IsExpression shapes.unary e) (us : Items) → joins_next (unary_token o) (expression_tokens is (unary_gap o (own_sign is)) us) ≡ true
+unary_joins o is us = let b = begun is us in rw (b.is (unary_gap o (own_sign is)), ← signed is us refl) (unary_by o b.opens b.rest)

@@ -1,0 +1,91 @@
+-- What may stand directly behind an expression.
+use Rattle.std.proofs.Common.{◌≡◌, ℕ, Bool, true, false, List, codes, refl}
+use Rattle.ecma_kind.specs.declared.operators.UpdateOp.{UpdateOp}
+use Rattle.ecma_kind.specs.declared.operators.UpdateOp.TheVariants.{PlusPlus, MinusMinus}
+use Rattle.ecma_lex.specs.Punctuators.{punctuators}
+use Rattle.ecma_tokens.specs.Items as items
+use Rattle.ecma_tokens.specs.Items.{Tok, sign, Gap, no_gap, Items, ends, it, render, token_text}
+use Rattle.ecma_tokens.specs.Joins.{joins_next}
+use Rattle.ecma_reread.specs.Shapes as shapes
+use Rattle.ecma_reread.specs.Shapes.{Level, looser_than, IsOperator, IsIdent, ident, IsKey, key, IsExpression, IsElement, IsArguments, AreElements, AreExpressions, IsInitializer, IsDeclarator, AreDeclarators, AreSlots, IsMemberLevel, IsIndexed, IsChainKey, begins_with_brace, AreProperties, IsPropertyName, IsProperty}
+use Rattle.ecma_reread.specs.Tokens.{blank, sign_of, update_token}
+
+-- what may stand directly behind an expression; a point behind an object alone
+pub data Soft : Bool → Items → Type 0 where
+  point : {us : Items} → Soft true (sign_of (codes ".") us)
+  opening : {object : Bool} {us : Items} → Soft object (sign_of (codes "(") us)
+  closing : {object : Bool} {us : Items} → Soft object (sign_of (codes ")") us)
+  comma : {object : Bool} {us : Items} → Soft object (sign_of (codes ",") us)
+  semicolon : {object : Bool} {us : Items} → Soft object (sign_of (codes ";") us)
+  colon : {object : Bool} {us : Items} → Soft object (sign_of (codes ":") us)
+  increment : {object : Bool} {us : Items} → Soft object (sign_of (codes "++") us)
+  decrement : {object : Bool} {us : Items} → Soft object (sign_of (codes "--") us)
+  opening_bracket : {object : Bool} {us : Items} → Soft object (sign_of (codes "[") us)
+  closing_bracket : {object : Bool} {us : Items} → Soft object (sign_of (codes "]") us)
+  -- behind a blank
+  parted : {object : Bool} {t : Tok} {us : Items} → Soft object (it blank t us)
+
+pub key_soft : {object : Bool} (w : List ℕ) {us : Items} → Soft object us → joins_next (items.key w) us ≡ true
+key_soft w point = refl
+key_soft w z = refl
+
+pub private_soft : {object : Bool} (w : List ℕ) {us : Items} → Soft object us → joins_next (items.private_name w) us ≡ true
+private_soft w point = refl
+private_soft w z = refl
+
+pub string_soft : {object : Bool} (w : List ℕ) {us : Items} → Soft object us → joins_next (items.string w) us ≡ true
+string_soft w point = refl
+string_soft w z = refl
+
+pub big_int_soft : {object : Bool} (w : List ℕ) {us : Items} → Soft object us → joins_next (items.big_int w) us ≡ true
+big_int_soft w point = refl
+big_int_soft w z = refl
+
+pub number_soft : (w : List ℕ) {us : Items} → Soft false us → joins_next (items.number w) us ≡ true
+number_soft w opening = refl
+number_soft w z = refl
+
+pub closing_soft : {object : Bool} {us : Items} → Soft object us → joins_next (sign (codes ")")) us ≡ true
+unfolding punctuators
+closing_soft point = refl
+closing_soft z = refl
+
+pub brace_soft : {object : Bool} {us : Items} → Soft object us → joins_next (sign (codes "}")) us ≡ true
+unfolding punctuators
+brace_soft point = refl
+brace_soft z = refl
+
+pub bracket_soft : {object : Bool} {us : Items} → Soft object us → joins_next (sign (codes "]")) us ≡ true
+unfolding punctuators
+bracket_soft point = refl
+bracket_soft z = refl
+
+pub update_soft : (o : UpdateOp) {object : Bool} {us : Items} → Soft object us → joins_next (update_token o) us ≡ true
+unfolding punctuators
+update_soft PlusPlus point = refl
+update_soft PlusPlus z = refl
+update_soft MinusMinus point = refl
+update_soft MinusMinus z = refl
+
+abbrev pub is_object : Level → Bool
+is_object shapes.new_callee = true
+is_object shapes.object = true
+is_object l = false
+
+pub point_behind : {l : Level} → IsMemberLevel l → {us : Items} → Soft (is_object l) (sign_of (codes ".") us)
+point_behind shapes.member_of_new = point
+point_behind shapes.member_of_object = point
+
+-- in front of a tighter expression the same may stand
+pub softer : (l : Level) {us : Items} → Soft (is_object (looser_than l)) us → Soft (is_object l) us
+softer shapes.object opening = opening
+softer shapes.object closing = closing
+softer shapes.object comma = comma
+softer shapes.object semicolon = semicolon
+softer shapes.object colon = colon
+softer shapes.object increment = increment
+softer shapes.object decrement = decrement
+softer shapes.object opening_bracket = opening_bracket
+softer shapes.object closing_bracket = closing_bracket
+softer shapes.object parted = parted
+softer l z = z
