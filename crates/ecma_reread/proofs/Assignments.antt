@@ -23,10 +23,10 @@ use Rattle.ecma_reread.specs.Shapes as shapes
 use Rattle.ecma_reread.specs.Tokens.{blank, assign_token}
 use Rattle.ecma_reread.proofs.Levels.{means_is}
 use Rattle.ecma_reread.proofs.Fronts.{Front, exactly, Begins, at_token, refuses_at, refused_at}
-use Rattle.ecma_reread.proofs.Towers.{behind_arrow, closes_conditional, Ends}
+use Rattle.ecma_reread.proofs.Towers.{behind_arrow, closes_in, closes_conditional}
 use Rattle.ecma_reread.proofs.Heads.{bare, nodes}
-use Rattle.ecma_reread.proofs.Forms.{Laid, Reads, AsParam, apart, lead_before, param_in_front}
-use Rattle.ecma_reread.proofs.Bindings.{EndOf, Stands, conditional_read, go_out, used}
+use Rattle.ecma_reread.proofs.Forms.{Laid, Reads, AsParam, apart, lead_before, param_in_front, no_rest_at}
+use Rattle.ecma_reread.proofs.Bindings.{conditional_closed, StandsIn, EndOf, Stands, conditional_read, go_out, used}
 
 assign_apart : (o : AssignOp) → apart (exactly (assign_token o)) ≡ true
 unfolding arrow_rest names.binding_ident
@@ -47,7 +47,7 @@ assign_apart AndAssign = refl
 assign_apart OrAssign = refl
 assign_apart NullishAssign = refl
 
-assign_closes : (o : AssignOp) → closes_conditional (exactly (assign_token o)) ≡ true
+assign_closes : (o : AssignOp) → closes_conditional false (exactly (assign_token o)) ≡ true
 unfolding factors terms shifts relations equalities links template_start
 assign_closes Assign = refl
 assign_closes AddAssign = refl
@@ -70,33 +70,33 @@ assigned_made : (o : AssignOp) (k : Kind) (ns : List Node) (x : Node) → in_fro
 assigned_made o k ns x = simp nodes
 
 module _ (assigned : Bool) where
-  operator_read : (o : AssignOp) (ts us : Items) (n : Node) → means assigned (part.Assign false false) ts ≡ read (n ∷ []) us → Reads assigned (assignments false) (it blank (assign_token o) ts) (bare (kind.AssignExpr o) (absent ∷ n ∷ []) ∷ []) us
+  operator_read : (no_in : Bool) (o : AssignOp) (ts us : Items) (n : Node) → means assigned (part.Assign no_in false) ts ≡ read (n ∷ []) us → Reads assigned (assignments no_in) (it blank (assign_token o) ts) (bare (kind.AssignExpr o) (absent ∷ n ∷ []) ∷ []) us
   unfolding assignments
-  operator_read Assign ts us n h = rw h refl
-  operator_read AddAssign ts us n h = rw h refl
-  operator_read SubAssign ts us n h = rw h refl
-  operator_read MulAssign ts us n h = rw h refl
-  operator_read DivAssign ts us n h = rw h refl
-  operator_read ModAssign ts us n h = rw h refl
-  operator_read LShiftAssign ts us n h = rw h refl
-  operator_read RShiftAssign ts us n h = rw h refl
-  operator_read ZeroFillRShiftAssign ts us n h = rw h refl
-  operator_read BitOrAssign ts us n h = rw h refl
-  operator_read BitXorAssign ts us n h = rw h refl
-  operator_read BitAndAssign ts us n h = rw h refl
-  operator_read ExpAssign ts us n h = rw h refl
-  operator_read AndAssign ts us n h = rw h refl
-  operator_read OrAssign ts us n h = rw h refl
-  operator_read NullishAssign ts us n h = rw h refl
+  operator_read no_in Assign ts us n h = rw h refl
+  operator_read no_in AddAssign ts us n h = rw h refl
+  operator_read no_in SubAssign ts us n h = rw h refl
+  operator_read no_in MulAssign ts us n h = rw h refl
+  operator_read no_in DivAssign ts us n h = rw h refl
+  operator_read no_in ModAssign ts us n h = rw h refl
+  operator_read no_in LShiftAssign ts us n h = rw h refl
+  operator_read no_in RShiftAssign ts us n h = rw h refl
+  operator_read no_in ZeroFillRShiftAssign ts us n h = rw h refl
+  operator_read no_in BitOrAssign ts us n h = rw h refl
+  operator_read no_in BitXorAssign ts us n h = rw h refl
+  operator_read no_in BitAndAssign ts us n h = rw h refl
+  operator_read no_in ExpAssign ts us n h = rw h refl
+  operator_read no_in AndAssign ts us n h = rw h refl
+  operator_read no_in OrAssign ts us n h = rw h refl
+  operator_read no_in NullishAssign ts us n h = rw h refl
 
-  module _ (o : AssignOp) {f f' : Laid} {k k' : Kind} {ns ns' : List Node} (T : Stands assigned shapes.callee f k ns) (V : Stands assigned shapes.assignment f' k' ns') where
-    abbrev rest : Items → Items
+  module _ (o : AssignOp) {f f' : Laid} {k k' : Kind} {ns ns' : List Node} {no_in : Bool} (T : StandsIn assigned no_in shapes.callee f k ns) (V : StandsIn assigned no_in shapes.assignment f' k' ns') where
+    abbrev pub rest : Items → Items
     rest us = it blank (assign_token o) (f' blank us)
 
-    target_read : (g : Gap) (us : Items) → Reads assigned (expressions.conditional false) (f g (rest us)) (bare k ns ∷ []) (rest us)
-    target_read g us = conditional_read assigned (go_out assigned 15 shapes.callee T) g (rest us) (exactly (assign_token o)) at_token (assign_closes o)
+    target_read : (g : Gap) (us : Items) → Reads assigned (expressions.conditional no_in) (f g (rest us)) (bare k ns ∷ []) (rest us)
+    target_read g us = conditional_read assigned (go_out assigned 15 shapes.callee T) g (rest us) (exactly (assign_token o)) at_token (conditional_closed no_in (exactly (assign_token o)) (assign_closes o))
 
-    whole_read : (g : Gap) (us : Items) (e : Front) → Begins e us → Ends e → means assigned (part.Assign false false) (f g (rest us)) ≡ read (bare (kind.AssignExpr o) (bare k ns ∷ bare k' ns' ∷ []) ∷ []) us
+    pub whole_read : (g : Gap) (us : Items) (e : Front) → Begins e us → closes_in no_in shapes.assignment e ≡ true → means assigned (part.Assign no_in false) (f g (rest us)) ≡ read (bare (kind.AssignExpr o) (bare k ns ∷ bare k' ns' ∷ []) ∷ []) us
     whole_read g us e b z =
         let I = interp assigned (means assigned) in
         let ts = f g (rest us) in
@@ -105,13 +105,14 @@ module _ (assigned : Bool) where
         let t = exactly (assign_token o) in
         let a = and_parts (refuses_at t (arrow_body false)) _ (assign_apart o) in
         let c = and_parts (refuses_at t (arrow_rest false false)) _ a.1 in
-        means_is assigned (part.Assign false false) ts
-        ∙ (ap (or_on (I behind_arrow) ts) (L.no_arrow false g (rest us) t at_token a.0 (refused_at assigned (means assigned) (arrow_rest false false) t (rest us) at_token c.0))
-        ∙ (ap (or_on (I (build form.Chain (expressions.conditional false ▸ assignments false))) ts) (refused_at assigned (means assigned) (yield_ false) L.front ts (L.begins g (rest us)) y.1)
-        ∙ (ap (built_on form.Chain) (ap (followed_on (I (assignments false))) (target_read g us) ∙ ap (with_front (bare k ns ∷ [])) (operator_read o (f' blank us) us (bare k' ns') (used assigned V blank us e b z)))
+        means_is assigned (part.Assign no_in false) ts
+        ∙ (ap (or_on (I (behind_arrow no_in)) ts) (L.no_arrow no_in g (rest us) t at_token a.0 (refused_at assigned (means assigned) (arrow_rest no_in false) t (rest us) at_token (no_rest_at t c.0 no_in)))
+        ∙ (ap (or_on (I (build form.Chain (expressions.conditional no_in ▸ assignments no_in))) ts) (refused_at assigned (means assigned) (yield_ no_in) L.front ts (L.begins g (rest us)) y.1)
+        ∙ (ap (built_on form.Chain) (ap (followed_on (I (assignments no_in))) (target_read g us) ∙ ap (with_front (bare k ns ∷ [])) (operator_read no_in o (f' blank us) us (bare k' ns') (used assigned V blank us e b z)))
         ∙ ap (λ x. read (x ∷ []) us) (assigned_made o k ns (bare k' ns')))))
 
-    as_param : (p : AssignOp) → o ≡ p → (g : Gap) (us : Items) (e : Front) → Begins e us → EndOf shapes.assignment e → AsParam assigned (f g (rest us)) us
+  module _ (o : AssignOp) {f f' : Laid} {k k' : Kind} {ns ns' : List Node} (T : Stands assigned shapes.callee f k ns) (V : Stands assigned shapes.assignment f' k' ns') where
+    as_param : (p : AssignOp) → o ≡ p → (g : Gap) (us : Items) (e : Front) → Begins e us → EndOf shapes.assignment e → AsParam assigned (f g (rest o T V us)) us
     as_param Assign q g us e b z = let F = T.reading in rw q (F.with_default g (f' blank us) us (bare k' ns') (used assigned V blank us e b z.1))
     as_param AddAssign q g us e b z = rw q (param_in_front assigned T.param (assign_token AddAssign) refl blank (f' blank) g us)
     as_param SubAssign q g us e b z = rw q (param_in_front assigned T.param (assign_token SubAssign) refl blank (f' blank) g us)
@@ -129,11 +130,11 @@ module _ (assigned : Bool) where
     as_param OrAssign q g us e b z = rw q (param_in_front assigned T.param (assign_token OrAssign) refl blank (f' blank) g us)
     as_param NullishAssign q g us e b z = rw q (param_in_front assigned T.param (assign_token NullishAssign) refl blank (f' blank) g us)
 
-    pub assignment_form : Stands assigned shapes.assignment (λ g us. f g (rest us)) (kind.AssignExpr o) (bare k ns ∷ bare k' ns' ∷ [])
+    pub assignment_form : Stands assigned shapes.assignment (λ g us. f g (rest o T V us)) (kind.AssignExpr o) (bare k ns ∷ bare k' ns' ∷ [])
     assignment_form = record {
       lead = lead_before assigned T.lead (assign_token o) (assign_apart o) blank (f' blank);
       tight = tt;
       no_or = tt;
       param = as_param o refl;
-      reading = whole_read;
+      reading = whole_read o T V;
     }

@@ -1,5 +1,5 @@
 -- What is read of an expression at each level: what stands at one level stands at each looser one.
-use Rattle.std.proofs.Common.{◌≡◌, ℕ, zero, suc, Bool, true, false, List, [], ◌∷◌, ◌++◌, codes, refl, ap, subst, ◌∙◌, append-nil, Some, None, unwrap_or}
+use Rattle.std.proofs.Common.{◌≡◌, ℕ, zero, suc, ◌&&◌, Bool, true, false, List, [], ◌∷◌, ◌++◌, codes, refl, ap, subst, ◌∙◌, append-nil, Some, None, unwrap_or}
 use Rattle.std.proofs.lemmas.Bool.{and_parts, false≢true}
 use Rattle.ecma_kind.specs.declared.operators.BinaryOp.TheVariants as op
 use Rattle.ecma_kind.specs.declared.operators.AssignOp.TheVariants.{Assign}
@@ -28,38 +28,38 @@ use Rattle.ecma_reread.specs.Shapes as shapes
 use Rattle.ecma_reread.specs.Shapes.{Level, looser_than}
 use Rattle.ecma_reread.proofs.Levels.{means_is}
 use Rattle.ecma_reread.proofs.Fronts.{Front, Begins, refuses_at, refused_at, first_refuses, refuses_first, passes_at, passed_at}
-use Rattle.ecma_reread.proofs.Towers.{Tower, here, later, before, chained, climb, suffix, power_tail, choice_tail, private_in, behind_arrow, closes_conditional, closes, Ends, refuses_choices, stops}
+use Rattle.ecma_reread.proofs.Towers.{Tower, here, later, before, chained, climb, suffix, power_tail, choice_tail, private_in, behind_arrow, closes_conditional, closes, Ends, refuses_choices, stops, closes_in}
 use Rattle.ecma_reread.proofs.Heads.{is_head, kind-node, bare}
 use Rattle.ecma_reread.proofs.Forms.{Laid, behind_params, Reads, Refuses, AsParam, Form, NewForm, Whole, chain_read, Lead, lead_of, only_opens, opens_plainly}
 use Rattle.ecma_reread.proofs.Params.{Params, params_by}
 
 -- the production of each level
-abbrev pub grammar_of : Level → Grammar
-grammar_of shapes.new_callee = chain
-grammar_of shapes.object = chain
-grammar_of shapes.callee = chain
-grammar_of shapes.left_hand_side = chain
-grammar_of shapes.update = operators.update
-grammar_of shapes.unary = operand
-grammar_of shapes.power = exponentiation
-grammar_of shapes.product = operators.product
-grammar_of shapes.sum = operators.sum
-grammar_of shapes.shift = operators.shift
-grammar_of shapes.relation = operators.relation false
-grammar_of shapes.equality = operators.equality false
-grammar_of shapes.bit_and = operators.bit_and false
-grammar_of shapes.bit_xor = operators.bit_xor false
-grammar_of shapes.bit_or = operators.bit_or false
-grammar_of shapes.logical_and = operators.short_circuit false
-grammar_of shapes.logical_or = operators.short_circuit false
-grammar_of shapes.coalescing = operators.short_circuit false
-grammar_of shapes.short_circuit = operators.short_circuit false
-grammar_of shapes.assignment = grammar.up (part.Assign false false)
-grammar_of shapes.sequence = expression false
+abbrev pub grammar_of : Bool → Level → Grammar
+grammar_of no_in shapes.new_callee = chain
+grammar_of no_in shapes.object = chain
+grammar_of no_in shapes.callee = chain
+grammar_of no_in shapes.left_hand_side = chain
+grammar_of no_in shapes.update = operators.update
+grammar_of no_in shapes.unary = operand
+grammar_of no_in shapes.power = exponentiation
+grammar_of no_in shapes.product = operators.product
+grammar_of no_in shapes.sum = operators.sum
+grammar_of no_in shapes.shift = operators.shift
+grammar_of no_in shapes.relation = operators.relation no_in
+grammar_of no_in shapes.equality = operators.equality no_in
+grammar_of no_in shapes.bit_and = operators.bit_and no_in
+grammar_of no_in shapes.bit_xor = operators.bit_xor no_in
+grammar_of no_in shapes.bit_or = operators.bit_or no_in
+grammar_of no_in shapes.logical_and = operators.short_circuit no_in
+grammar_of no_in shapes.logical_or = operators.short_circuit no_in
+grammar_of no_in shapes.coalescing = operators.short_circuit no_in
+grammar_of no_in shapes.short_circuit = operators.short_circuit no_in
+grammar_of no_in shapes.assignment = grammar.up (part.Assign no_in false)
+grammar_of no_in shapes.sequence = expression no_in
 
 -- a relation's first part
-abbrev pub related : Grammar
-related = private_in // operators.shift
+abbrev pub related : Bool → Grammar
+related no_in = operators.if_in no_in private_in // operators.shift
 
 -- what stands behind it as a parameter: no `=`
 abbrev pub EndOf : Level → Front → Type 0
@@ -105,18 +105,80 @@ pub data AllAnd : List Node → Type 0 where
   no_and : AllAnd []
   more_and : {ns : List Node} (x : Node) → AllAnd ns → AllAnd (bare (kind.BinExpr op.LogicalAnd) (absent ∷ x ∷ []) ∷ ns)
 
--- behind an assignment expression stands none of its operators, and none of a conditional one
-ends_parts : (e : Front) → Ends e → (passes_at e (assignments false) ≡ true) × (closes_conditional e ≡ true)
-ends_parts e z =
+-- what stands behind an expression stands there also where `in` is no operator
+
+both_true : (a b : Bool) → a ≡ true → b ≡ true → (a && b) ≡ true
+both_true a b h k = rw (h, k) refl
+
+relation_closed : (no_in : Bool) (e : Front) → closes shapes.relation e ≡ true → closes_in no_in shapes.relation e ≡ true
+unfolding relations
+relation_closed false e z = z
+relation_closed true e z =
+    let c = and_parts (passes_at e (relations false)) (closes shapes.shift e) z in
+    let a = and_parts (refuses_at e (operators.operator (codes "<") op.Lt false)) _ c.0 in
+    let b = and_parts (refuses_at e (operators.operator (codes ">") op.Gt false)) _ a.1 in
+    let d = and_parts (refuses_at e (operators.operator (codes "<=") op.LtEq false)) _ b.1 in
+    let f = and_parts (refuses_at e (operators.operator (codes ">=") op.GtEq false)) _ d.1 in
+    let g = and_parts (refuses_at e (grammar.behind_word (codes "instanceof") (part.Binary op.InstanceOf false))) _ f.1 in
+    rw (a.0, b.0, d.0, f.0, g.0, c.1) refl
+
+equality_closed : (no_in : Bool) (e : Front) → closes shapes.equality e ≡ true → closes_in no_in shapes.equality e ≡ true
+unfolding equalities
+equality_closed no_in e z = let c = and_parts (passes_at e (equalities false)) (closes shapes.relation e) z in both_true _ _ c.0 (relation_closed no_in e c.1)
+
+bit_and_closed : (no_in : Bool) (e : Front) → closes shapes.bit_and e ≡ true → closes_in no_in shapes.bit_and e ≡ true
+bit_and_closed no_in e z = let c = and_parts (passes_at e (conjunctions false)) (closes shapes.equality e) z in both_true _ _ c.0 (equality_closed no_in e c.1)
+
+bit_xor_closed : (no_in : Bool) (e : Front) → closes shapes.bit_xor e ≡ true → closes_in no_in shapes.bit_xor e ≡ true
+bit_xor_closed no_in e z = let c = and_parts (passes_at e (exclusions false)) (closes shapes.bit_and e) z in both_true _ _ c.0 (bit_and_closed no_in e c.1)
+
+bit_or_closed : (no_in : Bool) (e : Front) → closes shapes.bit_or e ≡ true → closes_in no_in shapes.bit_or e ≡ true
+bit_or_closed no_in e z = let c = and_parts (passes_at e (disjunctions false)) (closes shapes.bit_xor e) z in both_true _ _ c.0 (bit_xor_closed no_in e c.1)
+
+logical_closed : (no_in : Bool) (e : Front) → closes shapes.logical_or e ≡ true → closes_in no_in shapes.logical_or e ≡ true
+logical_closed no_in e z = let c = and_parts (passes_at e (coalescing false // logicals false)) (closes shapes.bit_or e) z in both_true _ _ c.0 (bit_or_closed no_in e c.1)
+
+pub conditional_closed : (no_in : Bool) (e : Front) → closes_conditional false e ≡ true → closes_conditional no_in e ≡ true
+conditional_closed no_in e z = let c = and_parts (passes_at e (choice_tail false)) (closes shapes.logical_or e) z in both_true _ _ c.0 (logical_closed no_in e c.1)
+
+assignment_closed : (no_in : Bool) (e : Front) → closes shapes.assignment e ≡ true → closes_in no_in shapes.assignment e ≡ true
+unfolding arrow_rest assignments
+assignment_closed no_in e z =
     let s = and_parts (stops e) _ z in
-    let c = and_parts (refuses_at e (arrow_body false)) _ s.1 in
-    let d = and_parts (refuses_at e (arrow_rest false false)) _ c.1 in
-    and_parts (passes_at e (assignments false)) (closes_conditional e) d.1
+    let a = and_parts (refuses_at e (arrow_body false)) _ s.1 in
+    let b = and_parts (refuses_at e (arrow_rest false false)) _ a.1 in
+    let c = and_parts (passes_at e (assignments false)) (closes_conditional false e) b.1 in
+    both_true _ _ s.0 (both_true _ _ a.0 (both_true _ _ b.0 (both_true _ _ c.0 (conditional_closed no_in e c.1))))
+
+sequence_closed : (no_in : Bool) (e : Front) → closes shapes.sequence e ≡ true → closes_in no_in shapes.sequence e ≡ true
+sequence_closed no_in e z = let c = and_parts (refuses_at e (punct (codes ","))) (closes shapes.assignment e) z in both_true _ _ c.0 (assignment_closed no_in e c.1)
+
+pub closed : (no_in : Bool) (l : Level) (e : Front) → closes l e ≡ true → closes_in no_in l e ≡ true
+closed no_in shapes.relation e z = relation_closed no_in e z
+closed no_in shapes.equality e z = equality_closed no_in e z
+closed no_in shapes.bit_and e z = bit_and_closed no_in e z
+closed no_in shapes.bit_xor e z = bit_xor_closed no_in e z
+closed no_in shapes.bit_or e z = bit_or_closed no_in e z
+closed no_in shapes.logical_and e z = logical_closed no_in e z
+closed no_in shapes.logical_or e z = logical_closed no_in e z
+closed no_in shapes.coalescing e z = logical_closed no_in e z
+closed no_in shapes.short_circuit e z = logical_closed no_in e z
+closed no_in shapes.assignment e z = assignment_closed no_in e z
+closed no_in shapes.sequence e z = sequence_closed no_in e z
+closed no_in l e z = z
+
+-- behind an assignment expression stands none of its operators, and none of a conditional one
+ends_parts : (no_in : Bool) (e : Front) → closes_in no_in shapes.assignment e ≡ true → (passes_at e (assignments no_in) ≡ true) × (closes_conditional no_in e ≡ true)
+ends_parts no_in e z =
+    let s = and_parts (stops e) _ z in
+    let c = and_parts (refuses_at e (arrow_body no_in)) _ s.1 in
+    let d = and_parts (refuses_at e (arrow_rest no_in false)) _ c.1 in
+    and_parts (passes_at e (assignments no_in)) (closes_conditional no_in e) d.1
 
 -- nor `=`
 pub ends_no_equals : (e : Front) → Ends e → refuses_at e (punct (codes "=")) ≡ true
 unfolding assignments
-ends_no_equals e z = let c = ends_parts e z in let a = and_parts (refuses_at e (expressions.assignment (codes "=") Assign false)) _ c.0 in first_refuses e (punct (codes "=")) a.0
+ends_no_equals e z = let c = ends_parts false e z in let a = and_parts (refuses_at e (expressions.assignment (codes "=") Assign false)) _ c.0 in first_refuses e (punct (codes "=")) a.0
 
 abbrev pub further_out : ℕ → Level → Level
 further_out zero l = l
@@ -127,125 +189,104 @@ loosest shapes.object = refl
 loosest l = refl
 
 module _ (assigned : Bool) where
-  abbrev pub Direct : Level → Laid → Node → Type 0
-  Direct l f n = (g : Gap) (us : Items) (e : Front) → Begins e us → closes l e ≡ true → Reads assigned (grammar_of l) (f g us) (n ∷ []) us
+  abbrev pub Direct : Bool → Level → Laid → Node → Type 0
+  Direct no_in l f n = (g : Gap) (us : Items) (e : Front) → Begins e us → closes_in no_in l e ≡ true → Reads assigned (grammar_of no_in l) (f g us) (n ∷ []) us
 
   -- a first part of a tighter level, and operators behind it
-  pub record Chained (base tail : Grammar) (tighter : Level) (f : Laid) (n : Node) : Type 0 where
+  pub record Chained (no_in : Bool) (base tail : Grammar) (tighter : Level) (f : Laid) (n : Node) : Type 0 where
     pub pieces : List Node
-    pub own : (g : Gap) (us : Items) (e : Front) → Begins e us → closes tighter e ≡ true → (ys : List Node) (vs : Items) → Reads assigned tail us ys vs → Reads assigned (base ▸ tail) (f g us) (pieces ++ ys) vs
+    pub own : (g : Gap) (us : Items) (e : Front) → Begins e us → closes_in no_in tighter e ≡ true → (ys : List Node) (vs : Items) → Reads assigned tail us ys vs → Reads assigned (base ▸ tail) (f g us) (pieces ++ ys) vs
     pub whole : steps in_front None pieces ≡ Some n
 
   -- an operator and its operand, or none in front
   pub data Operand (c : Front) (f : Laid) (n : Node) : Type 0 where
     with_operator : ((g : Gap) (us : Items) (e : Front) → Begins e us → closes shapes.unary e ≡ true → Reads assigned prefixed (f g us) (n ∷ []) us) → Operand c f n
-    without_operator : refuses_at c prefixed ≡ true → Direct shapes.update f n → Operand c f n
+    without_operator : refuses_at c prefixed ≡ true → Direct false shapes.update f n → Operand c f n
 
   -- a first part, and `&&` and `||` behind it, wherever they are read on
-  pub record Split (ts vs : Items) (first : Node) (more : List Node) : Type 0 where
+  pub record Split (no_in : Bool) (ts vs : Items) (first : Node) (more : List Node) : Type 0 where
     pub mid : Items
-    pub first_read : Reads assigned (operators.bit_or false) ts (first ∷ []) mid
-    pub few : Reads assigned (logicals false) mid more vs
-    pub all : Reads assigned (coalescing false // logicals false) mid more vs
+    pub first_read : Reads assigned (operators.bit_or no_in) ts (first ∷ []) mid
+    pub few : Reads assigned (logicals no_in) mid more vs
+    pub all : Reads assigned (coalescing no_in // logicals no_in) mid more vs
 
-  pub record Logical (f : Laid) (n : Node) : Type 0 where
+  pub record Logical (no_in : Bool) (f : Laid) (n : Node) : Type 0 where
     pub first : Node
     pub more : List Node
-    pub own : (g : Gap) (us : Items) (e : Front) → Begins e us → closes shapes.bit_or e ≡ true → (ys : List Node) (vs : Items) → Reads assigned (logicals false) us ys vs → Reads assigned (coalescing false // logicals false) us ys vs → Split (f g us) vs first (more ++ ys)
+    pub own : (g : Gap) (us : Items) (e : Front) → Begins e us → closes_in no_in shapes.bit_or e ≡ true → (ys : List Node) (vs : Items) → Reads assigned (logicals no_in) us ys vs → Reads assigned (coalescing no_in // logicals no_in) us ys vs → Split no_in (f g us) vs first (more ++ ys)
     pub whole : steps in_front_logical (Some first) more ≡ Some n
 
-  pub record Ands (f : Laid) (n : Node) : Type 0 where
-    pub chain : Logical f n
+  pub record Ands (no_in : Bool) (f : Laid) (n : Node) : Type 0 where
+    pub chain : Logical no_in f n
     pub ands : AllAnd chain.more
     pub no_or : is_or (kind_of chain.first) ≡ false
 
   -- a first part, and `??` behind it
-  pub record Coalesces (ts vs : Items) (first : Node) (more : List Node) : Type 0 where
+  pub record Coalesces (no_in : Bool) (ts vs : Items) (first : Node) (more : List Node) : Type 0 where
     pub mid : Items
-    pub first_read : Reads assigned (operators.bit_or false) ts (first ∷ []) mid
-    pub all : Reads assigned (coalescing false) mid more vs
+    pub first_read : Reads assigned (operators.bit_or no_in) ts (first ∷ []) mid
+    pub all : Reads assigned (coalescing no_in) mid more vs
 
-  pub record Coalesced (f : Laid) (n : Node) : Type 0 where
+  pub record Coalesced (no_in : Bool) (f : Laid) (n : Node) : Type 0 where
     pub first : Node
     pub more : List Node
-    pub own : (g : Gap) (us : Items) (e : Front) → Begins e us → closes shapes.bit_or e ≡ true → (ys : List Node) (vs : Items) → Reads assigned (optional (coalescing false)) us ys vs → Coalesces (f g us) vs first (more ++ ys)
+    pub own : (g : Gap) (us : Items) (e : Front) → Begins e us → closes_in no_in shapes.bit_or e ≡ true → (ys : List Node) (vs : Items) → Reads assigned (optional (coalescing no_in)) us ys vs → Coalesces no_in (f g us) vs first (more ++ ys)
     pub whole : steps in_front_logical (Some first) more ≡ Some n
 
-  abbrev pub Reading : Level → Front → Laid → Kind → List Node → Type 0
-  Reading shapes.new_callee c f k ns = NewForm assigned f k ns
-  Reading shapes.object c f k ns = Form assigned f k ns
-  Reading shapes.callee c f k ns = Form assigned f k ns
-  Reading shapes.left_hand_side c f k ns = Whole assigned c f (bare k ns)
-  Reading shapes.update c f k ns = (refuses_at c prefixed ≡ true) × Direct shapes.update f (bare k ns)
-  Reading shapes.unary c f k ns = Operand c f (bare k ns)
-  Reading shapes.power c f k ns = Direct shapes.power f (bare k ns)
-  Reading shapes.product c f k ns = Chained exponentiation factors shapes.power f (bare k ns)
-  Reading shapes.sum c f k ns = Chained operators.product terms shapes.product f (bare k ns)
-  Reading shapes.shift c f k ns = Chained operators.sum shifts shapes.sum f (bare k ns)
-  Reading shapes.relation c f k ns = Chained related (relations false) shapes.shift f (bare k ns)
-  Reading shapes.equality c f k ns = Chained (operators.relation false) (equalities false) shapes.relation f (bare k ns)
-  Reading shapes.bit_and c f k ns = Chained (operators.equality false) (conjunctions false) shapes.equality f (bare k ns)
-  Reading shapes.bit_xor c f k ns = Chained (operators.bit_and false) (exclusions false) shapes.bit_and f (bare k ns)
-  Reading shapes.bit_or c f k ns = Chained (operators.bit_xor false) (disjunctions false) shapes.bit_xor f (bare k ns)
-  Reading shapes.logical_and c f k ns = Ands f (bare k ns)
-  Reading shapes.logical_or c f k ns = Logical f (bare k ns)
-  Reading shapes.coalescing c f k ns = Coalesced f (bare k ns)
-  Reading shapes.short_circuit c f k ns = Direct shapes.short_circuit f (bare k ns)
-  Reading shapes.assignment c f k ns = Direct shapes.assignment f (bare k ns)
-  Reading shapes.sequence c f k ns = Direct shapes.sequence f (bare k ns)
+  abbrev pub Reading : Bool → Level → Front → Laid → Kind → List Node → Type 0
+  Reading no_in shapes.new_callee c f k ns = NewForm assigned f k ns
+  Reading no_in shapes.object c f k ns = Form assigned f k ns
+  Reading no_in shapes.callee c f k ns = Form assigned f k ns
+  Reading no_in shapes.left_hand_side c f k ns = Whole assigned c f (bare k ns)
+  Reading no_in shapes.update c f k ns = (refuses_at c prefixed ≡ true) × Direct no_in shapes.update f (bare k ns)
+  Reading no_in shapes.unary c f k ns = Operand c f (bare k ns)
+  Reading no_in shapes.power c f k ns = Direct no_in shapes.power f (bare k ns)
+  Reading no_in shapes.product c f k ns = Chained false exponentiation factors shapes.power f (bare k ns)
+  Reading no_in shapes.sum c f k ns = Chained false operators.product terms shapes.product f (bare k ns)
+  Reading no_in shapes.shift c f k ns = Chained false operators.sum shifts shapes.sum f (bare k ns)
+  Reading no_in shapes.relation c f k ns = Chained no_in (related no_in) (relations no_in) shapes.shift f (bare k ns)
+  Reading no_in shapes.equality c f k ns = Chained no_in (operators.relation no_in) (equalities no_in) shapes.relation f (bare k ns)
+  Reading no_in shapes.bit_and c f k ns = Chained no_in (operators.equality no_in) (conjunctions no_in) shapes.equality f (bare k ns)
+  Reading no_in shapes.bit_xor c f k ns = Chained no_in (operators.bit_and no_in) (exclusions no_in) shapes.bit_and f (bare k ns)
+  Reading no_in shapes.bit_or c f k ns = Chained no_in (operators.bit_xor no_in) (disjunctions no_in) shapes.bit_xor f (bare k ns)
+  Reading no_in shapes.logical_and c f k ns = Ands no_in f (bare k ns)
+  Reading no_in shapes.logical_or c f k ns = Logical no_in f (bare k ns)
+  Reading no_in shapes.coalescing c f k ns = Coalesced no_in f (bare k ns)
+  Reading no_in shapes.short_circuit c f k ns = Direct no_in shapes.short_circuit f (bare k ns)
+  Reading no_in shapes.assignment c f k ns = Direct no_in shapes.assignment f (bare k ns)
+  Reading no_in shapes.sequence c f k ns = Direct no_in shapes.sequence f (bare k ns)
 
   -- what is read of it as a parameter; a sequence is read as several, and those behind it
   abbrev pub ParamOf : Level → Items → Items → Type 0
   ParamOf shapes.sequence ts us = (no_in : Bool) → Params assigned no_in us → Refuses assigned (params ▸ behind_params no_in) ts
   ParamOf l ts us = AsParam assigned ts us
 
-  -- an expression at a level
-  pub record Stands (l : Level) (f : Laid) (k : Kind) (ns : List Node) : Type 0 where
+  -- an expression at a level, where `in` is an operator, or is none
+  pub record StandsIn (no_in : Bool) (l : Level) (f : Laid) (k : Kind) (ns : List Node) : Type 0 where
     pub lead : Lead assigned f
-    pub reading : Reading l lead.front f k ns
+    pub reading : Reading no_in l lead.front f k ns
     pub tight : Tight l (let L = lead in L.front)
     pub no_or : NotOr l k
     pub param : (g : Gap) (us : Items) (e : Front) → Begins e us → EndOf l e → ParamOf l (f g us) us
 
-  pub from_form : {f : Laid} {k : Kind} {ns : List Node} → Form assigned f k ns → Stands shapes.object f k ns
-  from_form {k = k} F = let o = F.opens in record { lead = lead_of assigned F; tight = (o.no_private, o.no_yield); no_or = head_is_no_or k F.head; param = F.as_param; reading = F }
+  -- where it is one
+  abbrev pub Stands : Level → Laid → Kind → List Node → Type 0
+  Stands l f k ns = StandsIn false l f k ns
 
-  pub from_new : {f : Laid} {k : Kind} {ns : List Node} → NewForm assigned f k ns → Stands shapes.new_callee f k ns
-  from_new {k = k} N = let F = N.form in let o = F.opens in record { lead = lead_of assigned F; tight = (o.no_private, o.no_yield); no_or = head_is_no_or k F.head; param = F.as_param; reading = N }
-
-  pub chained_read : {base tail : Grammar} {l : Level} {f : Laid} {n : Node} → Chained base tail l f n → (g : Gap) (us : Items) (e : Front) → Begins e us → passes_at e tail ≡ true → closes l e ≡ true
+  pub chained_read : {no_in : Bool} {base tail : Grammar} {l : Level} {f : Laid} {n : Node} → Chained no_in base tail l f n → (g : Gap) (us : Items) (e : Front) → Begins e us → passes_at e tail ≡ true → closes_in no_in l e ≡ true
       → Reads assigned (build form.Chain (base ▸ tail)) (f g us) (n ∷ []) us
   chained_read {tail = tail} C g us e b p z =
       ap (built_on form.Chain) (C.own g us e b z [] us (passed_at assigned (means assigned) tail e us b p))
       ∙ ap (λ o. read (unwrap_or o absent ∷ []) us) (ap (steps in_front None) (append-nil C.pieces) ∙ C.whole)
 
-  logical_read : {f : Laid} {n : Node} → Logical f n → (g : Gap) (us : Items) (e : Front) → Begins e us → closes shapes.logical_or e ≡ true → Reads assigned (operators.short_circuit false) (f g us) (n ∷ []) us
-  unfolding operators.short_circuit
-  logical_read C g us e b z =
-      let c = and_parts (passes_at e (coalescing false // logicals false)) (closes shapes.bit_or e) z in
-      let d = and_parts (refuses_at e (coalescing false)) (passes_at e (logicals false)) c.0 in
-      let x = C.own g us e b c.1 [] us (passed_at assigned (means assigned) (logicals false) e us b d.1) (passed_at assigned (means assigned) (coalescing false // logicals false) e us b c.0) in
-      ap (built_on form.Logical) (ap (followed_on (interp assigned (means assigned) (coalescing false // logicals false))) x.first_read ∙ ap (with_front (C.first ∷ [])) x.all)
-      ∙ ap (λ o. read (unwrap_or o absent ∷ []) us) (ap (steps in_front_logical (Some C.first)) (append-nil C.more) ∙ C.whole)
-
-  coalesced_read : {f : Laid} {n : Node} → Coalesced f n → Direct shapes.short_circuit f n
-  unfolding operators.short_circuit
-  coalesced_read C g us e b z =
-      let c = and_parts (passes_at e (coalescing false // logicals false)) (closes shapes.bit_or e) z in
-      let d = and_parts (refuses_at e (coalescing false)) (passes_at e (logicals false)) c.0 in
-      let x = C.own g us e b c.1 [] us (passed_at assigned (means assigned) (optional (coalescing false)) e us b (rw d.0 refl)) in
-      let I = interp assigned (means assigned) in
-      ap (built_on form.Logical) (ap (followed_on (I (coalescing false // logicals false))) x.first_read ∙ ap (with_front (C.first ∷ [])) (ap (or_on (I (logicals false)) x.mid) x.all))
-      ∙ ap (λ o. read (unwrap_or o absent ∷ []) us) (ap (steps in_front_logical (Some C.first)) (append-nil C.more) ∙ C.whole)
-
-  single : (base tail : Grammar) (l : Level) {f : Laid} {n : Node} → ((g : Gap) (us : Items) (e : Front) → Begins e us → closes l e ≡ true → Reads assigned base (f g us) (n ∷ []) us) → Chained base tail l f n
+  single : {no_in : Bool} (base tail : Grammar) (l : Level) {f : Laid} {n : Node} → ((g : Gap) (us : Items) (e : Front) → Begins e us → closes_in no_in l e ≡ true → Reads assigned base (f g us) (n ∷ []) us) → Chained no_in base tail l f n
   single base tail l {n = n} d = record {
     pieces = n ∷ [];
     own = λ g us e b z ys vs h. ap (followed_on (interp assigned (means assigned) tail)) (d g us e b z) ∙ ap (with_front (n ∷ [])) h;
     whole = refl;
   }
 
-  update_read : {f : Laid} {n : Node} (L : Lead assigned f) → Whole assigned (let l = L in l.front) f n → Direct shapes.update f n
+  update_read : {f : Laid} {n : Node} (L : Lead assigned f) → Whole assigned (let l = L in l.front) f n → Direct false shapes.update f n
   unfolding operators.update
   update_read {f} {n} L w g us e b z =
       let o = w.opens in
@@ -253,7 +294,7 @@ module _ (assigned : Bool) where
       let t : Tower L.front e chain operators.update = later o.no_increment (later o.no_decrement (chained (before here c.0))) in
       climb assigned (means assigned) t (f g us) us n (L.begins g us) b (w.all g us e b c.1)
 
-  power_read : {f : Laid} {n : Node} (L : Lead assigned f) → Operand (let l = L in l.front) f n → Direct shapes.power f n
+  power_read : {f : Laid} {n : Node} (L : Lead assigned f) → Operand (let l = L in l.front) f n → Direct false shapes.power f n
   unfolding exponentiation
   power_read {f} {n} L (with_operator d) g us e b z =
       let c = and_parts (passes_at e power_tail) (closes shapes.unary e) z in
@@ -263,115 +304,140 @@ module _ (assigned : Bool) where
       let t : Tower L.front e operators.update exponentiation = later r (chained (before here c.0)) in
       climb assigned (means assigned) t (f g us) us n (L.begins g us) b (d g us e b c.1)
 
-  pub assignment_read : {f : Laid} {n : Node} (L : Lead assigned f) → refuses_at (let l = L in l.front) (yield_ false) ≡ true → ((g : Gap) (us : Items) (e : Front) → Begins e us → Ends e → Reads assigned (expressions.conditional false) (f g us) (n ∷ []) us) → Direct shapes.assignment f n
-  assignment_read {f} {n} L y D g us e b z =
+  -- no private name stands before `in` there
+  related_read : (no_in : Bool) {f : Laid} {n : Node} (L : Lead assigned f) → refuses_at (let l = L in l.front) private_in ≡ true → Direct false shapes.shift f n → (g : Gap) (us : Items) (e : Front) → Begins e us → closes shapes.shift e ≡ true → Reads assigned (related no_in) (f g us) (n ∷ []) us
+  related_read true L t d g us e b z = d g us e b z
+  related_read false {f} L t d g us e b z = ap (or_on (interp assigned (means assigned) operators.shift) (f g us)) (refused_at assigned (means assigned) private_in L.front (f g us) (L.begins g us) t) ∙ d g us e b z
+
+  pub assignment_read : (no_in : Bool) {f : Laid} {n : Node} (L : Lead assigned f) → refuses_at (let l = L in l.front) (yield_ false) ≡ true → ((g : Gap) (us : Items) (e : Front) → Begins e us → closes_in no_in shapes.assignment e ≡ true → Reads assigned (expressions.conditional no_in) (f g us) (n ∷ []) us) → Direct no_in shapes.assignment f n
+  assignment_read no_in {f} {n} L y D g us e b z =
       let s = and_parts (stops e) _ z in
-      let c = and_parts (refuses_at e (arrow_body false)) _ s.1 in
-      let d = and_parts (refuses_at e (arrow_rest false false)) _ c.1 in
-      let t : Tower L.front e (expressions.conditional false) behind_arrow = later y (chained (before here (ends_parts e z).0)) in
-      means_is assigned (part.Assign false false) (f g us)
-      ∙ (ap (or_on (interp assigned (means assigned) behind_arrow) (f g us)) (L.no_arrow false g us e b c.0 (refused_at assigned (means assigned) (arrow_rest false false) e us b d.0))
+      let c = and_parts (refuses_at e (arrow_body no_in)) _ s.1 in
+      let d = and_parts (refuses_at e (arrow_rest no_in false)) _ c.1 in
+      let t : Tower L.front e (expressions.conditional no_in) (behind_arrow no_in) = later y (chained (before here (ends_parts no_in e z).0)) in
+      means_is assigned (part.Assign no_in false) (f g us)
+      ∙ (ap (or_on (interp assigned (means assigned) (behind_arrow no_in)) (f g us)) (L.no_arrow no_in g us e b c.0 (refused_at assigned (means assigned) (arrow_rest no_in false) e us b d.0))
       ∙ climb assigned (means assigned) t (f g us) us n (L.begins g us) b (D g us e b z))
 
-  module _ {f : Laid} {k : Kind} {ns : List Node} where
-    -- at each level, all of it is read
-    pub direct : (l : Level) → Stands l f k ns → Direct l f (bare k ns)
-    unfolding operand operators.shift operators.relation operators.equality operators.bit_and operators.bit_xor operators.bit_or
-    direct shapes.new_callee S g us e b z = let N = S.reading in chain_read assigned N.form g us e b z
-    direct shapes.object S g us e b z = chain_read assigned S.reading g us e b z
-    direct shapes.callee S g us e b z = chain_read assigned S.reading g us e b z
-    direct shapes.left_hand_side S g us e b z = let w = S.reading in w.all g us e b z
-    direct shapes.update S g us e b z = let r = S.reading in r.1 g us e b z
-    direct shapes.unary S g us e b z = by_operand S.reading
-      where
-        by_operand : Operand (let l = S.lead in l.front) f (bare k ns) → Reads assigned operand (f g us) (bare k ns ∷ []) us
-        by_operand (with_operator d) = ap (or_on (interp assigned (means assigned) operators.update) (f g us)) (d g us e b z)
-        by_operand (without_operator c d) = let l = S.lead in ap (or_on (interp assigned (means assigned) operators.update) (f g us)) (refused_at assigned (means assigned) prefixed l.front (f g us) (l.begins g us) c) ∙ d g us e b z
-    direct shapes.power S g us e b z = S.reading g us e b z
-    direct shapes.product S g us e b z = let c = and_parts (passes_at e factors) (closes shapes.power e) z in chained_read S.reading g us e b c.0 c.1
-    direct shapes.sum S g us e b z = let c = and_parts (passes_at e terms) (closes shapes.product e) z in chained_read S.reading g us e b c.0 c.1
-    direct shapes.shift S g us e b z = let c = and_parts (passes_at e shifts) (closes shapes.sum e) z in chained_read S.reading g us e b c.0 c.1
-    direct shapes.relation S g us e b z = let c = and_parts (passes_at e (relations false)) (closes shapes.shift e) z in chained_read S.reading g us e b c.0 c.1
-    direct shapes.equality S g us e b z = let c = and_parts (passes_at e (equalities false)) (closes shapes.relation e) z in chained_read S.reading g us e b c.0 c.1
-    direct shapes.bit_and S g us e b z = let c = and_parts (passes_at e (conjunctions false)) (closes shapes.equality e) z in chained_read S.reading g us e b c.0 c.1
-    direct shapes.bit_xor S g us e b z = let c = and_parts (passes_at e (exclusions false)) (closes shapes.bit_and e) z in chained_read S.reading g us e b c.0 c.1
-    direct shapes.bit_or S g us e b z = let c = and_parts (passes_at e (disjunctions false)) (closes shapes.bit_xor e) z in chained_read S.reading g us e b c.0 c.1
-    direct shapes.logical_and S g us e b z = let r = S.reading in logical_read r.chain g us e b z
-    direct shapes.logical_or S g us e b z = logical_read S.reading g us e b z
-    direct shapes.coalescing S g us e b z = coalesced_read S.reading g us e b z
-    direct shapes.short_circuit S g us e b z = S.reading g us e b z
-    direct shapes.assignment S g us e b z = S.reading g us e b z
-    direct shapes.sequence S g us e b z = S.reading g us e b z
+  module _ {no_in : Bool} where
+    pub from_form : {f : Laid} {k : Kind} {ns : List Node} → Form assigned f k ns → StandsIn no_in shapes.object f k ns
+    from_form {k = k} F = let o = F.opens in record { lead = lead_of assigned F; tight = (o.no_private, o.no_yield); no_or = head_is_no_or k F.head; param = F.as_param; reading = F }
 
-    -- a level further out
+    pub from_new : {f : Laid} {k : Kind} {ns : List Node} → NewForm assigned f k ns → StandsIn no_in shapes.new_callee f k ns
+    from_new {k = k} N = let F = N.form in let o = F.opens in record { lead = lead_of assigned F; tight = (o.no_private, o.no_yield); no_or = head_is_no_or k F.head; param = F.as_param; reading = N }
 
-    related_read : Stands shapes.shift f k ns → (g : Gap) (us : Items) (e : Front) → Begins e us → closes shapes.shift e ≡ true → Reads assigned related (f g us) (bare k ns ∷ []) us
-    related_read S g us e b z =
-        let l = S.lead in
-        let t = S.tight in
-        ap (or_on (interp assigned (means assigned) operators.shift) (f g us)) (refused_at assigned (means assigned) private_in l.front (f g us) (l.begins g us) t.0) ∙ direct shapes.shift S g us e b z
+    logical_read : {f : Laid} {n : Node} → Logical no_in f n → (g : Gap) (us : Items) (e : Front) → Begins e us → closes_in no_in shapes.logical_or e ≡ true → Reads assigned (operators.short_circuit no_in) (f g us) (n ∷ []) us
+    unfolding operators.short_circuit
+    logical_read C g us e b z =
+        let c = and_parts (passes_at e (coalescing no_in // logicals no_in)) (closes_in no_in shapes.bit_or e) z in
+        let d = and_parts (refuses_at e (coalescing no_in)) (passes_at e (logicals no_in)) c.0 in
+        let x = C.own g us e b c.1 [] us (passed_at assigned (means assigned) (logicals no_in) e us b d.1) (passed_at assigned (means assigned) (coalescing no_in // logicals no_in) e us b c.0) in
+        ap (built_on form.Logical) (ap (followed_on (interp assigned (means assigned) (coalescing no_in // logicals no_in))) x.first_read ∙ ap (with_front (C.first ∷ [])) x.all)
+        ∙ ap (λ o. read (unwrap_or o absent ∷ []) us) (ap (steps in_front_logical (Some C.first)) (append-nil C.more) ∙ C.whole)
 
-    ands_read : Stands shapes.bit_or f k ns → Ands f (bare k ns)
-    ands_read S = record {
-      chain = record {
-        first = bare k ns;
-        more = [];
-        own = λ g us e b z ys vs h h'. record { mid = us; first_read = direct shapes.bit_or S g us e b z; few = h; all = h' };
-        whole = refl;
-      };
-      ands = no_and;
-      no_or = ap is_or (kind-node dummy_span k ns) ∙ S.no_or;
-    }
+    coalesced_read : {f : Laid} {n : Node} → Coalesced no_in f n → Direct no_in shapes.short_circuit f n
+    unfolding operators.short_circuit
+    coalesced_read C g us e b z =
+        let c = and_parts (passes_at e (coalescing no_in // logicals no_in)) (closes_in no_in shapes.bit_or e) z in
+        let d = and_parts (refuses_at e (coalescing no_in)) (passes_at e (logicals no_in)) c.0 in
+        let x = C.own g us e b c.1 [] us (passed_at assigned (means assigned) (optional (coalescing no_in)) e us b (rw d.0 refl)) in
+        let I = interp assigned (means assigned) in
+        ap (built_on form.Logical) (ap (followed_on (I (coalescing no_in // logicals no_in))) x.first_read ∙ ap (with_front (C.first ∷ [])) (ap (or_on (I (logicals no_in)) x.mid) x.all))
+        ∙ ap (λ o. read (unwrap_or o absent ∷ []) us) (ap (steps in_front_logical (Some C.first)) (append-nil C.more) ∙ C.whole)
 
-    pub conditional_read : Stands shapes.short_circuit f k ns → (g : Gap) (us : Items) (e : Front) → Begins e us → closes_conditional e ≡ true → Reads assigned (expressions.conditional false) (f g us) (bare k ns ∷ []) us
-    unfolding expressions.conditional
-    conditional_read S g us e b z =
-        let l = S.lead in
-        let c = and_parts (passes_at e choice_tail) (closes shapes.short_circuit e) z in
-        let t : Tower l.front e (operators.short_circuit false) (expressions.conditional false) = chained (before here c.0) in
-        climb assigned (means assigned) t (f g us) us (bare k ns) (l.begins g us) b (direct shapes.short_circuit S g us e b c.1)
+    module _ {f : Laid} {k : Kind} {ns : List Node} where
+      -- at each level, all of it is read
+      pub direct : (l : Level) → StandsIn no_in l f k ns → Direct no_in l f (bare k ns)
+      unfolding operand operators.shift operators.relation operators.equality operators.bit_and operators.bit_xor operators.bit_or
+      direct shapes.new_callee S g us e b z = let N = S.reading in chain_read assigned N.form g us e b z
+      direct shapes.object S g us e b z = chain_read assigned S.reading g us e b z
+      direct shapes.callee S g us e b z = chain_read assigned S.reading g us e b z
+      direct shapes.left_hand_side S g us e b z = let w = S.reading in w.all g us e b z
+      direct shapes.update S g us e b z = let r = S.reading in r.1 g us e b z
+      direct shapes.unary S g us e b z = by_operand S.reading
+        where
+          by_operand : Operand (let l = S.lead in l.front) f (bare k ns) → Reads assigned operand (f g us) (bare k ns ∷ []) us
+          by_operand (with_operator d) = ap (or_on (interp assigned (means assigned) operators.update) (f g us)) (d g us e b z)
+          by_operand (without_operator c d) = let l = S.lead in ap (or_on (interp assigned (means assigned) operators.update) (f g us)) (refused_at assigned (means assigned) prefixed l.front (f g us) (l.begins g us) c) ∙ d g us e b z
+      direct shapes.power S g us e b z = S.reading g us e b z
+      direct shapes.product S g us e b z = let c = and_parts (passes_at e factors) (closes_in no_in shapes.power e) z in chained_read S.reading g us e b c.0 c.1
+      direct shapes.sum S g us e b z = let c = and_parts (passes_at e terms) (closes_in no_in shapes.product e) z in chained_read S.reading g us e b c.0 c.1
+      direct shapes.shift S g us e b z = let c = and_parts (passes_at e shifts) (closes_in no_in shapes.sum e) z in chained_read S.reading g us e b c.0 c.1
+      direct shapes.relation S g us e b z = let c = and_parts (passes_at e (relations no_in)) (closes_in no_in shapes.shift e) z in chained_read S.reading g us e b c.0 c.1
+      direct shapes.equality S g us e b z = let c = and_parts (passes_at e (equalities no_in)) (closes_in no_in shapes.relation e) z in chained_read S.reading g us e b c.0 c.1
+      direct shapes.bit_and S g us e b z = let c = and_parts (passes_at e (conjunctions no_in)) (closes_in no_in shapes.equality e) z in chained_read S.reading g us e b c.0 c.1
+      direct shapes.bit_xor S g us e b z = let c = and_parts (passes_at e (exclusions no_in)) (closes_in no_in shapes.bit_and e) z in chained_read S.reading g us e b c.0 c.1
+      direct shapes.bit_or S g us e b z = let c = and_parts (passes_at e (disjunctions no_in)) (closes_in no_in shapes.bit_xor e) z in chained_read S.reading g us e b c.0 c.1
+      direct shapes.logical_and S g us e b z = let r = S.reading in logical_read r.chain g us e b z
+      direct shapes.logical_or S g us e b z = logical_read S.reading g us e b z
+      direct shapes.coalescing S g us e b z = coalesced_read S.reading g us e b z
+      direct shapes.short_circuit S g us e b z = S.reading g us e b z
+      direct shapes.assignment S g us e b z = S.reading g us e b z
+      direct shapes.sequence S g us e b z = S.reading g us e b z
 
-    one_read : Stands shapes.assignment f k ns → Direct shapes.sequence f (bare k ns)
-    unfolding expression many_up_to
-    one_read S g us e b z =
-        let c = and_parts (refuses_at e (punct (codes ","))) (closes shapes.assignment e) z in
-        rw (S.reading g us e b c.1, refused_at assigned (means assigned) (punct (codes ",") ▸ grammar.up (part.Assign false false)) e us b (refuses_first e (punct (codes ",")) (grammar.up (part.Assign false false)) c.0)) refl
+      -- a level further out
 
-    pub loosened : (l : Level) → Stands l f k ns → Stands (looser_than l) f k ns
-    loosened shapes.new_callee S = let N = S.reading in from_form N.form
-    loosened shapes.object S = record { lead = S.lead; tight = S.tight; no_or = S.no_or; param = S.param; reading = S.reading }
-    loosened shapes.callee S = let F = S.reading in let o = F.opens in record { lead = lead_of assigned F; tight = (o.no_private, o.no_yield); no_or = S.no_or; param = S.param; reading = record { opens = F.opens; all = chain_read assigned F } }
-    loosened shapes.left_hand_side S = let w = S.reading in let o = w.opens in record { lead = S.lead; tight = S.tight; no_or = S.no_or; param = S.param; reading = (o.no_prefix, update_read S.lead w) }
-    loosened shapes.update S = let r = S.reading in record { lead = S.lead; tight = S.tight; no_or = S.no_or; param = S.param; reading = without_operator r.0 r.1 }
-    loosened shapes.unary S = record { lead = S.lead; tight = S.tight; no_or = S.no_or; param = S.param; reading = power_read S.lead S.reading }
-    loosened shapes.power S = record { lead = S.lead; tight = S.tight; no_or = S.no_or; param = S.param; reading = single exponentiation factors shapes.power (direct shapes.power S) }
-    loosened shapes.product S = record { lead = S.lead; tight = S.tight; no_or = S.no_or; param = S.param; reading = single operators.product terms shapes.product (direct shapes.product S) }
-    loosened shapes.sum S = record { lead = S.lead; tight = S.tight; no_or = S.no_or; param = S.param; reading = single operators.sum shifts shapes.sum (direct shapes.sum S) }
-    loosened shapes.shift S = let t = S.tight in record { lead = S.lead; tight = t.1; no_or = S.no_or; param = S.param; reading = single related (relations false) shapes.shift (related_read S) }
-    loosened shapes.relation S = record { lead = S.lead; tight = S.tight; no_or = S.no_or; param = S.param; reading = single (operators.relation false) (equalities false) shapes.relation (direct shapes.relation S) }
-    loosened shapes.equality S = record { lead = S.lead; tight = S.tight; no_or = S.no_or; param = S.param; reading = single (operators.equality false) (conjunctions false) shapes.equality (direct shapes.equality S) }
-    loosened shapes.bit_and S = record { lead = S.lead; tight = S.tight; no_or = S.no_or; param = S.param; reading = single (operators.bit_and false) (exclusions false) shapes.bit_and (direct shapes.bit_and S) }
-    loosened shapes.bit_xor S = record { lead = S.lead; tight = S.tight; no_or = S.no_or; param = S.param; reading = single (operators.bit_xor false) (disjunctions false) shapes.bit_xor (direct shapes.bit_xor S) }
-    loosened shapes.bit_or S = record { lead = S.lead; tight = S.tight; no_or = S.no_or; param = S.param; reading = ands_read S }
-    loosened shapes.logical_and S = let r = S.reading in record { lead = S.lead; tight = S.tight; no_or = tt; param = S.param; reading = r.chain }
-    loosened shapes.logical_or S = record { lead = S.lead; tight = S.tight; no_or = tt; param = S.param; reading = logical_read S.reading }
-    loosened shapes.coalescing S = record { lead = S.lead; tight = S.tight; no_or = tt; param = S.param; reading = coalesced_read S.reading }
-    loosened shapes.short_circuit S = record { lead = S.lead; tight = tt; no_or = tt; param = λ g us e b z. S.param g us e b z.0; reading = assignment_read S.lead S.tight (λ g us e b z. conditional_read S g us e b (ends_parts e z).1) }
-    loosened shapes.assignment S = record { lead = S.lead; tight = tt; no_or = tt; param = λ g us e b z n P. params_by assigned n (f g us) us (S.param g us e b z) P; reading = one_read S }
-    loosened shapes.sequence S = S
+      ands_read : StandsIn no_in shapes.bit_or f k ns → Ands no_in f (bare k ns)
+      ands_read S = record {
+        chain = record {
+          first = bare k ns;
+          more = [];
+          own = λ g us e b z ys vs h h'. record { mid = us; first_read = direct shapes.bit_or S g us e b z; few = h; all = h' };
+          whole = refl;
+        };
+        ands = no_and;
+        no_or = ap is_or (kind-node dummy_span k ns) ∙ S.no_or;
+      }
 
-    -- at the loosest
-    pub go_out : (n : ℕ) (l : Level) → Stands l f k ns → Stands (further_out n l) f k ns
-    go_out zero l S = S
-    go_out (suc n) l S = go_out n (looser_than l) (loosened l S)
+      pub conditional_read : StandsIn no_in shapes.short_circuit f k ns → (g : Gap) (us : Items) (e : Front) → Begins e us → closes_conditional no_in e ≡ true → Reads assigned (expressions.conditional no_in) (f g us) (bare k ns ∷ []) us
+      unfolding expressions.conditional
+      conditional_read S g us e b z =
+          let l = S.lead in
+          let c = and_parts (passes_at e (choice_tail no_in)) (closes_in no_in shapes.short_circuit e) z in
+          let t : Tower l.front e (operators.short_circuit no_in) (expressions.conditional no_in) = chained (before here c.0) in
+          climb assigned (means assigned) t (f g us) us (bare k ns) (l.begins g us) b (direct shapes.short_circuit S g us e b c.1)
 
-    pub standing : {l : Level} → Stands l f k ns → Stands shapes.sequence f k ns
-    standing {l} S = subst (λ m. Stands m f k ns) (loosest l) (go_out 19 l S)
+      one_read : StandsIn no_in shapes.assignment f k ns → Direct no_in shapes.sequence f (bare k ns)
+      unfolding expression many_up_to
+      one_read S g us e b z =
+          let c = and_parts (refuses_at e (punct (codes ","))) (closes_in no_in shapes.assignment e) z in
+          rw (S.reading g us e b c.1, refused_at assigned (means assigned) (punct (codes ",") ▸ grammar.up (part.Assign no_in false)) e us b (refuses_first e (punct (codes ",")) (grammar.up (part.Assign no_in false)) c.0)) refl
 
-  -- as an assignment expression, and as an expression
-  module _ {f : Laid} {k : Kind} {ns : List Node} where
-    pub used : Stands shapes.assignment f k ns → (g : Gap) (us : Items) (e : Front) → Begins e us → Ends e → means assigned (part.Assign false false) (f g us) ≡ read (bare k ns ∷ []) us
-    used S g us e b z = S.reading g us e b z
+      pub loosened : (l : Level) → StandsIn no_in l f k ns → StandsIn no_in (looser_than l) f k ns
+      loosened shapes.new_callee S = let N = S.reading in from_form N.form
+      loosened shapes.object S = record { lead = S.lead; tight = S.tight; no_or = S.no_or; param = S.param; reading = S.reading }
+      loosened shapes.callee S = let F = S.reading in let o = F.opens in record { lead = lead_of assigned F; tight = (o.no_private, o.no_yield); no_or = S.no_or; param = S.param; reading = record { opens = F.opens; all = chain_read assigned F } }
+      loosened shapes.left_hand_side S = let w = S.reading in let o = w.opens in record { lead = S.lead; tight = S.tight; no_or = S.no_or; param = S.param; reading = (o.no_prefix, update_read S.lead w) }
+      loosened shapes.update S = let r = S.reading in record { lead = S.lead; tight = S.tight; no_or = S.no_or; param = S.param; reading = without_operator r.0 r.1 }
+      loosened shapes.unary S = record { lead = S.lead; tight = S.tight; no_or = S.no_or; param = S.param; reading = power_read S.lead S.reading }
+      loosened shapes.power S = record { lead = S.lead; tight = S.tight; no_or = S.no_or; param = S.param; reading = single exponentiation factors shapes.power (direct shapes.power S) }
+      loosened shapes.product S = record { lead = S.lead; tight = S.tight; no_or = S.no_or; param = S.param; reading = single operators.product terms shapes.product (direct shapes.product S) }
+      loosened shapes.sum S = record { lead = S.lead; tight = S.tight; no_or = S.no_or; param = S.param; reading = single operators.sum shifts shapes.sum (direct shapes.sum S) }
+      loosened shapes.shift S = let t = S.tight in record { lead = S.lead; tight = t.1; no_or = S.no_or; param = S.param; reading = single (related no_in) (relations no_in) shapes.shift (related_read no_in S.lead t.0 (direct shapes.shift S)) }
+      loosened shapes.relation S = record { lead = S.lead; tight = S.tight; no_or = S.no_or; param = S.param; reading = single (operators.relation no_in) (equalities no_in) shapes.relation (direct shapes.relation S) }
+      loosened shapes.equality S = record { lead = S.lead; tight = S.tight; no_or = S.no_or; param = S.param; reading = single (operators.equality no_in) (conjunctions no_in) shapes.equality (direct shapes.equality S) }
+      loosened shapes.bit_and S = record { lead = S.lead; tight = S.tight; no_or = S.no_or; param = S.param; reading = single (operators.bit_and no_in) (exclusions no_in) shapes.bit_and (direct shapes.bit_and S) }
+      loosened shapes.bit_xor S = record { lead = S.lead; tight = S.tight; no_or = S.no_or; param = S.param; reading = single (operators.bit_xor no_in) (disjunctions no_in) shapes.bit_xor (direct shapes.bit_xor S) }
+      loosened shapes.bit_or S = record { lead = S.lead; tight = S.tight; no_or = S.no_or; param = S.param; reading = ands_read S }
+      loosened shapes.logical_and S = let r = S.reading in record { lead = S.lead; tight = S.tight; no_or = tt; param = S.param; reading = r.chain }
+      loosened shapes.logical_or S = record { lead = S.lead; tight = S.tight; no_or = tt; param = S.param; reading = logical_read S.reading }
+      loosened shapes.coalescing S = record { lead = S.lead; tight = S.tight; no_or = tt; param = S.param; reading = coalesced_read S.reading }
+      loosened shapes.short_circuit S = record { lead = S.lead; tight = tt; no_or = tt; param = λ g us e b z. S.param g us e b z.0; reading = assignment_read no_in S.lead S.tight (λ g us e b z. conditional_read S g us e b (ends_parts no_in e z).1) }
+      loosened shapes.assignment S = record { lead = S.lead; tight = tt; no_or = tt; param = λ g us e b z n P. params_by assigned n (f g us) us (S.param g us e b z) P; reading = one_read S }
+      loosened shapes.sequence S = S
 
-    pub expression_read : Stands shapes.sequence f k ns → (g : Gap) (us : Items) (e : Front) → Begins e us → Ends e → refuses_at e (punct (codes ",")) ≡ true → Reads assigned (expression false) (f g us) (bare k ns ∷ []) us
-    expression_read S g us e b z c = S.reading g us e b (rw (c, z) refl)
+      -- at the loosest
+      pub go_out : (n : ℕ) (l : Level) → StandsIn no_in l f k ns → StandsIn no_in (further_out n l) f k ns
+      go_out zero l S = S
+      go_out (suc n) l S = go_out n (looser_than l) (loosened l S)
+
+      pub standing : {l : Level} → StandsIn no_in l f k ns → StandsIn no_in shapes.sequence f k ns
+      standing {l} S = subst (λ m. StandsIn no_in m f k ns) (loosest l) (go_out 19 l S)
+
+    -- as an assignment expression, and as an expression
+    module _ {f : Laid} {k : Kind} {ns : List Node} where
+      pub used : StandsIn no_in shapes.assignment f k ns → (g : Gap) (us : Items) (e : Front) → Begins e us → closes_in no_in shapes.assignment e ≡ true → means assigned (part.Assign no_in false) (f g us) ≡ read (bare k ns ∷ []) us
+      used S g us e b z = S.reading g us e b z
+
+      pub expression_read : StandsIn no_in shapes.sequence f k ns → (g : Gap) (us : Items) (e : Front) → Begins e us → closes_in no_in shapes.assignment e ≡ true → refuses_at e (punct (codes ",")) ≡ true → Reads assigned (expression no_in) (f g us) (bare k ns ∷ []) us
+      expression_read S g us e b z c = S.reading g us e b (rw (c, z) refl)

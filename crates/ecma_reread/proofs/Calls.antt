@@ -215,7 +215,7 @@ module _ (assigned : Bool) where
     expression_form (shapes.postfix_update at o e) = postfix_form assigned o (expression_form e)
     expression_form (shapes.await_expression at e) = await_form assigned (expression_form e)
     expression_form (shapes.unary_expression at o e) = unary_form assigned o (unary_gap o (own_sign e)) (expression_form e)
-    expression_form (shapes.binary_expression at i l r) = binary_form assigned i (expression_form l) (expression_form r)
+    expression_form (shapes.binary_expression at i l r) = binary_form assigned false i refl (expression_form l) (expression_form r)
     expression_form (shapes.private_in at at' w t r) = private_form assigned w t (expression_form r)
     expression_form (shapes.exponentiation at l r) = power_form assigned (expression_form l) (expression_form r)
     expression_form (shapes.both at l r) = both_form assigned (expression_form l) (expression_form r)

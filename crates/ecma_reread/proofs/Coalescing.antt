@@ -23,10 +23,10 @@ use Rattle.ecma_reread.specs.Shapes.{Level, IsCoalesceHead}
 use Rattle.ecma_reread.specs.Tokens.{blank}
 use Rattle.ecma_reread.proofs.Levels.{means_is}
 use Rattle.ecma_reread.proofs.Fronts.{Front, exactly, Begins, at_token}
-use Rattle.ecma_reread.proofs.Towers.{closes}
+use Rattle.ecma_reread.proofs.Towers.{closes_in}
 use Rattle.ecma_reread.proofs.Heads.{bare, kind-node}
 use Rattle.ecma_reread.proofs.Forms.{Laid, Reads}
-use Rattle.ecma_reread.proofs.Bindings.{Stands, direct}
+use Rattle.ecma_reread.proofs.Bindings.{closed, StandsIn, direct}
 use Rattle.ecma_reread.proofs.Operations.{joined, binary_made, joined_lead, joined_param}
 
 abbrev nullish_item : Node → Node
@@ -40,16 +40,16 @@ nullish_made k ns y =
 abbrev behind : Laid → Items → Items
 behind f us = it blank (sign (codes "??")) (f blank us)
 
-module _ (assigned : Bool) {f' : Laid} {k' : Kind} {ns' : List Node} where
+module _ (assigned : Bool) {no_in : Bool} {f' : Laid} {k' : Kind} {ns' : List Node} where
   -- `??` with its right side, and those behind it
-  right_read : Stands assigned shapes.bit_or f' k' ns' → (us : Items) (e : Front) → Begins e us → closes shapes.bit_or e ≡ true → (ys : List Node) (vs : Items) → Reads assigned (optional (coalescing false)) us ys vs → Reads assigned (coalescing false) (behind f' us) (nullish_item (bare k' ns') ∷ ys) vs
+  right_read : StandsIn assigned no_in shapes.bit_or f' k' ns' → (us : Items) (e : Front) → Begins e us → closes_in no_in shapes.bit_or e ≡ true → (ys : List Node) (vs : Items) → Reads assigned (optional (coalescing no_in)) us ys vs → Reads assigned (coalescing no_in) (behind f' us) (nullish_item (bare k' ns') ∷ ys) vs
   right_read R us e b z ys vs h =
-      means_is assigned (part.Binary op.NullishCoalescing false) (f' blank us)
-      ∙ (ap (followed_on (interp assigned (means assigned) (optional (coalescing false)))) (ap (built_on (form.Node (plain.BinExpr op.NullishCoalescing))) (ap (with_front (absent ∷ [])) (direct assigned shapes.bit_or R blank us e b z)))
+      means_is assigned (part.Binary op.NullishCoalescing no_in) (f' blank us)
+      ∙ (ap (followed_on (interp assigned (means assigned) (optional (coalescing no_in)))) (ap (built_on (form.Node (plain.BinExpr op.NullishCoalescing))) (ap (with_front (absent ∷ [])) (direct assigned shapes.bit_or R blank us e b z)))
       ∙ ap (with_front (nullish_item (bare k' ns') ∷ [])) h)
 
-module _ (assigned : Bool) {f f' : Laid} {k k' : Kind} {ns ns' : List Node} where
-  pub coalesced_form : {head : Level} → IsCoalesceHead head → Stands assigned head f k ns → Stands assigned shapes.bit_or f' k' ns' → Stands assigned shapes.coalescing (joined f f' op.NullishCoalescing) (kind.BinExpr op.NullishCoalescing) (bare k ns ∷ bare k' ns' ∷ [])
+module _ (assigned : Bool) {no_in : Bool} {f f' : Laid} {k k' : Kind} {ns ns' : List Node} where
+  pub coalesced_form : {head : Level} → IsCoalesceHead head → StandsIn assigned no_in head f k ns → StandsIn assigned no_in shapes.bit_or f' k' ns' → StandsIn assigned no_in shapes.coalescing (joined f f' op.NullishCoalescing) (kind.BinExpr op.NullishCoalescing) (bare k ns ∷ bare k' ns' ∷ [])
   unfolding factors terms shifts relations equalities links template_start arrow_rest names.binding_ident
   coalesced_form shapes.first_head S R =
       let n = nullish_item (bare k' ns') in
@@ -61,7 +61,7 @@ module _ (assigned : Bool) {f f' : Laid} {k k' : Kind} {ns ns' : List Node} wher
         reading = record {
           first = bare k ns;
           more = n ∷ [];
-          own = λ g us e b z ys vs h. record { mid = behind f' us; first_read = direct assigned shapes.bit_or S g (behind f' us) (exactly (sign (codes "??"))) at_token refl; all = right_read assigned R us e b z ys vs h };
+          own = λ g us e b z ys vs h. record { mid = behind f' us; first_read = direct assigned shapes.bit_or S g (behind f' us) (exactly (sign (codes "??"))) at_token (closed no_in shapes.bit_or (exactly (sign (codes "??"))) refl); all = right_read assigned R us e b z ys vs h };
           whole = ap Some (nullish_made k ns (bare k' ns'));
         };
       }
@@ -78,7 +78,7 @@ module _ (assigned : Bool) {f f' : Laid} {k k' : Kind} {ns ns' : List Node} wher
           more = C.more ++ n ∷ [];
           own = λ g us e b z ys vs h.
               rw (append_assoc C.more (n ∷ []) ys)
-              (C.own g (behind f' us) (exactly (sign (codes "??"))) at_token refl (n ∷ ys) vs (ap (or_on (interp assigned (means assigned) nothing) (behind f' us)) (right_read assigned R us e b z ys vs h)));
+              (C.own g (behind f' us) (exactly (sign (codes "??"))) at_token (closed no_in shapes.bit_or (exactly (sign (codes "??"))) refl) (n ∷ ys) vs (ap (or_on (interp assigned (means assigned) nothing) (behind f' us)) (right_read assigned R us e b z ys vs h)));
           whole = steps-append in_front_logical (Some C.first) C.more n ∙ (ap (λ x. step_on in_front_logical x n) C.whole ∙ ap Some (nullish_made k ns (bare k' ns')));
         };
       }

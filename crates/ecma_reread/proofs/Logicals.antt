@@ -23,7 +23,7 @@ use Rattle.ecma_reread.proofs.Levels.{means_is}
 use Rattle.ecma_reread.proofs.Fronts.{exactly, at_token}
 use Rattle.ecma_reread.proofs.Heads.{bare, kind-node, nodes}
 use Rattle.ecma_reread.proofs.Forms.{Laid}
-use Rattle.ecma_reread.proofs.Bindings.{AllAnd, no_and, more_and, Stands, direct}
+use Rattle.ecma_reread.proofs.Bindings.{closed, AllAnd, no_and, more_and, StandsIn, direct}
 use Rattle.ecma_reread.proofs.Operations.{joined, binary_made, joined_lead, joined_param}
 
 steps-split : (step : Node → Node → Node) (b : Option Node) (xs ys : List Node) → steps step b (xs ++ ys) ≡ steps step (steps step b xs) ys
@@ -64,8 +64,8 @@ or_steps l y z (more_and {ns = ns} x a) h e =
     ap (λ n. steps in_front_logical (Some n) ns) (turn l y x)
     ∙ or_steps l y' z a (ap is_or (kind-node _ _ _) ∙ ap is_or (kind-node dummy_span (kind.BinExpr op.LogicalAnd) (absent ∷ x ∷ []))) (ap (λ n. steps in_front_logical (Some n) ns) (sym (no_turn y x h)) ∙ e)
 
-module _ (assigned : Bool) {f f' : Laid} {k k' : Kind} {ns ns' : List Node} where
-  pub both_form : Stands assigned shapes.logical_and f k ns → Stands assigned shapes.bit_or f' k' ns' → Stands assigned shapes.logical_and (joined f f' op.LogicalAnd) (kind.BinExpr op.LogicalAnd) (bare k ns ∷ bare k' ns' ∷ [])
+module _ (assigned : Bool) {no_in : Bool} {f f' : Laid} {k k' : Kind} {ns ns' : List Node} where
+  pub both_form : StandsIn assigned no_in shapes.logical_and f k ns → StandsIn assigned no_in shapes.bit_or f' k' ns' → StandsIn assigned no_in shapes.logical_and (joined f f' op.LogicalAnd) (kind.BinExpr op.LogicalAnd) (bare k ns ∷ bare k' ns' ∷ [])
   unfolding factors terms shifts relations equalities links template_start arrow_rest names.binding_ident
   both_form S R =
       let A = S.reading in
@@ -82,10 +82,10 @@ module _ (assigned : Bool) {f f' : Laid} {k k' : Kind} {ns ns' : List Node} wher
             first = C.first;
             more = C.more ++ n ∷ [];
             own = λ g us e b z ys vs h h'.
-                (let r : means assigned (part.Binary op.LogicalAnd false) (f' blank us) ≡ read (n ∷ ys) vs =
-                means_is assigned (part.Binary op.LogicalAnd false) (f' blank us)
-                ∙ (ap (followed_on (I (logicals false))) (ap (built_on (form.Node (plain.BinExpr op.LogicalAnd))) (ap (with_front (absent ∷ [])) (direct assigned shapes.bit_or R blank us e b z))) ∙ ap (with_front (n ∷ [])) h) in
-                rw (append_assoc C.more (n ∷ []) ys) (C.own g (it blank (sign (codes "&&")) (f' blank us)) (exactly (sign (codes "&&"))) at_token refl (n ∷ ys) vs (rw r refl) (rw r refl)));
+                (let r : means assigned (part.Binary op.LogicalAnd no_in) (f' blank us) ≡ read (n ∷ ys) vs =
+                means_is assigned (part.Binary op.LogicalAnd no_in) (f' blank us)
+                ∙ (ap (followed_on (I (logicals no_in))) (ap (built_on (form.Node (plain.BinExpr op.LogicalAnd))) (ap (with_front (absent ∷ [])) (direct assigned shapes.bit_or R blank us e b z))) ∙ ap (with_front (n ∷ [])) h) in
+                rw (append_assoc C.more (n ∷ []) ys) (C.own g (it blank (sign (codes "&&")) (f' blank us)) (exactly (sign (codes "&&"))) at_token (closed no_in shapes.bit_or (exactly (sign (codes "&&"))) refl) (n ∷ ys) vs (rw r refl) (rw r refl)));
             whole = steps-append in_front_logical (Some C.first) C.more n ∙ (ap (λ x. step_on in_front_logical x n) C.whole ∙ ap Some (and_made k ns (bare k' ns') S.no_or));
           };
           ands = all_and_append A.ands (bare k' ns');
@@ -93,7 +93,7 @@ module _ (assigned : Bool) {f f' : Laid} {k k' : Kind} {ns ns' : List Node} wher
         };
       }
 
-  pub either_form : Stands assigned shapes.logical_or f k ns → Stands assigned shapes.logical_and f' k' ns' → Stands assigned shapes.logical_or (joined f f' op.LogicalOr) (kind.BinExpr op.LogicalOr) (bare k ns ∷ bare k' ns' ∷ [])
+  pub either_form : StandsIn assigned no_in shapes.logical_or f k ns → StandsIn assigned no_in shapes.logical_and f' k' ns' → StandsIn assigned no_in shapes.logical_or (joined f f' op.LogicalOr) (kind.BinExpr op.LogicalOr) (bare k ns ∷ bare k' ns' ∷ [])
   unfolding factors terms shifts relations equalities links template_start arrow_rest names.binding_ident
   either_form S R =
       let C = S.reading in
@@ -111,10 +111,10 @@ module _ (assigned : Bool) {f f' : Laid} {k k' : Kind} {ns ns' : List Node} wher
           more = C.more ++ n ∷ D.more;
           own = λ g us e b z ys vs h h'.
               (let x = D.own blank us e b z ys vs h h' in
-              let r : means assigned (part.Binary op.LogicalOr false) (f' blank us) ≡ read (n ∷ (D.more ++ ys)) vs =
-              means_is assigned (part.Binary op.LogicalOr false) (f' blank us)
-              ∙ (ap (followed_on (I (logicals false))) (ap (built_on (form.Node (plain.BinExpr op.LogicalOr))) (ap (with_front (absent ∷ [])) x.first_read)) ∙ ap (with_front (n ∷ [])) x.few) in
-              rw (append_assoc C.more (n ∷ D.more) ys) (C.own g (it blank (sign (codes "||")) (f' blank us)) (exactly (sign (codes "||"))) at_token refl (n ∷ (D.more ++ ys)) vs (rw r refl) (rw r refl)));
+              let r : means assigned (part.Binary op.LogicalOr no_in) (f' blank us) ≡ read (n ∷ (D.more ++ ys)) vs =
+              means_is assigned (part.Binary op.LogicalOr no_in) (f' blank us)
+              ∙ (ap (followed_on (I (logicals no_in))) (ap (built_on (form.Node (plain.BinExpr op.LogicalOr))) (ap (with_front (absent ∷ [])) x.first_read)) ∙ ap (with_front (n ∷ [])) x.few) in
+              rw (append_assoc C.more (n ∷ D.more) ys) (C.own g (it blank (sign (codes "||")) (f' blank us)) (exactly (sign (codes "||"))) at_token (closed no_in shapes.bit_or (exactly (sign (codes "||"))) refl) (n ∷ (D.more ++ ys)) vs (rw r refl) (rw r refl)));
           whole =
               steps-split in_front_logical (Some C.first) C.more (n ∷ D.more)
               ∙ (ap (λ x. steps in_front_logical x (n ∷ D.more)) C.whole

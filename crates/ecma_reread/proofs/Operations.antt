@@ -1,5 +1,6 @@
 -- Expressions with operators are read as they are laid out.
 use Rattle.std.proofs.Common.{◌≡◌, Bool, true, false, List, [], ◌∷◌, ◌++◌, codes, refl, ap, ◌∙◌, append_assoc, Some, None}
+use Rattle.std.proofs.lemmas.Bool.{false≢true}
 use Rattle.ecma_lex.specs.Keys.{is_reserved, reserved_words}
 use Rattle.ecma_kind.specs.declared.operators.UnaryOp.{UnaryOp}
 use Rattle.ecma_kind.specs.declared.operators.UnaryOp.TheVariants.{Minus, Plus, Bang, Tilde, TypeOf, Void, Delete}
@@ -37,10 +38,10 @@ use Rattle.ecma_reread.specs.Shapes.{Level, IsOperator}
 use Rattle.ecma_reread.specs.Tokens.{blank, unary_token, binary_token}
 use Rattle.ecma_reread.proofs.Levels.{means_is}
 use Rattle.ecma_reread.proofs.Fronts.{Front, refused_at, exactly, Begins, at_token}
-use Rattle.ecma_reread.proofs.Towers.{power_tail, closes}
+use Rattle.ecma_reread.proofs.Towers.{power_tail, closes_in, closes}
 use Rattle.ecma_reread.proofs.Heads.{bare, nodes}
 use Rattle.ecma_reread.proofs.Forms.{Laid, Reads, Lead, apart, ends_no_param, only_opens, lead_before, lead_by, NoDefault, param_in_front, param_by}
-use Rattle.ecma_reread.proofs.Bindings.{Chained, with_operator, Stands, direct, tight_by}
+use Rattle.ecma_reread.proofs.Bindings.{closed, Chained, with_operator, StandsIn, Stands, direct, tight_by}
 
 -- one operator before an operand
 
@@ -65,6 +66,12 @@ await_opens = refl
 -- a node that holds what stands before it
 pub binary_made : (o : BinaryOp) (k : Kind) (ns : List Node) (r : Node) → in_front (bare k ns) (bare (kind.BinExpr o) (absent ∷ r ∷ [])) ≡ bare (kind.BinExpr o) (bare k ns ∷ r ∷ [])
 binary_made o k ns r = simp nodes
+
+-- `in` is an operator, or is none
+abbrev pub stands_there : Bool → BinaryOp → Bool
+stands_there false o = true
+stands_there true op.In = false
+stands_there true o = true
 
 module _ (assigned : Bool) where
   prefix_read : (o : UnaryOp) (g : Gap) (ts us : Items) (n : Node) → means assigned part.Operand ts ≡ read (n ∷ []) us → Reads assigned prefixed (it g (unary_token o) ts) (bare (kind.UnaryExpr o) (n ∷ []) ∷ []) us
@@ -100,21 +107,21 @@ module _ (assigned : Bool) where
   }
 
   -- an operator between two operands
-  chained_form : (o : BinaryOp) {base : Grammar} {t : Level} {f : Laid} (f' : Laid) (k : Kind) (ns : List Node) (r : Node) → closes t (exactly (binary_token o)) ≡ true
-      → ((ts us : Items) (xs : List Node) → means assigned (part.Binary o false) ts ≡ read xs us → Reads assigned (more_operators o false) (it blank (binary_token o) ts) xs us)
-      → Chained assigned base (more_operators o false) t f (bare k ns)
-      → ((g : Gap) (us : Items) (e : Front) → Begins e us → closes t e ≡ true → Reads assigned (right_side o false) (f' g us) (r ∷ []) us)
-      → Chained assigned base (more_operators o false) t (λ g us. f g (it blank (binary_token o) (f' blank us))) (bare (kind.BinExpr o) (bare k ns ∷ r ∷ []))
-  chained_form o f' k ns r z takes C d =
+  chained_form : (no_in : Bool) (o : BinaryOp) {base : Grammar} {t : Level} {f : Laid} (f' : Laid) (k : Kind) (ns : List Node) (r : Node) → closes t (exactly (binary_token o)) ≡ true
+      → ((ts us : Items) (xs : List Node) → means assigned (part.Binary o no_in) ts ≡ read xs us → Reads assigned (more_operators o no_in) (it blank (binary_token o) ts) xs us)
+      → Chained assigned no_in base (more_operators o no_in) t f (bare k ns)
+      → ((g : Gap) (us : Items) (e : Front) → Begins e us → closes_in no_in t e ≡ true → Reads assigned (right_side o no_in) (f' g us) (r ∷ []) us)
+      → Chained assigned no_in base (more_operators o no_in) t (λ g us. f g (it blank (binary_token o) (f' blank us))) (bare (kind.BinExpr o) (bare k ns ∷ r ∷ []))
+  chained_form no_in o {t = t} f' k ns r z takes C d =
       let n = bare (kind.BinExpr o) (absent ∷ r ∷ []) in
       let I = interp assigned (means assigned) in
       record {
         pieces = C.pieces ++ n ∷ [];
         own = λ g us e b c ys vs h.
             rw (append_assoc C.pieces (n ∷ []) ys)
-            (C.own g (it blank (binary_token o) (f' blank us)) (exactly (binary_token o)) at_token z (n ∷ ys) vs
-            (takes (f' blank us) vs (n ∷ ys) (means_is assigned (part.Binary o false) (f' blank us)
-            ∙ (ap (followed_on (I (more_operators o false))) (ap (built_on (form.Node (plain.BinExpr o))) (ap (with_front (absent ∷ [])) (d blank us e b c))) ∙ ap (with_front (n ∷ [])) h))));
+            (C.own g (it blank (binary_token o) (f' blank us)) (exactly (binary_token o)) at_token (closed no_in t (exactly (binary_token o)) z) (n ∷ ys) vs
+            (takes (f' blank us) vs (n ∷ ys) (means_is assigned (part.Binary o no_in) (f' blank us)
+            ∙ (ap (followed_on (I (more_operators o no_in))) (ap (built_on (form.Node (plain.BinExpr o))) (ap (with_front (absent ∷ [])) (d blank us e b c))) ∙ ap (with_front (n ∷ [])) h))));
         whole = steps-append in_front None C.pieces n ∙ (ap (λ x. step_on in_front x n) C.whole ∙ ap Some (binary_made o k ns r));
       }
 
@@ -126,29 +133,30 @@ module _ (assigned : Bool) where
 
   -- what stands at two levels
   module _ {f f' : Laid} {k k' : Kind} {ns ns' : List Node} where
-    pub binary_form : {o : BinaryOp} {l t : Level} → IsOperator o l t → Stands assigned l f k ns → Stands assigned t f' k' ns' → Stands assigned l (joined f f' o) (kind.BinExpr o) (bare k ns ∷ bare k' ns' ∷ [])
+    pub binary_form : (no_in : Bool) {o : BinaryOp} {l t : Level} → IsOperator o l t → stands_there no_in o ≡ true → StandsIn assigned no_in l f k ns → StandsIn assigned no_in t f' k' ns' → StandsIn assigned no_in l (joined f f' o) (kind.BinExpr o) (bare k ns ∷ bare k' ns' ∷ [])
     unfolding factors terms shifts relations equalities assignments links template_start arrow_rest names.binding_ident is_reserved reserved_words operators.shift
-    binary_form shapes.times S R = record { lead = joined_lead f' op.Mul refl S.lead; tight = S.tight; no_or = refl; param = joined_param f' op.Mul refl S.param; reading = chained_form op.Mul f' k ns (bare k' ns') refl (λ ts us xs h. rw h refl) S.reading (direct assigned shapes.power R) }
-    binary_form shapes.divided S R = record { lead = joined_lead f' op.Div refl S.lead; tight = S.tight; no_or = refl; param = joined_param f' op.Div refl S.param; reading = chained_form op.Div f' k ns (bare k' ns') refl (λ ts us xs h. rw h refl) S.reading (direct assigned shapes.power R) }
-    binary_form shapes.modulo S R = record { lead = joined_lead f' op.Mod refl S.lead; tight = S.tight; no_or = refl; param = joined_param f' op.Mod refl S.param; reading = chained_form op.Mod f' k ns (bare k' ns') refl (λ ts us xs h. rw h refl) S.reading (direct assigned shapes.power R) }
-    binary_form shapes.plus S R = record { lead = joined_lead f' op.Add refl S.lead; tight = S.tight; no_or = refl; param = joined_param f' op.Add refl S.param; reading = chained_form op.Add f' k ns (bare k' ns') refl (λ ts us xs h. rw h refl) S.reading (direct assigned shapes.product R) }
-    binary_form shapes.minus S R = record { lead = joined_lead f' op.Sub refl S.lead; tight = S.tight; no_or = refl; param = joined_param f' op.Sub refl S.param; reading = chained_form op.Sub f' k ns (bare k' ns') refl (λ ts us xs h. rw h refl) S.reading (direct assigned shapes.product R) }
-    binary_form shapes.left_shift S R = record { lead = joined_lead f' op.LShift refl S.lead; tight = S.tight; no_or = refl; param = joined_param f' op.LShift refl S.param; reading = chained_form op.LShift f' k ns (bare k' ns') refl (λ ts us xs h. rw h refl) S.reading (direct assigned shapes.sum R) }
-    binary_form shapes.right_shift S R = record { lead = joined_lead f' op.RShift refl S.lead; tight = S.tight; no_or = refl; param = joined_param f' op.RShift refl S.param; reading = chained_form op.RShift f' k ns (bare k' ns') refl (λ ts us xs h. rw h refl) S.reading (direct assigned shapes.sum R) }
-    binary_form shapes.unsigned_shift S R = record { lead = joined_lead f' op.ZeroFillRShift refl S.lead; tight = S.tight; no_or = refl; param = joined_param f' op.ZeroFillRShift refl S.param; reading = chained_form op.ZeroFillRShift f' k ns (bare k' ns') refl (λ ts us xs h. rw h refl) S.reading (direct assigned shapes.sum R) }
-    binary_form shapes.less S R = record { lead = joined_lead f' op.Lt refl S.lead; tight = S.tight; no_or = refl; param = joined_param f' op.Lt refl S.param; reading = chained_form op.Lt f' k ns (bare k' ns') refl (λ ts us xs h. rw h refl) S.reading (direct assigned shapes.shift R) }
-    binary_form shapes.greater S R = record { lead = joined_lead f' op.Gt refl S.lead; tight = S.tight; no_or = refl; param = joined_param f' op.Gt refl S.param; reading = chained_form op.Gt f' k ns (bare k' ns') refl (λ ts us xs h. rw h refl) S.reading (direct assigned shapes.shift R) }
-    binary_form shapes.at_most S R = record { lead = joined_lead f' op.LtEq refl S.lead; tight = S.tight; no_or = refl; param = joined_param f' op.LtEq refl S.param; reading = chained_form op.LtEq f' k ns (bare k' ns') refl (λ ts us xs h. rw h refl) S.reading (direct assigned shapes.shift R) }
-    binary_form shapes.at_least S R = record { lead = joined_lead f' op.GtEq refl S.lead; tight = S.tight; no_or = refl; param = joined_param f' op.GtEq refl S.param; reading = chained_form op.GtEq f' k ns (bare k' ns') refl (λ ts us xs h. rw h refl) S.reading (direct assigned shapes.shift R) }
-    binary_form shapes.instance_of S R = record { lead = joined_lead f' op.InstanceOf refl S.lead; tight = S.tight; no_or = refl; param = joined_param f' op.InstanceOf refl S.param; reading = chained_form op.InstanceOf f' k ns (bare k' ns') refl (λ ts us xs h. rw h refl) S.reading (direct assigned shapes.shift R) }
-    binary_form shapes.contained S R = record { lead = joined_lead f' op.In refl S.lead; tight = S.tight; no_or = refl; param = joined_param f' op.In refl S.param; reading = chained_form op.In f' k ns (bare k' ns') refl (λ ts us xs h. rw h refl) S.reading (direct assigned shapes.shift R) }
-    binary_form shapes.equal S R = record { lead = joined_lead f' op.EqEq refl S.lead; tight = S.tight; no_or = refl; param = joined_param f' op.EqEq refl S.param; reading = chained_form op.EqEq f' k ns (bare k' ns') refl (λ ts us xs h. rw h refl) S.reading (direct assigned shapes.relation R) }
-    binary_form shapes.unequal S R = record { lead = joined_lead f' op.NotEq refl S.lead; tight = S.tight; no_or = refl; param = joined_param f' op.NotEq refl S.param; reading = chained_form op.NotEq f' k ns (bare k' ns') refl (λ ts us xs h. rw h refl) S.reading (direct assigned shapes.relation R) }
-    binary_form shapes.same S R = record { lead = joined_lead f' op.EqEqEq refl S.lead; tight = S.tight; no_or = refl; param = joined_param f' op.EqEqEq refl S.param; reading = chained_form op.EqEqEq f' k ns (bare k' ns') refl (λ ts us xs h. rw h refl) S.reading (direct assigned shapes.relation R) }
-    binary_form shapes.other S R = record { lead = joined_lead f' op.NotEqEq refl S.lead; tight = S.tight; no_or = refl; param = joined_param f' op.NotEqEq refl S.param; reading = chained_form op.NotEqEq f' k ns (bare k' ns') refl (λ ts us xs h. rw h refl) S.reading (direct assigned shapes.relation R) }
-    binary_form shapes.conjunction S R = record { lead = joined_lead f' op.BitAnd refl S.lead; tight = S.tight; no_or = refl; param = joined_param f' op.BitAnd refl S.param; reading = chained_form op.BitAnd f' k ns (bare k' ns') refl (λ ts us xs h. rw h refl) S.reading (direct assigned shapes.equality R) }
-    binary_form shapes.exclusion S R = record { lead = joined_lead f' op.BitXor refl S.lead; tight = S.tight; no_or = refl; param = joined_param f' op.BitXor refl S.param; reading = chained_form op.BitXor f' k ns (bare k' ns') refl (λ ts us xs h. rw h refl) S.reading (direct assigned shapes.bit_and R) }
-    binary_form shapes.disjunction S R = record { lead = joined_lead f' op.BitOr refl S.lead; tight = S.tight; no_or = refl; param = joined_param f' op.BitOr refl S.param; reading = chained_form op.BitOr f' k ns (bare k' ns') refl (λ ts us xs h. rw h refl) S.reading (direct assigned shapes.bit_xor R) }
+    binary_form no_in shapes.times h S R = record { lead = joined_lead f' op.Mul refl S.lead; tight = S.tight; no_or = refl; param = joined_param f' op.Mul refl S.param; reading = chained_form false op.Mul f' k ns (bare k' ns') refl (λ ts us xs h. rw h refl) S.reading (direct assigned shapes.power R) }
+    binary_form no_in shapes.divided h S R = record { lead = joined_lead f' op.Div refl S.lead; tight = S.tight; no_or = refl; param = joined_param f' op.Div refl S.param; reading = chained_form false op.Div f' k ns (bare k' ns') refl (λ ts us xs h. rw h refl) S.reading (direct assigned shapes.power R) }
+    binary_form no_in shapes.modulo h S R = record { lead = joined_lead f' op.Mod refl S.lead; tight = S.tight; no_or = refl; param = joined_param f' op.Mod refl S.param; reading = chained_form false op.Mod f' k ns (bare k' ns') refl (λ ts us xs h. rw h refl) S.reading (direct assigned shapes.power R) }
+    binary_form no_in shapes.plus h S R = record { lead = joined_lead f' op.Add refl S.lead; tight = S.tight; no_or = refl; param = joined_param f' op.Add refl S.param; reading = chained_form false op.Add f' k ns (bare k' ns') refl (λ ts us xs h. rw h refl) S.reading (direct assigned shapes.product R) }
+    binary_form no_in shapes.minus h S R = record { lead = joined_lead f' op.Sub refl S.lead; tight = S.tight; no_or = refl; param = joined_param f' op.Sub refl S.param; reading = chained_form false op.Sub f' k ns (bare k' ns') refl (λ ts us xs h. rw h refl) S.reading (direct assigned shapes.product R) }
+    binary_form no_in shapes.left_shift h S R = record { lead = joined_lead f' op.LShift refl S.lead; tight = S.tight; no_or = refl; param = joined_param f' op.LShift refl S.param; reading = chained_form false op.LShift f' k ns (bare k' ns') refl (λ ts us xs h. rw h refl) S.reading (direct assigned shapes.sum R) }
+    binary_form no_in shapes.right_shift h S R = record { lead = joined_lead f' op.RShift refl S.lead; tight = S.tight; no_or = refl; param = joined_param f' op.RShift refl S.param; reading = chained_form false op.RShift f' k ns (bare k' ns') refl (λ ts us xs h. rw h refl) S.reading (direct assigned shapes.sum R) }
+    binary_form no_in shapes.unsigned_shift h S R = record { lead = joined_lead f' op.ZeroFillRShift refl S.lead; tight = S.tight; no_or = refl; param = joined_param f' op.ZeroFillRShift refl S.param; reading = chained_form false op.ZeroFillRShift f' k ns (bare k' ns') refl (λ ts us xs h. rw h refl) S.reading (direct assigned shapes.sum R) }
+    binary_form no_in shapes.less h S R = record { lead = joined_lead f' op.Lt refl S.lead; tight = S.tight; no_or = refl; param = joined_param f' op.Lt refl S.param; reading = chained_form no_in op.Lt f' k ns (bare k' ns') refl (λ ts us xs h. rw h refl) S.reading (direct assigned shapes.shift R) }
+    binary_form no_in shapes.greater h S R = record { lead = joined_lead f' op.Gt refl S.lead; tight = S.tight; no_or = refl; param = joined_param f' op.Gt refl S.param; reading = chained_form no_in op.Gt f' k ns (bare k' ns') refl (λ ts us xs h. rw h refl) S.reading (direct assigned shapes.shift R) }
+    binary_form no_in shapes.at_most h S R = record { lead = joined_lead f' op.LtEq refl S.lead; tight = S.tight; no_or = refl; param = joined_param f' op.LtEq refl S.param; reading = chained_form no_in op.LtEq f' k ns (bare k' ns') refl (λ ts us xs h. rw h refl) S.reading (direct assigned shapes.shift R) }
+    binary_form no_in shapes.at_least h S R = record { lead = joined_lead f' op.GtEq refl S.lead; tight = S.tight; no_or = refl; param = joined_param f' op.GtEq refl S.param; reading = chained_form no_in op.GtEq f' k ns (bare k' ns') refl (λ ts us xs h. rw h refl) S.reading (direct assigned shapes.shift R) }
+    binary_form no_in shapes.instance_of h S R = record { lead = joined_lead f' op.InstanceOf refl S.lead; tight = S.tight; no_or = refl; param = joined_param f' op.InstanceOf refl S.param; reading = chained_form no_in op.InstanceOf f' k ns (bare k' ns') refl (λ ts us xs h. rw h refl) S.reading (direct assigned shapes.shift R) }
+    binary_form true shapes.contained h S R = absurd (false≢true h)
+    binary_form false shapes.contained h S R = record { lead = joined_lead f' op.In refl S.lead; tight = S.tight; no_or = refl; param = joined_param f' op.In refl S.param; reading = chained_form false op.In f' k ns (bare k' ns') refl (λ ts us xs h. rw h refl) S.reading (direct assigned shapes.shift R) }
+    binary_form no_in shapes.equal h S R = record { lead = joined_lead f' op.EqEq refl S.lead; tight = S.tight; no_or = refl; param = joined_param f' op.EqEq refl S.param; reading = chained_form no_in op.EqEq f' k ns (bare k' ns') refl (λ ts us xs h. rw h refl) S.reading (direct assigned shapes.relation R) }
+    binary_form no_in shapes.unequal h S R = record { lead = joined_lead f' op.NotEq refl S.lead; tight = S.tight; no_or = refl; param = joined_param f' op.NotEq refl S.param; reading = chained_form no_in op.NotEq f' k ns (bare k' ns') refl (λ ts us xs h. rw h refl) S.reading (direct assigned shapes.relation R) }
+    binary_form no_in shapes.same h S R = record { lead = joined_lead f' op.EqEqEq refl S.lead; tight = S.tight; no_or = refl; param = joined_param f' op.EqEqEq refl S.param; reading = chained_form no_in op.EqEqEq f' k ns (bare k' ns') refl (λ ts us xs h. rw h refl) S.reading (direct assigned shapes.relation R) }
+    binary_form no_in shapes.other h S R = record { lead = joined_lead f' op.NotEqEq refl S.lead; tight = S.tight; no_or = refl; param = joined_param f' op.NotEqEq refl S.param; reading = chained_form no_in op.NotEqEq f' k ns (bare k' ns') refl (λ ts us xs h. rw h refl) S.reading (direct assigned shapes.relation R) }
+    binary_form no_in shapes.conjunction h S R = record { lead = joined_lead f' op.BitAnd refl S.lead; tight = S.tight; no_or = refl; param = joined_param f' op.BitAnd refl S.param; reading = chained_form no_in op.BitAnd f' k ns (bare k' ns') refl (λ ts us xs h. rw h refl) S.reading (direct assigned shapes.equality R) }
+    binary_form no_in shapes.exclusion h S R = record { lead = joined_lead f' op.BitXor refl S.lead; tight = S.tight; no_or = refl; param = joined_param f' op.BitXor refl S.param; reading = chained_form no_in op.BitXor f' k ns (bare k' ns') refl (λ ts us xs h. rw h refl) S.reading (direct assigned shapes.bit_and R) }
+    binary_form no_in shapes.disjunction h S R = record { lead = joined_lead f' op.BitOr refl S.lead; tight = S.tight; no_or = refl; param = joined_param f' op.BitOr refl S.param; reading = chained_form no_in op.BitOr f' k ns (bare k' ns') refl (λ ts us xs h. rw h refl) S.reading (direct assigned shapes.bit_xor R) }
 
   -- `**`: on its left side an update, on its right side more of them
   module _ {f f' : Laid} {k k' : Kind} {ns ns' : List Node} (S : Stands assigned shapes.update f k ns) (R : Stands assigned shapes.power f' k' ns') where

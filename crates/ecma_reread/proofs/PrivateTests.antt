@@ -53,7 +53,7 @@ module _ (assigned : Bool) (name : List ℕ) (t : IsToken priv_name_end (codes "
   abbrev test : Node
   test = bare (kind.BinExpr op.In) (absent ∷ bare k ns ∷ [])
 
-  private_read : (g : Gap) (us : Items) (e : Front) → Begins e us → closes shapes.shift e ≡ true → Reads assigned related (tokens g us) (bare (kind.PrivateName name) [] ∷ test ∷ []) us
+  private_read : (g : Gap) (us : Items) (e : Front) → Begins e us → closes shapes.shift e ≡ true → Reads assigned (related false) (tokens g us) (bare (kind.PrivateName name) [] ∷ test ∷ []) us
   private_read g us e b z =
       let I = interp assigned (means assigned) in
       let tail = it blank (key (codes "in")) (f blank us) in

@@ -99,8 +99,8 @@ suffix = same_line ▸ item (plain.UpdateExpr update_op.PlusPlus false) (punct (
 abbrev pub power_tail : Grammar
 power_tail = optional (behind_punct (codes "**") part.Power)
 
-abbrev pub choice_tail : Grammar
-choice_tail = optional (item plain.CondExpr (punct (codes "?") ▸ grammar.up (part.Assign false true) ▸ punct (codes ":") ▸ assign_in false))
+abbrev pub choice_tail : Bool → Grammar
+choice_tail no_in = optional (item plain.CondExpr (punct (codes "?") ▸ grammar.up (part.Assign no_in true) ▸ punct (codes ":") ▸ assign_in no_in))
 
 -- what a statement does not begin with, but for a block, a label, a declaration or an expression
 pub record Starts (f : Front) : Type 0 where
@@ -132,26 +132,26 @@ closes_sum e = passes_at e terms && closes_product e
 abbrev closes_shift : Front → Bool
 closes_shift e = passes_at e shifts && closes_sum e
 
-abbrev closes_relation : Front → Bool
-closes_relation e = passes_at e (relations false) && closes_shift e
+abbrev closes_relation : Bool → Front → Bool
+closes_relation no_in e = passes_at e (relations no_in) && closes_shift e
 
-abbrev closes_equality : Front → Bool
-closes_equality e = passes_at e (equalities false) && closes_relation e
+abbrev closes_equality : Bool → Front → Bool
+closes_equality no_in e = passes_at e (equalities no_in) && closes_relation no_in e
 
-abbrev closes_bit_and : Front → Bool
-closes_bit_and e = passes_at e (conjunctions false) && closes_equality e
+abbrev closes_bit_and : Bool → Front → Bool
+closes_bit_and no_in e = passes_at e (conjunctions no_in) && closes_equality no_in e
 
-abbrev closes_bit_xor : Front → Bool
-closes_bit_xor e = passes_at e (exclusions false) && closes_bit_and e
+abbrev closes_bit_xor : Bool → Front → Bool
+closes_bit_xor no_in e = passes_at e (exclusions no_in) && closes_bit_and no_in e
 
-abbrev closes_bit_or : Front → Bool
-closes_bit_or e = passes_at e (disjunctions false) && closes_bit_xor e
+abbrev closes_bit_or : Bool → Front → Bool
+closes_bit_or no_in e = passes_at e (disjunctions no_in) && closes_bit_xor no_in e
 
-abbrev pub closes_logical : Front → Bool
-closes_logical e = passes_at e (coalescing false // logicals false) && closes_bit_or e
+abbrev pub closes_logical : Bool → Front → Bool
+closes_logical no_in e = passes_at e (coalescing no_in // logicals no_in) && closes_bit_or no_in e
 
-abbrev pub closes_conditional : Front → Bool
-closes_conditional e = passes_at e choice_tail && closes_logical e
+abbrev pub closes_conditional : Bool → Front → Bool
+closes_conditional no_in e = passes_at e (choice_tail no_in) && closes_logical no_in e
 
 -- signs and parts of templates with which no expression begins
 abbrev pub is_stop : List ℕ → Bool
@@ -163,39 +163,43 @@ stops (exactly (template false last w)) = true
 stops e = false
 
 -- and no arrow, and no operand of `yield`
-abbrev closes_assignment : Front → Bool
-closes_assignment e = stops e && (refuses_at e (arrow_body false) && (refuses_at e (arrow_rest false false) && (passes_at e (assignments false) && closes_conditional e)))
+abbrev closes_assignment : Bool → Front → Bool
+closes_assignment no_in e = stops e && (refuses_at e (arrow_body no_in) && (refuses_at e (arrow_rest no_in false) && (passes_at e (assignments no_in) && closes_conditional no_in e)))
 
 -- and no comma
-abbrev closes_sequence : Front → Bool
-closes_sequence e = refuses_at e (punct (codes ",")) && closes_assignment e
+abbrev closes_sequence : Bool → Front → Bool
+closes_sequence no_in e = refuses_at e (punct (codes ",")) && closes_assignment no_in e
+
+-- ..., where `in` is an operator, or is none
+abbrev pub closes_in : Bool → Level → Front → Bool
+closes_in no_in shapes.new_callee e = closes_chain e
+closes_in no_in shapes.object e = closes_chain e
+closes_in no_in shapes.callee e = closes_chain e
+closes_in no_in shapes.left_hand_side e = closes_chain e
+closes_in no_in shapes.update e = closes_update e
+closes_in no_in shapes.unary e = closes_update e
+closes_in no_in shapes.power e = closes_power e
+closes_in no_in shapes.product e = closes_product e
+closes_in no_in shapes.sum e = closes_sum e
+closes_in no_in shapes.shift e = closes_shift e
+closes_in no_in shapes.relation e = closes_relation no_in e
+closes_in no_in shapes.equality e = closes_equality no_in e
+closes_in no_in shapes.bit_and e = closes_bit_and no_in e
+closes_in no_in shapes.bit_xor e = closes_bit_xor no_in e
+closes_in no_in shapes.bit_or e = closes_bit_or no_in e
+closes_in no_in shapes.logical_and e = closes_logical no_in e
+closes_in no_in shapes.logical_or e = closes_logical no_in e
+closes_in no_in shapes.coalescing e = closes_logical no_in e
+closes_in no_in shapes.short_circuit e = closes_logical no_in e
+closes_in no_in shapes.assignment e = closes_assignment no_in e
+closes_in no_in shapes.sequence e = closes_sequence no_in e
 
 abbrev pub closes : Level → Front → Bool
-closes shapes.new_callee e = closes_chain e
-closes shapes.object e = closes_chain e
-closes shapes.callee e = closes_chain e
-closes shapes.left_hand_side e = closes_chain e
-closes shapes.update e = closes_update e
-closes shapes.unary e = closes_update e
-closes shapes.power e = closes_power e
-closes shapes.product e = closes_product e
-closes shapes.sum e = closes_sum e
-closes shapes.shift e = closes_shift e
-closes shapes.relation e = closes_relation e
-closes shapes.equality e = closes_equality e
-closes shapes.bit_and e = closes_bit_and e
-closes shapes.bit_xor e = closes_bit_xor e
-closes shapes.bit_or e = closes_bit_or e
-closes shapes.logical_and e = closes_logical e
-closes shapes.logical_or e = closes_logical e
-closes shapes.coalescing e = closes_logical e
-closes shapes.short_circuit e = closes_logical e
-closes shapes.assignment e = closes_assignment e
-closes shapes.sequence e = closes_sequence e
+closes l e = closes_in false l e
 
 -- what ends an assignment expression
 abbrev pub Ends : Front → Type 0
 Ends e = closes shapes.assignment e ≡ true
 
-abbrev pub behind_arrow : Grammar
-behind_arrow = yield_ false // build form.Chain (conditional false ▸ assignments false)
+abbrev pub behind_arrow : Bool → Grammar
+behind_arrow no_in = yield_ no_in // build form.Chain (conditional no_in ▸ assignments no_in)

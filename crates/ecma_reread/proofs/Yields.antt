@@ -142,7 +142,7 @@ module _ (assigned : Bool) where
       let I = interp assigned (means assigned) in
       let y = it g (key (codes "yield")) ts in
       means_is assigned (part.Assign false false) y
-      ∙ (ap (or_on (I behind_arrow) y) (all_refused assigned (arrow false false) front y at_token yield_no_arrow) ∙ ap (or_on (I (build form.Chain (conditional false ▸ assignments false))) y) h)
+      ∙ (ap (or_on (I (behind_arrow false)) y) (all_refused assigned (arrow false false) front y at_token yield_no_arrow) ∙ ap (or_on (I (build form.Chain (conditional false ▸ assignments false))) y) h)
 
   module _ (rest : Items → Items) {k : Kind} {ns : List Node} (h : (g : Gap) (us : Items) (e : Front) → Begins e us → Ends e → means assigned (part.Assign false false) (it g (key (codes "yield")) (rest us)) ≡ read (bare k ns ∷ []) us) where
     yield_stands : Stands assigned shapes.assignment (λ g us. it g (key (codes "yield")) (rest us)) k ns
