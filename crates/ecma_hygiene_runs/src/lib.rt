@@ -1,0 +1,18 @@
+//! What a module with its shorthands written out, and one with its final texts, does when it runs: over the definitions of `ecma_hygiene`, `ecma_scope`
+//! and `ecma_runs`.
+//!
+//! Each function carries one law, and does nothing. The laws are stated in `specs/`.
+#![tactic(auto)]
+
+ghost use Rattle.ecma_hygiene_runs.specs.Laws.{ShorthandsDoNotMatter, WrittenOutShorthandsDoNotMatter};
+
+/// A module with its shorthands written out is observed to do what it does with them, for every tree, every script of the host and every number of
+/// turns.
+pub fn written_out_shorthands_do_not_matter()
+    ensures { WrittenOutShorthandsDoNotMatter }
+{}
+
+/// So trees that are equal with their shorthands written out run alike, whichever of them each writes out.
+pub fn shorthands_do_not_matter()
+    ensures { ShorthandsDoNotMatter }
+{}
