@@ -60,6 +60,8 @@ begun (shapes.super_call at at' es none) us = record { first = items.key (codes 
 begun (shapes.new_expression at e es none) us = record { first = items.key (codes "new"); by = NoNeighbor; rest = expression_tokens e blank (sign_of (codes "(") (arguments_tokens es (sign_of (codes ")") us))); opens = by_key (codes "new"); is = λ g. refl }
 begun (shapes.new_alone at e none none') us = record { first = items.key (codes "new"); by = NoNeighbor; rest = expression_tokens e blank us; opens = by_key (codes "new"); is = λ g. refl }
 begun (shapes.new_target at) us = record { first = items.key (codes "new"); by = NoNeighbor; rest = sign_of (codes ".") (it no_gap (items.key (codes "target")) us); opens = by_key (codes "new"); is = λ g. refl }
+begun (shapes.import_meta at) us = record { first = items.key (codes "import"); by = NoNeighbor; rest = sign_of (codes ".") (it no_gap (items.key (codes "meta")) us); opens = by_key (codes "import"); is = λ g. refl }
+begun (shapes.import_call at at' es none) us = record { first = items.key (codes "import"); by = NoNeighbor; rest = sign_of (codes "(") (arguments_tokens es (sign_of (codes ")") us)); opens = by_key (codes "import"); is = λ g. refl }
 begun (shapes.prefix_update at o e) us = record { first = update_token o; by = update_sign o; rest = expression_tokens e no_gap us; opens = by_update o; is = λ g. refl }
 begun (shapes.postfix_update at o e) us = begun e (it no_gap (update_token o) us)
 begun (shapes.await_expression at e) us = record { first = items.key (codes "await"); by = NoNeighbor; rest = expression_tokens e blank us; opens = by_key (codes "await"); is = λ g. refl }

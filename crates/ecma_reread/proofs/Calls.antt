@@ -56,6 +56,7 @@ use Rattle.ecma_reread.proofs.Spreads.{ElementForm, element_read, element_param}
 use Rattle.ecma_reread.proofs.PrivateTests.{private_form}
 use Rattle.ecma_reread.proofs.Yields.{yield_alone, yield_form}
 use Rattle.ecma_reread.proofs.Beginnings.{no_new_line, no_star}
+use Rattle.ecma_reread.proofs.ImportCalls.{meta_form, import_call_form}
 
 -- no argument begins with `)`
 no_argument : refuses_all (exactly (sign (codes ")"))) element ≡ true
@@ -211,6 +212,8 @@ module _ (assigned : Bool) where
     expression_form (shapes.new_expression at e es none) = from_new assigned (new_form assigned (new_callee_form (expression_form e)) (λ us. arguments_tokens es (s (codes ")") us)) (list_node (bare_arguments es)) (arguments_read es (argument_forms es)))
     expression_form (shapes.new_alone at e none none') = alone_form assigned (new_callee_form (expression_form e))
     expression_form (shapes.new_target at) = from_new assigned (target_form assigned)
+    expression_form (shapes.import_meta at) = from_new assigned (meta_form assigned)
+    expression_form (shapes.import_call at at' es none) = from_form assigned (import_call_form assigned (λ us. arguments_tokens es (s (codes ")") us)) (list_node (bare_arguments es)) (arguments_read es (argument_forms es)))
     expression_form (shapes.prefix_update at o e) = prefix_form assigned o (expression_form e)
     expression_form (shapes.postfix_update at o e) = postfix_form assigned o (expression_form e)
     expression_form (shapes.await_expression at e) = await_form assigned (expression_form e)

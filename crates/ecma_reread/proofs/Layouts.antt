@@ -8,7 +8,7 @@ use Rattle.ecma_kind.specs.declared.operators.UpdateOp.TheVariants.{PlusPlus, Mi
 use Rattle.ecma_kind.specs.declared.operators.AssignOp.{AssignOp}
 use Rattle.ecma_kind.specs.declared.operators.AssignOp.TheVariants.{Assign, AddAssign, SubAssign, MulAssign, DivAssign, ModAssign, LShiftAssign, RShiftAssign, ZeroFillRShiftAssign, BitOrAssign, BitXorAssign, BitAndAssign, ExpAssign, AndAssign, OrAssign, NullishAssign}
 use Rattle.ecma_kind.specs.declared.operators.BinaryOp.TheVariants as op
-use Rattle.ecma_kind.specs.declared.operators.MetaPropKind.TheVariants.{NewTarget}
+use Rattle.ecma_kind.specs.declared.operators.MetaPropKind.TheVariants.{NewTarget, ImportMeta}
 use Rattle.ecma_kind.specs.declared.span.Span.{Span}
 use Rattle.ecma_kind.specs.declared.kind.Kind.{Kind}
 use Rattle.ecma_kind.specs.declared.kind.Kind.TheVariants as kind
@@ -172,6 +172,8 @@ gap_out (shapes.super_call at at' es none) g us = refl
 gap_out (shapes.new_expression at e es none) g us = refl
 gap_out (shapes.new_alone at e none none') g us = refl
 gap_out (shapes.new_target at) g us = refl
+gap_out (shapes.import_meta at) g us = refl
+gap_out (shapes.import_call at at' es none) g us = refl
 gap_out (shapes.prefix_update at o e) g us = refl
 gap_out (shapes.postfix_update at o e) g us = gap_out e g (it no_gap (update_token o) us)
 gap_out (shapes.await_expression at e) g us = refl
@@ -271,6 +273,10 @@ mutual
       ∙ rw (tightly 17 16 spot.level (omega arith) c.low, c.no_head refl, no_sign spot.beside)
       (ap (λ z. codes "new " ++ z) (ap (λ z. (laid c').at (At (callee_spot spot)) m z) (at_node at' kind.Absent [] Arguments m (render us)) ∙ expression_laid e (callee_spot spot) (callee_calm spot c.with_in) refl m us) ∙ ap (λ z. codes "new" ++ z) (sym (gap_out e blank us)))
   expression_laid (shapes.new_target at) spot c q m us = at_node at (kind.MetaPropExpr NewTarget) [] (At spot) m (render us) ∙ rw (c.low, no_sign spot.beside) refl
+  expression_laid (shapes.import_meta at) spot c q m us = at_node at (kind.MetaPropExpr ImportMeta) [] (At spot) m (render us) ∙ rw (c.low, no_sign spot.beside) refl
+  expression_laid (shapes.import_call at at' {args = a'} {none = n'} es none) spot c q m us =
+      at_node at kind.CallExpr (node_of at' kind.Import [] ∷ a' ∷ n' ∷ []) (At spot) m (render us)
+      ∙ rw (c.low, c.no_new refl, laid_node at' kind.Import [], no_sign spot.beside) (ap (λ z. codes "import" ++ z) (arguments_laid es m us))
   expression_laid (shapes.prefix_update at o {e = e'} e) spot c q m us =
       at_node at (kind.UpdateExpr o true) (e' ∷ []) (At spot) m (render us)
       ∙ rw (c.low, update_text o) (ap (λ z. gap spot.beside (update_sign o) ++ (token_text (update_token o) ++ z)) (expression_laid e (right spot 16 (update_sign o)) (update_calm o spot c.with_in) refl m us ∙ rw (no_gap_before o e) refl))

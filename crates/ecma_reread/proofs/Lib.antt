@@ -26,6 +26,7 @@ pub mod Expressions
 pub mod Members
 pub mod Elements
 pub mod Supers
+pub mod ImportCalls
 pub mod PrivateTests
 pub mod Yields
 pub mod Constructions

@@ -49,6 +49,9 @@ mutual
   expression_bare (shapes.new_alone at {none' = gone} e none none') =
       without_spans-node at kind.NewExpr _ ∙ (ap₂ (λ x y. bare kind.NewExpr (x ∷ y ∷ without_spans gone ∷ [])) (expression_bare e) (absent_bare none) ∙ ap (λ z. bare kind.NewExpr (bare_expression e ∷ absent ∷ z ∷ [])) (absent_bare none'))
   expression_bare (shapes.new_target at) = without_spans-node at _ []
+  expression_bare (shapes.import_meta at) = without_spans-node at _ []
+  expression_bare (shapes.import_call at at' {none = gone} es none) =
+      without_spans-node at kind.CallExpr _ ∙ (ap₂ (λ x y. bare kind.CallExpr (x ∷ y ∷ without_spans gone ∷ [])) (without_spans-node at' kind.Import []) (arguments_bare es) ∙ ap (λ z. bare kind.CallExpr (bare kind.Import [] ∷ list_node (bare_arguments es) ∷ z ∷ [])) (absent_bare none))
   expression_bare (shapes.prefix_update at o e) = without_spans-node at (kind.UpdateExpr o true) _ ∙ ap (λ x. bare (kind.UpdateExpr o true) (x ∷ [])) (expression_bare e)
   expression_bare (shapes.postfix_update at o e) = without_spans-node at (kind.UpdateExpr o false) _ ∙ ap (λ x. bare (kind.UpdateExpr o false) (x ∷ [])) (expression_bare e)
   expression_bare (shapes.await_expression at e) = without_spans-node at kind.AwaitExpr _ ∙ ap (λ x. bare kind.AwaitExpr (x ∷ [])) (expression_bare e)

@@ -163,6 +163,10 @@ yield_spelled : Spelled IsKey (codes "yield")
 unfolding chars is_utf8 encode is_xid_start is_xid_continue in_ranges xid_start_ranges xid_continue_ranges
 yield_spelled = (IsUtf8-from_is_utf8 (codes "yield") refl, (refl, refl))
 
+meta_spelled : Spelled IsKey (codes "meta")
+unfolding chars is_utf8 encode is_xid_start is_xid_continue in_ranges xid_start_ranges xid_continue_ranges
+meta_spelled = (IsUtf8-from_is_utf8 (codes "meta") refl, (refl, refl))
+
 new_spelled : Spelled IsKey (codes "new")
 unfolding chars is_utf8 encode is_xid_start is_xid_continue in_ranges xid_start_ranges xid_continue_ranges
 new_spelled = (IsUtf8-from_is_utf8 (codes "new") refl, (refl, refl))
@@ -189,6 +193,7 @@ layout_words = record {
   delete_whole = whole (codes "delete") delete_spelled;
   super_whole = whole (codes "super") super_spelled;
   yield_whole = whole (codes "yield") yield_spelled;
+  meta_whole = whole (codes "meta") meta_spelled;
   new_whole = whole (codes "new") new_spelled;
   target_whole = whole (codes "target") target_spelled;
   await_whole = whole (codes "await") await_spelled;

@@ -12,7 +12,7 @@ use Rattle.ecma_kind.specs.declared.operators.UpdateOp.{UpdateOp}
 use Rattle.ecma_kind.specs.declared.operators.AssignOp.{AssignOp}
 use Rattle.ecma_kind.specs.declared.operators.BinaryOp.{BinaryOp}
 use Rattle.ecma_kind.specs.declared.operators.BinaryOp.TheVariants as op
-use Rattle.ecma_kind.specs.declared.operators.MetaPropKind.TheVariants.{NewTarget}
+use Rattle.ecma_kind.specs.declared.operators.MetaPropKind.TheVariants.{NewTarget, ImportMeta}
 use Rattle.ecma_kind.specs.declared.kind.Kind.TheVariants as kind
 use Rattle.ecma_tree.specs.declared.node.Node.{Node}
 use Rattle.ecma_tree.specs.Nodes.{node_of}
@@ -132,6 +132,8 @@ mutual
     new_expression : (at : Span) {constructor args none : Node} → IsExpression new_callee constructor → IsArguments args → IsAbsent none → IsExpression new_callee (node_of at kind.NewExpr (constructor ∷ args ∷ none ∷ []))
     new_alone : (at : Span) {constructor none none' : Node} → IsExpression new_callee constructor → IsAbsent none → IsAbsent none' → IsExpression left_hand_side (node_of at kind.NewExpr (constructor ∷ none ∷ none' ∷ []))
     new_target : (at : Span) → IsExpression new_callee (node_of at (kind.MetaPropExpr NewTarget) [])
+    import_meta : (at : Span) → IsExpression new_callee (node_of at (kind.MetaPropExpr ImportMeta) [])
+    import_call : (at at_import : Span) {args none : Node} → IsArguments args → IsAbsent none → IsExpression object (node_of at kind.CallExpr (node_of at_import kind.Import [] ∷ args ∷ none ∷ []))
     element : (at of_key : Span) {of_holder own level : Level} {holder e : Node} → IsIndexed of_holder own → IsExpression of_holder holder → IsExpression level e → IsExpression own (node_of at kind.MemberExpr (holder ∷ node_of of_key kind.ComputedPropName (e ∷ []) ∷ []))
     prefix_update : (at : Span) (operator : UpdateOp) {e : Node} → IsExpression callee e → IsExpression update (node_of at (kind.UpdateExpr operator true) (e ∷ []))
     postfix_update : (at : Span) (operator : UpdateOp) {e : Node} → IsExpression callee e → IsExpression update (node_of at (kind.UpdateExpr operator false) (e ∷ []))

@@ -11,7 +11,7 @@ use Rattle.ecma_kind.specs.declared.operators.AssignOp.{AssignOp}
 use Rattle.ecma_kind.specs.declared.operators.AssignOp.TheVariants.{Assign, AddAssign, SubAssign, MulAssign, DivAssign, ModAssign, LShiftAssign, RShiftAssign, ZeroFillRShiftAssign, BitOrAssign, BitXorAssign, BitAndAssign, ExpAssign, AndAssign, OrAssign, NullishAssign}
 use Rattle.ecma_kind.specs.declared.operators.BinaryOp.{BinaryOp}
 use Rattle.ecma_kind.specs.declared.operators.BinaryOp.TheVariants as op
-use Rattle.ecma_kind.specs.declared.operators.MetaPropKind.TheVariants.{NewTarget}
+use Rattle.ecma_kind.specs.declared.operators.MetaPropKind.TheVariants.{NewTarget, ImportMeta}
 use Rattle.ecma_kind.specs.declared.kind.Kind.{Kind}
 use Rattle.ecma_kind.specs.declared.kind.Kind.TheVariants as kind
 use Rattle.ecma_tree.specs.declared.node.Node.{Node}
@@ -23,7 +23,7 @@ use Rattle.ecma_print.specs.Operators.{unary_sign, update_sign}
 use Rattle.ecma_print.specs.Statements.{keyword}
 use Rattle.ecma_tokens.specs.Items as items
 use Rattle.ecma_tokens.specs.Items.{Tok, sign, Gap, no_gap, Items, it}
-use Rattle.ecma_reread.specs.Shapes.{IsIdent, ident, IsKey, key, Level, IsExpression, looser, element, prefix_update, postfix_update, await_expression, unary_expression, binary_expression, exponentiation, both, either, coalesced, assignment_expression, conditional_expression, sequence_expression, name, string, number, this_word, big_int, null_word, true_word, false_word, member, call, parenthesized, IsElement, one, spread, IsArguments, no_arguments, arguments, AreElements, no_elements, more_elements, AreExpressions, no_expressions, more_expressions, IsInitializer, no_initializer, initializer, IsDeclarator, declarator, AreDeclarators, no_declarators, more_declarators, IsStatement, expression, declaration, empty, debugger_word, throw, return_value, return_nothing, break_nothing, continue_nothing, Ending, break_label, continue_label, block, if_only, if_else, while_loop, do_loop, labeled, IsBlock, block_of, AreStatements, no_statements, more_statements, array, AreSlots, no_slots, filled, hole, switch_statement, IsCase, case_of, default_of, AreCases, no_cases, more_cases, new_expression, new_alone, new_target, try_catch, try_finally, try_catch_finally, IsCatch, catch_any, catch_name, IsChainKey, plain_key, private_key, super_member, super_element, super_call, IsOptional, left_out, given, IsForBinding, for_binding, for_loop, for_in, for_of, object_literal, IsPropertyName, key_name, string_name, number_name, big_int_name, computed_name, IsProperty, key_value, shorthand, initialized, spread_property, AreProperties, no_properties, more_properties, private_in, yield_nothing, yield_value}
+use Rattle.ecma_reread.specs.Shapes.{IsIdent, ident, IsKey, key, Level, IsExpression, looser, element, prefix_update, postfix_update, await_expression, unary_expression, binary_expression, exponentiation, both, either, coalesced, assignment_expression, conditional_expression, sequence_expression, name, string, number, this_word, big_int, null_word, true_word, false_word, member, call, parenthesized, IsElement, one, spread, IsArguments, no_arguments, arguments, AreElements, no_elements, more_elements, AreExpressions, no_expressions, more_expressions, IsInitializer, no_initializer, initializer, IsDeclarator, declarator, AreDeclarators, no_declarators, more_declarators, IsStatement, expression, declaration, empty, debugger_word, throw, return_value, return_nothing, break_nothing, continue_nothing, Ending, break_label, continue_label, block, if_only, if_else, while_loop, do_loop, labeled, IsBlock, block_of, AreStatements, no_statements, more_statements, array, AreSlots, no_slots, filled, hole, switch_statement, IsCase, case_of, default_of, AreCases, no_cases, more_cases, new_expression, new_alone, new_target, try_catch, try_finally, try_catch_finally, IsCatch, catch_any, catch_name, IsChainKey, plain_key, private_key, super_member, super_element, super_call, IsOptional, left_out, given, IsForBinding, for_binding, for_loop, for_in, for_of, object_literal, IsPropertyName, key_name, string_name, number_name, big_int_name, computed_name, IsProperty, key_value, shorthand, initialized, spread_property, AreProperties, no_properties, more_properties, private_in, yield_nothing, yield_value, import_meta, import_call}
 
 abbrev pub blank : Gap
 blank = record { blanks = codes " "; new_line = false }
@@ -156,6 +156,8 @@ abbrev mutual
   expression_tokens (new_expression at e es none) g us = it g (items.key (codes "new")) (expression_tokens e blank (sign_of (codes "(") (arguments_tokens es (sign_of (codes ")") us))))
   expression_tokens (new_alone at e none none') g us = it g (items.key (codes "new")) (expression_tokens e blank us)
   expression_tokens (new_target at) g us = it g (items.key (codes "new")) (sign_of (codes ".") (it no_gap (items.key (codes "target")) us))
+  expression_tokens (import_meta at) g us = it g (items.key (codes "import")) (sign_of (codes ".") (it no_gap (items.key (codes "meta")) us))
+  expression_tokens (import_call at at' es none) g us = it g (items.key (codes "import")) (sign_of (codes "(") (arguments_tokens es (sign_of (codes ")") us)))
   expression_tokens (prefix_update at o e) g us = it g (update_token o) (expression_tokens e no_gap us)
   expression_tokens (postfix_update at o e) g us = expression_tokens e g (it no_gap (update_token o) us)
   expression_tokens (await_expression at e) g us = it g (items.key (codes "await")) (expression_tokens e blank us)
@@ -342,6 +344,8 @@ expression_kind (super_call at at' es none) = kind.CallExpr
 expression_kind (new_expression at e es none) = kind.NewExpr
 expression_kind (new_alone at e none none') = kind.NewExpr
 expression_kind (new_target at) = kind.MetaPropExpr NewTarget
+expression_kind (import_meta at) = kind.MetaPropExpr ImportMeta
+expression_kind (import_call at at' es none) = kind.CallExpr
 expression_kind (prefix_update at o e) = kind.UpdateExpr o true
 expression_kind (postfix_update at o e) = kind.UpdateExpr o false
 expression_kind (await_expression at e) = kind.AwaitExpr
@@ -372,6 +376,7 @@ abbrev mutual
   expression_parts (super_call at at' es none) = bare kind.Super [] ∷ list_node (bare_arguments es) ∷ absent ∷ []
   expression_parts (new_expression at e es none) = bare (expression_kind e) (expression_parts e) ∷ list_node (bare_arguments es) ∷ absent ∷ []
   expression_parts (new_alone at e none none') = bare (expression_kind e) (expression_parts e) ∷ absent ∷ absent ∷ []
+  expression_parts (import_call at at' es none) = bare kind.Import [] ∷ list_node (bare_arguments es) ∷ absent ∷ []
   expression_parts (prefix_update at o e) = bare (expression_kind e) (expression_parts e) ∷ []
   expression_parts (postfix_update at o e) = bare (expression_kind e) (expression_parts e) ∷ []
   expression_parts (await_expression at e) = bare (expression_kind e) (expression_parts e) ∷ []
