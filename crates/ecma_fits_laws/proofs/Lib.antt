@@ -1,2 +1,6 @@
 pub mod Walks
 pub mod Strays
+pub mod Standing
+pub mod Ruled
+pub mod Tests
+pub mod Rules

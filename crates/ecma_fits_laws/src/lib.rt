@@ -3,10 +3,16 @@
 //! Each function carries one law, and does nothing. The laws are stated in `specs/`.
 #![tactic(auto)]
 
-ghost use Rattle.ecma_fits_laws.specs.Finished.{FinishedTreesHaveNoStrays};
+ghost use Rattle.ecma_fits_laws.specs.Finished.{FinishedTreesHaveNoStrays, FinishedTreesKeepRules};
 
 /// In what is made of a raw tree that keeps the context rules, nothing belongs to nothing inside an enum initialiser or a namespace body.
 #[tactic(auto, using(crate::proofs::Strays::strayless))]
 pub fn finished_trees_have_no_strays()
     ensures { FinishedTreesHaveNoStrays }
+{}
+
+/// No node of what is made of a raw tree that keeps the context rules breaks one that reads a finished tree as it reads a raw one.
+#[tactic(auto, using(crate::proofs::Rules::rules_kept))]
+pub fn finished_trees_keep_rules()
+    ensures { FinishedTreesKeepRules }
 {}
