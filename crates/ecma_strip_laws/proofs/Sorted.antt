@@ -2,7 +2,9 @@
 use Rattle.std.proofs.Common.{◌≡◌, refl, sym, ap, ◌∙◌, subst, ℕ, zero, suc, List, [], ◌∷◌, map, Bool, true, false, ◌&&◌, ◌||◌, not, cond, length, replicate}
 use Rattle.std.specs.List.{list_all}
 use Rattle.std.proofs.lemmas.Bool.{and_parts}
-use Rattle.ecma_kind.specs.Sorts.{belongs, is_decl, is_stmt}
+use Rattle.ecma_kind.specs.Sorts.{belongs, is_stmt}
+use Rattle.ecma_kind.specs.declared.operators.VarDeclKind.TheVariants.{Var, Let, Const}
+use Rattle.ecma_rules.specs.Statements as rules
 use Rattle.ecma_kind.specs.declared.kind.Kind.{Kind}
 use Rattle.ecma_kind.specs.declared.kind.Kind.TheVariants as kind
 use Rattle.ecma_kind.specs.declared.span.Span.{Span}
@@ -154,8 +156,8 @@ items_fine shape (child ∷ children) h u r =
     item_fine false e u r = rw e (goes_silently child.0 shape h.0 r e)
 
 -- the body of a statement that is no declaration stays
-body_kept : (k : Kind) → allows (maybe sort.Stmt) k ≡ true → is_decl k ≡ false → (span : Span) (cs : List Node) → plain span k cs ≡ node_of span k (plain_children k cs)
-unfolding plain plain_kind
+body_kept : (k : Kind) → allows (maybe sort.Stmt) k ≡ true → rules.is_declaration k ≡ false → (span : Span) (cs : List Node) → plain span k cs ≡ node_of span k (plain_children k cs)
+unfolding plain plain_kind rules.is_declaration
 body_kept kind.Absent a d span cs = refl
 body_kept kind.BlockStmt a d span cs = refl
 body_kept kind.EmptyStmt a d span cs = refl
@@ -174,10 +176,14 @@ body_kept kind.ForStmt a d span cs = refl
 body_kept kind.ForInStmt a d span cs = refl
 body_kept (kind.ForOfStmt is_await) a d span cs = refl
 body_kept kind.ExprStmt a d span cs = refl
+body_kept (kind.VarDecl Var false) a d span cs = refl
+body_kept (kind.VarDecl Let false) a d span cs = absurd (cc)
+body_kept (kind.VarDecl Const false) a d span cs = absurd (cc)
+body_kept (kind.VarDecl word true) a d span cs = absurd (cc)
 body_kept _ a d span cs = absurd (cc)
 
-body_item : (k : Kind) → allows (maybe sort.Stmt) k ≡ true → is_decl k ≡ false → (cs : List Node) → item_by k cs ≡ true
-unfolding value_by is_declared
+body_item : (k : Kind) → allows (maybe sort.Stmt) k ≡ true → rules.is_declaration k ≡ false → (cs : List Node) → item_by k cs ≡ true
+unfolding value_by is_declared rules.is_declaration
 body_item kind.Absent a d cs = refl
 body_item kind.BlockStmt a d cs = refl
 body_item kind.EmptyStmt a d cs = refl
@@ -196,9 +202,13 @@ body_item kind.ForStmt a d cs = refl
 body_item kind.ForInStmt a d cs = refl
 body_item (kind.ForOfStmt is_await) a d cs = refl
 body_item kind.ExprStmt a d cs = refl
+body_item (kind.VarDecl Var false) a d cs = refl
+body_item (kind.VarDecl Let false) a d cs = absurd (cc)
+body_item (kind.VarDecl Const false) a d cs = absurd (cc)
+body_item (kind.VarDecl word true) a d cs = absurd (cc)
 body_item _ a d cs = absurd (cc)
 
-body_stays : (b : Node) → allows (maybe sort.Stmt) (out-Node b).kind ≡ true → is_decl (out-Node b).kind ≡ false → item_stays (stripped b) ≡ true
+body_stays : (b : Node) → allows (maybe sort.Stmt) (out-Node b).kind ≡ true → rules.is_declaration (out-Node b).kind ≡ false → item_stays (stripped b) ≡ true
 body_stays b a d =
     let k = (out-Node b).kind in
     let cs = map stripped (staying_nodes k (out-Node b).children) in
@@ -217,7 +227,7 @@ list_fine σ child h u = rw (child_fine child (many σ) h refl u, (shape_out (ma
 body_fine : (child : Child) (shape : Shape) → HasShape shape child.0 → fit_shape shape.count shape.sort ≡ true → (allows shape (out-Node child.0).kind ≡ true → allows (maybe sort.Stmt) (out-Node child.0).kind ≡ true) → is_usual child.0 ≡ true
     → not (is_declaration (told child.0)) ≡ true → fine_body (seen child.0) ≡ true
 body_fine child shape h f there u d =
-    rw (child_fine child shape h f u, body_stays child.0 (there (shape_out shape child.0 h).0) (negated (is_decl (out-Node child.0).kind) d)) refl
+    rw (child_fine child shape h f u, body_stays child.0 (there (shape_out shape child.0 h).0) (negated (rules.is_declaration (out-Node child.0).kind) d)) refl
 
 single_body : (child : Child) → HasShape (one sort.Stmt) child.0 → is_usual child.0 ≡ true → not (is_declaration (told child.0)) ≡ true → fine_body (seen child.0) ≡ true
 single_body child h u d = body_fine child (one sort.Stmt) h refl (λ a. either (is_absent (out-Node child.0).kind) (is_stmt (out-Node child.0).kind) a) u d

@@ -1,13 +1,13 @@
 -- Of a module that is sorted only types go.
 use Rattle.std.specs.Prelude.{◌≡◌, Bool, true, ◌&&◌, not, List, [], ◌∷◌, map}
 use Rattle.std.specs.List.{list_all}
-use Rattle.ecma_kind.specs.Sorts.{is_decl}
 use Rattle.ecma_kind.specs.declared.kind.Kind.{Kind}
 use Rattle.ecma_kind.specs.declared.kind.Kind.TheVariants as kind
 use Rattle.ecma_kind.specs.declared.shapes.Sort.TheVariants as sort
 use Rattle.ecma_tree.specs.declared.node.Node.{Node, Node-F, fold-Node, out-Node}
 use Rattle.ecma_tree.specs.Nodes.{node_of}
 use Rattle.ecma_tree.specs.Sorted.{HasSort}
+use Rattle.ecma_rules.specs.Statements as rules
 use Rattle.ecma_strip.specs.Staying.{is_this}
 use Rattle.ecma_strip_laws.specs.Runs.{only_types_go}
 
@@ -31,13 +31,14 @@ abbrev pub items_of : Kind → List Told → List Told
 items_of kind.List items = items
 items_of k children = []
 
+-- a declaration other than a `var`
 abbrev pub is_declaration : Told → Bool
-is_declaration told = is_decl (out-Node told.node).kind
+is_declaration told = rules.is_declaration (out-Node told.node).kind
 
 abbrev pub is_receiver : Told → Bool
 is_receiver told = is_this told.node
 
--- the body of no statement is a declaration, and no arrow function has a parameter `this` (ECMAScript, 14.6, 14.7, 14.13; TypeScript refuses the second
+-- the body of no statement is a declaration other than a `var`, and no arrow function has a parameter `this` (ECMAScript, 14.6, 14.7, 14.13; TypeScript refuses the second
 -- too: an arrow function has the `this` of what stands around it)
 unfoldable pub usual_by : Kind → List Told → Bool
 usual_by k children = list_all (λ child. child.usual) children && (list_all (λ body. not (is_declaration body)) (bodies_of k children) && list_all (λ item. not (is_receiver item)) (items_of k children))

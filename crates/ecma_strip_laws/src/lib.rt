@@ -12,7 +12,7 @@ pub fn stripping_keeps_runs()
     ensures { StrippingKeepsRuns }
 {}
 
-/// From a tree with the sort of a module only types go, where no statement has a declaration as its body and no arrow function a parameter `this`.
+/// From a tree with the sort of a module only types go, where no statement has a declaration but a `var` as its body and no arrow function a parameter `this`.
 pub fn only_types_go_from_modules()
     ensures { OnlyTypesGo }
 {}
