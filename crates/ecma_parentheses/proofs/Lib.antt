@@ -1,0 +1,4 @@
+mod Standing
+mod Asking
+mod Adding
+mod Again

@@ -1,0 +1,12 @@
+-- The laws of explicit parentheses.
+use Rattle.std.specs.Prelude.{◌≡◌}
+use Rattle.ecma_tree.specs.declared.node.Node.{Node}
+use Rattle.ecma_parentheses.specs.Explicit.{explicit, without_parens}
+
+-- nothing but parentheses is added
+abbrev pub OnlyParenthesesAreAdded : Type 0
+OnlyParenthesesAreAdded = (m : Node) → without_parens (explicit m) ≡ without_parens m
+
+-- and none are added again
+abbrev pub NoneAreAddedAgain : Type 0
+NoneAreAddedAgain = (m : Node) → explicit (explicit m) ≡ explicit m

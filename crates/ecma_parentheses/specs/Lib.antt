@@ -1,0 +1,3 @@
+pub mod Spots
+pub mod Explicit
+pub mod Laws

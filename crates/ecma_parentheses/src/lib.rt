@@ -1,0 +1,16 @@
+//! The parentheses that the layout puts round expressions, as nodes of the tree: laws over the definitions of `ecma_print`, `ecma_runs` and of `specs/` alone.
+//!
+//! Each function carries one law, and does nothing. The laws are stated in `specs/Laws.antt`.
+#![tactic(auto)]
+
+ghost use Rattle.ecma_parentheses.specs.Laws.{OnlyParenthesesAreAdded, NoneAreAddedAgain};
+
+/// Without any parentheses the tree with explicit ones is the tree.
+pub fn only_parentheses_are_added()
+    ensures { OnlyParenthesesAreAdded }
+{}
+
+/// To a tree with explicit parentheses none are added.
+pub fn none_are_added_again()
+    ensures { NoneAreAddedAgain }
+{}
