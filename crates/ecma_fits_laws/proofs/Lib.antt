@@ -4,3 +4,5 @@ pub mod Standing
 pub mod Ruled
 pub mod Tests
 pub mod Rules
+pub mod Constructors
+pub mod Clauses

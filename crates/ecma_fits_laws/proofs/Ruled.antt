@@ -99,7 +99,7 @@ nothing_turns t patterns element property binding _ = refl
 module _ (T : Where → Node → Bool)
     (made : (w : Where) (x : Node-F Node) → is_made x.kind ≡ true → T w (roll-Node x) ≡ false)
     (rest : (w : Where) (span : Span) (cs : List Node) → w.around.is_last ≡ true → T w (node_of span kind.RestPat cs) ≡ false)
-    (same : (was : Around) (w : Where) (span : Span) (k : Kind) (cs : List Node) (o : Shape) → Stands was k w.around → turns was.target k ≡ false → is_misplaced was (node_of span k cs) ≡ false
+    (same : (was : Around) (w : Where) (span : Span) (k : Kind) (cs : List Node) (o : Shape) → Stands was k w.around → turns was.target k ≡ false → is_misplaced was (node_of span k cs) ≡ false → second_constructor (node_of span k cs) ≡ None
     → HasShape o (node_of span k (each_in (target_in was.target k) (map finished_at cs))) → T w (node_of span k (each_in (target_in was.target k) (map finished_at cs))) ≡ false) where
   abbrev tell : Where → Node → Option ℕ
   tell w node = failing_here (T w node) node
@@ -163,6 +163,7 @@ module _ (T : Where → Node → Bool)
       fine : is_misplaced (at t) (node_of span k cs) ≡ false
       stands : Stands (at t) k w.around
       inside : least_from Around (around_by (at t) (raw k)) 0 (map first_misplaced cs) ≡ None
+      single : second_constructor (node_of span k cs) ≡ None
 
     abbrev Tells : Node → Type 0
     Tells n = HasShape o n → walk n w ≡ None
@@ -171,7 +172,7 @@ module _ (T : Where → Node → Bool)
     same_tells t k stays was h =
         let have = ((node_has_shape span k (kids t k) o).0 h).1 in
         let stand = subst (λ (p : Node-F Node). AllStand (around_by (at t) (raw k)) cs (λ i. around_by w.around p i)) (sym (out-roll-Node (parts t k))) (same_children (at t) w.around span k cs was.stands stays was.fine) in
-        walk_whole (parts t k) w (same (at t) w span k cs o was.stands stays was.fine h) (below (around_by (at t) (raw k)) (where_in w (roll-Node (parts t k))) (child_shapes k o (length (kids t k))) stand have was.inside)
+        walk_whole (parts t k) w (same (at t) w span k cs o was.stands stays was.fine was.single h) (below (around_by (at t) (raw k)) (where_in w (roll-Node (parts t k))) (child_shapes k o (length (kids t k))) stand have was.inside)
 
     -- it becomes another kind, as whose children these stand
     turned : (t : Target) (k to : Kind) → T w (with_kind to (parts t k)) ≡ false
@@ -300,7 +301,7 @@ module _ (T : Where → Node → Bool)
       let b = broken_parts x was none in
       let at_kind : Stands was x.kind w.around = subst (λ k. Stands was k w.around) (kind_made x) stands in
       subst (λ (m : Node). walk m w ≡ None) (sym (finished_parts x was.target))
-      (finished_tells x.span was.standing was.is_last w o x.children below was.target x.kind (record { fine = b.0; stands = at_kind; inside = b.1 }) (subst (HasShape o) (finished_parts x was.target) shape))
+      (finished_tells x.span was.standing was.is_last w o x.children below was.target x.kind (record { fine = b.0; stands = at_kind; inside = b.1; single = b.2 }) (subst (HasShape o) (finished_parts x was.target) shape))
 
   pub ruled : (n : Node) → Ruled n
   ruled = ind-Node Ruled (λ x y is. node_ruled x (subst (λ (z : Node-F Node). AllRuled z.children) is (all_ruled y.children)))

@@ -127,7 +127,7 @@ rest_pattern_lasts _ h = not_true h
 
 -- what the rules read of the children of a node that is not turned
 
-children_made : (x : Node-F Node) → (out-Node (roll-Node x)).children ≡ x.children
+pub children_made : (x : Node-F Node) → (out-Node (roll-Node x)).children ≡ x.children
 children_made x = ap (λ (p : Node-F Node). p.children) (out-roll-Node x)
 
 module _ (t : Target) (span : Span) where
@@ -261,7 +261,7 @@ module _ (was : Around) (w : Where) (span : Span) (k : Kind) (cs : List Node) (o
 pub keeps_rules : FinishedTreesKeepRules
 keeps_rules raw kept sorted =
     let w = neither_least (first_misplaced raw at_root) (first_stray raw) kept in
-    ruled breaks_rule made_keeps rest_keeps (λ was w span k cs o stands stays fine shape. same_keeps was w span k cs o stands fine shape) raw at_root at_top (one sort.Module)
+    ruled breaks_rule made_keeps rest_keeps (λ was w span k cs o stands stays fine single shape. same_keeps was w span k cs o stands fine shape) raw at_root at_top (one sort.Module)
     (record { standing = refl; target = refl; last = λ p q. refl }) sorted w.0
 
 pub ruleset rules_kept = (keeps_rules)

@@ -38,7 +38,7 @@ free_children n = subst (λ (m : Node). children_of (finished_at m target.Free) 
         ap children_of (finished_parts x target.Free) ∙ ap (λ (p : Node-F Node). p.children) (out-roll-Node now)
         ∙ sym (ap (λ (p : Node-F Node). each_in (target_in target.Free p.kind) (map finished_at p.children)) (out-roll-Node x))
 
-free_has_child : (n : Node) (i : ℕ) → has_child (finished_at n target.Free) i ≡ has_child n i
+pub free_has_child : (n : Node) (i : ℕ) → has_child (finished_at n target.Free) i ≡ has_child n i
 free_has_child n i = ap (λ (z : List Node). of_kind is_present (slice_get z i)) (free_children n) ∙ presence (target_in target.Free (kind_of n)) (children_of n) i
 
 -- a test of kinds, of a child where nothing is assigned to
@@ -64,7 +64,7 @@ list_only _ h = not_true h
 
 -- a declarator without a value
 
-free_list : (k : Kind) (i : ℕ) → is_list k ≡ true → target_in target.Free k i ≡ target.Free
+pub free_list : (k : Kind) (i : ℕ) → is_list k ≡ true → target_in target.Free k i ≡ target.Free
 unfolding target_in
 free_list kind.List i h = refl
 free_list _ i h = not_true h
@@ -74,7 +74,7 @@ one_declarator target_of [] free = refl
 one_declarator target_of (d ∷ []) free = ap (λ t. not (has_child (finished_at d t) 1)) free ∙ ap not (free_has_child d 1)
 one_declarator target_of (d ∷ e ∷ ds) free = refl
 
-list_kind : (n : Node) (o : Shape) → HasShape o (finished_at n target.Free) → ((k : Kind) → allows o k ≡ true → is_list k ≡ true) → is_list (kind_of n) ≡ true
+pub list_kind : (n : Node) (o : Shape) → HasShape o (finished_at n target.Free) → ((k : Kind) → allows o k ≡ true → is_list k ≡ true) → is_list (kind_of n) ≡ true
 list_kind n o h lists = subst (λ k. is_list k ≡ true) (free_kind n) (lists (kind_of (finished_at n target.Free)) (shape_parts (finished_at n target.Free) o h).0)
 
 pub without_value : (n : Node) → HasShape (many sort.VarDeclarator) (finished_at n target.Free) → is_one_without_value (children_of (finished_at n target.Free)) ≡ is_one_without_value (children_of n)

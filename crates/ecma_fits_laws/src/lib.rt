@@ -3,7 +3,14 @@
 //! Each function carries one law, and does nothing. The laws are stated in `specs/`.
 #![tactic(auto)]
 
-ghost use Rattle.ecma_fits_laws.specs.Finished.{FinishedTreesHaveNoStrays, FinishedTreesKeepRules};
+ghost use Rattle.ecma_fits_laws.specs.Clauses.{FitsByClauses};
+ghost use Rattle.ecma_fits_laws.specs.Finished.{FinishedClassesHaveOneConstructor, FinishedTreesHaveNoStrays, FinishedTreesKeepRules};
+
+/// A tree fits exactly where it is a module by its sorts and no node of it fails one of the clauses.
+#[tactic(auto, using(crate::proofs::Clauses::clauses))]
+pub fn trees_fit_by_clauses()
+    ensures { FitsByClauses }
+{}
 
 /// In what is made of a raw tree that keeps the context rules, nothing belongs to nothing inside an enum initialiser or a namespace body.
 #[tactic(auto, using(crate::proofs::Strays::strayless))]
@@ -15,4 +22,10 @@ pub fn finished_trees_have_no_strays()
 #[tactic(auto, using(crate::proofs::Rules::rules_kept))]
 pub fn finished_trees_keep_rules()
     ensures { FinishedTreesKeepRules }
+{}
+
+/// No class of it has two constructors with bodies.
+#[tactic(auto, using(crate::proofs::Constructors::single))]
+pub fn finished_classes_have_one_constructor()
+    ensures { FinishedClassesHaveOneConstructor }
 {}
