@@ -16,7 +16,7 @@ use Rattle.ecma_print.specs.declared.place.Beside.{Beside}
 use Rattle.ecma_print.specs.declared.place.Beside.TheVariants.{NoNeighbor}
 use Rattle.ecma_print.specs.Operators.{unary_sign, update_sign}
 use Rattle.ecma_reread.specs.Shapes as shapes
-use Rattle.ecma_reread.specs.Shapes.{Level, looser_than, IsOperator, IsIdent, ident, IsKey, key, IsExpression, IsElement, IsArguments, AreElements, AreExpressions, IsInitializer, IsDeclarator, AreDeclarators, AreSlots, IsMemberLevel, IsIndexed, IsChainKey, begins_with_brace, AreProperties, IsPropertyName, IsProperty}
+use Rattle.ecma_reread.specs.Shapes.{Level, looser_than, IsOperator, IsIdent, ident, IsKey, key, IsExpression, IsElement, IsArguments, AreElements, AreExpressions, IsInitializer, IsDeclarator, AreDeclarators, AreSlots, IsMemberLevel, IsIndexed, IsChainKey, begins_with_brace, AreProperties, IsPropertyName, IsProperty, regex_text}
 use Rattle.ecma_reread.specs.Tokens.{blank, sign_of, assign_token, update_token, unary_token, binary_token, own_sign, unary_gap, ident_word, key_word, expression_tokens, element_tokens, arguments_tokens, more_tokens, slots_tokens, more_slots_tokens, chain_token, properties_tokens, more_properties_tokens, property_tokens, star_of}
 use Rattle.ecma_reread.proofs.Softs.{Soft, comma, closing_bracket, parted}
 
@@ -26,6 +26,7 @@ pub data Opens : Tok → Beside → Type 0 where
   by_private : (w : List ℕ) → Opens (items.private_name w) NoNeighbor
   by_string : (w : List ℕ) → Opens (items.string w) NoNeighbor
   by_number : (w : List ℕ) → Opens (items.number w) NoNeighbor
+  by_regex : (w : List ℕ) → Opens (items.regex w) NoNeighbor
   by_big_int : (w : List ℕ) → Opens (items.big_int w) NoNeighbor
   by_bracket : Opens (sign (codes "[")) NoNeighbor
   by_brace : Opens (sign (codes "{")) NoNeighbor
@@ -47,6 +48,7 @@ begun (shapes.string at raw t) us = record { first = items.string raw; by = NoNe
 begun (shapes.number at raw t) us = record { first = items.number raw; by = NoNeighbor; rest = us; opens = by_number raw; is = λ g. refl }
 begun (shapes.this_word at) us = record { first = items.key (codes "this"); by = NoNeighbor; rest = us; opens = by_key (codes "this"); is = λ g. refl }
 begun (shapes.big_int at raw t) us = record { first = items.big_int raw; by = NoNeighbor; rest = us; opens = by_big_int raw; is = λ g. refl }
+begun (shapes.regex at b f t) us = record { first = items.regex (regex_text b f); by = NoNeighbor; rest = us; opens = by_regex (regex_text b f); is = λ g. refl }
 begun (shapes.null_word at) us = record { first = items.key (codes "null"); by = NoNeighbor; rest = us; opens = by_key (codes "null"); is = λ g. refl }
 begun (shapes.true_word at) us = record { first = items.key (codes "true"); by = NoNeighbor; rest = us; opens = by_key (codes "true"); is = λ g. refl }
 begun (shapes.false_word at) us = record { first = items.key (codes "false"); by = NoNeighbor; rest = us; opens = by_key (codes "false"); is = λ g. refl }

@@ -27,7 +27,7 @@ use Rattle.ecma_tokens.specs.Items as items
 use Rattle.ecma_tokens.specs.Items.{Tok, sign, Gap, no_gap, Items, it}
 use Rattle.ecma_reread.specs.Machine.{with_front, means, taken}
 use Rattle.ecma_reread.specs.Shapes as shapes
-use Rattle.ecma_reread.specs.Shapes.{Level, IsPlainName, IsIdent, ident, IsKey, key, IsExpression, IsElement, AreSlots, IsProperty, AreProperties, IsArguments, AreElements, AreExpressions, IsMemberLevel, IsIndexed}
+use Rattle.ecma_reread.specs.Shapes.{Level, IsPlainName, IsIdent, ident, IsKey, key, IsExpression, IsElement, AreSlots, IsProperty, AreProperties, IsArguments, AreElements, AreExpressions, IsMemberLevel, IsIndexed, regex_text}
 use Rattle.ecma_reread.specs.Tokens.{bare, blank, ident_word, key_word, own_sign, unary_gap, expression_tokens, element_tokens, arguments_tokens, elements_tokens, expression_kind, expression_parts, bare_element, bare_arguments, bare_elements}
 use Rattle.ecma_reread.proofs.Levels.{means_is}
 use Rattle.ecma_reread.proofs.Fronts.{Front, exactly, Begins, at_token, IsName, is_known, refuses_at, refused_at, refuses_all, all_refused}
@@ -45,7 +45,7 @@ use Rattle.ecma_reread.proofs.Logicals.{both_form, either_form}
 use Rattle.ecma_reread.proofs.Coalescing.{coalesced_form}
 use Rattle.ecma_reread.proofs.Assignments.{assignment_form}
 use Rattle.ecma_reread.proofs.Repeats.{Repeats, repeats_end, repeats_more, repeated}
-use Rattle.ecma_reread.proofs.Expressions.{Single, string_single, number_single, this_single, big_int_single, null_single, true_single, false_single, single_form, parenthesis_ends, comma_ends, single_new, name_new, parenthesized_new}
+use Rattle.ecma_reread.proofs.Expressions.{Single, string_single, number_single, this_single, big_int_single, null_single, true_single, false_single, single_form, parenthesis_ends, comma_ends, single_new, name_new, parenthesized_new, regex_single}
 use Rattle.ecma_reread.proofs.Params.{Params, params_end, params_more, params_by, parameters_refused, no_body_behind}
 use Rattle.ecma_reread.proofs.Lists.{Forms, Followed}
 use Rattle.ecma_reread.proofs.Sequences.{sequence_form}
@@ -199,6 +199,7 @@ module _ (assigned : Bool) where
     expression_form (shapes.number at raw t) = loosened assigned shapes.object (from_form assigned (single_form assigned (items.number raw) _ (number_single raw)))
     expression_form (shapes.this_word at) = single_stands (items.key (codes "this")) _ this_single refl
     expression_form (shapes.big_int at raw t) = single_stands (items.big_int raw) _ (big_int_single raw) refl
+    expression_form (shapes.regex at b f t) = single_stands (items.regex (regex_text b f)) _ (regex_single b f t) refl
     expression_form (shapes.null_word at) = single_stands (items.key (codes "null")) _ null_single refl
     expression_form (shapes.true_word at) = single_stands (items.key (codes "true")) _ true_single refl
     expression_form (shapes.false_word at) = single_stands (items.key (codes "false")) _ false_single refl

@@ -1,5 +1,5 @@
 -- Each form of expression is read as it is laid out.
-use Rattle.std.proofs.Common.{◌≡◌, ℕ, ◌-◌, Bool, true, false, List, [], ◌∷◌, ◌++◌, length, codes, refl, ap, ◌∙◌, append_assoc, Some, None}
+use Rattle.std.proofs.Common.{◌≡◌, ℕ, ◌-◌, Bool, true, false, List, [], ◌∷◌, ◌++◌, length, codes, refl, ap, ◌∙◌, append_assoc, Some, None, ap₂, arith}
 use Rattle.ecma_number.specs.Numeral.{numeral_of}
 use Rattle.ecma_lex.specs.Text.{piece}
 use Rattle.ecma_lex.specs.Keys.{is_reserved, reserved_words}
@@ -34,9 +34,11 @@ use Rattle.ecma_grammar.proofs.Steps.{steps-append}
 use Rattle.ecma_grammar.specs.Reads.{without_separators}
 use Rattle.ecma_tokens.specs.Items as items
 use Rattle.ecma_tokens.specs.Items.{Tok, sign, Gap, no_gap, Items, it}
+use Rattle.ecma_tokens.specs.Taking.{leaf_kind}
 use Rattle.ecma_reread.specs.Machine.{read, with_front, followed_on, built_on, interp, means}
 use Rattle.ecma_reread.specs.Shapes as shapes
 use Rattle.ecma_reread.specs.Tokens.{bare, blank}
+use Rattle.ecma_reread.specs.Shapes.{IsRegex, regex_text}
 use Rattle.ecma_reread.proofs.Levels.{means_is}
 use Rattle.ecma_grammar.specs.Made.{made}
 use Rattle.ecma_reread.proofs.Fronts.{is_known, Front, exactly, a_name, Begins, at_token, at_name, IsName, front_of, refuses_at, refused_at, refuses_all, all_refused}
@@ -45,6 +47,7 @@ use Rattle.ecma_reread.proofs.Heads.{is_head, member_made}
 use Rattle.ecma_reread.proofs.Forms.{Laid, s, heads, Reads, Refuses, ends_no_item, AsParam, item_refused, whole_item, linked_param, Form, new_heads, NewForm, no_item_at, no_arrow_at}
 use Rattle.ecma_reread.proofs.Bindings.{Stands, expression_read}
 use Rattle.ecma_reread.proofs.Params.{params_end, parameters_refused, no_body_behind}
+use Rattle.ecma_reread.proofs.Pieces.{piece_between, piece_behind}
 
 -- what a primary expression begins with: nothing else of a chain does
 pub record IsPrimary (f : Front) : Type 0 where
@@ -207,6 +210,29 @@ false_single = record {
   no_param = refl;
   no_end = refl;
   taken = λ assigned g us. refl;
+}
+
+-- of the token of a regular expression its body and its flags are kept
+regex_made : (body flags : List ℕ) → IsRegex body flags → leaf_kind leaf.Regex (regex_text body flags) ≡ kind.Regex body flags
+regex_made body flags t =
+    let w = t.whole in
+    rw (t.ends) (ap₂ kind.Regex (piece_between 47 47 body flags (omega arith) (omega arith) w.utf8) (piece_behind 47 47 body flags (omega arith) (omega arith) w.utf8))
+
+pub regex_single : (body flags : List ℕ) → IsRegex body flags → Single (items.regex (regex_text body flags)) (kind.Regex body flags)
+unfolding super_of_member super_of_link import_meta import_call construction primary function_expression class_expression prefixed arrow arrow_rest labeled param rest_pattern default_value pattern_body array_pattern object_pattern names.binding_ident statements.statement_body names.block statements.if_ statements.for_await statements.for_ statements.while_ statements.do_while statements.switch statements.try_ statements.jump declarations.declaration functions.function_declaration classes.class_declaration modules.module_item modules.import modules.import_equals modules.export modules.export_default
+regex_single body flags t = record {
+  leaf_of = keep leaf.Regex;
+  tower = λ e. later refl (later refl (later refl (later refl (later refl (later refl (later refl (later refl (later refl (later refl (sooner here))))))))));
+  apart = record { no_head = refl; no_new_head = refl };
+  opens = record { no_spread = refl; no_yield = refl; no_private = refl; no_prefix = refl; no_increment = refl; no_decrement = refl };
+  starts = record { no_statement = refl; no_item = refl };
+  undeclared = record { no_declaration = refl; no_word = refl };
+  head = refl;
+  no_arrow = refl;
+  no_label = refl;
+  no_param = refl;
+  no_end = refl;
+  taken = λ assigned g us. ap (λ k. read (bare k [] ∷ []) us) (regex_made body flags t);
 }
 
 pub parenthesis_ends : Ends (exactly (sign (codes ")")))

@@ -39,6 +39,7 @@ is_head kind.CallExpr = true
 is_head kind.ParenExpr = true
 is_head kind.ArrayLit = true
 is_head kind.NewExpr = true
+is_head (kind.Regex body flags) = true
 is_head kind.SuperPropExpr = true
 is_head (kind.MetaPropExpr property) = true
 is_head kind.ObjectLit = true

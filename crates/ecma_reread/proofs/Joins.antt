@@ -20,9 +20,9 @@ use Rattle.ecma_print.specs.declared.place.Beside.TheVariants.{BehindMinus, Behi
 use Rattle.ecma_tokens.proofs.Wholes.{some_text}
 use Rattle.ecma_reread.specs.Machine.{count}
 use Rattle.ecma_reread.specs.Shapes as shapes
-use Rattle.ecma_reread.specs.Shapes.{Level, looser_than, IsOperator, IsIdent, ident, IsKey, key, IsExpression, IsElement, IsArguments, AreElements, AreExpressions, IsInitializer, IsDeclarator, AreDeclarators, AreSlots, IsMemberLevel, IsIndexed, IsChainKey, begins_with_brace, AreProperties, IsPropertyName, IsProperty}
+use Rattle.ecma_reread.specs.Shapes.{Level, looser_than, IsOperator, IsIdent, ident, IsKey, key, IsExpression, IsElement, IsArguments, AreElements, AreExpressions, IsInitializer, IsDeclarator, AreDeclarators, AreSlots, IsMemberLevel, IsIndexed, IsChainKey, begins_with_brace, AreProperties, IsPropertyName, IsProperty, regex_text}
 use Rattle.ecma_reread.specs.Tokens.{blank, sign_of, assign_token, update_token, unary_token, binary_token, own_sign, unary_gap, ident_word, key_word, expression_tokens, element_tokens, arguments_tokens, elements_tokens, more_tokens, declarator_tokens, declarators_tokens, slots_tokens, more_slots_tokens, chain_token, properties_tokens, more_properties_tokens, property_name_tokens, property_tokens}
-use Rattle.ecma_reread.proofs.Softs.{Soft, key_soft, private_soft, string_soft, big_int_soft, number_soft, closing_soft, brace_soft, bracket_soft, update_soft, is_object, point_behind, softer, opening, closing, comma, semicolon, increment, decrement, opening_bracket, closing_bracket, parted}
+use Rattle.ecma_reread.proofs.Softs.{Soft, key_soft, private_soft, string_soft, big_int_soft, number_soft, closing_soft, brace_soft, bracket_soft, update_soft, is_object, point_behind, softer, opening, closing, comma, semicolon, increment, decrement, opening_bracket, closing_bracket, parted, regex_soft}
 use Rattle.ecma_reread.proofs.Beginnings.{dots_join, opening_joins, element_opening_joins, update_joins, bracket_joins, blank_joins, element_blank_joins, property_parted, properties_open, properties_soft, slots_open, slots_parted, slots_soft, unary_joins}
 
 -- each token has a text
@@ -178,6 +178,7 @@ module _ (words : Words) where
     expression_joined (shapes.number at raw t) g h us z j = (h, t, number_soft raw z, j)
     expression_joined (shapes.this_word at) g h us z j = (h, words.this_whole, key_soft (codes "this") z, j)
     expression_joined (shapes.big_int at raw t) g h us z j = (h, t, big_int_soft raw z, j)
+    expression_joined (shapes.regex at b f t) g h us z j = (h, t.whole, regex_soft (regex_text b f) z, j)
     expression_joined (shapes.null_word at) g h us z j = (h, words.null_whole, key_soft (codes "null") z, j)
     expression_joined (shapes.true_word at) g h us z j = (h, words.true_whole, key_soft (codes "true") z, j)
     expression_joined (shapes.false_word at) g h us z j = (h, words.false_whole, key_soft (codes "false") z, j)

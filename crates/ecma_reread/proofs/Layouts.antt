@@ -1,5 +1,5 @@
 -- The layout of a tree is the text of its tokens.
-use Rattle.std.proofs.Common.{◌≡◌, ℕ, Bool, true, false, ◌&&◌, List, [], ◌∷◌, ◌++◌, map, codes, refl, ap, sym, ◌∙◌, arith}
+use Rattle.std.proofs.Common.{◌≡◌, ℕ, Bool, true, false, ◌&&◌, List, [], ◌∷◌, ◌++◌, map, codes, refl, ap, sym, ◌∙◌, arith, append_assoc}
 use Rattle.std.proofs.lemmas.Bool.{false≢true}
 use Rattle.ecma_kind.specs.declared.operators.UnaryOp.{UnaryOp}
 use Rattle.ecma_kind.specs.declared.operators.UnaryOp.TheVariants.{Minus, Plus, Bang, Tilde, TypeOf, Void, Delete}
@@ -158,6 +158,7 @@ gap_out (shapes.string at raw t) g us = refl
 gap_out (shapes.number at raw t) g us = refl
 gap_out (shapes.this_word at) g us = refl
 gap_out (shapes.big_int at raw t) g us = refl
+gap_out (shapes.regex at b f t) g us = refl
 gap_out (shapes.null_word at) g us = refl
 gap_out (shapes.true_word at) g us = refl
 gap_out (shapes.false_word at) g us = refl
@@ -230,6 +231,7 @@ mutual
   expression_laid (shapes.number at raw t) spot c q m us = at_node at _ [] (At spot) m (render us) ∙ rw (tightly 17 16 spot.level (omega arith) c.low, c.no_dot refl, no_sign spot.beside) refl
   expression_laid (shapes.this_word at) spot c q m us = at_node at _ [] (At spot) m (render us) ∙ rw (c.low, no_sign spot.beside) refl
   expression_laid (shapes.big_int at raw t) spot c q m us = at_node at _ [] (At spot) m (render us) ∙ rw (c.low, no_sign spot.beside) refl
+  expression_laid (shapes.regex at b f t) spot c q m us = at_node at (kind.Regex b f) [] (At spot) m (render us) ∙ rw (c.low, no_sign spot.beside) (ap (λ z. codes "/" ++ z) (sym (append_assoc b (codes "/" ++ f) (render us))))
   expression_laid (shapes.null_word at) spot c q m us = at_node at _ [] (At spot) m (render us) ∙ rw (c.low, no_sign spot.beside) refl
   expression_laid (shapes.true_word at) spot c q m us = at_node at _ [] (At spot) m (render us) ∙ rw (c.low, no_sign spot.beside) refl
   expression_laid (shapes.false_word at) spot c q m us = at_node at _ [] (At spot) m (render us) ∙ rw (c.low, no_sign spot.beside) refl

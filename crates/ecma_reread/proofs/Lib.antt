@@ -23,6 +23,7 @@ pub mod Params
 pub mod Tried
 pub mod Spreads
 pub mod Expressions
+pub mod Pieces
 pub mod Members
 pub mod Elements
 pub mod Supers

@@ -37,6 +37,10 @@ pub string_soft : {object : Bool} (w : List ℕ) {us : Items} → Soft object us
 string_soft w point = refl
 string_soft w z = refl
 
+pub regex_soft : {object : Bool} (w : List ℕ) {us : Items} → Soft object us → joins_next (items.regex w) us ≡ true
+regex_soft w point = refl
+regex_soft w z = refl
+
 pub big_int_soft : {object : Bool} (w : List ℕ) {us : Items} → Soft object us → joins_next (items.big_int w) us ≡ true
 big_int_soft w point = refl
 big_int_soft w z = refl

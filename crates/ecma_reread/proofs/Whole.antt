@@ -30,6 +30,7 @@ mutual
   expression_bare (shapes.number at raw t) = without_spans-node at _ []
   expression_bare (shapes.this_word at) = without_spans-node at _ []
   expression_bare (shapes.big_int at raw t) = without_spans-node at _ []
+  expression_bare (shapes.regex at b f t) = without_spans-node at _ []
   expression_bare (shapes.null_word at) = without_spans-node at _ []
   expression_bare (shapes.true_word at) = without_spans-node at _ []
   expression_bare (shapes.false_word at) = without_spans-node at _ []

@@ -1,10 +1,11 @@
 -- The trees of expressions and statements, a constructor for each form. Parentheses are parts of these trees: none have to be added.
-use Rattle.std.specs.Prelude.{◌≡◌, ℕ, ◌-◌, true, false, List, [], ◌∷◌, length, Some, ◌++◌, codes, Bool}
+use Rattle.std.specs.Prelude.{◌≡◌, ℕ, ◌-◌, true, false, List, [], ◌∷◌, length, Some, ◌++◌, codes, Bool, ◌+◌}
 use Rattle.ecma_number.specs.Numeral.{numeral_of}
 use Rattle.ecma_lex.specs.Text.{piece}
 use Rattle.ecma_lex.specs.Keys.{is_reserved, key_end, priv_name_end}
 use Rattle.ecma_lex.specs.Numerals.{num_end, big_end}
 use Rattle.ecma_lex.specs.Strings.{str_end, str_value}
+use Rattle.ecma_lex.specs.Regexes.{regex_end, regex_body_end}
 use Rattle.ecma_kind.specs.declared.span.Span.{Span}
 use Rattle.ecma_kind.specs.declared.operators.VarDeclKind.{VarDeclKind}
 use Rattle.ecma_kind.specs.declared.operators.UnaryOp.{UnaryOp}
@@ -34,6 +35,14 @@ pub data IsKey : Node → Type 0 where
 pub data IsChainKey : Node → Type 0 where
   plain_key : {n : Node} → IsKey n → IsChainKey n
   private_key : (at : Span) (name : List ℕ) → IsToken priv_name_end (codes "#" ++ name) → IsChainKey (node_of at (kind.PrivateName name) [])
+
+-- a regular expression literal, of this body and these flags
+abbrev pub regex_text : List ℕ → List ℕ → List ℕ
+regex_text body flags = codes "/" ++ (body ++ (codes "/" ++ flags))
+
+pub record IsRegex (body flags : List ℕ) : Type 0 where
+  pub whole : IsToken regex_end (regex_text body flags)
+  pub ends : regex_body_end (regex_text body flags) 0 ≡ 1 + length body
 
 pub data IsAbsent : Node → Type 0 where
   absent : (at : Span) → IsAbsent (node_of at kind.Absent [])
@@ -119,6 +128,7 @@ mutual
     number : (at : Span) (raw : List ℕ) → IsToken num_end raw → IsExpression callee (node_of at (kind.Number (numeral_of raw) (Some raw)) [])
     this_word : (at : Span) → IsExpression new_callee (node_of at kind.ThisExpr [])
     big_int : (at : Span) (raw : List ℕ) → IsToken big_end raw → IsExpression new_callee (node_of at (kind.BigInt (without_separators (piece raw 0 (length raw - 1))) (Some raw)) [])
+    regex : (at : Span) (body flags : List ℕ) → IsRegex body flags → IsExpression new_callee (node_of at (kind.Regex body flags) [])
     null_word : (at : Span) → IsExpression new_callee (node_of at kind.Null [])
     true_word : (at : Span) → IsExpression new_callee (node_of at (kind.Bool true) [])
     false_word : (at : Span) → IsExpression new_callee (node_of at (kind.Bool false) [])
