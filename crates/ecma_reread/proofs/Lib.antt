@@ -60,6 +60,8 @@ pub mod ModuleTrees
 pub mod Spots
 pub mod Layouts
 pub mod ModuleLayouts
+pub mod HeadLayouts
+pub mod HeadForms
 pub mod StatementLayouts
 pub mod Softs
 pub mod Beginnings

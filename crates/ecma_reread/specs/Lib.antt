@@ -4,3 +4,4 @@ pub mod Modules
 pub mod Tokens
 pub mod ModuleTokens
 pub mod Theorems
+pub mod Heads

@@ -1,0 +1,95 @@
+-- Expressions without a bare `in` stand also where `in` is no operator.
+use Rattle.std.proofs.Common.{◌≡◌, Bool, true, false, List, [], ◌∷◌, sym, ◌∙◌, refl}
+use Rattle.std.proofs.lemmas.Bool.{false≢true}
+use Rattle.ecma_kind.specs.declared.operators.BinaryOp.{BinaryOp}
+use Rattle.ecma_kind.specs.declared.operators.BinaryOp.TheVariants as op
+use Rattle.ecma_kind.specs.declared.kind.Kind.{Kind}
+use Rattle.ecma_kind.specs.declared.kind.Kind.TheVariants as kind
+use Rattle.ecma_tree.specs.declared.node.Node.{Node}
+use Rattle.ecma_reread.specs.Shapes as shapes
+use Rattle.ecma_reread.specs.Shapes.{Level, IsExpression, IsMemberLevel, IsIndexed}
+use Rattle.ecma_reread.specs.Tokens.{expression_tokens, expression_kind, expression_parts}
+use Rattle.ecma_reread.specs.Heads.{may_hold_by, may_hold_in}
+use Rattle.ecma_reread.proofs.Forms.{Laid}
+use Rattle.ecma_reread.proofs.Bindings.{StandsIn, Stands, loosened}
+use Rattle.ecma_reread.proofs.Operations.{stands_there, binary_form}
+use Rattle.ecma_reread.proofs.Logicals.{both_form, either_form}
+use Rattle.ecma_reread.proofs.Coalescing.{coalesced_form}
+use Rattle.ecma_reread.proofs.Choices.{choice_form}
+use Rattle.ecma_reread.proofs.Assignments.{whole_read}
+use Rattle.ecma_reread.proofs.Calls.{expression_form}
+use Rattle.ecma_reread.proofs.HeadLayouts.{neither, may_hold_node, operands_hold, one_same}
+
+-- levels of which `in` is no operator
+abbrev is_tight : Level → Bool
+is_tight shapes.relation = false
+is_tight shapes.equality = false
+is_tight shapes.bit_and = false
+is_tight shapes.bit_xor = false
+is_tight shapes.bit_or = false
+is_tight shapes.logical_and = false
+is_tight shapes.logical_or = false
+is_tight shapes.coalescing = false
+is_tight shapes.short_circuit = false
+is_tight shapes.assignment = false
+is_tight shapes.sequence = false
+is_tight l = true
+
+member_tight : {l : Level} → IsMemberLevel l → is_tight l ≡ true
+member_tight shapes.member_of_new = refl
+member_tight shapes.member_of_object = refl
+
+index_tight : {l m : Level} → IsIndexed l m → is_tight m ≡ true
+index_tight shapes.index_of_new = refl
+index_tight shapes.index_of_callee = refl
+
+no_in_there : (o : BinaryOp) (bs : List Bool) → may_hold_by (kind.BinExpr o) bs ≡ false → stands_there true o ≡ true
+no_in_there op.In bs h = absurd (false≢true (sym h))
+no_in_there o bs h = refl
+
+module _ (assigned : Bool) where
+  tightly : {f : Laid} {k : Kind} {ns : List Node} (l : Level) → is_tight l ≡ true → Stands assigned l f k ns → StandsIn assigned true l f k ns
+  tightly shapes.relation h S = absurd (false≢true h)
+  tightly shapes.equality h S = absurd (false≢true h)
+  tightly shapes.bit_and h S = absurd (false≢true h)
+  tightly shapes.bit_xor h S = absurd (false≢true h)
+  tightly shapes.bit_or h S = absurd (false≢true h)
+  tightly shapes.logical_and h S = absurd (false≢true h)
+  tightly shapes.logical_or h S = absurd (false≢true h)
+  tightly shapes.coalescing h S = absurd (false≢true h)
+  tightly shapes.short_circuit h S = absurd (false≢true h)
+  tightly shapes.assignment h S = absurd (false≢true h)
+  tightly shapes.sequence h S = absurd (false≢true h)
+  tightly l h S = record { lead = S.lead; reading = S.reading; tight = S.tight; no_or = S.no_or; param = S.param }
+
+  pub head_form : {level : Level} {e : Node} (is : IsExpression level e) → may_hold_in e ≡ false → StandsIn assigned true level (expression_tokens is) (expression_kind is) (expression_parts is)
+  head_form (shapes.looser {level = l} e) h = loosened assigned l (head_form e h)
+  head_form (shapes.member at i o k) h = tightly _ (member_tight i) (expression_form assigned (shapes.member at i o k))
+  head_form (shapes.element at at' i o e) h = tightly _ (index_tight i) (expression_form assigned (shapes.element at at' i o e))
+  head_form (shapes.binary_expression at {operator = o} {left = l'} {right = r'} i l r) h =
+      let k = sym (may_hold_node at (kind.BinExpr o) (l' ∷ r' ∷ [])) ∙ h in
+      let bs = may_hold_in l' ∷ may_hold_in r' ∷ [] in
+      let c = neither (may_hold_in l') _ (operands_hold o bs k) in
+      binary_form assigned true i (no_in_there o bs k) (head_form l c.0) (head_form r (one_same _ c.1))
+  head_form (shapes.private_in at at' w t r) h = absurd (false≢true (sym (sym (may_hold_node at (kind.BinExpr op.In) _) ∙ h)))
+  head_form (shapes.both at {left = l'} {right = r'} l r) h =
+      let c = neither (may_hold_in l') _ (sym (may_hold_node at (kind.BinExpr op.LogicalAnd) (l' ∷ r' ∷ [])) ∙ h) in
+      both_form assigned (head_form l c.0) (head_form r (one_same _ c.1))
+  head_form (shapes.either at {left = l'} {right = r'} l r) h =
+      let c = neither (may_hold_in l') _ (sym (may_hold_node at (kind.BinExpr op.LogicalOr) (l' ∷ r' ∷ [])) ∙ h) in
+      either_form assigned (head_form l c.0) (head_form r (one_same _ c.1))
+  head_form (shapes.coalesced at {left = l'} {right = r'} i l r) h =
+      let c = neither (may_hold_in l') _ (sym (may_hold_node at (kind.BinExpr op.NullishCoalescing) (l' ∷ r' ∷ [])) ∙ h) in
+      coalesced_form assigned i (head_form l c.0) (head_form r (one_same _ c.1))
+  head_form (shapes.conditional_expression at {test = t'} {first = x'} {second = y'} t x y) h =
+      let c = neither (may_hold_in t') _ (sym (may_hold_node at kind.CondExpr (t' ∷ x' ∷ y' ∷ [])) ∙ h) in
+      let d = neither (may_hold_in x') _ c.1 in
+      choice_form assigned (head_form t c.0) (head_form x d.0) (head_form y (one_same _ d.1))
+  head_form (shapes.assignment_expression at o {target = t'} {value = v'} t v) h =
+      let S = expression_form assigned (shapes.assignment_expression at o t v) in
+      let c = neither (may_hold_in t') _ (sym (may_hold_node at (kind.AssignExpr o) (t' ∷ v' ∷ [])) ∙ h) in
+      record { lead = S.lead; tight = S.tight; no_or = S.no_or; param = S.param; reading = whole_read assigned o (head_form t c.0) (head_form v (one_same _ c.1)) }
+  head_form (shapes.yield_nothing at none) h = absurd (false≢true (sym (sym (may_hold_node at (kind.YieldExpr false) _) ∙ h)))
+  head_form (shapes.yield_value at d e) h = absurd (false≢true (sym (sym (may_hold_node at (kind.YieldExpr d) _) ∙ h)))
+  head_form (shapes.sequence_expression at x y es) h = absurd (false≢true (sym (sym (may_hold_node at kind.SeqExpr _) ∙ h)))
+  head_form is h = tightly _ refl (expression_form assigned is)
