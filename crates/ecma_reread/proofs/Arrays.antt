@@ -32,7 +32,7 @@ use Rattle.ecma_grammar.specs.productions.Modules as modules
 use Rattle.ecma_tokens.specs.Items.{sign, no_gap, Gap, Items, it}
 use Rattle.ecma_reread.specs.Machine.{Out, read, fails, with_front, followed_on, or_on, built_on, interp, means}
 use Rattle.ecma_reread.specs.Shapes as shapes
-use Rattle.ecma_reread.specs.Shapes.{IsExpression, IsElement, AreSlots}
+use Rattle.ecma_reread.specs.Shapes.{Role, IsExpression, IsElement, AreSlots}
 use Rattle.ecma_reread.specs.Tokens.{blank, element_tokens, slots_tokens, more_slots_tokens, expression_kind, bare_element, bare_slots}
 use Rattle.ecma_reread.proofs.Moves.{eats}
 use Rattle.ecma_reread.proofs.Levels.{means_is}
@@ -45,7 +45,7 @@ use Rattle.ecma_reread.proofs.Further.{more, Lasts, Further, further_end, furthe
 use Rattle.ecma_reread.proofs.Expressions.{comma_ends}
 use Rattle.ecma_reread.proofs.Elements.{bracket_ends}
 use Rattle.ecma_reread.proofs.Lists.{Followed}
-use Rattle.ecma_reread.proofs.Spreads.{ElementForm, element_read, element_as_pattern}
+use Rattle.ecma_reread.proofs.Spreads.{item_of, ReadAsPattern, ElementForm, element_read, element_as_pattern}
 use Rattle.ecma_reread.proofs.Tried.{Wholly, wholly_refused, wholly_read}
 use Rattle.ecma_reread.proofs.Literals.{Literal, literal_new}
 
@@ -67,6 +67,14 @@ no_pattern_at_bracket : refuses_all (exactly (sign (codes "]"))) pattern_element
 unfolding pattern_element rest_pattern pattern_body array_pattern object_pattern names.binding_ident
 no_pattern_at_bracket = refl
 
+no_item_at_comma : (role : Role) → refuses_all (exactly (sign (codes ","))) (item_of role) ≡ true
+no_item_at_comma shapes.values = no_element_at_comma
+no_item_at_comma shapes.bindings = no_pattern_at_comma
+
+no_item_at_bracket : (role : Role) → refuses_all (exactly (sign (codes "]"))) (item_of role) ≡ true
+no_item_at_bracket shapes.values = no_element_at_bracket
+no_item_at_bracket shapes.bindings = no_pattern_at_bracket
+
 bracket : Literal (sign (codes "[")) array
 unfolding chains.super_of_member chains.super_of_link chains.import_meta chains.import_call chains.construction primaries.primary functions.function_expression primaries.class_expression primaries.template operators.prefixed functions.arrow functions.arrow_rest statements.labeled param rest_pattern names.binding_ident statements.statement_body names.block statements.if_ statements.for_await statements.for_ statements.while_ statements.do_while statements.switch statements.try_ statements.jump declarations.declaration functions.function_declaration classes.class_declaration modules.module_item modules.import modules.import_equals modules.export modules.export_default
 bracket = record {
@@ -84,7 +92,7 @@ bracket = record {
 }
 
 -- what is read of elements and holes: the last comma is read as one hole more
-abbrev slots_read : {ns : List Node} → AreSlots ns → Bool → List Node
+abbrev slots_read : {role : Role} {ns : List Node} → AreSlots role ns → Bool → List Node
 slots_read shapes.no_slots false = []
 slots_read shapes.no_slots true = absent ∷ []
 slots_read (shapes.filled e es) b = bare_element e ∷ slots_read es false
@@ -95,9 +103,14 @@ there_by : {level : shapes.Level} {e : Node} (is : IsExpression level e) → is_
 there_by (shapes.looser e) = there_by e
 there_by is = refl
 
-there : {n : Node} (is : IsElement n) → is_absent (bare_element is) ≡ false
+there : {role : Role} {n : Node} (is : IsElement role n) → is_absent (bare_element is) ≡ false
 there (shapes.one e) = ap is_absent_kind (kind-node dummy_span (expression_kind e) _) ∙ there_by e
 there (shapes.spread at e) = ap is_absent_kind (kind-node dummy_span kind.SpreadElement _)
+there (shapes.bound (shapes.no_default (shapes.name_pattern at i a))) = ap is_absent_kind (kind-node dummy_span kind.BindingIdent _)
+there (shapes.bound (shapes.no_default (shapes.array_pattern at at' es a))) = ap is_absent_kind (kind-node dummy_span (kind.ArrayPat false) _)
+there (shapes.bound (shapes.no_default (shapes.object_pattern at at' ps a))) = ap is_absent_kind (kind-node dummy_span (kind.ObjectPat false) _)
+there (shapes.bound (shapes.with_default at p e)) = ap is_absent_kind (kind-node dummy_span kind.AssignPat _)
+there (shapes.rest at p a) = ap is_absent_kind (kind-node dummy_span kind.RestPat _)
 
 elements_behind : (x y : Node) (ys : List Node) → elements (x ∷ y ∷ ys) ≡ x ∷ elements (y ∷ ys)
 elements_behind x y ys =
@@ -115,32 +128,32 @@ no_elements = rw (kind-node dummy_span kind.Absent []) refl
 one_element : (x : Node) → is_absent x ≡ false → elements (x ∷ []) ≡ x ∷ []
 one_element x h = rw h refl
 
-trimmed : {ns : List Node} (is : AreSlots ns) (x : Node) (b : Bool) → (b ≡ false → is_absent x ≡ false) → elements (x ∷ slots_read is b) ≡ x ∷ bare_slots is
+trimmed : {role : Role} {ns : List Node} (is : AreSlots role ns) (x : Node) (b : Bool) → (b ≡ false → is_absent x ≡ false) → elements (x ∷ slots_read is b) ≡ x ∷ bare_slots is
 trimmed shapes.no_slots x false h = one_element x (h refl)
 trimmed shapes.no_slots x true h = elements_behind x absent [] ∙ ap (λ z. x ∷ z) no_elements
 trimmed (shapes.filled e es) x b h = elements_behind x (bare_element e) (slots_read es false) ∙ ap (λ z. x ∷ z) (trimmed es (bare_element e) false (λ z. there e))
 trimmed (shapes.hole a es) x b h = elements_behind x absent (slots_read es true) ∙ ap (λ z. x ∷ z) (trimmed es absent true (λ z. absurd (let y : ⊥ = cc in y)))
 
-slots_are : {ns : List Node} (is : AreSlots ns) → elements (slots_read is true) ≡ bare_slots is
+slots_are : {role : Role} {ns : List Node} (is : AreSlots role ns) → elements (slots_read is true) ≡ bare_slots is
 slots_are shapes.no_slots = no_elements
 slots_are (shapes.filled e es) = trimmed es (bare_element e) false (λ z. there e)
 slots_are (shapes.hole a es) = trimmed es absent true (λ z. absurd (let y : ⊥ = cc in y))
 
 -- what stands behind an element, and behind a hole
 
-slots_followed : {ns : List Node} (is : AreSlots ns) (us : Items) → Followed (more_slots_tokens is false no_gap us)
+slots_followed : {role : Role} {ns : List Node} (is : AreSlots role ns) (us : Items) → Followed (more_slots_tokens is false no_gap us)
 slots_followed shapes.no_slots us = record { front = exactly (sign (codes "]")); begins = at_token; ends = bracket_ends }
 slots_followed (shapes.filled e es) us = record { front = exactly (sign (codes ",")); begins = at_token; ends = comma_ends }
 slots_followed (shapes.hole a es) us = record { front = exactly (sign (codes ",")); begins = at_token; ends = comma_ends }
 
-comma_behind : {ns : List Node} (is : AreSlots ns) (g : Gap) (us : Items) → Begins (exactly (sign (codes ","))) (more_slots_tokens is true g us)
+comma_behind : {role : Role} {ns : List Node} (is : AreSlots role ns) (g : Gap) (us : Items) → Begins (exactly (sign (codes ","))) (more_slots_tokens is true g us)
 comma_behind shapes.no_slots g us = at_token
 comma_behind (shapes.filled e es) g us = at_token
 comma_behind (shapes.hole a es) g us = at_token
 
 module _ (assigned : Bool) where
   -- what is said of each
-  abbrev pub SlotForms : {ns : List Node} → AreSlots ns → Type 0
+  abbrev pub SlotForms : {role : Role} {ns : List Node} → AreSlots role ns → Type 0
   SlotForms shapes.no_slots = Unit {0}
   SlotForms (shapes.filled e es) = ElementForm assigned e × SlotForms es
   SlotForms (shapes.hole a es) = SlotForms es
@@ -155,48 +168,49 @@ module _ (assigned : Bool) where
 
   -- as an array
 
-  abbrev slot : Grammar
-  slot = maybe element
+  abbrev slot : Role → Grammar
+  slot role = maybe (item_of role)
 
-  slot_eats : nat_le 1 (eats (more slot)) ≡ true
-  unfolding element spread
-  slot_eats = refl
+  slot_eats : (role : Role) → nat_le 1 (eats (more (slot role))) ≡ true
+  unfolding element spread pattern_element rest_pattern default_value
+  slot_eats shapes.values = refl
+  slot_eats shapes.bindings = refl
 
-  more_slots_read : {ns : List Node} (is : AreSlots ns) → SlotForms is → (b : Bool) (g : Gap) (us : Items) → Repeats assigned (more slot) (more_slots_tokens is b g us) (slots_read is b) (s (codes "]") us)
-  more_slots_read shapes.no_slots F false g us = repeats_end assigned (more slot) (s (codes "]") us) refl
-  more_slots_read shapes.no_slots F true g us =
-      repeats_more assigned (more slot) slot_eats _ (s (codes "]") us) (s (codes "]") us) (absent ∷ []) []
-      (ap (with_front []) (none_read element (s (codes "]") us) (all_refused assigned element (exactly (sign (codes "]"))) (s (codes "]") us) at_token no_element_at_bracket)))
-      (repeats_end assigned (more slot) (s (codes "]") us) refl)
-  more_slots_read (shapes.filled e es) F b g us =
+  more_slots_read : {role : Role} {ns : List Node} (is : AreSlots role ns) → SlotForms is → (b : Bool) (g : Gap) (us : Items) → Repeats assigned (more (slot role)) (more_slots_tokens is b g us) (slots_read is b) (s (codes "]") us)
+  more_slots_read {role} shapes.no_slots F false g us = repeats_end assigned (more (slot role)) (s (codes "]") us) refl
+  more_slots_read {role} shapes.no_slots F true g us =
+      repeats_more assigned (more (slot role)) (slot_eats role) _ (s (codes "]") us) (s (codes "]") us) (absent ∷ []) []
+      (ap (with_front []) (none_read (item_of role) (s (codes "]") us) (all_refused assigned (item_of role) (exactly (sign (codes "]"))) (s (codes "]") us) at_token (no_item_at_bracket role))))
+      (repeats_end assigned (more (slot role)) (s (codes "]") us) refl)
+  more_slots_read {role} (shapes.filled e es) F b g us =
       let vs = more_slots_tokens es false no_gap us in
-      repeats_more assigned (more slot) slot_eats _ vs (s (codes "]") us) (bare_element e ∷ []) (slots_read es false)
-      (ap (with_front []) (here_read element (element_tokens e blank vs) vs (bare_element e ∷ []) (element_read assigned e F.0 blank vs (slots_followed es us))))
+      repeats_more assigned (more (slot role)) (slot_eats role) _ vs (s (codes "]") us) (bare_element e ∷ []) (slots_read es false)
+      (ap (with_front []) (here_read (item_of role) (element_tokens e blank vs) vs (bare_element e ∷ []) (element_read assigned e F.0 blank vs (slots_followed es us))))
       (more_slots_read es F.1 false no_gap us)
-  more_slots_read (shapes.hole a es) F b g us =
+  more_slots_read {role} (shapes.hole a es) F b g us =
       let vs = more_slots_tokens es true blank us in
-      repeats_more assigned (more slot) slot_eats _ vs (s (codes "]") us) (absent ∷ []) (slots_read es true)
-      (ap (with_front []) (none_read element vs (all_refused assigned element (exactly (sign (codes ","))) vs (comma_behind es blank us) no_element_at_comma)))
+      repeats_more assigned (more (slot role)) (slot_eats role) _ vs (s (codes "]") us) (absent ∷ []) (slots_read es true)
+      (ap (with_front []) (none_read (item_of role) vs (all_refused assigned (item_of role) (exactly (sign (codes ","))) vs (comma_behind es blank us) (no_item_at_comma role))))
       (more_slots_read es F true blank us)
 
   -- the first, and those behind it
   both_read : (item : Grammar) (ts vs us : Items) (xs ys : List Node) → Reads assigned item ts xs vs → Repeats assigned (more item) vs ys us → Reads assigned (item ▸ grammar.many (more item)) ts (xs ++ ys) us
   both_read item ts vs us xs ys h r = ap (followed_on (interp assigned (means assigned) (grammar.many (more item)))) h ∙ ap (with_front xs) (repeated assigned (more item) vs us ys r)
 
-  all_read : {ns : List Node} (is : AreSlots ns) → SlotForms is → (us : Items) → Reads assigned (slot ▸ grammar.many (more slot)) (slots_tokens is us) (slots_read is true) (s (codes "]") us)
-  all_read shapes.no_slots F us =
-      both_read slot (s (codes "]") us) (s (codes "]") us) (s (codes "]") us) (absent ∷ []) []
-      (none_read element (s (codes "]") us) (all_refused assigned element (exactly (sign (codes "]"))) (s (codes "]") us) at_token no_element_at_bracket)) (repeats_end assigned (more slot) (s (codes "]") us) refl)
-  all_read (shapes.filled e es) F us =
+  all_read : {role : Role} {ns : List Node} (is : AreSlots role ns) → SlotForms is → (us : Items) → Reads assigned (slot role ▸ grammar.many (more (slot role))) (slots_tokens is us) (slots_read is true) (s (codes "]") us)
+  all_read {role} shapes.no_slots F us =
+      both_read (slot role) (s (codes "]") us) (s (codes "]") us) (s (codes "]") us) (absent ∷ []) []
+      (none_read (item_of role) (s (codes "]") us) (all_refused assigned (item_of role) (exactly (sign (codes "]"))) (s (codes "]") us) at_token (no_item_at_bracket role))) (repeats_end assigned (more (slot role)) (s (codes "]") us) refl)
+  all_read {role} (shapes.filled e es) F us =
       let vs = more_slots_tokens es false no_gap us in
-      both_read slot (element_tokens e no_gap vs) vs (s (codes "]") us) (bare_element e ∷ []) (slots_read es false)
-      (here_read element (element_tokens e no_gap vs) vs (bare_element e ∷ []) (element_read assigned e F.0 no_gap vs (slots_followed es us))) (more_slots_read es F.1 false no_gap us)
-  all_read (shapes.hole a es) F us =
+      both_read (slot role) (element_tokens e no_gap vs) vs (s (codes "]") us) (bare_element e ∷ []) (slots_read es false)
+      (here_read (item_of role) (element_tokens e no_gap vs) vs (bare_element e ∷ []) (element_read assigned e F.0 no_gap vs (slots_followed es us))) (more_slots_read es F.1 false no_gap us)
+  all_read {role} (shapes.hole a es) F us =
       let vs = more_slots_tokens es true no_gap us in
-      both_read slot vs vs (s (codes "]") us) (absent ∷ []) (slots_read es true)
-      (none_read element vs (all_refused assigned element (exactly (sign (codes ","))) vs (comma_behind es no_gap us) no_element_at_comma)) (more_slots_read es F true no_gap us)
+      both_read (slot role) vs vs (s (codes "]") us) (absent ∷ []) (slots_read es true)
+      (none_read (item_of role) vs (all_refused assigned (item_of role) (exactly (sign (codes ","))) vs (comma_behind es no_gap us) (no_item_at_comma role))) (more_slots_read es F true no_gap us)
 
-  array_read : {ns : List Node} (is : AreSlots ns) → SlotForms is → (g : Gap) (us : Items) → Reads assigned array (it g (sign (codes "[")) (slots_tokens is us)) (bare kind.ArrayLit (list_node (bare_slots is) ∷ []) ∷ []) us
+  array_read : {ns : List Node} (is : AreSlots shapes.values ns) → SlotForms is → (g : Gap) (us : Items) → Reads assigned array (it g (sign (codes "[")) (slots_tokens is us)) (bare kind.ArrayLit (list_node (bare_slots is) ∷ []) ∷ []) us
   unfolding array
   array_read is F g us =
       let I = interp assigned (means assigned) in
@@ -240,7 +254,7 @@ module _ (assigned : Bool) where
   ended : (us : Items) → Further assigned tried_slot (Bracketed us) (s (codes "]") us)
   ended us = further_end assigned tried_slot (Bracketed us) (s (codes "]") us) (exactly (sign (codes "]"))) at_token refl (at_bracket refl)
 
-  more_slots_tried : {ns : List Node} (is : AreSlots ns) → SlotForms is → (b : Bool) (g : Gap) (us : Items) → Further assigned tried_slot (Bracketed us) (more_slots_tokens is b g us)
+  more_slots_tried : {ns : List Node} (is : AreSlots shapes.values ns) → SlotForms is → (b : Bool) (g : Gap) (us : Items) → Further assigned tried_slot (Bracketed us) (more_slots_tokens is b g us)
   more_slots_tried shapes.no_slots F false g us = ended us
   more_slots_tried shapes.no_slots F true g us = further_more assigned tried_slot (Bracketed us) (lasts us) g (s (codes "]") us) (s (codes "]") us) (whole_item (absent ∷ []) (missing_at_bracket us)) (ended us)
   more_slots_tried (shapes.filled e es) F b g us =
@@ -250,7 +264,7 @@ module _ (assigned : Bool) where
       let vs = more_slots_tokens es true blank us in
       further_more assigned tried_slot (Bracketed us) (lasts us) g vs vs (whole_item (absent ∷ []) (missing_at_comma vs (comma_behind es blank us))) (more_slots_tried es F true blank us)
 
-  slots_tried : {ns : List Node} (is : AreSlots ns) → SlotForms is → (us : Items) → Listed assigned tried_slot (Bracketed us) (lasts us) (slots_tokens is us)
+  slots_tried : {ns : List Node} (is : AreSlots shapes.values ns) → SlotForms is → (us : Items) → Listed assigned tried_slot (Bracketed us) (lasts us) (slots_tokens is us)
   slots_tried shapes.no_slots F us = some_listed (absent ∷ []) (s (codes "]") us) (missing_at_bracket us) (ended us)
   slots_tried (shapes.filled e es) F us =
       let vs = more_slots_tokens es false no_gap us in
@@ -287,5 +301,17 @@ module _ (assigned : Bool) where
             (pattern_is ∙ ap (λ o. or_on (interp assigned (means assigned) object_pattern) (it g (sign (codes "[")) ts) (built_on (form.Node plain.ArrayPat) (with_front [] o)))
             (read_to ∙ ap (λ us'. with_front (list_node (elements (xs ++ F.nodes)) ∷ []) (interp assigned (means assigned) (punct (codes "]") ▸ put Absent) us')) k))
 
-  pub array_new : {ns : List Node} (is : AreSlots ns) → SlotForms is → NewForm assigned (λ g us. it g (sign (codes "[")) (slots_tokens is us)) kind.ArrayLit (list_node (bare_slots is) ∷ [])
+  pub array_new : {ns : List Node} (is : AreSlots shapes.values ns) → SlotForms is → NewForm assigned (λ g us. it g (sign (codes "[")) (slots_tokens is us)) kind.ArrayLit (list_node (bare_slots is) ∷ [])
   array_new is F = literal_new assigned bracket (slots_tokens is) kind.ArrayLit (list_node (bare_slots is) ∷ []) refl (array_read is F) (λ g us. by_list g (slots_tokens is us) us (slots_tried is F us))
+
+  -- an array pattern
+  pub array_pattern_read : {ns : List Node} (is : AreSlots shapes.bindings ns) → SlotForms is → ReadAsPattern assigned (λ g us. it g (sign (codes "[")) (slots_tokens is us)) (bare (kind.ArrayPat false) (list_node (bare_slots is) ∷ absent ∷ []))
+  array_pattern_read is F = record {
+    reads = λ g us.
+        (let I = interp assigned (means assigned) in
+        let ts = it g (sign (codes "[")) (slots_tokens is us) in
+        pattern_is g (slots_tokens is us) us
+        ∙ (ap (λ o. or_on (I object_pattern) ts (built_on (form.Node plain.ArrayPat) (with_front [] (followed_on (I (punct (codes "]") ▸ put Absent)) (built_on form.Elements o))))) (all_read is F us)
+        ∙ ap (λ z. read (bare (kind.ArrayPat false) (list_node z ∷ absent ∷ []) ∷ []) us) (slots_are is)));
+    no_dots = λ g us. refl;
+  }

@@ -16,8 +16,8 @@ use Rattle.ecma_print.specs.declared.place.Beside.{Beside}
 use Rattle.ecma_print.specs.declared.place.Beside.TheVariants.{NoNeighbor}
 use Rattle.ecma_print.specs.Operators.{unary_sign, update_sign}
 use Rattle.ecma_reread.specs.Shapes as shapes
-use Rattle.ecma_reread.specs.Shapes.{Level, looser_than, IsOperator, IsIdent, ident, IsKey, key, IsExpression, IsElement, IsArguments, AreElements, AreExpressions, IsInitializer, IsDeclarator, AreDeclarators, AreSlots, IsMemberLevel, IsIndexed, IsChainKey, begins_with_brace, AreProperties, IsPropertyName, IsProperty, regex_text}
-use Rattle.ecma_reread.specs.Tokens.{blank, sign_of, assign_token, update_token, unary_token, binary_token, own_sign, unary_gap, ident_word, key_word, expression_tokens, element_tokens, arguments_tokens, more_tokens, slots_tokens, more_slots_tokens, chain_token, properties_tokens, more_properties_tokens, property_tokens, star_of}
+use Rattle.ecma_reread.specs.Shapes.{Level, looser_than, IsOperator, IsIdent, ident, IsKey, key, IsExpression, IsElement, IsArguments, AreElements, AreExpressions, IsInitializer, IsDeclarator, AreDeclarators, AreSlots, IsMemberLevel, IsIndexed, IsChainKey, begins_with_brace, AreProperties, IsPropertyName, IsProperty, regex_text, IsDefaulted, IsPattern, Role}
+use Rattle.ecma_reread.specs.Tokens.{blank, sign_of, assign_token, update_token, unary_token, binary_token, own_sign, unary_gap, ident_word, key_word, expression_tokens, element_tokens, arguments_tokens, more_tokens, slots_tokens, more_slots_tokens, chain_token, properties_tokens, more_properties_tokens, property_tokens, star_of, initializer_tokens, defaulted_tokens, pattern_tokens}
 use Rattle.ecma_reread.proofs.Softs.{Soft, comma, closing_bracket, parted}
 
 -- what an expression begins with, and the sign that this is as a unary operator
@@ -102,13 +102,18 @@ dots_by (by_update PlusPlus) us = refl
 dots_by (by_operator Minus) us = refl
 dots_by h us = refl
 
+pub pattern_dots_joins : {n : Node} (is : IsPattern n) (us : Items) → joins_next (sign (codes "...")) (pattern_tokens is no_gap us) ≡ true
+unfolding punctuators
+pattern_dots_joins (shapes.name_pattern at i a) us = refl
+pattern_dots_joins is us = refl
+
 pub dots_join : {level : Level} {e : Node} (is : IsExpression level e) (us : Items) → joins_next (sign (codes "...")) (expression_tokens is no_gap us) ≡ true
 dots_join is us = let b = begun is us in rw (b.is no_gap) (dots_by b.opens b.rest)
 
 pub opening_joins : {level : Level} {e : Node} (is : IsExpression level e) (us : Items) → joins_next (sign (codes "(")) (expression_tokens is no_gap us) ≡ true
 opening_joins is us = let b = begun is us in rw (b.is no_gap) (opening_by b.opens b.rest)
 
-pub element_opening_joins : {n : Node} (is : IsElement n) (us : Items) → joins_next (sign (codes "(")) (element_tokens is no_gap us) ≡ true
+pub element_opening_joins : {n : Node} (is : IsElement shapes.values n) (us : Items) → joins_next (sign (codes "(")) (element_tokens is no_gap us) ≡ true
 unfolding punctuators
 element_opening_joins (shapes.one e) us = opening_joins e us
 element_opening_joins (shapes.spread at e) us = refl
@@ -170,43 +175,67 @@ no_brace is z g us = refl
 pub blank_joins : (t : Tok) {level : Level} {e : Node} (is : IsExpression level e) (us : Items) → joins_next t (expression_tokens is blank us) ≡ true
 blank_joins t is us = let b = begun is us in rw (b.is blank) refl
 
-pub element_blank_joins : (t : Tok) {n : Node} (is : IsElement n) (us : Items) → joins_next t (element_tokens is blank us) ≡ true
+pub pattern_blank_joins : (t : Tok) {n : Node} (is : IsPattern n) (us : Items) → joins_next t (pattern_tokens is blank us) ≡ true
+pattern_blank_joins t (shapes.name_pattern at i a) us = refl
+pattern_blank_joins t is us = refl
+
+pub defaulted_blank_joins : (t : Tok) {n : Node} (is : IsDefaulted n) (us : Items) → joins_next t (defaulted_tokens is blank us) ≡ true
+defaulted_blank_joins t (shapes.no_default p) us = pattern_blank_joins t p us
+defaulted_blank_joins t (shapes.with_default at p e) us = pattern_blank_joins t p (it blank (sign (codes "=")) (expression_tokens e blank us))
+
+pub element_blank_joins : (t : Tok) {role : Role} {n : Node} (is : IsElement role n) (us : Items) → joins_next t (element_tokens is blank us) ≡ true
 element_blank_joins t (shapes.one e) us = blank_joins t e us
 element_blank_joins t (shapes.spread at e) us = refl
+element_blank_joins t (shapes.bound p) us = defaulted_blank_joins t p us
+element_blank_joins t (shapes.rest at p a) us = refl
 
 -- in brackets
 
-pub element_bracket_joins : {n : Node} (is : IsElement n) (us : Items) → joins_next (sign (codes "[")) (element_tokens is no_gap us) ≡ true
+pattern_bracket_joins : {n : Node} (is : IsPattern n) (us : Items) → joins_next (sign (codes "[")) (pattern_tokens is no_gap us) ≡ true
+unfolding punctuators
+pattern_bracket_joins (shapes.name_pattern at i a) us = refl
+pattern_bracket_joins is us = refl
+
+pub element_bracket_joins : {role : Role} {n : Node} (is : IsElement role n) (us : Items) → joins_next (sign (codes "[")) (element_tokens is no_gap us) ≡ true
 unfolding punctuators
 element_bracket_joins (shapes.one e) us = bracket_joins e us
 element_bracket_joins (shapes.spread at e) us = refl
+element_bracket_joins (shapes.bound (shapes.no_default p)) us = pattern_bracket_joins p us
+element_bracket_joins (shapes.bound (shapes.with_default at p e)) us = pattern_bracket_joins p (it blank (sign (codes "=")) (expression_tokens e blank us))
+element_bracket_joins (shapes.rest at p a) us = refl
 
-pub property_parted : (t : Tok) {n : Node} (is : IsProperty n) (us : Items) → joins_next t (property_tokens is blank us) ≡ true
+pub property_parted : (t : Tok) {role : Role} {n : Node} (is : IsProperty role n) (us : Items) → joins_next t (property_tokens is blank us) ≡ true
 property_parted t (shapes.key_value at (shapes.key_name k) v) us = refl
+property_parted t (shapes.renamed at (shapes.key_name k) p) us = refl
+property_parted t (shapes.renamed at k p) us = refl
 property_parted t (shapes.key_value at k v) us = refl
 property_parted t is us = refl
 
-pub properties_open : {ns : List Node} (is : AreProperties ns) (us : Items) → joins_next (sign (codes "{")) (properties_tokens is us) ≡ true
+pub properties_open : {role : Role} {ns : List Node} (is : AreProperties role ns) (us : Items) → joins_next (sign (codes "{")) (properties_tokens is us) ≡ true
 unfolding punctuators
 properties_open shapes.no_properties us = refl
 properties_open (shapes.more_properties p ps) us = property_parted (sign (codes "{")) p (more_properties_tokens ps us)
 
-pub properties_soft : {ns : List Node} (is : AreProperties ns) (us : Items) → Soft false (more_properties_tokens is us)
+pub properties_soft : {role : Role} {ns : List Node} (is : AreProperties role ns) (us : Items) → Soft false (more_properties_tokens is us)
 properties_soft shapes.no_properties us = parted
 properties_soft (shapes.more_properties p ps) us = comma
 
-pub slots_open : {ns : List Node} (is : AreSlots ns) (us : Items) → joins_next (sign (codes "[")) (slots_tokens is us) ≡ true
+pub initializer_soft : {n : Node} (is : IsInitializer n) {us : Items} → Soft false us → Soft false (initializer_tokens is us)
+initializer_soft (shapes.no_initializer a) z = z
+initializer_soft (shapes.initializer e) z = parted
+
+pub slots_open : {role : Role} {ns : List Node} (is : AreSlots role ns) (us : Items) → joins_next (sign (codes "[")) (slots_tokens is us) ≡ true
 unfolding punctuators
 slots_open shapes.no_slots us = refl
 slots_open (shapes.filled e es) us = element_bracket_joins e (more_slots_tokens es false no_gap us)
 slots_open (shapes.hole a shapes.no_slots) us = refl
 slots_open (shapes.hole a es) us = refl
 
-pub slots_parted : {ns : List Node} (is : AreSlots ns) (us : Items) → joins_next (sign (codes ",")) (more_slots_tokens is true blank us) ≡ true
+pub slots_parted : {role : Role} {ns : List Node} (is : AreSlots role ns) (us : Items) → joins_next (sign (codes ",")) (more_slots_tokens is true blank us) ≡ true
 slots_parted shapes.no_slots us = refl
 slots_parted is us = refl
 
-pub slots_soft : {ns : List Node} (is : AreSlots ns) (us : Items) → Soft false (more_slots_tokens is false no_gap us)
+pub slots_soft : {role : Role} {ns : List Node} (is : AreSlots role ns) (us : Items) → Soft false (more_slots_tokens is false no_gap us)
 slots_soft shapes.no_slots us = closing_bracket
 slots_soft (shapes.filled e es) us = comma
 slots_soft (shapes.hole a es) us = comma

@@ -27,8 +27,8 @@ use Rattle.ecma_tokens.specs.Items as items
 use Rattle.ecma_tokens.specs.Items.{Tok, sign, Gap, no_gap, Items, it}
 use Rattle.ecma_reread.specs.Machine.{with_front, means, taken}
 use Rattle.ecma_reread.specs.Shapes as shapes
-use Rattle.ecma_reread.specs.Shapes.{Level, IsPlainName, IsIdent, ident, IsKey, key, IsExpression, IsElement, AreSlots, IsProperty, AreProperties, IsArguments, AreElements, AreExpressions, IsMemberLevel, IsIndexed, regex_text}
-use Rattle.ecma_reread.specs.Tokens.{bare, blank, ident_word, key_word, own_sign, unary_gap, expression_tokens, element_tokens, arguments_tokens, elements_tokens, expression_kind, expression_parts, bare_element, bare_arguments, bare_elements}
+use Rattle.ecma_reread.specs.Shapes.{Level, IsPlainName, IsIdent, ident, IsKey, key, IsExpression, IsElement, AreSlots, IsProperty, AreProperties, IsArguments, AreElements, AreExpressions, IsMemberLevel, IsIndexed, regex_text, Role, IsPattern, IsDefaulted, IsInitializer}
+use Rattle.ecma_reread.specs.Tokens.{bare, blank, ident_word, key_word, own_sign, unary_gap, expression_tokens, element_tokens, arguments_tokens, elements_tokens, expression_kind, expression_parts, bare_element, bare_arguments, bare_elements, pattern_tokens, bare_pattern, defaulted_tokens, bare_defaulted}
 use Rattle.ecma_reread.proofs.Levels.{means_is}
 use Rattle.ecma_reread.proofs.Fronts.{Front, exactly, Begins, at_token, IsName, is_known, refuses_at, refused_at, refuses_all, all_refused}
 use Rattle.ecma_reread.proofs.Heads.{call_made}
@@ -50,13 +50,14 @@ use Rattle.ecma_reread.proofs.Params.{Params, params_end, params_more, params_by
 use Rattle.ecma_reread.proofs.Lists.{Forms, Followed}
 use Rattle.ecma_reread.proofs.Sequences.{sequence_form}
 use Rattle.ecma_reread.proofs.Async.{async_new}
-use Rattle.ecma_reread.proofs.Arrays.{SlotForms, array_new}
-use Rattle.ecma_reread.proofs.Objects.{PropertyForm, PropertyForms, object_new}
-use Rattle.ecma_reread.proofs.Spreads.{ElementForm, element_read, element_param}
+use Rattle.ecma_reread.proofs.Arrays.{SlotForms, array_new, array_pattern_read}
+use Rattle.ecma_reread.proofs.Objects.{PropertyForm, PropertyForms, object_new, object_pattern_read}
+use Rattle.ecma_reread.proofs.Spreads.{ElementForm, element_read, element_param, ReadAsPattern, ReadAsDefaulted, InitializerForm}
 use Rattle.ecma_reread.proofs.PrivateTests.{private_form}
 use Rattle.ecma_reread.proofs.Yields.{yield_alone, yield_form}
 use Rattle.ecma_reread.proofs.Beginnings.{no_new_line, no_star}
 use Rattle.ecma_reread.proofs.ImportCalls.{meta_form, import_call_form}
+use Rattle.ecma_reread.proofs.Patterns.{pattern_unplaced, name_pattern_read, no_default_read, default_read}
 
 -- no argument begins with `)`
 no_argument : refuses_all (exactly (sign (codes ")"))) element ≡ true
@@ -237,26 +238,46 @@ module _ (assigned : Bool) where
     argument_forms (shapes.no_arguments at) = tt
     argument_forms (shapes.arguments at e es) = (element_form_of e, element_forms es)
 
-    element_form_of : {n : Node} (is : IsElement n) → ElementForm assigned is
+    element_form_of : {role : Role} {n : Node} (is : IsElement role n) → ElementForm assigned is
     element_form_of (shapes.one e) = expression_form e
     element_form_of (shapes.spread at e) = expression_form e
+    element_form_of (shapes.bound p) = defaulted_form p
+    element_form_of (shapes.rest at p a) = pattern_form p
 
-    slot_forms : {ns : List Node} (is : AreSlots ns) → SlotForms assigned is
+    slot_forms : {role : Role} {ns : List Node} (is : AreSlots role ns) → SlotForms assigned is
     slot_forms shapes.no_slots = tt
     slot_forms (shapes.filled e es) = (element_form_of e, slot_forms es)
     slot_forms (shapes.hole a es) = slot_forms es
 
-    property_form_of : {n : Node} (is : IsProperty n) → PropertyForm assigned is
+    property_form_of : {role : Role} {n : Node} (is : IsProperty role n) → PropertyForm assigned is
     property_form_of (shapes.key_value at (shapes.computed_name at' e) v) = (expression_form e, expression_form v)
     property_form_of (shapes.key_value at (shapes.key_name k) v) = (tt, expression_form v)
     property_form_of (shapes.key_value at k v) = (tt, expression_form v)
     property_form_of (shapes.shorthand i) = tt
     property_form_of (shapes.initialized at i v) = expression_form v
     property_form_of (shapes.spread_property at e) = expression_form e
+    property_form_of (shapes.renamed at (shapes.computed_name at' e) p) = (expression_form e, defaulted_form p)
+    property_form_of (shapes.renamed at (shapes.key_name k) p) = (tt, defaulted_form p)
+    property_form_of (shapes.renamed at k p) = (tt, defaulted_form p)
+    property_form_of (shapes.named at at' i a v) = initializer_form v
+    property_form_of (shapes.rest_property at at' i a b) = tt
 
-    property_forms : {ns : List Node} (is : AreProperties ns) → PropertyForms assigned is
+    property_forms : {role : Role} {ns : List Node} (is : AreProperties role ns) → PropertyForms assigned is
     property_forms shapes.no_properties = tt
     property_forms (shapes.more_properties p ps) = (property_form_of p, property_forms ps)
+
+    pub pattern_form : {n : Node} (is : IsPattern n) → ReadAsPattern assigned (pattern_tokens is) (bare_pattern is)
+    pattern_form (shapes.name_pattern at i a) = name_pattern_read assigned i
+    pattern_form (shapes.array_pattern at at' es a) = array_pattern_read assigned es (slot_forms es)
+    pattern_form (shapes.object_pattern at at' ps a) = object_pattern_read assigned ps (property_forms ps)
+
+    defaulted_form : {n : Node} (is : IsDefaulted n) → ReadAsDefaulted assigned (defaulted_tokens is) (bare_defaulted is)
+    defaulted_form (shapes.no_default p) = no_default_read assigned (pattern_form p)
+    defaulted_form (shapes.with_default at p e) = default_read assigned (pattern_form p) (pattern_unplaced p) (expression_form e)
+
+    pub initializer_form : {n : Node} (is : IsInitializer n) → InitializerForm assigned is
+    initializer_form (shapes.no_initializer a) = tt
+    initializer_form (shapes.initializer e) = expression_form e
 
     element_forms : {es : List Node} (is : AreElements es) → ElementForms is
     element_forms shapes.no_elements = tt

@@ -20,10 +20,10 @@ use Rattle.ecma_print.specs.declared.place.Beside.TheVariants.{BehindMinus, Behi
 use Rattle.ecma_tokens.proofs.Wholes.{some_text}
 use Rattle.ecma_reread.specs.Machine.{count}
 use Rattle.ecma_reread.specs.Shapes as shapes
-use Rattle.ecma_reread.specs.Shapes.{Level, looser_than, IsOperator, IsIdent, ident, IsKey, key, IsExpression, IsElement, IsArguments, AreElements, AreExpressions, IsInitializer, IsDeclarator, AreDeclarators, AreSlots, IsMemberLevel, IsIndexed, IsChainKey, begins_with_brace, AreProperties, IsPropertyName, IsProperty, regex_text}
-use Rattle.ecma_reread.specs.Tokens.{blank, sign_of, assign_token, update_token, unary_token, binary_token, own_sign, unary_gap, ident_word, key_word, expression_tokens, element_tokens, arguments_tokens, elements_tokens, more_tokens, declarator_tokens, declarators_tokens, slots_tokens, more_slots_tokens, chain_token, properties_tokens, more_properties_tokens, property_name_tokens, property_tokens}
+use Rattle.ecma_reread.specs.Shapes.{Level, looser_than, IsOperator, IsIdent, ident, IsKey, key, IsExpression, IsElement, IsArguments, AreElements, AreExpressions, IsInitializer, IsDeclarator, AreDeclarators, AreSlots, IsMemberLevel, IsIndexed, IsChainKey, begins_with_brace, AreProperties, IsPropertyName, IsProperty, regex_text, IsPattern, Role, IsDefaulted}
+use Rattle.ecma_reread.specs.Tokens.{blank, sign_of, assign_token, update_token, unary_token, binary_token, own_sign, unary_gap, ident_word, key_word, expression_tokens, element_tokens, arguments_tokens, elements_tokens, more_tokens, declarator_tokens, declarators_tokens, slots_tokens, more_slots_tokens, chain_token, properties_tokens, more_properties_tokens, property_name_tokens, property_tokens, initializer_tokens, pattern_tokens, defaulted_tokens}
 use Rattle.ecma_reread.proofs.Softs.{Soft, key_soft, private_soft, string_soft, big_int_soft, number_soft, closing_soft, brace_soft, bracket_soft, update_soft, is_object, point_behind, softer, opening, closing, comma, semicolon, increment, decrement, opening_bracket, closing_bracket, parted, regex_soft}
-use Rattle.ecma_reread.proofs.Beginnings.{dots_join, opening_joins, element_opening_joins, update_joins, bracket_joins, blank_joins, element_blank_joins, property_parted, properties_open, properties_soft, slots_open, slots_parted, slots_soft, unary_joins}
+use Rattle.ecma_reread.proofs.Beginnings.{dots_join, opening_joins, element_opening_joins, update_joins, bracket_joins, blank_joins, element_blank_joins, property_parted, properties_open, properties_soft, slots_open, slots_parted, slots_soft, unary_joins, initializer_soft, pattern_blank_joins, pattern_dots_joins, defaulted_blank_joins}
 
 -- each token has a text
 pub good_long : (ts : Items) → Good ts → count ts ≤ length (render ts)
@@ -169,6 +169,10 @@ module _ (words : Words) where
   right_soft shapes.times z = z
   right_soft i z = z
 
+  value_joined : {e : Node} (is : IsExpression shapes.assignment e) (us : Items) → Joined (expression_tokens is blank us) → Joined (it blank (sign (codes "=")) (expression_tokens is blank us))
+  unfolding punctuators
+  value_joined is us j = (blank_is, refl, blank_joins (sign (codes "=")) is us, j)
+
   mutual
     unfolding punctuators
 
@@ -236,16 +240,18 @@ module _ (words : Words) where
     arguments_joined (shapes.arguments at e es) us j =
         (no_gap_is, refl, element_opening_joins e (elements_tokens es (sign_of (codes ")") us)), element_joined e no_gap no_gap_is (elements_tokens es (sign_of (codes ")") us)) (elements_soft es closing) (elements_joined es us j))
 
-    element_joined : {n : Node} (is : IsElement n) (g : Gap) → IsGap g → (us : Items) → Soft false us → Joined us → Joined (element_tokens is g us)
+    element_joined : {role : Role} {n : Node} (is : IsElement role n) (g : Gap) → IsGap g → (us : Items) → Soft false us → Joined us → Joined (element_tokens is g us)
     element_joined (shapes.one e) g h us z j = expression_joined e g h us z j
+    element_joined (shapes.bound p) g h us z j = defaulted_joined p g h us z j
+    element_joined (shapes.rest at p a) g h us z j = (h, refl, pattern_dots_joins p us, pattern_joined p no_gap no_gap_is us z j)
     element_joined (shapes.spread at e) g h us z j = (h, refl, dots_join e us, expression_joined e no_gap no_gap_is us z j)
 
-    slots_joined : {ns : List Node} (is : AreSlots ns) (us : Items) → Joined (sign_of (codes "]") us) → Joined (slots_tokens is us)
+    slots_joined : {role : Role} {ns : List Node} (is : AreSlots role ns) (us : Items) → Joined (sign_of (codes "]") us) → Joined (slots_tokens is us)
     slots_joined shapes.no_slots us j = j
     slots_joined (shapes.filled e es) us j = element_joined e no_gap no_gap_is (more_slots_tokens es false no_gap us) (slots_soft es us) (more_slots_joined es false no_gap no_gap_is us j)
     slots_joined (shapes.hole a es) us j = more_slots_joined es true no_gap no_gap_is us j
 
-    more_slots_joined : {ns : List Node} (is : AreSlots ns) (b : Bool) (g : Gap) → IsGap g → (us : Items) → Joined (sign_of (codes "]") us) → Joined (more_slots_tokens is b g us)
+    more_slots_joined : {role : Role} {ns : List Node} (is : AreSlots role ns) (b : Bool) (g : Gap) → IsGap g → (us : Items) → Joined (sign_of (codes "]") us) → Joined (more_slots_tokens is b g us)
     more_slots_joined shapes.no_slots false g h us j = j
     more_slots_joined shapes.no_slots true g h us j = (h, refl, refl, j)
     more_slots_joined (shapes.filled e es) b g h us j =
@@ -262,21 +268,38 @@ module _ (words : Words) where
         let end = sign_of (codes "]") (sign_of (codes ":") us) in
         (h, refl, bracket_joins e end, expression_joined e no_gap no_gap_is end closing_bracket (no_gap_is, refl, refl, j))
 
-    property_joined : {n : Node} (is : IsProperty n) (g : Gap) → IsGap g → (us : Items) → Soft false us → Joined us → Joined (property_tokens is g us)
+    property_joined : {role : Role} {n : Node} (is : IsProperty role n) (g : Gap) → IsGap g → (us : Items) → Soft false us → Joined us → Joined (property_tokens is g us)
     property_joined (shapes.key_value at k v) g h us z j = property_name_joined k g h (expression_tokens v blank us) (no_gap_is, refl, blank_joins (sign (codes ":")) v us, expression_joined v blank blank_is us z j)
     property_joined (shapes.shorthand i) g h us z j = (h, ident_whole i, key_soft (ident_word i) z, j)
     property_joined (shapes.initialized at i v) g h us z j = (h, ident_whole i, refl, (blank_is, refl, blank_joins (sign (codes "=")) v us, expression_joined v blank blank_is us z j))
+    property_joined (shapes.renamed at k p) g h us z j =
+        property_name_joined k g h (defaulted_tokens p blank us) (no_gap_is, refl, defaulted_blank_joins (sign (codes ":")) p us, defaulted_joined p blank blank_is us z j)
+    property_joined (shapes.named at at' i a v) g h us z j = (h, ident_whole i, key_soft (ident_word i) (initializer_soft v z), initializer_joined v us z j)
+    property_joined (shapes.rest_property at at' i a b) g h us z j = (h, refl, refl, (no_gap_is, ident_whole i, key_soft (ident_word i) z, j))
     property_joined (shapes.spread_property at e) g h us z j = (h, refl, dots_join e us, expression_joined e no_gap no_gap_is us z j)
 
-    properties_joined : {ns : List Node} (is : AreProperties ns) (us : Items) → joins_next (sign (codes "}")) us ≡ true → Joined us → Joined (properties_tokens is us)
+    properties_joined : {role : Role} {ns : List Node} (is : AreProperties role ns) (us : Items) → joins_next (sign (codes "}")) us ≡ true → Joined us → Joined (properties_tokens is us)
     properties_joined shapes.no_properties us z j = (no_gap_is, refl, z, j)
     properties_joined (shapes.more_properties p ps) us z j = property_joined p blank blank_is (more_properties_tokens ps us) (properties_soft ps us) (more_properties_joined ps us z j)
 
-    more_properties_joined : {ns : List Node} (is : AreProperties ns) (us : Items) → joins_next (sign (codes "}")) us ≡ true → Joined us → Joined (more_properties_tokens is us)
+    more_properties_joined : {role : Role} {ns : List Node} (is : AreProperties role ns) (us : Items) → joins_next (sign (codes "}")) us ≡ true → Joined us → Joined (more_properties_tokens is us)
     more_properties_joined shapes.no_properties us z j = (blank_is, refl, z, j)
     more_properties_joined (shapes.more_properties p ps) us z j =
         let rest = more_properties_tokens ps us in
         (no_gap_is, refl, property_parted (sign (codes ",")) p rest, property_joined p blank blank_is rest (properties_soft ps us) (more_properties_joined ps us z j))
+
+    pattern_joined : {n : Node} (is : IsPattern n) (g : Gap) → IsGap g → (us : Items) → Soft false us → Joined us → Joined (pattern_tokens is g us)
+    pattern_joined (shapes.name_pattern at i a) g h us z j = (h, ident_whole i, key_soft (ident_word i) z, j)
+    pattern_joined (shapes.array_pattern at at' es a) g h us z j = (h, refl, slots_open es us, slots_joined es us (no_gap_is, refl, bracket_soft z, j))
+    pattern_joined (shapes.object_pattern at at' ps a) g h us z j = (h, refl, properties_open ps us, properties_joined ps us (brace_soft z) j)
+
+    defaulted_joined : {n : Node} (is : IsDefaulted n) (g : Gap) → IsGap g → (us : Items) → Soft false us → Joined us → Joined (defaulted_tokens is g us)
+    defaulted_joined (shapes.no_default p) g h us z j = pattern_joined p g h us z j
+    defaulted_joined (shapes.with_default at p e) g h us z j = pattern_joined p g h (it blank (sign (codes "=")) (expression_tokens e blank us)) parted (value_joined e us (expression_joined e blank blank_is us z j))
+
+    initializer_joined : {n : Node} (is : IsInitializer n) (us : Items) → Soft false us → Joined us → Joined (initializer_tokens is us)
+    initializer_joined (shapes.no_initializer a) us z j = j
+    initializer_joined (shapes.initializer e) us z j = value_joined e us (expression_joined e blank blank_is us z j)
 
     elements_joined : {es : List Node} (is : AreElements es) (us : Items) → Joined (sign_of (codes ")") us) → Joined (elements_tokens is (sign_of (codes ")") us))
     elements_joined shapes.no_elements us j = j
@@ -294,11 +317,11 @@ module _ (words : Words) where
 
   pub declarator_joined : {n : Node} (is : IsDeclarator n) (us : Items) → ((object : Bool) → Soft object us) → Joined us → Joined (declarator_tokens is us)
   unfolding punctuators
-  declarator_joined (shapes.declarator at at' i a (shapes.no_initializer b)) us z j = (blank_is, ident_whole i, key_soft (ident_word i) (z false), j)
-  declarator_joined (shapes.declarator at at' i a (shapes.initializer e)) us z j = (blank_is, ident_whole i, refl, (blank_is, refl, blank_joins (sign (codes "=")) e us, expression_joined e blank blank_is us (z false) j))
+  declarator_joined (shapes.declarator at p e) us z j = pattern_joined p blank blank_is (initializer_tokens e us) (initializer_soft e (z false)) (initializer_joined e us (z false) j)
 
   pub declarators_joined : {ds : List Node} (is : AreDeclarators ds) (us : Items) → Joined (sign_of (codes ";") us) → Joined (declarators_tokens is (sign_of (codes ";") us))
   unfolding punctuators
   declarators_joined shapes.no_declarators us j = j
-  declarators_joined (shapes.more_declarators (shapes.declarator at at' i a e) ds) us j =
-      (no_gap_is, refl, refl, declarator_joined (shapes.declarator at at' i a e) (declarators_tokens ds (sign_of (codes ";") us)) (λ n. declarators_soft ds n us) (declarators_joined ds us j))
+  declarators_joined (shapes.more_declarators (shapes.declarator at p e) ds) us j =
+      let rest = declarators_tokens ds (sign_of (codes ";") us) in
+      (no_gap_is, refl, pattern_blank_joins (sign (codes ",")) p (initializer_tokens e rest), declarator_joined (shapes.declarator at p e) rest (λ n. declarators_soft ds n us) (declarators_joined ds us j))

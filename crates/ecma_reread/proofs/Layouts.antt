@@ -30,8 +30,8 @@ use Rattle.ecma_print.specs.Layout.{in_place, by_itself, lay_step, laid}
 use Rattle.ecma_tokens.specs.Items as items
 use Rattle.ecma_tokens.specs.Items.{Tok, sign, Gap, no_gap, Items, it, token_text, render}
 use Rattle.ecma_reread.specs.Shapes as shapes
-use Rattle.ecma_reread.specs.Shapes.{Level, looser_than, IsOperator, IsIdent, ident, IsKey, key, IsAbsent, IsExpression, IsElement, IsArguments, AreElements, AreExpressions, IsInitializer, IsDeclarator, AreDeclarators, AreSlots, IsMemberLevel, IsIndexed, begins_with_brace, IsProperty, IsPropertyName, AreProperties}
-use Rattle.ecma_reread.specs.Tokens.{blank, sign_of, assign_token, update_token, unary_token, binary_token, own_sign, unary_gap, expression_tokens, element_tokens, arguments_tokens, elements_tokens, more_tokens, initializer_tokens, declarator_tokens, declarators_tokens, slots_tokens, more_slots_tokens, chain_token, property_tokens, property_name_tokens, properties_tokens, more_properties_tokens}
+use Rattle.ecma_reread.specs.Shapes.{Level, looser_than, IsOperator, IsIdent, ident, IsKey, key, IsAbsent, IsExpression, IsElement, IsArguments, AreElements, AreExpressions, IsInitializer, IsDeclarator, AreDeclarators, AreSlots, IsMemberLevel, IsIndexed, begins_with_brace, IsProperty, IsPropertyName, AreProperties, Role, IsDefaulted, IsPattern}
+use Rattle.ecma_reread.specs.Tokens.{blank, sign_of, assign_token, update_token, unary_token, binary_token, own_sign, unary_gap, expression_tokens, element_tokens, arguments_tokens, elements_tokens, more_tokens, initializer_tokens, declarator_tokens, declarators_tokens, slots_tokens, more_slots_tokens, chain_token, property_tokens, property_name_tokens, properties_tokens, more_properties_tokens, ident_word, defaulted_tokens, pattern_tokens}
 use Rattle.ecma_reread.proofs.Spots.{before_dot, number_of, Calm, tightly, calmer, same_low, quiet, under_logical, under_nullish, before_link, index_calm, member_low, index_low, calm_0, calm_1, further, update_calm, unary_calm, operator_calls, printed, head_calm, callee_calm}
 
 pub laid_node : (at : Span) (k : Kind) (cs : List Node) → laid (node_of at k cs) ≡ record { kind = k; at = in_place k (map laid cs); parts = map by_itself (map laid cs) }
@@ -193,18 +193,31 @@ gap_out (shapes.array at at' es) g us = refl
 gap_out (shapes.object_literal at at' ps) g us = refl
 gap_out (shapes.sequence_expression at x y es) g us = gap_out x g (sign_of (codes ",") (expression_tokens y blank (more_tokens es us)))
 
-element_gap_out : {n : Node} (is : IsElement n) (g : Gap) (us : Items) → render (element_tokens is g us) ≡ g.blanks ++ render (element_tokens is no_gap us)
+pattern_gap_out : {n : Node} (is : IsPattern n) (g : Gap) (us : Items) → render (pattern_tokens is g us) ≡ g.blanks ++ render (pattern_tokens is no_gap us)
+unfolding render
+pattern_gap_out (shapes.name_pattern at i a) g us = refl
+pattern_gap_out is g us = refl
+
+defaulted_gap_out : {n : Node} (is : IsDefaulted n) (g : Gap) (us : Items) → render (defaulted_tokens is g us) ≡ g.blanks ++ render (defaulted_tokens is no_gap us)
+defaulted_gap_out (shapes.no_default p) g us = pattern_gap_out p g us
+defaulted_gap_out (shapes.with_default at p e) g us = pattern_gap_out p g (it blank (sign (codes "=")) (expression_tokens e blank us))
+
+element_gap_out : {role : Role} {n : Node} (is : IsElement role n) (g : Gap) (us : Items) → render (element_tokens is g us) ≡ g.blanks ++ render (element_tokens is no_gap us)
 unfolding render
 element_gap_out (shapes.one e) g us = gap_out e g us
 element_gap_out (shapes.spread at e) g us = refl
+element_gap_out (shapes.bound p) g us = defaulted_gap_out p g us
+element_gap_out (shapes.rest at p a) g us = refl
 
-property_gap_out : {n : Node} (is : IsProperty n) (g : Gap) (us : Items) → render (property_tokens is g us) ≡ g.blanks ++ render (property_tokens is no_gap us)
+property_gap_out : {role : Role} {n : Node} (is : IsProperty role n) (g : Gap) (us : Items) → render (property_tokens is g us) ≡ g.blanks ++ render (property_tokens is no_gap us)
 unfolding render
 property_gap_out (shapes.key_value at (shapes.key_name k) v) g us = refl
+property_gap_out (shapes.renamed at (shapes.key_name k) v) g us = refl
+property_gap_out (shapes.renamed at k v) g us = refl
 property_gap_out (shapes.key_value at k v) g us = refl
 property_gap_out is g us = refl
 
-slots_gap_out : {ns : List Node} (is : AreSlots ns) (us : Items) → render (more_slots_tokens is true blank us) ≡ codes " " ++ render (more_slots_tokens is true no_gap us)
+slots_gap_out : {role : Role} {ns : List Node} (is : AreSlots role ns) (us : Items) → render (more_slots_tokens is true blank us) ≡ codes " " ++ render (more_slots_tokens is true no_gap us)
 unfolding render
 slots_gap_out shapes.no_slots us = refl
 slots_gap_out is us = refl
@@ -213,9 +226,31 @@ no_absent_by : (k : Kind) → is_plain k ≡ true → is_absent k ≡ false
 no_absent_by kind.Absent h = absurd (false≢true h)
 no_absent_by k h = refl
 
-element_there : {n : Node} → IsElement n → is_absent (laid n).kind ≡ false
+pattern_there : {n : Node} → IsPattern n → is_absent (laid n).kind ≡ false
+pattern_there (shapes.name_pattern at i a) = ap (λ x. is_absent x.kind) (laid_node at kind.BindingIdent _)
+pattern_there (shapes.array_pattern at at' es a) = ap (λ x. is_absent x.kind) (laid_node at (kind.ArrayPat false) _)
+pattern_there (shapes.object_pattern at at' ps a) = ap (λ x. is_absent x.kind) (laid_node at (kind.ObjectPat false) _)
+
+defaulted_there : {n : Node} → IsDefaulted n → is_absent (laid n).kind ≡ false
+defaulted_there (shapes.no_default p) = pattern_there p
+defaulted_there (shapes.with_default at p e) = ap (λ x. is_absent x.kind) (laid_node at kind.AssignPat _)
+
+element_there : {role : Role} {n : Node} → IsElement role n → is_absent (laid n).kind ≡ false
 element_there (shapes.one e) = let p = plain e in rw p.is (ap (λ x. is_absent x.kind) (laid_node p.at p.kind p.children) ∙ no_absent_by p.kind p.plain)
 element_there (shapes.spread at e) = ap (λ x. is_absent x.kind) (laid_node at kind.SpreadElement _)
+element_there (shapes.bound p) = defaulted_there p
+element_there (shapes.rest at p a) = ap (λ x. is_absent x.kind) (laid_node at kind.RestPat _)
+
+-- behind ` =`
+value_laid : {e : Node} (is : IsExpression shapes.assignment e) (m : List ℕ) (us : Items) → (laid e).at (At (free 1)) m (render us) ≡ render (expression_tokens is no_gap us)
+    → (laid e).at (Within Equals (free 1)) m (render us) ≡ render (it blank (sign (codes "=")) (expression_tokens is blank us))
+unfolding render
+value_laid is m us h = within_laid is Equals (free 1) m (render us) ∙ (ap (λ z. codes " = " ++ z) h ∙ ap (λ z. codes " =" ++ z) (sym (gap_out is blank us)))
+
+binding_laid : (at : Span) {id : Node} (i : IsIdent id) (none : Node) (m : List ℕ) (us : Items) → (laid (node_of at kind.BindingIdent (id ∷ none ∷ []))).at (At (free 1)) m (render us) ≡ render (it no_gap (items.key (ident_word i)) us)
+unfolding render
+binding_laid at (ident of w i) n' m us =
+    at_node at kind.BindingIdent (node_of of (kind.Ident w 0 false) [] ∷ n' ∷ []) (At (free 1)) m (render us) ∙ at_node of (kind.Ident w 0 false) [] (At (free 1)) m (render us)
 
 and_true : (b : Bool) → (b && true) ≡ false → b ≡ false
 and_true false h = refl
@@ -367,11 +402,13 @@ mutual
       at_node at kind.List (e' ∷ es') Arguments m (render us)
       ∙ ap (λ z. codes "(" ++ z) (ap (λ z. (laid e').at (At (free 1)) m z) (elements_laid es m us) ∙ element_laid e m (elements_tokens es (sign_of (codes ")") us)))
 
-  element_laid : {n : Node} (is : IsElement n) (m : List ℕ) (us : Items) → (laid n).at (At (free 1)) m (render us) ≡ render (element_tokens is no_gap us)
+  element_laid : {role : Role} {n : Node} (is : IsElement role n) (m : List ℕ) (us : Items) → (laid n).at (At (free 1)) m (render us) ≡ render (element_tokens is no_gap us)
   element_laid (shapes.one e) m us = expression_laid e (free 1) calm_1 refl m us
+  element_laid (shapes.bound p) m us = defaulted_laid p m us
+  element_laid (shapes.rest at {p = p'} {none = n'} p a) m us = at_node at kind.RestPat (p' ∷ n' ∷ []) (At (free 1)) m (render us) ∙ ap (λ z. codes "..." ++ z) (pattern_laid p m us)
   element_laid (shapes.spread at {e = e'} e) m us = at_node at kind.SpreadElement (e' ∷ []) (At (free 1)) m (render us) ∙ ap (λ z. codes "..." ++ z) (expression_laid e (free 1) calm_1 refl m us)
 
-  slots_laid : {ns : List Node} (is : AreSlots ns) (m : List ℕ) (us : Items) → brackets (map laid ns) m (render us) ≡ codes "[" ++ render (slots_tokens is us)
+  slots_laid : {role : Role} {ns : List Node} (is : AreSlots role ns) (m : List ℕ) (us : Items) → brackets (map laid ns) m (render us) ≡ codes "[" ++ render (slots_tokens is us)
   slots_laid shapes.no_slots m us = refl
   slots_laid (shapes.filled {e = e'} e es) m us =
       ap (λ z. codes "[" ++ z) (ap (λ z. (laid e').at (At (free 1)) m z) (more_slots_laid es (laid e') false (element_there e) m us) ∙ element_laid e m (more_slots_tokens es false no_gap us))
@@ -379,7 +416,7 @@ mutual
       ap (λ z. codes "[" ++ z) (at_node at kind.Absent [] (At (free 1)) m _ ∙ more_slots_laid es (laid (node_of at kind.Absent [])) true (ap (λ x. is_absent x.kind) (laid_node at kind.Absent [])) m us)
 
   -- behind an element or a hole
-  more_slots_laid : {ns : List Node} (is : AreSlots ns) (x : Laid) (b : Bool) → is_absent x.kind ≡ b → (m : List ℕ) (us : Items)
+  more_slots_laid : {role : Role} {ns : List Node} (is : AreSlots role ns) (x : Laid) (b : Bool) → is_absent x.kind ≡ b → (m : List ℕ) (us : Items)
       → more_commas (free 1) (map laid ns) m (hole_comma (ends_in_hole (x ∷ map laid ns)) ++ (codes "]" ++ render us)) ≡ render (more_slots_tokens is b no_gap us)
   more_slots_laid shapes.no_slots x false h m us = rw h refl
   more_slots_laid shapes.no_slots x true h m us = rw h refl
@@ -398,7 +435,7 @@ mutual
   property_name_laid (shapes.computed_name at {e = e'} e) m us =
       at_node at kind.ComputedPropName (e' ∷ []) (At (free 1)) m (render us) ∙ ap (λ z. codes "[" ++ z) (expression_laid e (free 1) calm_1 refl m (sign_of (codes "]") us))
 
-  property_laid : {n : Node} (is : IsProperty n) (m : List ℕ) (us : Items) → (laid n).at (At (free 1)) m (render us) ≡ render (property_tokens is no_gap us)
+  property_laid : {role : Role} {n : Node} (is : IsProperty role n) (m : List ℕ) (us : Items) → (laid n).at (At (free 1)) m (render us) ≡ render (property_tokens is no_gap us)
   property_laid (shapes.key_value at {name = k'} {value = v'} k v) m us =
       at_node at kind.KeyValueProp (k' ∷ v' ∷ []) (At (free 1)) m (render us)
       ∙ (ap (λ z. (laid k').at (At (free 1)) m (codes ":" ++ z)) (ap (λ z. codes " " ++ z) (expression_laid v (free 1) calm_1 refl m us) ∙ sym (gap_out v blank us))
@@ -408,19 +445,44 @@ mutual
       at_node at kind.AssignProp (node_of at' (kind.Ident w 0 false) [] ∷ v' ∷ []) (At (free 1)) m (render us)
       ∙ (at_node at' (kind.Ident w 0 false) [] (At (free 1)) m ((laid v').at (Within Equals (free 1)) m (render us))
       ∙ ap (λ z. w ++ z) (within_laid v Equals (free 1) m (render us) ∙ ap (λ z. codes " =" ++ z) (ap (λ z. codes " " ++ z) (expression_laid v (free 1) calm_1 refl m us) ∙ sym (gap_out v blank us))))
+  property_laid (shapes.renamed at {name = k'} {p = p'} k p) m us =
+      at_node at kind.KeyValuePatProp (k' ∷ p' ∷ []) (At (free 1)) m (render us)
+      ∙ (ap (λ z. (laid k').at (At (free 1)) m (codes ":" ++ z)) (ap (λ z. codes " " ++ z) (defaulted_laid p m us) ∙ sym (defaulted_gap_out p blank us))
+      ∙ property_name_laid k m (sign_of (codes ":") (defaulted_tokens p blank us)))
+  property_laid (shapes.named at at' {id = i'} {none = n'} {value = v'} i a v) m us =
+      at_node at kind.AssignPatProp (node_of at' kind.BindingIdent (i' ∷ n' ∷ []) ∷ v' ∷ []) (At (free 1)) m (render us)
+      ∙ (ap (λ z. (laid (node_of at' kind.BindingIdent (i' ∷ n' ∷ []))).at (At (free 1)) m z) (initializer_laid v m us) ∙ binding_laid at' i n' m (initializer_tokens v us))
+  property_laid (shapes.rest_property at at' {id = i'} {none = n'} {none' = n''} i a b) m us =
+      at_node at kind.RestPat (node_of at' kind.BindingIdent (i' ∷ n' ∷ []) ∷ n'' ∷ []) (At (free 1)) m (render us) ∙ ap (λ z. codes "..." ++ z) (binding_laid at' i n' m us)
   property_laid (shapes.spread_property at {e = e'} e) m us = at_node at kind.SpreadElement (e' ∷ []) (At (free 1)) m (render us) ∙ ap (λ z. codes "..." ++ z) (expression_laid e (free 1) calm_1 refl m us)
 
-  properties_laid : {ns : List Node} (is : AreProperties ns) (m : List ℕ) (us : Items) → braces (map laid ns) m (render us) ≡ codes "{" ++ render (properties_tokens is us)
+  properties_laid : {role : Role} {ns : List Node} (is : AreProperties role ns) (m : List ℕ) (us : Items) → braces (map laid ns) m (render us) ≡ codes "{" ++ render (properties_tokens is us)
   properties_laid shapes.no_properties m us = refl
   properties_laid (shapes.more_properties {p = p'} p ps) m us =
       ap (λ z. codes "{ " ++ z) (ap (λ z. (laid p').at (At (free 1)) m z) (more_properties_laid ps m us) ∙ property_laid p m (more_properties_tokens ps us))
       ∙ ap (λ z. codes "{" ++ z) (sym (property_gap_out p blank (more_properties_tokens ps us)))
 
-  more_properties_laid : {ns : List Node} (is : AreProperties ns) (m : List ℕ) (us : Items) → more_commas (free 1) (map laid ns) m (codes " }" ++ render us) ≡ render (more_properties_tokens is us)
+  more_properties_laid : {role : Role} {ns : List Node} (is : AreProperties role ns) (m : List ℕ) (us : Items) → more_commas (free 1) (map laid ns) m (codes " }" ++ render us) ≡ render (more_properties_tokens is us)
   more_properties_laid shapes.no_properties m us = refl
   more_properties_laid (shapes.more_properties {p = p'} p ps) m us =
       ap (λ z. codes ", " ++ z) (ap (λ z. (laid p').at (At (free 1)) m z) (more_properties_laid ps m us) ∙ property_laid p m (more_properties_tokens ps us))
       ∙ ap (λ z. codes "," ++ z) (sym (property_gap_out p blank (more_properties_tokens ps us)))
+
+  pattern_laid : {n : Node} (is : IsPattern n) (m : List ℕ) (us : Items) → (laid n).at (At (free 1)) m (render us) ≡ render (pattern_tokens is no_gap us)
+  pattern_laid (shapes.name_pattern at {none = n'} i a) m us = binding_laid at i n' m us
+  pattern_laid (shapes.array_pattern at at' {slots = ns} {none = n'} es a) m us =
+      at_node at (kind.ArrayPat false) (node_of at' kind.List ns ∷ n' ∷ []) (At (free 1)) m (render us) ∙ (at_node at' kind.List ns Brackets m (render us) ∙ slots_laid es m us)
+  pattern_laid (shapes.object_pattern at at' {properties = ns} {none = n'} ps a) m us =
+      at_node at (kind.ObjectPat false) (node_of at' kind.List ns ∷ n' ∷ []) (At (free 1)) m (render us) ∙ (at_node at' kind.List ns Braces m (render us) ∙ properties_laid ps m us)
+
+  defaulted_laid : {n : Node} (is : IsDefaulted n) (m : List ℕ) (us : Items) → (laid n).at (At (free 1)) m (render us) ≡ render (defaulted_tokens is no_gap us)
+  defaulted_laid (shapes.no_default p) m us = pattern_laid p m us
+  defaulted_laid (shapes.with_default at {p = p'} {e = e'} p e) m us =
+      at_node at kind.AssignPat (p' ∷ e' ∷ []) (At (free 1)) m (render us) ∙ (ap (λ z. (laid p').at (At (free 1)) m z) (value_laid e m us (expression_laid e (free 1) calm_1 refl m us)) ∙ pattern_laid p m (it blank (sign (codes "=")) (expression_tokens e blank us)))
+
+  initializer_laid : {n : Node} (is : IsInitializer n) (m : List ℕ) (us : Items) → (laid n).at (Within Equals (free 1)) m (render us) ≡ render (initializer_tokens is us)
+  initializer_laid (shapes.no_initializer (shapes.absent at)) m us = at_node at kind.Absent [] (Within Equals (free 1)) m (render us)
+  initializer_laid (shapes.initializer e) m us = value_laid e m us (expression_laid e (free 1) calm_1 refl m us)
 
   elements_laid : {es : List Node} (is : AreElements es) (m : List ℕ) (us : Items) → more_commas (free 1) (map laid es) m (codes ")" ++ render us) ≡ render (elements_tokens is (sign_of (codes ")") us))
   elements_laid shapes.no_elements m us = refl
@@ -434,20 +496,11 @@ mutual
       ap (λ z. codes ", " ++ z) (ap (λ z. (laid e').at (At (free 1)) m z) (more_laid es m us) ∙ expression_laid e (free 1) calm_1 refl m (more_tokens es (sign_of (codes ")") us)))
       ∙ ap (λ z. codes "," ++ z) (sym (gap_out e blank (more_tokens es (sign_of (codes ")") us))))
 
-initializer_laid : {n : Node} (is : IsInitializer n) (m : List ℕ) (us : Items) → (laid n).at (Within Equals (free 1)) m (render us) ≡ render (initializer_tokens is us)
-unfolding render
-initializer_laid (shapes.no_initializer (shapes.absent at)) m us = at_node at kind.Absent [] (Within Equals (free 1)) m (render us)
-initializer_laid (shapes.initializer e) m us =
-    within_laid e Equals (free 1) m (render us)
-    ∙ (ap (λ z. codes " = " ++ z) (expression_laid e (free 1) calm_1 refl m us) ∙ ap (λ z. codes " =" ++ z) (sym (gap_out e blank us)))
-
 pub declarator_laid : {n : Node} (is : IsDeclarator n) (m : List ℕ) (us : Items) → codes " " ++ (laid n).at (At (free 1)) m (render us) ≡ render (declarator_tokens is us)
 unfolding render
-declarator_laid (shapes.declarator at at' {none = n'} {init = e'} (ident of w i) a e) m us =
-    ap (λ z. codes " " ++ z)
-    (at_node at (kind.VarDeclarator false) (node_of at' kind.BindingIdent (node_of of (kind.Ident w 0 false) [] ∷ n' ∷ []) ∷ e' ∷ []) (At (free 1)) m (render us)
-    ∙ (at_node at' kind.BindingIdent (node_of of (kind.Ident w 0 false) [] ∷ n' ∷ []) (At (free 1)) m ((laid e').at (Within Equals (free 1)) m (render us))
-    ∙ rw (laid_node of (kind.Ident w 0 false) []) (ap (λ z. w ++ z) (initializer_laid e m us))))
+declarator_laid (shapes.declarator at {p = p'} {init = e'} p e) m us =
+    ap (λ z. codes " " ++ z) (at_node at (kind.VarDeclarator false) (p' ∷ e' ∷ []) (At (free 1)) m (render us) ∙ (ap (λ z. (laid p').at (At (free 1)) m z) (initializer_laid e m us) ∙ pattern_laid p m (initializer_tokens e us)))
+    ∙ sym (pattern_gap_out p blank (initializer_tokens e us))
 
 pub more_declarators_laid : {ds : List Node} (is : AreDeclarators ds) (m : List ℕ) (us : Items) → more_commas (free 1) (map laid ds) m (codes ";" ++ render us) ≡ render (declarators_tokens is (sign_of (codes ";") us))
 unfolding render

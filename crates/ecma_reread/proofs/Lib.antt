@@ -36,6 +36,7 @@ pub mod Lists
 pub mod Literals
 pub mod Arrays
 pub mod Objects
+pub mod Patterns
 pub mod Sequences
 pub mod Calls
 pub mod Statements

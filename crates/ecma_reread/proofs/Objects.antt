@@ -35,8 +35,8 @@ use Rattle.ecma_tokens.specs.Items.{sign, no_gap, Gap, Items, it}
 use Rattle.ecma_tokens.specs.Taking.{took_if, new_line_in}
 use Rattle.ecma_reread.specs.Machine.{Turn, Out, read, fails, taken, with_front, followed_on, or_on, built_on, ahead_on, interp, means}
 use Rattle.ecma_reread.specs.Shapes as shapes
-use Rattle.ecma_reread.specs.Shapes.{IsIdent, ident, IsPropertyName, IsProperty, AreProperties}
-use Rattle.ecma_reread.specs.Tokens.{blank, key_word, ident_word, expression_tokens, expression_kind, expression_parts, property_name_tokens, property_tokens, properties_tokens, more_properties_tokens, bare_ident, bare_property_name, bare_property, bare_properties, bare_expression}
+use Rattle.ecma_reread.specs.Shapes.{Role, IsIdent, ident, IsPropertyName, IsProperty, AreProperties, IsInitializer}
+use Rattle.ecma_reread.specs.Tokens.{blank, initializer_tokens, bare_initializer, defaulted_tokens, bare_defaulted, key_word, ident_word, expression_tokens, expression_kind, expression_parts, property_name_tokens, property_tokens, properties_tokens, more_properties_tokens, bare_ident, bare_property_name, bare_property, bare_properties, bare_expression}
 use Rattle.ecma_reread.proofs.Moves.{eats}
 use Rattle.ecma_reread.proofs.Levels.{means_is}
 use Rattle.ecma_reread.proofs.Fronts.{Front, exactly, Begins, at_token, refuses_at, refused_at, refuses_all, all_refused}
@@ -50,7 +50,7 @@ use Rattle.ecma_reread.proofs.Params.{last_comma, Closes, no_comma, closing}
 use Rattle.ecma_reread.proofs.Expressions.{comma_ends}
 use Rattle.ecma_reread.proofs.Elements.{bracket_ends}
 use Rattle.ecma_reread.proofs.Lists.{Followed}
-use Rattle.ecma_reread.proofs.Spreads.{no_rest}
+use Rattle.ecma_reread.proofs.Spreads.{no_rest, ReadAsPattern, ReadAsDefaulted, InitializerForm, initializer_read}
 use Rattle.ecma_reread.proofs.Tried.{same_item, AsPattern, as_pattern, defaulted, defaulted_pattern, AsName, no_name, a_name, as_name, Stopped, at_end, astray, stopped, Wholly, wholly_refused, wholly_read}
 use Rattle.ecma_reread.proofs.Literals.{Literal, literal_new}
 
@@ -78,7 +78,7 @@ brace_ends : Ends (exactly (sign (codes "}")))
 unfolding factors terms shifts relations equalities assignments links chains.template_start functions.arrow_rest binding_ident
 brace_ends = refl
 
-ended : {ns : List Node} (is : AreProperties ns) (us : Items) → Ended (more_properties_tokens is us)
+ended : {role : Role} {ns : List Node} (is : AreProperties role ns) (us : Items) → Ended (more_properties_tokens is us)
 unfolding prop_start member_start signature
 ended shapes.no_properties us = record { front = exactly (sign (codes "}")); begins = at_token; ends = brace_ends; name = refl; no_colon = refl }
 ended (shapes.more_properties p ps) us = record { front = exactly (sign (codes ",")); begins = at_token; ends = comma_ends; name = refl; no_colon = refl }
@@ -122,13 +122,16 @@ module _ (assigned : Bool) where
   NameForm (shapes.computed_name at e) = Stands assigned shapes.assignment (expression_tokens e) (expression_kind e) (expression_parts e)
   NameForm k = Unit {0}
 
-  abbrev pub PropertyForm : {n : Node} → IsProperty n → Type 0
+  abbrev pub PropertyForm : {role : Role} {n : Node} → IsProperty role n → Type 0
   PropertyForm (shapes.key_value at k v) = NameForm k × Stands assigned shapes.assignment (expression_tokens v) (expression_kind v) (expression_parts v)
   PropertyForm (shapes.shorthand i) = Unit {0}
   PropertyForm (shapes.initialized at i v) = Stands assigned shapes.assignment (expression_tokens v) (expression_kind v) (expression_parts v)
+  PropertyForm (shapes.renamed at k p) = NameForm k × ReadAsDefaulted assigned (defaulted_tokens p) (bare_defaulted p)
+  PropertyForm (shapes.named at at' i a v) = InitializerForm assigned v
+  PropertyForm (shapes.rest_property at at' i a b) = Unit {0}
   PropertyForm (shapes.spread_property at e) = Stands assigned shapes.assignment (expression_tokens e) (expression_kind e) (expression_parts e)
 
-  abbrev pub PropertyForms : {ns : List Node} → AreProperties ns → Type 0
+  abbrev pub PropertyForms : {role : Role} {ns : List Node} → AreProperties role ns → Type 0
   PropertyForms shapes.no_properties = Unit {0}
   PropertyForms (shapes.more_properties p ps) = PropertyForm p × PropertyForms ps
 
@@ -214,7 +217,7 @@ module _ (assigned : Bool) where
       ap (or_on (I (getter_property // setter_property // method_property // others)) ts) (ap (built_on (form.Node plain.SpreadElement)) (ap (followed_on (I assign)) a))
       ∙ (ap (or_on (I (setter_property // method_property // others)) ts) N.no_getter ∙ (ap (or_on (I (method_property // others)) ts) N.no_setter ∙ (ap (or_on (I others) ts) N.no_method ∙ h)))
 
-  property_read : {n : Node} (is : IsProperty n) → PropertyForm is → (g : Gap) (us : Items) → Ended us → Reads assigned property (property_tokens is g us) (bare_property is ∷ []) us
+  property_read : {n : Node} (is : IsProperty shapes.values n) → PropertyForm is → (g : Gap) (us : Items) → Ended us → Reads assigned property (property_tokens is g us) (bare_property is ∷ []) us
   unfolding property spread
   property_read (shapes.key_value at k v) F g us E =
       let vs = expression_tokens v blank us in
@@ -236,13 +239,13 @@ module _ (assigned : Bool) where
   unfolding property spread getter_property setter_property method_property method_async prop_name computed_prop_name signature params param rest_pattern default_value names.block
   property_eats = refl
 
-  more_properties_read : {ns : List Node} (is : AreProperties ns) → PropertyForms is → (us : Items) → Repeats assigned (more property) (more_properties_tokens is us) (bare_properties is) (it blank (sign (codes "}")) us)
+  more_properties_read : {ns : List Node} (is : AreProperties shapes.values ns) → PropertyForms is → (us : Items) → Repeats assigned (more property) (more_properties_tokens is us) (bare_properties is) (it blank (sign (codes "}")) us)
   more_properties_read shapes.no_properties F us = repeats_end assigned (more property) (it blank (sign (codes "}")) us) refl
   more_properties_read (shapes.more_properties p ps) F us =
       let vs = more_properties_tokens ps us in
       repeats_more assigned (more property) property_eats _ vs (it blank (sign (codes "}")) us) (bare_property p ∷ []) (bare_properties ps) (ap (with_front []) (property_read p F.0 blank vs (ended ps us))) (more_properties_read ps F.1 us)
 
-  object_read : {ns : List Node} (is : AreProperties ns) → PropertyForms is → (g : Gap) (us : Items) → Reads assigned object (it g (sign (codes "{")) (properties_tokens is us)) (bare kind.ObjectLit (list_node (bare_properties is) ∷ []) ∷ []) us
+  object_read : {ns : List Node} (is : AreProperties shapes.values ns) → PropertyForms is → (g : Gap) (us : Items) → Reads assigned object (it g (sign (codes "{")) (properties_tokens is us)) (bare kind.ObjectLit (list_node (bare_properties is) ∷ []) ∷ []) us
   unfolding object
   object_read shapes.no_properties F g us = rw (all_refused assigned property (exactly (sign (codes "}"))) (s (codes "}") us) at_token no_property_at_brace) refl
   object_read (shapes.more_properties p ps) F g us =
@@ -251,32 +254,32 @@ module _ (assigned : Bool) where
 
   -- as a pattern of properties
 
-  abbrev named : Grammar
-  named = node plain.AssignPatProp (binding_ident ▸ maybe (punct (codes "=") ▸ assign))
+  abbrev by_own_name : Grammar
+  by_own_name = node plain.AssignPatProp (binding_ident ▸ maybe (punct (codes "=") ▸ assign))
 
-  abbrev renamed : Grammar
-  renamed = node plain.KeyValuePatProp (prop_name ▸ punct (codes ":") ▸ defaulted assigned)
+  abbrev by_other_name : Grammar
+  by_other_name = node plain.KeyValuePatProp (prop_name ▸ punct (codes ":") ▸ defaulted assigned)
 
-  abbrev rest_property : Grammar
-  rest_property = node plain.RestPat (punct (codes "...") ▸ binding_ident ▸ put Absent)
+  abbrev others_by_name : Grammar
+  others_by_name = node plain.RestPat (punct (codes "...") ▸ binding_ident ▸ put Absent)
 
-  behind_rest : (ts us : Items) → Refuses assigned (punct (codes "...")) ts → AsItem assigned (renamed // named) ts us → AsItem assigned pattern_property ts us
+  behind_rest : (ts us : Items) → Refuses assigned (punct (codes "...")) ts → AsItem assigned (by_other_name // by_own_name) ts us → AsItem assigned pattern_property ts us
   unfolding pattern_property
   behind_rest ts us a p =
-      same_item assigned pattern_property (renamed // named) ts us
-      (ap (or_on (interp assigned (means assigned) (renamed // named)) ts) (ap (built_on (form.Node plain.RestPat)) (ap (followed_on (interp assigned (means assigned) (binding_ident ▸ put Absent))) a))) p
+      same_item assigned pattern_property (by_other_name // by_own_name) ts us
+      (ap (or_on (interp assigned (means assigned) (by_other_name // by_own_name)) ts) (ap (built_on (form.Node plain.RestPat)) (ap (followed_on (interp assigned (means assigned) (binding_ident ▸ put Absent))) a))) p
 
   -- a name before `:`, by itself
   module _ (vs : Items) where
     abbrev colon : Items
     colon = s (codes ":") vs
 
-    key_named : (b : Bool) (w : List ℕ) → is_reserved w ≡ b → (g : Gap) (us : Items) → AsItem assigned named (it g (items.key w) colon) us
+    key_named : (b : Bool) (w : List ℕ) → is_reserved w ≡ b → (g : Gap) (us : Items) → AsItem assigned by_own_name (it g (items.key w) colon) us
     unfolding binding_ident
     key_named true w r g us = item_refused (rw r refl) (exactly (items.key w)) at_token refl
     key_named false w r g us = item_before (bare kind.AssignPatProp (bare kind.BindingIdent (bare (kind.Ident w 0 false) [] ∷ absent ∷ []) ∷ absent ∷ []) ∷ []) colon (exactly (sign (codes ":"))) at_token refl (rw r refl)
 
-    name_named : {n : Node} (is : IsPropertyName n) (g : Gap) (us : Items) → AsItem assigned named (property_name_tokens is g colon) us
+    name_named : {n : Node} (is : IsPropertyName n) (g : Gap) (us : Items) → AsItem assigned by_own_name (property_name_tokens is g colon) us
     unfolding binding_ident
     name_named (shapes.key_name k) g us = key_named (is_reserved (key_word k)) (key_word k) refl g us
     name_named (shapes.string_name at raw t) g us = item_refused refl (exactly (items.string raw)) at_token refl
@@ -285,26 +288,26 @@ module _ (assigned : Bool) where
     name_named (shapes.computed_name at e) g us = item_refused refl (exactly (sign (codes "["))) at_token refl
 
     -- with what its value is as a pattern
-    name_renamed : {n : Node} (is : IsPropertyName n) → NameForm is → (g : Gap) (us : Items) → AsItem assigned (defaulted assigned) vs us → AsItem assigned (renamed // named) (property_name_tokens is g colon) us
+    name_renamed : {n : Node} (is : IsPropertyName n) → NameForm is → (g : Gap) (us : Items) → AsItem assigned (defaulted assigned) vs us → AsItem assigned (by_other_name // by_own_name) (property_name_tokens is g colon) us
     name_renamed is F g us p =
         let I = interp assigned (means assigned) in
         let ts = property_name_tokens is g colon in
         let n = bare_property_name is in
-        let step : (o : Out) → I (defaulted assigned) vs ≡ o → I renamed ts ≡ built_on (form.Node plain.KeyValuePatProp) (with_front (n ∷ []) (with_front [] o)) =
+        let step : (o : Out) → I (defaulted assigned) vs ≡ o → I by_other_name ts ≡ built_on (form.Node plain.KeyValuePatProp) (with_front (n ∷ []) (with_front [] o)) =
         λ o h. ap (built_on (form.Node plain.KeyValuePatProp)) (ap (followed_on (I (punct (codes ":") ▸ defaulted assigned))) (name_read is F g colon) ∙ ap (λ x. with_front (n ∷ []) (with_front [] x)) h) in
         by_value is g us step p
       where
         by_value : {n : Node} (is : IsPropertyName n) (g : Gap) (us : Items)
-            → ((o : Out) → interp assigned (means assigned) (defaulted assigned) vs ≡ o → interp assigned (means assigned) renamed (property_name_tokens is g colon) ≡ built_on (form.Node plain.KeyValuePatProp) (with_front (bare_property_name is ∷ []) (with_front [] o)))
-            → AsItem assigned (defaulted assigned) vs us → AsItem assigned (renamed // named) (property_name_tokens is g colon) us
+            → ((o : Out) → interp assigned (means assigned) (defaulted assigned) vs ≡ o → interp assigned (means assigned) by_other_name (property_name_tokens is g colon) ≡ built_on (form.Node plain.KeyValuePatProp) (with_front (bare_property_name is ∷ []) (with_front [] o)))
+            → AsItem assigned (defaulted assigned) vs us → AsItem assigned (by_other_name // by_own_name) (property_name_tokens is g colon) us
         by_value is g us step (item_refused h e b z) =
-            same_item assigned (renamed // named) named (property_name_tokens is g colon) us (ap (or_on (interp assigned (means assigned) named) (property_name_tokens is g colon)) (step fails h)) (name_named is g us)
-        by_value is g us step (whole_item xs h) = whole_item _ (ap (or_on (interp assigned (means assigned) named) (property_name_tokens is g colon)) (step (read xs us) h))
-        by_value is g us step (item_before xs ws e b z h) = item_before _ ws e b z (ap (or_on (interp assigned (means assigned) named) (property_name_tokens is g colon)) (step (read xs ws) h))
+            same_item assigned (by_other_name // by_own_name) by_own_name (property_name_tokens is g colon) us (ap (or_on (interp assigned (means assigned) by_own_name) (property_name_tokens is g colon)) (step fails h)) (name_named is g us)
+        by_value is g us step (whole_item xs h) = whole_item _ (ap (or_on (interp assigned (means assigned) by_own_name) (property_name_tokens is g colon)) (step (read xs us) h))
+        by_value is g us step (item_before xs ws e b z h) = item_before _ ws e b z (ap (or_on (interp assigned (means assigned) by_own_name) (property_name_tokens is g colon)) (step (read xs ws) h))
 
   -- a name that no `:` follows
   named_read : (w : List ℕ) (g : Gap) (vs us : Items) (xs : List Node) → is_reserved w ≡ false → Refuses assigned (punct (codes ":")) vs → Reads assigned (maybe (punct (codes "=") ▸ assign)) vs xs us
-      → Reads assigned (renamed // named) (it g (items.key w) vs) (bare kind.AssignPatProp (bare kind.BindingIdent (bare (kind.Ident w 0 false) [] ∷ absent ∷ []) ∷ xs) ∷ []) us
+      → Reads assigned (by_other_name // by_own_name) (it g (items.key w) vs) (bare kind.AssignPatProp (bare kind.BindingIdent (bare (kind.Ident w 0 false) [] ∷ absent ∷ []) ∷ xs) ∷ []) us
   unfolding binding_ident
   named_read w g vs us xs r c h = rw (key_read w g vs, c, r, h) refl
 
@@ -314,14 +317,14 @@ module _ (assigned : Bool) where
   by_name g ts us (no_name h) =
       let I = interp assigned (means assigned) in
       let dots = it g (sign (codes "...")) ts in
-      item_refused (ap (or_on (I (renamed // named)) dots) (ap (built_on (form.Node plain.RestPat)) (ap (with_front []) (ap (followed_on (I (put Absent))) h)))) (exactly (sign (codes "..."))) at_token refl
+      item_refused (ap (or_on (I (by_other_name // by_own_name)) dots) (ap (built_on (form.Node plain.RestPat)) (ap (with_front []) (ap (followed_on (I (put Absent))) h)))) (exactly (sign (codes "..."))) at_token refl
   by_name g ts us (a_name xs vs h st) =
       let I = interp assigned (means assigned) in
       let dots = it g (sign (codes "...")) ts in
       stopped assigned pattern_property dots us vs (bare kind.RestPat (xs ++ flag_node Absent ∷ []) ∷ [])
-      (ap (or_on (I (renamed // named)) dots) (ap (built_on (form.Node plain.RestPat)) (ap (with_front []) (ap (followed_on (I (put Absent))) h)))) st
+      (ap (or_on (I (by_other_name // by_own_name)) dots) (ap (built_on (form.Node plain.RestPat)) (ap (with_front []) (ap (followed_on (I (put Absent))) h)))) st
 
-  property_tried : {n : Node} (is : IsProperty n) → PropertyForm is → (g : Gap) (us : Items) → Ended us → AsItem assigned pattern_property (property_tokens is g us) us
+  property_tried : {n : Node} (is : IsProperty shapes.values n) → PropertyForm is → (g : Gap) (us : Items) → Ended us → AsItem assigned pattern_property (property_tokens is g us) us
   property_tried (shapes.key_value at k v) F g us E =
       let vs = expression_tokens v blank us in
       let V = F.1 in
@@ -359,7 +362,7 @@ module _ (assigned : Bool) where
   lasts : (us : Items) → Lasts assigned pattern_property (Last us)
   lasts us = closing assigned pattern_property (Braced us) pattern_eats (λ ts e b z. no_brace (never ts e b z))
 
-  more_properties_tried : {ns : List Node} (is : AreProperties ns) → PropertyForms is → (us : Items) → Further assigned pattern_property (Last us) (more_properties_tokens is us)
+  more_properties_tried : {ns : List Node} (is : AreProperties shapes.values ns) → PropertyForms is → (us : Items) → Further assigned pattern_property (Last us) (more_properties_tokens is us)
   more_properties_tried shapes.no_properties F us =
       let end = it blank (sign (codes "}")) us in
       let brace = exactly (sign (codes "}")) in
@@ -414,12 +417,49 @@ module _ (assigned : Bool) where
         ∙ ap (with_front (list_node [] ∷ [])) (ap (followed_on (I (put Absent))) (never ts e b c.1)))
     by_list (some_listed xs vs h F) = some_tried xs vs h F (let l = F.last in l.closed)
 
-  properties_tried : {ns : List Node} (is : AreProperties ns) → PropertyForms is → (g : Gap) (us : Items) → Wholly assigned (it g (sign (codes "{")) (properties_tokens is us)) us
+  properties_tried : {ns : List Node} (is : AreProperties shapes.values ns) → PropertyForms is → (g : Gap) (us : Items) → Wholly assigned (it g (sign (codes "{")) (properties_tokens is us)) us
   properties_tried shapes.no_properties F g us =
       pattern_whole g (s (codes "}") us) us (list_node [] ∷ flag_node Absent ∷ []) (rw (all_refused assigned pattern_property (exactly (sign (codes "}"))) (s (codes "}") us) at_token no_pattern_at_brace) refl)
   properties_tried (shapes.more_properties p ps) F g us =
       let vs = more_properties_tokens ps us in
       by_list g (property_tokens p blank vs) us (listed assigned pattern_property (Last us) (lasts us) (property_tokens p blank vs) vs (property_tried p F.0 blank vs (ended ps us)) (more_properties_tried ps F.1 us))
 
-  pub object_new : {ns : List Node} (is : AreProperties ns) → PropertyForms is → NewForm assigned (λ g us. it g (sign (codes "{")) (properties_tokens is us)) kind.ObjectLit (list_node (bare_properties is) ∷ [])
+  pub object_new : {ns : List Node} (is : AreProperties shapes.values ns) → PropertyForms is → NewForm assigned (λ g us. it g (sign (codes "{")) (properties_tokens is us)) kind.ObjectLit (list_node (bare_properties is) ∷ [])
   object_new is F = literal_new assigned brace (properties_tokens is) kind.ObjectLit (list_node (bare_properties is) ∷ []) refl (object_read is F) (properties_tried is F)
+
+  -- an object pattern
+
+  pattern_property_read : {n : Node} (is : IsProperty shapes.bindings n) → PropertyForm is → (g : Gap) (us : Items) → Ended us → Reads assigned pattern_property (property_tokens is g us) (bare_property is ∷ []) us
+  unfolding pattern_property binding_ident
+  pattern_property_read (shapes.renamed at k p) F g us E =
+      let I = interp assigned (means assigned) in
+      let vs = defaulted_tokens p blank us in
+      let D = F.1 in
+      ap (or_on (I (by_other_name // by_own_name)) (property_name_tokens k g (s (codes ":") vs))) (ap (built_on (form.Node plain.RestPat)) (ap (followed_on (I (binding_ident ▸ put Absent))) (no_spread k g (s (codes ":") vs))))
+      ∙ rw (name_read k F.0 g (s (codes ":") vs), D.reads blank us (record { front = E.front; begins = E.begins; ends = E.ends })) refl
+  pattern_property_read (shapes.named at at' (ident of w i) a v) F g us E =
+      named_read w g (initializer_tokens v us) us (bare_initializer v ∷ []) i.free (no_colon_behind v us E) (initializer_read assigned v F us (record { front = E.front; begins = E.begins; ends = E.ends }))
+    where
+      no_colon_behind : {n : Node} (v : IsInitializer n) (us : Items) → Ended us → Refuses assigned (punct (codes ":")) (initializer_tokens v us)
+      no_colon_behind (shapes.no_initializer a) us E = refused_at assigned (means assigned) (punct (codes ":")) E.front us E.begins E.no_colon
+      no_colon_behind (shapes.initializer e) us E = refl
+  pattern_property_read (shapes.rest_property at at' (ident of w i) a b) F g us E = rw i.free refl
+
+  more_pattern_properties_read : {ns : List Node} (is : AreProperties shapes.bindings ns) → PropertyForms is → (us : Items) → Repeats assigned (more pattern_property) (more_properties_tokens is us) (bare_properties is) (it blank (sign (codes "}")) us)
+  more_pattern_properties_read shapes.no_properties F us = repeats_end assigned (more pattern_property) (it blank (sign (codes "}")) us) refl
+  more_pattern_properties_read (shapes.more_properties p ps) F us =
+      let vs = more_properties_tokens ps us in
+      repeats_more assigned (more pattern_property) pattern_eats _ vs (it blank (sign (codes "}")) us) (bare_property p ∷ []) (bare_properties ps) (ap (with_front []) (pattern_property_read p F.0 blank vs (ended ps us))) (more_pattern_properties_read ps F.1 us)
+
+  behind_brace_read : {ns : List Node} (is : AreProperties shapes.bindings ns) → PropertyForms is → (us : Items) → Reads assigned behind_brace (properties_tokens is us) (list_node (bare_properties is) ∷ absent ∷ []) us
+  behind_brace_read shapes.no_properties F us = rw (all_refused assigned pattern_property (exactly (sign (codes "}"))) (s (codes "}") us) at_token no_pattern_at_brace) refl
+  behind_brace_read (shapes.more_properties p ps) F us =
+      let vs = more_properties_tokens ps us in
+      rw (pattern_property_read p F.0 blank vs (ended ps us), repeated assigned (more pattern_property) vs (it blank (sign (codes "}")) us) (bare_properties ps) (more_pattern_properties_read ps F.1 us), append-nil (bare_properties ps)) refl
+
+  pub object_pattern_read : {ns : List Node} (is : AreProperties shapes.bindings ns) → PropertyForms is
+      → ReadAsPattern assigned (λ g us. it g (sign (codes "{")) (properties_tokens is us)) (bare (kind.ObjectPat false) (list_node (bare_properties is) ∷ absent ∷ []))
+  object_pattern_read is F = record {
+    reads = λ g us. pattern_is g (properties_tokens is us) us ∙ ap (λ o. built_on (form.Node plain.ObjectPat) (with_front [] o)) (behind_brace_read is F us);
+    no_dots = λ g us. refl;
+  }

@@ -20,7 +20,7 @@ use Rattle.ecma_tree.specs.declared.node.Node.{Node}
 use Rattle.ecma_tree.specs.Nodes.{node_of}
 use Rattle.ecma_print.specs.Layout.{layout}
 use Rattle.ecma_tokens.specs.Items.{render}
-use Rattle.ecma_reread.specs.Shapes.{Level, assignment, IsExpression, element, postfix_update, conditional_expression, assignment_expression, unary_expression, binary_expression, plus, times, IsPlainName, ident, key, absent, looser, name, null_word, this_word, member, call, parenthesized, one, spread, arguments, no_elements, more_elements, initializer, declarator, no_declarators, expression, declaration, object_literal, key_name, key_value, shorthand, initialized, spread_property, no_properties, more_properties, array, no_slots, filled, hole, member_of_new, member_of_object, index_of_callee, plain_key}
+use Rattle.ecma_reread.specs.Shapes.{Level, assignment, IsExpression, element, postfix_update, conditional_expression, assignment_expression, unary_expression, binary_expression, plus, times, IsPlainName, ident, key, absent, looser, name, null_word, this_word, member, call, parenthesized, one, spread, arguments, no_elements, more_elements, name_pattern, array_pattern, object_pattern, bound, rest, no_default, with_default, renamed, named, rest_property, no_initializer, more_declarators, initializer, declarator, no_declarators, expression, declaration, object_literal, key_name, key_value, shorthand, initialized, spread_property, no_properties, more_properties, array, no_slots, filled, hole, member_of_new, member_of_object, index_of_callee, plain_key}
 use Rattle.ecma_reread.specs.Modules.{statement, no_items, more_items, IsModule, module_of}
 use Rattle.ecma_reread.specs.ModuleTokens.{module_tokens}
 use Rattle.ecma_reread.proofs.Bindings.{further_out}
@@ -85,13 +85,29 @@ value_shape =
     let chosen = parenthesized at (conditional_expression at (out 17 id) (out 18 id) (out 18 id)) in
     out 10 (binary_expression at plus (out 3 (unary_expression at Minus (unary_expression at Minus (out 5 id)))) (binary_expression at times (out 6 held) (out 6 chosen)))
 
--- `const async = (this);`, `a.a(...a, [a, , { a: null, a, a = a, ...a }, ,]);`, `async(a, async).a;` and `a = - -a + a[a++] * (a ? a : a);`
+abbrev bound_a : Node
+bound_a = node_of at kind.BindingIdent (a ∷ gone ∷ [])
+
+abbrev bound_names : Node
+bound_names =
+    node_of at (kind.ArrayPat false)
+    (node_of at kind.List
+    (gone
+    ∷ node_of at (kind.ObjectPat false)
+    (node_of at kind.List
+    (node_of at kind.KeyValuePatProp (node_of at (kind.IdentName (codes "a")) [] ∷ node_of at kind.AssignPat (bound_a ∷ a ∷ []) ∷ [])
+    ∷ node_of at kind.AssignPatProp (bound_a ∷ gone ∷ []) ∷ node_of at kind.RestPat (bound_a ∷ gone ∷ []) ∷ [])
+    ∷ gone ∷ [])
+    ∷ node_of at kind.RestPat (bound_a ∷ gone ∷ []) ∷ [])
+    ∷ gone ∷ [])
+
+-- `const async = (this), [, { a: a = a, a, ...a }, ...a] = a;`, `a.a(...a, [a, , { a: null, a, a = a, ...a }, ,]);`, `async(a, async).a;` and `a = - -a + a[a++] * (a ? a : a);`
 abbrev tree : Node
 tree =
     node_of at (kind.Module None)
     (node_of at kind.List
     (node_of at (kind.VarDecl Const false)
-    (node_of at kind.List (node_of at (kind.VarDeclarator false) (node_of at kind.BindingIdent (async ∷ gone ∷ []) ∷ node_of at kind.ParenExpr (node_of at kind.ThisExpr [] ∷ []) ∷ []) ∷ []) ∷ [])
+    (node_of at kind.List (node_of at (kind.VarDeclarator false) (node_of at kind.BindingIdent (async ∷ gone ∷ []) ∷ node_of at kind.ParenExpr (node_of at kind.ThisExpr [] ∷ []) ∷ []) ∷ node_of at (kind.VarDeclarator false) (bound_names ∷ a ∷ []) ∷ []) ∷ [])
     ∷ node_of at kind.ExprStmt
     (node_of at kind.CallExpr
     (node_of at kind.MemberExpr (a ∷ node_of at (kind.IdentName (codes "a")) [] ∷ []) ∷ node_of at kind.List (node_of at kind.SpreadElement (a ∷ []) ∷ elements ∷ []) ∷ gone ∷ []) ∷ [])
@@ -110,16 +126,29 @@ shape =
     let value = out 18 (name id) in
     let object = object_literal at at (more_properties (key_value at (key_name (key at (codes "a") it')) (out 18 (null_word at))) (more_properties (shorthand id) (more_properties (initialized at id value) (more_properties (spread_property at value) no_properties)))) in
     let slots = array at at (filled (one (out 18 (name id))) (hole (absent at) (filled (one (out 18 object)) (hole (absent at) no_slots)))) in
+    let bound_a = name_pattern at id (absent at) in
+    let names =
+    array_pattern at at
+    (hole (absent at)
+    (filled
+    (bound
+    (no_default
+    (object_pattern at at
+    (more_properties (renamed at (key_name (key at (codes "a") it')) (with_default at bound_a value))
+    (more_properties (named at at id (absent at) (no_initializer (absent at))) (more_properties (rest_property at at id (absent at) (absent at)) no_properties)))
+    (absent at))))
+    (filled (rest at bound_a (absent at)) no_slots)))
+    (absent at) in
     module_of at at
-    (more_items (statement (declaration at at Const (declarator at at async' (absent at) (initializer (out 18 (parenthesized at (this_word at))))) no_declarators))
+    (more_items (statement (declaration at at Const (declarator at (name_pattern at async' (absent at)) (initializer (out 18 (parenthesized at (this_word at))))) (more_declarators (declarator at names (initializer value)) no_declarators)))
     (more_items (statement (expression at (call at (out 2 (member at member_of_new (name id) (plain_key (key at (codes "a") it')))) (arguments at (spread at (out 18 (name id))) (more_elements (one (out 18 slots)) no_elements)) (absent at)) refl))
     (more_items (statement (expression at (member at member_of_object (call at (out 2 (name async')) (arguments at (one (out 18 (name id))) (more_elements (one (out 18 (name async'))) no_elements)) (absent at)) (plain_key (key at (codes "a") it'))) refl))
     (more_items (statement (expression at (assignment_expression at Assign (out 2 (name id)) value_shape) refl)) no_items))))
 
-text : render (module_tokens shape) ≡ codes "const async = (this);\na.a(...a, [a, , { a: null, a, a = a, ...a }, ,]);\nasync(a, async).a;\na = - -a + a[a++] * (a ? a : a);\n"
+text : render (module_tokens shape) ≡ codes "const async = (this), [, { a: a = a, a, ...a }, ...a] = a;\na.a(...a, [a, , { a: null, a, a = a, ...a }, ,]);\nasync(a, async).a;\na = - -a + a[a++] * (a ? a : a);\n"
 unfolding render shape value_shape
 text = refl
 
-laid : layout tree ≡ codes "const async = (this);\na.a(...a, [a, , { a: null, a, a = a, ...a }, ,]);\nasync(a, async).a;\na = - -a + a[a++] * (a ? a : a);\n"
+laid : layout tree ≡ codes "const async = (this), [, { a: a = a, a, ...a }, ...a] = a;\na.a(...a, [a, , { a: null, a, a = a, ...a }, ,]);\nasync(a, async).a;\na = - -a + a[a++] * (a ? a : a);\n"
 unfolding shape
 laid = module_laid shape ∙ text

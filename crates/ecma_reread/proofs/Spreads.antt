@@ -1,47 +1,80 @@
 -- Arguments and elements of arrays, which may be spread, are read as they are laid out; and what is read of them as parameters and elements of a pattern.
 use Rattle.std.proofs.Common.{◌≡◌, Bool, true, [], ◌∷◌, codes, refl, ap, ◌∙◌}
 use Rattle.ecma_tree.specs.declared.node.Node.{Node}
+use Rattle.ecma_grammar.specs.declared.production.Part.TheVariants as part
 use Rattle.ecma_grammar.specs.declared.production.Form.TheVariants as form
 use Rattle.ecma_grammar.specs.declared.production.Plain.TheVariants as plain
-use Rattle.ecma_grammar.specs.Grammar.{punct}
+use Rattle.ecma_grammar.specs.declared.production.Flag.TheVariants.{Absent}
+use Rattle.ecma_grammar.specs.Grammar.{Grammar, put, ◌▸◌, punct, maybe}
+use Rattle.ecma_grammar.specs.productions.Names.{pattern, assign}
 use Rattle.ecma_grammar.specs.productions.Types.{rest_pattern}
 use Rattle.ecma_grammar.specs.productions.Patterns.{pattern_element}
 use Rattle.ecma_grammar.specs.productions.Primary.{element, spread}
 use Rattle.ecma_tokens.specs.Items.{no_gap, Gap, Items}
-use Rattle.ecma_reread.specs.Machine.{means}
+use Rattle.ecma_reread.specs.Machine.{read, followed_on, or_on, built_on, interp, means}
 use Rattle.ecma_reread.specs.Shapes as shapes
-use Rattle.ecma_reread.specs.Shapes.{IsElement}
-use Rattle.ecma_reread.specs.Tokens.{expression_tokens, expression_kind, expression_parts, element_tokens, bare_element}
+use Rattle.ecma_reread.specs.Shapes.{Role, IsElement, IsInitializer}
+use Rattle.ecma_reread.specs.Tokens.{blank, expression_tokens, expression_kind, expression_parts, element_tokens, bare_element, pattern_tokens, bare_pattern, defaulted_tokens, bare_defaulted, initializer_tokens, bare_initializer}
 use Rattle.ecma_reread.proofs.Fronts.{Front, Begins, refuses_at, refused_at}
 use Rattle.ecma_reread.proofs.Forms.{Laid, Reads, Refuses, Lead, AsItem, AsParam}
 use Rattle.ecma_reread.proofs.Bindings.{ends_no_equals, Stands, used}
 use Rattle.ecma_reread.proofs.Lists.{Followed}
-use Rattle.ecma_reread.proofs.Tried.{as_pattern, pattern_as_element, spread_param, spread_as_element}
+use Rattle.ecma_reread.proofs.Tried.{as_pattern, defaulted, pattern_as_element, spread_param, spread_as_element}
+
+-- the production of an element
+abbrev pub item_of : Role → Grammar
+item_of shapes.values = element
+item_of shapes.bindings = pattern_element
 
 module _ (assigned : Bool) where
+  -- a pattern as it is laid out, and one with a default value or none
+  pub record ReadAsPattern (f : Laid) (n : Node) : Type 0 where
+    pub reads : (g : Gap) (us : Items) → means assigned part.Pattern (f g us) ≡ read (n ∷ []) us
+    pub no_dots : (g : Gap) (us : Items) → Refuses assigned (punct (codes "...")) (f g us)
+
+  pub record ReadAsDefaulted (f : Laid) (n : Node) : Type 0 where
+    pub reads : (g : Gap) (us : Items) → Followed us → Reads assigned (defaulted assigned) (f g us) (n ∷ []) us
+    pub no_dots : (g : Gap) (us : Items) → Refuses assigned (punct (codes "...")) (f g us)
+
   -- what is said of an element
-  abbrev pub ElementForm : {n : Node} → IsElement n → Type 0
+  abbrev pub ElementForm : {role : Role} {n : Node} → IsElement role n → Type 0
   ElementForm (shapes.one e) = Stands assigned shapes.assignment (expression_tokens e) (expression_kind e) (expression_parts e)
   ElementForm (shapes.spread at e) = Stands assigned shapes.assignment (expression_tokens e) (expression_kind e) (expression_parts e)
+  ElementForm (shapes.bound p) = ReadAsDefaulted (defaulted_tokens p) (bare_defaulted p)
+  ElementForm (shapes.rest at p a) = ReadAsPattern (pattern_tokens p) (bare_pattern p)
+
+  -- and of a value behind `=`
+  abbrev pub InitializerForm : {n : Node} → IsInitializer n → Type 0
+  InitializerForm (shapes.no_initializer a) = Unit {0}
+  InitializerForm (shapes.initializer e) = Stands assigned shapes.assignment (expression_tokens e) (expression_kind e) (expression_parts e)
+
+  pub initializer_read : {n : Node} (i : IsInitializer n) → InitializerForm i → (us : Items) → Followed us → Reads assigned (maybe (punct (codes "=") ▸ assign)) (initializer_tokens i us) (bare_initializer i ∷ []) us
+  initializer_read (shapes.no_initializer a) S us F = rw (refused_at assigned (means assigned) (punct (codes "=")) F.front us F.begins (ends_no_equals F.front F.ends)) refl
+  initializer_read (shapes.initializer e) S us F = rw (used assigned S blank us F.front F.begins F.ends) refl
 
   pub no_rest : {f : Laid} → Lead assigned f → (g : Gap) (us : Items) → Refuses assigned rest_pattern (f g us)
   unfolding rest_pattern
   no_rest {f} L g us = rw (refused_at assigned (means assigned) (punct (codes "...")) L.front (f g us) (L.begins g us) L.no_spread) refl
 
-  pub element_read : {n : Node} (is : IsElement n) → ElementForm is → (g : Gap) (us : Items) → Followed us → Reads assigned element (element_tokens is g us) (bare_element is ∷ []) us
-  unfolding element spread
+  pub element_read : {role : Role} {n : Node} (is : IsElement role n) → ElementForm is → (g : Gap) (us : Items) → Followed us → Reads assigned (item_of role) (element_tokens is g us) (bare_element is ∷ []) us
+  unfolding element spread pattern_element rest_pattern
   element_read (shapes.one e) S g us F =
       let L = S.lead in
       rw (refused_at assigned (means assigned) (punct (codes "...")) L.front (expression_tokens e g us) (L.begins g us) L.no_spread, used assigned S g us F.front F.begins F.ends) refl
   element_read (shapes.spread at e) S g us F = rw (used assigned S no_gap us F.front F.begins F.ends) refl
+  element_read (shapes.bound p) D g us F =
+      let I = interp assigned (means assigned) in
+      let ts = defaulted_tokens p g us in
+      ap (or_on (I (defaulted assigned)) ts) (ap (built_on (form.Node plain.RestPat)) (ap (followed_on (I (pattern ▸ put Absent))) (D.no_dots g us))) ∙ D.reads g us F
+  element_read (shapes.rest at p a) P g us F = rw (P.reads no_gap us) refl
 
-  pub element_param : {n : Node} (is : IsElement n) → ElementForm is → (g : Gap) (us : Items) → Followed us → AsParam assigned (element_tokens is g us) us
+  pub element_param : {n : Node} (is : IsElement shapes.values n) → ElementForm is → (g : Gap) (us : Items) → Followed us → AsParam assigned (element_tokens is g us) us
   element_param (shapes.one e) S g us F = S.param g us F.front F.begins (ends_no_equals F.front F.ends, F.ends)
   element_param (shapes.spread at e) S g us F =
       let ts = expression_tokens e no_gap us in
       spread_param assigned g ts us (as_pattern assigned ts us (no_rest S.lead no_gap us) (S.param no_gap us F.front F.begins (ends_no_equals F.front F.ends, F.ends)))
 
-  pub element_as_pattern : {n : Node} (is : IsElement n) → ElementForm is → (g : Gap) (us : Items) → Followed us → AsItem assigned pattern_element (element_tokens is g us) us
+  pub element_as_pattern : {n : Node} (is : IsElement shapes.values n) → ElementForm is → (g : Gap) (us : Items) → Followed us → AsItem assigned pattern_element (element_tokens is g us) us
   element_as_pattern (shapes.one e) S g us F =
       let ts = expression_tokens e g us in
       let r = no_rest S.lead g us in

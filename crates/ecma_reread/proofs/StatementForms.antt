@@ -7,9 +7,9 @@ use Rattle.ecma_reread.specs.Shapes.{IsInitializer, IsDeclarator, AreDeclarators
 use Rattle.ecma_reread.specs.Tokens.{line_at, ident_word, closing_gap, is_braced, branch_gap, statement_tokens, block_tokens, case_tokens, cases_tokens, catch_tokens, lined_tokens, bare_statement, bare_block, bare_case, bare_cases, bare_catch, bare_statements}
 use Rattle.ecma_reread.proofs.Bindings.{standing}
 use Rattle.ecma_reread.proofs.Beginnings.{no_new_line, no_brace}
-use Rattle.ecma_reread.proofs.Calls.{ident_free, expression_form}
+use Rattle.ecma_reread.proofs.Calls.{ident_free, expression_form, pattern_form, initializer_form}
 use Rattle.ecma_reread.proofs.Statements.{ReadAsStatement, expression_statement_form}
-use Rattle.ecma_reread.proofs.Variables.{InitializerForm, DeclaratorForm, DeclaratorForms, declaration_form}
+use Rattle.ecma_reread.proofs.Variables.{DeclaratorForm, DeclaratorForms, declaration_form}
 use Rattle.ecma_reread.proofs.Jumps.{empty_form, debugger_form, return_form, break_form, continue_form, throw_form, return_value_form}
 use Rattle.ecma_reread.proofs.Blocks.{ReadAsStatements, no_statements_form, more_statements_form, ReadAsBlock, braces_form, block_statement}
 use Rattle.ecma_reread.proofs.Branches.{if_form, if_else_form}
@@ -20,12 +20,8 @@ use Rattle.ecma_reread.proofs.ForLoops.{OptionalForm, for_loop_form, for_in_form
 use Rattle.ecma_reread.proofs.Labels.{labeled_form, break_label_form, continue_label_form}
 
 module _ (assigned : Bool) where
-  initializer_form : {n : Node} (is : IsInitializer n) → InitializerForm assigned is
-  initializer_form (shapes.no_initializer a) = tt
-  initializer_form (shapes.initializer e) = expression_form assigned e
-
   pub declarator_form : {n : Node} (is : IsDeclarator n) → DeclaratorForm assigned is
-  declarator_form (shapes.declarator at at' i a e) = initializer_form e
+  declarator_form (shapes.declarator at p e) = (pattern_form assigned p, initializer_form assigned e)
 
   pub declarator_forms : {ds : List Node} (is : AreDeclarators ds) → DeclaratorForms assigned is
   declarator_forms shapes.no_declarators = tt

@@ -14,9 +14,9 @@ use Rattle.ecma_tokens.specs.Good.{IsGap, IsToken, is_gap_character}
 use Rattle.ecma_tokens.specs.Joins.{joins, joins_next, Joined}
 use Rattle.ecma_reread.specs.Shapes as shapes
 use Rattle.ecma_reread.specs.Shapes.{Level, IsExpression, Ending, IsStatement, IsBlock, IsCase, AreCases, IsCatch, AreStatements, IsOptional, IsForBinding}
-use Rattle.ecma_reread.specs.Tokens.{margin, line_at, blank, sign_of, expression_tokens, ident_word, declarators_tokens, closing_gap, is_braced, branch_gap, test_tokens, statement_tokens, block_tokens, case_tokens, cases_tokens, catch_tokens, lined_tokens, optional_tokens, for_binding_tokens, for_tokens}
+use Rattle.ecma_reread.specs.Tokens.{margin, line_at, blank, sign_of, expression_tokens, ident_word, declarators_tokens, closing_gap, is_braced, branch_gap, test_tokens, statement_tokens, block_tokens, case_tokens, cases_tokens, catch_tokens, lined_tokens, optional_tokens, for_binding_tokens, for_tokens, initializer_tokens}
 use Rattle.ecma_reread.proofs.Softs.{closing, semicolon, colon, Soft, is_object}
-use Rattle.ecma_reread.proofs.Beginnings.{begun, blank_joins, opening_joins}
+use Rattle.ecma_reread.proofs.Beginnings.{pattern_blank_joins, begun, blank_joins, opening_joins}
 use Rattle.ecma_reread.proofs.Joins.{ident_whole, no_gap_is, blank_is, Words, expression_joined, declarators_soft, declarator_joined, declarators_joined}
 
 -- gaps that keep any two tokens apart
@@ -161,8 +161,8 @@ module _ (words : Words) where
     statement_joined (shapes.break_nothing at n) d g h us a j = (h, words.break_whole, refl, ended us a j)
     statement_joined (shapes.continue_nothing at n) d g h us a j = (h, words.continue_whole, refl, ended us a j)
     statement_joined (shapes.expression at e z) d g h us a j = expression_joined words e g h (sign_of (codes ";") us) semicolon (ended us a j)
-    statement_joined (shapes.declaration at at' k (shapes.declarator p q i c e) ds) d g h us a j =
-        (h, keyword_whole k, refl, declarator_joined words (shapes.declarator p q i c e) (declarators_tokens ds (sign_of (codes ";") us)) (λ n. declarators_soft words ds n us) (declarators_joined words ds us (ended us a j)))
+    statement_joined (shapes.declaration at at' k (shapes.declarator q p e) ds) d g h us a j =
+        (h, keyword_whole k, pattern_blank_joins (items.key (keyword k)) p (initializer_tokens e (declarators_tokens ds (sign_of (codes ";") us))), declarator_joined words (shapes.declarator q p e) (declarators_tokens ds (sign_of (codes ";") us)) (λ n. declarators_soft words ds n us) (declarators_joined words ds us (ended us a j)))
     statement_joined (shapes.break_label at i) d g h us a j = (h, words.break_whole, refl, (blank_is, ident_whole i, refl, ended us a j))
     statement_joined (shapes.continue_label at i) d g h us a j = (h, words.continue_whole, refl, (blank_is, ident_whole i, refl, ended us a j))
     statement_joined (shapes.block b) d g h us a j = block_joined b d g h us a j

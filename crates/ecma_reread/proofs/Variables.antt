@@ -29,8 +29,8 @@ use Rattle.ecma_tokens.specs.Items as items
 use Rattle.ecma_tokens.specs.Items.{sign, Gap, Items, it}
 use Rattle.ecma_reread.specs.Machine.{read, with_front, followed_on, or_on, built_on, interp, means}
 use Rattle.ecma_reread.specs.Shapes as shapes
-use Rattle.ecma_reread.specs.Shapes.{IsInitializer, IsDeclarator, AreDeclarators}
-use Rattle.ecma_reread.specs.Tokens.{bare, blank, expression_tokens, expression_kind, expression_parts, ident_word, initializer_tokens, declarator_tokens, declarators_tokens, bare_initializer, bare_declarator, bare_declarators}
+use Rattle.ecma_reread.specs.Shapes.{IsInitializer, IsDeclarator, AreDeclarators, IsPattern}
+use Rattle.ecma_reread.specs.Tokens.{bare, blank, expression_tokens, expression_kind, expression_parts, ident_word, initializer_tokens, declarator_tokens, declarators_tokens, bare_initializer, bare_declarator, bare_declarators, bare_pattern, pattern_tokens}
 use Rattle.ecma_reread.proofs.Levels.{means_is}
 use Rattle.ecma_reread.proofs.Fronts.{Front, exactly, Begins, at_token, refuses_at, refused_at}
 use Rattle.ecma_reread.proofs.Towers.{refuses_choices, Ends}
@@ -41,6 +41,8 @@ use Rattle.ecma_reread.proofs.Repeats.{Repeats, repeats_end, repeats_more, repea
 use Rattle.ecma_reread.proofs.Expressions.{comma_ends, semicolon_ends}
 use Rattle.ecma_reread.proofs.Calls.{ident_free}
 use Rattle.ecma_reread.proofs.Statements.{closes_statement, ReadAsStatement, token_form}
+use Rattle.ecma_reread.proofs.Lists.{Followed}
+use Rattle.ecma_reread.proofs.Spreads.{ReadAsPattern, InitializerForm, initializer_read}
 
 -- the word of a declaration begins nothing that is tried before one
 record Declares (w : List ℕ) : Type 0 where
@@ -66,14 +68,15 @@ binding w = bare kind.BindingIdent (bare (kind.Ident w 0 false) [] ∷ absent �
 pub declarator_made : (w : List ℕ) (init : Node) → made form.Declarator 0 0 (binding w ∷ absent ∷ absent ∷ init ∷ []) ≡ bare (kind.VarDeclarator false) (binding w ∷ init ∷ [])
 declarator_made w init = simp nodes
 
-module _ (assigned : Bool) where
-  -- what is said of each value
-  abbrev pub InitializerForm : {n : Node} → IsInitializer n → Type 0
-  InitializerForm (shapes.no_initializer a) = Unit {0}
-  InitializerForm (shapes.initializer e) = Stands assigned shapes.assignment (expression_tokens e) (expression_kind e) (expression_parts e)
+-- a pattern has no annotation
+pattern_declared : {n : Node} (p : IsPattern n) (init : Node) → made form.Declarator 0 0 (bare_pattern p ∷ absent ∷ absent ∷ init ∷ []) ≡ bare (kind.VarDeclarator false) (bare_pattern p ∷ init ∷ [])
+pattern_declared (shapes.name_pattern at i a) init = declarator_made (ident_word i) init
+pattern_declared (shapes.array_pattern at at' es a) init = simp nodes
+pattern_declared (shapes.object_pattern at at' ps a) init = simp nodes
 
+module _ (assigned : Bool) where
   abbrev pub DeclaratorForm : {n : Node} → IsDeclarator n → Type 0
-  DeclaratorForm (shapes.declarator at at' i a e) = InitializerForm e
+  DeclaratorForm (shapes.declarator at p e) = ReadAsPattern assigned (pattern_tokens p) (bare_pattern p) × InitializerForm assigned e
 
   abbrev pub DeclaratorForms : {ds : List Node} → AreDeclarators ds → Type 0
   DeclaratorForms shapes.no_declarators = Unit {0}
@@ -83,26 +86,16 @@ module _ (assigned : Bool) where
   unfolding pattern_body names.binding_ident
   pattern_read w n g us = rw (means_is assigned part.Pattern (it g (items.key w) us), n) refl
 
-  -- what follows a declarator
-  record Follows (us : Items) : Type 0 where
-    pub front : Front
-    pub begins : Begins front us
-    pub ends : Ends front
-    pub no_equals : refuses_at front (punct (codes "=")) ≡ true
+  declarator_read : {n : Node} (d : IsDeclarator n) → DeclaratorForm d → (us : Items) → Followed us → Reads assigned (declarator false) (declarator_tokens d us) (bare_declarator d ∷ []) us
+  declarator_read (shapes.declarator at p e) F us w =
+      let P = F.0 in
+      ap (built_on form.Declarator) (ap (followed_on (interp assigned (means assigned) (whether (marked (punct (codes "!"))) ▸ annotation ▸ maybe (punct (codes "=") ▸ assign_in false)))) (P.reads blank (initializer_tokens e us))
+      ∙ ap (with_front (bare_pattern p ∷ [])) (ap (with_front (absent ∷ [])) (ap (with_front (absent ∷ [])) (initializer_read assigned e F.1 us w))))
+      ∙ ap (λ x. read (x ∷ []) us) (pattern_declared p (bare_initializer e))
 
-  initializer_read : {n : Node} (i : IsInitializer n) → InitializerForm i → (us : Items) → Follows us → Reads assigned (maybe (punct (codes "=") ▸ assign_in false)) (initializer_tokens i us) (bare_initializer i ∷ []) us
-  initializer_read (shapes.no_initializer a) S us F = rw (refused_at assigned (means assigned) (punct (codes "=")) F.front us F.begins F.no_equals) refl
-  initializer_read (shapes.initializer e) S us F = rw (used assigned S blank us F.front F.begins F.ends) refl
-
-  declarator_read : {n : Node} (d : IsDeclarator n) → DeclaratorForm d → (us : Items) → Follows us → Reads assigned (declarator false) (declarator_tokens d us) (bare_declarator d ∷ []) us
-  declarator_read (shapes.declarator at at' i a e) S us F =
-      ap (built_on form.Declarator) (ap (followed_on (interp assigned (means assigned) (whether (marked (punct (codes "!"))) ▸ annotation ▸ maybe (punct (codes "=") ▸ assign_in false)))) (pattern_read (ident_word i) (ident_free assigned i) blank (initializer_tokens e us))
-      ∙ ap (with_front (binding (ident_word i) ∷ [])) (ap (with_front (absent ∷ [])) (ap (with_front (absent ∷ [])) (initializer_read e S us F))))
-      ∙ ap (λ x. read (x ∷ []) us) (declarator_made (ident_word i) (bare_initializer e))
-
-  more_follow : {ds : List Node} (is : AreDeclarators ds) (us : Items) → Follows (declarators_tokens is (s (codes ";") us))
-  more_follow shapes.no_declarators us = record { front = exactly (sign (codes ";")); begins = at_token; ends = semicolon_ends; no_equals = refl }
-  more_follow (shapes.more_declarators d ds) us = record { front = exactly (sign (codes ",")); begins = at_token; ends = comma_ends; no_equals = refl }
+  more_follow : {ds : List Node} (is : AreDeclarators ds) (us : Items) → Followed (declarators_tokens is (s (codes ";") us))
+  more_follow shapes.no_declarators us = record { front = exactly (sign (codes ";")); begins = at_token; ends = semicolon_ends }
+  more_follow (shapes.more_declarators d ds) us = record { front = exactly (sign (codes ",")); begins = at_token; ends = comma_ends }
 
   more_read : {ds : List Node} (is : AreDeclarators ds) → DeclaratorForms is → (us : Items) → Repeats assigned (punct (codes ",") ▸ declarator false) (declarators_tokens is (s (codes ";") us)) (bare_declarators is) (s (codes ";") us)
   more_read shapes.no_declarators S us = repeats_end assigned (punct (codes ",") ▸ declarator false) (s (codes ";") us) refl

@@ -2,12 +2,13 @@
 use Rattle.std.proofs.Common.{true, false, ◌≡◌, List, [], ◌∷◌, map, refl, ap, ap₂, ◌∙◌}
 use Rattle.ecma_kind.specs.declared.operators.BinaryOp.TheVariants as op
 use Rattle.ecma_kind.specs.declared.kind.Kind.TheVariants as kind
+use Rattle.ecma_kind.specs.declared.span.Span.{Span}
 use Rattle.ecma_tree.specs.declared.node.Node.{Node}
-use Rattle.ecma_tree.specs.Nodes.{absent, list_node}
+use Rattle.ecma_tree.specs.Nodes.{absent, list_node, node_of}
 use Rattle.ecma_tree.specs.Spans.{without_spans}
 use Rattle.ecma_reread.specs.Shapes as shapes
-use Rattle.ecma_reread.specs.Shapes.{Level, IsIdent, ident, IsKey, key, IsAbsent, IsExpression, IsElement, IsArguments, AreElements, AreExpressions, IsInitializer, IsDeclarator, AreDeclarators, Ending, IsStatement, IsBlock, AreStatements, AreSlots, IsCase, AreCases, IsCatch, IsChainKey, IsOptional, IsForBinding, IsPropertyName, IsProperty, AreProperties}
-use Rattle.ecma_reread.specs.Tokens.{bare, bare_ident, key_word, bare_expression, bare_element, bare_arguments, bare_elements, bare_expressions, bare_initializer, bare_declarator, bare_declarators, bare_statement, bare_block, bare_statements, bare_slots, bare_case, bare_cases, bare_catch, chain_kind, bare_optional, bare_for_binding, bare_property_name, bare_property, bare_properties}
+use Rattle.ecma_reread.specs.Shapes.{Level, IsIdent, ident, IsKey, key, IsAbsent, IsExpression, IsElement, IsArguments, AreElements, AreExpressions, IsInitializer, IsDeclarator, AreDeclarators, Ending, IsStatement, IsBlock, AreStatements, AreSlots, IsCase, AreCases, IsCatch, IsChainKey, IsOptional, IsForBinding, IsPropertyName, IsProperty, AreProperties, Role, IsPattern, IsDefaulted}
+use Rattle.ecma_reread.specs.Tokens.{bare, bare_ident, key_word, bare_expression, bare_element, bare_arguments, bare_elements, bare_expressions, bare_initializer, bare_declarator, bare_declarators, bare_statement, bare_block, bare_statements, bare_slots, bare_case, bare_cases, bare_catch, chain_kind, bare_optional, bare_for_binding, bare_property_name, bare_property, bare_properties, bare_pattern, bare_defaulted}
 use Rattle.ecma_reread.proofs.Unplaced.{without_spans-node}
 
 pub absent_bare : {n : Node} → IsAbsent n → without_spans n ≡ absent
@@ -22,6 +23,9 @@ key_bare (key at w t) = without_spans-node at _ []
 chain_key_bare : {n : Node} (k : IsChainKey n) → without_spans n ≡ bare (chain_kind k) []
 chain_key_bare (shapes.plain_key k) = key_bare k
 chain_key_bare (shapes.private_key at name t) = without_spans-node at _ []
+
+binding_bare : (at : Span) {id none : Node} (i : IsIdent id) → IsAbsent none → without_spans (node_of at kind.BindingIdent (id ∷ none ∷ [])) ≡ bare kind.BindingIdent (bare_ident i ∷ absent ∷ [])
+binding_bare at i a = without_spans-node at kind.BindingIdent _ ∙ ap₂ (λ x y. bare kind.BindingIdent (x ∷ y ∷ [])) (ident_bare i) (absent_bare a)
 
 mutual
   pub expression_bare : {level : Level} {e : Node} (is : IsExpression level e) → without_spans e ≡ bare_expression is
@@ -77,11 +81,13 @@ mutual
   arguments_bare (shapes.no_arguments at) = without_spans-node at kind.List []
   arguments_bare (shapes.arguments at e es) = without_spans-node at kind.List _ ∙ ap₂ (λ x xs. list_node (x ∷ xs)) (element_bare e) (elements_bare es)
 
-  element_bare : {n : Node} (is : IsElement n) → without_spans n ≡ bare_element is
+  element_bare : {role : Role} {n : Node} (is : IsElement role n) → without_spans n ≡ bare_element is
   element_bare (shapes.one e) = expression_bare e
   element_bare (shapes.spread at e) = without_spans-node at kind.SpreadElement _ ∙ ap (λ x. bare kind.SpreadElement (x ∷ [])) (expression_bare e)
+  element_bare (shapes.bound p) = defaulted_bare p
+  element_bare (shapes.rest at p a) = without_spans-node at kind.RestPat _ ∙ ap₂ (λ x y. bare kind.RestPat (x ∷ y ∷ [])) (pattern_bare p) (absent_bare a)
 
-  slots_bare : {ns : List Node} (is : AreSlots ns) → map without_spans ns ≡ bare_slots is
+  slots_bare : {role : Role} {ns : List Node} (is : AreSlots role ns) → map without_spans ns ≡ bare_slots is
   slots_bare shapes.no_slots = refl
   slots_bare (shapes.filled e es) = ap₂ (λ x xs. x ∷ xs) (element_bare e) (slots_bare es)
   slots_bare (shapes.hole a es) = ap₂ (λ x xs. x ∷ xs) (absent_bare a) (slots_bare es)
@@ -93,15 +99,33 @@ mutual
   property_name_bare (shapes.big_int_name at raw t) = without_spans-node at _ []
   property_name_bare (shapes.computed_name at e) = without_spans-node at kind.ComputedPropName _ ∙ ap (λ x. bare kind.ComputedPropName (x ∷ [])) (expression_bare e)
 
-  property_bare : {n : Node} (is : IsProperty n) → without_spans n ≡ bare_property is
+  property_bare : {role : Role} {n : Node} (is : IsProperty role n) → without_spans n ≡ bare_property is
   property_bare (shapes.key_value at k v) = without_spans-node at kind.KeyValueProp _ ∙ ap₂ (λ x y. bare kind.KeyValueProp (x ∷ y ∷ [])) (property_name_bare k) (expression_bare v)
   property_bare (shapes.shorthand i) = ident_bare i
   property_bare (shapes.initialized at i v) = without_spans-node at kind.AssignProp _ ∙ ap₂ (λ x y. bare kind.AssignProp (x ∷ y ∷ [])) (ident_bare i) (expression_bare v)
   property_bare (shapes.spread_property at e) = without_spans-node at kind.SpreadElement _ ∙ ap (λ x. bare kind.SpreadElement (x ∷ [])) (expression_bare e)
+  property_bare (shapes.renamed at k p) = without_spans-node at kind.KeyValuePatProp _ ∙ ap₂ (λ x y. bare kind.KeyValuePatProp (x ∷ y ∷ [])) (property_name_bare k) (defaulted_bare p)
+  property_bare (shapes.named at at' i a v) = without_spans-node at kind.AssignPatProp _ ∙ ap₂ (λ x y. bare kind.AssignPatProp (x ∷ y ∷ [])) (binding_bare at' i a) (initializer_bare v)
+  property_bare (shapes.rest_property at at' i a b) = without_spans-node at kind.RestPat _ ∙ ap₂ (λ x y. bare kind.RestPat (x ∷ y ∷ [])) (binding_bare at' i a) (absent_bare b)
 
-  properties_bare : {ns : List Node} (is : AreProperties ns) → map without_spans ns ≡ bare_properties is
+  properties_bare : {role : Role} {ns : List Node} (is : AreProperties role ns) → map without_spans ns ≡ bare_properties is
   properties_bare shapes.no_properties = refl
   properties_bare (shapes.more_properties p ps) = ap₂ (λ x xs. x ∷ xs) (property_bare p) (properties_bare ps)
+
+  pattern_bare : {n : Node} (is : IsPattern n) → without_spans n ≡ bare_pattern is
+  pattern_bare (shapes.name_pattern at i a) = binding_bare at i a
+  pattern_bare (shapes.array_pattern at at' es a) =
+      without_spans-node at (kind.ArrayPat false) _ ∙ ap₂ (λ x y. bare (kind.ArrayPat false) (x ∷ y ∷ [])) (without_spans-node at' kind.List _ ∙ ap list_node (slots_bare es)) (absent_bare a)
+  pattern_bare (shapes.object_pattern at at' ps a) =
+      without_spans-node at (kind.ObjectPat false) _ ∙ ap₂ (λ x y. bare (kind.ObjectPat false) (x ∷ y ∷ [])) (without_spans-node at' kind.List _ ∙ ap list_node (properties_bare ps)) (absent_bare a)
+
+  defaulted_bare : {n : Node} (is : IsDefaulted n) → without_spans n ≡ bare_defaulted is
+  defaulted_bare (shapes.no_default p) = pattern_bare p
+  defaulted_bare (shapes.with_default at p e) = without_spans-node at kind.AssignPat _ ∙ ap₂ (λ x y. bare kind.AssignPat (x ∷ y ∷ [])) (pattern_bare p) (expression_bare e)
+
+  initializer_bare : {n : Node} (is : IsInitializer n) → without_spans n ≡ bare_initializer is
+  initializer_bare (shapes.no_initializer a) = absent_bare a
+  initializer_bare (shapes.initializer e) = expression_bare e
 
   elements_bare : {es : List Node} (is : AreElements es) → map without_spans es ≡ bare_elements is
   elements_bare shapes.no_elements = refl
@@ -111,14 +135,8 @@ mutual
   expressions_bare shapes.no_expressions = refl
   expressions_bare (shapes.more_expressions e es) = ap₂ (λ x xs. x ∷ xs) (expression_bare e) (expressions_bare es)
 
-initializer_bare : {n : Node} (is : IsInitializer n) → without_spans n ≡ bare_initializer is
-initializer_bare (shapes.no_initializer a) = absent_bare a
-initializer_bare (shapes.initializer e) = expression_bare e
-
 declarator_bare : {n : Node} (is : IsDeclarator n) → without_spans n ≡ bare_declarator is
-declarator_bare (shapes.declarator at at' i a e) =
-    without_spans-node at (kind.VarDeclarator false) _
-    ∙ ap₂ (λ x y. bare (kind.VarDeclarator false) (x ∷ y ∷ [])) (without_spans-node at' kind.BindingIdent _ ∙ ap₂ (λ x y. bare kind.BindingIdent (x ∷ y ∷ [])) (ident_bare i) (absent_bare a)) (initializer_bare e)
+declarator_bare (shapes.declarator at p e) = without_spans-node at (kind.VarDeclarator false) _ ∙ ap₂ (λ x y. bare (kind.VarDeclarator false) (x ∷ y ∷ [])) (pattern_bare p) (initializer_bare e)
 
 declarators_bare : {ds : List Node} (is : AreDeclarators ds) → map without_spans ds ≡ bare_declarators is
 declarators_bare shapes.no_declarators = refl

@@ -119,6 +119,10 @@ pub data IsCoalesceHead : Level → Type 0 where
   first_head : IsCoalesceHead bit_or
   next_head : IsCoalesceHead coalescing
 
+-- what the brackets or braces round a list stand for: a value, or a pattern that declares names
+pub data Role : Type 0 where
+  values bindings : Role
+
 mutual
   -- at a level: its own, or a looser one
   pub data IsExpression : Level → Node → Type 0 where
@@ -165,20 +169,22 @@ mutual
     yield_nothing : (at : Span) {none : Node} → IsAbsent none → IsExpression assignment (node_of at (kind.YieldExpr false) (none ∷ []))
     -- `yield`, or `yield*`
     yield_value : (at : Span) (delegate : Bool) {e : Node} → IsExpression assignment e → IsExpression assignment (node_of at (kind.YieldExpr delegate) (e ∷ []))
-    array : (at of_list : Span) {slots : List Node} → AreSlots slots → IsExpression new_callee (node_of at kind.ArrayLit (node_of of_list kind.List slots ∷ []))
-    object_literal : (at of_list : Span) {properties : List Node} → AreProperties properties → IsExpression new_callee (node_of at kind.ObjectLit (node_of of_list kind.List properties ∷ []))
+    array : (at of_list : Span) {slots : List Node} → AreSlots values slots → IsExpression new_callee (node_of at kind.ArrayLit (node_of of_list kind.List slots ∷ []))
+    object_literal : (at of_list : Span) {properties : List Node} → AreProperties values properties → IsExpression new_callee (node_of at kind.ObjectLit (node_of of_list kind.List properties ∷ []))
     sequence_expression : (at : Span) {first second : Node} {more : List Node} → IsExpression assignment first → IsExpression assignment second → AreExpressions more → IsExpression sequence (node_of at kind.SeqExpr (first ∷ second ∷ more))
 
-  -- an argument, or an element of an array: an expression, or the values of one
-  pub data IsElement : Node → Type 0 where
-    one : {e : Node} → IsExpression assignment e → IsElement e
-    spread : (at : Span) {e : Node} → IsExpression assignment e → IsElement (node_of at kind.SpreadElement (e ∷ []))
+  -- an argument, or an element of an array: an expression, or the values of one; and the same of a pattern
+  pub data IsElement : Role → Node → Type 0 where
+    one : {e : Node} → IsExpression assignment e → IsElement values e
+    spread : (at : Span) {e : Node} → IsExpression assignment e → IsElement values (node_of at kind.SpreadElement (e ∷ []))
+    bound : {p : Node} → IsDefaulted p → IsElement bindings p
+    rest : (at : Span) {p none : Node} → IsPattern p → IsAbsent none → IsElement bindings (node_of at kind.RestPat (p ∷ none ∷ []))
 
-  -- the elements of an array, and its holes
-  pub data AreSlots : List Node → Type 0 where
-    no_slots : AreSlots []
-    filled : {e : Node} {slots : List Node} → IsElement e → AreSlots slots → AreSlots (e ∷ slots)
-    hole : {none : Node} {slots : List Node} → IsAbsent none → AreSlots slots → AreSlots (none ∷ slots)
+  -- the elements of an array or an array pattern, and holes
+  pub data AreSlots : Role → List Node → Type 0 where
+    no_slots : {role : Role} → AreSlots role []
+    filled : {role : Role} {e : Node} {slots : List Node} → IsElement role e → AreSlots role slots → AreSlots role (e ∷ slots)
+    hole : {role : Role} {none : Node} {slots : List Node} → IsAbsent none → AreSlots role slots → AreSlots role (none ∷ slots)
 
   -- what stands before the `:` of a property
   pub data IsPropertyName : Node → Type 0 where
@@ -188,24 +194,42 @@ mutual
     big_int_name : (at : Span) (raw : List ℕ) → IsToken big_end raw → IsPropertyName (node_of at (kind.BigInt (without_separators (piece raw 0 (length raw - 1))) (Some raw)) [])
     computed_name : (at : Span) {e : Node} → IsExpression assignment e → IsPropertyName (node_of at kind.ComputedPropName (e ∷ []))
 
-  pub data IsProperty : Node → Type 0 where
-    key_value : (at : Span) {name value : Node} → IsPropertyName name → IsExpression assignment value → IsProperty (node_of at kind.KeyValueProp (name ∷ value ∷ []))
-    shorthand : {id : Node} → IsIdent id → IsProperty id
+  pub data IsProperty : Role → Node → Type 0 where
+    key_value : (at : Span) {name value : Node} → IsPropertyName name → IsExpression assignment value → IsProperty values (node_of at kind.KeyValueProp (name ∷ value ∷ []))
+    shorthand : {id : Node} → IsIdent id → IsProperty values id
     -- a name and a default value, where the object is assigned to
-    initialized : (at : Span) {id value : Node} → IsIdent id → IsExpression assignment value → IsProperty (node_of at kind.AssignProp (id ∷ value ∷ []))
-    spread_property : (at : Span) {e : Node} → IsExpression assignment e → IsProperty (node_of at kind.SpreadElement (e ∷ []))
+    initialized : (at : Span) {id value : Node} → IsIdent id → IsExpression assignment value → IsProperty values (node_of at kind.AssignProp (id ∷ value ∷ []))
+    spread_property : (at : Span) {e : Node} → IsExpression assignment e → IsProperty values (node_of at kind.SpreadElement (e ∷ []))
+    renamed : (at : Span) {name p : Node} → IsPropertyName name → IsDefaulted p → IsProperty bindings (node_of at kind.KeyValuePatProp (name ∷ p ∷ []))
+    named : (at at_binding : Span) {id none value : Node} → IsIdent id → IsAbsent none → IsInitializer value → IsProperty bindings (node_of at kind.AssignPatProp (node_of at_binding kind.BindingIdent (id ∷ none ∷ []) ∷ value ∷ []))
+    rest_property : (at at_binding : Span) {id none none' : Node} → IsIdent id → IsAbsent none → IsAbsent none' → IsProperty bindings (node_of at kind.RestPat (node_of at_binding kind.BindingIdent (id ∷ none ∷ []) ∷ none' ∷ []))
 
-  pub data AreProperties : List Node → Type 0 where
-    no_properties : AreProperties []
-    more_properties : {p : Node} {ps : List Node} → IsProperty p → AreProperties ps → AreProperties (p ∷ ps)
+  pub data AreProperties : Role → List Node → Type 0 where
+    no_properties : {role : Role} → AreProperties role []
+    more_properties : {role : Role} {p : Node} {ps : List Node} → IsProperty role p → AreProperties role ps → AreProperties role (p ∷ ps)
+
+  -- what is declared: a name, or those in an array or object pattern (ECMAScript, 14.3.3)
+  pub data IsPattern : Node → Type 0 where
+    name_pattern : (at : Span) {id none : Node} → IsIdent id → IsAbsent none → IsPattern (node_of at kind.BindingIdent (id ∷ none ∷ []))
+    array_pattern : (at of_list : Span) {slots : List Node} {none : Node} → AreSlots bindings slots → IsAbsent none → IsPattern (node_of at (kind.ArrayPat false) (node_of of_list kind.List slots ∷ none ∷ []))
+    object_pattern : (at of_list : Span) {properties : List Node} {none : Node} → AreProperties bindings properties → IsAbsent none → IsPattern (node_of at (kind.ObjectPat false) (node_of of_list kind.List properties ∷ none ∷ []))
+
+  -- a pattern with a default value, or without one
+  pub data IsDefaulted : Node → Type 0 where
+    no_default : {p : Node} → IsPattern p → IsDefaulted p
+    with_default : (at : Span) {p e : Node} → IsPattern p → IsExpression assignment e → IsDefaulted (node_of at kind.AssignPat (p ∷ e ∷ []))
+
+  pub data IsInitializer : Node → Type 0 where
+    no_initializer : {none : Node} → IsAbsent none → IsInitializer none
+    initializer : {e : Node} → IsExpression assignment e → IsInitializer e
 
   pub data IsArguments : Node → Type 0 where
     no_arguments : (at : Span) → IsArguments (node_of at kind.List [])
-    arguments : (at : Span) {e : Node} {es : List Node} → IsElement e → AreElements es → IsArguments (node_of at kind.List (e ∷ es))
+    arguments : (at : Span) {e : Node} {es : List Node} → IsElement values e → AreElements es → IsArguments (node_of at kind.List (e ∷ es))
 
   pub data AreElements : List Node → Type 0 where
     no_elements : AreElements []
-    more_elements : {e : Node} {es : List Node} → IsElement e → AreElements es → AreElements (e ∷ es)
+    more_elements : {e : Node} {es : List Node} → IsElement values e → AreElements es → AreElements (e ∷ es)
 
   pub data AreExpressions : List Node → Type 0 where
     no_expressions : AreExpressions []
@@ -229,13 +253,8 @@ begins_with_brace (sequence_expression at x y es) = begins_with_brace x
 begins_with_brace (object_literal at at' ps) = true
 begins_with_brace e = false
 
-pub data IsInitializer : Node → Type 0 where
-  no_initializer : {none : Node} → IsAbsent none → IsInitializer none
-  initializer : {e : Node} → IsExpression assignment e → IsInitializer e
-
 pub data IsDeclarator : Node → Type 0 where
-  declarator : (at at_binding : Span) {id none init : Node} → IsIdent id → IsAbsent none → IsInitializer init
-      → IsDeclarator (node_of at (kind.VarDeclarator false) (node_of at_binding kind.BindingIdent (id ∷ none ∷ []) ∷ init ∷ []))
+  declarator : (at : Span) {p init : Node} → IsPattern p → IsInitializer init → IsDeclarator (node_of at (kind.VarDeclarator false) (p ∷ init ∷ []))
 
 pub data AreDeclarators : List Node → Type 0 where
   no_declarators : AreDeclarators []

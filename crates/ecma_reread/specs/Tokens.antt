@@ -23,7 +23,7 @@ use Rattle.ecma_print.specs.Operators.{unary_sign, update_sign}
 use Rattle.ecma_print.specs.Statements.{keyword}
 use Rattle.ecma_tokens.specs.Items as items
 use Rattle.ecma_tokens.specs.Items.{Tok, sign, Gap, no_gap, Items, it}
-use Rattle.ecma_reread.specs.Shapes.{IsIdent, ident, IsKey, key, Level, IsExpression, looser, element, prefix_update, postfix_update, await_expression, unary_expression, binary_expression, exponentiation, both, either, coalesced, assignment_expression, conditional_expression, sequence_expression, name, string, number, this_word, big_int, null_word, true_word, false_word, member, call, parenthesized, IsElement, one, spread, IsArguments, no_arguments, arguments, AreElements, no_elements, more_elements, AreExpressions, no_expressions, more_expressions, IsInitializer, no_initializer, initializer, IsDeclarator, declarator, AreDeclarators, no_declarators, more_declarators, IsStatement, expression, declaration, empty, debugger_word, throw, return_value, return_nothing, break_nothing, continue_nothing, Ending, break_label, continue_label, block, if_only, if_else, while_loop, do_loop, labeled, IsBlock, block_of, AreStatements, no_statements, more_statements, array, AreSlots, no_slots, filled, hole, switch_statement, IsCase, case_of, default_of, AreCases, no_cases, more_cases, new_expression, new_alone, new_target, try_catch, try_finally, try_catch_finally, IsCatch, catch_any, catch_name, IsChainKey, plain_key, private_key, super_member, super_element, super_call, IsOptional, left_out, given, IsForBinding, for_binding, for_loop, for_in, for_of, object_literal, IsPropertyName, key_name, string_name, number_name, big_int_name, computed_name, IsProperty, key_value, shorthand, initialized, spread_property, AreProperties, no_properties, more_properties, private_in, yield_nothing, yield_value, import_meta, import_call, regex, regex_text}
+use Rattle.ecma_reread.specs.Shapes.{IsIdent, ident, IsKey, key, Level, IsExpression, looser, element, prefix_update, postfix_update, await_expression, unary_expression, binary_expression, exponentiation, both, either, coalesced, assignment_expression, conditional_expression, sequence_expression, name, string, number, this_word, big_int, null_word, true_word, false_word, member, call, parenthesized, IsElement, one, spread, IsArguments, no_arguments, arguments, AreElements, no_elements, more_elements, AreExpressions, no_expressions, more_expressions, IsInitializer, no_initializer, initializer, IsDeclarator, declarator, AreDeclarators, no_declarators, more_declarators, IsStatement, expression, declaration, empty, debugger_word, throw, return_value, return_nothing, break_nothing, continue_nothing, Ending, break_label, continue_label, block, if_only, if_else, while_loop, do_loop, labeled, IsBlock, block_of, AreStatements, no_statements, more_statements, array, AreSlots, no_slots, filled, hole, switch_statement, IsCase, case_of, default_of, AreCases, no_cases, more_cases, new_expression, new_alone, new_target, try_catch, try_finally, try_catch_finally, IsCatch, catch_any, catch_name, IsChainKey, plain_key, private_key, super_member, super_element, super_call, IsOptional, left_out, given, IsForBinding, for_binding, for_loop, for_in, for_of, object_literal, IsPropertyName, key_name, string_name, number_name, big_int_name, computed_name, IsProperty, key_value, shorthand, initialized, spread_property, AreProperties, no_properties, more_properties, private_in, yield_nothing, yield_value, import_meta, import_call, regex, regex_text, Role, bound, rest, renamed, named, rest_property, IsPattern, name_pattern, array_pattern, object_pattern, IsDefaulted, no_default, with_default}
 
 abbrev pub blank : Gap
 blank = record { blanks = codes " "; new_line = false }
@@ -177,18 +177,20 @@ abbrev mutual
   expression_tokens (object_literal at at' ps) g us = it g (sign (codes "{")) (properties_tokens ps us)
   expression_tokens (sequence_expression at x y es) g us = expression_tokens x g (sign_of (codes ",") (expression_tokens y blank (more_tokens es us)))
 
-  pub element_tokens : {n : Node} → IsElement n → Gap → Items → Items
+  pub element_tokens : {role : Role} {n : Node} → IsElement role n → Gap → Items → Items
   element_tokens (one e) g us = expression_tokens e g us
   element_tokens (spread at e) g us = it g (sign (codes "...")) (expression_tokens e no_gap us)
+  element_tokens (bound p) g us = defaulted_tokens p g us
+  element_tokens (rest at p a) g us = it g (sign (codes "...")) (pattern_tokens p no_gap us)
 
   -- behind `[`
-  pub slots_tokens : {ns : List Node} → AreSlots ns → Items → Items
+  pub slots_tokens : {role : Role} {ns : List Node} → AreSlots role ns → Items → Items
   slots_tokens no_slots us = sign_of (codes "]") us
   slots_tokens (filled e es) us = element_tokens e no_gap (more_slots_tokens es false no_gap us)
   slots_tokens (hole a es) us = more_slots_tokens es true no_gap us
 
   -- behind an element, or behind a hole and this gap: behind a last hole stands one comma more
-  pub more_slots_tokens : {ns : List Node} → AreSlots ns → Bool → Gap → Items → Items
+  pub more_slots_tokens : {role : Role} {ns : List Node} → AreSlots role ns → Bool → Gap → Items → Items
   more_slots_tokens no_slots false g us = sign_of (codes "]") us
   more_slots_tokens no_slots true g us = it g (sign (codes ",")) (sign_of (codes "]") us)
   more_slots_tokens (filled e es) b g us = it g (sign (codes ",")) (element_tokens e blank (more_slots_tokens es false no_gap us))
@@ -201,20 +203,36 @@ abbrev mutual
   property_name_tokens (big_int_name at raw t) g us = it g (items.big_int raw) us
   property_name_tokens (computed_name at e) g us = it g (sign (codes "[")) (expression_tokens e no_gap (sign_of (codes "]") us))
 
-  pub property_tokens : {n : Node} → IsProperty n → Gap → Items → Items
+  pub property_tokens : {role : Role} {n : Node} → IsProperty role n → Gap → Items → Items
   property_tokens (key_value at k v) g us = property_name_tokens k g (sign_of (codes ":") (expression_tokens v blank us))
   property_tokens (shorthand i) g us = it g (items.key (ident_word i)) us
   property_tokens (initialized at i v) g us = it g (items.key (ident_word i)) (it blank (sign (codes "=")) (expression_tokens v blank us))
   property_tokens (spread_property at e) g us = it g (sign (codes "...")) (expression_tokens e no_gap us)
+  property_tokens (renamed at k p) g us = property_name_tokens k g (sign_of (codes ":") (defaulted_tokens p blank us))
+  property_tokens (named at at' i a v) g us = it g (items.key (ident_word i)) (initializer_tokens v us)
+  property_tokens (rest_property at at' i a b) g us = it g (sign (codes "...")) (it no_gap (items.key (ident_word i)) us)
 
   -- behind `{`, with a blank within each brace
-  pub properties_tokens : {ns : List Node} → AreProperties ns → Items → Items
+  pub properties_tokens : {role : Role} {ns : List Node} → AreProperties role ns → Items → Items
   properties_tokens no_properties us = sign_of (codes "}") us
   properties_tokens (more_properties p ps) us = property_tokens p blank (more_properties_tokens ps us)
 
-  pub more_properties_tokens : {ns : List Node} → AreProperties ns → Items → Items
+  pub more_properties_tokens : {role : Role} {ns : List Node} → AreProperties role ns → Items → Items
   more_properties_tokens no_properties us = it blank (sign (codes "}")) us
   more_properties_tokens (more_properties p ps) us = sign_of (codes ",") (property_tokens p blank (more_properties_tokens ps us))
+
+  pub pattern_tokens : {n : Node} → IsPattern n → Gap → Items → Items
+  pattern_tokens (name_pattern at i a) g us = it g (items.key (ident_word i)) us
+  pattern_tokens (array_pattern at at' es a) g us = it g (sign (codes "[")) (slots_tokens es us)
+  pattern_tokens (object_pattern at at' ps a) g us = it g (sign (codes "{")) (properties_tokens ps us)
+
+  pub defaulted_tokens : {n : Node} → IsDefaulted n → Gap → Items → Items
+  defaulted_tokens (no_default p) g us = pattern_tokens p g us
+  defaulted_tokens (with_default at p e) g us = pattern_tokens p g (it blank (sign (codes "=")) (expression_tokens e blank us))
+
+  pub initializer_tokens : {n : Node} → IsInitializer n → Items → Items
+  initializer_tokens (no_initializer a) us = us
+  initializer_tokens (initializer e) us = it blank (sign (codes "=")) (expression_tokens e blank us)
 
   pub arguments_tokens : {n : Node} → IsArguments n → Items → Items
   arguments_tokens (no_arguments at) us = us
@@ -228,12 +246,8 @@ abbrev mutual
   more_tokens no_expressions us = us
   more_tokens (more_expressions e es) us = sign_of (codes ",") (expression_tokens e blank (more_tokens es us))
 
-abbrev pub initializer_tokens : {n : Node} → IsInitializer n → Items → Items
-initializer_tokens (no_initializer a) us = us
-initializer_tokens (initializer e) us = it blank (sign (codes "=")) (expression_tokens e blank us)
-
 abbrev pub declarator_tokens : {n : Node} → IsDeclarator n → Items → Items
-declarator_tokens (declarator at at' i a e) us = it blank (items.key (ident_word i)) (initializer_tokens e us)
+declarator_tokens (declarator at p e) us = pattern_tokens p blank (initializer_tokens e us)
 
 abbrev pub declarators_tokens : {ds : List Node} → AreDeclarators ds → Items → Items
 declarators_tokens no_declarators us = us
@@ -398,11 +412,13 @@ abbrev mutual
   expression_parts (sequence_expression at x y es) = bare (expression_kind x) (expression_parts x) ∷ bare (expression_kind y) (expression_parts y) ∷ bare_expressions es
   expression_parts e = []
 
-  pub bare_element : {n : Node} → IsElement n → Node
+  pub bare_element : {role : Role} {n : Node} → IsElement role n → Node
   bare_element (one e) = bare (expression_kind e) (expression_parts e)
   bare_element (spread at e) = bare kind.SpreadElement (bare (expression_kind e) (expression_parts e) ∷ [])
+  bare_element (bound p) = bare_defaulted p
+  bare_element (rest at p a) = bare kind.RestPat (bare_pattern p ∷ absent ∷ [])
 
-  pub bare_slots : {ns : List Node} → AreSlots ns → List Node
+  pub bare_slots : {role : Role} {ns : List Node} → AreSlots role ns → List Node
   bare_slots no_slots = []
   bare_slots (filled e es) = bare_element e ∷ bare_slots es
   bare_slots (hole a es) = absent ∷ bare_slots es
@@ -414,15 +430,31 @@ abbrev mutual
   bare_property_name (big_int_name at raw t) = bare (kind.BigInt (without_separators (piece raw 0 (length raw - 1))) (Some raw)) []
   bare_property_name (computed_name at e) = bare kind.ComputedPropName (bare (expression_kind e) (expression_parts e) ∷ [])
 
-  pub bare_property : {n : Node} → IsProperty n → Node
+  pub bare_property : {role : Role} {n : Node} → IsProperty role n → Node
   bare_property (key_value at k v) = bare kind.KeyValueProp (bare_property_name k ∷ bare (expression_kind v) (expression_parts v) ∷ [])
   bare_property (shorthand i) = bare_ident i
   bare_property (initialized at i v) = bare kind.AssignProp (bare_ident i ∷ bare (expression_kind v) (expression_parts v) ∷ [])
   bare_property (spread_property at e) = bare kind.SpreadElement (bare (expression_kind e) (expression_parts e) ∷ [])
+  bare_property (renamed at k p) = bare kind.KeyValuePatProp (bare_property_name k ∷ bare_defaulted p ∷ [])
+  bare_property (named at at' i a v) = bare kind.AssignPatProp (bare kind.BindingIdent (bare_ident i ∷ absent ∷ []) ∷ bare_initializer v ∷ [])
+  bare_property (rest_property at at' i a b) = bare kind.RestPat (bare kind.BindingIdent (bare_ident i ∷ absent ∷ []) ∷ absent ∷ [])
 
-  pub bare_properties : {ns : List Node} → AreProperties ns → List Node
+  pub bare_properties : {role : Role} {ns : List Node} → AreProperties role ns → List Node
   bare_properties no_properties = []
   bare_properties (more_properties p ps) = bare_property p ∷ bare_properties ps
+
+  pub bare_pattern : {n : Node} → IsPattern n → Node
+  bare_pattern (name_pattern at i a) = bare kind.BindingIdent (bare_ident i ∷ absent ∷ [])
+  bare_pattern (array_pattern at at' es a) = bare (kind.ArrayPat false) (list_node (bare_slots es) ∷ absent ∷ [])
+  bare_pattern (object_pattern at at' ps a) = bare (kind.ObjectPat false) (list_node (bare_properties ps) ∷ absent ∷ [])
+
+  pub bare_defaulted : {n : Node} → IsDefaulted n → Node
+  bare_defaulted (no_default p) = bare_pattern p
+  bare_defaulted (with_default at p e) = bare kind.AssignPat (bare_pattern p ∷ bare (expression_kind e) (expression_parts e) ∷ [])
+
+  pub bare_initializer : {n : Node} → IsInitializer n → Node
+  bare_initializer (no_initializer a) = absent
+  bare_initializer (initializer e) = bare (expression_kind e) (expression_parts e)
 
   pub bare_arguments : {n : Node} → IsArguments n → List Node
   bare_arguments (no_arguments at) = []
@@ -439,12 +471,8 @@ abbrev mutual
 abbrev pub bare_expression : {level : Level} {e : Node} → IsExpression level e → Node
 bare_expression e = bare (expression_kind e) (expression_parts e)
 
-abbrev pub bare_initializer : {n : Node} → IsInitializer n → Node
-bare_initializer (no_initializer a) = absent
-bare_initializer (initializer e) = bare_expression e
-
 abbrev pub bare_declarator : {n : Node} → IsDeclarator n → Node
-bare_declarator (declarator at at' i a e) = bare (kind.VarDeclarator false) (bare kind.BindingIdent (bare_ident i ∷ absent ∷ []) ∷ bare_initializer e ∷ [])
+bare_declarator (declarator at p e) = bare (kind.VarDeclarator false) (bare_pattern p ∷ bare_initializer e ∷ [])
 
 abbrev pub bare_declarators : {ds : List Node} → AreDeclarators ds → List Node
 bare_declarators no_declarators = []
