@@ -63,10 +63,10 @@ children_again (n ∷ ns) (spot ∷ spots) further fit fits = ap₂ (λ a rest. 
 
 -- a layer by its children
 
-abbrev bare' : Span → Kind → List Node → Spot → Node
+abbrev pub bare' : Span → Kind → List Node → Spot → Node
 bare' span k ns spot = node_of span k (spotted k ns spot)
 
-abbrev standing' : Span → Kind → List Node → Spot → Node
+abbrev pub standing' : Span → Kind → List Node → Spot → Node
 standing' span k ns spot = if in_parentheses k (map laid ns) spot then parenthesized (bare' span k ns (free 0)) else bare' span k ns spot
 
 pub stands_in : (span : Span) (k : Kind) (ns : List Node) (spot : Spot) → (stood (node_of span k ns)).at spot ≡ standing' span k ns spot

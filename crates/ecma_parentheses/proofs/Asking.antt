@@ -26,11 +26,11 @@ abbrev pub AllFit : List Spot → Type 0
 AllFit [] = Unit {0}
 AllFit (spot ∷ spots) = Fits spot × AllFit spots
 
-left_fits : (o : BinaryOp) → ltb 17 (left_level o) ≡ false
+pub left_fits : (o : BinaryOp) → ltb 17 (left_level o) ≡ false
 left_fits op.Exp = refl
 left_fits _ = refl
 
-right_fits : (o : BinaryOp) → ltb 17 (right_level o) ≡ false
+pub right_fits : (o : BinaryOp) → ltb 17 (right_level o) ≡ false
 right_fits op.Exp = refl
 right_fits _ = refl
 

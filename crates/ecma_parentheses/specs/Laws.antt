@@ -1,6 +1,9 @@
 -- The laws of explicit parentheses.
 use Rattle.std.specs.Prelude.{◌≡◌}
+use Rattle.ecma_kind.specs.declared.shapes.Shape.{Shape}
 use Rattle.ecma_tree.specs.declared.node.Node.{Node}
+use Rattle.ecma_tree.specs.Sorted.{HasShape}
+use Rattle.ecma_print.specs.Layout.{layout}
 use Rattle.ecma_parentheses.specs.Explicit.{explicit, without_parens}
 
 -- nothing but parentheses is added
@@ -10,3 +13,7 @@ OnlyParenthesesAreAdded = (m : Node) → without_parens (explicit m) ≡ without
 -- and none are added again
 abbrev pub NoneAreAddedAgain : Type 0
 NoneAreAddedAgain = (m : Node) → explicit (explicit m) ≡ explicit m
+
+-- the layout stays, of each tree that has a shape
+abbrev pub LayoutStays : Type 0
+LayoutStays = (m : Node) (shape : Shape) → HasShape shape m → layout (explicit m) ≡ layout m

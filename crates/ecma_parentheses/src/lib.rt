@@ -3,7 +3,7 @@
 //! Each function carries one law, and does nothing. The laws are stated in `specs/Laws.antt`.
 #![tactic(auto)]
 
-ghost use Rattle.ecma_parentheses.specs.Laws.{OnlyParenthesesAreAdded, NoneAreAddedAgain};
+ghost use Rattle.ecma_parentheses.specs.Laws.{LayoutStays, NoneAreAddedAgain, OnlyParenthesesAreAdded};
 
 /// Without any parentheses the tree with explicit ones is the tree.
 pub fn only_parentheses_are_added()
@@ -13,4 +13,9 @@ pub fn only_parentheses_are_added()
 /// To a tree with explicit parentheses none are added.
 pub fn none_are_added_again()
     ensures { NoneAreAddedAgain }
+{}
+
+/// The layout of a tree is the layout of the tree with explicit parentheses.
+pub fn layout_stays()
+    ensures { LayoutStays }
 {}
