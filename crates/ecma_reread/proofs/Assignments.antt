@@ -106,7 +106,7 @@ module _ (assigned : Bool) where
         let a = and_parts (refuses_at t (arrow_body false)) _ (assign_apart o) in
         let c = and_parts (refuses_at t (arrow_rest false false)) _ a.1 in
         means_is assigned (part.Assign no_in false) ts
-        ∙ (ap (or_on (I (behind_arrow no_in)) ts) (L.no_arrow no_in g (rest us) t at_token a.0 (refused_at assigned (means assigned) (arrow_rest no_in false) t (rest us) at_token (no_rest_at t c.0 no_in)))
+        ∙ (ap (or_on (I (behind_arrow no_in)) ts) (T.no_arrow no_in g (rest us) t at_token a.0 (refused_at assigned (means assigned) (arrow_rest no_in false) t (rest us) at_token (no_rest_at t c.0 no_in)))
         ∙ (ap (or_on (I (build form.Chain (expressions.conditional no_in ▸ assignments no_in))) ts) (refused_at assigned (means assigned) (yield_ no_in) L.front ts (L.begins g (rest us)) y.1)
         ∙ (ap (built_on form.Chain) (ap (followed_on (I (assignments no_in))) (target_read g us) ∙ ap (with_front (bare k ns ∷ [])) (operator_read no_in o (f' blank us) us (bare k' ns') (used assigned V blank us e b z)))
         ∙ ap (λ x. read (x ∷ []) us) (assigned_made o k ns (bare k' ns')))))
@@ -135,6 +135,7 @@ module _ (assigned : Bool) where
       lead = lead_before assigned T.lead (assign_token o) (assign_apart o) blank (f' blank);
       tight = tt;
       no_or = tt;
+      no_arrow = tt;
       param = as_param o refl;
       reading = whole_read o T V;
     }

@@ -30,7 +30,7 @@ use Rattle.ecma_reread.proofs.Levels.{means_is}
 use Rattle.ecma_reread.proofs.Fronts.{Front, Begins, refuses_at, refused_at, first_refuses, refuses_first, passes_at, passed_at}
 use Rattle.ecma_reread.proofs.Towers.{Tower, here, later, before, chained, climb, suffix, power_tail, choice_tail, private_in, behind_arrow, closes_conditional, closes, Ends, refuses_choices, stops, closes_in}
 use Rattle.ecma_reread.proofs.Heads.{is_head, kind-node, bare}
-use Rattle.ecma_reread.proofs.Forms.{Laid, behind_params, Reads, Refuses, AsParam, Form, NewForm, Whole, chain_read, Lead, lead_of, only_opens, opens_plainly}
+use Rattle.ecma_reread.proofs.Forms.{NoArrow, Laid, behind_params, Reads, Refuses, AsParam, Form, NewForm, Whole, chain_read, Lead, lead_of, only_opens, opens_plainly}
 use Rattle.ecma_reread.proofs.Params.{Params, params_by}
 
 -- the production of each level
@@ -261,12 +261,19 @@ module _ (assigned : Bool) where
   ParamOf shapes.sequence ts us = (no_in : Bool) → Params assigned no_in us → Refuses assigned (params ▸ behind_params no_in) ts
   ParamOf l ts us = AsParam assigned ts us
 
+  -- what is tighter than an assignment begins no arrow function
+  abbrev pub Arrowless : Level → Laid → Type 0
+  Arrowless shapes.sequence f = Unit {0}
+  Arrowless shapes.assignment f = Unit {0}
+  Arrowless l f = NoArrow assigned f
+
   -- an expression at a level, where `in` is an operator, or is none
   pub record StandsIn (no_in : Bool) (l : Level) (f : Laid) (k : Kind) (ns : List Node) : Type 0 where
     pub lead : Lead assigned f
     pub reading : Reading no_in l lead.front f k ns
     pub tight : Tight l (let L = lead in L.front)
     pub no_or : NotOr l k
+    pub no_arrow : Arrowless l f
     pub param : (g : Gap) (us : Items) (e : Front) → Begins e us → EndOf l e → ParamOf l (f g us) us
 
   -- where it is one
@@ -309,22 +316,22 @@ module _ (assigned : Bool) where
   related_read true L t d g us e b z = d g us e b z
   related_read false {f} L t d g us e b z = ap (or_on (interp assigned (means assigned) operators.shift) (f g us)) (refused_at assigned (means assigned) private_in L.front (f g us) (L.begins g us) t) ∙ d g us e b z
 
-  pub assignment_read : (no_in : Bool) {f : Laid} {n : Node} (L : Lead assigned f) → refuses_at (let l = L in l.front) (yield_ false) ≡ true → ((g : Gap) (us : Items) (e : Front) → Begins e us → closes_in no_in shapes.assignment e ≡ true → Reads assigned (expressions.conditional no_in) (f g us) (n ∷ []) us) → Direct no_in shapes.assignment f n
-  assignment_read no_in {f} {n} L y D g us e b z =
+  pub assignment_read : (no_in : Bool) {f : Laid} {n : Node} (L : Lead assigned f) → NoArrow assigned f → refuses_at (let l = L in l.front) (yield_ false) ≡ true → ((g : Gap) (us : Items) (e : Front) → Begins e us → closes_in no_in shapes.assignment e ≡ true → Reads assigned (expressions.conditional no_in) (f g us) (n ∷ []) us) → Direct no_in shapes.assignment f n
+  assignment_read no_in {f} {n} L N y D g us e b z =
       let s = and_parts (stops e) _ z in
       let c = and_parts (refuses_at e (arrow_body no_in)) _ s.1 in
       let d = and_parts (refuses_at e (arrow_rest no_in false)) _ c.1 in
       let t : Tower L.front e (expressions.conditional no_in) (behind_arrow no_in) = later y (chained (before here (ends_parts no_in e z).0)) in
       means_is assigned (part.Assign no_in false) (f g us)
-      ∙ (ap (or_on (interp assigned (means assigned) (behind_arrow no_in)) (f g us)) (L.no_arrow no_in g us e b c.0 (refused_at assigned (means assigned) (arrow_rest no_in false) e us b d.0))
+      ∙ (ap (or_on (interp assigned (means assigned) (behind_arrow no_in)) (f g us)) (N no_in g us e b c.0 (refused_at assigned (means assigned) (arrow_rest no_in false) e us b d.0))
       ∙ climb assigned (means assigned) t (f g us) us n (L.begins g us) b (D g us e b z))
 
   module _ {no_in : Bool} where
     pub from_form : {f : Laid} {k : Kind} {ns : List Node} → Form assigned f k ns → StandsIn no_in shapes.object f k ns
-    from_form {k = k} F = let o = F.opens in record { lead = lead_of assigned F; tight = (o.no_private, o.no_yield); no_or = head_is_no_or k F.head; param = F.as_param; reading = F }
+    from_form {k = k} F = let o = F.opens in record { lead = lead_of assigned F; tight = (o.no_private, o.no_yield); no_or = head_is_no_or k F.head; no_arrow = F.no_arrow; param = F.as_param; reading = F }
 
     pub from_new : {f : Laid} {k : Kind} {ns : List Node} → NewForm assigned f k ns → StandsIn no_in shapes.new_callee f k ns
-    from_new {k = k} N = let F = N.form in let o = F.opens in record { lead = lead_of assigned F; tight = (o.no_private, o.no_yield); no_or = head_is_no_or k F.head; param = F.as_param; reading = N }
+    from_new {k = k} N = let F = N.form in let o = F.opens in record { lead = lead_of assigned F; tight = (o.no_private, o.no_yield); no_or = head_is_no_or k F.head; no_arrow = F.no_arrow; param = F.as_param; reading = N }
 
     logical_read : {f : Laid} {n : Node} → Logical no_in f n → (g : Gap) (us : Items) (e : Front) → Begins e us → closes_in no_in shapes.logical_or e ≡ true → Reads assigned (operators.short_circuit no_in) (f g us) (n ∷ []) us
     unfolding operators.short_circuit
@@ -405,25 +412,25 @@ module _ (assigned : Bool) where
 
       pub loosened : (l : Level) → StandsIn no_in l f k ns → StandsIn no_in (looser_than l) f k ns
       loosened shapes.new_callee S = let N = S.reading in from_form N.form
-      loosened shapes.object S = record { lead = S.lead; tight = S.tight; no_or = S.no_or; param = S.param; reading = S.reading }
-      loosened shapes.callee S = let F = S.reading in let o = F.opens in record { lead = lead_of assigned F; tight = (o.no_private, o.no_yield); no_or = S.no_or; param = S.param; reading = record { opens = F.opens; all = chain_read assigned F } }
-      loosened shapes.left_hand_side S = let w = S.reading in let o = w.opens in record { lead = S.lead; tight = S.tight; no_or = S.no_or; param = S.param; reading = (o.no_prefix, update_read S.lead w) }
-      loosened shapes.update S = let r = S.reading in record { lead = S.lead; tight = S.tight; no_or = S.no_or; param = S.param; reading = without_operator r.0 r.1 }
-      loosened shapes.unary S = record { lead = S.lead; tight = S.tight; no_or = S.no_or; param = S.param; reading = power_read S.lead S.reading }
-      loosened shapes.power S = record { lead = S.lead; tight = S.tight; no_or = S.no_or; param = S.param; reading = single exponentiation factors shapes.power (direct shapes.power S) }
-      loosened shapes.product S = record { lead = S.lead; tight = S.tight; no_or = S.no_or; param = S.param; reading = single operators.product terms shapes.product (direct shapes.product S) }
-      loosened shapes.sum S = record { lead = S.lead; tight = S.tight; no_or = S.no_or; param = S.param; reading = single operators.sum shifts shapes.sum (direct shapes.sum S) }
-      loosened shapes.shift S = let t = S.tight in record { lead = S.lead; tight = t.1; no_or = S.no_or; param = S.param; reading = single (related no_in) (relations no_in) shapes.shift (related_read no_in S.lead t.0 (direct shapes.shift S)) }
-      loosened shapes.relation S = record { lead = S.lead; tight = S.tight; no_or = S.no_or; param = S.param; reading = single (operators.relation no_in) (equalities no_in) shapes.relation (direct shapes.relation S) }
-      loosened shapes.equality S = record { lead = S.lead; tight = S.tight; no_or = S.no_or; param = S.param; reading = single (operators.equality no_in) (conjunctions no_in) shapes.equality (direct shapes.equality S) }
-      loosened shapes.bit_and S = record { lead = S.lead; tight = S.tight; no_or = S.no_or; param = S.param; reading = single (operators.bit_and no_in) (exclusions no_in) shapes.bit_and (direct shapes.bit_and S) }
-      loosened shapes.bit_xor S = record { lead = S.lead; tight = S.tight; no_or = S.no_or; param = S.param; reading = single (operators.bit_xor no_in) (disjunctions no_in) shapes.bit_xor (direct shapes.bit_xor S) }
-      loosened shapes.bit_or S = record { lead = S.lead; tight = S.tight; no_or = S.no_or; param = S.param; reading = ands_read S }
-      loosened shapes.logical_and S = let r = S.reading in record { lead = S.lead; tight = S.tight; no_or = tt; param = S.param; reading = r.chain }
-      loosened shapes.logical_or S = record { lead = S.lead; tight = S.tight; no_or = tt; param = S.param; reading = logical_read S.reading }
-      loosened shapes.coalescing S = record { lead = S.lead; tight = S.tight; no_or = tt; param = S.param; reading = coalesced_read S.reading }
-      loosened shapes.short_circuit S = record { lead = S.lead; tight = tt; no_or = tt; param = λ g us e b z. S.param g us e b z.0; reading = assignment_read no_in S.lead S.tight (λ g us e b z. conditional_read S g us e b (ends_parts no_in e z).1) }
-      loosened shapes.assignment S = record { lead = S.lead; tight = tt; no_or = tt; param = λ g us e b z n P. params_by assigned n (f g us) us (S.param g us e b z) P; reading = one_read S }
+      loosened shapes.object S = record { lead = S.lead; tight = S.tight; no_or = S.no_or; no_arrow = S.no_arrow; param = S.param; reading = S.reading }
+      loosened shapes.callee S = let F = S.reading in let o = F.opens in record { lead = lead_of assigned F; tight = (o.no_private, o.no_yield); no_or = S.no_or; no_arrow = S.no_arrow; param = S.param; reading = record { opens = F.opens; all = chain_read assigned F } }
+      loosened shapes.left_hand_side S = let w = S.reading in let o = w.opens in record { lead = S.lead; tight = S.tight; no_or = S.no_or; no_arrow = S.no_arrow; param = S.param; reading = (o.no_prefix, update_read S.lead w) }
+      loosened shapes.update S = let r = S.reading in record { lead = S.lead; tight = S.tight; no_or = S.no_or; no_arrow = S.no_arrow; param = S.param; reading = without_operator r.0 r.1 }
+      loosened shapes.unary S = record { lead = S.lead; tight = S.tight; no_or = S.no_or; no_arrow = S.no_arrow; param = S.param; reading = power_read S.lead S.reading }
+      loosened shapes.power S = record { lead = S.lead; tight = S.tight; no_or = S.no_or; no_arrow = S.no_arrow; param = S.param; reading = single exponentiation factors shapes.power (direct shapes.power S) }
+      loosened shapes.product S = record { lead = S.lead; tight = S.tight; no_or = S.no_or; no_arrow = S.no_arrow; param = S.param; reading = single operators.product terms shapes.product (direct shapes.product S) }
+      loosened shapes.sum S = record { lead = S.lead; tight = S.tight; no_or = S.no_or; no_arrow = S.no_arrow; param = S.param; reading = single operators.sum shifts shapes.sum (direct shapes.sum S) }
+      loosened shapes.shift S = let t = S.tight in record { lead = S.lead; tight = t.1; no_or = S.no_or; no_arrow = S.no_arrow; param = S.param; reading = single (related no_in) (relations no_in) shapes.shift (related_read no_in S.lead t.0 (direct shapes.shift S)) }
+      loosened shapes.relation S = record { lead = S.lead; tight = S.tight; no_or = S.no_or; no_arrow = S.no_arrow; param = S.param; reading = single (operators.relation no_in) (equalities no_in) shapes.relation (direct shapes.relation S) }
+      loosened shapes.equality S = record { lead = S.lead; tight = S.tight; no_or = S.no_or; no_arrow = S.no_arrow; param = S.param; reading = single (operators.equality no_in) (conjunctions no_in) shapes.equality (direct shapes.equality S) }
+      loosened shapes.bit_and S = record { lead = S.lead; tight = S.tight; no_or = S.no_or; no_arrow = S.no_arrow; param = S.param; reading = single (operators.bit_and no_in) (exclusions no_in) shapes.bit_and (direct shapes.bit_and S) }
+      loosened shapes.bit_xor S = record { lead = S.lead; tight = S.tight; no_or = S.no_or; no_arrow = S.no_arrow; param = S.param; reading = single (operators.bit_xor no_in) (disjunctions no_in) shapes.bit_xor (direct shapes.bit_xor S) }
+      loosened shapes.bit_or S = record { lead = S.lead; tight = S.tight; no_or = S.no_or; no_arrow = S.no_arrow; param = S.param; reading = ands_read S }
+      loosened shapes.logical_and S = let r = S.reading in record { lead = S.lead; tight = S.tight; no_or = tt; no_arrow = S.no_arrow; param = S.param; reading = r.chain }
+      loosened shapes.logical_or S = record { lead = S.lead; tight = S.tight; no_or = tt; no_arrow = S.no_arrow; param = S.param; reading = logical_read S.reading }
+      loosened shapes.coalescing S = record { lead = S.lead; tight = S.tight; no_or = tt; no_arrow = S.no_arrow; param = S.param; reading = coalesced_read S.reading }
+      loosened shapes.short_circuit S = record { lead = S.lead; tight = tt; no_or = tt; no_arrow = tt; param = λ g us e b z. S.param g us e b z.0; reading = assignment_read no_in S.lead S.no_arrow S.tight (λ g us e b z. conditional_read S g us e b (ends_parts no_in e z).1) }
+      loosened shapes.assignment S = record { lead = S.lead; tight = tt; no_or = tt; no_arrow = tt; param = λ g us e b z n P. params_by assigned n (f g us) us (S.param g us e b z) P; reading = one_read S }
       loosened shapes.sequence S = S
 
       -- at the loosest

@@ -22,7 +22,7 @@ use Rattle.ecma_reread.proofs.Levels.{means_is}
 use Rattle.ecma_reread.proofs.Fronts.{Front, exactly, Begins, at_token}
 use Rattle.ecma_reread.proofs.Towers.{choice_tail, closes_in}
 use Rattle.ecma_reread.proofs.Heads.{bare, nodes}
-use Rattle.ecma_reread.proofs.Forms.{Laid, Reads, lead_before, param_in_front}
+use Rattle.ecma_reread.proofs.Forms.{Laid, Reads, no_arrow_before, lead_before, param_in_front}
 use Rattle.ecma_reread.proofs.Bindings.{closed, StandsIn, direct, assignment_read, used}
 
 choice_made : (k : Kind) (ns : List Node) (x y : Node) → in_front (bare k ns) (bare kind.CondExpr (absent ∷ x ∷ y ∷ [])) ≡ bare kind.CondExpr (bare k ns ∷ x ∷ y ∷ [])
@@ -57,4 +57,4 @@ module _ (assigned : Bool) where
 
     pub choice_form : StandsIn assigned no_in shapes.assignment (λ g us. f g (first us)) kind.CondExpr (bare k ns ∷ bare k' ns' ∷ bare k'' ns'' ∷ [])
     unfolding arrow_rest names.binding_ident
-    choice_form = let L = lead_before assigned S.lead (sign (codes "?")) refl blank (λ us. f' blank (second us)) in record { lead = L; tight = tt; no_or = tt; param = λ g us e b z. param_in_front assigned S.param (sign (codes "?")) refl blank (λ us. f' blank (second us)) g us; reading = assignment_read assigned no_in L S.tight choice_whole }
+    choice_form = let L = lead_before assigned S.lead (sign (codes "?")) refl blank (λ us. f' blank (second us)) in record { lead = L; tight = tt; no_or = tt; no_arrow = tt; param = λ g us e b z. param_in_front assigned S.param (sign (codes "?")) refl blank (λ us. f' blank (second us)) g us; reading = assignment_read assigned no_in L (no_arrow_before assigned f S.no_arrow (sign (codes "?")) refl blank (λ us. f' blank (second us))) S.tight choice_whole }

@@ -27,7 +27,7 @@ use Rattle.ecma_reread.proofs.Towers.{closes_in}
 use Rattle.ecma_reread.proofs.Heads.{bare, kind-node}
 use Rattle.ecma_reread.proofs.Forms.{Laid, Reads}
 use Rattle.ecma_reread.proofs.Bindings.{closed, StandsIn, direct}
-use Rattle.ecma_reread.proofs.Operations.{joined, binary_made, joined_lead, joined_param}
+use Rattle.ecma_reread.proofs.Operations.{joined, binary_made, joined_lead, joined_param, joined_no_arrow}
 
 abbrev nullish_item : Node → Node
 nullish_item x = bare (kind.BinExpr op.NullishCoalescing) (absent ∷ x ∷ [])
@@ -57,6 +57,7 @@ module _ (assigned : Bool) {no_in : Bool} {f f' : Laid} {k k' : Kind} {ns ns' : 
         lead = joined_lead assigned f' op.NullishCoalescing refl S.lead;
         tight = S.tight;
         no_or = refl;
+        no_arrow = joined_no_arrow assigned f f' op.NullishCoalescing refl S.no_arrow;
         param = joined_param assigned f' op.NullishCoalescing refl S.param;
         reading = record {
           first = bare k ns;
@@ -72,6 +73,7 @@ module _ (assigned : Bool) {no_in : Bool} {f f' : Laid} {k k' : Kind} {ns ns' : 
         lead = joined_lead assigned f' op.NullishCoalescing refl S.lead;
         tight = S.tight;
         no_or = refl;
+        no_arrow = joined_no_arrow assigned f f' op.NullishCoalescing refl S.no_arrow;
         param = joined_param assigned f' op.NullishCoalescing refl S.param;
         reading = record {
           first = C.first;

@@ -34,7 +34,7 @@ use Rattle.ecma_reread.proofs.Levels.{means_is}
 use Rattle.ecma_reread.proofs.Fronts.{Front, exactly, Begins, at_token, refuses_at, refused_at, refuses_first, first_refuses, passes_at, passed_at}
 use Rattle.ecma_reread.proofs.Towers.{Opens, closes, refuses_choices, skipped}
 use Rattle.ecma_reread.proofs.Heads.{is_head, bare}
-use Rattle.ecma_reread.proofs.Forms.{Laid, s, heads, new_heads, Reads, NewForm, only_opens, lead_by, param_by, form_by}
+use Rattle.ecma_reread.proofs.Forms.{Laid, s, heads, new_heads, Reads, NewForm, only_opens, lead_by, param_by, form_by, no_arrow_by}
 use Rattle.ecma_reread.proofs.Bindings.{Stands, tight_by}
 
 abbrev new : Front
@@ -137,6 +137,7 @@ module _ (assigned : Bool) where
       lead = lead_by assigned (key (codes "new")) new_opens (f blank);
       tight = tight_by new new_opens;
       no_or = refl;
+      no_arrow = no_arrow_by assigned (key (codes "new")) new_opens (f blank);
       param = λ g us e b z. param_by assigned (key (codes "new")) new_opens (f blank) g us;
       reading = record {
         opens = begins_operand;

@@ -98,6 +98,10 @@ module _ (assigned : Bool) where
       let p = means assigned in
       record { no_import = refused_at assigned p import f ts b c.0; no_import_equals = refused_at assigned p import_equals f ts b d.0; no_export = refused_at assigned p export f ts b e.0 }
 
+  -- no arrow function begins there, where the body of one does not follow
+  abbrev pub NoArrow : Laid → Type 0
+  NoArrow f = (no_in : Bool) (g : Gap) (us : Items) (e : Front) → Begins e us → refuses_at e (arrow_body no_in) ≡ true → Refuses (arrow_rest no_in false) us → Refuses (arrow no_in false) (f g us)
+
   -- members, calls and what they begin with, as they are laid out
   pub record Form (f : Laid) (k : Kind) (ns : List Node) : Type 0 where
     pub front : Front
@@ -111,7 +115,7 @@ module _ (assigned : Bool) where
     pub whole : steps in_front_link None pieces ≡ Some (bare k ns)
     pub head : is_head k ≡ true
     -- what is tried before an expression
-    pub no_arrow : (no_in : Bool) (g : Gap) (us : Items) (e : Front) → Begins e us → refuses_at e (arrow_body no_in) ≡ true → Refuses (arrow_rest no_in false) us → Refuses (arrow no_in false) (f g us)
+    pub no_arrow : NoArrow f
     pub no_label : (g : Gap) (us : Items) (e : Front) → Begins e us → refuses_at e (punct (codes ":")) ≡ true → Refuses labeled (f g us)
     pub no_declaration : (g : Gap) (us : Items) (e : Front) → Begins e us → refuses_at e (word (codes "function")) ≡ true → Refuses declaration (f g us)
     pub no_word : (g : Gap) (us : Items) (e : Front) → Begins e us → refuses_at e (word (codes "function")) ≡ true → Refuses excluded (f g us)
@@ -145,7 +149,6 @@ module _ (assigned : Bool) where
     pub no_statement : refuses_choices 9 front (without 1 statement_body) ≡ true
     pub no_item : (g : Gap) (us : Items) → NoItem (f g us)
     pub no_spread : refuses_at front (punct (codes "...")) ≡ true
-    pub no_arrow : (no_in : Bool) (g : Gap) (us : Items) (e : Front) → Begins e us → refuses_at e (arrow_body no_in) ≡ true → Refuses (arrow_rest no_in false) us → Refuses (arrow no_in false) (f g us)
     pub no_label : (g : Gap) (us : Items) (e : Front) → Begins e us → refuses_at e (punct (codes ":")) ≡ true → Refuses labeled (f g us)
     pub no_declaration : (g : Gap) (us : Items) (e : Front) → Begins e us → refuses_at e (word (codes "function")) ≡ true → Refuses declaration (f g us)
     pub no_word : (g : Gap) (us : Items) (e : Front) → Begins e us → refuses_at e (word (codes "function")) ≡ true → Refuses excluded (f g us)
@@ -159,7 +162,6 @@ module _ (assigned : Bool) where
         no_statement = F.no_statement;
         no_item = F.no_item;
         no_spread = o.no_spread;
-        no_arrow = F.no_arrow;
         no_label = F.no_label;
         no_declaration = F.no_declaration;
         no_word = F.no_word;
@@ -198,11 +200,25 @@ module _ (assigned : Bool) where
         no_statement = L.no_statement;
         no_item = λ g us. L.no_item g (it h t (rest us));
         no_spread = L.no_spread;
-        no_arrow = λ n g us k s r q. L.no_arrow n g (it h t (rest us)) e at_token a.0 (refused_at assigned (means assigned) (arrow_rest n false) e (it h t (rest us)) at_token (no_rest_at e b.0 n));
         no_label = λ g us k s r. L.no_label g (it h t (rest us)) e at_token c.0;
         no_declaration = λ g us k s r. L.no_declaration g (it h t (rest us)) e at_token c.1;
         no_word = λ g us k s r. L.no_word g (it h t (rest us)) e at_token c.1;
       }
+
+  pub no_arrow_before : (f : Laid) → NoArrow assigned f → (t : Tok) → apart (exactly t) ≡ true → (h : Gap) (rest : Items → Items) → NoArrow assigned (λ g us. f g (it h t (rest us)))
+  no_arrow_before f N t z h rest n g us k b' r q =
+      let e = exactly t in
+      let a = and_parts (refuses_at e (arrow_body false)) _ z in
+      let b = and_parts (refuses_at e (arrow_rest false false)) _ a.1 in
+      N n g (it h t (rest us)) e at_token a.0 (refused_at assigned (means assigned) (arrow_rest n false) e (it h t (rest us)) at_token (no_rest_at e b.0 n))
+
+  pub no_arrow_from : (t : Tok) → opens_plainly (exactly t) ≡ true → (rest : Items → Items) → NoArrow assigned (λ g us. it g t (rest us))
+  no_arrow_from t z rest n g us k s r q =
+      let e = exactly t in
+      let a = and_parts (refuses_choices 9 e (without 1 statement_body)) _ z in
+      let c = and_parts (refuses_at e (punct (codes "..."))) _ a.1 in
+      let y = and_parts (refuses_at e (arrow false false)) _ c.1 in
+      refused_at assigned (means assigned) (arrow n false) e (it g t (rest us)) at_token (no_arrow_at e y.0 n)
 
   abbrev pub lead_from : (t : Tok) → opens_plainly (exactly t) ≡ true → (rest : Items → Items) → ((g : Gap) (us : Items) → NoItem assigned (it g t (rest us))) → Lead assigned (λ g us. it g t (rest us))
   lead_from t z rest i =
@@ -220,7 +236,6 @@ module _ (assigned : Bool) where
         no_statement = a.0;
         no_item = i;
         no_spread = c.0;
-        no_arrow = λ n g us k s r q. refused_at assigned p (arrow n false) e (it g t (rest us)) at_token (no_arrow_at e y.0 n);
         no_label = λ g us k s r. refused_at assigned p labeled e (it g t (rest us)) at_token l.0;
         no_declaration = λ g us k s r. refused_at assigned p declaration e (it g t (rest us)) at_token m.0;
         no_word = λ g us k s r. refused_at assigned p excluded e (it g t (rest us)) at_token o.0;
@@ -235,6 +250,9 @@ module _ (assigned : Bool) where
 
   abbrev pub lead_by : (t : Tok) → only_opens (exactly t) ≡ true → (rest : Items → Items) → Lead assigned (λ g us. it g t (rest us))
   lead_by t z rest = let a = and_parts (opens_plainly (exactly t)) _ z in lead_from t a.0 rest (λ g us. no_item_by t z g (rest us))
+
+  pub no_arrow_by : (t : Tok) → only_opens (exactly t) ≡ true → (rest : Items → Items) → NoArrow assigned (λ g us. it g t (rest us))
+  no_arrow_by t z rest = let a = and_parts (opens_plainly (exactly t)) _ z in no_arrow_from t a.0 rest
 
   -- an expression as a parameter, in front of what is no `=`
   abbrev pub NoDefault : Laid → Type 0
@@ -278,7 +296,7 @@ module _ (assigned : Bool) where
         own = own;
         whole = whole;
         head = h;
-        no_arrow = L.no_arrow;
+        no_arrow = no_arrow_from t z rest;
         no_label = L.no_label;
         no_declaration = L.no_declaration;
         no_word = L.no_word;

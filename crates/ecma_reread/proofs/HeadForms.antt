@@ -60,7 +60,7 @@ module _ (assigned : Bool) where
   tightly shapes.short_circuit h S = absurd (false≢true h)
   tightly shapes.assignment h S = absurd (false≢true h)
   tightly shapes.sequence h S = absurd (false≢true h)
-  tightly l h S = record { lead = S.lead; reading = S.reading; tight = S.tight; no_or = S.no_or; param = S.param }
+  tightly l h S = record { lead = S.lead; reading = S.reading; tight = S.tight; no_or = S.no_or; no_arrow = S.no_arrow; param = S.param }
 
   pub head_form : {level : Level} {e : Node} (is : IsExpression level e) → may_hold_in e ≡ false → StandsIn assigned true level (expression_tokens is) (expression_kind is) (expression_parts is)
   head_form (shapes.looser {level = l} e) h = loosened assigned l (head_form e h)
@@ -88,7 +88,7 @@ module _ (assigned : Bool) where
   head_form (shapes.assignment_expression at o {target = t'} {value = v'} t v) h =
       let S = expression_form assigned (shapes.assignment_expression at o t v) in
       let c = neither (may_hold_in t') _ (sym (may_hold_node at (kind.AssignExpr o) (t' ∷ v' ∷ [])) ∙ h) in
-      record { lead = S.lead; tight = S.tight; no_or = S.no_or; param = S.param; reading = whole_read assigned o (head_form t c.0) (head_form v (one_same _ c.1)) }
+      record { lead = S.lead; tight = S.tight; no_or = S.no_or; no_arrow = S.no_arrow; param = S.param; reading = whole_read assigned o (head_form t c.0) (head_form v (one_same _ c.1)) }
   head_form (shapes.yield_nothing at none) h = absurd (false≢true (sym (sym (may_hold_node at (kind.YieldExpr false) _) ∙ h)))
   head_form (shapes.yield_value at d e) h = absurd (false≢true (sym (sym (may_hold_node at (kind.YieldExpr d) _) ∙ h)))
   head_form (shapes.sequence_expression at x y es) h = absurd (false≢true (sym (sym (may_hold_node at kind.SeqExpr _) ∙ h)))

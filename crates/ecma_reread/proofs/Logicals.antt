@@ -24,7 +24,7 @@ use Rattle.ecma_reread.proofs.Fronts.{exactly, at_token}
 use Rattle.ecma_reread.proofs.Heads.{bare, kind-node, nodes}
 use Rattle.ecma_reread.proofs.Forms.{Laid}
 use Rattle.ecma_reread.proofs.Bindings.{closed, AllAnd, no_and, more_and, StandsIn, direct}
-use Rattle.ecma_reread.proofs.Operations.{joined, binary_made, joined_lead, joined_param}
+use Rattle.ecma_reread.proofs.Operations.{joined, binary_made, joined_lead, joined_param, joined_no_arrow}
 
 steps-split : (step : Node → Node → Node) (b : Option Node) (xs ys : List Node) → steps step b (xs ++ ys) ≡ steps step (steps step b xs) ys
 steps-split step b [] ys = refl
@@ -74,6 +74,7 @@ module _ (assigned : Bool) {no_in : Bool} {f f' : Laid} {k k' : Kind} {ns ns' : 
       let I = interp assigned (means assigned) in
       record {
         lead = joined_lead assigned f' op.LogicalAnd refl S.lead;
+        no_arrow = joined_no_arrow assigned f f' op.LogicalAnd refl S.no_arrow;
         tight = S.tight;
         no_or = refl;
         param = joined_param assigned f' op.LogicalAnd refl S.param;
@@ -103,6 +104,7 @@ module _ (assigned : Bool) {no_in : Bool} {f f' : Laid} {k k' : Kind} {ns ns' : 
       let I = interp assigned (means assigned) in
       record {
         lead = joined_lead assigned f' op.LogicalOr refl S.lead;
+        no_arrow = joined_no_arrow assigned f f' op.LogicalOr refl S.no_arrow;
         tight = S.tight;
         no_or = tt;
         param = joined_param assigned f' op.LogicalOr refl S.param;

@@ -40,7 +40,7 @@ use Rattle.ecma_reread.proofs.Levels.{means_is}
 use Rattle.ecma_reread.proofs.Fronts.{Front, refused_at, exactly, Begins, at_token}
 use Rattle.ecma_reread.proofs.Towers.{power_tail, closes_in, closes}
 use Rattle.ecma_reread.proofs.Heads.{bare, nodes}
-use Rattle.ecma_reread.proofs.Forms.{Laid, Reads, Lead, apart, ends_no_param, only_opens, lead_before, lead_by, NoDefault, param_in_front, param_by}
+use Rattle.ecma_reread.proofs.Forms.{Laid, Reads, Lead, apart, ends_no_param, only_opens, lead_before, lead_by, NoDefault, param_in_front, param_by, no_arrow_by, no_arrow_before, NoArrow}
 use Rattle.ecma_reread.proofs.Bindings.{closed, Chained, with_operator, StandsIn, Stands, direct, tight_by}
 
 -- one operator before an operand
@@ -87,6 +87,7 @@ module _ (assigned : Bool) where
   pub unary_form : (o : UnaryOp) (h : Gap) {f : Laid} {k : Kind} {ns : List Node} → Stands assigned shapes.unary f k ns → Stands assigned shapes.unary (λ g us. it g (unary_token o) (f h us)) (kind.UnaryExpr o) (bare k ns ∷ [])
   unary_form o h {f} {k} {ns} S = record {
     lead = lead_by assigned (unary_token o) (unary_opens o) (f h);
+    no_arrow = no_arrow_by assigned (unary_token o) (unary_opens o) (f h);
     tight = tight_by (exactly (unary_token o)) (unary_opens o);
     no_or = refl;
     param = λ g us e b z. param_by assigned (unary_token o) (unary_opens o) (f h) g us;
@@ -100,6 +101,7 @@ module _ (assigned : Bool) where
   pub await_form : {f : Laid} {k : Kind} {ns : List Node} → Stands assigned shapes.unary f k ns → Stands assigned shapes.unary (λ g us. it g (key (codes "await")) (f blank us)) kind.AwaitExpr (bare k ns ∷ [])
   await_form {f} {k} {ns} S = record {
     lead = lead_by assigned (key (codes "await")) await_opens (f blank);
+    no_arrow = no_arrow_by assigned (key (codes "await")) await_opens (f blank);
     tight = tight_by (exactly (key (codes "await"))) await_opens;
     no_or = refl;
     param = λ g us e b z. param_by assigned (key (codes "await")) await_opens (f blank) g us;
@@ -128,6 +130,9 @@ module _ (assigned : Bool) where
   abbrev pub joined_lead : {f : Laid} (f' : Laid) (o : BinaryOp) → apart (exactly (binary_token o)) ≡ true → Lead assigned f → Lead assigned (joined f f' o)
   joined_lead f' o z L = lead_before assigned L (binary_token o) z blank (f' blank)
 
+  pub joined_no_arrow : (f f' : Laid) (o : BinaryOp) → apart (exactly (binary_token o)) ≡ true → NoArrow assigned f → NoArrow assigned (joined f f' o)
+  joined_no_arrow f f' o z N = no_arrow_before assigned f N (binary_token o) z blank (f' blank)
+
   pub joined_param : {f : Laid} (f' : Laid) (o : BinaryOp) → ends_no_param (exactly (binary_token o)) ≡ true → NoDefault assigned f → NoDefault assigned (joined f f' o)
   joined_param f' o z P g us e b h = param_in_front assigned P (binary_token o) z blank (f' blank) g us
 
@@ -135,28 +140,28 @@ module _ (assigned : Bool) where
   module _ {f f' : Laid} {k k' : Kind} {ns ns' : List Node} where
     pub binary_form : (no_in : Bool) {o : BinaryOp} {l t : Level} → IsOperator o l t → stands_there no_in o ≡ true → StandsIn assigned no_in l f k ns → StandsIn assigned no_in t f' k' ns' → StandsIn assigned no_in l (joined f f' o) (kind.BinExpr o) (bare k ns ∷ bare k' ns' ∷ [])
     unfolding factors terms shifts relations equalities assignments links template_start arrow_rest names.binding_ident is_reserved reserved_words operators.shift
-    binary_form no_in shapes.times h S R = record { lead = joined_lead f' op.Mul refl S.lead; tight = S.tight; no_or = refl; param = joined_param f' op.Mul refl S.param; reading = chained_form false op.Mul f' k ns (bare k' ns') refl (λ ts us xs h. rw h refl) S.reading (direct assigned shapes.power R) }
-    binary_form no_in shapes.divided h S R = record { lead = joined_lead f' op.Div refl S.lead; tight = S.tight; no_or = refl; param = joined_param f' op.Div refl S.param; reading = chained_form false op.Div f' k ns (bare k' ns') refl (λ ts us xs h. rw h refl) S.reading (direct assigned shapes.power R) }
-    binary_form no_in shapes.modulo h S R = record { lead = joined_lead f' op.Mod refl S.lead; tight = S.tight; no_or = refl; param = joined_param f' op.Mod refl S.param; reading = chained_form false op.Mod f' k ns (bare k' ns') refl (λ ts us xs h. rw h refl) S.reading (direct assigned shapes.power R) }
-    binary_form no_in shapes.plus h S R = record { lead = joined_lead f' op.Add refl S.lead; tight = S.tight; no_or = refl; param = joined_param f' op.Add refl S.param; reading = chained_form false op.Add f' k ns (bare k' ns') refl (λ ts us xs h. rw h refl) S.reading (direct assigned shapes.product R) }
-    binary_form no_in shapes.minus h S R = record { lead = joined_lead f' op.Sub refl S.lead; tight = S.tight; no_or = refl; param = joined_param f' op.Sub refl S.param; reading = chained_form false op.Sub f' k ns (bare k' ns') refl (λ ts us xs h. rw h refl) S.reading (direct assigned shapes.product R) }
-    binary_form no_in shapes.left_shift h S R = record { lead = joined_lead f' op.LShift refl S.lead; tight = S.tight; no_or = refl; param = joined_param f' op.LShift refl S.param; reading = chained_form false op.LShift f' k ns (bare k' ns') refl (λ ts us xs h. rw h refl) S.reading (direct assigned shapes.sum R) }
-    binary_form no_in shapes.right_shift h S R = record { lead = joined_lead f' op.RShift refl S.lead; tight = S.tight; no_or = refl; param = joined_param f' op.RShift refl S.param; reading = chained_form false op.RShift f' k ns (bare k' ns') refl (λ ts us xs h. rw h refl) S.reading (direct assigned shapes.sum R) }
-    binary_form no_in shapes.unsigned_shift h S R = record { lead = joined_lead f' op.ZeroFillRShift refl S.lead; tight = S.tight; no_or = refl; param = joined_param f' op.ZeroFillRShift refl S.param; reading = chained_form false op.ZeroFillRShift f' k ns (bare k' ns') refl (λ ts us xs h. rw h refl) S.reading (direct assigned shapes.sum R) }
-    binary_form no_in shapes.less h S R = record { lead = joined_lead f' op.Lt refl S.lead; tight = S.tight; no_or = refl; param = joined_param f' op.Lt refl S.param; reading = chained_form no_in op.Lt f' k ns (bare k' ns') refl (λ ts us xs h. rw h refl) S.reading (direct assigned shapes.shift R) }
-    binary_form no_in shapes.greater h S R = record { lead = joined_lead f' op.Gt refl S.lead; tight = S.tight; no_or = refl; param = joined_param f' op.Gt refl S.param; reading = chained_form no_in op.Gt f' k ns (bare k' ns') refl (λ ts us xs h. rw h refl) S.reading (direct assigned shapes.shift R) }
-    binary_form no_in shapes.at_most h S R = record { lead = joined_lead f' op.LtEq refl S.lead; tight = S.tight; no_or = refl; param = joined_param f' op.LtEq refl S.param; reading = chained_form no_in op.LtEq f' k ns (bare k' ns') refl (λ ts us xs h. rw h refl) S.reading (direct assigned shapes.shift R) }
-    binary_form no_in shapes.at_least h S R = record { lead = joined_lead f' op.GtEq refl S.lead; tight = S.tight; no_or = refl; param = joined_param f' op.GtEq refl S.param; reading = chained_form no_in op.GtEq f' k ns (bare k' ns') refl (λ ts us xs h. rw h refl) S.reading (direct assigned shapes.shift R) }
-    binary_form no_in shapes.instance_of h S R = record { lead = joined_lead f' op.InstanceOf refl S.lead; tight = S.tight; no_or = refl; param = joined_param f' op.InstanceOf refl S.param; reading = chained_form no_in op.InstanceOf f' k ns (bare k' ns') refl (λ ts us xs h. rw h refl) S.reading (direct assigned shapes.shift R) }
+    binary_form no_in shapes.times h S R = record { lead = joined_lead f' op.Mul refl S.lead; tight = S.tight; no_or = refl; no_arrow = joined_no_arrow f f' op.Mul refl S.no_arrow; param = joined_param f' op.Mul refl S.param; reading = chained_form false op.Mul f' k ns (bare k' ns') refl (λ ts us xs h. rw h refl) S.reading (direct assigned shapes.power R) }
+    binary_form no_in shapes.divided h S R = record { lead = joined_lead f' op.Div refl S.lead; tight = S.tight; no_or = refl; no_arrow = joined_no_arrow f f' op.Div refl S.no_arrow; param = joined_param f' op.Div refl S.param; reading = chained_form false op.Div f' k ns (bare k' ns') refl (λ ts us xs h. rw h refl) S.reading (direct assigned shapes.power R) }
+    binary_form no_in shapes.modulo h S R = record { lead = joined_lead f' op.Mod refl S.lead; tight = S.tight; no_or = refl; no_arrow = joined_no_arrow f f' op.Mod refl S.no_arrow; param = joined_param f' op.Mod refl S.param; reading = chained_form false op.Mod f' k ns (bare k' ns') refl (λ ts us xs h. rw h refl) S.reading (direct assigned shapes.power R) }
+    binary_form no_in shapes.plus h S R = record { lead = joined_lead f' op.Add refl S.lead; tight = S.tight; no_or = refl; no_arrow = joined_no_arrow f f' op.Add refl S.no_arrow; param = joined_param f' op.Add refl S.param; reading = chained_form false op.Add f' k ns (bare k' ns') refl (λ ts us xs h. rw h refl) S.reading (direct assigned shapes.product R) }
+    binary_form no_in shapes.minus h S R = record { lead = joined_lead f' op.Sub refl S.lead; tight = S.tight; no_or = refl; no_arrow = joined_no_arrow f f' op.Sub refl S.no_arrow; param = joined_param f' op.Sub refl S.param; reading = chained_form false op.Sub f' k ns (bare k' ns') refl (λ ts us xs h. rw h refl) S.reading (direct assigned shapes.product R) }
+    binary_form no_in shapes.left_shift h S R = record { lead = joined_lead f' op.LShift refl S.lead; tight = S.tight; no_or = refl; no_arrow = joined_no_arrow f f' op.LShift refl S.no_arrow; param = joined_param f' op.LShift refl S.param; reading = chained_form false op.LShift f' k ns (bare k' ns') refl (λ ts us xs h. rw h refl) S.reading (direct assigned shapes.sum R) }
+    binary_form no_in shapes.right_shift h S R = record { lead = joined_lead f' op.RShift refl S.lead; tight = S.tight; no_or = refl; no_arrow = joined_no_arrow f f' op.RShift refl S.no_arrow; param = joined_param f' op.RShift refl S.param; reading = chained_form false op.RShift f' k ns (bare k' ns') refl (λ ts us xs h. rw h refl) S.reading (direct assigned shapes.sum R) }
+    binary_form no_in shapes.unsigned_shift h S R = record { lead = joined_lead f' op.ZeroFillRShift refl S.lead; tight = S.tight; no_or = refl; no_arrow = joined_no_arrow f f' op.ZeroFillRShift refl S.no_arrow; param = joined_param f' op.ZeroFillRShift refl S.param; reading = chained_form false op.ZeroFillRShift f' k ns (bare k' ns') refl (λ ts us xs h. rw h refl) S.reading (direct assigned shapes.sum R) }
+    binary_form no_in shapes.less h S R = record { lead = joined_lead f' op.Lt refl S.lead; tight = S.tight; no_or = refl; no_arrow = joined_no_arrow f f' op.Lt refl S.no_arrow; param = joined_param f' op.Lt refl S.param; reading = chained_form no_in op.Lt f' k ns (bare k' ns') refl (λ ts us xs h. rw h refl) S.reading (direct assigned shapes.shift R) }
+    binary_form no_in shapes.greater h S R = record { lead = joined_lead f' op.Gt refl S.lead; tight = S.tight; no_or = refl; no_arrow = joined_no_arrow f f' op.Gt refl S.no_arrow; param = joined_param f' op.Gt refl S.param; reading = chained_form no_in op.Gt f' k ns (bare k' ns') refl (λ ts us xs h. rw h refl) S.reading (direct assigned shapes.shift R) }
+    binary_form no_in shapes.at_most h S R = record { lead = joined_lead f' op.LtEq refl S.lead; tight = S.tight; no_or = refl; no_arrow = joined_no_arrow f f' op.LtEq refl S.no_arrow; param = joined_param f' op.LtEq refl S.param; reading = chained_form no_in op.LtEq f' k ns (bare k' ns') refl (λ ts us xs h. rw h refl) S.reading (direct assigned shapes.shift R) }
+    binary_form no_in shapes.at_least h S R = record { lead = joined_lead f' op.GtEq refl S.lead; tight = S.tight; no_or = refl; no_arrow = joined_no_arrow f f' op.GtEq refl S.no_arrow; param = joined_param f' op.GtEq refl S.param; reading = chained_form no_in op.GtEq f' k ns (bare k' ns') refl (λ ts us xs h. rw h refl) S.reading (direct assigned shapes.shift R) }
+    binary_form no_in shapes.instance_of h S R = record { lead = joined_lead f' op.InstanceOf refl S.lead; tight = S.tight; no_or = refl; no_arrow = joined_no_arrow f f' op.InstanceOf refl S.no_arrow; param = joined_param f' op.InstanceOf refl S.param; reading = chained_form no_in op.InstanceOf f' k ns (bare k' ns') refl (λ ts us xs h. rw h refl) S.reading (direct assigned shapes.shift R) }
     binary_form true shapes.contained h S R = absurd (false≢true h)
-    binary_form false shapes.contained h S R = record { lead = joined_lead f' op.In refl S.lead; tight = S.tight; no_or = refl; param = joined_param f' op.In refl S.param; reading = chained_form false op.In f' k ns (bare k' ns') refl (λ ts us xs h. rw h refl) S.reading (direct assigned shapes.shift R) }
-    binary_form no_in shapes.equal h S R = record { lead = joined_lead f' op.EqEq refl S.lead; tight = S.tight; no_or = refl; param = joined_param f' op.EqEq refl S.param; reading = chained_form no_in op.EqEq f' k ns (bare k' ns') refl (λ ts us xs h. rw h refl) S.reading (direct assigned shapes.relation R) }
-    binary_form no_in shapes.unequal h S R = record { lead = joined_lead f' op.NotEq refl S.lead; tight = S.tight; no_or = refl; param = joined_param f' op.NotEq refl S.param; reading = chained_form no_in op.NotEq f' k ns (bare k' ns') refl (λ ts us xs h. rw h refl) S.reading (direct assigned shapes.relation R) }
-    binary_form no_in shapes.same h S R = record { lead = joined_lead f' op.EqEqEq refl S.lead; tight = S.tight; no_or = refl; param = joined_param f' op.EqEqEq refl S.param; reading = chained_form no_in op.EqEqEq f' k ns (bare k' ns') refl (λ ts us xs h. rw h refl) S.reading (direct assigned shapes.relation R) }
-    binary_form no_in shapes.other h S R = record { lead = joined_lead f' op.NotEqEq refl S.lead; tight = S.tight; no_or = refl; param = joined_param f' op.NotEqEq refl S.param; reading = chained_form no_in op.NotEqEq f' k ns (bare k' ns') refl (λ ts us xs h. rw h refl) S.reading (direct assigned shapes.relation R) }
-    binary_form no_in shapes.conjunction h S R = record { lead = joined_lead f' op.BitAnd refl S.lead; tight = S.tight; no_or = refl; param = joined_param f' op.BitAnd refl S.param; reading = chained_form no_in op.BitAnd f' k ns (bare k' ns') refl (λ ts us xs h. rw h refl) S.reading (direct assigned shapes.equality R) }
-    binary_form no_in shapes.exclusion h S R = record { lead = joined_lead f' op.BitXor refl S.lead; tight = S.tight; no_or = refl; param = joined_param f' op.BitXor refl S.param; reading = chained_form no_in op.BitXor f' k ns (bare k' ns') refl (λ ts us xs h. rw h refl) S.reading (direct assigned shapes.bit_and R) }
-    binary_form no_in shapes.disjunction h S R = record { lead = joined_lead f' op.BitOr refl S.lead; tight = S.tight; no_or = refl; param = joined_param f' op.BitOr refl S.param; reading = chained_form no_in op.BitOr f' k ns (bare k' ns') refl (λ ts us xs h. rw h refl) S.reading (direct assigned shapes.bit_xor R) }
+    binary_form false shapes.contained h S R = record { lead = joined_lead f' op.In refl S.lead; tight = S.tight; no_or = refl; no_arrow = joined_no_arrow f f' op.In refl S.no_arrow; param = joined_param f' op.In refl S.param; reading = chained_form false op.In f' k ns (bare k' ns') refl (λ ts us xs h. rw h refl) S.reading (direct assigned shapes.shift R) }
+    binary_form no_in shapes.equal h S R = record { lead = joined_lead f' op.EqEq refl S.lead; tight = S.tight; no_or = refl; no_arrow = joined_no_arrow f f' op.EqEq refl S.no_arrow; param = joined_param f' op.EqEq refl S.param; reading = chained_form no_in op.EqEq f' k ns (bare k' ns') refl (λ ts us xs h. rw h refl) S.reading (direct assigned shapes.relation R) }
+    binary_form no_in shapes.unequal h S R = record { lead = joined_lead f' op.NotEq refl S.lead; tight = S.tight; no_or = refl; no_arrow = joined_no_arrow f f' op.NotEq refl S.no_arrow; param = joined_param f' op.NotEq refl S.param; reading = chained_form no_in op.NotEq f' k ns (bare k' ns') refl (λ ts us xs h. rw h refl) S.reading (direct assigned shapes.relation R) }
+    binary_form no_in shapes.same h S R = record { lead = joined_lead f' op.EqEqEq refl S.lead; tight = S.tight; no_or = refl; no_arrow = joined_no_arrow f f' op.EqEqEq refl S.no_arrow; param = joined_param f' op.EqEqEq refl S.param; reading = chained_form no_in op.EqEqEq f' k ns (bare k' ns') refl (λ ts us xs h. rw h refl) S.reading (direct assigned shapes.relation R) }
+    binary_form no_in shapes.other h S R = record { lead = joined_lead f' op.NotEqEq refl S.lead; tight = S.tight; no_or = refl; no_arrow = joined_no_arrow f f' op.NotEqEq refl S.no_arrow; param = joined_param f' op.NotEqEq refl S.param; reading = chained_form no_in op.NotEqEq f' k ns (bare k' ns') refl (λ ts us xs h. rw h refl) S.reading (direct assigned shapes.relation R) }
+    binary_form no_in shapes.conjunction h S R = record { lead = joined_lead f' op.BitAnd refl S.lead; tight = S.tight; no_or = refl; no_arrow = joined_no_arrow f f' op.BitAnd refl S.no_arrow; param = joined_param f' op.BitAnd refl S.param; reading = chained_form no_in op.BitAnd f' k ns (bare k' ns') refl (λ ts us xs h. rw h refl) S.reading (direct assigned shapes.equality R) }
+    binary_form no_in shapes.exclusion h S R = record { lead = joined_lead f' op.BitXor refl S.lead; tight = S.tight; no_or = refl; no_arrow = joined_no_arrow f f' op.BitXor refl S.no_arrow; param = joined_param f' op.BitXor refl S.param; reading = chained_form no_in op.BitXor f' k ns (bare k' ns') refl (λ ts us xs h. rw h refl) S.reading (direct assigned shapes.bit_and R) }
+    binary_form no_in shapes.disjunction h S R = record { lead = joined_lead f' op.BitOr refl S.lead; tight = S.tight; no_or = refl; no_arrow = joined_no_arrow f f' op.BitOr refl S.no_arrow; param = joined_param f' op.BitOr refl S.param; reading = chained_form no_in op.BitOr f' k ns (bare k' ns') refl (λ ts us xs h. rw h refl) S.reading (direct assigned shapes.bit_xor R) }
 
   -- `**`: on its left side an update, on its right side more of them
   module _ {f f' : Laid} {k k' : Kind} {ns ns' : List Node} (S : Stands assigned shapes.update f k ns) (R : Stands assigned shapes.power f' k' ns') where
@@ -182,6 +187,7 @@ module _ (assigned : Bool) where
     unfolding arrow_rest names.binding_ident
     power_form = record {
       lead = lead_before assigned S.lead (sign (codes "**")) refl blank (f' blank);
+      no_arrow = no_arrow_before assigned f S.no_arrow (sign (codes "**")) refl blank (f' blank);
       tight = S.tight;
       no_or = refl;
       param = λ g us e b z. param_in_front assigned S.param (sign (codes "**")) refl blank (f' blank) g us;

@@ -30,7 +30,7 @@ use Rattle.ecma_reread.specs.Tokens.{blank}
 use Rattle.ecma_reread.proofs.Fronts.{Front, exactly, Begins, at_token}
 use Rattle.ecma_reread.proofs.Towers.{closes, private_in, refuses_choices}
 use Rattle.ecma_reread.proofs.Heads.{bare}
-use Rattle.ecma_reread.proofs.Forms.{Laid, Reads, opens_plainly, no_item_at, lead_from, param_from}
+use Rattle.ecma_reread.proofs.Forms.{Laid, Reads, opens_plainly, no_item_at, lead_from, param_from, no_arrow_from}
 use Rattle.ecma_reread.proofs.Bindings.{related, Stands, direct}
 use Rattle.ecma_reread.proofs.Operations.{binary_made}
 use Rattle.ecma_reread.proofs.Members.{name_behind}
@@ -68,6 +68,7 @@ module _ (assigned : Bool) (name : List ℕ) (t : IsToken priv_name_end (codes "
         lead = lead_from assigned (private_name word) (private_opens word) rest (λ g us. no_item_at assigned (exactly (private_name word)) (tokens g us) at_token (private_no_item word));
         tight = refl;
         no_or = refl;
+        no_arrow = no_arrow_from assigned (private_name word) (private_opens word) rest;
         param = λ g us e b z. param_from assigned (private_name word) (private_opens word) rest g us;
         reading = record {
           pieces = bare (kind.PrivateName name) [] ∷ test ∷ [];

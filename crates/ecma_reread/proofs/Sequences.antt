@@ -59,6 +59,7 @@ module _ (assigned : Bool) where
           lead = lead_before assigned X.lead (sign (codes ",")) refl no_gap (λ us. f' blank (more_tokens is us));
           tight = tt;
           no_or = tt;
+          no_arrow = tt;
           param = λ g us e b z n P.
               (let w : Followed us = record { front = e; begins = b; ends = z.1 } in
               let v = more_followed is us w in

@@ -31,7 +31,7 @@ use Rattle.ecma_reread.proofs.Levels.{means_is}
 use Rattle.ecma_reread.proofs.Fronts.{Front, exactly, Begins, at_token, refuses_at}
 use Rattle.ecma_reread.proofs.Towers.{suffix, closes, skipped}
 use Rattle.ecma_reread.proofs.Heads.{bare, nodes}
-use Rattle.ecma_reread.proofs.Forms.{Laid, Reads, Form, chain_read, apart, ends_no_param, only_opens, lead_of, lead_before, lead_by, param_in_front, param_by}
+use Rattle.ecma_reread.proofs.Forms.{Laid, Reads, Form, chain_read, apart, ends_no_param, only_opens, lead_of, lead_before, lead_by, param_in_front, param_by, no_arrow_by, no_arrow_before}
 use Rattle.ecma_reread.proofs.Bindings.{Stands, go_out, direct, tight_by}
 
 update_opens : (o : UpdateOp) → only_opens (exactly (update_token o)) ≡ true
@@ -80,6 +80,7 @@ module _ (assigned : Bool) where
       lead = lead_by assigned (update_token o) (update_opens o) (f no_gap);
       tight = tight_by (exactly (update_token o)) (update_opens o);
       no_or = refl;
+      no_arrow = no_arrow_by assigned (update_token o) (update_opens o) (f no_gap);
       param = λ g us e b z. param_by assigned (update_token o) (update_opens o) (f no_gap) g us;
       reading = (no_prefix o, λ g us e b z. prefix_read o g (f no_gap us) us (bare k ns) (operand_read us e b z));
     }
@@ -97,4 +98,4 @@ module _ (assigned : Bool) where
     postfix_form =
         let F = S.reading in
         let p = F.opens in
-        record { lead = lead_before assigned (lead_of assigned F) (update_token o) (update_apart o) no_gap (λ us. us); tight = (p.no_private, p.no_yield); no_or = refl; param = λ g us e b z. param_in_front assigned F.as_param (update_token o) (update_no_param o) no_gap (λ us. us) g us; reading = (p.no_prefix, λ g us e b z. updated F g us) }
+        record { lead = lead_before assigned (lead_of assigned F) (update_token o) (update_apart o) no_gap (λ us. us); tight = (p.no_private, p.no_yield); no_or = refl; no_arrow = no_arrow_before assigned f F.no_arrow (update_token o) (update_apart o) no_gap (λ us. us); param = λ g us e b z. param_in_front assigned F.as_param (update_token o) (update_no_param o) no_gap (λ us. us) g us; reading = (p.no_prefix, λ g us e b z. updated F g us) }

@@ -150,6 +150,7 @@ module _ (assigned : Bool) where
       lead = lead_from assigned (key (codes "yield")) yield_opens rest (λ g us. no_item_at assigned front (it g (key (codes "yield")) (rest us)) at_token yield_no_item);
       tight = tt;
       no_or = tt;
+      no_arrow = tt;
       param = λ g us e b z. param_from assigned (key (codes "yield")) yield_opens rest g us;
       reading = h;
     }
