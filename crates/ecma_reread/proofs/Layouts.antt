@@ -193,7 +193,7 @@ gap_out (shapes.array at at' es) g us = refl
 gap_out (shapes.object_literal at at' ps) g us = refl
 gap_out (shapes.sequence_expression at x y es) g us = gap_out x g (sign_of (codes ",") (expression_tokens y blank (more_tokens es us)))
 
-pattern_gap_out : {n : Node} (is : IsPattern n) (g : Gap) (us : Items) → render (pattern_tokens is g us) ≡ g.blanks ++ render (pattern_tokens is no_gap us)
+pub pattern_gap_out : {n : Node} (is : IsPattern n) (g : Gap) (us : Items) → render (pattern_tokens is g us) ≡ g.blanks ++ render (pattern_tokens is no_gap us)
 unfolding render
 pattern_gap_out (shapes.name_pattern at i a) g us = refl
 pattern_gap_out is g us = refl
@@ -468,7 +468,7 @@ mutual
       ap (λ z. codes ", " ++ z) (ap (λ z. (laid p').at (At (free 1)) m z) (more_properties_laid ps m us) ∙ property_laid p m (more_properties_tokens ps us))
       ∙ ap (λ z. codes "," ++ z) (sym (property_gap_out p blank (more_properties_tokens ps us)))
 
-  pattern_laid : {n : Node} (is : IsPattern n) (m : List ℕ) (us : Items) → (laid n).at (At (free 1)) m (render us) ≡ render (pattern_tokens is no_gap us)
+  pub pattern_laid : {n : Node} (is : IsPattern n) (m : List ℕ) (us : Items) → (laid n).at (At (free 1)) m (render us) ≡ render (pattern_tokens is no_gap us)
   pattern_laid (shapes.name_pattern at {none = n'} i a) m us = binding_laid at i n' m us
   pattern_laid (shapes.array_pattern at at' {slots = ns} {none = n'} es a) m us =
       at_node at (kind.ArrayPat false) (node_of at' kind.List ns ∷ n' ∷ []) (At (free 1)) m (render us) ∙ (at_node at' kind.List ns Brackets m (render us) ∙ slots_laid es m us)

@@ -438,7 +438,7 @@ module _ (assigned : Bool) where
       ap (or_on (I (by_other_name // by_own_name)) (property_name_tokens k g (s (codes ":") vs))) (ap (built_on (form.Node plain.RestPat)) (ap (followed_on (I (binding_ident ▸ put Absent))) (no_spread k g (s (codes ":") vs))))
       ∙ rw (name_read k F.0 g (s (codes ":") vs), D.reads blank us (record { front = E.front; begins = E.begins; ends = E.ends })) refl
   pattern_property_read (shapes.named at at' (ident of w i) a v) F g us E =
-      named_read w g (initializer_tokens v us) us (bare_initializer v ∷ []) i.free (no_colon_behind v us E) (initializer_read assigned v F us (record { front = E.front; begins = E.begins; ends = E.ends }))
+      named_read w g (initializer_tokens v us) us (bare_initializer v ∷ []) i.free (no_colon_behind v us E) (initializer_read assigned false v F us (record { front = E.front; begins = E.begins; ends = E.ends }))
     where
       no_colon_behind : {n : Node} (v : IsInitializer n) (us : Items) → Ended us → Refuses assigned (punct (codes ":")) (initializer_tokens v us)
       no_colon_behind (shapes.no_initializer a) us E = refused_at assigned (means assigned) (punct (codes ":")) E.front us E.begins E.no_colon

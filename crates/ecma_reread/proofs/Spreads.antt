@@ -1,12 +1,12 @@
 -- Arguments and elements of arrays, which may be spread, are read as they are laid out; and what is read of them as parameters and elements of a pattern.
-use Rattle.std.proofs.Common.{◌≡◌, Bool, true, [], ◌∷◌, codes, refl, ap, ◌∙◌}
+use Rattle.std.proofs.Common.{◌≡◌, Bool, true, [], ◌∷◌, codes, refl, ap, ◌∙◌, false}
 use Rattle.ecma_tree.specs.declared.node.Node.{Node}
 use Rattle.ecma_grammar.specs.declared.production.Part.TheVariants as part
 use Rattle.ecma_grammar.specs.declared.production.Form.TheVariants as form
 use Rattle.ecma_grammar.specs.declared.production.Plain.TheVariants as plain
 use Rattle.ecma_grammar.specs.declared.production.Flag.TheVariants.{Absent}
 use Rattle.ecma_grammar.specs.Grammar.{Grammar, put, ◌▸◌, punct, maybe}
-use Rattle.ecma_grammar.specs.productions.Names.{pattern, assign}
+use Rattle.ecma_grammar.specs.productions.Names.{pattern, assign, assign_in}
 use Rattle.ecma_grammar.specs.productions.Types.{rest_pattern}
 use Rattle.ecma_grammar.specs.productions.Patterns.{pattern_element}
 use Rattle.ecma_grammar.specs.productions.Primary.{element, spread}
@@ -17,7 +17,7 @@ use Rattle.ecma_reread.specs.Shapes.{Role, IsElement, IsInitializer}
 use Rattle.ecma_reread.specs.Tokens.{blank, expression_tokens, expression_kind, expression_parts, element_tokens, bare_element, pattern_tokens, bare_pattern, defaulted_tokens, bare_defaulted, initializer_tokens, bare_initializer}
 use Rattle.ecma_reread.proofs.Fronts.{Front, Begins, refuses_at, refused_at}
 use Rattle.ecma_reread.proofs.Forms.{Laid, Reads, Refuses, Lead, AsItem, AsParam}
-use Rattle.ecma_reread.proofs.Bindings.{ends_no_equals, Stands, used}
+use Rattle.ecma_reread.proofs.Bindings.{ends_no_equals, Stands, used, closed, StandsIn}
 use Rattle.ecma_reread.proofs.Lists.{Followed}
 use Rattle.ecma_reread.proofs.Tried.{as_pattern, defaulted, pattern_as_element, spread_param, spread_as_element}
 
@@ -44,13 +44,16 @@ module _ (assigned : Bool) where
   ElementForm (shapes.rest at p a) = ReadAsPattern (pattern_tokens p) (bare_pattern p)
 
   -- and of a value behind `=`
-  abbrev pub InitializerForm : {n : Node} → IsInitializer n → Type 0
-  InitializerForm (shapes.no_initializer a) = Unit {0}
-  InitializerForm (shapes.initializer e) = Stands assigned shapes.assignment (expression_tokens e) (expression_kind e) (expression_parts e)
+  abbrev pub InitializerIn : Bool → {n : Node} → IsInitializer n → Type 0
+  InitializerIn no_in (shapes.no_initializer a) = Unit {0}
+  InitializerIn no_in (shapes.initializer e) = StandsIn assigned no_in shapes.assignment (expression_tokens e) (expression_kind e) (expression_parts e)
 
-  pub initializer_read : {n : Node} (i : IsInitializer n) → InitializerForm i → (us : Items) → Followed us → Reads assigned (maybe (punct (codes "=") ▸ assign)) (initializer_tokens i us) (bare_initializer i ∷ []) us
-  initializer_read (shapes.no_initializer a) S us F = rw (refused_at assigned (means assigned) (punct (codes "=")) F.front us F.begins (ends_no_equals F.front F.ends)) refl
-  initializer_read (shapes.initializer e) S us F = rw (used assigned S blank us F.front F.begins F.ends) refl
+  abbrev pub InitializerForm : {n : Node} → IsInitializer n → Type 0
+  InitializerForm i = InitializerIn false i
+
+  pub initializer_read : (no_in : Bool) {n : Node} (i : IsInitializer n) → InitializerIn no_in i → (us : Items) → Followed us → Reads assigned (maybe (punct (codes "=") ▸ assign_in no_in)) (initializer_tokens i us) (bare_initializer i ∷ []) us
+  initializer_read no_in (shapes.no_initializer a) S us F = rw (refused_at assigned (means assigned) (punct (codes "=")) F.front us F.begins (ends_no_equals F.front F.ends)) refl
+  initializer_read no_in (shapes.initializer e) S us F = rw (used assigned S blank us F.front F.begins (closed no_in shapes.assignment F.front F.ends)) refl
 
   pub no_rest : {f : Laid} → Lead assigned f → (g : Gap) (us : Items) → Refuses assigned rest_pattern (f g us)
   unfolding rest_pattern

@@ -3,21 +3,22 @@ use Rattle.std.proofs.Common.{ℕ, suc, Bool, true, false, List, ap}
 use Rattle.ecma_tree.specs.declared.node.Node.{Node}
 use Rattle.ecma_reread.specs.Machine.{taken}
 use Rattle.ecma_reread.specs.Shapes as shapes
-use Rattle.ecma_reread.specs.Shapes.{IsInitializer, IsDeclarator, AreDeclarators, Ending, IsStatement, IsBlock, IsCase, AreCases, IsCatch, AreStatements, IsOptional}
-use Rattle.ecma_reread.specs.Tokens.{line_at, ident_word, closing_gap, is_braced, branch_gap, statement_tokens, block_tokens, case_tokens, cases_tokens, catch_tokens, lined_tokens, bare_statement, bare_block, bare_case, bare_cases, bare_catch, bare_statements}
+use Rattle.ecma_reread.specs.Shapes.{IsInitializer, IsDeclarator, AreDeclarators, Ending, IsStatement, IsBlock, IsCase, AreCases, IsCatch, AreStatements, IsOptional, IsForDeclarator, AreForDeclarators, IsForInit}
+use Rattle.ecma_reread.specs.Tokens.{line_at, ident_word, closing_gap, is_braced, branch_gap, statement_tokens, block_tokens, case_tokens, cases_tokens, catch_tokens, lined_tokens, bare_statement, bare_block, bare_case, bare_cases, bare_catch, bare_statements, as_declarator, as_declarators}
 use Rattle.ecma_reread.proofs.Bindings.{standing}
 use Rattle.ecma_reread.proofs.Beginnings.{no_new_line, no_brace}
 use Rattle.ecma_reread.proofs.Calls.{ident_free, expression_form, pattern_form, initializer_form}
 use Rattle.ecma_reread.proofs.Statements.{ReadAsStatement, expression_statement_form}
-use Rattle.ecma_reread.proofs.Variables.{DeclaratorForm, DeclaratorForms, declaration_form}
+use Rattle.ecma_reread.proofs.Variables.{DeclaratorForm, DeclaratorForms, declaration_form, DeclaratorIn, DeclaratorsIn}
 use Rattle.ecma_reread.proofs.Jumps.{empty_form, debugger_form, return_form, break_form, continue_form, throw_form, return_value_form}
 use Rattle.ecma_reread.proofs.Blocks.{ReadAsStatements, no_statements_form, more_statements_form, ReadAsBlock, braces_form, block_statement}
 use Rattle.ecma_reread.proofs.Branches.{if_form, if_else_form}
 use Rattle.ecma_reread.proofs.Loops.{while_form, do_form}
 use Rattle.ecma_reread.proofs.Switches.{ReadAsCase, ReadAsCases, no_cases_form, more_cases_form, case_form, default_form, switch_form}
 use Rattle.ecma_reread.proofs.Tries.{ReadAsCatch, catch_any_form, catch_name_form, try_catch_form, try_finally_form, try_catch_finally_form}
-use Rattle.ecma_reread.proofs.ForLoops.{OptionalForm, for_loop_form, for_in_form, for_of_form, for_await_form}
+use Rattle.ecma_reread.proofs.ForLoops.{OptionalForm, for_loop_form, for_in_form, for_of_form, for_await_form, InitForm}
 use Rattle.ecma_reread.proofs.Labels.{labeled_form, break_label_form, continue_label_form}
+use Rattle.ecma_reread.proofs.HeadForms.{head_form}
 
 module _ (assigned : Bool) where
   pub declarator_form : {n : Node} (is : IsDeclarator n) → DeclaratorForm assigned is
@@ -30,6 +31,19 @@ module _ (assigned : Bool) where
   optional_form : {n : Node} (is : IsOptional n) → OptionalForm assigned is
   optional_form (shapes.left_out a) = tt
   optional_form (shapes.given e) = standing assigned (expression_form assigned e)
+
+  for_declarator_form : {n : Node} (is : IsForDeclarator n) → DeclaratorIn assigned true (as_declarator is)
+  for_declarator_form (shapes.for_declarator at p (shapes.no_initializer b) z) = (pattern_form assigned p, tt)
+  for_declarator_form (shapes.for_declarator at p (shapes.initializer e) z) = (pattern_form assigned p, head_form assigned e z)
+
+  for_declarator_forms : {ds : List Node} (is : AreForDeclarators ds) → DeclaratorsIn assigned true (as_declarators is)
+  for_declarator_forms shapes.no_for_declarators = tt
+  for_declarator_forms (shapes.more_for_declarators d ds) = (for_declarator_form d, for_declarator_forms ds)
+
+  init_form : {n : Node} (is : IsForInit n) → InitForm assigned is
+  init_form (shapes.no_init a) = tt
+  init_form (shapes.init_declaration at of_list k d ds) = (for_declarator_form d, for_declarator_forms ds)
+  init_form (shapes.init_expression e z) = (standing assigned (expression_form assigned e), standing assigned (head_form assigned e z))
 
   mutual
     pub statement_form : {ending : Ending} {n : Node} (is : IsStatement ending n) (d : ℕ) → ReadAsStatement assigned ending (statement_tokens is d) (bare_statement is)
@@ -53,7 +67,7 @@ module _ (assigned : Bool) where
     statement_form (shapes.try_catch at b c a) d = try_catch_form assigned (block_form b d) (catch_form c d)
     statement_form (shapes.try_finally at b a f) d = try_finally_form assigned (block_form b d) (block_form f d)
     statement_form (shapes.try_catch_finally at b c f) d = try_catch_finally_form assigned (block_form b d) (catch_form c d) (block_form f d)
-    statement_form (shapes.for_loop at a t u b) d = for_loop_form assigned (statement_form b d) t u (optional_form t) (optional_form u)
+    statement_form (shapes.for_loop at i t u b) d = for_loop_form assigned (statement_form b d) i t u (init_form i) (optional_form t) (optional_form u)
     statement_form (shapes.for_in at (shapes.for_binding p q r x k i a c) e b) d = for_in_form assigned (statement_form b d) k (ident_word i) (ident_free assigned i) (standing assigned (expression_form assigned e))
     statement_form (shapes.for_of at true (shapes.for_binding p q r x k i a c) e b) d = for_await_form assigned (statement_form b d) k (ident_word i) (ident_free assigned i) (expression_form assigned e)
     statement_form (shapes.for_of at false (shapes.for_binding p q r x k i a c) e b) d = for_of_form assigned (statement_form b d) k (ident_word i) (ident_free assigned i) (expression_form assigned e)

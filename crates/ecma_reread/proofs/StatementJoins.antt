@@ -13,8 +13,8 @@ use Rattle.ecma_tokens.specs.Items.{Tok, sign, Gap, no_gap, Items, it}
 use Rattle.ecma_tokens.specs.Good.{IsGap, IsToken, is_gap_character}
 use Rattle.ecma_tokens.specs.Joins.{joins, joins_next, Joined}
 use Rattle.ecma_reread.specs.Shapes as shapes
-use Rattle.ecma_reread.specs.Shapes.{Level, IsExpression, Ending, IsStatement, IsBlock, IsCase, AreCases, IsCatch, AreStatements, IsOptional, IsForBinding}
-use Rattle.ecma_reread.specs.Tokens.{margin, line_at, blank, sign_of, expression_tokens, ident_word, declarators_tokens, closing_gap, is_braced, branch_gap, test_tokens, statement_tokens, block_tokens, case_tokens, cases_tokens, catch_tokens, lined_tokens, optional_tokens, for_binding_tokens, for_tokens, initializer_tokens}
+use Rattle.ecma_reread.specs.Shapes.{Level, IsExpression, Ending, IsStatement, IsBlock, IsCase, AreCases, IsCatch, AreStatements, IsOptional, IsForBinding, IsForInit}
+use Rattle.ecma_reread.specs.Tokens.{margin, line_at, blank, sign_of, expression_tokens, ident_word, declarators_tokens, closing_gap, is_braced, branch_gap, test_tokens, statement_tokens, block_tokens, case_tokens, cases_tokens, catch_tokens, lined_tokens, optional_tokens, for_binding_tokens, for_tokens, initializer_tokens, as_declarator, as_declarators, for_init_tokens, declarator_tokens}
 use Rattle.ecma_reread.proofs.Softs.{closing, semicolon, colon, Soft, is_object}
 use Rattle.ecma_reread.proofs.Beginnings.{pattern_blank_joins, begun, blank_joins, opening_joins}
 use Rattle.ecma_reread.proofs.Joins.{ident_whole, no_gap_is, blank_is, Words, expression_joined, declarators_soft, declarator_joined, declarators_joined}
@@ -64,7 +64,7 @@ statement_apart (shapes.switch_statement at at' e cs) d g w us t = w t (items.ke
 statement_apart (shapes.try_catch at b c n) d g w us t = w t (items.key (codes "try"))
 statement_apart (shapes.try_finally at b n f) d g w us t = w t (items.key (codes "try"))
 statement_apart (shapes.try_catch_finally at b c f) d g w us t = w t (items.key (codes "try"))
-statement_apart (shapes.for_loop at n t' u b) d g w us t = w t (items.key (codes "for"))
+statement_apart (shapes.for_loop at i t' u b) d g w us t = w t (items.key (codes "for"))
 statement_apart (shapes.for_in at l e b) d g w us t = w t (items.key (codes "for"))
 statement_apart (shapes.for_of at true l e b) d g w us t = w t (items.key (codes "for"))
 statement_apart (shapes.for_of at false l e b) d g w us t = w t (items.key (codes "for"))
@@ -119,6 +119,23 @@ module _ (words : Words) where
   optional_joined : {n : Node} (is : IsOptional n) (us : Items) → ((object : Bool) → Soft object us) → Joined us → Joined (optional_tokens is us)
   optional_joined (shapes.left_out a) us z j = j
   optional_joined (shapes.given {level = l} e) us z j = expression_joined words e blank blank_is us (z (is_object l)) j
+
+  for_init_joined : {n : Node} (is : IsForInit n) (us : Items) → Joined (sign_of (codes ";") us) → Joined (it blank (sign (codes "(")) (for_init_tokens is (sign_of (codes ";") us)))
+  unfolding punctuators
+  for_init_joined (shapes.no_init a) us j = (blank_is, refl, refl, j)
+  for_init_joined (shapes.init_declaration at of_list k (shapes.for_declarator p q e z) ds) us j =
+      let more = declarators_tokens (as_declarators ds) (sign_of (codes ";") us) in (
+        blank_is,
+        refl,
+        refl,
+        (
+          no_gap_is,
+          keyword_whole k,
+          pattern_blank_joins (items.key (keyword k)) q (initializer_tokens e more),
+          declarator_joined words (shapes.declarator p q e) more (λ o. declarators_soft words (as_declarators ds) o us) (declarators_joined words (as_declarators ds) us j),
+        ),
+      )
+  for_init_joined (shapes.init_expression e z) us j = (blank_is, refl, opening_joins e (sign_of (codes ";") us), expression_joined words e no_gap no_gap_is (sign_of (codes ";") us) semicolon j)
 
   for_binding_joined : {n : Node} (is : IsForBinding n) (t : Tok) (us : Items) → Joined (it blank t us) → Joined (for_binding_tokens is (it blank t us))
   for_binding_joined (shapes.for_binding at of_list at_declarator at_binding k i a b) t us j = (no_gap_is, keyword_whole k, refl, (blank_is, ident_whole i, refl, j))
@@ -197,29 +214,12 @@ module _ (words : Words) where
         let end = it blank (items.key (codes "finally")) (block_tokens f d blank us) in
         let cs = catch_tokens c d end in
         (h, words.try_whole, block_apart b d blank blank_wide cs (items.key (codes "try")), block_joined b d blank blank_is cs (catch_apart c d end) (catch_joined c d end (λ t. refl) (finally_joined f d us (block_joined f d blank blank_is us a j))))
-    statement_joined (shapes.for_loop at n t u b) d g h us a j =
+    statement_joined (shapes.for_loop at i t u b) d g h us a j =
         let bs = statement_tokens b d blank us in
-        let us' = optional_tokens u (sign_of (codes ")") bs) in (
-          h,
-          words.for_whole,
-          refl,
-          (
-            blank_is,
-            refl,
-            refl,
-            (
-              no_gap_is,
-              refl,
-              optional_opens (sign (codes ";")) t (sign_of (codes ";") us') refl,
-              optional_joined t (sign_of (codes ";") us') (λ o. semicolon) (
-                no_gap_is,
-                refl,
-                optional_opens (sign (codes ";")) u (sign_of (codes ")") bs) refl,
-                optional_joined u (sign_of (codes ")") bs) (λ o. closing) (no_gap_is, refl, statement_apart b d blank blank_wide us (sign (codes ")")), statement_joined b d blank blank_is us a j),
-              ),
-            ),
-          ),
-        )
+        let us' = optional_tokens u (sign_of (codes ")") bs) in
+        let last : Joined us' = optional_joined u (sign_of (codes ")") bs) (λ o. closing) (no_gap_is, refl, statement_apart b d blank blank_wide us (sign (codes ")")), statement_joined b d blank blank_is us a j) in
+        let more : Joined (optional_tokens t (sign_of (codes ";") us')) = optional_joined t (sign_of (codes ";") us') (λ o. semicolon) (no_gap_is, refl, optional_opens (sign (codes ";")) u (sign_of (codes ")") bs) refl, last) in
+        (h, words.for_whole, refl, for_init_joined i (optional_tokens t (sign_of (codes ";") us')) (no_gap_is, refl, optional_opens (sign (codes ";")) t (sign_of (codes ";") us') refl, more))
     statement_joined (shapes.for_in at l e b) d g h us a j =
         let bs = sign_of (codes ")") (statement_tokens b d blank us) in
         let rest : Joined bs = (no_gap_is, refl, statement_apart b d blank blank_wide us (sign (codes ")")), statement_joined b d blank blank_is us a j) in

@@ -16,16 +16,18 @@ use Rattle.ecma_print.specs.declared.place.Spot.{Spot}
 use Rattle.ecma_print.specs.declared.place.Place.TheVariants.{At, Within, Deeper, Block, Commas}
 use Rattle.ecma_print.specs.Places.{before, after, free, beginning, right}
 use Rattle.ecma_print.specs.Laid.{Laid, is_absent, is_block}
-use Rattle.ecma_print.specs.Lists.{new_lines, block}
+use Rattle.ecma_print.specs.Lists.{new_lines, block, more_commas}
 use Rattle.ecma_print.specs.Statements.{else_behind, behind_body, case_word, keyword, head, for_word}
 use Rattle.ecma_print.specs.Layout.{in_place, lay_step, laid}
 use Rattle.ecma_tokens.specs.Items as items
 use Rattle.ecma_tokens.specs.Items.{sign, Gap, no_gap, Items, it, render}
 use Rattle.ecma_reread.specs.Shapes as shapes
-use Rattle.ecma_reread.specs.Shapes.{Level, IsExpression, IsDeclarator, AreDeclarators, Ending, IsStatement, IsBlock, IsCase, AreCases, IsCatch, AreStatements, IsOptional, IsForBinding}
-use Rattle.ecma_reread.specs.Tokens.{margin, line_at, blank, sign_of, expression_tokens, declarator_tokens, declarators_tokens, closing_gap, is_braced, branch_gap, test_tokens, statement_tokens, block_tokens, case_tokens, cases_tokens, catch_tokens, lined_tokens, ident_word, optional_tokens, for_binding_tokens, for_tokens}
-use Rattle.ecma_reread.proofs.Layouts.{laid_node, at_node, gap_out, expression_laid, within_laid, declarator_laid, more_declarators_laid}
+use Rattle.ecma_reread.specs.Shapes.{Level, IsExpression, IsDeclarator, AreDeclarators, Ending, IsStatement, IsBlock, IsCase, AreCases, IsCatch, AreStatements, IsOptional, IsForBinding, IsInitializer, IsForDeclarator, AreForDeclarators, IsForInit}
+use Rattle.ecma_reread.specs.Tokens.{margin, line_at, blank, sign_of, expression_tokens, declarator_tokens, declarators_tokens, closing_gap, is_braced, branch_gap, test_tokens, statement_tokens, block_tokens, case_tokens, cases_tokens, catch_tokens, lined_tokens, ident_word, optional_tokens, for_binding_tokens, for_tokens, initializer_tokens, as_declarator, as_declarators, for_init_tokens}
+use Rattle.ecma_reread.proofs.Layouts.{laid_node, at_node, gap_out, expression_laid, within_laid, declarator_laid, more_declarators_laid, pattern_laid, pattern_gap_out}
 use Rattle.ecma_reread.proofs.Spots.{calm_start, calm_0, calm_1}
+use Rattle.ecma_reread.proofs.HeadLayouts.{head_laid}
+use Rattle.ecma_reread.specs.Heads.{may_hold_in}
 
 -- an expression behind a word, and the end of the statement
 argument_laid : {level : Level} {e : Node} (is : IsExpression level e) (m : List ℕ) (us : Items) → (laid e).at (Within Blank (free 0)) m (codes ";" ++ render us) ≡ render (expression_tokens is blank (sign_of (codes ";") us))
@@ -47,6 +49,38 @@ optional_laid : {n : Node} (is : IsOptional n) (m : List ℕ) (us : Items) → (
 unfolding render
 optional_laid (shapes.left_out (shapes.absent at)) m us = at_node at kind.Absent [] (Within Blank (free 0)) m (render us)
 optional_laid (shapes.given {level = l} e) m us = within_laid e Blank (free 0) m (render us) ∙ (ap (λ z. codes " " ++ z) (expression_laid e (free 0) (calm_0 l) refl m us) ∙ sym (gap_out e blank us))
+
+-- in the first part of a head
+abbrev head_spot : Spot
+head_spot = right (beginning 0 Anywhere true) 1 NoNeighbor
+
+for_value_laid : {n : Node} (is : IsInitializer n) → may_hold_in n ≡ false → (m : List ℕ) (us : Items) → (laid n).at (Within Equals head_spot) m (render us) ≡ render (initializer_tokens is us)
+unfolding render
+for_value_laid (shapes.no_initializer (shapes.absent at)) z m us = at_node at kind.Absent [] (Within Equals head_spot) m (render us)
+for_value_laid (shapes.initializer {e = e'} e) z m us =
+    within_laid e Equals head_spot m (render us)
+    ∙ (ap (λ z. codes " = " ++ z) (head_laid e' z head_spot m (render us) ∙ expression_laid e (free 1) calm_1 refl m us) ∙ ap (λ z. codes " =" ++ z) (sym (gap_out e blank us)))
+
+for_declarator_laid : {n : Node} (is : IsForDeclarator n) (m : List ℕ) (us : Items) → codes " " ++ (laid n).at (At head_spot) m (render us) ≡ render (declarator_tokens (as_declarator is) us)
+unfolding render
+for_declarator_laid (shapes.for_declarator at {p = p'} {init = e'} p e z) m us =
+    ap (λ z. codes " " ++ z) (at_node at (kind.VarDeclarator false) (p' ∷ e' ∷ []) (At head_spot) m (render us) ∙ (ap (λ z. (laid p').at (At (free 1)) m z) (for_value_laid e z m us) ∙ pattern_laid p m (initializer_tokens e us)))
+    ∙ sym (pattern_gap_out p blank (initializer_tokens e us))
+
+more_for_laid : {ds : List Node} (is : AreForDeclarators ds) (m : List ℕ) (us : Items) → more_commas head_spot (map laid ds) m (codes ";" ++ render us) ≡ render (declarators_tokens (as_declarators is) (sign_of (codes ";") us))
+unfolding render
+more_for_laid shapes.no_for_declarators m us = refl
+more_for_laid (shapes.more_for_declarators {d = d'} d ds) m us =
+    ap (λ z. codes "," ++ z) (ap (λ z. codes " " ++ (laid d').at (At head_spot) m z) (more_for_laid ds m us) ∙ for_declarator_laid d m (declarators_tokens (as_declarators ds) (sign_of (codes ";") us)))
+
+for_init_laid : {n : Node} (is : IsForInit n) (m : List ℕ) (us : Items) → (laid n).at head m (codes ";" ++ render us) ≡ render (for_init_tokens is (sign_of (codes ";") us))
+unfolding render
+for_init_laid (shapes.no_init (shapes.absent at)) m us = at_node at kind.Absent [] head m (codes ";" ++ render us)
+for_init_laid (shapes.init_declaration at of_list k {d = d'} {ds = ds'} d ds) m us =
+    at_node at (kind.VarDecl k false) (node_of of_list kind.List (d' ∷ ds') ∷ []) head m (codes ";" ++ render us)
+    ∙ (ap (λ z. keyword k ++ (codes " " ++ z)) (at_node of_list kind.List (d' ∷ ds') (Commas head_spot) m (codes ";" ++ render us))
+    ∙ ap (λ z. keyword k ++ z) (ap (λ z. codes " " ++ (laid d').at (At head_spot) m z) (more_for_laid ds m us) ∙ for_declarator_laid d m (declarators_tokens (as_declarators ds) (sign_of (codes ";") us))))
+for_init_laid (shapes.init_expression {level = l} {e = e'} e z) m us = head_laid e' z (beginning 0 Anywhere true) m (codes ";" ++ render us) ∙ expression_laid e (free 0) (calm_0 l) refl m (sign_of (codes ";") us)
 
 for_binding_laid : {n : Node} (is : IsForBinding n) (m : List ℕ) (us : Items) → (laid n).at head m (render us) ≡ render (for_binding_tokens is us)
 unfolding render
@@ -263,17 +297,17 @@ mutual
       (sym (at_node at kind.TryStmt (b' ∷ c' ∷ f' ∷ []) (At (free 0)) m (render us)
       ∙ (ap (λ z. codes "try " ++ (laid b').at (At (free 0)) m ((laid c').at (Within Blank (free 0)) m z)) (finally_laid (block_seen f) m us fs (block_laid f d blank us))
       ∙ (ap (λ z. codes "try " ++ (laid b').at (At (free 0)) m z) (catch_laid c d end) ∙ ap (λ z. codes "try" ++ z) (block_laid b d blank (catch_tokens c d end))))))
-  statement_laid (shapes.for_loop at {test = t'} {update = u'} {body = b'} (shapes.absent at') t u b) d g us =
+  statement_laid (shapes.for_loop at {init = i'} {test = t'} {update = u'} {body = b'} i t u b) d g us =
       let m = margin d in
       let bs = statement_tokens b d blank us in
       let us' = optional_tokens u (sign_of (codes ")") bs) in
       ap (λ z. g.blanks ++ z)
-      (sym (at_node at kind.ForStmt (node_of at' kind.Absent [] ∷ t' ∷ u' ∷ b' ∷ []) (At (free 0)) m (render us)
+      (sym (at_node at kind.ForStmt (i' ∷ t' ∷ u' ∷ b' ∷ []) (At (free 0)) m (render us)
       ∙ ap (λ z. codes "for (" ++ z)
-      (at_node at' kind.Absent [] head m (codes ";" ++ (laid t').at (Within Blank (free 0)) m (codes ";" ++ (laid u').at (Within Blank (free 0)) m (codes ")" ++ (laid b').at (Within Blank (free 0)) m (render us))))
-      ∙ ap (λ z. codes ";" ++ z)
+      (ap (λ z. (laid i').at head m (codes ";" ++ z))
       (ap (λ z. (laid t').at (Within Blank (free 0)) m (codes ";" ++ z)) (ap (λ z. (laid u').at (Within Blank (free 0)) m (codes ")" ++ z)) (body_laid (statement_seen b) m us bs (statement_laid b d blank us)) ∙ optional_laid u m (sign_of (codes ")") bs))
-      ∙ optional_laid t m (sign_of (codes ";") us')))))
+      ∙ optional_laid t m (sign_of (codes ";") us'))
+      ∙ for_init_laid i m (optional_tokens t (sign_of (codes ";") us')))))
   statement_laid (shapes.for_in at {level = l} {left = l'} {object = e'} {body = b'} left e b) d g us =
       let m = margin d in
       let bs = statement_tokens b d blank us in

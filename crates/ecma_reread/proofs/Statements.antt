@@ -118,7 +118,7 @@ module _ (assigned : Bool) where
   -- expression statements
 
   module _ {f : Laid} {k : Kind} {ns : List Node} (S : Stands assigned shapes.sequence f k ns) where
-    no_word_there : (w : List ℕ) → is_known w ≡ true → refuses_all (exactly (key w)) (expression false) ≡ true → (let L = S.lead in refuses_at L.front (word w) ≡ true)
+    pub no_word_there : (w : List ℕ) → is_known w ≡ true → refuses_all (exactly (key w)) (expression false) ≡ true → (let L = S.lead in refuses_at L.front (word w) ≡ true)
     no_word_there w h z = let L = S.lead in go L.front (L.begins no_gap the_end_alone) (refuses_at L.front (word w)) refl
       where
         go : (e : Front) → Begins e (f no_gap the_end_alone) → (b : Bool) → refuses_at e (word w) ≡ b → refuses_at e (word w) ≡ true

@@ -42,7 +42,7 @@ use Rattle.ecma_reread.proofs.Expressions.{comma_ends, semicolon_ends}
 use Rattle.ecma_reread.proofs.Calls.{ident_free}
 use Rattle.ecma_reread.proofs.Statements.{closes_statement, ReadAsStatement, token_form}
 use Rattle.ecma_reread.proofs.Lists.{Followed}
-use Rattle.ecma_reread.proofs.Spreads.{ReadAsPattern, InitializerForm, initializer_read}
+use Rattle.ecma_reread.proofs.Spreads.{ReadAsPattern, initializer_read, InitializerIn}
 
 -- the word of a declaration begins nothing that is tried before one
 record Declares (w : List ℕ) : Type 0 where
@@ -75,56 +75,59 @@ pattern_declared (shapes.array_pattern at at' es a) init = simp nodes
 pattern_declared (shapes.object_pattern at at' ps a) init = simp nodes
 
 module _ (assigned : Bool) where
+  abbrev pub DeclaratorIn : Bool → {n : Node} → IsDeclarator n → Type 0
+  DeclaratorIn no_in (shapes.declarator at p e) = ReadAsPattern assigned (pattern_tokens p) (bare_pattern p) × InitializerIn assigned no_in e
+
+  abbrev pub DeclaratorsIn : Bool → {ds : List Node} → AreDeclarators ds → Type 0
+  DeclaratorsIn no_in shapes.no_declarators = Unit {0}
+  DeclaratorsIn no_in (shapes.more_declarators d ds) = DeclaratorIn no_in d × DeclaratorsIn no_in ds
+
+  -- where `in` is an operator
   abbrev pub DeclaratorForm : {n : Node} → IsDeclarator n → Type 0
-  DeclaratorForm (shapes.declarator at p e) = ReadAsPattern assigned (pattern_tokens p) (bare_pattern p) × InitializerForm assigned e
+  DeclaratorForm d = DeclaratorIn false d
 
   abbrev pub DeclaratorForms : {ds : List Node} → AreDeclarators ds → Type 0
-  DeclaratorForms shapes.no_declarators = Unit {0}
-  DeclaratorForms (shapes.more_declarators d ds) = DeclaratorForm d × DeclaratorForms ds
+  DeclaratorForms ds = DeclaratorsIn false ds
 
   pub pattern_read : (w : List ℕ) → is_reserved w ≡ false → (g : Gap) (us : Items) → means assigned part.Pattern (it g (items.key w) us) ≡ read (binding w ∷ []) us
   unfolding pattern_body names.binding_ident
   pattern_read w n g us = rw (means_is assigned part.Pattern (it g (items.key w) us), n) refl
 
-  declarator_read : {n : Node} (d : IsDeclarator n) → DeclaratorForm d → (us : Items) → Followed us → Reads assigned (declarator false) (declarator_tokens d us) (bare_declarator d ∷ []) us
-  declarator_read (shapes.declarator at p e) F us w =
+  declarator_read : (no_in : Bool) {n : Node} (d : IsDeclarator n) → DeclaratorIn no_in d → (us : Items) → Followed us → Reads assigned (declarator no_in) (declarator_tokens d us) (bare_declarator d ∷ []) us
+  declarator_read no_in (shapes.declarator at p e) F us w =
       let P = F.0 in
-      ap (built_on form.Declarator) (ap (followed_on (interp assigned (means assigned) (whether (marked (punct (codes "!"))) ▸ annotation ▸ maybe (punct (codes "=") ▸ assign_in false)))) (P.reads blank (initializer_tokens e us))
-      ∙ ap (with_front (bare_pattern p ∷ [])) (ap (with_front (absent ∷ [])) (ap (with_front (absent ∷ [])) (initializer_read assigned e F.1 us w))))
+      ap (built_on form.Declarator) (ap (followed_on (interp assigned (means assigned) (whether (marked (punct (codes "!"))) ▸ annotation ▸ maybe (punct (codes "=") ▸ assign_in no_in)))) (P.reads blank (initializer_tokens e us))
+      ∙ ap (with_front (bare_pattern p ∷ [])) (ap (with_front (absent ∷ [])) (ap (with_front (absent ∷ [])) (initializer_read assigned no_in e F.1 us w))))
       ∙ ap (λ x. read (x ∷ []) us) (pattern_declared p (bare_initializer e))
 
   more_follow : {ds : List Node} (is : AreDeclarators ds) (us : Items) → Followed (declarators_tokens is (s (codes ";") us))
   more_follow shapes.no_declarators us = record { front = exactly (sign (codes ";")); begins = at_token; ends = semicolon_ends }
   more_follow (shapes.more_declarators d ds) us = record { front = exactly (sign (codes ",")); begins = at_token; ends = comma_ends }
 
-  more_read : {ds : List Node} (is : AreDeclarators ds) → DeclaratorForms is → (us : Items) → Repeats assigned (punct (codes ",") ▸ declarator false) (declarators_tokens is (s (codes ";") us)) (bare_declarators is) (s (codes ";") us)
-  more_read shapes.no_declarators S us = repeats_end assigned (punct (codes ",") ▸ declarator false) (s (codes ";") us) refl
-  more_read (shapes.more_declarators d ds) S us =
-      repeats_more assigned (punct (codes ",") ▸ declarator false) refl _ (declarators_tokens ds (s (codes ";") us)) (s (codes ";") us) (bare_declarator d ∷ []) (bare_declarators ds)
-      (ap (with_front []) (declarator_read d S.0 (declarators_tokens ds (s (codes ";") us)) (more_follow ds us))) (more_read ds S.1 us)
+  more_read : (no_in : Bool) {ds : List Node} (is : AreDeclarators ds) → DeclaratorsIn no_in is → (us : Items) → Repeats assigned (punct (codes ",") ▸ declarator no_in) (declarators_tokens is (s (codes ";") us)) (bare_declarators is) (s (codes ";") us)
+  more_read no_in shapes.no_declarators S us = repeats_end assigned (punct (codes ",") ▸ declarator no_in) (s (codes ";") us) refl
+  more_read no_in (shapes.more_declarators d ds) S us =
+      repeats_more assigned (punct (codes ",") ▸ declarator no_in) refl _ (declarators_tokens ds (s (codes ";") us)) (s (codes ";") us) (bare_declarator d ∷ []) (bare_declarators ds)
+      (ap (with_front []) (declarator_read no_in d S.0 (declarators_tokens ds (s (codes ";") us)) (more_follow ds us))) (more_read no_in ds S.1 us)
 
-  declarators_read : {d : Node} {ds : List Node} (i : IsDeclarator d) (is : AreDeclarators ds) → DeclaratorForm i → DeclaratorForms is → (us : Items)
-      → Reads assigned (declarators false ▸ end) (declarator_tokens i (declarators_tokens is (s (codes ";") us))) (list_node (bare_declarator i ∷ bare_declarators is) ∷ []) us
-  declarators_read i is S T us =
-      ap (followed_on (interp assigned (means assigned) end)) (ap (built_on form.List)
-      (ap (followed_on (interp assigned (means assigned) (grammar.many (punct (codes ",") ▸ declarator false)))) (declarator_read i S (declarators_tokens is (s (codes ";") us)) (more_follow is us))
-      ∙ ap (with_front (bare_declarator i ∷ [])) (repeated assigned (punct (codes ",") ▸ declarator false) (declarators_tokens is (s (codes ";") us)) (s (codes ";") us) (bare_declarators is) (more_read is T us))))
+  declarators_read : (no_in : Bool) {d : Node} {ds : List Node} (i : IsDeclarator d) (is : AreDeclarators ds) → DeclaratorIn no_in i → DeclaratorsIn no_in is → (us : Items)
+      → Reads assigned (declarators no_in) (declarator_tokens i (declarators_tokens is (s (codes ";") us))) (list_node (bare_declarator i ∷ bare_declarators is) ∷ []) (s (codes ";") us)
+  declarators_read no_in i is S T us =
+      ap (built_on form.List)
+      (ap (followed_on (interp assigned (means assigned) (grammar.many (punct (codes ",") ▸ declarator no_in)))) (declarator_read no_in i S (declarators_tokens is (s (codes ";") us)) (more_follow is us))
+      ∙ ap (with_front (bare_declarator i ∷ [])) (repeated assigned (punct (codes ",") ▸ declarator no_in) (declarators_tokens is (s (codes ";") us)) (s (codes ";") us) (bare_declarators is) (more_read no_in is T us)))
 
-  variables_read : (k : VarDeclKind) {d : Node} {ds : List Node} (i : IsDeclarator d) (is : AreDeclarators ds) → DeclaratorForm i → DeclaratorForms is → (g : Gap) (us : Items)
-      → Reads assigned (variables false end) (it g (items.key (keyword k)) (declarator_tokens i (declarators_tokens is (s (codes ";") us)))) (bare (kind.VarDecl k false) (list_node (bare_declarator i ∷ bare_declarators is) ∷ []) ∷ []) us
-  variables_read Var i is S T g us =
-      let ts = it g (items.key (codes "var")) (declarator_tokens i (declarators_tokens is (s (codes ";") us))) in
-      ap (or_on (interp assigned (means assigned) (node (plain.VarDecl Let) (word (codes "let") ▸ declarators false ▸ end) // node (plain.VarDecl Const) (word (codes "const") ▸ declarators false ▸ end))) ts)
-      (ap (built_on (form.Node (plain.VarDecl Var))) (ap (with_front []) (declarators_read i is S T us)))
-  variables_read Let i is S T g us =
-      ap (or_on (interp assigned (means assigned) (node (plain.VarDecl Const) (word (codes "const") ▸ declarators false ▸ end))) (it g (items.key (codes "let")) (declarator_tokens i (declarators_tokens is (s (codes ";") us)))))
-      (ap (built_on (form.Node (plain.VarDecl Let))) (ap (with_front []) (declarators_read i is S T us)))
-  variables_read Const i is S T g us = ap (built_on (form.Node (plain.VarDecl Const))) (ap (with_front []) (declarators_read i is S T us))
+  -- with what ends them
+  pub variables_read : (no_in : Bool) (tail : Grammar) (us vs : Items) → Reads assigned tail (s (codes ";") us) [] vs → (k : VarDeclKind) {d : Node} {ds : List Node} (i : IsDeclarator d) (is : AreDeclarators ds) → DeclaratorIn no_in i → DeclaratorsIn no_in is → (g : Gap)
+      → Reads assigned (variables no_in tail) (it g (items.key (keyword k)) (declarator_tokens i (declarators_tokens is (s (codes ";") us)))) (bare (kind.VarDecl k false) (list_node (bare_declarator i ∷ bare_declarators is) ∷ []) ∷ []) vs
+  variables_read no_in tail us vs h Var i is S T g = rw (declarators_read no_in i is S T us, h) refl
+  variables_read no_in tail us vs h Let i is S T g = rw (declarators_read no_in i is S T us, h) refl
+  variables_read no_in tail us vs h Const i is S T g = rw (declarators_read no_in i is S T us, h) refl
 
   pub declaration_read : (k : VarDeclKind) {d : Node} {ds : List Node} (i : IsDeclarator d) (is : AreDeclarators ds) → DeclaratorForm i → DeclaratorForms is → (g : Gap) (us : Items)
       → Reads assigned declaration (it g (items.key (keyword k)) (declarator_tokens i (declarators_tokens is (s (codes ";") us)))) (bare (kind.VarDecl k false) (list_node (bare_declarator i ∷ bare_declarators is) ∷ []) ∷ []) us
   unfolding declaration
-  declaration_read k i is S T g us = ap (or_on (interp assigned (means assigned) other_declarations) (it g (items.key (keyword k)) (declarator_tokens i (declarators_tokens is (s (codes ";") us))))) (variables_read k i is S T g us)
+  declaration_read k i is S T g us = ap (or_on (interp assigned (means assigned) other_declarations) (it g (items.key (keyword k)) (declarator_tokens i (declarators_tokens is (s (codes ";") us))))) (variables_read false end us us refl k i is S T g)
 
   pub declaration_form : (k : VarDeclKind) {d : Node} {ds : List Node} (i : IsDeclarator d) (is : AreDeclarators ds) → DeclaratorForm i → DeclaratorForms is
       → ReadAsStatement assigned shapes.closed (λ g us. it g (items.key (keyword k)) (declarator_tokens i (declarators_tokens is (s (codes ";") us)))) (bare (kind.VarDecl k false) (list_node (bare_declarator i ∷ bare_declarators is) ∷ []))

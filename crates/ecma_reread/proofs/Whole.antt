@@ -7,8 +7,8 @@ use Rattle.ecma_tree.specs.declared.node.Node.{Node}
 use Rattle.ecma_tree.specs.Nodes.{absent, list_node, node_of}
 use Rattle.ecma_tree.specs.Spans.{without_spans}
 use Rattle.ecma_reread.specs.Shapes as shapes
-use Rattle.ecma_reread.specs.Shapes.{Level, IsIdent, ident, IsKey, key, IsAbsent, IsExpression, IsElement, IsArguments, AreElements, AreExpressions, IsInitializer, IsDeclarator, AreDeclarators, Ending, IsStatement, IsBlock, AreStatements, AreSlots, IsCase, AreCases, IsCatch, IsChainKey, IsOptional, IsForBinding, IsPropertyName, IsProperty, AreProperties, Role, IsPattern, IsDefaulted}
-use Rattle.ecma_reread.specs.Tokens.{bare, bare_ident, key_word, bare_expression, bare_element, bare_arguments, bare_elements, bare_expressions, bare_initializer, bare_declarator, bare_declarators, bare_statement, bare_block, bare_statements, bare_slots, bare_case, bare_cases, bare_catch, chain_kind, bare_optional, bare_for_binding, bare_property_name, bare_property, bare_properties, bare_pattern, bare_defaulted}
+use Rattle.ecma_reread.specs.Shapes.{Level, IsIdent, ident, IsKey, key, IsAbsent, IsExpression, IsElement, IsArguments, AreElements, AreExpressions, IsInitializer, IsDeclarator, AreDeclarators, Ending, IsStatement, IsBlock, AreStatements, AreSlots, IsCase, AreCases, IsCatch, IsChainKey, IsOptional, IsForBinding, IsPropertyName, IsProperty, AreProperties, Role, IsPattern, IsDefaulted, IsForInit}
+use Rattle.ecma_reread.specs.Tokens.{bare, bare_ident, key_word, bare_expression, bare_element, bare_arguments, bare_elements, bare_expressions, bare_initializer, bare_declarator, bare_declarators, bare_statement, bare_block, bare_statements, bare_slots, bare_case, bare_cases, bare_catch, chain_kind, bare_optional, bare_for_binding, bare_property_name, bare_property, bare_properties, bare_pattern, bare_defaulted, as_declarator, as_declarators, bare_for_init}
 use Rattle.ecma_reread.proofs.Unplaced.{without_spans-node}
 
 pub absent_bare : {n : Node} → IsAbsent n → without_spans n ≡ absent
@@ -146,6 +146,12 @@ optional_bare : {n : Node} (is : IsOptional n) → without_spans n ≡ bare_opti
 optional_bare (shapes.left_out a) = absent_bare a
 optional_bare (shapes.given e) = expression_bare e
 
+for_init_bare : {n : Node} (is : IsForInit n) → without_spans n ≡ bare_for_init is
+for_init_bare (shapes.no_init a) = absent_bare a
+for_init_bare (shapes.init_declaration at of_list k d ds) =
+    without_spans-node at (kind.VarDecl k false) _ ∙ ap (λ x. bare (kind.VarDecl k false) (x ∷ [])) (without_spans-node of_list kind.List _ ∙ ap₂ (λ x xs. list_node (x ∷ xs)) (declarator_bare (as_declarator d)) (declarators_bare (as_declarators ds)))
+for_init_bare (shapes.init_expression e z) = expression_bare e
+
 for_binding_bare : {n : Node} (is : IsForBinding n) → without_spans n ≡ bare_for_binding is
 for_binding_bare (shapes.for_binding at of_list at_declarator at_binding k i a b) =
     without_spans-node at (kind.VarDecl k false) _
@@ -188,10 +194,10 @@ mutual
   statement_bare (shapes.try_catch_finally at {f = f'} b c f) =
       without_spans-node at kind.TryStmt _
       ∙ (ap₂ (λ x y. bare kind.TryStmt (x ∷ y ∷ without_spans f' ∷ [])) (block_bare b) (catch_bare c) ∙ ap (λ z. bare kind.TryStmt (bare_block b ∷ bare_catch c ∷ z ∷ [])) (block_bare f))
-  statement_bare (shapes.for_loop at {update = u'} {body = b'} a t u b) =
+  statement_bare (shapes.for_loop at {update = u'} {body = b'} i t u b) =
       without_spans-node at kind.ForStmt _
-      ∙ (ap₂ (λ x y. bare kind.ForStmt (x ∷ y ∷ without_spans u' ∷ without_spans b' ∷ [])) (absent_bare a) (optional_bare t)
-      ∙ ap₂ (λ x y. bare kind.ForStmt (absent ∷ bare_optional t ∷ x ∷ y ∷ [])) (optional_bare u) (statement_bare b))
+      ∙ (ap₂ (λ x y. bare kind.ForStmt (x ∷ y ∷ without_spans u' ∷ without_spans b' ∷ [])) (for_init_bare i) (optional_bare t)
+      ∙ ap₂ (λ x y. bare kind.ForStmt (bare_for_init i ∷ bare_optional t ∷ x ∷ y ∷ [])) (optional_bare u) (statement_bare b))
   statement_bare (shapes.for_in at {body = b'} l e b) =
       without_spans-node at kind.ForInStmt _
       ∙ (ap₂ (λ x y. bare kind.ForInStmt (x ∷ y ∷ without_spans b' ∷ [])) (for_binding_bare l) (expression_bare e) ∙ ap (λ z. bare kind.ForInStmt (bare_for_binding l ∷ bare_expression e ∷ z ∷ [])) (statement_bare b))

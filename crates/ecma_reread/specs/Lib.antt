@@ -1,7 +1,7 @@
 pub mod Machine
+pub mod Heads
 pub mod Shapes
 pub mod Modules
 pub mod Tokens
 pub mod ModuleTokens
 pub mod Theorems
-pub mod Heads

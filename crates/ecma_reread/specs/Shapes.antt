@@ -19,6 +19,7 @@ use Rattle.ecma_tree.specs.declared.node.Node.{Node}
 use Rattle.ecma_tree.specs.Nodes.{node_of}
 use Rattle.ecma_grammar.specs.Reads.{without_separators}
 use Rattle.ecma_tokens.specs.Good.{IsToken}
+use Rattle.ecma_reread.specs.Heads.{may_hold_in}
 
 -- a name that is no reserved word
 pub record IsPlainName (word : List ℕ) : Type 0 where
@@ -270,6 +271,20 @@ pub data IsForBinding : Node → Type 0 where
   for_binding : (at of_list at_declarator at_binding : Span) (k : VarDeclKind) {id none init : Node} → IsIdent id → IsAbsent none → IsAbsent init
       → IsForBinding (node_of at (kind.VarDecl k false) (node_of of_list kind.List (node_of at_declarator (kind.VarDeclarator false) (node_of at_binding kind.BindingIdent (id ∷ none ∷ []) ∷ init ∷ []) ∷ []) ∷ []))
 
+-- a declarator in the first part of the head of a loop, where `in` is no operator
+pub data IsForDeclarator : Node → Type 0 where
+  for_declarator : (at : Span) {p init : Node} → IsPattern p → IsInitializer init → may_hold_in init ≡ false → IsForDeclarator (node_of at (kind.VarDeclarator false) (p ∷ init ∷ []))
+
+pub data AreForDeclarators : List Node → Type 0 where
+  no_for_declarators : AreForDeclarators []
+  more_for_declarators : {d : Node} {ds : List Node} → IsForDeclarator d → AreForDeclarators ds → AreForDeclarators (d ∷ ds)
+
+-- what stands before the first `;` of a head
+pub data IsForInit : Node → Type 0 where
+  no_init : {none : Node} → IsAbsent none → IsForInit none
+  init_declaration : (at of_list : Span) (k : VarDeclKind) {d : Node} {ds : List Node} → IsForDeclarator d → AreForDeclarators ds → IsForInit (node_of at (kind.VarDecl k false) (node_of of_list kind.List (d ∷ ds) ∷ []))
+  init_expression : {level : Level} {e : Node} → IsExpression level e → may_hold_in e ≡ false → IsForInit e
+
 -- whether a statement ends with an `if` without `else`: that would take an `else` behind it as its own
 pub data Ending : Type 0 where
   closed dangling : Ending
@@ -298,7 +313,7 @@ mutual
     try_catch : (at : Span) {b c none : Node} → IsBlock b → IsCatch c → IsAbsent none → IsStatement closed (node_of at kind.TryStmt (b ∷ c ∷ none ∷ []))
     try_finally : (at : Span) {b none f : Node} → IsBlock b → IsAbsent none → IsBlock f → IsStatement closed (node_of at kind.TryStmt (b ∷ none ∷ f ∷ []))
     try_catch_finally : (at : Span) {b c f : Node} → IsBlock b → IsCatch c → IsBlock f → IsStatement closed (node_of at kind.TryStmt (b ∷ c ∷ f ∷ []))
-    for_loop : (at : Span) {ending : Ending} {none test update body : Node} → IsAbsent none → IsOptional test → IsOptional update → IsStatement ending body → IsStatement ending (node_of at kind.ForStmt (none ∷ test ∷ update ∷ body ∷ []))
+    for_loop : (at : Span) {ending : Ending} {init test update body : Node} → IsForInit init → IsOptional test → IsOptional update → IsStatement ending body → IsStatement ending (node_of at kind.ForStmt (init ∷ test ∷ update ∷ body ∷ []))
     for_in : (at : Span) {level : Level} {ending : Ending} {left object body : Node} → IsForBinding left → IsExpression level object → IsStatement ending body → IsStatement ending (node_of at kind.ForInStmt (left ∷ object ∷ body ∷ []))
     for_of : (at : Span) (is_await : Bool) {ending : Ending} {left iterable body : Node} → IsForBinding left → IsExpression assignment iterable → IsStatement ending body
         → IsStatement ending (node_of at (kind.ForOfStmt is_await) (left ∷ iterable ∷ body ∷ []))
