@@ -15,6 +15,14 @@ enum Case {
     Choice(bool),
     /// `[a] = b`, with a pattern or with a literal.
     Assignment(bool),
+    /// A text by its source text, and what it says.
+    Text(&'static str, &'static str),
+    /// A BigInt by its source text, and its digits.
+    BigInt(&'static str, &'static str),
+    /// A regular expression without flags.
+    Regex(&'static str),
+    /// `a.b.c`, whose second link goes on with a chain, and whose first has its own `?.` or is no link.
+    Chain(bool),
 }
 
 fn at(lo: u32) -> Span {
@@ -64,12 +72,50 @@ fn assignment(alloc: Global, is_pattern: bool) -> Result<Node, NoMemory> {
     Node::expr_stmt(alloc, at(1), whole)
 }
 
+fn text(alloc: Global, raw: &str, value: &str) -> Result<Node, NoMemory> {
+    let value = JsWord::new(alloc, value)?;
+    let raw = Some(JsWord::new(alloc, raw)?);
+    Ok(Node::leaf(alloc, at(2), Kind::Str { value, raw }))
+}
+
+fn big_int(alloc: Global, raw: &str, value: &str) -> Result<Node, NoMemory> {
+    let value = JsWord::new(alloc, value)?;
+    let raw = Some(JsWord::new(alloc, raw)?);
+    Ok(Node::leaf(alloc, at(2), Kind::BigInt { value, raw }))
+}
+
+fn regex(alloc: Global, exp: &str) -> Result<Node, NoMemory> {
+    let exp = JsWord::new(alloc, exp)?;
+    let flags = JsWord::new(alloc, "")?;
+    Ok(Node::leaf(alloc, at(2), Kind::Regex { exp, flags }))
+}
+
+fn member(alloc: Global, object: Node, key: &str) -> Result<Node, NoMemory> {
+    let sym = JsWord::new(alloc, key)?;
+    let key = Node::leaf(alloc, at(4), Kind::IdentName { sym });
+    Node::member_expr(alloc, at(2), object, key)
+}
+
+fn chain(alloc: Global, is_optional: bool) -> Result<Node, NoMemory> {
+    let first = member(alloc, ident(alloc, 2, "a")?, "b")?;
+    let object = if is_optional {
+        Node::opt_chain_expr(alloc, at(2), true, first)?
+    } else {
+        first
+    };
+    Node::opt_chain_expr(alloc, at(2), false, member(alloc, object, "c")?)
+}
+
 fn made(alloc: Global, case: Case) -> Result<Node, NoMemory> {
     match case {
         Case::Name(text) => statement(alloc, 2, text),
         Case::Whole(number) => Node::expr_stmt(alloc, at(2), whole(alloc, number)),
         Case::Choice(has_else) => choice(alloc, has_else),
         Case::Assignment(is_pattern) => assignment(alloc, is_pattern),
+        Case::Text(raw, value) => Node::expr_stmt(alloc, at(2), text(alloc, raw, value)?),
+        Case::BigInt(raw, value) => Node::expr_stmt(alloc, at(2), big_int(alloc, raw, value)?),
+        Case::Regex(exp) => Node::expr_stmt(alloc, at(2), regex(alloc, exp)?),
+        Case::Chain(is_optional) => Node::expr_stmt(alloc, at(2), chain(alloc, is_optional)?),
     }
 }
 
@@ -85,8 +131,9 @@ fn told(alloc: Global, case: Case) -> Result<(Option<u32>, bool), NoMemory> {
     Ok(answer)
 }
 
-/// node refuses these names, but `a`, `this` being none, and `-1` as a literal; acorn gives the first `else` to the inner `if`.
-const ROWS: [(Case, Option<u32>); 10] = [
+/// node refuses these names, but `a`, `this` being none, and `-1` as a literal; acorn gives the first `else` to the inner `if`. node says what the
+/// texts and the BigInts are, and refuses `//` and `/a/b/` as regular expressions.
+const ROWS: [(Case, Option<u32>); 20] = [
     (Case::Name("a"), None),
     (Case::Name("\u{b5}$1"), None),
     (Case::Name("if"), Some(2)),
@@ -97,6 +144,16 @@ const ROWS: [(Case, Option<u32>); 10] = [
     (Case::Whole(-1), Some(2)),
     (Case::Choice(true), None),
     (Case::Choice(false), Some(1)),
+    (Case::Text("'\\x41\\\nb'", "Ab"), None),
+    (Case::Text("'\\x41'", "B"), Some(2)),
+    (Case::Text("'a' ", "a"), Some(2)),
+    (Case::BigInt("1_0n", "10"), None),
+    (Case::BigInt("1_0n", "1_0"), Some(2)),
+    (Case::Regex("[/]"), None),
+    (Case::Regex("a/b"), Some(2)),
+    (Case::Regex(""), Some(2)),
+    (Case::Chain(true), None),
+    (Case::Chain(false), Some(2)),
 ];
 
 #[test]

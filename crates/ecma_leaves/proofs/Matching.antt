@@ -1,5 +1,5 @@
 -- A text is compared with what is said, from the front on.
-use Rattle.std.proofs.Common.{◌≡◌, ℕ, List, [], ◌∷◌, ◌++◌, Option, Some, None, Bool, true, false, ◌≢◌, ◌≤◌, length, refl, ap, sym, ◌∙◌, bytes_eq, IsSome, unwrap_or}
+use Rattle.std.proofs.Common.{◌≡◌, ℕ, List, [], ◌++◌, Option, Some, None, Bool, true, false, ◌≢◌, ◌≤◌, length, refl, ap, sym, ◌∙◌, bytes_eq, IsSome, unwrap_or}
 use Rattle.std.proofs.lemmas.Bool.{false_from_ne_true, false≢true}
 use Rattle.std.proofs.lemmas.Slice.Eq.{bytes_eq-Decides}
 use Rattle.std.proofs.lemmas.List.{append_cancel_left}
