@@ -6,3 +6,4 @@ mod Places
 mod LaidExpressions
 mod LaidStatements
 mod Laying
+mod Sorting

@@ -17,3 +17,7 @@ NoneAreAddedAgain = (m : Node) → explicit (explicit m) ≡ explicit m
 -- the layout stays, of each tree that has a shape
 abbrev pub LayoutStays : Type 0
 LayoutStays = (m : Node) (shape : Shape) → HasShape shape m → layout (explicit m) ≡ layout m
+
+-- every shape is kept, and so every sort
+abbrev pub SortsAreKept : Type 0
+SortsAreKept = (m : Node) (shape : Shape) → HasShape shape m → HasShape shape (explicit m)

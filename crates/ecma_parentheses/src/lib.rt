@@ -3,7 +3,7 @@
 //! Each function carries one law, and does nothing. The laws are stated in `specs/Laws.antt`.
 #![tactic(auto)]
 
-ghost use Rattle.ecma_parentheses.specs.Laws.{LayoutStays, NoneAreAddedAgain, OnlyParenthesesAreAdded};
+ghost use Rattle.ecma_parentheses.specs.Laws.{LayoutStays, NoneAreAddedAgain, OnlyParenthesesAreAdded, SortsAreKept};
 
 /// Without any parentheses the tree with explicit ones is the tree.
 pub fn only_parentheses_are_added()
@@ -18,4 +18,9 @@ pub fn none_are_added_again()
 /// The layout of a tree is the layout of the tree with explicit parentheses.
 pub fn layout_stays()
     ensures { LayoutStays }
+{}
+
+/// The tree with explicit parentheses has each shape that the tree has, and so its sorts.
+pub fn sorts_are_kept()
+    ensures { SortsAreKept }
 {}
