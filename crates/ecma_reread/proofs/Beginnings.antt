@@ -16,8 +16,8 @@ use Rattle.ecma_print.specs.declared.place.Beside.{Beside}
 use Rattle.ecma_print.specs.declared.place.Beside.TheVariants.{NoNeighbor}
 use Rattle.ecma_print.specs.Operators.{unary_sign, update_sign}
 use Rattle.ecma_reread.specs.Shapes as shapes
-use Rattle.ecma_reread.specs.Shapes.{Level, looser_than, IsOperator, IsIdent, ident, IsKey, key, IsExpression, IsElement, IsArguments, AreElements, AreExpressions, IsInitializer, IsDeclarator, AreDeclarators, AreSlots, IsMemberLevel, IsIndexed, IsChainKey, begins_with_brace, AreProperties, IsPropertyName, IsProperty, regex_text, IsDefaulted, IsPattern, Role}
-use Rattle.ecma_reread.specs.Tokens.{blank, sign_of, assign_token, update_token, unary_token, binary_token, own_sign, unary_gap, ident_word, key_word, expression_tokens, element_tokens, arguments_tokens, more_tokens, slots_tokens, more_slots_tokens, chain_token, properties_tokens, more_properties_tokens, property_tokens, star_of, initializer_tokens, defaulted_tokens, pattern_tokens}
+use Rattle.ecma_reread.specs.Shapes.{Level, looser_than, IsOperator, IsIdent, ident, IsKey, key, IsExpression, IsElement, IsArguments, AreElements, AreExpressions, IsInitializer, IsDeclarator, AreDeclarators, AreSlots, IsMemberLevel, IsIndexed, IsChainKey, begins_with_brace, AreProperties, IsPropertyName, IsProperty, regex_text, IsDefaulted, IsPattern, Role, part_text}
+use Rattle.ecma_reread.specs.Tokens.{blank, sign_of, assign_token, update_token, unary_token, binary_token, own_sign, unary_gap, ident_word, key_word, expression_tokens, element_tokens, arguments_tokens, more_tokens, slots_tokens, more_slots_tokens, chain_token, properties_tokens, more_properties_tokens, property_tokens, star_of, initializer_tokens, defaulted_tokens, pattern_tokens, part_token, parts_tokens, ends_here, first_raw}
 use Rattle.ecma_reread.proofs.Softs.{Soft, comma, closing_bracket, parted}
 
 -- what an expression begins with, and the sign that this is as a unary operator
@@ -27,6 +27,7 @@ pub data Opens : Tok → Beside → Type 0 where
   by_string : (w : List ℕ) → Opens (items.string w) NoNeighbor
   by_number : (w : List ℕ) → Opens (items.number w) NoNeighbor
   by_regex : (w : List ℕ) → Opens (items.regex w) NoNeighbor
+  by_template : (last : Bool) (w : List ℕ) → Opens (items.template true last w) NoNeighbor
   by_big_int : (w : List ℕ) → Opens (items.big_int w) NoNeighbor
   by_bracket : Opens (sign (codes "[")) NoNeighbor
   by_brace : Opens (sign (codes "{")) NoNeighbor
@@ -49,6 +50,7 @@ begun (shapes.number at raw t) us = record { first = items.number raw; by = NoNe
 begun (shapes.this_word at) us = record { first = items.key (codes "this"); by = NoNeighbor; rest = us; opens = by_key (codes "this"); is = λ g. refl }
 begun (shapes.big_int at raw t) us = record { first = items.big_int raw; by = NoNeighbor; rest = us; opens = by_big_int raw; is = λ g. refl }
 begun (shapes.regex at b f t) us = record { first = items.regex (regex_text b f); by = NoNeighbor; rest = us; opens = by_regex (regex_text b f); is = λ g. refl }
+begun (shapes.template at a b ps) us = record { first = part_token true ps; by = NoNeighbor; rest = parts_tokens ps us; opens = by_template (ends_here ps) (part_text true (ends_here ps) (first_raw ps)); is = λ g. refl }
 begun (shapes.null_word at) us = record { first = items.key (codes "null"); by = NoNeighbor; rest = us; opens = by_key (codes "null"); is = λ g. refl }
 begun (shapes.true_word at) us = record { first = items.key (codes "true"); by = NoNeighbor; rest = us; opens = by_key (codes "true"); is = λ g. refl }
 begun (shapes.false_word at) us = record { first = items.key (codes "false"); by = NoNeighbor; rest = us; opens = by_key (codes "false"); is = λ g. refl }
@@ -64,6 +66,7 @@ begun (shapes.new_alone at e none none') us = record { first = items.key (codes 
 begun (shapes.new_target at) us = record { first = items.key (codes "new"); by = NoNeighbor; rest = sign_of (codes ".") (it no_gap (items.key (codes "target")) us); opens = by_key (codes "new"); is = λ g. refl }
 begun (shapes.import_meta at) us = record { first = items.key (codes "import"); by = NoNeighbor; rest = sign_of (codes ".") (it no_gap (items.key (codes "meta")) us); opens = by_key (codes "import"); is = λ g. refl }
 begun (shapes.import_call at at' es none) us = record { first = items.key (codes "import"); by = NoNeighbor; rest = sign_of (codes "(") (arguments_tokens es (sign_of (codes ")") us)); opens = by_key (codes "import"); is = λ g. refl }
+begun (shapes.tagged_template at a b c i o none ps) us = begun o (it no_gap (part_token true ps) (parts_tokens ps us))
 begun (shapes.prefix_update at o e) us = record { first = update_token o; by = update_sign o; rest = expression_tokens e no_gap us; opens = by_update o; is = λ g. refl }
 begun (shapes.postfix_update at o e) us = begun e (it no_gap (update_token o) us)
 begun (shapes.await_expression at e) us = record { first = items.key (codes "await"); by = NoNeighbor; rest = expression_tokens e blank us; opens = by_key (codes "await"); is = λ g. refl }
@@ -158,6 +161,7 @@ no_brace (shapes.looser e) z g us = no_brace e z g us
 no_brace (shapes.member at i o k) z g us = no_brace o z g (sign_of (codes ".") (it no_gap (chain_token k) us))
 no_brace (shapes.call at c es none) z g us = no_brace c z g (sign_of (codes "(") (arguments_tokens es (sign_of (codes ")") us)))
 no_brace (shapes.element at at' i o e) z g us = no_brace o z g (sign_of (codes "[") (expression_tokens e no_gap (sign_of (codes "]") us)))
+no_brace (shapes.tagged_template at a b c i o none ps) z g us = no_brace o z g (it no_gap (part_token true ps) (parts_tokens ps us))
 no_brace (shapes.prefix_update at o e) z g us = update_brace o g (expression_tokens e no_gap us)
 no_brace (shapes.postfix_update at o e) z g us = no_brace e z g (it no_gap (update_token o) us)
 no_brace (shapes.unary_expression at o e) z g us = unary_brace o g (expression_tokens e (unary_gap o (own_sign e)) us)
@@ -290,6 +294,7 @@ plain (shapes.looser {level = l} e) us h = plain e us (linked_first l h)
 plain (shapes.member at i o k) us h = plain o (sign_of (codes ".") (it no_gap (chain_token k) us)) h
 plain (shapes.call at c es none) us h = plain c (sign_of (codes "(") (arguments_tokens es (sign_of (codes ")") us))) refl
 plain (shapes.element at at' i o e) us h = plain o (sign_of (codes "[") (expression_tokens e no_gap (sign_of (codes "]") us))) (index_linked i)
+plain (shapes.tagged_template at a b c i o none ps) us h = plain o (it no_gap (part_token true ps) (parts_tokens ps us)) (index_linked i)
 plain (shapes.prefix_update at o e) us h = absurd (false≢true h)
 plain (shapes.postfix_update at o e) us h = absurd (false≢true h)
 plain (shapes.unary_expression at o e) us h = absurd (false≢true h)
@@ -309,6 +314,7 @@ signed (shapes.looser {level = l} e) us h = signed e us (operand_first l h)
 signed (shapes.member at i o k) us h = plain o (sign_of (codes ".") (it no_gap (chain_token k) us)) (member_linked i)
 signed (shapes.call at c es none) us h = plain c (sign_of (codes "(") (arguments_tokens es (sign_of (codes ")") us))) refl
 signed (shapes.element at at' i o e) us h = plain o (sign_of (codes "[") (expression_tokens e no_gap (sign_of (codes "]") us))) (index_linked i)
+signed (shapes.tagged_template at a b c i o none ps) us h = plain o (it no_gap (part_token true ps) (parts_tokens ps us)) (index_linked i)
 signed (shapes.postfix_update at o e) us h = plain e (it no_gap (update_token o) us) refl
 signed (shapes.binary_expression at {level = l} i x y) us h = absurd (false≢true (sym (no_operand i) ∙ h))
 signed (shapes.exponentiation at l r) us h = absurd (false≢true h)

@@ -27,8 +27,8 @@ use Rattle.ecma_tokens.specs.Items as items
 use Rattle.ecma_tokens.specs.Items.{Tok, sign, Gap, no_gap, Items, it}
 use Rattle.ecma_reread.specs.Machine.{with_front, means, taken}
 use Rattle.ecma_reread.specs.Shapes as shapes
-use Rattle.ecma_reread.specs.Shapes.{Level, IsPlainName, IsIdent, ident, IsKey, key, IsExpression, IsElement, AreSlots, IsProperty, AreProperties, IsArguments, AreElements, AreExpressions, IsMemberLevel, IsIndexed, regex_text, Role, IsPattern, IsDefaulted, IsInitializer}
-use Rattle.ecma_reread.specs.Tokens.{bare, blank, ident_word, key_word, own_sign, unary_gap, expression_tokens, element_tokens, arguments_tokens, elements_tokens, expression_kind, expression_parts, bare_element, bare_arguments, bare_elements, pattern_tokens, bare_pattern, defaulted_tokens, bare_defaulted}
+use Rattle.ecma_reread.specs.Shapes.{Level, IsPlainName, IsIdent, ident, IsKey, key, IsExpression, IsElement, AreSlots, IsProperty, AreProperties, IsArguments, AreElements, AreExpressions, IsMemberLevel, IsIndexed, regex_text, Role, IsPattern, IsDefaulted, IsInitializer, AreParts}
+use Rattle.ecma_reread.specs.Tokens.{bare, blank, ident_word, key_word, own_sign, unary_gap, expression_tokens, element_tokens, arguments_tokens, elements_tokens, expression_kind, expression_parts, bare_element, bare_arguments, bare_elements, pattern_tokens, bare_pattern, defaulted_tokens, bare_defaulted, part_token, parts_tokens, bare_substitutions, bare_parts}
 use Rattle.ecma_reread.proofs.Levels.{means_is}
 use Rattle.ecma_reread.proofs.Fronts.{Front, exactly, Begins, at_token, IsName, is_known, refuses_at, refused_at, refuses_all, all_refused}
 use Rattle.ecma_reread.proofs.Heads.{call_made}
@@ -57,6 +57,7 @@ use Rattle.ecma_reread.proofs.PrivateTests.{private_form}
 use Rattle.ecma_reread.proofs.Yields.{yield_alone, yield_form}
 use Rattle.ecma_reread.proofs.Beginnings.{no_new_line, no_star}
 use Rattle.ecma_reread.proofs.ImportCalls.{meta_form, import_call_form}
+use Rattle.ecma_reread.proofs.Templates.{PartForms, template_form, tagged_form, new_tagged_form}
 use Rattle.ecma_reread.proofs.Patterns.{pattern_unplaced, name_pattern_read, no_default_read, default_read}
 
 -- no argument begins with `)`
@@ -180,6 +181,11 @@ module _ (assigned : Bool) where
   element_stands shapes.index_of_new S E = from_new assigned (new_element_form assigned E S.reading)
   element_stands shapes.index_of_callee S E = from_form assigned (element_form assigned E S.reading)
 
+  tagged_stands : {h l : Level} → IsIndexed h l → {f : Laid} {k : Kind} {ns : List Node} → Stands assigned h f k ns → {es ps : List Node} (is : AreParts true true es ps) → PartForms assigned is
+      → Stands assigned l (λ g us. f g (it no_gap (part_token true is) (parts_tokens is us))) kind.TaggedTpl (bare k ns ∷ absent ∷ bare kind.Tpl (list_node (bare_substitutions is) ∷ list_node (bare_parts is) ∷ []) ∷ [])
+  tagged_stands shapes.index_of_new S is P = from_new assigned (new_tagged_form assigned is P S.reading)
+  tagged_stands shapes.index_of_callee S is P = from_form assigned (tagged_form assigned is P S.reading)
+
   new_callee_form : {f : Laid} {k : Kind} {ns : List Node} → Stands assigned shapes.new_callee f k ns → NewForm assigned f k ns
   new_callee_form S = S.reading
 
@@ -201,6 +207,7 @@ module _ (assigned : Bool) where
     expression_form (shapes.this_word at) = single_stands (items.key (codes "this")) _ this_single refl
     expression_form (shapes.big_int at raw t) = single_stands (items.big_int raw) _ (big_int_single raw) refl
     expression_form (shapes.regex at b f t) = single_stands (items.regex (regex_text b f)) _ (regex_single b f t) refl
+    expression_form (shapes.template at a b ps) = from_new assigned (template_form assigned ps (part_forms ps))
     expression_form (shapes.null_word at) = single_stands (items.key (codes "null")) _ null_single refl
     expression_form (shapes.true_word at) = single_stands (items.key (codes "true")) _ true_single refl
     expression_form (shapes.false_word at) = single_stands (items.key (codes "false")) _ false_single refl
@@ -216,6 +223,7 @@ module _ (assigned : Bool) where
     expression_form (shapes.new_target at) = from_new assigned (target_form assigned)
     expression_form (shapes.import_meta at) = from_new assigned (meta_form assigned)
     expression_form (shapes.import_call at at' es none) = from_form assigned (import_call_form assigned (λ us. arguments_tokens es (s (codes ")") us)) (list_node (bare_arguments es)) (arguments_read es (argument_forms es)))
+    expression_form (shapes.tagged_template at a b c i o none ps) = tagged_stands i (expression_form o) ps (part_forms ps)
     expression_form (shapes.prefix_update at o e) = prefix_form assigned o (expression_form e)
     expression_form (shapes.postfix_update at o e) = postfix_form assigned o (expression_form e)
     expression_form (shapes.await_expression at e) = await_form assigned (expression_form e)
@@ -282,6 +290,10 @@ module _ (assigned : Bool) where
     element_forms : {es : List Node} (is : AreElements es) → ElementForms is
     element_forms shapes.no_elements = tt
     element_forms (shapes.more_elements e es) = (element_form_of e, element_forms es)
+
+    part_forms : {t f : Bool} {es ps : List Node} (is : AreParts t f es ps) → PartForms assigned is
+    part_forms (shapes.last_part p) = tt
+    part_forms (shapes.more_parts p e ps) = (standing assigned (expression_form e), part_forms ps)
 
     expression_forms : {es : List Node} (is : AreExpressions es) → Forms assigned is
     expression_forms shapes.no_expressions = tt

@@ -1,11 +1,11 @@
 -- What an expression that is laid out is read as: what is said of each form, and what follows from it in each place.
-use Rattle.std.proofs.Common.{◌≡◌, ℕ, Bool, true, false, ◌&&◌, List, [], ◌∷◌, ◌++◌, codes, refl, ap, ◌∙◌, append-nil, Some, None, unwrap_or}
+use Rattle.std.proofs.Common.{◌≡◌, ℕ, Bool, true, false, ◌&&◌, List, [], ◌∷◌, ◌++◌, codes, refl, ap, ◌∙◌, append-nil, Some, None, unwrap_or, append_assoc}
 use Rattle.std.proofs.lemmas.Bool.{and_parts}
 use Rattle.ecma_kind.specs.declared.kind.Kind.{Kind}
 use Rattle.ecma_tree.specs.declared.node.Node.{Node}
 use Rattle.ecma_tree.specs.Nodes.{absent}
 use Rattle.ecma_grammar.specs.declared.production.Form.TheVariants as form
-use Rattle.ecma_grammar.specs.trees.Chains.{steps, in_front_link}
+use Rattle.ecma_grammar.specs.trees.Chains.{steps, in_front_link, step_on}
 use Rattle.ecma_grammar.specs.Grammar.{Grammar, put, ◌▸◌, ◌//◌, marked, word, punct}
 use Rattle.ecma_grammar.specs.declared.production.Flag.TheVariants.{Absent}
 use Rattle.ecma_grammar.specs.productions.Expressions.{yield_}
@@ -24,6 +24,7 @@ use Rattle.ecma_reread.specs.Shapes as shapes
 use Rattle.ecma_reread.proofs.Fronts.{Front, exactly, Begins, at_token, refuses_at, refused_at, refuses_all, all_refused, passes_at, passed_at}
 use Rattle.ecma_reread.proofs.Towers.{without, refuses_choices, excluded, private_in, Opens, closes}
 use Rattle.ecma_reread.proofs.Heads.{bare, is_head}
+use Rattle.ecma_grammar.proofs.Steps.{steps-append}
 
 abbrev pub Laid : Type 0
 Laid = Gap → Items → Items
@@ -308,3 +309,31 @@ module _ (assigned : Bool) where
       → ((g : Gap) (us : Items) (e : Front) → Begins e us → refuses_at e (word (codes "function")) ≡ true → (ys : List Node) (vs : Items) → Reads assigned links us ys vs → Reads assigned (heads ▸ links) (it g t (rest us)) (pieces ++ ys) vs)
       → Form assigned (λ g us. it g t (rest us)) k ns
   form_by t z o rest h pieces whole own = let a = and_parts (opens_plainly (exactly t)) _ z in form_from t a.0 o rest (λ g us. no_item_by t z g (rest us)) h pieces whole own
+
+  -- a link behind a form, by its first token
+  abbrev pub link_form : {f : Laid} {k : Kind} {ns : List Node} → Form assigned f k ns → (t : Tok) → apart (exactly t) ≡ true → ends_no_param (exactly t) ≡ true → (rest : Items → Items) (m : Node) {k' : Kind} {ns' : List Node} → is_head k' ≡ true
+      → in_front_link (bare k ns) m ≡ bare k' ns' → ((us : Items) (ys : List Node) (vs : Items) → Reads assigned links us ys vs → Reads assigned links (it no_gap t (rest us)) (m ∷ ys) vs) → Form assigned (λ g us. f g (it no_gap t (rest us))) k' ns'
+  link_form F t z w rest m h made link =
+      let e = exactly t in
+      let a = and_parts (refuses_at e (arrow_body false)) _ z in
+      let b = and_parts (refuses_at e (arrow_rest false false)) _ a.1 in
+      let c = and_parts (refuses_at e (punct (codes ":"))) _ b.1 in
+      let x = and_parts (refuses_at e (punct (codes "="))) _ w in
+      let y = and_parts (refuses_at e (punct (codes ","))) _ x.1 in
+      record {
+        front = F.front;
+        begins = λ g us. F.begins g (it no_gap t (rest us));
+        opens = F.opens;
+        no_statement = F.no_statement;
+        no_item = λ g us. F.no_item g (it no_gap t (rest us));
+        pieces = F.pieces ++ m ∷ [];
+        own = λ g us k q r ys vs i. rw (append_assoc F.pieces (m ∷ []) ys) (F.own g (it no_gap t (rest us)) e at_token c.1 (m ∷ ys) vs (link us ys vs i));
+        whole = steps-append in_front_link None F.pieces m ∙ (ap (λ o. step_on in_front_link o m) F.whole ∙ ap Some made);
+        head = h;
+        no_arrow = λ n g us k q r i. F.no_arrow n g (it no_gap t (rest us)) e at_token a.0 (refused_at assigned (means assigned) (arrow_rest n false) e (it no_gap t (rest us)) at_token (no_rest_at e b.0 n));
+        no_label = λ g us k q r. F.no_label g (it no_gap t (rest us)) e at_token c.0;
+        no_declaration = λ g us k q r. F.no_declaration g (it no_gap t (rest us)) e at_token c.1;
+        no_word = λ g us k q r. F.no_word g (it no_gap t (rest us)) e at_token c.1;
+        as_param = λ g us k q r. linked_param assigned at_token y.0 y.1 (F.as_param g (it no_gap t (rest us)) e at_token x.0);
+        with_default = λ g ts us n i. linked_param assigned at_token y.0 y.1 (F.as_param g (it no_gap t (rest (it blank (sign (codes "=")) ts))) e at_token x.0);
+      }

@@ -66,6 +66,7 @@ module _ (assigned : Bool) where
   head_form (shapes.looser {level = l} e) h = loosened assigned l (head_form e h)
   head_form (shapes.member at i o k) h = tightly _ (member_tight i) (expression_form assigned (shapes.member at i o k))
   head_form (shapes.element at at' i o e) h = tightly _ (index_tight i) (expression_form assigned (shapes.element at at' i o e))
+  head_form (shapes.tagged_template at a b c i o none ps) h = tightly _ (index_tight i) (expression_form assigned (shapes.tagged_template at a b c i o none ps))
   head_form (shapes.binary_expression at {operator = o} {left = l'} {right = r'} i l r) h =
       let k = sym (may_hold_node at (kind.BinExpr o) (l' ∷ r' ∷ [])) ∙ h in
       let bs = may_hold_in l' ∷ may_hold_in r' ∷ [] in

@@ -39,6 +39,8 @@ is_head kind.CallExpr = true
 is_head kind.ParenExpr = true
 is_head kind.ArrayLit = true
 is_head kind.NewExpr = true
+is_head kind.Tpl = true
+is_head kind.TaggedTpl = true
 is_head (kind.Regex body flags) = true
 is_head kind.SuperPropExpr = true
 is_head (kind.MetaPropExpr property) = true
@@ -67,6 +69,10 @@ member_made k h ns key = simp nodes (member_by k h (bare k ns) (bare kind.Member
 
 pub call_made : (k : Kind) → is_head k ≡ true → (ns : List Node) (args : Node) → in_front_link (bare k ns) (bare kind.CallExpr (absent ∷ args ∷ absent ∷ [])) ≡ bare kind.CallExpr (bare k ns ∷ args ∷ absent ∷ [])
 call_made k h ns args = simp nodes (rw (callee_by_itself k h (bare k ns), stays k h ns) refl)
+
+-- a template behind a tag
+pub tagged_made : (k : Kind) → is_head k ≡ true → (ns : List Node) (template : Node) → in_front_link (bare k ns) (bare kind.TaggedTpl (absent ∷ absent ∷ template ∷ [])) ≡ bare kind.TaggedTpl (bare k ns ∷ absent ∷ template ∷ [])
+tagged_made k h ns template = simp nodes (rw (callee_by_itself k h (bare k ns)) refl)
 
 -- links behind `super`
 

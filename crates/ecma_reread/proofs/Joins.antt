@@ -20,9 +20,9 @@ use Rattle.ecma_print.specs.declared.place.Beside.TheVariants.{BehindMinus, Behi
 use Rattle.ecma_tokens.proofs.Wholes.{some_text}
 use Rattle.ecma_reread.specs.Machine.{count}
 use Rattle.ecma_reread.specs.Shapes as shapes
-use Rattle.ecma_reread.specs.Shapes.{Level, looser_than, IsOperator, IsIdent, ident, IsKey, key, IsExpression, IsElement, IsArguments, AreElements, AreExpressions, IsInitializer, IsDeclarator, AreDeclarators, AreSlots, IsMemberLevel, IsIndexed, IsChainKey, begins_with_brace, AreProperties, IsPropertyName, IsProperty, regex_text, IsPattern, Role, IsDefaulted}
-use Rattle.ecma_reread.specs.Tokens.{blank, sign_of, assign_token, update_token, unary_token, binary_token, own_sign, unary_gap, ident_word, key_word, expression_tokens, element_tokens, arguments_tokens, elements_tokens, more_tokens, declarator_tokens, declarators_tokens, slots_tokens, more_slots_tokens, chain_token, properties_tokens, more_properties_tokens, property_name_tokens, property_tokens, initializer_tokens, pattern_tokens, defaulted_tokens}
-use Rattle.ecma_reread.proofs.Softs.{Soft, key_soft, private_soft, string_soft, big_int_soft, number_soft, closing_soft, brace_soft, bracket_soft, update_soft, is_object, point_behind, softer, opening, closing, comma, semicolon, increment, decrement, opening_bracket, closing_bracket, parted, regex_soft}
+use Rattle.ecma_reread.specs.Shapes.{Level, looser_than, IsOperator, IsIdent, ident, IsKey, key, IsExpression, IsElement, IsArguments, AreElements, AreExpressions, IsInitializer, IsDeclarator, AreDeclarators, AreSlots, IsMemberLevel, IsIndexed, IsChainKey, begins_with_brace, AreProperties, IsPropertyName, IsProperty, regex_text, IsPattern, Role, IsDefaulted, part_text, IsPart, AreParts}
+use Rattle.ecma_reread.specs.Tokens.{blank, sign_of, assign_token, update_token, unary_token, binary_token, own_sign, unary_gap, ident_word, key_word, expression_tokens, element_tokens, arguments_tokens, elements_tokens, more_tokens, declarator_tokens, declarators_tokens, slots_tokens, more_slots_tokens, chain_token, properties_tokens, more_properties_tokens, property_name_tokens, property_tokens, initializer_tokens, pattern_tokens, defaulted_tokens, part_raw, part_token, parts_tokens}
+use Rattle.ecma_reread.proofs.Softs.{Soft, key_soft, private_soft, string_soft, big_int_soft, number_soft, closing_soft, brace_soft, bracket_soft, update_soft, is_object, point_behind, softer, opening, closing, comma, semicolon, increment, decrement, opening_bracket, closing_bracket, parted, regex_soft, part, part_joins}
 use Rattle.ecma_reread.proofs.Beginnings.{dots_join, opening_joins, element_opening_joins, update_joins, bracket_joins, blank_joins, element_blank_joins, property_parted, properties_open, properties_soft, slots_open, slots_parted, slots_soft, unary_joins, initializer_soft, pattern_blank_joins, pattern_dots_joins, defaulted_blank_joins}
 
 -- each token has a text
@@ -66,6 +66,9 @@ point_joins (shapes.private_key at name t) us = refl
 chain_soft : {object : Bool} {n : Node} (k : IsChainKey n) {us : Items} → Soft object us → joins_next (chain_token k) us ≡ true
 chain_soft (shapes.plain_key k) z = key_soft (key_word k) z
 chain_soft (shapes.private_key at name t) z = private_soft (codes "#" ++ name) z
+
+part_fine : {t f l : Bool} {n : Node} (p : IsPart t f l n) → Fine (items.template f l (part_text f l (part_raw p)))
+part_fine (shapes.part at raw w r v) = w
 
 -- the words of the layout are words
 pub record Words : Type 0 where
@@ -183,6 +186,7 @@ module _ (words : Words) where
     expression_joined (shapes.this_word at) g h us z j = (h, words.this_whole, key_soft (codes "this") z, j)
     expression_joined (shapes.big_int at raw t) g h us z j = (h, t, big_int_soft raw z, j)
     expression_joined (shapes.regex at b f t) g h us z j = (h, t.whole, regex_soft (regex_text b f) z, j)
+    expression_joined (shapes.template at a b ps) g h us z j = parts_joined ps g h us j
     expression_joined (shapes.null_word at) g h us z j = (h, words.null_whole, key_soft (codes "null") z, j)
     expression_joined (shapes.true_word at) g h us z j = (h, words.true_whole, key_soft (codes "true") z, j)
     expression_joined (shapes.false_word at) g h us z j = (h, words.false_whole, key_soft (codes "false") z, j)
@@ -205,6 +209,7 @@ module _ (words : Words) where
     expression_joined (shapes.new_target at) g h us z j = (h, words.new_whole, refl, (no_gap_is, refl, refl, (no_gap_is, words.target_whole, key_soft (codes "target") z, j)))
     expression_joined (shapes.import_meta at) g h us z j = (h, words.import_whole, refl, (no_gap_is, refl, refl, (no_gap_is, words.meta_whole, key_soft (codes "meta") z, j)))
     expression_joined (shapes.import_call at at' es none) g h us z j = (h, words.import_whole, refl, arguments_joined es us (no_gap_is, refl, closing_soft z, j))
+    expression_joined (shapes.tagged_template at a b c i o none ps) g h us z j = expression_joined o g h (it no_gap (part_token true ps) (parts_tokens ps us)) part (parts_joined ps no_gap no_gap_is us j)
     expression_joined (shapes.prefix_update at o e) g h us z j = (h, update_fine o, update_joins o e us, expression_joined e no_gap no_gap_is us z j)
     expression_joined (shapes.postfix_update at o e) g h us z j = expression_joined e g h (it no_gap (update_token o) us) (update_behind o) (no_gap_is, update_fine o, update_soft o z, j)
     expression_joined (shapes.await_expression at e) g h us z j = (h, words.await_whole, blank_joins (items.key (codes "await")) e us, expression_joined e blank blank_is us z j)
@@ -234,6 +239,12 @@ module _ (words : Words) where
     expression_joined (shapes.sequence_expression at x y es) g h us z j =
         let rest = more_tokens es us in
         expression_joined x g h (sign_of (codes ",") (expression_tokens y blank rest)) comma (no_gap_is, refl, blank_joins (sign (codes ",")) y rest, expression_joined y blank blank_is rest (more_soft es z) (more_joined es us z j))
+
+    parts_joined : {t f : Bool} {es ps : List Node} (is : AreParts t f es ps) (g : Gap) → IsGap g → (us : Items) → Joined us → Joined (it g (part_token f is) (parts_tokens is us))
+    parts_joined {f = f} (shapes.last_part p) g h us j = (h, part_fine p, part_joins f true (part_text f true (part_raw p)) us, j)
+    parts_joined {f = f} (shapes.more_parts p e ps) g h us j =
+        let behind = it no_gap (part_token false ps) (parts_tokens ps us) in
+        (h, part_fine p, part_joins f false (part_text f false (part_raw p)) (expression_tokens e no_gap behind), expression_joined e no_gap no_gap_is behind part (parts_joined ps no_gap no_gap_is us j))
 
     arguments_joined : {n : Node} (is : IsArguments n) (us : Items) → Joined (sign_of (codes ")") us) → Joined (sign_of (codes "(") (arguments_tokens is (sign_of (codes ")") us)))
     arguments_joined (shapes.no_arguments at) us j = (no_gap_is, refl, refl, j)

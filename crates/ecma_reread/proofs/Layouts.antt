@@ -24,15 +24,16 @@ use Rattle.ecma_print.specs.declared.place.Place.TheVariants.{At, Within, Argume
 use Rattle.ecma_print.specs.Places.{before, after, free, left, right, gap, opens_a_block, is_headed}
 use Rattle.ecma_print.specs.Laid.{Laid, is_absent, is_object_pattern}
 use Rattle.ecma_print.specs.Operators.{assign_word, unary_word, unary_sign, update_word, update_sign, binary_word}
-use Rattle.ecma_print.specs.Expressions.{more_of_sequence, callee_spot}
+use Rattle.ecma_print.specs.Expressions.{more_of_sequence, callee_spot, template_parts}
 use Rattle.ecma_print.specs.Lists.{more_commas, ends_in_hole, hole_comma, brackets, braces}
 use Rattle.ecma_print.specs.Layout.{in_place, by_itself, lay_step, laid}
 use Rattle.ecma_tokens.specs.Items as items
 use Rattle.ecma_tokens.specs.Items.{Tok, sign, Gap, no_gap, Items, it, token_text, render}
 use Rattle.ecma_reread.specs.Shapes as shapes
-use Rattle.ecma_reread.specs.Shapes.{Level, looser_than, IsOperator, IsIdent, ident, IsKey, key, IsAbsent, IsExpression, IsElement, IsArguments, AreElements, AreExpressions, IsInitializer, IsDeclarator, AreDeclarators, AreSlots, IsMemberLevel, IsIndexed, begins_with_brace, IsProperty, IsPropertyName, AreProperties, Role, IsDefaulted, IsPattern}
-use Rattle.ecma_reread.specs.Tokens.{blank, sign_of, assign_token, update_token, unary_token, binary_token, own_sign, unary_gap, expression_tokens, element_tokens, arguments_tokens, elements_tokens, more_tokens, initializer_tokens, declarator_tokens, declarators_tokens, slots_tokens, more_slots_tokens, chain_token, property_tokens, property_name_tokens, properties_tokens, more_properties_tokens, ident_word, defaulted_tokens, pattern_tokens}
+use Rattle.ecma_reread.specs.Shapes.{Level, looser_than, IsOperator, IsIdent, ident, IsKey, key, IsAbsent, IsExpression, IsElement, IsArguments, AreElements, AreExpressions, IsInitializer, IsDeclarator, AreDeclarators, AreSlots, IsMemberLevel, IsIndexed, begins_with_brace, IsProperty, IsPropertyName, AreProperties, Role, IsDefaulted, IsPattern, part_opening, part_closing, part_text, AreParts}
+use Rattle.ecma_reread.specs.Tokens.{blank, sign_of, assign_token, update_token, unary_token, binary_token, own_sign, unary_gap, expression_tokens, element_tokens, arguments_tokens, elements_tokens, more_tokens, initializer_tokens, declarator_tokens, declarators_tokens, slots_tokens, more_slots_tokens, chain_token, property_tokens, property_name_tokens, properties_tokens, more_properties_tokens, ident_word, defaulted_tokens, pattern_tokens, part_token, parts_tokens}
 use Rattle.ecma_reread.proofs.Spots.{before_dot, number_of, Calm, tightly, calmer, same_low, quiet, under_logical, under_nullish, before_link, index_calm, member_low, index_low, calm_0, calm_1, further, update_calm, unary_calm, operator_calls, printed, head_calm, callee_calm}
+use Rattle.ecma_lex.specs.Templates.{template_value}
 
 pub laid_node : (at : Span) (k : Kind) (cs : List Node) → laid (node_of at k cs) ≡ record { kind = k; at = in_place k (map laid cs); parts = map by_itself (map laid cs) }
 laid_node at k cs = fold-roll-Node Laid lay_step (record { span = at; kind = k; children = cs })
@@ -159,6 +160,7 @@ gap_out (shapes.number at raw t) g us = refl
 gap_out (shapes.this_word at) g us = refl
 gap_out (shapes.big_int at raw t) g us = refl
 gap_out (shapes.regex at b f t) g us = refl
+gap_out (shapes.template at a b ps) g us = refl
 gap_out (shapes.null_word at) g us = refl
 gap_out (shapes.true_word at) g us = refl
 gap_out (shapes.false_word at) g us = refl
@@ -175,6 +177,7 @@ gap_out (shapes.new_alone at e none none') g us = refl
 gap_out (shapes.new_target at) g us = refl
 gap_out (shapes.import_meta at) g us = refl
 gap_out (shapes.import_call at at' es none) g us = refl
+gap_out (shapes.tagged_template at a b c i o none ps) g us = gap_out o g (it no_gap (part_token true ps) (parts_tokens ps us))
 gap_out (shapes.prefix_update at o e) g us = refl
 gap_out (shapes.postfix_update at o e) g us = gap_out e g (it no_gap (update_token o) us)
 gap_out (shapes.await_expression at e) g us = refl
@@ -256,6 +259,9 @@ and_true : (b : Bool) → (b && true) ≡ false → b ≡ false
 and_true false h = refl
 and_true true h = absurd (false≢true (sym h))
 
+part_split : (f l : Bool) (raw x : List ℕ) → part_opening f ++ (raw ++ (part_closing l ++ x)) ≡ part_text f l raw ++ x
+part_split f l raw x = ap (λ z. part_opening f ++ z) (sym (append_assoc raw (part_closing l) x)) ∙ sym (append_assoc (part_opening f) (raw ++ part_closing l) x)
+
 mutual
   unfolding render
 
@@ -267,6 +273,7 @@ mutual
   expression_laid (shapes.this_word at) spot c q m us = at_node at _ [] (At spot) m (render us) ∙ rw (c.low, no_sign spot.beside) refl
   expression_laid (shapes.big_int at raw t) spot c q m us = at_node at _ [] (At spot) m (render us) ∙ rw (c.low, no_sign spot.beside) refl
   expression_laid (shapes.regex at b f t) spot c q m us = at_node at (kind.Regex b f) [] (At spot) m (render us) ∙ rw (c.low, no_sign spot.beside) (ap (λ z. codes "/" ++ z) (sym (append_assoc b (codes "/" ++ f) (render us))))
+  expression_laid (shapes.template at a b {expressions = es} {parts = qs} ps) spot c q m us = at_node at kind.Tpl (node_of a kind.List es ∷ node_of b kind.List qs ∷ []) (At spot) m (render us) ∙ rw (c.low, laid_node a kind.List es, laid_node b kind.List qs, no_sign spot.beside) (parts_laid ps m us)
   expression_laid (shapes.null_word at) spot c q m us = at_node at _ [] (At spot) m (render us) ∙ rw (c.low, no_sign spot.beside) refl
   expression_laid (shapes.true_word at) spot c q m us = at_node at _ [] (At spot) m (render us) ∙ rw (c.low, no_sign spot.beside) refl
   expression_laid (shapes.false_word at) spot c q m us = at_node at _ [] (At spot) m (render us) ∙ rw (c.low, no_sign spot.beside) refl
@@ -314,6 +321,11 @@ mutual
   expression_laid (shapes.import_call at at' {args = a'} {none = n'} es none) spot c q m us =
       at_node at kind.CallExpr (node_of at' kind.Import [] ∷ a' ∷ n' ∷ []) (At spot) m (render us)
       ∙ rw (c.low, c.no_new refl, laid_node at' kind.Import [], no_sign spot.beside) (ap (λ z. codes "import" ++ z) (arguments_laid es m us))
+  expression_laid (shapes.tagged_template at a b c' {tag = t'} {none = n'} {expressions = es} {parts = qs} i o none ps) spot c q m us =
+      let inside = at_node a kind.Tpl (node_of b kind.List es ∷ node_of c' kind.List qs ∷ []) (At (free 0)) m (render us) ∙ rw (laid_node b kind.List es, laid_node c' kind.List qs) (parts_laid ps m us) in
+      at_node at kind.TaggedTpl (t' ∷ n' ∷ node_of a kind.Tpl (node_of b kind.List es ∷ node_of c' kind.List qs ∷ []) ∷ []) (At spot) m (render us)
+      ∙ rw (index_low i spot.level c.low, no_sign spot.beside)
+      (ap (λ z. (laid t').at (At (left spot 16 BeforeLink)) m z) inside ∙ expression_laid o (left spot 16 BeforeLink) (index_calm i spot c.with_in c.no_new) q m (it no_gap (part_token true ps) (parts_tokens ps us)))
   expression_laid (shapes.prefix_update at o {e = e'} e) spot c q m us =
       at_node at (kind.UpdateExpr o true) (e' ∷ []) (At spot) m (render us)
       ∙ rw (c.low, update_text o) (ap (λ z. gap spot.beside (update_sign o) ++ (token_text (update_token o) ++ z)) (expression_laid e (right spot 16 (update_sign o)) (update_calm o spot c.with_in) refl m us ∙ rw (no_gap_before o e) refl))
@@ -395,6 +407,18 @@ mutual
   sequence_laid (shapes.more_expressions {e = e'} e es) spot h m us =
       let rest = more_tokens es us in
       ap (λ z. codes ", " ++ z) (ap (λ z. (laid e').at (At (right spot 1 NoNeighbor)) m z) (sequence_laid es spot h m us) ∙ expression_laid e (right spot 1 NoNeighbor) (further spot h) refl m rest) ∙ ap (λ z. codes "," ++ z) (sym (gap_out e blank rest))
+
+  -- the text parts of a template, and its expressions between
+  parts_laid : {t f : Bool} {es ps : List Node} (is : AreParts t f es ps) (m : List ℕ) (us : Items)
+      → part_opening f ++ template_parts (map by_itself (map laid ps)) (map by_itself (map laid es)) m (codes "`" ++ render us) ≡ render (it no_gap (part_token f is) (parts_tokens is us))
+  parts_laid {f = f} (shapes.last_part (shapes.part at raw w r v)) m us =
+      ap (λ z. part_opening f ++ z) (at_node at (kind.TplElement raw (template_value raw) true) [] (At (free 0)) m (codes "`" ++ render us)) ∙ part_split f true raw (render us)
+  parts_laid {f = f} (shapes.more_parts {e = e'} {es = es} {ps = qs} {level = l} (shapes.part at raw w r v) e ps) m us =
+      let behind = it no_gap (part_token false ps) (parts_tokens ps us) in
+      ap (λ z. part_opening f ++ z)
+      (at_node at (kind.TplElement raw (template_value raw) false) [] (At (free 0)) m (codes "${" ++ (laid e').at (At (free 0)) m (codes "}" ++ template_parts (map by_itself (map laid qs)) (map by_itself (map laid es)) m (codes "`" ++ render us)))
+      ∙ ap (λ z. raw ++ (codes "${" ++ z)) (ap (λ z. (laid e').at (At (free 0)) m z) (parts_laid ps m us) ∙ expression_laid e (free 0) (calm_0 l) refl m behind))
+      ∙ part_split f false raw (render (expression_tokens e no_gap behind))
 
   arguments_laid : {n : Node} (is : IsArguments n) (m : List ℕ) (us : Items) → (laid n).at Arguments m (render us) ≡ render (sign_of (codes "(") (arguments_tokens is (sign_of (codes ")") us)))
   arguments_laid (shapes.no_arguments at) m us = at_node at kind.List [] Arguments m (render us)

@@ -27,6 +27,7 @@ pub mod Pieces
 pub mod Members
 pub mod Elements
 pub mod Supers
+pub mod Templates
 pub mod ImportCalls
 pub mod PrivateTests
 pub mod Yields

@@ -1,11 +1,11 @@
 -- What may stand directly behind an expression.
-use Rattle.std.proofs.Common.{◌≡◌, ℕ, Bool, true, false, List, codes, refl}
+use Rattle.std.proofs.Common.{◌≡◌, ℕ, Bool, true, false, List, codes, refl, [], ◌∷◌}
 use Rattle.ecma_kind.specs.declared.operators.UpdateOp.{UpdateOp}
 use Rattle.ecma_kind.specs.declared.operators.UpdateOp.TheVariants.{PlusPlus, MinusMinus}
 use Rattle.ecma_lex.specs.Punctuators.{punctuators}
 use Rattle.ecma_tokens.specs.Items as items
 use Rattle.ecma_tokens.specs.Items.{Tok, sign, Gap, no_gap, Items, ends, it, render, token_text}
-use Rattle.ecma_tokens.specs.Joins.{joins_next}
+use Rattle.ecma_tokens.specs.Joins.{joins_next, parted_by}
 use Rattle.ecma_reread.specs.Shapes as shapes
 use Rattle.ecma_reread.specs.Shapes.{Level, looser_than, IsOperator, IsIdent, ident, IsKey, key, IsExpression, IsElement, IsArguments, AreElements, AreExpressions, IsInitializer, IsDeclarator, AreDeclarators, AreSlots, IsMemberLevel, IsIndexed, IsChainKey, begins_with_brace, AreProperties, IsPropertyName, IsProperty}
 use Rattle.ecma_reread.specs.Tokens.{blank, sign_of, update_token}
@@ -22,6 +22,7 @@ pub data Soft : Bool → Items → Type 0 where
   decrement : {object : Bool} {us : Items} → Soft object (sign_of (codes "--") us)
   opening_bracket : {object : Bool} {us : Items} → Soft object (sign_of (codes "[") us)
   closing_bracket : {object : Bool} {us : Items} → Soft object (sign_of (codes "]") us)
+  part : {object first last : Bool} {w : List ℕ} {us : Items} → Soft object (it no_gap (items.template first last w) us)
   -- behind a blank
   parted : {object : Bool} {t : Tok} {us : Items} → Soft object (it blank t us)
 
@@ -91,5 +92,15 @@ softer shapes.object increment = increment
 softer shapes.object decrement = decrement
 softer shapes.object opening_bracket = opening_bracket
 softer shapes.object closing_bracket = closing_bracket
+softer shapes.object part = part
 softer shapes.object parted = parted
 softer l z = z
+
+-- behind a text part each token may stand
+blanks_part : (bs : List ℕ) → parted_by bs true ≡ true
+blanks_part [] = refl
+blanks_part (c ∷ cs) = refl
+
+pub part_joins : (first last : Bool) (w : List ℕ) (us : Items) → joins_next (items.template first last w) us ≡ true
+part_joins first last w (items.ends g) = refl
+part_joins first last w (it g t us) = blanks_part g.blanks

@@ -1,5 +1,5 @@
 -- The tree that is read of a statement is the tree without spans.
-use Rattle.std.proofs.Common.{true, false, ◌≡◌, List, [], ◌∷◌, map, refl, ap, ap₂, ◌∙◌}
+use Rattle.std.proofs.Common.{true, false, ◌≡◌, List, [], ◌∷◌, map, refl, ap, ap₂, ◌∙◌, Bool}
 use Rattle.ecma_kind.specs.declared.operators.BinaryOp.TheVariants as op
 use Rattle.ecma_kind.specs.declared.kind.Kind.TheVariants as kind
 use Rattle.ecma_kind.specs.declared.span.Span.{Span}
@@ -7,8 +7,8 @@ use Rattle.ecma_tree.specs.declared.node.Node.{Node}
 use Rattle.ecma_tree.specs.Nodes.{absent, list_node, node_of}
 use Rattle.ecma_tree.specs.Spans.{without_spans}
 use Rattle.ecma_reread.specs.Shapes as shapes
-use Rattle.ecma_reread.specs.Shapes.{Level, IsIdent, ident, IsKey, key, IsAbsent, IsExpression, IsElement, IsArguments, AreElements, AreExpressions, IsInitializer, IsDeclarator, AreDeclarators, Ending, IsStatement, IsBlock, AreStatements, AreSlots, IsCase, AreCases, IsCatch, IsChainKey, IsOptional, IsForBinding, IsPropertyName, IsProperty, AreProperties, Role, IsPattern, IsDefaulted, IsForInit}
-use Rattle.ecma_reread.specs.Tokens.{bare, bare_ident, key_word, bare_expression, bare_element, bare_arguments, bare_elements, bare_expressions, bare_initializer, bare_declarator, bare_declarators, bare_statement, bare_block, bare_statements, bare_slots, bare_case, bare_cases, bare_catch, chain_kind, bare_optional, bare_for_binding, bare_property_name, bare_property, bare_properties, bare_pattern, bare_defaulted, as_declarator, as_declarators, bare_for_init}
+use Rattle.ecma_reread.specs.Shapes.{Level, IsIdent, ident, IsKey, key, IsAbsent, IsExpression, IsElement, IsArguments, AreElements, AreExpressions, IsInitializer, IsDeclarator, AreDeclarators, Ending, IsStatement, IsBlock, AreStatements, AreSlots, IsCase, AreCases, IsCatch, IsChainKey, IsOptional, IsForBinding, IsPropertyName, IsProperty, AreProperties, Role, IsPattern, IsDefaulted, IsForInit, IsPart, AreParts}
+use Rattle.ecma_reread.specs.Tokens.{bare, bare_ident, key_word, bare_expression, bare_element, bare_arguments, bare_elements, bare_expressions, bare_initializer, bare_declarator, bare_declarators, bare_statement, bare_block, bare_statements, bare_slots, bare_case, bare_cases, bare_catch, chain_kind, bare_optional, bare_for_binding, bare_property_name, bare_property, bare_properties, bare_pattern, bare_defaulted, as_declarator, as_declarators, bare_for_init, bare_part, bare_parts, bare_substitutions}
 use Rattle.ecma_reread.proofs.Unplaced.{without_spans-node}
 
 pub absent_bare : {n : Node} → IsAbsent n → without_spans n ≡ absent
@@ -27,6 +27,13 @@ chain_key_bare (shapes.private_key at name t) = without_spans-node at _ []
 binding_bare : (at : Span) {id none : Node} (i : IsIdent id) → IsAbsent none → without_spans (node_of at kind.BindingIdent (id ∷ none ∷ [])) ≡ bare kind.BindingIdent (bare_ident i ∷ absent ∷ [])
 binding_bare at i a = without_spans-node at kind.BindingIdent _ ∙ ap₂ (λ x y. bare kind.BindingIdent (x ∷ y ∷ [])) (ident_bare i) (absent_bare a)
 
+part_bare : {t f l : Bool} {n : Node} (p : IsPart t f l n) → without_spans n ≡ bare_part p
+part_bare (shapes.part at raw w r v) = without_spans-node at _ []
+
+parts_bare : {t f : Bool} {es ps : List Node} (is : AreParts t f es ps) → map without_spans ps ≡ bare_parts is
+parts_bare (shapes.last_part p) = ap (λ x. x ∷ []) (part_bare p)
+parts_bare (shapes.more_parts p e ps) = ap₂ (λ x xs. x ∷ xs) (part_bare p) (parts_bare ps)
+
 mutual
   pub expression_bare : {level : Level} {e : Node} (is : IsExpression level e) → without_spans e ≡ bare_expression is
   expression_bare (shapes.name i) = ident_bare i
@@ -35,6 +42,8 @@ mutual
   expression_bare (shapes.this_word at) = without_spans-node at _ []
   expression_bare (shapes.big_int at raw t) = without_spans-node at _ []
   expression_bare (shapes.regex at b f t) = without_spans-node at _ []
+  expression_bare (shapes.template at a b ps) =
+      without_spans-node at kind.Tpl _ ∙ ap₂ (λ x y. bare kind.Tpl (x ∷ y ∷ [])) (without_spans-node a kind.List _ ∙ ap list_node (substitutions_bare ps)) (without_spans-node b kind.List _ ∙ ap list_node (parts_bare ps))
   expression_bare (shapes.null_word at) = without_spans-node at _ []
   expression_bare (shapes.true_word at) = without_spans-node at _ []
   expression_bare (shapes.false_word at) = without_spans-node at _ []
@@ -57,6 +66,10 @@ mutual
   expression_bare (shapes.import_meta at) = without_spans-node at _ []
   expression_bare (shapes.import_call at at' {none = gone} es none) =
       without_spans-node at kind.CallExpr _ ∙ (ap₂ (λ x y. bare kind.CallExpr (x ∷ y ∷ without_spans gone ∷ [])) (without_spans-node at' kind.Import []) (arguments_bare es) ∙ ap (λ z. bare kind.CallExpr (bare kind.Import [] ∷ list_node (bare_arguments es) ∷ z ∷ [])) (absent_bare none))
+  expression_bare (shapes.tagged_template at a b c {expressions = es} {parts = qs} i o none ps) =
+      let inside = without_spans-node a kind.Tpl (node_of b kind.List es ∷ node_of c kind.List qs ∷ []) ∙ ap₂ (λ x y. bare kind.Tpl (x ∷ y ∷ [])) (without_spans-node b kind.List es ∙ ap list_node (substitutions_bare ps)) (without_spans-node c kind.List qs ∙ ap list_node (parts_bare ps)) in
+      without_spans-node at kind.TaggedTpl _
+      ∙ (ap₂ (λ x y. bare kind.TaggedTpl (x ∷ y ∷ without_spans (node_of a kind.Tpl (node_of b kind.List es ∷ node_of c kind.List qs ∷ [])) ∷ [])) (expression_bare o) (absent_bare none) ∙ ap (λ z. bare kind.TaggedTpl (bare_expression o ∷ absent ∷ z ∷ [])) inside)
   expression_bare (shapes.prefix_update at o e) = without_spans-node at (kind.UpdateExpr o true) _ ∙ ap (λ x. bare (kind.UpdateExpr o true) (x ∷ [])) (expression_bare e)
   expression_bare (shapes.postfix_update at o e) = without_spans-node at (kind.UpdateExpr o false) _ ∙ ap (λ x. bare (kind.UpdateExpr o false) (x ∷ [])) (expression_bare e)
   expression_bare (shapes.await_expression at e) = without_spans-node at kind.AwaitExpr _ ∙ ap (λ x. bare kind.AwaitExpr (x ∷ [])) (expression_bare e)
@@ -130,6 +143,10 @@ mutual
   elements_bare : {es : List Node} (is : AreElements es) → map without_spans es ≡ bare_elements is
   elements_bare shapes.no_elements = refl
   elements_bare (shapes.more_elements e es) = ap₂ (λ x xs. x ∷ xs) (element_bare e) (elements_bare es)
+
+  substitutions_bare : {t f : Bool} {es ps : List Node} (is : AreParts t f es ps) → map without_spans es ≡ bare_substitutions is
+  substitutions_bare (shapes.last_part p) = refl
+  substitutions_bare (shapes.more_parts p e ps) = ap₂ (λ x xs. x ∷ xs) (expression_bare e) (substitutions_bare ps)
 
   expressions_bare : {es : List Node} (is : AreExpressions es) → map without_spans es ≡ bare_expressions is
   expressions_bare shapes.no_expressions = refl

@@ -1,11 +1,12 @@
 -- The trees of expressions and statements, a constructor for each form. Parentheses are parts of these trees: none have to be added.
-use Rattle.std.specs.Prelude.{◌≡◌, ℕ, ◌-◌, true, false, List, [], ◌∷◌, length, Some, ◌++◌, codes, Bool, ◌+◌}
+use Rattle.std.specs.Prelude.{◌≡◌, ℕ, ◌-◌, true, false, List, [], ◌∷◌, length, Some, ◌++◌, codes, Bool, ◌+◌, ◌||◌, is_some}
 use Rattle.ecma_number.specs.Numeral.{numeral_of}
 use Rattle.ecma_lex.specs.Text.{piece}
 use Rattle.ecma_lex.specs.Keys.{is_reserved, key_end, priv_name_end}
 use Rattle.ecma_lex.specs.Numerals.{num_end, big_end}
 use Rattle.ecma_lex.specs.Strings.{str_end, str_value}
 use Rattle.ecma_lex.specs.Regexes.{regex_end, regex_body_end}
+use Rattle.ecma_lex.specs.Templates.{template_raw, template_value}
 use Rattle.ecma_kind.specs.declared.span.Span.{Span}
 use Rattle.ecma_kind.specs.declared.operators.VarDeclKind.{VarDeclKind}
 use Rattle.ecma_kind.specs.declared.operators.UnaryOp.{UnaryOp}
@@ -18,7 +19,7 @@ use Rattle.ecma_kind.specs.declared.kind.Kind.TheVariants as kind
 use Rattle.ecma_tree.specs.declared.node.Node.{Node}
 use Rattle.ecma_tree.specs.Nodes.{node_of}
 use Rattle.ecma_grammar.specs.Reads.{without_separators}
-use Rattle.ecma_tokens.specs.Good.{IsToken}
+use Rattle.ecma_tokens.specs.Good.{IsToken, IsTextPart}
 use Rattle.ecma_reread.specs.Heads.{may_hold_in}
 
 -- a name that is no reserved word
@@ -47,6 +48,23 @@ pub record IsRegex (body flags : List ℕ) : Type 0 where
 
 pub data IsAbsent : Node → Type 0 where
   absent : (at : Span) → IsAbsent (node_of at kind.Absent [])
+
+-- a text part of a template: behind a backtick or `}`, and up to a backtick or `${`
+abbrev pub part_opening : Bool → List ℕ
+part_opening true = codes "`"
+part_opening false = codes "}"
+
+abbrev pub part_closing : Bool → List ℕ
+part_closing true = codes "`"
+part_closing false = codes "${"
+
+abbrev pub part_text : Bool → Bool → List ℕ → List ℕ
+part_text first last raw = part_opening first ++ (raw ++ part_closing last)
+
+-- without line ends other than line feeds; behind a tag it may have no value
+pub data IsPart (behind_tag first last : Bool) : Node → Type 0 where
+  part : (at : Span) (raw : List ℕ) → IsTextPart first last (part_text first last raw) → template_raw raw ≡ raw → (behind_tag || is_some (template_value raw)) ≡ true
+      → IsPart behind_tag first last (node_of at (kind.TplElement raw (template_value raw) last) [])
 
 -- how loosely an expression binds: by its outermost operator, the tightest first (ECMAScript, 13). A conditional expression stands where
 -- an assignment does
@@ -134,6 +152,8 @@ mutual
     this_word : (at : Span) → IsExpression new_callee (node_of at kind.ThisExpr [])
     big_int : (at : Span) (raw : List ℕ) → IsToken big_end raw → IsExpression new_callee (node_of at (kind.BigInt (without_separators (piece raw 0 (length raw - 1))) (Some raw)) [])
     regex : (at : Span) (body flags : List ℕ) → IsRegex body flags → IsExpression new_callee (node_of at (kind.Regex body flags) [])
+    template : (at of_expressions of_parts : Span) {expressions parts : List Node} → AreParts false true expressions parts
+        → IsExpression new_callee (node_of at kind.Tpl (node_of of_expressions kind.List expressions ∷ node_of of_parts kind.List parts ∷ []))
     null_word : (at : Span) → IsExpression new_callee (node_of at kind.Null [])
     true_word : (at : Span) → IsExpression new_callee (node_of at (kind.Bool true) [])
     false_word : (at : Span) → IsExpression new_callee (node_of at (kind.Bool false) [])
@@ -150,6 +170,8 @@ mutual
     import_meta : (at : Span) → IsExpression new_callee (node_of at (kind.MetaPropExpr ImportMeta) [])
     import_call : (at at_import : Span) {args none : Node} → IsArguments args → IsAbsent none → IsExpression object (node_of at kind.CallExpr (node_of at_import kind.Import [] ∷ args ∷ none ∷ []))
     element : (at of_key : Span) {of_holder own level : Level} {holder e : Node} → IsIndexed of_holder own → IsExpression of_holder holder → IsExpression level e → IsExpression own (node_of at kind.MemberExpr (holder ∷ node_of of_key kind.ComputedPropName (e ∷ []) ∷ []))
+    tagged_template : (at at_template of_expressions of_parts : Span) {of_tag own : Level} {tag none : Node} {expressions parts : List Node} → IsIndexed of_tag own → IsExpression of_tag tag → IsAbsent none → AreParts true true expressions parts
+        → IsExpression own (node_of at kind.TaggedTpl (tag ∷ none ∷ node_of at_template kind.Tpl (node_of of_expressions kind.List expressions ∷ node_of of_parts kind.List parts ∷ []) ∷ []))
     prefix_update : (at : Span) (operator : UpdateOp) {e : Node} → IsExpression callee e → IsExpression update (node_of at (kind.UpdateExpr operator true) (e ∷ []))
     postfix_update : (at : Span) (operator : UpdateOp) {e : Node} → IsExpression callee e → IsExpression update (node_of at (kind.UpdateExpr operator false) (e ∷ []))
     await_expression : (at : Span) {e : Node} → IsExpression unary e → IsExpression unary (node_of at kind.AwaitExpr (e ∷ []))
@@ -232,6 +254,11 @@ mutual
     no_elements : AreElements []
     more_elements : {e : Node} {es : List Node} → IsElement values e → AreElements es → AreElements (e ∷ es)
 
+  -- the expressions of a template, and its text parts: behind a tag or not, from the first or from a later one
+  pub data AreParts : Bool → Bool → List Node → List Node → Type 0 where
+    last_part : {behind_tag first : Bool} {p : Node} → IsPart behind_tag first true p → AreParts behind_tag first [] (p ∷ [])
+    more_parts : {behind_tag first : Bool} {p e : Node} {es ps : List Node} {level : Level} → IsPart behind_tag first false p → IsExpression level e → AreParts behind_tag false es ps → AreParts behind_tag first (e ∷ es) (p ∷ ps)
+
   pub data AreExpressions : List Node → Type 0 where
     no_expressions : AreExpressions []
     more_expressions : {e : Node} {es : List Node} → IsExpression assignment e → AreExpressions es → AreExpressions (e ∷ es)
@@ -242,6 +269,7 @@ begins_with_brace (looser e) = begins_with_brace e
 begins_with_brace (member at i o k) = begins_with_brace o
 begins_with_brace (call at c es none) = begins_with_brace c
 begins_with_brace (element at at' i o e) = begins_with_brace o
+begins_with_brace (tagged_template at a b c i o none ps) = begins_with_brace o
 begins_with_brace (postfix_update at o e) = begins_with_brace e
 begins_with_brace (binary_expression at i l r) = begins_with_brace l
 begins_with_brace (exponentiation at l r) = begins_with_brace l

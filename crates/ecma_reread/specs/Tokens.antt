@@ -3,6 +3,7 @@ use Rattle.std.specs.Prelude.{ℕ, ◌-◌, true, false, List, [], ◌∷◌, le
 use Rattle.ecma_number.specs.Numeral.{numeral_of}
 use Rattle.ecma_lex.specs.Text.{piece}
 use Rattle.ecma_lex.specs.Strings.{str_value}
+use Rattle.ecma_lex.specs.Templates.{template_value}
 use Rattle.ecma_kind.specs.declared.operators.UnaryOp.{UnaryOp}
 use Rattle.ecma_kind.specs.declared.operators.UnaryOp.TheVariants.{Minus, Plus, Bang, Tilde, TypeOf, Void, Delete}
 use Rattle.ecma_kind.specs.declared.operators.UpdateOp.{UpdateOp}
@@ -23,7 +24,7 @@ use Rattle.ecma_print.specs.Operators.{unary_sign, update_sign}
 use Rattle.ecma_print.specs.Statements.{keyword}
 use Rattle.ecma_tokens.specs.Items as items
 use Rattle.ecma_tokens.specs.Items.{Tok, sign, Gap, no_gap, Items, it}
-use Rattle.ecma_reread.specs.Shapes.{IsIdent, ident, IsKey, key, Level, IsExpression, looser, element, prefix_update, postfix_update, await_expression, unary_expression, binary_expression, exponentiation, both, either, coalesced, assignment_expression, conditional_expression, sequence_expression, name, string, number, this_word, big_int, null_word, true_word, false_word, member, call, parenthesized, IsElement, one, spread, IsArguments, no_arguments, arguments, AreElements, no_elements, more_elements, AreExpressions, no_expressions, more_expressions, IsInitializer, no_initializer, initializer, IsDeclarator, declarator, AreDeclarators, no_declarators, more_declarators, IsStatement, expression, declaration, empty, debugger_word, throw, return_value, return_nothing, break_nothing, continue_nothing, Ending, break_label, continue_label, block, if_only, if_else, while_loop, do_loop, labeled, IsBlock, block_of, AreStatements, no_statements, more_statements, array, AreSlots, no_slots, filled, hole, switch_statement, IsCase, case_of, default_of, AreCases, no_cases, more_cases, new_expression, new_alone, new_target, try_catch, try_finally, try_catch_finally, IsCatch, catch_any, catch_name, IsChainKey, plain_key, private_key, super_member, super_element, super_call, IsOptional, left_out, given, IsForBinding, for_binding, for_loop, for_in, for_of, object_literal, IsPropertyName, key_name, string_name, number_name, big_int_name, computed_name, IsProperty, key_value, shorthand, initialized, spread_property, AreProperties, no_properties, more_properties, private_in, yield_nothing, yield_value, import_meta, import_call, regex, regex_text, Role, bound, rest, renamed, named, rest_property, IsPattern, name_pattern, array_pattern, object_pattern, IsDefaulted, no_default, with_default, IsForDeclarator, for_declarator, AreForDeclarators, no_for_declarators, more_for_declarators, IsForInit, no_init, init_declaration, init_expression}
+use Rattle.ecma_reread.specs.Shapes.{IsIdent, ident, IsKey, key, Level, IsExpression, looser, element, prefix_update, postfix_update, await_expression, unary_expression, binary_expression, exponentiation, both, either, coalesced, assignment_expression, conditional_expression, sequence_expression, name, string, number, this_word, big_int, null_word, true_word, false_word, member, call, parenthesized, IsElement, one, spread, IsArguments, no_arguments, arguments, AreElements, no_elements, more_elements, AreExpressions, no_expressions, more_expressions, IsInitializer, no_initializer, initializer, IsDeclarator, declarator, AreDeclarators, no_declarators, more_declarators, IsStatement, expression, declaration, empty, debugger_word, throw, return_value, return_nothing, break_nothing, continue_nothing, Ending, break_label, continue_label, block, if_only, if_else, while_loop, do_loop, labeled, IsBlock, block_of, AreStatements, no_statements, more_statements, array, AreSlots, no_slots, filled, hole, switch_statement, IsCase, case_of, default_of, AreCases, no_cases, more_cases, new_expression, new_alone, new_target, try_catch, try_finally, try_catch_finally, IsCatch, catch_any, catch_name, IsChainKey, plain_key, private_key, super_member, super_element, super_call, IsOptional, left_out, given, IsForBinding, for_binding, for_loop, for_in, for_of, object_literal, IsPropertyName, key_name, string_name, number_name, big_int_name, computed_name, IsProperty, key_value, shorthand, initialized, spread_property, AreProperties, no_properties, more_properties, private_in, yield_nothing, yield_value, import_meta, import_call, regex, regex_text, Role, bound, rest, renamed, named, rest_property, IsPattern, name_pattern, array_pattern, object_pattern, IsDefaulted, no_default, with_default, IsForDeclarator, for_declarator, AreForDeclarators, no_for_declarators, more_for_declarators, IsForInit, no_init, init_declaration, init_expression, part_text, IsPart, part, AreParts, last_part, more_parts, template, tagged_template}
 
 abbrev pub blank : Gap
 blank = record { blanks = codes " "; new_line = false }
@@ -126,6 +127,21 @@ abbrev pub star_of : Bool → Items → Items
 star_of true us = sign_of (codes "*") us
 star_of false us = us
 
+abbrev pub part_raw : {t f l : Bool} {n : Node} → IsPart t f l n → List ℕ
+part_raw (part at raw w r v) = raw
+
+-- the first part: its text, and whether it is the last
+abbrev pub first_raw : {t f : Bool} {es ps : List Node} → AreParts t f es ps → List ℕ
+first_raw (last_part p) = part_raw p
+first_raw (more_parts p e ps) = part_raw p
+
+abbrev pub ends_here : {t f : Bool} {es ps : List Node} → AreParts t f es ps → Bool
+ends_here (last_part p) = true
+ends_here (more_parts p e ps) = false
+
+abbrev pub part_token : (first : Bool) {t f : Bool} {es ps : List Node} → AreParts t f es ps → Tok
+part_token first ps = items.template first (ends_here ps) (part_text first (ends_here ps) (first_raw ps))
+
 -- what stands between a unary operator and its operand
 abbrev pub unary_gap : UnaryOp → Beside → Gap
 unary_gap Minus BehindMinus = blank
@@ -143,6 +159,7 @@ abbrev mutual
   expression_tokens (this_word at) g us = it g (items.key (codes "this")) us
   expression_tokens (big_int at raw t) g us = it g (items.big_int raw) us
   expression_tokens (regex at b f t) g us = it g (items.regex (regex_text b f)) us
+  expression_tokens (template at a b ps) g us = it g (part_token true ps) (parts_tokens ps us)
   expression_tokens (null_word at) g us = it g (items.key (codes "null")) us
   expression_tokens (true_word at) g us = it g (items.key (codes "true")) us
   expression_tokens (false_word at) g us = it g (items.key (codes "false")) us
@@ -159,6 +176,7 @@ abbrev mutual
   expression_tokens (new_target at) g us = it g (items.key (codes "new")) (sign_of (codes ".") (it no_gap (items.key (codes "target")) us))
   expression_tokens (import_meta at) g us = it g (items.key (codes "import")) (sign_of (codes ".") (it no_gap (items.key (codes "meta")) us))
   expression_tokens (import_call at at' es none) g us = it g (items.key (codes "import")) (sign_of (codes "(") (arguments_tokens es (sign_of (codes ")") us)))
+  expression_tokens (tagged_template at a b c i o none ps) g us = expression_tokens o g (it no_gap (part_token true ps) (parts_tokens ps us))
   expression_tokens (prefix_update at o e) g us = it g (update_token o) (expression_tokens e no_gap us)
   expression_tokens (postfix_update at o e) g us = expression_tokens e g (it no_gap (update_token o) us)
   expression_tokens (await_expression at e) g us = it g (items.key (codes "await")) (expression_tokens e blank us)
@@ -241,6 +259,11 @@ abbrev mutual
   pub elements_tokens : {es : List Node} → AreElements es → Items → Items
   elements_tokens no_elements us = us
   elements_tokens (more_elements e es) us = sign_of (codes ",") (element_tokens e blank (elements_tokens es us))
+
+  -- behind the first part
+  pub parts_tokens : {t f : Bool} {es ps : List Node} → AreParts t f es ps → Items → Items
+  parts_tokens (last_part p) us = us
+  parts_tokens (more_parts p e ps) us = expression_tokens e no_gap (it no_gap (part_token false ps) (parts_tokens ps us))
 
   pub more_tokens : {es : List Node} → AreExpressions es → Items → Items
   more_tokens no_expressions us = us
@@ -358,6 +381,7 @@ expression_kind (number at raw t) = kind.Number (numeral_of raw) (Some raw)
 expression_kind (this_word at) = kind.ThisExpr
 expression_kind (big_int at raw t) = kind.BigInt (without_separators (piece raw 0 (length raw - 1))) (Some raw)
 expression_kind (regex at b f t) = kind.Regex b f
+expression_kind (template at a b ps) = kind.Tpl
 expression_kind (null_word at) = kind.Null
 expression_kind (true_word at) = kind.Bool true
 expression_kind (false_word at) = kind.Bool false
@@ -374,6 +398,7 @@ expression_kind (new_alone at e none none') = kind.NewExpr
 expression_kind (new_target at) = kind.MetaPropExpr NewTarget
 expression_kind (import_meta at) = kind.MetaPropExpr ImportMeta
 expression_kind (import_call at at' es none) = kind.CallExpr
+expression_kind (tagged_template at a b c i o none ps) = kind.TaggedTpl
 expression_kind (prefix_update at o e) = kind.UpdateExpr o true
 expression_kind (postfix_update at o e) = kind.UpdateExpr o false
 expression_kind (await_expression at e) = kind.AwaitExpr
@@ -392,6 +417,13 @@ expression_kind (array at at' es) = kind.ArrayLit
 expression_kind (object_literal at at' ps) = kind.ObjectLit
 expression_kind (sequence_expression at x y es) = kind.SeqExpr
 
+abbrev pub bare_part : {t f l : Bool} {n : Node} → IsPart t f l n → Node
+bare_part {l = l} (part at raw w r v) = bare (kind.TplElement raw (template_value raw) l) []
+
+abbrev pub bare_parts : {t f : Bool} {es ps : List Node} → AreParts t f es ps → List Node
+bare_parts (last_part p) = bare_part p ∷ []
+bare_parts (more_parts p e ps) = bare_part p ∷ bare_parts ps
+
 abbrev mutual
   pub expression_parts : {level : Level} {e : Node} → IsExpression level e → List Node
   expression_parts (member at i o k) = bare (expression_kind o) (expression_parts o) ∷ bare (chain_kind k) [] ∷ []
@@ -405,6 +437,8 @@ abbrev mutual
   expression_parts (new_expression at e es none) = bare (expression_kind e) (expression_parts e) ∷ list_node (bare_arguments es) ∷ absent ∷ []
   expression_parts (new_alone at e none none') = bare (expression_kind e) (expression_parts e) ∷ absent ∷ absent ∷ []
   expression_parts (import_call at at' es none) = bare kind.Import [] ∷ list_node (bare_arguments es) ∷ absent ∷ []
+  expression_parts (template at a b ps) = list_node (bare_substitutions ps) ∷ list_node (bare_parts ps) ∷ []
+  expression_parts (tagged_template at a b c i o none ps) = bare (expression_kind o) (expression_parts o) ∷ absent ∷ bare kind.Tpl (list_node (bare_substitutions ps) ∷ list_node (bare_parts ps) ∷ []) ∷ []
   expression_parts (prefix_update at o e) = bare (expression_kind e) (expression_parts e) ∷ []
   expression_parts (postfix_update at o e) = bare (expression_kind e) (expression_parts e) ∷ []
   expression_parts (await_expression at e) = bare (expression_kind e) (expression_parts e) ∷ []
@@ -475,6 +509,10 @@ abbrev mutual
   pub bare_elements : {es : List Node} → AreElements es → List Node
   bare_elements no_elements = []
   bare_elements (more_elements e es) = bare_element e ∷ bare_elements es
+
+  pub bare_substitutions : {t f : Bool} {es ps : List Node} → AreParts t f es ps → List Node
+  bare_substitutions (last_part p) = []
+  bare_substitutions (more_parts p e ps) = bare (expression_kind e) (expression_parts e) ∷ bare_substitutions ps
 
   pub bare_expressions : {es : List Node} → AreExpressions es → List Node
   bare_expressions no_expressions = []
