@@ -1,6 +1,6 @@
 -- Loops with a head are read as they are laid out.
-use Rattle.std.proofs.Common.{◌≡◌, ℕ, Bool, true, false, List, [], ◌∷◌, codes, refl, ap, ◌∙◌}
-use Rattle.std.proofs.lemmas.Bool.{and_parts}
+use Rattle.std.proofs.Common.{◌≡◌, ℕ, Bool, true, false, List, [], ◌∷◌, codes, refl, ap, ◌∙◌, bytes_eq, sym, subst}
+use Rattle.std.proofs.lemmas.Bool.{and_parts, false≢true}
 use Rattle.ecma_lex.specs.Keys.{is_reserved, reserved_words}
 use Rattle.ecma_kind.specs.declared.operators.VarDeclKind.{VarDeclKind}
 use Rattle.ecma_kind.specs.declared.operators.VarDeclKind.TheVariants.{Var, Let, Const}
@@ -12,9 +12,10 @@ use Rattle.ecma_grammar.specs.declared.production.Part.TheVariants as part
 use Rattle.ecma_grammar.specs.declared.production.Plain.TheVariants as plain
 use Rattle.ecma_grammar.specs.declared.production.Form.TheVariants as form
 use Rattle.ecma_grammar.specs.Made.{made}
+use Rattle.ecma_grammar.specs.Grammar as grammar
 use Rattle.ecma_grammar.specs.Grammar.{Grammar, ◌//◌, maybe, nothing, ◌▸◌, node, word, punct}
 use Rattle.ecma_grammar.specs.productions.Names as names
-use Rattle.ecma_grammar.specs.productions.Names.{expression}
+use Rattle.ecma_grammar.specs.productions.Names.{expression, assign_in}
 use Rattle.ecma_grammar.specs.productions.Functions as functions
 use Rattle.ecma_grammar.specs.productions.Expressions as expressions
 use Rattle.ecma_grammar.specs.productions.Operators as operators
@@ -28,20 +29,26 @@ use Rattle.ecma_grammar.specs.productions.Modules.{module_item}
 use Rattle.ecma_print.specs.Statements.{keyword}
 use Rattle.ecma_tokens.specs.Items as items
 use Rattle.ecma_tokens.specs.Items.{Tok, sign, Gap, no_gap, Items, it}
-use Rattle.ecma_reread.specs.Machine.{read, or_on, interp, means, many_up_to}
+use Rattle.ecma_reread.specs.Machine.{read, or_on, interp, means, many_up_to, fails}
 use Rattle.ecma_reread.specs.Shapes as shapes
-use Rattle.ecma_reread.specs.Shapes.{Ending, IsOptional, IsForInit, IsDeclarator, AreDeclarators}
-use Rattle.ecma_reread.specs.Tokens.{bare, blank, expression_tokens, expression_kind, expression_parts, optional_tokens, bare_optional, for_init_tokens, bare_for_init, as_declarator, as_declarators, declarator_tokens, declarators_tokens, bare_declarator, bare_declarators}
+use Rattle.ecma_reread.specs.Shapes.{Ending, IsOptional, IsForInit, IsDeclarator, AreDeclarators, IsPattern}
+use Rattle.ecma_reread.specs.Tokens.{bare, blank, expression_tokens, expression_kind, expression_parts, optional_tokens, bare_optional, for_init_tokens, bare_for_init, as_declarator, as_declarators, declarator_tokens, declarators_tokens, bare_declarator, bare_declarators, pattern_tokens, bare_pattern}
 use Rattle.ecma_reread.proofs.Levels.{means_is}
-use Rattle.ecma_reread.proofs.Fronts.{Front, exactly, Begins, at_token, refuses_all, all_refused, is_known, refuses_at, refused_at, refuses_first}
-use Rattle.ecma_reread.proofs.Towers.{skipped}
+use Rattle.ecma_reread.proofs.Fronts.{Front, exactly, Begins, at_token, refuses_all, all_refused, is_known, refuses_at, refused_at, refuses_first, a_name, the_end, passes_at}
+use Rattle.ecma_reread.proofs.Towers.{skipped, Tower, here, later, before, chained, climb, behind_arrow, closes_conditional}
 use Rattle.ecma_reread.proofs.Heads.{nodes}
 use Rattle.ecma_reread.proofs.Forms.{Laid, s, Reads, no_item_at, Refuses}
-use Rattle.ecma_reread.proofs.Bindings.{Stands, used, expression_read, closed, StandsIn}
-use Rattle.ecma_reread.proofs.Expressions.{parenthesis_ends, semicolon_ends}
-use Rattle.ecma_reread.proofs.Statements.{closes_statement, ReadAsStatement, token_form, no_word_there}
-use Rattle.ecma_reread.proofs.Variables.{binding, declarator_made, pattern_read, DeclaratorIn, DeclaratorsIn, variables_read}
+use Rattle.ecma_reread.proofs.Bindings.{Stands, used, expression_read, closed, StandsIn, standing, go_out, conditional_read}
+use Rattle.ecma_reread.proofs.Expressions.{parenthesis_ends, semicolon_ends, name_no_rest}
+use Rattle.ecma_reread.proofs.Statements.{closes_statement, ReadAsStatement, token_form, no_word_there, the_end_alone}
+use Rattle.ecma_reread.proofs.Variables.{DeclaratorIn, DeclaratorsIn, variables_read, pattern_declared}
 use Rattle.ecma_reread.proofs.Jumps.{no_expression}
+use Rattle.std.proofs.lemmas.Slice.Eq.{bytes_eq-Decides}
+use Rattle.ecma_reread.proofs.Spreads.{ReadAsPattern}
+use Rattle.ecma_grammar.specs.productions.Functions.{arrow_body, arrow_rest}
+use Rattle.ecma_grammar.specs.productions.Expressions.{assignments}
+use Rattle.ecma_grammar.specs.productions.Operators.{factors, terms, shifts, relations, equalities}
+use Rattle.ecma_grammar.specs.productions.Chains.{links}
 
 -- no expression begins with `)`
 no_expression_there : refuses_all (exactly (sign (codes ")"))) (expression false) ≡ true
@@ -62,6 +69,29 @@ no_const : refuses_all (exactly (items.key (codes "const"))) (expression false) 
 unfolding expression functions.arrow functions.arrow_rest names.binding_ident expressions.conditional operators.short_circuit operators.bit_or operators.bit_xor operators.bit_and operators.equality operators.relation operators.shift operators.exponentiation operators.prefixed operators.update chains.chain chains.super_of_link chains.import_meta chains.import_call chains.construction primaries.primary functions.function_expression primaries.class_expression primaries.template primaries.array primaries.object primaries.parenthesized is_reserved reserved_words
 no_const = refl
 
+-- or with `=>`
+no_arrow_expression : refuses_all (exactly (sign (codes "=>"))) (expression false) ≡ true
+unfolding expression functions.arrow functions.arrow_rest names.binding_ident expressions.conditional operators.short_circuit operators.bit_or operators.bit_xor operators.bit_and operators.equality operators.relation operators.shift operators.exponentiation operators.prefixed operators.update chains.chain chains.super_of_link chains.import_meta chains.import_call chains.construction primaries.primary functions.function_expression primaries.class_expression primaries.template primaries.array primaries.object primaries.parenthesized
+no_arrow_expression = refl
+
+-- a front that refuses no `=>` is `=>`
+arrow_there : (e : Front) → refuses_at e (punct (codes "=>")) ≡ false → e ≡ exactly (sign (codes "=>"))
+arrow_there (exactly (sign v)) z = go (bytes_eq v (codes "=>")) refl
+  where
+    go : (b : Bool) → bytes_eq v (codes "=>") ≡ b → exactly (sign v) ≡ exactly (sign (codes "=>"))
+    go true h = ap (λ x. exactly (sign x)) ((bytes_eq-Decides v (codes "=>")).0 h)
+    go false h = absurd (false≢true (sym z ∙ rw h refl))
+arrow_there (exactly (items.key v)) z = absurd (false≢true (sym z))
+arrow_there (exactly (items.private_name v)) z = absurd (false≢true (sym z))
+arrow_there (exactly (items.string v)) z = absurd (false≢true (sym z))
+arrow_there (exactly (items.number v)) z = absurd (false≢true (sym z))
+arrow_there (exactly (items.big_int v)) z = absurd (false≢true (sym z))
+arrow_there (exactly (items.regex v)) z = absurd (false≢true (sym z))
+arrow_there (exactly (items.template true last v)) z = absurd (false≢true (sym z))
+arrow_there (exactly (items.template false last v)) z = absurd (false≢true (sym z))
+arrow_there a_name z = absurd (false≢true (sym z))
+arrow_there the_end z = absurd (false≢true (sym z))
+
 known : (k : VarDeclKind) → is_known (keyword k) ≡ true
 unfolding is_reserved reserved_words
 known Var = refl
@@ -70,13 +100,6 @@ known Const = refl
 
 abbrev behind_for : Grammar
 behind_for = statements.while_ // statements.do_while // statements.switch // statements.try_ // statements.jump // statements.labeled // declaration // statements.expression_statement
-
--- a name that is declared
-abbrev pub for_name : VarDeclKind → List ℕ → Node
-for_name k w = bare (kind.VarDecl k false) (list_node (bare (kind.VarDeclarator false) (binding w ∷ absent ∷ []) ∷ []) ∷ [])
-
-abbrev pub named : VarDeclKind → List ℕ → Items → Items
-named k w us = it no_gap (items.key (keyword k)) (it blank (items.key w) us)
 
 -- the head of a loop with its body
 for_made : (t u n : Node) → made form.Headed 0 0 (bare kind.ForStmt (absent ∷ t ∷ u ∷ []) ∷ n ∷ []) ≡ bare kind.ForStmt (absent ∷ t ∷ u ∷ n ∷ [])
@@ -104,18 +127,10 @@ module _ (assigned : Bool) where
   update_read (shapes.left_out a) S us = rw (all_refused assigned (expression false) (exactly (sign (codes ")"))) (s (codes ")") us) at_token no_expression_there) refl
   update_read (shapes.given e) S us = rw (expression_read assigned S blank (s (codes ")") us) (exactly (sign (codes ")"))) at_token parenthesis_ends refl) refl
 
-  -- behind a name stands `in` or `of`
-  name_in_read : (k : VarDeclKind) (w : List ℕ) → is_reserved w ≡ false → (us : Items) → Reads assigned for_left (named k w (it blank (items.key (codes "in")) us)) (for_name k w ∷ []) (it blank (items.key (codes "in")) us)
-  unfolding for_left many_up_to
-  name_in_read Var w free us = rw (pattern_read assigned w free blank (it blank (items.key (codes "in")) us), declarator_made w absent) refl
-  name_in_read Let w free us = rw (pattern_read assigned w free blank (it blank (items.key (codes "in")) us), declarator_made w absent) refl
-  name_in_read Const w free us = rw (pattern_read assigned w free blank (it blank (items.key (codes "in")) us), declarator_made w absent) refl
-
-  name_of_read : (k : VarDeclKind) (w : List ℕ) → is_reserved w ≡ false → (us : Items) → Reads assigned for_left (named k w (it blank (items.key (codes "of")) us)) (for_name k w ∷ []) (it blank (items.key (codes "of")) us)
-  unfolding for_left many_up_to
-  name_of_read Var w free us = rw (pattern_read assigned w free blank (it blank (items.key (codes "of")) us), declarator_made w absent) refl
-  name_of_read Let w free us = rw (pattern_read assigned w free blank (it blank (items.key (codes "of")) us), declarator_made w absent) refl
-  name_of_read Const w free us = rw (pattern_read assigned w free blank (it blank (items.key (codes "of")) us), declarator_made w absent) refl
+  -- what each turn declares or assigns to, in front of `in` or `of`
+  pub record ReadAsForLeft (word : List ℕ) (f : Items → Items) (n : Node) : Type 0 where
+    pub no_semicolon : (us : Items) → Refuses assigned (punct (codes ";")) (f (it blank (items.key word) us))
+    pub reads : (us : Items) (e : Front) → Begins e us → refuses_at e (punct (codes "=>")) ≡ true → Reads assigned for_left (f (it blank (items.key word) us)) (n ∷ []) (it blank (items.key word) us)
 
   -- `for` without `await`
   for_form : {ending : Ending} {rest : Items → Items} {n : Node} → ((g : Gap) (us : Items) (e : Front) → Begins e us → closes_statement ending e ≡ true → Reads assigned for_ (it g (items.key (codes "for")) (it blank (sign (codes "(")) (rest us))) (n ∷ []) us)
@@ -154,6 +169,19 @@ module _ (assigned : Bool) where
         ∙ (ap (or_on (interp assigned p by_const) ts) (refused_at assigned p by_let L.front ts b (refuses_first L.front (word (codes "let")) (declarators true ▸ nothing) (no_word_there assigned S (codes "let") (known Let) no_let)))
         ∙ refused_at assigned p by_const L.front ts b (refuses_first L.front (word (codes "const")) (declarators true ▸ nothing) (no_word_there assigned S (codes "const") (known Const) no_const)))
 
+    no_arrow_sign : (let L = S.lead in refuses_at L.front (punct (codes "=>")) ≡ true)
+    no_arrow_sign = let L = S.lead in go L.front (L.begins no_gap the_end_alone) (refuses_at L.front (punct (codes "=>"))) refl
+      where
+        go : (e : Front) → Begins e (f no_gap the_end_alone) → (b : Bool) → refuses_at e (punct (codes "=>")) ≡ b → refuses_at e (punct (codes "=>")) ≡ true
+        go e c true r = r
+        go e c false r =
+            let ts = the_end_alone in
+            let same : e ≡ exactly (sign (codes "=>")) = arrow_there e r in
+            let none : Refuses assigned (expression false) (f no_gap ts) = all_refused assigned (expression false) (exactly (sign (codes "=>"))) (f no_gap ts) (subst (λ x. Begins x (f no_gap ts)) same c) no_arrow_expression in
+            let some : Reads assigned (expression false) (f no_gap ts) (bare k ns ∷ []) ts = expression_read assigned S no_gap ts (exactly (sign (codes ";"))) at_token semicolon_ends refl in
+            let both : fails ≡ read (bare k ns ∷ []) ts = sym none ∙ some in
+            absurd (let never : ⊥ = cc in never)
+
     -- and none begins with `;`
     no_semicolon : (g : Gap) (us : Items) → Refuses assigned (punct (codes ";")) (f g us)
     unfolding statement_body
@@ -170,6 +198,54 @@ module _ (assigned : Bool) where
   init_expression_read {f} S R us =
       ap (or_on (interp assigned (means assigned) (expression true)) (f no_gap (s (codes ";") us))) (no_variables S no_gap (s (codes ";") us))
       ∙ expression_read assigned R no_gap (s (codes ";") us) (exactly (sign (codes ";"))) at_token (closed true shapes.assignment (exactly (sign (codes ";"))) semicolon_ends) refl
+
+  pub binding_left : (word : List ℕ) (k : VarDeclKind) {p : Node} (is : IsPattern p) → ReadAsPattern assigned (pattern_tokens is) (bare_pattern is)
+      → ReadAsForLeft word (λ us. it no_gap (items.key (keyword k)) (pattern_tokens is blank us)) (bare (kind.VarDecl k false) (list_node (bare (kind.VarDeclarator false) (bare_pattern is ∷ absent ∷ []) ∷ []) ∷ []))
+  unfolding for_left many_up_to
+  binding_left word k is P = record {
+    no_semicolon = λ us. refl;
+    reads = λ us e b z. go k us;
+  }
+    where
+      go : (k : VarDeclKind) (us : Items) → Reads assigned for_left (it no_gap (items.key (keyword k)) (pattern_tokens is blank (it blank (items.key word) us))) (bare (kind.VarDecl k false) (list_node (bare (kind.VarDeclarator false) (bare_pattern is ∷ absent ∷ []) ∷ []) ∷ []) ∷ []) (it blank (items.key word) us)
+      go Var us = rw (P.reads blank (it blank (items.key word) us), pattern_declared is absent) refl
+      go Let us = rw (P.reads blank (it blank (items.key word) us), pattern_declared is absent) refl
+      go Const us = rw (P.reads blank (it blank (items.key word) us), pattern_declared is absent) refl
+
+  -- an expression that is assigned to
+  module _ {f : Laid} {k : Kind} {ns : List Node} (S : Stands assigned shapes.callee f k ns) (T : StandsIn assigned true shapes.callee f k ns) where
+    target_assign : (g : Gap) (us : Items) (e : Front) → Begins e us → refuses_at e (arrow_body true) ≡ true → passes_at e (assignments true) ≡ true → closes_conditional true e ≡ true → Refuses assigned (arrow_rest true false) us
+        → means assigned (part.Assign true false) (f g us) ≡ read (bare k ns ∷ []) us
+    target_assign g us e b a p c r =
+        let L = T.lead in
+        let y = T.tight in
+        let t : Tower L.front e (expressions.conditional true) (behind_arrow true) = later y.1 (chained (before here p)) in
+        means_is assigned (part.Assign true false) (f g us)
+        ∙ (ap (or_on (interp assigned (means assigned) (behind_arrow true)) (f g us)) (T.no_arrow true g us e b a r)
+        ∙ climb assigned (means assigned) t (f g us) us (bare k ns) (L.begins g us) b (conditional_read assigned (go_out assigned 15 shapes.callee T) g us e b c))
+
+    target_read : (g : Gap) (us : Items) (e : Front) → Begins e us → refuses_at e (arrow_body true) ≡ true → passes_at e (assignments true) ≡ true → closes_conditional true e ≡ true → refuses_at e (punct (codes ",")) ≡ true → Refuses assigned (arrow_rest true false) us
+        → Reads assigned (expression true) (f g us) (bare k ns ∷ []) us
+    unfolding expression many_up_to
+    target_read g us e b a p c m r = rw (target_assign g us e b a p c r, refused_at assigned (means assigned) (punct (codes ",") ▸ assign_in true) e us b (refuses_first e (punct (codes ",")) (assign_in true) m)) refl
+
+    target_left : (word : List ℕ) → passes_at (exactly (items.key word)) (assignments true) ≡ true → closes_conditional true (exactly (items.key word)) ≡ true
+        → ((us : Items) (e : Front) → Begins e us → refuses_at e (punct (codes "=>")) ≡ true → Refuses assigned (arrow_rest true false) (it blank (items.key word) us)) → ReadAsForLeft word (f no_gap) (bare k ns)
+    unfolding for_left
+    target_left word p c r = record {
+      no_semicolon = λ us. no_semicolon (standing assigned S) no_gap (it blank (items.key word) us);
+      reads = λ us e b z.
+          (let ts = it blank (items.key word) us in
+          ap (or_on (interp assigned (means assigned) (expression true)) (f no_gap ts)) (no_variables (standing assigned S) no_gap ts) ∙ target_read no_gap ts (exactly (items.key word)) at_token refl p c refl (r us e b z));
+    }
+
+    pub in_left : ReadAsForLeft (codes "in") (f no_gap) (bare k ns)
+    unfolding factors terms shifts relations equalities assignments links chains.template_start arrow_rest names.binding_ident is_reserved reserved_words
+    in_left = target_left (codes "in") refl refl (λ us e b z. refused_at assigned (means assigned) (arrow_rest true false) (exactly (items.key (codes "in"))) (it blank (items.key (codes "in")) us) at_token refl)
+
+    pub of_left : ReadAsForLeft (codes "of") (f no_gap) (bare k ns)
+    unfolding factors terms shifts relations equalities assignments links chains.template_start arrow_rest names.binding_ident is_reserved reserved_words
+    of_left = target_left (codes "of") refl refl (λ us e b z. name_no_rest assigned (codes "of") refl true blank us e b (refuses_first e (punct (codes "=>")) (names.block // grammar.unless (punct (codes "{")) ▸ assign_in true) z))
 
   module _ {ending : Ending} {body : Laid} {n : Node} (B : ReadAsStatement assigned ending body n) where
     abbrev for_rest_tokens : {t u : Node} → IsOptional t → IsOptional u → Items → Items
@@ -199,35 +275,40 @@ module _ (assigned : Bool) where
         (let vs = optional_tokens is (s (codes ";") (optional_tokens js (s (codes ")") (body blank us)))) in
         for_init_read _ _ is js S T g us e b z (no_semicolon I.0 no_gap (s (codes ";") vs)) (init_expression_read I.0 I.1 vs)))
 
-    module _ (k : VarDeclKind) (w : List ℕ) (free : is_reserved w ≡ false) {f : Laid} {ek : Kind} {es : List Node} where
-      for_in_read : Stands assigned shapes.sequence f ek es → (g : Gap) (us : Items) (e : Front) → Begins e us → closes_statement ending e ≡ true
-          → Reads assigned for_ (it g (items.key (codes "for")) (it blank (sign (codes "(")) (named k w (it blank (items.key (codes "in")) (f blank (s (codes ")") (body blank us))))))) (bare kind.ForInStmt (for_name k w ∷ bare ek es ∷ n ∷ []) ∷ []) us
+    module _ {left : Items → Items} {l : Node} {f : Laid} {ek : Kind} {es : List Node} where
+      for_in_read : ReadAsForLeft (codes "in") left l → Stands assigned shapes.sequence f ek es → (g : Gap) (us : Items) (e : Front) → Begins e us → closes_statement ending e ≡ true
+          → Reads assigned for_ (it g (items.key (codes "for")) (it blank (sign (codes "(")) (left (it blank (items.key (codes "in")) (f blank (s (codes ")") (body blank us))))))) (bare kind.ForInStmt (l ∷ bare ek es ∷ n ∷ []) ∷ []) us
       unfolding for_ for_head for_rest
-      for_in_read S g us e b z =
+      for_in_read L S g us e b z =
+          let R = S.lead in
           let rest = f blank (s (codes ")") (body blank us)) in
-          rw (name_in_read k w free rest, expression_read assigned S blank (s (codes ")") (body blank us)) (exactly (sign (codes ")"))) at_token parenthesis_ends refl, B.reads blank us e b z, for_in_made (for_name k w) (bare ek es) n) refl
+          rw (L.no_semicolon rest, L.reads rest R.front (R.begins blank (s (codes ")") (body blank us))) (no_arrow_sign S), expression_read assigned S blank (s (codes ")") (body blank us)) (exactly (sign (codes ")"))) at_token parenthesis_ends refl, B.reads blank us e b z, for_in_made (l) (bare ek es) n) refl
 
-      pub for_in_form : Stands assigned shapes.sequence f ek es
-          → ReadAsStatement assigned ending (λ g us. it g (items.key (codes "for")) (it blank (sign (codes "(")) (named k w (it blank (items.key (codes "in")) (f blank (s (codes ")") (body blank us))))))) (bare kind.ForInStmt (for_name k w ∷ bare ek es ∷ n ∷ []))
-      for_in_form S = for_form (for_in_read S)
+      pub for_in_form : ReadAsForLeft (codes "in") left l → Stands assigned shapes.sequence f ek es
+          → ReadAsStatement assigned ending (λ g us. it g (items.key (codes "for")) (it blank (sign (codes "(")) (left (it blank (items.key (codes "in")) (f blank (s (codes ")") (body blank us))))))) (bare kind.ForInStmt (l ∷ bare ek es ∷ n ∷ []))
+      for_in_form L S = for_form (for_in_read L S)
 
-      for_of_read : Stands assigned shapes.assignment f ek es → (g : Gap) (us : Items) (e : Front) → Begins e us → closes_statement ending e ≡ true
-          → Reads assigned for_ (it g (items.key (codes "for")) (it blank (sign (codes "(")) (named k w (it blank (items.key (codes "of")) (f blank (s (codes ")") (body blank us))))))) (bare (kind.ForOfStmt false) (for_name k w ∷ bare ek es ∷ n ∷ []) ∷ []) us
+      for_of_read : ReadAsForLeft (codes "of") left l → Stands assigned shapes.assignment f ek es → (g : Gap) (us : Items) (e : Front) → Begins e us → closes_statement ending e ≡ true
+          → Reads assigned for_ (it g (items.key (codes "for")) (it blank (sign (codes "(")) (left (it blank (items.key (codes "of")) (f blank (s (codes ")") (body blank us))))))) (bare (kind.ForOfStmt false) (l ∷ bare ek es ∷ n ∷ []) ∷ []) us
       unfolding for_ for_head for_rest
-      for_of_read S g us e b z =
+      for_of_read L S g us e b z =
+          let W = standing assigned S in
+          let R = W.lead in
           let rest = f blank (s (codes ")") (body blank us)) in
-          rw (name_of_read k w free rest, used assigned S blank (s (codes ")") (body blank us)) (exactly (sign (codes ")"))) at_token parenthesis_ends, B.reads blank us e b z, for_of_made (for_name k w) (bare ek es) n) refl
+          rw (L.no_semicolon rest, L.reads rest R.front (R.begins blank (s (codes ")") (body blank us))) (no_arrow_sign W), used assigned S blank (s (codes ")") (body blank us)) (exactly (sign (codes ")"))) at_token parenthesis_ends, B.reads blank us e b z, for_of_made (l) (bare ek es) n) refl
 
-      pub for_of_form : Stands assigned shapes.assignment f ek es
-          → ReadAsStatement assigned ending (λ g us. it g (items.key (codes "for")) (it blank (sign (codes "(")) (named k w (it blank (items.key (codes "of")) (f blank (s (codes ")") (body blank us))))))) (bare (kind.ForOfStmt false) (for_name k w ∷ bare ek es ∷ n ∷ []))
-      for_of_form S = for_form (for_of_read S)
+      pub for_of_form : ReadAsForLeft (codes "of") left l → Stands assigned shapes.assignment f ek es
+          → ReadAsStatement assigned ending (λ g us. it g (items.key (codes "for")) (it blank (sign (codes "(")) (left (it blank (items.key (codes "of")) (f blank (s (codes ")") (body blank us))))))) (bare (kind.ForOfStmt false) (l ∷ bare ek es ∷ n ∷ []))
+      for_of_form L S = for_form (for_of_read L S)
 
-      pub for_await_form : Stands assigned shapes.assignment f ek es
-          → ReadAsStatement assigned ending (λ g us. it g (items.key (codes "for")) (it blank (items.key (codes "await")) (it blank (sign (codes "(")) (named k w (it blank (items.key (codes "of")) (f blank (s (codes ")") (body blank us))))))))
-          (bare (kind.ForOfStmt true) (for_name k w ∷ bare ek es ∷ n ∷ []))
+      pub for_await_form : ReadAsForLeft (codes "of") left l → Stands assigned shapes.assignment f ek es
+          → ReadAsStatement assigned ending (λ g us. it g (items.key (codes "for")) (it blank (items.key (codes "await")) (it blank (sign (codes "(")) (left (it blank (items.key (codes "of")) (f blank (s (codes ")") (body blank us))))))))
+          (bare (kind.ForOfStmt true) (l ∷ bare ek es ∷ n ∷ []))
       unfolding statement_body for_await names.block statements.if_ module_item modules.import modules.import_equals modules.export modules.export_default is_reserved reserved_words
-      for_await_form S =
+      for_await_form L S =
           token_form assigned 3 for_await _ refl (items.key (codes "for")) refl refl refl
           (λ g us e b z.
-          (let rest = f blank (s (codes ")") (body blank us)) in
-          rw (name_of_read k w free rest, used assigned S blank (s (codes ")") (body blank us)) (exactly (sign (codes ")"))) at_token parenthesis_ends, B.reads blank us e b z) refl))
+          (let W = standing assigned S in
+          let R = W.lead in
+          let rest = f blank (s (codes ")") (body blank us)) in
+          rw (L.reads rest R.front (R.begins blank (s (codes ")") (body blank us))) (no_arrow_sign W), used assigned S blank (s (codes ")") (body blank us)) (exactly (sign (codes ")"))) at_token parenthesis_ends, B.reads blank us e b z) refl))

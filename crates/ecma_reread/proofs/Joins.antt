@@ -299,7 +299,7 @@ module _ (words : Words) where
         let rest = more_properties_tokens ps us in
         (no_gap_is, refl, property_parted (sign (codes ",")) p rest, property_joined p blank blank_is rest (properties_soft ps us) (more_properties_joined ps us z j))
 
-    pattern_joined : {n : Node} (is : IsPattern n) (g : Gap) → IsGap g → (us : Items) → Soft false us → Joined us → Joined (pattern_tokens is g us)
+    pub pattern_joined : {n : Node} (is : IsPattern n) (g : Gap) → IsGap g → (us : Items) → Soft false us → Joined us → Joined (pattern_tokens is g us)
     pattern_joined (shapes.name_pattern at i a) g h us z j = (h, ident_whole i, key_soft (ident_word i) z, j)
     pattern_joined (shapes.array_pattern at at' es a) g h us z j = (h, refl, slots_open es us, slots_joined es us (no_gap_is, refl, bracket_soft z, j))
     pattern_joined (shapes.object_pattern at at' ps a) g h us z j = (h, refl, properties_open ps us, properties_joined ps us (brace_soft z) j)

@@ -1,10 +1,10 @@
 -- Statements by their shape.
-use Rattle.std.proofs.Common.{ℕ, suc, Bool, true, false, List, ap}
+use Rattle.std.proofs.Common.{ℕ, suc, Bool, true, false, List, ap, codes}
 use Rattle.ecma_tree.specs.declared.node.Node.{Node}
 use Rattle.ecma_reread.specs.Machine.{taken}
 use Rattle.ecma_reread.specs.Shapes as shapes
-use Rattle.ecma_reread.specs.Shapes.{IsInitializer, IsDeclarator, AreDeclarators, Ending, IsStatement, IsBlock, IsCase, AreCases, IsCatch, AreStatements, IsOptional, IsForDeclarator, AreForDeclarators, IsForInit}
-use Rattle.ecma_reread.specs.Tokens.{line_at, ident_word, closing_gap, is_braced, branch_gap, statement_tokens, block_tokens, case_tokens, cases_tokens, catch_tokens, lined_tokens, bare_statement, bare_block, bare_case, bare_cases, bare_catch, bare_statements, as_declarator, as_declarators}
+use Rattle.ecma_reread.specs.Shapes.{IsInitializer, IsDeclarator, AreDeclarators, Ending, IsStatement, IsBlock, IsCase, AreCases, IsCatch, AreStatements, IsOptional, IsForDeclarator, AreForDeclarators, IsForInit, IsForLeft}
+use Rattle.ecma_reread.specs.Tokens.{line_at, ident_word, closing_gap, is_braced, branch_gap, statement_tokens, block_tokens, case_tokens, cases_tokens, catch_tokens, lined_tokens, bare_statement, bare_block, bare_case, bare_cases, bare_catch, bare_statements, as_declarator, as_declarators, for_left_tokens, bare_for_left}
 use Rattle.ecma_reread.proofs.Bindings.{standing}
 use Rattle.ecma_reread.proofs.Beginnings.{no_new_line, no_brace}
 use Rattle.ecma_reread.proofs.Calls.{ident_free, expression_form, pattern_form, initializer_form}
@@ -16,7 +16,7 @@ use Rattle.ecma_reread.proofs.Branches.{if_form, if_else_form}
 use Rattle.ecma_reread.proofs.Loops.{while_form, do_form}
 use Rattle.ecma_reread.proofs.Switches.{ReadAsCase, ReadAsCases, no_cases_form, more_cases_form, case_form, default_form, switch_form}
 use Rattle.ecma_reread.proofs.Tries.{ReadAsCatch, catch_any_form, catch_name_form, try_catch_form, try_finally_form, try_catch_finally_form}
-use Rattle.ecma_reread.proofs.ForLoops.{OptionalForm, for_loop_form, for_in_form, for_of_form, for_await_form, InitForm}
+use Rattle.ecma_reread.proofs.ForLoops.{OptionalForm, for_loop_form, for_in_form, for_of_form, for_await_form, InitForm, ReadAsForLeft, binding_left, in_left, of_left}
 use Rattle.ecma_reread.proofs.Labels.{labeled_form, break_label_form, continue_label_form}
 use Rattle.ecma_reread.proofs.HeadForms.{head_form}
 
@@ -45,6 +45,14 @@ module _ (assigned : Bool) where
   init_form (shapes.init_declaration at of_list k d ds) = (for_declarator_form d, for_declarator_forms ds)
   init_form (shapes.init_expression e z) = (standing assigned (expression_form assigned e), standing assigned (head_form assigned e z))
 
+  in_form : {n : Node} (is : IsForLeft n) → ReadAsForLeft assigned (codes "in") (for_left_tokens is) (bare_for_left is)
+  in_form (shapes.for_binding at at' at'' k p a) = binding_left assigned (codes "in") k p (pattern_form assigned p)
+  in_form (shapes.for_target e z) = in_left assigned (expression_form assigned e) (head_form assigned e z)
+
+  of_form : {n : Node} (is : IsForLeft n) → ReadAsForLeft assigned (codes "of") (for_left_tokens is) (bare_for_left is)
+  of_form (shapes.for_binding at at' at'' k p a) = binding_left assigned (codes "of") k p (pattern_form assigned p)
+  of_form (shapes.for_target e z) = of_left assigned (expression_form assigned e) (head_form assigned e z)
+
   mutual
     pub statement_form : {ending : Ending} {n : Node} (is : IsStatement ending n) (d : ℕ) → ReadAsStatement assigned ending (statement_tokens is d) (bare_statement is)
     statement_form (shapes.empty at) d = empty_form assigned
@@ -68,9 +76,9 @@ module _ (assigned : Bool) where
     statement_form (shapes.try_finally at b a f) d = try_finally_form assigned (block_form b d) (block_form f d)
     statement_form (shapes.try_catch_finally at b c f) d = try_catch_finally_form assigned (block_form b d) (catch_form c d) (block_form f d)
     statement_form (shapes.for_loop at i t u b) d = for_loop_form assigned (statement_form b d) i t u (init_form i) (optional_form t) (optional_form u)
-    statement_form (shapes.for_in at (shapes.for_binding p q r x k i a c) e b) d = for_in_form assigned (statement_form b d) k (ident_word i) (ident_free assigned i) (standing assigned (expression_form assigned e))
-    statement_form (shapes.for_of at true (shapes.for_binding p q r x k i a c) e b) d = for_await_form assigned (statement_form b d) k (ident_word i) (ident_free assigned i) (expression_form assigned e)
-    statement_form (shapes.for_of at false (shapes.for_binding p q r x k i a c) e b) d = for_of_form assigned (statement_form b d) k (ident_word i) (ident_free assigned i) (expression_form assigned e)
+    statement_form (shapes.for_in at l e b) d = for_in_form assigned (statement_form b d) (in_form l) (standing assigned (expression_form assigned e))
+    statement_form (shapes.for_of at true l e b) d = for_await_form assigned (statement_form b d) (of_form l) (expression_form assigned e)
+    statement_form (shapes.for_of at false l e b) d = for_of_form assigned (statement_form b d) (of_form l) (expression_form assigned e)
     statement_form (shapes.labeled at i b) d = labeled_form assigned (ident_word i) (ident_free assigned i) (standing assigned (expression_form assigned (shapes.name i))) (statement_form b d)
 
     block_form : {n : Node} (is : IsBlock n) (d : ℕ) → ReadAsBlock assigned (block_tokens is d) (bare_block is)

@@ -13,11 +13,11 @@ use Rattle.ecma_tokens.specs.Items.{Tok, sign, Gap, no_gap, Items, it}
 use Rattle.ecma_tokens.specs.Good.{IsGap, IsToken, is_gap_character}
 use Rattle.ecma_tokens.specs.Joins.{joins, joins_next, Joined}
 use Rattle.ecma_reread.specs.Shapes as shapes
-use Rattle.ecma_reread.specs.Shapes.{Level, IsExpression, Ending, IsStatement, IsBlock, IsCase, AreCases, IsCatch, AreStatements, IsOptional, IsForBinding, IsForInit}
-use Rattle.ecma_reread.specs.Tokens.{margin, line_at, blank, sign_of, expression_tokens, ident_word, declarators_tokens, closing_gap, is_braced, branch_gap, test_tokens, statement_tokens, block_tokens, case_tokens, cases_tokens, catch_tokens, lined_tokens, optional_tokens, for_binding_tokens, for_tokens, initializer_tokens, as_declarator, as_declarators, for_init_tokens, declarator_tokens}
-use Rattle.ecma_reread.proofs.Softs.{closing, semicolon, colon, Soft, is_object}
+use Rattle.ecma_reread.specs.Shapes.{Level, IsExpression, Ending, IsStatement, IsBlock, IsCase, AreCases, IsCatch, AreStatements, IsOptional, IsForLeft, IsForInit}
+use Rattle.ecma_reread.specs.Tokens.{margin, line_at, blank, sign_of, expression_tokens, ident_word, declarators_tokens, closing_gap, is_braced, branch_gap, test_tokens, statement_tokens, block_tokens, case_tokens, cases_tokens, catch_tokens, lined_tokens, optional_tokens, for_left_tokens, for_tokens, initializer_tokens, as_declarator, as_declarators, for_init_tokens, declarator_tokens}
+use Rattle.ecma_reread.proofs.Softs.{closing, semicolon, colon, Soft, is_object, parted}
 use Rattle.ecma_reread.proofs.Beginnings.{pattern_blank_joins, begun, blank_joins, opening_joins}
-use Rattle.ecma_reread.proofs.Joins.{ident_whole, no_gap_is, blank_is, Words, expression_joined, declarators_soft, declarator_joined, declarators_joined}
+use Rattle.ecma_reread.proofs.Joins.{ident_whole, no_gap_is, blank_is, Words, expression_joined, declarators_soft, declarator_joined, declarators_joined, pattern_joined}
 
 -- gaps that keep any two tokens apart
 abbrev pub Wide : Gap → Type 0
@@ -137,15 +137,16 @@ module _ (words : Words) where
       )
   for_init_joined (shapes.init_expression e z) us j = (blank_is, refl, opening_joins e (sign_of (codes ";") us), expression_joined words e no_gap no_gap_is (sign_of (codes ";") us) semicolon j)
 
-  for_binding_joined : {n : Node} (is : IsForBinding n) (t : Tok) (us : Items) → Joined (it blank t us) → Joined (for_binding_tokens is (it blank t us))
-  for_binding_joined (shapes.for_binding at of_list at_declarator at_binding k i a b) t us j = (no_gap_is, keyword_whole k, refl, (blank_is, ident_whole i, refl, j))
+  for_left_joined : {n : Node} (is : IsForLeft n) (t : Tok) (us : Items) → Joined (it blank t us) → Joined (it blank (sign (codes "(")) (for_left_tokens is (it blank t us)))
+  unfolding punctuators
+  for_left_joined (shapes.for_binding at of_list at_declarator k p a) t us j =
+      (blank_is, refl, refl, (no_gap_is, keyword_whole k, pattern_blank_joins (items.key (keyword k)) p (it blank t us), pattern_joined words p blank blank_is (it blank t us) parted j))
+  for_left_joined (shapes.for_target e z) t us j = (blank_is, refl, opening_joins e (it blank t us), expression_joined words e no_gap no_gap_is (it blank t us) parted j)
 
   -- the head of a loop over what is given
-  for_joined : (is_await : Bool) {n : Node} (is : IsForBinding n) (t : Tok) (us : Items) (g : Gap) → IsGap g → Joined (it blank t us) → Joined (for_tokens is_await g (for_binding_tokens is (it blank t us)))
-  unfolding punctuators
-  for_joined true (shapes.for_binding at of_list at_declarator at_binding k i a b) t us g h j =
-      (h, words.for_whole, refl, (blank_is, words.await_whole, refl, (blank_is, refl, refl, for_binding_joined (shapes.for_binding at of_list at_declarator at_binding k i a b) t us j)))
-  for_joined false (shapes.for_binding at of_list at_declarator at_binding k i a b) t us g h j = (h, words.for_whole, refl, (blank_is, refl, refl, for_binding_joined (shapes.for_binding at of_list at_declarator at_binding k i a b) t us j))
+  for_joined : (is_await : Bool) {n : Node} (is : IsForLeft n) (t : Tok) (us : Items) (g : Gap) → IsGap g → Joined (it blank t us) → Joined (for_tokens is_await g (for_left_tokens is (it blank t us)))
+  for_joined true l t us g h j = (h, words.for_whole, refl, (blank_is, words.await_whole, refl, for_left_joined l t us j))
+  for_joined false l t us g h j = (h, words.for_whole, refl, for_left_joined l t us j)
 
   -- several in braces, where each is on a line of its own
   braces_joined : (ss : List Node) (d : ℕ) (f : Items → Items) → ((vs : Items) → ss ≡ [] → f vs ≡ vs) → ((vs : Items) → Apart vs → joins_next (sign (codes "{")) (f vs) ≡ true) → ((vs : Items) → Apart vs → Joined vs → Joined (f vs))

@@ -22,8 +22,8 @@ use Rattle.ecma_print.specs.Layout.{in_place, lay_step, laid}
 use Rattle.ecma_tokens.specs.Items as items
 use Rattle.ecma_tokens.specs.Items.{sign, Gap, no_gap, Items, it, render}
 use Rattle.ecma_reread.specs.Shapes as shapes
-use Rattle.ecma_reread.specs.Shapes.{Level, IsExpression, IsDeclarator, AreDeclarators, Ending, IsStatement, IsBlock, IsCase, AreCases, IsCatch, AreStatements, IsOptional, IsForBinding, IsInitializer, IsForDeclarator, AreForDeclarators, IsForInit}
-use Rattle.ecma_reread.specs.Tokens.{margin, line_at, blank, sign_of, expression_tokens, declarator_tokens, declarators_tokens, closing_gap, is_braced, branch_gap, test_tokens, statement_tokens, block_tokens, case_tokens, cases_tokens, catch_tokens, lined_tokens, ident_word, optional_tokens, for_binding_tokens, for_tokens, initializer_tokens, as_declarator, as_declarators, for_init_tokens}
+use Rattle.ecma_reread.specs.Shapes.{Level, IsExpression, IsDeclarator, AreDeclarators, Ending, IsStatement, IsBlock, IsCase, AreCases, IsCatch, AreStatements, IsOptional, IsForLeft, IsInitializer, IsForDeclarator, AreForDeclarators, IsForInit}
+use Rattle.ecma_reread.specs.Tokens.{margin, line_at, blank, sign_of, expression_tokens, declarator_tokens, declarators_tokens, closing_gap, is_braced, branch_gap, test_tokens, statement_tokens, block_tokens, case_tokens, cases_tokens, catch_tokens, lined_tokens, ident_word, optional_tokens, for_left_tokens, for_tokens, initializer_tokens, as_declarator, as_declarators, for_init_tokens}
 use Rattle.ecma_reread.proofs.Layouts.{laid_node, at_node, gap_out, expression_laid, within_laid, declarator_laid, more_declarators_laid, pattern_laid, pattern_gap_out}
 use Rattle.ecma_reread.proofs.Spots.{calm_start, calm_0, calm_1}
 use Rattle.ecma_reread.proofs.HeadLayouts.{head_laid}
@@ -82,18 +82,18 @@ for_init_laid (shapes.init_declaration at of_list k {d = d'} {ds = ds'} d ds) m 
     ∙ ap (λ z. keyword k ++ z) (ap (λ z. codes " " ++ (laid d').at (At head_spot) m z) (more_for_laid ds m us) ∙ for_declarator_laid d m (declarators_tokens (as_declarators ds) (sign_of (codes ";") us))))
 for_init_laid (shapes.init_expression {level = l} {e = e'} e z) m us = head_laid e' z (beginning 0 Anywhere true) m (codes ";" ++ render us) ∙ expression_laid e (free 0) (calm_0 l) refl m (sign_of (codes ";") us)
 
-for_binding_laid : {n : Node} (is : IsForBinding n) (m : List ℕ) (us : Items) → (laid n).at head m (render us) ≡ render (for_binding_tokens is us)
+for_left_laid : {n : Node} (is : IsForLeft n) (m : List ℕ) (us : Items) → (laid n).at head m (render us) ≡ render (for_left_tokens is us)
 unfolding render
-for_binding_laid (shapes.for_binding at of_list at_declarator at_binding k {none = n'} {init = i'} (shapes.ident of w i) a (shapes.absent at')) m us =
-    let spot = right (beginning 0 Anywhere true) 1 NoNeighbor in
-    let name = node_of at_binding kind.BindingIdent (node_of of (kind.Ident w 0 false) [] ∷ n' ∷ []) in
-    let d = node_of at_declarator (kind.VarDeclarator false) (name ∷ i' ∷ []) in
+for_left_laid (shapes.for_binding at of_list at_declarator k {p = p'} {init = i'} p (shapes.absent at')) m us =
+    let d = node_of at_declarator (kind.VarDeclarator false) (p' ∷ i' ∷ []) in
     at_node at (kind.VarDecl k false) (node_of of_list kind.List (d ∷ []) ∷ []) head m (render us)
-    ∙ ap (λ z. keyword k ++ (codes " " ++ z))
-    (at_node of_list kind.List (d ∷ []) (Commas spot) m (render us)
-    ∙ (at_node at_declarator (kind.VarDeclarator false) (name ∷ i' ∷ []) (At spot) m (render us)
-    ∙ (at_node at_binding kind.BindingIdent (node_of of (kind.Ident w 0 false) [] ∷ n' ∷ []) (At (free 1)) m ((laid i').at (Within Equals (right spot 1 NoNeighbor)) m (render us))
-    ∙ rw (laid_node of (kind.Ident w 0 false) []) (ap (λ z. w ++ z) (at_node at' kind.Absent [] (Within Equals (right spot 1 NoNeighbor)) m (render us))))))
+    ∙ ap (λ z. keyword k ++ z)
+    (ap (λ z. codes " " ++ z)
+    (at_node of_list kind.List (d ∷ []) (Commas head_spot) m (render us)
+    ∙ (at_node at_declarator (kind.VarDeclarator false) (p' ∷ i' ∷ []) (At head_spot) m (render us)
+    ∙ (ap (λ z. (laid p').at (At (free 1)) m z) (at_node at' kind.Absent [] (Within Equals head_spot) m (render us)) ∙ pattern_laid p m us)))
+    ∙ sym (pattern_gap_out p blank us))
+for_left_laid (shapes.for_target {e = e'} e z) m us = head_laid e' z (beginning 0 Anywhere true) m (render us) ∙ expression_laid e (free 0) (calm_0 shapes.callee) refl m us
 
 for_laid : (is_await : Bool) (us : Items) → for_word is_await ++ render us ≡ render (for_tokens is_await no_gap us)
 unfolding render
@@ -316,18 +316,18 @@ mutual
       (sym (at_node at kind.ForInStmt (l' ∷ e' ∷ b' ∷ []) (At (free 0)) m (render us)
       ∙ ap (λ z. codes "for (" ++ z)
       (ap (λ z. (laid l').at head m (codes " in " ++ z)) (ap (λ z. (laid e').at (At (free 0)) m (codes ")" ++ z)) (body_laid (statement_seen b) m us bs (statement_laid b d blank us)) ∙ expression_laid e (free 0) (calm_0 l) refl m (sign_of (codes ")") bs))
-      ∙ (ap (λ z. (laid l').at head m (codes " in" ++ z)) (sym (gap_out e blank (sign_of (codes ")") bs))) ∙ for_binding_laid left m (it blank (items.key (codes "in")) es)))))
+      ∙ (ap (λ z. (laid l').at head m (codes " in" ++ z)) (sym (gap_out e blank (sign_of (codes ")") bs))) ∙ for_left_laid left m (it blank (items.key (codes "in")) es)))))
   statement_laid (shapes.for_of at w {left = l'} {iterable = e'} {body = b'} left e b) d g us =
       let m = margin d in
       let bs = statement_tokens b d blank us in
       let es = expression_tokens e blank (sign_of (codes ")") bs) in
-      let ls = for_binding_tokens left (it blank (items.key (codes "of")) es) in
+      let ls = for_left_tokens left (it blank (items.key (codes "of")) es) in
       for_gap w g ls
       ∙ ap (λ z. g.blanks ++ z)
       (sym (at_node at (kind.ForOfStmt w) (l' ∷ e' ∷ b' ∷ []) (At (free 0)) m (render us)
       ∙ (ap (λ z. for_word w ++ z)
       (ap (λ z. (laid l').at head m (codes " of " ++ z)) (ap (λ z. (laid e').at (At (free 1)) m (codes ")" ++ z)) (body_laid (statement_seen b) m us bs (statement_laid b d blank us)) ∙ expression_laid e (free 1) calm_1 refl m (sign_of (codes ")") bs))
-      ∙ (ap (λ z. (laid l').at head m (codes " of" ++ z)) (sym (gap_out e blank (sign_of (codes ")") bs))) ∙ for_binding_laid left m (it blank (items.key (codes "of")) es)))
+      ∙ (ap (λ z. (laid l').at head m (codes " of" ++ z)) (sym (gap_out e blank (sign_of (codes ")") bs))) ∙ for_left_laid left m (it blank (items.key (codes "of")) es)))
       ∙ for_laid w ls)))
   statement_laid (shapes.labeled at {body = b'} (shapes.ident of w i) b) d g us =
       let m = margin d in

@@ -61,7 +61,7 @@ the_word_there w k a_name z = absurd (false≢true (sym z ∙ rw k refl))
 the_word_there w k the_end z = absurd (false≢true (sym z))
 
 -- the end of a statement alone
-abbrev the_end_alone : Items
+abbrev pub the_end_alone : Items
 the_end_alone = s (codes ";") (ends no_gap)
 
 -- no expression begins with `else` or `finally`

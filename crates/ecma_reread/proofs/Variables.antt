@@ -69,7 +69,7 @@ pub declarator_made : (w : List ℕ) (init : Node) → made form.Declarator 0 0 
 declarator_made w init = simp nodes
 
 -- a pattern has no annotation
-pattern_declared : {n : Node} (p : IsPattern n) (init : Node) → made form.Declarator 0 0 (bare_pattern p ∷ absent ∷ absent ∷ init ∷ []) ≡ bare (kind.VarDeclarator false) (bare_pattern p ∷ init ∷ [])
+pub pattern_declared : {n : Node} (p : IsPattern n) (init : Node) → made form.Declarator 0 0 (bare_pattern p ∷ absent ∷ absent ∷ init ∷ []) ≡ bare (kind.VarDeclarator false) (bare_pattern p ∷ init ∷ [])
 pattern_declared (shapes.name_pattern at i a) init = declarator_made (ident_word i) init
 pattern_declared (shapes.array_pattern at at' es a) init = simp nodes
 pattern_declared (shapes.object_pattern at at' ps a) init = simp nodes

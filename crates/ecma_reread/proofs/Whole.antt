@@ -7,8 +7,8 @@ use Rattle.ecma_tree.specs.declared.node.Node.{Node}
 use Rattle.ecma_tree.specs.Nodes.{absent, list_node, node_of}
 use Rattle.ecma_tree.specs.Spans.{without_spans}
 use Rattle.ecma_reread.specs.Shapes as shapes
-use Rattle.ecma_reread.specs.Shapes.{Level, IsIdent, ident, IsKey, key, IsAbsent, IsExpression, IsElement, IsArguments, AreElements, AreExpressions, IsInitializer, IsDeclarator, AreDeclarators, Ending, IsStatement, IsBlock, AreStatements, AreSlots, IsCase, AreCases, IsCatch, IsChainKey, IsOptional, IsForBinding, IsPropertyName, IsProperty, AreProperties, Role, IsPattern, IsDefaulted, IsForInit, IsPart, AreParts}
-use Rattle.ecma_reread.specs.Tokens.{bare, bare_ident, key_word, bare_expression, bare_element, bare_arguments, bare_elements, bare_expressions, bare_initializer, bare_declarator, bare_declarators, bare_statement, bare_block, bare_statements, bare_slots, bare_case, bare_cases, bare_catch, chain_kind, bare_optional, bare_for_binding, bare_property_name, bare_property, bare_properties, bare_pattern, bare_defaulted, as_declarator, as_declarators, bare_for_init, bare_part, bare_parts, bare_substitutions}
+use Rattle.ecma_reread.specs.Shapes.{Level, IsIdent, ident, IsKey, key, IsAbsent, IsExpression, IsElement, IsArguments, AreElements, AreExpressions, IsInitializer, IsDeclarator, AreDeclarators, Ending, IsStatement, IsBlock, AreStatements, AreSlots, IsCase, AreCases, IsCatch, IsChainKey, IsOptional, IsForLeft, IsPropertyName, IsProperty, AreProperties, Role, IsPattern, IsDefaulted, IsForInit, IsPart, AreParts}
+use Rattle.ecma_reread.specs.Tokens.{bare, bare_ident, key_word, bare_expression, bare_element, bare_arguments, bare_elements, bare_expressions, bare_initializer, bare_declarator, bare_declarators, bare_statement, bare_block, bare_statements, bare_slots, bare_case, bare_cases, bare_catch, chain_kind, bare_optional, bare_for_left, bare_property_name, bare_property, bare_properties, bare_pattern, bare_defaulted, as_declarator, as_declarators, bare_for_init, bare_part, bare_parts, bare_substitutions}
 use Rattle.ecma_reread.proofs.Unplaced.{without_spans-node}
 
 pub absent_bare : {n : Node} → IsAbsent n → without_spans n ≡ absent
@@ -169,14 +169,14 @@ for_init_bare (shapes.init_declaration at of_list k d ds) =
     without_spans-node at (kind.VarDecl k false) _ ∙ ap (λ x. bare (kind.VarDecl k false) (x ∷ [])) (without_spans-node of_list kind.List _ ∙ ap₂ (λ x xs. list_node (x ∷ xs)) (declarator_bare (as_declarator d)) (declarators_bare (as_declarators ds)))
 for_init_bare (shapes.init_expression e z) = expression_bare e
 
-for_binding_bare : {n : Node} (is : IsForBinding n) → without_spans n ≡ bare_for_binding is
-for_binding_bare (shapes.for_binding at of_list at_declarator at_binding k i a b) =
+for_left_bare : {n : Node} (is : IsForLeft n) → without_spans n ≡ bare_for_left is
+for_left_bare (shapes.for_binding at of_list at_declarator k p a) =
     without_spans-node at (kind.VarDecl k false) _
     ∙ ap (λ x. bare (kind.VarDecl k false) (x ∷ []))
     (without_spans-node of_list kind.List _
     ∙ ap (λ x. list_node (x ∷ []))
-    (without_spans-node at_declarator (kind.VarDeclarator false) _
-    ∙ ap₂ (λ x y. bare (kind.VarDeclarator false) (x ∷ y ∷ [])) (without_spans-node at_binding kind.BindingIdent _ ∙ ap₂ (λ x y. bare kind.BindingIdent (x ∷ y ∷ [])) (ident_bare i) (absent_bare a)) (absent_bare b)))
+    (without_spans-node at_declarator (kind.VarDeclarator false) _ ∙ ap₂ (λ x y. bare (kind.VarDeclarator false) (x ∷ y ∷ [])) (pattern_bare p) (absent_bare a)))
+for_left_bare (shapes.for_target e z) = expression_bare e
 
 mutual
   pub statement_bare : {ending : Ending} {n : Node} (is : IsStatement ending n) → without_spans n ≡ bare_statement is
@@ -217,10 +217,10 @@ mutual
       ∙ ap₂ (λ x y. bare kind.ForStmt (bare_for_init i ∷ bare_optional t ∷ x ∷ y ∷ [])) (optional_bare u) (statement_bare b))
   statement_bare (shapes.for_in at {body = b'} l e b) =
       without_spans-node at kind.ForInStmt _
-      ∙ (ap₂ (λ x y. bare kind.ForInStmt (x ∷ y ∷ without_spans b' ∷ [])) (for_binding_bare l) (expression_bare e) ∙ ap (λ z. bare kind.ForInStmt (bare_for_binding l ∷ bare_expression e ∷ z ∷ [])) (statement_bare b))
+      ∙ (ap₂ (λ x y. bare kind.ForInStmt (x ∷ y ∷ without_spans b' ∷ [])) (for_left_bare l) (expression_bare e) ∙ ap (λ z. bare kind.ForInStmt (bare_for_left l ∷ bare_expression e ∷ z ∷ [])) (statement_bare b))
   statement_bare (shapes.for_of at w {body = b'} l e b) =
       without_spans-node at (kind.ForOfStmt w) _
-      ∙ (ap₂ (λ x y. bare (kind.ForOfStmt w) (x ∷ y ∷ without_spans b' ∷ [])) (for_binding_bare l) (expression_bare e) ∙ ap (λ z. bare (kind.ForOfStmt w) (bare_for_binding l ∷ bare_expression e ∷ z ∷ [])) (statement_bare b))
+      ∙ (ap₂ (λ x y. bare (kind.ForOfStmt w) (x ∷ y ∷ without_spans b' ∷ [])) (for_left_bare l) (expression_bare e) ∙ ap (λ z. bare (kind.ForOfStmt w) (bare_for_left l ∷ bare_expression e ∷ z ∷ [])) (statement_bare b))
   statement_bare (shapes.labeled at i b) = without_spans-node at kind.LabeledStmt _ ∙ ap₂ (λ x y. bare kind.LabeledStmt (x ∷ y ∷ [])) (ident_bare i) (statement_bare b)
 
   block_bare : {n : Node} (is : IsBlock n) → without_spans n ≡ bare_block is

@@ -294,10 +294,11 @@ pub data IsOptional : Node → Type 0 where
   left_out : {none : Node} → IsAbsent none → IsOptional none
   given : {level : Level} {e : Node} → IsExpression level e → IsOptional e
 
--- a name that is declared in the head of a loop, for each of its turns
-pub data IsForBinding : Node → Type 0 where
-  for_binding : (at of_list at_declarator at_binding : Span) (k : VarDeclKind) {id none init : Node} → IsIdent id → IsAbsent none → IsAbsent init
-      → IsForBinding (node_of at (kind.VarDecl k false) (node_of of_list kind.List (node_of at_declarator (kind.VarDeclarator false) (node_of at_binding kind.BindingIdent (id ∷ none ∷ []) ∷ init ∷ []) ∷ []) ∷ []))
+-- what each turn of a loop declares, or assigns to
+pub data IsForLeft : Node → Type 0 where
+  for_binding : (at of_list at_declarator : Span) (k : VarDeclKind) {p init : Node} → IsPattern p → IsAbsent init
+      → IsForLeft (node_of at (kind.VarDecl k false) (node_of of_list kind.List (node_of at_declarator (kind.VarDeclarator false) (p ∷ init ∷ []) ∷ []) ∷ []))
+  for_target : {e : Node} → IsExpression callee e → may_hold_in e ≡ false → IsForLeft e
 
 -- a declarator in the first part of the head of a loop, where `in` is no operator
 pub data IsForDeclarator : Node → Type 0 where
@@ -342,8 +343,8 @@ mutual
     try_finally : (at : Span) {b none f : Node} → IsBlock b → IsAbsent none → IsBlock f → IsStatement closed (node_of at kind.TryStmt (b ∷ none ∷ f ∷ []))
     try_catch_finally : (at : Span) {b c f : Node} → IsBlock b → IsCatch c → IsBlock f → IsStatement closed (node_of at kind.TryStmt (b ∷ c ∷ f ∷ []))
     for_loop : (at : Span) {ending : Ending} {init test update body : Node} → IsForInit init → IsOptional test → IsOptional update → IsStatement ending body → IsStatement ending (node_of at kind.ForStmt (init ∷ test ∷ update ∷ body ∷ []))
-    for_in : (at : Span) {level : Level} {ending : Ending} {left object body : Node} → IsForBinding left → IsExpression level object → IsStatement ending body → IsStatement ending (node_of at kind.ForInStmt (left ∷ object ∷ body ∷ []))
-    for_of : (at : Span) (is_await : Bool) {ending : Ending} {left iterable body : Node} → IsForBinding left → IsExpression assignment iterable → IsStatement ending body
+    for_in : (at : Span) {level : Level} {ending : Ending} {left object body : Node} → IsForLeft left → IsExpression level object → IsStatement ending body → IsStatement ending (node_of at kind.ForInStmt (left ∷ object ∷ body ∷ []))
+    for_of : (at : Span) (is_await : Bool) {ending : Ending} {left iterable body : Node} → IsForLeft left → IsExpression assignment iterable → IsStatement ending body
         → IsStatement ending (node_of at (kind.ForOfStmt is_await) (left ∷ iterable ∷ body ∷ []))
     labeled : (at : Span) {ending : Ending} {label body : Node} → IsIdent label → IsStatement ending body → IsStatement ending (node_of at kind.LabeledStmt (label ∷ body ∷ []))
 

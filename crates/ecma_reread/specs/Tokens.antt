@@ -24,7 +24,7 @@ use Rattle.ecma_print.specs.Operators.{unary_sign, update_sign}
 use Rattle.ecma_print.specs.Statements.{keyword}
 use Rattle.ecma_tokens.specs.Items as items
 use Rattle.ecma_tokens.specs.Items.{Tok, sign, Gap, no_gap, Items, it}
-use Rattle.ecma_reread.specs.Shapes.{IsIdent, ident, IsKey, key, Level, IsExpression, looser, element, prefix_update, postfix_update, await_expression, unary_expression, binary_expression, exponentiation, both, either, coalesced, assignment_expression, conditional_expression, sequence_expression, name, string, number, this_word, big_int, null_word, true_word, false_word, member, call, parenthesized, IsElement, one, spread, IsArguments, no_arguments, arguments, AreElements, no_elements, more_elements, AreExpressions, no_expressions, more_expressions, IsInitializer, no_initializer, initializer, IsDeclarator, declarator, AreDeclarators, no_declarators, more_declarators, IsStatement, expression, declaration, empty, debugger_word, throw, return_value, return_nothing, break_nothing, continue_nothing, Ending, break_label, continue_label, block, if_only, if_else, while_loop, do_loop, labeled, IsBlock, block_of, AreStatements, no_statements, more_statements, array, AreSlots, no_slots, filled, hole, switch_statement, IsCase, case_of, default_of, AreCases, no_cases, more_cases, new_expression, new_alone, new_target, try_catch, try_finally, try_catch_finally, IsCatch, catch_any, catch_name, IsChainKey, plain_key, private_key, super_member, super_element, super_call, IsOptional, left_out, given, IsForBinding, for_binding, for_loop, for_in, for_of, object_literal, IsPropertyName, key_name, string_name, number_name, big_int_name, computed_name, IsProperty, key_value, shorthand, initialized, spread_property, AreProperties, no_properties, more_properties, private_in, yield_nothing, yield_value, import_meta, import_call, regex, regex_text, Role, bound, rest, renamed, named, rest_property, IsPattern, name_pattern, array_pattern, object_pattern, IsDefaulted, no_default, with_default, IsForDeclarator, for_declarator, AreForDeclarators, no_for_declarators, more_for_declarators, IsForInit, no_init, init_declaration, init_expression, part_text, IsPart, part, AreParts, last_part, more_parts, template, tagged_template}
+use Rattle.ecma_reread.specs.Shapes.{IsIdent, ident, IsKey, key, Level, IsExpression, looser, element, prefix_update, postfix_update, await_expression, unary_expression, binary_expression, exponentiation, both, either, coalesced, assignment_expression, conditional_expression, sequence_expression, name, string, number, this_word, big_int, null_word, true_word, false_word, member, call, parenthesized, IsElement, one, spread, IsArguments, no_arguments, arguments, AreElements, no_elements, more_elements, AreExpressions, no_expressions, more_expressions, IsInitializer, no_initializer, initializer, IsDeclarator, declarator, AreDeclarators, no_declarators, more_declarators, IsStatement, expression, declaration, empty, debugger_word, throw, return_value, return_nothing, break_nothing, continue_nothing, Ending, break_label, continue_label, block, if_only, if_else, while_loop, do_loop, labeled, IsBlock, block_of, AreStatements, no_statements, more_statements, array, AreSlots, no_slots, filled, hole, switch_statement, IsCase, case_of, default_of, AreCases, no_cases, more_cases, new_expression, new_alone, new_target, try_catch, try_finally, try_catch_finally, IsCatch, catch_any, catch_name, IsChainKey, plain_key, private_key, super_member, super_element, super_call, IsOptional, left_out, given, IsForLeft, for_binding, for_target, for_loop, for_in, for_of, object_literal, IsPropertyName, key_name, string_name, number_name, big_int_name, computed_name, IsProperty, key_value, shorthand, initialized, spread_property, AreProperties, no_properties, more_properties, private_in, yield_nothing, yield_value, import_meta, import_call, regex, regex_text, Role, bound, rest, renamed, named, rest_property, IsPattern, name_pattern, array_pattern, object_pattern, IsDefaulted, no_default, with_default, IsForDeclarator, for_declarator, AreForDeclarators, no_for_declarators, more_for_declarators, IsForInit, no_init, init_declaration, init_expression, part_text, IsPart, part, AreParts, last_part, more_parts, template, tagged_template}
 
 abbrev pub blank : Gap
 blank = record { blanks = codes " "; new_line = false }
@@ -280,8 +280,9 @@ abbrev pub optional_tokens : {n : Node} → IsOptional n → Items → Items
 optional_tokens (left_out a) us = us
 optional_tokens (given e) us = expression_tokens e blank us
 
-abbrev pub for_binding_tokens : {n : Node} → IsForBinding n → Items → Items
-for_binding_tokens (for_binding at of_list at_declarator at_binding k i a b) us = it no_gap (items.key (keyword k)) (it blank (items.key (ident_word i)) us)
+abbrev pub for_left_tokens : {n : Node} → IsForLeft n → Items → Items
+for_left_tokens (for_binding at of_list at_declarator k p a) us = it no_gap (items.key (keyword k)) (pattern_tokens p blank us)
+for_left_tokens (for_target e z) us = expression_tokens e no_gap us
 
 abbrev pub as_declarator : {d : Node} → IsForDeclarator d → IsDeclarator d
 as_declarator (for_declarator at p e z) = declarator at p e
@@ -342,8 +343,8 @@ abbrev mutual
   statement_tokens (try_finally at b a f) d g us = it g (items.key (codes "try")) (block_tokens b d blank (it blank (items.key (codes "finally")) (block_tokens f d blank us)))
   statement_tokens (try_catch_finally at b c f) d g us = it g (items.key (codes "try")) (block_tokens b d blank (catch_tokens c d (it blank (items.key (codes "finally")) (block_tokens f d blank us))))
   statement_tokens (for_loop at i t u b) d g us = for_tokens false g (for_init_tokens i (sign_of (codes ";") (optional_tokens t (sign_of (codes ";") (optional_tokens u (sign_of (codes ")") (statement_tokens b d blank us)))))))
-  statement_tokens (for_in at l e b) d g us = for_tokens false g (for_binding_tokens l (it blank (items.key (codes "in")) (expression_tokens e blank (sign_of (codes ")") (statement_tokens b d blank us)))))
-  statement_tokens (for_of at w l e b) d g us = for_tokens w g (for_binding_tokens l (it blank (items.key (codes "of")) (expression_tokens e blank (sign_of (codes ")") (statement_tokens b d blank us)))))
+  statement_tokens (for_in at l e b) d g us = for_tokens false g (for_left_tokens l (it blank (items.key (codes "in")) (expression_tokens e blank (sign_of (codes ")") (statement_tokens b d blank us)))))
+  statement_tokens (for_of at w l e b) d g us = for_tokens w g (for_left_tokens l (it blank (items.key (codes "of")) (expression_tokens e blank (sign_of (codes ")") (statement_tokens b d blank us)))))
   statement_tokens (labeled at i b) d g us = it g (items.key (ident_word i)) (sign_of (codes ":") (statement_tokens b d blank us))
 
   pub block_tokens : {b : Node} → IsBlock b → ℕ → Gap → Items → Items
@@ -537,9 +538,9 @@ bare_for_init (no_init a) = absent
 bare_for_init (init_declaration at of_list k d ds) = bare (kind.VarDecl k false) (list_node (bare_declarator (as_declarator d) ∷ bare_declarators (as_declarators ds)) ∷ [])
 bare_for_init (init_expression e z) = bare_expression e
 
-abbrev pub bare_for_binding : {n : Node} → IsForBinding n → Node
-bare_for_binding (for_binding at of_list at_declarator at_binding k i a b) =
-    bare (kind.VarDecl k false) (list_node (bare (kind.VarDeclarator false) (bare kind.BindingIdent (bare_ident i ∷ absent ∷ []) ∷ absent ∷ []) ∷ []) ∷ [])
+abbrev pub bare_for_left : {n : Node} → IsForLeft n → Node
+bare_for_left (for_binding at of_list at_declarator k p a) = bare (kind.VarDecl k false) (list_node (bare (kind.VarDeclarator false) (bare_pattern p ∷ absent ∷ []) ∷ []) ∷ [])
+bare_for_left (for_target e z) = bare_expression e
 
 abbrev mutual
   pub bare_statement : {ending : Ending} {s : Node} → IsStatement ending s → Node
@@ -564,8 +565,8 @@ abbrev mutual
   bare_statement (try_finally at b a f) = bare kind.TryStmt (bare_block b ∷ absent ∷ bare_block f ∷ [])
   bare_statement (try_catch_finally at b c f) = bare kind.TryStmt (bare_block b ∷ bare_catch c ∷ bare_block f ∷ [])
   bare_statement (for_loop at i t u b) = bare kind.ForStmt (bare_for_init i ∷ bare_optional t ∷ bare_optional u ∷ bare_statement b ∷ [])
-  bare_statement (for_in at l e b) = bare kind.ForInStmt (bare_for_binding l ∷ bare_expression e ∷ bare_statement b ∷ [])
-  bare_statement (for_of at w l e b) = bare (kind.ForOfStmt w) (bare_for_binding l ∷ bare_expression e ∷ bare_statement b ∷ [])
+  bare_statement (for_in at l e b) = bare kind.ForInStmt (bare_for_left l ∷ bare_expression e ∷ bare_statement b ∷ [])
+  bare_statement (for_of at w l e b) = bare (kind.ForOfStmt w) (bare_for_left l ∷ bare_expression e ∷ bare_statement b ∷ [])
   bare_statement (labeled at i b) = bare kind.LabeledStmt (bare_ident i ∷ bare_statement b ∷ [])
 
   pub bare_block : {b : Node} → IsBlock b → Node
