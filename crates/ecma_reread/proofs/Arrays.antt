@@ -37,7 +37,7 @@ use Rattle.ecma_reread.specs.Tokens.{blank, element_tokens, slots_tokens, more_s
 use Rattle.ecma_reread.proofs.Moves.{eats}
 use Rattle.ecma_reread.proofs.Levels.{means_is}
 use Rattle.ecma_reread.proofs.Fronts.{Front, exactly, Begins, at_token, refuses_at, refused_at, refuses_all, all_refused}
-use Rattle.ecma_reread.proofs.Heads.{bare, kind-node}
+use Rattle.ecma_reread.proofs.Heads.{nodes, bare, kind-node}
 use Rattle.ecma_reread.proofs.Forms.{s, Reads, Refuses, ends_no_item, AsItem, item_refused, whole_item, item_before, NewForm}
 use Rattle.ecma_reread.proofs.Towers.{here, later, sooner}
 use Rattle.ecma_reread.proofs.Repeats.{Repeats, repeats_end, repeats_more, repeated}
@@ -313,5 +313,6 @@ module _ (assigned : Bool) where
         pattern_is g (slots_tokens is us) us
         ∙ (ap (λ o. or_on (I object_pattern) ts (built_on (form.Node plain.ArrayPat) (with_front [] (followed_on (I (punct (codes "]") ▸ put Absent)) (built_on form.Elements o))))) (all_read is F us)
         ∙ ap (λ z. read (bare (kind.ArrayPat false) (list_node z ∷ absent ∷ []) ∷ []) us) (slots_are is)));
+    annotated = simp nodes;
     no_dots = λ g us. refl;
   }

@@ -16,8 +16,9 @@ use Rattle.ecma_print.specs.declared.place.Beside.{Beside}
 use Rattle.ecma_print.specs.declared.place.Beside.TheVariants.{NoNeighbor}
 use Rattle.ecma_print.specs.Operators.{unary_sign, update_sign}
 use Rattle.ecma_reread.specs.Shapes as shapes
-use Rattle.ecma_reread.specs.Shapes.{Level, looser_than, IsOperator, IsIdent, ident, IsKey, key, IsExpression, IsElement, IsArguments, AreElements, AreExpressions, IsInitializer, IsDeclarator, AreDeclarators, AreSlots, IsMemberLevel, IsIndexed, IsChainKey, begins_with_brace, AreProperties, IsPropertyName, IsProperty, regex_text, IsDefaulted, IsPattern, Role, part_text}
+use Rattle.ecma_reread.specs.Shapes.{Level, looser_than, IsOperator, IsIdent, ident, IsKey, key, IsExpression, IsElement, IsArguments, AreElements, AreExpressions, IsInitializer, IsDeclarator, AreDeclarators, AreSlots, IsMemberLevel, IsIndexed, IsChainKey, AreProperties, IsPropertyName, IsProperty, regex_text, IsDefaulted, IsPattern, Role, part_text}
 use Rattle.ecma_reread.specs.Tokens.{blank, sign_of, assign_token, update_token, unary_token, binary_token, own_sign, unary_gap, ident_word, key_word, expression_tokens, element_tokens, arguments_tokens, more_tokens, slots_tokens, more_slots_tokens, chain_token, properties_tokens, more_properties_tokens, property_tokens, star_of, initializer_tokens, defaulted_tokens, pattern_tokens, part_token, parts_tokens, ends_here, first_raw}
+use Rattle.ecma_reread.proofs.Braces.{begins_with_brace}
 use Rattle.ecma_reread.proofs.Softs.{Soft, comma, closing_bracket, parted}
 
 -- what an expression begins with, and the sign that this is as a unary operator
@@ -81,6 +82,8 @@ begun (shapes.yield_nothing at none) us = record { first = items.key (codes "yie
 begun (shapes.yield_value at d e) us = record { first = items.key (codes "yield"); by = NoNeighbor; rest = star_of d (expression_tokens e blank us); opens = by_key (codes "yield"); is = λ g. refl }
 begun (shapes.assignment_expression at o t v) us = begun t (it blank (assign_token o) (expression_tokens v blank us))
 begun (shapes.conditional_expression at t x y) us = begun t (it blank (sign (codes "?")) (expression_tokens x blank (it blank (sign (codes ":")) (expression_tokens y blank us))))
+begun (shapes.arrow_function at ps e z a b) us =
+    record { first = sign (codes "("); by = NoNeighbor; rest = arguments_tokens ps (sign_of (codes ")") (it blank (sign (codes "=>")) (expression_tokens e blank us))); opens = by_parenthesis; is = λ g. refl }
 begun (shapes.array at at' es) us = record { first = sign (codes "["); by = NoNeighbor; rest = slots_tokens es us; opens = by_bracket; is = λ g. refl }
 begun (shapes.object_literal at at' ps) us = record { first = sign (codes "{"); by = NoNeighbor; rest = properties_tokens ps us; opens = by_brace; is = λ g. refl }
 begun (shapes.sequence_expression at x y es) us = begun x (sign_of (codes ",") (expression_tokens y blank (more_tokens es us)))
@@ -116,10 +119,18 @@ dots_join is us = let b = begun is us in rw (b.is no_gap) (dots_by b.opens b.res
 pub opening_joins : {level : Level} {e : Node} (is : IsExpression level e) (us : Items) → joins_next (sign (codes "(")) (expression_tokens is no_gap us) ≡ true
 opening_joins is us = let b = begun is us in rw (b.is no_gap) (opening_by b.opens b.rest)
 
-pub element_opening_joins : {n : Node} (is : IsElement shapes.values n) (us : Items) → joins_next (sign (codes "(")) (element_tokens is no_gap us) ≡ true
+pattern_opening_joins : {n : Node} (is : IsPattern n) (us : Items) → joins_next (sign (codes "(")) (pattern_tokens is no_gap us) ≡ true
+unfolding punctuators
+pattern_opening_joins (shapes.name_pattern at i a) us = refl
+pattern_opening_joins is us = refl
+
+pub element_opening_joins : {role : Role} {n : Node} (is : IsElement role n) (us : Items) → joins_next (sign (codes "(")) (element_tokens is no_gap us) ≡ true
 unfolding punctuators
 element_opening_joins (shapes.one e) us = opening_joins e us
 element_opening_joins (shapes.spread at e) us = refl
+element_opening_joins (shapes.bound (shapes.no_default p)) us = pattern_opening_joins p us
+element_opening_joins (shapes.bound (shapes.with_default at p e)) us = pattern_opening_joins p (it blank (sign (codes "=")) (expression_tokens e blank us))
+element_opening_joins (shapes.rest at p a) us = refl
 
 pub update_by : (o : UpdateOp) {t : Tok} {b : Beside} → Opens t b → (us : Items) → joins_next (update_token o) (it no_gap t us) ≡ true
 unfolding punctuators

@@ -55,10 +55,12 @@ use Rattle.ecma_reread.proofs.Objects.{PropertyForm, PropertyForms, object_new, 
 use Rattle.ecma_reread.proofs.Spreads.{ElementForm, element_read, element_param, ReadAsPattern, ReadAsDefaulted, InitializerForm}
 use Rattle.ecma_reread.proofs.PrivateTests.{private_form}
 use Rattle.ecma_reread.proofs.Yields.{yield_alone, yield_form}
-use Rattle.ecma_reread.proofs.Beginnings.{no_new_line, no_star}
+use Rattle.ecma_reread.proofs.Beginnings.{no_new_line, no_star, no_brace}
 use Rattle.ecma_reread.proofs.ImportCalls.{meta_form, import_call_form}
 use Rattle.ecma_reread.proofs.Templates.{PartForms, template_form, tagged_form, new_tagged_form}
 use Rattle.ecma_reread.proofs.Patterns.{pattern_unplaced, name_pattern_read, no_default_read, default_read}
+use Rattle.ecma_reread.proofs.Arrows.{ElementForms, ArgumentForms, more_followed, arrow_form}
+use Rattle.ecma_reread.proofs.Braces.{braces_agree}
 
 -- no argument begins with `)`
 no_argument : refuses_all (exactly (sign (codes ")"))) element ≡ true
@@ -71,57 +73,44 @@ unfolding param rest_pattern default_value pattern_body array_pattern object_pat
 no_param_there = refl
 
 module _ (assigned : Bool) where
-  -- what is said of each argument
-  abbrev ElementForms : {es : List Node} → AreElements es → Type 0
-  ElementForms shapes.no_elements = Unit {0}
-  ElementForms (shapes.more_elements e es) = ElementForm assigned e × ElementForms es
-
-  abbrev ArgumentForms : {n : Node} → IsArguments n → Type 0
-  ArgumentForms (shapes.no_arguments at) = Unit {0}
-  ArgumentForms (shapes.arguments at e es) = ElementForm assigned e × ElementForms es
-
-  more_followed : {es : List Node} (is : AreElements es) (us : Items) → Followed (elements_tokens is (s (codes ")") us))
-  more_followed shapes.no_elements us = record { front = exactly (sign (codes ")")); begins = at_token; ends = parenthesis_ends }
-  more_followed (shapes.more_elements e es) us = record { front = exactly (sign (codes ",")); begins = at_token; ends = comma_ends }
-
-  more_read : {es : List Node} (is : AreElements es) → ElementForms is → (us : Items) → Repeats assigned (punct (codes ",") ▸ element) (elements_tokens is (s (codes ")") us)) (bare_elements is) (s (codes ")") us)
+  more_read : {es : List Node} (is : AreElements shapes.values es) → ElementForms assigned is → (us : Items) → Repeats assigned (punct (codes ",") ▸ element) (elements_tokens is (s (codes ")") us)) (bare_elements is) (s (codes ")") us)
   unfolding element spread
   more_read shapes.no_elements F us = repeats_end assigned (punct (codes ",") ▸ element) (s (codes ")") us) refl
   more_read (shapes.more_elements e es) F us =
       repeats_more assigned (punct (codes ",") ▸ element) refl _ (elements_tokens es (s (codes ")") us)) (s (codes ")") us) (bare_element e ∷ []) (bare_elements es)
       (ap (with_front []) (element_read assigned e F.0 blank (elements_tokens es (s (codes ")") us)) (more_followed es us))) (more_read es F.1 us)
 
-  arguments_read : {n : Node} (is : IsArguments n) → ArgumentForms is → (us : Items) → Reads assigned arguments (s (codes "(") (arguments_tokens is (s (codes ")") us))) (list_node (bare_arguments is) ∷ []) us
+  arguments_read : {n : Node} (is : IsArguments shapes.values n) → ArgumentForms assigned is → (us : Items) → Reads assigned arguments (s (codes "(") (arguments_tokens is (s (codes ")") us))) (list_node (bare_arguments is) ∷ []) us
   unfolding arguments
   arguments_read (shapes.no_arguments at) F us = rw (all_refused assigned element (exactly (sign (codes ")"))) (s (codes ")") us) at_token no_argument) refl
   arguments_read (shapes.arguments at e es) F us =
       rw (element_read assigned e F.0 no_gap (elements_tokens es (s (codes ")") us)) (more_followed es us), repeated assigned (punct (codes ",") ▸ element) (elements_tokens es (s (codes ")") us)) (s (codes ")") us) (bare_elements es) (more_read es F.1 us), append-nil (bare_elements es)) refl
 
-  call_read : {n : Node} (is : IsArguments n) → ArgumentForms is → (us : Items) (ys : List Node) (vs : Items) → Reads assigned links us ys vs
+  call_read : {n : Node} (is : IsArguments shapes.values n) → ArgumentForms assigned is → (us : Items) (ys : List Node) (vs : Items) → Reads assigned links us ys vs
       → Reads assigned links (s (codes "(") (arguments_tokens is (s (codes ")") us))) (bare kind.CallExpr (absent ∷ list_node (bare_arguments is) ∷ absent ∷ []) ∷ ys) vs
   unfolding links chains.template_start chains.call_body
   call_read is F us ys vs h = rw (means_is assigned (part.Link link.Call) (s (codes "(") (arguments_tokens is (s (codes ")") us))), arguments_read is F us, h) refl
 
   -- the arguments are no parameters of an arrow function where no body of one follows
 
-  more_params : {es : List Node} (is : AreElements es) → ElementForms is → (no_in : Bool) (us : Items) → Refuses assigned (behind_params no_in) (s (codes ")") us) → Params assigned no_in (elements_tokens is (s (codes ")") us))
+  more_params : {es : List Node} (is : AreElements shapes.values es) → ElementForms assigned is → (no_in : Bool) (us : Items) → Refuses assigned (behind_params no_in) (s (codes ")") us) → Params assigned no_in (elements_tokens is (s (codes ")") us))
   more_params shapes.no_elements F n us h = params_end assigned n (s (codes ")") us) (exactly (sign (codes ")"))) at_token refl h
   more_params (shapes.more_elements e es) F n us h =
       let vs = elements_tokens es (s (codes ")") us) in
       params_more assigned n (element_tokens e blank vs) vs (element_param assigned e F.0 blank vs (more_followed es us)) (more_params es F.1 n us h)
 
-  no_params : {n : Node} (is : IsArguments n) → ArgumentForms is → (no_in : Bool) (us : Items) → Refuses assigned (behind_params no_in) (s (codes ")") us) → Refuses assigned (params ▸ behind_params no_in) (arguments_tokens is (s (codes ")") us))
+  no_params : {n : Node} (is : IsArguments shapes.values n) → ArgumentForms assigned is → (no_in : Bool) (us : Items) → Refuses assigned (behind_params no_in) (s (codes ")") us) → Refuses assigned (params ▸ behind_params no_in) (arguments_tokens is (s (codes ")") us))
   unfolding params
   no_params (shapes.no_arguments at) F n us h = rw (all_refused assigned param (exactly (sign (codes ")"))) (s (codes ")") us) at_token no_param_there, h) refl
   no_params (shapes.arguments at e es) F n us h =
       let vs = elements_tokens es (s (codes ")") us) in
       params_by assigned n (element_tokens e no_gap vs) vs (element_param assigned e F.0 no_gap vs (more_followed es us)) (more_params es F.1 n us h)
 
-  call_no_rest : {n : Node} (is : IsArguments n) → ArgumentForms is → (no_in : Bool) (us : Items) (e : Front) → Begins e us → refuses_at e (arrow_body no_in) ≡ true
+  call_no_rest : {n : Node} (is : IsArguments shapes.values n) → ArgumentForms assigned is → (no_in : Bool) (us : Items) (e : Front) → Begins e us → refuses_at e (arrow_body no_in) ≡ true
       → Refuses assigned (arrow_rest no_in false) (s (codes "(") (arguments_tokens is (s (codes ")") us)))
   call_no_rest is A n us e b z = parameters_refused assigned n no_gap (arguments_tokens is (s (codes ")") us)) (no_params is A n us (no_body_behind assigned n us e b z))
 
-  call_form : {f : Laid} {k : Kind} {ns : List Node} → Form assigned f k ns → {n : Node} (is : IsArguments n) → ArgumentForms is
+  call_form : {f : Laid} {k : Kind} {ns : List Node} → Form assigned f k ns → {n : Node} (is : IsArguments shapes.values n) → ArgumentForms assigned is
       → Form assigned (λ g us. f g (s (codes "(") (arguments_tokens is (s (codes ")") us)))) kind.CallExpr (bare k ns ∷ list_node (bare_arguments is) ∷ absent ∷ [])
   call_form {f} {k} {ns} F is A =
       let m = bare kind.CallExpr (absent ∷ list_node (bare_arguments is) ∷ absent ∷ []) in
@@ -238,11 +227,12 @@ module _ (assigned : Bool) where
     expression_form (shapes.yield_value at d e) = yield_form assigned (expression_form e) d (no_new_line e) (λ us. ap taken (no_star e blank us))
     expression_form (shapes.assignment_expression at o t v) = assignment_form assigned o (expression_form t) (expression_form v)
     expression_form (shapes.conditional_expression at t x y) = choice_form assigned (expression_form t) (expression_form x) (expression_form y)
+    expression_form (shapes.arrow_function at ps e z a b) = arrow_form assigned ps (argument_forms ps) (expression_form e) (λ g us. ap taken (no_brace e (sym (braces_agree e) ∙ z) g us))
     expression_form (shapes.array at at' es) = from_new assigned (array_new assigned es (slot_forms es))
     expression_form (shapes.object_literal at at' ps) = from_new assigned (object_new assigned ps (property_forms ps))
     expression_form (shapes.sequence_expression at x y es) = sequence_form assigned (expression_form x) (expression_form y) es (expression_forms es)
 
-    argument_forms : {n : Node} (is : IsArguments n) → ArgumentForms is
+    argument_forms : {role : Role} {n : Node} (is : IsArguments role n) → ArgumentForms assigned is
     argument_forms (shapes.no_arguments at) = tt
     argument_forms (shapes.arguments at e es) = (element_form_of e, element_forms es)
 
@@ -287,7 +277,7 @@ module _ (assigned : Bool) where
     initializer_form (shapes.no_initializer a) = tt
     initializer_form (shapes.initializer e) = expression_form e
 
-    element_forms : {es : List Node} (is : AreElements es) → ElementForms is
+    element_forms : {role : Role} {es : List Node} (is : AreElements role es) → ElementForms assigned is
     element_forms shapes.no_elements = tt
     element_forms (shapes.more_elements e es) = (element_form_of e, element_forms es)
 

@@ -92,5 +92,6 @@ module _ (assigned : Bool) where
       record { lead = S.lead; tight = S.tight; no_or = S.no_or; no_arrow = S.no_arrow; param = S.param; reading = whole_read assigned o (head_form t c.0) (head_form v (one_same _ c.1)) }
   head_form (shapes.yield_nothing at none) h = absurd (false≢true (sym (sym (may_hold_node at (kind.YieldExpr false) _) ∙ h)))
   head_form (shapes.yield_value at d e) h = absurd (false≢true (sym (sym (may_hold_node at (kind.YieldExpr d) _) ∙ h)))
+  head_form (shapes.arrow_function at ps e z a b) h = absurd (false≢true (sym (sym (may_hold_node at (kind.ArrowExpr false false) _) ∙ h)))
   head_form (shapes.sequence_expression at x y es) h = absurd (false≢true (sym (sym (may_hold_node at kind.SeqExpr _) ∙ h)))
   head_form is h = tightly _ refl (expression_form assigned is)

@@ -20,7 +20,7 @@ use Rattle.ecma_print.specs.declared.place.Beside.TheVariants.{BehindMinus, Behi
 use Rattle.ecma_tokens.proofs.Wholes.{some_text}
 use Rattle.ecma_reread.specs.Machine.{count}
 use Rattle.ecma_reread.specs.Shapes as shapes
-use Rattle.ecma_reread.specs.Shapes.{Level, looser_than, IsOperator, IsIdent, ident, IsKey, key, IsExpression, IsElement, IsArguments, AreElements, AreExpressions, IsInitializer, IsDeclarator, AreDeclarators, AreSlots, IsMemberLevel, IsIndexed, IsChainKey, begins_with_brace, AreProperties, IsPropertyName, IsProperty, regex_text, IsPattern, Role, IsDefaulted, part_text, IsPart, AreParts}
+use Rattle.ecma_reread.specs.Shapes.{Level, looser_than, IsOperator, IsIdent, ident, IsKey, key, IsExpression, IsElement, IsArguments, AreElements, AreExpressions, IsInitializer, IsDeclarator, AreDeclarators, AreSlots, IsMemberLevel, IsIndexed, IsChainKey, AreProperties, IsPropertyName, IsProperty, regex_text, IsPattern, Role, IsDefaulted, part_text, IsPart, AreParts}
 use Rattle.ecma_reread.specs.Tokens.{blank, sign_of, assign_token, update_token, unary_token, binary_token, own_sign, unary_gap, ident_word, key_word, expression_tokens, element_tokens, arguments_tokens, elements_tokens, more_tokens, declarator_tokens, declarators_tokens, slots_tokens, more_slots_tokens, chain_token, properties_tokens, more_properties_tokens, property_name_tokens, property_tokens, initializer_tokens, pattern_tokens, defaulted_tokens, part_raw, part_token, parts_tokens}
 use Rattle.ecma_reread.proofs.Softs.{Soft, key_soft, private_soft, string_soft, big_int_soft, number_soft, closing_soft, brace_soft, bracket_soft, update_soft, is_object, point_behind, softer, opening, closing, comma, semicolon, increment, decrement, opening_bracket, closing_bracket, parted, regex_soft, part, part_joins}
 use Rattle.ecma_reread.proofs.Beginnings.{dots_join, opening_joins, element_opening_joins, update_joins, bracket_joins, blank_joins, element_blank_joins, property_parted, properties_open, properties_soft, slots_open, slots_parted, slots_soft, unary_joins, initializer_soft, pattern_blank_joins, pattern_dots_joins, defaulted_blank_joins}
@@ -119,7 +119,7 @@ module _ (words : Words) where
   more_soft shapes.no_expressions z = z
   more_soft (shapes.more_expressions e es) z = comma
 
-  elements_soft : {es : List Node} (is : AreElements es) {us : Items} → Soft false us → Soft false (elements_tokens is us)
+  elements_soft : {role : Role} {es : List Node} (is : AreElements role es) {us : Items} → Soft false us → Soft false (elements_tokens is us)
   elements_soft shapes.no_elements z = z
   elements_soft (shapes.more_elements e es) z = comma
 
@@ -234,6 +234,10 @@ module _ (words : Words) where
         let seconds = it blank (sign (codes ":")) (expression_tokens y blank us) in
         expression_joined t g h (it blank (sign (codes "?")) (expression_tokens x blank seconds)) parted
         (blank_is, refl, blank_joins (sign (codes "?")) x seconds, expression_joined x blank blank_is seconds parted (blank_is, refl, blank_joins (sign (codes ":")) y us, expression_joined y blank blank_is us z j))
+    expression_joined (shapes.arrow_function at ps e q a b) g h us z j =
+        let arrow = it blank (sign (codes "=>")) (expression_tokens e blank us) in
+        let k = arguments_joined ps arrow (no_gap_is, refl, refl, (blank_is, refl, blank_joins (sign (codes "=>")) e us, expression_joined e blank blank_is us z j)) in
+        (h, refl, k.2, k.3)
     expression_joined (shapes.array at at' es) g h us z j = (h, refl, slots_open es us, slots_joined es us (no_gap_is, refl, bracket_soft z, j))
     expression_joined (shapes.object_literal at at' ps) g h us z j = (h, refl, properties_open ps us, properties_joined ps us (brace_soft z) j)
     expression_joined (shapes.sequence_expression at x y es) g h us z j =
@@ -246,7 +250,7 @@ module _ (words : Words) where
         let behind = it no_gap (part_token false ps) (parts_tokens ps us) in
         (h, part_fine p, part_joins f false (part_text f false (part_raw p)) (expression_tokens e no_gap behind), expression_joined e no_gap no_gap_is behind part (parts_joined ps no_gap no_gap_is us j))
 
-    arguments_joined : {n : Node} (is : IsArguments n) (us : Items) → Joined (sign_of (codes ")") us) → Joined (sign_of (codes "(") (arguments_tokens is (sign_of (codes ")") us)))
+    arguments_joined : {role : Role} {n : Node} (is : IsArguments role n) (us : Items) → Joined (sign_of (codes ")") us) → Joined (sign_of (codes "(") (arguments_tokens is (sign_of (codes ")") us)))
     arguments_joined (shapes.no_arguments at) us j = (no_gap_is, refl, refl, j)
     arguments_joined (shapes.arguments at e es) us j =
         (no_gap_is, refl, element_opening_joins e (elements_tokens es (sign_of (codes ")") us)), element_joined e no_gap no_gap_is (elements_tokens es (sign_of (codes ")") us)) (elements_soft es closing) (elements_joined es us j))
@@ -312,7 +316,7 @@ module _ (words : Words) where
     initializer_joined (shapes.no_initializer a) us z j = j
     initializer_joined (shapes.initializer e) us z j = value_joined e us (expression_joined e blank blank_is us z j)
 
-    elements_joined : {es : List Node} (is : AreElements es) (us : Items) → Joined (sign_of (codes ")") us) → Joined (elements_tokens is (sign_of (codes ")") us))
+    elements_joined : {role : Role} {es : List Node} (is : AreElements role es) (us : Items) → Joined (sign_of (codes ")") us) → Joined (elements_tokens is (sign_of (codes ")") us))
     elements_joined shapes.no_elements us j = j
     elements_joined (shapes.more_elements e es) us j =
         (no_gap_is, refl, element_blank_joins (sign (codes ",")) e (elements_tokens es (sign_of (codes ")") us)), element_joined e blank blank_is (elements_tokens es (sign_of (codes ")") us)) (elements_soft es closing) (elements_joined es us j))

@@ -21,7 +21,7 @@ use Rattle.ecma_print.specs.declared.place.Between.TheVariants.{Blank, Equals}
 use Rattle.ecma_print.specs.declared.place.Spot.{Spot}
 use Rattle.ecma_print.specs.declared.place.Place.{Place}
 use Rattle.ecma_print.specs.declared.place.Place.TheVariants.{At, Within, Arguments, Braces, Brackets}
-use Rattle.ecma_print.specs.Places.{before, after, free, left, right, gap, opens_a_block, is_headed}
+use Rattle.ecma_print.specs.Places.{before, after, free, left, right, gap, opens_a_block, is_headed, beginning}
 use Rattle.ecma_print.specs.Laid.{Laid, is_absent, is_object_pattern}
 use Rattle.ecma_print.specs.Operators.{assign_word, unary_word, unary_sign, update_word, update_sign, binary_word}
 use Rattle.ecma_print.specs.Expressions.{more_of_sequence, callee_spot, template_parts}
@@ -30,10 +30,12 @@ use Rattle.ecma_print.specs.Layout.{in_place, by_itself, lay_step, laid}
 use Rattle.ecma_tokens.specs.Items as items
 use Rattle.ecma_tokens.specs.Items.{Tok, sign, Gap, no_gap, Items, it, token_text, render}
 use Rattle.ecma_reread.specs.Shapes as shapes
-use Rattle.ecma_reread.specs.Shapes.{Level, looser_than, IsOperator, IsIdent, ident, IsKey, key, IsAbsent, IsExpression, IsElement, IsArguments, AreElements, AreExpressions, IsInitializer, IsDeclarator, AreDeclarators, AreSlots, IsMemberLevel, IsIndexed, begins_with_brace, IsProperty, IsPropertyName, AreProperties, Role, IsDefaulted, IsPattern, part_opening, part_closing, part_text, AreParts}
+use Rattle.ecma_reread.specs.Shapes.{Level, looser_than, IsOperator, IsIdent, ident, IsKey, key, IsAbsent, IsExpression, IsElement, IsArguments, AreElements, AreExpressions, IsInitializer, IsDeclarator, AreDeclarators, AreSlots, IsMemberLevel, IsIndexed, IsProperty, IsPropertyName, AreProperties, Role, IsDefaulted, IsPattern, part_opening, part_closing, part_text, AreParts}
 use Rattle.ecma_reread.specs.Tokens.{blank, sign_of, assign_token, update_token, unary_token, binary_token, own_sign, unary_gap, expression_tokens, element_tokens, arguments_tokens, elements_tokens, more_tokens, initializer_tokens, declarator_tokens, declarators_tokens, slots_tokens, more_slots_tokens, chain_token, property_tokens, property_name_tokens, properties_tokens, more_properties_tokens, ident_word, defaulted_tokens, pattern_tokens, part_token, parts_tokens}
+use Rattle.ecma_reread.proofs.Braces.{begins_with_brace, braces_agree}
 use Rattle.ecma_reread.proofs.Spots.{before_dot, number_of, Calm, tightly, calmer, same_low, quiet, under_logical, under_nullish, before_link, index_calm, member_low, index_low, calm_0, calm_1, further, update_calm, unary_calm, operator_calls, printed, head_calm, callee_calm}
 use Rattle.ecma_lex.specs.Templates.{template_value}
+use Rattle.ecma_print.specs.declared.place.Begins.TheVariants.{ArrowBodyStart}
 
 pub laid_node : (at : Span) (k : Kind) (cs : List Node) → laid (node_of at k cs) ≡ record { kind = k; at = in_place k (map laid cs); parts = map by_itself (map laid cs) }
 laid_node at k cs = fold-roll-Node Laid lay_step (record { span = at; kind = k; children = cs })
@@ -135,7 +137,7 @@ assign_text AndAssign x = refl
 assign_text OrAssign x = refl
 assign_text NullishAssign x = refl
 
-arguments_there : {n : Node} → IsArguments n → is_absent (laid n).kind ≡ false
+arguments_there : {n : Node} → IsArguments shapes.values n → is_absent (laid n).kind ≡ false
 arguments_there (shapes.no_arguments at) = ap (λ x. is_absent x.kind) (laid_node at kind.List [])
 arguments_there (shapes.arguments at e es) = ap (λ x. is_absent x.kind) (laid_node at kind.List _)
 
@@ -192,6 +194,7 @@ gap_out (shapes.yield_nothing at none) g us = refl
 gap_out (shapes.yield_value at d e) g us = refl
 gap_out (shapes.assignment_expression at o t v) g us = gap_out t g (it blank (assign_token o) (expression_tokens v blank us))
 gap_out (shapes.conditional_expression at t x y) g us = gap_out t g (it blank (sign (codes "?")) (expression_tokens x blank (it blank (sign (codes ":")) (expression_tokens y blank us))))
+gap_out (shapes.arrow_function at ps e z a b) g us = refl
 gap_out (shapes.array at at' es) g us = refl
 gap_out (shapes.object_literal at at' ps) g us = refl
 gap_out (shapes.sequence_expression at x y es) g us = gap_out x g (sign_of (codes ",") (expression_tokens y blank (more_tokens es us)))
@@ -389,6 +392,13 @@ mutual
       ∙ rw (tightly 2 1 spot.level (omega arith) c.low, no_sign spot.beside)
       (ap (λ z. (laid t').at (At (left spot 3 NoNeighbor)) m z) first_text
       ∙ expression_laid t (left spot 3 NoNeighbor) (quiet refl c.with_in (c.no_new refl) refl) q m (it blank (sign (codes "?")) (expression_tokens x blank seconds)))
+  expression_laid (shapes.arrow_function at {params = p'} {body = e'} {none = n'} {none' = n''} ps e z a b) spot c q m us =
+      let body = beginning 1 ArrowBodyStart spot.without_in in
+      let rest = it blank (sign (codes "=>")) (expression_tokens e blank us) in
+      at_node at (kind.ArrowExpr false false) (p' ∷ e' ∷ n' ∷ n'' ∷ []) (At spot) m (render us)
+      ∙ rw (c.low, no_sign spot.beside)
+      (ap (λ z. (laid p').at Arguments m z) (ap (λ z. codes " => " ++ z) (expression_laid e body (quiet refl c.with_in refl refl) (sym (braces_agree e) ∙ z) m us) ∙ ap (λ z. codes " =>" ++ z) (sym (gap_out e blank us)))
+      ∙ arguments_laid ps m rest)
   expression_laid (shapes.array at at' {slots = ns} es) spot c q m us =
       at_node at kind.ArrayLit (node_of at' kind.List ns ∷ []) (At spot) m (render us) ∙ rw (c.low, no_sign spot.beside) (at_node at' kind.List ns Brackets m (render us) ∙ slots_laid es m us)
   expression_laid (shapes.object_literal at at' {properties = ns} ps) spot c q m us =
@@ -420,7 +430,7 @@ mutual
       ∙ ap (λ z. raw ++ (codes "${" ++ z)) (ap (λ z. (laid e').at (At (free 0)) m z) (parts_laid ps m us) ∙ expression_laid e (free 0) (calm_0 l) refl m behind))
       ∙ part_split f false raw (render (expression_tokens e no_gap behind))
 
-  arguments_laid : {n : Node} (is : IsArguments n) (m : List ℕ) (us : Items) → (laid n).at Arguments m (render us) ≡ render (sign_of (codes "(") (arguments_tokens is (sign_of (codes ")") us)))
+  arguments_laid : {role : Role} {n : Node} (is : IsArguments role n) (m : List ℕ) (us : Items) → (laid n).at Arguments m (render us) ≡ render (sign_of (codes "(") (arguments_tokens is (sign_of (codes ")") us)))
   arguments_laid (shapes.no_arguments at) m us = at_node at kind.List [] Arguments m (render us)
   arguments_laid (shapes.arguments at {e = e'} {es = es'} e es) m us =
       at_node at kind.List (e' ∷ es') Arguments m (render us)
@@ -508,7 +518,7 @@ mutual
   initializer_laid (shapes.no_initializer (shapes.absent at)) m us = at_node at kind.Absent [] (Within Equals (free 1)) m (render us)
   initializer_laid (shapes.initializer e) m us = value_laid e m us (expression_laid e (free 1) calm_1 refl m us)
 
-  elements_laid : {es : List Node} (is : AreElements es) (m : List ℕ) (us : Items) → more_commas (free 1) (map laid es) m (codes ")" ++ render us) ≡ render (elements_tokens is (sign_of (codes ")") us))
+  elements_laid : {role : Role} {es : List Node} (is : AreElements role es) (m : List ℕ) (us : Items) → more_commas (free 1) (map laid es) m (codes ")" ++ render us) ≡ render (elements_tokens is (sign_of (codes ")") us))
   elements_laid shapes.no_elements m us = refl
   elements_laid (shapes.more_elements {e = e'} e es) m us =
       ap (λ z. codes ", " ++ z) (ap (λ z. (laid e').at (At (free 1)) m z) (elements_laid es m us) ∙ element_laid e m (elements_tokens es (sign_of (codes ")") us)))

@@ -6,6 +6,7 @@ pub mod Unplaced
 pub mod UnplacedLinks
 pub mod UnplacedForms
 pub mod Simulation
+pub mod Braces
 pub mod Fronts
 pub mod Towers
 pub mod Heads
@@ -38,6 +39,7 @@ pub mod Literals
 pub mod Arrays
 pub mod Objects
 pub mod Patterns
+pub mod Arrows
 pub mod Sequences
 pub mod Calls
 pub mod Statements

@@ -40,7 +40,7 @@ use Rattle.ecma_reread.specs.Tokens.{blank, initializer_tokens, bare_initializer
 use Rattle.ecma_reread.proofs.Moves.{eats}
 use Rattle.ecma_reread.proofs.Levels.{means_is}
 use Rattle.ecma_reread.proofs.Fronts.{Front, exactly, Begins, at_token, refuses_at, refused_at, refuses_all, all_refused}
-use Rattle.ecma_reread.proofs.Heads.{bare}
+use Rattle.ecma_reread.proofs.Heads.{nodes, bare}
 use Rattle.ecma_reread.proofs.Forms.{s, Reads, Refuses, ends_no_list, ends_no_item, AsItem, item_refused, whole_item, item_before, NewForm}
 use Rattle.ecma_reread.proofs.Towers.{here, later, sooner, Ends}
 use Rattle.ecma_reread.proofs.Bindings.{ends_no_equals, Stands, used}
@@ -461,5 +461,6 @@ module _ (assigned : Bool) where
       → ReadAsPattern assigned (λ g us. it g (sign (codes "{")) (properties_tokens is us)) (bare (kind.ObjectPat false) (list_node (bare_properties is) ∷ absent ∷ []))
   object_pattern_read is F = record {
     reads = λ g us. pattern_is g (properties_tokens is us) us ∙ ap (λ o. built_on (form.Node plain.ObjectPat) (with_front [] o)) (behind_brace_read is F us);
+    annotated = simp nodes;
     no_dots = λ g us. refl;
   }

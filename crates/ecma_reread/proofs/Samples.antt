@@ -20,12 +20,13 @@ use Rattle.ecma_tree.specs.declared.node.Node.{Node}
 use Rattle.ecma_tree.specs.Nodes.{node_of}
 use Rattle.ecma_print.specs.Layout.{layout}
 use Rattle.ecma_tokens.specs.Items.{render}
-use Rattle.ecma_reread.specs.Shapes.{Level, assignment, IsExpression, element, postfix_update, conditional_expression, assignment_expression, unary_expression, binary_expression, plus, times, IsPlainName, ident, key, absent, looser, name, null_word, this_word, member, call, parenthesized, one, spread, arguments, no_elements, more_elements, name_pattern, array_pattern, object_pattern, bound, rest, no_default, with_default, renamed, named, rest_property, no_initializer, more_declarators, initializer, declarator, no_declarators, expression, declaration, object_literal, key_name, key_value, shorthand, initialized, spread_property, no_properties, more_properties, array, no_slots, filled, hole, member_of_new, member_of_object, index_of_callee, plain_key}
+use Rattle.ecma_reread.specs.Shapes.{arrow_function, closed, Level, assignment, IsExpression, element, postfix_update, conditional_expression, assignment_expression, unary_expression, binary_expression, plus, times, IsPlainName, ident, key, absent, looser, name, null_word, this_word, member, call, parenthesized, one, spread, arguments, no_elements, more_elements, name_pattern, array_pattern, object_pattern, bound, rest, no_default, with_default, renamed, named, rest_property, no_initializer, more_declarators, initializer, declarator, no_declarators, expression, declaration, object_literal, key_name, key_value, shorthand, initialized, spread_property, no_properties, more_properties, array, no_slots, filled, hole, member_of_new, member_of_object, index_of_callee, plain_key, IsStatement}
 use Rattle.ecma_reread.specs.Modules.{statement, no_items, more_items, IsModule, module_of}
 use Rattle.ecma_reread.specs.ModuleTokens.{module_tokens}
 use Rattle.ecma_reread.proofs.Bindings.{further_out}
 use Rattle.ecma_reread.proofs.ModuleLayouts.{module_laid}
 use Rattle.ecma_reread.proofs.Words.{whole}
+use Rattle.ecma_reread.proofs.Braces.{begins_with_brace, braces_agree}
 
 abbrev pub at : Span
 at = record { lo = 3; hi = 5 }
@@ -101,7 +102,15 @@ bound_names =
     ∷ node_of at kind.RestPat (bound_a ∷ gone ∷ []) ∷ [])
     ∷ gone ∷ [])
 
--- `const async = (this), [, { a: a = a, a, ...a }, ...a] = a;`, `a.a(...a, [a, , { a: null, a, a = a, ...a }, ,]);`, `async(a, async).a;` and `a = - -a + a[a++] * (a ? a : a);`
+abbrev plainly : {level : Level} {e : Node} (is : IsExpression level e) → begins_with_brace is ≡ false → IsStatement closed (node_of at kind.ExprStmt (e ∷ []))
+plainly is h = expression at is (braces_agree is ∙ h)
+
+abbrev chooser : Node
+chooser =
+    node_of at (kind.ArrowExpr false false)
+    (node_of at kind.List (node_of at kind.AssignPat (bound_a ∷ a ∷ []) ∷ node_of at kind.RestPat (bound_a ∷ gone ∷ []) ∷ []) ∷ a ∷ gone ∷ gone ∷ [])
+
+-- `const async = (this), [, { a: a = a, a, ...a }, ...a] = a;`, `a.a(...a, [a, , { a: null, a, a = a, ...a }, ,]);`, `async(a, (a = a, ...a) => a).a;` and `a = - -a + a[a++] * (a ? a : a);`
 abbrev tree : Node
 tree =
     node_of at (kind.Module None)
@@ -113,7 +122,7 @@ tree =
     (node_of at kind.MemberExpr (a ∷ node_of at (kind.IdentName (codes "a")) [] ∷ []) ∷ node_of at kind.List (node_of at kind.SpreadElement (a ∷ []) ∷ elements ∷ []) ∷ gone ∷ []) ∷ [])
     ∷ node_of at kind.ExprStmt
     (node_of at kind.MemberExpr
-    (node_of at kind.CallExpr (async ∷ node_of at kind.List (a ∷ async ∷ []) ∷ gone ∷ []) ∷ node_of at (kind.IdentName (codes "a")) [] ∷ []) ∷ [])
+    (node_of at kind.CallExpr (async ∷ node_of at kind.List (a ∷ chooser ∷ []) ∷ gone ∷ []) ∷ node_of at (kind.IdentName (codes "a")) [] ∷ []) ∷ [])
     ∷ node_of at kind.ExprStmt (node_of at (kind.AssignExpr Assign) (a ∷ value ∷ []) ∷ [])
     ∷ [])
     ∷ [])
@@ -139,16 +148,18 @@ shape =
     (absent at))))
     (filled (rest at bound_a (absent at)) no_slots)))
     (absent at) in
+    let chosen =
+    arrow_function at (arguments at (bound (with_default at bound_a value)) (more_elements (rest at bound_a (absent at)) no_elements)) value (braces_agree value) (absent at) (absent at) in
     module_of at at
     (more_items (statement (declaration at at Const (declarator at (name_pattern at async' (absent at)) (initializer (out 18 (parenthesized at (this_word at))))) (more_declarators (declarator at names (initializer value)) no_declarators)))
-    (more_items (statement (expression at (call at (out 2 (member at member_of_new (name id) (plain_key (key at (codes "a") it')))) (arguments at (spread at (out 18 (name id))) (more_elements (one (out 18 slots)) no_elements)) (absent at)) refl))
-    (more_items (statement (expression at (member at member_of_object (call at (out 2 (name async')) (arguments at (one (out 18 (name id))) (more_elements (one (out 18 (name async'))) no_elements)) (absent at)) (plain_key (key at (codes "a") it'))) refl))
-    (more_items (statement (expression at (assignment_expression at Assign (out 2 (name id)) value_shape) refl)) no_items))))
+    (more_items (statement (plainly (call at (out 2 (member at member_of_new (name id) (plain_key (key at (codes "a") it')))) (arguments at (spread at (out 18 (name id))) (more_elements (one (out 18 slots)) no_elements)) (absent at)) refl))
+    (more_items (statement (plainly (member at member_of_object (call at (out 2 (name async')) (arguments at (one (out 18 (name id))) (more_elements (one chosen) no_elements)) (absent at)) (plain_key (key at (codes "a") it'))) refl))
+    (more_items (statement (plainly (assignment_expression at Assign (out 2 (name id)) value_shape) refl)) no_items))))
 
-text : render (module_tokens shape) ≡ codes "const async = (this), [, { a: a = a, a, ...a }, ...a] = a;\na.a(...a, [a, , { a: null, a, a = a, ...a }, ,]);\nasync(a, async).a;\na = - -a + a[a++] * (a ? a : a);\n"
+text : render (module_tokens shape) ≡ codes "const async = (this), [, { a: a = a, a, ...a }, ...a] = a;\na.a(...a, [a, , { a: null, a, a = a, ...a }, ,]);\nasync(a, (a = a, ...a) => a).a;\na = - -a + a[a++] * (a ? a : a);\n"
 unfolding render shape value_shape
 text = refl
 
-laid : layout tree ≡ codes "const async = (this), [, { a: a = a, a, ...a }, ...a] = a;\na.a(...a, [a, , { a: null, a, a = a, ...a }, ,]);\nasync(a, async).a;\na = - -a + a[a++] * (a ? a : a);\n"
+laid : layout tree ≡ codes "const async = (this), [, { a: a = a, a, ...a }, ...a] = a;\na.a(...a, [a, , { a: null, a, a = a, ...a }, ,]);\nasync(a, (a = a, ...a) => a).a;\na = - -a + a[a++] * (a ? a : a);\n"
 unfolding shape
 laid = module_laid shape ∙ text

@@ -17,7 +17,7 @@ use Rattle.ecma_print.specs.Operators.{unary_sign, update_sign, binary_word, bin
 use Rattle.ecma_print.specs.Expressions.{before_key, object_beside, is_optional, callee_spot}
 use Rattle.ecma_tokens.specs.Items.{token_text}
 use Rattle.ecma_reread.specs.Shapes as shapes
-use Rattle.ecma_reread.specs.Shapes.{Level, looser_than, IsOperator, IsIdent, ident, IsKey, key, IsAbsent, IsExpression, IsElement, IsArguments, AreElements, AreExpressions, IsInitializer, IsDeclarator, AreDeclarators, AreSlots, IsMemberLevel, IsIndexed, begins_with_brace, IsProperty, IsPropertyName, AreProperties}
+use Rattle.ecma_reread.specs.Shapes.{Level, looser_than, IsOperator, IsIdent, ident, IsKey, key, IsAbsent, IsExpression, IsElement, IsArguments, AreElements, AreExpressions, IsInitializer, IsDeclarator, AreDeclarators, AreSlots, IsMemberLevel, IsIndexed, IsProperty, IsPropertyName, AreProperties}
 use Rattle.ecma_reread.specs.Tokens.{binary_token}
 
 -- the level of the printer that is each level

@@ -1,13 +1,15 @@
 -- Arguments and elements of arrays, which may be spread, are read as they are laid out; and what is read of them as parameters and elements of a pattern.
 use Rattle.std.proofs.Common.{◌≡◌, Bool, true, [], ◌∷◌, codes, refl, ap, ◌∙◌, false}
 use Rattle.ecma_tree.specs.declared.node.Node.{Node}
+use Rattle.ecma_tree.specs.Nodes.{absent}
 use Rattle.ecma_grammar.specs.declared.production.Part.TheVariants as part
 use Rattle.ecma_grammar.specs.declared.production.Form.TheVariants as form
 use Rattle.ecma_grammar.specs.declared.production.Plain.TheVariants as plain
 use Rattle.ecma_grammar.specs.declared.production.Flag.TheVariants.{Absent}
+use Rattle.ecma_grammar.specs.Made.{made}
 use Rattle.ecma_grammar.specs.Grammar.{Grammar, put, ◌▸◌, punct, maybe}
 use Rattle.ecma_grammar.specs.productions.Names.{pattern, assign, assign_in}
-use Rattle.ecma_grammar.specs.productions.Types.{rest_pattern}
+use Rattle.ecma_grammar.specs.productions.Types.{rest_pattern, param}
 use Rattle.ecma_grammar.specs.productions.Patterns.{pattern_element}
 use Rattle.ecma_grammar.specs.productions.Primary.{element, spread}
 use Rattle.ecma_tokens.specs.Items.{no_gap, Gap, Items}
@@ -30,10 +32,12 @@ module _ (assigned : Bool) where
   -- a pattern as it is laid out, and one with a default value or none
   pub record ReadAsPattern (f : Laid) (n : Node) : Type 0 where
     pub reads : (g : Gap) (us : Items) → means assigned part.Pattern (f g us) ≡ read (n ∷ []) us
+    pub annotated : made form.Annotated 0 0 (n ∷ absent ∷ absent ∷ []) ≡ n
     pub no_dots : (g : Gap) (us : Items) → Refuses assigned (punct (codes "...")) (f g us)
 
   pub record ReadAsDefaulted (f : Laid) (n : Node) : Type 0 where
     pub reads : (g : Gap) (us : Items) → Followed us → Reads assigned (defaulted assigned) (f g us) (n ∷ []) us
+    pub as_param : (g : Gap) (us : Items) → Followed us → Reads assigned param (f g us) (n ∷ []) us
     pub no_dots : (g : Gap) (us : Items) → Refuses assigned (punct (codes "...")) (f g us)
 
   -- what is said of an element

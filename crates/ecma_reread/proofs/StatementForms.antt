@@ -1,5 +1,5 @@
 -- Statements by their shape.
-use Rattle.std.proofs.Common.{ℕ, suc, Bool, true, false, List, ap, codes}
+use Rattle.std.proofs.Common.{ℕ, suc, Bool, true, false, List, ap, codes, sym, ◌∙◌}
 use Rattle.ecma_tree.specs.declared.node.Node.{Node}
 use Rattle.ecma_reread.specs.Machine.{taken}
 use Rattle.ecma_reread.specs.Shapes as shapes
@@ -19,6 +19,7 @@ use Rattle.ecma_reread.proofs.Tries.{ReadAsCatch, catch_any_form, catch_name_for
 use Rattle.ecma_reread.proofs.ForLoops.{OptionalForm, for_loop_form, for_in_form, for_of_form, for_await_form, InitForm, ReadAsForLeft, binding_left, in_left, of_left}
 use Rattle.ecma_reread.proofs.Labels.{labeled_form, break_label_form, continue_label_form}
 use Rattle.ecma_reread.proofs.HeadForms.{head_form}
+use Rattle.ecma_reread.proofs.Braces.{braces_agree}
 
 module _ (assigned : Bool) where
   pub declarator_form : {n : Node} (is : IsDeclarator n) → DeclaratorForm assigned is
@@ -62,7 +63,7 @@ module _ (assigned : Bool) where
     statement_form (shapes.return_nothing at a) d = return_form assigned
     statement_form (shapes.break_nothing at a) d = break_form assigned
     statement_form (shapes.continue_nothing at a) d = continue_form assigned
-    statement_form (shapes.expression at e z) d = expression_statement_form assigned (standing assigned (expression_form assigned e)) (λ g us. ap taken (no_brace e z g us))
+    statement_form (shapes.expression at e z) d = expression_statement_form assigned (standing assigned (expression_form assigned e)) (λ g us. ap taken (no_brace e (sym (braces_agree e) ∙ z) g us))
     statement_form (shapes.declaration at at' k i is) d = declaration_form assigned k i is (declarator_form i) (declarator_forms is)
     statement_form (shapes.break_label at i) d = break_label_form assigned (ident_word i) (ident_free assigned i)
     statement_form (shapes.continue_label at i) d = continue_label_form assigned (ident_word i) (ident_free assigned i)

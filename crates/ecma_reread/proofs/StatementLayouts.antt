@@ -28,6 +28,7 @@ use Rattle.ecma_reread.proofs.Layouts.{laid_node, at_node, gap_out, expression_l
 use Rattle.ecma_reread.proofs.Spots.{calm_start, calm_0, calm_1}
 use Rattle.ecma_reread.proofs.HeadLayouts.{head_laid}
 use Rattle.ecma_reread.specs.Heads.{may_hold_in}
+use Rattle.ecma_reread.proofs.Braces.{braces_agree}
 
 -- an expression behind a word, and the end of the statement
 argument_laid : {level : Level} {e : Node} (is : IsExpression level e) (m : List ℕ) (us : Items) → (laid e).at (Within Blank (free 0)) m (codes ";" ++ render us) ≡ render (expression_tokens is blank (sign_of (codes ";") us))
@@ -225,7 +226,7 @@ mutual
       gap_out e g (sign_of (codes ";") us)
       ∙ ap (λ z. g.blanks ++ z)
       (sym (at_node at kind.ExprStmt (e' ∷ []) (At (free 0)) (margin d) (render us)
-      ∙ expression_laid e (beginning 0 StatementStart false) (calm_start l) z (margin d) (sign_of (codes ";") us)))
+      ∙ expression_laid e (beginning 0 StatementStart false) (calm_start l) (sym (braces_agree e) ∙ z) (margin d) (sign_of (codes ";") us)))
   statement_laid (shapes.declaration at at' k i is) d g us = ap (λ z. g.blanks ++ z) (sym (keyword_laid k i is at at' (margin d) us))
   statement_laid (shapes.break_label at (shapes.ident of w i)) d g us =
       ap (λ z. g.blanks ++ z)

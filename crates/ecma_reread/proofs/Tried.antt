@@ -80,16 +80,16 @@ module _ (assigned : Bool) where
   abbrev annotated : List Node → Node
   annotated xs = made form.Annotated 0 0 (xs ++ flag_node Absent ∷ flag_node Absent ∷ [])
 
-  abbrev param_on : Out → Out
+  abbrev pub param_on : Out → Out
   param_on o =
       let I = interp assigned (means assigned) in
       built_on form.Param (with_front (flag_node Absent ∷ []) (built_on form.Chain (followed_on (I default_value) (built_on form.Annotated (followed_on (I (whether (marked (punct (codes "?"))) ▸ annotation)) o)))))
 
-  param_is : (ts : Items) → interp assigned (means assigned) param ts ≡ param_on (or_on (means assigned part.Pattern) ts (interp assigned (means assigned) rest_pattern ts))
+  pub param_is : (ts : Items) → interp assigned (means assigned) param ts ≡ param_on (or_on (means assigned part.Pattern) ts (interp assigned (means assigned) rest_pattern ts))
   unfolding param
   param_is ts = refl
 
-  pattern_param : (ts : Items) → Refuses assigned rest_pattern ts → interp assigned (means assigned) param ts ≡ param_on (means assigned part.Pattern ts)
+  pub pattern_param : (ts : Items) → Refuses assigned rest_pattern ts → interp assigned (means assigned) param ts ≡ param_on (means assigned part.Pattern ts)
   pattern_param ts r = param_is ts ∙ ap (λ o. param_on (or_on (means assigned part.Pattern) ts o)) r
 
   -- what may be missing is read

@@ -1,5 +1,6 @@
 pub mod Machine
 pub mod Heads
+pub mod Braces
 pub mod Shapes
 pub mod Modules
 pub mod Tokens

@@ -21,6 +21,7 @@ use Rattle.ecma_tree.specs.Nodes.{node_of}
 use Rattle.ecma_grammar.specs.Reads.{without_separators}
 use Rattle.ecma_tokens.specs.Good.{IsToken, IsTextPart}
 use Rattle.ecma_reread.specs.Heads.{may_hold_in}
+use Rattle.ecma_reread.specs.Braces.{starts_with_brace}
 
 -- a name that is no reserved word
 pub record IsPlainName (word : List ℕ) : Type 0 where
@@ -158,17 +159,17 @@ mutual
     true_word : (at : Span) → IsExpression new_callee (node_of at (kind.Bool true) [])
     false_word : (at : Span) → IsExpression new_callee (node_of at (kind.Bool false) [])
     member : (at : Span) {level : Level} {holder property : Node} → IsMemberLevel level → IsExpression level holder → IsChainKey property → IsExpression level (node_of at kind.MemberExpr (holder ∷ property ∷ []))
-    call : (at : Span) {function args none : Node} → IsExpression callee function → IsArguments args → IsAbsent none → IsExpression object (node_of at kind.CallExpr (function ∷ args ∷ none ∷ []))
+    call : (at : Span) {function args none : Node} → IsExpression callee function → IsArguments values args → IsAbsent none → IsExpression object (node_of at kind.CallExpr (function ∷ args ∷ none ∷ []))
     parenthesized : (at : Span) {level : Level} {e : Node} → IsExpression level e → IsExpression new_callee (node_of at kind.ParenExpr (e ∷ []))
     super_member : (at at_super : Span) {property : Node} → IsKey property → IsExpression new_callee (node_of at kind.SuperPropExpr (node_of at_super kind.Super [] ∷ property ∷ []))
     super_element : (at at_super of_key : Span) {level : Level} {e : Node} → IsExpression level e → IsExpression new_callee (node_of at kind.SuperPropExpr (node_of at_super kind.Super [] ∷ node_of of_key kind.ComputedPropName (e ∷ []) ∷ []))
-    super_call : (at at_super : Span) {args none : Node} → IsArguments args → IsAbsent none → IsExpression object (node_of at kind.CallExpr (node_of at_super kind.Super [] ∷ args ∷ none ∷ []))
+    super_call : (at at_super : Span) {args none : Node} → IsArguments values args → IsAbsent none → IsExpression object (node_of at kind.CallExpr (node_of at_super kind.Super [] ∷ args ∷ none ∷ []))
     -- with arguments, and without
-    new_expression : (at : Span) {constructor args none : Node} → IsExpression new_callee constructor → IsArguments args → IsAbsent none → IsExpression new_callee (node_of at kind.NewExpr (constructor ∷ args ∷ none ∷ []))
+    new_expression : (at : Span) {constructor args none : Node} → IsExpression new_callee constructor → IsArguments values args → IsAbsent none → IsExpression new_callee (node_of at kind.NewExpr (constructor ∷ args ∷ none ∷ []))
     new_alone : (at : Span) {constructor none none' : Node} → IsExpression new_callee constructor → IsAbsent none → IsAbsent none' → IsExpression left_hand_side (node_of at kind.NewExpr (constructor ∷ none ∷ none' ∷ []))
     new_target : (at : Span) → IsExpression new_callee (node_of at (kind.MetaPropExpr NewTarget) [])
     import_meta : (at : Span) → IsExpression new_callee (node_of at (kind.MetaPropExpr ImportMeta) [])
-    import_call : (at at_import : Span) {args none : Node} → IsArguments args → IsAbsent none → IsExpression object (node_of at kind.CallExpr (node_of at_import kind.Import [] ∷ args ∷ none ∷ []))
+    import_call : (at at_import : Span) {args none : Node} → IsArguments values args → IsAbsent none → IsExpression object (node_of at kind.CallExpr (node_of at_import kind.Import [] ∷ args ∷ none ∷ []))
     element : (at of_key : Span) {of_holder own level : Level} {holder e : Node} → IsIndexed of_holder own → IsExpression of_holder holder → IsExpression level e → IsExpression own (node_of at kind.MemberExpr (holder ∷ node_of of_key kind.ComputedPropName (e ∷ []) ∷ []))
     tagged_template : (at at_template of_expressions of_parts : Span) {of_tag own : Level} {tag none : Node} {expressions parts : List Node} → IsIndexed of_tag own → IsExpression of_tag tag → IsAbsent none → AreParts true true expressions parts
         → IsExpression own (node_of at kind.TaggedTpl (tag ∷ none ∷ node_of at_template kind.Tpl (node_of of_expressions kind.List expressions ∷ node_of of_parts kind.List parts ∷ []) ∷ []))
@@ -192,6 +193,9 @@ mutual
     yield_nothing : (at : Span) {none : Node} → IsAbsent none → IsExpression assignment (node_of at (kind.YieldExpr false) (none ∷ []))
     -- `yield`, or `yield*`
     yield_value : (at : Span) (delegate : Bool) {e : Node} → IsExpression assignment e → IsExpression assignment (node_of at (kind.YieldExpr delegate) (e ∷ []))
+    -- with an expression as its body; its parameters stand in parentheses
+    arrow_function : (at : Span) {params body none none' : Node} → IsArguments bindings params → IsExpression assignment body → starts_with_brace body ≡ false → IsAbsent none → IsAbsent none'
+        → IsExpression assignment (node_of at (kind.ArrowExpr false false) (params ∷ body ∷ none ∷ none' ∷ []))
     array : (at of_list : Span) {slots : List Node} → AreSlots values slots → IsExpression new_callee (node_of at kind.ArrayLit (node_of of_list kind.List slots ∷ []))
     object_literal : (at of_list : Span) {properties : List Node} → AreProperties values properties → IsExpression new_callee (node_of at kind.ObjectLit (node_of of_list kind.List properties ∷ []))
     sequence_expression : (at : Span) {first second : Node} {more : List Node} → IsExpression assignment first → IsExpression assignment second → AreExpressions more → IsExpression sequence (node_of at kind.SeqExpr (first ∷ second ∷ more))
@@ -246,13 +250,14 @@ mutual
     no_initializer : {none : Node} → IsAbsent none → IsInitializer none
     initializer : {e : Node} → IsExpression assignment e → IsInitializer e
 
-  pub data IsArguments : Node → Type 0 where
-    no_arguments : (at : Span) → IsArguments (node_of at kind.List [])
-    arguments : (at : Span) {e : Node} {es : List Node} → IsElement values e → AreElements es → IsArguments (node_of at kind.List (e ∷ es))
+  -- what stands in parentheses: arguments, or parameters
+  pub data IsArguments : Role → Node → Type 0 where
+    no_arguments : {role : Role} (at : Span) → IsArguments role (node_of at kind.List [])
+    arguments : {role : Role} (at : Span) {e : Node} {es : List Node} → IsElement role e → AreElements role es → IsArguments role (node_of at kind.List (e ∷ es))
 
-  pub data AreElements : List Node → Type 0 where
-    no_elements : AreElements []
-    more_elements : {e : Node} {es : List Node} → IsElement values e → AreElements es → AreElements (e ∷ es)
+  pub data AreElements : Role → List Node → Type 0 where
+    no_elements : {role : Role} → AreElements role []
+    more_elements : {role : Role} {e : Node} {es : List Node} → IsElement role e → AreElements role es → AreElements role (e ∷ es)
 
   -- the expressions of a template, and its text parts: behind a tag or not, from the first or from a later one
   pub data AreParts : Bool → Bool → List Node → List Node → Type 0 where
@@ -262,25 +267,6 @@ mutual
   pub data AreExpressions : List Node → Type 0 where
     no_expressions : AreExpressions []
     more_expressions : {e : Node} {es : List Node} → IsExpression assignment e → AreExpressions es → AreExpressions (e ∷ es)
-
--- it begins with `{`, with which no statement begins that is an expression
-abbrev pub begins_with_brace : {level : Level} {e : Node} → IsExpression level e → Bool
-begins_with_brace (looser e) = begins_with_brace e
-begins_with_brace (member at i o k) = begins_with_brace o
-begins_with_brace (call at c es none) = begins_with_brace c
-begins_with_brace (element at at' i o e) = begins_with_brace o
-begins_with_brace (tagged_template at a b c i o none ps) = begins_with_brace o
-begins_with_brace (postfix_update at o e) = begins_with_brace e
-begins_with_brace (binary_expression at i l r) = begins_with_brace l
-begins_with_brace (exponentiation at l r) = begins_with_brace l
-begins_with_brace (both at l r) = begins_with_brace l
-begins_with_brace (either at l r) = begins_with_brace l
-begins_with_brace (coalesced at i l r) = begins_with_brace l
-begins_with_brace (assignment_expression at o t v) = begins_with_brace t
-begins_with_brace (conditional_expression at t x y) = begins_with_brace t
-begins_with_brace (sequence_expression at x y es) = begins_with_brace x
-begins_with_brace (object_literal at at' ps) = true
-begins_with_brace e = false
 
 pub data IsDeclarator : Node → Type 0 where
   declarator : (at : Span) {p init : Node} → IsPattern p → IsInitializer init → IsDeclarator (node_of at (kind.VarDeclarator false) (p ∷ init ∷ []))
@@ -320,7 +306,7 @@ pub data Ending : Type 0 where
 
 mutual
   pub data IsStatement : Ending → Node → Type 0 where
-    expression : (at : Span) {level : Level} {e : Node} (is : IsExpression level e) → begins_with_brace is ≡ false → IsStatement closed (node_of at kind.ExprStmt (e ∷ []))
+    expression : (at : Span) {level : Level} {e : Node} → IsExpression level e → starts_with_brace e ≡ false → IsStatement closed (node_of at kind.ExprStmt (e ∷ []))
     declaration : (at of_list : Span) (k : VarDeclKind) {d : Node} {ds : List Node} → IsDeclarator d → AreDeclarators ds → IsStatement closed (node_of at (kind.VarDecl k false) (node_of of_list kind.List (d ∷ ds) ∷ []))
     empty : (at : Span) → IsStatement closed (node_of at kind.EmptyStmt [])
     debugger_word : (at : Span) → IsStatement closed (node_of at kind.DebuggerStmt [])

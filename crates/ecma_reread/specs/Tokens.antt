@@ -24,7 +24,7 @@ use Rattle.ecma_print.specs.Operators.{unary_sign, update_sign}
 use Rattle.ecma_print.specs.Statements.{keyword}
 use Rattle.ecma_tokens.specs.Items as items
 use Rattle.ecma_tokens.specs.Items.{Tok, sign, Gap, no_gap, Items, it}
-use Rattle.ecma_reread.specs.Shapes.{IsIdent, ident, IsKey, key, Level, IsExpression, looser, element, prefix_update, postfix_update, await_expression, unary_expression, binary_expression, exponentiation, both, either, coalesced, assignment_expression, conditional_expression, sequence_expression, name, string, number, this_word, big_int, null_word, true_word, false_word, member, call, parenthesized, IsElement, one, spread, IsArguments, no_arguments, arguments, AreElements, no_elements, more_elements, AreExpressions, no_expressions, more_expressions, IsInitializer, no_initializer, initializer, IsDeclarator, declarator, AreDeclarators, no_declarators, more_declarators, IsStatement, expression, declaration, empty, debugger_word, throw, return_value, return_nothing, break_nothing, continue_nothing, Ending, break_label, continue_label, block, if_only, if_else, while_loop, do_loop, labeled, IsBlock, block_of, AreStatements, no_statements, more_statements, array, AreSlots, no_slots, filled, hole, switch_statement, IsCase, case_of, default_of, AreCases, no_cases, more_cases, new_expression, new_alone, new_target, try_catch, try_finally, try_catch_finally, IsCatch, catch_any, catch_name, IsChainKey, plain_key, private_key, super_member, super_element, super_call, IsOptional, left_out, given, IsForLeft, for_binding, for_target, for_loop, for_in, for_of, object_literal, IsPropertyName, key_name, string_name, number_name, big_int_name, computed_name, IsProperty, key_value, shorthand, initialized, spread_property, AreProperties, no_properties, more_properties, private_in, yield_nothing, yield_value, import_meta, import_call, regex, regex_text, Role, bound, rest, renamed, named, rest_property, IsPattern, name_pattern, array_pattern, object_pattern, IsDefaulted, no_default, with_default, IsForDeclarator, for_declarator, AreForDeclarators, no_for_declarators, more_for_declarators, IsForInit, no_init, init_declaration, init_expression, part_text, IsPart, part, AreParts, last_part, more_parts, template, tagged_template}
+use Rattle.ecma_reread.specs.Shapes.{IsIdent, ident, IsKey, key, Level, IsExpression, looser, element, prefix_update, postfix_update, await_expression, unary_expression, binary_expression, exponentiation, both, either, coalesced, assignment_expression, conditional_expression, sequence_expression, name, string, number, this_word, big_int, null_word, true_word, false_word, member, call, parenthesized, IsElement, one, spread, IsArguments, no_arguments, arguments, AreElements, no_elements, more_elements, AreExpressions, no_expressions, more_expressions, IsInitializer, no_initializer, initializer, IsDeclarator, declarator, AreDeclarators, no_declarators, more_declarators, IsStatement, expression, declaration, empty, debugger_word, throw, return_value, return_nothing, break_nothing, continue_nothing, Ending, break_label, continue_label, block, if_only, if_else, while_loop, do_loop, labeled, IsBlock, block_of, AreStatements, no_statements, more_statements, array, AreSlots, no_slots, filled, hole, switch_statement, IsCase, case_of, default_of, AreCases, no_cases, more_cases, new_expression, new_alone, new_target, try_catch, try_finally, try_catch_finally, IsCatch, catch_any, catch_name, IsChainKey, plain_key, private_key, super_member, super_element, super_call, IsOptional, left_out, given, IsForLeft, for_binding, for_target, for_loop, for_in, for_of, object_literal, IsPropertyName, key_name, string_name, number_name, big_int_name, computed_name, IsProperty, key_value, shorthand, initialized, spread_property, AreProperties, no_properties, more_properties, private_in, yield_nothing, yield_value, import_meta, import_call, regex, regex_text, Role, bound, rest, renamed, named, rest_property, IsPattern, name_pattern, array_pattern, object_pattern, IsDefaulted, no_default, with_default, IsForDeclarator, for_declarator, AreForDeclarators, no_for_declarators, more_for_declarators, IsForInit, no_init, init_declaration, init_expression, part_text, IsPart, part, AreParts, last_part, more_parts, template, tagged_template, arrow_function}
 
 abbrev pub blank : Gap
 blank = record { blanks = codes " "; new_line = false }
@@ -191,6 +191,7 @@ abbrev mutual
   expression_tokens (yield_value at d e) g us = it g (items.key (codes "yield")) (star_of d (expression_tokens e blank us))
   expression_tokens (assignment_expression at o t v) g us = expression_tokens t g (it blank (assign_token o) (expression_tokens v blank us))
   expression_tokens (conditional_expression at t x y) g us = expression_tokens t g (it blank (sign (codes "?")) (expression_tokens x blank (it blank (sign (codes ":")) (expression_tokens y blank us))))
+  expression_tokens (arrow_function at ps e z a b) g us = it g (sign (codes "(")) (arguments_tokens ps (sign_of (codes ")") (it blank (sign (codes "=>")) (expression_tokens e blank us))))
   expression_tokens (array at at' es) g us = it g (sign (codes "[")) (slots_tokens es us)
   expression_tokens (object_literal at at' ps) g us = it g (sign (codes "{")) (properties_tokens ps us)
   expression_tokens (sequence_expression at x y es) g us = expression_tokens x g (sign_of (codes ",") (expression_tokens y blank (more_tokens es us)))
@@ -252,11 +253,11 @@ abbrev mutual
   initializer_tokens (no_initializer a) us = us
   initializer_tokens (initializer e) us = it blank (sign (codes "=")) (expression_tokens e blank us)
 
-  pub arguments_tokens : {n : Node} → IsArguments n → Items → Items
+  pub arguments_tokens : {role : Role} {n : Node} → IsArguments role n → Items → Items
   arguments_tokens (no_arguments at) us = us
   arguments_tokens (arguments at e es) us = element_tokens e no_gap (elements_tokens es us)
 
-  pub elements_tokens : {es : List Node} → AreElements es → Items → Items
+  pub elements_tokens : {role : Role} {es : List Node} → AreElements role es → Items → Items
   elements_tokens no_elements us = us
   elements_tokens (more_elements e es) us = sign_of (codes ",") (element_tokens e blank (elements_tokens es us))
 
@@ -414,6 +415,7 @@ expression_kind (yield_nothing at none) = kind.YieldExpr false
 expression_kind (yield_value at d e) = kind.YieldExpr d
 expression_kind (assignment_expression at o t v) = kind.AssignExpr o
 expression_kind (conditional_expression at t x y) = kind.CondExpr
+expression_kind (arrow_function at ps e z a b) = kind.ArrowExpr false false
 expression_kind (array at at' es) = kind.ArrayLit
 expression_kind (object_literal at at' ps) = kind.ObjectLit
 expression_kind (sequence_expression at x y es) = kind.SeqExpr
@@ -454,6 +456,7 @@ abbrev mutual
   expression_parts (yield_value at d e) = bare (expression_kind e) (expression_parts e) ∷ []
   expression_parts (assignment_expression at o t v) = bare (expression_kind t) (expression_parts t) ∷ bare (expression_kind v) (expression_parts v) ∷ []
   expression_parts (conditional_expression at t x y) = bare (expression_kind t) (expression_parts t) ∷ bare (expression_kind x) (expression_parts x) ∷ bare (expression_kind y) (expression_parts y) ∷ []
+  expression_parts (arrow_function at ps e z a b) = list_node (bare_arguments ps) ∷ bare (expression_kind e) (expression_parts e) ∷ absent ∷ absent ∷ []
   expression_parts (array at at' es) = list_node (bare_slots es) ∷ []
   expression_parts (object_literal at at' ps) = list_node (bare_properties ps) ∷ []
   expression_parts (sequence_expression at x y es) = bare (expression_kind x) (expression_parts x) ∷ bare (expression_kind y) (expression_parts y) ∷ bare_expressions es
@@ -503,11 +506,11 @@ abbrev mutual
   bare_initializer (no_initializer a) = absent
   bare_initializer (initializer e) = bare (expression_kind e) (expression_parts e)
 
-  pub bare_arguments : {n : Node} → IsArguments n → List Node
+  pub bare_arguments : {role : Role} {n : Node} → IsArguments role n → List Node
   bare_arguments (no_arguments at) = []
   bare_arguments (arguments at e es) = bare_element e ∷ bare_elements es
 
-  pub bare_elements : {es : List Node} → AreElements es → List Node
+  pub bare_elements : {role : Role} {es : List Node} → AreElements role es → List Node
   bare_elements no_elements = []
   bare_elements (more_elements e es) = bare_element e ∷ bare_elements es
 

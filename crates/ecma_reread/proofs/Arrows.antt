@@ -1,0 +1,132 @@
+-- Arrow functions with expressions as their bodies are read as they are laid out.
+use Rattle.std.proofs.Common.{◌≡◌, Bool, true, false, List, [], ◌∷◌, ◌++◌, codes, nat_le, refl, ap, ◌∙◌, append-nil}
+use Rattle.ecma_kind.specs.declared.kind.Kind.{Kind}
+use Rattle.ecma_kind.specs.declared.kind.Kind.TheVariants as kind
+use Rattle.ecma_tree.specs.declared.node.Node.{Node}
+use Rattle.ecma_tree.specs.Nodes.{absent, list_node}
+use Rattle.ecma_grammar.specs.declared.production.Part.TheVariants as part
+use Rattle.ecma_grammar.specs.declared.production.Form.TheVariants as form
+use Rattle.ecma_grammar.specs.declared.production.Plain.TheVariants as plain
+use Rattle.ecma_grammar.specs.declared.production.Flag.TheVariants.{Absent, Present}
+use Rattle.ecma_grammar.specs.Made.{made}
+use Rattle.ecma_grammar.specs.Grammar as grammar
+use Rattle.ecma_grammar.specs.Grammar.{Grammar, put, ◌▸◌, ◌//◌, punct}
+use Rattle.ecma_grammar.specs.productions.Names as names
+use Rattle.ecma_grammar.specs.productions.Types.{params, param, rest_pattern, default_value}
+use Rattle.ecma_grammar.specs.productions.Patterns.{pattern_body, array_pattern, object_pattern}
+use Rattle.ecma_grammar.specs.productions.Functions as functions
+use Rattle.ecma_grammar.specs.productions.Functions.{arrow, arrow_rest, arrow_body}
+use Rattle.ecma_grammar.specs.productions.Classes as classes
+use Rattle.ecma_grammar.specs.productions.Declarations as declarations
+use Rattle.ecma_grammar.specs.productions.Declarations.{declaration}
+use Rattle.ecma_grammar.specs.productions.Statements as statements
+use Rattle.ecma_grammar.specs.productions.Statements.{labeled}
+use Rattle.ecma_grammar.specs.productions.Modules as modules
+use Rattle.ecma_tokens.specs.Items.{sign, no_gap, Gap, Items, it}
+use Rattle.ecma_reread.specs.Machine.{read, with_front, followed_on, or_on, unless_on, built_on, interp, means}
+use Rattle.ecma_reread.specs.Shapes as shapes
+use Rattle.ecma_reread.specs.Shapes.{Role, IsElement, IsArguments, AreElements}
+use Rattle.ecma_reread.specs.Tokens.{blank, element_tokens, arguments_tokens, elements_tokens, bare_element, bare_arguments, bare_elements}
+use Rattle.ecma_reread.proofs.Moves.{eats}
+use Rattle.ecma_reread.proofs.Levels.{means_is}
+use Rattle.ecma_reread.proofs.Fronts.{Front, exactly, Begins, at_token, refuses_at, refused_at, refuses_all, all_refused}
+use Rattle.ecma_reread.proofs.Towers.{excluded, behind_arrow, Ends}
+use Rattle.ecma_reread.proofs.Heads.{bare, nodes}
+use Rattle.ecma_reread.proofs.Forms.{Laid, s, Reads, Refuses, no_item_at}
+use Rattle.ecma_reread.proofs.Bindings.{Stands, used}
+use Rattle.ecma_reread.proofs.Repeats.{Repeats, repeats_end, repeats_more, repeated}
+use Rattle.ecma_reread.proofs.Further.{more}
+use Rattle.ecma_reread.proofs.Expressions.{no_param_at, parenthesis_ends, comma_ends}
+use Rattle.ecma_reread.proofs.Lists.{Followed}
+use Rattle.ecma_reread.proofs.Spreads.{ElementForm}
+use Rattle.ecma_reread.proofs.Patterns.{param_read}
+
+no_param_there : refuses_all (exactly (sign (codes ")"))) param ≡ true
+unfolding param rest_pattern default_value pattern_body array_pattern object_pattern names.binding_ident
+no_param_there = refl
+
+param_eats : nat_le 1 (eats (more param)) ≡ true
+unfolding param rest_pattern default_value
+param_eats = refl
+
+arrow_made : (ps b : Node) → made form.Arrow 0 0 (absent ∷ absent ∷ ps ∷ absent ∷ b ∷ []) ≡ bare (kind.ArrowExpr false false) (ps ∷ b ∷ absent ∷ absent ∷ [])
+arrow_made ps b = simp nodes
+
+pub more_followed : {role : Role} {es : List Node} (is : AreElements role es) (us : Items) → Followed (elements_tokens is (s (codes ")") us))
+more_followed shapes.no_elements us = record { front = exactly (sign (codes ")")); begins = at_token; ends = parenthesis_ends }
+more_followed (shapes.more_elements e es) us = record { front = exactly (sign (codes ",")); begins = at_token; ends = comma_ends }
+
+module _ (assigned : Bool) where
+  -- what is said of each argument, or parameter
+  abbrev pub ElementForms : {role : Role} {es : List Node} → AreElements role es → Type 0
+  ElementForms shapes.no_elements = Unit {0}
+  ElementForms (shapes.more_elements e es) = ElementForm assigned e × ElementForms es
+
+  abbrev pub ArgumentForms : {role : Role} {n : Node} → IsArguments role n → Type 0
+  ArgumentForms (shapes.no_arguments at) = Unit {0}
+  ArgumentForms (shapes.arguments at e es) = ElementForm assigned e × ElementForms es
+
+  -- parameters
+
+  more_read : {es : List Node} (is : AreElements shapes.bindings es) → ElementForms is → (us : Items) → Repeats assigned (more param) (elements_tokens is (s (codes ")") us)) (bare_elements is) (s (codes ")") us)
+  more_read shapes.no_elements F us = repeats_end assigned (more param) (s (codes ")") us) refl
+  more_read (shapes.more_elements e es) F us =
+      let vs = elements_tokens es (s (codes ")") us) in
+      repeats_more assigned (more param) param_eats _ vs (s (codes ")") us) (bare_element e ∷ []) (bare_elements es) (ap (with_front []) (param_read assigned e F.0 blank vs (more_followed es us))) (more_read es F.1 us)
+
+  params_read : {n : Node} (is : IsArguments shapes.bindings n) → ArgumentForms is → (us : Items) → Reads assigned params (arguments_tokens is (s (codes ")") us)) (list_node (bare_arguments is) ∷ []) (s (codes ")") us)
+  unfolding params
+  params_read (shapes.no_arguments at) F us = rw (all_refused assigned param (exactly (sign (codes ")"))) (s (codes ")") us) at_token no_param_there) refl
+  params_read (shapes.arguments at e es) F us =
+      let vs = elements_tokens es (s (codes ")") us) in
+      rw (param_read assigned e F.0 no_gap vs (more_followed es us), repeated assigned (more param) vs (s (codes ")") us) (bare_elements es) (more_read es F.1 us), append-nil (bare_elements es)) refl
+
+  module _ {ps : Node} (is : IsArguments shapes.bindings ps) (F : ArgumentForms is) {f : Laid} {k : Kind} {ns : List Node} (S : Stands assigned shapes.assignment f k ns) (no_block : (g : Gap) (us : Items) → Refuses assigned (punct (codes "{")) (f g us)) where
+    abbrev body : Items → Items
+    body us = it blank (sign (codes "=>")) (f blank us)
+
+    abbrev tokens : Laid
+    tokens g us = it g (sign (codes "(")) (arguments_tokens is (s (codes ")") (body us)))
+
+    abbrev whole : Node
+    whole = bare (kind.ArrowExpr false false) (list_node (bare_arguments is) ∷ bare k ns ∷ absent ∷ absent ∷ [])
+
+    body_read : (us : Items) (e : Front) → Begins e us → Ends e → Reads assigned (arrow_body false) (body us) (bare k ns ∷ []) us
+    unfolding names.block
+    body_read us e b z = rw (no_block blank us, no_block blank us, used assigned S blank us e b z) refl
+
+    rest_read : (g : Gap) (us : Items) (e : Front) → Begins e us → Ends e → Reads assigned (arrow_rest false false) (tokens g us) (absent ∷ list_node (bare_arguments is) ∷ absent ∷ bare k ns ∷ []) us
+    unfolding arrow_rest names.binding_ident
+    rest_read g us e b z = rw (params_read is F (body us), body_read us e b z) refl
+
+    arrow_read : (g : Gap) (us : Items) (e : Front) → Begins e us → Ends e → means assigned (part.Assign false false) (tokens g us) ≡ read (whole ∷ []) us
+    unfolding arrow
+    arrow_read g us e b z =
+        let I = interp assigned (means assigned) in
+        let ts = tokens g us in
+        means_is assigned (part.Assign false false) ts
+        ∙ (ap (or_on (I (behind_arrow false)) ts) (ap (built_on form.Arrow) (ap (with_front (absent ∷ [])) (rest_read g us e b z)))
+        ∙ ap (λ x. read (x ∷ []) us) (arrow_made (list_node (bare_arguments is)) (bare k ns)))
+
+    pub arrow_form : Stands assigned shapes.assignment tokens (kind.ArrowExpr false false) (list_node (bare_arguments is) ∷ bare k ns ∷ absent ∷ absent ∷ [])
+    unfolding labeled param rest_pattern default_value pattern_body array_pattern object_pattern names.binding_ident statements.statement_body names.block statements.if_ statements.for_await statements.for_ statements.while_ statements.do_while statements.switch statements.try_ statements.jump declarations.declaration functions.function_declaration classes.class_declaration modules.module_item modules.import modules.import_equals modules.export modules.export_default
+    arrow_form =
+        let opening = exactly (sign (codes "(")) in
+        let p = means assigned in
+        record {
+          lead = record {
+            front = opening;
+            begins = λ g us. at_token;
+            no_statement = refl;
+            no_item = λ g us. no_item_at assigned opening (tokens g us) at_token refl;
+            no_spread = refl;
+            no_label = λ g us e b z. refused_at assigned p labeled opening (tokens g us) at_token refl;
+            no_declaration = λ g us e b z. refused_at assigned p declaration opening (tokens g us) at_token refl;
+            no_word = λ g us e b z. refused_at assigned p excluded opening (tokens g us) at_token refl;
+          };
+          tight = tt;
+          no_or = tt;
+          no_arrow = tt;
+          param = λ g us e b z. no_param_at assigned opening (tokens g us) us at_token refl refl;
+          reading = λ g us e b z. arrow_read g us e b z;
+        }
