@@ -15,7 +15,7 @@ use Rattle.ecma_reread.proofs.Blocks.{ReadAsStatements, no_statements_form, more
 use Rattle.ecma_reread.proofs.Branches.{if_form, if_else_form}
 use Rattle.ecma_reread.proofs.Loops.{while_form, do_form}
 use Rattle.ecma_reread.proofs.Switches.{ReadAsCase, ReadAsCases, no_cases_form, more_cases_form, case_form, default_form, switch_form}
-use Rattle.ecma_reread.proofs.Tries.{ReadAsCatch, catch_any_form, catch_name_form, try_catch_form, try_finally_form, try_catch_finally_form}
+use Rattle.ecma_reread.proofs.Tries.{ReadAsCatch, catch_any_form, catch_pattern_form, try_catch_form, try_finally_form, try_catch_finally_form}
 use Rattle.ecma_reread.proofs.ForLoops.{OptionalForm, for_loop_form, for_in_form, for_of_form, for_await_form, InitForm, ReadAsForLeft, binding_left, in_left, of_left}
 use Rattle.ecma_reread.proofs.Labels.{labeled_form, break_label_form, continue_label_form}
 use Rattle.ecma_reread.proofs.HeadForms.{head_form}
@@ -95,7 +95,7 @@ module _ (assigned : Bool) where
 
     catch_form : {n : Node} (is : IsCatch n) (d : ℕ) → ReadAsCatch assigned (catch_tokens is d) (bare_catch is)
     catch_form (shapes.catch_any at a b) d = catch_any_form assigned (block_form b d)
-    catch_form (shapes.catch_name at at' i a b) d = catch_name_form assigned (block_form b d) (ident_word i) (ident_free assigned i)
+    catch_form (shapes.catch_pattern at p b) d = catch_pattern_form assigned (block_form b d) p (pattern_form assigned p)
 
     statement_forms : {ss : List Node} (is : AreStatements ss) (d : ℕ) → ReadAsStatements assigned (lined_tokens is d) (bare_statements is)
     statement_forms shapes.no_statements d = no_statements_form assigned

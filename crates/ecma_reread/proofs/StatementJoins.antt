@@ -13,8 +13,8 @@ use Rattle.ecma_tokens.specs.Items.{Tok, sign, Gap, no_gap, Items, it}
 use Rattle.ecma_tokens.specs.Good.{IsGap, IsToken, is_gap_character}
 use Rattle.ecma_tokens.specs.Joins.{joins, joins_next, Joined}
 use Rattle.ecma_reread.specs.Shapes as shapes
-use Rattle.ecma_reread.specs.Shapes.{Level, IsExpression, Ending, IsStatement, IsBlock, IsCase, AreCases, IsCatch, AreStatements, IsOptional, IsForLeft, IsForInit}
-use Rattle.ecma_reread.specs.Tokens.{margin, line_at, blank, sign_of, expression_tokens, ident_word, declarators_tokens, closing_gap, is_braced, branch_gap, test_tokens, statement_tokens, block_tokens, case_tokens, cases_tokens, catch_tokens, lined_tokens, optional_tokens, for_left_tokens, for_tokens, initializer_tokens, as_declarator, as_declarators, for_init_tokens, declarator_tokens}
+use Rattle.ecma_reread.specs.Shapes.{Level, IsExpression, Ending, IsStatement, IsBlock, IsCase, AreCases, IsCatch, AreStatements, IsOptional, IsForLeft, IsForInit, IsPattern}
+use Rattle.ecma_reread.specs.Tokens.{margin, line_at, blank, sign_of, expression_tokens, ident_word, declarators_tokens, closing_gap, is_braced, branch_gap, test_tokens, statement_tokens, block_tokens, case_tokens, cases_tokens, catch_tokens, lined_tokens, optional_tokens, for_left_tokens, for_tokens, initializer_tokens, as_declarator, as_declarators, for_init_tokens, declarator_tokens, pattern_tokens}
 use Rattle.ecma_reread.proofs.Softs.{closing, semicolon, colon, Soft, is_object, parted}
 use Rattle.ecma_reread.proofs.Beginnings.{pattern_blank_joins, begun, blank_joins, opening_joins}
 use Rattle.ecma_reread.proofs.Joins.{ident_whole, no_gap_is, blank_is, Words, expression_joined, declarators_soft, declarator_joined, declarators_joined, pattern_joined}
@@ -88,7 +88,7 @@ cases_empty (shapes.more_cases c cs) d us e = cc
 
 catch_apart : {n : Node} (is : IsCatch n) (d : ℕ) (us : Items) → Apart (catch_tokens is d us)
 catch_apart (shapes.catch_any at n b) d us t = refl
-catch_apart (shapes.catch_name at at' i n b) d us t = refl
+catch_apart (shapes.catch_pattern at p b) d us t = refl
 
 lined_empty : {ss : List Node} (is : AreStatements ss) (d : ℕ) (us : Items) → ss ≡ [] → lined_tokens is d us ≡ us
 lined_empty shapes.no_statements d us e = refl
@@ -101,6 +101,12 @@ branch_is false d = line_is d
 branch_apart : (after_block : Bool) (d : ℕ) (u : Tok) (us : Items) → Apart (it (branch_gap after_block d) u us)
 branch_apart true d u us t = refl
 branch_apart false d u us t = refl
+
+-- `(` in front of a pattern
+pattern_opening : {n : Node} (is : IsPattern n) (us : Items) → joins_next (sign (codes "(")) (pattern_tokens is no_gap us) ≡ true
+unfolding punctuators
+pattern_opening (shapes.name_pattern at i a) us = refl
+pattern_opening is us = refl
 
 module _ (words : Words) where
   pub ended : (us : Items) → Apart us → Joined us → Joined (sign_of (codes ";") us)
@@ -247,8 +253,10 @@ module _ (words : Words) where
 
     catch_joined : {n : Node} (is : IsCatch n) (d : ℕ) (us : Items) → Apart us → Joined us → Joined (catch_tokens is d us)
     catch_joined (shapes.catch_any at n b) d us a j = (blank_is, words.catch_whole, block_apart b d blank blank_wide us (items.key (codes "catch")), block_joined b d blank blank_is us a j)
-    catch_joined (shapes.catch_name at at' i n b) d us a j =
-        (blank_is, words.catch_whole, refl, (blank_is, refl, refl, (no_gap_is, ident_whole i, refl, (no_gap_is, refl, block_apart b d blank blank_wide us (sign (codes ")")), block_joined b d blank blank_is us a j))))
+    catch_joined (shapes.catch_pattern at p b) d us a j =
+        let bs = sign_of (codes ")") (block_tokens b d blank us) in
+        let rest : Joined bs = (no_gap_is, refl, block_apart b d blank blank_wide us (sign (codes ")")), block_joined b d blank blank_is us a j) in
+        (blank_is, words.catch_whole, refl, (blank_is, refl, pattern_opening p bs, pattern_joined words p no_gap no_gap_is bs closing rest))
 
     lined_joined : {ss : List Node} (is : AreStatements ss) (d : ℕ) (us : Items) → Apart us → Joined us → Joined (lined_tokens is d us)
     lined_joined shapes.no_statements d us a j = j

@@ -22,7 +22,7 @@ use Rattle.ecma_print.specs.Layout.{in_place, lay_step, laid}
 use Rattle.ecma_tokens.specs.Items as items
 use Rattle.ecma_tokens.specs.Items.{sign, Gap, no_gap, Items, it, render}
 use Rattle.ecma_reread.specs.Shapes as shapes
-use Rattle.ecma_reread.specs.Shapes.{Level, IsExpression, IsDeclarator, AreDeclarators, Ending, IsStatement, IsBlock, IsCase, AreCases, IsCatch, AreStatements, IsOptional, IsForLeft, IsInitializer, IsForDeclarator, AreForDeclarators, IsForInit}
+use Rattle.ecma_reread.specs.Shapes.{Level, IsExpression, IsDeclarator, AreDeclarators, Ending, IsStatement, IsBlock, IsCase, AreCases, IsCatch, AreStatements, IsOptional, IsForLeft, IsInitializer, IsForDeclarator, AreForDeclarators, IsForInit, IsPattern}
 use Rattle.ecma_reread.specs.Tokens.{margin, line_at, blank, sign_of, expression_tokens, declarator_tokens, declarators_tokens, closing_gap, is_braced, branch_gap, test_tokens, statement_tokens, block_tokens, case_tokens, cases_tokens, catch_tokens, lined_tokens, ident_word, optional_tokens, for_left_tokens, for_tokens, initializer_tokens, as_declarator, as_declarators, for_init_tokens}
 use Rattle.ecma_reread.proofs.Layouts.{laid_node, at_node, gap_out, expression_laid, within_laid, declarator_laid, more_declarators_laid, pattern_laid, pattern_gap_out}
 use Rattle.ecma_reread.proofs.Spots.{calm_start, calm_0, calm_1}
@@ -148,6 +148,11 @@ record Seen (n : Node) (braced : Bool) : Type 0 where
 
 seen : (at : Span) (k : Kind) (cs : List Node) (braced : Bool) → is_there k ≡ true → is_block k ≡ braced → Seen (node_of at k cs) braced
 seen at k cs braced h e = record { there = ap (λ x. is_there x.kind) (laid_node at k cs) ∙ h; block_is = ap (λ x. is_block x.kind) (laid_node at k cs) ∙ e }
+
+pattern_seen : {n : Node} → IsPattern n → Seen n false
+pattern_seen (shapes.name_pattern at i a) = seen at _ _ false refl refl
+pattern_seen (shapes.array_pattern at at' es a) = seen at _ _ false refl refl
+pattern_seen (shapes.object_pattern at at' ps a) = seen at _ _ false refl refl
 
 block_seen : {n : Node} → IsBlock n → Seen n true
 block_seen (shapes.block_of at at' ss) = seen at _ _ true refl refl
@@ -370,14 +375,14 @@ mutual
       let bs = block_tokens b d blank us in
       at_node at kind.CatchClause (node_of at' kind.Absent [] ∷ b' ∷ []) (Within Blank (free 0)) m (render us)
       ∙ ap (λ z. codes " catch" ++ z) (at_node at' kind.Absent [] (Within Parentheses (free 1)) m ((laid b').at (Within Blank (free 0)) m (render us)) ∙ body_laid (block_seen b) m us bs (sym (block_laid b d blank us)))
-  catch_laid (shapes.catch_name at at' {none = n'} {b = b'} (shapes.ident of w i) a b) d us =
+  catch_laid (shapes.catch_pattern at {p = p'} {b = b'} p b) d us =
       let m = margin d in
       let bs = block_tokens b d blank us in
-      let name = node_of of (kind.Ident w 0 false) [] in
-      at_node at kind.CatchClause (node_of at' kind.BindingIdent (name ∷ n' ∷ []) ∷ b' ∷ []) (Within Blank (free 0)) m (render us)
+      let s = pattern_seen p in
+      at_node at kind.CatchClause (p' ∷ b' ∷ []) (Within Blank (free 0)) m (render us)
       ∙ ap (λ z. codes " catch" ++ z)
-      (at_node at' kind.BindingIdent (name ∷ n' ∷ []) (Within Parentheses (free 1)) m ((laid b').at (Within Blank (free 0)) m (render us))
-      ∙ rw (laid_node of (kind.Ident w 0 false) []) (ap (λ z. codes " (" ++ (w ++ (codes ")" ++ z))) (body_laid (block_seen b) m us bs (sym (block_laid b d blank us)))))
+      (within_there p' s.there Parentheses (free 1) m ((laid b').at (Within Blank (free 0)) m (render us))
+      ∙ ap (λ z. codes " (" ++ z) (ap (λ z. (laid p').at (At (free 1)) m (codes ")" ++ z)) (body_laid (block_seen b) m us bs (sym (block_laid b d blank us))) ∙ pattern_laid p m (sign_of (codes ")") bs)))
 
   lined_laid : {ss : List Node} (is : AreStatements ss) (d : ℕ) (us : Items) → new_lines (map laid ss) (margin d) (render us) ≡ render (lined_tokens is d us)
   lined_laid shapes.no_statements d us = refl

@@ -16,17 +16,20 @@ use Rattle.ecma_tokens.specs.Items as items
 use Rattle.ecma_tokens.specs.Items.{sign, no_gap, Items, it}
 use Rattle.ecma_reread.specs.Machine.{means}
 use Rattle.ecma_reread.specs.Shapes as shapes
-use Rattle.ecma_reread.specs.Tokens.{bare, blank}
+use Rattle.ecma_reread.specs.Shapes.{IsPattern}
+use Rattle.ecma_reread.specs.Tokens.{bare, blank, pattern_tokens, bare_pattern}
 use Rattle.ecma_reread.proofs.Fronts.{exactly, refused_at}
 use Rattle.ecma_reread.proofs.Heads.{nodes}
 use Rattle.ecma_reread.proofs.Forms.{Laid, s, Reads}
 use Rattle.ecma_reread.proofs.Statements.{ReadAsStatement, token_form}
-use Rattle.ecma_reread.proofs.Variables.{binding, pattern_read}
+use Rattle.ecma_reread.proofs.Spreads.{ReadAsPattern}
 use Rattle.ecma_reread.proofs.Blocks.{ReadAsBlock}
 
--- a name without annotation
-name_made : (w : List ℕ) → made form.Annotated 0 0 (binding w ∷ absent ∷ absent ∷ []) ≡ binding w
-name_made w = simp nodes
+-- a pattern without annotation
+pattern_alone : {n : Node} (is : IsPattern n) → made form.Annotated 0 0 (bare_pattern is ∷ absent ∷ absent ∷ []) ≡ bare_pattern is
+pattern_alone (shapes.name_pattern at i a) = simp nodes
+pattern_alone (shapes.array_pattern at at' es a) = simp nodes
+pattern_alone (shapes.object_pattern at at' ps a) = simp nodes
 
 module _ (assigned : Bool) where
   -- a clause of `catch` as it is laid out
@@ -38,10 +41,10 @@ module _ (assigned : Bool) where
     unfolding catch_clause
     catch_any_form = record { reads = λ us. rw (refused_at assigned (means assigned) (punct (codes "(")) (exactly (sign (codes "{"))) (f blank us) (B.begins blank us) refl, B.reads blank us) refl }
 
-    pub catch_name_form : (w : List ℕ) → is_reserved w ≡ false
-        → ReadAsCatch (λ us. it blank (items.key (codes "catch")) (it blank (sign (codes "(")) (it no_gap (items.key w) (s (codes ")") (f blank us))))) (bare kind.CatchClause (binding w ∷ n ∷ []))
+    pub catch_pattern_form : {p : Node} (is : IsPattern p) → ReadAsPattern assigned (pattern_tokens is) (bare_pattern is)
+        → ReadAsCatch (λ us. it blank (items.key (codes "catch")) (it blank (sign (codes "(")) (pattern_tokens is no_gap (s (codes ")") (f blank us))))) (bare kind.CatchClause (bare_pattern is ∷ n ∷ []))
     unfolding catch_clause
-    catch_name_form w free = record { reads = λ us. rw (pattern_read assigned w free no_gap (s (codes ")") (f blank us)), name_made w, B.reads blank us) refl }
+    catch_pattern_form is P = record { reads = λ us. rw (P.reads no_gap (s (codes ")") (f blank us)), pattern_alone is, B.reads blank us) refl }
 
     pub try_catch_form : {c : Items → Items} {m : Node} → ReadAsCatch c m → ReadAsStatement assigned shapes.closed (λ g us. it g (items.key (codes "try")) (f blank (c us))) (bare kind.TryStmt (n ∷ m ∷ absent ∷ []))
     unfolding statement_body try_ names.block statements.if_ statements.for_await statements.for_ statements.while_ statements.do_while statements.switch module_item modules.import modules.import_equals modules.export modules.export_default is_reserved reserved_words

@@ -239,9 +239,7 @@ mutual
 
   catch_bare : {n : Node} (is : IsCatch n) → without_spans n ≡ bare_catch is
   catch_bare (shapes.catch_any at a b) = without_spans-node at kind.CatchClause _ ∙ ap₂ (λ x y. bare kind.CatchClause (x ∷ y ∷ [])) (absent_bare a) (block_bare b)
-  catch_bare (shapes.catch_name at at' i a b) =
-      without_spans-node at kind.CatchClause _
-      ∙ ap₂ (λ x y. bare kind.CatchClause (x ∷ y ∷ [])) (without_spans-node at' kind.BindingIdent _ ∙ ap₂ (λ x y. bare kind.BindingIdent (x ∷ y ∷ [])) (ident_bare i) (absent_bare a)) (block_bare b)
+  catch_bare (shapes.catch_pattern at p b) = without_spans-node at kind.CatchClause _ ∙ ap₂ (λ x y. bare kind.CatchClause (x ∷ y ∷ [])) (pattern_bare p) (block_bare b)
 
   statements_bare : {ss : List Node} (is : AreStatements ss) → map without_spans ss ≡ bare_statements is
   statements_bare shapes.no_statements = refl

@@ -347,7 +347,7 @@ mutual
 
   pub data IsCatch : Node → Type 0 where
     catch_any : (at : Span) {none b : Node} → IsAbsent none → IsBlock b → IsCatch (node_of at kind.CatchClause (none ∷ b ∷ []))
-    catch_name : (at at_binding : Span) {id none b : Node} → IsIdent id → IsAbsent none → IsBlock b → IsCatch (node_of at kind.CatchClause (node_of at_binding kind.BindingIdent (id ∷ none ∷ []) ∷ b ∷ []))
+    catch_pattern : (at : Span) {p b : Node} → IsPattern p → IsBlock b → IsCatch (node_of at kind.CatchClause (p ∷ b ∷ []))
 
   pub data AreStatements : List Node → Type 0 where
     no_statements : AreStatements []

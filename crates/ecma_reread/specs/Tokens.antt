@@ -24,7 +24,7 @@ use Rattle.ecma_print.specs.Operators.{unary_sign, update_sign}
 use Rattle.ecma_print.specs.Statements.{keyword}
 use Rattle.ecma_tokens.specs.Items as items
 use Rattle.ecma_tokens.specs.Items.{Tok, sign, Gap, no_gap, Items, it}
-use Rattle.ecma_reread.specs.Shapes.{IsIdent, ident, IsKey, key, Level, IsExpression, looser, element, prefix_update, postfix_update, await_expression, unary_expression, binary_expression, exponentiation, both, either, coalesced, assignment_expression, conditional_expression, sequence_expression, name, string, number, this_word, big_int, null_word, true_word, false_word, member, call, parenthesized, IsElement, one, spread, IsArguments, no_arguments, arguments, AreElements, no_elements, more_elements, AreExpressions, no_expressions, more_expressions, IsInitializer, no_initializer, initializer, IsDeclarator, declarator, AreDeclarators, no_declarators, more_declarators, IsStatement, expression, declaration, empty, debugger_word, throw, return_value, return_nothing, break_nothing, continue_nothing, Ending, break_label, continue_label, block, if_only, if_else, while_loop, do_loop, labeled, IsBlock, block_of, AreStatements, no_statements, more_statements, array, AreSlots, no_slots, filled, hole, switch_statement, IsCase, case_of, default_of, AreCases, no_cases, more_cases, new_expression, new_alone, new_target, try_catch, try_finally, try_catch_finally, IsCatch, catch_any, catch_name, IsChainKey, plain_key, private_key, super_member, super_element, super_call, IsOptional, left_out, given, IsForLeft, for_binding, for_target, for_loop, for_in, for_of, object_literal, IsPropertyName, key_name, string_name, number_name, big_int_name, computed_name, IsProperty, key_value, shorthand, initialized, spread_property, AreProperties, no_properties, more_properties, private_in, yield_nothing, yield_value, import_meta, import_call, regex, regex_text, Role, bound, rest, renamed, named, rest_property, IsPattern, name_pattern, array_pattern, object_pattern, IsDefaulted, no_default, with_default, IsForDeclarator, for_declarator, AreForDeclarators, no_for_declarators, more_for_declarators, IsForInit, no_init, init_declaration, init_expression, part_text, IsPart, part, AreParts, last_part, more_parts, template, tagged_template, arrow_function}
+use Rattle.ecma_reread.specs.Shapes.{IsIdent, ident, IsKey, key, Level, IsExpression, looser, element, prefix_update, postfix_update, await_expression, unary_expression, binary_expression, exponentiation, both, either, coalesced, assignment_expression, conditional_expression, sequence_expression, name, string, number, this_word, big_int, null_word, true_word, false_word, member, call, parenthesized, IsElement, one, spread, IsArguments, no_arguments, arguments, AreElements, no_elements, more_elements, AreExpressions, no_expressions, more_expressions, IsInitializer, no_initializer, initializer, IsDeclarator, declarator, AreDeclarators, no_declarators, more_declarators, IsStatement, expression, declaration, empty, debugger_word, throw, return_value, return_nothing, break_nothing, continue_nothing, Ending, break_label, continue_label, block, if_only, if_else, while_loop, do_loop, labeled, IsBlock, block_of, AreStatements, no_statements, more_statements, array, AreSlots, no_slots, filled, hole, switch_statement, IsCase, case_of, default_of, AreCases, no_cases, more_cases, new_expression, new_alone, new_target, try_catch, try_finally, try_catch_finally, IsCatch, catch_any, IsChainKey, plain_key, private_key, super_member, super_element, super_call, IsOptional, left_out, given, IsForLeft, for_binding, for_target, for_loop, for_in, for_of, object_literal, IsPropertyName, key_name, string_name, number_name, big_int_name, computed_name, IsProperty, key_value, shorthand, initialized, spread_property, AreProperties, no_properties, more_properties, private_in, yield_nothing, yield_value, import_meta, import_call, regex, regex_text, Role, bound, rest, renamed, named, rest_property, IsPattern, name_pattern, array_pattern, object_pattern, IsDefaulted, no_default, with_default, IsForDeclarator, for_declarator, AreForDeclarators, no_for_declarators, more_for_declarators, IsForInit, no_init, init_declaration, init_expression, part_text, IsPart, part, AreParts, last_part, more_parts, template, tagged_template, arrow_function, catch_pattern}
 
 abbrev pub blank : Gap
 blank = record { blanks = codes " "; new_line = false }
@@ -357,7 +357,7 @@ abbrev mutual
 
   pub catch_tokens : {c : Node} → IsCatch c → ℕ → Items → Items
   catch_tokens (catch_any at a b) d us = it blank (items.key (codes "catch")) (block_tokens b d blank us)
-  catch_tokens (catch_name at at' i a b) d us = it blank (items.key (codes "catch")) (it blank (sign (codes "(")) (it no_gap (items.key (ident_word i)) (sign_of (codes ")") (block_tokens b d blank us))))
+  catch_tokens (catch_pattern at p b) d us = it blank (items.key (codes "catch")) (it blank (sign (codes "(")) (pattern_tokens p no_gap (sign_of (codes ")") (block_tokens b d blank us))))
 
   -- each on a line of its own
   pub cases_tokens : {cs : List Node} → AreCases cs → ℕ → Items → Items
@@ -585,7 +585,7 @@ abbrev mutual
 
   pub bare_catch : {c : Node} → IsCatch c → Node
   bare_catch (catch_any at a b) = bare kind.CatchClause (absent ∷ bare_block b ∷ [])
-  bare_catch (catch_name at at' i a b) = bare kind.CatchClause (bare kind.BindingIdent (bare_ident i ∷ absent ∷ []) ∷ bare_block b ∷ [])
+  bare_catch (catch_pattern at p b) = bare kind.CatchClause (bare_pattern p ∷ bare_block b ∷ [])
 
   pub bare_statements : {ss : List Node} → AreStatements ss → List Node
   bare_statements no_statements = []
