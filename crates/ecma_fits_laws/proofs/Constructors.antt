@@ -12,14 +12,13 @@ use Rattle.ecma_tree.specs.Sorted.{HasShape, child_shapes, many, maybe, one}
 use Rattle.ecma_tree.proofs.ShapeLaws.{node_has_shape}
 use Rattle.ecma_rules.specs.declared.target.Target.{Target}
 use Rattle.ecma_rules.specs.declared.target.Target.TheVariants as target
-use Rattle.ecma_rules.specs.Children.{children_of as items_of, has_child, items_at, kind_of}
+use Rattle.ecma_rules.specs.Children.{children_of as items_of, kind_of}
 use Rattle.ecma_rules.specs.Finishing.{each_in, finished_at}
 use Rattle.ecma_rules.specs.Jumps.{first_stray}
 use Rattle.ecma_rules.specs.Members.{is_constructor, is_full_constructor, second_by, second_constructor, second_of}
 use Rattle.ecma_rules.specs.Rules.{first_misplaced}
 use Rattle.ecma_rules.specs.Surroundings.{at_root}
 use Rattle.ecma_rules.specs.Targets.{target_in}
-use Rattle.ecma_fits.specs.declared.unfit.Where.{Where}
 use Rattle.ecma_fits.specs.Fitting.{at_top}
 use Rattle.ecma_fits_laws.specs.Clauses.{has_second_constructor}
 use Rattle.ecma_fits_laws.specs.Finished.{FinishedClassesHaveOneConstructor}

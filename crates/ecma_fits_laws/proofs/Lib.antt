@@ -6,3 +6,7 @@ pub mod Tests
 pub mod Rules
 pub mod Constructors
 pub mod Clauses
+pub mod ReadingOf
+pub mod ReadLeaves
+pub mod Everywhere
+pub mod Read

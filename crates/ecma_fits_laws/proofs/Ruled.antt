@@ -1,5 +1,5 @@
 -- What no node of a raw tree that keeps the rules fails, none of the finished tree fails.
-use Rattle.std.proofs.Common.{◌≡◌, ◌∙◌, ℕ, zero, suc, Bool, true, false, not, ◌&&◌, ◌==◌, List, [], ◌∷◌, ◌++◌, map, length, Option, None, refl, sym, ap, subst}
+use Rattle.std.proofs.Common.{◌≡◌, ◌∙◌, ℕ, suc, Bool, true, false, not, ◌&&◌, ◌==◌, List, [], ◌∷◌, ◌++◌, map, length, Option, None, refl, sym, ap, subst}
 use Rattle.ecma_kind.specs.Sorts.{belongs}
 use Rattle.ecma_kind.specs.declared.span.Span.{Span}
 use Rattle.ecma_kind.specs.declared.operators.AssignOp.{AssignOp}
@@ -19,7 +19,7 @@ use Rattle.ecma_rules.specs.declared.target.Target.TheVariants as target
 use Rattle.ecma_rules.specs.declared.standing.Around.{Around}
 use Rattle.ecma_rules.specs.declared.standing.Standing.{Standing}
 use Rattle.ecma_rules.specs.Children.{kind_of}
-use Rattle.ecma_rules.specs.Failing.{failing_here, failing_step, first_failing, least, least_from}
+use Rattle.ecma_rules.specs.Failing.{failing_here, failing_step, first_failing, least_from}
 use Rattle.ecma_rules.specs.Finishing.{binding, default_by, each_in, element_by, finished_at, finished_by, left_by, name_by, part_by, property_by, shorthand, with_kind, with_type}
 use Rattle.ecma_rules.specs.Lists.{is_early_rest, is_item, is_rest, is_wrong_head, last_by}
 use Rattle.ecma_rules.specs.Members.{second_constructor}

@@ -1,5 +1,5 @@
 -- The rules that read a finished tree as they read a raw one are kept.
-use Rattle.std.proofs.Common.{◌≡◌, ◌∙◌, ℕ, zero, suc, Bool, true, false, not, ◌&&◌, ◌||◌, List, [], ◌∷◌, map, length, None, refl, sym, ap, ap₂, subst, slice_get}
+use Rattle.std.proofs.Common.{◌≡◌, ◌∙◌, ℕ, Bool, true, false, not, ◌&&◌, ◌||◌, List, [], ◌∷◌, map, length, refl, sym, ap, ap₂, subst, slice_get}
 use Rattle.ecma_kind.specs.declared.span.Span.{Span}
 use Rattle.ecma_kind.specs.declared.kind.Kind.{Kind}
 use Rattle.ecma_kind.specs.declared.kind.Kind.TheVariants as kind
@@ -10,26 +10,26 @@ use Rattle.ecma_tree.specs.declared.node.Node.{Node, Node-F, out-Node, roll-Node
 use Rattle.ecma_tree.specs.declared.node.Node.TheViews.{out-roll-Node}
 use Rattle.ecma_tree.specs.Laws.{HaveShapes}
 use Rattle.ecma_tree.specs.Nodes.{node_of}
-use Rattle.ecma_tree.specs.Sorted.{HasShape, child_shapes, is_list, many, one}
+use Rattle.ecma_tree.specs.Sorted.{HasShape, child_shapes, is_list, one}
 use Rattle.ecma_tree.proofs.ShapeLaws.{node_has_shape}
 use Rattle.ecma_rules.specs.declared.target.Target.{Target}
 use Rattle.ecma_rules.specs.declared.target.Target.TheVariants as target
 use Rattle.ecma_rules.specs.declared.standing.Around.{Around}
 use Rattle.ecma_rules.specs.declared.standing.Standing.{Standing}
-use Rattle.ecma_rules.specs.Children.{child_holds, child_is, children_of as items_of, has_child, holds_of, is_present, items_at, kind_of, of_kind}
-use Rattle.ecma_rules.specs.Finishing.{each_in, finished, finished_at}
+use Rattle.ecma_rules.specs.Children.{child_holds, children_of as items_of, holds_of, is_present, items_at, of_kind}
+use Rattle.ecma_rules.specs.Finishing.{each_in, finished_at}
 use Rattle.ecma_rules.specs.Jumps.{first_stray}
 use Rattle.ecma_rules.specs.Lists.{is_early_rest, is_head, is_item, is_one_without_value, is_rest, is_rest_pattern, is_wrong_head}
 use Rattle.ecma_rules.specs.Members.{fits_kind, is_constructor_key, is_declaring, is_method, is_plain_parameter, is_property_kind, is_special_by, is_special_constructor, is_special_function, is_stray_property, is_wrong_accessor, misfits_by}
-use Rattle.ecma_rules.specs.Rules.{fails_list, fails_member, fails_statement, first_misplaced, is_misplaced}
-use Rattle.ecma_rules.specs.Statements.{is_body, is_declaration, is_declared_body, is_exported, is_quoted_local, is_text}
+use Rattle.ecma_rules.specs.Rules.{first_misplaced, is_misplaced}
+use Rattle.ecma_rules.specs.Statements.{is_body, is_declaration, is_exported, is_text}
 use Rattle.ecma_rules.specs.Surroundings.{at_root}
 use Rattle.ecma_rules.specs.Targets.{is_spread, is_variables, target_in}
 use Rattle.ecma_fits.specs.declared.unfit.Where.{Where}
 use Rattle.ecma_fits.specs.Fitting.{at_top, breaks_rule}
 use Rattle.ecma_fits_laws.specs.Finished.{FinishedTreesKeepRules}
 use Rattle.ecma_fits_laws.proofs.Walks.{neither, neither_least, not_true}
-use Rattle.ecma_fits_laws.proofs.Standing.{Stands, as_last, keeps_last, kept_rules, kind_made, presence, shown, turns}
+use Rattle.ecma_fits_laws.proofs.Standing.{Stands, as_last, keeps_last, kept_rules, kind_made, presence, shown}
 use Rattle.ecma_fits_laws.proofs.Tests.{kind_at, kind_fits, plain_parameter, test_at, without_value}
 use Rattle.ecma_fits_laws.proofs.Ruled.{is_made, ruled}
 

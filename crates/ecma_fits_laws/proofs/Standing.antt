@@ -1,5 +1,5 @@
 -- Where a node stands in the finished tree, by where it stood in the raw one.
-use Rattle.std.proofs.Common.{◌≡◌, ◌∙◌, ℕ, zero, suc, Bool, true, false, not, ◌&&◌, ◌||◌, ◌==◌, cond, List, [], ◌∷◌, map, length, Option, Some, None, refl, sym, ap, subst, slice_get}
+use Rattle.std.proofs.Common.{◌≡◌, ◌∙◌, ℕ, zero, suc, Bool, true, false, not, ◌&&◌, ◌||◌, ◌==◌, cond, List, [], ◌∷◌, map, length, refl, sym, ap, subst, slice_get}
 use Rattle.ecma_kind.specs.Sorts.{belongs}
 use Rattle.ecma_kind.specs.declared.span.Span.{Span}
 use Rattle.ecma_kind.specs.declared.operators.AssignOp.{AssignOp}
@@ -17,11 +17,11 @@ use Rattle.ecma_rules.specs.declared.target.Target.{Target}
 use Rattle.ecma_rules.specs.declared.target.Target.TheVariants as target
 use Rattle.ecma_rules.specs.declared.standing.Around.{Around}
 use Rattle.ecma_rules.specs.Children.{is_present, kind_of, of_kind}
-use Rattle.ecma_rules.specs.Finishing.{binding, each_in, finished_at, finished_by, finished_step, shorthand}
+use Rattle.ecma_rules.specs.Finishing.{each_in, finished_at, finished_by, finished_step}
 use Rattle.ecma_rules.specs.Lists.{last_by}
 use Rattle.ecma_rules.specs.Rules.{fails_list, fails_member, fails_statement, fails_super, fails_target, is_misplaced}
 use Rattle.ecma_rules.specs.Surroundings.{standing_by}
-use Rattle.ecma_rules.specs.Targets.{first_is, is_literal, is_no_target, is_plain, is_plain_target, is_simple_target, is_stray_default, is_wrapper, may_be, simple_step, takes_patterns, target_in}
+use Rattle.ecma_rules.specs.Targets.{first_is, is_literal, is_no_target, is_plain, is_plain_target, is_simple_target, is_stray_default, is_wrapper, simple_step, takes_patterns, target_in}
 use Rattle.ecma_fits_laws.proofs.Walks.{neither, not_true}
 
 -- what the rules still see of a target: literals and names in a pattern are turned, and nothing more is asked of them

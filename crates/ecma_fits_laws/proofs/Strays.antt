@@ -1,5 +1,5 @@
 -- What belongs to nothing in a finished tree belongs to nothing in the raw one.
-use Rattle.std.proofs.Common.{◌≡◌, ◌∙◌, ℕ, zero, suc, Bool, true, false, ◌&&◌, List, [], ◌∷◌, ◌++◌, map, length, Option, Some, None, refl, sym, ap, ap₂, subst, slice_get}
+use Rattle.std.proofs.Common.{◌≡◌, ◌∙◌, ℕ, suc, Bool, true, false, List, [], ◌∷◌, ◌++◌, map, length, Option, None, refl, sym, ap, subst, slice_get}
 use Rattle.ecma_kind.specs.declared.span.Span.{Span}
 use Rattle.ecma_kind.specs.declared.operators.AssignOp.{AssignOp}
 use Rattle.ecma_kind.specs.declared.operators.AssignOp.TheVariants.{Assign}
@@ -11,15 +11,14 @@ use Rattle.ecma_tree.specs.declared.node.Node.{Node, Node-F, fold-roll-Node, ind
 use Rattle.ecma_tree.specs.declared.node.Node.TheViews.{out-roll-Node}
 use Rattle.ecma_tree.specs.Laws.{HaveShapes}
 use Rattle.ecma_tree.specs.Nodes.{absent, dummy_span, node_of}
-use Rattle.ecma_tree.specs.Sorted.{HasShape, allows, child_shapes, one}
+use Rattle.ecma_tree.specs.Sorted.{HasShape, child_shapes, one}
 use Rattle.ecma_tree.proofs.ShapeLaws.{node_has_shape}
 use Rattle.ecma_rules.specs.declared.target.Target.{Target}
 use Rattle.ecma_rules.specs.declared.target.Target.TheVariants as target
-use Rattle.ecma_rules.specs.Children.{kind_of}
 use Rattle.ecma_rules.specs.Failing.{failing_here, failing_step, least, least_from}
 use Rattle.ecma_rules.specs.Finishing.{binding, default_by, each_in, element_by, finished_at, finished_by, finished_step, left_by, name_by, part_by, property_by, shorthand, with_kind, with_type}
 use Rattle.ecma_rules.specs.Jumps.{Held, ends_jumps, first_held_stray, first_stray, held_behind, held_in, is_held_stray, is_stray_in, not_held, own_label, stray_here, text_by, text_of}
-use Rattle.ecma_rules.specs.Rules.{first_broken, first_misplaced}
+use Rattle.ecma_rules.specs.Rules.{first_misplaced}
 use Rattle.ecma_rules.specs.Strays.{in_named, is_stray, strays_in}
 use Rattle.ecma_rules.specs.Surroundings.{at_root}
 use Rattle.ecma_rules.specs.Targets.{target_in}

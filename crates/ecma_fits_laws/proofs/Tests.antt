@@ -1,5 +1,5 @@
 -- What the rules ask of the children of a node stays where nothing is assigned to.
-use Rattle.std.proofs.Common.{◌≡◌, ◌∙◌, ℕ, zero, suc, Bool, true, false, not, ◌&&◌, ◌||◌, codes, List, [], ◌∷◌, map, length, replicate, Option, Some, None, refl, sym, ap, ap₂, subst, slice_get}
+use Rattle.std.proofs.Common.{◌≡◌, ◌∙◌, ℕ, zero, suc, Bool, true, not, codes, List, [], ◌∷◌, map, length, replicate, refl, sym, ap, subst, slice_get}
 use Rattle.ecma_kind.specs.Sorts.{belongs}
 use Rattle.ecma_kind.specs.declared.kind.Kind.{Kind}
 use Rattle.ecma_kind.specs.declared.kind.Kind.TheVariants as kind

@@ -4,7 +4,10 @@
 #![tactic(auto)]
 
 ghost use Rattle.ecma_fits_laws.specs.Clauses.{FitsByClauses};
+ghost use Rattle.ecma_fits_laws.specs.Read.{ReadLeavesAreSpelled, ReadTreesKeepRules};
 ghost use Rattle.ecma_fits_laws.specs.Finished.{FinishedClassesHaveOneConstructor, FinishedTreesHaveNoStrays, FinishedTreesKeepRules};
+
+use ecma_text_laws::modules_that_are_read_are_sorted;
 
 /// A tree fits exactly where it is a module by its sorts and no node of it fails one of the clauses.
 #[tactic(auto, using(crate::proofs::Clauses::clauses))]
@@ -28,4 +31,17 @@ pub fn finished_trees_keep_rules()
 #[tactic(auto, using(crate::proofs::Constructors::single))]
 pub fn finished_classes_have_one_constructor()
     ensures { FinishedClassesHaveOneConstructor }
+{}
+
+/// What is read as a module, in either mode and with any number of levels, keeps these rules.
+pub fn trees_that_are_read_keep_rules()
+    ensures { ReadTreesKeepRules }
+{
+    modules_that_are_read_are_sorted();
+}
+
+/// Names, keys, private names, texts and numbers of what is read as a module are spelled as their terminals read them, and say what these say.
+#[tactic(auto, using(crate::proofs::Read::reading))]
+pub fn leaves_that_are_read_are_spelled()
+    ensures { ReadLeavesAreSpelled }
 {}

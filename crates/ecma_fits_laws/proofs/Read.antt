@@ -1,0 +1,143 @@
+-- What is read as a module keeps the rules, and its names, keys, texts and numbers are spelled.
+use Rattle.std.proofs.Common.{◌≡◌, ◌∙◌, ◌<◌, ℕ, suc, Bool, true, false, not, ◌&&◌, List, [], ◌∷◌, map, length, Option, Some, None, Result, Ok, Err, refl, sym, ap, subst}
+use Rattle.std.specs.Str.{IsUtf8}
+use Rattle.ecma_kind.specs.declared.kind.Kind.{Kind}
+use Rattle.ecma_kind.specs.declared.kind.Kind.TheVariants as kind
+use Rattle.ecma_kind.specs.declared.shapes.Sort.TheVariants as sort
+use Rattle.ecma_tree.specs.declared.node.Node.{Node, Node-F, ind-Node, out-Node, roll-Node}
+use Rattle.ecma_tree.specs.Sorted.{HasSort}
+use Rattle.ecma_grammar.specs.declared.modules.RawError.{RawError}
+use Rattle.ecma_grammar.specs.declared.production.Mode.{Mode}
+use Rattle.ecma_grammar.specs.Modules as grammar
+use Rattle.ecma_grammar.specs.Modules.{reads_module}
+use Rattle.ecma_grammar.specs.Reading.{Outcome, Position, fails, read, too_deep}
+use Rattle.ecma_grammar.specs.trees.Functions.{questioned_kind}
+use Rattle.ecma_grammar.specs.trees.Others.{the_one}
+use Rattle.ecma_grammar.specs.trees.Parts.{framed}
+use Rattle.ecma_rules.specs.declared.target.Target.TheVariants as target
+use Rattle.ecma_rules.specs.Children.{kind_of}
+use Rattle.ecma_rules.specs.Failing.{failing_here, failing_step, first_failing, least, least_from}
+use Rattle.ecma_rules.specs.Finishing.{finished}
+use Rattle.ecma_rules.specs.Rules.{first_broken}
+use Rattle.ecma_rules.proofs.Layers.{from_leaves-roll}
+use Rattle.ecma_spelling.specs.Everywhere.{Each, Everywhere, more, none}
+use Rattle.ecma_spelling.proofs.Forms.{is_leaf}
+use Rattle.ecma_spelling.proofs.Trees.{children_good, good_absent, good_framed, kind_good}
+use Rattle.ecma_text.specs.Modules.{answer_by, kept_by, reads_as}
+use Rattle.ecma_text_laws.specs.Sorts.{ReadModulesAreSorted}
+use Rattle.ecma_leaves.specs.Words.{is_spelled}
+use Rattle.ecma_fits.specs.declared.unfit.Where.{Where}
+use Rattle.ecma_fits.specs.Fitting.{at_top, where_in}
+use Rattle.ecma_fits.specs.Roles.{is_tagged}
+use Rattle.ecma_fits_laws.specs.Clauses.{NoneFails}
+use Rattle.ecma_fits_laws.specs.Read.{KeepsRules, ReadLeavesAreSpelled, ReadTreesKeepRules, is_told, is_told_wrong}
+use Rattle.ecma_fits_laws.proofs.Constructors.{one_constructor}
+use Rattle.ecma_fits_laws.proofs.Everywhere.{finished_good}
+use Rattle.ecma_fits_laws.proofs.ReadLeaves.{Told, leaf_told}
+use Rattle.ecma_fits_laws.proofs.ReadingOf.{read_holds}
+use Rattle.ecma_fits_laws.proofs.Rules.{children_made, keeps_rules}
+use Rattle.ecma_fits_laws.proofs.Standing.{kind_made}
+use Rattle.ecma_fits_laws.proofs.Strays.{no_strays}
+use Rattle.ecma_fits_laws.proofs.Walks.{both_none, not_true, shifted}
+
+-- a tree that is read is a raw one, finished, that keeps the rules
+of_raw : (Q : Node → Type 0) (text : List ℕ) (mode : Mode) (bound : ℕ) (tree : Node) → ((raw : Node) → grammar.answer_of (reads_module text mode bound) ≡ Ok raw → first_broken raw ≡ None → finished raw ≡ tree → Q tree)
+    → reads_as text mode bound ≡ Ok tree → Q tree
+of_raw Q text mode bound tree g e = of_answer (grammar.answer_of (reads_module text mode bound)) refl e
+  where
+    kept : (raw : Node) (broken : Option ℕ) → first_broken raw ≡ broken → grammar.answer_of (reads_module text mode bound) ≡ Ok raw → kept_by raw broken ≡ Ok tree → Q tree
+    kept raw None b h f = let is : finished raw ≡ tree = cc in g raw h b is
+    kept raw (Some at) b h f = cc
+
+    of_answer : (a : Result Node RawError) → grammar.answer_of (reads_module text mode bound) ≡ a → answer_by a ≡ Ok tree → Q tree
+    of_answer (Ok raw) h f = kept raw (first_broken raw) refl h f
+    of_answer (Err reason) h f = cc
+
+pub read_keeps : ReadModulesAreSorted → ReadTreesKeepRules
+read_keeps read_sorted text mode bound tree e =
+    let sorted : HasSort sort.Module tree = read_sorted text mode bound tree e in
+    of_raw KeepsRules text mode bound tree
+    (λ raw h b is.
+    let s : HasSort sort.Module (finished raw) = subst (HasSort sort.Module) (sym is) sorted in
+    subst KeepsRules is (record { rules = keeps_rules raw b s; constructors = one_constructor raw b s; strays = no_strays raw b s })) e
+
+-- leaves
+
+told_other : (k : Kind) → is_leaf k ≡ false → Told k
+told_other (kind.Ident text ctxt optional) h = not_true (sym h)
+told_other (kind.IdentName text) h = not_true (sym h)
+told_other (kind.PrivateName text) h = not_true (sym h)
+told_other (kind.Str value raw) h = not_true (sym h)
+told_other (kind.Number value raw) h = not_true (sym h)
+told_other _ h = λ is. not_true is
+
+told_question : (optional : Bool) (k : Kind) → Told k → Told (questioned_kind optional k)
+told_question optional (kind.Ident text ctxt before) p = p
+told_question optional (kind.ArrayPat before) p = λ is. not_true is
+told_question optional (kind.ObjectPat before) p = λ is. not_true is
+told_question optional _ p = p
+
+abbrev Good : Node → Type 0
+Good = Everywhere Told
+
+one_good : {xs : List Node} → Each Told xs → Good (the_one xs)
+one_good none = good_absent Told (told_other kind.Absent refl)
+one_good (more a none) = a
+one_good (more a (more b h)) = good_absent Told (told_other kind.Absent refl)
+
+raw_good : (text : List ℕ) (mode : Mode) (bound : ℕ) (raw : Node) → IsUtf8 text → length text < 4294967296 → grammar.answer_of (reads_module text mode bound) ≡ Ok raw → Good raw
+raw_good text mode bound raw u small e = by_outcome (reads_module text mode bound) (read_holds Told told_other told_question text mode (leaf_told text u small) bound (record { place = 0; failed = 0 })) e
+  where
+    by_outcome : (o : Outcome (List Node)) → ((s : Position) (xs : List Node) → o ≡ read xs s → Each Told xs) → grammar.answer_of o ≡ Ok raw → Good raw
+    by_outcome (read xs s) h f =
+        let is : framed 1 the_one xs ≡ raw = cc in
+        subst Good is (good_framed Told (told_other kind.Absent refl) 1 the_one (h s xs refl) (λ all. one_good all))
+    by_outcome (fails at) h f = cc
+    by_outcome (too_deep at) h f = cc
+
+tag_same : (k : Kind) (tagged : Bool) → is_told k ≡ true → is_spelled tagged k ≡ is_spelled true k
+tag_same (kind.Ident text ctxt optional) tagged h = refl
+tag_same (kind.IdentName text) tagged h = refl
+tag_same (kind.PrivateName text) tagged h = refl
+tag_same (kind.Str value raw) tagged h = refl
+tag_same (kind.Number value raw) tagged h = refl
+tag_same _ tagged h = not_true h
+
+told_right : (w : Where) (k : Kind) → Told k → (is_told k && not (is_spelled (is_tagged w.role) k)) ≡ false
+told_right w k told = go (is_told k) refl
+  where
+    go : (b : Bool) → is_told k ≡ b → (is_told k && not (is_spelled (is_tagged w.role) k)) ≡ false
+    go true e = let s = tag_same k (is_tagged w.role) e ∙ told e in rw (e, s) refl
+    go false e = rw e refl
+
+abbrev walk : Node → Where → Option ℕ
+walk = first_failing Where (λ w node. failing_here (is_told_wrong w node) node) where_in
+
+abbrev Walks : Node → Type 0
+Walks n = Good n → (w : Where) → walk n w ≡ None
+
+all_walk : (es : List ((n : Node) × Walks n)) → Each Told (map (λ e. e.0) es) → (where_of : ℕ → Where) → least_from Where where_of 0 (map walk (map (λ e. e.0) es)) ≡ None
+all_walk [] h where_of = refl
+all_walk (e ∷ es) (more a h) where_of =
+    let ns = map (λ e. e.0) es in
+    both_none (walk e.0 (where_of 0)) (least_from Where where_of 1 (map walk ns)) (e.1 a (where_of 0)) (shifted Where where_of 0 (map walk ns) ∙ all_walk es h (λ i. where_of (suc i)))
+
+node_walks : (x : Node-F Node) → (Each Told x.children → (where_of : ℕ → Where) → least_from Where where_of 0 (map walk x.children) ≡ None) → Walks (roll-Node x)
+node_walks x below g w =
+    let n = roll-Node x in
+    let here : is_told_wrong w n ≡ false = told_right w (kind_of n) (kind_good Told g) in
+    let all : Each Told x.children = subst (Each Told) (children_made x) (children_good Told g) in
+    ap (λ f. f w) (from_leaves-roll (Where → Option ℕ) (failing_step Where (λ w node. failing_here (is_told_wrong w node) node) where_in) x)
+    ∙ both_none (failing_here (is_told_wrong w n) n) (least_from Where (where_in w n) 0 (map walk x.children)) (ap (λ b. failing_here b n) here) (below all (where_in w n))
+
+good_walks : (n : Node) → Walks n
+good_walks = ind-Node Walks (λ x y is. node_walks x (subst (λ (z : Node-F Node). Each Told z.children → (where_of : ℕ → Where) → least_from Where where_of 0 (map walk z.children) ≡ None) is (all_walk y.children)))
+
+pub read_spelled : ReadLeavesAreSpelled
+read_spelled text mode bound tree u small e =
+    of_raw (NoneFails is_told_wrong) text mode bound tree
+    (λ raw h b is.
+    let good = finished_good Told (λ k. not_true k) (λ k. not_true k) (λ k. not_true k) (λ k. not_true k) (λ k. not_true k) (λ k. not_true k) (λ k. not_true k) (λ k. not_true k) raw (raw_good text mode bound raw u small h) target.Free in
+    subst (NoneFails is_told_wrong) is (good_walks (finished raw) good at_top)) e
+
+pub ruleset reading = (read_spelled)
