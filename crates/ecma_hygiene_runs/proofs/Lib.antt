@@ -1,1 +1,5 @@
 mod WritingOut
+mod Parts
+mod FinalParts
+mod FinalTree
+mod Renaming

@@ -88,12 +88,12 @@ value_defined : (n : Node) (text : List ℕ) (ctxt : ℕ) (optional : Bool) (cs 
 value_defined n text ctxt optional [] class object x = read_defined text (identifier text ctxt x) x object
 value_defined n text ctxt optional (c ∷ cs) class object x = outside_by (bytes_eq text (codes "__proto__")) text
 
-property_defines : (n : Node) (k : Kind) (cs : List Node) → meaning n ≡ meaning_by n k (map meaning cs) → Defines (meaning n) (meaning (property_by k n))
+property_defines : (n : Node) (k : Kind) (cs : List Node) → meaning n ≡ meaning_by n k (map meaning cs) → Defines (meaning n) (meaning (property_by k (out-Node n).span n))
 property_defines n (kind.Ident text ctxt optional) cs is =
     let span = (out-Node n).span in
-    let m : meaning (property_by (kind.Ident text ctxt optional) n) ≡ meaning_by (property_by (kind.Ident text ctxt optional) n) kind.KeyValueProp (key_of_text span text ∷ meaning n ∷ []) =
+    let m : meaning (property_by (kind.Ident text ctxt optional) (out-Node n).span n) ≡ meaning_by (property_by (kind.Ident text ctxt optional) (out-Node n).span n) kind.KeyValueProp (key_of_text span text ∷ meaning n ∷ []) =
     meaning-roll (record { span = span; kind = kind.KeyValueProp; children = key_node span text ∷ n ∷ [] })
-    ∙ ap (λ key. meaning_by (property_by (kind.Ident text ctxt optional) n) kind.KeyValueProp (key ∷ meaning n ∷ [])) (key_means span text) in
+    ∙ ap (λ key. meaning_by (property_by (kind.Ident text ctxt optional) (out-Node n).span n) kind.KeyValueProp (key ∷ meaning n ∷ [])) (key_means span text) in
     record {
       defined = ap (λ z. z.defined) m ∙ (λ i class object x. shorthand_defined text ((is i).value x) object) ∙ (λ i class object x. value_defined n text ctxt optional cs class object x i) ∙ sym (ap (λ z. z.defined) is);
       declared = ap (λ z. z.declared) m ∙ property_declared n;
@@ -107,7 +107,7 @@ all_define (n ∷ ns) =
     let rest = all_define ns in
     ((λ i class object x. (d.defined i) class object x >>= λ ks. (rest.0 i) class object x >>= λ ls. give (ks ++ ls)), ap₂ (λ a b. a ++ b) d.declared rest.1)
 
-properties_define : (n : Node) (k : Kind) → (out-Node n).kind ≡ k → Defines (meaning n) (meaning (properties_by k n))
+properties_define : (n : Node) (k : Kind) → (out-Node n).kind ≡ k → Defines (meaning n) (meaning (properties_by (out-Node n) k n))
 properties_define n kind.List is =
     let cs = (out-Node n).children in
     let a = meaning-roll (record { span = (out-Node n).span; kind = kind.List; children = map property_out cs }) in
@@ -200,7 +200,7 @@ missing_means other e = meaning_out other ∙ ap (λ k. meaning_by other k (map 
 
 module _ (n name other : Node) (is_type_only : Bool) where
   import_by : kind_is_absent other ≡ true → (k : Kind) → (out-Node name).kind ≡ k
-      → meaning_by n (kind.ImportNamedSpecifier is_type_only) (meaning name ∷ meaning (other_by k name other) ∷ []) ≡ meaning_by n (kind.ImportNamedSpecifier is_type_only) (meaning name ∷ meaning other ∷ [])
+      → meaning_by n (kind.ImportNamedSpecifier is_type_only) (meaning name ∷ meaning (other_by k (out-Node name).span other) ∷ []) ≡ meaning_by n (kind.ImportNamedSpecifier is_type_only) (meaning name ∷ meaning other ∷ [])
   import_by e (kind.Ident text ctxt optional) is =
       let m : meaning name ≡ meaning_by name (kind.Ident text ctxt optional) (map meaning (out-Node name).children) = meaning_out name ∙ ap (λ k. meaning_by name k (map meaning (out-Node name).children)) is in
       rw (m, missing_means other e, name_means (out-Node name).span text)
@@ -208,17 +208,17 @@ module _ (n name other : Node) (is_type_only : Bool) where
   import_by e _ is = refl
 
   export_by : kind_is_absent other ≡ true → (k : Kind)
-      → meaning_by n (kind.ExportNamedSpecifier is_type_only) (meaning name ∷ meaning (other_by k name other) ∷ []) ≡ meaning_by n (kind.ExportNamedSpecifier is_type_only) (meaning name ∷ meaning other ∷ [])
+      → meaning_by n (kind.ExportNamedSpecifier is_type_only) (meaning name ∷ meaning (other_by k (out-Node name).span other) ∷ []) ≡ meaning_by n (kind.ExportNamedSpecifier is_type_only) (meaning name ∷ meaning other ∷ [])
   export_by e (kind.Ident text ctxt optional) =
       rw (missing_means other e, name_means (out-Node name).span text) (export_means n name other (meaning name) text (map meaning (out-Node other).children) (out-Node name).span is_type_only)
   export_by e _ = refl
 
-  import_out : (b : Bool) → kind_is_absent other ≡ b → meaning_by n (kind.ImportNamedSpecifier is_type_only) (meaning name ∷ meaning (cond b (other_by (out-Node name).kind name other) other) ∷ [])
+  import_out : (b : Bool) → kind_is_absent other ≡ b → meaning_by n (kind.ImportNamedSpecifier is_type_only) (meaning name ∷ meaning (cond b (other_by (out-Node name).kind (out-Node name).span other) other) ∷ [])
       ≡ meaning_by n (kind.ImportNamedSpecifier is_type_only) (meaning name ∷ meaning other ∷ [])
   import_out true e = import_by e (out-Node name).kind refl
   import_out false e = refl
 
-  export_out : (b : Bool) → kind_is_absent other ≡ b → meaning_by n (kind.ExportNamedSpecifier is_type_only) (meaning name ∷ meaning (cond b (other_by (out-Node name).kind name other) other) ∷ [])
+  export_out : (b : Bool) → kind_is_absent other ≡ b → meaning_by n (kind.ExportNamedSpecifier is_type_only) (meaning name ∷ meaning (cond b (other_by (out-Node name).kind (out-Node name).span other) other) ∷ [])
       ≡ meaning_by n (kind.ExportNamedSpecifier is_type_only) (meaning name ∷ meaning other ∷ [])
   export_out true e = export_by e (out-Node name).kind
   export_out false e = refl

@@ -1,2 +1,4 @@
 pub mod WrittenOut
+pub mod FinalTexts
+pub mod KeyNames
 pub mod Laws

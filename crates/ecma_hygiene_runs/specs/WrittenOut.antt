@@ -17,30 +17,30 @@ name_node span text = node_of span (kind.Ident text 0 false) []
 
 -- the properties of an object literal (ECMAScript, 13.2.5)
 
-abbrev pub property_by : Kind → Node → Node
-property_by (kind.Ident sym ctxt optional) n = node_of (out-Node n).span kind.KeyValueProp (key_node (out-Node n).span sym ∷ n ∷ [])
-property_by _ n = n
+abbrev pub property_by : Kind → Span → Node → Node
+property_by (kind.Ident sym ctxt optional) span n = node_of span kind.KeyValueProp (key_node span sym ∷ n ∷ [])
+property_by _ span n = n
 
 -- an identifier as a property becomes a key with its value
 abbrev pub property_out : Node → Node
-property_out n = property_by (out-Node n).kind n
+property_out n = property_by (out-Node n).kind (out-Node n).span n
 
-abbrev pub properties_by : Kind → Node → Node
-properties_by kind.List n = node_of (out-Node n).span kind.List (map property_out (out-Node n).children)
-properties_by _ n = n
+abbrev pub properties_by : Node-F Node → Kind → Node → Node
+properties_by parts kind.List n = node_of parts.span kind.List (map property_out parts.children)
+properties_by parts _ n = n
 
 abbrev pub properties_out : Node → Node
-properties_out n = properties_by (out-Node n).kind n
+properties_out n = properties_by (out-Node n) (out-Node n).kind n
 
 -- specifiers (ECMAScript, 16.2.2, 16.2.3)
 
-abbrev pub other_by : Kind → Node → Node → Node
-other_by (kind.Ident sym ctxt optional) name other = name_node (out-Node name).span sym
-other_by _ name other = other
+abbrev pub other_by : Kind → Span → Node → Node
+other_by (kind.Ident sym ctxt optional) span other = name_node span sym
+other_by _ span other = other
 
 -- the other name of a specifier, which has the text of the first where it is missing
 abbrev pub other_out : Node → Node → Node
-other_out name other = cond (kind_is_absent other) (other_by (out-Node name).kind name other) other
+other_out name other = cond (kind_is_absent other) (other_by (out-Node name).kind (out-Node name).span other) other
 
 -- the properties of a pattern (ECMAScript, 13.15.5, 14.3.3)
 
