@@ -3,3 +3,6 @@ mod Parts
 mod FinalParts
 mod FinalTree
 mod Renaming
+mod GivenTexts
+mod Passing
+mod FinalRuns

@@ -272,8 +272,11 @@ module _ (x : Node-F Node) where
   layer_kept kind.AssignPatProp (name ∷ default ∷ []) is are = pattern_kept name default is are (identifier_by (out-Node name).kind (out-Node name).children) refl
   layer_kept k cs is are = kept k cs is are
 
+pub written_out_layers : KeepsLayers written_out
+written_out_layers = rewritten_layers out_here (λ x. layer_kept x x.kind x.children refl refl)
+
 pub written_out_shorthands_do_not_matter : WrittenOutShorthandsDoNotMatter
-written_out_shorthands_do_not_matter = observe_kept written_out (rewritten_layers out_here (λ x. layer_kept x x.kind x.children refl refl))
+written_out_shorthands_do_not_matter = observe_kept written_out written_out_layers
 
 pub shorthands_do_not_matter : ShorthandsDoNotMatter
 shorthands_do_not_matter turns options m m' script agree =

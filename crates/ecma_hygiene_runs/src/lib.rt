@@ -4,7 +4,7 @@
 //! Each function carries one law, and does nothing. The laws are stated in `specs/`.
 #![tactic(auto)]
 
-ghost use Rattle.ecma_hygiene_runs.specs.Laws.{ShorthandsDoNotMatter, WrittenOutShorthandsDoNotMatter};
+ghost use Rattle.ecma_hygiene_runs.specs.Laws.{FinalTextsKeepRuns, ShorthandsDoNotMatter, WrittenOutShorthandsDoNotMatter};
 
 /// A module with its shorthands written out is observed to do what it does with them, for every tree, every script of the host and every number of
 /// turns.
@@ -15,4 +15,9 @@ pub fn written_out_shorthands_do_not_matter()
 /// So trees that are equal with their shorthands written out run alike, whichever of them each writes out.
 pub fn shorthands_do_not_matter()
     ensures { ShorthandsDoNotMatter }
+{}
+
+/// A resolved module with its final texts, and with its contexts, is observed to do what it does with its own.
+pub fn final_texts_keep_runs()
+    ensures { FinalTextsKeepRuns }
 {}

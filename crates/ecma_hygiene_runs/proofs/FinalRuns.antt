@@ -1,0 +1,138 @@
+-- A resolved tree with its final texts runs as it does with its own.
+use Rattle.std.proofs.Common.{◌≡◌, ◌≢◌, refl, sym, ap, ap₂, ◌∙◌, subst, ℕ, ◌==◌, List, [], ◌∷◌, Option, Some, None, Bool, true, false, ◌&&◌, ◌||◌, bytes_eq, codes, nat_eq, unwrap_or}
+use Rattle.std.specs.List.{All, list_any}
+use Rattle.std.proofs.lemmas.Bool.{eqb-true}
+use Rattle.std.proofs.lemmas.List.Elements.{All-cons, All-head, All-nil, All-tail}
+use Rattle.ecma_tree.specs.declared.node.Node.{Node}
+use Rattle.ecma_scope.specs.declared.role.Role.TheVariants as role
+use Rattle.ecma_hygiene.specs.declared.naming.Named.{Named}
+use Rattle.ecma_hygiene.specs.declared.sight.Sight.{Sight}
+use Rattle.ecma_hygiene.specs.declared.spot.Spot.TheVariants as spot
+use Rattle.ecma_hygiene.specs.Ids.{Id as HygieneId, same_id}
+use Rattle.ecma_hygiene.specs.Laws.{is_seen}
+use Rattle.ecma_hygiene.specs.Renamed.{Texts, text_of}
+use Rattle.ecma_hygiene.specs.Renamed as hygiene
+use Rattle.ecma_hygiene.specs.Sights.{meetings, nowhere, sights}
+use Rattle.ecma_hygiene.specs.Texts.{HygienicTexts, is_bound, is_new, text_in}
+use Rattle.ecma_hygiene.proofs.Telling.{id-refl, or-first, or-second, texts-tell-apart, true-false}
+use Rattle.ecma_hygiene_laws.proofs.Membership.{id-same}
+use Rattle.ecma_hygiene_laws.proofs.Stopping.{IsAmong, all-among}
+use Rattle.ecma_runs.specs.declared.config.Config.{Config}
+use Rattle.ecma_runs.specs.declared.script.Script.{Script}
+use Rattle.ecma_runs.specs.State.{Id}
+use Rattle.ecma_runs.specs.Environment.{is_among}
+use Rattle.ecma_runs.specs.Evaluation.{meaning}
+use Rattle.ecma_runs.specs.Observation.{observe}
+use Rattle.ecma_runs.specs.Names.{TextsStay, renamed}
+use Rattle.ecma_runs.proofs.Kept.{kept}
+use Rattle.ecma_runs.proofs.Standing.{Passes}
+use Rattle.ecma_runs.proofs.Layers.{images, layers_alike, same_ids, the_same}
+use Rattle.ecma_hygiene_runs.specs.FinalTexts.{final_id}
+use Rattle.ecma_hygiene_runs.specs.KeyNames.{key_names_in}
+use Rattle.ecma_hygiene_runs.specs.Laws.{FinalTextsKeepRuns, IsResolved}
+use Rattle.ecma_hygiene_runs.specs.WrittenOut.{written_out}
+use Rattle.ecma_hygiene_runs.proofs.FinalTree.{turned-everywhere}
+use Rattle.ecma_hygiene_runs.proofs.GivenTexts.{IsGiven, given-text}
+use Rattle.ecma_hygiene_runs.proofs.Passing.{out-passes, seen-passes}
+use Rattle.ecma_hygiene_runs.proofs.Renaming.{Renames, renamed_kept}
+use Rattle.ecma_hygiene_runs.proofs.WritingOut.{written_out_layers, written_out_shorthands_do_not_matter}
+
+-- the ids that a tree declares stay, with its shorthands written out
+declared-out : (n : Node) → (meaning (written_out n)).declared ≡ (meaning n).declared
+declared-out n = (kept (images written_out [] the_same) (layers_alike written_out [] the_same written_out_layers) n tt).declared ∙ same_ids (meaning n).declared
+
+module _ (tree : Node) (names : List Named) (are : HygienicTexts tree names) (is : IsResolved tree) where
+  abbrev texts : Texts
+  texts = text_in names
+
+  abbrev seen : List Sight
+  seen = sights tree
+
+  abbrev to : Id → Id
+  to = final_id texts
+
+  abbrev given : (id : HygieneId) (text : List ℕ) → texts id ≡ Some text → IsGiven seen id text
+  given id text e = given-text seen (λ other bound. (is.bindings other bound).apart) id text (meetings tree) names are e
+
+  -- what has the empty context stays
+  stays-by : (text : List ℕ) (o : Option (List ℕ)) → texts (text, 0) ≡ o → unwrap_or o text ≡ text
+  stays-by text None e = refl
+  stays-by text (Some t) e = absurd ((is.bindings (text, 0) (given (text, 0) t e).bound).inner refl)
+
+  empty : (text : List ℕ) → text_of texts (text, 0) ≡ text
+  empty text = stays-by text (texts (text, 0)) refl
+
+  abbrev stands : Id → Bool
+  stands id = id.ctxt == 0 || is_seen seen (id.sym, id.ctxt)
+
+  outer : (text : List ℕ) (ctxt : ℕ) → ctxt == 0 ≡ true → stands (record { sym = text; ctxt = ctxt }) ≡ true
+  outer text ctxt e = or-first (ctxt == 0) (is_seen seen (text, ctxt)) e
+
+  abbrev Stands : Sight → Type 0
+  Stands x = stands (record { sym = x.id.0; ctxt = x.id.1 }) ≡ true
+
+  all-seen : (xs : List Sight) → All (IsAmong seen) xs → All Stands xs
+  all-seen [] h = All-nil Stands
+  all-seen (x ∷ xs) h =
+      All-cons Stands x xs (or-second (x.id.1 == 0) (is_seen seen x.id) (All-head (IsAmong seen) x xs h (λ y. same_id y.id x.id) (id-refl x.id))) (all-seen xs (All-tail (IsAmong seen) x xs h))
+
+  all-stand : Passes stands (written_out tree)
+  all-stand = out-passes stands (λ text. refl) tree (seen-passes stands outer tree nowhere is.named (all-seen seen (all-among seen)))
+
+  -- two names stay two
+
+  seen-by : (b : Bool) (id : Id) → id.ctxt == 0 ≡ b → stands id ≡ true → id.ctxt ≢ 0 → is_seen seen (id.sym, id.ctxt) ≡ true
+  seen-by true id e s inner = absurd (inner (eqb-true id.ctxt 0 e))
+  seen-by false id e s inner = ap (λ b. b || is_seen seen (id.sym, id.ctxt)) (sym e) ∙ s
+
+  apart-by : (a b : Id) → stands a ≡ true → is_bound seen (b.sym, b.ctxt) ≡ true → a.ctxt ≡ b.ctxt → (◌≡◌ {A = HygieneId} (a.sym, a.ctxt) (b.sym, b.ctxt) → ⊥) → text_of texts (a.sym, a.ctxt) ≡ text_of texts (b.sym, b.ctxt) → ⊥
+  apart-by a b s bound same apart =
+      let inner : a.ctxt ≢ 0 = (λ e. (is.bindings (b.sym, b.ctxt) bound).inner (sym same ∙ e)) in
+      texts-tell-apart seen (meetings tree) names (a.sym, a.ctxt) (b.sym, b.ctxt) are (seen-by (a.ctxt == 0) a refl s inner) bound apart
+      (λ new old e. absurd (apart (λ i. (e i, same i))))
+
+  told : (a b : Id) → stands a ≡ true → stands b ≡ true → a.ctxt ≡ b.ctxt → text_of texts (a.sym, a.ctxt) ≡ text_of texts (b.sym, b.ctxt) → (◌≡◌ {A = HygieneId} (a.sym, a.ctxt) (b.sym, b.ctxt) → ⊥)
+      → (o p : Option (List ℕ)) → texts (a.sym, a.ctxt) ≡ o → texts (b.sym, b.ctxt) ≡ p → ⊥
+  told a b sa sb same text apart o (Some u) e f = apart-by a b sa (given (b.sym, b.ctxt) u f).bound same apart text
+  told a b sa sb same text apart (Some t) None e f = apart-by b a sb (given (a.sym, a.ctxt) t e).bound (sym same) (λ h. apart (sym h)) (sym text)
+  told a b sa sb same text apart None None e f = apart (λ i. ((sym (ap (λ o. unwrap_or o a.sym) e) ∙ text ∙ ap (λ o. unwrap_or o b.sym) f) i, same i))
+
+  one-by : (a b : Id) → stands a ≡ true → stands b ≡ true → to a ≡ to b → (t : Bool) → same_id (a.sym, a.ctxt) (b.sym, b.ctxt) ≡ t → a ≡ b
+  one-by a b sa sb e true h = ap (λ id. record { sym = id.0; ctxt = id.1 }) (id-same (a.sym, a.ctxt) (b.sym, b.ctxt) h)
+  one-by a b sa sb e false h =
+      absurd (told a b sa sb (ap (λ id. id.ctxt) e) (ap (λ id. id.sym) e) (λ same. true-false (ap (λ z. same_id z (b.sym, b.ctxt)) same ∙ id-refl (b.sym, b.ctxt)) h)
+      (texts (a.sym, a.ctxt)) (texts (b.sym, b.ctxt)) refl refl)
+
+  -- keys, free names and `this` stay
+
+  keys-stay : (ids : List Id) → All (λ id. id.ctxt ≡ 0) ids → TextsStay to ids
+  keys-stay [] h = tt
+  keys-stay (id ∷ ids) h = (ap (λ c. text_of texts (id.sym, c)) (All-head (λ id. id.ctxt ≡ 0) id ids h) ∙ empty id.sym, keys-stay ids (All-tail (λ id. id.ctxt ≡ 0) id ids h))
+
+  free-by : (id : Id) → is_among id (meaning (written_out tree)).declared ≡ false → (o : Option (List ℕ)) → texts (id.sym, id.ctxt) ≡ o → unwrap_or o id.sym ≡ id.sym
+  free-by id free None e = refl
+  free-by id free (Some t) e = absurd (true-false ((is.bindings (id.sym, id.ctxt) (given (id.sym, id.ctxt) t e).bound).declared) (ap (is_among id) (sym (declared-out tree)) ∙ free))
+
+  this-by : (id : Id) (o : Option (List ℕ)) → texts (id.sym, id.ctxt) ≡ o → bytes_eq (unwrap_or o id.sym) (codes "this") ≡ bytes_eq id.sym (codes "this")
+  this-by id None e = refl
+  this-by id (Some t) e = let g = given (id.sym, id.ctxt) t e in g.apart ∙ sym (is.bindings (id.sym, id.ctxt) g.bound).apart
+
+  renames : Renames to (written_out tree)
+  renames = record {
+    stands = stands;
+    all_stand = all-stand;
+    one_to_one = λ a b sa sb e. one-by a b sa sb e (same_id (a.sym, a.ctxt) (b.sym, b.ctxt)) refl;
+    key_texts = keys-stay (key_names_in (written_out tree)) is.keys;
+    free_texts = λ id s free. free-by id free (texts (id.sym, id.ctxt)) refl;
+    this_stays = λ id s. this-by id (texts (id.sym, id.ctxt)) refl;
+  }
+
+  pub final_runs : (turns : ℕ) (options : Config) (script : Script) → observe turns options (hygiene.renamed texts tree) script ≡ observe turns options tree script
+  final_runs turns options script =
+      sym (written_out_shorthands_do_not_matter turns options (hygiene.renamed texts tree) script)
+      ∙ ap (λ n. observe turns options n script) (turned-everywhere texts empty tree role.Root spot.Elsewhere is.named)
+      ∙ renamed_kept to (written_out tree) renames turns options script
+      ∙ written_out_shorthands_do_not_matter turns options tree script
+
+pub final_texts_keep_runs : FinalTextsKeepRuns
+final_texts_keep_runs turns options tree names script are is = final_runs tree names are is turns options script
