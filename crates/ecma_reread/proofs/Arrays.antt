@@ -302,7 +302,7 @@ module _ (assigned : Bool) where
             (read_to ∙ ap (λ us'. with_front (list_node (elements (xs ++ F.nodes)) ∷ []) (interp assigned (means assigned) (punct (codes "]") ▸ put Absent) us')) k))
 
   pub array_new : {ns : List Node} (is : AreSlots shapes.values ns) → SlotForms is → NewForm assigned (λ g us. it g (sign (codes "[")) (slots_tokens is us)) kind.ArrayLit (list_node (bare_slots is) ∷ [])
-  array_new is F = literal_new assigned bracket (slots_tokens is) kind.ArrayLit (list_node (bare_slots is) ∷ []) refl (array_read is F) (λ g us. by_list g (slots_tokens is us) us (slots_tried is F us))
+  array_new is F = literal_new assigned bracket (slots_tokens is) kind.ArrayLit (list_node (bare_slots is) ∷ []) (array_read is F) (λ g us. by_list g (slots_tokens is us) us (slots_tried is F us))
 
   -- an array pattern
   pub array_pattern_read : {ns : List Node} (is : AreSlots shapes.bindings ns) → SlotForms is → ReadAsPattern assigned (λ g us. it g (sign (codes "[")) (slots_tokens is us)) (bare (kind.ArrayPat false) (list_node (bare_slots is) ∷ absent ∷ []))

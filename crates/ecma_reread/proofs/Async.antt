@@ -111,7 +111,6 @@ module _ (assigned : Bool) where
     pieces = bare (kind.Ident async 0 false) [] ∷ [];
     own = λ g us e b z ys vs h. head_read assigned front (it g (items.key async) us) us (bare (kind.Ident async 0 false) []) async_primary at_token (async_read g us e b z) ys vs h;
     whole = refl;
-    head = refl;
     no_arrow = λ n g us e b z r. async_no_arrow g us e b n z r;
     no_label = name_no_label assigned async async_free;
     no_declaration = async_no_declaration;

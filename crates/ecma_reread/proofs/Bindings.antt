@@ -67,12 +67,15 @@ EndOf shapes.assignment e = (refuses_at e (punct (codes "=")) ≡ true) × Ends 
 EndOf shapes.sequence e = (refuses_at e (punct (codes "=")) ≡ true) × Ends e
 EndOf l e = refuses_at e (punct (codes "=")) ≡ true
 
--- no `||`, where `&&` would take its right side
+-- no `||`, where `&&` would take its right side; a kind behind which links mean what they are
 abbrev pub NotOr : Level → Kind → Type 0
 NotOr shapes.logical_or k = Unit {0}
 NotOr shapes.short_circuit k = Unit {0}
 NotOr shapes.assignment k = Unit {0}
 NotOr shapes.sequence k = Unit {0}
+NotOr shapes.new_callee k = is_head k ≡ true
+NotOr shapes.object k = is_head k ≡ true
+NotOr shapes.callee k = is_head k ≡ true
 NotOr l k = is_or k ≡ false
 
 pub head_is_no_or : (k : Kind) → is_head k ≡ true → is_or k ≡ false
@@ -327,11 +330,11 @@ module _ (assigned : Bool) where
       ∙ climb assigned (means assigned) t (f g us) us n (L.begins g us) b (D g us e b z))
 
   module _ {no_in : Bool} where
-    pub from_form : {f : Laid} {k : Kind} {ns : List Node} → Form assigned f k ns → StandsIn no_in shapes.object f k ns
-    from_form {k = k} F = let o = F.opens in record { lead = lead_of assigned F; tight = (o.no_private, o.no_yield); no_or = head_is_no_or k F.head; no_arrow = F.no_arrow; param = F.as_param; reading = F }
+    pub from_form : {f : Laid} {k : Kind} {ns : List Node} → is_head k ≡ true → Form assigned f k ns → StandsIn no_in shapes.object f k ns
+    from_form h F = let o = F.opens in record { lead = lead_of assigned F; tight = (o.no_private, o.no_yield); no_or = h; no_arrow = F.no_arrow; param = F.as_param; reading = F }
 
-    pub from_new : {f : Laid} {k : Kind} {ns : List Node} → NewForm assigned f k ns → StandsIn no_in shapes.new_callee f k ns
-    from_new {k = k} N = let F = N.form in let o = F.opens in record { lead = lead_of assigned F; tight = (o.no_private, o.no_yield); no_or = head_is_no_or k F.head; no_arrow = F.no_arrow; param = F.as_param; reading = N }
+    pub from_new : {f : Laid} {k : Kind} {ns : List Node} → is_head k ≡ true → NewForm assigned f k ns → StandsIn no_in shapes.new_callee f k ns
+    from_new h N = let F = N.form in let o = F.opens in record { lead = lead_of assigned F; tight = (o.no_private, o.no_yield); no_or = h; no_arrow = F.no_arrow; param = F.as_param; reading = N }
 
     logical_read : {f : Laid} {n : Node} → Logical no_in f n → (g : Gap) (us : Items) (e : Front) → Begins e us → closes_in no_in shapes.logical_or e ≡ true → Reads assigned (operators.short_circuit no_in) (f g us) (n ∷ []) us
     unfolding operators.short_circuit
@@ -411,9 +414,9 @@ module _ (assigned : Bool) where
           rw (S.reading g us e b c.1, refused_at assigned (means assigned) (punct (codes ",") ▸ grammar.up (part.Assign no_in false)) e us b (refuses_first e (punct (codes ",")) (grammar.up (part.Assign no_in false)) c.0)) refl
 
       pub loosened : (l : Level) → StandsIn no_in l f k ns → StandsIn no_in (looser_than l) f k ns
-      loosened shapes.new_callee S = let N = S.reading in from_form N.form
+      loosened shapes.new_callee S = let N = S.reading in from_form S.no_or N.form
       loosened shapes.object S = record { lead = S.lead; tight = S.tight; no_or = S.no_or; no_arrow = S.no_arrow; param = S.param; reading = S.reading }
-      loosened shapes.callee S = let F = S.reading in let o = F.opens in record { lead = lead_of assigned F; tight = (o.no_private, o.no_yield); no_or = S.no_or; no_arrow = S.no_arrow; param = S.param; reading = record { opens = F.opens; all = chain_read assigned F } }
+      loosened shapes.callee S = let F = S.reading in let o = F.opens in record { lead = lead_of assigned F; tight = (o.no_private, o.no_yield); no_or = head_is_no_or k S.no_or; no_arrow = S.no_arrow; param = S.param; reading = record { opens = F.opens; all = chain_read assigned F } }
       loosened shapes.left_hand_side S = let w = S.reading in let o = w.opens in record { lead = S.lead; tight = S.tight; no_or = S.no_or; no_arrow = S.no_arrow; param = S.param; reading = (o.no_prefix, update_read S.lead w) }
       loosened shapes.update S = let r = S.reading in record { lead = S.lead; tight = S.tight; no_or = S.no_or; no_arrow = S.no_arrow; param = S.param; reading = without_operator r.0 r.1 }
       loosened shapes.unary S = record { lead = S.lead; tight = S.tight; no_or = S.no_or; no_arrow = S.no_arrow; param = S.param; reading = power_read S.lead S.reading }

@@ -31,8 +31,8 @@ use Rattle.ecma_reread.specs.Shapes.{Level, IsPlainName, IsIdent, ident, IsKey, 
 use Rattle.ecma_reread.specs.Tokens.{bare, blank, ident_word, key_word, own_sign, unary_gap, expression_tokens, element_tokens, arguments_tokens, elements_tokens, expression_kind, expression_parts, bare_element, bare_arguments, bare_elements, pattern_tokens, bare_pattern, defaulted_tokens, bare_defaulted, part_token, parts_tokens, bare_substitutions, bare_parts}
 use Rattle.ecma_reread.proofs.Levels.{means_is}
 use Rattle.ecma_reread.proofs.Fronts.{Front, exactly, Begins, at_token, IsName, is_known, refuses_at, refused_at, refuses_all, all_refused}
-use Rattle.ecma_reread.proofs.Heads.{call_made}
-use Rattle.ecma_reread.proofs.Forms.{Laid, s, behind_params, Reads, Refuses, linked_param, Form, NewForm}
+use Rattle.ecma_reread.proofs.Heads.{call_made, is_head}
+use Rattle.ecma_reread.proofs.Forms.{Laid, s, behind_params, Reads, Refuses, linked_param, Form, NewForm, link_behind}
 use Rattle.ecma_reread.proofs.Bindings.{Stands, from_form, loosened, standing, from_new}
 use Rattle.ecma_reread.proofs.Operations.{await_form, power_form, unary_form, binary_form}
 use Rattle.ecma_reread.proofs.Members.{IsLinkKey, link_key, member_form, new_member_form}
@@ -110,28 +110,10 @@ module _ (assigned : Bool) where
       → Refuses assigned (arrow_rest no_in false) (s (codes "(") (arguments_tokens is (s (codes ")") us)))
   call_no_rest is A n us e b z = parameters_refused assigned n no_gap (arguments_tokens is (s (codes ")") us)) (no_params is A n us (no_body_behind assigned n us e b z))
 
-  call_form : {f : Laid} {k : Kind} {ns : List Node} → Form assigned f k ns → {n : Node} (is : IsArguments shapes.values n) → ArgumentForms assigned is
+  call_form : {f : Laid} {k : Kind} {ns : List Node} → is_head k ≡ true → Form assigned f k ns → {n : Node} (is : IsArguments shapes.values n) → ArgumentForms assigned is
       → Form assigned (λ g us. f g (s (codes "(") (arguments_tokens is (s (codes ")") us)))) kind.CallExpr (bare k ns ∷ list_node (bare_arguments is) ∷ absent ∷ [])
-  call_form {f} {k} {ns} F is A =
-      let m = bare kind.CallExpr (absent ∷ list_node (bare_arguments is) ∷ absent ∷ []) in
-      let opening = exactly (sign (codes "(")) in
-      record {
-        front = F.front;
-        begins = λ g us. F.begins g (s (codes "(") (arguments_tokens is (s (codes ")") us)));
-        opens = F.opens;
-        no_statement = F.no_statement;
-        no_item = λ g us. F.no_item g (s (codes "(") (arguments_tokens is (s (codes ")") us)));
-        pieces = F.pieces ++ m ∷ [];
-        own = λ g us e b z ys vs h. rw (append_assoc F.pieces (m ∷ []) ys) (F.own g (s (codes "(") (arguments_tokens is (s (codes ")") us))) opening at_token refl (m ∷ ys) vs (call_read is A us ys vs h));
-        whole = steps-append in_front_link None F.pieces m ∙ (ap (λ o. step_on in_front_link o m) F.whole ∙ ap Some (call_made k F.head ns (list_node (bare_arguments is))));
-        head = refl;
-        no_arrow = λ n g us e b z r. F.no_arrow n g (s (codes "(") (arguments_tokens is (s (codes ")") us))) opening at_token refl (call_no_rest is A n us e b z);
-        no_label = λ g us e b z. F.no_label g (s (codes "(") (arguments_tokens is (s (codes ")") us))) opening at_token refl;
-        no_declaration = λ g us e b z. F.no_declaration g (s (codes "(") (arguments_tokens is (s (codes ")") us))) opening at_token refl;
-        no_word = λ g us e b z. F.no_word g (s (codes "(") (arguments_tokens is (s (codes ")") us))) opening at_token refl;
-        as_param = λ g us e b z. linked_param assigned at_token refl refl (F.as_param g (s (codes "(") (arguments_tokens is (s (codes ")") us))) opening at_token refl);
-        with_default = λ g ts us n h. linked_param assigned at_token refl refl (F.as_param g (s (codes "(") (arguments_tokens is (s (codes ")") (it blank (sign (codes "=")) ts)))) opening at_token refl);
-      }
+  call_form {k = k} {ns = ns} head F is A =
+      link_behind assigned F (sign (codes "(")) refl refl (λ us. arguments_tokens is (s (codes ")") us)) (call_no_rest is A) (bare kind.CallExpr (absent ∷ list_node (bare_arguments is) ∷ absent ∷ [])) (call_made k head ns (list_node (bare_arguments is))) (call_read is A)
 
   -- an expression of each shape
 
@@ -162,56 +144,57 @@ module _ (assigned : Bool) where
 
   -- members of the callee of `new`, and others
   member_stands : {l : Level} → IsMemberLevel l → {f : Laid} {k : Kind} {ns : List Node} → Stands assigned l f k ns → {t : Tok} {q : Kind} → IsLinkKey t q → Stands assigned l (λ g us. f g (s (codes ".") (it no_gap t us))) kind.MemberExpr (bare k ns ∷ bare q [] ∷ [])
-  member_stands shapes.member_of_new S K = from_new assigned (new_member_form assigned S.reading K)
-  member_stands shapes.member_of_object S K = from_form assigned (member_form assigned S.reading K)
+  member_stands shapes.member_of_new S K = from_new assigned refl (new_member_form assigned S.no_or S.reading K)
+  member_stands shapes.member_of_object S K = from_form assigned refl (member_form assigned S.no_or S.reading K)
 
   element_stands : {h l : Level} → IsIndexed h l → {f f' : Laid} {k k' : Kind} {ns ns' : List Node} → Stands assigned h f k ns → Stands assigned shapes.sequence f' k' ns'
       → Stands assigned l (λ g us. f g (s (codes "[") (f' no_gap (s (codes "]") us)))) kind.MemberExpr (bare k ns ∷ bare kind.ComputedPropName (bare k' ns' ∷ []) ∷ [])
-  element_stands shapes.index_of_new S E = from_new assigned (new_element_form assigned E S.reading)
-  element_stands shapes.index_of_callee S E = from_form assigned (element_form assigned E S.reading)
+  element_stands shapes.index_of_new S E = from_new assigned refl (new_element_form assigned E S.no_or S.reading)
+  element_stands shapes.index_of_callee S E = from_form assigned refl (element_form assigned E S.no_or S.reading)
 
   tagged_stands : {h l : Level} → IsIndexed h l → {f : Laid} {k : Kind} {ns : List Node} → Stands assigned h f k ns → {es ps : List Node} (is : AreParts true true es ps) → PartForms assigned is
       → Stands assigned l (λ g us. f g (it no_gap (part_token true is) (parts_tokens is us))) kind.TaggedTpl (bare k ns ∷ absent ∷ bare kind.Tpl (list_node (bare_substitutions is) ∷ list_node (bare_parts is) ∷ []) ∷ [])
-  tagged_stands shapes.index_of_new S is P = from_new assigned (new_tagged_form assigned is P S.reading)
-  tagged_stands shapes.index_of_callee S is P = from_form assigned (tagged_form assigned is P S.reading)
+  tagged_stands shapes.index_of_new S is P = from_new assigned refl (new_tagged_form assigned is P S.no_or S.reading)
+  tagged_stands shapes.index_of_callee S is P = from_form assigned refl (tagged_form assigned is P S.no_or S.reading)
 
   new_callee_form : {f : Laid} {k : Kind} {ns : List Node} → Stands assigned shapes.new_callee f k ns → NewForm assigned f k ns
   new_callee_form S = S.reading
 
-  callee_form : {f : Laid} {k : Kind} {ns : List Node} → Stands assigned shapes.callee f k ns → Form assigned f k ns
-  callee_form S = S.reading
+  call_stands : {f : Laid} {k : Kind} {ns : List Node} → Stands assigned shapes.callee f k ns → {n : Node} (is : IsArguments shapes.values n) → ArgumentForms assigned is
+      → Stands assigned shapes.object (λ g us. f g (s (codes "(") (arguments_tokens is (s (codes ")") us)))) kind.CallExpr (bare k ns ∷ list_node (bare_arguments is) ∷ absent ∷ [])
+  call_stands S is A = from_form assigned refl (call_form S.no_or S.reading is A)
 
   ident_stands : {n : Node} (i : IsIdent n) → Stands assigned shapes.new_callee (λ g us. it g (items.key (ident_word i)) us) (kind.Ident (ident_word i) 0 false) []
-  ident_stands i = from_new assigned (ident_form i)
+  ident_stands i = from_new assigned refl (ident_form i)
 
-  single_stands : (t : Tok) (k : Kind) → Single t k → refuses_at (exactly t) (punct (codes ".")) ≡ true → Stands assigned shapes.new_callee (λ g us. it g t us) k []
-  single_stands t k S p = from_new assigned (single_new assigned t k S p)
+  single_stands : (t : Tok) (k : Kind) → is_head k ≡ true → Single t k → refuses_at (exactly t) (punct (codes ".")) ≡ true → Stands assigned shapes.new_callee (λ g us. it g t us) k []
+  single_stands t k h S p = from_new assigned h (single_new assigned t k S p)
 
   mutual
     pub expression_form : {level : Level} {e : Node} (is : IsExpression level e) → Stands assigned level (expression_tokens is) (expression_kind is) (expression_parts is)
     expression_form (shapes.looser {level = l} e) = loosened assigned l (expression_form e)
     expression_form (shapes.name i) = ident_stands i
-    expression_form (shapes.string at raw t) = single_stands (items.string raw) _ (string_single raw) refl
-    expression_form (shapes.number at raw t) = loosened assigned shapes.object (from_form assigned (single_form assigned (items.number raw) _ (number_single raw)))
-    expression_form (shapes.this_word at) = single_stands (items.key (codes "this")) _ this_single refl
-    expression_form (shapes.big_int at raw t) = single_stands (items.big_int raw) _ (big_int_single raw) refl
-    expression_form (shapes.regex at b f t) = single_stands (items.regex (regex_text b f)) _ (regex_single b f t) refl
-    expression_form (shapes.template at a b ps) = from_new assigned (template_form assigned ps (part_forms ps))
-    expression_form (shapes.null_word at) = single_stands (items.key (codes "null")) _ null_single refl
-    expression_form (shapes.true_word at) = single_stands (items.key (codes "true")) _ true_single refl
-    expression_form (shapes.false_word at) = single_stands (items.key (codes "false")) _ false_single refl
+    expression_form (shapes.string at raw t) = single_stands (items.string raw) _ refl (string_single raw) refl
+    expression_form (shapes.number at raw t) = loosened assigned shapes.object (from_form assigned refl (single_form assigned (items.number raw) _ (number_single raw)))
+    expression_form (shapes.this_word at) = single_stands (items.key (codes "this")) _ refl this_single refl
+    expression_form (shapes.big_int at raw t) = single_stands (items.big_int raw) _ refl (big_int_single raw) refl
+    expression_form (shapes.regex at b f t) = single_stands (items.regex (regex_text b f)) _ refl (regex_single b f t) refl
+    expression_form (shapes.template at a b ps) = from_new assigned refl (template_form assigned ps (part_forms ps))
+    expression_form (shapes.null_word at) = single_stands (items.key (codes "null")) _ refl null_single refl
+    expression_form (shapes.true_word at) = single_stands (items.key (codes "true")) _ refl true_single refl
+    expression_form (shapes.false_word at) = single_stands (items.key (codes "false")) _ refl false_single refl
     expression_form (shapes.member at i o k) = member_stands i (expression_form o) (link_key k)
-    expression_form (shapes.call at c es none) = from_form assigned (call_form (callee_form (expression_form c)) es (argument_forms es))
-    expression_form (shapes.parenthesized at e) = from_new assigned (parenthesized_new assigned (standing assigned (expression_form e)))
+    expression_form (shapes.call at c es none) = call_stands (expression_form c) es (argument_forms es)
+    expression_form (shapes.parenthesized at e) = from_new assigned refl (parenthesized_new assigned (standing assigned (expression_form e)))
     expression_form (shapes.element at at' i o e) = element_stands i (expression_form o) (standing assigned (expression_form e))
-    expression_form (shapes.super_member at at' k) = from_new assigned (super_member_form assigned (key_word k))
-    expression_form (shapes.super_element at at' at'' e) = from_new assigned (super_element_form assigned (standing assigned (expression_form e)))
-    expression_form (shapes.super_call at at' es none) = from_form assigned (super_call_form assigned (λ us. arguments_tokens es (s (codes ")") us)) (list_node (bare_arguments es)) (call_read es (argument_forms es)))
-    expression_form (shapes.new_expression at e es none) = from_new assigned (new_form assigned (new_callee_form (expression_form e)) (λ us. arguments_tokens es (s (codes ")") us)) (list_node (bare_arguments es)) (arguments_read es (argument_forms es)))
+    expression_form (shapes.super_member at at' k) = from_new assigned refl (super_member_form assigned (key_word k))
+    expression_form (shapes.super_element at at' at'' e) = from_new assigned refl (super_element_form assigned (standing assigned (expression_form e)))
+    expression_form (shapes.super_call at at' es none) = from_form assigned refl (super_call_form assigned (λ us. arguments_tokens es (s (codes ")") us)) (list_node (bare_arguments es)) (call_read es (argument_forms es)))
+    expression_form (shapes.new_expression at e es none) = from_new assigned refl (new_form assigned (new_callee_form (expression_form e)) (λ us. arguments_tokens es (s (codes ")") us)) (list_node (bare_arguments es)) (arguments_read es (argument_forms es)))
     expression_form (shapes.new_alone at e none none') = alone_form assigned (new_callee_form (expression_form e))
-    expression_form (shapes.new_target at) = from_new assigned (target_form assigned)
-    expression_form (shapes.import_meta at) = from_new assigned (meta_form assigned)
-    expression_form (shapes.import_call at at' es none) = from_form assigned (import_call_form assigned (λ us. arguments_tokens es (s (codes ")") us)) (list_node (bare_arguments es)) (arguments_read es (argument_forms es)))
+    expression_form (shapes.new_target at) = from_new assigned refl (target_form assigned)
+    expression_form (shapes.import_meta at) = from_new assigned refl (meta_form assigned)
+    expression_form (shapes.import_call at at' es none) = from_form assigned refl (import_call_form assigned (λ us. arguments_tokens es (s (codes ")") us)) (list_node (bare_arguments es)) (arguments_read es (argument_forms es)))
     expression_form (shapes.tagged_template at a b c i o none ps) = tagged_stands i (expression_form o) ps (part_forms ps)
     expression_form (shapes.prefix_update at o e) = prefix_form assigned o (expression_form e)
     expression_form (shapes.postfix_update at o e) = postfix_form assigned o (expression_form e)
@@ -228,8 +211,8 @@ module _ (assigned : Bool) where
     expression_form (shapes.assignment_expression at o t v) = assignment_form assigned o (expression_form t) (expression_form v)
     expression_form (shapes.conditional_expression at t x y) = choice_form assigned (expression_form t) (expression_form x) (expression_form y)
     expression_form (shapes.arrow_function at ps e z a b) = arrow_form assigned ps (argument_forms ps) (expression_form e) (λ g us. ap taken (no_brace e (sym (braces_agree e) ∙ z) g us))
-    expression_form (shapes.array at at' es) = from_new assigned (array_new assigned es (slot_forms es))
-    expression_form (shapes.object_literal at at' ps) = from_new assigned (object_new assigned ps (property_forms ps))
+    expression_form (shapes.array at at' es) = from_new assigned refl (array_new assigned es (slot_forms es))
+    expression_form (shapes.object_literal at at' ps) = from_new assigned refl (object_new assigned ps (property_forms ps))
     expression_form (shapes.sequence_expression at x y es) = sequence_form assigned (expression_form x) (expression_form y) es (expression_forms es)
 
     argument_forms : {role : Role} {n : Node} (is : IsArguments role n) → ArgumentForms assigned is

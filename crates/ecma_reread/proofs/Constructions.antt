@@ -33,7 +33,7 @@ use Rattle.ecma_reread.specs.Tokens.{blank}
 use Rattle.ecma_reread.proofs.Levels.{means_is}
 use Rattle.ecma_reread.proofs.Fronts.{Front, exactly, Begins, at_token, refuses_at, refused_at, refuses_first, first_refuses, passes_at, passed_at}
 use Rattle.ecma_reread.proofs.Towers.{Opens, closes, refuses_choices, skipped}
-use Rattle.ecma_reread.proofs.Heads.{is_head, bare}
+use Rattle.ecma_reread.proofs.Heads.{bare}
 use Rattle.ecma_reread.proofs.Forms.{Laid, s, heads, new_heads, Reads, NewForm, only_opens, lead_by, param_by, form_by, no_arrow_by}
 use Rattle.ecma_reread.proofs.Bindings.{Stands, tight_by}
 
@@ -85,10 +85,10 @@ module _ (assigned : Bool) where
       let n = it g (key (codes "new")) ts in
       ap (followed_on (I new_links)) (skipped assigned (means assigned) 2 new_heads new n at_token no_new_head ∙ ap (or_on (I primary) n) h) ∙ ap (with_front (x ∷ [])) e
 
-  module _ (rest : Items → Items) {k : Kind} {ns : List Node} (h : is_head k ≡ true) (read_by : (g : Gap) (us : Items) → Reads assigned construction (it g (key (codes "new")) (rest us)) (bare k ns ∷ []) us) where
+  module _ (rest : Items → Items) {k : Kind} {ns : List Node} (read_by : (g : Gap) (us : Items) → Reads assigned construction (it g (key (codes "new")) (rest us)) (bare k ns ∷ []) us) where
     by_word : NewForm assigned (λ g us. it g (key (codes "new")) (rest us)) k ns
     by_word = record {
-      form = form_by assigned (key (codes "new")) new_opens begins_operand rest h (bare k ns ∷ []) refl (λ g us e b z ys vs r. new_head g (rest us) us (bare k ns) (read_by g us) ys vs r);
+      form = form_by assigned (key (codes "new")) new_opens begins_operand rest (bare k ns ∷ []) refl (λ g us e b z ys vs r. new_head g (rest us) us (bare k ns) (read_by g us) ys vs r);
       no_point = refl;
       own = λ g us e b z ys vs r. new_new_head g (rest us) us (bare k ns) (read_by g us) ys vs r;
     }
@@ -99,7 +99,7 @@ module _ (assigned : Bool) where
   target_read g us = rw (means_is assigned part.New (s (codes ".") (it no_gap (key (codes "target")) us))) refl
 
   pub target_form : NewForm assigned (λ g us. it g (key (codes "new")) (s (codes ".") (it no_gap (key (codes "target")) us))) (kind.MetaPropExpr NewTarget) []
-  target_form = by_word (λ us. s (codes ".") (it no_gap (key (codes "target")) us)) refl target_read
+  target_form = by_word (λ us. s (codes ".") (it no_gap (key (codes "target")) us)) target_read
 
   module _ {f : Laid} {k : Kind} {ns : List Node} (N : NewForm assigned f k ns) where
     -- the callee, and what may be arguments
@@ -122,7 +122,7 @@ module _ (assigned : Bool) where
     -- with arguments
     pub new_form : (args : Items → Items) (n : Node) → ((us : Items) → Reads assigned arguments (s (codes "(") (args us)) (n ∷ []) us) → NewForm assigned (λ g us. it g (key (codes "new")) (f blank (s (codes "(") (args us)))) kind.NewExpr (bare k ns ∷ n ∷ absent ∷ [])
     unfolding new_links template_start
-    new_form args n h = by_word (λ us. f blank (s (codes "(") (args us))) refl (λ g us. made_read g (f blank (s (codes "(") (args us))) us n (callee_read (s (codes "(") (args us)) (exactly (sign (codes "("))) at_token refl refl n us (ap (or_on (interp assigned (means assigned) (put Absent)) (s (codes "(") (args us))) (h us))))
+    new_form args n h = by_word (λ us. f blank (s (codes "(") (args us))) (λ g us. made_read g (f blank (s (codes "(") (args us))) us n (callee_read (s (codes "(") (args us)) (exactly (sign (codes "("))) at_token refl refl n us (ap (or_on (interp assigned (means assigned) (put Absent)) (s (codes "(") (args us))) (h us))))
 
     -- and without
     alone_read : (g : Gap) (us : Items) (e : Front) → Begins e us → closes shapes.object e ≡ true → Reads assigned construction (it g (key (codes "new")) (f blank us)) (bare kind.NewExpr (bare k ns ∷ absent ∷ absent ∷ []) ∷ []) us

@@ -43,7 +43,7 @@ use Rattle.ecma_reread.proofs.Levels.{means_is}
 use Rattle.ecma_grammar.specs.Made.{made}
 use Rattle.ecma_reread.proofs.Fronts.{is_known, Front, exactly, a_name, Begins, at_token, at_name, IsName, front_of, refuses_at, refused_at, refuses_all, all_refused}
 use Rattle.ecma_reread.proofs.Towers.{Tower, here, later, sooner, climb, excluded, Opens, Starts, Undeclared, Ends, refuses_choices, skipped}
-use Rattle.ecma_reread.proofs.Heads.{is_head, member_made}
+use Rattle.ecma_reread.proofs.Heads.{member_made}
 use Rattle.ecma_reread.proofs.Forms.{Laid, s, heads, Reads, Refuses, ends_no_item, AsParam, item_refused, whole_item, linked_param, Form, new_heads, NewForm, no_item_at, no_arrow_at}
 use Rattle.ecma_reread.proofs.Bindings.{Stands, expression_read}
 use Rattle.ecma_reread.proofs.Params.{params_end, parameters_refused, no_body_behind}
@@ -86,7 +86,6 @@ pub record Single (t : Tok) (k : Kind) : Type 0 where
   pub opens : Opens (exactly t)
   pub starts : Starts (exactly t)
   pub undeclared : Undeclared (exactly t)
-  pub head : is_head k ≡ true
   pub no_arrow : refuses_at (exactly t) (arrow false false) ≡ true
   pub no_label : refuses_at (exactly t) labeled ≡ true
   pub no_param : refuses_all (exactly t) param ≡ true
@@ -102,7 +101,6 @@ string_single raw = record {
   opens = record { no_spread = refl; no_yield = refl; no_private = refl; no_prefix = refl; no_increment = refl; no_decrement = refl };
   starts = record { no_statement = refl; no_item = refl };
   undeclared = record { no_declaration = refl; no_word = refl };
-  head = refl;
   no_arrow = refl;
   no_label = refl;
   no_param = refl;
@@ -119,7 +117,6 @@ number_single raw = record {
   opens = record { no_spread = refl; no_yield = refl; no_private = refl; no_prefix = refl; no_increment = refl; no_decrement = refl };
   starts = record { no_statement = refl; no_item = refl };
   undeclared = record { no_declaration = refl; no_word = refl };
-  head = refl;
   no_arrow = refl;
   no_label = refl;
   no_param = refl;
@@ -136,7 +133,6 @@ this_single = record {
   opens = record { no_spread = refl; no_yield = refl; no_private = refl; no_prefix = refl; no_increment = refl; no_decrement = refl };
   starts = record { no_statement = refl; no_item = refl };
   undeclared = record { no_declaration = refl; no_word = refl };
-  head = refl;
   no_arrow = refl;
   no_label = refl;
   no_param = refl;
@@ -153,7 +149,6 @@ big_int_single raw = record {
   opens = record { no_spread = refl; no_yield = refl; no_private = refl; no_prefix = refl; no_increment = refl; no_decrement = refl };
   starts = record { no_statement = refl; no_item = refl };
   undeclared = record { no_declaration = refl; no_word = refl };
-  head = refl;
   no_arrow = refl;
   no_label = refl;
   no_param = refl;
@@ -170,7 +165,6 @@ null_single = record {
   opens = record { no_spread = refl; no_yield = refl; no_private = refl; no_prefix = refl; no_increment = refl; no_decrement = refl };
   starts = record { no_statement = refl; no_item = refl };
   undeclared = record { no_declaration = refl; no_word = refl };
-  head = refl;
   no_arrow = refl;
   no_label = refl;
   no_param = refl;
@@ -187,7 +181,6 @@ true_single = record {
   opens = record { no_spread = refl; no_yield = refl; no_private = refl; no_prefix = refl; no_increment = refl; no_decrement = refl };
   starts = record { no_statement = refl; no_item = refl };
   undeclared = record { no_declaration = refl; no_word = refl };
-  head = refl;
   no_arrow = refl;
   no_label = refl;
   no_param = refl;
@@ -204,7 +197,6 @@ false_single = record {
   opens = record { no_spread = refl; no_yield = refl; no_private = refl; no_prefix = refl; no_increment = refl; no_decrement = refl };
   starts = record { no_statement = refl; no_item = refl };
   undeclared = record { no_declaration = refl; no_word = refl };
-  head = refl;
   no_arrow = refl;
   no_label = refl;
   no_param = refl;
@@ -227,7 +219,6 @@ regex_single body flags t = record {
   opens = record { no_spread = refl; no_yield = refl; no_private = refl; no_prefix = refl; no_increment = refl; no_decrement = refl };
   starts = record { no_statement = refl; no_item = refl };
   undeclared = record { no_declaration = refl; no_word = refl };
-  head = refl;
   no_arrow = refl;
   no_label = refl;
   no_param = refl;
@@ -275,7 +266,6 @@ module _ (assigned : Bool) where
     pieces = bare k [] ∷ [];
     own = λ g us e b z ys vs h. head_read (exactly t) (it g t us) us (bare k []) S.apart at_token (single_read t k S g us) ys vs h;
     whole = refl;
-    head = S.head;
     no_arrow = λ n g us e b z r. refused_at assigned (means assigned) (arrow n false) (exactly t) (it g t us) at_token (no_arrow_at (exactly t) S.no_arrow n);
     no_label = λ g us e b z. refused_at assigned (means assigned) labeled (exactly t) (it g t us) at_token S.no_label;
     no_declaration = λ g us e b z. let u = S.undeclared in refused_at assigned (means assigned) declarations.declaration (exactly t) (it g t us) at_token u.no_declaration;
@@ -336,7 +326,6 @@ module _ (assigned : Bool) where
     pieces = bare (kind.Ident w 0 false) [] ∷ [];
     own = λ g us e b z ys vs h. head_read a_name (it g (items.key w) us) us (bare (kind.Ident w 0 false) []) name_primary (at_name n) (name_read w n g us) ys vs h;
     whole = refl;
-    head = refl;
     no_arrow = name_no_arrow w n;
     no_label = name_no_label w n.free;
     no_declaration = λ g us e b z. let u = name_undeclared in refused_at assigned (means assigned) declarations.declaration a_name (it g (items.key w) us) (at_name n) u.no_declaration;
@@ -388,7 +377,6 @@ module _ (assigned : Bool) where
       pieces = bare kind.ParenExpr (bare k ns ∷ []) ∷ [];
       own = λ g us e b z ys vs h. head_read opening (it g (sign (codes "(")) (f no_gap (s (codes ")") us))) us (bare kind.ParenExpr (bare k ns ∷ [])) parenthesis_primary at_token (whole_read g us) ys vs h;
       whole = refl;
-      head = refl;
       no_arrow = parenthesized_no_arrow;
       no_label = λ g us e b z. refused_at assigned (means assigned) labeled opening (it g (sign (codes "(")) (f no_gap (s (codes ")") us))) at_token refl;
       no_declaration = λ g us e b z. refused_at assigned (means assigned) declarations.declaration opening (it g (sign (codes "(")) (f no_gap (s (codes ")") us))) at_token refl;

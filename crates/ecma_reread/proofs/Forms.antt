@@ -23,7 +23,7 @@ use Rattle.ecma_reread.specs.Machine.{read, fails, built_on, interp, means}
 use Rattle.ecma_reread.specs.Shapes as shapes
 use Rattle.ecma_reread.proofs.Fronts.{Front, exactly, Begins, at_token, refuses_at, refused_at, refuses_all, all_refused, passes_at, passed_at}
 use Rattle.ecma_reread.proofs.Towers.{without, refuses_choices, excluded, private_in, Opens, closes}
-use Rattle.ecma_reread.proofs.Heads.{bare, is_head}
+use Rattle.ecma_reread.proofs.Heads.{bare}
 use Rattle.ecma_grammar.proofs.Steps.{steps-append}
 
 abbrev pub Laid : Type 0
@@ -114,7 +114,6 @@ module _ (assigned : Bool) where
     pub pieces : List Node
     pub own : (g : Gap) (us : Items) (e : Front) → Begins e us → refuses_at e (word (codes "function")) ≡ true → (ys : List Node) (vs : Items) → Reads links us ys vs → Reads (heads ▸ links) (f g us) (pieces ++ ys) vs
     pub whole : steps in_front_link None pieces ≡ Some (bare k ns)
-    pub head : is_head k ≡ true
     -- what is tried before an expression
     pub no_arrow : NoArrow f
     pub no_label : (g : Gap) (us : Items) (e : Front) → Begins e us → refuses_at e (punct (codes ":")) ≡ true → Refuses labeled (f g us)
@@ -171,6 +170,10 @@ module _ (assigned : Bool) where
 -- an operator behind an expression: nothing that is tried before an expression goes on with it
 abbrev pub apart : Front → Bool
 apart e = refuses_at e (arrow_body false) && (refuses_at e (arrow_rest false false) && (refuses_at e (punct (codes ":")) && refuses_at e (word (codes "function"))))
+
+-- what begins a link
+abbrev pub begins_link : Front → Bool
+begins_link e = refuses_at e (arrow_body false) && (refuses_at e (punct (codes ":")) && refuses_at e (word (codes "function")))
 
 -- and no parameter does
 abbrev pub ends_no_param : Front → Bool
@@ -282,10 +285,10 @@ module _ (assigned : Bool) where
   param_by t z rest g us = let a = and_parts (opens_plainly (exactly t)) _ z in param_from t a.0 rest g us
 
   -- a form by its first token, with which nothing begins that is tried before an expression
-  abbrev pub form_from : (t : Tok) → opens_plainly (exactly t) ≡ true → Opens (exactly t) → (rest : Items → Items) → ((g : Gap) (us : Items) → NoItem assigned (it g t (rest us))) → {k : Kind} {ns : List Node} → is_head k ≡ true → (pieces : List Node) → steps in_front_link None pieces ≡ Some (bare k ns)
+  abbrev pub form_from : (t : Tok) → opens_plainly (exactly t) ≡ true → Opens (exactly t) → (rest : Items → Items) → ((g : Gap) (us : Items) → NoItem assigned (it g t (rest us))) → {k : Kind} {ns : List Node} → (pieces : List Node) → steps in_front_link None pieces ≡ Some (bare k ns)
       → ((g : Gap) (us : Items) (e : Front) → Begins e us → refuses_at e (word (codes "function")) ≡ true → (ys : List Node) (vs : Items) → Reads assigned links us ys vs → Reads assigned (heads ▸ links) (it g t (rest us)) (pieces ++ ys) vs)
       → Form assigned (λ g us. it g t (rest us)) k ns
-  form_from t z o rest i h pieces whole own =
+  form_from t z o rest i pieces whole own =
       let L = lead_from t z rest i in
       record {
         front = exactly t;
@@ -296,7 +299,6 @@ module _ (assigned : Bool) where
         pieces = pieces;
         own = own;
         whole = whole;
-        head = h;
         no_arrow = no_arrow_from t z rest;
         no_label = L.no_label;
         no_declaration = L.no_declaration;
@@ -305,19 +307,19 @@ module _ (assigned : Bool) where
         with_default = λ g ts vs n c. param_from t z (λ us. rest (it blank (sign (codes "=")) ts)) g vs;
       }
 
-  abbrev pub form_by : (t : Tok) → only_opens (exactly t) ≡ true → Opens (exactly t) → (rest : Items → Items) {k : Kind} {ns : List Node} → is_head k ≡ true → (pieces : List Node) → steps in_front_link None pieces ≡ Some (bare k ns)
+  abbrev pub form_by : (t : Tok) → only_opens (exactly t) ≡ true → Opens (exactly t) → (rest : Items → Items) {k : Kind} {ns : List Node} → (pieces : List Node) → steps in_front_link None pieces ≡ Some (bare k ns)
       → ((g : Gap) (us : Items) (e : Front) → Begins e us → refuses_at e (word (codes "function")) ≡ true → (ys : List Node) (vs : Items) → Reads assigned links us ys vs → Reads assigned (heads ▸ links) (it g t (rest us)) (pieces ++ ys) vs)
       → Form assigned (λ g us. it g t (rest us)) k ns
-  form_by t z o rest h pieces whole own = let a = and_parts (opens_plainly (exactly t)) _ z in form_from t a.0 o rest (λ g us. no_item_by t z g (rest us)) h pieces whole own
+  form_by t z o rest pieces whole own = let a = and_parts (opens_plainly (exactly t)) _ z in form_from t a.0 o rest (λ g us. no_item_by t z g (rest us)) pieces whole own
 
-  -- a link behind a form, by its first token
-  abbrev pub link_form : {f : Laid} {k : Kind} {ns : List Node} → Form assigned f k ns → (t : Tok) → apart (exactly t) ≡ true → ends_no_param (exactly t) ≡ true → (rest : Items → Items) (m : Node) {k' : Kind} {ns' : List Node} → is_head k' ≡ true
+  -- a link behind a form, by its first token, and by what is tried there before an expression
+  abbrev pub link_behind : {f : Laid} {k : Kind} {ns : List Node} → Form assigned f k ns → (t : Tok) → begins_link (exactly t) ≡ true → ends_no_param (exactly t) ≡ true → (rest : Items → Items)
+      → ((n : Bool) (us : Items) (e : Front) → Begins e us → refuses_at e (arrow_body n) ≡ true → Refuses assigned (arrow_rest n false) (it no_gap t (rest us))) → (m : Node) {k' : Kind} {ns' : List Node}
       → in_front_link (bare k ns) m ≡ bare k' ns' → ((us : Items) (ys : List Node) (vs : Items) → Reads assigned links us ys vs → Reads assigned links (it no_gap t (rest us)) (m ∷ ys) vs) → Form assigned (λ g us. f g (it no_gap t (rest us))) k' ns'
-  link_form F t z w rest m h made link =
+  link_behind F t z w rest no_rest m made link =
       let e = exactly t in
       let a = and_parts (refuses_at e (arrow_body false)) _ z in
-      let b = and_parts (refuses_at e (arrow_rest false false)) _ a.1 in
-      let c = and_parts (refuses_at e (punct (codes ":"))) _ b.1 in
+      let c = and_parts (refuses_at e (punct (codes ":"))) _ a.1 in
       let x = and_parts (refuses_at e (punct (codes "="))) _ w in
       let y = and_parts (refuses_at e (punct (codes ","))) _ x.1 in
       record {
@@ -329,11 +331,15 @@ module _ (assigned : Bool) where
         pieces = F.pieces ++ m ∷ [];
         own = λ g us k q r ys vs i. rw (append_assoc F.pieces (m ∷ []) ys) (F.own g (it no_gap t (rest us)) e at_token c.1 (m ∷ ys) vs (link us ys vs i));
         whole = steps-append in_front_link None F.pieces m ∙ (ap (λ o. step_on in_front_link o m) F.whole ∙ ap Some made);
-        head = h;
-        no_arrow = λ n g us k q r i. F.no_arrow n g (it no_gap t (rest us)) e at_token a.0 (refused_at assigned (means assigned) (arrow_rest n false) e (it no_gap t (rest us)) at_token (no_rest_at e b.0 n));
+        no_arrow = λ n g us k q r i. F.no_arrow n g (it no_gap t (rest us)) e at_token a.0 (no_rest n us k q r);
         no_label = λ g us k q r. F.no_label g (it no_gap t (rest us)) e at_token c.0;
         no_declaration = λ g us k q r. F.no_declaration g (it no_gap t (rest us)) e at_token c.1;
         no_word = λ g us k q r. F.no_word g (it no_gap t (rest us)) e at_token c.1;
         as_param = λ g us k q r. linked_param assigned at_token y.0 y.1 (F.as_param g (it no_gap t (rest us)) e at_token x.0);
         with_default = λ g ts us n i. linked_param assigned at_token y.0 y.1 (F.as_param g (it no_gap t (rest (it blank (sign (codes "=")) ts))) e at_token x.0);
       }
+
+  -- where no arrow function's parameters end
+  abbrev pub link_form : {f : Laid} {k : Kind} {ns : List Node} → Form assigned f k ns → (t : Tok) → begins_link (exactly t) ≡ true → refuses_at (exactly t) (arrow_rest false false) ≡ true → ends_no_param (exactly t) ≡ true → (rest : Items → Items) (m : Node) {k' : Kind} {ns' : List Node}
+      → in_front_link (bare k ns) m ≡ bare k' ns' → ((us : Items) (ys : List Node) (vs : Items) → Reads assigned links us ys vs → Reads assigned links (it no_gap t (rest us)) (m ∷ ys) vs) → Form assigned (λ g us. f g (it no_gap t (rest us))) k' ns'
+  link_form F t z r w rest m made link = link_behind F t z w rest (λ n us e b q. refused_at assigned (means assigned) (arrow_rest n false) (exactly t) (it no_gap t (rest us)) at_token (no_rest_at (exactly t) r n)) m made link

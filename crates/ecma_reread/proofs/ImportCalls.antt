@@ -90,7 +90,7 @@ module _ (assigned : Bool) where
 
   pub meta_form : NewForm assigned (λ g us. it g (key (codes "import")) (meta us)) (kind.MetaPropExpr ImportMeta) []
   meta_form = record {
-    form = form_from assigned (key (codes "import")) import_opens begins_operand meta (λ g us. point_no_item g (it no_gap (key (codes "meta")) us)) refl (meta_node ∷ []) refl (λ g us e b z ys vs h. ap (followed_on (interp assigned (means assigned) links)) (meta_read g us) ∙ ap (with_front (meta_node ∷ [])) h);
+    form = form_from assigned (key (codes "import")) import_opens begins_operand meta (λ g us. point_no_item g (it no_gap (key (codes "meta")) us)) (meta_node ∷ []) refl (λ g us e b z ys vs h. ap (followed_on (interp assigned (means assigned) links)) (meta_read g us) ∙ ap (with_front (meta_node ∷ [])) h);
     no_point = refl;
     own = λ g us e b z ys vs h. ap (followed_on (interp assigned (means assigned) new_links)) (new_meta_read g us) ∙ ap (with_front (meta_node ∷ [])) h;
   }
@@ -110,5 +110,5 @@ module _ (assigned : Bool) where
 
     pub import_call_form : Form assigned (λ g us. it g (key (codes "import")) (s (codes "(") (args us))) kind.CallExpr (bare kind.Import [] ∷ n ∷ absent ∷ [])
     import_call_form =
-        form_from assigned (key (codes "import")) import_opens begins_operand (λ us. s (codes "(") (args us)) (λ g us. arguments_no_item g (args us)) refl (called ∷ []) refl
+        form_from assigned (key (codes "import")) import_opens begins_operand (λ us. s (codes "(") (args us)) (λ g us. arguments_no_item g (args us)) (called ∷ []) refl
         (λ g us e b z ys vs h. ap (followed_on (interp assigned (means assigned) links)) (head_read g us) ∙ ap (with_front (called ∷ [])) h)

@@ -14,7 +14,7 @@ use Rattle.ecma_reread.specs.Machine.{means}
 use Rattle.ecma_reread.specs.Tokens.{blank}
 use Rattle.ecma_reread.proofs.Fronts.{Front, exactly, at_token, refuses_at, refused_at, refuses_all, all_refused}
 use Rattle.ecma_reread.proofs.Towers.{Tower, excluded, Opens, Starts}
-use Rattle.ecma_reread.proofs.Heads.{bare, is_head}
+use Rattle.ecma_reread.proofs.Heads.{bare}
 use Rattle.ecma_reread.proofs.Forms.{Laid, Reads, ends_no_item, Form, NewForm, no_item_at, no_arrow_at}
 use Rattle.ecma_reread.proofs.Expressions.{IsPrimary, primary_by, head_read, new_head_read}
 use Rattle.ecma_reread.proofs.Tried.{Wholly, wholly_param, no_default, some_default}
@@ -33,7 +33,7 @@ pub record Literal (t : Tok) (base : Grammar) : Type 0 where
   pub no_rest : refuses_at (exactly t) rest_pattern ≡ true
   pub no_end : ends_no_item (exactly t) ≡ true
 
-module _ (assigned : Bool) {t : Tok} {base : Grammar} (L : Literal t base) (rest : Items → Items) (k : Kind) (ns : List Node) (head : is_head k ≡ true) where
+module _ (assigned : Bool) {t : Tok} {base : Grammar} (L : Literal t base) (rest : Items → Items) (k : Kind) (ns : List Node) where
   abbrev literal : Laid
   literal g us = it g t (rest us)
 
@@ -55,7 +55,6 @@ module _ (assigned : Bool) {t : Tok} {base : Grammar} (L : Literal t base) (rest
           pieces = bare k ns ∷ [];
           own = λ g us f b z ys vs h. head_read assigned e (literal g us) us (bare k ns) L.apart at_token (primary_read g us) ys vs h;
           whole = refl;
-          head = head;
           no_arrow = λ n g us f b z r. refused_at assigned (means assigned) (arrow n false) e (literal g us) at_token (no_arrow_at e L.no_arrow n);
           no_label = λ g us f b z. refused_at assigned p labeled e (literal g us) at_token L.no_label;
           no_declaration = λ g us f b z. refused_at assigned p declaration e (literal g us) at_token L.no_declaration;

@@ -1,5 +1,5 @@
 -- Members by a name are read as they are laid out.
-use Rattle.std.proofs.Common.{◌≡◌, ℕ, Bool, false, List, [], ◌∷◌, ◌++◌, length, codes, refl, ap, sym, ◌∙◌, append_assoc, Some, None, ◌+◌, subst, arith}
+use Rattle.std.proofs.Common.{◌≡◌, ℕ, Bool, false, List, [], ◌∷◌, ◌++◌, length, codes, refl, ap, sym, ◌∙◌, append_assoc, Some, None, ◌+◌, subst, arith, true}
 use Rattle.ecma_lex.specs.Text.{piece}
 use Rattle.ecma_lex.specs.Keys.{priv_name_end}
 use Rattle.ecma_kind.specs.declared.kind.Kind.{Kind}
@@ -23,9 +23,9 @@ use Rattle.ecma_reread.specs.Shapes as shapes
 use Rattle.ecma_reread.specs.Shapes.{IsChainKey}
 use Rattle.ecma_reread.specs.Tokens.{bare, blank, chain_token, chain_kind}
 use Rattle.ecma_reread.proofs.Levels.{means_is}
-use Rattle.ecma_reread.proofs.Fronts.{exactly, at_token, refused_at}
-use Rattle.ecma_reread.proofs.Heads.{member_made}
-use Rattle.ecma_reread.proofs.Forms.{Laid, s, Reads, linked_param, Form, NewForm}
+use Rattle.ecma_reread.proofs.Fronts.{exactly, at_token, refused_at, refuses_at}
+use Rattle.ecma_reread.proofs.Heads.{member_made, is_head}
+use Rattle.ecma_reread.proofs.Forms.{Laid, s, Reads, linked_param, Form, NewForm, link_form}
 use Rattle.std.specs.Str.{IsUtf8}
 use Rattle.ecma_lex.proofs.Suffixes.{cut_utf8, past, piece_here}
 use Rattle.ecma_lex.proofs.Spelled.{alone}
@@ -58,45 +58,28 @@ pub word_key : (w : List ℕ) → IsLinkKey (items.key w) (kind.IdentName w)
 unfolding chain_key
 word_key w = record { taken = λ assigned us. refl }
 
+pub point_apart : refuses_at (exactly (sign (codes "."))) (arrow_rest false false) ≡ true
+unfolding arrow_rest names.binding_ident
+point_apart = refl
+
 module _ (assigned : Bool) where
   pub dot_read : {t : Tok} {q : Kind} (K : IsLinkKey t q) (us : Items) (ys : List Node) (vs : Items) → Reads assigned links us ys vs → Reads assigned links (s (codes ".") (it no_gap t us)) (bare kind.MemberExpr (absent ∷ bare q [] ∷ []) ∷ ys) vs
   unfolding links chains.dot_body
   dot_read {t} K us ys vs h = rw (means_is assigned (part.Link link.Dot) (it no_gap t us), K.taken assigned us, h) refl
 
-  pub member_form : {f : Laid} {k : Kind} {ns : List Node} → Form assigned f k ns → {t : Tok} {q : Kind} (K : IsLinkKey t q) → Form assigned (λ g us. f g (s (codes ".") (it no_gap t us))) kind.MemberExpr (bare k ns ∷ bare q [] ∷ [])
-  unfolding arrow_rest names.binding_ident
-  member_form {f} {k} {ns} F {t} {q} K =
-      let m = bare kind.MemberExpr (absent ∷ bare q [] ∷ []) in
-      let point = exactly (sign (codes ".")) in
-      record {
-        front = F.front;
-        begins = λ g us. F.begins g (s (codes ".") (it no_gap t us));
-        opens = F.opens;
-        no_statement = F.no_statement;
-        no_item = λ g us. F.no_item g (s (codes ".") (it no_gap t us));
-        pieces = F.pieces ++ m ∷ [];
-        own = λ g us e b z ys vs h. rw (append_assoc F.pieces (m ∷ []) ys) (F.own g (s (codes ".") (it no_gap t us)) point at_token refl (m ∷ ys) vs (dot_read K us ys vs h));
-        whole = steps-append in_front_link None F.pieces m ∙ (ap (λ o. step_on in_front_link o m) F.whole ∙ ap Some (member_made k F.head ns (bare q [])));
-        head = refl;
-        no_arrow = λ n g us e b z r. F.no_arrow n g (s (codes ".") (it no_gap t us)) point at_token refl (refused_at assigned (means assigned) (arrow_rest n false) point (s (codes ".") (it no_gap t us)) at_token refl);
-        no_label = λ g us e b z. F.no_label g (s (codes ".") (it no_gap t us)) point at_token refl;
-        no_declaration = λ g us e b z. F.no_declaration g (s (codes ".") (it no_gap t us)) point at_token refl;
-        no_word = λ g us e b z. F.no_word g (s (codes ".") (it no_gap t us)) point at_token refl;
-        as_param = λ g us e b z. linked_param assigned at_token refl refl (F.as_param g (s (codes ".") (it no_gap t us)) point at_token refl);
-        with_default = λ g ts us n h. linked_param assigned at_token refl refl (F.as_param g (s (codes ".") (it no_gap t (it blank (sign (codes "=")) ts))) point at_token refl);
-      }
+  abbrev pub member_form : {f : Laid} {k : Kind} {ns : List Node} → is_head k ≡ true → Form assigned f k ns → {t : Tok} {q : Kind} (K : IsLinkKey t q) → Form assigned (λ g us. f g (s (codes ".") (it no_gap t us))) kind.MemberExpr (bare k ns ∷ bare q [] ∷ [])
+  member_form {k = k} {ns = ns} head F {t} {q} K = link_form assigned F (sign (codes ".")) refl point_apart refl (λ us. it no_gap t us) (bare kind.MemberExpr (absent ∷ bare q [] ∷ [])) (member_made k head ns (bare q [])) (dot_read K)
 
   pub new_dot_read : {t : Tok} {q : Kind} (K : IsLinkKey t q) (us : Items) (ys : List Node) (vs : Items) → Reads assigned new_links us ys vs → Reads assigned new_links (s (codes ".") (it no_gap t us)) (bare kind.MemberExpr (absent ∷ bare q [] ∷ []) ∷ ys) vs
   unfolding new_links chains.new_dot_body
   new_dot_read {t} K us ys vs h = rw (means_is assigned (part.NewLink link.Dot) (it no_gap t us), K.taken assigned us, h) refl
 
-  pub new_member_form : {f : Laid} {k : Kind} {ns : List Node} → NewForm assigned f k ns → {t : Tok} {q : Kind} (K : IsLinkKey t q) → NewForm assigned (λ g us. f g (s (codes ".") (it no_gap t us))) kind.MemberExpr (bare k ns ∷ bare q [] ∷ [])
-  unfolding member_form
-  new_member_form N {t} {q} K =
+  pub new_member_form : {f : Laid} {k : Kind} {ns : List Node} → is_head k ≡ true → NewForm assigned f k ns → {t : Tok} {q : Kind} (K : IsLinkKey t q) → NewForm assigned (λ g us. f g (s (codes ".") (it no_gap t us))) kind.MemberExpr (bare k ns ∷ bare q [] ∷ [])
+  new_member_form head N {t} {q} K =
       let F = N.form in
       let m = bare kind.MemberExpr (absent ∷ bare q [] ∷ []) in
       record {
-        form = member_form F K;
+        form = member_form head F K;
         no_point = N.no_point;
         own = λ g us e b z ys vs h. rw (append_assoc F.pieces (m ∷ []) ys) (N.own g (s (codes ".") (it no_gap t us)) (exactly (sign (codes "."))) at_token refl (m ∷ ys) vs (new_dot_read K us ys vs h));
       }

@@ -425,7 +425,7 @@ module _ (assigned : Bool) where
       by_list g (property_tokens p blank vs) us (listed assigned pattern_property (Last us) (lasts us) (property_tokens p blank vs) vs (property_tried p F.0 blank vs (ended ps us)) (more_properties_tried ps F.1 us))
 
   pub object_new : {ns : List Node} (is : AreProperties shapes.values ns) → PropertyForms is → NewForm assigned (λ g us. it g (sign (codes "{")) (properties_tokens is us)) kind.ObjectLit (list_node (bare_properties is) ∷ [])
-  object_new is F = literal_new assigned brace (properties_tokens is) kind.ObjectLit (list_node (bare_properties is) ∷ []) refl (object_read is F) (properties_tried is F)
+  object_new is F = literal_new assigned brace (properties_tokens is) kind.ObjectLit (list_node (bare_properties is) ∷ []) (object_read is F) (properties_tried is F)
 
   -- an object pattern
 

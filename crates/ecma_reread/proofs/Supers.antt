@@ -23,7 +23,7 @@ use Rattle.ecma_reread.specs.Machine.{with_front, followed_on, interp, means}
 use Rattle.ecma_reread.specs.Shapes as shapes
 use Rattle.ecma_reread.proofs.Fronts.{exactly}
 use Rattle.ecma_reread.proofs.Towers.{Opens}
-use Rattle.ecma_reread.proofs.Heads.{bare, is_head, super_member_made, super_call_made}
+use Rattle.ecma_reread.proofs.Heads.{bare, super_member_made, super_call_made}
 use Rattle.ecma_reread.proofs.Forms.{Laid, s, heads, new_heads, Reads, Form, NewForm, only_opens, form_by}
 use Rattle.ecma_reread.proofs.Bindings.{Stands}
 use Rattle.ecma_reread.proofs.Members.{word_key, dot_read, new_dot_read}
@@ -42,12 +42,12 @@ module _ (assigned : Bool) where
   behind_super rest g us = it g (key (codes "super")) (rest us)
 
   -- `super` alone is read in front of a link
-  module _ (rest : Items → Items) (m : Node) {k : Kind} {ns : List Node} (h : is_head k ≡ true) (whole : in_front_link (bare kind.Super []) m ≡ bare k ns)
+  module _ (rest : Items → Items) (m : Node) {k : Kind} {ns : List Node} (whole : in_front_link (bare kind.Super []) m ≡ bare k ns)
       (alone : (g : Gap) (us : Items) → Reads assigned heads (behind_super rest g us) (bare kind.Super [] ∷ []) (rest us))
       (linked : (us : Items) (ys : List Node) (vs : Items) → Reads assigned links us ys vs → Reads assigned links (rest us) (m ∷ ys) vs) where
     abbrev super_form : Form assigned (behind_super rest) k ns
     super_form =
-        form_by assigned (key (codes "super")) super_opens begins_operand rest h (bare kind.Super [] ∷ m ∷ []) (ap Some whole)
+        form_by assigned (key (codes "super")) super_opens begins_operand rest (bare kind.Super [] ∷ m ∷ []) (ap Some whole)
         (λ g us e b z ys vs r. ap (followed_on (interp assigned (means assigned) links)) (alone g us) ∙ ap (with_front (bare kind.Super [] ∷ [])) (linked us ys vs r))
 
     super_new : ((g : Gap) (us : Items) → Reads assigned new_heads (behind_super rest g us) (bare kind.Super [] ∷ []) (rest us))
@@ -80,15 +80,15 @@ module _ (assigned : Bool) where
 
   pub super_member_form : (w : List ℕ) → NewForm assigned (behind_super (λ us. s (codes ".") (it no_gap (key w) us))) kind.SuperPropExpr (bare kind.Super [] ∷ bare (kind.IdentName w) [] ∷ [])
   super_member_form w =
-      super_new (λ us. s (codes ".") (it no_gap (key w) us)) (bare kind.MemberExpr (absent ∷ bare (kind.IdentName w) [] ∷ [])) refl (super_member_made (bare (kind.IdentName w) []))
+      super_new (λ us. s (codes ".") (it no_gap (key w) us)) (bare kind.MemberExpr (absent ∷ bare (kind.IdentName w) [] ∷ [])) (super_member_made (bare (kind.IdentName w) []))
       (before_point w) (dot_read assigned (word_key w)) (new_before_point w) (new_dot_read assigned (word_key w))
 
   pub super_element_form : {f : Laid} {k : Kind} {ns : List Node} → Stands assigned shapes.sequence f k ns → NewForm assigned (behind_super (λ us. s (codes "[") (f no_gap (s (codes "]") us)))) kind.SuperPropExpr (bare kind.Super [] ∷ bare kind.ComputedPropName (bare k ns ∷ []) ∷ [])
   super_element_form {f} {k} {ns} S =
       let rest : Items → Items = λ us. f no_gap (s (codes "]") us) in
-      super_new (λ us. s (codes "[") (f no_gap (s (codes "]") us))) (bare kind.MemberExpr (absent ∷ bare kind.ComputedPropName (bare k ns ∷ []) ∷ [])) refl (super_member_made (bare kind.ComputedPropName (bare k ns ∷ [])))
+      super_new (λ us. s (codes "[") (f no_gap (s (codes "]") us))) (bare kind.MemberExpr (absent ∷ bare kind.ComputedPropName (bare k ns ∷ []) ∷ [])) (super_member_made (bare kind.ComputedPropName (bare k ns ∷ [])))
       (before_bracket rest) (key_read assigned S) (new_before_bracket rest) (new_key_read assigned S)
 
   pub super_call_form : (args : Items → Items) (n : Node) → ((us : Items) (ys : List Node) (vs : Items) → Reads assigned links us ys vs → Reads assigned links (s (codes "(") (args us)) (bare kind.CallExpr (absent ∷ n ∷ absent ∷ []) ∷ ys) vs)
       → Form assigned (behind_super (λ us. s (codes "(") (args us))) kind.CallExpr (bare kind.Super [] ∷ n ∷ absent ∷ [])
-  super_call_form args n linked = super_form (λ us. s (codes "(") (args us)) (bare kind.CallExpr (absent ∷ n ∷ absent ∷ [])) refl (super_call_made n) (before_arguments args) linked
+  super_call_form args n linked = super_form (λ us. s (codes "(") (args us)) (bare kind.CallExpr (absent ∷ n ∷ absent ∷ [])) (super_call_made n) (before_arguments args) linked

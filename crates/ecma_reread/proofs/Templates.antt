@@ -42,7 +42,7 @@ use Rattle.ecma_reread.specs.Shapes.{Level, IsExpression, part_text, IsPart, Are
 use Rattle.ecma_reread.specs.Tokens.{bare, part_raw, part_token, expression_tokens, parts_tokens, expression_kind, expression_parts, bare_expression, bare_part, bare_parts, bare_substitutions, ends_here, first_raw}
 use Rattle.ecma_reread.proofs.Moves.{eats}
 use Rattle.ecma_reread.proofs.Levels.{means_is}
-use Rattle.ecma_reread.proofs.Fronts.{Front, exactly, Begins, at_token}
+use Rattle.ecma_reread.proofs.Fronts.{Front, exactly, Begins, at_token, refuses_at}
 use Rattle.ecma_reread.proofs.Towers.{Tower, here, later, sooner, Opens, Ends}
 use Rattle.ecma_reread.proofs.Heads.{is_head, kind-node, tagged_made}
 use Rattle.ecma_reread.proofs.Forms.{Laid, Reads, apart, ends_no_param, only_opens, Form, NewForm, form_by, link_form}
@@ -200,7 +200,7 @@ module _ (assigned : Bool) where
       let n = bare kind.Tpl (list_node (bare_substitutions is) ∷ list_node (bare_parts is) ∷ []) in
       let whole : (g : Gap) (us : Items) → Reads assigned primary (it g t (parts_tokens is us)) (n ∷ []) us = λ g us. primary_by assigned (exactly t) (primaries.template false) (it g t (parts_tokens is us)) us n (backtick_tower _ _) at_token (template_read is F g us) in
       record {
-        form = form_by assigned t (backtick_opens _ _) (begins_operand _ _) (parts_tokens is) refl (n ∷ []) refl (λ g us e b z ys vs h. head_read assigned (exactly t) (it g t (parts_tokens is us)) us n (backtick_primary _ _) at_token (whole g us) ys vs h);
+        form = form_by assigned t (backtick_opens _ _) (begins_operand _ _) (parts_tokens is) (n ∷ []) refl (λ g us e b z ys vs h. head_read assigned (exactly t) (it g t (parts_tokens is us)) us n (backtick_primary _ _) at_token (whole g us) ys vs h);
         no_point = refl;
         own = λ g us e b z ys vs h. new_head_read assigned (exactly t) (it g t (parts_tokens is us)) us n (backtick_primary _ _) at_token (whole g us) ys vs h;
       }
@@ -212,7 +212,7 @@ module _ (assigned : Bool) where
   start_at true w us = refl
   start_at false w us = refl
 
-  pub backtick_apart : (last : Bool) (w : List ℕ) → apart (exactly (items.template true last w)) ≡ true
+  pub backtick_apart : (last : Bool) (w : List ℕ) → refuses_at (exactly (items.template true last w)) (arrow_rest false false) ≡ true
   unfolding arrow_rest names.binding_ident
   backtick_apart last w = refl
 
@@ -238,14 +238,14 @@ module _ (assigned : Bool) where
     unfolding new_links chains.new_tagged_body
     new_tagged_read us ys vs h = rw (start_at (ends_here is) (part_text true (ends_here is) (first_raw is)) (parts_tokens is us), means_is assigned (part.NewLink link.Tagged) (tokens us), body_read us ys vs new_links h) refl
 
-    abbrev pub tagged_form : {f : Laid} {k : Kind} {ns : List Node} → Form assigned f k ns → Form assigned (λ g us. f g (tokens us)) kind.TaggedTpl (bare k ns ∷ absent ∷ said ∷ [])
-    tagged_form {k = k} {ns = ns} T = link_form assigned T (part_token true is) (backtick_apart _ _) refl (parts_tokens is) item refl (tagged_made k T.head ns said) tagged_read
+    abbrev pub tagged_form : {f : Laid} {k : Kind} {ns : List Node} → is_head k ≡ true → Form assigned f k ns → Form assigned (λ g us. f g (tokens us)) kind.TaggedTpl (bare k ns ∷ absent ∷ said ∷ [])
+    tagged_form {k = k} {ns = ns} head T = link_form assigned T (part_token true is) refl (backtick_apart _ _) refl (parts_tokens is) item (tagged_made k head ns said) tagged_read
 
-    pub new_tagged_form : {f : Laid} {k : Kind} {ns : List Node} → NewForm assigned f k ns → NewForm assigned (λ g us. f g (tokens us)) kind.TaggedTpl (bare k ns ∷ absent ∷ said ∷ [])
-    new_tagged_form N =
+    pub new_tagged_form : {f : Laid} {k : Kind} {ns : List Node} → is_head k ≡ true → NewForm assigned f k ns → NewForm assigned (λ g us. f g (tokens us)) kind.TaggedTpl (bare k ns ∷ absent ∷ said ∷ [])
+    new_tagged_form head N =
         let T = N.form in
         record {
-          form = tagged_form T;
+          form = tagged_form head T;
           no_point = N.no_point;
           own = λ g us e b z ys vs h. rw (append_assoc T.pieces (item ∷ []) ys) (N.own g (tokens us) (exactly (part_token true is)) at_token refl (item ∷ ys) vs (new_tagged_read us ys vs h));
         }
