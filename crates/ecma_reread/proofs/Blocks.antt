@@ -1,13 +1,12 @@
 -- Statements in a list, and blocks, are read as they are laid out.
-use Rattle.std.proofs.Common.{◌≡◌, nat_le, Bool, true, false, List, [], ◌∷◌, codes, refl, ap, ◌∙◌}
-use Rattle.ecma_lex.specs.Keys.{is_reserved, reserved_words}
+use Rattle.std.proofs.Common.{◌≡◌, Bool, true, List, [], ◌∷◌, codes, refl, ap, ◌∙◌}
 use Rattle.ecma_kind.specs.declared.kind.Kind.TheVariants as kind
 use Rattle.ecma_tree.specs.declared.node.Node.{Node}
 use Rattle.ecma_tree.specs.Nodes.{list_node}
 use Rattle.ecma_grammar.specs.declared.production.Part.TheVariants as part
 use Rattle.ecma_grammar.specs.declared.production.Plain.TheVariants as plain
 use Rattle.ecma_grammar.specs.declared.production.Form.TheVariants as form
-use Rattle.ecma_grammar.specs.Grammar.{Grammar, punct}
+use Rattle.ecma_grammar.specs.Grammar.{punct}
 use Rattle.ecma_grammar.specs.productions.Names as names
 use Rattle.ecma_grammar.specs.productions.Names.{statement, block}
 use Rattle.ecma_grammar.specs.productions.Functions as functions
@@ -22,7 +21,7 @@ use Rattle.ecma_grammar.specs.productions.Statements.{statement_body}
 use Rattle.ecma_grammar.specs.productions.Modules as modules
 use Rattle.ecma_grammar.specs.productions.Modules.{module_item}
 use Rattle.ecma_tokens.specs.Items.{sign, Gap, Items, it}
-use Rattle.ecma_reread.specs.Machine.{read, fails, with_front, followed_on, or_on, built_on, interp, means}
+use Rattle.ecma_reread.specs.Machine.{fails, with_front, followed_on, built_on, interp, means}
 use Rattle.ecma_reread.specs.Shapes as shapes
 use Rattle.ecma_reread.specs.Shapes.{Ending}
 use Rattle.ecma_reread.specs.Tokens.{bare}

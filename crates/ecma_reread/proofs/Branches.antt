@@ -1,5 +1,5 @@
 -- `if` is read as it is laid out.
-use Rattle.std.proofs.Common.{◌≡◌, Bool, true, false, List, [], ◌∷◌, codes, refl}
+use Rattle.std.proofs.Common.{Bool, List, [], ◌∷◌, codes, refl}
 use Rattle.std.proofs.lemmas.Bool.{and_parts}
 use Rattle.ecma_lex.specs.Keys.{is_reserved, reserved_words}
 use Rattle.ecma_kind.specs.declared.kind.Kind.{Kind}
@@ -8,7 +8,6 @@ use Rattle.ecma_tree.specs.declared.node.Node.{Node}
 use Rattle.ecma_tree.specs.Nodes.{absent}
 use Rattle.ecma_grammar.specs.Grammar.{word}
 use Rattle.ecma_grammar.specs.productions.Names as names
-use Rattle.ecma_grammar.specs.productions.Statements as statements
 use Rattle.ecma_grammar.specs.productions.Statements.{statement_body, in_parentheses, if_}
 use Rattle.ecma_grammar.specs.productions.Modules as modules
 use Rattle.ecma_grammar.specs.productions.Modules.{module_item}

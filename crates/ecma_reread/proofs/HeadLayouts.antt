@@ -1,8 +1,6 @@
 -- In the head of a loop an expression without a bare `in` is laid out as elsewhere.
 use Rattle.std.proofs.Common.{◌≡◌, ℕ, ◌||◌, Bool, true, false, List, [], ◌∷◌, ◌++◌, map, refl, ap, sym, subst, ◌∙◌, codes, if◌then◌else◌}
 use Rattle.std.proofs.lemmas.Bool.{false≢true}
-use Rattle.ecma_kind.specs.declared.operators.UnaryOp.{UnaryOp}
-use Rattle.ecma_kind.specs.declared.operators.UpdateOp.{UpdateOp}
 use Rattle.ecma_kind.specs.declared.operators.BinaryOp.{BinaryOp}
 use Rattle.ecma_kind.specs.declared.operators.BinaryOp.TheVariants as op
 use Rattle.ecma_kind.specs.declared.span.Span.{Span}
@@ -14,7 +12,7 @@ use Rattle.ecma_print.specs.declared.place.Beside.{Beside}
 use Rattle.ecma_print.specs.declared.place.Beside.TheVariants.{NoNeighbor, BeforeLink, InChain}
 use Rattle.ecma_print.specs.declared.place.Spot.{Spot}
 use Rattle.ecma_print.specs.declared.place.Place.TheVariants.{At, Key, Arguments}
-use Rattle.ecma_print.specs.Pieces.{Piece, say, ◌>>◌}
+use Rattle.ecma_print.specs.Pieces.{say, ◌>>◌}
 use Rattle.ecma_print.specs.Places.{free, left, right, gap}
 use Rattle.ecma_print.specs.Laid.{Laid, is_computed}
 use Rattle.ecma_print.specs.Levels.{clashes, in_parentheses}

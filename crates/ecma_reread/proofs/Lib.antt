@@ -77,4 +77,5 @@ pub mod StatementJoins
 pub mod Words
 pub mod Law
 mod Samples
+mod StatementSamples
 mod ModuleSamples

@@ -14,7 +14,7 @@ use Rattle.ecma_tokens.specs.Good.{IsGap, IsToken, is_gap_character}
 use Rattle.ecma_tokens.specs.Joins.{joins, joins_next, Joined}
 use Rattle.ecma_reread.specs.Shapes as shapes
 use Rattle.ecma_reread.specs.Shapes.{Level, IsExpression, Ending, IsStatement, IsBlock, IsCase, AreCases, IsCatch, AreStatements, IsOptional, IsForLeft, IsForInit, IsPattern}
-use Rattle.ecma_reread.specs.Tokens.{margin, line_at, blank, sign_of, expression_tokens, ident_word, declarators_tokens, closing_gap, is_braced, branch_gap, test_tokens, statement_tokens, block_tokens, case_tokens, cases_tokens, catch_tokens, lined_tokens, optional_tokens, for_left_tokens, for_tokens, initializer_tokens, as_declarator, as_declarators, for_init_tokens, declarator_tokens, pattern_tokens}
+use Rattle.ecma_reread.specs.Tokens.{margin, line_at, blank, sign_of, expression_tokens, ident_word, declarators_tokens, closing_gap, is_braced, branch_gap, test_tokens, statement_tokens, block_tokens, case_tokens, cases_tokens, catch_tokens, lined_tokens, optional_tokens, for_left_tokens, for_tokens, initializer_tokens, as_declarators, for_init_tokens, pattern_tokens}
 use Rattle.ecma_reread.proofs.Softs.{closing, semicolon, colon, Soft, is_object, parted}
 use Rattle.ecma_reread.proofs.Beginnings.{pattern_blank_joins, begun, blank_joins, opening_joins}
 use Rattle.ecma_reread.proofs.Joins.{ident_whole, no_gap_is, blank_is, Words, expression_joined, declarators_soft, declarator_joined, declarators_joined, pattern_joined}

@@ -21,7 +21,6 @@ use Rattle.ecma_grammar.specs.productions.Primary as primaries
 use Rattle.ecma_grammar.specs.productions.Declarations.{declaration}
 use Rattle.ecma_grammar.specs.productions.Statements.{statement_body, expression_statement}
 use Rattle.ecma_grammar.specs.productions.Modules.{module_item}
-use Rattle.ecma_tokens.specs.Items as items
 use Rattle.ecma_tokens.specs.Items.{Tok, sign, Gap, no_gap, Items, it, key, private_name, string, number, big_int, regex, template, ends}
 use Rattle.ecma_reread.specs.Machine.{read, fails, with_front, followed_on, or_on, unless_on, built_on, interp, means}
 use Rattle.ecma_reread.specs.Shapes as shapes

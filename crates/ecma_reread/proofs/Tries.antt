@@ -1,5 +1,5 @@
 -- `try` is read as it is laid out.
-use Rattle.std.proofs.Common.{◌≡◌, ℕ, Bool, true, false, List, [], ◌∷◌, codes, refl}
+use Rattle.std.proofs.Common.{◌≡◌, Bool, [], ◌∷◌, codes, refl}
 use Rattle.ecma_lex.specs.Keys.{is_reserved, reserved_words}
 use Rattle.ecma_kind.specs.declared.kind.Kind.TheVariants as kind
 use Rattle.ecma_tree.specs.declared.node.Node.{Node}

@@ -7,7 +7,6 @@ use Rattle.ecma_kind.specs.declared.kind.Kind.TheVariants as kind
 use Rattle.ecma_tree.specs.declared.node.Node.{Node}
 use Rattle.ecma_tree.specs.Nodes.{absent, list_node}
 use Rattle.ecma_grammar.specs.declared.production.Part.TheVariants as part
-use Rattle.ecma_grammar.specs.declared.production.Plain.TheVariants as plain
 use Rattle.ecma_grammar.specs.declared.production.Form.TheVariants as form
 use Rattle.ecma_grammar.specs.Made.{made}
 use Rattle.ecma_grammar.specs.Grammar as grammar
@@ -30,16 +29,14 @@ use Rattle.ecma_tokens.specs.Items.{sign, Gap, Items, it}
 use Rattle.ecma_reread.specs.Machine.{read, with_front, followed_on, or_on, built_on, interp, means}
 use Rattle.ecma_reread.specs.Shapes as shapes
 use Rattle.ecma_reread.specs.Shapes.{IsInitializer, IsDeclarator, AreDeclarators, IsPattern}
-use Rattle.ecma_reread.specs.Tokens.{bare, blank, expression_tokens, expression_kind, expression_parts, ident_word, initializer_tokens, declarator_tokens, declarators_tokens, bare_initializer, bare_declarator, bare_declarators, bare_pattern, pattern_tokens}
+use Rattle.ecma_reread.specs.Tokens.{bare, blank, ident_word, initializer_tokens, declarator_tokens, declarators_tokens, bare_initializer, bare_declarator, bare_declarators, bare_pattern, pattern_tokens}
 use Rattle.ecma_reread.proofs.Levels.{means_is}
-use Rattle.ecma_reread.proofs.Fronts.{Front, exactly, Begins, at_token, refuses_at, refused_at}
-use Rattle.ecma_reread.proofs.Towers.{refuses_choices, Ends}
+use Rattle.ecma_reread.proofs.Fronts.{exactly, at_token}
+use Rattle.ecma_reread.proofs.Towers.{refuses_choices}
 use Rattle.ecma_reread.proofs.Heads.{nodes}
 use Rattle.ecma_reread.proofs.Forms.{s, Reads}
-use Rattle.ecma_reread.proofs.Bindings.{Stands, used}
 use Rattle.ecma_reread.proofs.Repeats.{Repeats, repeats_end, repeats_more, repeated}
 use Rattle.ecma_reread.proofs.Expressions.{comma_ends, semicolon_ends}
-use Rattle.ecma_reread.proofs.Calls.{ident_free}
 use Rattle.ecma_reread.proofs.Statements.{closes_statement, ReadAsStatement, token_form}
 use Rattle.ecma_reread.proofs.Lists.{Followed}
 use Rattle.ecma_reread.proofs.Spreads.{ReadAsPattern, initializer_read, InitializerIn}
