@@ -7,3 +7,5 @@ mod LaidExpressions
 mod LaidStatements
 mod Laying
 mod Sorting
+mod Picking
+mod Ending

@@ -1,3 +1,4 @@
 pub mod Spots
 pub mod Explicit
+pub mod Chains
 pub mod Laws

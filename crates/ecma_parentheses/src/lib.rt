@@ -3,7 +3,7 @@
 //! Each function carries one law, and does nothing. The laws are stated in `specs/Laws.antt`.
 #![tactic(auto)]
 
-ghost use Rattle.ecma_parentheses.specs.Laws.{LayoutStays, NoneAreAddedAgain, OnlyParenthesesAreAdded, SortsAreKept};
+ghost use Rattle.ecma_parentheses.specs.Laws.{LayoutStays, NoneAreAddedAgain, OnlyParenthesesAreAdded, RunsAsEnded, SortsAreKept};
 
 /// Without any parentheses the tree with explicit ones is the tree.
 pub fn only_parentheses_are_added()
@@ -24,3 +24,10 @@ pub fn layout_stays()
 pub fn sorts_are_kept()
     ensures { SortsAreKept }
 {}
+
+/// A tree with explicit parentheses runs as the tree does whose optional chains end where they stand as an object, a callee or a tag.
+pub fn it_runs_as_its_chains_end()
+    ensures { RunsAsEnded }
+{
+    ecma_runs::laws::parentheses_do_not_matter();
+}
