@@ -10,3 +10,4 @@ pub mod ReadingOf
 pub mod ReadLeaves
 pub mod Everywhere
 pub mod Read
+pub mod Least

@@ -1,3 +1,4 @@
 pub mod Clauses
 pub mod Finished
 pub mod Read
+pub mod Least

@@ -4,6 +4,7 @@
 #![tactic(auto)]
 
 ghost use Rattle.ecma_fits_laws.specs.Clauses.{FitsByClauses};
+ghost use Rattle.ecma_fits_laws.specs.Least.{FirstUnfitIsLeast};
 ghost use Rattle.ecma_fits_laws.specs.Read.{ReadLeavesAreSpelled, ReadTreesKeepRules};
 ghost use Rattle.ecma_fits_laws.specs.Finished.{FinishedClassesHaveOneConstructor, FinishedTreesHaveNoStrays, FinishedTreesKeepRules};
 
@@ -13,6 +14,12 @@ use ecma_text_laws::modules_that_are_read_are_sorted;
 #[tactic(auto, using(crate::proofs::Clauses::clauses))]
 pub fn trees_fit_by_clauses()
     ensures { FitsByClauses }
+{}
+
+/// Where a tree does not fit, a node that fails a clause begins at the place that is told, and none begins before; where it fits, none is told.
+#[tactic(auto, using(crate::proofs::Least::least_unfit))]
+pub fn the_first_unfit_is_the_least()
+    ensures { FirstUnfitIsLeast }
 {}
 
 /// In what is made of a raw tree that keeps the context rules, nothing belongs to nothing inside an enum initialiser or a namespace body.
