@@ -12,13 +12,14 @@ use Rattle.ecma_tree.specs.Sorted.{is_absent}
 use Rattle.ecma_hygiene.specs.declared.spot.Spot.{Spot}
 use Rattle.ecma_hygiene.specs.declared.spot.Spot.TheVariants as spot
 use Rattle.ecma_hygiene.specs.declared.spot.Standing.{Standing}
-use Rattle.ecma_hygiene.specs.Renamed.{Texts, changed_from, key_of, kind_is_absent, kind_with_text, name_of, old_name, renamed_at, text_of, with_default}
+use Rattle.ecma_hygiene.specs.Renamed.{Texts, changed_from, key_of, kind_is_absent, name_of, old_name, text_of, with_default}
 use Rattle.ecma_hygiene_laws.proofs.Growing.{OldName}
+use Rattle.ecma_hygiene_laws.proofs.KindsTurned.{turned_kind}
 use Rattle.ecma_runs.specs.State.{Id}
 use Rattle.ecma_runs.specs.Names.{renamed, renamed_ident}
 use Rattle.ecma_hygiene_runs.specs.WrittenOut.{identifier_by, key_node, leaf_text, name_node, other_by, other_out, out_by, pattern_by, pattern_with, properties_out, property_out, written_out}
 use Rattle.ecma_hygiene_runs.specs.FinalTexts.{final_id, has_text, is_outer, is_text}
-use Rattle.ecma_hygiene_runs.proofs.Parts.{all_final, default-out, finished, out-flag, out-of, parts_of, properties-of, properties_of, property-of, property_of, renamed-absent, renamed-default, renamed-flag, renamed-of}
+use Rattle.ecma_hygiene_runs.proofs.Parts.{all_become, become, contexts, default-out, finished, out-flag, out-of, parts_of, properties-of, properties_of, property-of, property_of, renamed-absent, renamed-default, renamed-flag, renamed-of}
 
 abbrev pub is_ident : Kind → Bool
 is_ident (kind.Ident sym ctxt optional) = true
@@ -91,17 +92,17 @@ finished-plain spot.Properties span k cs e f = properties-of span k cs ∙ f
 finished-plain spot.Property span k cs e f = property-of span k cs ∙ e
 finished-plain spot.Elsewhere span k cs e f = refl
 
-module _ (texts : Texts) (empty : (text : List ℕ) → text_of texts (text, 0) ≡ text) where
+module _ (onto : ℕ → ℕ) (texts : Texts) (none : onto 0 ≡ 0) (empty : (text : List ℕ) → text_of texts (text, 0) ≡ text) where
   abbrev pub to : Id → Id
-  to = final_id texts
+  to = final_id onto texts
 
   pub outer-stays : (text : List ℕ) (ctxt : ℕ) → ctxt == 0 ≡ true → text_of texts (text, ctxt) ≡ text
   outer-stays text ctxt e = ap (λ c. text_of texts (text, c)) (eqb-true ctxt 0 e) ∙ empty text
 
-  pub kind-final : (named : Bool) (k : Kind) → is_outer named k ≡ true → kind_with_text texts named k ≡ renamed_ident to k
+  pub kind-final : (named : Bool) (k : Kind) → is_outer named k ≡ true → turned_kind (contexts onto) texts named k ≡ renamed_ident to k
   kind-final false (kind.Ident text ctxt optional) h = refl
   kind-final false _ h = refl
-  kind-final true (kind.Ident text ctxt optional) h = ap (λ t. kind.Ident t ctxt optional) (sym (outer-stays text ctxt h))
+  kind-final true (kind.Ident text ctxt optional) h = ap (λ t. kind.Ident t (onto ctxt) optional) (sym (outer-stays text ctxt h))
   kind-final true _ h = refl
 
   -- the old text of an identifier: none, where it stays
@@ -131,7 +132,7 @@ module _ (texts : Texts) (empty : (text : List ℕ) → text_of texts (text, 0) 
   name-out span text = out-of span (kind.Ident text 0 false) []
 
   pub name-renamed : (span : Span) (text : List ℕ) → renamed to (name_node span text) ≡ name_node span text
-  name-renamed span text = renamed-of to span (kind.Ident text 0 false) [] ∙ ap (λ t. name_node span t) (empty text)
+  name-renamed span text = renamed-of to span (kind.Ident text 0 false) [] ∙ ap₂ (λ t c. node_of span (kind.Ident t c false) []) (empty text) none
 
   name-there : (span : Span) (text : List ℕ) → kind_is_absent (name_node span text) ≡ false
   name-there span text = ap (λ z. is_absent z.kind) (out-roll-Node (parts_of span (kind.Ident text 0 false) []))
@@ -141,7 +142,7 @@ module _ (texts : Texts) (empty : (text : List ℕ) → text_of texts (text, 0) 
   abbrev pub Final : (ℕ → Standing) → ℕ → List Node → Type 0
   Final stands i [] = Unit {0}
   Final stands i (c ∷ cs) =
-      (finished (stands i).spot (written_out (renamed_at texts c (stands i))) ≡ renamed to (finished (stands i).spot (written_out c))) × Final stands (suc i) cs
+      (finished (stands i).spot (written_out (become onto texts c (stands i))) ≡ renamed to (finished (stands i).spot (written_out c))) × Final stands (suc i) cs
 
   abbrev pub Stand : Spot → (ℕ → Standing) → ℕ → List Node → Type 0
   Stand s stands i [] = Unit {0}
@@ -151,16 +152,16 @@ module _ (texts : Texts) (empty : (text : List ℕ) → text_of texts (text, 0) 
   all-stand s stands h i [] = tt
   all-stand s stands h i (c ∷ cs) = (h i, all-stand s stands h (suc i) cs)
 
-  pub all-elsewhere : (stands : ℕ → Standing) (i : ℕ) (cs : List Node) → Stand spot.Elsewhere stands i cs → Final stands i cs → map written_out (all_final texts stands i cs) ≡ map (renamed to) (map written_out cs)
+  pub all-elsewhere : (stands : ℕ → Standing) (i : ℕ) (cs : List Node) → Stand spot.Elsewhere stands i cs → Final stands i cs → map written_out (all_become onto texts stands i cs) ≡ map (renamed to) (map written_out cs)
   all-elsewhere stands i [] h f = refl
   all-elsewhere stands i (c ∷ cs) h f =
-      ap₂ (λ a rest. a ∷ rest) (subst (λ s. finished s (written_out (renamed_at texts c (stands i))) ≡ renamed to (finished s (written_out c))) h.0 f.0) (all-elsewhere stands (suc i) cs h.1 f.1)
+      ap₂ (λ a rest. a ∷ rest) (subst (λ s. finished s (written_out (become onto texts c (stands i))) ≡ renamed to (finished s (written_out c))) h.0 f.0) (all-elsewhere stands (suc i) cs h.1 f.1)
 
   pub all-properties : (stands : ℕ → Standing) (i : ℕ) (cs : List Node) → Stand spot.Property stands i cs → Final stands i cs
-      → map property_out (map written_out (all_final texts stands i cs)) ≡ map (renamed to) (map property_out (map written_out cs))
+      → map property_out (map written_out (all_become onto texts stands i cs)) ≡ map (renamed to) (map property_out (map written_out cs))
   all-properties stands i [] h f = refl
   all-properties stands i (c ∷ cs) h f =
-      ap₂ (λ a rest. a ∷ rest) (subst (λ s. finished s (written_out (renamed_at texts c (stands i))) ≡ renamed to (finished s (written_out c))) h.0 f.0) (all-properties stands (suc i) cs h.1 f.1)
+      ap₂ (λ a rest. a ∷ rest) (subst (λ s. finished s (written_out (become onto texts c (stands i))) ≡ renamed to (finished s (written_out c))) h.0 f.0) (all-properties stands (suc i) cs h.1 f.1)
 
   -- patterns
 
@@ -174,7 +175,7 @@ module _ (texts : Texts) (empty : (text : List ℕ) → text_of texts (text, 0) 
         ∙ ap (λ id. node_of n.span kind.BindingIdent (id ∷ written_out n.annotation ∷ [])) (ap written_out n.leaf.is ∙ out-of n.leaf.span (kind.Ident n.leaf.text n.leaf.ctxt n.leaf.optional) [])
 
     name-final : renamed to (written_out name)
-        ≡ node_of n.span kind.BindingIdent (node_of n.leaf.span (kind.Ident (text_of texts (n.leaf.text, n.leaf.ctxt)) n.leaf.ctxt n.leaf.optional) [] ∷ renamed to (written_out n.annotation) ∷ [])
+        ≡ node_of n.span kind.BindingIdent (node_of n.leaf.span (kind.Ident (text_of texts (n.leaf.text, n.leaf.ctxt)) (onto n.leaf.ctxt) n.leaf.optional) [] ∷ renamed to (written_out n.annotation) ∷ [])
     name-final =
         ap (renamed to) name-written ∙ renamed-of to n.span kind.BindingIdent (node_of n.leaf.span (kind.Ident n.leaf.text n.leaf.ctxt n.leaf.optional) [] ∷ written_out n.annotation ∷ [])
         ∙ ap (λ id. node_of n.span kind.BindingIdent (id ∷ renamed to (written_out n.annotation) ∷ [])) (renamed-of to n.leaf.span (kind.Ident n.leaf.text n.leaf.ctxt n.leaf.optional) [])
@@ -195,7 +196,7 @@ module _ (texts : Texts) (empty : (text : List ℕ) → text_of texts (text, 0) 
     pub pattern-stays : text_of texts (n.leaf.text, n.leaf.ctxt) ≡ n.leaf.text → written_out (node_of span kind.AssignPatProp (hn ∷ hd ∷ [])) ≡ pattern_final
     pattern-stays stays =
         out-of span kind.AssignPatProp (hn ∷ hd ∷ [])
-        ∙ pattern-out span n.span n.leaf.span (text_of texts (n.leaf.text, n.leaf.ctxt)) n.leaf.ctxt n.leaf.optional (renamed to (written_out n.annotation)) (written_out hn) (written_out hd) _ (en ∙ name-final)
+        ∙ pattern-out span n.span n.leaf.span (text_of texts (n.leaf.text, n.leaf.ctxt)) (onto n.leaf.ctxt) n.leaf.optional (renamed to (written_out n.annotation)) (written_out hn) (written_out hd) _ (en ∙ name-final)
         ∙ (λ i. node_of span kind.KeyValuePatProp (key_node n.leaf.span (stays i) ∷ with_default span (en i) (ed i) ∷ []))
 
     -- with another one
@@ -239,13 +240,13 @@ module _ (texts : Texts) (empty : (text : List ℕ) → text_of texts (text, 0) 
         let cs = (out-Node name).children in
         let n : name ≡ node_of span (kind.Ident text ctxt optional) cs = sym (roll-out-Node name) ∙ ap (λ z. node_of span z cs) is in
         let w : written_out name ≡ node_of span (kind.Ident text ctxt optional) (map written_out cs) = ap written_out n ∙ out-of span (kind.Ident text ctxt optional) cs in
-        let r : renamed to (written_out name) ≡ node_of span (kind.Ident (text_of texts (text, ctxt)) ctxt optional) (map (renamed to) (map written_out cs)) =
+        let r : renamed to (written_out name) ≡ node_of span (kind.Ident (text_of texts (text, ctxt)) (onto ctxt) optional) (map (renamed to) (map written_out cs)) =
         ap (renamed to) w ∙ renamed-of to span (kind.Ident text ctxt optional) (map written_out cs) in
         let right : renamed to (other_out (written_out name) (written_out other)) ≡ name_node span text =
         ap (renamed to) (other-known (written_out name) (written_out other) span text ctxt optional (map written_out cs) w (out-flag is_absent refl other ∙ missing)) ∙ name-renamed span text in
         elim (k.known text ctxt optional is missing) [
           | inl stays ↦ agree-none stays.0
-              (other-known (written_out hn) (written_out ho) span (text_of texts (text, ctxt)) ctxt optional (map (renamed to) (map written_out cs)) (en ∙ r) (absent-final ∙ missing) ∙ ap (λ t. name_node span t) stays.1 ∙ sym right)
+              (other-known (written_out hn) (written_out ho) span (text_of texts (text, ctxt)) (onto ctxt) optional (map (renamed to) (map written_out cs)) (en ∙ r) (absent-final ∙ missing) ∙ ap (λ t. name_node span t) stays.1 ∙ sym right)
           | inr changes ↦ ap (λ z. other_out (written_out hn) (written_out (second_of z ho))) changes ∙ ap (λ z. other_out (written_out hn) z) (name-out span text)
               ∙ other-there (written_out hn) (name_node span text) (name-there span text) ∙ sym right
         ]

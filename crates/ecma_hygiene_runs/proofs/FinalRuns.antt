@@ -1,9 +1,13 @@
 -- A resolved tree with its final texts runs as it does with its own.
-use Rattle.std.proofs.Common.{◌≡◌, ◌≢◌, refl, sym, ap, ap₂, ◌∙◌, subst, ℕ, ◌==◌, List, [], ◌∷◌, Option, Some, None, Bool, true, false, ◌&&◌, ◌||◌, bytes_eq, codes, nat_eq, unwrap_or}
+use Rattle.std.proofs.Common.{◌≡◌, ◌≢◌, refl, sym, ap, ap₂, ◌∙◌, subst, ℕ, ◌==◌, List, [], ◌∷◌, map, Option, Some, None, Bool, true, false, ◌&&◌, ◌||◌, bytes_eq, codes, nat_eq, unwrap_or}
 use Rattle.std.specs.List.{All, list_any}
 use Rattle.std.proofs.lemmas.Bool.{eqb-true}
 use Rattle.std.proofs.lemmas.List.Elements.{All-cons, All-head, All-nil, All-tail}
-use Rattle.ecma_tree.specs.declared.node.Node.{Node}
+use Rattle.ecma_kind.specs.declared.kind.Kind.{Kind}
+use Rattle.ecma_kind.specs.declared.kind.Kind.TheVariants as kind
+use Rattle.ecma_tree.specs.Contexts.{kind_with_context, with_contexts}
+use Rattle.ecma_tree.specs.Nodes.{node_of}
+use Rattle.ecma_tree.specs.declared.node.Node.{Node, ind-Node}
 use Rattle.ecma_scope.specs.declared.role.Role.TheVariants as role
 use Rattle.ecma_hygiene.specs.declared.naming.Named.{Named}
 use Rattle.ecma_hygiene.specs.declared.sight.Sight.{Sight}
@@ -16,6 +20,8 @@ use Rattle.ecma_hygiene.specs.Sights.{meetings, nowhere, sights}
 use Rattle.ecma_hygiene.specs.Texts.{HygienicTexts, is_bound, is_new, text_in}
 use Rattle.ecma_hygiene.proofs.Telling.{id-refl, or-first, or-second, texts-tell-apart, true-false}
 use Rattle.ecma_hygiene_laws.proofs.Membership.{id-same}
+use Rattle.ecma_hygiene_laws.proofs.Parts.{contexts-of}
+use Rattle.ecma_hygiene_laws.proofs.ReadingAgain.{is-read-again}
 use Rattle.ecma_hygiene_laws.proofs.Stopping.{IsAmong, all-among}
 use Rattle.ecma_runs.specs.declared.config.Config.{Config}
 use Rattle.ecma_runs.specs.declared.script.Script.{Script}
@@ -29,7 +35,7 @@ use Rattle.ecma_runs.proofs.Standing.{Passes}
 use Rattle.ecma_runs.proofs.Layers.{images, layers_alike, same_ids, the_same}
 use Rattle.ecma_hygiene_runs.specs.FinalTexts.{final_id}
 use Rattle.ecma_hygiene_runs.specs.KeyNames.{key_names_in}
-use Rattle.ecma_hygiene_runs.specs.Laws.{FinalTextsKeepRuns, IsResolved}
+use Rattle.ecma_hygiene_runs.specs.Laws.{FinalTextsKeepRuns, IsResolved, KeepsApart, ReadingAgainKeepsRuns}
 use Rattle.ecma_hygiene_runs.specs.WrittenOut.{written_out}
 use Rattle.ecma_hygiene_runs.proofs.FinalTree.{turned-everywhere}
 use Rattle.ecma_hygiene_runs.proofs.GivenTexts.{IsGiven, given-text}
@@ -41,7 +47,7 @@ use Rattle.ecma_hygiene_runs.proofs.WritingOut.{written_out_layers, written_out_
 declared-out : (n : Node) → (meaning (written_out n)).declared ≡ (meaning n).declared
 declared-out n = (kept (images written_out [] the_same) (layers_alike written_out [] the_same written_out_layers) n tt).declared ∙ same_ids (meaning n).declared
 
-module _ (tree : Node) (names : List Named) (are : HygienicTexts tree names) (is : IsResolved tree) where
+module _ (onto : ℕ → ℕ) (tree : Node) (names : List Named) (are : HygienicTexts tree names) (is : IsResolved tree) (keeps : KeepsApart onto tree) where
   abbrev texts : Texts
   texts = text_in names
 
@@ -49,7 +55,7 @@ module _ (tree : Node) (names : List Named) (are : HygienicTexts tree names) (is
   seen = sights tree
 
   abbrev to : Id → Id
-  to = final_id texts
+  to = final_id onto texts
 
   abbrev given : (id : HygieneId) (text : List ℕ) → texts id ≡ Some text → IsGiven seen id text
   given id text e = given-text seen (λ other bound. (is.bindings other bound).apart) id text (meetings tree) names are e
@@ -81,27 +87,52 @@ module _ (tree : Node) (names : List Named) (are : HygienicTexts tree names) (is
 
   -- two names stay two
 
-  seen-by : (b : Bool) (id : Id) → id.ctxt == 0 ≡ b → stands id ≡ true → id.ctxt ≢ 0 → is_seen seen (id.sym, id.ctxt) ≡ true
-  seen-by true id e s inner = absurd (inner (eqb-true id.ctxt 0 e))
-  seen-by false id e s inner = ap (λ b. b || is_seen seen (id.sym, id.ctxt)) (sym e) ∙ s
+  seen-by : (id : Id) → id.ctxt == 0 ≡ false → stands id ≡ true → is_seen seen (id.sym, id.ctxt) ≡ true
+  seen-by id e s = ap (λ b. b || is_seen seen (id.sym, id.ctxt)) (sym e) ∙ s
 
-  apart-by : (a b : Id) → stands a ≡ true → is_bound seen (b.sym, b.ctxt) ≡ true → a.ctxt ≡ b.ctxt → (◌≡◌ {A = HygieneId} (a.sym, a.ctxt) (b.sym, b.ctxt) → ⊥) → text_of texts (a.sym, a.ctxt) ≡ text_of texts (b.sym, b.ctxt) → ⊥
-  apart-by a b s bound same apart =
-      let inner : a.ctxt ≢ 0 = (λ e. (is.bindings (b.sym, b.ctxt) bound).inner (sym same ∙ e)) in
-      texts-tell-apart seen (meetings tree) names (a.sym, a.ctxt) (b.sym, b.ctxt) are (seen-by (a.ctxt == 0) a refl s inner) bound apart
-      (λ new old e. absurd (apart (λ i. (e i, same i))))
+  abbrev Two : Id → Id → Type 0
+  Two a b = ◌≡◌ {A = HygieneId} (a.sym, a.ctxt) (b.sym, b.ctxt) → ⊥
 
-  told : (a b : Id) → stands a ≡ true → stands b ≡ true → a.ctxt ≡ b.ctxt → text_of texts (a.sym, a.ctxt) ≡ text_of texts (b.sym, b.ctxt) → (◌≡◌ {A = HygieneId} (a.sym, a.ctxt) (b.sym, b.ctxt) → ⊥)
+  -- where the texts in the source are one
+  one-text : (a b : Id) → is_seen seen (a.sym, a.ctxt) ≡ true → is_seen seen (b.sym, b.ctxt) ≡ true → onto a.ctxt ≡ onto b.ctxt → Two a b → a.sym ≡ b.sym → ⊥
+  one-text a b sa sb same two text =
+      let ctxts = keeps.apart b.sym a.ctxt b.ctxt (ap (λ t. is_seen seen (t, a.ctxt)) (sym text) ∙ sa) sb same in
+      two (λ i. (text i, ctxts i))
+
+  -- where one of them is declared
+  one-bound : (a b : Id) → is_seen seen (a.sym, a.ctxt) ≡ true → is_seen seen (b.sym, b.ctxt) ≡ true → is_bound seen (b.sym, b.ctxt) ≡ true → onto a.ctxt ≡ onto b.ctxt → Two a b
+      → text_of texts (a.sym, a.ctxt) ≡ text_of texts (b.sym, b.ctxt) → ⊥
+  one-bound a b sa sb bound same two text =
+      texts-tell-apart seen (meetings tree) names (a.sym, a.ctxt) (b.sym, b.ctxt) are sa bound two (λ new old e. absurd (one-text a b sa sb same two e)) text
+
+  seen-two : (a b : Id) → is_seen seen (a.sym, a.ctxt) ≡ true → is_seen seen (b.sym, b.ctxt) ≡ true → onto a.ctxt ≡ onto b.ctxt → Two a b → text_of texts (a.sym, a.ctxt) ≡ text_of texts (b.sym, b.ctxt)
       → (o p : Option (List ℕ)) → texts (a.sym, a.ctxt) ≡ o → texts (b.sym, b.ctxt) ≡ p → ⊥
-  told a b sa sb same text apart o (Some u) e f = apart-by a b sa (given (b.sym, b.ctxt) u f).bound same apart text
-  told a b sa sb same text apart (Some t) None e f = apart-by b a sb (given (a.sym, a.ctxt) t e).bound (sym same) (λ h. apart (sym h)) (sym text)
-  told a b sa sb same text apart None None e f = apart (λ i. ((sym (ap (λ o. unwrap_or o a.sym) e) ∙ text ∙ ap (λ o. unwrap_or o b.sym) f) i, same i))
+  seen-two a b sa sb same two text o (Some u) e f = one-bound a b sa sb (given (b.sym, b.ctxt) u f).bound same two text
+  seen-two a b sa sb same two text (Some t) None e f = one-bound b a sb sa (given (a.sym, a.ctxt) t e).bound (sym same) (λ h. two (sym h)) (sym text)
+  seen-two a b sa sb same two text None None e f = one-text a b sa sb same two (sym (ap (λ o. unwrap_or o a.sym) e) ∙ text ∙ ap (λ o. unwrap_or o b.sym) f)
+
+  -- where one of them has the empty context
+  one-empty : (a b : Id) → a.ctxt == 0 ≡ true → b.ctxt == 0 ≡ false → is_seen seen (b.sym, b.ctxt) ≡ true → onto a.ctxt ≡ onto b.ctxt → ⊥
+  one-empty a b ea eb sb same =
+      let zero : b.ctxt ≡ 0 = keeps.inner b.sym b.ctxt sb (sym same ∙ ap onto (eqb-true a.ctxt 0 ea) ∙ keeps.none) in
+      true-false (ap (λ c. c == 0) zero) eb
+
+  told : (a b : Id) → stands a ≡ true → stands b ≡ true → onto a.ctxt ≡ onto b.ctxt → text_of texts (a.sym, a.ctxt) ≡ text_of texts (b.sym, b.ctxt) → Two a b
+      → (p q : Bool) → a.ctxt == 0 ≡ p → b.ctxt == 0 ≡ q → ⊥
+  told a b sa sb same text two true true e f =
+      let za : a.ctxt ≡ 0 = eqb-true a.ctxt 0 e in
+      let zb : b.ctxt ≡ 0 = eqb-true b.ctxt 0 f in
+      let texts : a.sym ≡ b.sym = sym (empty a.sym) ∙ ap (λ c. text_of texts (a.sym, c)) (sym za) ∙ text ∙ ap (λ c. text_of texts (b.sym, c)) zb ∙ empty b.sym in
+      two (λ i. (texts i, (za ∙ sym zb) i))
+  told a b sa sb same text two true false e f = one-empty a b e f (seen-by b f sb) same
+  told a b sa sb same text two false true e f = one-empty b a f e (seen-by a e sa) (sym same)
+  told a b sa sb same text two false false e f = seen-two a b (seen-by a e sa) (seen-by b f sb) same two text (texts (a.sym, a.ctxt)) (texts (b.sym, b.ctxt)) refl refl
 
   one-by : (a b : Id) → stands a ≡ true → stands b ≡ true → to a ≡ to b → (t : Bool) → same_id (a.sym, a.ctxt) (b.sym, b.ctxt) ≡ t → a ≡ b
   one-by a b sa sb e true h = ap (λ id. record { sym = id.0; ctxt = id.1 }) (id-same (a.sym, a.ctxt) (b.sym, b.ctxt) h)
   one-by a b sa sb e false h =
       absurd (told a b sa sb (ap (λ id. id.ctxt) e) (ap (λ id. id.sym) e) (λ same. true-false (ap (λ z. same_id z (b.sym, b.ctxt)) same ∙ id-refl (b.sym, b.ctxt)) h)
-      (texts (a.sym, a.ctxt)) (texts (b.sym, b.ctxt)) refl refl)
+      (a.ctxt == 0) (b.ctxt == 0) refl refl)
 
   -- keys, free names and `this` stay
 
@@ -127,12 +158,35 @@ module _ (tree : Node) (names : List Named) (are : HygienicTexts tree names) (is
     this_stays = λ id s. this-by id (texts (id.sym, id.ctxt)) refl;
   }
 
-  pub final_runs : (turns : ℕ) (options : Config) (script : Script) → observe turns options (hygiene.renamed texts tree) script ≡ observe turns options tree script
+  pub final_runs : (turns : ℕ) (options : Config) (script : Script) → observe turns options (with_contexts (λ text ctxt. onto ctxt) (hygiene.renamed texts tree)) script ≡ observe turns options tree script
   final_runs turns options script =
-      sym (written_out_shorthands_do_not_matter turns options (hygiene.renamed texts tree) script)
-      ∙ ap (λ n. observe turns options n script) (turned-everywhere texts empty tree role.Root spot.Elsewhere is.named)
+      sym (written_out_shorthands_do_not_matter turns options (with_contexts (λ text ctxt. onto ctxt) (hygiene.renamed texts tree)) script)
+      ∙ ap (λ n. observe turns options n script) (turned-everywhere onto texts keeps.none empty tree role.Root spot.Elsewhere is.named)
       ∙ renamed_kept to (written_out tree) renames turns options script
       ∙ written_out_shorthands_do_not_matter turns options tree script
 
+-- the tree with its own contexts
+
+own-kind : (k : Kind) → kind_with_context (λ text ctxt. ctxt) k ≡ k
+own-kind (kind.Ident text ctxt optional) = refl
+own-kind _ = refl
+
+all-own : (ns : List ((n : Node) × (with_contexts (λ text ctxt. ctxt) n ≡ n))) → map (with_contexts (λ text ctxt. ctxt)) (map (λ e. e.0) ns) ≡ map (λ e. e.0) ns
+all-own [] = refl
+all-own (n ∷ ns) = ap₂ (λ a rest. a ∷ rest) n.1 (all-own ns)
+
+own-contexts : (n : Node) → with_contexts (λ text ctxt. ctxt) n ≡ n
+own-contexts = ind-Node (λ n. with_contexts (λ text ctxt. ctxt) n ≡ n) (λ x y is.
+    contexts-of (λ text ctxt. ctxt) x.span x.kind x.children
+    ∙ ap₂ (node_of x.span) (own-kind x.kind) (ap (λ z. map (with_contexts (λ text ctxt. ctxt)) z.children) (sym is) ∙ all-own y.children ∙ ap (λ z. z.children) is))
+
+same-apart : (tree : Node) → KeepsApart (λ ctxt. ctxt) tree
+same-apart tree = record { none = refl; inner = λ text ctxt s e. e; apart = λ text c d s t e. e }
+
 pub final_texts_keep_runs : FinalTextsKeepRuns
-final_texts_keep_runs turns options tree names script are is = final_runs tree names are is turns options script
+final_texts_keep_runs turns options tree names script are is =
+    ap (λ n. observe turns options n script) (sym (own-contexts (hygiene.renamed (text_in names) tree))) ∙ final_runs (λ ctxt. ctxt) tree names are is (same-apart tree) turns options script
+
+pub reading_again_keeps_runs : ReadingAgainKeepsRuns
+reading_again_keeps_runs turns options unresolved top left to tree names script are right is keeps =
+    ap (λ n. observe turns options n script) (is-read-again unresolved top left to tree names are keeps.none right) ∙ final_runs to tree names are is keeps turns options script

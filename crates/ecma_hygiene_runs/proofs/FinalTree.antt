@@ -14,40 +14,40 @@ use Rattle.ecma_scope.specs.Scopes.{is_there, role_by}
 use Rattle.ecma_hygiene.specs.declared.spot.Spot.{Spot}
 use Rattle.ecma_hygiene.specs.declared.spot.Spot.TheVariants as spot
 use Rattle.ecma_hygiene.specs.declared.spot.Standing.{Standing}
-use Rattle.ecma_hygiene.specs.Renamed.{Texts, changed_from, is_sourced, first_item, key_name, key_of, kind_is_absent, kind_with_text, lone_name, old_name, old_name_by, renamed_at, text_of, with_default}
+use Rattle.ecma_hygiene.specs.Renamed.{Texts, changed_from, is_sourced, first_item, key_name, key_of, kind_is_absent, lone_name, old_name, old_name_by, text_of, with_default}
 use Rattle.ecma_hygiene.proofs.Telling.{and-left, and-right}
 use Rattle.ecma_hygiene_laws.proofs.Growing.{OldName, grown}
 use Rattle.ecma_runs.specs.Names.{renamed, renamed_ident}
 use Rattle.ecma_hygiene_runs.specs.WrittenOut.{key_node, other_out, properties_out, property_out, written_out}
 use Rattle.ecma_hygiene_runs.specs.FinalTexts.{all_named, final_id, has_name, is_named_at, is_outer}
-use Rattle.ecma_hygiene_runs.proofs.Parts.{all_final, final-roll, finished, named-roll, out-of, parts_of, properties-of, properties_of, property-of, property_of, renamed-of, shared_of, standing_of}
+use Rattle.ecma_hygiene_runs.proofs.Parts.{all_become, become, final-roll, finished, named-roll, out-of, parts_of, properties-of, properties_of, property-of, property_of, renamed-of, shared_of, standing_of}
 use Rattle.ecma_hygiene_runs.proofs.FinalParts.{Final, Known, Named, Olds, Stand, all-elsewhere, all-properties, all-stand, finished-plain, is_ident, key-out, key-renamed, kind-final, named, olds, others-agree, outer-stays, pattern-changes, pattern-renamed, pattern-stays, pattern-written, pattern_final, second_of, to}
 
-module _ (texts : Texts) (empty : (text : List ℕ) → text_of texts (text, 0) ≡ text) where
+module _ (onto : ℕ → ℕ) (texts : Texts) (none : onto 0 ≡ 0) (empty : (text : List ℕ) → text_of texts (text, 0) ≡ text) where
   abbrev on : Node → Node
-  on = renamed (to texts empty)
+  on = renamed (to onto texts none empty)
 
   abbrev stand : Role → Spot → Standing
   stand r s = record { role = r; spot = s }
 
   -- a node of these parts, with the children that its children become
   abbrev turned : Role → Spot → Span → Kind → List Node → Node
-  turned r s span k cs = grown (old_name texts (shared_of (stand r s) k (node_of span k cs) cs)) span (renamed_ident (to texts empty) k) (all_final texts (standing_of (stand r s) k cs) 0 cs)
+  turned r s span k cs = grown (old_name texts (shared_of (stand r s) k (node_of span k cs) cs)) span (renamed_ident (to onto texts none empty) k) (all_become onto texts (standing_of (stand r s) k cs) 0 cs)
 
   abbrev Turns : Role → Spot → Span → Kind → List Node → Type 0
   Turns r s span k cs = finished s (written_out (turned r s span k cs)) ≡ on (finished s (written_out (node_of span k cs)))
 
   abbrev FinalBelow : Role → Spot → Kind → List Node → Type 0
-  FinalBelow r s k cs = Final texts empty (standing_of (stand r s) k cs) 0 cs
+  FinalBelow r s k cs = Final onto texts none empty (standing_of (stand r s) k cs) 0 cs
 
   -- what stays but for its children
   plain : (s : Spot) (span : Span) (k : Kind) (cs hs : List Node) → written_out (node_of span k hs) ≡ node_of span k (map written_out hs) → written_out (node_of span k cs) ≡ node_of span k (map written_out cs)
-      → renamed_ident (to texts empty) k ≡ k → ((xs : List Node) → property_of span k xs ≡ node_of span k xs) → ((xs : List Node) → properties_of span k xs ≡ node_of span k xs)
+      → renamed_ident (to onto texts none empty) k ≡ k → ((xs : List Node) → property_of span k xs ≡ node_of span k xs) → ((xs : List Node) → properties_of span k xs ≡ node_of span k xs)
       → map written_out hs ≡ map on (map written_out cs) → finished s (written_out (node_of span k hs)) ≡ on (finished s (written_out (node_of span k cs)))
   plain s span k cs hs wh wc ren p q e =
       ap (finished s) (wh ∙ ap (node_of span k) e) ∙ finished-plain s span k (map on (map written_out cs)) (p (map on (map written_out cs))) (q (map on (map written_out cs)))
       ∙ sym (ap on (ap (finished s) wc ∙ finished-plain s span k (map written_out cs) (p (map written_out cs)) (q (map written_out cs)))
-      ∙ renamed-of (to texts empty) span k (map written_out cs) ∙ ap (λ z. node_of span z (map on (map written_out cs))) ren)
+      ∙ renamed-of (to onto texts none empty) span k (map written_out cs) ∙ ap (λ z. node_of span z (map on (map written_out cs))) ren)
 
   -- identifiers
 
@@ -56,31 +56,31 @@ module _ (texts : Texts) (empty : (text : List ℕ) → text_of texts (text, 0) 
     own = kind.Ident text ctxt optional
 
     abbrev its : Kind
-    its = kind.Ident (text_of texts (text, ctxt)) ctxt optional
+    its = kind.Ident (text_of texts (text, ctxt)) (onto ctxt) optional
 
     module _ (s : Spot) (final : FinalBelow r s own cs) where
       abbrev hs : List Node
-      hs = all_final texts (standing_of (stand r s) own cs) 0 cs
+      hs = all_become onto texts (standing_of (stand r s) own cs) 0 cs
 
       abbrev ds : List Node
       ds = map written_out cs
 
       below : map written_out hs ≡ map on ds
-      below = all-elsewhere texts empty (standing_of (stand r s) own cs) 0 cs (all-stand texts empty spot.Elsewhere (standing_of (stand r s) own cs) (λ i. refl) 0 cs) final
+      below = all-elsewhere onto texts none empty (standing_of (stand r s) own cs) 0 cs (all-stand onto texts none empty spot.Elsewhere (standing_of (stand r s) own cs) (λ i. refl) 0 cs) final
 
       ident-written : written_out (node_of span its hs) ≡ node_of span its (map on ds)
       ident-written = out-of span its hs ∙ ap (node_of span its) below
 
       ident-renamed : on (node_of span own ds) ≡ node_of span its (map on ds)
-      ident-renamed = renamed-of (to texts empty) span own ds
+      ident-renamed = renamed-of (to onto texts none empty) span own ds
 
       abbrev shown : Node
       shown = node_of span kind.KeyValueProp (key_node span text ∷ node_of span its (map on ds) ∷ [])
 
       property-right : on (property_out (written_out (node_of span own cs))) ≡ shown
       property-right =
-          ap on (ap property_out (out-of span own cs) ∙ property-of span own ds) ∙ renamed-of (to texts empty) span kind.KeyValueProp (key_node span text ∷ node_of span own ds ∷ [])
-          ∙ ap₂ (λ a b. node_of span kind.KeyValueProp (a ∷ b ∷ [])) (key-renamed texts empty span text) ident-renamed
+          ap on (ap property_out (out-of span own cs) ∙ property-of span own ds) ∙ renamed-of (to onto texts none empty) span kind.KeyValueProp (key_node span text ∷ node_of span own ds ∷ [])
+          ∙ ap₂ (λ a b. node_of span kind.KeyValueProp (a ∷ b ∷ [])) (key-renamed onto texts none empty span text) ident-renamed
 
       property-stays : text_of texts (text, ctxt) ≡ text → property_out (written_out (node_of span its hs)) ≡ shown
       property-stays stays =
@@ -89,7 +89,7 @@ module _ (texts : Texts) (empty : (text : List ℕ) → text_of texts (text, 0) 
       property-changes : property_out (written_out (node_of span kind.KeyValueProp (key_node span text ∷ node_of span its hs ∷ []))) ≡ shown
       property-changes =
           ap property_out (out-of span kind.KeyValueProp (key_node span text ∷ node_of span its hs ∷ [])
-          ∙ ap₂ (λ a b. node_of span kind.KeyValueProp (a ∷ b ∷ [])) (key-out texts empty span text) ident-written)
+          ∙ ap₂ (λ a b. node_of span kind.KeyValueProp (a ∷ b ∷ [])) (key-out onto texts none empty span text) ident-written)
           ∙ property-of span kind.KeyValueProp (key_node span text ∷ node_of span its (map on ds) ∷ [])
 
     ident-turns : (s : Spot) → FinalBelow r s own cs → Turns r s span own cs
@@ -99,9 +99,9 @@ module _ (texts : Texts) (empty : (text : List ℕ) → text_of texts (text, 0) 
         ∙ sym (ap on (ap properties_out (out-of span own cs) ∙ properties-of span own (map written_out cs)) ∙ ident-renamed spot.Properties final)
     ident-turns spot.Property final =
         let o : old_name texts (Some (node_of span own cs)) ≡ changed_from (texts (text, ctxt)) text span = ap (λ z. old_name_by texts z.span z.kind) (out-roll-Node (parts_of span own cs)) in
-        ap (λ old. property_out (written_out (grown old span its (hs spot.Property final)))) o ∙ by (changed_from (texts (text, ctxt)) text span) (olds texts empty text ctxt span) ∙ sym (property-right spot.Property final)
+        ap (λ old. property_out (written_out (grown old span its (hs spot.Property final)))) o ∙ by (changed_from (texts (text, ctxt)) text span) (olds onto texts none empty text ctxt span) ∙ sym (property-right spot.Property final)
       where
-        by : (old : Option OldName) → Olds texts empty old text ctxt span → property_out (written_out (grown old span its (hs spot.Property final))) ≡ shown spot.Property final
+        by : (old : Option OldName) → Olds onto texts none empty old text ctxt span → property_out (written_out (grown old span its (hs spot.Property final))) ≡ shown spot.Property final
         by old (inl stays) = ap (λ z. property_out (written_out (grown z span its (hs spot.Property final)))) stays.0 ∙ property-stays spot.Property final stays.1
         by old (inr changes) = ap (λ z. property_out (written_out (grown z span its (hs spot.Property final)))) changes ∙ property-changes spot.Property final
 
@@ -110,35 +110,35 @@ module _ (texts : Texts) (empty : (text : List ℕ) → text_of texts (text, 0) 
   object-turns : (r : Role) (s : Spot) (span : Span) (p : Node) (others : List Node) → FinalBelow r s kind.ObjectLit (p ∷ others) → Turns r s span kind.ObjectLit (p ∷ others)
   object-turns r s span p others final =
       let stands = standing_of (stand r s) kind.ObjectLit (p ∷ others) in
-      let hp = renamed_at texts p (stands 0) in
-      let hos = all_final texts stands 1 others in
+      let hp = become onto texts p (stands 0) in
+      let hos = all_become onto texts stands 1 others in
       let ds = properties_out (written_out p) ∷ map written_out others in
-      ap (finished s) (out-of span kind.ObjectLit (hp ∷ hos) ∙ ap₂ (λ a rest. node_of span kind.ObjectLit (a ∷ rest)) final.0 (all-elsewhere texts empty stands 1 others (later 0 others) final.1))
+      ap (finished s) (out-of span kind.ObjectLit (hp ∷ hos) ∙ ap₂ (λ a rest. node_of span kind.ObjectLit (a ∷ rest)) final.0 (all-elsewhere onto texts none empty stands 1 others (later 0 others) final.1))
       ∙ finished-plain s span kind.ObjectLit (map on ds) refl refl
-      ∙ sym (ap on (ap (finished s) (out-of span kind.ObjectLit (p ∷ others)) ∙ finished-plain s span kind.ObjectLit ds refl refl) ∙ renamed-of (to texts empty) span kind.ObjectLit ds)
+      ∙ sym (ap on (ap (finished s) (out-of span kind.ObjectLit (p ∷ others)) ∙ finished-plain s span kind.ObjectLit ds refl refl) ∙ renamed-of (to onto texts none empty) span kind.ObjectLit ds)
     where
-      later : (i : ℕ) (cs : List Node) → Stand texts empty spot.Elsewhere (standing_of (stand r s) kind.ObjectLit (p ∷ others)) (suc i) cs
+      later : (i : ℕ) (cs : List Node) → Stand onto texts none empty spot.Elsewhere (standing_of (stand r s) kind.ObjectLit (p ∷ others)) (suc i) cs
       later i [] = tt
       later i (c ∷ cs) = (ap (λ b. cond b spot.Properties spot.Elsewhere) (eqb-suc-zero i), later (suc i) cs)
 
   list-turns : (r : Role) (s : Spot) (span : Span) (cs : List Node) → FinalBelow r s kind.List cs → Turns r s span kind.List cs
   list-turns r spot.Properties span cs final =
       let stands = standing_of (stand r spot.Properties) kind.List cs in
-      let hs = all_final texts stands 0 cs in
+      let hs = all_become onto texts stands 0 cs in
       ap properties_out (out-of span kind.List hs) ∙ properties-of span kind.List (map written_out hs)
-      ∙ ap (node_of span kind.List) (all-properties texts empty stands 0 cs (all-stand texts empty spot.Property stands (λ i. refl) 0 cs) final)
-      ∙ sym (ap on (ap properties_out (out-of span kind.List cs) ∙ properties-of span kind.List (map written_out cs)) ∙ renamed-of (to texts empty) span kind.List (map property_out (map written_out cs)))
+      ∙ ap (node_of span kind.List) (all-properties onto texts none empty stands 0 cs (all-stand onto texts none empty spot.Property stands (λ i. refl) 0 cs) final)
+      ∙ sym (ap on (ap properties_out (out-of span kind.List cs) ∙ properties-of span kind.List (map written_out cs)) ∙ renamed-of (to onto texts none empty) span kind.List (map property_out (map written_out cs)))
   list-turns r spot.Property span cs final =
       let stands = standing_of (stand r spot.Property) kind.List cs in
-      let hs = all_final texts stands 0 cs in
+      let hs = all_become onto texts stands 0 cs in
       ap property_out (out-of span kind.List hs) ∙ property-of span kind.List (map written_out hs)
-      ∙ ap (node_of span kind.List) (all-elsewhere texts empty stands 0 cs (all-stand texts empty spot.Elsewhere stands (λ i. refl) 0 cs) final)
-      ∙ sym (ap on (ap property_out (out-of span kind.List cs) ∙ property-of span kind.List (map written_out cs)) ∙ renamed-of (to texts empty) span kind.List (map written_out cs))
+      ∙ ap (node_of span kind.List) (all-elsewhere onto texts none empty stands 0 cs (all-stand onto texts none empty spot.Elsewhere stands (λ i. refl) 0 cs) final)
+      ∙ sym (ap on (ap property_out (out-of span kind.List cs) ∙ property-of span kind.List (map written_out cs)) ∙ renamed-of (to onto texts none empty) span kind.List (map written_out cs))
   list-turns r spot.Elsewhere span cs final =
       let stands = standing_of (stand r spot.Elsewhere) kind.List cs in
-      let hs = all_final texts stands 0 cs in
-      out-of span kind.List hs ∙ ap (node_of span kind.List) (all-elsewhere texts empty stands 0 cs (all-stand texts empty spot.Elsewhere stands (λ i. refl) 0 cs) final)
-      ∙ sym (ap on (out-of span kind.List cs) ∙ renamed-of (to texts empty) span kind.List (map written_out cs))
+      let hs = all_become onto texts stands 0 cs in
+      out-of span kind.List hs ∙ ap (node_of span kind.List) (all-elsewhere onto texts none empty stands 0 cs (all-stand onto texts none empty spot.Elsewhere stands (λ i. refl) 0 cs) final)
+      ∙ sym (ap on (out-of span kind.List cs) ∙ renamed-of (to onto texts none empty) span kind.List (map written_out cs))
 
   -- patterns
 
@@ -147,10 +147,10 @@ module _ (texts : Texts) (empty : (text : List ℕ) → text_of texts (text, 0) 
     pattern_stands = standing_of (stand r s) kind.AssignPatProp (name ∷ default ∷ [])
 
     abbrev hn : Node
-    hn = renamed_at texts name (pattern_stands 0)
+    hn = become onto texts name (pattern_stands 0)
 
     abbrev hd : Node
-    hd = renamed_at texts default (pattern_stands 1)
+    hd = become onto texts default (pattern_stands 1)
 
     abbrev n : Named name
     n = named name has
@@ -161,41 +161,41 @@ module _ (texts : Texts) (empty : (text : List ℕ) → text_of texts (text, 0) 
         ∙ ap (λ z. old_name_by texts z.span z.kind) (ap out-Node n.leaf.is ∙ out-roll-Node (parts_of n.leaf.span (kind.Ident n.leaf.text n.leaf.ctxt n.leaf.optional) []))
 
     abbrev became : Node
-    became = pattern_final texts empty span name default hn hd n final.0 final.1.0
+    became = pattern_final onto texts none empty span name default hn hd n final.0 final.1.0
 
     finished-became : finished s became ≡ became
     finished-became = finished-plain s span kind.KeyValuePatProp _ refl refl
 
     pattern-right : on (finished s (written_out (node_of span kind.AssignPatProp (name ∷ default ∷ [])))) ≡ became
     pattern-right =
-        let w = pattern-written texts empty span name default hn hd n final.0 final.1.0 in
-        ap on (ap (finished s) w ∙ finished-plain s span kind.KeyValuePatProp _ refl refl ∙ sym w) ∙ pattern-renamed texts empty span name default hn hd n final.0 final.1.0
+        let w = pattern-written onto texts none empty span name default hn hd n final.0 final.1.0 in
+        ap on (ap (finished s) w ∙ finished-plain s span kind.KeyValuePatProp _ refl refl ∙ sym w) ∙ pattern-renamed onto texts none empty span name default hn hd n final.0 final.1.0
 
-    pattern-left : (o : Option OldName) → Olds texts empty o n.leaf.text n.leaf.ctxt n.leaf.span → finished s (written_out (grown o span kind.AssignPatProp (hn ∷ hd ∷ []))) ≡ became
+    pattern-left : (o : Option OldName) → Olds onto texts none empty o n.leaf.text n.leaf.ctxt n.leaf.span → finished s (written_out (grown o span kind.AssignPatProp (hn ∷ hd ∷ []))) ≡ became
     pattern-left o (inl stays) =
         ap (λ z. finished s (written_out (grown z span kind.AssignPatProp (hn ∷ hd ∷ [])))) stays.0
-        ∙ ap (finished s) (pattern-stays texts empty span name default hn hd n final.0 final.1.0 stays.1) ∙ finished-became
+        ∙ ap (finished s) (pattern-stays onto texts none empty span name default hn hd n final.0 final.1.0 stays.1) ∙ finished-became
     pattern-left o (inr changes) =
         ap (λ z. finished s (written_out (grown z span kind.AssignPatProp (hn ∷ hd ∷ [])))) changes
-        ∙ ap (finished s) (pattern-changes texts empty span name default hn hd n final.0 final.1.0) ∙ finished-became
+        ∙ ap (finished s) (pattern-changes onto texts none empty span name default hn hd n final.0 final.1.0) ∙ finished-became
 
     pattern-turns : Turns r s span kind.AssignPatProp (name ∷ default ∷ [])
     pattern-turns =
-        pattern-left (old_name texts (key_name (name ∷ default ∷ []))) (subst (λ o. Olds texts empty o n.leaf.text n.leaf.ctxt n.leaf.span) (sym old-name) (olds texts empty n.leaf.text n.leaf.ctxt n.leaf.span))
+        pattern-left (old_name texts (key_name (name ∷ default ∷ []))) (subst (λ o. Olds onto texts none empty o n.leaf.text n.leaf.ctxt n.leaf.span) (sym old-name) (olds onto texts none empty n.leaf.text n.leaf.ctxt n.leaf.span))
         ∙ sym pattern-right
 
   -- specifiers
 
   specifier : (s : Spot) (span : Span) (k : Kind) (o : Option OldName) (name other hn ho : Node)
       → ((a b : Node) → written_out (node_of span k (a ∷ b ∷ [])) ≡ node_of span k (written_out a ∷ other_out (written_out a) (written_out b) ∷ []))
-      → renamed_ident (to texts empty) k ≡ k → ((xs : List Node) → property_of span k xs ≡ node_of span k xs) → ((xs : List Node) → properties_of span k xs ≡ node_of span k xs)
-      → written_out hn ≡ on (written_out name) → written_out ho ≡ on (written_out other) → Known texts empty o name other
-      → finished s (written_out (node_of span k (hn ∷ second_of texts empty o ho ∷ []))) ≡ on (finished s (written_out (node_of span k (name ∷ other ∷ []))))
+      → renamed_ident (to onto texts none empty) k ≡ k → ((xs : List Node) → property_of span k xs ≡ node_of span k xs) → ((xs : List Node) → properties_of span k xs ≡ node_of span k xs)
+      → written_out hn ≡ on (written_out name) → written_out ho ≡ on (written_out other) → Known onto texts none empty o name other
+      → finished s (written_out (node_of span k (hn ∷ second_of onto texts none empty o ho ∷ []))) ≡ on (finished s (written_out (node_of span k (name ∷ other ∷ []))))
   specifier s span k o name other hn ho outs ren p q en eo known =
       let cs = written_out name ∷ other_out (written_out name) (written_out other) ∷ [] in
-      ap (finished s) (outs hn (second_of texts empty o ho) ∙ ap₂ (λ a b. node_of span k (a ∷ b ∷ [])) en (others-agree texts empty o name other hn ho en eo known))
+      ap (finished s) (outs hn (second_of onto texts none empty o ho) ∙ ap₂ (λ a b. node_of span k (a ∷ b ∷ [])) en (others-agree onto texts none empty o name other hn ho en eo known))
       ∙ finished-plain s span k (map on cs) (p (map on cs)) (q (map on cs))
-      ∙ sym (ap on (ap (finished s) (outs name other) ∙ finished-plain s span k cs (p cs) (q cs)) ∙ renamed-of (to texts empty) span k cs ∙ ap (λ z. node_of span z (map on cs)) ren)
+      ∙ sym (ap on (ap (finished s) (outs name other) ∙ finished-plain s span k cs (p cs) (q cs)) ∙ renamed-of (to onto texts none empty) span k cs ∙ ap (λ z. node_of span z (map on cs)) ren)
 
   old-unknown : (b : Bool) (name : Node) → is_ident (out-Node name).kind ≡ false → old_name texts (cond b (Some name) None) ≡ None
   old-unknown false name e = refl
@@ -205,16 +205,16 @@ module _ (texts : Texts) (empty : (text : List ℕ) → text_of texts (text, 0) 
       by (kind.Ident text ctxt optional) e = absurd (cc)
       by _ e = refl
 
-  lone-known : (name other : Node) → Known texts empty (old_name texts (lone_name (name ∷ other ∷ []))) name other
+  lone-known : (name other : Node) → Known onto texts none empty (old_name texts (lone_name (name ∷ other ∷ []))) name other
   lone-known name other = record {
     there = λ e. ap (λ b. old_name texts (cond b (Some name) None)) e;
     unknown = λ e. old-unknown (kind_is_absent other) name e;
-    known = λ text ctxt optional is missing. subst (λ o. Olds texts empty o text ctxt (out-Node name).span)
-        (sym (ap (λ b. old_name texts (cond b (Some name) None)) missing ∙ ap (λ z. old_name_by texts (out-Node name).span z) is)) (olds texts empty text ctxt (out-Node name).span);
+    known = λ text ctxt optional is missing. subst (λ o. Olds onto texts none empty o text ctxt (out-Node name).span)
+        (sym (ap (λ b. old_name texts (cond b (Some name) None)) missing ∙ ap (λ z. old_name_by texts (out-Node name).span z) is)) (olds onto texts none empty text ctxt (out-Node name).span);
   }
 
   export-known : (b : Bool) (name other : Node) → (b ≡ true → (text : List ℕ) (ctxt : ℕ) (optional : Bool) → (out-Node name).kind ≡ kind.Ident text ctxt optional → text_of texts (text, ctxt) ≡ text)
-      → Known texts empty (old_name texts (cond b None (lone_name (name ∷ other ∷ [])))) name other
+      → Known onto texts none empty (old_name texts (cond b None (lone_name (name ∷ other ∷ [])))) name other
   export-known false name other stays = lone-known name other
   export-known true name other stays = record { there = λ e. refl; unknown = λ e. refl; known = λ text ctxt optional is missing. inl (refl, stays refl text ctxt optional is) }
 
@@ -225,14 +225,14 @@ module _ (texts : Texts) (empty : (text : List ℕ) → text_of texts (text, 0) 
   sourced-stays role.Sourced t name there h e text ctxt optional is =
       let x = out-Node name in
       let both = sym (named-roll x role.Name) ∙ ap (λ m. is_named_at m role.Name) (roll-out-Node name) ∙ h in
-      outer-stays texts empty text ctxt (ap (λ k. is_outer true k) (sym is) ∙ and-left (is_outer true x.kind) _ both)
+      outer-stays onto texts none empty text ctxt (ap (λ k. is_outer true k) (sym is) ∙ and-left (is_outer true x.kind) _ both)
   sourced-stays _ t name there h e text ctxt optional is = absurd (cc)
 
-  import-grown : (o : Option OldName) (span : Span) (t : Bool) (h o' : Node) → grown o span (kind.ImportNamedSpecifier t) (h ∷ o' ∷ []) ≡ node_of span (kind.ImportNamedSpecifier t) (h ∷ second_of texts empty o o' ∷ [])
+  import-grown : (o : Option OldName) (span : Span) (t : Bool) (h o' : Node) → grown o span (kind.ImportNamedSpecifier t) (h ∷ o' ∷ []) ≡ node_of span (kind.ImportNamedSpecifier t) (h ∷ second_of onto texts none empty o o' ∷ [])
   import-grown None span t h o' = refl
   import-grown (Some old) span t h o' = refl
 
-  export-grown : (o : Option OldName) (span : Span) (t : Bool) (h o' : Node) → grown o span (kind.ExportNamedSpecifier t) (h ∷ o' ∷ []) ≡ node_of span (kind.ExportNamedSpecifier t) (h ∷ second_of texts empty o o' ∷ [])
+  export-grown : (o : Option OldName) (span : Span) (t : Bool) (h o' : Node) → grown o span (kind.ExportNamedSpecifier t) (h ∷ o' ∷ []) ≡ node_of span (kind.ExportNamedSpecifier t) (h ∷ second_of onto texts none empty o o' ∷ [])
   export-grown None span t h o' = refl
   export-grown (Some old) span t h o' = refl
 
@@ -241,8 +241,8 @@ module _ (texts : Texts) (empty : (text : List ℕ) → text_of texts (text, 0) 
       let k = kind.ImportNamedSpecifier t in
       let stands = standing_of (stand r s) k (name ∷ other ∷ []) in
       let o = old_name texts (lone_name (name ∷ other ∷ [])) in
-      ap (λ n. finished s (written_out n)) (import-grown o span t (renamed_at texts name (stands 0)) (renamed_at texts other (stands 1)))
-      ∙ specifier s span k o name other (renamed_at texts name (stands 0)) (renamed_at texts other (stands 1)) (λ a b. out-of span k (a ∷ b ∷ [])) refl (λ xs. refl) (λ xs. refl) final.0 final.1.0 (lone-known name other)
+      ap (λ n. finished s (written_out n)) (import-grown o span t (become onto texts name (stands 0)) (become onto texts other (stands 1)))
+      ∙ specifier s span k o name other (become onto texts name (stands 0)) (become onto texts other (stands 1)) (λ a b. out-of span k (a ∷ b ∷ [])) refl (λ xs. refl) (λ xs. refl) final.0 final.1.0 (lone-known name other)
 
   export-turns : (r : Role) (s : Spot) (span : Span) (t : Bool) (name other : Node) → is_named_at name (role_by r (kind.ExportNamedSpecifier t) (is_there (name ∷ other ∷ []) 1) 0) ≡ true
       → FinalBelow r s (kind.ExportNamedSpecifier t) (name ∷ other ∷ []) → Turns r s span (kind.ExportNamedSpecifier t) (name ∷ other ∷ [])
@@ -250,20 +250,20 @@ module _ (texts : Texts) (empty : (text : List ℕ) → text_of texts (text, 0) 
       let k = kind.ExportNamedSpecifier t in
       let stands = standing_of (stand r s) k (name ∷ other ∷ []) in
       let o = old_name texts (cond (is_sourced r) None (lone_name (name ∷ other ∷ []))) in
-      ap (λ n. finished s (written_out n)) (export-grown o span t (renamed_at texts name (stands 0)) (renamed_at texts other (stands 1)))
-      ∙ specifier s span k o name other (renamed_at texts name (stands 0)) (renamed_at texts other (stands 1)) (λ a b. out-of span k (a ∷ b ∷ [])) refl (λ xs. refl) (λ xs. refl) final.0 final.1.0
+      ap (λ n. finished s (written_out n)) (export-grown o span t (become onto texts name (stands 0)) (become onto texts other (stands 1)))
+      ∙ specifier s span k o name other (become onto texts name (stands 0)) (become onto texts other (stands 1)) (λ a b. out-of span k (a ∷ b ∷ [])) refl (λ xs. refl) (λ xs. refl) final.0 final.1.0
       (export-known (is_sourced r) name other (sourced-stays r t name (is_there (name ∷ other ∷ []) 1) h))
 
   -- the layers
 
   plain-turns : (r : Role) (s : Spot) (span : Span) (k : Kind) (cs : List Node) → old_name texts (shared_of (stand r s) k (node_of span k cs) cs) ≡ None
-      → ((xs : List Node) → property_of span k xs ≡ node_of span k xs) → ((xs : List Node) → properties_of span k xs ≡ node_of span k xs) → renamed_ident (to texts empty) k ≡ k
+      → ((xs : List Node) → property_of span k xs ≡ node_of span k xs) → ((xs : List Node) → properties_of span k xs ≡ node_of span k xs) → renamed_ident (to onto texts none empty) k ≡ k
       → written_out (node_of span k cs) ≡ node_of span k (map written_out cs)
-      → written_out (node_of span k (all_final texts (standing_of (stand r s) k cs) 0 cs)) ≡ node_of span k (map written_out (all_final texts (standing_of (stand r s) k cs) 0 cs))
-      → Stand texts empty spot.Elsewhere (standing_of (stand r s) k cs) 0 cs → FinalBelow r s k cs → Turns r s span k cs
-  plain-turns r s span k cs none p q ren wc wh stands final =
-      let hs = all_final texts (standing_of (stand r s) k cs) 0 cs in
-      ap₂ (λ o z. finished s (written_out (grown o span z hs))) none ren ∙ plain s span k cs hs wh wc ren p q (all-elsewhere texts empty (standing_of (stand r s) k cs) 0 cs stands final)
+      → written_out (node_of span k (all_become onto texts (standing_of (stand r s) k cs) 0 cs)) ≡ node_of span k (map written_out (all_become onto texts (standing_of (stand r s) k cs) 0 cs))
+      → Stand onto texts none empty spot.Elsewhere (standing_of (stand r s) k cs) 0 cs → FinalBelow r s k cs → Turns r s span k cs
+  plain-turns r s span k cs nothing p q ren wc wh stands final =
+      let hs = all_become onto texts (standing_of (stand r s) k cs) 0 cs in
+      ap₂ (λ o z. finished s (written_out (grown o span z hs))) nothing ren ∙ plain s span k cs hs wh wc ren p q (all-elsewhere onto texts none empty (standing_of (stand r s) k cs) 0 cs stands final)
 
   no-lone : (b : Bool) → old_name texts (cond b None None) ≡ None
   no-lone true = refl
@@ -285,14 +285,14 @@ module _ (texts : Texts) (empty : (text : List ℕ) → text_of texts (text, 0) 
       (out-of span (kind.ExportNamedSpecifier t) _) (refl, tt) final
   layer-turns r s span (kind.ExportNamedSpecifier t) (a ∷ b ∷ c ∷ cs) has below final =
       plain-turns r s span (kind.ExportNamedSpecifier t) (a ∷ b ∷ c ∷ cs) (no-lone (is_sourced r)) (λ xs. refl) (λ xs. refl) refl (out-of span (kind.ExportNamedSpecifier t) (a ∷ b ∷ c ∷ cs))
-      (out-of span (kind.ExportNamedSpecifier t) _) (all-stand texts empty spot.Elsewhere (standing_of (stand r s) (kind.ExportNamedSpecifier t) (a ∷ b ∷ c ∷ cs)) (λ i. refl) 0 (a ∷ b ∷ c ∷ cs)) final
+      (out-of span (kind.ExportNamedSpecifier t) _) (all-stand onto texts none empty spot.Elsewhere (standing_of (stand r s) (kind.ExportNamedSpecifier t) (a ∷ b ∷ c ∷ cs)) (λ i. refl) 0 (a ∷ b ∷ c ∷ cs)) final
   layer-turns r s span k cs has below final =
-      plain-turns r s span k cs refl (λ xs. refl) (λ xs. refl) refl (out-of span k cs) (out-of span k (all_final texts (standing_of (stand r s) k cs) 0 cs)) (all-stand texts empty spot.Elsewhere (standing_of (stand r s) k cs) (λ i. refl) 0 cs) final
+      plain-turns r s span k cs refl (λ xs. refl) (λ xs. refl) refl (out-of span k cs) (out-of span k (all_become onto texts (standing_of (stand r s) k cs) 0 cs)) (all-stand onto texts none empty spot.Elsewhere (standing_of (stand r s) k cs) (λ i. refl) 0 cs) final
 
   abbrev pub Turned : Node → Type 0
-  Turned n = (r : Role) (s : Spot) → is_named_at n r ≡ true → finished s (written_out (renamed_at texts n (stand r s))) ≡ on (finished s (written_out n))
+  Turned n = (r : Role) (s : Spot) → is_named_at n r ≡ true → finished s (written_out (become onto texts n (stand r s))) ≡ on (finished s (written_out n))
 
-  all-turned : (ns : List ((n : Node) × Turned n)) (stands : ℕ → Standing) (i : ℕ) → all_named (λ j. (stands j).role) i (map is_named_at (map (λ e. e.0) ns)) ≡ true → Final texts empty stands i (map (λ e. e.0) ns)
+  all-turned : (ns : List ((n : Node) × Turned n)) (stands : ℕ → Standing) (i : ℕ) → all_named (λ j. (stands j).role) i (map is_named_at (map (λ e. e.0) ns)) ≡ true → Final onto texts none empty stands i (map (λ e. e.0) ns)
   all-turned [] stands i h = tt
   all-turned (n ∷ ns) stands i h =
       let first = is_named_at n.0 (stands i).role in
@@ -307,8 +307,8 @@ module _ (texts : Texts) (empty : (text : List ℕ) → text_of texts (text, 0) 
       let parts : a && (b && c) ≡ true = sym (named-roll x r) ∙ h in
       let rest : b && c ≡ true = and-right a (b && c) parts in
       let below : FinalBelow r s x.kind x.children =
-      subst (λ cs. all_named (role_by r x.kind (is_there x.children 1)) 0 (map is_named_at cs) ≡ true → Final texts empty (standing_of (stand r s) x.kind x.children) 0 cs) (ap (λ z. z.children) is)
+      subst (λ cs. all_named (role_by r x.kind (is_there x.children 1)) 0 (map is_named_at cs) ≡ true → Final onto texts none empty (standing_of (stand r s) x.kind x.children) 0 cs) (ap (λ z. z.children) is)
       (all-turned y.children (standing_of (stand r s) x.kind x.children) 0) (and-right b c rest) in
-      ap (λ n. finished s (written_out n)) (final-roll texts x (stand r s)
-      ∙ ap (λ z. grown (old_name texts (shared_of (stand r s) x.kind (roll-Node x) x.children)) x.span z (all_final texts (standing_of (stand r s) x.kind x.children) 0 x.children)) (kind-final texts empty (is_name r) x.kind (and-left a (b && c) parts)))
+      ap (λ n. finished s (written_out n)) (final-roll onto texts none x (stand r s)
+      ∙ ap (λ z. grown (old_name texts (shared_of (stand r s) x.kind (roll-Node x) x.children)) x.span z (all_become onto texts (standing_of (stand r s) x.kind x.children) 0 x.children)) (kind-final onto texts none empty (is_name r) x.kind (and-left a (b && c) parts)))
       ∙ layer-turns r s x.span x.kind x.children (and-left b c rest) (and-right b c rest) below)

@@ -15,7 +15,9 @@ use Rattle.ecma_hygiene.specs.declared.spot.Spot.{Spot}
 use Rattle.ecma_hygiene.specs.declared.spot.Spot.TheVariants as spot
 use Rattle.ecma_hygiene.specs.declared.spot.Standing.{Standing}
 use Rattle.ecma_hygiene.specs.Renamed.{Texts, expanded, is_sourced, key_name, kind_is_absent, kind_with_text, lone_name, old_name, renamed_at, renamed_step, shared_by, shorthand, spot_in, standing_in, with_default, written_from}
-use Rattle.ecma_hygiene_laws.proofs.Growing.{expanded-of, grown}
+use Rattle.ecma_hygiene_laws.proofs.Growing.{grown}
+use Rattle.ecma_hygiene_laws.proofs.KindsTurned.{turned_kind}
+use Rattle.ecma_hygiene_laws.proofs.Written.{again, again-out, all_again}
 use Rattle.ecma_runs.specs.State.{Id}
 use Rattle.ecma_runs.specs.Names.{renamed, renamed_ident, renamed_node}
 use Rattle.ecma_hygiene_runs.specs.WrittenOut.{identifier_by, key_node, leaf_text, out_by, out_here, pattern_by, pattern_with, properties_by, properties_out, property_by, property_out, written_out}
@@ -140,27 +142,26 @@ shared-is stands _ n = refl
 abbrev pub standing_of : Standing → Kind → List Node → ℕ → Standing
 standing_of stands k cs i = record { role = role_by stands.role k (is_there cs 1) i; spot = spot_in stands.spot k i }
 
-module _ (texts : Texts) where
-  -- the children with their texts, of which the first is the one at i
-  abbrev pub all_final : (ℕ → Standing) → ℕ → List Node → List Node
-  all_final stands i [] = []
-  all_final stands i (c ∷ cs) = renamed_at texts c (stands i) ∷ all_final stands (suc i) cs
+abbrev pub contexts : (ℕ → ℕ) → List ℕ → ℕ → ℕ
+contexts onto text ctxt = onto ctxt
 
-  written-all : (stands : ℕ → Standing) (i : ℕ) (cs : List Node) → written_from stands i (map (renamed_at texts) cs) ≡ all_final stands i cs
-  written-all stands i [] = refl
-  written-all stands i (c ∷ cs) = ap (λ rest. renamed_at texts c (stands i) ∷ rest) (written-all stands (suc i) cs)
+module _ (onto : ℕ → ℕ) (texts : Texts) where
+  -- a node with its texts and other contexts, and children, of which the first is the one at i
+  abbrev pub become : Node → Standing → Node
+  become = again (contexts onto) texts
 
-  pub final-roll : (x : Node-F Node) (stands : Standing) → renamed_at texts (roll-Node x) stands
-      ≡ grown (old_name texts (shared_of stands x.kind (roll-Node x) x.children)) x.span (kind_with_text texts (is_name stands.role) x.kind) (all_final (standing_of stands x.kind x.children) 0 x.children)
-  final-roll x stands =
+  abbrev pub all_become : (ℕ → Standing) → ℕ → List Node → List Node
+  all_become = all_again (contexts onto) texts
+
+  pub final-roll : (empty : onto 0 ≡ 0) (x : Node-F Node) (stands : Standing) → become (roll-Node x) stands
+      ≡ grown (old_name texts (shared_of stands x.kind (roll-Node x) x.children)) x.span (turned_kind (contexts onto) texts (is_name stands.role) x.kind) (all_become (standing_of stands x.kind x.children) 0 x.children)
+  final-roll empty x stands =
       let n = roll-Node x in
-      ap (λ f. f stands) (from_leaves-roll (Standing → Node) (renamed_step texts) x)
-      ∙ ap (λ o. expanded (old_name texts o) (node_of (out-Node n).span (kind_with_text texts (is_name stands.role) (out-Node n).kind) (written_from (standing_of stands (out-Node n).kind (out-Node n).children) 0 (map (renamed_at texts) x.children))))
+      again-out (contexts onto) texts (λ text. empty) n stands
+      ∙ ap (λ o. grown (old_name texts o) (out-Node n).span (turned_kind (contexts onto) texts (is_name stands.role) (out-Node n).kind) (all_become (standing_of stands (out-Node n).kind (out-Node n).children) 0 (out-Node n).children))
       (shared-is stands (out-Node n).kind n)
-      ∙ ap (λ z. expanded (old_name texts (shared_of stands z.kind n z.children)) (node_of z.span (kind_with_text texts (is_name stands.role) z.kind) (written_from (standing_of stands z.kind z.children) 0 (map (renamed_at texts) x.children))))
+      ∙ ap (λ z. grown (old_name texts (shared_of stands z.kind n z.children)) z.span (turned_kind (contexts onto) texts (is_name stands.role) z.kind) (all_become (standing_of stands z.kind z.children) 0 z.children))
       (out-roll-Node x)
-      ∙ expanded-of (old_name texts (shared_of stands x.kind n x.children)) x.span (kind_with_text texts (is_name stands.role) x.kind) (written_from (standing_of stands x.kind x.children) 0 (map (renamed_at texts) x.children))
-      ∙ ap (λ cs. grown (old_name texts (shared_of stands x.kind n x.children)) x.span (kind_with_text texts (is_name stands.role) x.kind) cs) (written-all (standing_of stands x.kind x.children) 0 x.children)
 
 -- and whether it is named rightly
 pub named-roll : (x : Node-F Node) (r : Role)

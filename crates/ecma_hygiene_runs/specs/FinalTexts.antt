@@ -12,9 +12,9 @@ use Rattle.ecma_hygiene.specs.Renamed.{Texts, text_of}
 use Rattle.ecma_runs.specs.State.{Id}
 use Rattle.ecma_hygiene_runs.specs.WrittenOut.{identifier_by, leaf_text}
 
--- an id with its final text
-abbrev pub final_id : Texts → Id → Id
-final_id texts id = record { sym = text_of texts (id.sym, id.ctxt); ctxt = id.ctxt }
+-- an id with its final text, and with another context
+abbrev pub final_id : (ℕ → ℕ) → Texts → Id → Id
+final_id to texts id = record { sym = text_of texts (id.sym, id.ctxt); ctxt = to id.ctxt }
 
 -- what is no name of a variable has the empty context
 abbrev pub is_outer : Bool → Kind → Bool

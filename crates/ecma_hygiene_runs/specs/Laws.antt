@@ -3,10 +3,14 @@ use Rattle.std.specs.Prelude.{◌≡◌, ◌≢◌, ℕ, true, false, List, byte
 use Rattle.std.specs.List.{All}
 use Rattle.ecma_tree.specs.declared.node.Node.{Node}
 use Rattle.ecma_hygiene.specs.declared.naming.Named.{Named}
+use Rattle.ecma_scope.specs.Laws.{without_contexts}
+use Rattle.ecma_scope.specs.Resolved.{resolved}
 use Rattle.ecma_hygiene.specs.Ids.{Id}
+use Rattle.ecma_hygiene.specs.Laws.{is_seen}
 use Rattle.ecma_hygiene.specs.Renamed.{renamed}
 use Rattle.ecma_hygiene.specs.Sights.{sights}
 use Rattle.ecma_hygiene.specs.Texts.{HygienicTexts, is_bound, text_in}
+use Rattle.ecma_hygiene_laws.specs.Stops.{IsRight, stops}
 use Rattle.ecma_runs.specs.declared.config.Config.{Config}
 use Rattle.ecma_runs.specs.declared.script.Script.{Script}
 use Rattle.ecma_runs.specs.Environment.{is_among}
@@ -42,3 +46,16 @@ abbrev pub FinalTextsKeepRuns : Type 0
 FinalTextsKeepRuns =
     (turns : ℕ) (options : Config) (tree : Node) (names : List Named) (script : Script) → HygienicTexts tree names → IsResolved tree
     → observe turns options (renamed (text_in names) tree) script ≡ observe turns options tree script
+
+-- a map of contexts that keeps two names with one text two, and the empty context apart from those of variables
+pub record KeepsApart (to : ℕ → ℕ) (tree : Node) : Type 0 where
+  pub none : to 0 ≡ 0
+  pub inner : (text : List ℕ) (ctxt : ℕ) → is_seen (sights tree) (text, ctxt) ≡ true → to ctxt ≡ 0 → ctxt ≡ 0
+  pub apart : (text : List ℕ) (c d : ℕ) → is_seen (sights tree) (text, c) ≡ true → is_seen (sights tree) (text, d) ≡ true → to c ≡ to d → c ≡ d
+
+-- the tree with its final texts, read again without contexts and resolved, runs as the tree does
+abbrev pub ReadingAgainKeepsRuns : Type 0
+ReadingAgainKeepsRuns =
+    (turns : ℕ) (options : Config) (unresolved top left : ℕ) (to : ℕ → ℕ) (tree : Node) (names : List Named) (script : Script)
+    → HygienicTexts tree names → All (IsRight unresolved top to) (stops left tree) → IsResolved tree → KeepsApart to tree
+    → observe turns options (resolved unresolved top left (without_contexts (renamed (text_in names) tree))) script ≡ observe turns options tree script

@@ -4,7 +4,7 @@
 //! Each function carries one law, and does nothing. The laws are stated in `specs/`.
 #![tactic(auto)]
 
-ghost use Rattle.ecma_hygiene_runs.specs.Laws.{FinalTextsKeepRuns, ShorthandsDoNotMatter, WrittenOutShorthandsDoNotMatter};
+ghost use Rattle.ecma_hygiene_runs.specs.Laws.{FinalTextsKeepRuns, ReadingAgainKeepsRuns, ShorthandsDoNotMatter, WrittenOutShorthandsDoNotMatter};
 
 /// A module with its shorthands written out is observed to do what it does with them, for every tree, every script of the host and every number of
 /// turns.
@@ -20,4 +20,9 @@ pub fn shorthands_do_not_matter()
 /// A resolved module with its final texts, and with its contexts, is observed to do what it does with its own.
 pub fn final_texts_keep_runs()
     ensures { FinalTextsKeepRuns }
+{}
+
+/// So it is with the contexts that its final texts get where they are read again: the texts alone say what the module does.
+pub fn reading_again_keeps_runs()
+    ensures { ReadingAgainKeepsRuns }
 {}
