@@ -52,7 +52,7 @@ module _ (context_of : List ℕ → ℕ → ℕ) (texts : Texts) where
   pub absent-same : (named : Bool) (k : Kind) → is_absent (turned_kind named k) ≡ is_absent k
   absent-same named k = kind-same is_absent (λ s t c d o. refl) named k
 
-  ident-seeks : (p : Part) (stays value : Bool) (i : ℕ) (s : List ℕ) (c : ℕ) (o : Bool) → sought_by p stays value (kind.Ident s c o) i ≡ None
+  pub ident-seeks : (p : Part) (stays value : Bool) (i : ℕ) (s : List ℕ) (c : ℕ) (o : Bool) → sought_by p stays value (kind.Ident s c o) i ≡ None
   unfolding in_name in_var in_item in_default in_scope in_member
   ident-seeks part.Scope stays value i s c o = refl
   ident-seeks _ stays value i s c o = refl

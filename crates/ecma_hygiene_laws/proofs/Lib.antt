@@ -14,3 +14,16 @@ pub mod Shorthands
 pub mod Reading
 pub mod ReadingAgain
 pub mod StayingApart
+pub mod Sameness
+pub mod Ways
+pub mod Directly
+pub mod Clashes
+pub mod Forms
+pub mod Goodness
+pub mod Passing
+pub mod Crossing
+pub mod Owning
+pub mod OwnScopes
+pub mod ResolvedRight
+pub mod Sorting
+pub mod ResolvedModules

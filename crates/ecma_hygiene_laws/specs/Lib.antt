@@ -2,3 +2,5 @@ pub mod DeclaredIds
 pub mod Scopes
 pub mod Stops
 pub mod ReadAgain
+pub mod Seats
+pub mod Resolving

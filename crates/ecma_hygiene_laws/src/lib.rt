@@ -5,6 +5,7 @@
 #![tactic(auto)]
 
 ghost use Rattle.ecma_hygiene_laws.specs.ReadAgain.{FollowsItsTexts, IdsStayApart, IsReadAgain};
+ghost use Rattle.ecma_hygiene_laws.specs.Resolving.{ResolvedFollowsItsTexts, ResolvedIsReadAgain, ResolvedIsRight};
 ghost use Rattle.ecma_hygiene_laws.specs.Scopes.{ScopesDeclareFinalTexts};
 
 /// A node with other texts opens a scope where it did, and that scope declares the final texts of what it declared.
@@ -27,4 +28,21 @@ pub fn what_is_read_again_has_its_bindings()
 /// Ids are mapped one to one: two that stand in a tree are written as two, if they have one context, and a free one keeps its text.
 pub fn ids_stay_apart()
     ensures { IdsStayApart }
+{}
+
+/// The ids of a resolved module say which scopes declare its names, where no name is declared again where it may not be, and no
+/// declaration goes.
+pub fn resolved_ids_say_which_scopes_declare_them()
+    ensures { ResolvedIsRight }
+{}
+
+/// So such a module with its final texts, read again without contexts and resolved with the same contexts, is the same tree.
+pub fn resolved_modules_are_read_again()
+    ensures { ResolvedIsReadAgain }
+{}
+
+/// And its ids say what its texts name: two identifiers that are bound have one context exactly where their texts are bound in one
+/// scope, and a free one, and it alone, has the unresolved context.
+pub fn resolved_modules_mean_what_their_texts_name()
+    ensures { ResolvedFollowsItsTexts }
 {}
