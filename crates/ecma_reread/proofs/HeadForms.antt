@@ -1,5 +1,5 @@
 -- Expressions without a bare `in` stand also where `in` is no operator.
-use Rattle.std.proofs.Common.{◌≡◌, Bool, true, false, List, [], ◌∷◌, sym, ◌∙◌, refl}
+use Rattle.std.proofs.Common.{◌≡◌, Bool, true, false, List, [], ◌∷◌, map, sym, ◌∙◌, refl}
 use Rattle.std.proofs.lemmas.Bool.{false≢true}
 use Rattle.ecma_kind.specs.declared.operators.BinaryOp.{BinaryOp}
 use Rattle.ecma_kind.specs.declared.operators.BinaryOp.TheVariants as op
@@ -7,9 +7,9 @@ use Rattle.ecma_kind.specs.declared.kind.Kind.{Kind}
 use Rattle.ecma_kind.specs.declared.kind.Kind.TheVariants as kind
 use Rattle.ecma_tree.specs.declared.node.Node.{Node}
 use Rattle.ecma_reread.specs.Shapes as shapes
-use Rattle.ecma_reread.specs.Shapes.{Level, IsExpression, IsMemberLevel, IsIndexed}
+use Rattle.ecma_reread.specs.Shapes.{Level, IsExpression, AreExpressions, IsMemberLevel, IsIndexed}
 use Rattle.ecma_reread.specs.Tokens.{expression_tokens, expression_kind, expression_parts}
-use Rattle.ecma_reread.specs.Heads.{may_hold_by, may_hold_in}
+use Rattle.ecma_reread.specs.Heads.{any_of, may_hold_by, may_hold_in}
 use Rattle.ecma_reread.proofs.Forms.{Laid}
 use Rattle.ecma_reread.proofs.Bindings.{StandsIn, Stands, loosened}
 use Rattle.ecma_reread.proofs.Operations.{stands_there, binary_form}
@@ -17,6 +17,8 @@ use Rattle.ecma_reread.proofs.Logicals.{both_form, either_form}
 use Rattle.ecma_reread.proofs.Coalescing.{coalesced_form}
 use Rattle.ecma_reread.proofs.Choices.{choice_form}
 use Rattle.ecma_reread.proofs.Assignments.{whole_read}
+use Rattle.ecma_reread.proofs.Lists.{FormsIn}
+use Rattle.ecma_reread.proofs.Sequences as sequences
 use Rattle.ecma_reread.proofs.Calls.{expression_form}
 use Rattle.ecma_reread.proofs.HeadLayouts.{neither, may_hold_node, operands_hold, one_same}
 
@@ -62,36 +64,45 @@ module _ (assigned : Bool) where
   tightly shapes.sequence h S = absurd (false≢true h)
   tightly l h S = record { lead = S.lead; reading = S.reading; tight = S.tight; no_or = S.no_or; no_arrow = S.no_arrow; param = S.param }
 
-  pub head_form : {level : Level} {e : Node} (is : IsExpression level e) → may_hold_in e ≡ false → StandsIn assigned true level (expression_tokens is) (expression_kind is) (expression_parts is)
-  head_form (shapes.looser {level = l} e) h = loosened assigned l (head_form e h)
-  head_form (shapes.member at i o k) h = tightly _ (member_tight i) (expression_form assigned (shapes.member at i o k))
-  head_form (shapes.element at at' i o e) h = tightly _ (index_tight i) (expression_form assigned (shapes.element at at' i o e))
-  head_form (shapes.tagged_template at a b c i o none ps) h = tightly _ (index_tight i) (expression_form assigned (shapes.tagged_template at a b c i o none ps))
-  head_form (shapes.binary_expression at {operator = o} {left = l'} {right = r'} i l r) h =
-      let k = sym (may_hold_node at (kind.BinExpr o) (l' ∷ r' ∷ [])) ∙ h in
-      let bs = may_hold_in l' ∷ may_hold_in r' ∷ [] in
-      let c = neither (may_hold_in l') _ (operands_hold o bs k) in
-      binary_form assigned true i (no_in_there o bs k) (head_form l c.0) (head_form r (one_same _ c.1))
-  head_form (shapes.private_in at at' w t r) h = absurd (false≢true (sym (sym (may_hold_node at (kind.BinExpr op.In) _) ∙ h)))
-  head_form (shapes.both at {left = l'} {right = r'} l r) h =
-      let c = neither (may_hold_in l') _ (sym (may_hold_node at (kind.BinExpr op.LogicalAnd) (l' ∷ r' ∷ [])) ∙ h) in
-      both_form assigned (head_form l c.0) (head_form r (one_same _ c.1))
-  head_form (shapes.either at {left = l'} {right = r'} l r) h =
-      let c = neither (may_hold_in l') _ (sym (may_hold_node at (kind.BinExpr op.LogicalOr) (l' ∷ r' ∷ [])) ∙ h) in
-      either_form assigned (head_form l c.0) (head_form r (one_same _ c.1))
-  head_form (shapes.coalesced at {left = l'} {right = r'} i l r) h =
-      let c = neither (may_hold_in l') _ (sym (may_hold_node at (kind.BinExpr op.NullishCoalescing) (l' ∷ r' ∷ [])) ∙ h) in
-      coalesced_form assigned i (head_form l c.0) (head_form r (one_same _ c.1))
-  head_form (shapes.conditional_expression at {test = t'} {first = x'} {second = y'} t x y) h =
-      let c = neither (may_hold_in t') _ (sym (may_hold_node at kind.CondExpr (t' ∷ x' ∷ y' ∷ [])) ∙ h) in
-      let d = neither (may_hold_in x') _ c.1 in
-      choice_form assigned (head_form t c.0) (head_form x d.0) (head_form y (one_same _ d.1))
-  head_form (shapes.assignment_expression at o {target = t'} {value = v'} t v) h =
-      let S = expression_form assigned (shapes.assignment_expression at o t v) in
-      let c = neither (may_hold_in t') _ (sym (may_hold_node at (kind.AssignExpr o) (t' ∷ v' ∷ [])) ∙ h) in
-      record { lead = S.lead; tight = S.tight; no_or = S.no_or; no_arrow = S.no_arrow; param = S.param; reading = whole_read assigned o (head_form t c.0) (head_form v (one_same _ c.1)) }
-  head_form (shapes.yield_nothing at none) h = absurd (false≢true (sym (sym (may_hold_node at (kind.YieldExpr false) _) ∙ h)))
-  head_form (shapes.yield_value at d e) h = absurd (false≢true (sym (sym (may_hold_node at (kind.YieldExpr d) _) ∙ h)))
-  head_form (shapes.arrow_function at ps e z a b) h = absurd (false≢true (sym (sym (may_hold_node at (kind.ArrowExpr false false) _) ∙ h)))
-  head_form (shapes.sequence_expression at x y es) h = absurd (false≢true (sym (sym (may_hold_node at kind.SeqExpr _) ∙ h)))
-  head_form is h = tightly _ refl (expression_form assigned is)
+  mutual
+    pub head_form : {level : Level} {e : Node} (is : IsExpression level e) → may_hold_in e ≡ false → StandsIn assigned true level (expression_tokens is) (expression_kind is) (expression_parts is)
+    head_form (shapes.looser {level = l} e) h = loosened assigned l (head_form e h)
+    head_form (shapes.member at i o k) h = tightly _ (member_tight i) (expression_form assigned (shapes.member at i o k))
+    head_form (shapes.element at at' i o e) h = tightly _ (index_tight i) (expression_form assigned (shapes.element at at' i o e))
+    head_form (shapes.tagged_template at a b c i o none ps) h = tightly _ (index_tight i) (expression_form assigned (shapes.tagged_template at a b c i o none ps))
+    head_form (shapes.binary_expression at {operator = o} {left = l'} {right = r'} i l r) h =
+        let k = sym (may_hold_node at (kind.BinExpr o) (l' ∷ r' ∷ [])) ∙ h in
+        let bs = may_hold_in l' ∷ may_hold_in r' ∷ [] in
+        let c = neither (may_hold_in l') _ (operands_hold o bs k) in
+        binary_form assigned true i (no_in_there o bs k) (head_form l c.0) (head_form r (one_same _ c.1))
+    head_form (shapes.private_in at at' w t r) h = absurd (false≢true (sym (sym (may_hold_node at (kind.BinExpr op.In) _) ∙ h)))
+    head_form (shapes.both at {left = l'} {right = r'} l r) h =
+        let c = neither (may_hold_in l') _ (sym (may_hold_node at (kind.BinExpr op.LogicalAnd) (l' ∷ r' ∷ [])) ∙ h) in
+        both_form assigned (head_form l c.0) (head_form r (one_same _ c.1))
+    head_form (shapes.either at {left = l'} {right = r'} l r) h =
+        let c = neither (may_hold_in l') _ (sym (may_hold_node at (kind.BinExpr op.LogicalOr) (l' ∷ r' ∷ [])) ∙ h) in
+        either_form assigned (head_form l c.0) (head_form r (one_same _ c.1))
+    head_form (shapes.coalesced at {left = l'} {right = r'} i l r) h =
+        let c = neither (may_hold_in l') _ (sym (may_hold_node at (kind.BinExpr op.NullishCoalescing) (l' ∷ r' ∷ [])) ∙ h) in
+        coalesced_form assigned i (head_form l c.0) (head_form r (one_same _ c.1))
+    head_form (shapes.conditional_expression at {test = t'} {first = x'} {second = y'} t x y) h =
+        let c = neither (may_hold_in t') _ (sym (may_hold_node at kind.CondExpr (t' ∷ x' ∷ y' ∷ [])) ∙ h) in
+        let d = neither (may_hold_in x') _ c.1 in
+        choice_form assigned (head_form t c.0) (head_form x d.0) (head_form y (one_same _ d.1))
+    head_form (shapes.assignment_expression at o {target = t'} {value = v'} t v) h =
+        let S = expression_form assigned (shapes.assignment_expression at o t v) in
+        let c = neither (may_hold_in t') _ (sym (may_hold_node at (kind.AssignExpr o) (t' ∷ v' ∷ [])) ∙ h) in
+        record { lead = S.lead; tight = S.tight; no_or = S.no_or; no_arrow = S.no_arrow; param = S.param; reading = whole_read assigned o (head_form t c.0) (head_form v (one_same _ c.1)) }
+    head_form (shapes.yield_nothing at none) h = absurd (false≢true (sym (sym (may_hold_node at (kind.YieldExpr false) _) ∙ h)))
+    head_form (shapes.yield_value at d e) h = absurd (false≢true (sym (sym (may_hold_node at (kind.YieldExpr d) _) ∙ h)))
+    head_form (shapes.arrow_function at ps e z a b) h = absurd (false≢true (sym (sym (may_hold_node at (kind.ArrowExpr false false) _) ∙ h)))
+    head_form (shapes.sequence_expression at {first = x'} {second = y'} {more = es'} x y es) h =
+        let S = expression_form assigned (shapes.sequence_expression at x y es) in
+        let c = neither (may_hold_in x') _ (sym (may_hold_node at kind.SeqExpr (x' ∷ y' ∷ es')) ∙ h) in
+        let d = neither (may_hold_in y') _ c.1 in
+        record { lead = S.lead; tight = S.tight; no_or = S.no_or; no_arrow = S.no_arrow; param = S.param; reading = sequences.whole_read assigned (head_form x c.0) (head_form y d.0) es (head_forms es d.1) }
+    head_form is h = tightly _ refl (expression_form assigned is)
+
+    head_forms : {es : List Node} (is : AreExpressions es) → any_of (map may_hold_in es) ≡ false → FormsIn assigned true is
+    head_forms shapes.no_expressions h = tt
+    head_forms (shapes.more_expressions {e = e'} e es) h = let c = neither (may_hold_in e') _ h in (head_form e c.0, head_forms es c.1)

@@ -17,7 +17,7 @@ use Rattle.ecma_print.specs.Places.{free, left, right, gap}
 use Rattle.ecma_print.specs.Laid.{Laid, is_computed}
 use Rattle.ecma_print.specs.Levels.{clashes, in_parentheses}
 use Rattle.ecma_print.specs.Operators.{assign_word, unary_word, unary_sign, update_word, update_sign, binary_word, left_level, right_level, under}
-use Rattle.ecma_print.specs.Expressions.{object_beside, is_optional, question_dot, callee_spot, link_of}
+use Rattle.ecma_print.specs.Expressions.{object_beside, is_optional, question_dot, callee_spot, link_of, more_of_sequence}
 use Rattle.ecma_print.specs.Layout.{whole, standing, in_place, laid}
 use Rattle.ecma_reread.specs.Heads.{any_of, may_hold_by, may_hold_step, may_hold_in}
 use Rattle.ecma_reread.proofs.Layouts.{at_node}
@@ -70,6 +70,13 @@ held k cs = may_hold_by k (hold cs)
 pub one_same : (b : Bool) → (b || false) ≡ false → b ≡ false
 one_same b h = (neither b false h).0
 
+-- those behind the first of a sequence
+rest_same : (cs : Children) → any_of (hold cs) ≡ false → (spot : Spot) (m rest : List ℕ) → more_of_sequence (texts cs) spot m rest ≡ more_of_sequence (texts cs) (with_in spot) m rest
+rest_same [] h spot m rest = refl
+rest_same (x ∷ cs) h spot m rest =
+    let c = neither (may_hold_in x.0) _ h in
+    ap (λ z. codes ", " ++ (laid x.0).at (At (right spot 1 NoNeighbor)) m z) (rest_same cs c.1 spot m rest) ∙ ap (λ z. codes ", " ++ z) (x.1 c.0 (right spot 1 NoNeighbor) m (more_of_sequence (texts cs) (with_in spot) m rest))
+
 step_same : (k : Kind) (cs : Children) → held k cs ≡ false → (spot : Spot) (m rest : List ℕ) → in_place k (texts cs) (At spot) m rest ≡ in_place k (texts cs) (At (with_in spot)) m rest
 step_same (kind.UnaryExpr o) (x ∷ []) h spot m rest =
     standing_same (kind.UnaryExpr o) (texts (x ∷ [])) spot refl m rest (ap (λ z. gap spot.beside (unary_sign o) ++ (unary_word o ++ z)) (x.1 (one_same _ h) (right spot 14 (unary_sign o)) m rest))
@@ -109,7 +116,11 @@ step_same kind.OptCall (x ∷ y ∷ z ∷ []) h spot m rest =
     standing_same kind.OptCall (texts (x ∷ y ∷ z ∷ [])) spot refl m rest (x.1 h (left spot 16 InChain) m (question_dot (is_optional spot.beside) ++ (laid y.0).at Arguments m rest))
 step_same kind.TaggedTpl (x ∷ y ∷ z ∷ []) h spot m rest =
     standing_same kind.TaggedTpl (texts (x ∷ y ∷ z ∷ [])) spot refl m rest (x.1 h (left spot 16 BeforeLink) m ((laid z.0).at (At (free 0)) m rest))
-step_same kind.SeqExpr cs h spot m rest = absurd (false≢true (sym h))
+step_same kind.SeqExpr [] h spot m rest = standing_same kind.SeqExpr (texts []) spot refl m rest refl
+step_same kind.SeqExpr (x ∷ cs) h spot m rest =
+    let c = neither (may_hold_in x.0) _ h in
+    standing_same kind.SeqExpr (texts (x ∷ cs)) spot refl m rest
+    (ap (λ z. (laid x.0).at (At (left spot 1 NoNeighbor)) m z) (rest_same cs c.1 spot m rest) ∙ x.1 c.0 (left spot 1 NoNeighbor) m (more_of_sequence (texts cs) (with_in spot) m rest))
 step_same (kind.YieldExpr delegate) cs h spot m rest = absurd (false≢true (sym h))
 step_same (kind.ArrowExpr is_async is_generator) cs h spot m rest = absurd (false≢true (sym h))
 step_same (kind.VarDecl k declare) cs h spot m rest = absurd (false≢true (sym h))

@@ -1,13 +1,13 @@
 -- Expressions behind commas, in front of what ends an expression.
-use Rattle.std.proofs.Common.{Bool, List, codes}
+use Rattle.std.proofs.Common.{◌≡◌, Bool, true, false, List, codes}
 use Rattle.ecma_tree.specs.declared.node.Node.{Node}
 use Rattle.ecma_tokens.specs.Items.{sign, Items}
 use Rattle.ecma_reread.specs.Shapes as shapes
 use Rattle.ecma_reread.specs.Shapes.{AreExpressions}
 use Rattle.ecma_reread.specs.Tokens.{blank, expression_tokens, more_tokens, expression_kind, expression_parts}
 use Rattle.ecma_reread.proofs.Fronts.{Front, exactly, Begins, at_token}
-use Rattle.ecma_reread.proofs.Towers.{Ends}
-use Rattle.ecma_reread.proofs.Bindings.{ends_no_equals, Stands}
+use Rattle.ecma_reread.proofs.Towers.{Ends, closes_in}
+use Rattle.ecma_reread.proofs.Bindings.{ends_no_equals, closed, StandsIn}
 use Rattle.ecma_reread.proofs.Params.{Params, params_more}
 use Rattle.ecma_reread.proofs.Expressions.{comma_ends}
 
@@ -21,11 +21,24 @@ pub more_followed : {es : List Node} (is : AreExpressions es) (us : Items) → F
 more_followed shapes.no_expressions us w = w
 more_followed (shapes.more_expressions e es) us w = record { front = exactly (sign (codes ",")); begins = at_token; ends = comma_ends }
 
+-- where `in` is an operator or none
+pub record FollowedIn (no_in : Bool) (us : Items) : Type 0 where
+  pub front : Front
+  pub begins : Begins front us
+  pub ends : closes_in no_in shapes.assignment front ≡ true
+
+pub more_followed_in : (no_in : Bool) {es : List Node} (is : AreExpressions es) (us : Items) → FollowedIn no_in us → FollowedIn no_in (more_tokens is us)
+more_followed_in no_in shapes.no_expressions us w = w
+more_followed_in no_in (shapes.more_expressions e es) us w = record { front = exactly (sign (codes ",")); begins = at_token; ends = closed no_in shapes.assignment (exactly (sign (codes ","))) comma_ends }
+
 module _ (assigned : Bool) where
   -- what is said of each
+  abbrev pub FormsIn : Bool → {es : List Node} → AreExpressions es → Type 0
+  FormsIn no_in shapes.no_expressions = Unit {0}
+  FormsIn no_in (shapes.more_expressions e es) = StandsIn assigned no_in shapes.assignment (expression_tokens e) (expression_kind e) (expression_parts e) × FormsIn no_in es
+
   abbrev pub Forms : {es : List Node} → AreExpressions es → Type 0
-  Forms shapes.no_expressions = Unit {0}
-  Forms (shapes.more_expressions e es) = Stands assigned shapes.assignment (expression_tokens e) (expression_kind e) (expression_parts e) × Forms es
+  Forms is = FormsIn false is
 
   -- as parameters of an arrow function
   pub more_params : {es : List Node} (is : AreExpressions es) → Forms is → (no_in : Bool) (us : Items) → Followed us → Params assigned no_in us → Params assigned no_in (more_tokens is us)
