@@ -7,6 +7,7 @@ pub mod Rules
 pub mod Constructors
 pub mod Clauses
 pub mod ReadingOf
+pub mod ReadDigits
 pub mod ReadLeaves
 pub mod Everywhere
 pub mod Read

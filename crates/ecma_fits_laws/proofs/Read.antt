@@ -69,6 +69,7 @@ told_other (kind.IdentName text) h = not_true (sym h)
 told_other (kind.PrivateName text) h = not_true (sym h)
 told_other (kind.Str value raw) h = not_true (sym h)
 told_other (kind.Number value raw) h = not_true (sym h)
+told_other (kind.BigInt value raw) h = not_true (sym h)
 told_other _ h = λ is. not_true is
 
 told_question : (optional : Bool) (k : Kind) → Told k → Told (questioned_kind optional k)
@@ -101,6 +102,7 @@ tag_same (kind.IdentName text) tagged h = refl
 tag_same (kind.PrivateName text) tagged h = refl
 tag_same (kind.Str value raw) tagged h = refl
 tag_same (kind.Number value raw) tagged h = refl
+tag_same (kind.BigInt value raw) tagged h = refl
 tag_same _ tagged h = not_true h
 
 told_right : (w : Where) (k : Kind) → Told k → (is_told k && not (is_spelled (is_tagged w.role) k)) ≡ false

@@ -16,7 +16,7 @@ use Rattle.ecma_lex.specs.declared.blanks.Skipped.{Skipped}
 use Rattle.ecma_lex.specs.declared.tokens.Token.{Token}
 use Rattle.ecma_lex.specs.Blanks.{skipped}
 use Rattle.ecma_lex.specs.Keys.{key_end, name_end, priv_name_end, word_end}
-use Rattle.ecma_lex.specs.Numerals.{num_end}
+use Rattle.ecma_lex.specs.Numerals.{big_end, num_end}
 use Rattle.ecma_lex.specs.Parts.{char_at, passes, then_at}
 use Rattle.ecma_lex.specs.Strings.{str_end, str_value}
 use Rattle.ecma_lex.specs.Strings as strings
@@ -28,7 +28,7 @@ use Rattle.ecma_lex.proofs.Quoted.{string_alone, string_long, string_spelled, st
 use Rattle.ecma_lex.proofs.Spelled.{alone, key_alone, key_spelled, name_key, word_key}
 use Rattle.ecma_lex.proofs.Suffixes.{piece_inside}
 use Rattle.ecma_tokens.specs.Good.{IsGap, IsToken, Stops, Whole as IsWholeToken}
-use Rattle.ecma_tokens.specs.Items.{Tok, key as key_token, no_gap, number as number_token, string as string_token, token_text}
+use Rattle.ecma_tokens.specs.Items.{Tok, big_int as big_token, key as key_token, no_gap, number as number_token, string as string_token, token_text}
 use Rattle.ecma_tokens.proofs.Gaps.{skipped_gap}
 use Rattle.ecma_tokens.proofs.Wholes.{quiet}
 use Rattle.ecma_kind.specs.declared.kind.Kind.{Kind}
@@ -39,13 +39,14 @@ use Rattle.ecma_grammar.specs.declared.production.Leaf.TheVariants as leaf
 use Rattle.ecma_grammar.specs.declared.production.TokenKind.TheVariants as token_kind
 use Rattle.ecma_grammar.specs.Made.{at_token}
 use Rattle.ecma_grammar.specs.Reading.{Outcome, Position, Reading, fails, pure, read, terminal_on, then_on, too_deep, ◌>>=◌}
-use Rattle.ecma_grammar.specs.Reads.{any_token, leaf_node, regex_token, template_part, word_token}
+use Rattle.ecma_grammar.specs.Reads.{any_token, leaf_node, regex_token, template_part, without_separators, word_token}
 use Rattle.ecma_spelling.specs.Everywhere.{Everywhere, none}
 use Rattle.ecma_spelling.proofs.Leaves.{Holds, holds_fails, holds_read, holds_then}
 use Rattle.ecma_spelling.proofs.Trees.{good_node}
-use Rattle.ecma_leaves.specs.Words.{is_number, is_one, is_readable, is_spelled, is_string, is_value, is_whole}
+use Rattle.ecma_leaves.specs.Words.{digits_of, is_big_int, is_number, is_one, is_readable, is_spelled, is_string, is_value, is_whole}
 use Rattle.ecma_leaves.proofs.Characters.{piece_within}
 use Rattle.ecma_fits_laws.specs.Read.{is_told}
+use Rattle.ecma_fits_laws.proofs.ReadDigits.{digits_are, word, word_is, word_token as big_word_token}
 use Rattle.ecma_fits_laws.proofs.ReadingOf.{is_hashbang}
 use Rattle.ecma_fits_laws.proofs.Walks.{not_true}
 
@@ -205,6 +206,27 @@ module _ (text : List ℕ) (u : IsUtf8 text) (small : length text < 4294967296) 
   unfolding lex.num
   holds_numeral s = holds_term num_end IsNumeral (λ i j b h. is_numeral i j h) s
 
+  -- BigInts
+
+  abbrev IsBigInt : Token → Type 0
+  IsBigInt t = is_big_int (without_separators (piece text t.start (t.next - 1))) (Some (piece text t.start t.next)) ≡ true
+
+  is_big : (i j : ℕ) → big_end text i ≡ Some j → is_big_int (without_separators (piece text i (j - 1))) (Some (piece text i j)) ≡ true
+  unfolding lex.big chars
+  is_big i j h =
+      let w = word text u i j h in
+      let is = word_is text u i j h in
+      let token = big_word_token text u i j h in
+      let small_word : is_readable w ≡ true = subst (λ z. is_readable z ≡ true) is (readable text i j small) in
+      subst (λ z. is_big_int (without_separators (piece text i (j - 1))) (Some z) ≡ true) (sym is)
+      (both_true (is_one lex.big w) (bytes_eq (without_separators (piece text i (j - 1))) (digits_of w))
+      (both_true (is_readable w) (is_whole w (term big_end w 0)) small_word (by_itself (big_token w) big_end token refl token.whole))
+      (digits_are text u i j h))
+
+  holds_big : (s : Position) → Holds (any_token text token_kind.BigInt s) IsBigInt
+  unfolding lex.big
+  holds_big s = holds_term big_end IsBigInt (λ i j b h. is_big i j h) s
+
   -- leaves
 
   abbrev Good : Node → Type 0
@@ -227,7 +249,7 @@ module _ (text : List ℕ) (u : IsUtf8 text) (small : length text < 4294967296) 
   leaf_told leaf.PrivateName s h = leaf_of (any_token text token_kind.PrivateName) IsPrivate _ s (holds_private s) (λ t q. leaf_at t _ (λ is. q))
   leaf_told leaf.Str s h = leaf_of (any_token text token_kind.Str) IsText _ s (holds_text s) (λ t q. leaf_at t _ (λ is. q))
   leaf_told leaf.Number s h = leaf_of (any_token text token_kind.Number) IsNumeral _ s (holds_numeral s) (λ t q. leaf_at t _ (λ is. q))
-  leaf_told leaf.BigInt s h = any_leaf (any_token text token_kind.BigInt) _ s (λ t. leaf_at t _ (λ is. not_true is))
+  leaf_told leaf.BigInt s h = leaf_of (any_token text token_kind.BigInt) IsBigInt _ s (holds_big s) (λ t q. leaf_at t _ (λ is. q))
   leaf_told leaf.Regex s h = any_leaf (regex_token text) _ s (λ t. leaf_at t _ (λ is. not_true is))
   leaf_told (leaf.TplElement wanted) s h = any_leaf (template_part text wanted) _ s (λ part. leaf_at part.token _ (λ is. not_true is))
   leaf_told leaf.This s h = any_leaf (word_token text (codes "this")) _ s (λ t. leaf_at t kind.ThisExpr (λ is. not_true is))

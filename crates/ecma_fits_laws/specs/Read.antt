@@ -12,13 +12,14 @@ use Rattle.ecma_fits.specs.declared.unfit.Where.{Where}
 use Rattle.ecma_fits.specs.Fitting.{breaks_rule}
 use Rattle.ecma_fits_laws.specs.Clauses.{NoneFails, has_second_constructor, is_misspelled}
 
--- names, keys, private names, texts and numbers
+-- names, keys, private names, texts, numbers and BigInts
 abbrev pub is_told : Kind → Bool
 is_told (kind.Ident sym ctxt optional) = true
 is_told (kind.IdentName sym) = true
 is_told (kind.PrivateName name) = true
 is_told (kind.Str value raw) = true
 is_told (kind.Number value raw) = true
+is_told (kind.BigInt value raw) = true
 is_told _ = false
 
 -- one of these that is not spelled as its terminal reads it, or says something else

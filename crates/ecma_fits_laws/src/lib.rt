@@ -47,7 +47,7 @@ pub fn trees_that_are_read_keep_rules()
     modules_that_are_read_are_sorted();
 }
 
-/// Names, keys, private names, texts and numbers of what is read as a module are spelled as their terminals read them, and say what these say.
+/// Names, keys, private names, texts, numbers and BigInts of what is read as a module are spelled as their terminals read them, and say what these say.
 #[tactic(auto, using(crate::proofs::Read::reading))]
 pub fn leaves_that_are_read_are_spelled()
     ensures { ReadLeavesAreSpelled }
