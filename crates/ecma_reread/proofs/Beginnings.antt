@@ -16,8 +16,8 @@ use Rattle.ecma_print.specs.declared.place.Beside.{Beside}
 use Rattle.ecma_print.specs.declared.place.Beside.TheVariants.{NoNeighbor}
 use Rattle.ecma_print.specs.Operators.{unary_sign, update_sign}
 use Rattle.ecma_reread.specs.Shapes as shapes
-use Rattle.ecma_reread.specs.Shapes.{Level, looser_than, IsOperator, IsIdent, ident, IsKey, key, IsExpression, IsElement, IsArguments, AreElements, AreExpressions, IsInitializer, IsDeclarator, AreDeclarators, AreSlots, IsMemberLevel, IsIndexed, IsChainKey, AreProperties, IsPropertyName, IsProperty, regex_text, IsDefaulted, IsPattern, Role, part_text}
-use Rattle.ecma_reread.specs.Tokens.{blank, sign_of, assign_token, update_token, unary_token, binary_token, own_sign, unary_gap, ident_word, key_word, expression_tokens, element_tokens, arguments_tokens, more_tokens, slots_tokens, more_slots_tokens, chain_token, properties_tokens, more_properties_tokens, property_tokens, star_of, initializer_tokens, defaulted_tokens, pattern_tokens, part_token, parts_tokens, ends_here, first_raw}
+use Rattle.ecma_reread.specs.Shapes.{Level, looser_than, IsOperator, IsIdent, ident, IsKey, key, IsExpression, IsElement, IsArguments, AreElements, AreExpressions, IsInitializer, IsDeclarator, AreDeclarators, AreSlots, IsMemberLevel, IsIndexed, IsChainKey, AreProperties, IsPropertyName, IsProperty, regex_text, IsDefaulted, IsPattern, Role, part_text, IsChainLink}
+use Rattle.ecma_reread.specs.Tokens.{blank, sign_of, assign_token, update_token, unary_token, binary_token, own_sign, unary_gap, ident_word, key_word, expression_tokens, element_tokens, arguments_tokens, more_tokens, slots_tokens, more_slots_tokens, chain_token, properties_tokens, more_properties_tokens, property_tokens, star_of, initializer_tokens, defaulted_tokens, pattern_tokens, part_token, parts_tokens, ends_here, first_raw, point_of, question_of}
 use Rattle.ecma_reread.proofs.Braces.{begins_with_brace}
 use Rattle.ecma_reread.proofs.Softs.{Soft, comma, closing_bracket, parted}
 
@@ -68,6 +68,9 @@ begun (shapes.new_target at) us = record { first = items.key (codes "new"); by =
 begun (shapes.import_meta at) us = record { first = items.key (codes "import"); by = NoNeighbor; rest = sign_of (codes ".") (it no_gap (items.key (codes "meta")) us); opens = by_key (codes "import"); is = λ g. refl }
 begun (shapes.import_call at at' es none) us = record { first = items.key (codes "import"); by = NoNeighbor; rest = sign_of (codes "(") (arguments_tokens es (sign_of (codes ")") us)); opens = by_key (codes "import"); is = λ g. refl }
 begun (shapes.tagged_template at a b c i o none ps) us = begun o (it no_gap (part_token true ps) (parts_tokens ps us))
+begun (shapes.chain_member at a {asks = b} i o k) us = begun o (sign_of (point_of b) (it no_gap (chain_token k) us))
+begun (shapes.chain_element at a c {asks = b} i o e) us = begun o (question_of b (sign_of (codes "[") (expression_tokens e no_gap (sign_of (codes "]") us))))
+begun (shapes.chain_call at a {asks = b} i o es none) us = begun o (question_of b (sign_of (codes "(") (arguments_tokens es (sign_of (codes ")") us))))
 begun (shapes.prefix_update at o e) us = record { first = update_token o; by = update_sign o; rest = expression_tokens e no_gap us; opens = by_update o; is = λ g. refl }
 begun (shapes.postfix_update at o e) us = begun e (it no_gap (update_token o) us)
 begun (shapes.await_expression at e) us = record { first = items.key (codes "await"); by = NoNeighbor; rest = expression_tokens e blank us; opens = by_key (codes "await"); is = λ g. refl }
@@ -173,6 +176,9 @@ no_brace (shapes.member at i o k) z g us = no_brace o z g (sign_of (codes ".") (
 no_brace (shapes.call at c es none) z g us = no_brace c z g (sign_of (codes "(") (arguments_tokens es (sign_of (codes ")") us)))
 no_brace (shapes.element at at' i o e) z g us = no_brace o z g (sign_of (codes "[") (expression_tokens e no_gap (sign_of (codes "]") us)))
 no_brace (shapes.tagged_template at a b c i o none ps) z g us = no_brace o z g (it no_gap (part_token true ps) (parts_tokens ps us))
+no_brace (shapes.chain_member at a {asks = b} i o k) z g us = no_brace o z g (sign_of (point_of b) (it no_gap (chain_token k) us))
+no_brace (shapes.chain_element at a c {asks = b} i o e) z g us = no_brace o z g (question_of b (sign_of (codes "[") (expression_tokens e no_gap (sign_of (codes "]") us))))
+no_brace (shapes.chain_call at a {asks = b} i o es none) z g us = no_brace o z g (question_of b (sign_of (codes "(") (arguments_tokens es (sign_of (codes ")") us))))
 no_brace (shapes.prefix_update at o e) z g us = update_brace o g (expression_tokens e no_gap us)
 no_brace (shapes.postfix_update at o e) z g us = no_brace e z g (it no_gap (update_token o) us)
 no_brace (shapes.unary_expression at o e) z g us = unary_brace o g (expression_tokens e (unary_gap o (own_sign e)) us)
@@ -261,6 +267,7 @@ abbrev pub is_linked : Level → Bool
 is_linked shapes.new_callee = true
 is_linked shapes.object = true
 is_linked shapes.callee = true
+is_linked shapes.chain = true
 is_linked shapes.left_hand_side = true
 is_linked l = false
 
@@ -272,12 +279,14 @@ is_operand l = is_linked l
 pub linked_first : (l : Level) → is_linked (looser_than l) ≡ true → is_linked l ≡ true
 linked_first shapes.object h = refl
 linked_first shapes.callee h = refl
+linked_first shapes.chain h = refl
 linked_first shapes.left_hand_side h = refl
 linked_first l h = h
 
 pub operand_first : (l : Level) → is_operand (looser_than l) ≡ true → is_operand l ≡ true
 operand_first shapes.object h = refl
 operand_first shapes.callee h = refl
+operand_first shapes.chain h = refl
 operand_first shapes.update h = refl
 operand_first shapes.unary h = refl
 operand_first l h = h
@@ -295,6 +304,11 @@ pub member_linked : {l : Level} → IsMemberLevel l → is_linked l ≡ true
 member_linked shapes.member_of_new = refl
 member_linked shapes.member_of_object = refl
 
+chain_linked : {l : Level} {b : Bool} → IsChainLink l b → is_linked l ≡ true
+chain_linked shapes.opens_chain = refl
+chain_linked shapes.asks_on = refl
+chain_linked shapes.goes_on = refl
+
 pub index_linked : {h l : Level} → IsIndexed h l → is_linked h ≡ true
 index_linked shapes.index_of_new = refl
 index_linked shapes.index_of_callee = refl
@@ -305,6 +319,9 @@ plain (shapes.looser {level = l} e) us h = plain e us (linked_first l h)
 plain (shapes.member at i o k) us h = plain o (sign_of (codes ".") (it no_gap (chain_token k) us)) h
 plain (shapes.call at c es none) us h = plain c (sign_of (codes "(") (arguments_tokens es (sign_of (codes ")") us))) refl
 plain (shapes.element at at' i o e) us h = plain o (sign_of (codes "[") (expression_tokens e no_gap (sign_of (codes "]") us))) (index_linked i)
+plain (shapes.chain_member at a {asks = b} i o k) us h = plain o (sign_of (point_of b) (it no_gap (chain_token k) us)) (chain_linked i)
+plain (shapes.chain_element at a c {asks = b} i o e) us h = plain o (question_of b (sign_of (codes "[") (expression_tokens e no_gap (sign_of (codes "]") us)))) (chain_linked i)
+plain (shapes.chain_call at a {asks = b} i o es none) us h = plain o (question_of b (sign_of (codes "(") (arguments_tokens es (sign_of (codes ")") us)))) (chain_linked i)
 plain (shapes.tagged_template at a b c i o none ps) us h = plain o (it no_gap (part_token true ps) (parts_tokens ps us)) (index_linked i)
 plain (shapes.prefix_update at o e) us h = absurd (false≢true h)
 plain (shapes.postfix_update at o e) us h = absurd (false≢true h)
@@ -325,6 +342,9 @@ signed (shapes.looser {level = l} e) us h = signed e us (operand_first l h)
 signed (shapes.member at i o k) us h = plain o (sign_of (codes ".") (it no_gap (chain_token k) us)) (member_linked i)
 signed (shapes.call at c es none) us h = plain c (sign_of (codes "(") (arguments_tokens es (sign_of (codes ")") us))) refl
 signed (shapes.element at at' i o e) us h = plain o (sign_of (codes "[") (expression_tokens e no_gap (sign_of (codes "]") us))) (index_linked i)
+signed (shapes.chain_member at a {asks = b} i o k) us h = plain o (sign_of (point_of b) (it no_gap (chain_token k) us)) (chain_linked i)
+signed (shapes.chain_element at a c {asks = b} i o e) us h = plain o (question_of b (sign_of (codes "[") (expression_tokens e no_gap (sign_of (codes "]") us)))) (chain_linked i)
+signed (shapes.chain_call at a {asks = b} i o es none) us h = plain o (question_of b (sign_of (codes "(") (arguments_tokens es (sign_of (codes ")") us)))) (chain_linked i)
 signed (shapes.tagged_template at a b c i o none ps) us h = plain o (it no_gap (part_token true ps) (parts_tokens ps us)) (index_linked i)
 signed (shapes.postfix_update at o e) us h = plain e (it no_gap (update_token o) us) refl
 signed (shapes.binary_expression at {level = l} i x y) us h = absurd (false≢true (sym (no_operand i) ∙ h))

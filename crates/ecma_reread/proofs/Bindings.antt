@@ -29,7 +29,7 @@ use Rattle.ecma_reread.specs.Shapes.{Level, looser_than}
 use Rattle.ecma_reread.proofs.Levels.{means_is}
 use Rattle.ecma_reread.proofs.Fronts.{Front, Begins, refuses_at, refused_at, first_refuses, refuses_first, passes_at, passed_at}
 use Rattle.ecma_reread.proofs.Towers.{Tower, here, later, before, chained, climb, suffix, power_tail, choice_tail, private_in, behind_arrow, closes_conditional, closes, Ends, refuses_choices, stops, closes_in}
-use Rattle.ecma_reread.proofs.Heads.{is_head, kind-node, bare}
+use Rattle.ecma_reread.proofs.Heads.{is_head, kind-node, bare, is_chain}
 use Rattle.ecma_reread.proofs.Forms.{NoArrow, Laid, behind_params, Reads, Refuses, AsParam, Form, NewForm, Whole, chain_read, Lead, lead_of, only_opens, opens_plainly}
 use Rattle.ecma_reread.proofs.Params.{Params, params_by}
 
@@ -38,6 +38,7 @@ abbrev pub grammar_of : Bool → Level → Grammar
 grammar_of no_in shapes.new_callee = chain
 grammar_of no_in shapes.object = chain
 grammar_of no_in shapes.callee = chain
+grammar_of no_in shapes.chain = chain
 grammar_of no_in shapes.left_hand_side = chain
 grammar_of no_in shapes.update = operators.update
 grammar_of no_in shapes.unary = operand
@@ -76,6 +77,7 @@ NotOr shapes.sequence k = Unit {0}
 NotOr shapes.new_callee k = is_head k ≡ true
 NotOr shapes.object k = is_head k ≡ true
 NotOr shapes.callee k = is_head k ≡ true
+NotOr shapes.chain k = is_chain k ≡ true
 NotOr l k = is_or k ≡ false
 
 pub head_is_no_or : (k : Kind) → is_head k ≡ true → is_or k ≡ false
@@ -102,6 +104,10 @@ tight_by e z =
     let a = and_parts (opens_plainly e) _ z in
     let b = and_parts (refuses_choices 3 e module_item) _ a.1 in
     and_parts (refuses_at e private_in) _ b.1
+
+chain_is_no_or : (k : Kind) → is_chain k ≡ true → is_or k ≡ false
+chain_is_no_or (kind.BinExpr o) h = absurd (false≢true h)
+chain_is_no_or k h = refl
 
 -- right sides of `&&`
 pub data AllAnd : List Node → Type 0 where
@@ -240,6 +246,7 @@ module _ (assigned : Bool) where
   Reading no_in shapes.new_callee c f k ns = NewForm assigned f k ns
   Reading no_in shapes.object c f k ns = Form assigned f k ns
   Reading no_in shapes.callee c f k ns = Form assigned f k ns
+  Reading no_in shapes.chain c f k ns = Form assigned f k ns
   Reading no_in shapes.left_hand_side c f k ns = Whole assigned c f (bare k ns)
   Reading no_in shapes.update c f k ns = (refuses_at c prefixed ≡ true) × Direct no_in shapes.update f (bare k ns)
   Reading no_in shapes.unary c f k ns = Operand c f (bare k ns)
@@ -333,6 +340,9 @@ module _ (assigned : Bool) where
     pub from_form : {f : Laid} {k : Kind} {ns : List Node} → is_head k ≡ true → Form assigned f k ns → StandsIn no_in shapes.object f k ns
     from_form h F = let o = F.opens in record { lead = lead_of assigned F; tight = (o.no_private, o.no_yield); no_or = h; no_arrow = F.no_arrow; param = F.as_param; reading = F }
 
+    pub from_chain : {f : Laid} {k : Kind} {ns : List Node} → is_chain k ≡ true → Form assigned f k ns → StandsIn no_in shapes.chain f k ns
+    from_chain h F = let o = F.opens in record { lead = lead_of assigned F; tight = (o.no_private, o.no_yield); no_or = h; no_arrow = F.no_arrow; param = F.as_param; reading = F }
+
     pub from_new : {f : Laid} {k : Kind} {ns : List Node} → is_head k ≡ true → NewForm assigned f k ns → StandsIn no_in shapes.new_callee f k ns
     from_new h N = let F = N.form in let o = F.opens in record { lead = lead_of assigned F; tight = (o.no_private, o.no_yield); no_or = h; no_arrow = F.no_arrow; param = F.as_param; reading = N }
 
@@ -362,6 +372,7 @@ module _ (assigned : Bool) where
       direct shapes.new_callee S g us e b z = let N = S.reading in chain_read assigned N.form g us e b z
       direct shapes.object S g us e b z = chain_read assigned S.reading g us e b z
       direct shapes.callee S g us e b z = chain_read assigned S.reading g us e b z
+      direct shapes.chain S g us e b z = chain_read assigned S.reading g us e b z
       direct shapes.left_hand_side S g us e b z = let w = S.reading in w.all g us e b z
       direct shapes.update S g us e b z = let r = S.reading in r.1 g us e b z
       direct shapes.unary S g us e b z = by_operand S.reading
@@ -417,6 +428,7 @@ module _ (assigned : Bool) where
       loosened shapes.new_callee S = let N = S.reading in from_form S.no_or N.form
       loosened shapes.object S = record { lead = S.lead; tight = S.tight; no_or = S.no_or; no_arrow = S.no_arrow; param = S.param; reading = S.reading }
       loosened shapes.callee S = let F = S.reading in let o = F.opens in record { lead = lead_of assigned F; tight = (o.no_private, o.no_yield); no_or = head_is_no_or k S.no_or; no_arrow = S.no_arrow; param = S.param; reading = record { opens = F.opens; all = chain_read assigned F } }
+      loosened shapes.chain S = let F = S.reading in let o = F.opens in record { lead = lead_of assigned F; tight = (o.no_private, o.no_yield); no_or = chain_is_no_or k S.no_or; no_arrow = S.no_arrow; param = S.param; reading = record { opens = F.opens; all = chain_read assigned F } }
       loosened shapes.left_hand_side S = let w = S.reading in let o = w.opens in record { lead = S.lead; tight = S.tight; no_or = S.no_or; no_arrow = S.no_arrow; param = S.param; reading = (o.no_prefix, update_read S.lead w) }
       loosened shapes.update S = let r = S.reading in record { lead = S.lead; tight = S.tight; no_or = S.no_or; no_arrow = S.no_arrow; param = S.param; reading = without_operator r.0 r.1 }
       loosened shapes.unary S = record { lead = S.lead; tight = S.tight; no_or = S.no_or; no_arrow = S.no_arrow; param = S.param; reading = power_read S.lead S.reading }

@@ -7,7 +7,7 @@ use Rattle.ecma_tree.specs.declared.node.Node.{Node, fold-roll-Node}
 use Rattle.ecma_tree.specs.Nodes.{node_of}
 use Rattle.ecma_reread.specs.Braces.{starts_by, starts_step, starts_with_brace}
 use Rattle.ecma_reread.specs.Shapes as shapes
-use Rattle.ecma_reread.specs.Shapes.{Level, IsExpression, assignment_expression, binary_expression, both, call, coalesced, conditional_expression, either, element, exponentiation, looser, member, object_literal, postfix_update, sequence_expression, tagged_template}
+use Rattle.ecma_reread.specs.Shapes.{Level, IsExpression, assignment_expression, binary_expression, both, call, coalesced, conditional_expression, either, element, exponentiation, looser, member, object_literal, postfix_update, sequence_expression, tagged_template, chain_member, chain_element, chain_call}
 
 -- of a shape: by its outermost left part
 abbrev pub begins_with_brace : {level : Level} {e : Node} → IsExpression level e → Bool
@@ -15,6 +15,9 @@ begins_with_brace (looser e) = begins_with_brace e
 begins_with_brace (member at i o k) = begins_with_brace o
 begins_with_brace (call at c es none) = begins_with_brace c
 begins_with_brace (element at at' i o e) = begins_with_brace o
+begins_with_brace (chain_member at a i o k) = begins_with_brace o
+begins_with_brace (chain_element at a b i o e) = begins_with_brace o
+begins_with_brace (chain_call at a i o es none) = begins_with_brace o
 begins_with_brace (tagged_template at a b c i o none ps) = begins_with_brace o
 begins_with_brace (postfix_update at o e) = begins_with_brace e
 begins_with_brace (binary_expression at i l r) = begins_with_brace l
@@ -36,6 +39,9 @@ braces_agree (shapes.looser e) = braces_agree e
 braces_agree (shapes.member at i o k) = starts_node at _ _ ∙ braces_agree o
 braces_agree (shapes.call at c es none) = starts_node at _ _ ∙ braces_agree c
 braces_agree (shapes.element at at' i o e) = starts_node at _ _ ∙ braces_agree o
+braces_agree (shapes.chain_member at a i o k) = starts_node at _ _ ∙ (starts_node a _ _ ∙ braces_agree o)
+braces_agree (shapes.chain_element at a b i o e) = starts_node at _ _ ∙ (starts_node a _ _ ∙ braces_agree o)
+braces_agree (shapes.chain_call at a i o es none) = starts_node at _ _ ∙ (starts_node a _ _ ∙ braces_agree o)
 braces_agree (shapes.tagged_template at a b c i o none ps) = starts_node at _ _ ∙ braces_agree o
 braces_agree (shapes.postfix_update at o e) = starts_node at _ _ ∙ braces_agree e
 braces_agree (shapes.binary_expression at i l r) = starts_node at _ _ ∙ braces_agree l

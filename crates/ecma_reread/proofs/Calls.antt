@@ -27,13 +27,13 @@ use Rattle.ecma_tokens.specs.Items as items
 use Rattle.ecma_tokens.specs.Items.{Tok, sign, Gap, no_gap, Items, it}
 use Rattle.ecma_reread.specs.Machine.{with_front, means, taken}
 use Rattle.ecma_reread.specs.Shapes as shapes
-use Rattle.ecma_reread.specs.Shapes.{Level, IsPlainName, IsIdent, ident, IsKey, key, IsExpression, IsElement, AreSlots, IsProperty, AreProperties, IsArguments, AreElements, AreExpressions, IsMemberLevel, IsIndexed, regex_text, Role, IsPattern, IsDefaulted, IsInitializer, AreParts}
-use Rattle.ecma_reread.specs.Tokens.{bare, blank, ident_word, key_word, own_sign, unary_gap, expression_tokens, element_tokens, arguments_tokens, elements_tokens, expression_kind, expression_parts, bare_element, bare_arguments, bare_elements, pattern_tokens, bare_pattern, defaulted_tokens, bare_defaulted, part_token, parts_tokens, bare_substitutions, bare_parts}
+use Rattle.ecma_reread.specs.Shapes.{Level, IsPlainName, IsIdent, ident, IsKey, key, IsExpression, IsElement, AreSlots, IsProperty, AreProperties, IsArguments, AreElements, AreExpressions, IsMemberLevel, IsIndexed, regex_text, Role, IsPattern, IsDefaulted, IsInitializer, AreParts, IsChainLink}
+use Rattle.ecma_reread.specs.Tokens.{bare, blank, ident_word, key_word, own_sign, unary_gap, expression_tokens, element_tokens, arguments_tokens, elements_tokens, expression_kind, expression_parts, bare_element, bare_arguments, bare_elements, pattern_tokens, bare_pattern, defaulted_tokens, bare_defaulted, part_token, parts_tokens, bare_substitutions, bare_parts, point_of, question_of}
 use Rattle.ecma_reread.proofs.Levels.{means_is}
 use Rattle.ecma_reread.proofs.Fronts.{Front, exactly, Begins, at_token, IsName, is_known, refuses_at, refused_at, refuses_all, all_refused}
-use Rattle.ecma_reread.proofs.Heads.{call_made, is_head}
+use Rattle.ecma_reread.proofs.Heads.{call_made, is_head, chain_call_made}
 use Rattle.ecma_reread.proofs.Forms.{Laid, s, behind_params, Reads, Refuses, linked_param, Form, NewForm, link_behind}
-use Rattle.ecma_reread.proofs.Bindings.{Stands, from_form, loosened, standing, from_new}
+use Rattle.ecma_reread.proofs.Bindings.{Stands, from_form, loosened, standing, from_new, from_chain}
 use Rattle.ecma_reread.proofs.Operations.{await_form, power_form, unary_form, binary_form}
 use Rattle.ecma_reread.proofs.Members.{IsLinkKey, link_key, member_form, new_member_form}
 use Rattle.ecma_reread.proofs.Supers.{super_member_form, super_element_form, super_call_form}
@@ -61,6 +61,7 @@ use Rattle.ecma_reread.proofs.Templates.{PartForms, template_form, tagged_form, 
 use Rattle.ecma_reread.proofs.Patterns.{pattern_unplaced, name_pattern_read, no_default_read, default_read}
 use Rattle.ecma_reread.proofs.Arrows.{ElementForms, ArgumentForms, more_followed, arrow_form}
 use Rattle.ecma_reread.proofs.Braces.{braces_agree}
+use Rattle.ecma_reread.proofs.OptionalChains.{asked_member_form, asked_element_form, asked_call_form, going_member_form, going_element_form}
 
 -- no argument begins with `)`
 no_argument : refuses_all (exactly (sign (codes ")"))) element ≡ true
@@ -160,6 +161,28 @@ module _ (assigned : Bool) where
   new_callee_form : {f : Laid} {k : Kind} {ns : List Node} → Stands assigned shapes.new_callee f k ns → NewForm assigned f k ns
   new_callee_form S = S.reading
 
+  -- links of optional chains
+
+  chain_member_stands : {h : Level} {b : Bool} → IsChainLink h b → {f : Laid} {k : Kind} {ns : List Node} → Stands assigned h f k ns → {t : Tok} {q : Kind} → IsLinkKey t q
+      → Stands assigned shapes.chain (λ g us. f g (s (point_of b) (it no_gap t us))) (kind.OptChainExpr b) (bare kind.MemberExpr (bare k ns ∷ bare q [] ∷ []) ∷ [])
+  chain_member_stands shapes.opens_chain S K = from_chain assigned refl (asked_member_form assigned S.reading K)
+  chain_member_stands shapes.asks_on S K = from_chain assigned refl (asked_member_form assigned S.reading K)
+  chain_member_stands shapes.goes_on S K = from_chain assigned refl (going_member_form assigned S.reading S.no_or K)
+
+  chain_element_stands : {h : Level} {b : Bool} → IsChainLink h b → {f f' : Laid} {k k' : Kind} {ns ns' : List Node} → Stands assigned h f k ns → Stands assigned shapes.sequence f' k' ns'
+      → Stands assigned shapes.chain (λ g us. f g (question_of b (s (codes "[") (f' no_gap (s (codes "]") us))))) (kind.OptChainExpr b) (bare kind.MemberExpr (bare k ns ∷ bare kind.ComputedPropName (bare k' ns' ∷ []) ∷ []) ∷ [])
+  chain_element_stands shapes.opens_chain S E = from_chain assigned refl (asked_element_form assigned S.reading E)
+  chain_element_stands shapes.asks_on S E = from_chain assigned refl (asked_element_form assigned S.reading E)
+  chain_element_stands shapes.goes_on S E = from_chain assigned refl (going_element_form assigned S.reading S.no_or E)
+
+  chain_call_stands : {h : Level} {b : Bool} → IsChainLink h b → {f : Laid} {k : Kind} {ns : List Node} → Stands assigned h f k ns → {n : Node} (is : IsArguments shapes.values n) → ArgumentForms assigned is
+      → Stands assigned shapes.chain (λ g us. f g (question_of b (s (codes "(") (arguments_tokens is (s (codes ")") us))))) (kind.OptChainExpr b) (bare kind.OptCall (bare k ns ∷ list_node (bare_arguments is) ∷ absent ∷ []) ∷ [])
+  chain_call_stands shapes.opens_chain S is A = from_chain assigned refl (asked_call_form assigned S.reading (λ us. arguments_tokens is (s (codes ")") us)) (list_node (bare_arguments is)) (arguments_read is A))
+  chain_call_stands shapes.asks_on S is A = from_chain assigned refl (asked_call_form assigned S.reading (λ us. arguments_tokens is (s (codes ")") us)) (list_node (bare_arguments is)) (arguments_read is A))
+  chain_call_stands shapes.goes_on {k = k} {ns = ns} S is A =
+      from_chain assigned refl
+      (link_behind assigned S.reading (sign (codes "(")) refl refl (λ us. arguments_tokens is (s (codes ")") us)) (call_no_rest is A) (bare kind.CallExpr (absent ∷ list_node (bare_arguments is) ∷ absent ∷ [])) (chain_call_made k S.no_or ns (list_node (bare_arguments is))) (call_read is A))
+
   call_stands : {f : Laid} {k : Kind} {ns : List Node} → Stands assigned shapes.callee f k ns → {n : Node} (is : IsArguments shapes.values n) → ArgumentForms assigned is
       → Stands assigned shapes.object (λ g us. f g (s (codes "(") (arguments_tokens is (s (codes ")") us)))) kind.CallExpr (bare k ns ∷ list_node (bare_arguments is) ∷ absent ∷ [])
   call_stands S is A = from_form assigned refl (call_form S.no_or S.reading is A)
@@ -196,6 +219,9 @@ module _ (assigned : Bool) where
     expression_form (shapes.import_meta at) = from_new assigned refl (meta_form assigned)
     expression_form (shapes.import_call at at' es none) = from_form assigned refl (import_call_form assigned (λ us. arguments_tokens es (s (codes ")") us)) (list_node (bare_arguments es)) (arguments_read es (argument_forms es)))
     expression_form (shapes.tagged_template at a b c i o none ps) = tagged_stands i (expression_form o) ps (part_forms ps)
+    expression_form (shapes.chain_member at a i o k) = chain_member_stands i (expression_form o) (link_key k)
+    expression_form (shapes.chain_element at a c i o e) = chain_element_stands i (expression_form o) (standing assigned (expression_form e))
+    expression_form (shapes.chain_call at a i o es none) = chain_call_stands i (expression_form o) es (argument_forms es)
     expression_form (shapes.prefix_update at o e) = prefix_form assigned o (expression_form e)
     expression_form (shapes.postfix_update at o e) = postfix_form assigned o (expression_form e)
     expression_form (shapes.await_expression at e) = await_form assigned (expression_form e)

@@ -70,6 +70,35 @@ member_made k h ns key = simp nodes (member_by k h (bare k ns) (bare kind.Member
 pub call_made : (k : Kind) → is_head k ≡ true → (ns : List Node) (args : Node) → in_front_link (bare k ns) (bare kind.CallExpr (absent ∷ args ∷ absent ∷ [])) ≡ bare kind.CallExpr (bare k ns ∷ args ∷ absent ∷ [])
 call_made k h ns args = simp nodes (rw (callee_by_itself k h (bare k ns), stays k h ns) refl)
 
+-- an optional chain: links behind it belong to it
+abbrev pub is_chain : Kind → Bool
+is_chain (kind.OptChainExpr optional) = true
+is_chain k = false
+
+goes_by : (k : Kind) → is_chain k ≡ true → (bs : List Bool) → goes_on_by k bs ≡ true
+goes_by (kind.OptChainExpr optional) h bs = refl
+goes_by k h bs = absurd (false≢true h)
+
+goes : (k : Kind) → is_chain k ≡ true → (ns : List Node) → goes_on (bare k ns) ≡ true
+goes k h ns = goes_on_node dummy_span k ns ∙ goes_by k h (map goes_on ns)
+
+chain_member_by : (k : Kind) → is_chain k ≡ true → (x n : Node) → member_of x n k ≡ (if goes_on x then linked (in_front x n) else in_front x n)
+chain_member_by kind.Super h x n = absurd (false≢true h)
+chain_member_by k h x n = refl
+
+chain_by_itself : (k : Kind) → is_chain k ≡ true → (x : Node) → callee_by x k ≡ (x, absent)
+chain_by_itself kind.TsInstantiation h x = absurd (false≢true h)
+chain_by_itself k h x = refl
+
+pub chain_member_made : (k : Kind) → is_chain k ≡ true → (ns : List Node) (key : Node) → in_front_link (bare k ns) (bare kind.MemberExpr (absent ∷ key ∷ [])) ≡ bare (kind.OptChainExpr false) (bare kind.MemberExpr (bare k ns ∷ key ∷ []) ∷ [])
+chain_member_made k h ns key = simp nodes (chain_member_by k h (bare k ns) (bare kind.MemberExpr (absent ∷ key ∷ [])) ∙ rw (goes k h ns) (simp nodes))
+
+pub chain_call_made : (k : Kind) → is_chain k ≡ true → (ns : List Node) (args : Node) → in_front_link (bare k ns) (bare kind.CallExpr (absent ∷ args ∷ absent ∷ [])) ≡ bare (kind.OptChainExpr false) (bare kind.OptCall (bare k ns ∷ args ∷ absent ∷ []) ∷ [])
+chain_call_made k h ns args = simp nodes (rw (chain_by_itself k h (bare k ns), goes k h ns) refl)
+
+pub optional_made : (k : Kind) (ns : List Node) (b : Kind) (xs : List Node) → in_front_link (bare k ns) (bare (kind.OptChainExpr true) (bare b (absent ∷ xs) ∷ [])) ≡ bare (kind.OptChainExpr true) (bare b (bare k ns ∷ xs) ∷ [])
+optional_made k ns b xs = simp nodes
+
 -- a template behind a tag
 pub tagged_made : (k : Kind) → is_head k ≡ true → (ns : List Node) (template : Node) → in_front_link (bare k ns) (bare kind.TaggedTpl (absent ∷ absent ∷ template ∷ [])) ≡ bare kind.TaggedTpl (bare k ns ∷ absent ∷ template ∷ [])
 tagged_made k h ns template = simp nodes (rw (callee_by_itself k h (bare k ns)) refl)

@@ -21,8 +21,8 @@ use Rattle.ecma_tokens.proofs.Wholes.{some_text}
 use Rattle.ecma_reread.specs.Machine.{count}
 use Rattle.ecma_reread.specs.Shapes as shapes
 use Rattle.ecma_reread.specs.Shapes.{Level, looser_than, IsOperator, IsIdent, ident, IsKey, key, IsExpression, IsElement, IsArguments, AreElements, AreExpressions, IsInitializer, IsDeclarator, AreDeclarators, AreSlots, IsMemberLevel, IsIndexed, IsChainKey, AreProperties, IsPropertyName, IsProperty, regex_text, IsPattern, Role, IsDefaulted, part_text, IsPart, AreParts}
-use Rattle.ecma_reread.specs.Tokens.{blank, sign_of, assign_token, update_token, unary_token, binary_token, own_sign, unary_gap, ident_word, key_word, expression_tokens, element_tokens, arguments_tokens, elements_tokens, more_tokens, declarator_tokens, declarators_tokens, slots_tokens, more_slots_tokens, chain_token, properties_tokens, more_properties_tokens, property_name_tokens, property_tokens, initializer_tokens, pattern_tokens, defaulted_tokens, part_raw, part_token, parts_tokens}
-use Rattle.ecma_reread.proofs.Softs.{Soft, key_soft, private_soft, string_soft, big_int_soft, number_soft, closing_soft, brace_soft, bracket_soft, update_soft, is_object, point_behind, softer, opening, closing, comma, semicolon, increment, decrement, opening_bracket, closing_bracket, parted, regex_soft, part, part_joins}
+use Rattle.ecma_reread.specs.Tokens.{blank, sign_of, assign_token, update_token, unary_token, binary_token, own_sign, unary_gap, ident_word, key_word, expression_tokens, element_tokens, arguments_tokens, elements_tokens, more_tokens, declarator_tokens, declarators_tokens, slots_tokens, more_slots_tokens, chain_token, properties_tokens, more_properties_tokens, property_name_tokens, property_tokens, initializer_tokens, pattern_tokens, defaulted_tokens, part_raw, part_token, parts_tokens, point_of, question_of}
+use Rattle.ecma_reread.proofs.Softs.{Soft, key_soft, private_soft, string_soft, big_int_soft, number_soft, closing_soft, brace_soft, bracket_soft, update_soft, is_object, point_behind, softer, opening, closing, comma, semicolon, increment, decrement, opening_bracket, closing_bracket, parted, regex_soft, part, part_joins, chain_point, chain_bracket, chain_opening}
 use Rattle.ecma_reread.proofs.Beginnings.{dots_join, opening_joins, element_opening_joins, update_joins, bracket_joins, blank_joins, element_blank_joins, property_parted, properties_open, properties_soft, slots_open, slots_parted, slots_soft, unary_joins, initializer_soft, pattern_blank_joins, pattern_dots_joins, defaulted_blank_joins}
 
 -- each token has a text
@@ -69,6 +69,28 @@ chain_soft (shapes.private_key at name t) z = private_soft (codes "#" ++ name) z
 
 part_fine : {t f l : Bool} {n : Node} (p : IsPart t f l n) → Fine (items.template f l (part_text f l (part_raw p)))
 part_fine (shapes.part at raw w r v) = w
+
+-- the marks of optional chains
+
+point_fine : (b : Bool) → Fine (sign (point_of b))
+unfolding punctuators
+point_fine true = refl
+point_fine false = refl
+
+mark_joins : (b : Bool) {n : Node} (k : IsChainKey n) (us : Items) → joins_next (sign (point_of b)) (it no_gap (chain_token k) us) ≡ true
+mark_joins true (shapes.plain_key k) us = refl
+mark_joins true (shapes.private_key at name t) us = refl
+mark_joins false k us = point_joins k us
+
+question_bracket : (b : Bool) (us : Items) → Joined (sign_of (codes "[") us) → Joined (question_of b (sign_of (codes "[") us))
+unfolding punctuators
+question_bracket true us j = (no_gap_is, refl, refl, j)
+question_bracket false us j = j
+
+question_opening : (b : Bool) (us : Items) → Joined (sign_of (codes "(") us) → Joined (question_of b (sign_of (codes "(") us))
+unfolding punctuators
+question_opening true us j = (no_gap_is, refl, refl, j)
+question_opening false us j = j
 
 -- the words of the layout are words
 pub record Words : Type 0 where
@@ -210,6 +232,14 @@ module _ (words : Words) where
     expression_joined (shapes.import_meta at) g h us z j = (h, words.import_whole, refl, (no_gap_is, refl, refl, (no_gap_is, words.meta_whole, key_soft (codes "meta") z, j)))
     expression_joined (shapes.import_call at at' es none) g h us z j = (h, words.import_whole, refl, arguments_joined es us (no_gap_is, refl, closing_soft z, j))
     expression_joined (shapes.tagged_template at a b c i o none ps) g h us z j = expression_joined o g h (it no_gap (part_token true ps) (parts_tokens ps us)) part (parts_joined ps no_gap no_gap_is us j)
+    expression_joined (shapes.chain_member at a {asks = b} i o k) g h us z j =
+        expression_joined o g h (sign_of (point_of b) (it no_gap (chain_token k) us)) (chain_point i) (no_gap_is, point_fine b, mark_joins b k us, (no_gap_is, chain_fine k, chain_soft k z, j))
+    expression_joined (shapes.chain_element at a c {asks = b} i o e) g h us z j =
+        let behind = expression_tokens e no_gap (sign_of (codes "]") us) in
+        expression_joined o g h (question_of b (sign_of (codes "[") behind)) (chain_bracket i behind)
+        (question_bracket b behind (no_gap_is, refl, bracket_joins e (sign_of (codes "]") us), expression_joined e no_gap no_gap_is (sign_of (codes "]") us) closing_bracket (no_gap_is, refl, bracket_soft z, j)))
+    expression_joined (shapes.chain_call at a {asks = b} i o es none) g h us z j =
+        expression_joined o g h (question_of b (sign_of (codes "(") (arguments_tokens es (sign_of (codes ")") us)))) (chain_opening i (arguments_tokens es (sign_of (codes ")") us))) (question_opening b (arguments_tokens es (sign_of (codes ")") us)) (arguments_joined es us (no_gap_is, refl, closing_soft z, j)))
     expression_joined (shapes.prefix_update at o e) g h us z j = (h, update_fine o, update_joins o e us, expression_joined e no_gap no_gap_is us z j)
     expression_joined (shapes.postfix_update at o e) g h us z j = expression_joined e g h (it no_gap (update_token o) us) (update_behind o) (no_gap_is, update_fine o, update_soft o z, j)
     expression_joined (shapes.await_expression at e) g h us z j = (h, words.await_whole, blank_joins (items.key (codes "await")) e us, expression_joined e blank blank_is us z j)

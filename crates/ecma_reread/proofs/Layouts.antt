@@ -15,25 +15,25 @@ use Rattle.ecma_kind.specs.declared.kind.Kind.TheVariants as kind
 use Rattle.ecma_tree.specs.declared.node.Node.{Node, fold-roll-Node}
 use Rattle.ecma_tree.specs.Nodes.{node_of}
 use Rattle.ecma_print.specs.declared.place.Beside.{Beside}
-use Rattle.ecma_print.specs.declared.place.Beside.TheVariants.{UnderLogical, UnderNullish, NoNeighbor, BeforeDot, BeforeLink, BehindMinus, BehindPlus}
+use Rattle.ecma_print.specs.declared.place.Beside.TheVariants.{UnderLogical, UnderNullish, NoNeighbor, BeforeDot, BeforeLink, BehindMinus, BehindPlus, InChain}
 use Rattle.ecma_print.specs.declared.place.Between.{Between}
 use Rattle.ecma_print.specs.declared.place.Between.TheVariants.{Blank, Equals}
 use Rattle.ecma_print.specs.declared.place.Spot.{Spot}
 use Rattle.ecma_print.specs.declared.place.Place.{Place}
-use Rattle.ecma_print.specs.declared.place.Place.TheVariants.{At, Within, Arguments, Braces, Brackets}
+use Rattle.ecma_print.specs.declared.place.Place.TheVariants.{At, Within, Arguments, Braces, Brackets, Key}
 use Rattle.ecma_print.specs.Places.{before, after, free, left, right, gap, opens_a_block, is_headed, beginning}
-use Rattle.ecma_print.specs.Laid.{Laid, is_absent, is_object_pattern}
+use Rattle.ecma_print.specs.Laid.{Laid, is_absent, is_object_pattern, is_computed}
 use Rattle.ecma_print.specs.Operators.{assign_word, unary_word, unary_sign, update_word, update_sign, binary_word}
-use Rattle.ecma_print.specs.Expressions.{more_of_sequence, callee_spot, template_parts}
+use Rattle.ecma_print.specs.Expressions.{more_of_sequence, callee_spot, template_parts, link_of, question_dot, object_beside, is_optional}
 use Rattle.ecma_print.specs.Lists.{more_commas, ends_in_hole, hole_comma, brackets, braces}
-use Rattle.ecma_print.specs.Layout.{in_place, by_itself, lay_step, laid}
+use Rattle.ecma_print.specs.Layout.{in_place, by_itself, lay_step, laid, key_mark}
 use Rattle.ecma_tokens.specs.Items as items
 use Rattle.ecma_tokens.specs.Items.{Tok, sign, Gap, no_gap, Items, it, token_text, render}
 use Rattle.ecma_reread.specs.Shapes as shapes
-use Rattle.ecma_reread.specs.Shapes.{Level, looser_than, IsOperator, IsIdent, ident, IsKey, key, IsAbsent, IsExpression, IsElement, IsArguments, AreElements, AreExpressions, IsInitializer, IsDeclarator, AreDeclarators, AreSlots, IsMemberLevel, IsIndexed, IsProperty, IsPropertyName, AreProperties, Role, IsDefaulted, IsPattern, part_opening, part_closing, part_text, AreParts}
-use Rattle.ecma_reread.specs.Tokens.{blank, sign_of, assign_token, update_token, unary_token, binary_token, own_sign, unary_gap, expression_tokens, element_tokens, arguments_tokens, elements_tokens, more_tokens, initializer_tokens, declarator_tokens, declarators_tokens, slots_tokens, more_slots_tokens, chain_token, property_tokens, property_name_tokens, properties_tokens, more_properties_tokens, ident_word, defaulted_tokens, pattern_tokens, part_token, parts_tokens}
+use Rattle.ecma_reread.specs.Shapes.{Level, looser_than, IsOperator, IsIdent, ident, IsKey, key, IsAbsent, IsExpression, IsElement, IsArguments, AreElements, AreExpressions, IsInitializer, IsDeclarator, AreDeclarators, AreSlots, IsMemberLevel, IsIndexed, IsProperty, IsPropertyName, AreProperties, Role, IsDefaulted, IsPattern, part_opening, part_closing, part_text, AreParts, IsChainKey}
+use Rattle.ecma_reread.specs.Tokens.{blank, sign_of, assign_token, update_token, unary_token, binary_token, own_sign, unary_gap, expression_tokens, element_tokens, arguments_tokens, elements_tokens, more_tokens, initializer_tokens, declarator_tokens, declarators_tokens, slots_tokens, more_slots_tokens, chain_token, property_tokens, property_name_tokens, properties_tokens, more_properties_tokens, ident_word, defaulted_tokens, pattern_tokens, part_token, parts_tokens, point_of, question_of}
 use Rattle.ecma_reread.proofs.Braces.{begins_with_brace, braces_agree}
-use Rattle.ecma_reread.proofs.Spots.{before_dot, number_of, Calm, tightly, calmer, same_low, quiet, under_logical, under_nullish, before_link, index_calm, member_low, index_low, calm_0, calm_1, further, update_calm, unary_calm, operator_calls, printed, head_calm, callee_calm}
+use Rattle.ecma_reread.proofs.Spots.{before_dot, number_of, Calm, tightly, calmer, same_low, quiet, under_logical, under_nullish, before_link, index_calm, member_low, index_low, calm_0, calm_1, further, update_calm, unary_calm, operator_calls, printed, head_calm, callee_calm, chain_calm}
 use Rattle.ecma_lex.specs.Templates.{template_value}
 use Rattle.ecma_print.specs.declared.place.Begins.TheVariants.{ArrowBodyStart}
 
@@ -69,12 +69,14 @@ abbrev is_linked : Level → Bool
 is_linked shapes.new_callee = true
 is_linked shapes.object = true
 is_linked shapes.callee = true
+is_linked shapes.chain = true
 is_linked shapes.left_hand_side = true
 is_linked l = false
 
 linked_first : (l : Level) → is_linked (looser_than l) ≡ true → is_linked l ≡ true
 linked_first shapes.object h = refl
 linked_first shapes.callee h = refl
+linked_first shapes.chain h = refl
 linked_first shapes.left_hand_side h = refl
 linked_first l h = h
 
@@ -180,6 +182,9 @@ gap_out (shapes.new_target at) g us = refl
 gap_out (shapes.import_meta at) g us = refl
 gap_out (shapes.import_call at at' es none) g us = refl
 gap_out (shapes.tagged_template at a b c i o none ps) g us = gap_out o g (it no_gap (part_token true ps) (parts_tokens ps us))
+gap_out (shapes.chain_member at a {asks = b} i o k) g us = gap_out o g (sign_of (point_of b) (it no_gap (chain_token k) us))
+gap_out (shapes.chain_element at a c {asks = b} i o e) g us = gap_out o g (question_of b (sign_of (codes "[") (expression_tokens e no_gap (sign_of (codes "]") us))))
+gap_out (shapes.chain_call at a {asks = b} i o es none) g us = gap_out o g (question_of b (sign_of (codes "(") (arguments_tokens es (sign_of (codes ")") us))))
 gap_out (shapes.prefix_update at o e) g us = refl
 gap_out (shapes.postfix_update at o e) g us = gap_out e g (it no_gap (update_token o) us)
 gap_out (shapes.await_expression at e) g us = refl
@@ -265,6 +270,37 @@ and_true true h = absurd (false≢true (sym h))
 part_split : (f l : Bool) (raw x : List ℕ) → part_opening f ++ (raw ++ (part_closing l ++ x)) ≡ part_text f l raw ++ x
 part_split f l raw x = ap (λ z. part_opening f ++ z) (sym (append_assoc raw (part_closing l) x)) ∙ sym (append_assoc (part_opening f) (raw ++ part_closing l) x)
 
+-- the marks of optional chains
+
+link_beside : (b computed : Bool) → object_beside (link_of b) computed ≡ InChain
+link_beside true computed = refl
+link_beside false computed = refl
+
+link_asks : (b : Bool) → is_optional (link_of b) ≡ b
+link_asks true = refl
+link_asks false = refl
+
+question_text : (b : Bool) (us : Items) → key_mark b true ++ render us ≡ render (question_of b us)
+unfolding render
+question_text true us = refl
+question_text false us = refl
+
+dot_text : (b : Bool) (us : Items) → question_dot b ++ render us ≡ render (question_of b us)
+unfolding render
+dot_text true us = refl
+dot_text false us = refl
+
+key_named : {n : Node} → IsChainKey n → is_computed (laid n).kind ≡ false
+key_named (shapes.plain_key (key at w t)) = ap (λ x. is_computed x.kind) (laid_node at (kind.IdentName w) [])
+key_named (shapes.private_key at w t) = ap (λ x. is_computed x.kind) (laid_node at (kind.PrivateName w) [])
+
+key_laid : {n : Node} (k : IsChainKey n) (b : Bool) (m : List ℕ) (us : Items) → (laid n).at (Key b) m (render us) ≡ render (sign_of (point_of b) (it no_gap (chain_token k) us))
+unfolding render
+key_laid (shapes.plain_key (key at w t)) true m us = at_node at (kind.IdentName w) [] (Key true) m (render us)
+key_laid (shapes.plain_key (key at w t)) false m us = at_node at (kind.IdentName w) [] (Key false) m (render us)
+key_laid (shapes.private_key at w t) true m us = at_node at (kind.PrivateName w) [] (Key true) m (render us)
+key_laid (shapes.private_key at w t) false m us = at_node at (kind.PrivateName w) [] (Key false) m (render us)
+
 mutual
   unfolding render
 
@@ -292,7 +328,7 @@ mutual
       at_node at kind.CallExpr (c' ∷ a' ∷ n' ∷ []) (At spot) m (render us)
       ∙ rw (c.low, c.no_new refl, no_sign spot.beside)
       (ap (λ z. (laid c').at (At (record { level = 16; begins = spot.begins; without_in = spot.without_in; in_callee_of_new = false; beside = BeforeLink })) m z) (arguments_laid es m us)
-      ∙ expression_laid e (record { level = 16; begins = spot.begins; without_in = spot.without_in; in_callee_of_new = false; beside = BeforeLink }) (before_link refl c.with_in (λ z. refl) refl refl) q m (sign_of (codes "(") (arguments_tokens es (sign_of (codes ")") us))))
+      ∙ expression_laid e (record { level = 16; begins = spot.begins; without_in = spot.without_in; in_callee_of_new = false; beside = BeforeLink }) (before_link refl c.with_in (λ z. refl) refl refl refl) q m (sign_of (codes "(") (arguments_tokens es (sign_of (codes ")") us))))
   expression_laid (shapes.parenthesized at {level = l} {e = e'} e) spot c q m us =
       at_node at kind.ParenExpr (e' ∷ []) (At spot) m (render us)
       ∙ rw (c.low, no_sign spot.beside) (ap (λ z. codes "(" ++ z) (expression_laid e (free 0) (calm_0 l) refl m (sign_of (codes ")") us)))
@@ -329,6 +365,28 @@ mutual
       at_node at kind.TaggedTpl (t' ∷ n' ∷ node_of a kind.Tpl (node_of b kind.List es ∷ node_of c' kind.List qs ∷ []) ∷ []) (At spot) m (render us)
       ∙ rw (index_low i spot.level c.low, no_sign spot.beside)
       (ap (λ z. (laid t').at (At (left spot 16 BeforeLink)) m z) inside ∙ expression_laid o (left spot 16 BeforeLink) (index_calm i spot c.with_in c.no_new) q m (it no_gap (part_token true ps) (parts_tokens ps us)))
+  expression_laid (shapes.chain_member at a {asks = b} {holder = o'} {property = k'} i o k) spot c q m us =
+      at_node at (kind.OptChainExpr b) (node_of a kind.MemberExpr (o' ∷ k' ∷ []) ∷ []) (At spot) m (render us)
+      ∙ rw (c.low, c.no_end refl, no_sign spot.beside)
+      (at_node a kind.MemberExpr (o' ∷ k' ∷ []) (At (left spot 0 (link_of b))) m (render us)
+      ∙ rw (key_named k, link_beside b false, link_asks b)
+      (ap (λ z. (laid o').at (At (left spot 16 InChain)) m z) (key_laid k b m us) ∙ expression_laid o (left spot 16 InChain) (chain_calm i spot c.with_in (c.no_new refl)) q m (sign_of (point_of b) (it no_gap (chain_token k) us))))
+  expression_laid (shapes.chain_element at a at' {level = l} {asks = b} {holder = o'} {e = e'} i o e) spot c q m us =
+      let behind = sign_of (codes "[") (expression_tokens e no_gap (sign_of (codes "]") us)) in
+      at_node at (kind.OptChainExpr b) (node_of a kind.MemberExpr (o' ∷ node_of at' kind.ComputedPropName (e' ∷ []) ∷ []) ∷ []) (At spot) m (render us)
+      ∙ rw (c.low, c.no_end refl, no_sign spot.beside)
+      (at_node a kind.MemberExpr (o' ∷ node_of at' kind.ComputedPropName (e' ∷ []) ∷ []) (At (left spot 0 (link_of b))) m (render us)
+      ∙ rw (laid_node at' kind.ComputedPropName (e' ∷ []), link_beside b true, link_asks b)
+      (ap (λ z. (laid o').at (At (left spot 16 InChain)) m z) (ap (λ z. key_mark b true ++ (codes "[" ++ z)) (expression_laid e (free 0) (calm_0 l) refl m (sign_of (codes "]") us)) ∙ question_text b behind)
+      ∙ expression_laid o (left spot 16 InChain) (chain_calm i spot c.with_in (c.no_new refl)) q m (question_of b behind)))
+  expression_laid (shapes.chain_call at a {asks = b} {function = o'} {args = a'} {none = n'} i o es none) spot c q m us =
+      let behind = sign_of (codes "(") (arguments_tokens es (sign_of (codes ")") us)) in
+      at_node at (kind.OptChainExpr b) (node_of a kind.OptCall (o' ∷ a' ∷ n' ∷ []) ∷ []) (At spot) m (render us)
+      ∙ rw (c.low, c.no_end refl, no_sign spot.beside)
+      (at_node a kind.OptCall (o' ∷ a' ∷ n' ∷ []) (At (left spot 0 (link_of b))) m (render us)
+      ∙ rw (link_asks b)
+      (ap (λ z. (laid o').at (At (left spot 16 InChain)) m z) (ap (λ z. question_dot b ++ z) (arguments_laid es m us) ∙ dot_text b behind)
+      ∙ expression_laid o (left spot 16 InChain) (chain_calm i spot c.with_in (c.no_new refl)) q m (question_of b behind)))
   expression_laid (shapes.prefix_update at o {e = e'} e) spot c q m us =
       at_node at (kind.UpdateExpr o true) (e' ∷ []) (At spot) m (render us)
       ∙ rw (c.low, update_text o) (ap (λ z. gap spot.beside (update_sign o) ++ (token_text (update_token o) ++ z)) (expression_laid e (right spot 16 (update_sign o)) (update_calm o spot c.with_in) refl m us ∙ rw (no_gap_before o e) refl))

@@ -28,6 +28,7 @@ pub mod Pieces
 pub mod Members
 pub mod Elements
 pub mod Supers
+pub mod OptionalChains
 pub mod Templates
 pub mod ImportCalls
 pub mod PrivateTests

@@ -12,7 +12,7 @@ use Rattle.ecma_grammar.specs.trees.Chains.{step_on, in_front_link}
 use Rattle.ecma_grammar.specs.productions.Names as names
 use Rattle.ecma_grammar.specs.productions.Functions.{arrow_rest}
 use Rattle.ecma_grammar.specs.productions.Chains as chains
-use Rattle.ecma_grammar.specs.productions.Chains.{links, new_links, chain_key}
+use Rattle.ecma_grammar.specs.productions.Chains.{links, new_links, chain_key, arguments, index}
 use Rattle.ecma_grammar.proofs.Steps.{steps-append}
 use Rattle.ecma_tokens.specs.Items as items
 use Rattle.ecma_tokens.specs.Items.{Tok, sign, no_gap, Items, it}
@@ -32,6 +32,8 @@ use Rattle.ecma_lex.proofs.Spelled.{alone}
 
 -- a token of which the grammar makes the key of a member
 pub record IsLinkKey (t : Tok) (k : Kind) : Type 0 where
+  pub no_arguments : refuses_at (exactly t) arguments ≡ true
+  pub no_index : refuses_at (exactly t) index ≡ true
   pub taken : (assigned : Bool) (us : Items) → Reads assigned chain_key (it no_gap t us) (bare k [] ∷ []) us
 
 tail_of : List ℕ → List ℕ
@@ -50,13 +52,13 @@ name_behind name t =
     subst (λ n. piece w 1 n ≡ name) size (piece_here w 1 name [] (past w (codes "#") (alone w)) (cut_utf8 name [] u refl) refl)
 
 pub link_key : {n : Node} (k : IsChainKey n) → IsLinkKey (chain_token k) (chain_kind k)
-unfolding chain_key
-link_key (shapes.plain_key k) = record { taken = λ assigned us. refl }
-link_key (shapes.private_key at name t) = record { taken = λ assigned us. ap (λ w. read (bare (kind.PrivateName w) [] ∷ []) us) (name_behind name t) }
+unfolding chain_key arguments index
+link_key (shapes.plain_key k) = record { no_arguments = refl; no_index = refl; taken = λ assigned us. refl }
+link_key (shapes.private_key at name t) = record { no_arguments = refl; no_index = refl; taken = λ assigned us. ap (λ w. read (bare (kind.PrivateName w) [] ∷ []) us) (name_behind name t) }
 
 pub word_key : (w : List ℕ) → IsLinkKey (items.key w) (kind.IdentName w)
-unfolding chain_key
-word_key w = record { taken = λ assigned us. refl }
+unfolding chain_key arguments index
+word_key w = record { no_arguments = refl; no_index = refl; taken = λ assigned us. refl }
 
 pub point_apart : refuses_at (exactly (sign (codes "."))) (arrow_rest false false) ≡ true
 unfolding arrow_rest names.binding_ident

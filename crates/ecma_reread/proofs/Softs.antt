@@ -7,8 +7,8 @@ use Rattle.ecma_tokens.specs.Items as items
 use Rattle.ecma_tokens.specs.Items.{Tok, sign, Gap, no_gap, Items, ends, it, render, token_text}
 use Rattle.ecma_tokens.specs.Joins.{joins_next, parted_by}
 use Rattle.ecma_reread.specs.Shapes as shapes
-use Rattle.ecma_reread.specs.Shapes.{Level, looser_than, IsOperator, IsIdent, ident, IsKey, key, IsExpression, IsElement, IsArguments, AreElements, AreExpressions, IsInitializer, IsDeclarator, AreDeclarators, AreSlots, IsMemberLevel, IsIndexed, IsChainKey, AreProperties, IsPropertyName, IsProperty}
-use Rattle.ecma_reread.specs.Tokens.{blank, sign_of, update_token}
+use Rattle.ecma_reread.specs.Shapes.{Level, looser_than, IsOperator, IsIdent, ident, IsKey, key, IsExpression, IsElement, IsArguments, AreElements, AreExpressions, IsInitializer, IsDeclarator, AreDeclarators, AreSlots, IsMemberLevel, IsIndexed, IsChainKey, AreProperties, IsPropertyName, IsProperty, IsChainLink}
+use Rattle.ecma_reread.specs.Tokens.{blank, sign_of, update_token, point_of, question_of}
 
 -- what may stand directly behind an expression; a point behind an object alone
 pub data Soft : Bool → Items → Type 0 where
@@ -20,6 +20,7 @@ pub data Soft : Bool → Items → Type 0 where
   colon : {object : Bool} {us : Items} → Soft object (sign_of (codes ":") us)
   increment : {object : Bool} {us : Items} → Soft object (sign_of (codes "++") us)
   decrement : {object : Bool} {us : Items} → Soft object (sign_of (codes "--") us)
+  question : {object : Bool} {us : Items} → Soft object (sign_of (codes "?.") us)
   opening_bracket : {object : Bool} {us : Items} → Soft object (sign_of (codes "[") us)
   closing_bracket : {object : Bool} {us : Items} → Soft object (sign_of (codes "]") us)
   part : {object first last : Bool} {w : List ℕ} {us : Items} → Soft object (it no_gap (items.template first last w) us)
@@ -75,25 +76,47 @@ update_soft MinusMinus z = refl
 abbrev pub is_object : Level → Bool
 is_object shapes.new_callee = true
 is_object shapes.object = true
+is_object shapes.chain = true
 is_object l = false
 
 pub point_behind : {l : Level} → IsMemberLevel l → {us : Items} → Soft (is_object l) (sign_of (codes ".") us)
 point_behind shapes.member_of_new = point
 point_behind shapes.member_of_object = point
 
+-- the links of an optional chain
+pub chain_point : {l : Level} {b : Bool} → IsChainLink l b → {us : Items} → Soft (is_object l) (sign_of (point_of b) us)
+chain_point shapes.opens_chain = question
+chain_point shapes.asks_on = question
+chain_point shapes.goes_on = point
+
+pub chain_bracket : {l : Level} {b : Bool} → IsChainLink l b → (us : Items) → Soft (is_object l) (question_of b (sign_of (codes "[") us))
+chain_bracket shapes.opens_chain us = question
+chain_bracket shapes.asks_on us = question
+chain_bracket shapes.goes_on us = opening_bracket
+
+pub chain_opening : {l : Level} {b : Bool} → IsChainLink l b → (us : Items) → Soft (is_object l) (question_of b (sign_of (codes "(") us))
+chain_opening shapes.opens_chain us = question
+chain_opening shapes.asks_on us = question
+chain_opening shapes.goes_on us = opening
+
 -- in front of a tighter expression the same may stand
+widened : {us : Items} → Soft false us → Soft true us
+widened opening = opening
+widened closing = closing
+widened comma = comma
+widened semicolon = semicolon
+widened colon = colon
+widened increment = increment
+widened decrement = decrement
+widened question = question
+widened opening_bracket = opening_bracket
+widened closing_bracket = closing_bracket
+widened part = part
+widened parted = parted
+
 pub softer : (l : Level) {us : Items} → Soft (is_object (looser_than l)) us → Soft (is_object l) us
-softer shapes.object opening = opening
-softer shapes.object closing = closing
-softer shapes.object comma = comma
-softer shapes.object semicolon = semicolon
-softer shapes.object colon = colon
-softer shapes.object increment = increment
-softer shapes.object decrement = decrement
-softer shapes.object opening_bracket = opening_bracket
-softer shapes.object closing_bracket = closing_bracket
-softer shapes.object part = part
-softer shapes.object parted = parted
+softer shapes.object z = widened z
+softer shapes.chain z = widened z
 softer l z = z
 
 -- behind a text part each token may stand

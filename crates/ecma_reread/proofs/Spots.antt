@@ -9,15 +9,15 @@ use Rattle.ecma_kind.specs.declared.operators.BinaryOp.{BinaryOp}
 use Rattle.ecma_kind.specs.declared.operators.BinaryOp.TheVariants as op
 use Rattle.ecma_print.specs.declared.place.Begins.TheVariants.{StatementStart, DefaultStart}
 use Rattle.ecma_print.specs.declared.place.Beside.{Beside}
-use Rattle.ecma_print.specs.declared.place.Beside.TheVariants.{UnderLogical, UnderNullish, NoNeighbor, BeforeDot, BeforeLink}
+use Rattle.ecma_print.specs.declared.place.Beside.TheVariants.{UnderLogical, UnderNullish, NoNeighbor, BeforeDot, BeforeLink, InChain}
 use Rattle.ecma_print.specs.declared.place.Spot.{Spot}
-use Rattle.ecma_print.specs.Places.{free, left, right, beginning, is_headed}
+use Rattle.ecma_print.specs.Places.{free, left, right, beginning, is_headed, ends_a_chain}
 use Rattle.ecma_print.specs.Levels.{is_before_dot, clashes}
 use Rattle.ecma_print.specs.Operators.{unary_sign, update_sign, binary_word, binary_level, left_level, right_level, under}
 use Rattle.ecma_print.specs.Expressions.{before_key, object_beside, is_optional, callee_spot}
 use Rattle.ecma_tokens.specs.Items.{token_text}
 use Rattle.ecma_reread.specs.Shapes as shapes
-use Rattle.ecma_reread.specs.Shapes.{Level, looser_than, IsOperator, IsIdent, ident, IsKey, key, IsAbsent, IsExpression, IsElement, IsArguments, AreElements, AreExpressions, IsInitializer, IsDeclarator, AreDeclarators, AreSlots, IsMemberLevel, IsIndexed, IsProperty, IsPropertyName, AreProperties}
+use Rattle.ecma_reread.specs.Shapes.{Level, looser_than, IsOperator, IsIdent, ident, IsKey, key, IsAbsent, IsExpression, IsElement, IsArguments, AreElements, AreExpressions, IsInitializer, IsDeclarator, AreDeclarators, AreSlots, IsMemberLevel, IsIndexed, IsProperty, IsPropertyName, AreProperties, IsChainLink}
 use Rattle.ecma_reread.specs.Tokens.{binary_token}
 
 -- the level of the printer that is each level
@@ -25,6 +25,7 @@ abbrev pub number_of : Level → ℕ
 number_of shapes.new_callee = 17
 number_of shapes.object = 16
 number_of shapes.callee = 16
+number_of shapes.chain = 16
 number_of shapes.left_hand_side = 16
 number_of shapes.update = 15
 number_of shapes.unary = 14
@@ -47,6 +48,7 @@ number_of shapes.sequence = 0
 abbrev pub is_object : Level → Bool
 is_object shapes.new_callee = true
 is_object shapes.object = true
+is_object shapes.chain = true
 is_object l = false
 
 -- where a call may stand by itself, and what may stand before a link
@@ -58,7 +60,19 @@ abbrev pub heads_links : Level → Bool
 heads_links shapes.new_callee = true
 heads_links shapes.object = true
 heads_links shapes.callee = true
+heads_links shapes.chain = true
 heads_links l = false
+
+-- where an optional chain may stand by itself
+abbrev pub holds_chains : Level → Bool
+holds_chains shapes.new_callee = false
+holds_chains shapes.object = false
+holds_chains shapes.callee = false
+holds_chains l = true
+
+pub chains_out : (l : Level) → holds_chains l ≡ true → holds_chains (looser_than l) ≡ true
+chains_out shapes.callee h = refl
+chains_out l h = h
 
 pub calls_out : (l : Level) → holds_calls l ≡ true → holds_calls (looser_than l) ≡ true
 calls_out shapes.new_callee h = refl
@@ -66,10 +80,12 @@ calls_out l h = h
 
 pub heads_out : (l : Level) → heads_links l ≡ false → heads_links (looser_than l) ≡ false
 heads_out shapes.callee h = refl
+heads_out shapes.chain h = refl
 heads_out l h = h
 
 pub object_out : (l : Level) → is_object l ≡ false → is_object (looser_than l) ≡ false
 object_out shapes.object h = refl
+object_out shapes.chain h = refl
 object_out l h = h
 
 -- where `&&` and `||` may stand by themselves, and where `??` may
@@ -103,6 +119,7 @@ pub record Calm (l : Level) (spot : Spot) : Type 0 where
   pub with_in : spot.without_in ≡ false
   pub no_new : holds_calls l ≡ true → spot.in_callee_of_new ≡ false
   pub no_head : heads_links l ≡ false → is_headed spot.beside ≡ false
+  pub no_end : holds_chains l ≡ true → ends_a_chain spot.beside ≡ false
   pub outside : (computed : Bool) → object_beside spot.beside computed ≡ before_key computed
   pub own : is_optional spot.beside ≡ false
   pub both_fits : holds_logical l ≡ true → clashes op.LogicalAnd spot spot.beside ≡ false
@@ -115,6 +132,7 @@ pub lowered : (l : Level) → number_of (looser_than l) ≤ number_of l
 lowered shapes.new_callee = omega arith
 lowered shapes.object = omega arith
 lowered shapes.callee = omega arith
+lowered shapes.chain = omega arith
 lowered shapes.left_hand_side = omega arith
 lowered shapes.update = omega arith
 lowered shapes.unary = omega arith
@@ -143,6 +161,7 @@ calmer {l} {spot} c = record {
   with_in = c.with_in;
   no_new = λ h. c.no_new (calls_out l h);
   no_head = λ h. c.no_head (heads_out l h);
+  no_end = λ h. c.no_end (chains_out l h);
   outside = c.outside;
   own = c.own;
   both_fits = λ h. c.both_fits (logical_out l h);
@@ -165,6 +184,7 @@ quiet a h n e = record {
   with_in = h;
   no_new = λ z. n;
   no_head = λ z. rw e refl;
+  no_end = λ z. rw e refl;
   outside = λ b. rw e refl;
   own = rw e refl;
   both_fits = λ z. rw e refl;
@@ -180,6 +200,7 @@ under_logical a h n e k = record {
   with_in = h;
   no_new = λ z. n;
   no_head = λ z. rw e refl;
+  no_end = λ z. rw e refl;
   outside = λ b. rw e refl;
   own = rw e refl;
   both_fits = λ z. rw e refl;
@@ -194,6 +215,7 @@ under_nullish a h n e k = record {
   with_in = h;
   no_new = λ z. n;
   no_head = λ z. rw e refl;
+  no_end = λ z. rw e refl;
   outside = λ b. rw e refl;
   own = rw e refl;
   both_fits = λ z. absurd (false≢true (sym k ∙ z));
@@ -203,12 +225,13 @@ under_nullish a h n e k = record {
 }
 
 -- before a link, and before a point
-pub before_link : {l : Level} {spot : Spot} → ltb (number_of l) spot.level ≡ false → spot.without_in ≡ false → (holds_calls l ≡ true → spot.in_callee_of_new ≡ false) → spot.beside ≡ BeforeLink → heads_links l ≡ true → Calm l spot
-before_link a h n e k = record {
+pub before_link : {l : Level} {spot : Spot} → ltb (number_of l) spot.level ≡ false → spot.without_in ≡ false → (holds_calls l ≡ true → spot.in_callee_of_new ≡ false) → spot.beside ≡ BeforeLink → heads_links l ≡ true → holds_chains l ≡ false → Calm l spot
+before_link a h n e k n' = record {
   low = a;
   with_in = h;
   no_new = n;
   no_head = λ z. absurd (false≢true (sym z ∙ k));
+  no_end = λ z. absurd (false≢true (sym n' ∙ z));
   outside = λ b. rw e refl;
   own = rw e refl;
   both_fits = λ z. rw e refl;
@@ -217,12 +240,28 @@ before_link a h n e k = record {
   no_dot = λ z. rw e refl;
 }
 
+pub in_chain : {l : Level} (spot : Spot) → ltb (number_of l) 16 ≡ false → spot.without_in ≡ false → spot.in_callee_of_new ≡ false → heads_links l ≡ true → Calm l (left spot 16 InChain)
+in_chain spot a h n k = record {
+  low = a;
+  with_in = h;
+  no_new = λ z. n;
+  no_head = λ z. absurd (false≢true (sym z ∙ k));
+  no_end = λ z. refl;
+  outside = λ b. refl;
+  own = refl;
+  both_fits = λ z. refl;
+  either_fits = λ z. refl;
+  nullish_fits = λ z. refl;
+  no_dot = λ z. refl;
+}
+
 pub before_dot : {l : Level} → IsMemberLevel l → (spot : Spot) → spot.without_in ≡ false → (holds_calls l ≡ true → spot.in_callee_of_new ≡ false) → Calm l (left spot 16 BeforeDot)
 before_dot shapes.member_of_new spot h n = record {
   low = refl;
   with_in = h;
   no_new = n;
   no_head = λ z. absurd (false≢true (sym z));
+  no_end = λ z. absurd (false≢true z);
   outside = λ b. refl;
   own = refl;
   both_fits = λ z. refl;
@@ -235,6 +274,7 @@ before_dot shapes.member_of_object spot h n = record {
   with_in = h;
   no_new = n;
   no_head = λ z. absurd (false≢true (sym z));
+  no_end = λ z. absurd (false≢true z);
   outside = λ b. refl;
   own = refl;
   both_fits = λ z. refl;
@@ -243,10 +283,16 @@ before_dot shapes.member_of_object spot h n = record {
   no_dot = λ z. absurd (false≢true (sym z));
 }
 
+-- before a link of an optional chain
+pub chain_calm : {l : Level} {b : Bool} → IsChainLink l b → (spot : Spot) → spot.without_in ≡ false → spot.in_callee_of_new ≡ false → Calm l (left spot 16 InChain)
+chain_calm shapes.opens_chain spot h n = in_chain spot refl h n refl
+chain_calm shapes.asks_on spot h n = in_chain spot refl h n refl
+chain_calm shapes.goes_on spot h n = in_chain spot refl h n refl
+
 -- an object before brackets
 pub index_calm : {h l : Level} → IsIndexed h l → (spot : Spot) → spot.without_in ≡ false → (holds_calls l ≡ true → spot.in_callee_of_new ≡ false) → Calm h (left spot 16 BeforeLink)
-index_calm shapes.index_of_new spot h n = before_link refl h (λ z. absurd (false≢true z)) refl refl
-index_calm shapes.index_of_callee spot h n = before_link refl h (λ z. n refl) refl refl
+index_calm shapes.index_of_new spot h n = before_link refl h (λ z. absurd (false≢true z)) refl refl refl
+index_calm shapes.index_of_callee spot h n = before_link refl h (λ z. n refl) refl refl refl
 
 -- where a member stands, no level asks for parentheses
 pub member_low : {l : Level} → IsMemberLevel l → (n : ℕ) → ltb (number_of l) n ≡ false → ltb 17 n ≡ false
@@ -274,14 +320,14 @@ pub calm_start : (l : Level) → Calm l (beginning 0 StatementStart false)
 calm_start l = quiet (low_0 l) refl refl refl
 
 pub update_calm : (o : UpdateOp) (spot : Spot) → spot.without_in ≡ false → Calm shapes.callee (right spot 16 (update_sign o))
-update_calm PlusPlus spot h = record { low = refl; with_in = h; no_new = λ z. refl; no_head = λ z. refl; outside = λ b. refl; own = refl; both_fits = λ z. refl; either_fits = λ z. refl; nullish_fits = λ z. refl; no_dot = λ z. refl }
-update_calm MinusMinus spot h = record { low = refl; with_in = h; no_new = λ z. refl; no_head = λ z. refl; outside = λ b. refl; own = refl; both_fits = λ z. refl; either_fits = λ z. refl; nullish_fits = λ z. refl; no_dot = λ z. refl }
+update_calm PlusPlus spot h = record { low = refl; with_in = h; no_new = λ z. refl; no_head = λ z. refl; no_end = λ z. refl; outside = λ b. refl; own = refl; both_fits = λ z. refl; either_fits = λ z. refl; nullish_fits = λ z. refl; no_dot = λ z. refl }
+update_calm MinusMinus spot h = record { low = refl; with_in = h; no_new = λ z. refl; no_head = λ z. refl; no_end = λ z. refl; outside = λ b. refl; own = refl; both_fits = λ z. refl; either_fits = λ z. refl; nullish_fits = λ z. refl; no_dot = λ z. refl }
 
 -- the operand of a unary operator stands behind its sign
 pub unary_calm : (o : UnaryOp) (spot : Spot) → spot.without_in ≡ false → Calm shapes.unary (right spot 14 (unary_sign o))
-unary_calm Minus spot h = record { low = refl; with_in = h; no_new = λ z. refl; no_head = λ z. refl; outside = λ b. refl; own = refl; both_fits = λ z. refl; either_fits = λ z. refl; nullish_fits = λ z. refl; no_dot = λ z. refl }
-unary_calm Plus spot h = record { low = refl; with_in = h; no_new = λ z. refl; no_head = λ z. refl; outside = λ b. refl; own = refl; both_fits = λ z. refl; either_fits = λ z. refl; nullish_fits = λ z. refl; no_dot = λ z. refl }
-unary_calm o spot h = record { low = refl; with_in = h; no_new = λ z. refl; no_head = λ z. refl; outside = λ b. refl; own = refl; both_fits = λ z. refl; either_fits = λ z. refl; nullish_fits = λ z. refl; no_dot = λ z. refl }
+unary_calm Minus spot h = record { low = refl; with_in = h; no_new = λ z. refl; no_head = λ z. refl; no_end = λ z. refl; outside = λ b. refl; own = refl; both_fits = λ z. refl; either_fits = λ z. refl; nullish_fits = λ z. refl; no_dot = λ z. refl }
+unary_calm Plus spot h = record { low = refl; with_in = h; no_new = λ z. refl; no_head = λ z. refl; no_end = λ z. refl; outside = λ b. refl; own = refl; both_fits = λ z. refl; either_fits = λ z. refl; nullish_fits = λ z. refl; no_dot = λ z. refl }
+unary_calm o spot h = record { low = refl; with_in = h; no_new = λ z. refl; no_head = λ z. refl; no_end = λ z. refl; outside = λ b. refl; own = refl; both_fits = λ z. refl; either_fits = λ z. refl; nullish_fits = λ z. refl; no_dot = λ z. refl }
 
 -- what the printer says of an operator between two operands
 pub record Printed (o : BinaryOp) (l t : Level) : Type 0 where
@@ -326,4 +372,4 @@ head_calm shapes.next_head spot h n = under_nullish refl h n refl refl
 
 -- in the callee of `new`
 pub callee_calm : (spot : Spot) → spot.without_in ≡ false → Calm shapes.new_callee (callee_spot spot)
-callee_calm spot h = before_link refl h (λ z. absurd (false≢true z)) refl refl
+callee_calm spot h = before_link refl h (λ z. absurd (false≢true z)) refl refl refl

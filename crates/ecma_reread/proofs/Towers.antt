@@ -175,6 +175,7 @@ abbrev pub closes_in : Bool → Level → Front → Bool
 closes_in no_in shapes.new_callee e = closes_chain e
 closes_in no_in shapes.object e = closes_chain e
 closes_in no_in shapes.callee e = closes_chain e
+closes_in no_in shapes.chain e = closes_chain e
 closes_in no_in shapes.left_hand_side e = closes_chain e
 closes_in no_in shapes.update e = closes_update e
 closes_in no_in shapes.unary e = closes_update e

@@ -70,6 +70,16 @@ mutual
       let inside = without_spans-node a kind.Tpl (node_of b kind.List es ∷ node_of c kind.List qs ∷ []) ∙ ap₂ (λ x y. bare kind.Tpl (x ∷ y ∷ [])) (without_spans-node b kind.List es ∙ ap list_node (substitutions_bare ps)) (without_spans-node c kind.List qs ∙ ap list_node (parts_bare ps)) in
       without_spans-node at kind.TaggedTpl _
       ∙ (ap₂ (λ x y. bare kind.TaggedTpl (x ∷ y ∷ without_spans (node_of a kind.Tpl (node_of b kind.List es ∷ node_of c kind.List qs ∷ [])) ∷ [])) (expression_bare o) (absent_bare none) ∙ ap (λ z. bare kind.TaggedTpl (bare_expression o ∷ absent ∷ z ∷ [])) inside)
+  expression_bare (shapes.chain_member at a {asks = b} i o k) =
+      without_spans-node at (kind.OptChainExpr b) _ ∙ ap (λ z. bare (kind.OptChainExpr b) (z ∷ [])) (without_spans-node a kind.MemberExpr _ ∙ ap₂ (λ x y. bare kind.MemberExpr (x ∷ y ∷ [])) (expression_bare o) (chain_key_bare k))
+  expression_bare (shapes.chain_element at a c {asks = b} i o e) =
+      without_spans-node at (kind.OptChainExpr b) _
+      ∙ ap (λ z. bare (kind.OptChainExpr b) (z ∷ []))
+      (without_spans-node a kind.MemberExpr _ ∙ ap₂ (λ x y. bare kind.MemberExpr (x ∷ y ∷ [])) (expression_bare o) (without_spans-node c kind.ComputedPropName _ ∙ ap (λ x. bare kind.ComputedPropName (x ∷ [])) (expression_bare e)))
+  expression_bare (shapes.chain_call at a {asks = b} {none = gone} i o es none) =
+      without_spans-node at (kind.OptChainExpr b) _
+      ∙ ap (λ z. bare (kind.OptChainExpr b) (z ∷ []))
+      (without_spans-node a kind.OptCall _ ∙ (ap₂ (λ x y. bare kind.OptCall (x ∷ y ∷ without_spans gone ∷ [])) (expression_bare o) (arguments_bare es) ∙ ap (λ z. bare kind.OptCall (bare_expression o ∷ list_node (bare_arguments es) ∷ z ∷ [])) (absent_bare none)))
   expression_bare (shapes.prefix_update at o e) = without_spans-node at (kind.UpdateExpr o true) _ ∙ ap (λ x. bare (kind.UpdateExpr o true) (x ∷ [])) (expression_bare e)
   expression_bare (shapes.postfix_update at o e) = without_spans-node at (kind.UpdateExpr o false) _ ∙ ap (λ x. bare (kind.UpdateExpr o false) (x ∷ [])) (expression_bare e)
   expression_bare (shapes.await_expression at e) = without_spans-node at kind.AwaitExpr _ ∙ ap (λ x. bare kind.AwaitExpr (x ∷ [])) (expression_bare e)

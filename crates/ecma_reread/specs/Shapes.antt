@@ -72,8 +72,8 @@ pub data IsPart (behind_tag first last : Bool) : Node → Type 0 where
 pub data Level : Type 0 where
   -- the callee of `new`, in which no call stands; what may stand before a point; a call's callee, which may be a numeral too
   new_callee object callee : Level
-  -- also `new` without arguments
-  left_hand_side : Level
+  -- an optional chain; that, and `new` without arguments
+  chain left_hand_side : Level
   update unary power product sum shift relation equality bit_and bit_xor bit_or logical_and logical_or coalescing short_circuit assignment sequence : Level
 
 -- the next level, whose expressions are also those of this one
@@ -81,6 +81,7 @@ abbrev pub looser_than : Level → Level
 looser_than new_callee = object
 looser_than object = callee
 looser_than callee = left_hand_side
+looser_than chain = left_hand_side
 looser_than left_hand_side = update
 looser_than update = unary
 looser_than unary = power
@@ -109,6 +110,12 @@ pub data IsMemberLevel : Level → Type 0 where
 pub data IsIndexed : Level → Level → Type 0 where
   index_of_new : IsIndexed new_callee new_callee
   index_of_callee : IsIndexed callee object
+
+-- a link of an optional chain: the level of what stands before it, and whether it begins with `?.`
+pub data IsChainLink : Level → Bool → Type 0 where
+  opens_chain : IsChainLink callee true
+  asks_on : IsChainLink chain true
+  goes_on : IsChainLink chain false
 
 -- an operator of two operands: its own level, and that of its right side; its left side has its own level
 pub data IsOperator : BinaryOp → Level → Level → Type 0 where
@@ -173,6 +180,12 @@ mutual
     element : (at of_key : Span) {of_holder own level : Level} {holder e : Node} → IsIndexed of_holder own → IsExpression of_holder holder → IsExpression level e → IsExpression own (node_of at kind.MemberExpr (holder ∷ node_of of_key kind.ComputedPropName (e ∷ []) ∷ []))
     tagged_template : (at at_template of_expressions of_parts : Span) {of_tag own : Level} {tag none : Node} {expressions parts : List Node} → IsIndexed of_tag own → IsExpression of_tag tag → IsAbsent none → AreParts true true expressions parts
         → IsExpression own (node_of at kind.TaggedTpl (tag ∷ none ∷ node_of at_template kind.Tpl (node_of of_expressions kind.List expressions ∷ node_of of_parts kind.List parts ∷ []) ∷ []))
+    chain_member : (at of_link : Span) {before : Level} {asks : Bool} {holder property : Node} → IsChainLink before asks → IsExpression before holder → IsChainKey property
+        → IsExpression chain (node_of at (kind.OptChainExpr asks) (node_of of_link kind.MemberExpr (holder ∷ property ∷ []) ∷ []))
+    chain_element : (at of_link of_key : Span) {before level : Level} {asks : Bool} {holder e : Node} → IsChainLink before asks → IsExpression before holder → IsExpression level e
+        → IsExpression chain (node_of at (kind.OptChainExpr asks) (node_of of_link kind.MemberExpr (holder ∷ node_of of_key kind.ComputedPropName (e ∷ []) ∷ []) ∷ []))
+    chain_call : (at of_link : Span) {before : Level} {asks : Bool} {function args none : Node} → IsChainLink before asks → IsExpression before function → IsArguments values args → IsAbsent none
+        → IsExpression chain (node_of at (kind.OptChainExpr asks) (node_of of_link kind.OptCall (function ∷ args ∷ none ∷ []) ∷ []))
     prefix_update : (at : Span) (operator : UpdateOp) {e : Node} → IsExpression callee e → IsExpression update (node_of at (kind.UpdateExpr operator true) (e ∷ []))
     postfix_update : (at : Span) (operator : UpdateOp) {e : Node} → IsExpression callee e → IsExpression update (node_of at (kind.UpdateExpr operator false) (e ∷ []))
     await_expression : (at : Span) {e : Node} → IsExpression unary e → IsExpression unary (node_of at kind.AwaitExpr (e ∷ []))

@@ -24,7 +24,7 @@ use Rattle.ecma_print.specs.Operators.{unary_sign, update_sign}
 use Rattle.ecma_print.specs.Statements.{keyword}
 use Rattle.ecma_tokens.specs.Items as items
 use Rattle.ecma_tokens.specs.Items.{Tok, sign, Gap, no_gap, Items, it}
-use Rattle.ecma_reread.specs.Shapes.{IsIdent, ident, IsKey, key, Level, IsExpression, looser, element, prefix_update, postfix_update, await_expression, unary_expression, binary_expression, exponentiation, both, either, coalesced, assignment_expression, conditional_expression, sequence_expression, name, string, number, this_word, big_int, null_word, true_word, false_word, member, call, parenthesized, IsElement, one, spread, IsArguments, no_arguments, arguments, AreElements, no_elements, more_elements, AreExpressions, no_expressions, more_expressions, IsInitializer, no_initializer, initializer, IsDeclarator, declarator, AreDeclarators, no_declarators, more_declarators, IsStatement, expression, declaration, empty, debugger_word, throw, return_value, return_nothing, break_nothing, continue_nothing, Ending, break_label, continue_label, block, if_only, if_else, while_loop, do_loop, labeled, IsBlock, block_of, AreStatements, no_statements, more_statements, array, AreSlots, no_slots, filled, hole, switch_statement, IsCase, case_of, default_of, AreCases, no_cases, more_cases, new_expression, new_alone, new_target, try_catch, try_finally, try_catch_finally, IsCatch, catch_any, IsChainKey, plain_key, private_key, super_member, super_element, super_call, IsOptional, left_out, given, IsForLeft, for_binding, for_target, for_loop, for_in, for_of, object_literal, IsPropertyName, key_name, string_name, number_name, big_int_name, computed_name, IsProperty, key_value, shorthand, initialized, spread_property, AreProperties, no_properties, more_properties, private_in, yield_nothing, yield_value, import_meta, import_call, regex, regex_text, Role, bound, rest, renamed, named, rest_property, IsPattern, name_pattern, array_pattern, object_pattern, IsDefaulted, no_default, with_default, IsForDeclarator, for_declarator, AreForDeclarators, no_for_declarators, more_for_declarators, IsForInit, no_init, init_declaration, init_expression, part_text, IsPart, part, AreParts, last_part, more_parts, template, tagged_template, arrow_function, catch_pattern}
+use Rattle.ecma_reread.specs.Shapes.{IsIdent, ident, IsKey, key, Level, IsExpression, looser, element, prefix_update, postfix_update, await_expression, unary_expression, binary_expression, exponentiation, both, either, coalesced, assignment_expression, conditional_expression, sequence_expression, name, string, number, this_word, big_int, null_word, true_word, false_word, member, call, parenthesized, IsElement, one, spread, IsArguments, no_arguments, arguments, AreElements, no_elements, more_elements, AreExpressions, no_expressions, more_expressions, IsInitializer, no_initializer, initializer, IsDeclarator, declarator, AreDeclarators, no_declarators, more_declarators, IsStatement, expression, declaration, empty, debugger_word, throw, return_value, return_nothing, break_nothing, continue_nothing, Ending, break_label, continue_label, block, if_only, if_else, while_loop, do_loop, labeled, IsBlock, block_of, AreStatements, no_statements, more_statements, array, AreSlots, no_slots, filled, hole, switch_statement, IsCase, case_of, default_of, AreCases, no_cases, more_cases, new_expression, new_alone, new_target, try_catch, try_finally, try_catch_finally, IsCatch, catch_any, IsChainKey, plain_key, private_key, super_member, super_element, super_call, IsOptional, left_out, given, IsForLeft, for_binding, for_target, for_loop, for_in, for_of, object_literal, IsPropertyName, key_name, string_name, number_name, big_int_name, computed_name, IsProperty, key_value, shorthand, initialized, spread_property, AreProperties, no_properties, more_properties, private_in, yield_nothing, yield_value, import_meta, import_call, regex, regex_text, Role, bound, rest, renamed, named, rest_property, IsPattern, name_pattern, array_pattern, object_pattern, IsDefaulted, no_default, with_default, IsForDeclarator, for_declarator, AreForDeclarators, no_for_declarators, more_for_declarators, IsForInit, no_init, init_declaration, init_expression, part_text, IsPart, part, AreParts, last_part, more_parts, template, tagged_template, arrow_function, catch_pattern, chain_member, chain_element, chain_call}
 
 abbrev pub blank : Gap
 blank = record { blanks = codes " "; new_line = false }
@@ -142,6 +142,15 @@ ends_here (more_parts p e ps) = false
 abbrev pub part_token : (first : Bool) {t f : Bool} {es ps : List Node} → AreParts t f es ps → Tok
 part_token first ps = items.template first (ends_here ps) (part_text first (ends_here ps) (first_raw ps))
 
+-- what stands before the key of a link of an optional chain, and before its brackets or parentheses
+abbrev pub point_of : Bool → List ℕ
+point_of true = codes "?."
+point_of false = codes "."
+
+abbrev pub question_of : Bool → Items → Items
+question_of true us = sign_of (codes "?.") us
+question_of false us = us
+
 -- what stands between a unary operator and its operand
 abbrev pub unary_gap : UnaryOp → Beside → Gap
 unary_gap Minus BehindMinus = blank
@@ -177,6 +186,9 @@ abbrev mutual
   expression_tokens (import_meta at) g us = it g (items.key (codes "import")) (sign_of (codes ".") (it no_gap (items.key (codes "meta")) us))
   expression_tokens (import_call at at' es none) g us = it g (items.key (codes "import")) (sign_of (codes "(") (arguments_tokens es (sign_of (codes ")") us)))
   expression_tokens (tagged_template at a b c i o none ps) g us = expression_tokens o g (it no_gap (part_token true ps) (parts_tokens ps us))
+  expression_tokens (chain_member at a {asks = b} i o k) g us = expression_tokens o g (sign_of (point_of b) (it no_gap (chain_token k) us))
+  expression_tokens (chain_element at a c {asks = b} i o e) g us = expression_tokens o g (question_of b (sign_of (codes "[") (expression_tokens e no_gap (sign_of (codes "]") us))))
+  expression_tokens (chain_call at a {asks = b} i o es none) g us = expression_tokens o g (question_of b (sign_of (codes "(") (arguments_tokens es (sign_of (codes ")") us))))
   expression_tokens (prefix_update at o e) g us = it g (update_token o) (expression_tokens e no_gap us)
   expression_tokens (postfix_update at o e) g us = expression_tokens e g (it no_gap (update_token o) us)
   expression_tokens (await_expression at e) g us = it g (items.key (codes "await")) (expression_tokens e blank us)
@@ -401,6 +413,9 @@ expression_kind (new_target at) = kind.MetaPropExpr NewTarget
 expression_kind (import_meta at) = kind.MetaPropExpr ImportMeta
 expression_kind (import_call at at' es none) = kind.CallExpr
 expression_kind (tagged_template at a b c i o none ps) = kind.TaggedTpl
+expression_kind (chain_member at a {asks = b} i o k) = kind.OptChainExpr b
+expression_kind (chain_element at a c {asks = b} i o e) = kind.OptChainExpr b
+expression_kind (chain_call at a {asks = b} i o es none) = kind.OptChainExpr b
 expression_kind (prefix_update at o e) = kind.UpdateExpr o true
 expression_kind (postfix_update at o e) = kind.UpdateExpr o false
 expression_kind (await_expression at e) = kind.AwaitExpr
@@ -442,6 +457,9 @@ abbrev mutual
   expression_parts (import_call at at' es none) = bare kind.Import [] ∷ list_node (bare_arguments es) ∷ absent ∷ []
   expression_parts (template at a b ps) = list_node (bare_substitutions ps) ∷ list_node (bare_parts ps) ∷ []
   expression_parts (tagged_template at a b c i o none ps) = bare (expression_kind o) (expression_parts o) ∷ absent ∷ bare kind.Tpl (list_node (bare_substitutions ps) ∷ list_node (bare_parts ps) ∷ []) ∷ []
+  expression_parts (chain_member at a i o k) = bare kind.MemberExpr (bare (expression_kind o) (expression_parts o) ∷ bare (chain_kind k) [] ∷ []) ∷ []
+  expression_parts (chain_element at a c i o e) = bare kind.MemberExpr (bare (expression_kind o) (expression_parts o) ∷ bare kind.ComputedPropName (bare (expression_kind e) (expression_parts e) ∷ []) ∷ []) ∷ []
+  expression_parts (chain_call at a i o es none) = bare kind.OptCall (bare (expression_kind o) (expression_parts o) ∷ list_node (bare_arguments es) ∷ absent ∷ []) ∷ []
   expression_parts (prefix_update at o e) = bare (expression_kind e) (expression_parts e) ∷ []
   expression_parts (postfix_update at o e) = bare (expression_kind e) (expression_parts e) ∷ []
   expression_parts (await_expression at e) = bare (expression_kind e) (expression_parts e) ∷ []
