@@ -8,9 +8,10 @@ use Rattle.ecma_grammar.specs.declared.production.Part.TheVariants as part
 use Rattle.ecma_grammar.specs.declared.production.Form.TheVariants as form
 use Rattle.ecma_grammar.specs.declared.production.Plain.TheVariants as plain
 use Rattle.ecma_grammar.specs.declared.production.Flag.TheVariants.{Absent, Present}
+use Rattle.ecma_grammar.specs.trees.Parts.{flag_node}
 use Rattle.ecma_grammar.specs.Made.{made}
 use Rattle.ecma_grammar.specs.Grammar as grammar
-use Rattle.ecma_grammar.specs.Grammar.{Grammar, put, ◌▸◌, ◌//◌, punct}
+use Rattle.ecma_grammar.specs.Grammar.{Grammar, put, ◌▸◌, ◌//◌, build, punct}
 use Rattle.ecma_grammar.specs.productions.Names as names
 use Rattle.ecma_grammar.specs.productions.Types.{params, param, rest_pattern, default_value}
 use Rattle.ecma_grammar.specs.productions.Patterns.{pattern_body, array_pattern, object_pattern}
@@ -22,6 +23,7 @@ use Rattle.ecma_grammar.specs.productions.Declarations.{declaration}
 use Rattle.ecma_grammar.specs.productions.Statements as statements
 use Rattle.ecma_grammar.specs.productions.Statements.{labeled}
 use Rattle.ecma_grammar.specs.productions.Modules as modules
+use Rattle.ecma_tokens.specs.Items as items
 use Rattle.ecma_tokens.specs.Items.{sign, no_gap, Gap, Items, it}
 use Rattle.ecma_reread.specs.Machine.{read, with_front, followed_on, or_on, unless_on, built_on, interp, means}
 use Rattle.ecma_reread.specs.Shapes as shapes
@@ -32,11 +34,12 @@ use Rattle.ecma_reread.proofs.Levels.{means_is}
 use Rattle.ecma_reread.proofs.Fronts.{Front, exactly, Begins, at_token, refuses_at, refused_at, refuses_all, all_refused}
 use Rattle.ecma_reread.proofs.Towers.{excluded, behind_arrow, Ends}
 use Rattle.ecma_reread.proofs.Heads.{bare, nodes}
-use Rattle.ecma_reread.proofs.Forms.{Laid, s, Reads, Refuses, no_item_at}
+use Rattle.ecma_reread.proofs.Forms.{linked_param, Laid, s, Reads, Refuses, no_item_at}
 use Rattle.ecma_reread.proofs.Bindings.{Stands, used}
 use Rattle.ecma_reread.proofs.Repeats.{Repeats, repeats_end, repeats_more, repeated}
 use Rattle.ecma_reread.proofs.Further.{more}
 use Rattle.ecma_reread.proofs.Expressions.{no_param_at, parenthesis_ends, comma_ends}
+use Rattle.ecma_reread.proofs.Async.{async_form}
 use Rattle.ecma_reread.proofs.Lists.{Followed}
 use Rattle.ecma_reread.proofs.Spreads.{ElementForm}
 use Rattle.ecma_reread.proofs.Patterns.{param_read}
@@ -55,6 +58,9 @@ arrow_made ps b = simp nodes
 pub more_followed : {role : Role} {es : List Node} (is : AreElements role es) (us : Items) → Followed (elements_tokens is (s (codes ")") us))
 more_followed shapes.no_elements us = record { front = exactly (sign (codes ")")); begins = at_token; ends = parenthesis_ends }
 more_followed (shapes.more_elements e es) us = record { front = exactly (sign (codes ",")); begins = at_token; ends = comma_ends }
+
+async_made : (ps b : Node) → made form.Arrow 0 0 (flag_node Present ∷ absent ∷ ps ∷ absent ∷ b ∷ []) ≡ bare (kind.ArrowExpr true false) (ps ∷ b ∷ absent ∷ absent ∷ [])
+async_made ps b = simp nodes
 
 module _ (assigned : Bool) where
   -- what is said of each argument, or parameter
@@ -129,4 +135,37 @@ module _ (assigned : Bool) where
           no_arrow = tt;
           param = λ g us e b z. no_param_at assigned opening (tokens g us) us at_token refl refl;
           reading = λ g us e b z. arrow_read g us e b z;
+        }
+
+    -- behind `async`
+    async_arrow_read : (g : Gap) (us : Items) (e : Front) → Begins e us → Ends e
+        → means assigned (part.Assign false false) (it g (items.key (codes "async")) (tokens blank us)) ≡ read (bare (kind.ArrowExpr true false) (list_node (bare_arguments is) ∷ bare k ns ∷ absent ∷ absent ∷ []) ∷ []) us
+    unfolding arrow
+    async_arrow_read g us e b z =
+        let I = interp assigned (means assigned) in
+        let ts = it g (items.key (codes "async")) (tokens blank us) in
+        means_is assigned (part.Assign false false) ts
+        ∙ (ap (or_on (I (behind_arrow false)) ts) (ap (or_on (I (build form.Arrow (put Absent ▸ arrow_rest false false))) ts) (ap (built_on form.Arrow) (ap (with_front []) (ap (with_front []) (ap (with_front (flag_node Present ∷ [])) (rest_read blank us e b z))))))
+        ∙ ap (λ x. read (x ∷ []) us) (async_made (list_node (bare_arguments is)) (bare k ns)))
+
+    pub async_arrow_form : Stands assigned shapes.assignment (λ g us. it g (items.key (codes "async")) (tokens blank us)) (kind.ArrowExpr true false) (list_node (bare_arguments is) ∷ bare k ns ∷ absent ∷ absent ∷ [])
+    async_arrow_form =
+        let A = async_form assigned in
+        let opening = exactly (sign (codes "(")) in
+        record {
+          lead = record {
+            front = A.front;
+            begins = λ g us. A.begins g (tokens blank us);
+            no_statement = A.no_statement;
+            no_item = λ g us. A.no_item g (tokens blank us);
+            no_spread = (let o = A.opens in o.no_spread);
+            no_label = λ g us e b z. A.no_label g (tokens blank us) opening at_token refl;
+            no_declaration = λ g us e b z. A.no_declaration g (tokens blank us) opening at_token refl;
+            no_word = λ g us e b z. A.no_word g (tokens blank us) opening at_token refl;
+          };
+          tight = tt;
+          no_or = tt;
+          no_arrow = tt;
+          param = λ g us e b z. linked_param assigned at_token refl refl (A.as_param g (tokens blank us) opening at_token refl);
+          reading = λ g us e b z. async_arrow_read g us e b z;
         }

@@ -85,7 +85,15 @@ begun (shapes.yield_nothing at none) us = record { first = items.key (codes "yie
 begun (shapes.yield_value at d e) us = record { first = items.key (codes "yield"); by = NoNeighbor; rest = star_of d (expression_tokens e blank us); opens = by_key (codes "yield"); is = λ g. refl }
 begun (shapes.assignment_expression at o t v) us = begun t (it blank (assign_token o) (expression_tokens v blank us))
 begun (shapes.conditional_expression at t x y) us = begun t (it blank (sign (codes "?")) (expression_tokens x blank (it blank (sign (codes ":")) (expression_tokens y blank us))))
-begun (shapes.arrow_function at ps e z a b) us =
+begun (shapes.arrow_function at true ps e z a b) us =
+    record {
+      first = items.key (codes "async");
+      by = NoNeighbor;
+      rest = it blank (sign (codes "(")) (arguments_tokens ps (sign_of (codes ")") (it blank (sign (codes "=>")) (expression_tokens e blank us))));
+      opens = by_key (codes "async");
+      is = λ g. refl;
+    }
+begun (shapes.arrow_function at false ps e z a b) us =
     record { first = sign (codes "("); by = NoNeighbor; rest = arguments_tokens ps (sign_of (codes ")") (it blank (sign (codes "=>")) (expression_tokens e blank us))); opens = by_parenthesis; is = λ g. refl }
 begun (shapes.array at at' es) us = record { first = sign (codes "["); by = NoNeighbor; rest = slots_tokens es us; opens = by_bracket; is = λ g. refl }
 begun (shapes.object_literal at at' ps) us = record { first = sign (codes "{"); by = NoNeighbor; rest = properties_tokens ps us; opens = by_brace; is = λ g. refl }
@@ -191,6 +199,8 @@ no_brace (shapes.assignment_expression at o t v) z g us = no_brace t z g (it bla
 no_brace (shapes.conditional_expression at t x y) z g us = no_brace t z g (it blank (sign (codes "?")) (expression_tokens x blank (it blank (sign (codes ":")) (expression_tokens y blank us))))
 no_brace (shapes.sequence_expression at x y es) z g us = no_brace x z g (sign_of (codes ",") (expression_tokens y blank (more_tokens es us)))
 no_brace (shapes.object_literal at at' ps) z g us = absurd (false≢true (sym z))
+no_brace (shapes.arrow_function at true ps e q a b) z g us = refl
+no_brace (shapes.arrow_function at false ps e q a b) z g us = refl
 no_brace is z g us = refl
 
 pub blank_joins : (t : Tok) {level : Level} {e : Node} (is : IsExpression level e) (us : Items) → joins_next t (expression_tokens is blank us) ≡ true
@@ -334,6 +344,7 @@ plain (shapes.coalesced at i l r) us h = absurd (false≢true h)
 plain (shapes.assignment_expression at o t v) us h = absurd (false≢true h)
 plain (shapes.conditional_expression at t x y) us h = absurd (false≢true h)
 plain (shapes.sequence_expression at x y es) us h = absurd (false≢true h)
+plain (shapes.arrow_function at w ps e z a b) us h = absurd (false≢true h)
 plain is us h = refl
 
 pub signed : {level : Level} {e : Node} (is : IsExpression level e) (us : Items) → is_operand level ≡ true → (let b = begun is us in b.by) ≡ own_sign is
@@ -355,6 +366,7 @@ signed (shapes.coalesced at i l r) us h = absurd (false≢true h)
 signed (shapes.assignment_expression at o t v) us h = absurd (false≢true h)
 signed (shapes.conditional_expression at t x y) us h = absurd (false≢true h)
 signed (shapes.sequence_expression at x y es) us h = absurd (false≢true h)
+signed (shapes.arrow_function at w ps e z a b) us h = absurd (false≢true h)
 signed is us h = refl
 
 -- a unary operator joins its operand

@@ -59,7 +59,7 @@ use Rattle.ecma_reread.proofs.Beginnings.{no_new_line, no_star, no_brace}
 use Rattle.ecma_reread.proofs.ImportCalls.{meta_form, import_call_form}
 use Rattle.ecma_reread.proofs.Templates.{PartForms, template_form, tagged_form, new_tagged_form}
 use Rattle.ecma_reread.proofs.Patterns.{pattern_unplaced, name_pattern_read, no_default_read, default_read}
-use Rattle.ecma_reread.proofs.Arrows.{ElementForms, ArgumentForms, more_followed, arrow_form}
+use Rattle.ecma_reread.proofs.Arrows.{ElementForms, ArgumentForms, more_followed, arrow_form, async_arrow_form}
 use Rattle.ecma_reread.proofs.Braces.{braces_agree}
 use Rattle.ecma_reread.proofs.OptionalChains.{asked_member_form, asked_element_form, asked_call_form, going_member_form, going_element_form}
 
@@ -236,7 +236,8 @@ module _ (assigned : Bool) where
     expression_form (shapes.yield_value at d e) = yield_form assigned (expression_form e) d (no_new_line e) (λ us. ap taken (no_star e blank us))
     expression_form (shapes.assignment_expression at o t v) = assignment_form assigned o (expression_form t) (expression_form v)
     expression_form (shapes.conditional_expression at t x y) = choice_form assigned (expression_form t) (expression_form x) (expression_form y)
-    expression_form (shapes.arrow_function at ps e z a b) = arrow_form assigned ps (argument_forms ps) (expression_form e) (λ g us. ap taken (no_brace e (sym (braces_agree e) ∙ z) g us))
+    expression_form (shapes.arrow_function at true ps e z a b) = async_arrow_form assigned ps (argument_forms ps) (expression_form e) (λ g us. ap taken (no_brace e (sym (braces_agree e) ∙ z) g us))
+    expression_form (shapes.arrow_function at false ps e z a b) = arrow_form assigned ps (argument_forms ps) (expression_form e) (λ g us. ap taken (no_brace e (sym (braces_agree e) ∙ z) g us))
     expression_form (shapes.array at at' es) = from_new assigned refl (array_new assigned es (slot_forms es))
     expression_form (shapes.object_literal at at' ps) = from_new assigned refl (object_new assigned ps (property_forms ps))
     expression_form (shapes.sequence_expression at x y es) = sequence_form assigned (expression_form x) (expression_form y) es (expression_forms es)

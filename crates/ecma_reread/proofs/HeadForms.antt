@@ -95,7 +95,7 @@ module _ (assigned : Bool) where
         record { lead = S.lead; tight = S.tight; no_or = S.no_or; no_arrow = S.no_arrow; param = S.param; reading = whole_read assigned o (head_form t c.0) (head_form v (one_same _ c.1)) }
     head_form (shapes.yield_nothing at none) h = absurd (false≢true (sym (sym (may_hold_node at (kind.YieldExpr false) _) ∙ h)))
     head_form (shapes.yield_value at d e) h = absurd (false≢true (sym (sym (may_hold_node at (kind.YieldExpr d) _) ∙ h)))
-    head_form (shapes.arrow_function at ps e z a b) h = absurd (false≢true (sym (sym (may_hold_node at (kind.ArrowExpr false false) _) ∙ h)))
+    head_form (shapes.arrow_function at w ps e z a b) h = absurd (false≢true (sym (sym (may_hold_node at (kind.ArrowExpr w false) _) ∙ h)))
     head_form (shapes.sequence_expression at {first = x'} {second = y'} {more = es'} x y es) h =
         let S = expression_form assigned (shapes.sequence_expression at x y es) in
         let c = neither (may_hold_in x') _ (sym (may_hold_node at kind.SeqExpr (x' ∷ y' ∷ es')) ∙ h) in

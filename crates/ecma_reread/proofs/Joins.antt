@@ -110,6 +110,7 @@ pub record Words : Type 0 where
   pub new_whole : IsToken key_end (codes "new")
   pub target_whole : IsToken key_end (codes "target")
   pub await_whole : IsToken key_end (codes "await")
+  pub async_whole : IsToken key_end (codes "async")
   pub debugger_whole : IsToken key_end (codes "debugger")
   pub throw_whole : IsToken key_end (codes "throw")
   pub return_whole : IsToken key_end (codes "return")
@@ -264,7 +265,11 @@ module _ (words : Words) where
         let seconds = it blank (sign (codes ":")) (expression_tokens y blank us) in
         expression_joined t g h (it blank (sign (codes "?")) (expression_tokens x blank seconds)) parted
         (blank_is, refl, blank_joins (sign (codes "?")) x seconds, expression_joined x blank blank_is seconds parted (blank_is, refl, blank_joins (sign (codes ":")) y us, expression_joined y blank blank_is us z j))
-    expression_joined (shapes.arrow_function at ps e q a b) g h us z j =
+    expression_joined (shapes.arrow_function at true ps e q a b) g h us z j =
+        let arrow = it blank (sign (codes "=>")) (expression_tokens e blank us) in
+        let k = arguments_joined ps arrow (no_gap_is, refl, refl, (blank_is, refl, blank_joins (sign (codes "=>")) e us, expression_joined e blank blank_is us z j)) in
+        (h, words.async_whole, refl, (blank_is, refl, k.2, k.3))
+    expression_joined (shapes.arrow_function at false ps e q a b) g h us z j =
         let arrow = it blank (sign (codes "=>")) (expression_tokens e blank us) in
         let k = arguments_joined ps arrow (no_gap_is, refl, refl, (blank_is, refl, blank_joins (sign (codes "=>")) e us, expression_joined e blank blank_is us z j)) in
         (h, refl, k.2, k.3)

@@ -199,7 +199,8 @@ gap_out (shapes.yield_nothing at none) g us = refl
 gap_out (shapes.yield_value at d e) g us = refl
 gap_out (shapes.assignment_expression at o t v) g us = gap_out t g (it blank (assign_token o) (expression_tokens v blank us))
 gap_out (shapes.conditional_expression at t x y) g us = gap_out t g (it blank (sign (codes "?")) (expression_tokens x blank (it blank (sign (codes ":")) (expression_tokens y blank us))))
-gap_out (shapes.arrow_function at ps e z a b) g us = refl
+gap_out (shapes.arrow_function at true ps e z a b) g us = refl
+gap_out (shapes.arrow_function at false ps e z a b) g us = refl
 gap_out (shapes.array at at' es) g us = refl
 gap_out (shapes.object_literal at at' ps) g us = refl
 gap_out (shapes.sequence_expression at x y es) g us = gap_out x g (sign_of (codes ",") (expression_tokens y blank (more_tokens es us)))
@@ -450,7 +451,15 @@ mutual
       ∙ rw (tightly 2 1 spot.level (omega arith) c.low, no_sign spot.beside)
       (ap (λ z. (laid t').at (At (left spot 3 NoNeighbor)) m z) first_text
       ∙ expression_laid t (left spot 3 NoNeighbor) (quiet refl c.with_in (c.no_new refl) refl) q m (it blank (sign (codes "?")) (expression_tokens x blank seconds)))
-  expression_laid (shapes.arrow_function at {params = p'} {body = e'} {none = n'} {none' = n''} ps e z a b) spot c q m us =
+  expression_laid (shapes.arrow_function at true {params = p'} {body = e'} {none = n'} {none' = n''} ps e z a b) spot c q m us =
+      let body = beginning 1 ArrowBodyStart spot.without_in in
+      let rest = it blank (sign (codes "=>")) (expression_tokens e blank us) in
+      at_node at (kind.ArrowExpr true false) (p' ∷ e' ∷ n' ∷ n'' ∷ []) (At spot) m (render us)
+      ∙ rw (c.low, no_sign spot.beside)
+      (ap (λ z. codes "async " ++ z)
+      (ap (λ z. (laid p').at Arguments m z) (ap (λ z. codes " => " ++ z) (expression_laid e body (quiet refl c.with_in refl refl) (sym (braces_agree e) ∙ z) m us) ∙ ap (λ z. codes " =>" ++ z) (sym (gap_out e blank us)))
+      ∙ arguments_laid ps m rest))
+  expression_laid (shapes.arrow_function at false {params = p'} {body = e'} {none = n'} {none' = n''} ps e z a b) spot c q m us =
       let body = beginning 1 ArrowBodyStart spot.without_in in
       let rest = it blank (sign (codes "=>")) (expression_tokens e blank us) in
       at_node at (kind.ArrowExpr false false) (p' ∷ e' ∷ n' ∷ n'' ∷ []) (At spot) m (render us)

@@ -19,8 +19,8 @@ use Rattle.ecma_reread.specs.Shapes.{name_pattern, ident, key, absent, name, no_
 use Rattle.ecma_reread.specs.Modules.{string_literal, word_name, string_name, word_key, attribute, no_attributes, no_with, with_attributes, default_import, same_import, other_import, no_imports, more_imports, import_default_and_names, same_export, other_export, no_exports, more_exports, export_names, import_alone, import_bindings, export_bindings, export_all, export_declaration, export_default, import_require, no_items, more_items, IsHashbangText, IsModule, module_behind_hashbang}
 use Rattle.ecma_reread.specs.ModuleTokens.{module_head, module_tokens}
 use Rattle.ecma_reread.proofs.ModuleLayouts.{module_laid}
-use Rattle.ecma_reread.proofs.Words.{whole, layout_words}
-use Rattle.ecma_reread.proofs.Samples.{at, a_spelled, a_name, async_spelled, async_name, gone, a, async, out}
+use Rattle.ecma_reread.proofs.Words.{whole, async_spelled, layout_words}
+use Rattle.ecma_reread.proofs.Samples.{at, a_spelled, a_name, async_name, gone, a, async, out}
 
 m_whole : IsToken str_end (codes "\"m\"")
 unfolding chars is_utf8 encode after literal_part string_part literal_value value_behind text_of utf16_chars code_points code_points_up_to part_value str_end literal quoted string_character many at_most

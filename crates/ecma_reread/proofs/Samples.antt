@@ -1,5 +1,5 @@
 -- A module that has the shape, and its text.
-use Rattle.std.proofs.Common.{◌≡◌, ℕ, zero, suc, false, [], ◌∷◌, refl, ◌∙◌, codes, None}
+use Rattle.std.proofs.Common.{◌≡◌, ℕ, zero, suc, false, true, [], ◌∷◌, refl, ◌∙◌, codes, None}
 use Rattle.std.proofs.lemmas.Str.{IsUtf8-from_is_utf8}
 use Rattle.std.specs.Str.{chars, is_utf8}
 use lib.Utf8.{encode}
@@ -25,7 +25,7 @@ use Rattle.ecma_reread.specs.Modules.{statement, no_items, more_items, IsModule,
 use Rattle.ecma_reread.specs.ModuleTokens.{module_tokens}
 use Rattle.ecma_reread.proofs.Bindings.{further_out}
 use Rattle.ecma_reread.proofs.ModuleLayouts.{module_laid}
-use Rattle.ecma_reread.proofs.Words.{whole}
+use Rattle.ecma_reread.proofs.Words.{whole, async_spelled}
 use Rattle.ecma_reread.proofs.Braces.{begins_with_brace, braces_agree}
 
 abbrev pub at : Span
@@ -38,10 +38,6 @@ a_spelled = (IsUtf8-from_is_utf8 (codes "a") refl, (refl, refl))
 pub a_name : IsPlainName (codes "a")
 unfolding is_reserved reserved_words
 a_name = record { whole = whole (codes "a") a_spelled; free = refl }
-
-pub async_spelled : Spelled IsKeySpelling (codes "async")
-unfolding chars is_utf8 encode is_xid_start is_xid_continue in_ranges xid_start_ranges xid_continue_ranges
-async_spelled = (IsUtf8-from_is_utf8 (codes "async") refl, (refl, refl))
 
 pub async_name : IsPlainName (codes "async")
 unfolding is_reserved reserved_words
@@ -107,10 +103,10 @@ plainly is h = expression at is (braces_agree is ∙ h)
 
 abbrev chooser : Node
 chooser =
-    node_of at (kind.ArrowExpr false false)
+    node_of at (kind.ArrowExpr true false)
     (node_of at kind.List (node_of at kind.AssignPat (bound_a ∷ a ∷ []) ∷ node_of at kind.RestPat (bound_a ∷ gone ∷ []) ∷ []) ∷ a ∷ gone ∷ gone ∷ [])
 
--- `const async = (this), [, { a: a = a, a, ...a }, ...a] = a;`, `a.a(...a, [a, , { a: null, a, a = a, ...a }, ,]);`, `async(a, (a = a, ...a) => a).a;` and `a = - -a + a[a++] * (a ? a : a);`
+-- `const async = (this), [, { a: a = a, a, ...a }, ...a] = a;`, `a.a(...a, [a, , { a: null, a, a = a, ...a }, ,]);`, `async(a, async (a = a, ...a) => a).a;` and `a = - -a + a[a++] * (a ? a : a);`
 abbrev tree : Node
 tree =
     node_of at (kind.Module None)
@@ -149,17 +145,17 @@ shape =
     (filled (rest at bound_a (absent at)) no_slots)))
     (absent at) in
     let chosen =
-    arrow_function at (arguments at (bound (with_default at bound_a value)) (more_elements (rest at bound_a (absent at)) no_elements)) value (braces_agree value) (absent at) (absent at) in
+    arrow_function at true (arguments at (bound (with_default at bound_a value)) (more_elements (rest at bound_a (absent at)) no_elements)) value (braces_agree value) (absent at) (absent at) in
     module_of at at
     (more_items (statement (declaration at at Const (declarator at (name_pattern at async' (absent at)) (initializer (out 18 (parenthesized at (this_word at))))) (more_declarators (declarator at names (initializer value)) no_declarators)))
     (more_items (statement (plainly (call at (out 2 (member at member_of_new (name id) (plain_key (key at (codes "a") it')))) (arguments at (spread at (out 18 (name id))) (more_elements (one (out 18 slots)) no_elements)) (absent at)) refl))
     (more_items (statement (plainly (member at member_of_object (call at (out 2 (name async')) (arguments at (one (out 18 (name id))) (more_elements (one chosen) no_elements)) (absent at)) (plain_key (key at (codes "a") it'))) refl))
     (more_items (statement (plainly (assignment_expression at Assign (out 2 (name id)) value_shape) refl)) no_items))))
 
-text : render (module_tokens shape) ≡ codes "const async = (this), [, { a: a = a, a, ...a }, ...a] = a;\na.a(...a, [a, , { a: null, a, a = a, ...a }, ,]);\nasync(a, (a = a, ...a) => a).a;\na = - -a + a[a++] * (a ? a : a);\n"
+text : render (module_tokens shape) ≡ codes "const async = (this), [, { a: a = a, a, ...a }, ...a] = a;\na.a(...a, [a, , { a: null, a, a = a, ...a }, ,]);\nasync(a, async (a = a, ...a) => a).a;\na = - -a + a[a++] * (a ? a : a);\n"
 unfolding render shape value_shape
 text = refl
 
-laid : layout tree ≡ codes "const async = (this), [, { a: a = a, a, ...a }, ...a] = a;\na.a(...a, [a, , { a: null, a, a = a, ...a }, ,]);\nasync(a, (a = a, ...a) => a).a;\na = - -a + a[a++] * (a ? a : a);\n"
+laid : layout tree ≡ codes "const async = (this), [, { a: a = a, a, ...a }, ...a] = a;\na.a(...a, [a, , { a: null, a, a = a, ...a }, ,]);\nasync(a, async (a = a, ...a) => a).a;\na = - -a + a[a++] * (a ? a : a);\n"
 unfolding shape
 laid = module_laid shape ∙ text

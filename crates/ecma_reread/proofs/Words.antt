@@ -67,6 +67,10 @@ await_spelled : Spelled IsKey (codes "await")
 unfolding chars is_utf8 encode is_xid_start is_xid_continue in_ranges xid_start_ranges xid_continue_ranges
 await_spelled = (IsUtf8-from_is_utf8 (codes "await") refl, (refl, refl))
 
+pub async_spelled : Spelled IsKey (codes "async")
+unfolding chars is_utf8 encode is_xid_start is_xid_continue in_ranges xid_start_ranges xid_continue_ranges
+async_spelled = (IsUtf8-from_is_utf8 (codes "async") refl, (refl, refl))
+
 debugger_spelled : Spelled IsKey (codes "debugger")
 unfolding chars is_utf8 encode is_xid_start is_xid_continue in_ranges xid_start_ranges xid_continue_ranges
 debugger_spelled = (IsUtf8-from_is_utf8 (codes "debugger") refl, (refl, refl))
@@ -197,6 +201,7 @@ layout_words = record {
   new_whole = whole (codes "new") new_spelled;
   target_whole = whole (codes "target") target_spelled;
   await_whole = whole (codes "await") await_spelled;
+  async_whole = whole (codes "async") async_spelled;
   debugger_whole = whole (codes "debugger") debugger_spelled;
   throw_whole = whole (codes "throw") throw_spelled;
   return_whole = whole (codes "return") return_spelled;

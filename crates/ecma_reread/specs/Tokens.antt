@@ -203,7 +203,8 @@ abbrev mutual
   expression_tokens (yield_value at d e) g us = it g (items.key (codes "yield")) (star_of d (expression_tokens e blank us))
   expression_tokens (assignment_expression at o t v) g us = expression_tokens t g (it blank (assign_token o) (expression_tokens v blank us))
   expression_tokens (conditional_expression at t x y) g us = expression_tokens t g (it blank (sign (codes "?")) (expression_tokens x blank (it blank (sign (codes ":")) (expression_tokens y blank us))))
-  expression_tokens (arrow_function at ps e z a b) g us = it g (sign (codes "(")) (arguments_tokens ps (sign_of (codes ")") (it blank (sign (codes "=>")) (expression_tokens e blank us))))
+  expression_tokens (arrow_function at true ps e z a b) g us = it g (items.key (codes "async")) (it blank (sign (codes "(")) (arguments_tokens ps (sign_of (codes ")") (it blank (sign (codes "=>")) (expression_tokens e blank us)))))
+  expression_tokens (arrow_function at false ps e z a b) g us = it g (sign (codes "(")) (arguments_tokens ps (sign_of (codes ")") (it blank (sign (codes "=>")) (expression_tokens e blank us))))
   expression_tokens (array at at' es) g us = it g (sign (codes "[")) (slots_tokens es us)
   expression_tokens (object_literal at at' ps) g us = it g (sign (codes "{")) (properties_tokens ps us)
   expression_tokens (sequence_expression at x y es) g us = expression_tokens x g (sign_of (codes ",") (expression_tokens y blank (more_tokens es us)))
@@ -430,7 +431,7 @@ expression_kind (yield_nothing at none) = kind.YieldExpr false
 expression_kind (yield_value at d e) = kind.YieldExpr d
 expression_kind (assignment_expression at o t v) = kind.AssignExpr o
 expression_kind (conditional_expression at t x y) = kind.CondExpr
-expression_kind (arrow_function at ps e z a b) = kind.ArrowExpr false false
+expression_kind (arrow_function at is_async ps e z a b) = kind.ArrowExpr is_async false
 expression_kind (array at at' es) = kind.ArrayLit
 expression_kind (object_literal at at' ps) = kind.ObjectLit
 expression_kind (sequence_expression at x y es) = kind.SeqExpr
@@ -474,7 +475,7 @@ abbrev mutual
   expression_parts (yield_value at d e) = bare (expression_kind e) (expression_parts e) ∷ []
   expression_parts (assignment_expression at o t v) = bare (expression_kind t) (expression_parts t) ∷ bare (expression_kind v) (expression_parts v) ∷ []
   expression_parts (conditional_expression at t x y) = bare (expression_kind t) (expression_parts t) ∷ bare (expression_kind x) (expression_parts x) ∷ bare (expression_kind y) (expression_parts y) ∷ []
-  expression_parts (arrow_function at ps e z a b) = list_node (bare_arguments ps) ∷ bare (expression_kind e) (expression_parts e) ∷ absent ∷ absent ∷ []
+  expression_parts (arrow_function at is_async ps e z a b) = list_node (bare_arguments ps) ∷ bare (expression_kind e) (expression_parts e) ∷ absent ∷ absent ∷ []
   expression_parts (array at at' es) = list_node (bare_slots es) ∷ []
   expression_parts (object_literal at at' ps) = list_node (bare_properties ps) ∷ []
   expression_parts (sequence_expression at x y es) = bare (expression_kind x) (expression_parts x) ∷ bare (expression_kind y) (expression_parts y) ∷ bare_expressions es
