@@ -32,10 +32,10 @@ use Rattle.ecma_reread.specs.Tokens.{blank, element_tokens, arguments_tokens, el
 use Rattle.ecma_reread.proofs.Moves.{eats}
 use Rattle.ecma_reread.proofs.Levels.{means_is}
 use Rattle.ecma_reread.proofs.Fronts.{Front, exactly, Begins, at_token, refuses_at, refused_at, refuses_all, all_refused}
-use Rattle.ecma_reread.proofs.Towers.{excluded, behind_arrow, Ends}
+use Rattle.ecma_reread.proofs.Towers.{excluded, behind_arrow, closes_in}
 use Rattle.ecma_reread.proofs.Heads.{bare, nodes}
 use Rattle.ecma_reread.proofs.Forms.{linked_param, Laid, s, Reads, Refuses, no_item_at}
-use Rattle.ecma_reread.proofs.Bindings.{Stands, used}
+use Rattle.ecma_reread.proofs.Bindings.{StandsIn, Stands, used}
 use Rattle.ecma_reread.proofs.Repeats.{Repeats, repeats_end, repeats_more, repeated}
 use Rattle.ecma_reread.proofs.Further.{more}
 use Rattle.ecma_reread.proofs.Expressions.{no_param_at, parenthesis_ends, comma_ends}
@@ -87,34 +87,49 @@ module _ (assigned : Bool) where
       let vs = elements_tokens es (s (codes ")") us) in
       rw (param_read assigned e F.0 no_gap vs (more_followed es us), repeated assigned (more param) vs (s (codes ")") us) (bare_elements es) (more_read es F.1 us), append-nil (bare_elements es)) refl
 
-  module _ {ps : Node} (is : IsArguments shapes.bindings ps) (F : ArgumentForms is) {f : Laid} {k : Kind} {ns : List Node} (S : Stands assigned shapes.assignment f k ns) (no_block : (g : Gap) (us : Items) → Refuses assigned (punct (codes "{")) (f g us)) where
+  module _ {ps : Node} (is : IsArguments shapes.bindings ps) (F : ArgumentForms is) {no_in : Bool} {f : Laid} {k : Kind} {ns : List Node} (S : StandsIn assigned no_in shapes.assignment f k ns) (no_block : (g : Gap) (us : Items) → Refuses assigned (punct (codes "{")) (f g us)) where
     abbrev body : Items → Items
     body us = it blank (sign (codes "=>")) (f blank us)
 
-    abbrev tokens : Laid
+    abbrev pub tokens : Laid
     tokens g us = it g (sign (codes "(")) (arguments_tokens is (s (codes ")") (body us)))
 
     abbrev whole : Node
     whole = bare (kind.ArrowExpr false false) (list_node (bare_arguments is) ∷ bare k ns ∷ absent ∷ absent ∷ [])
 
-    body_read : (us : Items) (e : Front) → Begins e us → Ends e → Reads assigned (arrow_body false) (body us) (bare k ns ∷ []) us
+    body_read : (us : Items) (e : Front) → Begins e us → closes_in no_in shapes.assignment e ≡ true → Reads assigned (arrow_body no_in) (body us) (bare k ns ∷ []) us
     unfolding names.block
     body_read us e b z = rw (no_block blank us, no_block blank us, used assigned S blank us e b z) refl
 
-    rest_read : (g : Gap) (us : Items) (e : Front) → Begins e us → Ends e → Reads assigned (arrow_rest false false) (tokens g us) (absent ∷ list_node (bare_arguments is) ∷ absent ∷ bare k ns ∷ []) us
+    rest_read : (g : Gap) (us : Items) (e : Front) → Begins e us → closes_in no_in shapes.assignment e ≡ true → Reads assigned (arrow_rest no_in false) (tokens g us) (absent ∷ list_node (bare_arguments is) ∷ absent ∷ bare k ns ∷ []) us
     unfolding arrow_rest names.binding_ident
     rest_read g us e b z = rw (params_read is F (body us), body_read us e b z) refl
 
-    arrow_read : (g : Gap) (us : Items) (e : Front) → Begins e us → Ends e → means assigned (part.Assign false false) (tokens g us) ≡ read (whole ∷ []) us
+    pub arrow_read : (g : Gap) (us : Items) (e : Front) → Begins e us → closes_in no_in shapes.assignment e ≡ true → means assigned (part.Assign no_in false) (tokens g us) ≡ read (whole ∷ []) us
     unfolding arrow
     arrow_read g us e b z =
         let I = interp assigned (means assigned) in
         let ts = tokens g us in
-        means_is assigned (part.Assign false false) ts
-        ∙ (ap (or_on (I (behind_arrow false)) ts) (ap (built_on form.Arrow) (ap (with_front (absent ∷ [])) (rest_read g us e b z)))
+        means_is assigned (part.Assign no_in false) ts
+        ∙ (ap (or_on (I (behind_arrow no_in)) ts) (ap (built_on form.Arrow) (ap (with_front (absent ∷ [])) (rest_read g us e b z)))
         ∙ ap (λ x. read (x ∷ []) us) (arrow_made (list_node (bare_arguments is)) (bare k ns)))
 
-    pub arrow_form : Stands assigned shapes.assignment tokens (kind.ArrowExpr false false) (list_node (bare_arguments is) ∷ bare k ns ∷ absent ∷ absent ∷ [])
+    -- behind `async`
+    pub async_arrow_read : (g : Gap) (us : Items) (e : Front) → Begins e us → closes_in no_in shapes.assignment e ≡ true
+        → means assigned (part.Assign no_in false) (it g (items.key (codes "async")) (tokens blank us)) ≡ read (bare (kind.ArrowExpr true false) (list_node (bare_arguments is) ∷ bare k ns ∷ absent ∷ absent ∷ []) ∷ []) us
+    unfolding arrow
+    async_arrow_read g us e b z =
+        let I = interp assigned (means assigned) in
+        let ts = it g (items.key (codes "async")) (tokens blank us) in
+        means_is assigned (part.Assign no_in false) ts
+        ∙ (ap (or_on (I (behind_arrow no_in)) ts) (ap (or_on (I (build form.Arrow (put Absent ▸ arrow_rest no_in false))) ts) (ap (built_on form.Arrow) (ap (with_front []) (ap (with_front []) (ap (with_front (flag_node Present ∷ [])) (rest_read blank us e b z))))))
+        ∙ ap (λ x. read (x ∷ []) us) (async_made (list_node (bare_arguments is)) (bare k ns)))
+
+  module _ {ps : Node} (is : IsArguments shapes.bindings ps) (F : ArgumentForms is) {f : Laid} {k : Kind} {ns : List Node} (S : Stands assigned shapes.assignment f k ns) (no_block : (g : Gap) (us : Items) → Refuses assigned (punct (codes "{")) (f g us)) where
+    abbrev own : Laid
+    own = tokens is F S no_block
+
+    pub arrow_form : Stands assigned shapes.assignment own (kind.ArrowExpr false false) (list_node (bare_arguments is) ∷ bare k ns ∷ absent ∷ absent ∷ [])
     unfolding labeled param rest_pattern default_value pattern_body array_pattern object_pattern names.binding_ident statements.statement_body names.block statements.if_ statements.for_await statements.for_ statements.while_ statements.do_while statements.switch statements.try_ statements.jump declarations.declaration functions.function_declaration classes.class_declaration modules.module_item modules.import modules.import_equals modules.export modules.export_default
     arrow_form =
         let opening = exactly (sign (codes "(")) in
@@ -124,48 +139,37 @@ module _ (assigned : Bool) where
             front = opening;
             begins = λ g us. at_token;
             no_statement = refl;
-            no_item = λ g us. no_item_at assigned opening (tokens g us) at_token refl;
+            no_item = λ g us. no_item_at assigned opening (own g us) at_token refl;
             no_spread = refl;
-            no_label = λ g us e b z. refused_at assigned p labeled opening (tokens g us) at_token refl;
-            no_declaration = λ g us e b z. refused_at assigned p declaration opening (tokens g us) at_token refl;
-            no_word = λ g us e b z. refused_at assigned p excluded opening (tokens g us) at_token refl;
+            no_label = λ g us e b z. refused_at assigned p labeled opening (own g us) at_token refl;
+            no_declaration = λ g us e b z. refused_at assigned p declaration opening (own g us) at_token refl;
+            no_word = λ g us e b z. refused_at assigned p excluded opening (own g us) at_token refl;
           };
           tight = tt;
           no_or = tt;
           no_arrow = tt;
-          param = λ g us e b z. no_param_at assigned opening (tokens g us) us at_token refl refl;
-          reading = λ g us e b z. arrow_read g us e b z;
+          param = λ g us e b z. no_param_at assigned opening (own g us) us at_token refl refl;
+          reading = arrow_read is F S no_block;
         }
 
-    -- behind `async`
-    async_arrow_read : (g : Gap) (us : Items) (e : Front) → Begins e us → Ends e
-        → means assigned (part.Assign false false) (it g (items.key (codes "async")) (tokens blank us)) ≡ read (bare (kind.ArrowExpr true false) (list_node (bare_arguments is) ∷ bare k ns ∷ absent ∷ absent ∷ []) ∷ []) us
-    unfolding arrow
-    async_arrow_read g us e b z =
-        let I = interp assigned (means assigned) in
-        let ts = it g (items.key (codes "async")) (tokens blank us) in
-        means_is assigned (part.Assign false false) ts
-        ∙ (ap (or_on (I (behind_arrow false)) ts) (ap (or_on (I (build form.Arrow (put Absent ▸ arrow_rest false false))) ts) (ap (built_on form.Arrow) (ap (with_front []) (ap (with_front []) (ap (with_front (flag_node Present ∷ [])) (rest_read blank us e b z))))))
-        ∙ ap (λ x. read (x ∷ []) us) (async_made (list_node (bare_arguments is)) (bare k ns)))
-
-    pub async_arrow_form : Stands assigned shapes.assignment (λ g us. it g (items.key (codes "async")) (tokens blank us)) (kind.ArrowExpr true false) (list_node (bare_arguments is) ∷ bare k ns ∷ absent ∷ absent ∷ [])
+    pub async_arrow_form : Stands assigned shapes.assignment (λ g us. it g (items.key (codes "async")) (own blank us)) (kind.ArrowExpr true false) (list_node (bare_arguments is) ∷ bare k ns ∷ absent ∷ absent ∷ [])
     async_arrow_form =
         let A = async_form assigned in
         let opening = exactly (sign (codes "(")) in
         record {
           lead = record {
             front = A.front;
-            begins = λ g us. A.begins g (tokens blank us);
+            begins = λ g us. A.begins g (own blank us);
             no_statement = A.no_statement;
-            no_item = λ g us. A.no_item g (tokens blank us);
+            no_item = λ g us. A.no_item g (own blank us);
             no_spread = (let o = A.opens in o.no_spread);
-            no_label = λ g us e b z. A.no_label g (tokens blank us) opening at_token refl;
-            no_declaration = λ g us e b z. A.no_declaration g (tokens blank us) opening at_token refl;
-            no_word = λ g us e b z. A.no_word g (tokens blank us) opening at_token refl;
+            no_label = λ g us e b z. A.no_label g (own blank us) opening at_token refl;
+            no_declaration = λ g us e b z. A.no_declaration g (own blank us) opening at_token refl;
+            no_word = λ g us e b z. A.no_word g (own blank us) opening at_token refl;
           };
           tight = tt;
           no_or = tt;
           no_arrow = tt;
-          param = λ g us e b z. linked_param assigned at_token refl refl (A.as_param g (tokens blank us) opening at_token refl);
-          reading = λ g us e b z. async_arrow_read g us e b z;
+          param = λ g us e b z. linked_param assigned at_token refl refl (A.as_param g (own blank us) opening at_token refl);
+          reading = async_arrow_read is F S no_block;
         }

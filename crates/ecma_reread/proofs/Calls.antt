@@ -242,7 +242,7 @@ module _ (assigned : Bool) where
     expression_form (shapes.object_literal at at' ps) = from_new assigned refl (object_new assigned ps (property_forms ps))
     expression_form (shapes.sequence_expression at x y es) = sequence_form assigned (expression_form x) (expression_form y) es (expression_forms es)
 
-    argument_forms : {role : Role} {n : Node} (is : IsArguments role n) → ArgumentForms assigned is
+    pub argument_forms : {role : Role} {n : Node} (is : IsArguments role n) → ArgumentForms assigned is
     argument_forms (shapes.no_arguments at) = tt
     argument_forms (shapes.arguments at e es) = (element_form_of e, element_forms es)
 

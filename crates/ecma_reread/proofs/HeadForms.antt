@@ -1,11 +1,12 @@
 -- Expressions without a bare `in` stand also where `in` is no operator.
-use Rattle.std.proofs.Common.{◌≡◌, Bool, true, false, List, [], ◌∷◌, map, sym, ◌∙◌, refl}
+use Rattle.std.proofs.Common.{◌≡◌, Bool, true, false, List, [], ◌∷◌, map, ap, sym, ◌∙◌, refl}
 use Rattle.std.proofs.lemmas.Bool.{false≢true}
 use Rattle.ecma_kind.specs.declared.operators.BinaryOp.{BinaryOp}
 use Rattle.ecma_kind.specs.declared.operators.BinaryOp.TheVariants as op
 use Rattle.ecma_kind.specs.declared.kind.Kind.{Kind}
 use Rattle.ecma_kind.specs.declared.kind.Kind.TheVariants as kind
 use Rattle.ecma_tree.specs.declared.node.Node.{Node}
+use Rattle.ecma_reread.specs.Machine.{taken}
 use Rattle.ecma_reread.specs.Shapes as shapes
 use Rattle.ecma_reread.specs.Shapes.{Level, IsExpression, AreExpressions, IsMemberLevel, IsIndexed}
 use Rattle.ecma_reread.specs.Tokens.{expression_tokens, expression_kind, expression_parts}
@@ -19,7 +20,10 @@ use Rattle.ecma_reread.proofs.Choices.{choice_form}
 use Rattle.ecma_reread.proofs.Assignments.{whole_read}
 use Rattle.ecma_reread.proofs.Lists.{FormsIn}
 use Rattle.ecma_reread.proofs.Sequences as sequences
-use Rattle.ecma_reread.proofs.Calls.{expression_form}
+use Rattle.ecma_reread.proofs.Beginnings.{no_brace}
+use Rattle.ecma_reread.proofs.Braces.{braces_agree}
+use Rattle.ecma_reread.proofs.Arrows.{arrow_read, async_arrow_read}
+use Rattle.ecma_reread.proofs.Calls.{expression_form, argument_forms}
 use Rattle.ecma_reread.proofs.HeadLayouts.{neither, may_hold_node, operands_hold, one_same}
 
 -- levels of which `in` is no operator
@@ -95,7 +99,16 @@ module _ (assigned : Bool) where
         record { lead = S.lead; tight = S.tight; no_or = S.no_or; no_arrow = S.no_arrow; param = S.param; reading = whole_read assigned o (head_form t c.0) (head_form v (one_same _ c.1)) }
     head_form (shapes.yield_nothing at none) h = absurd (false≢true (sym (sym (may_hold_node at (kind.YieldExpr false) _) ∙ h)))
     head_form (shapes.yield_value at d e) h = absurd (false≢true (sym (sym (may_hold_node at (kind.YieldExpr d) _) ∙ h)))
-    head_form (shapes.arrow_function at w ps e z a b) h = absurd (false≢true (sym (sym (may_hold_node at (kind.ArrowExpr w false) _) ∙ h)))
+    head_form (shapes.arrow_function at false {params = ps'} {body = e'} {none = n} {none' = n'} ps e z a b) h =
+        let S = expression_form assigned (shapes.arrow_function at false ps e z a b) in
+        let c = neither (may_hold_in ps') _ (sym (may_hold_node at (kind.ArrowExpr false false) (ps' ∷ e' ∷ n ∷ n' ∷ [])) ∙ h) in
+        let d = neither (may_hold_in e') _ c.1 in
+        record { lead = S.lead; tight = S.tight; no_or = S.no_or; no_arrow = S.no_arrow; param = S.param; reading = arrow_read assigned ps (argument_forms assigned ps) (head_form e d.0) (λ g us. ap taken (no_brace e (sym (braces_agree e) ∙ z) g us)) }
+    head_form (shapes.arrow_function at true {params = ps'} {body = e'} {none = n} {none' = n'} ps e z a b) h =
+        let S = expression_form assigned (shapes.arrow_function at true ps e z a b) in
+        let c = neither (may_hold_in ps') _ (sym (may_hold_node at (kind.ArrowExpr true false) (ps' ∷ e' ∷ n ∷ n' ∷ [])) ∙ h) in
+        let d = neither (may_hold_in e') _ c.1 in
+        record { lead = S.lead; tight = S.tight; no_or = S.no_or; no_arrow = S.no_arrow; param = S.param; reading = async_arrow_read assigned ps (argument_forms assigned ps) (head_form e d.0) (λ g us. ap taken (no_brace e (sym (braces_agree e) ∙ z) g us)) }
     head_form (shapes.sequence_expression at {first = x'} {second = y'} {more = es'} x y es) h =
         let S = expression_form assigned (shapes.sequence_expression at x y es) in
         let c = neither (may_hold_in x') _ (sym (may_hold_node at kind.SeqExpr (x' ∷ y' ∷ es')) ∙ h) in

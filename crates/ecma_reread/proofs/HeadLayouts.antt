@@ -8,16 +8,18 @@ use Rattle.ecma_kind.specs.declared.kind.Kind.{Kind}
 use Rattle.ecma_kind.specs.declared.kind.Kind.TheVariants as kind
 use Rattle.ecma_tree.specs.declared.node.Node.{Node, ind-Node, fold-roll-Node}
 use Rattle.ecma_tree.specs.Nodes.{node_of}
+use Rattle.ecma_print.specs.declared.place.Begins.TheVariants.{ArrowBodyStart}
 use Rattle.ecma_print.specs.declared.place.Beside.{Beside}
 use Rattle.ecma_print.specs.declared.place.Beside.TheVariants.{NoNeighbor, BeforeLink, InChain}
 use Rattle.ecma_print.specs.declared.place.Spot.{Spot}
 use Rattle.ecma_print.specs.declared.place.Place.TheVariants.{At, Key, Arguments}
 use Rattle.ecma_print.specs.Pieces.{say, ◌>>◌}
-use Rattle.ecma_print.specs.Places.{free, left, right, gap}
+use Rattle.ecma_print.specs.Places.{free, left, right, beginning, gap}
 use Rattle.ecma_print.specs.Laid.{Laid, is_computed}
 use Rattle.ecma_print.specs.Levels.{clashes, in_parentheses}
 use Rattle.ecma_print.specs.Operators.{assign_word, unary_word, unary_sign, update_word, update_sign, binary_word, left_level, right_level, under}
 use Rattle.ecma_print.specs.Expressions.{object_beside, is_optional, question_dot, callee_spot, link_of, more_of_sequence}
+use Rattle.ecma_print.specs.Functions.{async_word}
 use Rattle.ecma_print.specs.Layout.{whole, standing, in_place, laid}
 use Rattle.ecma_reread.specs.Heads.{any_of, may_hold_by, may_hold_step, may_hold_in}
 use Rattle.ecma_reread.proofs.Layouts.{at_node}
@@ -122,7 +124,11 @@ step_same kind.SeqExpr (x ∷ cs) h spot m rest =
     standing_same kind.SeqExpr (texts (x ∷ cs)) spot refl m rest
     (ap (λ z. (laid x.0).at (At (left spot 1 NoNeighbor)) m z) (rest_same cs c.1 spot m rest) ∙ x.1 c.0 (left spot 1 NoNeighbor) m (more_of_sequence (texts cs) (with_in spot) m rest))
 step_same (kind.YieldExpr delegate) cs h spot m rest = absurd (false≢true (sym h))
-step_same (kind.ArrowExpr is_async is_generator) cs h spot m rest = absurd (false≢true (sym h))
+step_same (kind.ArrowExpr is_async is_generator) (p ∷ b ∷ t ∷ r ∷ []) h spot m rest =
+    let c = neither (may_hold_in p.0) _ h in
+    let d = neither (may_hold_in b.0) _ c.1 in
+    standing_same (kind.ArrowExpr is_async is_generator) (texts (p ∷ b ∷ t ∷ r ∷ [])) spot refl m rest
+    (ap (λ z. async_word is_async ++ (laid p.0).at Arguments m (codes " => " ++ z)) (b.1 d.0 (beginning 1 ArrowBodyStart spot.without_in) m rest))
 step_same (kind.VarDecl k declare) cs h spot m rest = absurd (false≢true (sym h))
 step_same (kind.VarDeclarator definite) cs h spot m rest = absurd (false≢true (sym h))
 step_same (kind.BinExpr o) [] h spot m rest = standing_same (kind.BinExpr o) (texts []) spot (rw (clash_same o (hold []) h spot spot.beside) refl) m rest refl
