@@ -1,7 +1,6 @@
 -- Arrays are read as they are laid out; as a pattern they are read whole, or not.
-use Rattle.std.proofs.Common.{◌≡◌, ℕ, suc, ◌-◌, Bool, true, false, List, [], ◌∷◌, ◌++◌, length, take, slice_get, codes, nat_le, refl, ap, ◌∙◌, arith, if◌then◌else◌}
+use Rattle.std.proofs.Common.{◌≡◌, suc, ◌-◌, Bool, true, false, List, [], ◌∷◌, ◌++◌, length, take, slice_get, codes, nat_le, refl, ap, ◌∙◌, arith, if◌then◌else◌}
 use Rattle.std.proofs.lemmas.Bool.{and_parts}
-use Rattle.ecma_kind.specs.declared.kind.Kind.{Kind}
 use Rattle.ecma_kind.specs.declared.kind.Kind.TheVariants as kind
 use Rattle.ecma_tree.specs.declared.node.Node.{Node}
 use Rattle.ecma_tree.specs.Nodes.{dummy_span, absent, list_node}
@@ -30,15 +29,15 @@ use Rattle.ecma_grammar.specs.productions.Declarations as declarations
 use Rattle.ecma_grammar.specs.productions.Statements as statements
 use Rattle.ecma_grammar.specs.productions.Modules as modules
 use Rattle.ecma_tokens.specs.Items.{sign, no_gap, Gap, Items, it}
-use Rattle.ecma_reread.specs.Machine.{Out, read, fails, with_front, followed_on, or_on, built_on, interp, means}
+use Rattle.ecma_reread.specs.Machine.{read, with_front, followed_on, or_on, built_on, interp, means}
 use Rattle.ecma_reread.specs.Shapes as shapes
 use Rattle.ecma_reread.specs.Shapes.{Role, IsExpression, IsElement, AreSlots}
 use Rattle.ecma_reread.specs.Tokens.{blank, element_tokens, slots_tokens, more_slots_tokens, expression_kind, bare_element, bare_slots}
 use Rattle.ecma_reread.proofs.Moves.{eats}
 use Rattle.ecma_reread.proofs.Levels.{means_is}
-use Rattle.ecma_reread.proofs.Fronts.{Front, exactly, Begins, at_token, refuses_at, refused_at, refuses_all, all_refused}
+use Rattle.ecma_reread.proofs.Fronts.{exactly, Begins, at_token, refuses_at, refused_at, refuses_all, all_refused}
 use Rattle.ecma_reread.proofs.Heads.{nodes, bare, kind-node}
-use Rattle.ecma_reread.proofs.Forms.{s, Reads, Refuses, ends_no_item, AsItem, item_refused, whole_item, item_before, NewForm}
+use Rattle.ecma_reread.proofs.Forms.{s, Reads, Refuses, AsItem, item_refused, whole_item, item_before, NewForm}
 use Rattle.ecma_reread.proofs.Towers.{here, later, sooner}
 use Rattle.ecma_reread.proofs.Repeats.{Repeats, repeats_end, repeats_more, repeated}
 use Rattle.ecma_reread.proofs.Further.{more, Lasts, Further, further_end, further_more, Listed, none_listed, some_listed, listed}

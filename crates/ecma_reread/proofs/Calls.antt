@@ -1,5 +1,5 @@
 -- Calls, and expressions by their shape.
-use Rattle.std.proofs.Common.{◌≡◌, bytes_eq, ℕ, Bool, true, false, List, [], ◌∷◌, ◌++◌, codes, refl, ap, sym, subst, ◌∙◌, append_assoc, append-nil, Some, None}
+use Rattle.std.proofs.Common.{◌≡◌, bytes_eq, ℕ, Bool, true, false, List, [], ◌∷◌, codes, refl, ap, sym, subst, ◌∙◌, append-nil}
 use Rattle.std.proofs.lemmas.Bool.{false≢true}
 use Rattle.std.proofs.lemmas.Slice.Eq.{bytes_eq-Decides}
 use Rattle.ecma_lex.specs.Keys.{is_reserved}
@@ -9,7 +9,6 @@ use Rattle.ecma_tree.specs.declared.node.Node.{Node}
 use Rattle.ecma_tree.specs.Nodes.{absent, list_node}
 use Rattle.ecma_grammar.specs.declared.production.Part.TheVariants as part
 use Rattle.ecma_grammar.specs.declared.production.Link.TheVariants as link
-use Rattle.ecma_grammar.specs.trees.Chains.{step_on, in_front_link}
 use Rattle.ecma_grammar.specs.Grammar.{◌▸◌, punct}
 use Rattle.ecma_grammar.specs.productions.Names as names
 use Rattle.ecma_grammar.specs.productions.Types.{params, param, rest_pattern, default_value}
@@ -22,17 +21,16 @@ use Rattle.ecma_grammar.specs.productions.Primary as primaries
 use Rattle.ecma_grammar.specs.productions.Primary.{element, spread}
 use Rattle.ecma_grammar.specs.productions.Chains as chains
 use Rattle.ecma_grammar.specs.productions.Chains.{arguments, links}
-use Rattle.ecma_grammar.proofs.Steps.{steps-append}
 use Rattle.ecma_tokens.specs.Items as items
 use Rattle.ecma_tokens.specs.Items.{Tok, sign, Gap, no_gap, Items, it}
-use Rattle.ecma_reread.specs.Machine.{with_front, means, taken}
+use Rattle.ecma_reread.specs.Machine.{with_front, taken}
 use Rattle.ecma_reread.specs.Shapes as shapes
 use Rattle.ecma_reread.specs.Shapes.{Level, IsPlainName, IsIdent, ident, IsKey, key, IsExpression, IsElement, AreSlots, IsProperty, AreProperties, IsArguments, AreElements, AreExpressions, IsMemberLevel, IsIndexed, regex_text, Role, IsPattern, IsDefaulted, IsInitializer, AreParts, IsChainLink}
 use Rattle.ecma_reread.specs.Tokens.{bare, blank, ident_word, key_word, own_sign, unary_gap, expression_tokens, element_tokens, arguments_tokens, elements_tokens, expression_kind, expression_parts, bare_element, bare_arguments, bare_elements, pattern_tokens, bare_pattern, defaulted_tokens, bare_defaulted, part_token, parts_tokens, bare_substitutions, bare_parts, point_of, question_of}
 use Rattle.ecma_reread.proofs.Levels.{means_is}
-use Rattle.ecma_reread.proofs.Fronts.{Front, exactly, Begins, at_token, IsName, is_known, refuses_at, refused_at, refuses_all, all_refused}
+use Rattle.ecma_reread.proofs.Fronts.{Front, exactly, Begins, at_token, IsName, is_known, refuses_at, refuses_all, all_refused}
 use Rattle.ecma_reread.proofs.Heads.{call_made, is_head, chain_call_made}
-use Rattle.ecma_reread.proofs.Forms.{Laid, s, behind_params, Reads, Refuses, linked_param, Form, NewForm, link_behind}
+use Rattle.ecma_reread.proofs.Forms.{Laid, s, behind_params, Reads, Refuses, Form, NewForm, link_behind}
 use Rattle.ecma_reread.proofs.Bindings.{Stands, from_form, loosened, standing, from_new, from_chain}
 use Rattle.ecma_reread.proofs.Operations.{await_form, power_form, unary_form, binary_form}
 use Rattle.ecma_reread.proofs.Members.{IsLinkKey, link_key, member_form, new_member_form}
@@ -45,9 +43,9 @@ use Rattle.ecma_reread.proofs.Logicals.{both_form, either_form}
 use Rattle.ecma_reread.proofs.Coalescing.{coalesced_form}
 use Rattle.ecma_reread.proofs.Assignments.{assignment_form}
 use Rattle.ecma_reread.proofs.Repeats.{Repeats, repeats_end, repeats_more, repeated}
-use Rattle.ecma_reread.proofs.Expressions.{Single, string_single, number_single, this_single, big_int_single, null_single, true_single, false_single, single_form, parenthesis_ends, comma_ends, single_new, name_new, parenthesized_new, regex_single}
+use Rattle.ecma_reread.proofs.Expressions.{Single, string_single, number_single, this_single, big_int_single, null_single, true_single, false_single, single_form, single_new, name_new, parenthesized_new, regex_single}
 use Rattle.ecma_reread.proofs.Params.{Params, params_end, params_more, params_by, parameters_refused, no_body_behind}
-use Rattle.ecma_reread.proofs.Lists.{Forms, Followed}
+use Rattle.ecma_reread.proofs.Lists.{Forms}
 use Rattle.ecma_reread.proofs.Sequences.{sequence_form}
 use Rattle.ecma_reread.proofs.Async.{async_new}
 use Rattle.ecma_reread.proofs.Arrays.{SlotForms, array_new, array_pattern_read}

@@ -1,28 +1,24 @@
 -- Members with keys in brackets are read as they are laid out.
-use Rattle.std.proofs.Common.{Bool, false, List, [], ◌∷◌, ◌++◌, codes, refl, ap, ◌∙◌, append_assoc, Some, None, ◌≡◌, true}
+use Rattle.std.proofs.Common.{Bool, false, List, [], ◌∷◌, codes, refl, append_assoc, ◌≡◌, true}
 use Rattle.ecma_kind.specs.declared.kind.Kind.{Kind}
 use Rattle.ecma_kind.specs.declared.kind.Kind.TheVariants as kind
 use Rattle.ecma_tree.specs.declared.node.Node.{Node}
 use Rattle.ecma_tree.specs.Nodes.{absent}
 use Rattle.ecma_grammar.specs.declared.production.Part.TheVariants as part
 use Rattle.ecma_grammar.specs.declared.production.Link.TheVariants as link
-use Rattle.ecma_grammar.specs.trees.Chains.{step_on, in_front_link}
 use Rattle.ecma_grammar.specs.productions.Names as names
 use Rattle.ecma_grammar.specs.productions.Functions.{arrow_rest}
 use Rattle.ecma_grammar.specs.productions.Operators.{factors, terms, shifts, relations, equalities}
 use Rattle.ecma_grammar.specs.productions.Expressions.{assignments}
 use Rattle.ecma_grammar.specs.productions.Chains as chains
 use Rattle.ecma_grammar.specs.productions.Chains.{links, new_links}
-use Rattle.ecma_grammar.proofs.Steps.{steps-append}
-use Rattle.ecma_tokens.specs.Items.{sign, no_gap, Items, it}
-use Rattle.ecma_reread.specs.Machine.{means}
+use Rattle.ecma_tokens.specs.Items.{sign, no_gap, Items}
 use Rattle.ecma_reread.specs.Shapes as shapes
-use Rattle.ecma_reread.specs.Tokens.{blank}
 use Rattle.ecma_reread.proofs.Levels.{means_is}
-use Rattle.ecma_reread.proofs.Fronts.{exactly, at_token, refused_at, refuses_at}
+use Rattle.ecma_reread.proofs.Fronts.{exactly, at_token, refuses_at}
 use Rattle.ecma_reread.proofs.Towers.{Ends}
 use Rattle.ecma_reread.proofs.Heads.{bare, member_made, is_head}
-use Rattle.ecma_reread.proofs.Forms.{Laid, s, Reads, linked_param, Form, NewForm, link_form}
+use Rattle.ecma_reread.proofs.Forms.{Laid, s, Reads, Form, NewForm, link_form}
 use Rattle.ecma_reread.proofs.Bindings.{Stands, expression_read}
 
 pub bracket_ends : Ends (exactly (sign (codes "]")))

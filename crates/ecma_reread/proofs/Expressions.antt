@@ -1,5 +1,5 @@
 -- Each form of expression is read as it is laid out.
-use Rattle.std.proofs.Common.{◌≡◌, ℕ, ◌-◌, Bool, true, false, List, [], ◌∷◌, ◌++◌, length, codes, refl, ap, ◌∙◌, append_assoc, Some, None, ap₂, arith}
+use Rattle.std.proofs.Common.{◌≡◌, ℕ, ◌-◌, Bool, true, false, List, [], ◌∷◌, length, codes, refl, ap, ◌∙◌, Some, ap₂, arith}
 use Rattle.ecma_number.specs.Numeral.{numeral_of}
 use Rattle.ecma_lex.specs.Text.{piece}
 use Rattle.ecma_lex.specs.Keys.{is_reserved, reserved_words}
@@ -9,10 +9,8 @@ use Rattle.ecma_kind.specs.declared.kind.Kind.TheVariants as kind
 use Rattle.ecma_tree.specs.declared.node.Node.{Node}
 use Rattle.ecma_tree.specs.Nodes.{absent}
 use Rattle.ecma_grammar.specs.declared.production.Part.TheVariants as part
-use Rattle.ecma_grammar.specs.declared.production.Link.TheVariants as link
 use Rattle.ecma_grammar.specs.declared.production.Leaf.TheVariants as leaf
 use Rattle.ecma_grammar.specs.declared.production.Form.TheVariants as form
-use Rattle.ecma_grammar.specs.trees.Chains.{step_on, in_front_link}
 use Rattle.ecma_grammar.specs.Grammar.{Grammar, keep, ◌▸◌, punct}
 use Rattle.ecma_grammar.specs.productions.Names as names
 use Rattle.ecma_grammar.specs.productions.Types.{param, default_value, rest_pattern}
@@ -30,7 +28,6 @@ use Rattle.ecma_grammar.specs.productions.Expressions.{assignments}
 use Rattle.ecma_grammar.specs.productions.Chains as chains
 use Rattle.ecma_grammar.specs.productions.Chains.{links, super_of_link, import_meta, import_call, construction, new_links, super_of_member}
 use Rattle.ecma_grammar.specs.productions.Statements.{labeled}
-use Rattle.ecma_grammar.proofs.Steps.{steps-append}
 use Rattle.ecma_grammar.specs.Reads.{without_separators}
 use Rattle.ecma_tokens.specs.Items as items
 use Rattle.ecma_tokens.specs.Items.{Tok, sign, Gap, no_gap, Items, it}
@@ -43,8 +40,7 @@ use Rattle.ecma_reread.proofs.Levels.{means_is}
 use Rattle.ecma_grammar.specs.Made.{made}
 use Rattle.ecma_reread.proofs.Fronts.{is_known, Front, exactly, a_name, Begins, at_token, at_name, IsName, front_of, refuses_at, refused_at, refuses_all, all_refused}
 use Rattle.ecma_reread.proofs.Towers.{Tower, here, later, sooner, climb, excluded, Opens, Starts, Undeclared, Ends, refuses_choices, skipped}
-use Rattle.ecma_reread.proofs.Heads.{member_made}
-use Rattle.ecma_reread.proofs.Forms.{Laid, s, heads, Reads, Refuses, ends_no_item, AsParam, item_refused, whole_item, linked_param, Form, new_heads, NewForm, no_item_at, no_arrow_at}
+use Rattle.ecma_reread.proofs.Forms.{Laid, s, heads, Reads, Refuses, ends_no_item, AsParam, item_refused, whole_item, Form, new_heads, NewForm, no_item_at, no_arrow_at}
 use Rattle.ecma_reread.proofs.Bindings.{Stands, expression_read}
 use Rattle.ecma_reread.proofs.Params.{params_end, parameters_refused, no_body_behind}
 use Rattle.ecma_reread.proofs.Pieces.{piece_between, piece_behind}

@@ -1,11 +1,10 @@
 -- What is read of the items of a list as the items of a list of another kind: whole ones, as long as they are, and where that ends.
-use Rattle.std.proofs.Common.{◌≡◌, Bool, true, List, [], ◌∷◌, ◌++◌, codes, nat_le, ap}
+use Rattle.std.proofs.Common.{◌≡◌, Bool, true, List, [], ◌++◌, codes, nat_le, ap}
 use Rattle.std.proofs.lemmas.Bool.{and_parts}
 use Rattle.ecma_tree.specs.declared.node.Node.{Node}
-use Rattle.ecma_grammar.specs.Grammar as grammar
 use Rattle.ecma_grammar.specs.Grammar.{Grammar, ◌▸◌, punct}
 use Rattle.ecma_tokens.specs.Items.{sign, Gap, Items, it}
-use Rattle.ecma_reread.specs.Machine.{with_front, interp, means}
+use Rattle.ecma_reread.specs.Machine.{with_front, means}
 use Rattle.ecma_reread.proofs.Moves.{eats}
 use Rattle.ecma_reread.proofs.Fronts.{Front, Begins, refuses_at, refused_at, refuses_first}
 use Rattle.ecma_reread.proofs.Forms.{Reads, Refuses, ends_no_list, ends_no_item, AsItem, item_refused, whole_item, item_before}

@@ -1,5 +1,5 @@
 -- `import.meta` and `import()` are read as they are laid out.
-use Rattle.std.proofs.Common.{◌≡◌, Bool, true, false, List, [], ◌∷◌, ◌++◌, codes, refl, ap, ◌∙◌}
+use Rattle.std.proofs.Common.{◌≡◌, Bool, true, false, [], ◌∷◌, codes, refl, ap, ◌∙◌}
 use Rattle.ecma_lex.specs.Keys.{is_reserved, reserved_words}
 use Rattle.ecma_kind.specs.declared.operators.MetaPropKind.TheVariants.{ImportMeta}
 use Rattle.ecma_kind.specs.declared.kind.Kind.TheVariants as kind
@@ -8,7 +8,7 @@ use Rattle.ecma_tree.specs.Nodes.{absent}
 use Rattle.ecma_grammar.specs.declared.production.Plain.TheVariants as plain
 use Rattle.ecma_grammar.specs.declared.production.Form.TheVariants as form
 use Rattle.ecma_grammar.specs.declared.production.Flag.TheVariants.{Absent}
-use Rattle.ecma_grammar.specs.Grammar.{put, ◌▸◌, ◌//◌}
+use Rattle.ecma_grammar.specs.Grammar.{put, ◌//◌}
 use Rattle.ecma_grammar.specs.productions.Names as names
 use Rattle.ecma_grammar.specs.productions.Types.{param, rest_pattern, default_value}
 use Rattle.ecma_grammar.specs.productions.Patterns.{pattern_body, array_pattern, object_pattern}
@@ -22,12 +22,12 @@ use Rattle.ecma_grammar.specs.productions.Modules as modules
 use Rattle.ecma_grammar.specs.productions.Operators.{prefixed}
 use Rattle.ecma_grammar.specs.productions.Primary.{primary}
 use Rattle.ecma_grammar.specs.productions.Chains.{arguments, links, new_links, super_of_member, super_of_link, import_meta, import_call, construction}
-use Rattle.ecma_tokens.specs.Items.{key, sign, no_gap, Gap, Items, it}
+use Rattle.ecma_tokens.specs.Items.{key, no_gap, Gap, Items, it}
 use Rattle.ecma_reread.specs.Machine.{with_front, followed_on, or_on, built_on, interp, means}
-use Rattle.ecma_reread.proofs.Fronts.{Front, exactly, Begins, at_token, refuses_at, refused_at}
+use Rattle.ecma_reread.proofs.Fronts.{Front, exactly, at_token, refuses_at, refused_at}
 use Rattle.ecma_reread.proofs.Towers.{Opens}
 use Rattle.ecma_reread.proofs.Heads.{bare}
-use Rattle.ecma_reread.proofs.Forms.{Laid, s, heads, new_heads, Reads, Refuses, NoItem, Form, NewForm, opens_plainly, form_from}
+use Rattle.ecma_reread.proofs.Forms.{s, heads, new_heads, Reads, Refuses, NoItem, Form, NewForm, opens_plainly, form_from}
 
 abbrev front : Front
 front = exactly (key (codes "import"))

@@ -1,8 +1,7 @@
 -- Literals in brackets or braces, of which a pattern may be read.
-use Rattle.std.proofs.Common.{◌≡◌, Bool, true, false, List, [], ◌∷◌, codes, refl, ap, ◌∙◌, None, Some}
+use Rattle.std.proofs.Common.{◌≡◌, Bool, true, false, List, [], ◌∷◌, codes, refl}
 use Rattle.ecma_kind.specs.declared.kind.Kind.{Kind}
 use Rattle.ecma_tree.specs.declared.node.Node.{Node}
-use Rattle.ecma_grammar.specs.declared.production.Form.TheVariants as form
 use Rattle.ecma_grammar.specs.Grammar.{Grammar, punct}
 use Rattle.ecma_grammar.specs.productions.Types.{rest_pattern}
 use Rattle.ecma_grammar.specs.productions.Functions.{arrow}
@@ -12,7 +11,7 @@ use Rattle.ecma_grammar.specs.productions.Statements.{labeled}
 use Rattle.ecma_tokens.specs.Items.{Tok, sign, Gap, Items, it}
 use Rattle.ecma_reread.specs.Machine.{means}
 use Rattle.ecma_reread.specs.Tokens.{blank}
-use Rattle.ecma_reread.proofs.Fronts.{Front, exactly, at_token, refuses_at, refused_at, refuses_all, all_refused}
+use Rattle.ecma_reread.proofs.Fronts.{Front, exactly, at_token, refuses_at, refused_at}
 use Rattle.ecma_reread.proofs.Towers.{Tower, excluded, Opens, Starts}
 use Rattle.ecma_reread.proofs.Heads.{bare}
 use Rattle.ecma_reread.proofs.Forms.{Laid, Reads, ends_no_item, Form, NewForm, no_item_at, no_arrow_at}

@@ -1,5 +1,5 @@
 -- Members by a name are read as they are laid out.
-use Rattle.std.proofs.Common.{◌≡◌, ℕ, Bool, false, List, [], ◌∷◌, ◌++◌, length, codes, refl, ap, sym, ◌∙◌, append_assoc, Some, None, ◌+◌, subst, arith, true}
+use Rattle.std.proofs.Common.{◌≡◌, ℕ, Bool, false, List, [], ◌∷◌, ◌++◌, length, codes, refl, ap, sym, append_assoc, ◌+◌, subst, arith, true}
 use Rattle.ecma_lex.specs.Text.{piece}
 use Rattle.ecma_lex.specs.Keys.{priv_name_end}
 use Rattle.ecma_kind.specs.declared.kind.Kind.{Kind}
@@ -8,24 +8,22 @@ use Rattle.ecma_tree.specs.declared.node.Node.{Node}
 use Rattle.ecma_tree.specs.Nodes.{absent}
 use Rattle.ecma_grammar.specs.declared.production.Part.TheVariants as part
 use Rattle.ecma_grammar.specs.declared.production.Link.TheVariants as link
-use Rattle.ecma_grammar.specs.trees.Chains.{step_on, in_front_link}
 use Rattle.ecma_grammar.specs.productions.Names as names
 use Rattle.ecma_grammar.specs.productions.Functions.{arrow_rest}
 use Rattle.ecma_grammar.specs.productions.Chains as chains
 use Rattle.ecma_grammar.specs.productions.Chains.{links, new_links, chain_key, arguments, index}
-use Rattle.ecma_grammar.proofs.Steps.{steps-append}
 use Rattle.ecma_tokens.specs.Items as items
 use Rattle.ecma_tokens.specs.Items.{Tok, sign, no_gap, Items, it}
 use Rattle.ecma_tokens.specs.Good.{IsToken}
 use Rattle.ecma_tokens.proofs.Privates.{private_parts}
-use Rattle.ecma_reread.specs.Machine.{read, means}
+use Rattle.ecma_reread.specs.Machine.{read}
 use Rattle.ecma_reread.specs.Shapes as shapes
 use Rattle.ecma_reread.specs.Shapes.{IsChainKey}
-use Rattle.ecma_reread.specs.Tokens.{bare, blank, chain_token, chain_kind}
+use Rattle.ecma_reread.specs.Tokens.{bare, chain_token, chain_kind}
 use Rattle.ecma_reread.proofs.Levels.{means_is}
-use Rattle.ecma_reread.proofs.Fronts.{exactly, at_token, refused_at, refuses_at}
+use Rattle.ecma_reread.proofs.Fronts.{exactly, at_token, refuses_at}
 use Rattle.ecma_reread.proofs.Heads.{member_made, is_head}
-use Rattle.ecma_reread.proofs.Forms.{Laid, s, Reads, linked_param, Form, NewForm, link_form}
+use Rattle.ecma_reread.proofs.Forms.{Laid, s, Reads, Form, NewForm, link_form}
 use Rattle.std.specs.Str.{IsUtf8}
 use Rattle.ecma_lex.proofs.Suffixes.{cut_utf8, past, piece_here}
 use Rattle.ecma_lex.proofs.Spelled.{alone}

@@ -1,8 +1,7 @@
 -- Objects are read as they are laid out; as a pattern they are read whole, or not.
-use Rattle.std.proofs.Common.{◌≡◌, ℕ, bytes_eq, ◌&&◌, ◌⊎◌, inl, inr, Bool, true, false, not, List, [], ◌∷◌, ◌++◌, codes, nat_le, refl, ap, sym, ◌∙◌, append-nil, Some, if◌then◌else◌}
+use Rattle.std.proofs.Common.{◌≡◌, ℕ, bytes_eq, ◌&&◌, Bool, true, false, List, [], ◌∷◌, ◌++◌, codes, nat_le, refl, ap, ◌∙◌, append-nil, if◌then◌else◌}
 use Rattle.std.proofs.lemmas.Bool.{and_parts}
 use Rattle.ecma_lex.specs.Keys.{is_reserved}
-use Rattle.ecma_kind.specs.declared.kind.Kind.{Kind}
 use Rattle.ecma_kind.specs.declared.kind.Kind.TheVariants as kind
 use Rattle.ecma_tree.specs.declared.node.Node.{Node}
 use Rattle.ecma_tree.specs.Nodes.{absent, list_node}
@@ -36,12 +35,12 @@ use Rattle.ecma_tokens.specs.Taking.{took_if, new_line_in}
 use Rattle.ecma_reread.specs.Machine.{Turn, Out, read, fails, taken, with_front, followed_on, or_on, built_on, ahead_on, interp, means}
 use Rattle.ecma_reread.specs.Shapes as shapes
 use Rattle.ecma_reread.specs.Shapes.{Role, IsIdent, ident, IsPropertyName, IsProperty, AreProperties, IsInitializer}
-use Rattle.ecma_reread.specs.Tokens.{blank, initializer_tokens, bare_initializer, defaulted_tokens, bare_defaulted, key_word, ident_word, expression_tokens, expression_kind, expression_parts, property_name_tokens, property_tokens, properties_tokens, more_properties_tokens, bare_ident, bare_property_name, bare_property, bare_properties, bare_expression}
+use Rattle.ecma_reread.specs.Tokens.{blank, initializer_tokens, bare_initializer, defaulted_tokens, bare_defaulted, key_word, expression_tokens, expression_kind, expression_parts, property_name_tokens, property_tokens, properties_tokens, more_properties_tokens, bare_property_name, bare_property, bare_properties, bare_expression}
 use Rattle.ecma_reread.proofs.Moves.{eats}
 use Rattle.ecma_reread.proofs.Levels.{means_is}
 use Rattle.ecma_reread.proofs.Fronts.{Front, exactly, Begins, at_token, refuses_at, refused_at, refuses_all, all_refused}
 use Rattle.ecma_reread.proofs.Heads.{nodes, bare}
-use Rattle.ecma_reread.proofs.Forms.{s, Reads, Refuses, ends_no_list, ends_no_item, AsItem, item_refused, whole_item, item_before, NewForm}
+use Rattle.ecma_reread.proofs.Forms.{s, Reads, Refuses, ends_no_list, AsItem, item_refused, whole_item, item_before, NewForm}
 use Rattle.ecma_reread.proofs.Towers.{here, later, sooner, Ends}
 use Rattle.ecma_reread.proofs.Bindings.{ends_no_equals, Stands, used}
 use Rattle.ecma_reread.proofs.Repeats.{Repeats, repeats_end, repeats_more, repeated}
@@ -49,9 +48,8 @@ use Rattle.ecma_reread.proofs.Further.{more, Lasts, Further, further_end, furthe
 use Rattle.ecma_reread.proofs.Params.{last_comma, Closes, no_comma, closing}
 use Rattle.ecma_reread.proofs.Expressions.{comma_ends}
 use Rattle.ecma_reread.proofs.Elements.{bracket_ends}
-use Rattle.ecma_reread.proofs.Lists.{Followed}
 use Rattle.ecma_reread.proofs.Spreads.{no_rest, ReadAsPattern, ReadAsDefaulted, InitializerForm, initializer_read}
-use Rattle.ecma_reread.proofs.Tried.{same_item, AsPattern, as_pattern, defaulted, defaulted_pattern, AsName, no_name, a_name, as_name, Stopped, at_end, astray, stopped, Wholly, wholly_refused, wholly_read}
+use Rattle.ecma_reread.proofs.Tried.{same_item, as_pattern, defaulted, defaulted_pattern, AsName, no_name, a_name, as_name, stopped, Wholly, wholly_refused, wholly_read}
 use Rattle.ecma_reread.proofs.Literals.{Literal, literal_new}
 
 -- what stands behind the name of a property begins neither another name nor a function

@@ -1,5 +1,5 @@
 -- What is read of expressions in parentheses as the parameters of an arrow function, and that none is read.
-use Rattle.std.proofs.Common.{◌≡◌, Bool, true, false, List, [], ◌∷◌, ◌++◌, codes, nat_le, refl, ap, ◌∙◌}
+use Rattle.std.proofs.Common.{◌≡◌, Bool, true, false, List, [], ◌∷◌, codes, nat_le, refl, ap, ◌∙◌}
 use Rattle.std.proofs.lemmas.Bool.{and_parts}
 use Rattle.ecma_tree.specs.declared.node.Node.{Node}
 use Rattle.ecma_grammar.specs.declared.production.Form.TheVariants as form
@@ -12,7 +12,7 @@ use Rattle.ecma_tokens.specs.Items.{sign, Gap, Items, it}
 use Rattle.ecma_reread.specs.Machine.{with_front, followed_on, or_on, built_on, interp, means}
 use Rattle.ecma_reread.proofs.Moves.{eats}
 use Rattle.ecma_reread.proofs.Fronts.{Front, Begins, refuses_at, refused_at}
-use Rattle.ecma_reread.proofs.Forms.{s, behind_params, Reads, Refuses, ends_no_list, ends_no_item, AsParam}
+use Rattle.ecma_reread.proofs.Forms.{s, behind_params, Reads, Refuses, ends_no_list, AsParam}
 use Rattle.ecma_reread.proofs.Repeats.{repeated}
 use Rattle.ecma_reread.proofs.Further.{more, Lasts, Further, further_end, further_more, Listed, none_listed, some_listed, listed}
 

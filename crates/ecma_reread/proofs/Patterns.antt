@@ -1,5 +1,5 @@
 -- Names as patterns, and patterns with default values, are read as they are laid out.
-use Rattle.std.proofs.Common.{◌≡◌, Bool, true, false, List, [], ◌∷◌, codes, refl, ap, ◌∙◌}
+use Rattle.std.proofs.Common.{◌≡◌, Bool, false, List, [], ◌∷◌, codes, refl, ap, ◌∙◌}
 use Rattle.ecma_kind.specs.declared.kind.Kind.{Kind}
 use Rattle.ecma_kind.specs.declared.kind.Kind.TheVariants as kind
 use Rattle.ecma_tree.specs.declared.node.Node.{Node}
@@ -10,7 +10,7 @@ use Rattle.ecma_grammar.specs.trees.Parts.{span_of, in_front}
 use Rattle.ecma_grammar.specs.declared.production.Plain.TheVariants as plain
 use Rattle.ecma_grammar.specs.declared.production.Flag.TheVariants.{Absent}
 use Rattle.ecma_grammar.specs.Made.{made}
-use Rattle.ecma_grammar.specs.Grammar.{put, ◌▸◌, punct}
+use Rattle.ecma_grammar.specs.Grammar.{put, ◌▸◌}
 use Rattle.ecma_grammar.specs.productions.Names.{pattern, binding_ident}
 use Rattle.ecma_grammar.specs.productions.Types.{param, rest_pattern, default_value}
 use Rattle.ecma_grammar.specs.productions.Patterns.{pattern_body}

@@ -1,5 +1,5 @@
 -- Arguments and elements of arrays, which may be spread, are read as they are laid out; and what is read of them as parameters and elements of a pattern.
-use Rattle.std.proofs.Common.{◌≡◌, Bool, true, [], ◌∷◌, codes, refl, ap, ◌∙◌, false}
+use Rattle.std.proofs.Common.{◌≡◌, Bool, [], ◌∷◌, codes, refl, ap, ◌∙◌, false}
 use Rattle.ecma_tree.specs.declared.node.Node.{Node}
 use Rattle.ecma_tree.specs.Nodes.{absent}
 use Rattle.ecma_grammar.specs.declared.production.Part.TheVariants as part
@@ -8,7 +8,7 @@ use Rattle.ecma_grammar.specs.declared.production.Plain.TheVariants as plain
 use Rattle.ecma_grammar.specs.declared.production.Flag.TheVariants.{Absent}
 use Rattle.ecma_grammar.specs.Made.{made}
 use Rattle.ecma_grammar.specs.Grammar.{Grammar, put, ◌▸◌, punct, maybe}
-use Rattle.ecma_grammar.specs.productions.Names.{pattern, assign, assign_in}
+use Rattle.ecma_grammar.specs.productions.Names.{pattern, assign_in}
 use Rattle.ecma_grammar.specs.productions.Types.{rest_pattern, param}
 use Rattle.ecma_grammar.specs.productions.Patterns.{pattern_element}
 use Rattle.ecma_grammar.specs.productions.Primary.{element, spread}
@@ -17,7 +17,7 @@ use Rattle.ecma_reread.specs.Machine.{read, followed_on, or_on, built_on, interp
 use Rattle.ecma_reread.specs.Shapes as shapes
 use Rattle.ecma_reread.specs.Shapes.{Role, IsElement, IsInitializer}
 use Rattle.ecma_reread.specs.Tokens.{blank, expression_tokens, expression_kind, expression_parts, element_tokens, bare_element, pattern_tokens, bare_pattern, defaulted_tokens, bare_defaulted, initializer_tokens, bare_initializer}
-use Rattle.ecma_reread.proofs.Fronts.{Front, Begins, refuses_at, refused_at}
+use Rattle.ecma_reread.proofs.Fronts.{refused_at}
 use Rattle.ecma_reread.proofs.Forms.{Laid, Reads, Refuses, Lead, AsItem, AsParam}
 use Rattle.ecma_reread.proofs.Bindings.{ends_no_equals, Stands, used, closed, StandsIn}
 use Rattle.ecma_reread.proofs.Lists.{Followed}

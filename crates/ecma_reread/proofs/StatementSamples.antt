@@ -1,15 +1,15 @@
 -- Statements that have the shape, and their text.
-use Rattle.std.proofs.Common.{◌≡◌, false, true, [], ◌∷◌, refl, ◌∙◌, codes}
+use Rattle.std.proofs.Common.{◌≡◌, false, [], refl, ◌∙◌, codes}
 use Rattle.ecma_kind.specs.declared.operators.VarDeclKind.TheVariants.{Let}
 use Rattle.ecma_tree.specs.declared.node.Node.{Node}
 use Rattle.ecma_print.specs.Layout.{layout}
 use Rattle.ecma_tokens.specs.Items.{render}
-use Rattle.ecma_reread.specs.Shapes.{callee, assignment, IsExpression, ident, absent, name, name_pattern, initializer, declarator, left_out, given, for_declarator, no_for_declarators, init_declaration, for_target, empty, debugger_word, throw, return_nothing, break_label, block, block_of, if_only, if_else, while_loop, do_loop, for_loop, for_of, switch_statement, case_of, default_of, no_cases, more_cases, try_catch_finally, catch_pattern, labeled, no_statements, more_statements}
+use Rattle.ecma_reread.specs.Shapes.{callee, assignment, IsExpression, ident, absent, name, name_pattern, initializer, left_out, given, for_declarator, no_for_declarators, init_declaration, for_target, empty, debugger_word, throw, return_nothing, break_label, block, block_of, if_only, if_else, while_loop, do_loop, for_loop, for_of, switch_statement, case_of, default_of, no_cases, more_cases, try_catch_finally, catch_pattern, labeled, no_statements, more_statements}
 use Rattle.ecma_reread.specs.Modules.{IsModule, module_of, statement, no_items, more_items}
 use Rattle.ecma_reread.specs.ModuleTokens.{module_tokens}
 use Rattle.ecma_reread.proofs.ModuleLayouts.{module_laid}
 use Rattle.ecma_reread.proofs.HeadLayouts.{may_hold_node}
-use Rattle.ecma_reread.proofs.Samples.{at, a_name, a, gone, out}
+use Rattle.ecma_reread.proofs.Samples.{at, a_name, a, out}
 
 target : IsExpression callee a
 target = out 2 (name (ident at (codes "a") a_name))

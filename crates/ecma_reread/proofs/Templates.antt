@@ -1,14 +1,13 @@
 -- Templates, and templates behind tags, are read as they are laid out.
-use Rattle.std.proofs.Common.{◌≡◌, ℕ, ◌+◌, ◌-◌, ◌||◌, Bool, true, false, List, [], ◌∷◌, ◌++◌, filter, length, codes, nat_le, refl, ap, ap₂, ◌∙◌, append-nil, arith, Some, is_some, append_assoc}
+use Rattle.std.proofs.Common.{◌≡◌, ℕ, ◌+◌, ◌-◌, ◌||◌, Bool, true, false, List, [], ◌∷◌, ◌++◌, filter, length, codes, nat_le, refl, ap, ap₂, ◌∙◌, arith, is_some, append_assoc}
 use Rattle.std.proofs.lemmas.List.{length-append}
 use Rattle.std.specs.Str.{IsUtf8}
 use Rattle.ecma_lex.specs.Keys.{is_reserved, reserved_words}
-use Rattle.ecma_lex.specs.Templates.{template_value, end_length, template_raw}
+use Rattle.ecma_lex.specs.Templates.{template_value, template_raw}
 use Rattle.ecma_kind.specs.declared.kind.Kind.{Kind}
 use Rattle.ecma_kind.specs.declared.kind.Kind.TheVariants as kind
 use Rattle.ecma_tree.specs.declared.node.Node.{Node}
 use Rattle.ecma_tree.specs.Nodes.{dummy_span, absent, list_node}
-use Rattle.ecma_grammar.specs.declared.production.TemplatePart.{TemplatePart}
 use Rattle.ecma_grammar.specs.declared.production.Part.TheVariants as part
 use Rattle.ecma_grammar.specs.declared.production.Link.TheVariants as link
 use Rattle.ecma_grammar.specs.declared.production.Leaf.TheVariants as leaf
@@ -42,10 +41,10 @@ use Rattle.ecma_reread.specs.Shapes.{Level, IsExpression, part_text, IsPart, Are
 use Rattle.ecma_reread.specs.Tokens.{bare, part_raw, part_token, expression_tokens, parts_tokens, expression_kind, expression_parts, bare_expression, bare_part, bare_parts, bare_substitutions, ends_here, first_raw}
 use Rattle.ecma_reread.proofs.Moves.{eats}
 use Rattle.ecma_reread.proofs.Levels.{means_is}
-use Rattle.ecma_reread.proofs.Fronts.{Front, exactly, Begins, at_token, refuses_at}
+use Rattle.ecma_reread.proofs.Fronts.{Front, exactly, at_token, refuses_at}
 use Rattle.ecma_reread.proofs.Towers.{Tower, here, later, sooner, Opens, Ends}
 use Rattle.ecma_reread.proofs.Heads.{is_head, kind-node, tagged_made}
-use Rattle.ecma_reread.proofs.Forms.{Laid, Reads, apart, ends_no_param, only_opens, Form, NewForm, form_by, link_form}
+use Rattle.ecma_reread.proofs.Forms.{Laid, Reads, only_opens, Form, NewForm, form_by, link_form}
 use Rattle.ecma_reread.proofs.Bindings.{Stands, expression_read}
 use Rattle.ecma_reread.proofs.Repeats.{Repeats, repeats_end, repeats_more, repeated}
 use Rattle.ecma_reread.proofs.Expressions.{IsPrimary, primary_by, head_read, new_head_read}

@@ -16,7 +16,7 @@ use Rattle.ecma_grammar.specs.productions.Names as names
 use Rattle.ecma_grammar.specs.productions.Names.{pattern, assign}
 use Rattle.ecma_grammar.specs.productions.Types.{param, rest_pattern, default_value, annotation}
 use Rattle.ecma_grammar.specs.productions.Patterns.{pattern_body, pattern_element, array_pattern, object_pattern}
-use Rattle.ecma_tokens.specs.Items.{Tok, key, private_name, sign, string, number, big_int, regex, template, Gap, Items, ends, it}
+use Rattle.ecma_tokens.specs.Items.{sign, number, regex, template, Gap, Items, it}
 use Rattle.ecma_tokens.specs.Taking as taking
 use Rattle.ecma_tokens.specs.Taking.{Took, took, refused, took_if, unsure_if, punct_in}
 use Rattle.ecma_reread.specs.Machine.{Out, read, fails, unsure, taken, with_front, followed_on, or_on, built_on, interp, means}
