@@ -57,6 +57,11 @@ named-by n span _ cs is e = absurd (cc)
 pub named : (n : Node) → has_text (identifier_by (out-Node n).kind (out-Node n).children) ≡ true → Named n
 named n e = named-by n (out-Node n).span (out-Node n).kind (out-Node n).children (roll-out-Node n) e
 
+pub named-out : (name : Node) (n : Named name) → written_out name ≡ node_of n.span kind.BindingIdent (node_of n.leaf.span (kind.Ident n.leaf.text n.leaf.ctxt n.leaf.optional) [] ∷ written_out n.annotation ∷ [])
+named-out name n =
+    ap written_out n.is ∙ out-of n.span kind.BindingIdent (n.id ∷ n.annotation ∷ [])
+    ∙ ap (λ id. node_of n.span kind.BindingIdent (id ∷ written_out n.annotation ∷ [])) (ap written_out n.leaf.is ∙ out-of n.leaf.span (kind.Ident n.leaf.text n.leaf.ctxt n.leaf.optional) [])
+
 pub pattern-out : (span place lies : Span) (text : List ℕ) (ctxt : ℕ) (optional : Bool) (annotation name default : Node) (parts : Node-F Node) → name ≡ node_of place kind.BindingIdent (node_of lies (kind.Ident text ctxt optional) [] ∷ annotation ∷ [])
     → pattern_by (identifier_by (out-Node name).kind (out-Node name).children) span name default parts ≡ node_of span kind.KeyValuePatProp (key_node lies text ∷ with_default span name default ∷ [])
 pattern-out span place lies text ctxt optional annotation name default parts is =
@@ -169,21 +174,16 @@ module _ (onto : ℕ → ℕ) (texts : Texts) (none : onto 0 ≡ 0) (empty : (te
     abbrev pub pattern_final : Node
     pattern_final = node_of span kind.KeyValuePatProp (key_node n.leaf.span n.leaf.text ∷ with_default span (renamed to (written_out name)) (renamed to (written_out default)) ∷ [])
 
-    name-written : written_out name ≡ node_of n.span kind.BindingIdent (node_of n.leaf.span (kind.Ident n.leaf.text n.leaf.ctxt n.leaf.optional) [] ∷ written_out n.annotation ∷ [])
-    name-written =
-        ap written_out n.is ∙ out-of n.span kind.BindingIdent (n.id ∷ n.annotation ∷ [])
-        ∙ ap (λ id. node_of n.span kind.BindingIdent (id ∷ written_out n.annotation ∷ [])) (ap written_out n.leaf.is ∙ out-of n.leaf.span (kind.Ident n.leaf.text n.leaf.ctxt n.leaf.optional) [])
-
     name-final : renamed to (written_out name)
         ≡ node_of n.span kind.BindingIdent (node_of n.leaf.span (kind.Ident (text_of texts (n.leaf.text, n.leaf.ctxt)) (onto n.leaf.ctxt) n.leaf.optional) [] ∷ renamed to (written_out n.annotation) ∷ [])
     name-final =
-        ap (renamed to) name-written ∙ renamed-of to n.span kind.BindingIdent (node_of n.leaf.span (kind.Ident n.leaf.text n.leaf.ctxt n.leaf.optional) [] ∷ written_out n.annotation ∷ [])
+        ap (renamed to) (named-out name n) ∙ renamed-of to n.span kind.BindingIdent (node_of n.leaf.span (kind.Ident n.leaf.text n.leaf.ctxt n.leaf.optional) [] ∷ written_out n.annotation ∷ [])
         ∙ ap (λ id. node_of n.span kind.BindingIdent (id ∷ renamed to (written_out n.annotation) ∷ [])) (renamed-of to n.leaf.span (kind.Ident n.leaf.text n.leaf.ctxt n.leaf.optional) [])
 
     pub pattern-written : written_out (node_of span kind.AssignPatProp (name ∷ default ∷ [])) ≡ node_of span kind.KeyValuePatProp (key_node n.leaf.span n.leaf.text ∷ with_default span (written_out name) (written_out default) ∷ [])
     pattern-written =
         out-of span kind.AssignPatProp (name ∷ default ∷ [])
-        ∙ pattern-out span n.span n.leaf.span n.leaf.text n.leaf.ctxt n.leaf.optional (written_out n.annotation) (written_out name) (written_out default) _ name-written
+        ∙ pattern-out span n.span n.leaf.span n.leaf.text n.leaf.ctxt n.leaf.optional (written_out n.annotation) (written_out name) (written_out default) _ (named-out name n)
 
     -- renamed
     pub pattern-renamed : renamed to (written_out (node_of span kind.AssignPatProp (name ∷ default ∷ []))) ≡ pattern_final

@@ -6,3 +6,4 @@ mod Renaming
 mod GivenTexts
 mod Passing
 mod FinalRuns
+mod Sorted

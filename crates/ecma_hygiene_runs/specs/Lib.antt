@@ -1,4 +1,5 @@
 pub mod WrittenOut
 pub mod FinalTexts
 pub mod KeyNames
+pub mod Sorted
 pub mod Laws

@@ -5,6 +5,7 @@
 #![tactic(auto)]
 
 ghost use Rattle.ecma_hygiene_runs.specs.Laws.{FinalTextsKeepRuns, ReadingAgainKeepsRuns, ShorthandsDoNotMatter, WrittenOutShorthandsDoNotMatter};
+ghost use Rattle.ecma_hygiene_runs.specs.Sorted.{SortedNamesAreOuter};
 
 /// A module with its shorthands written out is observed to do what it does with them, for every tree, every script of the host and every number of
 /// turns.
@@ -25,4 +26,10 @@ pub fn final_texts_keep_runs()
 /// So it is with the contexts that its final texts get where they are read again: the texts alone say what the module does.
 pub fn reading_again_keeps_runs()
     ensures { ReadingAgainKeepsRuns }
+{}
+
+/// In a tree with the sort of a module in which what is no name of a variable has the empty context, shorthand patterns have names, and with the
+/// shorthands written out the keys that are names have the empty context.
+pub fn sorted_names_are_outer()
+    ensures { SortedNamesAreOuter }
 {}
