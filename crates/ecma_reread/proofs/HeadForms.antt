@@ -9,7 +9,7 @@ use Rattle.ecma_tree.specs.declared.node.Node.{Node}
 use Rattle.ecma_reread.specs.Machine.{taken}
 use Rattle.ecma_reread.specs.Shapes as shapes
 use Rattle.ecma_reread.specs.Shapes.{Level, IsExpression, AreExpressions, IsMemberLevel, IsIndexed}
-use Rattle.ecma_reread.specs.Tokens.{expression_tokens, expression_kind, expression_parts}
+use Rattle.ecma_reread.specs.Tokens.{blank, expression_tokens, expression_kind, expression_parts}
 use Rattle.ecma_reread.specs.Heads.{any_of, may_hold_by, may_hold_in}
 use Rattle.ecma_reread.proofs.Forms.{Laid}
 use Rattle.ecma_reread.proofs.Bindings.{StandsIn, Stands, loosened}
@@ -20,8 +20,9 @@ use Rattle.ecma_reread.proofs.Choices.{choice_form}
 use Rattle.ecma_reread.proofs.Assignments.{whole_read}
 use Rattle.ecma_reread.proofs.Lists.{FormsIn}
 use Rattle.ecma_reread.proofs.Sequences as sequences
-use Rattle.ecma_reread.proofs.Beginnings.{no_brace}
+use Rattle.ecma_reread.proofs.Beginnings.{no_new_line, no_star, no_brace}
 use Rattle.ecma_reread.proofs.Braces.{braces_agree}
+use Rattle.ecma_reread.proofs.Yields.{alone_read, yield_read}
 use Rattle.ecma_reread.proofs.Arrows.{arrow_read, async_arrow_read}
 use Rattle.ecma_reread.proofs.Calls.{expression_form, argument_forms}
 use Rattle.ecma_reread.proofs.HeadLayouts.{neither, may_hold_node, operands_hold, one_same}
@@ -97,8 +98,13 @@ module _ (assigned : Bool) where
         let S = expression_form assigned (shapes.assignment_expression at o t v) in
         let c = neither (may_hold_in t') _ (sym (may_hold_node at (kind.AssignExpr o) (t' ∷ v' ∷ [])) ∙ h) in
         record { lead = S.lead; tight = S.tight; no_or = S.no_or; no_arrow = S.no_arrow; param = S.param; reading = whole_read assigned o (head_form t c.0) (head_form v (one_same _ c.1)) }
-    head_form (shapes.yield_nothing at none) h = absurd (false≢true (sym (sym (may_hold_node at (kind.YieldExpr false) _) ∙ h)))
-    head_form (shapes.yield_value at d e) h = absurd (false≢true (sym (sym (may_hold_node at (kind.YieldExpr d) _) ∙ h)))
+    head_form (shapes.yield_nothing at none) h =
+        let S = expression_form assigned (shapes.yield_nothing at none) in
+        record { lead = S.lead; tight = S.tight; no_or = S.no_or; no_arrow = S.no_arrow; param = S.param; reading = alone_read assigned true }
+    head_form (shapes.yield_value at d {e = e'} e) h =
+        let S = expression_form assigned (shapes.yield_value at d e) in
+        let c = one_same _ (sym (may_hold_node at (kind.YieldExpr d) (e' ∷ [])) ∙ h) in
+        record { lead = S.lead; tight = S.tight; no_or = S.no_or; no_arrow = S.no_arrow; param = S.param; reading = yield_read assigned (head_form e c) d (no_new_line e) (λ us. ap taken (no_star e blank us)) }
     head_form (shapes.arrow_function at false {params = ps'} {body = e'} {none = n} {none' = n'} ps e z a b) h =
         let S = expression_form assigned (shapes.arrow_function at false ps e z a b) in
         let c = neither (may_hold_in ps') _ (sym (may_hold_node at (kind.ArrowExpr false false) (ps' ∷ e' ∷ n ∷ n' ∷ [])) ∙ h) in

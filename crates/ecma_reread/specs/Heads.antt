@@ -13,7 +13,7 @@ abbrev pub first_of : List Bool → Bool
 first_of [] = false
 first_of (b ∷ bs) = b
 
--- by what is said of the parts; `yield` is not looked into
+-- by what is said of the parts
 abbrev pub may_hold_by : Kind → List Bool → Bool
 may_hold_by (kind.BinExpr op.In) bs = true
 may_hold_by (kind.BinExpr o) bs = any_of bs
@@ -29,7 +29,7 @@ may_hold_by (kind.OptChainExpr optional) bs = first_of bs
 may_hold_by kind.OptCall bs = first_of bs
 may_hold_by kind.TaggedTpl bs = first_of bs
 may_hold_by kind.SeqExpr bs = any_of bs
-may_hold_by (kind.YieldExpr delegate) bs = true
+may_hold_by (kind.YieldExpr delegate) bs = any_of bs
 may_hold_by (kind.ArrowExpr is_async is_generator) bs = any_of bs
 may_hold_by (kind.VarDecl k declare) bs = true
 may_hold_by (kind.VarDeclarator definite) bs = true
