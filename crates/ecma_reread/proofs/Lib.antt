@@ -79,4 +79,5 @@ pub mod Words
 pub mod Law
 mod Samples
 mod StatementSamples
+mod ChainSamples
 mod ModuleSamples

@@ -98,7 +98,7 @@ bound_names =
     ∷ node_of at kind.RestPat (bound_a ∷ gone ∷ []) ∷ [])
     ∷ gone ∷ [])
 
-abbrev plainly : {level : Level} {e : Node} (is : IsExpression level e) → begins_with_brace is ≡ false → IsStatement closed (node_of at kind.ExprStmt (e ∷ []))
+abbrev pub plainly : {level : Level} {e : Node} (is : IsExpression level e) → begins_with_brace is ≡ false → IsStatement closed (node_of at kind.ExprStmt (e ∷ []))
 plainly is h = expression at is (braces_agree is ∙ h)
 
 abbrev chooser : Node
