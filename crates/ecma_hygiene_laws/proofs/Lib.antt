@@ -27,3 +27,5 @@ pub mod OwnScopes
 pub mod ResolvedRight
 pub mod Sorting
 pub mod ResolvedModules
+pub mod Numbers
+pub mod Mapping

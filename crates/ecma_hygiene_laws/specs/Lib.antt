@@ -4,3 +4,4 @@ pub mod Stops
 pub mod ReadAgain
 pub mod Seats
 pub mod Resolving
+pub mod Apart

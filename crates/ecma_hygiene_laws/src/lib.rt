@@ -4,6 +4,7 @@
 //! Each function carries one law, and does nothing. The laws are stated in `specs/`.
 #![tactic(auto)]
 
+ghost use Rattle.ecma_hygiene_laws.specs.Apart.{ContextsAreMapped};
 ghost use Rattle.ecma_hygiene_laws.specs.ReadAgain.{FollowsItsTexts, IdsStayApart, IsReadAgain};
 ghost use Rattle.ecma_hygiene_laws.specs.Resolving.{ResolvedFollowsItsTexts, ResolvedIsReadAgain, ResolvedIsRight};
 ghost use Rattle.ecma_hygiene_laws.specs.Scopes.{ScopesDeclareFinalTexts};
@@ -45,4 +46,9 @@ pub fn resolved_modules_are_read_again()
 /// scope, and a free one, and it alone, has the unresolved context.
 pub fn resolved_modules_mean_what_their_texts_name()
     ensures { ResolvedFollowsItsTexts }
+{}
+
+/// Where the contexts of a tree tell its scopes apart, there is such a map of contexts, and it is one to one.
+pub fn contexts_are_mapped_one_to_one()
+    ensures { ContextsAreMapped }
 {}
