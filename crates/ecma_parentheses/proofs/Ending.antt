@@ -1,4 +1,4 @@
--- Up to parentheses that end no chain, each node in its spot is what it is where chains end; so both trees run alike.
+-- Up to parentheses that end no chain, each node in its spot is what it is where chains end.
 use Rattle.std.proofs.Common.{◌≡◌, ◌⊎◌, inl, inr, ℕ, refl, sym, ap, subst, ◌∙◌, ◌&&◌, List, [], ◌∷◌, map, length, Bool, true, false, if◌then◌else◌}
 use Rattle.ecma_kind.specs.declared.span.Span.{Span}
 use Rattle.ecma_kind.specs.declared.kind.Kind.{Kind}
@@ -21,12 +21,9 @@ use Rattle.ecma_print.specs.Layout.{laid}
 use Rattle.ecma_print.specs.Levels.{in_parentheses}
 use Rattle.ecma_runs.specs.Wrappers.{opened_by, opened, without_parentheses, is_chain_by, is_chain_step}
 use Rattle.ecma_runs.specs.Wrappers as runs
-use Rattle.ecma_runs.specs.Observation.{observe}
-use Rattle.ecma_runs.specs.Laws.{ParenthesesDoNotMatter}
 use Rattle.ecma_parentheses.specs.Spots.{first_spots, further_spot}
 use Rattle.ecma_parentheses.specs.Explicit.{in_spots, parenthesized, stood, explicit}
-use Rattle.ecma_parentheses.specs.Chains.{Ended, is_chain, ended_children, linked_children, end_step, ends_of, ended}
-use Rattle.ecma_parentheses.specs.Laws.{RunsAsEnded}
+use Rattle.ecma_parentheses.proofs.Chains.{Ended, is_chain, ended_children, linked_children, end_step, ends_of, ended}
 use Rattle.ecma_parentheses.proofs.Asking.{Fits, AllFit, first_fit, further_fits}
 use Rattle.ecma_parentheses.proofs.Again.{bare', spotted, stands_in}
 use Rattle.ecma_parentheses.proofs.Sorting.{is_misreadable, closed_is_misreadable}
@@ -238,9 +235,3 @@ picked_free e = drops_chain e.is_chain
 pub explicit_agrees : (m : Node) (shape : Shape) → HasShape shape m → without_parentheses (explicit m) ≡ without_parentheses (ended m)
 unfolding Agrees
 explicit_agrees m shape h = all_agree m shape h (free 0) refl (λ on. (refl, refl)) ∙ ap without_parentheses (picked_free (ends_of m))
-
-pub runs_as_ended : ParenthesesDoNotMatter → RunsAsEnded
-runs_as_ended parentheses_do_not_matter turns options m script shape h =
-    sym (parentheses_do_not_matter turns options (explicit m) script)
-    ∙ (ap (λ n. observe turns options n script) (explicit_agrees m shape h)
-    ∙ parentheses_do_not_matter turns options (ended m) script)

@@ -7,5 +7,8 @@ mod LaidExpressions
 mod LaidStatements
 mod Laying
 mod Sorting
+mod Chains
 mod Picking
 mod Ending
+mod Unlinked
+mod Running

@@ -18,7 +18,7 @@ use Rattle.ecma_print.specs.Expressions.{object_beside, link_of}
 use Rattle.ecma_print.specs.Laid.{Laid}
 use Rattle.ecma_parentheses.specs.Spots.{has_computed_key, first_spots, further_spot}
 use Rattle.ecma_parentheses.specs.Explicit.{parenthesized}
-use Rattle.ecma_parentheses.specs.Chains.{Ended, closed, wholes, closed_first, ended_children, linked_children}
+use Rattle.ecma_parentheses.proofs.Chains.{Ended, closed, wholes, closed_first, ended_children, linked_children}
 
 -- a spot where a chain stands in parentheses, and one of a link
 abbrev pub ends : Spot → Bool

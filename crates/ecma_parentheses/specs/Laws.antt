@@ -1,13 +1,13 @@
 -- The laws of explicit parentheses.
 use Rattle.std.specs.Prelude.{◌≡◌, ℕ}
 use Rattle.ecma_kind.specs.declared.shapes.Shape.{Shape}
+use Rattle.ecma_kind.specs.declared.shapes.Sort.TheVariants as sort
 use Rattle.ecma_tree.specs.declared.node.Node.{Node}
-use Rattle.ecma_tree.specs.Sorted.{HasShape}
+use Rattle.ecma_tree.specs.Sorted.{HasShape, HasSort}
 use Rattle.ecma_print.specs.Layout.{layout}
 use Rattle.ecma_runs.specs.declared.config.Config.{Config}
 use Rattle.ecma_runs.specs.declared.script.Script.{Script}
 use Rattle.ecma_runs.specs.Observation.{observe}
-use Rattle.ecma_parentheses.specs.Chains.{ended}
 use Rattle.ecma_parentheses.specs.Explicit.{explicit, without_parens}
 
 -- nothing but parentheses is added
@@ -26,6 +26,7 @@ LayoutStays = (m : Node) (shape : Shape) → HasShape shape m → layout (explic
 abbrev pub SortsAreKept : Type 0
 SortsAreKept = (m : Node) (shape : Shape) → HasShape shape m → HasShape shape (explicit m)
 
--- it runs as the tree runs whose chains end
-abbrev pub RunsAsEnded : Type 0
-RunsAsEnded = (turns : ℕ) (options : Config) (m : Node) (script : Script) (shape : Shape) → HasShape shape m → observe turns options (explicit m) script ≡ observe turns options (ended m) script
+-- a module runs alike. Not so every tree: where parentheses stand round a link of an optional chain, which no sort allows, what stands in them is laid out
+-- as if the chain ended there
+abbrev pub RunsAlike : Type 0
+RunsAlike = (turns : ℕ) (options : Config) (m : Node) (script : Script) → HasSort sort.Module m → observe turns options (explicit m) script ≡ observe turns options m script

@@ -1,4 +1,3 @@
 pub mod Spots
 pub mod Explicit
-pub mod Chains
 pub mod Laws

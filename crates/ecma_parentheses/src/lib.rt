@@ -1,9 +1,9 @@
 //! The parentheses that the layout puts round expressions, as nodes of the tree: laws over the definitions of `ecma_print`, `ecma_runs` and of `specs/` alone.
 //!
-//! Each function carries one law, and does nothing. The laws are stated in `specs/Laws.antt`.
+//! Each function carries one law, and does nothing but to call upon another law. The laws are stated in `specs/Laws.antt`.
 #![tactic(auto)]
 
-ghost use Rattle.ecma_parentheses.specs.Laws.{LayoutStays, NoneAreAddedAgain, OnlyParenthesesAreAdded, RunsAsEnded, SortsAreKept};
+ghost use Rattle.ecma_parentheses.specs.Laws.{LayoutStays, NoneAreAddedAgain, OnlyParenthesesAreAdded, RunsAlike, SortsAreKept};
 
 /// Without any parentheses the tree with explicit ones is the tree.
 pub fn only_parentheses_are_added()
@@ -25,9 +25,9 @@ pub fn sorts_are_kept()
     ensures { SortsAreKept }
 {}
 
-/// A tree with explicit parentheses runs as the tree does whose optional chains end where they stand as an object, a callee or a tag.
-pub fn it_runs_as_its_chains_end()
-    ensures { RunsAsEnded }
+/// A module with explicit parentheses does what it does without them: most end no optional chain, and those that do stand where the chain ends.
+pub fn it_runs_alike()
+    ensures { RunsAlike }
 {
     ecma_runs::laws::parentheses_do_not_matter();
 }
