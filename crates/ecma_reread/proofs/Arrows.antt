@@ -80,7 +80,7 @@ module _ (assigned : Bool) where
       let vs = elements_tokens es (s (codes ")") us) in
       repeats_more assigned (more param) param_eats _ vs (s (codes ")") us) (bare_element e ∷ []) (bare_elements es) (ap (with_front []) (param_read assigned e F.0 blank vs (more_followed es us))) (more_read es F.1 us)
 
-  params_read : {n : Node} (is : IsArguments shapes.bindings n) → ArgumentForms is → (us : Items) → Reads assigned params (arguments_tokens is (s (codes ")") us)) (list_node (bare_arguments is) ∷ []) (s (codes ")") us)
+  pub params_read : {n : Node} (is : IsArguments shapes.bindings n) → ArgumentForms is → (us : Items) → Reads assigned params (arguments_tokens is (s (codes ")") us)) (list_node (bare_arguments is) ∷ []) (s (codes ")") us)
   unfolding params
   params_read (shapes.no_arguments at) F us = rw (all_refused assigned param (exactly (sign (codes ")"))) (s (codes ")") us) at_token no_param_there) refl
   params_read (shapes.arguments at e es) F us =

@@ -22,7 +22,7 @@ use Rattle.ecma_reread.specs.Shapes as shapes
 use Rattle.ecma_reread.specs.Shapes.{IsExpression, Ending, IsStatement}
 use Rattle.ecma_reread.specs.Modules as modules
 use Rattle.ecma_reread.specs.Modules.{IsString, IsExportName, IsWithClause, IsNamedExport, AreNamedExports, IsExportClause, is_declaration}
-use Rattle.ecma_reread.specs.Tokens.{blank, sign_of, statement_tokens, bare, bare_statement}
+use Rattle.ecma_reread.specs.Tokens.{blank, sign_of, statement_tokens, bare, bare_statement, ident_word, function_word}
 use Rattle.ecma_reread.specs.ModuleTokens.{spaced, spaced_word, spaced_sign, export_name_token, from_tokens, named_export_tokens, more_exports_tokens, export_clause_tokens, bare_string, bare_export_name, bare_with, bare_named_export, bare_named_exports, bare_export_clause}
 use Rattle.ecma_reread.proofs.Moves.{eats}
 use Rattle.ecma_reread.proofs.Fronts.{exactly, at_token}
@@ -30,7 +30,9 @@ use Rattle.ecma_reread.proofs.Towers.{without, skipped}
 use Rattle.ecma_reread.proofs.Forms.{Reads, Refuses}
 use Rattle.ecma_reread.proofs.Repeats.{Repeats, repeats_end, repeats_more, repeated}
 use Rattle.ecma_reread.proofs.Variables.{declaration_read}
-use Rattle.ecma_reread.proofs.StatementForms.{declarator_form, declarator_forms}
+use Rattle.ecma_reread.proofs.StatementForms.{declarator_form, declarator_forms, block_form}
+use Rattle.ecma_reread.proofs.Functions.{function_declaration_read}
+use Rattle.ecma_reread.proofs.Calls.{ident_free, argument_forms}
 use Rattle.ecma_reread.proofs.Sources.{from_read}
 
 specifier_eats : nat_le 1 (eats (punct (codes ",") ▸ export_specifier)) ≡ true
@@ -174,8 +176,16 @@ module _ (assigned : Bool) where
   keyword_declared Let us = record { no_import = refl; no_default_word = refl; no_brace = refl; no_asterisk = refl; no_equals = refl }
   keyword_declared Const us = record { no_import = refl; no_default_word = refl; no_brace = refl; no_asterisk = refl; no_equals = refl }
 
+  function_declared : (x y : Bool) (us : Items) → Declared (function_word x y blank us)
+  function_declared true true us = record { no_import = refl; no_default_word = refl; no_brace = refl; no_asterisk = refl; no_equals = refl }
+  function_declared true false us = record { no_import = refl; no_default_word = refl; no_brace = refl; no_asterisk = refl; no_equals = refl }
+  function_declared false true us = record { no_import = refl; no_default_word = refl; no_brace = refl; no_asterisk = refl; no_equals = refl }
+  function_declared false false us = record { no_import = refl; no_default_word = refl; no_brace = refl; no_asterisk = refl; no_equals = refl }
+
   pub export_declaration_read : {ending : Ending} {n : Node} (is : IsStatement ending n) → is_declaration is ≡ true → (g : Gap) (us : Items)
       → Reads assigned module_item (it g (items.key (codes "export")) (statement_tokens is 0 blank us)) (bare kind.ExportDecl (bare_statement is ∷ []) ∷ []) us
   export_declaration_read (shapes.declaration at at' k d ds) z g us =
       declaration_item g _ _ us (keyword_declared k _) (declaration_read assigned k d ds (declarator_form assigned d) (declarator_forms assigned ds) blank us)
+  export_declaration_read (shapes.function_statement at i (shapes.function_of at' at'' x y ps w b a a')) z g us =
+      declaration_item g _ _ us (function_declared x y _) (function_declaration_read assigned ps (argument_forms assigned ps) (block_form assigned b 0) x y (ident_word i) (ident_free assigned i) blank us)
   export_declaration_read is z g us = absurd (false≢true z)

@@ -136,6 +136,7 @@ pub record Words : Type 0 where
   pub with_whole : IsToken key_end (codes "with")
   pub in_whole : IsToken key_end (codes "in")
   pub instanceof_whole : IsToken key_end (codes "instanceof")
+  pub function_whole : IsToken key_end (codes "function")
 
 module _ (words : Words) where
   more_soft : {es : List Node} (is : AreExpressions es) {us : Items} → Soft false us → Soft false (more_tokens is us)
@@ -285,7 +286,7 @@ module _ (words : Words) where
         let behind = it no_gap (part_token false ps) (parts_tokens ps us) in
         (h, part_fine p, part_joins f false (part_text f false (part_raw p)) (expression_tokens e no_gap behind), expression_joined e no_gap no_gap_is behind part (parts_joined ps no_gap no_gap_is us j))
 
-    arguments_joined : {role : Role} {n : Node} (is : IsArguments role n) (us : Items) → Joined (sign_of (codes ")") us) → Joined (sign_of (codes "(") (arguments_tokens is (sign_of (codes ")") us)))
+    pub arguments_joined : {role : Role} {n : Node} (is : IsArguments role n) (us : Items) → Joined (sign_of (codes ")") us) → Joined (sign_of (codes "(") (arguments_tokens is (sign_of (codes ")") us)))
     arguments_joined (shapes.no_arguments at) us j = (no_gap_is, refl, refl, j)
     arguments_joined (shapes.arguments at e es) us j =
         (no_gap_is, refl, element_opening_joins e (elements_tokens es (sign_of (codes ")") us)), element_joined e no_gap no_gap_is (elements_tokens es (sign_of (codes ")") us)) (elements_soft es closing) (elements_joined es us j))

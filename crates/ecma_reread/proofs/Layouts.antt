@@ -497,7 +497,7 @@ mutual
       ∙ ap (λ z. raw ++ (codes "${" ++ z)) (ap (λ z. (laid e').at (At (free 0)) m z) (parts_laid ps m us) ∙ expression_laid e (free 0) (calm_0 l) refl m behind))
       ∙ part_split f false raw (render (expression_tokens e no_gap behind))
 
-  arguments_laid : {role : Role} {n : Node} (is : IsArguments role n) (m : List ℕ) (us : Items) → (laid n).at Arguments m (render us) ≡ render (sign_of (codes "(") (arguments_tokens is (sign_of (codes ")") us)))
+  pub arguments_laid : {role : Role} {n : Node} (is : IsArguments role n) (m : List ℕ) (us : Items) → (laid n).at Arguments m (render us) ≡ render (sign_of (codes "(") (arguments_tokens is (sign_of (codes ")") us)))
   arguments_laid (shapes.no_arguments at) m us = at_node at kind.List [] Arguments m (render us)
   arguments_laid (shapes.arguments at {e = e'} {es = es'} e es) m us =
       at_node at kind.List (e' ∷ es') Arguments m (render us)

@@ -49,6 +49,7 @@ pub mod Imports
 pub mod Variables
 pub mod Jumps
 pub mod Blocks
+pub mod Functions
 pub mod Branches
 pub mod Loops
 pub mod Labels

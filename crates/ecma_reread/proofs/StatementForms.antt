@@ -7,7 +7,7 @@ use Rattle.ecma_reread.specs.Shapes.{IsInitializer, IsDeclarator, AreDeclarators
 use Rattle.ecma_reread.specs.Tokens.{line_at, ident_word, closing_gap, is_braced, branch_gap, statement_tokens, block_tokens, case_tokens, cases_tokens, catch_tokens, lined_tokens, bare_statement, bare_block, bare_case, bare_cases, bare_catch, bare_statements, as_declarator, as_declarators, for_left_tokens, bare_for_left}
 use Rattle.ecma_reread.proofs.Bindings.{standing}
 use Rattle.ecma_reread.proofs.Beginnings.{no_new_line, no_brace}
-use Rattle.ecma_reread.proofs.Calls.{ident_free, expression_form, pattern_form, initializer_form}
+use Rattle.ecma_reread.proofs.Calls.{ident_free, argument_forms, expression_form, pattern_form, initializer_form}
 use Rattle.ecma_reread.proofs.Statements.{ReadAsStatement, expression_statement_form}
 use Rattle.ecma_reread.proofs.Variables.{DeclaratorForm, DeclaratorForms, declaration_form, DeclaratorIn, DeclaratorsIn}
 use Rattle.ecma_reread.proofs.Jumps.{empty_form, debugger_form, return_form, break_form, continue_form, throw_form, return_value_form}
@@ -18,6 +18,7 @@ use Rattle.ecma_reread.proofs.Switches.{ReadAsCase, ReadAsCases, no_cases_form, 
 use Rattle.ecma_reread.proofs.Tries.{ReadAsCatch, catch_any_form, catch_pattern_form, try_catch_form, try_finally_form, try_catch_finally_form}
 use Rattle.ecma_reread.proofs.ForLoops.{OptionalForm, for_loop_form, for_in_form, for_of_form, for_await_form, InitForm, ReadAsForLeft, binding_left, in_left, of_left}
 use Rattle.ecma_reread.proofs.Labels.{labeled_form, break_label_form, continue_label_form}
+use Rattle.ecma_reread.proofs.Functions.{function_form}
 use Rattle.ecma_reread.proofs.HeadForms.{head_form}
 use Rattle.ecma_reread.proofs.Braces.{braces_agree}
 
@@ -81,8 +82,9 @@ module _ (assigned : Bool) where
     statement_form (shapes.for_of at true l e b) d = for_await_form assigned (statement_form b d) (of_form l) (expression_form assigned e)
     statement_form (shapes.for_of at false l e b) d = for_of_form assigned (statement_form b d) (of_form l) (expression_form assigned e)
     statement_form (shapes.labeled at i b) d = labeled_form assigned (ident_word i) (ident_free assigned i) (standing assigned (expression_form assigned (shapes.name i))) (statement_form b d)
+    statement_form (shapes.function_statement at i (shapes.function_of at' at'' x y ps w b a a')) d = function_form assigned ps (argument_forms assigned ps) (block_form b d) x y (ident_word i) (ident_free assigned i)
 
-    block_form : {n : Node} (is : IsBlock n) (d : ℕ) → ReadAsBlock assigned (block_tokens is d) (bare_block is)
+    pub block_form : {n : Node} (is : IsBlock n) (d : ℕ) → ReadAsBlock assigned (block_tokens is d) (bare_block is)
     block_form (shapes.block_of at at' {ss = ss'} ss) d = braces_form assigned (statement_forms ss (suc d)) (closing_gap ss' d)
 
     case_of_form : {n : Node} (is : IsCase n) (d : ℕ) → ReadAsCase assigned (case_tokens is d) (bare_case is)

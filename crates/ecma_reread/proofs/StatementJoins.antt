@@ -14,10 +14,10 @@ use Rattle.ecma_tokens.specs.Good.{IsGap, IsToken, is_gap_character}
 use Rattle.ecma_tokens.specs.Joins.{joins, joins_next, Joined}
 use Rattle.ecma_reread.specs.Shapes as shapes
 use Rattle.ecma_reread.specs.Shapes.{Level, IsExpression, Ending, IsStatement, IsBlock, IsCase, AreCases, IsCatch, AreStatements, IsOptional, IsForLeft, IsForInit, IsPattern}
-use Rattle.ecma_reread.specs.Tokens.{margin, line_at, blank, sign_of, expression_tokens, ident_word, declarators_tokens, closing_gap, is_braced, branch_gap, test_tokens, statement_tokens, block_tokens, case_tokens, cases_tokens, catch_tokens, lined_tokens, optional_tokens, for_left_tokens, for_tokens, initializer_tokens, as_declarators, for_init_tokens, pattern_tokens}
+use Rattle.ecma_reread.specs.Tokens.{margin, line_at, blank, sign_of, expression_tokens, ident_word, declarators_tokens, closing_gap, is_braced, branch_gap, test_tokens, statement_tokens, block_tokens, case_tokens, cases_tokens, catch_tokens, lined_tokens, optional_tokens, for_left_tokens, for_tokens, initializer_tokens, as_declarators, for_init_tokens, pattern_tokens, arguments_tokens, function_word, is_generator, is_async}
 use Rattle.ecma_reread.proofs.Softs.{closing, semicolon, colon, Soft, is_object, parted}
 use Rattle.ecma_reread.proofs.Beginnings.{pattern_blank_joins, begun, blank_joins, opening_joins}
-use Rattle.ecma_reread.proofs.Joins.{ident_whole, no_gap_is, blank_is, Words, expression_joined, declarators_soft, declarator_joined, declarators_joined, pattern_joined}
+use Rattle.ecma_reread.proofs.Joins.{ident_whole, no_gap_is, blank_is, Words, expression_joined, declarators_soft, declarator_joined, declarators_joined, pattern_joined, arguments_joined}
 
 -- gaps that keep any two tokens apart
 abbrev pub Wide : Gap → Type 0
@@ -42,6 +42,12 @@ Apart us = (t : Tok) → joins_next t us ≡ true
 
 block_apart : {n : Node} (is : IsBlock n) (d : ℕ) (g : Gap) → Wide g → (us : Items) → Apart (block_tokens is d g us)
 block_apart (shapes.block_of at at' ss) d g w us t = w t (sign (codes "{"))
+
+function_word_apart : (x y : Bool) (g : Gap) → Wide g → (us : Items) → Apart (function_word x y g us)
+function_word_apart true true g w us t = w t (items.key (codes "async"))
+function_word_apart false true g w us t = w t (items.key (codes "async"))
+function_word_apart true false g w us t = w t (items.key (codes "function"))
+function_word_apart false false g w us t = w t (items.key (codes "function"))
 
 pub statement_apart : {ending : Ending} {n : Node} (is : IsStatement ending n) (d : ℕ) (g : Gap) → Wide g → (us : Items) → Apart (statement_tokens is d g us)
 statement_apart (shapes.expression at e z) d g w us t = let b = begun e (sign_of (codes ";") us) in rw (b.is g) (w t b.first)
@@ -68,6 +74,7 @@ statement_apart (shapes.for_loop at i t' u b) d g w us t = w t (items.key (codes
 statement_apart (shapes.for_in at l e b) d g w us t = w t (items.key (codes "for"))
 statement_apart (shapes.for_of at true l e b) d g w us t = w t (items.key (codes "for"))
 statement_apart (shapes.for_of at false l e b) d g w us t = w t (items.key (codes "for"))
+statement_apart (shapes.function_statement at i f) d g w us t = function_word_apart (is_generator f) (is_async f) g w _ t
 statement_apart (shapes.labeled at i b) d g w us t = w t (items.key (ident_word i))
 
 lined_apart : {ss : List Node} (is : AreStatements ss) (d : ℕ) (us : Items) (t : Tok) → joins_next t us ≡ true → joins_next t (lined_tokens is d us) ≡ true
@@ -168,6 +175,13 @@ module _ (words : Words) where
   unfolding punctuators
   test_joined is us a j = (blank_is, refl, opening_joins is (sign_of (codes ")") us), expression_joined words is no_gap no_gap_is (sign_of (codes ")") us) closing (no_gap_is, refl, a, j))
 
+  function_word_joined : (x y : Bool) (g : Gap) → IsGap g → (w : List ℕ) (us : Items) → Joined (it blank (items.key w) us) → Joined (function_word x y g (it blank (items.key w) us))
+  unfolding punctuators
+  function_word_joined true true g h w us j = (h, words.async_whole, refl, (blank_is, words.function_whole, refl, (no_gap_is, refl, refl, j)))
+  function_word_joined true false g h w us j = (h, words.function_whole, refl, (no_gap_is, refl, refl, j))
+  function_word_joined false true g h w us j = (h, words.async_whole, refl, (blank_is, words.function_whole, refl, j))
+  function_word_joined false false g h w us j = (h, words.function_whole, refl, j)
+
   finally_joined : {n : Node} (is : IsBlock n) (d : ℕ) (us : Items) → Joined (block_tokens is d blank us) → Joined (it blank (items.key (codes "finally")) (block_tokens is d blank us))
   finally_joined is d us j = (blank_is, words.finally_whole, block_apart is d blank blank_wide us (items.key (codes "finally")), j)
 
@@ -236,6 +250,11 @@ module _ (words : Words) where
         let rest : Joined bs = (no_gap_is, refl, statement_apart b d blank blank_wide us (sign (codes ")")), statement_joined b d blank blank_is us a j) in
         for_joined w l (items.key (codes "of")) (expression_tokens e blank bs) g h (blank_is, words.of_whole, blank_joins (items.key (codes "of")) e bs, expression_joined words e blank blank_is bs closing rest)
     statement_joined (shapes.labeled at i b) d g h us a j = (h, ident_whole i, refl, (no_gap_is, refl, statement_apart b d blank blank_wide us (sign (codes ":")), statement_joined b d blank blank_is us a j))
+    statement_joined (shapes.function_statement at i (shapes.function_of at' at'' x y ps ws b n n')) d g h us a j =
+        let bs = block_tokens b d blank us in
+        let args = sign_of (codes "(") (arguments_tokens ps (sign_of (codes ")") bs)) in
+        let behind : Joined args = arguments_joined words ps bs (no_gap_is, refl, block_apart b d blank blank_wide us (sign (codes ")")), block_joined b d blank blank_is us a j) in
+        function_word_joined x y g h (ident_word i) args (blank_is, ident_whole i, refl, behind)
 
     block_joined : {n : Node} (is : IsBlock n) (d : ℕ) (g : Gap) → IsGap g → (us : Items) → Apart us → Joined us → Joined (block_tokens is d g us)
     block_joined (shapes.block_of at at' {ss = ss'} ss) d g h us a j =

@@ -12,18 +12,19 @@ use Rattle.ecma_print.specs.declared.place.Beside.TheVariants.{NoNeighbor}
 use Rattle.ecma_print.specs.declared.place.Between.{Between}
 use Rattle.ecma_print.specs.declared.place.Between.TheVariants.{Blank, Finally, Else, LineElse, Parentheses, Equals}
 use Rattle.ecma_print.specs.declared.place.Spot.{Spot}
-use Rattle.ecma_print.specs.declared.place.Place.TheVariants.{At, Within, Deeper, Block, Commas}
+use Rattle.ecma_print.specs.declared.place.Place.TheVariants.{At, Within, Deeper, Block, Commas, Arguments, FunctionHead}
 use Rattle.ecma_print.specs.Places.{before, after, free, beginning, right}
 use Rattle.ecma_print.specs.Laid.{Laid, is_absent, is_block}
 use Rattle.ecma_print.specs.Lists.{new_lines, block, more_commas}
 use Rattle.ecma_print.specs.Statements.{else_behind, behind_body, case_word, keyword, head, for_word}
+use Rattle.ecma_print.specs.Functions.{function_head}
 use Rattle.ecma_print.specs.Layout.{in_place, lay_step, laid}
 use Rattle.ecma_tokens.specs.Items as items
 use Rattle.ecma_tokens.specs.Items.{sign, Gap, no_gap, Items, it, render}
 use Rattle.ecma_reread.specs.Shapes as shapes
-use Rattle.ecma_reread.specs.Shapes.{Level, IsExpression, IsDeclarator, AreDeclarators, Ending, IsStatement, IsBlock, IsCase, AreCases, IsCatch, AreStatements, IsOptional, IsForLeft, IsInitializer, IsForDeclarator, AreForDeclarators, IsForInit, IsPattern}
-use Rattle.ecma_reread.specs.Tokens.{margin, line_at, blank, sign_of, expression_tokens, declarator_tokens, declarators_tokens, closing_gap, is_braced, branch_gap, test_tokens, statement_tokens, block_tokens, case_tokens, cases_tokens, catch_tokens, lined_tokens, optional_tokens, for_left_tokens, for_tokens, initializer_tokens, as_declarator, as_declarators, for_init_tokens}
-use Rattle.ecma_reread.proofs.Layouts.{laid_node, at_node, gap_out, expression_laid, within_laid, declarator_laid, more_declarators_laid, pattern_laid, pattern_gap_out}
+use Rattle.ecma_reread.specs.Shapes.{Level, IsExpression, IsDeclarator, AreDeclarators, Ending, IsStatement, IsBlock, IsCase, AreCases, IsCatch, AreStatements, IsOptional, IsForLeft, IsInitializer, IsForDeclarator, AreForDeclarators, IsForInit, IsPattern, AreParams}
+use Rattle.ecma_reread.specs.Tokens.{margin, line_at, blank, sign_of, expression_tokens, declarator_tokens, declarators_tokens, closing_gap, is_braced, branch_gap, test_tokens, statement_tokens, block_tokens, case_tokens, cases_tokens, catch_tokens, lined_tokens, optional_tokens, for_left_tokens, for_tokens, initializer_tokens, as_declarator, as_declarators, for_init_tokens, arguments_tokens, function_word}
+use Rattle.ecma_reread.proofs.Layouts.{laid_node, at_node, gap_out, expression_laid, within_laid, arguments_laid, declarator_laid, more_declarators_laid, pattern_laid, pattern_gap_out}
 use Rattle.ecma_reread.proofs.Spots.{calm_start, calm_0, calm_1}
 use Rattle.ecma_reread.proofs.HeadLayouts.{head_laid}
 use Rattle.ecma_reread.specs.Heads.{may_hold_in}
@@ -180,7 +181,38 @@ statement_seen (shapes.try_catch_finally at b c f) = seen at _ _ false refl refl
 statement_seen (shapes.for_loop at a t u b) = seen at _ _ false refl refl
 statement_seen (shapes.for_in at l e b) = seen at _ _ false refl refl
 statement_seen (shapes.for_of at w l e b) = seen at _ _ false refl refl
+statement_seen (shapes.function_statement at i f) = seen at _ _ false refl refl
 statement_seen (shapes.labeled at i b) = seen at _ _ false refl refl
+
+-- the parameters of a function are laid out as the patterns in them
+param_laid : (at : Span) (p : Node) (m rest : List ℕ) → (laid (node_of at kind.Param (p ∷ []))).at (At (free 1)) m rest ≡ (laid p).at (At (free 1)) m rest
+param_laid at p m rest = at_node at kind.Param (p ∷ []) (At (free 1)) m rest
+
+more_params_laid : {es ps : List Node} (is : AreParams es ps) (m rest : List ℕ) → more_commas (free 1) (map laid ps) m rest ≡ more_commas (free 1) (map laid es) m rest
+more_params_laid shapes.no_params m rest = refl
+more_params_laid (shapes.more_params at {p = p} {ps = es} {ns = ps} is) m rest =
+    ap (λ z. codes ", " ++ (laid (node_of at kind.Param (p ∷ []))).at (At (free 1)) m z) (more_params_laid is m rest) ∙ ap (λ z. codes ", " ++ z) (param_laid at p m (more_commas (free 1) (map laid es) m rest))
+
+params_laid : (at : Span) {es ps : List Node} (is : AreParams es ps) (m rest : List ℕ) → (laid (node_of at kind.List ps)).at Arguments m rest ≡ (laid (node_of at kind.List es)).at Arguments m rest
+params_laid at shapes.no_params m rest = refl
+params_laid at (shapes.more_params at' {p = p} {ps = es} {ns = ps} is) m rest =
+    at_node at kind.List (node_of at' kind.Param (p ∷ []) ∷ ps) Arguments m rest
+    ∙ (ap (λ z. codes "(" ++ (laid (node_of at' kind.Param (p ∷ []))).at (At (free 1)) m z) (more_params_laid is m (codes ")" ++ rest))
+    ∙ (ap (λ z. codes "(" ++ z) (param_laid at' p m (more_commas (free 1) (map laid es) m (codes ")" ++ rest))) ∙ sym (at_node at kind.List (p ∷ es) Arguments m rest)))
+
+function_word_text : (x y : Bool) (g : Gap) (us : Items) → render (function_word x y g us) ≡ g.blanks ++ (function_head (kind.Function x y) ++ render us)
+unfolding render
+function_word_text true true g us = refl
+function_word_text true false g us = refl
+function_word_text false true g us = refl
+function_word_text false false g us = refl
+
+-- a block is laid out alike wherever it stands
+block_again : {n : Node} → IsBlock n → (m rest : List ℕ) → (laid n).at (At (free 1)) m rest ≡ (laid n).at (At (free 0)) m rest
+block_again (shapes.block_of at at' {ss = ss'} ss) m rest = at_node at kind.BlockStmt (node_of at' kind.List ss' ∷ []) (At (free 1)) m rest ∙ sym (at_node at kind.BlockStmt (node_of at' kind.List ss' ∷ []) (At (free 0)) m rest)
+
+function_body_laid : {n : Node} → IsBlock n → (m : List ℕ) (us ts : Items) → codes " " ++ (laid n).at (At (free 0)) m (render us) ≡ render ts → (laid n).at (Within Blank (free 1)) m (render us) ≡ render ts
+function_body_laid {n} is m us ts e = let s = block_seen is in within_there n s.there Blank (free 1) m (render us) ∙ (ap (λ z. codes " " ++ z) (block_again is m (render us)) ∙ e)
 
 -- a body behind a blank
 body_laid : {n : Node} {braced : Bool} → Seen n braced → (m : List ℕ) (us ts : Items) → render ts ≡ codes " " ++ (laid n).at (At (free 0)) m (render us) → (laid n).at (Within Blank (free 0)) m (render us) ≡ render ts
@@ -340,6 +372,21 @@ mutual
       (sym (at_node at kind.LabeledStmt (node_of of (kind.Ident w 0 false) [] ∷ b' ∷ []) (At (free 0)) m (render us)
       ∙ (at_node of (kind.Ident w 0 false) [] (At (free 0)) m (codes ": " ++ (laid b').at (At (free 0)) m (render us)) ∙ ap (λ z. w ++ (codes ":" ++ z)) (sym (statement_laid b d blank us)))))
   statement_laid (shapes.block b) d g us = sym (block_laid b d g us)
+  statement_laid (shapes.function_statement at (shapes.ident of w i) (shapes.function_of at' of_params x y {elements = es'} {params = ps'} {body = b'} {none = n'} {none' = n''} ps ws b a a')) d g us =
+      let m = margin d in
+      let bs = block_tokens b d blank us in
+      let fs = sign_of (codes "(") (arguments_tokens ps (sign_of (codes ")") bs)) in
+      let children = node_of of_params kind.List ps' ∷ b' ∷ n' ∷ n'' ∷ [] in
+      let fn = node_of at' (kind.Function x y) children in
+      let name = node_of of (kind.Ident w 0 false) [] in
+      let behind = at_node at' (kind.Function x y) children (At (free 1)) m (render us)
+      ∙ (ap (λ z. (laid (node_of of_params kind.List ps')).at Arguments m z) (function_body_laid b m us bs (block_laid b d blank us))
+      ∙ (params_laid of_params ws m (render bs) ∙ arguments_laid ps m bs)) in
+      function_word_text x y g (it blank (items.key w) fs)
+      ∙ ap (λ z. g.blanks ++ z)
+      (sym (at_node at (kind.FnDecl false) (name ∷ fn ∷ []) (At (free 0)) m (render us)
+      ∙ (at_node at' (kind.Function x y) children FunctionHead m ((laid name).at (Within Blank (free 1)) m ((laid fn).at (At (free 1)) m (render us)))
+      ∙ ap (λ z. function_head (kind.Function x y) ++ z) (at_node of (kind.Ident w 0 false) [] (Within Blank (free 1)) m ((laid fn).at (At (free 1)) m (render us)) ∙ ap (λ z. codes " " ++ (w ++ z)) behind))))
 
   block_laid : {n : Node} (is : IsBlock n) (d : ℕ) (g : Gap) (us : Items) → g.blanks ++ (laid n).at (At (free 0)) (margin d) (render us) ≡ render (block_tokens is d g us)
   block_laid (shapes.block_of at at' {ss = ss'} ss) d g us =

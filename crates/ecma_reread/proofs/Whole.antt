@@ -1,15 +1,17 @@
 -- The tree that is read of a statement is the tree without spans.
-use Rattle.std.proofs.Common.{true, false, ◌≡◌, List, [], ◌∷◌, map, refl, ap, ap₂, ◌∙◌, Bool}
+use Rattle.std.proofs.Common.{true, false, ◌≡◌, List, [], ◌∷◌, map, refl, ap, ap₂, sym, ◌∙◌, Bool}
 use Rattle.ecma_kind.specs.declared.operators.BinaryOp.TheVariants as op
 use Rattle.ecma_kind.specs.declared.kind.Kind.TheVariants as kind
 use Rattle.ecma_kind.specs.declared.span.Span.{Span}
 use Rattle.ecma_tree.specs.declared.node.Node.{Node}
-use Rattle.ecma_tree.specs.Nodes.{absent, list_node, node_of}
+use Rattle.ecma_tree.specs.Nodes.{absent, list_node, node_of, dummy_span}
+use Rattle.ecma_grammar.specs.trees.Parts.{children_of}
 use Rattle.ecma_tree.specs.Spans.{without_spans}
 use Rattle.ecma_reread.specs.Shapes as shapes
-use Rattle.ecma_reread.specs.Shapes.{Level, IsIdent, ident, IsKey, key, IsAbsent, IsExpression, IsElement, IsArguments, AreElements, AreExpressions, IsInitializer, IsDeclarator, AreDeclarators, Ending, IsStatement, IsBlock, AreStatements, AreSlots, IsCase, AreCases, IsCatch, IsChainKey, IsOptional, IsForLeft, IsPropertyName, IsProperty, AreProperties, Role, IsPattern, IsDefaulted, IsForInit, IsPart, AreParts}
-use Rattle.ecma_reread.specs.Tokens.{bare, bare_ident, key_word, bare_expression, bare_element, bare_arguments, bare_elements, bare_expressions, bare_initializer, bare_declarator, bare_declarators, bare_statement, bare_block, bare_statements, bare_slots, bare_case, bare_cases, bare_catch, chain_kind, bare_optional, bare_for_left, bare_property_name, bare_property, bare_properties, bare_pattern, bare_defaulted, as_declarator, as_declarators, bare_for_init, bare_part, bare_parts, bare_substitutions}
+use Rattle.ecma_reread.specs.Shapes.{Level, IsIdent, ident, IsKey, key, IsAbsent, IsExpression, IsElement, IsArguments, AreElements, AreExpressions, IsInitializer, IsDeclarator, AreDeclarators, Ending, IsStatement, IsBlock, AreStatements, AreSlots, IsCase, AreCases, IsCatch, IsChainKey, IsOptional, IsForLeft, IsPropertyName, IsProperty, AreProperties, Role, IsPattern, IsDefaulted, IsForInit, IsPart, AreParts, IsFunction, AreParams}
+use Rattle.ecma_reread.specs.Tokens.{bare, bare_ident, key_word, bare_expression, bare_element, bare_arguments, bare_elements, bare_expressions, bare_initializer, bare_declarator, bare_declarators, bare_statement, bare_block, bare_statements, bare_slots, bare_case, bare_cases, bare_catch, chain_kind, bare_optional, bare_for_left, bare_property_name, bare_property, bare_properties, bare_pattern, bare_defaulted, as_declarator, as_declarators, bare_for_init, bare_part, bare_parts, bare_substitutions, bare_params, bare_function}
 use Rattle.ecma_reread.proofs.Unplaced.{without_spans-node}
+use Rattle.ecma_reread.proofs.Heads.{children-node}
 
 pub absent_bare : {n : Node} → IsAbsent n → without_spans n ≡ absent
 absent_bare (shapes.absent at) = without_spans-node at kind.Absent []
@@ -191,6 +193,16 @@ for_left_bare (shapes.for_binding at of_list at_declarator k p a) =
     (without_spans-node at_declarator (kind.VarDeclarator false) _ ∙ ap₂ (λ x y. bare (kind.VarDeclarator false) (x ∷ y ∷ [])) (pattern_bare p) (absent_bare a)))
 for_left_bare (shapes.for_target e z) = expression_bare e
 
+more_params_bare : {es ps : List Node} → AreParams es ps → map without_spans ps ≡ bare_params (map without_spans es)
+more_params_bare shapes.no_params = refl
+more_params_bare (shapes.more_params at is) = ap₂ (λ x xs. x ∷ xs) (without_spans-node at kind.Param _) (more_params_bare is)
+
+params_bare : (at : Span) {es ps : List Node} (is : IsArguments shapes.bindings (node_of at kind.List es)) → AreParams es ps → map without_spans ps ≡ bare_params (bare_arguments is)
+params_bare at {es} is ws =
+    let same : list_node (map without_spans es) ≡ list_node (bare_arguments is) = sym (without_spans-node at kind.List es) ∙ arguments_bare is in
+    more_params_bare ws
+    ∙ ap bare_params (sym (children-node dummy_span kind.List (map without_spans es)) ∙ (ap children_of same ∙ children-node dummy_span kind.List (bare_arguments is)))
+
 mutual
   pub statement_bare : {ending : Ending} {n : Node} (is : IsStatement ending n) → without_spans n ≡ bare_statement is
   statement_bare (shapes.empty at) = without_spans-node at kind.EmptyStmt []
@@ -235,6 +247,13 @@ mutual
       without_spans-node at (kind.ForOfStmt w) _
       ∙ (ap₂ (λ x y. bare (kind.ForOfStmt w) (x ∷ y ∷ without_spans b' ∷ [])) (for_left_bare l) (expression_bare e) ∙ ap (λ z. bare (kind.ForOfStmt w) (bare_for_left l ∷ bare_expression e ∷ z ∷ [])) (statement_bare b))
   statement_bare (shapes.labeled at i b) = without_spans-node at kind.LabeledStmt _ ∙ ap₂ (λ x y. bare kind.LabeledStmt (x ∷ y ∷ [])) (ident_bare i) (statement_bare b)
+  statement_bare (shapes.function_statement at i f) = without_spans-node at (kind.FnDecl false) _ ∙ ap₂ (λ z zs. bare (kind.FnDecl false) (z ∷ zs ∷ [])) (ident_bare i) (function_bare f)
+
+  function_bare : {n : Node} (is : IsFunction n) → without_spans n ≡ bare_function is
+  function_bare (shapes.function_of at at' x y {none = n'} {none' = n''} ps ws b a a') =
+      without_spans-node at (kind.Function x y) _
+      ∙ (ap₂ (λ p q. bare (kind.Function x y) (p ∷ q ∷ without_spans n' ∷ without_spans n'' ∷ [])) (without_spans-node at' kind.List _ ∙ ap list_node (params_bare at' ps ws)) (block_bare b)
+      ∙ ap₂ (λ p q. bare (kind.Function x y) (list_node (bare_params (bare_arguments ps)) ∷ bare_block b ∷ p ∷ q ∷ [])) (absent_bare a) (absent_bare a'))
 
   block_bare : {n : Node} (is : IsBlock n) → without_spans n ≡ bare_block is
   block_bare (shapes.block_of at at' ss) = without_spans-node at kind.BlockStmt _ ∙ ap (λ x. bare kind.BlockStmt (x ∷ [])) (without_spans-node at' kind.List _ ∙ ap list_node (statements_bare ss))

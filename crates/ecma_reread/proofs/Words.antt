@@ -63,6 +63,10 @@ instanceof_spelled : Spelled IsKey (codes "instanceof")
 unfolding chars is_utf8 encode is_xid_start is_xid_continue in_ranges xid_start_ranges xid_continue_ranges
 instanceof_spelled = (IsUtf8-from_is_utf8 (codes "instanceof") refl, (refl, refl))
 
+function_spelled : Spelled IsKey (codes "function")
+unfolding chars is_utf8 encode is_xid_start is_xid_continue in_ranges xid_start_ranges xid_continue_ranges
+function_spelled = (IsUtf8-from_is_utf8 (codes "function") refl, (refl, refl))
+
 await_spelled : Spelled IsKey (codes "await")
 unfolding chars is_utf8 encode is_xid_start is_xid_continue in_ranges xid_start_ranges xid_continue_ranges
 await_spelled = (IsUtf8-from_is_utf8 (codes "await") refl, (refl, refl))
@@ -227,4 +231,5 @@ layout_words = record {
   with_whole = whole (codes "with") with_spelled;
   in_whole = whole (codes "in") in_spelled;
   instanceof_whole = whole (codes "instanceof") instanceof_spelled;
+  function_whole = whole (codes "function") function_spelled;
 }

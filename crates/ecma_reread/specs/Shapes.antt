@@ -313,6 +313,11 @@ pub data IsForInit : Node → Type 0 where
   init_declaration : (at of_list : Span) (k : VarDeclKind) {d : Node} {ds : List Node} → IsForDeclarator d → AreForDeclarators ds → IsForInit (node_of at (kind.VarDecl k false) (node_of of_list kind.List (d ∷ ds) ∷ []))
   init_expression : {level : Level} {e : Node} → IsExpression level e → may_hold_in e ≡ false → IsForInit e
 
+-- patterns as the parameters of a function
+pub data AreParams : List Node → List Node → Type 0 where
+  no_params : AreParams [] []
+  more_params : (at : Span) {p : Node} {ps ns : List Node} → AreParams ps ns → AreParams (p ∷ ps) (node_of at kind.Param (p ∷ []) ∷ ns)
+
 -- whether a statement ends with an `if` without `else`: that would take an `else` behind it as its own
 pub data Ending : Type 0 where
   closed dangling : Ending
@@ -346,6 +351,12 @@ mutual
     for_of : (at : Span) (is_await : Bool) {ending : Ending} {left iterable body : Node} → IsForLeft left → IsExpression assignment iterable → IsStatement ending body
         → IsStatement ending (node_of at (kind.ForOfStmt is_await) (left ∷ iterable ∷ body ∷ []))
     labeled : (at : Span) {ending : Ending} {label body : Node} → IsIdent label → IsStatement ending body → IsStatement ending (node_of at kind.LabeledStmt (label ∷ body ∷ []))
+    function_statement : (at : Span) {id function : Node} → IsIdent id → IsFunction function → IsStatement closed (node_of at (kind.FnDecl false) (id ∷ function ∷ []))
+
+  -- what stands behind the name of a function: its parameters, and a block
+  pub data IsFunction : Node → Type 0 where
+    function_of : (at of_params : Span) (is_generator is_async : Bool) {elements params : List Node} {body none none' : Node} → IsArguments bindings (node_of of_params kind.List elements) → AreParams elements params → IsBlock body → IsAbsent none → IsAbsent none'
+        → IsFunction (node_of at (kind.Function is_generator is_async) (node_of of_params kind.List params ∷ body ∷ none ∷ none' ∷ []))
 
   pub data IsBlock : Node → Type 0 where
     block_of : (at of_list : Span) {ss : List Node} → AreStatements ss → IsBlock (node_of at kind.BlockStmt (node_of of_list kind.List ss ∷ []))

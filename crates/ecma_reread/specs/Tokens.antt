@@ -1,5 +1,5 @@
 -- The tokens that a tree is laid out as, in front of others, and the tree without spans.
-use Rattle.std.specs.Prelude.{ℕ, ◌-◌, true, false, List, [], ◌∷◌, length, Some, codes, zero, suc, Bool, ◌++◌}
+use Rattle.std.specs.Prelude.{ℕ, ◌-◌, true, false, List, [], ◌∷◌, length, Some, codes, zero, suc, Bool, ◌++◌, map}
 use Rattle.ecma_number.specs.Numeral.{numeral_of}
 use Rattle.ecma_lex.specs.Text.{piece}
 use Rattle.ecma_lex.specs.Strings.{str_value}
@@ -24,7 +24,7 @@ use Rattle.ecma_print.specs.Operators.{unary_sign, update_sign}
 use Rattle.ecma_print.specs.Statements.{keyword}
 use Rattle.ecma_tokens.specs.Items as items
 use Rattle.ecma_tokens.specs.Items.{Tok, sign, Gap, no_gap, Items, it}
-use Rattle.ecma_reread.specs.Shapes.{IsIdent, ident, IsKey, key, Level, IsExpression, looser, element, prefix_update, postfix_update, await_expression, unary_expression, binary_expression, exponentiation, both, either, coalesced, assignment_expression, conditional_expression, sequence_expression, name, string, number, this_word, big_int, null_word, true_word, false_word, member, call, parenthesized, IsElement, one, spread, IsArguments, no_arguments, arguments, AreElements, no_elements, more_elements, AreExpressions, no_expressions, more_expressions, IsInitializer, no_initializer, initializer, IsDeclarator, declarator, AreDeclarators, no_declarators, more_declarators, IsStatement, expression, declaration, empty, debugger_word, throw, return_value, return_nothing, break_nothing, continue_nothing, Ending, break_label, continue_label, block, if_only, if_else, while_loop, do_loop, labeled, IsBlock, block_of, AreStatements, no_statements, more_statements, array, AreSlots, no_slots, filled, hole, switch_statement, IsCase, case_of, default_of, AreCases, no_cases, more_cases, new_expression, new_alone, new_target, try_catch, try_finally, try_catch_finally, IsCatch, catch_any, IsChainKey, plain_key, private_key, super_member, super_element, super_call, IsOptional, left_out, given, IsForLeft, for_binding, for_target, for_loop, for_in, for_of, object_literal, IsPropertyName, key_name, string_name, number_name, big_int_name, computed_name, IsProperty, key_value, shorthand, initialized, spread_property, AreProperties, no_properties, more_properties, private_in, yield_nothing, yield_value, import_meta, import_call, regex, regex_text, Role, bound, rest, renamed, named, rest_property, IsPattern, name_pattern, array_pattern, object_pattern, IsDefaulted, no_default, with_default, IsForDeclarator, for_declarator, AreForDeclarators, no_for_declarators, more_for_declarators, IsForInit, no_init, init_declaration, init_expression, part_text, IsPart, part, AreParts, last_part, more_parts, template, tagged_template, arrow_function, catch_pattern, chain_member, chain_element, chain_call}
+use Rattle.ecma_reread.specs.Shapes.{IsIdent, ident, IsKey, key, Level, IsExpression, looser, element, prefix_update, postfix_update, await_expression, unary_expression, binary_expression, exponentiation, both, either, coalesced, assignment_expression, conditional_expression, sequence_expression, name, string, number, this_word, big_int, null_word, true_word, false_word, member, call, parenthesized, IsElement, one, spread, IsArguments, no_arguments, arguments, AreElements, no_elements, more_elements, AreExpressions, no_expressions, more_expressions, IsInitializer, no_initializer, initializer, IsDeclarator, declarator, AreDeclarators, no_declarators, more_declarators, IsStatement, expression, declaration, empty, debugger_word, throw, return_value, return_nothing, break_nothing, continue_nothing, Ending, break_label, continue_label, block, if_only, if_else, while_loop, do_loop, labeled, IsBlock, block_of, AreStatements, no_statements, more_statements, array, AreSlots, no_slots, filled, hole, switch_statement, IsCase, case_of, default_of, AreCases, no_cases, more_cases, new_expression, new_alone, new_target, try_catch, try_finally, try_catch_finally, IsCatch, catch_any, IsChainKey, plain_key, private_key, super_member, super_element, super_call, IsOptional, left_out, given, IsForLeft, for_binding, for_target, for_loop, for_in, for_of, object_literal, IsPropertyName, key_name, string_name, number_name, big_int_name, computed_name, IsProperty, key_value, shorthand, initialized, spread_property, AreProperties, no_properties, more_properties, private_in, yield_nothing, yield_value, import_meta, import_call, regex, regex_text, Role, bound, rest, renamed, named, rest_property, IsPattern, name_pattern, array_pattern, object_pattern, IsDefaulted, no_default, with_default, IsForDeclarator, for_declarator, AreForDeclarators, no_for_declarators, more_for_declarators, IsForInit, no_init, init_declaration, init_expression, part_text, IsPart, part, AreParts, last_part, more_parts, template, tagged_template, arrow_function, catch_pattern, chain_member, chain_element, chain_call, function_statement, IsFunction, function_of}
 
 abbrev pub blank : Gap
 blank = record { blanks = codes " "; new_line = false }
@@ -333,6 +333,21 @@ branch_gap false depth = line_at depth
 abbrev pub test_tokens : {level : Level} {e : Node} → IsExpression level e → Items → Items
 test_tokens e us = it blank (sign (codes "(")) (expression_tokens e no_gap (sign_of (codes ")") us))
 
+-- what stands before the name of a function: whether it is a generator, and asynchronous
+abbrev pub star_word : Bool → Gap → Items → Items
+star_word true g us = it g (items.key (codes "function")) (sign_of (codes "*") us)
+star_word false g us = it g (items.key (codes "function")) us
+
+abbrev pub function_word : Bool → Bool → Gap → Items → Items
+function_word is_generator true g us = it g (items.key (codes "async")) (star_word is_generator blank us)
+function_word is_generator false g us = star_word is_generator g us
+
+abbrev pub is_generator : {n : Node} → IsFunction n → Bool
+is_generator (function_of at at' x y ps w b a a') = x
+
+abbrev pub is_async : {n : Node} → IsFunction n → Bool
+is_async (function_of at at' x y ps w b a a') = y
+
 -- a statement so many levels further in
 abbrev mutual
   pub statement_tokens : {ending : Ending} {s : Node} → IsStatement ending s → ℕ → Gap → Items → Items
@@ -360,6 +375,10 @@ abbrev mutual
   statement_tokens (for_in at l e b) d g us = for_tokens false g (for_left_tokens l (it blank (items.key (codes "in")) (expression_tokens e blank (sign_of (codes ")") (statement_tokens b d blank us)))))
   statement_tokens (for_of at w l e b) d g us = for_tokens w g (for_left_tokens l (it blank (items.key (codes "of")) (expression_tokens e blank (sign_of (codes ")") (statement_tokens b d blank us)))))
   statement_tokens (labeled at i b) d g us = it g (items.key (ident_word i)) (sign_of (codes ":") (statement_tokens b d blank us))
+  statement_tokens (function_statement at i f) d g us = function_word (is_generator f) (is_async f) g (it blank (items.key (ident_word i)) (function_tokens f d us))
+
+  pub function_tokens : {n : Node} → IsFunction n → ℕ → Items → Items
+  function_tokens (function_of at at' x y ps w b a a') d us = sign_of (codes "(") (arguments_tokens ps (sign_of (codes ")") (block_tokens b d blank us)))
 
   pub block_tokens : {b : Node} → IsBlock b → ℕ → Gap → Items → Items
   block_tokens (block_of at at' {ss = ss'} ss) d g us = it g (sign (codes "{")) (lined_tokens ss (suc d) (it (closing_gap ss' d) (sign (codes "}")) us))
@@ -555,6 +574,9 @@ abbrev pub bare_optional : {n : Node} → IsOptional n → Node
 bare_optional (left_out a) = absent
 bare_optional (given e) = bare_expression e
 
+abbrev pub bare_params : List Node → List Node
+bare_params ns = map (λ n. bare kind.Param (n ∷ [])) ns
+
 abbrev pub bare_for_init : {n : Node} → IsForInit n → Node
 bare_for_init (no_init a) = absent
 bare_for_init (init_declaration at of_list k d ds) = bare (kind.VarDecl k false) (list_node (bare_declarator (as_declarator d) ∷ bare_declarators (as_declarators ds)) ∷ [])
@@ -590,6 +612,10 @@ abbrev mutual
   bare_statement (for_in at l e b) = bare kind.ForInStmt (bare_for_left l ∷ bare_expression e ∷ bare_statement b ∷ [])
   bare_statement (for_of at w l e b) = bare (kind.ForOfStmt w) (bare_for_left l ∷ bare_expression e ∷ bare_statement b ∷ [])
   bare_statement (labeled at i b) = bare kind.LabeledStmt (bare_ident i ∷ bare_statement b ∷ [])
+  bare_statement (function_statement at i f) = bare (kind.FnDecl false) (bare_ident i ∷ bare_function f ∷ [])
+
+  pub bare_function : {n : Node} → IsFunction n → Node
+  bare_function (function_of at at' x y ps w b a a') = bare (kind.Function x y) (list_node (bare_params (bare_arguments ps)) ∷ bare_block b ∷ absent ∷ absent ∷ [])
 
   pub bare_block : {b : Node} → IsBlock b → Node
   bare_block (block_of at at' ss) = bare kind.BlockStmt (list_node (bare_statements ss) ∷ [])
