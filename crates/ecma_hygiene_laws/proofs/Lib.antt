@@ -29,3 +29,4 @@ pub mod Sorting
 pub mod ResolvedModules
 pub mod Numbers
 pub mod Mapping
+pub mod Seeing

@@ -6,9 +6,10 @@ use Rattle.std.proofs.lemmas.List.Elements.{All-cons, All-head, All-nil, All-tai
 use Rattle.ecma_tree.specs.declared.node.Node.{Node}
 use Rattle.ecma_scope.specs.Resolved.{contexts}
 use Rattle.ecma_hygiene.specs.Ids.{Id, has_context, innermost, own_ids, same_id}
-use Rattle.ecma_hygiene.specs.Sights.{own_scope}
+use Rattle.ecma_hygiene.specs.Laws.{is_seen}
+use Rattle.ecma_hygiene.specs.Sights.{own_scope, sights}
 use Rattle.ecma_hygiene.proofs.Telling.{has-id, or-first, or-second, true-false}
-use Rattle.ecma_hygiene_laws.specs.Apart.{AreApart, ContextsAreMapped, IsContext, IsMap, IsScoped, TellsScopesApart, own_contexts}
+use Rattle.ecma_hygiene_laws.specs.Apart.{AreApart, IsContext, IsMap, IsScoped, TellsScopesApart, own_contexts}
 use Rattle.ecma_hygiene_laws.specs.Stops.{IsRight, Stop, stops}
 use Rattle.ecma_hygiene_laws.proofs.Membership.{contexts-agree, id-same}
 use Rattle.ecma_hygiene_laws.proofs.Numbers.{Differ, Given, IsGiven, NumbersApart, number, opened, tree-numbers}
@@ -32,7 +33,7 @@ ids-context id (x ∷ xs) h = by (same_id x id) refl h (ids-context id xs)
     by true is h rec = or-first (nat_eq id.1 x.1) (has_context id.1 (map (λ other. other.1) xs)) (eq-eqb id.1 x.1 (sym (ap (λ (i : Id). i.1) (id-same x id is))))
     by false is h rec = or-second (nat_eq id.1 x.1) (has_context id.1 (map (λ other. other.1) xs)) (rec h)
 
-own-has : (stop : Stop) (id : Id) → opened stop ≡ true → has_context id.1 (own_scope stop.around.role stop.around.scopes stop.node id.0) ≡ true → has id.1 stop ≡ true
+pub own-has : (stop : Stop) (id : Id) → opened stop ≡ true → has_context id.1 (own_scope stop.around.role stop.around.scopes stop.node id.0) ≡ true → has id.1 stop ≡ true
 own-has stop id is h =
     let ids : List Id = own_ids stop.around.role (innermost stop.around.scopes) stop.node in
     ap (λ (b : Bool). has_context id.1 (cond b (map (λ other. other.1) ids) [])) is ∙ ids-context id ids (sym (contexts-agree id ids) ∙ h)
@@ -102,12 +103,12 @@ module _ (top : ℕ) where
           rec hc hd (sym (ap (λ (b : Bool). cond b (Some (number top s)) (look_up ss c)) x) ∙ same ∙ ap (λ (b : Bool). cond b (Some (number top s)) (look_up ss d)) y)
 
   -- what is found is a number of a scope
-  found-given : (left : ℕ) (ss : List Stop) (ctxt : ℕ) → All (IsGiven top left) ss → list_any (has ctxt) ss ≡ true → (n : ℕ) × (look_up ss ctxt ≡ Some n) × ((n ≡ top) ⊎ (n ≤ left))
+  found-given : (left : ℕ) (ss : List Stop) (ctxt : ℕ) → All (IsGiven top left) ss → list_any (has ctxt) ss ≡ true → (n : ℕ) × (look_up ss ctxt ≡ Some n) × ((n ≡ top) ⊎ ((0 < n) × (n ≤ left)))
   found-given left [] ctxt given h = absurd (true-false h refl)
   found-given left (s ∷ ss) ctxt given h = by (has ctxt s) refl h (found-given left ss ctxt (All-tail (IsGiven top left) s ss given))
     where
-      by : (b : Bool) → has ctxt s ≡ b → (b || list_any (has ctxt) ss) ≡ true → (list_any (has ctxt) ss ≡ true → (n : ℕ) × (look_up ss ctxt ≡ Some n) × ((n ≡ top) ⊎ (n ≤ left)))
-          → (n : ℕ) × (cond (has ctxt s) (Some (number top s)) (look_up ss ctxt) ≡ Some n) × ((n ≡ top) ⊎ (n ≤ left))
+      by : (b : Bool) → has ctxt s ≡ b → (b || list_any (has ctxt) ss) ≡ true → (list_any (has ctxt) ss ≡ true → (n : ℕ) × (look_up ss ctxt ≡ Some n) × ((n ≡ top) ⊎ ((0 < n) × (n ≤ left))))
+          → (n : ℕ) × (cond (has ctxt s) (Some (number top s)) (look_up ss ctxt) ≡ Some n) × ((n ≡ top) ⊎ ((0 < n) × (n ≤ left)))
       by true is h rec = (number top s, ap (λ (b : Bool). cond b (Some (number top s)) (look_up ss ctxt)) is, All-head (IsGiven top left) s ss given (has-opened ctxt s is))
       by false is h rec = (let r = rec h in (r.0, ap (λ (b : Bool). cond b (Some (number top s)) (look_up ss ctxt)) is ∙ r.1, r.2))
 
@@ -116,7 +117,7 @@ module _ (unresolved top free left : ℕ) (tree : Node) (scopes : TellsScopesApa
   all = stops left tree
 
   -- the map: for a context of a scope the number that the scope gets, for that of free names the unresolved one, else the empty one
-  abbrev to : ℕ → ℕ
+  abbrev pub to : ℕ → ℕ
   to ctxt = unwrap_or (look_up top all ctxt) (cond (nat_eq ctxt free) unresolved 0)
 
   apart-test : (b : Bool) → nat_eq 0 free ≡ b → b ≡ false
@@ -159,9 +160,9 @@ module _ (unresolved top free left : ℕ) (tree : Node) (scopes : TellsScopesApa
         less : (left u n : ℕ) → left < u → n ≤ left → u ≡ n → ⊥
         less left u n lt le same = omega arith
 
-    free-apart : (n : ℕ) → (n ≡ top) ⊎ (n ≤ left) → unresolved ≡ n → ⊥
+    free-apart : (n : ℕ) → (n ≡ top) ⊎ ((0 < n) × (n ≤ left)) → unresolved ≡ n → ⊥
     free-apart n (inl is) same = apart (same ∙ is)
-    free-apart n (inr le) same = above n le same
+    free-apart n (inr le) same = above n le.1 same
 
     one-to-one : (c d : ℕ) → IsContext free left tree c → IsContext free left tree d → to c ≡ to d → c ≡ d
     one-to-one c d (inl free_c) (inl free_d) same = free_c ∙ sym free_d
@@ -176,13 +177,22 @@ module _ (unresolved top free left : ℕ) (tree : Node) (scopes : TellsScopesApa
         let two = found-given top left all d given.given in_d in
         same-found top free all given.apart scopes.scoped c d in_c in_d (one.1 ∙ ap (λ (n : ℕ). Some n) (sym (to-found c one.0 one.1) ∙ same ∙ to-found d two.0 two.1) ∙ sym two.1)
 
-    mapped : IsMap unresolved top free left tree to
-    mapped = record {
+    not-none : (n m : ℕ) → m < n → n ≡ 0 → ⊥
+    not-none n m lt is = omega arith
+
+    found-inner : (n : ℕ) → (n ≡ top) ⊎ ((0 < n) × (n ≤ left)) → n ≡ 0 → ⊥
+    found-inner n (inl is) none = not-none top left top_above (sym is ∙ none)
+    found-inner n (inr le) none = not-none n 0 le.0 none
+
+    inner : (c : ℕ) → IsContext free left tree c → to c ≢ 0
+    inner c (inl free_c) is = not-none unresolved left unresolved_above (sym to-free ∙ ap to (sym free_c) ∙ is)
+    inner c (inr in_c) is = (let found = found-given top left all c given.given in_c in found-inner found.0 found.2 (sym (to-found c found.0 found.1) ∙ is))
+
+    pub mapped : ((id : Id) → is_seen (sights tree) id ≡ true → IsContext free left tree id.1) → IsMap unresolved top free left tree to
+    mapped seen = record {
       none = to-none;
       right = λ k d lt. right-at (get_or all k d) (scopes.scoped k d lt) (all-found top all scopes.apart k d lt);
       one_to_one = one-to-one;
+      inner = inner;
+      seen = seen;
     }
-
-pub contexts-are-mapped : ContextsAreMapped
-contexts-are-mapped unresolved top free left tree scopes unresolved_above top_above apart enough =
-    (to unresolved top free left tree scopes, mapped unresolved top free left tree scopes unresolved_above top_above apart enough)

@@ -170,12 +170,15 @@ module _ (top : ℕ) where
         apart = append-apart xs ys low mid left first.between rest.between first.apart rest.apart;
       }
 
-  -- the number of a scope is that of the top, or not above so many
+  -- the number of a scope is that of the top, or one of so many
   abbrev pub IsGiven : ℕ → Stop → Type 0
-  IsGiven left stop = opened stop ≡ true → (number stop ≡ top) ⊎ (number stop ≤ left)
+  IsGiven left stop = opened stop ≡ true → (number stop ≡ top) ⊎ ((0 < number stop) × (number stop ≤ left))
 
   top-differs : (a left : ℕ) → a ≤ left → left < top → top ≡ a → ⊥
   top-differs a left le lt same = omega arith
+
+  positive : (low n : ℕ) → low < n → 0 < n
+  positive low n lt = omega arith
 
   none-taken : (n : Node) → taken role.Root n ≡ 0
   none-taken n = none (opens role.Root n)
@@ -204,5 +207,5 @@ module _ (top : ℕ) where
       subst (Given left) (sym (stops-out tree nowhere left)) (record {
         apart = (λ k d lt is also same. (let b = between k d lt also in top-differs (get_or rest k d).left left b.2 below (same ∙ ap (λ (z : Bool). cond z top (get_or rest k d).left) b.0)), inner.apart);
         given = All-cons (IsGiven left) here rest (λ is. inl refl)
-            (λ k d lt is. (let b = between k d lt is in inr (subst (λ (m : ℕ). m ≤ left) (sym (ap (λ (z : Bool). cond z top (get_or rest k d).left) b.0)) b.2)));
+            (λ k d lt is. (let b = between k d lt is in inr (subst (λ (m : ℕ). (0 < m) × (m ≤ left)) (sym (ap (λ (z : Bool). cond z top (get_or rest k d).left) b.0)) (positive low (get_or rest k d).left b.1, b.2))));
       })

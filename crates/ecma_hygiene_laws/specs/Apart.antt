@@ -8,8 +8,10 @@ use Rattle.ecma_scope.specs.Declarations.{is_hoisted}
 use Rattle.ecma_scope.specs.Resolved.{contexts, is_name}
 use Rattle.ecma_scope.specs.Scopes.{opens}
 use Rattle.ecma_hygiene.specs.Capture.{NoneDeclares}
-use Rattle.ecma_hygiene.specs.Ids.{has_context, innermost, is_block, is_body_block, own_ids}
+use Rattle.ecma_hygiene.specs.Ids.{Id, has_context, innermost, is_block, is_body_block, own_ids}
+use Rattle.ecma_hygiene.specs.Laws.{is_seen}
 use Rattle.ecma_hygiene.specs.Renamed.{kind_is_absent}
+use Rattle.ecma_hygiene.specs.Sights.{sights}
 use Rattle.ecma_hygiene_laws.specs.DeclaredIds.{DeclaredId, scope_ids}
 use Rattle.ecma_hygiene_laws.specs.Stops.{IsRight, Stop, stops}
 
@@ -49,11 +51,13 @@ pub record TellsScopesApart (free left : ℕ) (tree : Node) : Type 0 where
 abbrev pub IsContext : ℕ → ℕ → Node → ℕ → Type 0
 IsContext free left tree ctxt = (ctxt ≡ free) ⊎ (list_any (λ stop. has_context ctxt (own_contexts stop)) (stops left tree) ≡ true)
 
--- a map of contexts with which the ids of a tree are right, one to one
+-- a map of contexts with which the ids of a tree are right, one to one on those of its identifiers, and to none the empty one
 pub record IsMap (unresolved top free left : ℕ) (tree : Node) (to : ℕ → ℕ) : Type 0 where
   pub none : to 0 ≡ 0
   pub right : All (IsRight unresolved top to) (stops left tree)
   pub one_to_one : (c d : ℕ) → IsContext free left tree c → IsContext free left tree d → to c ≡ to d → c ≡ d
+  pub inner : (c : ℕ) → IsContext free left tree c → to c ≢ 0
+  pub seen : (id : Id) → is_seen (sights tree) id ≡ true → IsContext free left tree id.1
 
 abbrev pub ContextsAreMapped : Type 0
 ContextsAreMapped = (unresolved top free left : ℕ) (tree : Node) → TellsScopesApart free left tree → left < unresolved → left < top → unresolved ≢ top → contexts tree ≤ left

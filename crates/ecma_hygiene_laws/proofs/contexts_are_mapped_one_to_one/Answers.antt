@@ -1,4 +1,4 @@
-use Rattle.ecma_hygiene_laws.proofs.Mapping.{contexts-are-mapped}
+use Rattle.ecma_hygiene_laws.proofs.Seeing.{contexts-are-mapped}
 use Rattle.ecma_hygiene_laws.proofs.contexts_are_mapped_one_to_one.Goals as goal
 
 pub returns : goal.returns
