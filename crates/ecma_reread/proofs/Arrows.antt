@@ -28,7 +28,8 @@ use Rattle.ecma_tokens.specs.Items.{sign, no_gap, Gap, Items, it}
 use Rattle.ecma_reread.specs.Machine.{read, with_front, followed_on, or_on, unless_on, built_on, interp, means}
 use Rattle.ecma_reread.specs.Shapes as shapes
 use Rattle.ecma_reread.specs.Shapes.{Role, IsElement, IsArguments, AreElements}
-use Rattle.ecma_reread.specs.Tokens.{blank, element_tokens, arguments_tokens, elements_tokens, bare_element, bare_arguments, bare_elements}
+use Rattle.ecma_reread.specs.Tokens.{blank, element_tokens, arguments_tokens, elements_tokens}
+use Rattle.ecma_reread.specs.Bare.{bare_element, bare_arguments, bare_elements}
 use Rattle.ecma_reread.proofs.Moves.{eats}
 use Rattle.ecma_reread.proofs.Levels.{means_is}
 use Rattle.ecma_reread.proofs.Fronts.{Front, exactly, Begins, at_token, refuses_at, refused_at, refuses_all, all_refused}

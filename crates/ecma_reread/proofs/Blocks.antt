@@ -24,7 +24,7 @@ use Rattle.ecma_tokens.specs.Items.{sign, Gap, Items, it}
 use Rattle.ecma_reread.specs.Machine.{fails, with_front, followed_on, built_on, interp, means}
 use Rattle.ecma_reread.specs.Shapes as shapes
 use Rattle.ecma_reread.specs.Shapes.{Ending}
-use Rattle.ecma_reread.specs.Tokens.{bare}
+use Rattle.ecma_reread.specs.Bare.{bare}
 use Rattle.ecma_reread.proofs.Levels.{means_is}
 use Rattle.ecma_reread.proofs.Fronts.{Front, exactly, Begins, at_token, refuses_all, all_refused}
 use Rattle.ecma_reread.proofs.Towers.{refuses_choices}

@@ -26,7 +26,8 @@ use Rattle.ecma_tokens.specs.Items.{Tok, sign, Gap, no_gap, Items, it}
 use Rattle.ecma_reread.specs.Machine.{with_front, taken}
 use Rattle.ecma_reread.specs.Shapes as shapes
 use Rattle.ecma_reread.specs.Shapes.{Level, IsPlainName, IsIdent, ident, IsKey, key, IsExpression, IsElement, AreSlots, IsProperty, AreProperties, IsArguments, AreElements, AreExpressions, IsMemberLevel, IsIndexed, regex_text, Role, IsPattern, IsDefaulted, IsInitializer, AreParts, IsChainLink}
-use Rattle.ecma_reread.specs.Tokens.{bare, blank, ident_word, key_word, own_sign, unary_gap, expression_tokens, element_tokens, arguments_tokens, elements_tokens, expression_kind, expression_parts, bare_element, bare_arguments, bare_elements, pattern_tokens, bare_pattern, defaulted_tokens, bare_defaulted, part_token, parts_tokens, bare_substitutions, bare_parts, point_of, question_of}
+use Rattle.ecma_reread.specs.Tokens.{blank, ident_word, key_word, own_sign, unary_gap, expression_tokens, element_tokens, arguments_tokens, elements_tokens, pattern_tokens, defaulted_tokens, part_token, parts_tokens, point_of, question_of}
+use Rattle.ecma_reread.specs.Bare.{bare, expression_kind, expression_parts, bare_element, bare_arguments, bare_elements, bare_pattern, bare_defaulted, bare_substitutions, bare_parts}
 use Rattle.ecma_reread.proofs.Levels.{means_is}
 use Rattle.ecma_reread.proofs.Fronts.{Front, exactly, Begins, at_token, IsName, is_known, refuses_at, refuses_all, all_refused}
 use Rattle.ecma_reread.proofs.Heads.{call_made, is_head, chain_call_made}

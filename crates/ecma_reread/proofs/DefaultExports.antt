@@ -20,7 +20,8 @@ use Rattle.ecma_tokens.specs.Taking.{Took, took, refused, token_in}
 use Rattle.ecma_reread.specs.Machine.{Out, read, unsure, Turn, taken, behind_on, followed_on, fails, built_on, with_front, or_on, interp, means}
 use Rattle.ecma_reread.specs.Shapes as shapes
 use Rattle.ecma_reread.specs.Shapes.{IsExpression}
-use Rattle.ecma_reread.specs.Tokens.{blank, sign_of, expression_tokens, bare, bare_expression}
+use Rattle.ecma_reread.specs.Tokens.{blank, sign_of, expression_tokens}
+use Rattle.ecma_reread.specs.Bare.{bare, bare_expression}
 use Rattle.ecma_reread.specs.ModuleTokens.{spaced_word}
 use Rattle.ecma_reread.proofs.Fronts.{exactly, at_token}
 use Rattle.ecma_reread.proofs.Towers.{without, excluded}

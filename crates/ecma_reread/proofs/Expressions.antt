@@ -34,7 +34,8 @@ use Rattle.ecma_tokens.specs.Items.{Tok, sign, Gap, no_gap, Items, it}
 use Rattle.ecma_tokens.specs.Taking.{leaf_kind}
 use Rattle.ecma_reread.specs.Machine.{read, with_front, followed_on, built_on, interp, means}
 use Rattle.ecma_reread.specs.Shapes as shapes
-use Rattle.ecma_reread.specs.Tokens.{bare, blank}
+use Rattle.ecma_reread.specs.Tokens.{blank}
+use Rattle.ecma_reread.specs.Bare.{bare}
 use Rattle.ecma_reread.specs.Shapes.{IsRegex, regex_text}
 use Rattle.ecma_reread.proofs.Levels.{means_is}
 use Rattle.ecma_grammar.specs.Made.{made}

@@ -24,7 +24,8 @@ use Rattle.ecma_tokens.specs.Items.{Gap, Items, it}
 use Rattle.ecma_reread.specs.Machine.{read, or_on, built_on, interp, means}
 use Rattle.ecma_reread.specs.Shapes as shapes
 use Rattle.ecma_reread.specs.Shapes.{IsPattern, IsDefaulted, IsElement, AreElements, IsArguments}
-use Rattle.ecma_reread.specs.Tokens.{blank, arguments_tokens, function_word, bare_pattern, bare_defaulted, bare_element, bare_elements, bare_arguments, bare_params}
+use Rattle.ecma_reread.specs.Tokens.{blank, arguments_tokens, function_word}
+use Rattle.ecma_reread.specs.Bare.{bare_pattern, bare_defaulted, bare_element, bare_elements, bare_arguments, bare_params}
 use Rattle.ecma_reread.proofs.Levels.{means_is}
 use Rattle.ecma_reread.proofs.Fronts.{Front, exactly, Begins, at_token}
 use Rattle.ecma_reread.proofs.Towers.{without, skipped, refuses_choices}

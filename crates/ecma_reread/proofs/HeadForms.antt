@@ -9,7 +9,8 @@ use Rattle.ecma_tree.specs.declared.node.Node.{Node}
 use Rattle.ecma_reread.specs.Machine.{taken}
 use Rattle.ecma_reread.specs.Shapes as shapes
 use Rattle.ecma_reread.specs.Shapes.{Level, IsExpression, AreExpressions, IsMemberLevel, IsIndexed}
-use Rattle.ecma_reread.specs.Tokens.{blank, expression_tokens, expression_kind, expression_parts}
+use Rattle.ecma_reread.specs.Tokens.{blank, expression_tokens}
+use Rattle.ecma_reread.specs.Bare.{expression_kind, expression_parts}
 use Rattle.ecma_reread.specs.Heads.{any_of, may_hold_by, may_hold_in}
 use Rattle.ecma_reread.proofs.Forms.{Laid}
 use Rattle.ecma_reread.proofs.Bindings.{StandsIn, Stands, loosened}

@@ -19,7 +19,8 @@ use Rattle.ecma_tokens.proofs.Privates.{private_parts}
 use Rattle.ecma_reread.specs.Machine.{read}
 use Rattle.ecma_reread.specs.Shapes as shapes
 use Rattle.ecma_reread.specs.Shapes.{IsChainKey}
-use Rattle.ecma_reread.specs.Tokens.{bare, chain_token, chain_kind}
+use Rattle.ecma_reread.specs.Tokens.{chain_token, chain_kind}
+use Rattle.ecma_reread.specs.Bare.{bare}
 use Rattle.ecma_reread.proofs.Levels.{means_is}
 use Rattle.ecma_reread.proofs.Fronts.{exactly, at_token, refuses_at}
 use Rattle.ecma_reread.proofs.Heads.{member_made, is_head}

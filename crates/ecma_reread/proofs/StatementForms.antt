@@ -4,7 +4,8 @@ use Rattle.ecma_tree.specs.declared.node.Node.{Node}
 use Rattle.ecma_reread.specs.Machine.{taken}
 use Rattle.ecma_reread.specs.Shapes as shapes
 use Rattle.ecma_reread.specs.Shapes.{IsInitializer, IsDeclarator, AreDeclarators, Ending, IsStatement, IsBlock, IsCase, AreCases, IsCatch, AreStatements, IsOptional, IsForDeclarator, AreForDeclarators, IsForInit, IsForLeft}
-use Rattle.ecma_reread.specs.Tokens.{line_at, ident_word, closing_gap, is_braced, branch_gap, statement_tokens, block_tokens, case_tokens, cases_tokens, catch_tokens, lined_tokens, bare_statement, bare_block, bare_case, bare_cases, bare_catch, bare_statements, as_declarator, as_declarators, for_left_tokens, bare_for_left}
+use Rattle.ecma_reread.specs.Tokens.{line_at, ident_word, closing_gap, is_braced, branch_gap, statement_tokens, block_tokens, case_tokens, cases_tokens, catch_tokens, lined_tokens, as_declarator, as_declarators, for_left_tokens}
+use Rattle.ecma_reread.specs.Bare.{bare_statement, bare_block, bare_case, bare_cases, bare_catch, bare_statements, bare_for_left}
 use Rattle.ecma_reread.proofs.Bindings.{standing}
 use Rattle.ecma_reread.proofs.Beginnings.{no_new_line, no_brace}
 use Rattle.ecma_reread.proofs.Calls.{ident_free, argument_forms, expression_form, pattern_form, initializer_form}

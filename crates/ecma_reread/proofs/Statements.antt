@@ -25,7 +25,7 @@ use Rattle.ecma_tokens.specs.Items.{Tok, sign, Gap, no_gap, Items, it, key, priv
 use Rattle.ecma_reread.specs.Machine.{read, fails, with_front, followed_on, or_on, unless_on, built_on, interp, means}
 use Rattle.ecma_reread.specs.Shapes as shapes
 use Rattle.ecma_reread.specs.Shapes.{Ending}
-use Rattle.ecma_reread.specs.Tokens.{bare}
+use Rattle.ecma_reread.specs.Bare.{bare}
 use Rattle.ecma_reread.proofs.Levels.{means_is}
 use Rattle.ecma_reread.proofs.Fronts.{Front, exactly, Begins, at_token, refuses_at, refuses_all, all_refused, a_name, the_end, is_known}
 use Rattle.ecma_reread.proofs.Towers.{without, skipped, refuses_choices, excluded}

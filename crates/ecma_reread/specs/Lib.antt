@@ -4,5 +4,6 @@ pub mod Braces
 pub mod Shapes
 pub mod Modules
 pub mod Tokens
+pub mod Bare
 pub mod ModuleTokens
 pub mod Theorems
