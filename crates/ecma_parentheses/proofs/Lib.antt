@@ -2,6 +2,7 @@ mod Standing
 mod Asking
 mod Adding
 mod Again
+mod Lacks
 mod Places
 mod LaidExpressions
 mod LaidStatements

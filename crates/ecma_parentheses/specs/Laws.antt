@@ -1,5 +1,5 @@
 -- The laws of explicit parentheses.
-use Rattle.std.specs.Prelude.{◌≡◌, ℕ}
+use Rattle.std.specs.Prelude.{◌≡◌, ℕ, true}
 use Rattle.ecma_kind.specs.declared.shapes.Shape.{Shape}
 use Rattle.ecma_kind.specs.declared.shapes.Sort.TheVariants as sort
 use Rattle.ecma_tree.specs.declared.node.Node.{Node}
@@ -9,6 +9,7 @@ use Rattle.ecma_runs.specs.declared.config.Config.{Config}
 use Rattle.ecma_runs.specs.declared.script.Script.{Script}
 use Rattle.ecma_runs.specs.Observation.{observe}
 use Rattle.ecma_parentheses.specs.Explicit.{explicit, without_parens}
+use Rattle.ecma_parentheses.specs.Lacking.{lacks_none}
 
 -- nothing but parentheses is added
 abbrev pub OnlyParenthesesAreAdded : Type 0
@@ -30,3 +31,11 @@ SortsAreKept = (m : Node) (shape : Shape) → HasShape shape m → HasShape shap
 -- as if the chain ended there
 abbrev pub RunsAlike : Type 0
 RunsAlike = (turns : ℕ) (options : Config) (m : Node) (script : Script) → HasSort sort.Module m → observe turns options (explicit m) script ≡ observe turns options m script
+
+-- none are lacking
+abbrev pub NoneAreLacking : Type 0
+NoneAreLacking = (m : Node) → lacks_none (explicit m) ≡ true
+
+-- a tree that lacks none is its own
+abbrev pub TreesThatLackNoneStay : Type 0
+TreesThatLackNoneStay = (m : Node) → lacks_none m ≡ true → explicit m ≡ m

@@ -1,3 +1,4 @@
 pub mod Spots
 pub mod Explicit
+pub mod Lacking
 pub mod Laws

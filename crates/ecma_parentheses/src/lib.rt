@@ -3,7 +3,7 @@
 //! Each function carries one law, and does nothing but to call upon another law. The laws are stated in `specs/Laws.antt`.
 #![tactic(auto)]
 
-ghost use Rattle.ecma_parentheses.specs.Laws.{LayoutStays, NoneAreAddedAgain, OnlyParenthesesAreAdded, RunsAlike, SortsAreKept};
+ghost use Rattle.ecma_parentheses.specs.Laws.{LayoutStays, NoneAreAddedAgain, NoneAreLacking, OnlyParenthesesAreAdded, RunsAlike, SortsAreKept, TreesThatLackNoneStay};
 
 /// Without any parentheses the tree with explicit ones is the tree.
 pub fn only_parentheses_are_added()
@@ -31,3 +31,13 @@ pub fn it_runs_alike()
 {
     ecma_runs::laws::parentheses_do_not_matter();
 }
+
+/// In a tree with explicit parentheses each node stands in its spot without others.
+pub fn none_are_lacking()
+    ensures { NoneAreLacking }
+{}
+
+/// A tree of which that is true is the tree with explicit parentheses.
+pub fn trees_that_lack_none_stay()
+    ensures { TreesThatLackNoneStay }
+{}
