@@ -1,17 +1,15 @@
 -- Arrow functions with expressions as their bodies are read as they are laid out.
-use Rattle.std.proofs.Common.{◌≡◌, Bool, true, false, List, [], ◌∷◌, ◌++◌, codes, nat_le, refl, ap, ◌∙◌, append-nil}
+use Rattle.std.proofs.Common.{◌≡◌, Bool, true, false, List, [], ◌∷◌, codes, nat_le, refl, ap, ◌∙◌, append-nil}
 use Rattle.ecma_kind.specs.declared.kind.Kind.{Kind}
 use Rattle.ecma_kind.specs.declared.kind.Kind.TheVariants as kind
 use Rattle.ecma_tree.specs.declared.node.Node.{Node}
 use Rattle.ecma_tree.specs.Nodes.{absent, list_node}
 use Rattle.ecma_grammar.specs.declared.production.Part.TheVariants as part
 use Rattle.ecma_grammar.specs.declared.production.Form.TheVariants as form
-use Rattle.ecma_grammar.specs.declared.production.Plain.TheVariants as plain
 use Rattle.ecma_grammar.specs.declared.production.Flag.TheVariants.{Absent, Present}
 use Rattle.ecma_grammar.specs.trees.Parts.{flag_node}
 use Rattle.ecma_grammar.specs.Made.{made}
-use Rattle.ecma_grammar.specs.Grammar as grammar
-use Rattle.ecma_grammar.specs.Grammar.{Grammar, put, ◌▸◌, ◌//◌, build, punct}
+use Rattle.ecma_grammar.specs.Grammar.{put, ◌▸◌, build, punct}
 use Rattle.ecma_grammar.specs.productions.Names as names
 use Rattle.ecma_grammar.specs.productions.Types.{params, param, rest_pattern, default_value}
 use Rattle.ecma_grammar.specs.productions.Patterns.{pattern_body, array_pattern, object_pattern}
@@ -25,14 +23,14 @@ use Rattle.ecma_grammar.specs.productions.Statements.{labeled}
 use Rattle.ecma_grammar.specs.productions.Modules as modules
 use Rattle.ecma_tokens.specs.Items as items
 use Rattle.ecma_tokens.specs.Items.{sign, no_gap, Gap, Items, it}
-use Rattle.ecma_reread.specs.Machine.{read, with_front, followed_on, or_on, unless_on, built_on, interp, means}
+use Rattle.ecma_reread.specs.Machine.{read, with_front, or_on, built_on, interp, means}
 use Rattle.ecma_reread.specs.Shapes as shapes
 use Rattle.ecma_reread.specs.Shapes.{Role, IsElement, IsArguments, AreElements}
-use Rattle.ecma_reread.specs.Tokens.{blank, element_tokens, arguments_tokens, elements_tokens}
+use Rattle.ecma_reread.specs.Tokens.{blank, arguments_tokens, elements_tokens}
 use Rattle.ecma_reread.specs.Bare.{bare_element, bare_arguments, bare_elements}
 use Rattle.ecma_reread.proofs.Moves.{eats}
 use Rattle.ecma_reread.proofs.Levels.{means_is}
-use Rattle.ecma_reread.proofs.Fronts.{Front, exactly, Begins, at_token, refuses_at, refused_at, refuses_all, all_refused}
+use Rattle.ecma_reread.proofs.Fronts.{Front, exactly, Begins, at_token, refused_at, refuses_all, all_refused}
 use Rattle.ecma_reread.proofs.Towers.{excluded, behind_arrow, closes_in}
 use Rattle.ecma_reread.proofs.Heads.{bare, nodes}
 use Rattle.ecma_reread.proofs.Forms.{linked_param, Laid, s, Reads, Refuses, no_item_at}

@@ -11,7 +11,7 @@ use Rattle.ecma_grammar.specs.declared.production.Flag.TheVariants.{Absent, Pres
 use Rattle.ecma_grammar.specs.trees.Parts.{flag_node}
 use Rattle.ecma_grammar.specs.trees.Functions.{wrapped, parameters}
 use Rattle.ecma_grammar.specs.Made.{made}
-use Rattle.ecma_grammar.specs.Grammar.{Grammar, ◌//◌}
+use Rattle.ecma_grammar.specs.Grammar.{◌//◌}
 use Rattle.ecma_grammar.specs.productions.Names as names
 use Rattle.ecma_grammar.specs.productions.Functions.{signature, function_declaration}
 use Rattle.ecma_grammar.specs.productions.Declarations.{declaration}
@@ -21,7 +21,7 @@ use Rattle.ecma_grammar.specs.productions.Modules as modules
 use Rattle.ecma_grammar.specs.productions.Modules.{module_item}
 use Rattle.ecma_tokens.specs.Items as items
 use Rattle.ecma_tokens.specs.Items.{Gap, Items, it}
-use Rattle.ecma_reread.specs.Machine.{read, or_on, built_on, interp, means}
+use Rattle.ecma_reread.specs.Machine.{read, or_on, interp, means}
 use Rattle.ecma_reread.specs.Shapes as shapes
 use Rattle.ecma_reread.specs.Shapes.{IsPattern, IsDefaulted, IsElement, AreElements, IsArguments}
 use Rattle.ecma_reread.specs.Tokens.{blank, arguments_tokens, function_word}

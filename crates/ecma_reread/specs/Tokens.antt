@@ -1,9 +1,5 @@
 -- The tokens that a tree is laid out as, in front of others.
-use Rattle.std.specs.Prelude.{ℕ, ◌-◌, true, false, List, [], ◌∷◌, length, Some, codes, zero, suc, Bool, ◌++◌, map}
-use Rattle.ecma_number.specs.Numeral.{numeral_of}
-use Rattle.ecma_lex.specs.Text.{piece}
-use Rattle.ecma_lex.specs.Strings.{str_value}
-use Rattle.ecma_lex.specs.Templates.{template_value}
+use Rattle.std.specs.Prelude.{ℕ, true, false, List, [], ◌∷◌, codes, zero, suc, Bool, ◌++◌}
 use Rattle.ecma_kind.specs.declared.operators.UnaryOp.{UnaryOp}
 use Rattle.ecma_kind.specs.declared.operators.UnaryOp.TheVariants.{Minus, Plus, Bang, Tilde, TypeOf, Void, Delete}
 use Rattle.ecma_kind.specs.declared.operators.UpdateOp.{UpdateOp}
@@ -12,12 +8,9 @@ use Rattle.ecma_kind.specs.declared.operators.AssignOp.{AssignOp}
 use Rattle.ecma_kind.specs.declared.operators.AssignOp.TheVariants.{Assign, AddAssign, SubAssign, MulAssign, DivAssign, ModAssign, LShiftAssign, RShiftAssign, ZeroFillRShiftAssign, BitOrAssign, BitXorAssign, BitAndAssign, ExpAssign, AndAssign, OrAssign, NullishAssign}
 use Rattle.ecma_kind.specs.declared.operators.BinaryOp.{BinaryOp}
 use Rattle.ecma_kind.specs.declared.operators.BinaryOp.TheVariants as op
-use Rattle.ecma_kind.specs.declared.operators.MetaPropKind.TheVariants.{NewTarget, ImportMeta}
 use Rattle.ecma_kind.specs.declared.kind.Kind.{Kind}
 use Rattle.ecma_kind.specs.declared.kind.Kind.TheVariants as kind
 use Rattle.ecma_tree.specs.declared.node.Node.{Node}
-use Rattle.ecma_tree.specs.Nodes.{node_of, dummy_span, absent, list_node}
-use Rattle.ecma_grammar.specs.Reads.{without_separators}
 use Rattle.ecma_print.specs.declared.place.Beside.{Beside}
 use Rattle.ecma_print.specs.declared.place.Beside.TheVariants.{NoNeighbor, BehindMinus, BehindPlus}
 use Rattle.ecma_print.specs.Operators.{unary_sign, update_sign}
