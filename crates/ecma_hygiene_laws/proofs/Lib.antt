@@ -30,3 +30,4 @@ pub mod ResolvedModules
 pub mod Numbers
 pub mod Mapping
 pub mod Seeing
+pub mod NamingAgain

@@ -1,5 +1,5 @@
 -- The map of the contexts of a tree to those that its scopes get.
-use Rattle.std.proofs.Common.{◌≡◌, ◌≢◌, ◌⊎◌, inl, inr, ℕ, ◌<◌, ◌≤◌, Bool, true, false, ◌||◌, cond, List, [], ◌∷◌, map, Option, Some, None, refl, sym, ap, ◌∙◌, get_or, nat_eq, eq-eqb, unwrap_or, arith}
+use Rattle.std.proofs.Common.{◌≡◌, ◌≢◌, ◌⊎◌, inl, inr, ℕ, ◌+◌, ◌<◌, ◌≤◌, Bool, true, false, ◌||◌, cond, List, [], ◌∷◌, map, Option, Some, None, refl, sym, ap, ◌∙◌, get_or, nat_eq, eq-eqb, unwrap_or, arith}
 use Rattle.std.specs.List.{All, list_any}
 use Rattle.std.proofs.lemmas.Bool.{eqb-true}
 use Rattle.std.proofs.lemmas.List.Elements.{All-cons, All-head, All-nil, All-tail}
@@ -112,13 +112,24 @@ module _ (top : ℕ) where
       by true is h rec = (number top s, ap (λ (b : Bool). cond b (Some (number top s)) (look_up ss ctxt)) is, All-head (IsGiven top left) s ss given (has-opened ctxt s is))
       by false is h rec = (let r = rec h in (r.0, ap (λ (b : Bool). cond b (Some (number top s)) (look_up ss ctxt)) is ∙ r.1, r.2))
 
+none-has : (ctxt : ℕ) (ss : List Stop) → list_any (has ctxt) ss ≡ false → All (λ s. has ctxt s ≡ false) ss
+none-has ctxt [] h = All-nil (λ s. has ctxt s ≡ false)
+none-has ctxt (s ∷ ss) h = by (has ctxt s) refl h (none-has ctxt ss)
+  where
+    by : (b : Bool) → has ctxt s ≡ b → (b || list_any (has ctxt) ss) ≡ false → (list_any (has ctxt) ss ≡ false → All (λ x. has ctxt x ≡ false) ss) → All (λ x. has ctxt x ≡ false) (s ∷ ss)
+    by true is h rec = absurd (true-false refl h)
+    by false is h rec = All-cons (λ x. has ctxt x ≡ false) s ss is (rec h)
+
 module _ (unresolved top free left : ℕ) (tree : Node) (scopes : TellsScopesApart free left tree) where
   abbrev all : List Stop
   all = stops left tree
 
-  -- the map: for a context of a scope the number that the scope gets, for that of free names the unresolved one, else the empty one
+  -- the map: a context of a scope goes to the number that the scope gets, that of free names to the unresolved one, the empty one to itself, and all others beyond these
+  abbrev more : ℕ
+  more = left + (top + (unresolved + 1))
+
   abbrev pub to : ℕ → ℕ
-  to ctxt = unwrap_or (look_up top all ctxt) (cond (nat_eq ctxt free) unresolved 0)
+  to ctxt = unwrap_or (look_up top all ctxt) (cond (nat_eq ctxt free) unresolved (cond (nat_eq ctxt 0) 0 (ctxt + more)))
 
   apart-test : (b : Bool) → nat_eq 0 free ≡ b → b ≡ false
   apart-test true is = absurd (scopes.there (sym (eqb-true 0 free is)))
@@ -126,16 +137,16 @@ module _ (unresolved top free left : ℕ) (tree : Node) (scopes : TellsScopesApa
 
   to-none : to 0 ≡ 0
   to-none =
-      ap (λ (o : Option ℕ). unwrap_or o (cond (nat_eq 0 free) unresolved 0)) (look_up-none top all 0 (λ k d lt. (scopes.scoped k d lt).not_empty))
-      ∙ ap (λ (b : Bool). cond b unresolved 0) (apart-test (nat_eq 0 free) refl)
+      ap (λ (o : Option ℕ). unwrap_or o (cond (nat_eq 0 free) unresolved (cond (nat_eq 0 0) 0 (0 + more)))) (look_up-none top all 0 (λ k d lt. (scopes.scoped k d lt).not_empty))
+      ∙ ap (λ (b : Bool). cond b unresolved (cond (nat_eq 0 0) 0 (0 + more))) (apart-test (nat_eq 0 free) refl) ∙ ap (λ (b : Bool). cond b 0 (0 + more)) (eq-eqb 0 0 refl)
 
   to-free : to free ≡ unresolved
   to-free =
-      ap (λ (o : Option ℕ). unwrap_or o (cond (nat_eq free free) unresolved 0)) (look_up-none top all free (λ k d lt. (scopes.scoped k d lt).not_free))
-      ∙ ap (λ (b : Bool). cond b unresolved 0) (eq-eqb free free refl)
+      ap (λ (o : Option ℕ). unwrap_or o (cond (nat_eq free free) unresolved (cond (nat_eq free 0) 0 (free + more)))) (look_up-none top all free (λ k d lt. (scopes.scoped k d lt).not_free))
+      ∙ ap (λ (b : Bool). cond b unresolved (cond (nat_eq free 0) 0 (free + more))) (eq-eqb free free refl)
 
   to-found : (ctxt n : ℕ) → look_up top all ctxt ≡ Some n → to ctxt ≡ n
-  to-found ctxt n is = ap (λ (o : Option ℕ). unwrap_or o (cond (nat_eq ctxt free) unresolved 0)) is
+  to-found ctxt n is = ap (λ (o : Option ℕ). unwrap_or o (cond (nat_eq ctxt free) unresolved (cond (nat_eq ctxt 0) 0 (ctxt + more)))) is
 
   right-at : (stop : Stop) → IsScoped free stop → ((ctxt : ℕ) → has ctxt stop ≡ true → look_up top all ctxt ≡ Some (number top stop)) → IsRight unresolved top to stop
   right-at stop scoped found = record {
@@ -164,25 +175,81 @@ module _ (unresolved top free left : ℕ) (tree : Node) (scopes : TellsScopesApa
     free-apart n (inl is) same = apart (same ∙ is)
     free-apart n (inr le) same = above n le.1 same
 
-    one-to-one : (c d : ℕ) → IsContext free left tree c → IsContext free left tree d → to c ≡ to d → c ≡ d
-    one-to-one c d (inl free_c) (inl free_d) same = free_c ∙ sym free_d
-    one-to-one c d (inl free_c) (inr in_d) same =
-        let found = found-given top left all d given.given in_d in
-        absurd (free-apart found.0 found.2 (sym to-free ∙ ap to (sym free_c) ∙ same ∙ to-found d found.0 found.1))
-    one-to-one c d (inr in_c) (inl free_d) same =
-        let found = found-given top left all c given.given in_c in
-        absurd (free-apart found.0 found.2 (sym to-free ∙ ap to (sym free_d) ∙ sym same ∙ to-found c found.0 found.1))
-    one-to-one c d (inr in_c) (inr in_d) same =
-        let one = found-given top left all c given.given in_c in
-        let two = found-given top left all d given.given in_d in
-        same-found top free all given.apart scopes.scoped c d in_c in_d (one.1 ∙ ap (λ (n : ℕ). Some n) (sym (to-found c one.0 one.1) ∙ same ∙ to-found d two.0 two.1) ∙ sym two.1)
-
     not-none : (n m : ℕ) → m < n → n ≡ 0 → ⊥
     not-none n m lt is = omega arith
 
     found-inner : (n : ℕ) → (n ≡ top) ⊎ ((0 < n) × (n ≤ left)) → n ≡ 0 → ⊥
     found-inner n (inl is) none = not-none top left top_above (sym is ∙ none)
     found-inner n (inr le) none = not-none n 0 le.0 none
+
+    -- which of these a context is
+    data Class (ctxt : ℕ) : Type 0 where
+      of_scope : (n : ℕ) → list_any (has ctxt) all ≡ true → look_up top all ctxt ≡ Some n → (n ≡ top) ⊎ ((0 < n) × (n ≤ left)) → Class ctxt
+      of_free : ctxt ≡ free → Class ctxt
+      of_none : ctxt ≡ 0 → Class ctxt
+      of_other : to ctxt ≡ ctxt + more → Class ctxt
+
+    class-by : (ctxt : ℕ) (f z : Bool) → look_up top all ctxt ≡ None → nat_eq ctxt free ≡ f → nat_eq ctxt 0 ≡ z → Class ctxt
+    class-by ctxt true z none is zero = of_free (eqb-true ctxt free is)
+    class-by ctxt false true none is zero = of_none (eqb-true ctxt 0 zero)
+    class-by ctxt false false none is zero = of_other ((λ j. unwrap_or (none j) (cond (is j) unresolved (cond (zero j) 0 (ctxt + more)))))
+
+    classify : (ctxt : ℕ) (b : Bool) → list_any (has ctxt) all ≡ b → Class ctxt
+    classify ctxt true is = (let found = found-given top left all ctxt given.given is in of_scope found.0 is found.1 found.2)
+    classify ctxt false is = class-by ctxt (nat_eq ctxt free) (nat_eq ctxt 0) (look_up-none top all ctxt (none-has ctxt all is)) refl refl
+
+    beyond : (n d : ℕ) → (n ≡ top) ⊎ ((0 < n) × (n ≤ left)) → n ≡ d + more → ⊥
+    beyond n d (inl is) same = over top left unresolved d (sym is ∙ same)
+      where
+        over : (t l u d : ℕ) → t ≡ d + (l + (t + (u + 1))) → ⊥
+        over t l u d same = omega arith
+    beyond n d (inr le) same = over n top left unresolved d le.1 same
+      where
+        over : (n t l u d : ℕ) → n ≤ l → n ≡ d + (l + (t + (u + 1))) → ⊥
+        over n t l u d le same = omega arith
+
+    free-beyond : (d : ℕ) → unresolved ≡ d + more → ⊥
+    free-beyond d same = over unresolved top left d same
+      where
+        over : (u t l d : ℕ) → u ≡ d + (l + (t + (u + 1))) → ⊥
+        over u t l d same = omega arith
+
+    none-beyond : (d : ℕ) → 0 ≡ d + more → ⊥
+    none-beyond d same = over unresolved top left d same
+      where
+        over : (u t l d : ℕ) → 0 ≡ d + (l + (t + (u + 1))) → ⊥
+        over u t l d same = omega arith
+
+    both-beyond : (c d m : ℕ) → c + m ≡ d + m → c ≡ d
+    both-beyond c d m same = omega arith
+
+    to-freed : (c : ℕ) → c ≡ free → to c ≡ unresolved
+    to-freed c is = ap to is ∙ to-free
+
+    to-noned : (c : ℕ) → c ≡ 0 → to c ≡ 0
+    to-noned c is = ap to is ∙ to-none
+
+    one-class : (c d : ℕ) → Class c → Class d → to c ≡ to d → c ≡ d
+    one-class c d (of_scope n in_c is r) (of_scope m in_d also q) same =
+        same-found top free all given.apart scopes.scoped c d in_c in_d (is ∙ ap (λ (n : ℕ). Some n) (sym (to-found c n is) ∙ same ∙ to-found d m also) ∙ sym also)
+    one-class c d (of_scope n in_c is r) (of_free also) same = absurd (free-apart n r (sym (sym (to-found c n is) ∙ same ∙ to-freed d also)))
+    one-class c d (of_scope n in_c is r) (of_none also) same = absurd (found-inner n r (sym (to-found c n is) ∙ same ∙ to-noned d also))
+    one-class c d (of_scope n in_c is r) (of_other also) same = absurd (beyond n d r (sym (to-found c n is) ∙ same ∙ also))
+    one-class c d (of_free is) (of_scope m in_d also q) same = absurd (free-apart m q (sym (to-freed c is) ∙ same ∙ to-found d m also))
+    one-class c d (of_free is) (of_free also) same = is ∙ sym also
+    one-class c d (of_free is) (of_none also) same = absurd (not-none unresolved left unresolved_above (sym (to-freed c is) ∙ same ∙ to-noned d also))
+    one-class c d (of_free is) (of_other also) same = absurd (free-beyond d (sym (to-freed c is) ∙ same ∙ also))
+    one-class c d (of_none is) (of_scope m in_d also q) same = absurd (found-inner m q (sym (to-found d m also) ∙ sym same ∙ to-noned c is))
+    one-class c d (of_none is) (of_free also) same = absurd (not-none unresolved left unresolved_above (sym (to-freed d also) ∙ sym same ∙ to-noned c is))
+    one-class c d (of_none is) (of_none also) same = is ∙ sym also
+    one-class c d (of_none is) (of_other also) same = absurd (none-beyond d (sym (to-noned c is) ∙ same ∙ also))
+    one-class c d (of_other is) (of_scope m in_d also q) same = absurd (beyond m c q (sym (to-found d m also) ∙ sym same ∙ is))
+    one-class c d (of_other is) (of_free also) same = absurd (free-beyond c (sym (to-freed d also) ∙ sym same ∙ is))
+    one-class c d (of_other is) (of_none also) same = absurd (none-beyond c (sym (to-noned d also) ∙ sym same ∙ is))
+    one-class c d (of_other is) (of_other also) same = both-beyond c d more (sym is ∙ same ∙ also)
+
+    one-to-one : (c d : ℕ) → to c ≡ to d → c ≡ d
+    one-to-one c d same = one-class c d (classify c (list_any (has c) all) refl) (classify d (list_any (has d) all) refl) same
 
     inner : (c : ℕ) → IsContext free left tree c → to c ≢ 0
     inner c (inl free_c) is = not-none unresolved left unresolved_above (sym to-free ∙ ap to (sym free_c) ∙ is)
@@ -193,6 +260,7 @@ module _ (unresolved top free left : ℕ) (tree : Node) (scopes : TellsScopesApa
       none = to-none;
       right = λ k d lt. right-at (get_or all k d) (scopes.scoped k d lt) (all-found top all scopes.apart k d lt);
       one_to_one = one-to-one;
+      free_names = to-free;
       inner = inner;
       seen = seen;
     }

@@ -5,13 +5,17 @@ use Rattle.ecma_kind.specs.declared.kind.Kind.TheVariants as kind
 use Rattle.ecma_tree.specs.declared.node.Node.{Node, out-Node}
 use Rattle.ecma_scope.specs.declared.role.Role.TheVariants as role
 use Rattle.ecma_scope.specs.Declarations.{is_hoisted}
+use Rattle.ecma_scope.specs.Bindings.{FollowBindings}
+use Rattle.ecma_scope.specs.Laws.{without_contexts}
 use Rattle.ecma_scope.specs.Resolved.{contexts, is_name}
 use Rattle.ecma_scope.specs.Scopes.{opens}
+use Rattle.ecma_hygiene.specs.declared.naming.Named.{Named}
 use Rattle.ecma_hygiene.specs.Capture.{NoneDeclares}
 use Rattle.ecma_hygiene.specs.Ids.{Id, has_context, innermost, is_block, is_body_block, own_ids}
 use Rattle.ecma_hygiene.specs.Laws.{is_seen}
-use Rattle.ecma_hygiene.specs.Renamed.{kind_is_absent}
+use Rattle.ecma_hygiene.specs.Renamed.{kind_is_absent, renamed}
 use Rattle.ecma_hygiene.specs.Sights.{sights}
+use Rattle.ecma_hygiene.specs.Texts.{HygienicTexts, text_in}
 use Rattle.ecma_hygiene_laws.specs.DeclaredIds.{DeclaredId, scope_ids}
 use Rattle.ecma_hygiene_laws.specs.Stops.{IsRight, Stop, stops}
 
@@ -51,14 +55,20 @@ pub record TellsScopesApart (free left : ℕ) (tree : Node) : Type 0 where
 abbrev pub IsContext : ℕ → ℕ → Node → ℕ → Type 0
 IsContext free left tree ctxt = (ctxt ≡ free) ⊎ (list_any (λ stop. has_context ctxt (own_contexts stop)) (stops left tree) ≡ true)
 
--- a map of contexts with which the ids of a tree are right, one to one on those of its identifiers, and to none the empty one
+-- a map of contexts with which the ids of a tree are right, one to one; it takes none of those of identifiers to the empty one
 pub record IsMap (unresolved top free left : ℕ) (tree : Node) (to : ℕ → ℕ) : Type 0 where
   pub none : to 0 ≡ 0
   pub right : All (IsRight unresolved top to) (stops left tree)
-  pub one_to_one : (c d : ℕ) → IsContext free left tree c → IsContext free left tree d → to c ≡ to d → c ≡ d
+  pub one_to_one : (c d : ℕ) → to c ≡ to d → c ≡ d
+  pub free_names : to free ≡ unresolved
   pub inner : (c : ℕ) → IsContext free left tree c → to c ≢ 0
   pub seen : (id : Id) → is_seen (sights tree) id ≡ true → IsContext free left tree id.1
 
 abbrev pub ContextsAreMapped : Type 0
 ContextsAreMapped = (unresolved top free left : ℕ) (tree : Node) → TellsScopesApart free left tree → left < unresolved → left < top → unresolved ≢ top → contexts tree ≤ left
     → (to : ℕ → ℕ) × IsMap unresolved top free left tree to
+
+-- so the ids of the tree with final texts say what its texts name, where there are contexts enough
+abbrev pub TextsNameWhatIdsDo : Type 0
+TextsNameWhatIdsDo = (free left : ℕ) (tree : Node) (names : List Named) → HygienicTexts tree names → TellsScopesApart free left tree → contexts tree ≤ left
+    → FollowBindings free (renamed (text_in names) tree) (without_contexts (renamed (text_in names) tree))

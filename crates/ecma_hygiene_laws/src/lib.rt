@@ -4,7 +4,7 @@
 //! Each function carries one law, and does nothing. The laws are stated in `specs/`.
 #![tactic(auto)]
 
-ghost use Rattle.ecma_hygiene_laws.specs.Apart.{ContextsAreMapped};
+ghost use Rattle.ecma_hygiene_laws.specs.Apart.{ContextsAreMapped, TextsNameWhatIdsDo};
 ghost use Rattle.ecma_hygiene_laws.specs.ReadAgain.{FollowsItsTexts, IdsStayApart, IsReadAgain};
 ghost use Rattle.ecma_hygiene_laws.specs.Resolving.{ResolvedFollowsItsTexts, ResolvedIsReadAgain, ResolvedIsRight};
 ghost use Rattle.ecma_hygiene_laws.specs.Scopes.{ScopesDeclareFinalTexts};
@@ -51,4 +51,10 @@ pub fn resolved_modules_mean_what_their_texts_name()
 /// Where the contexts of a tree tell its scopes apart, there is such a map of contexts, and it is one to one.
 pub fn contexts_are_mapped_one_to_one()
     ensures { ContextsAreMapped }
+{}
+
+/// So the ids of the tree with final texts say what its texts name: two identifiers that are bound have one context exactly where
+/// their texts are bound in one scope, and a free one, and it alone, has the context of free names.
+pub fn final_texts_name_what_ids_do()
+    ensures { TextsNameWhatIdsDo }
 {}
