@@ -24,9 +24,9 @@ use Rattle.ecma_strip.specs.Stripping.{plain, plain_children, plain_kind, stayin
 use Rattle.ecma_strip.specs.Values.{value_by}
 use Rattle.ecma_strip.proofs.Stripping.{stripped-out}
 use Rattle.ecma_strip_laws.specs.Runs.{does_nothing, Seen, fine_item, fine_body, fine_list, all_fine, fine_by, only_types_go}
-use Rattle.ecma_strip_laws.specs.Usual.{Told, bodies_of, items_of, is_declaration, is_receiver, usual_by, is_usual, OnlyTypesGo}
+use Rattle.ecma_strip_laws.specs.Usual.{bodies_of, is_declaration, declares_no_body, lists_no_receiver, OnlyTypesGo}
 use Rattle.ecma_strip_laws.proofs.Seeing.{seen, only_types_go-roll}
-use Rattle.ecma_strip_laws.proofs.Telling.{told, is_usual-roll}
+use Rattle.ecma_strip_laws.proofs.Telling.{is_usual, usual_parts}
 use Rattle.ecma_strip_laws.proofs.Plain.{is_concrete}
 use Rattle.ecma_strip_laws.proofs.Valueless.{shape_out}
 use Rattle.ecma_strip_laws.proofs.Going.{item_by, item_same, member_by, member_same, value_of, goes_silently}
@@ -121,8 +121,8 @@ Child = (n : Node) × Good n
 abbrev nodes : List Child → List Node
 nodes children = map (λ child. child.0) children
 
-abbrev all_usual : List Told → Bool
-all_usual children = list_all (λ child. child.usual) children
+abbrev all_usual : List Node → Bool
+all_usual = list_all is_usual
 
 abbrev all_fit : List Shape → Bool
 all_fit shapes = list_all (λ shape. fit_shape shape.count shape.sort) shapes
@@ -130,25 +130,25 @@ all_fit shapes = list_all (λ shape. fit_shape shape.count shape.sort) shapes
 child_fine : (child : Child) (shape : Shape) → HasShape shape child.0 → fit_shape shape.count shape.sort ≡ true → is_usual child.0 ≡ true → only_types_go child.0 ≡ true
 child_fine child shape h f u = child.1 shape h u (fit_allowed shape.count shape.sort (out-Node child.0).kind f (shape_out shape child.0 h).0)
 
-children_fine : (shapes : List Shape) (children : List Child) → HaveShapes shapes (nodes children) → all_fit shapes ≡ true → all_usual (map told (nodes children)) ≡ true → all_fine (map seen (nodes children)) ≡ true
+children_fine : (shapes : List Shape) (children : List Child) → HaveShapes shapes (nodes children) → all_fit shapes ≡ true → all_usual (nodes children) ≡ true → all_fine (map seen (nodes children)) ≡ true
 children_fine [] [] h f u = refl
 children_fine [] (child ∷ children) h f u = absurd h
 children_fine (shape ∷ shapes) [] h f u = absurd h
 children_fine (shape ∷ shapes) (child ∷ children) h f u =
     let f' = and_parts (fit_shape shape.count shape.sort) (all_fit shapes) f in
-    let u' = and_parts (is_usual child.0) (all_usual (map told (nodes children))) u in
+    let u' = and_parts (is_usual child.0) (all_usual (nodes children)) u in
     rw (child_fine child shape h.0 f'.0 u'.0, children_fine shapes children h.1 f'.1 u'.1) refl
 
 negated : (b : Bool) → not b ≡ true → b ≡ false
 negated true h = absurd (cc)
 negated false h = refl
 
-items_fine : (shape : Shape) (children : List Child) → HaveShapes (replicate (length (nodes children)) shape) (nodes children) → all_usual (map told (nodes children)) ≡ true
-    → list_all (λ item. not (is_receiver item)) (map told (nodes children)) ≡ true → list_all fine_item (map seen (nodes children)) ≡ true
+items_fine : (shape : Shape) (children : List Child) → HaveShapes (replicate (length (nodes children)) shape) (nodes children) → all_usual (nodes children) ≡ true
+    → list_all (λ item. not (is_this item)) (nodes children) ≡ true → list_all fine_item (map seen (nodes children)) ≡ true
 items_fine shape [] h u r = refl
 items_fine shape (child ∷ children) h u r =
-    let u' = and_parts (is_usual child.0) (all_usual (map told (nodes children))) u in
-    let r' = and_parts (not (is_this child.0)) (list_all (λ item. not (is_receiver item)) (map told (nodes children))) r in
+    let u' = and_parts (is_usual child.0) (all_usual (nodes children)) u in
+    let r' = and_parts (not (is_this child.0)) (list_all (λ item. not (is_this item)) (nodes children)) r in
     rw (item_fine (stays child.0) refl u'.0 (negated (is_this child.0) r'.0), items_fine shape children h.1 u'.1 r'.1) refl
   where
     item_fine : (b : Bool) → stays child.0 ≡ b → is_usual child.0 ≡ true → is_this child.0 ≡ false → cond (stays child.0) (only_types_go child.0) (does_nothing child.0) ≡ true
@@ -219,17 +219,17 @@ body_stays b a d =
 -- each kind
 
 abbrev NodeParts : Kind → List Child → Type 0
-NodeParts k children = (all_usual (map told (nodes children)) ≡ true) × (list_all (λ body. not (is_declaration body)) (bodies_of k (map told (nodes children))) ≡ true) × (list_all (λ item. not (is_receiver item)) (items_of k (map told (nodes children))) ≡ true)
+NodeParts k children = (all_usual (nodes children) ≡ true) × (declares_no_body k (nodes children) ≡ true) × (lists_no_receiver k (nodes children) ≡ true)
 
 list_fine : (σ : Sort) (child : Child) → HasShape (many σ) child.0 → is_usual child.0 ≡ true → fine_list (seen child.0) ≡ true
 list_fine σ child h u = rw (child_fine child (many σ) h refl u, (shape_out (many σ) child.0 h).0) refl
 
 body_fine : (child : Child) (shape : Shape) → HasShape shape child.0 → fit_shape shape.count shape.sort ≡ true → (allows shape (out-Node child.0).kind ≡ true → allows (maybe sort.Stmt) (out-Node child.0).kind ≡ true) → is_usual child.0 ≡ true
-    → not (is_declaration (told child.0)) ≡ true → fine_body (seen child.0) ≡ true
+    → not (is_declaration child.0) ≡ true → fine_body (seen child.0) ≡ true
 body_fine child shape h f there u d =
     rw (child_fine child shape h f u, body_stays child.0 (there (shape_out shape child.0 h).0) (negated (rules.is_declaration (out-Node child.0).kind) d)) refl
 
-single_body : (child : Child) → HasShape (one sort.Stmt) child.0 → is_usual child.0 ≡ true → not (is_declaration (told child.0)) ≡ true → fine_body (seen child.0) ≡ true
+single_body : (child : Child) → HasShape (one sort.Stmt) child.0 → is_usual child.0 ≡ true → not (is_declaration child.0) ≡ true → fine_body (seen child.0) ≡ true
 single_body child h u d = body_fine child (one sort.Stmt) h refl (λ a. either (is_absent (out-Node child.0).kind) (is_stmt (out-Node child.0).kind) a) u d
   where
     either : (x y : Bool) → y ≡ true → x || y ≡ true
@@ -240,26 +240,26 @@ all_fit_replicate : (n : ℕ) (s : Shape) → fit_shape s.count s.sort ≡ true 
 all_fit_replicate zero s f = refl
 all_fit_replicate (suc n) s f = rw (f, all_fit_replicate n s f) refl
 
-sequence_fine : (shape : Shape) (children : List Child) → HaveShapes (child_shapes kind.SeqExpr shape (length (nodes children))) (nodes children) → all_usual (map told (nodes children)) ≡ true → all_fine (map seen (nodes children)) ≡ true
+sequence_fine : (shape : Shape) (children : List Child) → HaveShapes (child_shapes kind.SeqExpr shape (length (nodes children))) (nodes children) → all_usual (nodes children) ≡ true → all_fine (map seen (nodes children)) ≡ true
 sequence_fine shape [] s u = absurd s
 sequence_fine shape (child ∷ children) s u =
     children_fine (replicate (suc (length (nodes children))) (one sort.Expr)) (child ∷ children) s (all_fit_replicate (suc (length (nodes children))) (one sort.Expr) refl) u
 
 -- the first of the expressions of a wrapper, and the only one
-first_fine : (a b : Shape) (children : List Child) → HaveShapes (a ∷ b ∷ []) (nodes children) → fit_shape a.count a.sort ≡ true → all_usual (map told (nodes children)) ≡ true
+first_fine : (a b : Shape) (children : List Child) → HaveShapes (a ∷ b ∷ []) (nodes children) → fit_shape a.count a.sort ≡ true → all_usual (nodes children) ≡ true
     → (P : List Seen → Bool) → ((e type : Seen) → P (e ∷ type ∷ []) ≡ e.fine) → P (map seen (nodes children)) ≡ true
-first_fine a b (e ∷ type ∷ []) h f u P is = is (seen e.0) (seen type.0) ∙ child_fine e a h.0 f (and_parts (is_usual e.0) (all_usual (told type.0 ∷ [])) u).0
+first_fine a b (e ∷ type ∷ []) h f u P is = is (seen e.0) (seen type.0) ∙ child_fine e a h.0 f (and_parts (is_usual e.0) (all_usual (type.0 ∷ [])) u).0
 first_fine a b [] h f u P is = absurd h
 first_fine a b (e ∷ []) h f u P is = absurd h.1
 first_fine a b (e ∷ type ∷ x ∷ others) h f u P is = absurd h.1.1
 
-only_fine : (a : Shape) (children : List Child) → HaveShapes (a ∷ []) (nodes children) → fit_shape a.count a.sort ≡ true → all_usual (map told (nodes children)) ≡ true
+only_fine : (a : Shape) (children : List Child) → HaveShapes (a ∷ []) (nodes children) → fit_shape a.count a.sort ≡ true → all_usual (nodes children) ≡ true
     → (P : List Seen → Bool) → ((e : Seen) → P (e ∷ []) ≡ e.fine) → P (map seen (nodes children)) ≡ true
 only_fine a (e ∷ []) h f u P is = is (seen e.0) ∙ child_fine e a h.0 f (and_parts (is_usual e.0) (all_usual []) u).0
 only_fine a [] h f u P is = absurd h
 only_fine a (e ∷ x ∷ others) h f u P is = absurd h.1
 
-statements_fine : (σ : Sort) (children : List Child) → HaveShapes (many σ ∷ []) (nodes children) → all_usual (map told (nodes children)) ≡ true
+statements_fine : (σ : Sort) (children : List Child) → HaveShapes (many σ ∷ []) (nodes children) → all_usual (nodes children) ≡ true
     → (P : List Seen → Bool) → ((e : Seen) → P (e ∷ []) ≡ fine_list e) → P (map seen (nodes children)) ≡ true
 statements_fine σ (e ∷ []) h u P is = is (seen e.0) ∙ list_fine σ e h.0 (and_parts (is_usual e.0) (all_usual []) u).0
 statements_fine σ [] h u P is = absurd h
@@ -270,13 +270,13 @@ abbrev round_fine : List Seen → Bool
 round_fine (head ∷ body ∷ []) = head.fine && fine_body body
 round_fine children = false
 
-headed_fine : (a : Shape) (children : List Child) → HaveShapes (a ∷ one sort.Stmt ∷ []) (nodes children) → fit_shape a.count a.sort ≡ true → all_usual (map told (nodes children)) ≡ true
-    → (Q : List Told → Bool) → ((head body : Told) → Q (head ∷ body ∷ []) ≡ not (is_declaration body) && true) → Q (map told (nodes children)) ≡ true
+headed_fine : (a : Shape) (children : List Child) → HaveShapes (a ∷ one sort.Stmt ∷ []) (nodes children) → fit_shape a.count a.sort ≡ true → all_usual (nodes children) ≡ true
+    → (Q : List Node → Bool) → ((head body : Node) → Q (head ∷ body ∷ []) ≡ not (is_declaration body) && true) → Q (nodes children) ≡ true
     → (P : List Seen → Bool) → ((head body : Seen) → P (head ∷ body ∷ []) ≡ head.fine && fine_body body) → P (map seen (nodes children)) ≡ true
 headed_fine a (head ∷ body ∷ []) h f u Q at q P is =
-    let u' = and_parts (is_usual head.0) (all_usual (told body.0 ∷ [])) u in
+    let u' = and_parts (is_usual head.0) (all_usual (body.0 ∷ [])) u in
     let u'' = and_parts (is_usual body.0) (all_usual []) u'.1 in
-    let d = and_parts (not (is_declaration (told body.0))) true (sym (at (told head.0) (told body.0)) ∙ q) in
+    let d = and_parts (not (is_declaration body.0)) true (sym (at head.0 body.0) ∙ q) in
     is (seen head.0) (seen body.0) ∙ rw (child_fine head a h.0 f u'.0, single_body body h.1.0 u''.0 d.0) refl
 headed_fine a [] h f u Q at q P is = absurd h
 headed_fine a (head ∷ []) h f u Q at q P is = absurd h.1
@@ -285,11 +285,11 @@ headed_fine a (head ∷ body ∷ x ∷ others) h f u Q at q P is = absurd h.1.1
 if_fine : (children : List Child) → HaveShapes (one sort.Expr ∷ one sort.Stmt ∷ maybe sort.Stmt ∷ []) (nodes children) → NodeParts kind.IfStmt children → fine_by kind.IfStmt (map seen (nodes children)) ≡ true
 unfolding fine_by
 if_fine (test ∷ yes' ∷ no' ∷ []) h p =
-    let u = and_parts (is_usual test.0) (all_usual (told yes'.0 ∷ told no'.0 ∷ [])) p.0 in
-    let v = and_parts (is_usual yes'.0) (all_usual (told no'.0 ∷ [])) u.1 in
+    let u = and_parts (is_usual test.0) (all_usual (yes'.0 ∷ no'.0 ∷ [])) p.0 in
+    let v = and_parts (is_usual yes'.0) (all_usual (no'.0 ∷ [])) u.1 in
     let w = and_parts (is_usual no'.0) (all_usual []) v.1 in
-    let d = and_parts (not (is_declaration (told yes'.0))) (not (is_declaration (told no'.0)) && true) p.1 in
-    let e = and_parts (not (is_declaration (told no'.0))) true d.1 in
+    let d = and_parts (not (is_declaration yes'.0)) (not (is_declaration no'.0) && true) p.1 in
+    let e = and_parts (not (is_declaration no'.0)) true d.1 in
     rw (child_fine test (one sort.Expr) h.0 refl u.0, single_body yes' h.1.0 v.0 d.0, body_fine no' (maybe sort.Stmt) h.1.1.0 refl (λ a. a) w.0 e.0) refl
 if_fine [] h p = absurd h
 if_fine (a ∷ []) h p = absurd h.1
@@ -299,11 +299,11 @@ if_fine (a ∷ b ∷ d ∷ e ∷ others) h p = absurd h.1.1.1
 for_fine : (children : List Child) → HaveShapes (maybe sort.VarDeclOrExpr ∷ maybe sort.Expr ∷ maybe sort.Expr ∷ one sort.Stmt ∷ []) (nodes children) → NodeParts kind.ForStmt children → fine_by kind.ForStmt (map seen (nodes children)) ≡ true
 unfolding fine_by
 for_fine (init ∷ test ∷ update ∷ body ∷ []) h p =
-    let u = and_parts (is_usual init.0) (all_usual (told test.0 ∷ told update.0 ∷ told body.0 ∷ [])) p.0 in
-    let v = and_parts (is_usual test.0) (all_usual (told update.0 ∷ told body.0 ∷ [])) u.1 in
-    let w = and_parts (is_usual update.0) (all_usual (told body.0 ∷ [])) v.1 in
+    let u = and_parts (is_usual init.0) (all_usual (test.0 ∷ update.0 ∷ body.0 ∷ [])) p.0 in
+    let v = and_parts (is_usual test.0) (all_usual (update.0 ∷ body.0 ∷ [])) u.1 in
+    let w = and_parts (is_usual update.0) (all_usual (body.0 ∷ [])) v.1 in
     let x = and_parts (is_usual body.0) (all_usual []) w.1 in
-    let d = and_parts (not (is_declaration (told body.0))) true p.1 in
+    let d = and_parts (not (is_declaration body.0)) true p.1 in
     rw (child_fine init (maybe sort.VarDeclOrExpr) h.0 refl u.0, child_fine test (maybe sort.Expr) h.1.0 refl v.0, child_fine update (maybe sort.Expr) h.1.1.0 refl w.0, single_body body h.1.1.1.0 x.0 d.0) refl
 for_fine [] h p = absurd h
 for_fine (a ∷ []) h p = absurd h.1
@@ -312,36 +312,36 @@ for_fine (a ∷ b ∷ d ∷ []) h p = absurd h.1.1.1
 for_fine (a ∷ b ∷ d ∷ e ∷ f ∷ others) h p = absurd h.1.1.1.1
 
 -- `for` over keys or over what is iterated
-each_fine : (children : List Child) → HaveShapes (one sort.ForHead ∷ one sort.Expr ∷ one sort.Stmt ∷ []) (nodes children) → all_usual (map told (nodes children)) ≡ true
-    → (Q : List Told → Bool) → ((left right body : Told) → Q (left ∷ right ∷ body ∷ []) ≡ not (is_declaration body) && true) → Q (map told (nodes children)) ≡ true
+each_fine : (children : List Child) → HaveShapes (one sort.ForHead ∷ one sort.Expr ∷ one sort.Stmt ∷ []) (nodes children) → all_usual (nodes children) ≡ true
+    → (Q : List Node → Bool) → ((left right body : Node) → Q (left ∷ right ∷ body ∷ []) ≡ not (is_declaration body) && true) → Q (nodes children) ≡ true
     → (P : List Seen → Bool) → ((left right body : Seen) → P (left ∷ right ∷ body ∷ []) ≡ left.fine && (right.fine && fine_body body)) → P (map seen (nodes children)) ≡ true
 each_fine (left ∷ right ∷ body ∷ []) h u Q at q P is =
-    let u' = and_parts (is_usual left.0) (all_usual (told right.0 ∷ told body.0 ∷ [])) u in
-    let v = and_parts (is_usual right.0) (all_usual (told body.0 ∷ [])) u'.1 in
+    let u' = and_parts (is_usual left.0) (all_usual (right.0 ∷ body.0 ∷ [])) u in
+    let v = and_parts (is_usual right.0) (all_usual (body.0 ∷ [])) u'.1 in
     let w = and_parts (is_usual body.0) (all_usual []) v.1 in
-    let d = and_parts (not (is_declaration (told body.0))) true (sym (at (told left.0) (told right.0) (told body.0)) ∙ q) in
+    let d = and_parts (not (is_declaration body.0)) true (sym (at left.0 right.0 body.0) ∙ q) in
     is (seen left.0) (seen right.0) (seen body.0) ∙ rw (child_fine left (one sort.ForHead) h.0 refl u'.0, child_fine right (one sort.Expr) h.1.0 refl v.0, single_body body h.1.1.0 w.0 d.0) refl
 each_fine [] h u Q at q P is = absurd h
 each_fine (a ∷ []) h u Q at q P is = absurd h.1
 each_fine (a ∷ b ∷ []) h u Q at q P is = absurd h.1.1
 each_fine (a ∷ b ∷ d ∷ e ∷ others) h u Q at q P is = absurd h.1.1.1
 
-case_fine : (children : List Child) → HaveShapes (maybe sort.Expr ∷ many sort.Stmt ∷ []) (nodes children) → all_usual (map told (nodes children)) ≡ true → fine_by kind.SwitchCase (map seen (nodes children)) ≡ true
+case_fine : (children : List Child) → HaveShapes (maybe sort.Expr ∷ many sort.Stmt ∷ []) (nodes children) → all_usual (nodes children) ≡ true → fine_by kind.SwitchCase (map seen (nodes children)) ≡ true
 unfolding fine_by
 case_fine (test ∷ body ∷ []) h u =
-    let u' = and_parts (is_usual test.0) (all_usual (told body.0 ∷ [])) u in
+    let u' = and_parts (is_usual test.0) (all_usual (body.0 ∷ [])) u in
     let v = and_parts (is_usual body.0) (all_usual []) u'.1 in
     rw (child_fine test (maybe sort.Expr) h.0 refl u'.0, list_fine sort.Stmt body h.1.0 v.0) refl
 case_fine [] h u = absurd h
 case_fine (a ∷ []) h u = absurd h.1
 case_fine (a ∷ b ∷ d ∷ others) h u = absurd h.1.1
 
-setter_fine : (children : List Child) → HaveShapes (one sort.PropName ∷ maybe sort.Pat ∷ one sort.Pat ∷ maybe sort.BlockStmt ∷ []) (nodes children) → all_usual (map told (nodes children)) ≡ true → fine_by kind.SetterProp (map seen (nodes children)) ≡ true
+setter_fine : (children : List Child) → HaveShapes (one sort.PropName ∷ maybe sort.Pat ∷ one sort.Pat ∷ maybe sort.BlockStmt ∷ []) (nodes children) → all_usual (nodes children) ≡ true → fine_by kind.SetterProp (map seen (nodes children)) ≡ true
 unfolding fine_by
 setter_fine (key ∷ receiver ∷ parameter ∷ body ∷ []) h u =
-    let u' = and_parts (is_usual key.0) (all_usual (told receiver.0 ∷ told parameter.0 ∷ told body.0 ∷ [])) u in
-    let v = and_parts (is_usual receiver.0) (all_usual (told parameter.0 ∷ told body.0 ∷ [])) u'.1 in
-    let w = and_parts (is_usual parameter.0) (all_usual (told body.0 ∷ [])) v.1 in
+    let u' = and_parts (is_usual key.0) (all_usual (receiver.0 ∷ parameter.0 ∷ body.0 ∷ [])) u in
+    let v = and_parts (is_usual receiver.0) (all_usual (parameter.0 ∷ body.0 ∷ [])) u'.1 in
+    let w = and_parts (is_usual parameter.0) (all_usual (body.0 ∷ [])) v.1 in
     let x = and_parts (is_usual body.0) (all_usual []) w.1 in
     rw (child_fine key (one sort.PropName) h.0 refl u'.0, child_fine parameter (one sort.Pat) h.1.1.0 refl w.0, child_fine body (maybe sort.BlockStmt) h.1.1.1.0 refl x.0) refl
 setter_fine [] h u = absurd h
@@ -400,19 +400,12 @@ fine_step (kind.PrivateMethod sort' modifiers) children shape s p f =
     rw (f, children_fine (child_shapes k shape (length (nodes children))) children s refl p.0) refl
 fine_step k children shape s p f = children_fine (child_shapes k shape (length (nodes children))) children s refl p.0
 
-usual_parts : (k : Kind) (ts : List Told) → usual_by k ts ≡ true → (all_usual ts ≡ true) × (list_all (λ body. not (is_declaration body)) (bodies_of k ts) ≡ true) × (list_all (λ item. not (is_receiver item)) (items_of k ts) ≡ true)
-unfolding usual_by
-usual_parts k ts u =
-    let a = and_parts (all_usual ts) (list_all (λ body. not (is_declaration body)) (bodies_of k ts) && list_all (λ item. not (is_receiver item)) (items_of k ts)) u in
-    let b = and_parts (list_all (λ body. not (is_declaration body)) (bodies_of k ts)) (list_all (λ item. not (is_receiver item)) (items_of k ts)) a.1 in
-    (a.0, b.0, b.1)
-
 good : (n : Node) → Good n
 good = ind-Node Good (λ x y is. subst (λ ns. Good (node_of x.span x.kind ns)) (ap (λ z. z.children) is) (λ shape h u f.
     let parts : Node-F Node = record { span = x.span; kind = x.kind; children = nodes y.children } in
     let s = (node_has_shape x.span x.kind (nodes y.children) shape).0 h in
     only_types_go-roll parts
-    ∙ fine_step x.kind y.children shape s.1 (usual_parts x.kind (map told (nodes y.children)) (sym (is_usual-roll parts) ∙ u)) (sym (ap (λ p. is_fit p.kind) (out-roll-Node parts)) ∙ f)))
+    ∙ fine_step x.kind y.children shape s.1 (usual_parts parts u) (sym (ap (λ p. is_fit p.kind) (out-roll-Node parts)) ∙ f)))
 
 -- a module is fit
 module_fit : (k : Kind) → belongs sort.Module k ≡ true → is_fit k ≡ true
@@ -420,4 +413,4 @@ module_fit (kind.Module shebang) b = refl
 module_fit _ b = absurd (cc)
 
 pub only_types_go_from_modules : OnlyTypesGo
-only_types_go_from_modules m h u = good m (one sort.Module) h u (module_fit (out-Node m).kind (shape_out (one sort.Module) m h).0)
+only_types_go_from_modules m h bodies receivers = good m (one sort.Module) h (rw (bodies, receivers) refl) (module_fit (out-Node m).kind (shape_out (one sort.Module) m h).0)

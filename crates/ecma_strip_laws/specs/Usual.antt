@@ -11,13 +11,22 @@ use Rattle.ecma_rules.specs.Statements as rules
 use Rattle.ecma_strip.specs.Staying.{is_this}
 use Rattle.ecma_strip_laws.specs.Runs.{only_types_go}
 
--- a node, and whether it is usual
+-- a node, and whether a test holds of it and of all below it
 pub record Told : Type 0 where
   pub node : Node
-  pub usual : Bool
+  pub holds : Bool
+
+abbrev pub told_step : (Kind → List Node → Bool) → Node-F Told → Told
+told_step test parts =
+    let children = map (λ child. child.node) parts.children in
+    record { node = node_of parts.span parts.kind children; holds = test parts.kind children && list_all (λ child. child.holds) parts.children }
+
+-- a test of a kind and of the children holds at each node of a tree
+abbrev pub holds_throughout : (Kind → List Node → Bool) → Node → Bool
+holds_throughout test n = (fold-Node Told (told_step test) n).holds
 
 -- the bodies of a statement, and the items of a list
-abbrev pub bodies_of : Kind → List Told → List Told
+abbrev pub bodies_of : Kind → List Node → List Node
 bodies_of kind.IfStmt (test ∷ bodies) = bodies
 bodies_of kind.LabeledStmt (label ∷ bodies) = bodies
 bodies_of kind.WhileStmt (test ∷ bodies) = bodies
@@ -27,27 +36,27 @@ bodies_of kind.ForInStmt (left ∷ right ∷ bodies) = bodies
 bodies_of (kind.ForOfStmt is_await) (left ∷ right ∷ bodies) = bodies
 bodies_of k children = []
 
-abbrev pub items_of : Kind → List Told → List Told
+abbrev pub items_of : Kind → List Node → List Node
 items_of kind.List items = items
 items_of k children = []
 
 -- a declaration other than a `var`
-abbrev pub is_declaration : Told → Bool
-is_declaration told = rules.is_declaration (out-Node told.node).kind
+abbrev pub is_declaration : Node → Bool
+is_declaration n = rules.is_declaration (out-Node n).kind
 
-abbrev pub is_receiver : Told → Bool
-is_receiver told = is_this told.node
+abbrev pub declares_no_body : Kind → List Node → Bool
+declares_no_body k children = list_all (λ body. not (is_declaration body)) (bodies_of k children)
 
--- the body of no statement is a declaration other than a `var`, and no arrow function has a parameter `this` (ECMAScript, 14.6, 14.7, 14.13; TypeScript refuses the second
--- too: an arrow function has the `this` of what stands around it)
-unfoldable pub usual_by : Kind → List Told → Bool
-usual_by k children = list_all (λ child. child.usual) children && (list_all (λ body. not (is_declaration body)) (bodies_of k children) && list_all (λ item. not (is_receiver item)) (items_of k children))
+abbrev pub lists_no_receiver : Kind → List Node → Bool
+lists_no_receiver k children = list_all (λ item. not (is_this item)) (items_of k children)
 
-abbrev pub told_step : Node-F Told → Told
-told_step parts = record { node = node_of parts.span parts.kind (map (λ child. child.node) parts.children); usual = usual_by parts.kind parts.children }
+-- the body of no statement is a declaration other than a `var` (ECMAScript, 14.6, 14.7, 14.13)
+abbrev pub has_usual_bodies : Node → Bool
+has_usual_bodies = holds_throughout declares_no_body
 
-abbrev pub is_usual : Node → Bool
-is_usual n = (fold-Node Told told_step n).usual
+-- no arrow function has a parameter `this` (TypeScript refuses it: an arrow function has the `this` of what stands around it)
+abbrev pub has_no_arrow_receivers : Node → Bool
+has_no_arrow_receivers = holds_throughout lists_no_receiver
 
 abbrev pub OnlyTypesGo : Type 0
-OnlyTypesGo = (m : Node) → HasSort sort.Module m → is_usual m ≡ true → only_types_go m ≡ true
+OnlyTypesGo = (m : Node) → HasSort sort.Module m → has_usual_bodies m ≡ true → has_no_arrow_receivers m ≡ true → only_types_go m ≡ true
