@@ -27,13 +27,13 @@ holds_throughout test n = (fold-Node Told (told_step test) n).holds
 
 -- the bodies of a statement, and the items of a list
 abbrev pub bodies_of : Kind → List Node → List Node
-bodies_of kind.IfStmt (test ∷ bodies) = bodies
-bodies_of kind.LabeledStmt (label ∷ bodies) = bodies
-bodies_of kind.WhileStmt (test ∷ bodies) = bodies
-bodies_of kind.DoWhileStmt (test ∷ bodies) = bodies
-bodies_of kind.ForStmt (init ∷ test ∷ update ∷ bodies) = bodies
-bodies_of kind.ForInStmt (left ∷ right ∷ bodies) = bodies
-bodies_of (kind.ForOfStmt is_await) (left ∷ right ∷ bodies) = bodies
+bodies_of kind.IfStmt (test ∷ yes' ∷ no' ∷ []) = yes' ∷ no' ∷ []
+bodies_of kind.LabeledStmt (label ∷ body ∷ []) = body ∷ []
+bodies_of kind.WhileStmt (test ∷ body ∷ []) = body ∷ []
+bodies_of kind.DoWhileStmt (test ∷ body ∷ []) = body ∷ []
+bodies_of kind.ForStmt (init ∷ test ∷ update ∷ body ∷ []) = body ∷ []
+bodies_of kind.ForInStmt (left ∷ right ∷ body ∷ []) = body ∷ []
+bodies_of (kind.ForOfStmt is_await) (left ∷ right ∷ body ∷ []) = body ∷ []
 bodies_of k children = []
 
 abbrev pub items_of : Kind → List Node → List Node

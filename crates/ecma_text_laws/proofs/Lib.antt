@@ -4,4 +4,4 @@ mod Children
 mod Making
 mod Keeping
 mod Refining
-mod Finished
+pub mod Finished

@@ -1,0 +1,12 @@
+-- A module that is read does what it does without its types.
+use Rattle.ecma_text_laws.proofs.Finished.{read_sorted}
+use Rattle.ecma_strip_laws.proofs.Steps.{stripping_keeps_runs}
+use Rattle.ecma_strip_laws.proofs.Sorted.{only_types_go_from_modules}
+use Rattle.ecma_read_laws.specs.Stripped.{ReadModulesRunStripped}
+use Rattle.ecma_read_laws.proofs.Bodies.{read_usual}
+
+pub runs_stripped : ReadModulesRunStripped
+runs_stripped text mode bound tree e receivers turns options script =
+    stripping_keeps_runs turns options tree script (only_types_go_from_modules tree (read_sorted text mode bound tree e) (read_usual text mode bound tree e) receivers)
+
+pub ruleset run_stripped = (runs_stripped)
