@@ -47,27 +47,52 @@ levels = object ∷ callee ∷ update ∷ unary ∷ power ∷ product ∷ sum �
 abbrev pub level_at : ℕ → Level
 level_at n = get_or levels n assignment
 
--- each is the next looser one to that before it
+-- what binds at one level binds at another
+abbrev Reaches : Level → Level → Type 0
+Reaches l m = (e : Node) → IsExpression l e → IsExpression m e
+
+-- each level is reached from that before it
 abbrev AreNext : List Level → Type 0
 AreNext [] = Unit {0}
-AreNext (l ∷ []) = looser_than l ≡ assignment
-AreNext (l ∷ m ∷ ms) = (looser_than l ≡ m) × AreNext (m ∷ ms)
+AreNext (l ∷ []) = Reaches l assignment
+AreNext (l ∷ m ∷ ms) = Reaches l m × AreNext (m ∷ ms)
 
-next_in : (ls : List Level) → AreNext ls → (n : ℕ) → looser_than (get_or ls n assignment) ≡ get_or ls (suc n) assignment
-next_in [] h n = refl
-next_in (l ∷ []) h zero = h
-next_in (l ∷ []) h (suc n) = refl
-next_in (l ∷ m ∷ ms) h zero = h.0
-next_in (l ∷ m ∷ ms) h (suc n) = next_in (m ∷ ms) h.1 n
+next_in : (ls : List Level) → AreNext ls → (n : ℕ) → Reaches (get_or ls n assignment) (get_or ls (suc n) assignment)
+next_in [] h n e x = x
+next_in (l ∷ []) h zero e x = h e x
+next_in (l ∷ []) h (suc n) e x = x
+next_in (l ∷ m ∷ ms) h zero e x = h.0 e x
+next_in (l ∷ m ∷ ms) h (suc n) e x = next_in (m ∷ ms) h.1 n e x
 
-next_level : (n : ℕ) → looser_than (level_at n) ≡ level_at (suc n)
-next_level = next_in levels (refl, (refl, (refl, (refl, (refl, (refl, (refl, (refl, (refl, (refl, (refl, (refl, (refl, (refl, refl))))))))))))))
+-- and the loosest from each
+end_in : (ls : List Level) → AreNext ls → (n : ℕ) → Reaches (get_or ls n assignment) assignment
+end_in [] h n e x = x
+end_in (l ∷ []) h zero e x = h e x
+end_in (l ∷ []) h (suc n) e x = x
+end_in (l ∷ m ∷ ms) h zero e x = end_in (m ∷ ms) h.1 zero e (h.0 e x)
+end_in (l ∷ m ∷ ms) h (suc n) e x = end_in (m ∷ ms) h.1 n e x
+
+next : (l : Level) → Reaches l (looser_than l)
+next l e x = looser x
+
+next_but_one : (l : Level) → Reaches l (looser_than (looser_than l))
+next_but_one l e x = looser (looser x)
+
+are_next : AreNext levels
+are_next = (next object, (next_but_one callee, (next update, (next unary, (next power, (next product, (next sum, (next shift, (next relation, (next equality, (next bit_and, (next bit_xor, (next bit_or, (next logical_and, next_but_one logical_or))))))))))))))
+
+next_level : (n : ℕ) → Reaches (level_at n) (level_at (suc n))
+next_level = next_in levels are_next
 
 loosened_by : (d n : ℕ) {e : Node} → IsExpression (level_at n) e → IsExpression (level_at (d + n)) e
 loosened_by zero n {e} x = let same : n ≡ 0 + n = omega arith in subst (λ k. IsExpression (level_at k) e) same x
 loosened_by (suc d) n {e} x =
     let same : suc (d + n) ≡ suc d + n = omega arith in
-    subst (λ k. IsExpression (level_at k) e) same (subst (λ l. IsExpression l e) (next_level (d + n)) (looser (loosened_by d n x)))
+    subst (λ k. IsExpression (level_at k) e) same (next_level (d + n) e (loosened_by d n x))
+
+-- as an assignment binds
+pub loosest : (n : ℕ) {e : Node} → IsExpression (level_at n) e → IsExpression assignment e
+loosest n {e} x = end_in levels are_next n e x
 
 -- what binds at a level binds at each that is looser
 pub loosened : (n m : ℕ) {e : Node} → not (nat_lt m n) ≡ true → IsExpression (level_at n) e → IsExpression (level_at m) e

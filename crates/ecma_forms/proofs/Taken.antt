@@ -18,11 +18,11 @@ use Rattle.ecma_rules.proofs.Layers.{from_leaves-roll}
 use Rattle.ecma_spelling.specs.Everywhere.{Everywhere, everywhere, Each, none, more}
 use Rattle.ecma_spelling.specs.Spelling.{IsSpelled}
 use Rattle.ecma_spelling.proofs.Trees.{kind_made, children_made}
-use Rattle.ecma_reread.specs.Shapes.{object, callee, IsIdent, ident, IsKey, key, IsAbsent, absent, IsLexical, let_word, const_word}
+use Rattle.ecma_reread.specs.Shapes.{object, callee, IsIdent, ident, IsKey, key, IsAbsent, absent}
 use Rattle.ecma_forms.specs.Forms.{binds, is, is_list_of, is_full_list_of, is_empty, is_expression, is_missing, is_key, is_computed, is_type, is_instantiation, are_type_arguments, is_name, is_annotation, is_binding, is_value, is_declarator, is_statement, is_list, is_lexical, is_nullish, left_side, right_side, looseness, looseness_by, is_form_by, is_form, untaken_here, inside, first_untaken_node, is_module}
-use Rattle.ecma_forms.specs.Shapes.{IsType, type, IsInstantiation, instantiation, cast, assertion, satisfaction, instantiated, const_assertion, certain, AreTypeArguments, no_type_arguments, type_arguments, IsExpression, name, string, number, this_word, null_word, truth_word, member, element, call, parenthesized, await_expression, unary_expression, binary_expression, exponentiation, both, either, conditional_expression, typed, AreExpressions, no_expressions, more_expressions, IsAnnotation, no_annotation, annotation, IsInitializer, no_initializer, initializer, IsDeclarator, declarator, AreDeclarators, no_declarators, more_declarators, IsStatement, expression, declaration, alias, interface, AreStatements, no_statements, more_statements, IsModule, module_of}
+use Rattle.ecma_forms.specs.Shapes.{IsLexical, let_word, const_word, IsType, type, IsInstantiation, instantiation, cast, assertion, satisfaction, instantiated, const_assertion, certain, AreTypeArguments, no_type_arguments, type_arguments, IsExpression, name, string, number, this_word, null_word, truth_word, member, element, call, parenthesized, await_expression, unary_expression, binary_expression, exponentiation, both, either, conditional_expression, typed, AreExpressions, no_expressions, more_expressions, IsAnnotation, no_annotation, annotation, IsInitializer, no_initializer, initializer, IsDeclarator, declarator, AreDeclarators, no_declarators, more_declarators, IsStatement, expression, declaration, alias, interface, AreStatements, no_statements, more_statements, IsModule, module_of}
 use Rattle.ecma_forms.specs.Theorem.{TakenModulesHaveTheirShape}
-use Rattle.ecma_forms.proofs.Loosening.{looseness-node, level_at, loosened, operator_of}
+use Rattle.ecma_forms.proofs.Loosening.{looseness-node, level_at, loosened, loosest, operator_of}
 
 -- what a node of which all is taken says of its parts
 
@@ -324,7 +324,7 @@ mutual
   expressions_of none f e = no_expressions
   expressions_of (more {n = x} {ns = xs} a h) f e =
       let parts = and_parts (is is_expression x) (list_all (is is_expression) xs) e in
-      more_expressions (expression_of a f.0 parts.0) (expressions_of h f.1 parts.1)
+      more_expressions (loosest (looseness x) (expression_of a f.0 parts.0)) (expressions_of h f.1 parts.1)
 
   call_of : (at : Span) {function n types : Node} → IsExpression callee function → S n → Free n → is_list_of is_expression n ≡ true → AreTypeArguments types → IsExpression object (node_of at kind.CallExpr (function ∷ n ∷ types ∷ []))
   call_of at x (everywhere of_list kind.List {children = cs} p h) f e types =
@@ -353,7 +353,7 @@ value_of {n} s f e = go (is is_missing n) refl e
   where
     go : (b : Bool) → is is_missing n ≡ b → (b || is is_expression n) ≡ true → IsInitializer n
     go true m h = no_initializer (absent_of s f m)
-    go false m h = initializer (expression_of s f h)
+    go false m h = initializer (loosest (looseness n) (expression_of s f h))
 
 bound_by : (at at_binding : Span) (k : Kind) {cs : List Node} {init : Node} → All cs → Parts k cs → is_binding k ≡ true → IsInitializer init → IsDeclarator (node_of at (kind.VarDeclarator false) (node_of at_binding k cs ∷ init ∷ []))
 bound_by at at_binding kind.BindingIdent (more {n = x} a (more {n = y} b none)) t e i =

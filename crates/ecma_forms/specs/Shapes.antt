@@ -7,6 +7,7 @@ use Rattle.ecma_lex.specs.Numerals.{num_end}
 use Rattle.ecma_lex.specs.Strings.{str_end, str_value}
 use Rattle.ecma_kind.specs.declared.span.Span.{Span}
 use Rattle.ecma_kind.specs.declared.operators.VarDeclKind.{VarDeclKind}
+use Rattle.ecma_kind.specs.declared.operators.VarDeclKind.TheVariants.{Let, Const}
 use Rattle.ecma_kind.specs.declared.operators.UnaryOp.{UnaryOp}
 use Rattle.ecma_kind.specs.declared.operators.BinaryOp.{BinaryOp}
 use Rattle.ecma_kind.specs.declared.operators.BinaryOp.TheVariants as op
@@ -15,7 +16,12 @@ use Rattle.ecma_kind.specs.declared.kind.Kind.TheVariants as kind
 use Rattle.ecma_tree.specs.declared.node.Node.{Node}
 use Rattle.ecma_tree.specs.Nodes.{node_of}
 use Rattle.ecma_tokens.specs.Good.{IsToken}
-use Rattle.ecma_reread.specs.Shapes.{IsIdent, IsKey, IsAbsent, IsLexical, Level, object, callee, update, unary, power, bit_or, logical_and, logical_or, assignment, looser_than, IsOperator}
+use Rattle.ecma_reread.specs.Shapes.{IsIdent, IsKey, IsAbsent, Level, object, callee, update, unary, power, bit_or, logical_and, logical_or, assignment, looser_than, IsOperator}
+
+-- `let` and `const`
+pub data IsLexical : VarDeclKind → Type 0 where
+  let_word : IsLexical Let
+  const_word : IsLexical Const
 
 pub data IsType : Node → Type 0 where
   type : (at : Span) → IsType (node_of at kind.TsType [])
@@ -68,7 +74,7 @@ mutual
 
   pub data AreExpressions : List Node → Type 0 where
     no_expressions : AreExpressions []
-    more_expressions : {level : Level} {e : Node} {es : List Node} → IsExpression level e → AreExpressions es → AreExpressions (e ∷ es)
+    more_expressions : {e : Node} {es : List Node} → IsExpression assignment e → AreExpressions es → AreExpressions (e ∷ es)
 
 pub data IsAnnotation : Node → Type 0 where
   no_annotation : {none : Node} → IsAbsent none → IsAnnotation none
@@ -77,7 +83,7 @@ pub data IsAnnotation : Node → Type 0 where
 
 pub data IsInitializer : Node → Type 0 where
   no_initializer : {none : Node} → IsAbsent none → IsInitializer none
-  initializer : {level : Level} {e : Node} → IsExpression level e → IsInitializer e
+  initializer : {e : Node} → IsExpression assignment e → IsInitializer e
 
 pub data IsDeclarator : Node → Type 0 where
   declarator : (at at_binding : Span) {id type init : Node} → IsIdent id → IsAnnotation type → IsInitializer init

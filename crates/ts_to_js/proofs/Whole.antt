@@ -25,7 +25,7 @@ use Rattle.ecma_text.specs.declared.modules.ReadError.{ReadError}
 use Rattle.ecma_text.specs.Modules.{reads_as, answer_by, kept_by, typescript, plain, deepest}
 use Rattle.ecma_forms.specs.Forms.{first_untaken}
 use Rattle.ecma_forms.specs.Repeated.{first_repeated, repeated_behind}
-use Rattle.ecma_reread.specs.Shapes as plain_shapes
+use Rattle.ecma_reread.specs.Modules as plain_modules
 use Rattle.ecma_forms.specs.Shapes.{IsModule}
 use Rattle.ecma_forms.proofs.Taken.{taken_shape}
 use Rattle.ecma_forms.proofs.Finished.{finished_spelled}
@@ -119,7 +119,7 @@ pub read_back : (src : List ℕ) (tree : Node) → IsUtf8 src → accepted (read
 read_back src tree u h =
     let a = shape_of src tree u h in
     let erased = module_same a.0 in
-    let shape : plain_shapes.IsModule (stripped tree) = subst plain_shapes.IsModule (sym erased) (plain_module a.0) in
+    let shape : plain_modules.IsModule false (stripped tree) = subst (plain_modules.IsModule false) (sym erased) (plain_module a.0) in
     let p = printed_again (stripped tree) shape in
     let quiet = placed.again IsQuiet p.again (module_quiet a.0) (p.same ∙ ap without_spans erased) in
     let distinct : first_repeated (stripped tree) ≡ None = ap first_repeated erased ∙ ap (repeated_behind []) (module_declares a.0) ∙ a.1 in
