@@ -19,16 +19,18 @@ use Rattle.ecma_tokens.specs.Taking as taking
 use Rattle.ecma_tokens.specs.Taking.{Took, took, refused, token_in}
 use Rattle.ecma_reread.specs.Machine.{Out, read, unsure, Turn, taken, behind_on, followed_on, fails, built_on, with_front, or_on, interp, means}
 use Rattle.ecma_reread.specs.Shapes as shapes
-use Rattle.ecma_reread.specs.Shapes.{IsExpression}
-use Rattle.ecma_reread.specs.Tokens.{blank, sign_of, expression_tokens}
-use Rattle.ecma_reread.specs.Bare.{bare, bare_expression}
+use Rattle.ecma_reread.specs.Shapes.{IsExpression, IsFunctionName, IsFunction}
+use Rattle.ecma_reread.specs.Tokens.{blank, sign_of, expression_tokens, function_word, is_generator, is_async, function_name_tokens, function_tokens}
+use Rattle.ecma_reread.specs.Bare.{bare, bare_expression, bare_function_name, bare_function}
 use Rattle.ecma_reread.specs.ModuleTokens.{spaced_word}
 use Rattle.ecma_reread.proofs.Fronts.{exactly, at_token}
 use Rattle.ecma_reread.proofs.Towers.{without, excluded}
 use Rattle.ecma_reread.proofs.Forms.{Reads, Refuses}
 use Rattle.ecma_reread.proofs.Bindings.{used}
 use Rattle.ecma_reread.proofs.Expressions.{semicolon_ends}
-use Rattle.ecma_reread.proofs.Calls.{expression_form}
+use Rattle.ecma_reread.proofs.Calls.{expression_form, argument_forms}
+use Rattle.ecma_reread.proofs.StatementForms.{block_form}
+use Rattle.ecma_reread.proofs.Functions.{function_expression_read}
 use Rattle.ecma_reread.proofs.Exports.{export_item}
 
 -- where a choice fails, each of its alternatives does
@@ -95,3 +97,17 @@ module _ (assigned : Bool) where
       (ap (or_on (I (without 1 export_default)) ts)
       (ap (built_on (form.Node plain.ExportDefaultDecl)) (ap (with_front []) (ap (with_front []) (no_default_declaration e (L.no_word blank (sign_of (codes ";") us) (exactly (sign (codes ";"))) at_token refl)))))
       ∙ ap (built_on (form.Node plain.ExportDefaultExpr)) (ap (with_front []) (ap (with_front []) (ap (followed_on (I end)) (used assigned S blank (sign_of (codes ";") us) (exactly (sign (codes ";"))) at_token semicolon_ends))))))
+
+  pub export_default_function_read : {m n : Node} (i : IsFunctionName m) (is : IsFunction n) (g : Gap) (us : Items)
+      → Reads assigned module_item (it g (items.key (codes "export")) (spaced_word (codes "default") (function_word (is_generator is) (is_async is) blank (function_name_tokens i (function_tokens is 0 us)))))
+      (bare kind.ExportDefaultDecl (bare kind.FnExpr (bare_function_name i ∷ bare_function is ∷ []) ∷ []) ∷ []) us
+  unfolding export export_default
+  export_default_function_read i (shapes.function_of at at' x y ps ws b a a') g us =
+      let I = interp assigned (means assigned) in
+      let e = function_word x y blank (function_name_tokens i (function_tokens (shapes.function_of at at' x y ps ws b a a') 0 us)) in
+      let ts = it g (items.key (codes "export")) (spaced_word (codes "default") e) in
+      export_item assigned g (spaced_word (codes "default") e) _ us refl
+      (ap (or_on (I (without 1 export)) ts)
+      (ap (or_on (I (without 1 export_default)) ts)
+      (ap (built_on (form.Node plain.ExportDefaultDecl)) (ap (with_front []) (ap (with_front []) (ap (or_on (I (class_expression // marked abstract_class_expression // marked interface)) e)
+      (function_expression_read assigned ps (argument_forms assigned ps) (block_form assigned b 0) x y i blank us)))))))

@@ -5,7 +5,9 @@ use Rattle.ecma_kind.specs.declared.kind.Kind.TheVariants as kind
 use Rattle.ecma_tree.specs.declared.node.Node.{Node}
 use Rattle.ecma_tree.specs.Nodes.{absent, list_node}
 use Rattle.ecma_grammar.specs.declared.production.Part.TheVariants as part
+use Rattle.ecma_grammar.specs.declared.production.Plain.{Plain}
 use Rattle.ecma_grammar.specs.declared.production.Plain.TheVariants as plain
+use Rattle.ecma_grammar.specs.trees.Plain.{plain_kind}
 use Rattle.ecma_grammar.specs.declared.production.Form.TheVariants as form
 use Rattle.ecma_grammar.specs.declared.production.Flag.TheVariants.{Absent, Present}
 use Rattle.ecma_grammar.specs.trees.Parts.{flag_node}
@@ -13,7 +15,7 @@ use Rattle.ecma_grammar.specs.trees.Functions.{wrapped, parameters}
 use Rattle.ecma_grammar.specs.Made.{made}
 use Rattle.ecma_grammar.specs.Grammar.{◌//◌}
 use Rattle.ecma_grammar.specs.productions.Names as names
-use Rattle.ecma_grammar.specs.productions.Functions.{signature, function_declaration}
+use Rattle.ecma_grammar.specs.productions.Functions.{signature, function_declaration, function_expression}
 use Rattle.ecma_grammar.specs.productions.Declarations.{declaration}
 use Rattle.ecma_grammar.specs.productions.Statements as statements
 use Rattle.ecma_grammar.specs.productions.Statements.{statement_body, labeled, expression_statement}
@@ -23,9 +25,9 @@ use Rattle.ecma_tokens.specs.Items as items
 use Rattle.ecma_tokens.specs.Items.{Gap, Items, it}
 use Rattle.ecma_reread.specs.Machine.{read, or_on, interp, means}
 use Rattle.ecma_reread.specs.Shapes as shapes
-use Rattle.ecma_reread.specs.Shapes.{IsPattern, IsDefaulted, IsElement, AreElements, IsArguments}
-use Rattle.ecma_reread.specs.Tokens.{blank, arguments_tokens, function_word}
-use Rattle.ecma_reread.specs.Bare.{bare_pattern, bare_defaulted, bare_element, bare_elements, bare_arguments, bare_params}
+use Rattle.ecma_reread.specs.Shapes.{IsPattern, IsDefaulted, IsElement, AreElements, IsArguments, IsFunctionName, ident}
+use Rattle.ecma_reread.specs.Tokens.{blank, arguments_tokens, function_word, function_name_tokens}
+use Rattle.ecma_reread.specs.Bare.{bare_pattern, bare_defaulted, bare_element, bare_elements, bare_arguments, bare_params, bare_function_name}
 use Rattle.ecma_reread.proofs.Levels.{means_is}
 use Rattle.ecma_reread.proofs.Fronts.{Front, exactly, Begins, at_token}
 use Rattle.ecma_reread.proofs.Towers.{without, skipped, refuses_choices}
@@ -66,11 +68,11 @@ flag true = flag_node Present
 flag false = flag_node Absent
 
 -- a generator or none, asynchronous or not
-declared_by : (x y : Bool) (name ps n : Node) → made (form.Function plain.FnDecl) 0 0 (flag y ∷ flag x ∷ name ∷ absent ∷ ps ∷ absent ∷ n ∷ []) ≡ bare (kind.FnDecl false) (name ∷ bare (kind.Function x y) (parameters ps ∷ n ∷ absent ∷ absent ∷ []) ∷ [])
-declared_by true true name ps n = simp nodes
-declared_by true false name ps n = simp nodes
-declared_by false true name ps n = simp nodes
-declared_by false false name ps n = simp nodes
+function_made : (k : Plain) (x y : Bool) (name ps n : Node) → made (form.Function k) 0 0 (flag y ∷ flag x ∷ name ∷ absent ∷ ps ∷ absent ∷ n ∷ []) ≡ bare (plain_kind k) (name ∷ bare (kind.Function x y) (parameters ps ∷ n ∷ absent ∷ absent ∷ []) ∷ [])
+function_made k true true name ps n = simp nodes
+function_made k true false name ps n = simp nodes
+function_made k false true name ps n = simp nodes
+function_made k false false name ps n = simp nodes
 
 params_made : {n : Node} (is : IsArguments shapes.bindings n) → parameters (list_node (bare_arguments is)) ≡ list_node (bare_params (bare_arguments is))
 params_made is = (let l : parameters (list_node (bare_arguments is)) ≡ list_node (map wrapped (bare_arguments is)) = simp nodes in l) ∙ ap list_node (params_wrapped is)
@@ -126,7 +128,7 @@ module _ (assigned : Bool) where
       tokens g us = function_word x y g (it blank (items.key w) (rest us))
 
       whole_made : made (form.Function plain.FnDecl) 0 0 (flag y ∷ flag x ∷ name ∷ absent ∷ list_node (bare_arguments is) ∷ absent ∷ n ∷ []) ≡ whole
-      whole_made = declared_by x y name (list_node (bare_arguments is)) n ∙ ap (λ z. bare (kind.FnDecl false) (name ∷ bare (kind.Function x y) (z ∷ n ∷ absent ∷ absent ∷ []) ∷ [])) (params_made is)
+      whole_made = function_made plain.FnDecl x y name (list_node (bare_arguments is)) n ∙ ap (λ z. bare (kind.FnDecl false) (name ∷ bare (kind.Function x y) (z ∷ n ∷ absent ∷ absent ∷ []) ∷ [])) (params_made is)
 
     parts_read : (x y : Bool) (w : List ℕ) → is_reserved w ≡ false → (g : Gap) (us : Items)
         → Reads assigned function_declaration (function_word x y g (it blank (items.key w) (rest us))) (made (form.Function plain.FnDecl) 0 0 (flag y ∷ flag x ∷ bare (kind.Ident w 0 false) [] ∷ absent ∷ list_node (bare_arguments is) ∷ absent ∷ n ∷ []) ∷ []) us
@@ -161,3 +163,25 @@ module _ (assigned : Bool) where
                 ∙ (ap (or_on (interp assigned (means assigned) (declaration // expression_statement)) ts) (no_label x y w g (rest us))
                 ∙ ap (or_on (interp assigned (means assigned) expression_statement) ts) (function_declaration_read g us))));
           }
+
+    -- with a name, or without one
+
+    expression_parts_read : (x y : Bool) {m : Node} (i : IsFunctionName m) (g : Gap) (us : Items)
+        → Reads assigned function_expression (function_word x y g (function_name_tokens i (rest us))) (made (form.Function plain.FnExpr) 0 0 (flag y ∷ flag x ∷ bare_function_name i ∷ absent ∷ list_node (bare_arguments is) ∷ absent ∷ n ∷ []) ∷ []) us
+    unfolding function_expression
+    expression_parts_read true true (shapes.unnamed a) g us = rw (signature_read us) refl
+    expression_parts_read true false (shapes.unnamed a) g us = rw (signature_read us) refl
+    expression_parts_read false true (shapes.unnamed a) g us = rw (signature_read us) refl
+    expression_parts_read false false (shapes.unnamed a) g us = rw (signature_read us) refl
+    expression_parts_read true true (shapes.function_name (ident at w i)) g us = rw (i.free, signature_read us) refl
+    expression_parts_read true false (shapes.function_name (ident at w i)) g us = rw (i.free, signature_read us) refl
+    expression_parts_read false true (shapes.function_name (ident at w i)) g us = rw (i.free, signature_read us) refl
+    expression_parts_read false false (shapes.function_name (ident at w i)) g us = rw (i.free, signature_read us) refl
+
+    pub function_expression_read : (x y : Bool) {m : Node} (i : IsFunctionName m) (g : Gap) (us : Items)
+        → Reads assigned function_expression (function_word x y g (function_name_tokens i (rest us))) (bare kind.FnExpr (bare_function_name i ∷ bare (kind.Function x y) (list_node (bare_params (bare_arguments is)) ∷ n ∷ absent ∷ absent ∷ []) ∷ []) ∷ []) us
+    function_expression_read x y i g us =
+        expression_parts_read x y i g us
+        ∙ ap (λ z. read (z ∷ []) us)
+        (function_made plain.FnExpr x y (bare_function_name i) (list_node (bare_arguments is)) n
+        ∙ ap (λ z. bare kind.FnExpr (bare_function_name i ∷ bare (kind.Function x y) (z ∷ n ∷ absent ∷ absent ∷ []) ∷ [])) (params_made is))

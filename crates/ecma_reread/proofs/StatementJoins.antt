@@ -13,8 +13,8 @@ use Rattle.ecma_tokens.specs.Items.{Tok, sign, Gap, no_gap, Items, it}
 use Rattle.ecma_tokens.specs.Good.{IsGap, IsToken, is_gap_character}
 use Rattle.ecma_tokens.specs.Joins.{joins, joins_next, Joined}
 use Rattle.ecma_reread.specs.Shapes as shapes
-use Rattle.ecma_reread.specs.Shapes.{Level, IsExpression, Ending, IsStatement, IsBlock, IsCase, AreCases, IsCatch, AreStatements, IsOptional, IsForLeft, IsForInit, IsPattern}
-use Rattle.ecma_reread.specs.Tokens.{margin, line_at, blank, sign_of, expression_tokens, ident_word, declarators_tokens, closing_gap, is_braced, branch_gap, test_tokens, statement_tokens, block_tokens, case_tokens, cases_tokens, catch_tokens, lined_tokens, optional_tokens, for_left_tokens, for_tokens, initializer_tokens, as_declarators, for_init_tokens, pattern_tokens, arguments_tokens, function_word, is_generator, is_async}
+use Rattle.ecma_reread.specs.Shapes.{Level, IsExpression, Ending, IsStatement, IsBlock, IsCase, AreCases, IsCatch, AreStatements, IsOptional, IsForLeft, IsForInit, IsPattern, IsFunction}
+use Rattle.ecma_reread.specs.Tokens.{margin, line_at, blank, sign_of, expression_tokens, ident_word, declarators_tokens, closing_gap, is_braced, branch_gap, test_tokens, statement_tokens, block_tokens, case_tokens, cases_tokens, catch_tokens, lined_tokens, optional_tokens, for_left_tokens, for_tokens, initializer_tokens, as_declarators, for_init_tokens, pattern_tokens, arguments_tokens, function_word, is_generator, is_async, function_tokens}
 use Rattle.ecma_reread.proofs.Softs.{closing, semicolon, colon, Soft, is_object, parted}
 use Rattle.ecma_reread.proofs.Beginnings.{pattern_blank_joins, begun, blank_joins, opening_joins}
 use Rattle.ecma_reread.proofs.Joins.{ident_whole, no_gap_is, blank_is, Words, expression_joined, declarators_soft, declarator_joined, declarators_joined, pattern_joined, arguments_joined}
@@ -43,7 +43,7 @@ Apart us = (t : Tok) → joins_next t us ≡ true
 block_apart : {n : Node} (is : IsBlock n) (d : ℕ) (g : Gap) → Wide g → (us : Items) → Apart (block_tokens is d g us)
 block_apart (shapes.block_of at at' ss) d g w us t = w t (sign (codes "{"))
 
-function_word_apart : (x y : Bool) (g : Gap) → Wide g → (us : Items) → Apart (function_word x y g us)
+pub function_word_apart : (x y : Bool) (g : Gap) → Wide g → (us : Items) → Apart (function_word x y g us)
 function_word_apart true true g w us t = w t (items.key (codes "async"))
 function_word_apart false true g w us t = w t (items.key (codes "async"))
 function_word_apart true false g w us t = w t (items.key (codes "function"))
@@ -115,6 +115,10 @@ unfolding punctuators
 pattern_opening (shapes.name_pattern at i a) us = refl
 pattern_opening is us = refl
 
+-- a word, or `*`, may stand in front of parameters, and of a name
+pub function_opens : {n : Node} (is : IsFunction n) (d : ℕ) (us : Items) (w : Tok) → joins_next w (sign_of (codes "(") us) ≡ true → joins_next w (function_tokens is d us) ≡ true
+function_opens (shapes.function_of at at' x y ps ws b n n') d us w h = h
+
 module _ (words : Words) where
   pub ended : (us : Items) → Apart us → Joined us → Joined (sign_of (codes ";") us)
   unfolding punctuators
@@ -175,12 +179,12 @@ module _ (words : Words) where
   unfolding punctuators
   test_joined is us a j = (blank_is, refl, opening_joins is (sign_of (codes ")") us), expression_joined words is no_gap no_gap_is (sign_of (codes ")") us) closing (no_gap_is, refl, a, j))
 
-  function_word_joined : (x y : Bool) (g : Gap) → IsGap g → (w : List ℕ) (us : Items) → Joined (it blank (items.key w) us) → Joined (function_word x y g (it blank (items.key w) us))
+  pub function_word_joined : (x y : Bool) (g : Gap) → IsGap g → (us : Items) → joins_next (items.key (codes "function")) us ≡ true → joins_next (sign (codes "*")) us ≡ true → Joined us → Joined (function_word x y g us)
   unfolding punctuators
-  function_word_joined true true g h w us j = (h, words.async_whole, refl, (blank_is, words.function_whole, refl, (no_gap_is, refl, refl, j)))
-  function_word_joined true false g h w us j = (h, words.function_whole, refl, (no_gap_is, refl, refl, j))
-  function_word_joined false true g h w us j = (h, words.async_whole, refl, (blank_is, words.function_whole, refl, j))
-  function_word_joined false false g h w us j = (h, words.function_whole, refl, j)
+  function_word_joined true true g h us a b j = (h, words.async_whole, refl, (blank_is, words.function_whole, refl, (no_gap_is, refl, b, j)))
+  function_word_joined true false g h us a b j = (h, words.function_whole, refl, (no_gap_is, refl, b, j))
+  function_word_joined false true g h us a b j = (h, words.async_whole, refl, (blank_is, words.function_whole, a, j))
+  function_word_joined false false g h us a b j = (h, words.function_whole, a, j)
 
   finally_joined : {n : Node} (is : IsBlock n) (d : ℕ) (us : Items) → Joined (block_tokens is d blank us) → Joined (it blank (items.key (codes "finally")) (block_tokens is d blank us))
   finally_joined is d us j = (blank_is, words.finally_whole, block_apart is d blank blank_wide us (items.key (codes "finally")), j)
@@ -250,11 +254,15 @@ module _ (words : Words) where
         let rest : Joined bs = (no_gap_is, refl, statement_apart b d blank blank_wide us (sign (codes ")")), statement_joined b d blank blank_is us a j) in
         for_joined w l (items.key (codes "of")) (expression_tokens e blank bs) g h (blank_is, words.of_whole, blank_joins (items.key (codes "of")) e bs, expression_joined words e blank blank_is bs closing rest)
     statement_joined (shapes.labeled at i b) d g h us a j = (h, ident_whole i, refl, (no_gap_is, refl, statement_apart b d blank blank_wide us (sign (codes ":")), statement_joined b d blank blank_is us a j))
-    statement_joined (shapes.function_statement at i (shapes.function_of at' at'' x y ps ws b n n')) d g h us a j =
+    statement_joined (shapes.function_statement at i f) d g h us a j =
+        let fs = function_tokens f d us in
+        function_word_joined (is_generator f) (is_async f) g h (it blank (items.key (ident_word i)) fs) refl refl (blank_is, ident_whole i, function_opens f d us (items.key (ident_word i)) refl, function_joined f d us a j)
+
+    -- parameters and body
+    pub function_joined : {n : Node} (is : IsFunction n) (d : ℕ) (us : Items) → Apart us → Joined us → Joined (function_tokens is d us)
+    function_joined (shapes.function_of at at' x y ps ws b n n') d us a j =
         let bs = block_tokens b d blank us in
-        let args = sign_of (codes "(") (arguments_tokens ps (sign_of (codes ")") bs)) in
-        let behind : Joined args = arguments_joined words ps bs (no_gap_is, refl, block_apart b d blank blank_wide us (sign (codes ")")), block_joined b d blank blank_is us a j) in
-        function_word_joined x y g h (ident_word i) args (blank_is, ident_whole i, refl, behind)
+        arguments_joined words ps bs (no_gap_is, refl, block_apart b d blank blank_wide us (sign (codes ")")), block_joined b d blank blank_is us a j)
 
     block_joined : {n : Node} (is : IsBlock n) (d : ℕ) (g : Gap) → IsGap g → (us : Items) → Apart us → Joined us → Joined (block_tokens is d g us)
     block_joined (shapes.block_of at at' {ss = ss'} ss) d g h us a j =

@@ -22,8 +22,8 @@ use Rattle.ecma_print.specs.Layout.{in_place, lay_step, laid}
 use Rattle.ecma_tokens.specs.Items as items
 use Rattle.ecma_tokens.specs.Items.{sign, Gap, no_gap, Items, it, render}
 use Rattle.ecma_reread.specs.Shapes as shapes
-use Rattle.ecma_reread.specs.Shapes.{Level, IsExpression, IsDeclarator, AreDeclarators, Ending, IsStatement, IsBlock, IsCase, AreCases, IsCatch, AreStatements, IsOptional, IsForLeft, IsInitializer, IsForDeclarator, AreForDeclarators, IsForInit, IsPattern, AreParams}
-use Rattle.ecma_reread.specs.Tokens.{margin, line_at, blank, sign_of, expression_tokens, declarator_tokens, declarators_tokens, closing_gap, is_braced, branch_gap, test_tokens, statement_tokens, block_tokens, case_tokens, cases_tokens, catch_tokens, lined_tokens, optional_tokens, for_left_tokens, for_tokens, initializer_tokens, as_declarator, as_declarators, for_init_tokens, arguments_tokens, function_word}
+use Rattle.ecma_reread.specs.Shapes.{Level, IsExpression, IsDeclarator, AreDeclarators, Ending, IsStatement, IsBlock, IsCase, AreCases, IsCatch, AreStatements, IsOptional, IsForLeft, IsInitializer, IsForDeclarator, AreForDeclarators, IsForInit, IsPattern, AreParams, IsFunction, IsFunctionName, IsIdent}
+use Rattle.ecma_reread.specs.Tokens.{margin, line_at, blank, sign_of, expression_tokens, declarator_tokens, declarators_tokens, closing_gap, is_braced, branch_gap, test_tokens, statement_tokens, block_tokens, case_tokens, cases_tokens, catch_tokens, lined_tokens, optional_tokens, for_left_tokens, for_tokens, initializer_tokens, as_declarator, as_declarators, for_init_tokens, arguments_tokens, function_word, is_generator, is_async, function_tokens, function_name_tokens, ident_word}
 use Rattle.ecma_reread.proofs.Layouts.{laid_node, at_node, gap_out, expression_laid, within_laid, arguments_laid, declarator_laid, more_declarators_laid, pattern_laid, pattern_gap_out}
 use Rattle.ecma_reread.proofs.Spots.{calm_start, calm_0, calm_1}
 use Rattle.ecma_reread.proofs.HeadLayouts.{head_laid}
@@ -200,7 +200,18 @@ params_laid at (shapes.more_params at' {p = p} {ps = es} {ns = ps} is) m rest =
     ∙ (ap (λ z. codes "(" ++ (laid (node_of at' kind.Param (p ∷ []))).at (At (free 1)) m z) (more_params_laid is m (codes ")" ++ rest))
     ∙ (ap (λ z. codes "(" ++ z) (param_laid at' p m (more_commas (free 1) (map laid es) m (codes ")" ++ rest))) ∙ sym (at_node at kind.List (p ∷ es) Arguments m rest)))
 
-function_word_text : (x y : Bool) (g : Gap) (us : Items) → render (function_word x y g us) ≡ g.blanks ++ (function_head (kind.Function x y) ++ render us)
+pub function_head_laid : {n : Node} (is : IsFunction n) (m rest : List ℕ) → (laid n).at FunctionHead m rest ≡ function_head (kind.Function (is_generator is) (is_async is)) ++ rest
+function_head_laid (shapes.function_of at of_params x y {params = ps'} {body = b'} {none = n'} {none' = n''} ps ws b a a') m rest = at_node at (kind.Function x y) (node_of of_params kind.List ps' ∷ b' ∷ n' ∷ n'' ∷ []) FunctionHead m rest
+
+blank_name_laid : {n : Node} (i : IsIdent n) (m : List ℕ) (us : Items) → (laid n).at (Within Blank (free 1)) m (render us) ≡ render (it blank (items.key (ident_word i)) us)
+unfolding render
+blank_name_laid (shapes.ident at w i) m us = at_node at (kind.Ident w 0 false) [] (Within Blank (free 1)) m (render us)
+
+pub function_name_laid : {n : Node} (is : IsFunctionName n) (m : List ℕ) (us : Items) → (laid n).at (Within Blank (free 1)) m (render us) ≡ render (function_name_tokens is us)
+function_name_laid (shapes.unnamed (shapes.absent at)) m us = at_node at kind.Absent [] (Within Blank (free 1)) m (render us)
+function_name_laid (shapes.function_name i) m us = blank_name_laid i m us
+
+pub function_word_text : (x y : Bool) (g : Gap) (us : Items) → render (function_word x y g us) ≡ g.blanks ++ (function_head (kind.Function x y) ++ render us)
 unfolding render
 function_word_text true true g us = refl
 function_word_text true false g us = refl
@@ -372,21 +383,24 @@ mutual
       (sym (at_node at kind.LabeledStmt (node_of of (kind.Ident w 0 false) [] ∷ b' ∷ []) (At (free 0)) m (render us)
       ∙ (at_node of (kind.Ident w 0 false) [] (At (free 0)) m (codes ": " ++ (laid b').at (At (free 0)) m (render us)) ∙ ap (λ z. w ++ (codes ":" ++ z)) (sym (statement_laid b d blank us)))))
   statement_laid (shapes.block b) d g us = sym (block_laid b d g us)
-  statement_laid (shapes.function_statement at (shapes.ident of w i) (shapes.function_of at' of_params x y {elements = es'} {params = ps'} {body = b'} {none = n'} {none' = n''} ps ws b a a')) d g us =
+  statement_laid (shapes.function_statement at {id = id'} {function = f'} i f) d g us =
+      let m = margin d in
+      let fs = function_tokens f d us in
+      let x = is_generator f in
+      let y = is_async f in
+      function_word_text x y g (it blank (items.key (ident_word i)) fs)
+      ∙ ap (λ z. g.blanks ++ z)
+      (sym (at_node at (kind.FnDecl false) (id' ∷ f' ∷ []) (At (free 0)) m (render us)
+      ∙ (function_head_laid f m ((laid id').at (Within Blank (free 1)) m ((laid f').at (At (free 1)) m (render us)))
+      ∙ ap (λ z. function_head (kind.Function x y) ++ z) (ap (λ z. (laid id').at (Within Blank (free 1)) m z) (function_laid f d us) ∙ blank_name_laid i m fs))))
+
+  -- parameters and body
+  pub function_laid : {n : Node} (is : IsFunction n) (d : ℕ) (us : Items) → (laid n).at (At (free 1)) (margin d) (render us) ≡ render (function_tokens is d us)
+  function_laid (shapes.function_of at of_params x y {params = ps'} {body = b'} {none = n'} {none' = n''} ps ws b a a') d us =
       let m = margin d in
       let bs = block_tokens b d blank us in
-      let fs = sign_of (codes "(") (arguments_tokens ps (sign_of (codes ")") bs)) in
-      let children = node_of of_params kind.List ps' ∷ b' ∷ n' ∷ n'' ∷ [] in
-      let fn = node_of at' (kind.Function x y) children in
-      let name = node_of of (kind.Ident w 0 false) [] in
-      let behind = at_node at' (kind.Function x y) children (At (free 1)) m (render us)
-      ∙ (ap (λ z. (laid (node_of of_params kind.List ps')).at Arguments m z) (function_body_laid b m us bs (block_laid b d blank us))
-      ∙ (params_laid of_params ws m (render bs) ∙ arguments_laid ps m bs)) in
-      function_word_text x y g (it blank (items.key w) fs)
-      ∙ ap (λ z. g.blanks ++ z)
-      (sym (at_node at (kind.FnDecl false) (name ∷ fn ∷ []) (At (free 0)) m (render us)
-      ∙ (at_node at' (kind.Function x y) children FunctionHead m ((laid name).at (Within Blank (free 1)) m ((laid fn).at (At (free 1)) m (render us)))
-      ∙ ap (λ z. function_head (kind.Function x y) ++ z) (at_node of (kind.Ident w 0 false) [] (Within Blank (free 1)) m ((laid fn).at (At (free 1)) m (render us)) ∙ ap (λ z. codes " " ++ (w ++ z)) behind))))
+      at_node at (kind.Function x y) (node_of of_params kind.List ps' ∷ b' ∷ n' ∷ n'' ∷ []) (At (free 1)) m (render us)
+      ∙ (ap (λ z. (laid (node_of of_params kind.List ps')).at Arguments m z) (function_body_laid b m us bs (block_laid b d blank us)) ∙ (params_laid of_params ws m (render bs) ∙ arguments_laid ps m bs))
 
   block_laid : {n : Node} (is : IsBlock n) (d : ℕ) (g : Gap) (us : Items) → g.blanks ++ (laid n).at (At (free 0)) (margin d) (render us) ≡ render (block_tokens is d g us)
   block_laid (shapes.block_of at at' {ss = ss'} ss) d g us =

@@ -8,9 +8,9 @@ use Rattle.ecma_tree.specs.Nodes.{absent, list_node, node_of, dummy_span}
 use Rattle.ecma_grammar.specs.trees.Parts.{children_of}
 use Rattle.ecma_tree.specs.Spans.{without_spans}
 use Rattle.ecma_reread.specs.Shapes as shapes
-use Rattle.ecma_reread.specs.Shapes.{Level, IsIdent, ident, IsKey, key, IsAbsent, IsExpression, IsElement, IsArguments, AreElements, AreExpressions, IsInitializer, IsDeclarator, AreDeclarators, Ending, IsStatement, IsBlock, AreStatements, AreSlots, IsCase, AreCases, IsCatch, IsChainKey, IsOptional, IsForLeft, IsPropertyName, IsProperty, AreProperties, Role, IsPattern, IsDefaulted, IsForInit, IsPart, AreParts, IsFunction, AreParams}
+use Rattle.ecma_reread.specs.Shapes.{Level, IsIdent, ident, IsKey, key, IsAbsent, IsExpression, IsElement, IsArguments, AreElements, AreExpressions, IsInitializer, IsDeclarator, AreDeclarators, Ending, IsStatement, IsBlock, AreStatements, AreSlots, IsCase, AreCases, IsCatch, IsChainKey, IsOptional, IsForLeft, IsPropertyName, IsProperty, AreProperties, Role, IsPattern, IsDefaulted, IsForInit, IsPart, AreParts, IsFunction, AreParams, IsFunctionName}
 use Rattle.ecma_reread.specs.Tokens.{key_word, chain_kind, as_declarator, as_declarators}
-use Rattle.ecma_reread.specs.Bare.{bare, bare_ident, bare_expression, bare_element, bare_arguments, bare_elements, bare_expressions, bare_initializer, bare_declarator, bare_declarators, bare_statement, bare_block, bare_statements, bare_slots, bare_case, bare_cases, bare_catch, bare_optional, bare_for_left, bare_property_name, bare_property, bare_properties, bare_pattern, bare_defaulted, bare_for_init, bare_part, bare_parts, bare_substitutions, bare_params, bare_function}
+use Rattle.ecma_reread.specs.Bare.{bare, bare_ident, bare_expression, bare_element, bare_arguments, bare_elements, bare_expressions, bare_initializer, bare_declarator, bare_declarators, bare_statement, bare_block, bare_statements, bare_slots, bare_case, bare_cases, bare_catch, bare_optional, bare_for_left, bare_property_name, bare_property, bare_properties, bare_pattern, bare_defaulted, bare_for_init, bare_part, bare_parts, bare_substitutions, bare_params, bare_function, bare_function_name}
 use Rattle.ecma_reread.proofs.Unplaced.{without_spans-node}
 use Rattle.ecma_reread.proofs.Heads.{children-node}
 
@@ -194,6 +194,10 @@ for_left_bare (shapes.for_binding at of_list at_declarator k p a) =
     (without_spans-node at_declarator (kind.VarDeclarator false) _ ∙ ap₂ (λ x y. bare (kind.VarDeclarator false) (x ∷ y ∷ [])) (pattern_bare p) (absent_bare a)))
 for_left_bare (shapes.for_target e z) = expression_bare e
 
+pub function_name_bare : {n : Node} (is : IsFunctionName n) → without_spans n ≡ bare_function_name is
+function_name_bare (shapes.unnamed a) = absent_bare a
+function_name_bare (shapes.function_name i) = ident_bare i
+
 more_params_bare : {es ps : List Node} → AreParams es ps → map without_spans ps ≡ bare_params (map without_spans es)
 more_params_bare shapes.no_params = refl
 more_params_bare (shapes.more_params at is) = ap₂ (λ x xs. x ∷ xs) (without_spans-node at kind.Param _) (more_params_bare is)
@@ -250,7 +254,7 @@ mutual
   statement_bare (shapes.labeled at i b) = without_spans-node at kind.LabeledStmt _ ∙ ap₂ (λ x y. bare kind.LabeledStmt (x ∷ y ∷ [])) (ident_bare i) (statement_bare b)
   statement_bare (shapes.function_statement at i f) = without_spans-node at (kind.FnDecl false) _ ∙ ap₂ (λ z zs. bare (kind.FnDecl false) (z ∷ zs ∷ [])) (ident_bare i) (function_bare f)
 
-  function_bare : {n : Node} (is : IsFunction n) → without_spans n ≡ bare_function is
+  pub function_bare : {n : Node} (is : IsFunction n) → without_spans n ≡ bare_function is
   function_bare (shapes.function_of at at' x y {none = n'} {none' = n''} ps ws b a a') =
       without_spans-node at (kind.Function x y) _
       ∙ (ap₂ (λ p q. bare (kind.Function x y) (p ∷ q ∷ without_spans n' ∷ without_spans n'' ∷ [])) (without_spans-node at' kind.List _ ∙ ap list_node (params_bare at' ps ws)) (block_bare b)

@@ -11,7 +11,7 @@ use Rattle.ecma_kind.specs.declared.kind.Kind.TheVariants as kind
 use Rattle.ecma_tree.specs.declared.node.Node.{Node}
 use Rattle.ecma_tree.specs.Nodes.{node_of, dummy_span, absent, list_node}
 use Rattle.ecma_grammar.specs.Reads.{without_separators}
-use Rattle.ecma_reread.specs.Shapes.{IsIdent, Level, IsExpression, looser, element, prefix_update, postfix_update, await_expression, unary_expression, binary_expression, exponentiation, both, either, coalesced, assignment_expression, conditional_expression, sequence_expression, name, string, number, this_word, big_int, null_word, true_word, false_word, member, call, parenthesized, IsElement, one, spread, IsArguments, no_arguments, arguments, AreElements, no_elements, more_elements, AreExpressions, no_expressions, more_expressions, IsInitializer, no_initializer, initializer, IsDeclarator, declarator, AreDeclarators, no_declarators, more_declarators, IsStatement, expression, declaration, empty, debugger_word, throw, return_value, return_nothing, break_nothing, continue_nothing, Ending, break_label, continue_label, block, if_only, if_else, while_loop, do_loop, labeled, IsBlock, block_of, AreStatements, no_statements, more_statements, array, AreSlots, no_slots, filled, hole, switch_statement, IsCase, case_of, default_of, AreCases, no_cases, more_cases, new_expression, new_alone, new_target, try_catch, try_finally, try_catch_finally, IsCatch, catch_any, super_member, super_element, super_call, IsOptional, left_out, given, IsForLeft, for_binding, for_target, for_loop, for_in, for_of, object_literal, IsPropertyName, key_name, string_name, number_name, big_int_name, computed_name, IsProperty, key_value, shorthand, initialized, spread_property, AreProperties, no_properties, more_properties, private_in, yield_nothing, yield_value, import_meta, import_call, regex, Role, bound, rest, renamed, named, rest_property, IsPattern, name_pattern, array_pattern, object_pattern, IsDefaulted, no_default, with_default, IsForInit, no_init, init_declaration, init_expression, IsPart, part, AreParts, last_part, more_parts, template, tagged_template, arrow_function, catch_pattern, chain_member, chain_element, chain_call, function_statement, IsFunction, function_of}
+use Rattle.ecma_reread.specs.Shapes.{IsIdent, Level, IsExpression, looser, element, prefix_update, postfix_update, await_expression, unary_expression, binary_expression, exponentiation, both, either, coalesced, assignment_expression, conditional_expression, sequence_expression, name, string, number, this_word, big_int, null_word, true_word, false_word, member, call, parenthesized, IsElement, one, spread, IsArguments, no_arguments, arguments, AreElements, no_elements, more_elements, AreExpressions, no_expressions, more_expressions, IsInitializer, no_initializer, initializer, IsDeclarator, declarator, AreDeclarators, no_declarators, more_declarators, IsStatement, expression, declaration, empty, debugger_word, throw, return_value, return_nothing, break_nothing, continue_nothing, Ending, break_label, continue_label, block, if_only, if_else, while_loop, do_loop, labeled, IsBlock, block_of, AreStatements, no_statements, more_statements, array, AreSlots, no_slots, filled, hole, switch_statement, IsCase, case_of, default_of, AreCases, no_cases, more_cases, new_expression, new_alone, new_target, try_catch, try_finally, try_catch_finally, IsCatch, catch_any, super_member, super_element, super_call, IsOptional, left_out, given, IsForLeft, for_binding, for_target, for_loop, for_in, for_of, object_literal, IsPropertyName, key_name, string_name, number_name, big_int_name, computed_name, IsProperty, key_value, shorthand, initialized, spread_property, AreProperties, no_properties, more_properties, private_in, yield_nothing, yield_value, import_meta, import_call, regex, Role, bound, rest, renamed, named, rest_property, IsPattern, name_pattern, array_pattern, object_pattern, IsDefaulted, no_default, with_default, IsForInit, no_init, init_declaration, init_expression, IsPart, part, AreParts, last_part, more_parts, template, tagged_template, arrow_function, catch_pattern, chain_member, chain_element, chain_call, function_statement, IsFunction, function_of, IsFunctionName, unnamed, function_name}
 use Rattle.ecma_reread.specs.Tokens.{as_declarator, as_declarators, chain_kind, ident_word, is_async, key_word}
 
 abbrev pub bare : Kind → List Node → Node
@@ -185,6 +185,10 @@ bare_declarators (more_declarators d ds) = bare_declarator d ∷ bare_declarator
 abbrev pub bare_optional : {n : Node} → IsOptional n → Node
 bare_optional (left_out a) = absent
 bare_optional (given e) = bare_expression e
+
+abbrev pub bare_function_name : {n : Node} → IsFunctionName n → Node
+bare_function_name (unnamed a) = absent
+bare_function_name (function_name i) = bare_ident i
 
 abbrev pub bare_params : List Node → List Node
 bare_params ns = map (λ n. bare kind.Param (n ∷ [])) ns

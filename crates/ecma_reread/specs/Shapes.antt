@@ -313,6 +313,11 @@ pub data IsForInit : Node → Type 0 where
   init_declaration : (at of_list : Span) (k : VarDeclKind) {d : Node} {ds : List Node} → IsForDeclarator d → AreForDeclarators ds → IsForInit (node_of at (kind.VarDecl k false) (node_of of_list kind.List (d ∷ ds) ∷ []))
   init_expression : {level : Level} {e : Node} → IsExpression level e → may_hold_in e ≡ false → IsForInit e
 
+-- the name of a function that may have none
+pub data IsFunctionName : Node → Type 0 where
+  unnamed : {none : Node} → IsAbsent none → IsFunctionName none
+  function_name : {id : Node} → IsIdent id → IsFunctionName id
+
 -- patterns as the parameters of a function
 pub data AreParams : List Node → List Node → Type 0 where
   no_params : AreParams [] []
