@@ -24,8 +24,9 @@ use Rattle.ecma_runs.specs.Wrappers as runs
 use Rattle.ecma_parentheses.specs.Spots.{first_spots, further_spot}
 use Rattle.ecma_parentheses.specs.Explicit.{in_spots, parenthesized, stood, explicit}
 use Rattle.ecma_parentheses.proofs.Chains.{Ended, is_chain, ended_children, linked_children, end_step, ends_of, ended}
+use Rattle.ecma_parentheses.proofs.Standing.{if_false}
 use Rattle.ecma_parentheses.proofs.Asking.{Fits, AllFit, first_fit, further_fits}
-use Rattle.ecma_parentheses.proofs.Again.{bare', spotted, stands_in}
+use Rattle.ecma_parentheses.proofs.Spotted.{bare', spotted, stands_in}
 use Rattle.ecma_parentheses.proofs.Sorting.{is_misreadable, closed_is_misreadable}
 use Rattle.ecma_parentheses.proofs.Picking.{ends, is_link, Plain, AllPlain, hands_on, plain_first, plain_further, pick, picks, HasOneLink, picked}
 
@@ -144,17 +145,13 @@ if_one : {A : Type 0} (b : Bool) (a a' : A) → a ≡ a' → a' ≡ (if b then a
 if_one true a a' h = sym h
 if_one false a a' h = refl
 
-drops : (b : Bool) (n m : Node) → b ≡ false → (if b then n else m) ≡ m
-drops true n m h = cc
-drops false n m h = refl
-
 parentheses_drop : (span : Span) (k : Kind) (ns : List Node) → is_misreadable k ≡ true → is_chain k ≡ false → without_parentheses (parenthesized (node_of span k ns)) ≡ without_parentheses (node_of span k ns)
 parentheses_drop span k ns h c =
     let inner = without_parentheses (node_of span k ns) in
     let x : Node-F Node = record { span = span; kind = k; children = map without_parentheses ns } in
     let is : inner ≡ roll-Node x = opens_to span k ns ∙ misreadable_opens k (map without_parentheses ns) x h in
     let no_chain : runs.is_chain inner ≡ false = ap runs.is_chain is ∙ (fold-roll-Node Bool is_chain_step x ∙ misreadable_no_chain k (map runs.is_chain (map without_parentheses ns)) h c) in
-    opens_to dummy_span kind.ParenExpr (node_of span k ns ∷ []) ∙ drops (runs.is_chain inner) _ inner no_chain
+    opens_to dummy_span kind.ParenExpr (node_of span k ns ∷ []) ∙ if_false (runs.is_chain inner) _ inner no_chain
 
 module _ (span : Span) (k : Kind) (ns : List Child) (shape : Shape) (have : HaveShapes (child_shapes k shape (length (nodes ns))) (nodes ns)) where
   abbrev own : List Laid

@@ -10,11 +10,12 @@ use Rattle.ecma_print.specs.Places.{free}
 use Rattle.ecma_print.specs.Layout.{laid}
 use Rattle.ecma_print.specs.Levels.{in_parentheses}
 use Rattle.ecma_parentheses.specs.Spots.{first_spots, further_spot}
-use Rattle.ecma_parentheses.specs.Explicit.{in_spots, parenthesized, stood}
+use Rattle.ecma_parentheses.specs.Explicit.{in_spots, parenthesized, stood, explicit}
 use Rattle.ecma_parentheses.specs.Lacking.{Whole, all_whole, whole_by, whole_step, whole}
-use Rattle.ecma_parentheses.specs.Laws.{NoneAreLacking, TreesThatLackNoneStay}
+use Rattle.ecma_parentheses.specs.Laws.{NoneAreAddedAgain, NoneAreLacking, TreesThatLackNoneStay}
+use Rattle.ecma_parentheses.proofs.Standing.{if_false}
 use Rattle.ecma_parentheses.proofs.Asking.{Fits, AllFit, first_fit, further_fits, open_where_free, parentheses_stand_open}
-use Rattle.ecma_parentheses.proofs.Again.{bare', spotted, parentheses_alike, spots_alike, stands_in}
+use Rattle.ecma_parentheses.proofs.Spotted.{bare', spotted, parentheses_alike, spots_alike, stands_in}
 
 nodes_themselves : (ns : List ((n : Node) × ((whole n).node ≡ n))) → map (λ m. m.node) (map whole (map (λ e. e.0) ns)) ≡ map (λ e. e.0) ns
 nodes_themselves [] = refl
@@ -100,17 +101,13 @@ children_stay (n ∷ ns) (spot ∷ spots) further h =
     let parts = and_parts ((whole n.0).at spot) (all_whole (map whole (map (λ e. e.0) ns)) spots further) h in
     ap₂ (λ a rest. a ∷ rest) (n.1 spot parts.0) (children_stay ns spots further parts.1)
 
-drops : (b : Bool) (n m : Node) → b ≡ false → (if b then n else m) ≡ m
-drops true n m h = cc
-drops false n m h = refl
-
 layer_stays : (span : Span) (k : Kind) (ns : List ((n : Node) × Stays n)) → Stays (node_of span k (map (λ e. e.0) ns))
 unfolding Stays
 layer_stays span k ns spot h =
     let own = map (λ e. e.0) ns in
     let parts = and_parts (not (in_parentheses k (map laid own) spot)) (all_whole (map whole own) (first_spots k (map laid own) spot) (further_spot k spot)) (sym (whole_in span k own spot) ∙ h) in
     stands_in span k own spot
-    ∙ (drops (in_parentheses k (map laid own) spot) (parenthesized (bare' span k own (free 0))) (bare' span k own spot) (not_true (in_parentheses k (map laid own) spot) parts.0)
+    ∙ (if_false (in_parentheses k (map laid own) spot) (parenthesized (bare' span k own (free 0))) (bare' span k own spot) (not_true (in_parentheses k (map laid own) spot) parts.0)
     ∙ ap (node_of span k) (children_stay ns (first_spots k (map laid own) spot) (further_spot k spot) parts.1))
 
 all_stay : (n : Node) → Stays n
@@ -119,3 +116,6 @@ all_stay = ind-Node Stays (λ x y is. subst (λ ns. Stays (node_of x.span x.kind
 pub trees_that_lack_none_stay : TreesThatLackNoneStay
 unfolding Stays
 trees_that_lack_none_stay m h = all_stay m (free 0) h
+
+pub none_are_added_again : NoneAreAddedAgain
+none_are_added_again m = trees_that_lack_none_stay (explicit m) (none_are_lacking m)

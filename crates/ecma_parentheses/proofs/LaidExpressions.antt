@@ -16,8 +16,9 @@ use Rattle.ecma_print.specs.Expressions.{object_beside, is_optional, question_do
 use Rattle.ecma_print.specs.Functions.{async_word, static_word, accessor_word, function_text, class_member, property, pattern}
 use Rattle.ecma_parentheses.specs.Explicit.{stood}
 use Rattle.ecma_parentheses.proofs.Asking.{Fits, left_fits, right_fits, said_where_free}
-use Rattle.ecma_parentheses.proofs.Again.{spotted}
-use Rattle.ecma_parentheses.proofs.Places.{Child, nodes, AllShaped, TemplateHasLists, more_of_sequence_alike}
+use Rattle.ecma_parentheses.proofs.Spotted.{spotted}
+use Rattle.ecma_parentheses.proofs.Places.{Child, nodes, TemplateHasLists, more_of_sequence_alike}
+use Rattle.ecma_parentheses.proofs.Shaped.{AllShaped}
 
 module _ (spot : Spot) (fits : Fits spot) where
   pub operation_alike : (k : Kind) (ns : List Child) → AllShaped (nodes ns) → TemplateHasLists k (nodes ns) → operation k (map laid (spotted k (nodes ns) spot)) spot ≡ operation k (map laid (nodes ns)) spot

@@ -15,8 +15,9 @@ use Rattle.ecma_print.specs.Statements.{else_behind, case_word, behind_body, for
 use Rattle.ecma_print.specs.Modules.{hashbang, import_equals_word, importing, exporting}
 use Rattle.ecma_parentheses.specs.Explicit.{stood}
 use Rattle.ecma_parentheses.proofs.Asking.{Fits, said_where_free}
-use Rattle.ecma_parentheses.proofs.Again.{spotted}
-use Rattle.ecma_parentheses.proofs.Places.{Child, nodes, AllShaped, TemplateHasLists}
+use Rattle.ecma_parentheses.proofs.Spotted.{spotted}
+use Rattle.ecma_parentheses.proofs.Places.{Child, nodes, TemplateHasLists}
+use Rattle.ecma_parentheses.proofs.Shaped.{AllShaped}
 
 module _ (spot : Spot) (fits : Fits spot) where
   pub statement_alike : (k : Kind) (ns : List Child) → AllShaped (nodes ns) → TemplateHasLists k (nodes ns) → statement k (map laid (spotted k (nodes ns) spot)) spot ≡ statement k (map laid (nodes ns)) spot

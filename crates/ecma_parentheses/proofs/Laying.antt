@@ -15,7 +15,7 @@ use Rattle.ecma_print.specs.declared.place.Spot.{Spot}
 use Rattle.ecma_print.specs.declared.place.Between.{Between}
 use Rattle.ecma_print.specs.declared.place.Place.{Place}
 use Rattle.ecma_print.specs.declared.place.Place.TheVariants as place
-use Rattle.ecma_print.specs.Pieces.{Piece, nothing, say, ◌>>◌}
+use Rattle.ecma_print.specs.Pieces.{nothing, say, ◌>>◌}
 use Rattle.ecma_print.specs.Places.{free, before, after}
 use Rattle.ecma_print.specs.Functions.{function_head, method_head}
 use Rattle.ecma_print.specs.Laid.{Laid, is_computed}
@@ -26,18 +26,15 @@ use Rattle.ecma_print.specs.Layout.{by_itself, in_place, key_mark, laid, lay_ste
 use Rattle.ecma_print.proofs.LaidOut.{laid_kind, laid_kind_of-node}
 use Rattle.ecma_parentheses.specs.Explicit.{parenthesized}
 use Rattle.ecma_parentheses.specs.Laws.{LayoutStays}
+use Rattle.ecma_parentheses.proofs.Standing.{if_false}
+use Rattle.ecma_parentheses.proofs.Shaped.{AllShaped, all_shaped}
 use Rattle.ecma_parentheses.proofs.Asking.{Fits, absent_stands_open, open_where_free, parentheses_stand_open}
-use Rattle.ecma_parentheses.proofs.Again.{bare', spotted, standing', parentheses_alike, stands_in}
-use Rattle.ecma_parentheses.proofs.Places.{spot_in, LaidAlike, Child, nodes, AllShaped, TemplateHasLists, listed_alike, each_by_itself}
+use Rattle.ecma_parentheses.proofs.Spotted.{bare', spotted, standing', parentheses_alike, stands_in}
+use Rattle.ecma_parentheses.proofs.Places.{spot_in, LaidAlike, Child, nodes, TemplateHasLists, listed_alike, each_by_itself}
 use Rattle.ecma_parentheses.proofs.LaidExpressions.{operation_alike, link_alike, primary_alike, function_alike, class_member_alike, property_alike, pattern_alike}
 use Rattle.ecma_parentheses.proofs.LaidStatements.{statement_alike, control_alike, importing_alike, exporting_alike}
 
 -- the shapes of the children of a sorted node
-
-all_shaped : (shapes : List Shape) (ns : List Node) → HaveShapes shapes ns → AllShaped ns
-all_shaped shapes [] h = tt
-all_shaped [] (n ∷ ns) h = absurd h
-all_shaped (shape ∷ shapes) (n ∷ ns) h = ((shape, h.0), all_shaped shapes ns h.1)
 
 list_has_list_kind : (sort : Sort) (n : Node) → HasShape (many sort) n → is_list (laid n).kind ≡ true
 list_has_list_kind sort n h =
@@ -73,14 +70,6 @@ no_function_head _ children h = refl
 no_method_head : (k : Kind) (children : List Laid) → in_parentheses k children (free 1) ≡ true → method_head k ≡ []
 no_method_head (kind.Function is_generator is_async) children h = absurd (cc)
 no_method_head _ children h = refl
-
-piece_if_false : (b : Bool) (p q : Piece) → b ≡ false → (if b then p else q) ≡ q
-piece_if_false true p q h = cc
-piece_if_false false p q h = refl
-
-node_if_false : (b : Bool) (n m : Node) → b ≡ false → (if b then n else m) ≡ m
-node_if_false true n m h = cc
-node_if_false false n m h = refl
 
 laid_parts_in : (span : Span) (k : Kind) (ns : List Node) → (laid (node_of span k ns)).parts ≡ map by_itself (map laid ns)
 laid_parts_in span k ns = ap (λ m. m.parts) (fold-roll-Node Laid lay_step (record { span = span; kind = k; children = ns }))
@@ -120,13 +109,13 @@ module _ (span : Span) (k : Kind) (ns : List Child) (h : AllShaped (nodes ns)) (
     open_alike spot fits opens =
         laid_in span k (spotted k (nodes ns) spot) (place.At spot)
         ∙ (one_placed k (map laid (spotted k (nodes ns) spot)) (place.At spot) one
-        ∙ (piece_if_false (in_parentheses k (map laid (spotted k (nodes ns) spot)) spot) _ (whole k (map laid (spotted k (nodes ns) spot)) spot) (parentheses_alike k (nodes ns) spot fits ∙ opens)
+        ∙ (if_false (in_parentheses k (map laid (spotted k (nodes ns) spot)) spot) _ (whole k (map laid (spotted k (nodes ns) spot)) spot) (parentheses_alike k (nodes ns) spot fits ∙ opens)
         ∙ whole_alike spot fits))
 
     closed_alike : (spot : Spot) → Fits spot → (laid (parenthesized (bare_at (free 0)))).at (place.At spot) ≡ say (codes "(") >> (whole k own (free 0) >> say (codes ")"))
     closed_alike spot fits =
         laid_in dummy_span kind.ParenExpr (bare_at (free 0) ∷ []) (place.At spot)
-        ∙ (piece_if_false (in_parentheses kind.ParenExpr (map laid (bare_at (free 0) ∷ [])) spot) _ (whole kind.ParenExpr (map laid (bare_at (free 0) ∷ [])) spot) (parentheses_stand_open (map laid (bare_at (free 0) ∷ [])) spot fits)
+        ∙ (if_false (in_parentheses kind.ParenExpr (map laid (bare_at (free 0) ∷ [])) spot) _ (whole kind.ParenExpr (map laid (bare_at (free 0) ∷ [])) spot) (parentheses_stand_open (map laid (bare_at (free 0) ∷ [])) spot fits)
         ∙ (λ i. say (codes "(") >> open_alike (free 0) refl (open_where_free k own) i >> say (codes ")")))
 
     either_alike : (spot : Spot) → Fits spot → (b : Bool) → in_parentheses k own spot ≡ b
@@ -152,7 +141,7 @@ module _ (span : Span) (k : Kind) (ns : List Child) (h : AllShaped (nodes ns)) (
     -- as a key
     key_alike : (optional : Bool) → (laid (standing' span k (nodes ns) (free 0))).at (place.Key optional) ≡ placed k own (place.Key optional)
     key_alike optional =
-        ap (λ n. (laid n).at (place.Key optional)) (node_if_false (in_parentheses k own (free 0)) (parenthesized (bare_at (free 0))) (bare_at (free 0)) (open_where_free k own))
+        ap (λ n. (laid n).at (place.Key optional)) (if_false (in_parentheses k own (free 0)) (parenthesized (bare_at (free 0))) (bare_at (free 0)) (open_where_free k own))
         ∙ (laid_in span k (spotted k (nodes ns) (free 0)) (place.Key optional)
         ∙ (one_placed k (map laid (spotted k (nodes ns) (free 0))) (place.Key optional) one
         ∙ (λ i. say (key_mark optional (is_computed k)) >> whole_alike (free 0) refl i)))
@@ -187,12 +176,12 @@ module _ (span : Span) (k : Kind) (ns : List Child) (h : AllShaped (nodes ns)) (
 
 missing_in_place : (span : Span) (ns : List Node) (p : Place) → Fits (spot_in p) → (laid (standing' span kind.Absent ns (spot_in p))).at p ≡ nothing
 missing_in_place span ns p fits =
-    ap (λ n. (laid n).at p) (node_if_false (in_parentheses kind.Absent (map laid ns) (spot_in p)) (parenthesized (bare' span kind.Absent ns (free 0))) (bare' span kind.Absent ns (spot_in p)) (absent_stands_open kind.Absent (map laid ns) (spot_in p) fits refl))
+    ap (λ n. (laid n).at p) (if_false (in_parentheses kind.Absent (map laid ns) (spot_in p)) (parenthesized (bare' span kind.Absent ns (free 0))) (bare' span kind.Absent ns (spot_in p)) (absent_stands_open kind.Absent (map laid ns) (spot_in p) fits refl))
     ∙ laid_in span kind.Absent (spotted kind.Absent ns (spot_in p)) p
 
 list_in_place : (span : Span) (ns : List Child) → AllShaped (nodes ns) → (p : Place) → Fits (spot_in p) → (laid (standing' span kind.List (nodes ns) (spot_in p))).at p ≡ listed (map laid (nodes ns)) p
 list_in_place span ns h p fits =
-    ap (λ n. (laid n).at p) (node_if_false (in_parentheses kind.List (map laid (nodes ns)) (spot_in p)) (parenthesized (bare' span kind.List (nodes ns) (free 0))) (bare' span kind.List (nodes ns) (spot_in p)) (ap (λ b. b || false) fits))
+    ap (λ n. (laid n).at p) (if_false (in_parentheses kind.List (map laid (nodes ns)) (spot_in p)) (parenthesized (bare' span kind.List (nodes ns) (free 0))) (bare' span kind.List (nodes ns) (spot_in p)) (ap (λ b. b || false) fits))
     ∙ (laid_in span kind.List (spotted kind.List (nodes ns) (spot_in p)) p
     ∙ listed_alike p fits ns h)
 
@@ -213,7 +202,7 @@ layer_alike span k ns = record {
       ∙ (layer_in_place span k ns (all_shaped _ (nodes ns) have) (template_has_lists k (nodes ns) shaped.0 have) p fits
       ∙ sym (laid_in span k (nodes ns) p)));
   parts = λ shaped list. (let have = ((node_has_shape span k (nodes ns) shaped.0).0 shaped.1).1 in
-      ap (λ n. (laid n).parts) (stands_in span k (nodes ns) (free 0) ∙ node_if_false (in_parentheses k (map laid (nodes ns)) (free 0)) (parenthesized (bare' span k (nodes ns) (free 0))) (bare' span k (nodes ns) (free 0)) (open_where_free k (map laid (nodes ns))))
+      ap (λ n. (laid n).parts) (stands_in span k (nodes ns) (free 0) ∙ if_false (in_parentheses k (map laid (nodes ns)) (free 0)) (parenthesized (bare' span k (nodes ns) (free 0))) (bare' span k (nodes ns) (free 0)) (open_where_free k (map laid (nodes ns))))
       ∙ (list_parts span k ns (all_shaped _ (nodes ns) have) (sym (ap is_list (laid_kind_of-node span k (nodes ns))) ∙ list)
       ∙ sym (laid_parts_in span k (nodes ns))));
 }

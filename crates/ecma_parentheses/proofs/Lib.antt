@@ -1,7 +1,8 @@
 mod Standing
+mod Shaped
 mod Asking
 mod Adding
-mod Again
+mod Spotted
 mod Lacks
 mod Places
 mod LaidExpressions

@@ -2,9 +2,8 @@
 use Rattle.std.proofs.Common.{◌≡◌, refl, ap, ap₂, List, [], ◌∷◌, map, Bool, true, codes}
 use Rattle.ecma_kind.specs.declared.kind.Kind.{Kind}
 use Rattle.ecma_kind.specs.declared.kind.Kind.TheVariants as kind
-use Rattle.ecma_kind.specs.declared.shapes.Shape.{Shape}
 use Rattle.ecma_tree.specs.declared.node.Node.{Node}
-use Rattle.ecma_tree.specs.Sorted.{HasShape, is_list}
+use Rattle.ecma_tree.specs.Sorted.{is_list}
 use Rattle.ecma_print.specs.declared.place.Beside.TheVariants.{NoNeighbor}
 use Rattle.ecma_print.specs.declared.place.Spot.{Spot}
 use Rattle.ecma_print.specs.declared.place.Place.{Place}
@@ -15,6 +14,7 @@ use Rattle.ecma_print.specs.Expressions.{more_of_sequence}
 use Rattle.ecma_print.specs.Laid.{Laid, is_named}
 use Rattle.ecma_print.specs.Layout.{laid, by_itself}
 use Rattle.ecma_print.specs.Lists.{lines, new_lines, block, more_commas, commas, braces, ends_in_hole, hole_comma, brackets, specifier_gap, opening_brace, more_specifiers, specifiers, imports, exports, listed}
+use Rattle.ecma_parentheses.proofs.Shaped.{Shaped, AllShaped}
 use Rattle.ecma_parentheses.specs.Explicit.{in_spots, stood}
 use Rattle.ecma_parentheses.proofs.Asking.{Fits, absent_in_spot, said_where_free}
 
@@ -35,9 +35,6 @@ spot_in place.Brackets = free 1
 spot_in place.Imports = free 0
 spot_in place.Exports = free 0
 
-abbrev pub Shaped : Node → Type 0
-Shaped n = (shape : Shape) × HasShape shape n
-
 -- a node is laid out alike in the spot of each place; so are the items of a list, each by itself
 pub record LaidAlike (n : Node) : Type 0 where
   pub at : Shaped n → (p : Place) → Fits (spot_in p) → (laid ((stood n).at (spot_in p))).at p ≡ (laid n).at p
@@ -48,10 +45,6 @@ Child = (n : Node) × LaidAlike n
 
 abbrev pub nodes : List Child → List Node
 nodes ns = map (λ e. e.0) ns
-
-abbrev pub AllShaped : List Node → Type 0
-AllShaped [] = Unit {0}
-AllShaped (n ∷ ns) = Shaped n × AllShaped ns
 
 -- the children of a template are lists
 abbrev pub TemplateHasLists : Kind → List Node → Type 0

@@ -27,6 +27,7 @@ use Rattle.ecma_runs.proofs.Layers.{images_where, the_same, none_excused, same_k
 use Rattle.ecma_runs.proofs.Kept.{StepsAlike, observe_unless}
 use Rattle.ecma_runs.proofs.Steps.{step_same}
 use Rattle.ecma_runs.specs.Laws.{ParenthesesDoNotMatter}
+use Rattle.ecma_parentheses.proofs.Shaped.{Shaped, AllShaped, all_shaped}
 use Rattle.ecma_parentheses.specs.Explicit.{explicit, parenthesized}
 use Rattle.ecma_parentheses.specs.Laws.{RunsAlike}
 use Rattle.ecma_parentheses.proofs.Ending.{explicit_agrees}
@@ -37,18 +38,6 @@ use Rattle.ecma_parentheses.proofs.Unlinked.{unlinked, all_unlinked, with_value,
 abbrev gives_link : Kind → Bool
 gives_link kind.MemberExpr = true
 gives_link k = passes_on k
-
-abbrev Shaped : Node → Type 0
-Shaped n = (shape : Shape) × HasShape shape n
-
-abbrev AllShaped : List Node → Type 0
-AllShaped [] = Unit {0}
-AllShaped (n ∷ ns) = Shaped n × AllShaped ns
-
-all_shaped : (shapes : List Shape) (ns : List Node) → HaveShapes shapes ns → AllShaped ns
-all_shaped shapes [] h = tt
-all_shaped [] (n ∷ ns) h = absurd h
-all_shaped (shape ∷ shapes) (n ∷ ns) h = ((shape, h.0), all_shaped shapes ns h.1)
 
 same_length : (f : Node → Meaning) (shapes : List Shape) (ns : List Node) → HaveShapes shapes ns → SameLength shapes (map f ns)
 same_length f [] [] h = tt

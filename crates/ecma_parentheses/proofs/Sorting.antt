@@ -23,7 +23,7 @@ use Rattle.ecma_parentheses.specs.Spots.{first_spots, further_spot}
 use Rattle.ecma_parentheses.specs.Explicit.{in_spots, parenthesized, stood}
 use Rattle.ecma_parentheses.specs.Laws.{SortsAreKept}
 use Rattle.ecma_parentheses.proofs.Asking.{Fits, AllFit, first_fit, further_fits}
-use Rattle.ecma_parentheses.proofs.Again.{bare', spotted, stands_in}
+use Rattle.ecma_parentheses.proofs.Spotted.{bare', spotted, stands_in}
 
 never : {A : Type 0} (b : Bool) → b ≡ false → (b || false) ≡ true → A
 never true h k = cc

@@ -1,5 +1,5 @@
 -- The equations of what nodes are in their spots.
-use Rattle.std.proofs.Common.{◌≡◌, refl, sym, ap, ap₂, ◌∙◌, List, [], ◌∷◌, map}
+use Rattle.std.proofs.Common.{◌≡◌, refl, sym, ap, ap₂, ◌∙◌, List, [], ◌∷◌, map, Bool, true, false, if◌then◌else◌}
 use Rattle.ecma_tree.specs.declared.node.Node.{Node, Node-F, fold-roll-Node, roll-Node, ind-Node}
 use Rattle.ecma_tree.specs.Nodes.{node_of}
 use Rattle.ecma_print.specs.declared.place.Spot.{Spot}
@@ -23,3 +23,7 @@ laid_children_of (n ∷ ns) = ap₂ (λ a rest. a ∷ rest) (ap laid (itself n))
 
 pub stands : (x : Node-F Node) (spot : Spot) → (stood (roll-Node x)).at spot ≡ standing x.span x.kind (map stood x.children) spot
 stands x spot = ap (λ m. m.at spot) (fold-roll-Node Standing stand_step x)
+
+pub if_false : {A : Type 0} (b : Bool) (a a' : A) → b ≡ false → (if b then a else a') ≡ a'
+if_false true a a' h = cc
+if_false false a a' h = refl

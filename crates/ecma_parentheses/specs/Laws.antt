@@ -15,27 +15,27 @@ use Rattle.ecma_parentheses.specs.Lacking.{lacks_none}
 abbrev pub OnlyParenthesesAreAdded : Type 0
 OnlyParenthesesAreAdded = (m : Node) → without_parens (explicit m) ≡ without_parens m
 
--- and none are added again
+-- none are lacking
+abbrev pub NoneAreLacking : Type 0
+NoneAreLacking = (m : Node) → lacks_none (explicit m) ≡ true
+
+-- a tree that lacks none stays
+abbrev pub TreesThatLackNoneStay : Type 0
+TreesThatLackNoneStay = (m : Node) → lacks_none m ≡ true → explicit m ≡ m
+
+-- so none are added again
 abbrev pub NoneAreAddedAgain : Type 0
 NoneAreAddedAgain = (m : Node) → explicit (explicit m) ≡ explicit m
-
--- the layout stays, of each tree that has a shape
-abbrev pub LayoutStays : Type 0
-LayoutStays = (m : Node) (shape : Shape) → HasShape shape m → layout (explicit m) ≡ layout m
 
 -- every shape is kept, and so every sort
 abbrev pub SortsAreKept : Type 0
 SortsAreKept = (m : Node) (shape : Shape) → HasShape shape m → HasShape shape (explicit m)
 
--- a module runs alike. Not so every tree: where parentheses stand round a link of an optional chain, which no sort allows, what stands in them is laid out
--- as if the chain ended there
+-- the layout stays, of each tree that has a shape. Not so of every tree: where a part of a template is no list, which no shape allows, its children are laid
+-- out without regard to what it is
+abbrev pub LayoutStays : Type 0
+LayoutStays = (m : Node) (shape : Shape) → HasShape shape m → layout (explicit m) ≡ layout m
+
+-- a module runs alike. Not so every tree: where parentheses stand round a link of an optional chain, which no shape allows, a chain before that link ends there
 abbrev pub RunsAlike : Type 0
 RunsAlike = (turns : ℕ) (options : Config) (m : Node) (script : Script) → HasSort sort.Module m → observe turns options (explicit m) script ≡ observe turns options m script
-
--- none are lacking
-abbrev pub NoneAreLacking : Type 0
-NoneAreLacking = (m : Node) → lacks_none (explicit m) ≡ true
-
--- a tree that lacks none is its own
-abbrev pub TreesThatLackNoneStay : Type 0
-TreesThatLackNoneStay = (m : Node) → lacks_none m ≡ true → explicit m ≡ m

@@ -1,4 +1,4 @@
-use Rattle.ecma_parentheses.proofs.Again as law
+use Rattle.ecma_parentheses.proofs.Lacks as law
 use Rattle.ecma_parentheses.proofs.none_are_added_again.Goals as goal
 
 pub returns : goal.returns
