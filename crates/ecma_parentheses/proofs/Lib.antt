@@ -1,16 +1,16 @@
 mod Standing
 mod Shaped
 mod Asking
-mod Adding
+pub mod Adding
 mod Spotted
-mod Lacks
+pub mod Lacks
 mod Places
 mod LaidExpressions
 mod LaidStatements
-mod Laying
-mod Sorting
+pub mod Laying
+pub mod Sorting
 mod Chains
 mod Picking
 mod Ending
 mod Unlinked
-mod Running
+pub mod Running
