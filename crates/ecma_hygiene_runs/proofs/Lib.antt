@@ -7,3 +7,6 @@ mod GivenTexts
 mod Passing
 mod FinalRuns
 mod Sorted
+mod Seeking
+mod Covering
+mod Declaring

@@ -35,7 +35,7 @@ use Rattle.ecma_hygiene_runs.proofs.Parts.{named-roll, out-flag, out-of, out-rol
 
 -- the parts of a node with a shape
 
-shape_out : (shape : Shape) (n : Node) → HasShape shape n → (allows shape (out-Node n).kind ≡ true) × HaveShapes (child_shapes (out-Node n).kind shape (length (out-Node n).children)) (out-Node n).children
+pub shape_out : (shape : Shape) (n : Node) → HasShape shape n → (allows shape (out-Node n).kind ≡ true) × HaveShapes (child_shapes (out-Node n).kind shape (length (out-Node n).children)) (out-Node n).children
 shape_out shape n h = (node_has_shape (out-Node n).span (out-Node n).kind (out-Node n).children shape).0 (subst (HasShape shape) (sym (roll-out-Node n)) h)
 
 -- names in patterns

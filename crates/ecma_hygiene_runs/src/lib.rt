@@ -5,6 +5,7 @@
 #![tactic(auto)]
 
 ghost use Rattle.ecma_hygiene_runs.specs.Laws.{FinalTextsKeepRuns, ReadingAgainKeepsRuns, ShorthandsDoNotMatter, WrittenOutShorthandsDoNotMatter};
+ghost use Rattle.ecma_hygiene_runs.specs.Plain.{BindingsAreDeclared};
 ghost use Rattle.ecma_hygiene_runs.specs.Sorted.{SortedNamesAreOuter};
 
 /// A module with its shorthands written out is observed to do what it does with them, for every tree, every script of the host and every number of
@@ -32,4 +33,9 @@ pub fn reading_again_keeps_runs()
 /// shorthands written out the keys that are names have the empty context.
 pub fn sorted_names_are_outer()
     ensures { SortedNamesAreOuter }
+{}
+
+/// In a module without types, enums and namespaces each binding is declared where the module runs: `ecma_scope` and `ecma_runs` mean the same names.
+pub fn bindings_are_declared()
+    ensures { BindingsAreDeclared }
 {}

@@ -1,0 +1,174 @@
+-- Each binding of a plain module is declared where the module runs.
+use Rattle.std.proofs.Common.{◌≡◌, refl, sym, ap, ap₂, ◌∙◌, subst, ℕ, suc, List, [], ◌∷◌, ◌++◌, map, length, Bool, true, false, cond, not, ◌&&◌, ◌||◌, eq-eqb, nat_eq, bytes_eq}
+use Rattle.std.specs.List.{All, list_all, list_any}
+use Rattle.std.proofs.lemmas.List.{append-nil}
+use Rattle.std.proofs.lemmas.List.Elements.{All-append, All-cons, All-head, All-nil, All-tail}
+use Rattle.ecma_kind.specs.declared.kind.Kind.{Kind}
+use Rattle.ecma_kind.specs.declared.kind.Kind.TheVariants as kind
+use Rattle.ecma_kind.specs.declared.shapes.Shape.{Shape}
+use Rattle.ecma_kind.specs.declared.shapes.Sort.TheVariants as sort
+use Rattle.ecma_kind.specs.declared.span.Span.{Span}
+use Rattle.ecma_tree.specs.declared.node.Node.{Node, Node-F, ind-Node, out-Node, roll-Node}
+use Rattle.ecma_tree.specs.declared.node.Node.TheViews.{out-roll-Node}
+use Rattle.ecma_tree.specs.Laws.{HaveShapes}
+use Rattle.ecma_tree.specs.Sorted.{HasShape, child_shapes, one}
+use Rattle.ecma_scope.specs.declared.form.Sought.{Sought}
+use Rattle.ecma_scope.specs.Resolved.{is_name}
+use Rattle.ecma_scope.specs.Scopes.{opens}
+use Rattle.ecma_scope.proofs.Layers.{from_leaves_out}
+use Rattle.ecma_hygiene.specs.declared.sight.Sight.{Sight}
+use Rattle.ecma_hygiene.specs.Ids.{declares, is_name_part, scope_soughts}
+use Rattle.ecma_hygiene.specs.Ids.{Id as HygieneId, same_id}
+use Rattle.ecma_hygiene.specs.Sights.{Around, around_child, inner_soughts, nowhere, sight_by, sight_here, sights, sights_at}
+use Rattle.ecma_hygiene.specs.Texts.{is_bound}
+use Rattle.ecma_hygiene.specs.Walks.{gathered_from}
+use Rattle.ecma_hygiene.proofs.Telling.{and-both, and-left, and-right, or-first, or-second, text-refl, true-false}
+use Rattle.ecma_hygiene.proofs.Walking.{gathered-out}
+use Rattle.ecma_hygiene_laws.proofs.Membership.{id-same}
+use Rattle.ecma_runs.specs.State.{Id}
+use Rattle.ecma_runs.specs.Environment.{is_among}
+use Rattle.ecma_runs.specs.Meaning.{Meaning}
+use Rattle.ecma_runs.specs.Declarations.{declared_of, has_no_effect, names_of}
+use Rattle.ecma_runs.specs.Evaluation.{meaning, meaning_by, no_effect, role_by}
+use Rattle.ecma_runs.proofs.Layer.{meaning_out}
+use Rattle.ecma_hygiene_runs.specs.Plain.{BindingsAreDeclared, has_no_receiver, is_none, is_plain, is_plain_kind, plain_by, plain_step}
+use Rattle.ecma_hygiene_runs.proofs.Covering.{Covered, Sub, cover, declared, layer, layer-covered, names, sub-left, sub-same}
+use Rattle.ecma_hygiene_runs.proofs.Seeking.{any_name, inner-name, may_name, soughts-name}
+use Rattle.ecma_hygiene_runs.proofs.Sorted.{shape_out}
+
+-- what a layer covers, its node does
+
+paren-sub : (n e : Node) (named : Bool) → Sub (layer kind.ParenExpr (e ∷ []) named) ((meaning_by n kind.ParenExpr (map meaning (e ∷ []))).declared ++ cond named (meaning_by n kind.ParenExpr (map meaning (e ∷ []))).names [])
+paren-sub n e true id h = sub-left (declared e) (names e) id (ap (is_among id) (sym (append-nil (declared e ++ []) ∙ append-nil (declared e))) ∙ h)
+paren-sub n e false id h = ap (λ ids. is_among id (ids ++ [])) (sym (append-nil (declared e))) ∙ h
+
+pub layer-sub : (n : Node) (k : Kind) (cs : List Node) (shape : Shape) (named : Bool) → is_plain_kind k ≡ true → has_no_effect k (map meaning cs) ≡ false → HaveShapes (child_shapes k shape (length cs)) cs
+    → Sub (layer k cs named) ((meaning_by n k (map meaning cs)).declared ++ cond named (meaning_by n k (map meaning cs)).names [])
+layer-sub n kind.ParenExpr (e ∷ []) shape named j f h = paren-sub n e named
+layer-sub n kind.ParenExpr [] shape named j f h = absurd h
+layer-sub n kind.ParenExpr (a ∷ b ∷ cs) shape named j f h = absurd h.1
+layer-sub n kind.TsAsExpr cs shape named j f h = absurd (cc)
+layer-sub n kind.TsTypeAssertion cs shape named j f h = absurd (cc)
+layer-sub n kind.TsConstAssertion cs shape named j f h = absurd (cc)
+layer-sub n kind.TsNonNullExpr cs shape named j f h = absurd (cc)
+layer-sub n kind.TsInstantiation cs shape named j f h = absurd (cc)
+layer-sub n kind.TsSatisfiesExpr cs shape named j f h = absurd (cc)
+layer-sub n kind.TsTypeAnn cs shape named j f h = absurd (cc)
+layer-sub n kind.TsTypeParamDecl cs shape named j f h = absurd (cc)
+layer-sub n kind.TsTypeParamInstantiation cs shape named j f h = absurd (cc)
+layer-sub n k cs shape named j f h =
+    sub-same (layer k cs named) _ (ap (λ b. (cond b (no_effect n) (role_by n k (map meaning cs))).declared ++ cond named (cond b (no_effect n) (role_by n k (map meaning cs))).names []) (sym f))
+
+-- sights that declare
+
+abbrev own_id : Sight → Id
+own_id x = record { sym = x.id.0; ctxt = x.id.1 }
+
+abbrev Declared : List Id → Sight → Type 0
+Declared zs x = x.declares ≡ true → is_among (own_id x) zs ≡ true
+
+all-sub : (zs ws : List Id) → Sub zs ws → (xs : List Sight) → All (Declared zs) xs → All (Declared ws) xs
+all-sub zs ws f [] h = All-nil (Declared ws)
+all-sub zs ws f (x ∷ xs) h = All-cons (Declared ws) x xs (λ d. f (own_id x) (All-head (Declared zs) x xs h d)) (all-sub zs ws f xs (All-tail (Declared zs) x xs h))
+
+any-declares : (ss : List Sought) → list_any declares ss ≡ true → any_name ss ≡ true
+any-declares [] h = h
+any-declares (s ∷ ss) h = go (is_name_part s.part) refl (any-declares ss) h
+  where
+    go : (b : Bool) → is_name_part s.part ≡ b → (list_any declares ss ≡ true → any_name ss ≡ true) → (is_name_part s.part && s.stays) || list_any declares ss ≡ true → is_name_part s.part || any_name ss ≡ true
+    go true e rec h = or-first (is_name_part s.part) (any_name ss) e
+    go false e rec h = or-second (is_name_part s.part) (any_name ss) (rec (ap (λ b. (b && s.stays) || list_any declares ss) (sym e) ∙ h))
+
+self-among : (id : Id) → is_among id (id ∷ []) ≡ true
+self-among id = or-first _ false (and-both (bytes_eq id.sym id.sym) (nat_eq id.ctxt id.ctxt) (text-refl id.sym) (eq-eqb id.ctxt id.ctxt refl))
+
+ident-declared : (n : Node) (text : List ℕ) (ctxt : ℕ) (optional : Bool) (cs : List Node) (shape : Shape) (b named : Bool) → HaveShapes (child_shapes (kind.Ident text ctxt optional) shape (length cs)) cs → (b ≡ true → named ≡ true) → b ≡ true
+    → is_among (record { sym = text; ctxt = ctxt }) ((meaning_by n (kind.Ident text ctxt optional) (map meaning cs)).declared ++ cond named (meaning_by n (kind.Ident text ctxt optional) (map meaning cs)).names []) ≡ true
+ident-declared n text ctxt optional [] shape b named h f e = ap (λ z. is_among (record { sym = text; ctxt = ctxt }) (cond z (record { sym = text; ctxt = ctxt } ∷ []) [])) (f e) ∙ self-among (record { sym = text; ctxt = ctxt })
+ident-declared n text ctxt optional (c ∷ cs) shape b named h f e = absurd h
+
+here-declared : (n : Node) (k : Kind) (cs : List Node) (shape : Shape) (other b named : Bool) (span : Span) → HaveShapes (child_shapes k shape (length cs)) cs → (b ≡ true → named ≡ true)
+    → All (Declared ((meaning_by n k (map meaning cs)).declared ++ cond named (meaning_by n k (map meaning cs)).names [])) (sight_by other b span k)
+here-declared n (kind.Ident text ctxt optional) cs shape false b named span h f =
+    let zs = (meaning_by n (kind.Ident text ctxt optional) (map meaning cs)).declared ++ cond named (meaning_by n (kind.Ident text ctxt optional) (map meaning cs)).names [] in
+    All-cons (Declared zs) _ [] (λ e. ident-declared n text ctxt optional cs shape b named h f e) (All-nil (Declared zs))
+here-declared n (kind.Ident text ctxt optional) cs shape true b named span h f = All-nil (Declared _)
+here-declared n _ cs shape true b named span h f = All-nil (Declared _)
+here-declared n _ cs shape false b named span h f = All-nil (Declared _)
+
+abbrev Found : Node → Type 0
+Found n = (s : Around) (named : Bool) (shape : Shape) → (any_name s.soughts ≡ true → named ≡ true) → HasShape shape n → is_plain n ≡ true → All (Declared (cover n named)) (sights_at n s)
+
+abbrev FoundBelow : List Node → Type 0
+FoundBelow cs = (shapes : List Shape) (around : ℕ → Around) (i : ℕ) (k : Kind) (named : Bool) (zs : List Id) → ((j : ℕ) → any_name (around j).soughts ≡ true → may_name k j named ≡ true)
+    → HaveShapes shapes cs → list_all (λ b. b) (map is_plain cs) ≡ true → Covered k named zs i cs → All (Declared zs) (gathered_from Around Sight around i (map sights_at cs))
+
+found-below : (ns : List ((n : Node) × Found n)) → FoundBelow (map (λ e. e.0) ns)
+found-below [] shapes around i k named zs f h p c = All-nil (Declared zs)
+found-below (n ∷ ns) [] around i k named zs f h p c = absurd h
+found-below (n ∷ ns) (shape ∷ shapes) around i k named zs f h p c =
+    let a = is_plain n.0 in
+    let b = list_all (λ b. b) (map is_plain (map (λ e. e.0) ns)) in
+    All-append (Declared zs) (sights_at n.0 (around i)) (gathered_from Around Sight around (suc i) (map sights_at (map (λ e. e.0) ns)))
+    (all-sub (cover n.0 (may_name k i named)) zs c.0 (sights_at n.0 (around i)) (n.1 (around i) (may_name k i named) shape (f i) h.0 (and-left a b p)))
+    (found-below ns shapes around (suc i) k named zs f h.1 (and-right a b p) c.1)
+
+covered-sub : (k : Kind) (named : Bool) (zs ws : List Id) → Sub zs ws → (i : ℕ) (cs : List Node) → Covered k named zs i cs → Covered k named ws i cs
+covered-sub k named zs ws f i [] h = tt
+covered-sub k named zs ws f i (c ∷ cs) h = ((λ id e. f id (h.0 id e)), covered-sub k named zs ws f (suc i) cs h.1)
+
+not-true : (b : Bool) → not b ≡ true → b ≡ false
+not-true true h = absurd (cc)
+not-true false h = refl
+
+-- the children
+below-by : (n : Node) (k : Kind) (cs : List Node) (shape : Shape) (named : Bool) (around : ℕ → Around) → FoundBelow cs → plain_by k cs ≡ true → HaveShapes (child_shapes k shape (length cs)) cs
+    → ((j : ℕ) → any_name (around j).soughts ≡ true → may_name k j named ≡ true) → list_all (λ b. b) (map is_plain cs) ≡ true
+    → All (Declared ((meaning_by n k (map meaning cs)).declared ++ cond named (meaning_by n k (map meaning cs)).names [])) (gathered_from Around Sight around 0 (map sights_at cs))
+below-by n k [] shape named around below p h f all = All-nil (Declared _)
+below-by n k (c ∷ cs) shape named around below p h f all =
+    let ms = map meaning (c ∷ cs) in
+    let script = is_plain_kind k in
+    let free = not (has_no_effect k ms) in
+    let rest = and-right script (free && has_no_receiver k (c ∷ cs)) p in
+    let effect = not-true (has_no_effect k ms) (and-left free (has_no_receiver k (c ∷ cs)) rest) in
+    let own = and-left script (free && has_no_receiver k (c ∷ cs)) p in
+    let zs = (meaning_by n k ms).declared ++ cond named (meaning_by n k ms).names [] in
+    below (child_shapes k shape (length (c ∷ cs))) around 0 k named zs f h all
+    (covered-sub k named (layer k (c ∷ cs) named) zs (layer-sub n k (c ∷ cs) shape named own effect h) 0 (c ∷ cs)
+    (layer-covered k shape (c ∷ cs) named own effect (and-right free (has_no_receiver k (c ∷ cs)) rest) h))
+
+layer-found : (n : Node) → FoundBelow (out-Node n).children → Found n
+layer-found n below s named shape f h p =
+    let z = out-Node n in
+    let t = shape_out shape n h in
+    let a = plain_by z.kind z.children in
+    let b = list_all (λ b. b) (map is_plain z.children) in
+    let plain : a && b ≡ true = sym (from_leaves_out Bool plain_step n) ∙ p in
+    let ms = map meaning z.children in
+    let zs = (meaning_by n z.kind ms).declared ++ cond named (meaning_by n z.kind ms).names [] in
+    let rest = gathered_from Around Sight (around_child s n) 0 (map sights_at z.children) in
+    subst (λ m. All (Declared (m.declared ++ cond named m.names [])) (sights_at n s)) (sym (meaning_out n))
+    (subst (All (Declared zs)) (sym (gathered-out Around Sight sight_here around_child n s))
+    (All-append (Declared zs) (sight_here s n) rest (here-declared n z.kind z.children shape (is_name s.role) (list_any declares s.soughts) named z.span t.1 (λ e. f (any-declares s.soughts e)))
+    (below-by n z.kind z.children shape named (around_child s n) below (and-left a b plain) t.1
+    (λ j e. soughts-name (inner_soughts (opens s.role n) s.soughts (scope_soughts s.role z.kind)) n j named (λ q. inner-name (opens s.role n) s.soughts s.role z.kind named f q) e) (and-right a b plain))))
+
+found : (n : Node) → Found n
+found = ind-Node Found (λ x y is.
+    layer-found (roll-Node x) (subst FoundBelow (ap (λ (z : Node-F Node). z.children) is ∙ sym (ap (λ (z : Node-F Node). z.children) (out-roll-Node x))) (found-below y.children)))
+
+-- one that is bound is among them
+bound-among : (zs : List Id) (id : HygieneId) (xs : List Sight) → All (Declared zs) xs → is_bound xs id ≡ true → is_among (record { sym = id.0; ctxt = id.1 }) zs ≡ true
+bound-among zs id [] h e = absurd (true-false e refl)
+bound-among zs id (x ∷ xs) h e = go (same_id x.id id && x.declares) refl (bound-among zs id xs (All-tail (Declared zs) x xs h)) e
+  where
+    go : (b : Bool) → same_id x.id id && x.declares ≡ b → (is_bound xs id ≡ true → is_among (record { sym = id.0; ctxt = id.1 }) zs ≡ true) → b || is_bound xs id ≡ true → is_among (record { sym = id.0; ctxt = id.1 }) zs ≡ true
+    go true is rec e =
+        subst (λ z. is_among (record { sym = z.0; ctxt = z.1 }) zs ≡ true) (id-same x.id id (and-left (same_id x.id id) x.declares is)) (All-head (Declared zs) x xs h (and-right (same_id x.id id) x.declares is))
+    go false is rec e = rec e
+
+pub bindings_are_declared : BindingsAreDeclared
+bindings_are_declared tree h p id e =
+    sub-same (cover tree false) (declared tree) (append-nil (declared tree)) (record { sym = id.0; ctxt = id.1 })
+    (bound-among (cover tree false) id (sights tree) (found tree nowhere false (one sort.Module) (λ f. f) h p) e)
