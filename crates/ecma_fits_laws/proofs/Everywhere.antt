@@ -1,16 +1,15 @@
 -- What holds of all kinds of a raw tree, and of those that finishing makes, holds of all kinds of the finished tree.
-use Rattle.std.proofs.Common.{◌≡◌, ℕ, suc, false, List, [], ◌∷◌, ◌++◌, map, refl, sym, subst}
+use Rattle.std.proofs.Common.{ℕ, suc, false, List, [], ◌∷◌, ◌++◌, map, sym, subst}
 use Rattle.ecma_kind.specs.declared.span.Span.{Span}
 use Rattle.ecma_kind.specs.declared.operators.AssignOp.{AssignOp}
 use Rattle.ecma_kind.specs.declared.operators.AssignOp.TheVariants.{Assign}
 use Rattle.ecma_kind.specs.declared.kind.Kind.{Kind}
 use Rattle.ecma_kind.specs.declared.kind.Kind.TheVariants as kind
 use Rattle.ecma_tree.specs.declared.node.Node.{Node, Node-F, ind-Node, out-Node, roll-Node}
-use Rattle.ecma_tree.specs.declared.node.Node.TheViews.{out-roll-Node}
-use Rattle.ecma_tree.specs.Nodes.{absent, dummy_span, node_of}
+use Rattle.ecma_tree.specs.Nodes.{absent, dummy_span}
 use Rattle.ecma_rules.specs.declared.target.Target.{Target}
 use Rattle.ecma_rules.specs.declared.target.Target.TheVariants as target
-use Rattle.ecma_rules.specs.Finishing.{binding, default_by, each_in, element_by, finished_at, finished_by, left_by, name_by, part_by, property_by, shorthand, with_kind, with_type}
+use Rattle.ecma_rules.specs.Finishing.{binding, default_by, each_in, element_by, finished_at, finished_by, left_by, name_by, part_by, property_by, shorthand, with_type}
 use Rattle.ecma_rules.specs.Targets.{target_in}
 use Rattle.ecma_spelling.specs.Everywhere.{Each, Everywhere, more, none}
 use Rattle.ecma_spelling.proofs.Trees.{children_good, each_append, good_node, kind_good}

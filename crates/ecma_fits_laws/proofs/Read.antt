@@ -4,7 +4,7 @@ use Rattle.std.specs.Str.{IsUtf8}
 use Rattle.ecma_kind.specs.declared.kind.Kind.{Kind}
 use Rattle.ecma_kind.specs.declared.kind.Kind.TheVariants as kind
 use Rattle.ecma_kind.specs.declared.shapes.Sort.TheVariants as sort
-use Rattle.ecma_tree.specs.declared.node.Node.{Node, Node-F, ind-Node, out-Node, roll-Node}
+use Rattle.ecma_tree.specs.declared.node.Node.{Node, Node-F, ind-Node, roll-Node}
 use Rattle.ecma_tree.specs.Sorted.{HasSort}
 use Rattle.ecma_grammar.specs.declared.modules.RawError.{RawError}
 use Rattle.ecma_grammar.specs.declared.production.Mode.{Mode}
@@ -16,7 +16,7 @@ use Rattle.ecma_grammar.specs.trees.Others.{the_one}
 use Rattle.ecma_grammar.specs.trees.Parts.{framed}
 use Rattle.ecma_rules.specs.declared.target.Target.TheVariants as target
 use Rattle.ecma_rules.specs.Children.{kind_of}
-use Rattle.ecma_rules.specs.Failing.{failing_here, failing_step, first_failing, least, least_from}
+use Rattle.ecma_rules.specs.Failing.{failing_here, failing_step, first_failing, least_from}
 use Rattle.ecma_rules.specs.Finishing.{finished}
 use Rattle.ecma_rules.specs.Rules.{first_broken}
 use Rattle.ecma_rules.proofs.Layers.{from_leaves-roll}
@@ -36,7 +36,6 @@ use Rattle.ecma_fits_laws.proofs.Everywhere.{finished_good}
 use Rattle.ecma_fits_laws.proofs.ReadLeaves.{Told, leaf_told}
 use Rattle.ecma_fits_laws.proofs.ReadingOf.{read_holds}
 use Rattle.ecma_fits_laws.proofs.Rules.{children_made, keeps_rules}
-use Rattle.ecma_fits_laws.proofs.Standing.{kind_made}
 use Rattle.ecma_fits_laws.proofs.Strays.{no_strays}
 use Rattle.ecma_fits_laws.proofs.Walks.{both_none, not_true, shifted}
 

@@ -1,5 +1,5 @@
 -- The digits of a BigInt that is read.
-use Rattle.std.proofs.Common.{◌≡◌, ◌∙◌, ℕ, zero, suc, ◌+◌, ◌-◌, ◌<◌, Bool, true, false, ◌&&◌, cond, List, [], ◌∷◌, ◌++◌, filter, length, take, drop, nat_le, nat_lt, get_or, refl, sym, ap, subst, arith, Some, bytes_eq}
+use Rattle.std.proofs.Common.{◌≡◌, ◌∙◌, ℕ, zero, suc, ◌+◌, ◌-◌, ◌<◌, Bool, true, false, cond, List, [], ◌∷◌, filter, length, take, drop, nat_le, refl, sym, ap, arith, Some, bytes_eq}
 use Rattle.std.specs.List.{list_all}
 use Rattle.std.specs.Str.{IsAscii, IsUtf8, chars, encode_utf8_all}
 use Rattle.std.proofs.lemmas.Bool.{and_parts}
@@ -9,7 +9,7 @@ use Rattle.std.proofs.lemmas.Str.{IsAscii-take, IsUtf8-from_ascii, chars-IsAscii
 use Rattle.ecma_number.proofs.NumericLiterals.{is_plain}
 use Rattle.ecma_number.specs.Numeral.{IsBigIntLiteral}
 use Rattle.ecma_lex.specs.Numerals.{big_end}
-use Rattle.ecma_lex.specs.Text.{cuts, piece}
+use Rattle.ecma_lex.specs.Text.{piece}
 use Rattle.ecma_lex.proofs.NumeralTokens.{big_end_literal, literal_piece}
 use Rattle.ecma_lex.proofs.Spelled.{alone, zero_add}
 use Rattle.ecma_lex.proofs.Steps.{ascii_cuts}

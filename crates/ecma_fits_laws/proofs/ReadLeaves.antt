@@ -1,15 +1,13 @@
 -- The leaves that are read are spelled as their terminals read them, by themselves.
-use Rattle.std.proofs.Common.{◌≡◌, ◌∙◌, ℕ, ◌+◌, ◌-◌, ◌<◌, ◌≤◌, Bool, true, false, not, ◌&&◌, cond, List, [], ◌∷◌, ◌++◌, codes, length, max, nat_eq, nat_lt, refl, sym, ap, subst, arith, bytes_eq, Option, Some, None, ℤ, pos, negsuc}
+use Rattle.std.proofs.Common.{◌≡◌, ◌∙◌, ℕ, ◌+◌, ◌-◌, ◌<◌, ◌≤◌, Bool, true, false, not, ◌&&◌, cond, List, [], ◌++◌, codes, length, max, nat_eq, nat_lt, refl, sym, ap, subst, arith, bytes_eq, Option, Some, None, ℤ, pos, negsuc}
 use Rattle.std.specs.Prelude.{option_and_then}
 use Rattle.std.specs.Char.{len_utf8}
 use Rattle.std.specs.Str.{IsUtf8, chars}
 use Rattle.std.specs.Int.RustNames.{int_lt, unsigned_abs}
 use Rattle.std.proofs.lemmas.Bool.Decides.{Decides-eqb}
-use Rattle.std.proofs.lemmas.List.{append-nil}
 use Rattle.std.proofs.lemmas.Slice.Eq.{bytes_eq-Decides}
-use Rattle.ecma_number.specs.declared.js_number.JsNumber.{JsNumber}
-use Rattle.ecma_number.specs.declared.js_number.JsNumber.TheVariants.{Whole, NegZero, NaN, Infinity, NegInfinity}
-use Rattle.ecma_number.specs.JsNumber.{signed_whole_of, whole_of}
+use Rattle.ecma_number.specs.declared.js_number.JsNumber.TheVariants.{Whole}
+use Rattle.ecma_number.specs.JsNumber.{whole_of}
 use Rattle.ecma_number.specs.SafeInt.{is_safe}
 use Rattle.ecma_number.specs.Numeral.{MathematicalValue, number_of, numeral_of, numeric_literal, signed_number_of, whole_text, whole_value}
 use Rattle.ecma_lex.specs.declared.blanks.Skipped.{Skipped}
@@ -27,7 +25,7 @@ use Rattle.ecma_lex.proofs.NumeralReading.{num_alone, num_spelled}
 use Rattle.ecma_lex.proofs.Quoted.{string_alone, string_long, string_spelled, string_standing}
 use Rattle.ecma_lex.proofs.Spelled.{alone, key_alone, key_spelled, name_key, word_key}
 use Rattle.ecma_lex.proofs.Suffixes.{piece_inside}
-use Rattle.ecma_tokens.specs.Good.{IsGap, IsToken, Stops, Whole as IsWholeToken}
+use Rattle.ecma_tokens.specs.Good.{IsToken, Stops, Whole as IsWholeToken}
 use Rattle.ecma_tokens.specs.Items.{Tok, big_int as big_token, key as key_token, no_gap, number as number_token, string as string_token, token_text}
 use Rattle.ecma_tokens.proofs.Gaps.{skipped_gap}
 use Rattle.ecma_tokens.proofs.Wholes.{quiet}
@@ -38,7 +36,7 @@ use Rattle.ecma_grammar.specs.declared.production.Leaf.{Leaf}
 use Rattle.ecma_grammar.specs.declared.production.Leaf.TheVariants as leaf
 use Rattle.ecma_grammar.specs.declared.production.TokenKind.TheVariants as token_kind
 use Rattle.ecma_grammar.specs.Made.{at_token}
-use Rattle.ecma_grammar.specs.Reading.{Outcome, Position, Reading, fails, pure, read, terminal_on, then_on, too_deep, ◌>>=◌}
+use Rattle.ecma_grammar.specs.Reading.{Position, Reading, pure, terminal_on, ◌>>=◌}
 use Rattle.ecma_grammar.specs.Reads.{any_token, leaf_node, regex_token, template_part, without_separators, word_token}
 use Rattle.ecma_spelling.specs.Everywhere.{Everywhere, none}
 use Rattle.ecma_spelling.proofs.Leaves.{Holds, holds_fails, holds_read, holds_then}
