@@ -17,12 +17,13 @@ use Rattle.ecma_grammar.specs.productions.Modules.{import_equals, from, export_s
 use Rattle.ecma_print.specs.Statements.{keyword}
 use Rattle.ecma_tokens.specs.Items as items
 use Rattle.ecma_tokens.specs.Items.{sign, Gap, Items, it}
+use Rattle.ecma_reread.proofs.Classes.{class_declaration_read}
 use Rattle.ecma_reread.specs.Machine.{fails, built_on, with_front, or_on, interp, means}
 use Rattle.ecma_reread.specs.Shapes as shapes
 use Rattle.ecma_reread.specs.Shapes.{IsExpression, Ending, IsStatement}
 use Rattle.ecma_reread.specs.Modules as modules
 use Rattle.ecma_reread.specs.Modules.{IsString, IsExportName, IsWithClause, IsNamedExport, AreNamedExports, IsExportClause, is_declaration}
-use Rattle.ecma_reread.specs.Tokens.{blank, sign_of, statement_tokens, ident_word, function_word}
+use Rattle.ecma_reread.specs.Tokens.{blank, sign_of, statement_tokens, ident_word, function_word, closing_gap}
 use Rattle.ecma_reread.specs.Bare.{bare, bare_statement}
 use Rattle.ecma_reread.specs.ModuleTokens.{spaced, spaced_word, spaced_sign, export_name_token, from_tokens, named_export_tokens, more_exports_tokens, export_clause_tokens, bare_string, bare_export_name, bare_with, bare_named_export, bare_named_exports, bare_export_clause}
 use Rattle.ecma_reread.proofs.Moves.{eats}
@@ -31,7 +32,7 @@ use Rattle.ecma_reread.proofs.Towers.{without, skipped}
 use Rattle.ecma_reread.proofs.Forms.{Reads, Refuses}
 use Rattle.ecma_reread.proofs.Repeats.{Repeats, repeats_end, repeats_more, repeated}
 use Rattle.ecma_reread.proofs.Variables.{declaration_read}
-use Rattle.ecma_reread.proofs.StatementForms.{declarator_form, declarator_forms, block_form}
+use Rattle.ecma_reread.proofs.StatementForms.{declarator_form, declarator_forms, block_form, member_forms, heritage_form}
 use Rattle.ecma_reread.proofs.Functions.{function_declaration_read}
 use Rattle.ecma_reread.proofs.Calls.{ident_free, argument_forms}
 use Rattle.ecma_reread.proofs.Sources.{from_read}
@@ -189,4 +190,7 @@ module _ (assigned : Bool) where
       declaration_item g _ _ us (keyword_declared k _) (declaration_read assigned k d ds (declarator_form assigned d) (declarator_forms assigned ds) blank us)
   export_declaration_read (shapes.function_statement at i (shapes.function_of at' at'' x y ps w b a a')) z g us =
       declaration_item g _ _ us (function_declared x y _) (function_declaration_read assigned ps (argument_forms assigned ps) (block_form assigned b 0) x y (ident_word i) (ident_free assigned i) blank us)
+  export_declaration_read (shapes.class_statement at i (shapes.class_of at' at'' at''' {ms = ms'} h ms a a')) z g us =
+      declaration_item g _ _ us (record { no_import = refl; no_default_word = refl; no_brace = refl; no_asterisk = refl; no_equals = refl })
+      (class_declaration_read assigned (member_forms assigned ms 1) (closing_gap ms' 0) h (heritage_form assigned h) (ident_word i) (ident_free assigned i) blank us)
   export_declaration_read is z g us = absurd (false≢true z)

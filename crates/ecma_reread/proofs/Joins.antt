@@ -136,6 +136,9 @@ pub record Words : Type 0 where
   pub with_whole : IsToken key_end (codes "with")
   pub in_whole : IsToken key_end (codes "in")
   pub instanceof_whole : IsToken key_end (codes "instanceof")
+  pub class_whole : IsToken key_end (codes "class")
+  pub extends_whole : IsToken key_end (codes "extends")
+  pub static_whole : IsToken key_end (codes "static")
   pub function_whole : IsToken key_end (codes "function")
 
 module _ (words : Words) where

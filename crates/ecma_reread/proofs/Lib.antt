@@ -50,6 +50,7 @@ pub mod Variables
 pub mod Jumps
 pub mod Blocks
 pub mod Functions
+pub mod Classes
 pub mod Branches
 pub mod Loops
 pub mod Labels

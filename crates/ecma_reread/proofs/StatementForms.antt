@@ -1,11 +1,12 @@
 -- Statements by their shape.
 use Rattle.std.proofs.Common.{ℕ, suc, Bool, true, false, List, ap, codes, sym, ◌∙◌}
 use Rattle.ecma_tree.specs.declared.node.Node.{Node}
+use Rattle.ecma_reread.proofs.Classes.{ReadAsMember, ReadAsMembers, no_members_form, more_members_form, static_block_form, HeritageForm, class_form}
 use Rattle.ecma_reread.specs.Machine.{taken}
 use Rattle.ecma_reread.specs.Shapes as shapes
-use Rattle.ecma_reread.specs.Shapes.{IsInitializer, IsDeclarator, AreDeclarators, Ending, IsStatement, IsBlock, IsCase, AreCases, IsCatch, AreStatements, IsOptional, IsForDeclarator, AreForDeclarators, IsForInit, IsForLeft}
-use Rattle.ecma_reread.specs.Tokens.{line_at, ident_word, closing_gap, is_braced, branch_gap, statement_tokens, block_tokens, case_tokens, cases_tokens, catch_tokens, lined_tokens, as_declarator, as_declarators, for_left_tokens}
-use Rattle.ecma_reread.specs.Bare.{bare_statement, bare_block, bare_case, bare_cases, bare_catch, bare_statements, bare_for_left}
+use Rattle.ecma_reread.specs.Shapes.{IsInitializer, IsDeclarator, AreDeclarators, Ending, IsStatement, IsBlock, IsCase, AreCases, IsCatch, AreStatements, IsOptional, IsForDeclarator, AreForDeclarators, IsForInit, IsForLeft, IsHeritage, IsMember, AreMembers}
+use Rattle.ecma_reread.specs.Tokens.{line_at, ident_word, closing_gap, is_braced, branch_gap, statement_tokens, block_tokens, case_tokens, cases_tokens, catch_tokens, lined_tokens, as_declarator, as_declarators, for_left_tokens, member_tokens, members_tokens}
+use Rattle.ecma_reread.specs.Bare.{bare_statement, bare_block, bare_case, bare_cases, bare_catch, bare_statements, bare_for_left, bare_member, bare_members}
 use Rattle.ecma_reread.proofs.Bindings.{standing}
 use Rattle.ecma_reread.proofs.Beginnings.{no_new_line, no_brace}
 use Rattle.ecma_reread.proofs.Calls.{ident_free, argument_forms, expression_form, pattern_form, initializer_form}
@@ -56,6 +57,10 @@ module _ (assigned : Bool) where
   of_form (shapes.for_binding at at' at'' k p a) = binding_left assigned (codes "of") k p (pattern_form assigned p)
   of_form (shapes.for_target e z) = of_left assigned (expression_form assigned e) (head_form assigned e z)
 
+  pub heritage_form : {n : Node} (is : IsHeritage n) → HeritageForm assigned is
+  heritage_form (shapes.no_heritage a) = tt
+  heritage_form (shapes.heritage e) = expression_form assigned e
+
   mutual
     pub statement_form : {ending : Ending} {n : Node} (is : IsStatement ending n) (d : ℕ) → ReadAsStatement assigned ending (statement_tokens is d) (bare_statement is)
     statement_form (shapes.empty at) d = empty_form assigned
@@ -84,6 +89,14 @@ module _ (assigned : Bool) where
     statement_form (shapes.for_of at false l e b) d = for_of_form assigned (statement_form b d) (of_form l) (expression_form assigned e)
     statement_form (shapes.labeled at i b) d = labeled_form assigned (ident_word i) (ident_free assigned i) (standing assigned (expression_form assigned (shapes.name i))) (statement_form b d)
     statement_form (shapes.function_statement at i (shapes.function_of at' at'' x y ps w b a a')) d = function_form assigned ps (argument_forms assigned ps) (block_form b d) x y (ident_word i) (ident_free assigned i)
+    statement_form (shapes.class_statement at i (shapes.class_of at' at'' at''' {ms = ms'} h ms a a')) d = class_form assigned (member_forms ms (suc d)) (closing_gap ms' d) h (heritage_form h) (ident_word i) (ident_free assigned i)
+
+    member_form_of : {n : Node} (is : IsMember n) (d : ℕ) → ReadAsMember assigned (member_tokens is d) (bare_member is)
+    member_form_of (shapes.static_block at b) d = static_block_form assigned (block_form b d)
+
+    pub member_forms : {ns : List Node} (is : AreMembers ns) (d : ℕ) → ReadAsMembers assigned (members_tokens is d) (bare_members is)
+    member_forms shapes.no_members d = no_members_form assigned
+    member_forms (shapes.more_members m ms) d = more_members_form assigned (member_form_of m d) (member_forms ms d) (line_at d)
 
     pub block_form : {n : Node} (is : IsBlock n) (d : ℕ) → ReadAsBlock assigned (block_tokens is d) (bare_block is)
     block_form (shapes.block_of at at' {ss = ss'} ss) d = braces_form assigned (statement_forms ss (suc d)) (closing_gap ss' d)

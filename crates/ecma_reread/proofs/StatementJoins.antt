@@ -13,8 +13,8 @@ use Rattle.ecma_tokens.specs.Items.{Tok, sign, Gap, no_gap, Items, it}
 use Rattle.ecma_tokens.specs.Good.{IsGap, IsToken, is_gap_character}
 use Rattle.ecma_tokens.specs.Joins.{joins, joins_next, Joined}
 use Rattle.ecma_reread.specs.Shapes as shapes
-use Rattle.ecma_reread.specs.Shapes.{Level, IsExpression, Ending, IsStatement, IsBlock, IsCase, AreCases, IsCatch, AreStatements, IsOptional, IsForLeft, IsForInit, IsPattern, IsFunction}
-use Rattle.ecma_reread.specs.Tokens.{margin, line_at, blank, sign_of, expression_tokens, ident_word, declarators_tokens, closing_gap, is_braced, branch_gap, test_tokens, statement_tokens, block_tokens, case_tokens, cases_tokens, catch_tokens, lined_tokens, optional_tokens, for_left_tokens, for_tokens, initializer_tokens, as_declarators, for_init_tokens, pattern_tokens, arguments_tokens, function_word, is_generator, is_async, function_tokens}
+use Rattle.ecma_reread.specs.Shapes.{Level, IsExpression, Ending, IsStatement, IsBlock, IsCase, AreCases, IsCatch, AreStatements, IsOptional, IsForLeft, IsForInit, IsPattern, IsFunction, IsHeritage, IsClass, IsMember, AreMembers}
+use Rattle.ecma_reread.specs.Tokens.{margin, line_at, blank, sign_of, expression_tokens, ident_word, declarators_tokens, closing_gap, is_braced, branch_gap, test_tokens, statement_tokens, block_tokens, case_tokens, cases_tokens, catch_tokens, lined_tokens, optional_tokens, for_left_tokens, for_tokens, initializer_tokens, as_declarators, for_init_tokens, pattern_tokens, arguments_tokens, function_word, is_generator, is_async, function_tokens, heritage_tokens, class_tokens, member_tokens, members_tokens}
 use Rattle.ecma_reread.proofs.Softs.{closing, semicolon, colon, Soft, is_object, parted}
 use Rattle.ecma_reread.proofs.Beginnings.{pattern_blank_joins, begun, blank_joins, opening_joins}
 use Rattle.ecma_reread.proofs.Joins.{ident_whole, no_gap_is, blank_is, Words, expression_joined, declarators_soft, declarator_joined, declarators_joined, pattern_joined, arguments_joined}
@@ -75,6 +75,7 @@ statement_apart (shapes.for_in at l e b) d g w us t = w t (items.key (codes "for
 statement_apart (shapes.for_of at true l e b) d g w us t = w t (items.key (codes "for"))
 statement_apart (shapes.for_of at false l e b) d g w us t = w t (items.key (codes "for"))
 statement_apart (shapes.function_statement at i f) d g w us t = function_word_apart (is_generator f) (is_async f) g w _ t
+statement_apart (shapes.class_statement at i c) d g w us t = w t (items.key (codes "class"))
 statement_apart (shapes.labeled at i b) d g w us t = w t (items.key (ident_word i))
 
 lined_apart : {ss : List Node} (is : AreStatements ss) (d : ℕ) (us : Items) (t : Tok) → joins_next t us ≡ true → joins_next t (lined_tokens is d us) ≡ true
@@ -114,6 +115,24 @@ pattern_opening : {n : Node} (is : IsPattern n) (us : Items) → joins_next (sig
 unfolding punctuators
 pattern_opening (shapes.name_pattern at i a) us = refl
 pattern_opening is us = refl
+
+member_apart : {n : Node} (is : IsMember n) (d : ℕ) (g : Gap) → Wide g → (us : Items) → Apart (member_tokens is d g us)
+member_apart (shapes.static_block at b) d g w us t = w t (items.key (codes "static"))
+
+members_apart : {ns : List Node} (is : AreMembers ns) (d : ℕ) (us : Items) (t : Tok) → joins_next t us ≡ true → joins_next t (members_tokens is d us) ≡ true
+members_apart shapes.no_members d us t a = a
+members_apart (shapes.more_members m ms) d us t a = member_apart m d (line_at d) (line_wide d) (members_tokens ms d us) t
+
+members_empty : {ns : List Node} (is : AreMembers ns) (d : ℕ) (us : Items) → ns ≡ [] → members_tokens is d us ≡ us
+members_empty shapes.no_members d us e = refl
+members_empty (shapes.more_members m ms) d us e = cc
+
+heritage_apart : {n : Node} (is : IsHeritage n) (t : Tok) (us : Items) → Apart (heritage_tokens is (it blank t us))
+heritage_apart (shapes.no_heritage a) t us u = refl
+heritage_apart (shapes.heritage e) t us u = refl
+
+class_apart : {n : Node} (is : IsClass n) (d : ℕ) (us : Items) → Apart (class_tokens is d us)
+class_apart (shapes.class_of at at' at'' h ms a a') d us t = heritage_apart h (sign (codes "{")) _ t
 
 -- a word, or `*`, may stand in front of parameters, and of a name
 pub function_opens : {n : Node} (is : IsFunction n) (d : ℕ) (us : Items) (w : Tok) → joins_next w (sign_of (codes "(") us) ≡ true → joins_next w (function_tokens is d us) ≡ true
@@ -186,6 +205,10 @@ module _ (words : Words) where
   function_word_joined false true g h us a b j = (h, words.async_whole, refl, (blank_is, words.function_whole, a, j))
   function_word_joined false false g h us a b j = (h, words.function_whole, a, j)
 
+  heritage_joined : {n : Node} (is : IsHeritage n) (t : Tok) (us : Items) → Joined (it blank t us) → Joined (heritage_tokens is (it blank t us))
+  heritage_joined (shapes.no_heritage a) t us j = j
+  heritage_joined (shapes.heritage e) t us j = (blank_is, words.extends_whole, blank_joins (items.key (codes "extends")) e (it blank t us), expression_joined words e blank blank_is (it blank t us) parted j)
+
   finally_joined : {n : Node} (is : IsBlock n) (d : ℕ) (us : Items) → Joined (block_tokens is d blank us) → Joined (it blank (items.key (codes "finally")) (block_tokens is d blank us))
   finally_joined is d us j = (blank_is, words.finally_whole, block_apart is d blank blank_wide us (items.key (codes "finally")), j)
 
@@ -257,6 +280,21 @@ module _ (words : Words) where
     statement_joined (shapes.function_statement at i f) d g h us a j =
         let fs = function_tokens f d us in
         function_word_joined (is_generator f) (is_async f) g h (it blank (items.key (ident_word i)) fs) refl refl (blank_is, ident_whole i, function_opens f d us (items.key (ident_word i)) refl, function_joined f d us a j)
+    statement_joined (shapes.class_statement at i c) d g h us a j =
+        (h, words.class_whole, refl, (blank_is, ident_whole i, class_apart c d us (items.key (ident_word i)), class_joined c d us a j))
+
+    -- heritage and members
+    class_joined : {n : Node} (is : IsClass n) (d : ℕ) (us : Items) → Apart us → Joined us → Joined (class_tokens is d us)
+    class_joined (shapes.class_of at at' at'' {ms = ms'} h ms n n') d us a j =
+        heritage_joined h (sign (codes "{")) _
+        (braces_joined ms' d (members_tokens ms (suc d)) (λ vs e. members_empty ms (suc d) vs e) (λ vs b. members_apart ms (suc d) vs (sign (codes "{")) (b (sign (codes "{")))) (members_joined ms (suc d)) blank blank_is us a j)
+
+    member_joined : {n : Node} (is : IsMember n) (d : ℕ) (g : Gap) → IsGap g → (us : Items) → Apart us → Joined us → Joined (member_tokens is d g us)
+    member_joined (shapes.static_block at b) d g h us a j = (h, words.static_whole, block_apart b d blank blank_wide us (items.key (codes "static")), block_joined b d blank blank_is us a j)
+
+    members_joined : {ns : List Node} (is : AreMembers ns) (d : ℕ) (us : Items) → Apart us → Joined us → Joined (members_tokens is d us)
+    members_joined shapes.no_members d us a j = j
+    members_joined (shapes.more_members m ms) d us a j = member_joined m d (line_at d) (line_is d) (members_tokens ms d us) (λ t. members_apart ms d us t (a t)) (members_joined ms d us a j)
 
     -- parameters and body
     pub function_joined : {n : Node} (is : IsFunction n) (d : ℕ) (us : Items) → Apart us → Joined us → Joined (function_tokens is d us)

@@ -10,7 +10,7 @@ use Rattle.ecma_tree.specs.Nodes.{node_of}
 use Rattle.ecma_print.specs.declared.place.Begins.TheVariants.{StatementStart, Anywhere}
 use Rattle.ecma_print.specs.declared.place.Beside.TheVariants.{NoNeighbor}
 use Rattle.ecma_print.specs.declared.place.Between.{Between}
-use Rattle.ecma_print.specs.declared.place.Between.TheVariants.{Blank, Finally, Else, LineElse, Parentheses, Equals}
+use Rattle.ecma_print.specs.declared.place.Between.TheVariants.{Blank, Finally, Else, LineElse, Parentheses, Equals, Extends}
 use Rattle.ecma_print.specs.declared.place.Spot.{Spot}
 use Rattle.ecma_print.specs.declared.place.Place.TheVariants.{At, Within, Deeper, Block, Commas, Arguments, FunctionHead}
 use Rattle.ecma_print.specs.Places.{before, after, free, beginning, right}
@@ -22,10 +22,10 @@ use Rattle.ecma_print.specs.Layout.{in_place, lay_step, laid}
 use Rattle.ecma_tokens.specs.Items as items
 use Rattle.ecma_tokens.specs.Items.{sign, Gap, no_gap, Items, it, render}
 use Rattle.ecma_reread.specs.Shapes as shapes
-use Rattle.ecma_reread.specs.Shapes.{Level, IsExpression, IsDeclarator, AreDeclarators, Ending, IsStatement, IsBlock, IsCase, AreCases, IsCatch, AreStatements, IsOptional, IsForLeft, IsInitializer, IsForDeclarator, AreForDeclarators, IsForInit, IsPattern, AreParams, IsFunction, IsFunctionName, IsIdent}
-use Rattle.ecma_reread.specs.Tokens.{margin, line_at, blank, sign_of, expression_tokens, declarator_tokens, declarators_tokens, closing_gap, is_braced, branch_gap, test_tokens, statement_tokens, block_tokens, case_tokens, cases_tokens, catch_tokens, lined_tokens, optional_tokens, for_left_tokens, for_tokens, initializer_tokens, as_declarator, as_declarators, for_init_tokens, arguments_tokens, function_word, is_generator, is_async, function_tokens, function_name_tokens, ident_word}
+use Rattle.ecma_reread.specs.Shapes.{Level, IsExpression, IsDeclarator, AreDeclarators, Ending, IsStatement, IsBlock, IsCase, AreCases, IsCatch, AreStatements, IsOptional, IsForLeft, IsInitializer, IsForDeclarator, AreForDeclarators, IsForInit, IsPattern, AreParams, IsFunction, IsFunctionName, IsIdent, IsHeritage, IsClass, IsMember, AreMembers}
+use Rattle.ecma_reread.specs.Tokens.{margin, line_at, blank, sign_of, expression_tokens, declarator_tokens, declarators_tokens, closing_gap, is_braced, branch_gap, test_tokens, statement_tokens, block_tokens, case_tokens, cases_tokens, catch_tokens, lined_tokens, optional_tokens, for_left_tokens, for_tokens, initializer_tokens, as_declarator, as_declarators, for_init_tokens, arguments_tokens, function_word, is_generator, is_async, function_tokens, function_name_tokens, ident_word, heritage_tokens, class_tokens, member_tokens, members_tokens}
 use Rattle.ecma_reread.proofs.Layouts.{laid_node, at_node, gap_out, expression_laid, within_laid, arguments_laid, declarator_laid, more_declarators_laid, pattern_laid, pattern_gap_out}
-use Rattle.ecma_reread.proofs.Spots.{calm_start, calm_0, calm_1}
+use Rattle.ecma_reread.proofs.Spots.{calm_start, calm_0, calm_1, quiet}
 use Rattle.ecma_reread.proofs.HeadLayouts.{head_laid}
 use Rattle.ecma_reread.specs.Heads.{may_hold_in}
 use Rattle.ecma_reread.proofs.Braces.{braces_agree}
@@ -182,6 +182,7 @@ statement_seen (shapes.for_loop at a t u b) = seen at _ _ false refl refl
 statement_seen (shapes.for_in at l e b) = seen at _ _ false refl refl
 statement_seen (shapes.for_of at w l e b) = seen at _ _ false refl refl
 statement_seen (shapes.function_statement at i f) = seen at _ _ false refl refl
+statement_seen (shapes.class_statement at i c) = seen at _ _ false refl refl
 statement_seen (shapes.labeled at i b) = seen at _ _ false refl refl
 
 -- the parameters of a function are laid out as the patterns in them
@@ -199,6 +200,13 @@ params_laid at (shapes.more_params at' {p = p} {ps = es} {ns = ps} is) m rest =
     at_node at kind.List (node_of at' kind.Param (p ∷ []) ∷ ps) Arguments m rest
     ∙ (ap (λ z. codes "(" ++ (laid (node_of at' kind.Param (p ∷ []))).at (At (free 1)) m z) (more_params_laid is m (codes ")" ++ rest))
     ∙ (ap (λ z. codes "(" ++ z) (param_laid at' p m (more_commas (free 1) (map laid es) m (codes ")" ++ rest))) ∙ sym (at_node at kind.List (p ∷ es) Arguments m rest)))
+
+-- what a class extends
+heritage_laid : {n : Node} (is : IsHeritage n) (m : List ℕ) (us : Items) → (laid n).at (Within Extends (free 16)) m (render us) ≡ render (heritage_tokens is us)
+unfolding render
+heritage_laid (shapes.no_heritage (shapes.absent at)) m us = at_node at kind.Absent [] (Within Extends (free 16)) m (render us)
+heritage_laid (shapes.heritage e) m us =
+    within_laid e Extends (free 16) m (render us) ∙ (ap (λ z. codes " extends " ++ z) (expression_laid e (free 16) (quiet refl refl refl refl) refl m us) ∙ ap (λ z. codes " extends" ++ z) (sym (gap_out e blank us)))
 
 pub function_head_laid : {n : Node} (is : IsFunction n) (m rest : List ℕ) → (laid n).at FunctionHead m rest ≡ function_head (kind.Function (is_generator is) (is_async is)) ++ rest
 function_head_laid (shapes.function_of at of_params x y {params = ps'} {body = b'} {none = n'} {none' = n''} ps ws b a a') m rest = at_node at (kind.Function x y) (node_of of_params kind.List ps' ∷ b' ∷ n' ∷ n'' ∷ []) FunctionHead m rest
@@ -393,6 +401,30 @@ mutual
       (sym (at_node at (kind.FnDecl false) (id' ∷ f' ∷ []) (At (free 0)) m (render us)
       ∙ (function_head_laid f m ((laid id').at (Within Blank (free 1)) m ((laid f').at (At (free 1)) m (render us)))
       ∙ ap (λ z. function_head (kind.Function x y) ++ z) (ap (λ z. (laid id').at (Within Blank (free 1)) m z) (function_laid f d us) ∙ blank_name_laid i m fs))))
+  statement_laid (shapes.class_statement at {id = id'} {class = c'} i c) d g us =
+      let m = margin d in
+      let cs = class_tokens c d us in
+      ap (λ z. g.blanks ++ z)
+      (sym (at_node at (kind.ClassDecl false) (id' ∷ c' ∷ []) (At (free 0)) m (render us)
+      ∙ ap (λ z. codes "class" ++ z) (ap (λ z. (laid id').at (Within Blank (free 1)) m z) (class_laid c d us) ∙ blank_name_laid i m cs)))
+
+  -- heritage and members
+  class_laid : {n : Node} (is : IsClass n) (d : ℕ) (us : Items) → (laid n).at (At (free 1)) (margin d) (render us) ≡ render (class_tokens is d us)
+  class_laid (shapes.class_of at at' at'' {super = s'} {none = n'} {none' = n''} {ms = ms'} h ms a a') d us =
+      let m = margin d in
+      at_node at (kind.Class false) (s' ∷ node_of at' kind.List ms' ∷ n' ∷ n'' ∷ node_of at'' kind.List [] ∷ []) (At (free 1)) m (render us)
+      ∙ (ap (λ z. (laid s').at (Within Extends (free 16)) m (codes " " ++ z)) (at_node at' kind.List ms' Block m (render us) ∙ in_braces ms' d (members_tokens ms (suc d)) (members_laid ms (suc d)) us)
+      ∙ heritage_laid h m (it blank (sign (codes "{")) (members_tokens ms (suc d) (it (closing_gap ms' d) (sign (codes "}")) us))))
+
+  member_laid : {n : Node} (is : IsMember n) (d : ℕ) (g : Gap) (us : Items) → render (member_tokens is d g us) ≡ g.blanks ++ (laid n).at (At (free 0)) (margin d) (render us)
+  member_laid (shapes.static_block at {b = b'} b) d g us =
+      let m = margin d in
+      ap (λ z. g.blanks ++ z)
+      (sym (at_node at kind.StaticBlock (b' ∷ []) (At (free 0)) m (render us) ∙ (ap (λ z. codes "static " ++ z) (block_again b m (render us)) ∙ ap (λ z. codes "static" ++ z) (block_laid b d blank us))))
+
+  members_laid : {ns : List Node} (is : AreMembers ns) (d : ℕ) (us : Items) → new_lines (map laid ns) (margin d) (render us) ≡ render (members_tokens is d us)
+  members_laid shapes.no_members d us = refl
+  members_laid (shapes.more_members {m = m'} m ms) d us = ap (λ z. codes "\n" ++ (margin d ++ (laid m').at (At (free 0)) (margin d) z)) (members_laid ms d us) ∙ sym (member_laid m d (line_at d) (members_tokens ms d us))
 
   -- parameters and body
   pub function_laid : {n : Node} (is : IsFunction n) (d : ℕ) (us : Items) → (laid n).at (At (free 1)) (margin d) (render us) ≡ render (function_tokens is d us)

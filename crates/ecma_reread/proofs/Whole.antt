@@ -8,9 +8,9 @@ use Rattle.ecma_tree.specs.Nodes.{absent, list_node, node_of, dummy_span}
 use Rattle.ecma_grammar.specs.trees.Parts.{children_of}
 use Rattle.ecma_tree.specs.Spans.{without_spans}
 use Rattle.ecma_reread.specs.Shapes as shapes
-use Rattle.ecma_reread.specs.Shapes.{Level, IsIdent, ident, IsKey, key, IsAbsent, IsExpression, IsElement, IsArguments, AreElements, AreExpressions, IsInitializer, IsDeclarator, AreDeclarators, Ending, IsStatement, IsBlock, AreStatements, AreSlots, IsCase, AreCases, IsCatch, IsChainKey, IsOptional, IsForLeft, IsPropertyName, IsProperty, AreProperties, Role, IsPattern, IsDefaulted, IsForInit, IsPart, AreParts, IsFunction, AreParams, IsFunctionName}
+use Rattle.ecma_reread.specs.Shapes.{Level, IsIdent, ident, IsKey, key, IsAbsent, IsExpression, IsElement, IsArguments, AreElements, AreExpressions, IsInitializer, IsDeclarator, AreDeclarators, Ending, IsStatement, IsBlock, AreStatements, AreSlots, IsCase, AreCases, IsCatch, IsChainKey, IsOptional, IsForLeft, IsPropertyName, IsProperty, AreProperties, Role, IsPattern, IsDefaulted, IsForInit, IsPart, AreParts, IsFunction, AreParams, IsFunctionName, IsHeritage, IsClass, IsMember, AreMembers}
 use Rattle.ecma_reread.specs.Tokens.{key_word, chain_kind, as_declarator, as_declarators}
-use Rattle.ecma_reread.specs.Bare.{bare, bare_ident, bare_expression, bare_element, bare_arguments, bare_elements, bare_expressions, bare_initializer, bare_declarator, bare_declarators, bare_statement, bare_block, bare_statements, bare_slots, bare_case, bare_cases, bare_catch, bare_optional, bare_for_left, bare_property_name, bare_property, bare_properties, bare_pattern, bare_defaulted, bare_for_init, bare_part, bare_parts, bare_substitutions, bare_params, bare_function, bare_function_name}
+use Rattle.ecma_reread.specs.Bare.{bare, bare_ident, bare_expression, bare_element, bare_arguments, bare_elements, bare_expressions, bare_initializer, bare_declarator, bare_declarators, bare_statement, bare_block, bare_statements, bare_slots, bare_case, bare_cases, bare_catch, bare_optional, bare_for_left, bare_property_name, bare_property, bare_properties, bare_pattern, bare_defaulted, bare_for_init, bare_part, bare_parts, bare_substitutions, bare_params, bare_function, bare_function_name, bare_heritage, bare_class, bare_member, bare_members}
 use Rattle.ecma_reread.proofs.Unplaced.{without_spans-node}
 use Rattle.ecma_reread.proofs.Heads.{children-node}
 
@@ -194,6 +194,10 @@ for_left_bare (shapes.for_binding at of_list at_declarator k p a) =
     (without_spans-node at_declarator (kind.VarDeclarator false) _ ∙ ap₂ (λ x y. bare (kind.VarDeclarator false) (x ∷ y ∷ [])) (pattern_bare p) (absent_bare a)))
 for_left_bare (shapes.for_target e z) = expression_bare e
 
+heritage_bare : {n : Node} (is : IsHeritage n) → without_spans n ≡ bare_heritage is
+heritage_bare (shapes.no_heritage a) = absent_bare a
+heritage_bare (shapes.heritage e) = expression_bare e
+
 pub function_name_bare : {n : Node} (is : IsFunctionName n) → without_spans n ≡ bare_function_name is
 function_name_bare (shapes.unnamed a) = absent_bare a
 function_name_bare (shapes.function_name i) = ident_bare i
@@ -253,6 +257,21 @@ mutual
       ∙ (ap₂ (λ x y. bare (kind.ForOfStmt w) (x ∷ y ∷ without_spans b' ∷ [])) (for_left_bare l) (expression_bare e) ∙ ap (λ z. bare (kind.ForOfStmt w) (bare_for_left l ∷ bare_expression e ∷ z ∷ [])) (statement_bare b))
   statement_bare (shapes.labeled at i b) = without_spans-node at kind.LabeledStmt _ ∙ ap₂ (λ x y. bare kind.LabeledStmt (x ∷ y ∷ [])) (ident_bare i) (statement_bare b)
   statement_bare (shapes.function_statement at i f) = without_spans-node at (kind.FnDecl false) _ ∙ ap₂ (λ z zs. bare (kind.FnDecl false) (z ∷ zs ∷ [])) (ident_bare i) (function_bare f)
+  statement_bare (shapes.class_statement at i c) = without_spans-node at (kind.ClassDecl false) _ ∙ ap₂ (λ z zs. bare (kind.ClassDecl false) (z ∷ zs ∷ [])) (ident_bare i) (class_bare c)
+
+  class_bare : {n : Node} (is : IsClass n) → without_spans n ≡ bare_class is
+  class_bare (shapes.class_of at at' at'' {none = n'} {none' = n''} h ms a a') =
+      without_spans-node at (kind.Class false) _
+      ∙ (ap₂ (λ x y. bare (kind.Class false) (x ∷ y ∷ without_spans n' ∷ without_spans n'' ∷ without_spans (node_of at'' kind.List []) ∷ [])) (heritage_bare h) (without_spans-node at' kind.List _ ∙ ap list_node (members_bare ms))
+      ∙ (ap₂ (λ x y. bare (kind.Class false) (bare_heritage h ∷ list_node (bare_members ms) ∷ x ∷ y ∷ without_spans (node_of at'' kind.List []) ∷ [])) (absent_bare a) (absent_bare a')
+      ∙ ap (λ x. bare (kind.Class false) (bare_heritage h ∷ list_node (bare_members ms) ∷ absent ∷ absent ∷ x ∷ [])) (without_spans-node at'' kind.List [])))
+
+  member_bare : {n : Node} (is : IsMember n) → without_spans n ≡ bare_member is
+  member_bare (shapes.static_block at b) = without_spans-node at kind.StaticBlock _ ∙ ap (λ x. bare kind.StaticBlock (x ∷ [])) (block_bare b)
+
+  members_bare : {ns : List Node} (is : AreMembers ns) → map without_spans ns ≡ bare_members is
+  members_bare shapes.no_members = refl
+  members_bare (shapes.more_members m ms) = ap₂ (λ x xs. x ∷ xs) (member_bare m) (members_bare ms)
 
   pub function_bare : {n : Node} (is : IsFunction n) → without_spans n ≡ bare_function is
   function_bare (shapes.function_of at at' x y {none = n'} {none' = n''} ps ws b a a') =

@@ -63,6 +63,18 @@ instanceof_spelled : Spelled IsKey (codes "instanceof")
 unfolding chars is_utf8 encode is_xid_start is_xid_continue in_ranges xid_start_ranges xid_continue_ranges
 instanceof_spelled = (IsUtf8-from_is_utf8 (codes "instanceof") refl, (refl, refl))
 
+class_spelled : Spelled IsKey (codes "class")
+unfolding chars is_utf8 encode is_xid_start is_xid_continue in_ranges xid_start_ranges xid_continue_ranges
+class_spelled = (IsUtf8-from_is_utf8 (codes "class") refl, (refl, refl))
+
+extends_spelled : Spelled IsKey (codes "extends")
+unfolding chars is_utf8 encode is_xid_start is_xid_continue in_ranges xid_start_ranges xid_continue_ranges
+extends_spelled = (IsUtf8-from_is_utf8 (codes "extends") refl, (refl, refl))
+
+static_spelled : Spelled IsKey (codes "static")
+unfolding chars is_utf8 encode is_xid_start is_xid_continue in_ranges xid_start_ranges xid_continue_ranges
+static_spelled = (IsUtf8-from_is_utf8 (codes "static") refl, (refl, refl))
+
 function_spelled : Spelled IsKey (codes "function")
 unfolding chars is_utf8 encode is_xid_start is_xid_continue in_ranges xid_start_ranges xid_continue_ranges
 function_spelled = (IsUtf8-from_is_utf8 (codes "function") refl, (refl, refl))
@@ -231,5 +243,8 @@ layout_words = record {
   with_whole = whole (codes "with") with_spelled;
   in_whole = whole (codes "in") in_spelled;
   instanceof_whole = whole (codes "instanceof") instanceof_spelled;
+  class_whole = whole (codes "class") class_spelled;
+  extends_whole = whole (codes "extends") extends_spelled;
+  static_whole = whole (codes "static") static_spelled;
   function_whole = whole (codes "function") function_spelled;
 }

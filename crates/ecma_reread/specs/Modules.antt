@@ -11,7 +11,7 @@ use Rattle.ecma_kind.specs.declared.kind.Kind.TheVariants as kind
 use Rattle.ecma_tree.specs.declared.node.Node.{Node}
 use Rattle.ecma_tree.specs.Nodes.{node_of}
 use Rattle.ecma_tokens.specs.Good.{IsToken}
-use Rattle.ecma_reread.specs.Shapes.{IsIdent, IsKey, IsAbsent, Level, assignment, IsExpression, Ending, IsStatement, declaration, function_statement, IsFunctionName, IsFunction}
+use Rattle.ecma_reread.specs.Shapes.{IsIdent, IsKey, IsAbsent, Level, assignment, IsExpression, Ending, IsStatement, declaration, function_statement, IsFunctionName, IsFunction, class_statement}
 
 pub data IsString : Node → Type 0 where
   string_literal : (at : Span) (raw : List ℕ) → IsToken str_end raw → IsString (node_of at (kind.Str (str_value (piece raw 1 (length raw - 1))) (Some raw)) [])
@@ -81,6 +81,7 @@ pub data IsExportClause : List Node → Type 0 where
 abbrev pub is_declaration : {ending : Ending} {s : Node} → IsStatement ending s → Bool
 is_declaration (declaration at at' k d ds) = true
 is_declaration (function_statement at i f) = true
+is_declaration (class_statement at i c) = true
 is_declaration s = false
 
 -- modules, where `import a = require("m")` and `export =` may stand or not

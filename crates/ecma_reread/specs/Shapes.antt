@@ -313,6 +313,11 @@ pub data IsForInit : Node → Type 0 where
   init_declaration : (at of_list : Span) (k : VarDeclKind) {d : Node} {ds : List Node} → IsForDeclarator d → AreForDeclarators ds → IsForInit (node_of at (kind.VarDecl k false) (node_of of_list kind.List (d ∷ ds) ∷ []))
   init_expression : {level : Level} {e : Node} → IsExpression level e → may_hold_in e ≡ false → IsForInit e
 
+-- what a class extends
+pub data IsHeritage : Node → Type 0 where
+  no_heritage : {none : Node} → IsAbsent none → IsHeritage none
+  heritage : {e : Node} → IsExpression callee e → IsHeritage e
+
 -- the name of a function that may have none
 pub data IsFunctionName : Node → Type 0 where
   unnamed : {none : Node} → IsAbsent none → IsFunctionName none
@@ -357,6 +362,19 @@ mutual
         → IsStatement ending (node_of at (kind.ForOfStmt is_await) (left ∷ iterable ∷ body ∷ []))
     labeled : (at : Span) {ending : Ending} {label body : Node} → IsIdent label → IsStatement ending body → IsStatement ending (node_of at kind.LabeledStmt (label ∷ body ∷ []))
     function_statement : (at : Span) {id function : Node} → IsIdent id → IsFunction function → IsStatement closed (node_of at (kind.FnDecl false) (id ∷ function ∷ []))
+    class_statement : (at : Span) {id class : Node} → IsIdent id → IsClass class → IsStatement closed (node_of at (kind.ClassDecl false) (id ∷ class ∷ []))
+
+  -- what stands behind the name of a class
+  pub data IsClass : Node → Type 0 where
+    class_of : (at of_members of_interfaces : Span) {super none none' : Node} {ms : List Node} → IsHeritage super → AreMembers ms → IsAbsent none → IsAbsent none'
+        → IsClass (node_of at (kind.Class false) (super ∷ node_of of_members kind.List ms ∷ none ∷ none' ∷ node_of of_interfaces kind.List [] ∷ []))
+
+  pub data IsMember : Node → Type 0 where
+    static_block : (at : Span) {b : Node} → IsBlock b → IsMember (node_of at kind.StaticBlock (b ∷ []))
+
+  pub data AreMembers : List Node → Type 0 where
+    no_members : AreMembers []
+    more_members : {m : Node} {ms : List Node} → IsMember m → AreMembers ms → AreMembers (m ∷ ms)
 
   -- what stands behind the name of a function: its parameters, and a block
   pub data IsFunction : Node → Type 0 where

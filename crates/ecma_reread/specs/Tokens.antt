@@ -17,7 +17,7 @@ use Rattle.ecma_print.specs.Operators.{unary_sign, update_sign}
 use Rattle.ecma_print.specs.Statements.{keyword}
 use Rattle.ecma_tokens.specs.Items as items
 use Rattle.ecma_tokens.specs.Items.{Tok, sign, Gap, no_gap, Items, it}
-use Rattle.ecma_reread.specs.Shapes.{IsIdent, ident, IsKey, key, Level, IsExpression, looser, element, prefix_update, postfix_update, await_expression, unary_expression, binary_expression, exponentiation, both, either, coalesced, assignment_expression, conditional_expression, sequence_expression, name, string, number, this_word, big_int, null_word, true_word, false_word, member, call, parenthesized, IsElement, one, spread, IsArguments, no_arguments, arguments, AreElements, no_elements, more_elements, AreExpressions, no_expressions, more_expressions, IsInitializer, no_initializer, initializer, IsDeclarator, declarator, AreDeclarators, no_declarators, more_declarators, IsStatement, expression, declaration, empty, debugger_word, throw, return_value, return_nothing, break_nothing, continue_nothing, Ending, break_label, continue_label, block, if_only, if_else, while_loop, do_loop, labeled, IsBlock, block_of, AreStatements, no_statements, more_statements, array, AreSlots, no_slots, filled, hole, switch_statement, IsCase, case_of, default_of, AreCases, no_cases, more_cases, new_expression, new_alone, new_target, try_catch, try_finally, try_catch_finally, IsCatch, catch_any, IsChainKey, plain_key, private_key, super_member, super_element, super_call, IsOptional, left_out, given, IsForLeft, for_binding, for_target, for_loop, for_in, for_of, object_literal, IsPropertyName, key_name, string_name, number_name, big_int_name, computed_name, IsProperty, key_value, shorthand, initialized, spread_property, AreProperties, no_properties, more_properties, private_in, yield_nothing, yield_value, import_meta, import_call, regex, regex_text, Role, bound, rest, renamed, named, rest_property, IsPattern, name_pattern, array_pattern, object_pattern, IsDefaulted, no_default, with_default, IsForDeclarator, for_declarator, AreForDeclarators, no_for_declarators, more_for_declarators, IsForInit, no_init, init_declaration, init_expression, part_text, IsPart, part, AreParts, last_part, more_parts, template, tagged_template, arrow_function, catch_pattern, chain_member, chain_element, chain_call, function_statement, IsFunction, function_of, IsFunctionName, unnamed, function_name}
+use Rattle.ecma_reread.specs.Shapes.{IsIdent, ident, IsKey, key, Level, IsExpression, looser, element, prefix_update, postfix_update, await_expression, unary_expression, binary_expression, exponentiation, both, either, coalesced, assignment_expression, conditional_expression, sequence_expression, name, string, number, this_word, big_int, null_word, true_word, false_word, member, call, parenthesized, IsElement, one, spread, IsArguments, no_arguments, arguments, AreElements, no_elements, more_elements, AreExpressions, no_expressions, more_expressions, IsInitializer, no_initializer, initializer, IsDeclarator, declarator, AreDeclarators, no_declarators, more_declarators, IsStatement, expression, declaration, empty, debugger_word, throw, return_value, return_nothing, break_nothing, continue_nothing, Ending, break_label, continue_label, block, if_only, if_else, while_loop, do_loop, labeled, IsBlock, block_of, AreStatements, no_statements, more_statements, array, AreSlots, no_slots, filled, hole, switch_statement, IsCase, case_of, default_of, AreCases, no_cases, more_cases, new_expression, new_alone, new_target, try_catch, try_finally, try_catch_finally, IsCatch, catch_any, IsChainKey, plain_key, private_key, super_member, super_element, super_call, IsOptional, left_out, given, IsForLeft, for_binding, for_target, for_loop, for_in, for_of, object_literal, IsPropertyName, key_name, string_name, number_name, big_int_name, computed_name, IsProperty, key_value, shorthand, initialized, spread_property, AreProperties, no_properties, more_properties, private_in, yield_nothing, yield_value, import_meta, import_call, regex, regex_text, Role, bound, rest, renamed, named, rest_property, IsPattern, name_pattern, array_pattern, object_pattern, IsDefaulted, no_default, with_default, IsForDeclarator, for_declarator, AreForDeclarators, no_for_declarators, more_for_declarators, IsForInit, no_init, init_declaration, init_expression, part_text, IsPart, part, AreParts, last_part, more_parts, template, tagged_template, arrow_function, catch_pattern, chain_member, chain_element, chain_call, function_statement, IsFunction, function_of, IsFunctionName, unnamed, function_name, IsHeritage, no_heritage, heritage, class_statement, IsClass, class_of, IsMember, static_block, AreMembers, no_members, more_members}
 
 abbrev pub blank : Gap
 blank = record { blanks = codes " "; new_line = false }
@@ -335,6 +335,10 @@ abbrev pub function_word : Bool → Bool → Gap → Items → Items
 function_word is_generator true g us = it g (items.key (codes "async")) (star_word is_generator blank us)
 function_word is_generator false g us = star_word is_generator g us
 
+abbrev pub heritage_tokens : {n : Node} → IsHeritage n → Items → Items
+heritage_tokens (no_heritage a) us = us
+heritage_tokens (heritage e) us = it blank (items.key (codes "extends")) (expression_tokens e blank us)
+
 abbrev pub function_name_tokens : {n : Node} → IsFunctionName n → Items → Items
 function_name_tokens (unnamed a) us = us
 function_name_tokens (function_name i) us = it blank (items.key (ident_word i)) us
@@ -373,6 +377,17 @@ abbrev mutual
   statement_tokens (for_of at w l e b) d g us = for_tokens w g (for_left_tokens l (it blank (items.key (codes "of")) (expression_tokens e blank (sign_of (codes ")") (statement_tokens b d blank us)))))
   statement_tokens (labeled at i b) d g us = it g (items.key (ident_word i)) (sign_of (codes ":") (statement_tokens b d blank us))
   statement_tokens (function_statement at i f) d g us = function_word (is_generator f) (is_async f) g (it blank (items.key (ident_word i)) (function_tokens f d us))
+  statement_tokens (class_statement at i c) d g us = it g (items.key (codes "class")) (it blank (items.key (ident_word i)) (class_tokens c d us))
+
+  pub class_tokens : {n : Node} → IsClass n → ℕ → Items → Items
+  class_tokens (class_of at at' at'' {ms = ms'} h ms a a') d us = heritage_tokens h (it blank (sign (codes "{")) (members_tokens ms (suc d) (it (closing_gap ms' d) (sign (codes "}")) us)))
+
+  pub member_tokens : {n : Node} → IsMember n → ℕ → Gap → Items → Items
+  member_tokens (static_block at b) d g us = it g (items.key (codes "static")) (block_tokens b d blank us)
+
+  pub members_tokens : {ns : List Node} → AreMembers ns → ℕ → Items → Items
+  members_tokens no_members d us = us
+  members_tokens (more_members m ms) d us = member_tokens m d (line_at d) (members_tokens ms d us)
 
   pub function_tokens : {n : Node} → IsFunction n → ℕ → Items → Items
   function_tokens (function_of at at' x y ps w b a a') d us = sign_of (codes "(") (arguments_tokens ps (sign_of (codes ")") (block_tokens b d blank us)))
