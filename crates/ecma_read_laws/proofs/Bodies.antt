@@ -1,5 +1,5 @@
 -- In what keeps the context rules no body is a declaration.
-use Rattle.std.proofs.Common.{◌≡◌, refl, sym, ap, ap₂, ◌∙◌, subst, ℕ, ◌+◌, List, [], ◌∷◌, map, Bool, true, false, ◌&&◌, ◌||◌, not, Option, Some, None, Ok, Err, Result}
+use Rattle.std.proofs.Common.{◌≡◌, refl, sym, ap, ◌∙◌, subst, ℕ, suc, List, [], ◌∷◌, map, Bool, true, ◌&&◌, ◌||◌, not, Option, Some, None, Ok, Err, Result}
 use Rattle.std.specs.List.{list_all}
 use Rattle.ecma_kind.specs.declared.kind.Kind.{Kind}
 use Rattle.ecma_kind.specs.declared.kind.Kind.TheVariants as kind
@@ -13,7 +13,7 @@ use Rattle.ecma_grammar.specs.Modules as grammar
 use Rattle.ecma_grammar.specs.Modules.{reads_module}
 use Rattle.ecma_rules.specs.declared.standing.Standing.{Standing}
 use Rattle.ecma_rules.specs.declared.standing.Standing.TheVariants as standing
-use Rattle.ecma_rules.specs.Children.{has_child, kind_of}
+use Rattle.ecma_rules.specs.Children.{has_child}
 use Rattle.ecma_rules.specs.Failing.{failing_here, failing_step, first_failing, least, least_from}
 use Rattle.ecma_rules.specs.Finishing.{finished}
 use Rattle.ecma_rules.specs.Rules.{fails_list, fails_member, fails_statement, first_broken}
@@ -64,8 +64,8 @@ nodes children = map (λ child. child.0) children
 children_have : (around : ℕ → Where) (k : ℕ) (children : List Child) → least_from Where around k (map walk (nodes children)) ≡ None → list_all has_usual_bodies (nodes children) ≡ true
 children_have around k [] h = refl
 children_have around k (child ∷ children) h =
-    let t = neither_least (walk child.0 (around k)) (least_from Where around (k + 1) (map walk (nodes children))) h in
-    rw (child.1 (around k) t.0, children_have around (k + 1) children t.1) refl
+    let t = neither_least (walk child.0 (around k)) (least_from Where around (suc k) (map walk (nodes children))) h in
+    rw (child.1 (around k) t.0, children_have around (suc k) children t.1) refl
 
 abbrev IsBodyAt : (ℕ → Where) → ℕ → Type 0
 IsBodyAt around i = (around i).around.standing ≡ standing.Body
@@ -126,5 +126,3 @@ read_usual text mode bound tree e = of_answer (grammar.answer_of (reads_module t
     of_answer : (a : Result Node RawError) → answer_by a ≡ Ok tree → HasSort sort.Module tree → has_usual_bodies tree ≡ true
     of_answer (Ok r) f s = kept r (first_broken r) refl f s
     of_answer (Err reason) f s = cc
-
-pub ruleset usual_bodies = (read_usual)

@@ -8,5 +8,3 @@ use Rattle.ecma_read_laws.proofs.Bodies.{read_usual}
 pub runs_stripped : ReadModulesRunStripped
 runs_stripped text mode bound tree e receivers turns options script =
     stripping_keeps_runs turns options tree script (only_types_go_from_modules tree (read_sorted text mode bound tree e) (read_usual text mode bound tree e) receivers)
-
-pub ruleset run_stripped = (runs_stripped)

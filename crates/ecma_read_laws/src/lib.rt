@@ -6,13 +6,11 @@
 ghost use Rattle.ecma_read_laws.specs.Stripped.{ReadModulesHaveUsualBodies, ReadModulesRunStripped};
 
 /// In what is read as a module no statement has a declaration but a `var` as its body.
-#[tactic(auto, using(crate::proofs::Bodies::usual_bodies))]
 pub fn read_modules_have_usual_bodies()
     ensures { ReadModulesHaveUsualBodies }
 {}
 
 /// What is read as a module is observed to do without its types what it does with them, where no arrow function has a parameter `this`.
-#[tactic(auto, using(crate::proofs::Stripped::run_stripped))]
 pub fn read_modules_run_stripped()
     ensures { ReadModulesRunStripped }
 {}

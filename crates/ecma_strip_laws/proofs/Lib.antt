@@ -1,8 +1,8 @@
 mod Seeing
 mod Pairs
 mod Plain
-mod Steps
-mod Telling
+pub mod Steps
+pub mod Telling
 mod Valueless
 mod Going
-mod Sorted
+pub mod Sorted
