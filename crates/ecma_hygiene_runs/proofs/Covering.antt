@@ -1,5 +1,5 @@
 -- Each binding of a plain module is declared where the module runs: the names and what is declared of a node's parts are among those of the node.
-use Rattle.std.proofs.Common.{◌≡◌, refl, sym, ap, ap₂, ◌∙◌, subst, ℕ, suc, ◌==◌, List, [], ◌∷◌, ◌++◌, map, length, Bool, true, false, cond, not, ◌&&◌, ◌||◌}
+use Rattle.std.proofs.Common.{◌≡◌, refl, sym, ap, ◌∙◌, subst, ℕ, suc, List, [], ◌∷◌, ◌++◌, map, length, Bool, true, false, cond, ◌||◌}
 use Rattle.ecma_kind.specs.Sorts.{belongs}
 use Rattle.ecma_kind.specs.declared.kind.Kind.{Kind}
 use Rattle.ecma_kind.specs.declared.kind.Kind.TheVariants as kind
@@ -10,7 +10,7 @@ use Rattle.ecma_tree.specs.declared.node.Node.{Node, out-Node}
 use Rattle.ecma_tree.specs.Laws.{HaveShapes}
 use Rattle.ecma_tree.specs.Sorted.{HasShape, allows, child_shapes, is_absent, is_list, many, maybe, one}
 use Rattle.ecma_hygiene.specs.Renamed.{kind_is_absent}
-use Rattle.ecma_hygiene.proofs.Telling.{and-left, or-first, or-second, true-false}
+use Rattle.ecma_hygiene.proofs.Telling.{or-first, or-second, true-false}
 use Rattle.ecma_runs.specs.State.{Id, same_id}
 use Rattle.ecma_runs.specs.Environment.{is_among}
 use Rattle.ecma_runs.specs.Meaning.{Meaning}

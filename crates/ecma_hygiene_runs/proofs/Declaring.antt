@@ -1,5 +1,5 @@
 -- Each binding of a plain module is declared where the module runs.
-use Rattle.std.proofs.Common.{◌≡◌, refl, sym, ap, ap₂, ◌∙◌, subst, ℕ, suc, List, [], ◌∷◌, ◌++◌, map, length, Bool, true, false, cond, not, ◌&&◌, ◌||◌, eq-eqb, nat_eq, bytes_eq}
+use Rattle.std.proofs.Common.{◌≡◌, refl, sym, ap, ◌∙◌, subst, ℕ, suc, List, [], ◌∷◌, ◌++◌, map, length, Bool, true, false, cond, not, ◌&&◌, ◌||◌, eq-eqb, nat_eq, bytes_eq}
 use Rattle.std.specs.List.{All, list_all, list_any}
 use Rattle.std.proofs.lemmas.List.{append-nil}
 use Rattle.std.proofs.lemmas.List.Elements.{All-append, All-cons, All-head, All-nil, All-tail}
@@ -27,14 +27,13 @@ use Rattle.ecma_hygiene.proofs.Walking.{gathered-out}
 use Rattle.ecma_hygiene_laws.proofs.Membership.{id-same}
 use Rattle.ecma_runs.specs.State.{Id}
 use Rattle.ecma_runs.specs.Environment.{is_among}
-use Rattle.ecma_runs.specs.Meaning.{Meaning}
-use Rattle.ecma_runs.specs.Declarations.{declared_of, has_no_effect, names_of}
+use Rattle.ecma_runs.specs.Declarations.{has_no_effect}
 use Rattle.ecma_runs.specs.Evaluation.{meaning, meaning_by, no_effect, role_by}
 use Rattle.ecma_runs.proofs.Layer.{meaning_out}
-use Rattle.ecma_hygiene_runs.specs.Plain.{BindingsAreDeclared, has_no_receiver, is_none, is_plain, is_plain_kind, plain_by, plain_step}
+use Rattle.ecma_hygiene_runs.specs.Plain.{BindingsAreDeclared, PlainModulesAreResolved, has_no_receiver, is_plain, is_plain_kind, plain_by, plain_step}
 use Rattle.ecma_hygiene_runs.proofs.Covering.{Covered, Sub, cover, declared, layer, layer-covered, names, sub-left, sub-same}
 use Rattle.ecma_hygiene_runs.proofs.Seeking.{any_name, inner-name, may_name, soughts-name}
-use Rattle.ecma_hygiene_runs.proofs.Sorted.{shape_out}
+use Rattle.ecma_hygiene_runs.proofs.Sorted.{shape_out, sorted_names_are_outer}
 
 -- what a layer covers, its node does
 
@@ -172,3 +171,12 @@ pub bindings_are_declared : BindingsAreDeclared
 bindings_are_declared tree h p id e =
     sub-same (cover tree false) (declared tree) (append-nil (declared tree)) (record { sym = id.0; ctxt = id.1 })
     (bound-among (cover tree false) id (sights tree) (found tree nowhere false (one sort.Module) (λ f. f) h p) e)
+
+pub plain_modules_are_resolved : PlainModulesAreResolved
+plain_modules_are_resolved tree h p o others =
+    let sorted = sorted_names_are_outer tree h o in
+    record {
+      named = sorted.named;
+      keys = sorted.keys;
+      bindings = λ id bound. (let other = others id bound in record { inner = other.0; declared = bindings_are_declared tree h p id bound; apart = other.1 });
+    }

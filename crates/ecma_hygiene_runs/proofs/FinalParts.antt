@@ -1,23 +1,23 @@
 -- Parts of a tree with final texts, written out, are the renamed parts written out.
-use Rattle.std.proofs.Common.{◌≡◌, ◌⊎◌, inl, inr, refl, sym, ap, ap₂, ◌∙◌, subst, ℕ, suc, ◌==◌, List, [], ◌∷◌, map, Option, Some, None, Bool, true, false, cond, ◌&&◌, bytes_eq, unwrap_or}
+use Rattle.std.proofs.Common.{◌≡◌, ◌⊎◌, inl, inr, refl, sym, ap, ap₂, ◌∙◌, subst, ℕ, suc, ◌==◌, List, [], ◌∷◌, map, Option, Some, None, Bool, true, false, cond, bytes_eq, unwrap_or}
 use Rattle.std.proofs.lemmas.Bool.{eqb-true}
 use Rattle.std.proofs.lemmas.Slice.Eq.{bytes_eq-Decides}
 use Rattle.ecma_kind.specs.declared.kind.Kind.{Kind}
 use Rattle.ecma_kind.specs.declared.kind.Kind.TheVariants as kind
 use Rattle.ecma_kind.specs.declared.span.Span.{Span}
-use Rattle.ecma_tree.specs.declared.node.Node.{Node, Node-F, out-Node, roll-Node}
+use Rattle.ecma_tree.specs.declared.node.Node.{Node, Node-F, out-Node}
 use Rattle.ecma_tree.specs.declared.node.Node.TheViews.{out-roll-Node, roll-out-Node}
 use Rattle.ecma_tree.specs.Nodes.{node_of}
 use Rattle.ecma_tree.specs.Sorted.{is_absent}
 use Rattle.ecma_hygiene.specs.declared.spot.Spot.{Spot}
 use Rattle.ecma_hygiene.specs.declared.spot.Spot.TheVariants as spot
 use Rattle.ecma_hygiene.specs.declared.spot.Standing.{Standing}
-use Rattle.ecma_hygiene.specs.Renamed.{Texts, changed_from, key_of, kind_is_absent, name_of, old_name, text_of, with_default}
+use Rattle.ecma_hygiene.specs.Renamed.{Texts, changed_from, kind_is_absent, name_of, text_of, with_default}
 use Rattle.ecma_hygiene_laws.proofs.Growing.{OldName}
 use Rattle.ecma_hygiene_laws.proofs.KindsTurned.{turned_kind}
 use Rattle.ecma_runs.specs.State.{Id}
 use Rattle.ecma_runs.specs.Names.{renamed, renamed_ident}
-use Rattle.ecma_hygiene_runs.specs.WrittenOut.{identifier_by, key_node, leaf_text, name_node, other_by, other_out, out_by, pattern_by, pattern_with, properties_out, property_out, written_out}
+use Rattle.ecma_hygiene_runs.specs.WrittenOut.{identifier_by, key_node, leaf_text, name_node, other_by, other_out, pattern_by, pattern_with, property_out, written_out}
 use Rattle.ecma_hygiene_runs.specs.FinalTexts.{final_id, has_text, is_outer, is_text}
 use Rattle.ecma_hygiene_runs.proofs.Parts.{all_become, become, contexts, default-out, finished, out-flag, out-of, parts_of, properties-of, properties_of, property-of, property_of, renamed-absent, renamed-default, renamed-flag, renamed-of}
 

@@ -1,6 +1,6 @@
 -- A resolved tree with its final texts runs as it does with its own.
-use Rattle.std.proofs.Common.{◌≡◌, ◌≢◌, refl, sym, ap, ap₂, ◌∙◌, subst, ℕ, ◌==◌, List, [], ◌∷◌, map, Option, Some, None, Bool, true, false, ◌&&◌, ◌||◌, bytes_eq, codes, nat_eq, unwrap_or}
-use Rattle.std.specs.List.{All, list_any}
+use Rattle.std.proofs.Common.{◌≡◌, refl, sym, ap, ap₂, ◌∙◌, ℕ, ◌==◌, List, [], ◌∷◌, map, Option, Some, None, Bool, true, false, ◌||◌, bytes_eq, codes, unwrap_or}
+use Rattle.std.specs.List.{All}
 use Rattle.std.proofs.lemmas.Bool.{eqb-true}
 use Rattle.std.proofs.lemmas.List.Elements.{All-cons, All-head, All-nil, All-tail}
 use Rattle.ecma_kind.specs.declared.kind.Kind.{Kind}
@@ -17,7 +17,7 @@ use Rattle.ecma_hygiene.specs.Laws.{is_seen}
 use Rattle.ecma_hygiene.specs.Renamed.{Texts, text_of}
 use Rattle.ecma_hygiene.specs.Renamed as hygiene
 use Rattle.ecma_hygiene.specs.Sights.{meetings, nowhere, sights}
-use Rattle.ecma_hygiene.specs.Texts.{HygienicTexts, is_bound, is_new, text_in}
+use Rattle.ecma_hygiene.specs.Texts.{HygienicTexts, is_bound, text_in}
 use Rattle.ecma_hygiene.proofs.Telling.{id-refl, or-first, or-second, texts-tell-apart, true-false}
 use Rattle.ecma_hygiene_laws.proofs.Membership.{id-same}
 use Rattle.ecma_hygiene_laws.proofs.Parts.{contexts-of}
@@ -29,7 +29,7 @@ use Rattle.ecma_runs.specs.State.{Id}
 use Rattle.ecma_runs.specs.Environment.{is_among}
 use Rattle.ecma_runs.specs.Evaluation.{meaning}
 use Rattle.ecma_runs.specs.Observation.{observe}
-use Rattle.ecma_runs.specs.Names.{TextsStay, renamed}
+use Rattle.ecma_runs.specs.Names.{TextsStay}
 use Rattle.ecma_runs.proofs.Kept.{kept}
 use Rattle.ecma_runs.proofs.Standing.{Passes}
 use Rattle.ecma_runs.proofs.Layers.{images, layers_alike, same_ids, the_same}

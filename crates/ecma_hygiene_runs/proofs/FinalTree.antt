@@ -1,10 +1,10 @@
 -- A tree with final texts, written out, is the tree written out with its names renamed.
-use Rattle.std.proofs.Common.{◌≡◌, ◌⊎◌, inl, inr, refl, sym, ap, ap₂, ◌∙◌, subst, ℕ, suc, List, [], ◌∷◌, map, Option, Some, None, Bool, true, false, cond, ◌&&◌}
+use Rattle.std.proofs.Common.{◌≡◌, inl, inr, refl, sym, ap, ap₂, ◌∙◌, subst, ℕ, suc, List, [], ◌∷◌, map, Option, Some, None, Bool, true, false, cond, ◌&&◌}
 use Rattle.std.proofs.Math.Dec.{eqb-suc-zero}
 use Rattle.ecma_kind.specs.declared.kind.Kind.{Kind}
 use Rattle.ecma_kind.specs.declared.kind.Kind.TheVariants as kind
 use Rattle.ecma_kind.specs.declared.span.Span.{Span}
-use Rattle.ecma_tree.specs.declared.node.Node.{Node, Node-F, ind-Node, out-Node, roll-Node}
+use Rattle.ecma_tree.specs.declared.node.Node.{Node, ind-Node, out-Node, roll-Node}
 use Rattle.ecma_tree.specs.declared.node.Node.TheViews.{out-roll-Node, roll-out-Node}
 use Rattle.ecma_tree.specs.Nodes.{node_of}
 use Rattle.ecma_scope.specs.declared.role.Role.{Role}
@@ -14,12 +14,12 @@ use Rattle.ecma_scope.specs.Scopes.{is_there, role_by}
 use Rattle.ecma_hygiene.specs.declared.spot.Spot.{Spot}
 use Rattle.ecma_hygiene.specs.declared.spot.Spot.TheVariants as spot
 use Rattle.ecma_hygiene.specs.declared.spot.Standing.{Standing}
-use Rattle.ecma_hygiene.specs.Renamed.{Texts, changed_from, is_sourced, first_item, key_name, key_of, kind_is_absent, lone_name, old_name, old_name_by, text_of, with_default}
+use Rattle.ecma_hygiene.specs.Renamed.{Texts, changed_from, is_sourced, first_item, key_name, kind_is_absent, lone_name, old_name, old_name_by, text_of}
 use Rattle.ecma_hygiene.proofs.Telling.{and-left, and-right}
 use Rattle.ecma_hygiene_laws.proofs.Growing.{OldName, grown}
 use Rattle.ecma_runs.specs.Names.{renamed, renamed_ident}
 use Rattle.ecma_hygiene_runs.specs.WrittenOut.{key_node, other_out, properties_out, property_out, written_out}
-use Rattle.ecma_hygiene_runs.specs.FinalTexts.{all_named, final_id, has_name, is_named_at, is_outer}
+use Rattle.ecma_hygiene_runs.specs.FinalTexts.{all_named, has_name, is_named_at, is_outer}
 use Rattle.ecma_hygiene_runs.proofs.Parts.{all_become, become, final-roll, finished, named-roll, out-of, parts_of, properties-of, properties_of, property-of, property_of, renamed-of, shared_of, standing_of}
 use Rattle.ecma_hygiene_runs.proofs.FinalParts.{Final, Known, Named, Olds, Stand, all-elsewhere, all-properties, all-stand, finished-plain, is_ident, key-out, key-renamed, kind-final, named, olds, others-agree, outer-stays, pattern-changes, pattern-renamed, pattern-stays, pattern-written, pattern_final, second_of, to}
 
@@ -270,23 +270,23 @@ module _ (onto : ℕ → ℕ) (texts : Texts) (none : onto 0 ≡ 0) (empty : (te
   no-lone false = refl
 
   layer-turns : (r : Role) (s : Spot) (span : Span) (k : Kind) (cs : List Node) → has_name k cs ≡ true → all_named (role_by r k (is_there cs 1)) 0 (map is_named_at cs) ≡ true → FinalBelow r s k cs → Turns r s span k cs
-  layer-turns r s span (kind.Ident text ctxt optional) cs has below final = ident-turns r span text ctxt optional cs s final
-  layer-turns r s span kind.ObjectLit [] has below final = plain-turns r s span kind.ObjectLit [] refl (λ xs. refl) (λ xs. refl) refl (out-of span kind.ObjectLit []) (out-of span kind.ObjectLit []) tt tt
-  layer-turns r s span kind.ObjectLit (p ∷ others) has below final = object-turns r s span p others final
-  layer-turns r s span kind.List cs has below final = list-turns r s span cs final
-  layer-turns r s span kind.AssignPatProp (name ∷ default ∷ []) has below final = pattern-turns r s span name default has final
-  layer-turns r s span (kind.ImportNamedSpecifier t) (name ∷ other ∷ []) has below final = import-turns r s span t name other final
-  layer-turns r s span (kind.ExportNamedSpecifier t) (name ∷ other ∷ []) has below final =
-      export-turns r s span t name other (and-left (is_named_at name (role_by r (kind.ExportNamedSpecifier t) (is_there (name ∷ other ∷ []) 1) 0)) _ below) final
-  layer-turns r s span (kind.ExportNamedSpecifier t) [] has below final =
+  layer-turns r s span (kind.Ident text ctxt optional) cs has all final = ident-turns r span text ctxt optional cs s final
+  layer-turns r s span kind.ObjectLit [] has all final = plain-turns r s span kind.ObjectLit [] refl (λ xs. refl) (λ xs. refl) refl (out-of span kind.ObjectLit []) (out-of span kind.ObjectLit []) tt tt
+  layer-turns r s span kind.ObjectLit (p ∷ others) has all final = object-turns r s span p others final
+  layer-turns r s span kind.List cs has all final = list-turns r s span cs final
+  layer-turns r s span kind.AssignPatProp (name ∷ default ∷ []) has all final = pattern-turns r s span name default has final
+  layer-turns r s span (kind.ImportNamedSpecifier t) (name ∷ other ∷ []) has all final = import-turns r s span t name other final
+  layer-turns r s span (kind.ExportNamedSpecifier t) (name ∷ other ∷ []) has all final =
+      export-turns r s span t name other (and-left (is_named_at name (role_by r (kind.ExportNamedSpecifier t) (is_there (name ∷ other ∷ []) 1) 0)) _ all) final
+  layer-turns r s span (kind.ExportNamedSpecifier t) [] has all final =
       plain-turns r s span (kind.ExportNamedSpecifier t) [] (no-lone (is_sourced r)) (λ xs. refl) (λ xs. refl) refl (out-of span (kind.ExportNamedSpecifier t) []) (out-of span (kind.ExportNamedSpecifier t) []) tt tt
-  layer-turns r s span (kind.ExportNamedSpecifier t) (a ∷ []) has below final =
+  layer-turns r s span (kind.ExportNamedSpecifier t) (a ∷ []) has all final =
       plain-turns r s span (kind.ExportNamedSpecifier t) (a ∷ []) (no-lone (is_sourced r)) (λ xs. refl) (λ xs. refl) refl (out-of span (kind.ExportNamedSpecifier t) (a ∷ []))
       (out-of span (kind.ExportNamedSpecifier t) _) (refl, tt) final
-  layer-turns r s span (kind.ExportNamedSpecifier t) (a ∷ b ∷ c ∷ cs) has below final =
+  layer-turns r s span (kind.ExportNamedSpecifier t) (a ∷ b ∷ c ∷ cs) has all final =
       plain-turns r s span (kind.ExportNamedSpecifier t) (a ∷ b ∷ c ∷ cs) (no-lone (is_sourced r)) (λ xs. refl) (λ xs. refl) refl (out-of span (kind.ExportNamedSpecifier t) (a ∷ b ∷ c ∷ cs))
       (out-of span (kind.ExportNamedSpecifier t) _) (all-stand onto texts none empty spot.Elsewhere (standing_of (stand r s) (kind.ExportNamedSpecifier t) (a ∷ b ∷ c ∷ cs)) (λ i. refl) 0 (a ∷ b ∷ c ∷ cs)) final
-  layer-turns r s span k cs has below final =
+  layer-turns r s span k cs has all final =
       plain-turns r s span k cs refl (λ xs. refl) (λ xs. refl) refl (out-of span k cs) (out-of span k (all_become onto texts (standing_of (stand r s) k cs) 0 cs)) (all-stand onto texts none empty spot.Elsewhere (standing_of (stand r s) k cs) (λ i. refl) 0 cs) final
 
   abbrev pub Turned : Node → Type 0

@@ -1,5 +1,5 @@
 -- What is known of the texts that ids get: only what is declared gets one, and none is `this`.
-use Rattle.std.proofs.Common.{◌≡◌, ◌≢◌, ◌⊎◌, inl, inr, refl, sym, ap, ap₂, ◌∙◌, subst, ℕ, zero, suc, ◌+◌, ◌<◌, ◌==◌, ◌%◌, ◌/◌, List, [], ◌∷◌, ◌++◌, map, filter, Option, Some, None, Bool, true, false, cond, ◌&&◌, ◌||◌, not, bytes_eq, codes, append_assoc, arith, nat_lt, if◌then◌else◌}
+use Rattle.std.proofs.Common.{◌≡◌, ◌⊎◌, inl, inr, refl, sym, ap, ◌∙◌, subst, ℕ, zero, suc, ◌+◌, ◌<◌, ◌==◌, ◌%◌, ◌/◌, List, [], ◌∷◌, ◌++◌, map, filter, Option, Some, None, Bool, true, false, cond, ◌&&◌, ◌||◌, bytes_eq, codes, append_assoc, arith, if◌then◌else◌}
 use Rattle.std.specs.List.{list_any}
 use Rattle.std.specs.Fmt.{decimal, digit_glyph, digits, digits_onto}
 use Rattle.std.proofs.Math.Nat.{mod-lt}
@@ -10,7 +10,7 @@ use Rattle.ecma_hygiene.specs.declared.sight.Meeting.{Meeting}
 use Rattle.ecma_hygiene.specs.declared.sight.Sight.{Sight}
 use Rattle.ecma_hygiene.specs.Ids.{Id, same_id}
 use Rattle.ecma_hygiene.specs.Texts.{AreTexts, GetTexts, Had, IsNumbered, bindings, changing_bindings, changes, declared_in, distinct, had_with, is_bound, is_new, last_text, new_bindings, none, rule, source_has, text_in, with_text}
-use Rattle.ecma_hygiene.proofs.Telling.{and-both, and-left, id-refl, or-first, or-second, true-false}
+use Rattle.ecma_hygiene.proofs.Telling.{and-both, id-refl, or-first, or-second}
 use Rattle.ecma_hygiene_laws.proofs.Membership.{id-same}
 
 -- texts that end in a digit

@@ -1,5 +1,5 @@
 -- What is made of a node of these parts: written out, renamed, and with final texts.
-use Rattle.std.proofs.Common.{◌≡◌, refl, sym, ap, ap₂, ◌∙◌, ℕ, suc, List, [], ◌∷◌, map, Option, Some, None, Bool, true, false, cond, ◌&&◌}
+use Rattle.std.proofs.Common.{◌≡◌, refl, sym, ap, ◌∙◌, ℕ, List, [], ◌∷◌, map, Option, Some, None, Bool, true, false, cond, ◌&&◌}
 use Rattle.ecma_kind.specs.declared.kind.Kind.{Kind}
 use Rattle.ecma_kind.specs.declared.kind.Kind.TheVariants as kind
 use Rattle.ecma_kind.specs.declared.span.Span.{Span}
@@ -14,7 +14,7 @@ use Rattle.ecma_scope.proofs.Layers.{from_leaves-roll}
 use Rattle.ecma_hygiene.specs.declared.spot.Spot.{Spot}
 use Rattle.ecma_hygiene.specs.declared.spot.Spot.TheVariants as spot
 use Rattle.ecma_hygiene.specs.declared.spot.Standing.{Standing}
-use Rattle.ecma_hygiene.specs.Renamed.{Texts, expanded, is_sourced, key_name, kind_is_absent, kind_with_text, lone_name, old_name, renamed_at, renamed_step, shared_by, shorthand, spot_in, standing_in, with_default, written_from}
+use Rattle.ecma_hygiene.specs.Renamed.{Texts, is_sourced, key_name, kind_is_absent, lone_name, old_name, shared_by, shorthand, spot_in, with_default}
 use Rattle.ecma_hygiene_laws.proofs.Growing.{grown}
 use Rattle.ecma_hygiene_laws.proofs.KindsTurned.{turned_kind}
 use Rattle.ecma_hygiene_laws.proofs.Written.{again, again-out, all_again}

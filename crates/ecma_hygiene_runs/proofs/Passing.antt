@@ -1,5 +1,5 @@
 -- Where each identifier of a tree passes a test, so does each of the tree written out; and identifiers are seen, or have the empty context.
-use Rattle.std.proofs.Common.{◌≡◌, refl, sym, ap, ap₂, ◌∙◌, subst, ℕ, suc, ◌==◌, List, [], ◌∷◌, ◌++◌, map, Option, Some, None, Bool, true, false, cond, ◌&&◌, ◌||◌}
+use Rattle.std.proofs.Common.{◌≡◌, refl, sym, ap, ◌∙◌, subst, ℕ, suc, ◌==◌, List, [], ◌∷◌, map, Option, Some, None, Bool, true, false, cond, ◌&&◌}
 use Rattle.std.specs.List.{All, list_all, list_any}
 use Rattle.std.proofs.lemmas.List.Elements.{All-head}
 use Rattle.ecma_kind.specs.declared.kind.Kind.{Kind}
@@ -8,9 +8,8 @@ use Rattle.ecma_kind.specs.declared.span.Span.{Span}
 use Rattle.ecma_tree.specs.declared.node.Node.{Node, Node-F, fold-roll-Node, ind-Node, out-Node, roll-Node}
 use Rattle.ecma_tree.specs.declared.node.Node.TheViews.{out-roll-Node, roll-out-Node}
 use Rattle.ecma_tree.specs.Nodes.{node_of}
-use Rattle.ecma_scope.specs.declared.role.Role.{Role}
 use Rattle.ecma_scope.specs.Resolved.{is_name}
-use Rattle.ecma_scope.specs.Scopes.{is_there, role_by, role_in}
+use Rattle.ecma_scope.specs.Scopes.{is_there, role_by}
 use Rattle.ecma_hygiene.specs.declared.sight.Sight.{Sight}
 use Rattle.ecma_hygiene.specs.Ids.{declares}
 use Rattle.ecma_hygiene.specs.Renamed.{kind_is_absent, with_default}

@@ -1,5 +1,5 @@
 -- A map of names that is one to one keeps runs, where an import with both names has its text from the second.
-use Rattle.std.proofs.Common.{◌≡◌, ℕ, ◌++◌, inl, refl, sym, ap, ap₂, ◌∙◌, subst, List, [], ◌∷◌, map, Option, Some, None, Bool, true, false, cond, add-zero, bytes_eq, codes}
+use Rattle.std.proofs.Common.{◌≡◌, ℕ, ◌++◌, inl, refl, sym, ap, ap₂, ◌∙◌, subst, List, [], ◌∷◌, map, None, Bool, true, false, cond, add-zero, bytes_eq, codes}
 use Rattle.ecma_kind.specs.declared.kind.Kind.{Kind}
 use Rattle.ecma_kind.specs.declared.kind.Kind.TheVariants as kind
 use Rattle.ecma_tree.specs.declared.node.Node.{Node, Node-F, fold-roll-Node, ind-Node, out-Node, roll-Node}
@@ -13,11 +13,11 @@ use Rattle.ecma_runs.specs.Meaning.{Meaning}
 use Rattle.ecma_runs.specs.Declarations.{all_shorthands, has_no_effect, imported_as}
 use Rattle.ecma_runs.specs.Evaluation.{role_by, no_effect, meaning_by, meaning}
 use Rattle.ecma_runs.specs.Observation.{observe}
-use Rattle.ecma_runs.specs.Names.{renamed_ident, renamed_node, renamed, passes_by, ids_pass, Keys, all_here, all_below, here_by, at_keys, TextsStay}
+use Rattle.ecma_runs.specs.Names.{renamed_ident, renamed_node, renamed, passes_by, ids_pass, Keys, all_here, all_below, here_by, TextsStay}
 use Rattle.ecma_runs.proofs.Layer.{meaning-roll, meaning_out}
 use Rattle.ecma_runs.proofs.Names.{Naming, changed_ids, changed_bindings, is_among-changed}
 use Rattle.ecma_runs.proofs.Alike.{Change, outside_alike}
-use Rattle.ecma_runs.proofs.Meanings.{Same, Both}
+use Rattle.ecma_runs.proofs.Meanings.{Same}
 use Rattle.ecma_runs.proofs.Premises.{renamed_kind, StillClash, KeptLayer}
 use Rattle.ecma_runs.proofs.Steps.{step_same}
 use Rattle.ecma_runs.proofs.Kept.{AllNodes, Kept, StepsAlike, layer_same, observe_unless}

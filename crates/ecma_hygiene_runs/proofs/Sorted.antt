@@ -1,5 +1,5 @@
 -- In a sorted tree the names in patterns are names, and written out it has keys in imports alone.
-use Rattle.std.proofs.Common.{◌≡◌, refl, sym, ap, ap₂, ◌∙◌, subst, ℕ, suc, ◌==◌, List, [], ◌∷◌, ◌++◌, map, length, Option, Some, None, Bool, true, false, cond, ◌&&◌, ◌||◌}
+use Rattle.std.proofs.Common.{◌≡◌, refl, sym, ap, ap₂, ◌∙◌, subst, ℕ, suc, List, [], ◌∷◌, ◌++◌, map, length, Bool, true, false, cond, ◌&&◌, ◌||◌}
 use Rattle.std.specs.List.{All}
 use Rattle.std.proofs.lemmas.Bool.{eqb-true}
 use Rattle.std.proofs.lemmas.List.{append-nil}
@@ -24,12 +24,12 @@ use Rattle.ecma_scope.proofs.Layers.{from_leaves-roll}
 use Rattle.ecma_hygiene.specs.Renamed.{kind_is_absent, with_default}
 use Rattle.ecma_hygiene.proofs.Telling.{and-both, and-left, and-right}
 use Rattle.ecma_runs.specs.State.{Id}
-use Rattle.ecma_runs.specs.Names.{Keys, all_below, all_here, at_keys, here_by}
+use Rattle.ecma_runs.specs.Names.{Keys, all_below, all_here, here_by}
 use Rattle.ecma_runs.proofs.Kept.{AllNodes}
 use Rattle.ecma_hygiene_runs.specs.WrittenOut.{identifier_by, key_node, leaf_text, name_node, other_by, other_out, out_by, properties_out, property_by, property_out, written_out}
 use Rattle.ecma_hygiene_runs.specs.FinalTexts.{all_named, has_name, has_text, is_named_at, is_outer, is_text}
 use Rattle.ecma_hygiene_runs.specs.KeyNames.{KeyNames, at_names, is_name_by, key_names, key_names_by, key_names_in}
-use Rattle.ecma_hygiene_runs.specs.Sorted.{NamesAreOuter, SortedNamesAreOuter, has_outer_names_at, outer_step}
+use Rattle.ecma_hygiene_runs.specs.Sorted.{SortedNamesAreOuter, has_outer_names_at, outer_step}
 use Rattle.ecma_hygiene_runs.proofs.FinalParts.{Named, named, named-out, other-known, other-there, pattern-out}
 use Rattle.ecma_hygiene_runs.proofs.Parts.{named-roll, out-flag, out-of, out-roll, parts_of, properties-of}
 

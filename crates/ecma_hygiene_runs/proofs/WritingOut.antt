@@ -8,10 +8,9 @@ use Rattle.ecma_tree.specs.declared.node.Node.{Node, Node-F, out-Node, roll-Node
 use Rattle.ecma_tree.specs.Nodes.{node_of}
 use Rattle.ecma_tree.specs.Sorted.{is_absent}
 use Rattle.ecma_runs.specs.Values.{Value, Undefined, is_undefined}
-use Rattle.ecma_runs.specs.State.{Id}
 use Rattle.ecma_runs.specs.Environment.{Reference}
 use Rattle.ecma_runs.specs.Run.{Outcome, Done, Thrown, Returned, Broken, Continued, Ended, Run, then_outcome, ◌>>=◌, give, outside, when, given}
-use Rattle.ecma_runs.specs.Meaning.{Meaning, Evaluation, ExecutionContext}
+use Rattle.ecma_runs.specs.Meaning.{Meaning, ExecutionContext}
 use Rattle.ecma_runs.specs.Objects.{define_data}
 use Rattle.ecma_runs.specs.Members.{member}
 use Rattle.ecma_runs.specs.Functions.{read}
@@ -19,7 +18,7 @@ use Rattle.ecma_runs.specs.Expressions.{identifier}
 use Rattle.ecma_runs.specs.Patterns.{or_default}
 use Rattle.ecma_runs.specs.Classes.{literal_key, all_defined}
 use Rattle.ecma_runs.specs.Declarations.{all_declared}
-use Rattle.ecma_runs.specs.Evaluation.{role_by, meaning_by, meaning}
+use Rattle.ecma_runs.specs.Evaluation.{meaning_by, meaning}
 use Rattle.ecma_runs.specs.Observation.{observe}
 use Rattle.ecma_runs.proofs.Layer.{meaning-roll, meaning_out}
 use Rattle.ecma_runs.proofs.Layers.{observe_kept, rewritten_layers, KeepsLayers}

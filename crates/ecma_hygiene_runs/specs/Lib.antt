@@ -2,5 +2,5 @@ pub mod WrittenOut
 pub mod FinalTexts
 pub mod KeyNames
 pub mod Sorted
-pub mod Plain
 pub mod Laws
+pub mod Plain

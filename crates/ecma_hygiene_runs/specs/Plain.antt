@@ -1,5 +1,5 @@
 -- Trees without types and without enums and namespaces, in which what is declared is declared where the module runs.
-use Rattle.std.specs.Prelude.{◌≡◌, ℕ, Bool, true, false, ◌&&◌, ◌||◌, not, List, [], ◌∷◌, map}
+use Rattle.std.specs.Prelude.{◌≡◌, ◌≢◌, bytes_eq, codes, Bool, true, false, ◌&&◌, ◌||◌, not, List, [], ◌∷◌, map}
 use Rattle.std.specs.List.{list_all}
 use Rattle.ecma_kind.specs.declared.kind.Kind.{Kind}
 use Rattle.ecma_kind.specs.declared.kind.Kind.TheVariants as kind
@@ -14,6 +14,8 @@ use Rattle.ecma_hygiene.specs.Texts.{is_bound}
 use Rattle.ecma_runs.specs.Declarations.{has_no_effect}
 use Rattle.ecma_runs.specs.Environment.{is_among}
 use Rattle.ecma_runs.specs.Evaluation.{meaning}
+use Rattle.ecma_hygiene_runs.specs.Laws.{IsResolved}
+use Rattle.ecma_hygiene_runs.specs.Sorted.{has_outer_names}
 
 -- what is neither a type, nor has one, nor declares other names than JavaScript does
 abbrev pub is_plain_kind : Kind → Bool
@@ -56,3 +58,9 @@ is_plain = from_leaves Bool plain_step
 abbrev pub BindingsAreDeclared : Type 0
 BindingsAreDeclared =
     (tree : Node) → HasSort sort.Module tree → is_plain tree ≡ true → (id : Id) → is_bound (sights tree) id ≡ true → is_among (record { sym = id.0; ctxt = id.1 }) (meaning tree).declared ≡ true
+
+-- a sorted module is resolved where it is plain, what is no name of a variable has the empty context, and no binding has it or is `this`
+abbrev pub PlainModulesAreResolved : Type 0
+PlainModulesAreResolved =
+    (tree : Node) → HasSort sort.Module tree → is_plain tree ≡ true → has_outer_names tree ≡ true
+    → ((id : Id) → is_bound (sights tree) id ≡ true → (id.1 ≢ 0) × (bytes_eq id.0 (codes "this") ≡ false)) → IsResolved tree

@@ -5,7 +5,7 @@
 #![tactic(auto)]
 
 ghost use Rattle.ecma_hygiene_runs.specs.Laws.{FinalTextsKeepRuns, ReadingAgainKeepsRuns, ShorthandsDoNotMatter, WrittenOutShorthandsDoNotMatter};
-ghost use Rattle.ecma_hygiene_runs.specs.Plain.{BindingsAreDeclared};
+ghost use Rattle.ecma_hygiene_runs.specs.Plain.{BindingsAreDeclared, PlainModulesAreResolved};
 ghost use Rattle.ecma_hygiene_runs.specs.Sorted.{SortedNamesAreOuter};
 
 /// A module with its shorthands written out is observed to do what it does with them, for every tree, every script of the host and every number of
@@ -38,4 +38,9 @@ pub fn sorted_names_are_outer()
 /// In a module without types, enums and namespaces each binding is declared where the module runs: `ecma_scope` and `ecma_runs` mean the same names.
 pub fn bindings_are_declared()
     ensures { BindingsAreDeclared }
+{}
+
+/// So such a module, with its sort, is resolved in the sense of the laws above where its contexts tell variables from other names.
+pub fn plain_modules_are_resolved()
+    ensures { PlainModulesAreResolved }
 {}
