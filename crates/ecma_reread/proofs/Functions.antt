@@ -63,7 +63,7 @@ params_wrapped : {n : Node} (is : IsArguments shapes.bindings n) → map wrapped
 params_wrapped (shapes.no_arguments at) = refl
 params_wrapped (shapes.arguments at e es) = ap₂ (λ x xs. x ∷ xs) (element_wrapped e) (elements_wrapped es)
 
-abbrev flag : Bool → Node
+abbrev pub flag : Bool → Node
 flag true = flag_node Present
 flag false = flag_node Absent
 
@@ -74,7 +74,7 @@ function_made k true false name ps n = simp nodes
 function_made k false true name ps n = simp nodes
 function_made k false false name ps n = simp nodes
 
-params_made : {n : Node} (is : IsArguments shapes.bindings n) → parameters (list_node (bare_arguments is)) ≡ list_node (bare_params (bare_arguments is))
+pub params_made : {n : Node} (is : IsArguments shapes.bindings n) → parameters (list_node (bare_arguments is)) ≡ list_node (bare_params (bare_arguments is))
 params_made is = (let l : parameters (list_node (bare_arguments is)) ≡ list_node (map wrapped (bare_arguments is)) = simp nodes in l) ∙ ap list_node (params_wrapped is)
 
 -- the first word

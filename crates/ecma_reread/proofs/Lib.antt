@@ -51,6 +51,7 @@ pub mod Jumps
 pub mod Blocks
 pub mod Functions
 pub mod Classes
+pub mod Methods
 pub mod Branches
 pub mod Loops
 pub mod Labels

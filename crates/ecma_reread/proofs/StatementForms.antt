@@ -1,6 +1,7 @@
 -- Statements by their shape.
 use Rattle.std.proofs.Common.{ℕ, suc, Bool, true, false, List, ap, codes, sym, ◌∙◌}
 use Rattle.ecma_tree.specs.declared.node.Node.{Node}
+use Rattle.ecma_reread.proofs.Methods.{method_form}
 use Rattle.ecma_reread.proofs.Classes.{ReadAsMember, ReadAsMembers, no_members_form, more_members_form, static_block_form, HeritageForm, class_form}
 use Rattle.ecma_reread.specs.Machine.{taken}
 use Rattle.ecma_reread.specs.Shapes as shapes
@@ -93,6 +94,7 @@ module _ (assigned : Bool) where
 
     member_form_of : {n : Node} (is : IsMember n) (d : ℕ) → ReadAsMember assigned (member_tokens is d) (bare_member is)
     member_form_of (shapes.static_block at b) d = static_block_form assigned (block_form b d)
+    member_form_of (shapes.method at s (shapes.method_name at' w t z) (shapes.function_of at'' at''' x y ps ws b a a')) d = method_form assigned ps (argument_forms assigned ps) (block_form b d) s x y w z
 
     pub member_forms : {ns : List Node} (is : AreMembers ns) (d : ℕ) → ReadAsMembers assigned (members_tokens is d) (bare_members is)
     member_forms shapes.no_members d = no_members_form assigned

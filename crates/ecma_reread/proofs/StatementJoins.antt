@@ -14,7 +14,7 @@ use Rattle.ecma_tokens.specs.Good.{IsGap, IsToken, is_gap_character}
 use Rattle.ecma_tokens.specs.Joins.{joins, joins_next, Joined}
 use Rattle.ecma_reread.specs.Shapes as shapes
 use Rattle.ecma_reread.specs.Shapes.{Level, IsExpression, Ending, IsStatement, IsBlock, IsCase, AreCases, IsCatch, AreStatements, IsOptional, IsForLeft, IsForInit, IsPattern, IsFunction, IsHeritage, IsClass, IsMember, AreMembers}
-use Rattle.ecma_reread.specs.Tokens.{margin, line_at, blank, sign_of, expression_tokens, ident_word, declarators_tokens, closing_gap, is_braced, branch_gap, test_tokens, statement_tokens, block_tokens, case_tokens, cases_tokens, catch_tokens, lined_tokens, optional_tokens, for_left_tokens, for_tokens, initializer_tokens, as_declarators, for_init_tokens, pattern_tokens, arguments_tokens, function_word, is_generator, is_async, function_tokens, heritage_tokens, class_tokens, member_tokens, members_tokens}
+use Rattle.ecma_reread.specs.Tokens.{margin, line_at, blank, sign_of, expression_tokens, ident_word, declarators_tokens, closing_gap, is_braced, branch_gap, test_tokens, statement_tokens, block_tokens, case_tokens, cases_tokens, catch_tokens, lined_tokens, optional_tokens, for_left_tokens, for_tokens, initializer_tokens, as_declarators, for_init_tokens, pattern_tokens, arguments_tokens, function_word, is_generator, is_async, function_tokens, heritage_tokens, class_tokens, member_tokens, members_tokens, method_tokens, static_tokens, method_word}
 use Rattle.ecma_reread.proofs.Softs.{closing, semicolon, colon, Soft, is_object, parted}
 use Rattle.ecma_reread.proofs.Beginnings.{pattern_blank_joins, begun, blank_joins, opening_joins}
 use Rattle.ecma_reread.proofs.Joins.{ident_whole, no_gap_is, blank_is, Words, expression_joined, declarators_soft, declarator_joined, declarators_joined, pattern_joined, arguments_joined}
@@ -116,8 +116,16 @@ unfolding punctuators
 pattern_opening (shapes.name_pattern at i a) us = refl
 pattern_opening is us = refl
 
+method_apart : (s x y : Bool) (w : List ℕ) (g : Gap) → Wide g → (us : Items) → Apart (static_tokens s (λ h. method_tokens x y w h us) g)
+method_apart true x y w g a us t = a t (items.key (codes "static"))
+method_apart false true true w g a us t = a t (items.key (codes "async"))
+method_apart false true false w g a us t = a t (sign (codes "*"))
+method_apart false false true w g a us t = a t (items.key (codes "async"))
+method_apart false false false w g a us t = a t (items.key w)
+
 member_apart : {n : Node} (is : IsMember n) (d : ℕ) (g : Gap) → Wide g → (us : Items) → Apart (member_tokens is d g us)
 member_apart (shapes.static_block at b) d g w us t = w t (items.key (codes "static"))
+member_apart (shapes.method at s k f) d g w us t = method_apart s (is_generator f) (is_async f) (method_word k) g w (function_tokens f d us) t
 
 members_apart : {ns : List Node} (is : AreMembers ns) (d : ℕ) (us : Items) (t : Tok) → joins_next t us ≡ true → joins_next t (members_tokens is d us) ≡ true
 members_apart shapes.no_members d us t a = a
@@ -205,6 +213,17 @@ module _ (words : Words) where
   function_word_joined false true g h us a b j = (h, words.async_whole, refl, (blank_is, words.function_whole, a, j))
   function_word_joined false false g h us a b j = (h, words.function_whole, a, j)
 
+  method_joined : (x y : Bool) (w : List ℕ) → IsToken key_end w → (g : Gap) → IsGap g → (us : Items) → joins_next (items.key w) us ≡ true → Joined us → Joined (method_tokens x y w g us)
+  unfolding punctuators
+  method_joined true true w t g h us a j = (h, words.async_whole, refl, (blank_is, refl, refl, (no_gap_is, t, a, j)))
+  method_joined true false w t g h us a j = (h, refl, refl, (no_gap_is, t, a, j))
+  method_joined false true w t g h us a j = (h, words.async_whole, refl, (blank_is, t, a, j))
+  method_joined false false w t g h us a j = (h, t, a, j)
+
+  static_joined : (s x y : Bool) (w : List ℕ) → IsToken key_end w → (g : Gap) → IsGap g → (us : Items) → joins_next (items.key w) us ≡ true → Joined us → Joined (static_tokens s (λ h. method_tokens x y w h us) g)
+  static_joined true x y w t g h us a j = (h, words.static_whole, method_apart false x y w blank blank_wide us (items.key (codes "static")), method_joined x y w t blank blank_is us a j)
+  static_joined false x y w t g h us a j = method_joined x y w t g h us a j
+
   heritage_joined : {n : Node} (is : IsHeritage n) (t : Tok) (us : Items) → Joined (it blank t us) → Joined (heritage_tokens is (it blank t us))
   heritage_joined (shapes.no_heritage a) t us j = j
   heritage_joined (shapes.heritage e) t us j = (blank_is, words.extends_whole, blank_joins (items.key (codes "extends")) e (it blank t us), expression_joined words e blank blank_is (it blank t us) parted j)
@@ -291,6 +310,7 @@ module _ (words : Words) where
 
     member_joined : {n : Node} (is : IsMember n) (d : ℕ) (g : Gap) → IsGap g → (us : Items) → Apart us → Joined us → Joined (member_tokens is d g us)
     member_joined (shapes.static_block at b) d g h us a j = (h, words.static_whole, block_apart b d blank blank_wide us (items.key (codes "static")), block_joined b d blank blank_is us a j)
+    member_joined (shapes.method at s (shapes.method_name at' w t z) f) d g h us a j = static_joined s (is_generator f) (is_async f) w t g h (function_tokens f d us) (function_opens f d us (items.key w) refl) (function_joined f d us a j)
 
     members_joined : {ns : List Node} (is : AreMembers ns) (d : ℕ) (us : Items) → Apart us → Joined us → Joined (members_tokens is d us)
     members_joined shapes.no_members d us a j = j

@@ -1,6 +1,7 @@
 -- The layout of a statement is the text of its tokens.
 use Rattle.std.proofs.Common.{◌≡◌, ℕ, suc, Bool, true, false, List, [], ◌∷◌, ◌++◌, map, codes, refl, ap, sym, ◌∙◌}
 use Rattle.std.proofs.lemmas.Bool.{false≢true}
+use Rattle.ecma_kind.specs.declared.operators.MethodKind.TheVariants.{Method}
 use Rattle.ecma_kind.specs.declared.operators.VarDeclKind.{VarDeclKind}
 use Rattle.ecma_kind.specs.declared.kind.Kind.{Kind}
 use Rattle.ecma_kind.specs.declared.kind.Kind.TheVariants as kind
@@ -12,18 +13,18 @@ use Rattle.ecma_print.specs.declared.place.Beside.TheVariants.{NoNeighbor}
 use Rattle.ecma_print.specs.declared.place.Between.{Between}
 use Rattle.ecma_print.specs.declared.place.Between.TheVariants.{Blank, Finally, Else, LineElse, Parentheses, Equals, Extends}
 use Rattle.ecma_print.specs.declared.place.Spot.{Spot}
-use Rattle.ecma_print.specs.declared.place.Place.TheVariants.{At, Within, Deeper, Block, Commas, Arguments, FunctionHead}
+use Rattle.ecma_print.specs.declared.place.Place.TheVariants.{At, Within, Deeper, Block, Commas, Arguments, FunctionHead, MethodHead}
 use Rattle.ecma_print.specs.Places.{before, after, free, beginning, right}
 use Rattle.ecma_print.specs.Laid.{Laid, is_absent, is_block}
 use Rattle.ecma_print.specs.Lists.{new_lines, block, more_commas}
 use Rattle.ecma_print.specs.Statements.{else_behind, behind_body, case_word, keyword, head, for_word}
-use Rattle.ecma_print.specs.Functions.{function_head}
+use Rattle.ecma_print.specs.Functions.{function_head, method_head, static_word}
 use Rattle.ecma_print.specs.Layout.{in_place, lay_step, laid}
 use Rattle.ecma_tokens.specs.Items as items
 use Rattle.ecma_tokens.specs.Items.{sign, Gap, no_gap, Items, it, render}
 use Rattle.ecma_reread.specs.Shapes as shapes
-use Rattle.ecma_reread.specs.Shapes.{Level, IsExpression, IsDeclarator, AreDeclarators, Ending, IsStatement, IsBlock, IsCase, AreCases, IsCatch, AreStatements, IsOptional, IsForLeft, IsInitializer, IsForDeclarator, AreForDeclarators, IsForInit, IsPattern, AreParams, IsFunction, IsFunctionName, IsIdent, IsHeritage, IsClass, IsMember, AreMembers}
-use Rattle.ecma_reread.specs.Tokens.{margin, line_at, blank, sign_of, expression_tokens, declarator_tokens, declarators_tokens, closing_gap, is_braced, branch_gap, test_tokens, statement_tokens, block_tokens, case_tokens, cases_tokens, catch_tokens, lined_tokens, optional_tokens, for_left_tokens, for_tokens, initializer_tokens, as_declarator, as_declarators, for_init_tokens, arguments_tokens, function_word, is_generator, is_async, function_tokens, function_name_tokens, ident_word, heritage_tokens, class_tokens, member_tokens, members_tokens}
+use Rattle.ecma_reread.specs.Shapes.{Level, IsExpression, IsDeclarator, AreDeclarators, Ending, IsStatement, IsBlock, IsCase, AreCases, IsCatch, AreStatements, IsOptional, IsForLeft, IsInitializer, IsForDeclarator, AreForDeclarators, IsForInit, IsPattern, AreParams, IsFunction, IsFunctionName, IsIdent, IsHeritage, IsClass, IsMember, AreMembers, static_modifiers}
+use Rattle.ecma_reread.specs.Tokens.{margin, line_at, blank, sign_of, expression_tokens, declarator_tokens, declarators_tokens, closing_gap, is_braced, branch_gap, test_tokens, statement_tokens, block_tokens, case_tokens, cases_tokens, catch_tokens, lined_tokens, optional_tokens, for_left_tokens, for_tokens, initializer_tokens, as_declarator, as_declarators, for_init_tokens, arguments_tokens, function_word, is_generator, is_async, function_tokens, function_name_tokens, ident_word, heritage_tokens, class_tokens, member_tokens, members_tokens, method_tokens, static_tokens}
 use Rattle.ecma_reread.proofs.Layouts.{laid_node, at_node, gap_out, expression_laid, within_laid, arguments_laid, declarator_laid, more_declarators_laid, pattern_laid, pattern_gap_out}
 use Rattle.ecma_reread.proofs.Spots.{calm_start, calm_0, calm_1, quiet}
 use Rattle.ecma_reread.proofs.HeadLayouts.{head_laid}
@@ -210,6 +211,21 @@ heritage_laid (shapes.heritage e) m us =
 
 pub function_head_laid : {n : Node} (is : IsFunction n) (m rest : List ℕ) → (laid n).at FunctionHead m rest ≡ function_head (kind.Function (is_generator is) (is_async is)) ++ rest
 function_head_laid (shapes.function_of at of_params x y {params = ps'} {body = b'} {none = n'} {none' = n''} ps ws b a a') m rest = at_node at (kind.Function x y) (node_of of_params kind.List ps' ∷ b' ∷ n' ∷ n'' ∷ []) FunctionHead m rest
+
+method_head_laid : {n : Node} (is : IsFunction n) (m rest : List ℕ) → (laid n).at MethodHead m rest ≡ method_head (kind.Function (is_generator is) (is_async is)) ++ rest
+method_head_laid (shapes.function_of at of_params x y {params = ps'} {body = b'} {none = n'} {none' = n''} ps ws b a a') m rest = at_node at (kind.Function x y) (node_of of_params kind.List ps' ∷ b' ∷ n' ∷ n'' ∷ []) MethodHead m rest
+
+method_text : (x y : Bool) (w : List ℕ) (g : Gap) (us : Items) → render (method_tokens x y w g us) ≡ g.blanks ++ (method_head (kind.Function x y) ++ (w ++ render us))
+unfolding render
+method_text true true w g us = refl
+method_text true false w g us = refl
+method_text false true w g us = refl
+method_text false false w g us = refl
+
+static_text : (s x y : Bool) (w : List ℕ) (g : Gap) (us : Items) → render (static_tokens s (λ h. method_tokens x y w h us) g) ≡ g.blanks ++ (static_word s ++ (method_head (kind.Function x y) ++ (w ++ render us)))
+unfolding render
+static_text true x y w g us = ap (λ z. g.blanks ++ (codes "static" ++ z)) (method_text x y w blank us)
+static_text false x y w g us = method_text x y w g us
 
 blank_name_laid : {n : Node} (i : IsIdent n) (m : List ℕ) (us : Items) → (laid n).at (Within Blank (free 1)) m (render us) ≡ render (it blank (items.key (ident_word i)) us)
 unfolding render
@@ -421,6 +437,17 @@ mutual
       let m = margin d in
       ap (λ z. g.blanks ++ z)
       (sym (at_node at kind.StaticBlock (b' ∷ []) (At (free 0)) m (render us) ∙ (ap (λ z. codes "static " ++ z) (block_again b m (render us)) ∙ ap (λ z. codes "static" ++ z) (block_laid b d blank us))))
+  member_laid (shapes.method at s {function = f'} (shapes.method_name at' w t z) f) d g us =
+      let m = margin d in
+      let x = is_generator f in
+      let y = is_async f in
+      let fs = function_tokens f d us in
+      static_text s x y w g fs
+      ∙ ap (λ z. g.blanks ++ z)
+      (sym (at_node at (kind.ClassMethod Method (static_modifiers s)) (node_of at' (kind.IdentName w) [] ∷ f' ∷ []) (At (free 0)) m (render us)
+      ∙ ap (λ z. static_word s ++ z)
+      (method_head_laid f m ((laid (node_of at' (kind.IdentName w) [])).at (At (free 1)) m ((laid f').at (At (free 1)) m (render us)))
+      ∙ ap (λ z. method_head (kind.Function x y) ++ z) (at_node at' (kind.IdentName w) [] (At (free 1)) m ((laid f').at (At (free 1)) m (render us)) ∙ ap (λ z. w ++ z) (function_laid f d us)))))
 
   members_laid : {ns : List Node} (is : AreMembers ns) (d : ℕ) (us : Items) → new_lines (map laid ns) (margin d) (render us) ≡ render (members_tokens is d us)
   members_laid shapes.no_members d us = refl

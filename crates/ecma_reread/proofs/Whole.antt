@@ -1,5 +1,6 @@
 -- The tree that is read of a statement is the tree without spans.
 use Rattle.std.proofs.Common.{true, false, ◌≡◌, List, [], ◌∷◌, map, refl, ap, ap₂, sym, ◌∙◌, Bool}
+use Rattle.ecma_kind.specs.declared.operators.MethodKind.TheVariants.{Method}
 use Rattle.ecma_kind.specs.declared.operators.BinaryOp.TheVariants as op
 use Rattle.ecma_kind.specs.declared.kind.Kind.TheVariants as kind
 use Rattle.ecma_kind.specs.declared.span.Span.{Span}
@@ -8,7 +9,7 @@ use Rattle.ecma_tree.specs.Nodes.{absent, list_node, node_of, dummy_span}
 use Rattle.ecma_grammar.specs.trees.Parts.{children_of}
 use Rattle.ecma_tree.specs.Spans.{without_spans}
 use Rattle.ecma_reread.specs.Shapes as shapes
-use Rattle.ecma_reread.specs.Shapes.{Level, IsIdent, ident, IsKey, key, IsAbsent, IsExpression, IsElement, IsArguments, AreElements, AreExpressions, IsInitializer, IsDeclarator, AreDeclarators, Ending, IsStatement, IsBlock, AreStatements, AreSlots, IsCase, AreCases, IsCatch, IsChainKey, IsOptional, IsForLeft, IsPropertyName, IsProperty, AreProperties, Role, IsPattern, IsDefaulted, IsForInit, IsPart, AreParts, IsFunction, AreParams, IsFunctionName, IsHeritage, IsClass, IsMember, AreMembers}
+use Rattle.ecma_reread.specs.Shapes.{Level, IsIdent, ident, IsKey, key, IsAbsent, IsExpression, IsElement, IsArguments, AreElements, AreExpressions, IsInitializer, IsDeclarator, AreDeclarators, Ending, IsStatement, IsBlock, AreStatements, AreSlots, IsCase, AreCases, IsCatch, IsChainKey, IsOptional, IsForLeft, IsPropertyName, IsProperty, AreProperties, Role, IsPattern, IsDefaulted, IsForInit, IsPart, AreParts, IsFunction, AreParams, IsFunctionName, IsHeritage, IsClass, IsMember, AreMembers, static_modifiers}
 use Rattle.ecma_reread.specs.Tokens.{key_word, chain_kind, as_declarator, as_declarators}
 use Rattle.ecma_reread.specs.Bare.{bare, bare_ident, bare_expression, bare_element, bare_arguments, bare_elements, bare_expressions, bare_initializer, bare_declarator, bare_declarators, bare_statement, bare_block, bare_statements, bare_slots, bare_case, bare_cases, bare_catch, bare_optional, bare_for_left, bare_property_name, bare_property, bare_properties, bare_pattern, bare_defaulted, bare_for_init, bare_part, bare_parts, bare_substitutions, bare_params, bare_function, bare_function_name, bare_heritage, bare_class, bare_member, bare_members}
 use Rattle.ecma_reread.proofs.Unplaced.{without_spans-node}
@@ -268,6 +269,8 @@ mutual
 
   member_bare : {n : Node} (is : IsMember n) → without_spans n ≡ bare_member is
   member_bare (shapes.static_block at b) = without_spans-node at kind.StaticBlock _ ∙ ap (λ x. bare kind.StaticBlock (x ∷ [])) (block_bare b)
+  member_bare (shapes.method at s (shapes.method_name at' w t z) f) =
+      without_spans-node at (kind.ClassMethod Method (static_modifiers s)) _ ∙ ap₂ (λ x y. bare (kind.ClassMethod Method (static_modifiers s)) (x ∷ y ∷ [])) (without_spans-node at' (kind.IdentName w) []) (function_bare f)
 
   members_bare : {ns : List Node} (is : AreMembers ns) → map without_spans ns ≡ bare_members is
   members_bare shapes.no_members = refl

@@ -1,5 +1,5 @@
 -- The trees of expressions and statements, a constructor for each form. Parentheses are parts of these trees: none have to be added.
-use Rattle.std.specs.Prelude.{◌≡◌, ℕ, ◌-◌, true, false, List, [], ◌∷◌, length, Some, ◌++◌, codes, Bool, ◌+◌, ◌||◌, is_some}
+use Rattle.std.specs.Prelude.{◌≡◌, ℕ, ◌-◌, true, false, List, [], ◌∷◌, length, Some, ◌++◌, codes, Bool, ◌+◌, ◌||◌, is_some, None, bytes_eq}
 use Rattle.ecma_number.specs.Numeral.{numeral_of}
 use Rattle.ecma_lex.specs.Text.{piece}
 use Rattle.ecma_lex.specs.Keys.{is_reserved, key_end, priv_name_end}
@@ -14,6 +14,8 @@ use Rattle.ecma_kind.specs.declared.operators.UpdateOp.{UpdateOp}
 use Rattle.ecma_kind.specs.declared.operators.AssignOp.{AssignOp}
 use Rattle.ecma_kind.specs.declared.operators.BinaryOp.{BinaryOp}
 use Rattle.ecma_kind.specs.declared.operators.BinaryOp.TheVariants as op
+use Rattle.ecma_kind.specs.declared.operators.MethodKind.TheVariants.{Method}
+use Rattle.ecma_kind.specs.declared.operators.MemberModifiers.{MemberModifiers}
 use Rattle.ecma_kind.specs.declared.operators.MetaPropKind.TheVariants.{NewTarget, ImportMeta}
 use Rattle.ecma_kind.specs.declared.kind.Kind.TheVariants as kind
 use Rattle.ecma_tree.specs.declared.node.Node.{Node}
@@ -318,6 +320,13 @@ pub data IsHeritage : Node → Type 0 where
   no_heritage : {none : Node} → IsAbsent none → IsHeritage none
   heritage : {e : Node} → IsExpression callee e → IsHeritage e
 
+-- a name of a method; the constructor is none
+pub data IsMethodName : Node → Type 0 where
+  method_name : (at : Span) (word : List ℕ) → IsToken key_end word → bytes_eq word (codes "constructor") ≡ false → IsMethodName (node_of at (kind.IdentName word) [])
+
+abbrev pub static_modifiers : Bool → MemberModifiers
+static_modifiers is_static = record { accessibility = None; is_static = is_static; is_abstract = false; is_optional = false; is_override = false }
+
 -- the name of a function that may have none
 pub data IsFunctionName : Node → Type 0 where
   unnamed : {none : Node} → IsAbsent none → IsFunctionName none
@@ -371,6 +380,7 @@ mutual
 
   pub data IsMember : Node → Type 0 where
     static_block : (at : Span) {b : Node} → IsBlock b → IsMember (node_of at kind.StaticBlock (b ∷ []))
+    method : (at : Span) (is_static : Bool) {key function : Node} → IsMethodName key → IsFunction function → IsMember (node_of at (kind.ClassMethod Method (static_modifiers is_static)) (key ∷ function ∷ []))
 
   pub data AreMembers : List Node → Type 0 where
     no_members : AreMembers []
