@@ -31,3 +31,4 @@ pub mod Numbers
 pub mod Mapping
 pub mod Seeing
 pub mod NamingAgain
+pub mod ResolvedApart

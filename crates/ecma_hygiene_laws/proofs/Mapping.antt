@@ -18,7 +18,7 @@ abbrev has : ℕ → Stop → Bool
 has ctxt stop = has_context ctxt (own_contexts stop)
 
 -- what declares in a context, opens a scope
-has-opened : (ctxt : ℕ) (stop : Stop) → has ctxt stop ≡ true → opened stop ≡ true
+pub has-opened : (ctxt : ℕ) (stop : Stop) → has ctxt stop ≡ true → opened stop ≡ true
 has-opened ctxt stop h = by (opened stop) h
   where
     by : (b : Bool) → has_context ctxt (cond b (map (λ id. id.1) (own_ids stop.around.role (innermost stop.around.scopes) stop.node)) []) ≡ true → b ≡ true

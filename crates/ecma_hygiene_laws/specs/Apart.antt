@@ -7,7 +7,7 @@ use Rattle.ecma_scope.specs.declared.role.Role.TheVariants as role
 use Rattle.ecma_scope.specs.Declarations.{is_hoisted}
 use Rattle.ecma_scope.specs.Bindings.{FollowBindings}
 use Rattle.ecma_scope.specs.Laws.{without_contexts}
-use Rattle.ecma_scope.specs.Resolved.{contexts, is_name}
+use Rattle.ecma_scope.specs.Resolved.{contexts, is_name, resolved}
 use Rattle.ecma_scope.specs.Scopes.{opens}
 use Rattle.ecma_hygiene.specs.declared.naming.Named.{Named}
 use Rattle.ecma_hygiene.specs.Capture.{NoneDeclares}
@@ -17,6 +17,7 @@ use Rattle.ecma_hygiene.specs.Renamed.{kind_is_absent, renamed}
 use Rattle.ecma_hygiene.specs.Sights.{sights}
 use Rattle.ecma_hygiene.specs.Texts.{HygienicTexts, text_in}
 use Rattle.ecma_hygiene_laws.specs.DeclaredIds.{DeclaredId, scope_ids}
+use Rattle.ecma_hygiene_laws.specs.Resolving.{IsPlainModule}
 use Rattle.ecma_hygiene_laws.specs.Stops.{IsRight, Stop, stops}
 
 -- the contexts in which the scope of a node declares ids, if it opens one
@@ -72,3 +73,8 @@ ContextsAreMapped = (unresolved top free left : ℕ) (tree : Node) → TellsScop
 abbrev pub TextsNameWhatIdsDo : Type 0
 TextsNameWhatIdsDo = (free left : ℕ) (tree : Node) (names : List Named) → HygienicTexts tree names → TellsScopesApart free left tree → contexts tree ≤ left
     → FollowBindings free (renamed (text_in names) tree) (without_contexts (renamed (text_in names) tree))
+
+-- the contexts of a resolved module do, where there were contexts enough
+abbrev pub ResolvedTellsScopesApart : Type 0
+ResolvedTellsScopesApart = (unresolved top left : ℕ) (source : Node) → IsPlainModule source → left < unresolved → left < top → unresolved ≢ top → contexts source ≤ left
+    → TellsScopesApart unresolved left (resolved unresolved top left source)

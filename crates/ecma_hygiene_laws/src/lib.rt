@@ -4,7 +4,7 @@
 //! Each function carries one law, and does nothing. The laws are stated in `specs/`.
 #![tactic(auto)]
 
-ghost use Rattle.ecma_hygiene_laws.specs.Apart.{ContextsAreMapped, TextsNameWhatIdsDo};
+ghost use Rattle.ecma_hygiene_laws.specs.Apart.{ContextsAreMapped, ResolvedTellsScopesApart, TextsNameWhatIdsDo};
 ghost use Rattle.ecma_hygiene_laws.specs.ReadAgain.{FollowsItsTexts, IdsStayApart, IsReadAgain};
 ghost use Rattle.ecma_hygiene_laws.specs.Resolving.{ResolvedFollowsItsTexts, ResolvedIsReadAgain, ResolvedIsRight};
 ghost use Rattle.ecma_hygiene_laws.specs.Scopes.{ScopesDeclareFinalTexts};
@@ -57,4 +57,9 @@ pub fn contexts_are_mapped_one_to_one()
 /// their texts are bound in one scope, and a free one, and it alone, has the context of free names.
 pub fn final_texts_name_what_ids_do()
     ensures { TextsNameWhatIdsDo }
+{}
+
+/// The contexts of a resolved module tell its scopes apart.
+pub fn resolved_contexts_tell_scopes_apart()
+    ensures { ResolvedTellsScopesApart }
 {}
