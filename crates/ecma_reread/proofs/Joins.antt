@@ -139,6 +139,7 @@ pub record Words : Type 0 where
   pub class_whole : IsToken key_end (codes "class")
   pub extends_whole : IsToken key_end (codes "extends")
   pub static_whole : IsToken key_end (codes "static")
+  pub constructor_whole : IsToken key_end (codes "constructor")
   pub function_whole : IsToken key_end (codes "function")
 
 module _ (words : Words) where
@@ -351,7 +352,7 @@ module _ (words : Words) where
     defaulted_joined (shapes.no_default p) g h us z j = pattern_joined p g h us z j
     defaulted_joined (shapes.with_default at p e) g h us z j = pattern_joined p g h (it blank (sign (codes "=")) (expression_tokens e blank us)) parted (value_joined e us (expression_joined e blank blank_is us z j))
 
-    initializer_joined : {n : Node} (is : IsInitializer n) (us : Items) → Soft false us → Joined us → Joined (initializer_tokens is us)
+    pub initializer_joined : {n : Node} (is : IsInitializer n) (us : Items) → Soft false us → Joined us → Joined (initializer_tokens is us)
     initializer_joined (shapes.no_initializer a) us z j = j
     initializer_joined (shapes.initializer e) us z j = value_joined e us (expression_joined e blank blank_is us z j)
 

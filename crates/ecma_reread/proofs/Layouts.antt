@@ -581,7 +581,7 @@ mutual
   defaulted_laid (shapes.with_default at {p = p'} {e = e'} p e) m us =
       at_node at kind.AssignPat (p' ∷ e' ∷ []) (At (free 1)) m (render us) ∙ (ap (λ z. (laid p').at (At (free 1)) m z) (value_laid e m us (expression_laid e (free 1) calm_1 refl m us)) ∙ pattern_laid p m (it blank (sign (codes "=")) (expression_tokens e blank us)))
 
-  initializer_laid : {n : Node} (is : IsInitializer n) (m : List ℕ) (us : Items) → (laid n).at (Within Equals (free 1)) m (render us) ≡ render (initializer_tokens is us)
+  pub initializer_laid : {n : Node} (is : IsInitializer n) (m : List ℕ) (us : Items) → (laid n).at (Within Equals (free 1)) m (render us) ≡ render (initializer_tokens is us)
   initializer_laid (shapes.no_initializer (shapes.absent at)) m us = at_node at kind.Absent [] (Within Equals (free 1)) m (render us)
   initializer_laid (shapes.initializer e) m us = value_laid e m us (expression_laid e (free 1) calm_1 refl m us)
 

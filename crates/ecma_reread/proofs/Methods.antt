@@ -1,5 +1,5 @@
 -- Methods of classes are read as they are laid out.
-use Rattle.std.proofs.Common.{◌≡◌, ℕ, Bool, true, false, List, [], ◌∷◌, bytes_eq, codes, nat_le, refl, ap, ◌∙◌}
+use Rattle.std.proofs.Common.{◌≡◌, ℕ, Bool, true, false, List, [], ◌∷◌, bytes_eq, codes, nat_le, refl, ap, ◌∙◌, None}
 use Rattle.ecma_kind.specs.declared.operators.MethodKind.TheVariants.{Method, Getter, Setter}
 use Rattle.ecma_kind.specs.declared.kind.Kind.TheVariants as kind
 use Rattle.ecma_tree.specs.declared.node.Node.{Node}
@@ -29,10 +29,10 @@ use Rattle.ecma_reread.proofs.Blocks.{ReadAsBlock}
 use Rattle.ecma_reread.proofs.Functions.{flag, params_made, signature_read}
 use Rattle.ecma_reread.proofs.Classes.{ReadAsMember}
 
-abbrev key_of : List ℕ → Node
+abbrev pub key_of : List ℕ → Node
 key_of w = bare (kind.IdentName w) []
 
-abbrev written : Bool → List Node
+abbrev pub written : Bool → List Node
 written true = key_of (codes "static") ∷ []
 written false = []
 
@@ -48,7 +48,12 @@ modified_made : (st : Bool) (w : List ℕ) (f : Node) → bytes_eq w (codes "con
 modified_made true w f z = simp (nodes, z)
 modified_made false w f z = simp (nodes, z)
 
-modifier_eats : nat_le 1 (eats modifier) ≡ true
+constructor_made : (ps n : Node)
+    → made form.Modified 0 0 (list_node [] ∷ bare (kind.ClassMethod Method (no_modifiers false)) (key_of (codes "constructor") ∷ bare (kind.Function false false) (ps ∷ n ∷ absent ∷ absent ∷ []) ∷ []) ∷ [])
+    ≡ bare (kind.Constructor None false) (key_of (codes "constructor") ∷ ps ∷ n ∷ [])
+constructor_made ps n = simp nodes
+
+pub modifier_eats : nat_le 1 (eats modifier) ≡ true
 unfolding modifier
 modifier_eats = refl
 
@@ -151,11 +156,10 @@ module _ (assigned : Bool) {ps : Node} (is : IsArguments shapes.bindings ps) (F 
       go true e = rw e refl
       go false e = rw e refl
 
-  pub method_form : (st x y : Bool) (w : List ℕ) → bytes_eq w (codes "constructor") ≡ false
-      → ReadAsMember assigned (λ g us. static_tokens st (λ h. method_tokens x y w h (rest us)) g)
-      (bare (kind.ClassMethod Method (static_modifiers st)) (key_of w ∷ bare (kind.Function x y) (list_node (bare_params (bare_arguments is)) ∷ n ∷ absent ∷ absent ∷ []) ∷ []))
+  as_member : (st x y : Bool) (w : List ℕ) {whole : Node} → made form.Modified 0 0 (list_node (written st) ∷ bare (kind.ClassMethod Method (no_modifiers false)) (key_of w ∷ bare (kind.Function x y) (list_node (bare_params (bare_arguments is)) ∷ n ∷ absent ∷ absent ∷ []) ∷ []) ∷ []) ≡ whole
+      → ReadAsMember assigned (λ g us. static_tokens st (λ h. method_tokens x y w h (rest us)) g) whole
   unfolding member
-  method_form st x y w z = record {
+  as_member st x y w {whole} e = record {
     reads = λ g us.
         (let I = interp assigned (means assigned) in
         let ts = static_tokens st (λ h. method_tokens x y w h (rest us)) g in
@@ -168,6 +172,15 @@ module _ (assigned : Bool) {ps : Node} (is : IsArguments shapes.bindings ps) (F 
         (ap (or_on (I (setter // method // field)) ms) (no_getter x y w (behind st g) us)
         ∙ (ap (or_on (I (method // field)) ms) (no_setter x y w (behind st g) us) ∙ ap (or_on (I field) ms) (method_read x y w (behind st g) us))))
         ∙ ap (λ q. read (q ∷ []) us)
-        (ap (λ q. made form.Modified 0 0 (list_node (written st) ∷ q ∷ [])) (function_made x y w (list_node (bare_arguments is)) n)
-        ∙ (modified_made st w _ z ∙ ap (λ q. bare (kind.ClassMethod Method (static_modifiers st)) (key_of w ∷ bare (kind.Function x y) (q ∷ n ∷ absent ∷ absent ∷ []) ∷ [])) (params_made is))))));
+        (ap (λ q. made form.Modified 0 0 (list_node (written st) ∷ q ∷ []))
+        (function_made x y w (list_node (bare_arguments is)) n ∙ ap (λ q. bare (kind.ClassMethod Method (no_modifiers false)) (key_of w ∷ bare (kind.Function x y) (q ∷ n ∷ absent ∷ absent ∷ []) ∷ [])) (params_made is))
+        ∙ e))));
   }
+
+  pub method_form : (st x y : Bool) (w : List ℕ) → bytes_eq w (codes "constructor") ≡ false
+      → ReadAsMember assigned (λ g us. static_tokens st (λ h. method_tokens x y w h (rest us)) g)
+      (bare (kind.ClassMethod Method (static_modifiers st)) (key_of w ∷ bare (kind.Function x y) (list_node (bare_params (bare_arguments is)) ∷ n ∷ absent ∷ absent ∷ []) ∷ []))
+  method_form st x y w z = as_member st x y w (modified_made st w _ z)
+
+  pub constructor_form : ReadAsMember assigned (λ g us. it g (items.key (codes "constructor")) (rest us)) (bare (kind.Constructor None false) (key_of (codes "constructor") ∷ list_node (bare_params (bare_arguments is)) ∷ n ∷ []))
+  constructor_form = as_member false false false (codes "constructor") (constructor_made (list_node (bare_params (bare_arguments is))) n)

@@ -1,12 +1,13 @@
 -- Statements by their shape.
 use Rattle.std.proofs.Common.{ℕ, suc, Bool, true, false, List, ap, codes, sym, ◌∙◌}
 use Rattle.ecma_tree.specs.declared.node.Node.{Node}
-use Rattle.ecma_reread.proofs.Methods.{method_form}
+use Rattle.ecma_reread.proofs.Fields.{field_form}
+use Rattle.ecma_reread.proofs.Methods.{method_form, constructor_form}
 use Rattle.ecma_reread.proofs.Classes.{ReadAsMember, ReadAsMembers, no_members_form, more_members_form, static_block_form, HeritageForm, class_form}
 use Rattle.ecma_reread.specs.Machine.{taken}
 use Rattle.ecma_reread.specs.Shapes as shapes
 use Rattle.ecma_reread.specs.Shapes.{IsInitializer, IsDeclarator, AreDeclarators, Ending, IsStatement, IsBlock, IsCase, AreCases, IsCatch, AreStatements, IsOptional, IsForDeclarator, AreForDeclarators, IsForInit, IsForLeft, IsHeritage, IsMember, AreMembers}
-use Rattle.ecma_reread.specs.Tokens.{line_at, ident_word, closing_gap, is_braced, branch_gap, statement_tokens, block_tokens, case_tokens, cases_tokens, catch_tokens, lined_tokens, as_declarator, as_declarators, for_left_tokens, member_tokens, members_tokens}
+use Rattle.ecma_reread.specs.Tokens.{line_at, ident_word, closing_gap, is_braced, branch_gap, statement_tokens, block_tokens, case_tokens, cases_tokens, catch_tokens, lined_tokens, as_declarator, as_declarators, for_left_tokens, member_tokens, members_tokens, key_word}
 use Rattle.ecma_reread.specs.Bare.{bare_statement, bare_block, bare_case, bare_cases, bare_catch, bare_statements, bare_for_left, bare_member, bare_members}
 use Rattle.ecma_reread.proofs.Bindings.{standing}
 use Rattle.ecma_reread.proofs.Beginnings.{no_new_line, no_brace}
@@ -95,6 +96,8 @@ module _ (assigned : Bool) where
     member_form_of : {n : Node} (is : IsMember n) (d : ℕ) → ReadAsMember assigned (member_tokens is d) (bare_member is)
     member_form_of (shapes.static_block at b) d = static_block_form assigned (block_form b d)
     member_form_of (shapes.method at s (shapes.method_name at' w t z) (shapes.function_of at'' at''' x y ps ws b a a')) d = method_form assigned ps (argument_forms assigned ps) (block_form b d) s x y w z
+    member_form_of (shapes.class_constructor at at' at'' ps ws b) d = constructor_form assigned ps (argument_forms assigned ps) (block_form b d)
+    member_form_of (shapes.field at s k v a) d = field_form assigned v (initializer_form assigned v) s (key_word k)
 
     pub member_forms : {ns : List Node} (is : AreMembers ns) (d : ℕ) → ReadAsMembers assigned (members_tokens is d) (bare_members is)
     member_forms shapes.no_members d = no_members_form assigned

@@ -13,11 +13,11 @@ use Rattle.ecma_tokens.specs.Items.{Tok, sign, Gap, no_gap, Items, it}
 use Rattle.ecma_tokens.specs.Good.{IsGap, IsToken, is_gap_character}
 use Rattle.ecma_tokens.specs.Joins.{joins, joins_next, Joined}
 use Rattle.ecma_reread.specs.Shapes as shapes
-use Rattle.ecma_reread.specs.Shapes.{Level, IsExpression, Ending, IsStatement, IsBlock, IsCase, AreCases, IsCatch, AreStatements, IsOptional, IsForLeft, IsForInit, IsPattern, IsFunction, IsHeritage, IsClass, IsMember, AreMembers}
-use Rattle.ecma_reread.specs.Tokens.{margin, line_at, blank, sign_of, expression_tokens, ident_word, declarators_tokens, closing_gap, is_braced, branch_gap, test_tokens, statement_tokens, block_tokens, case_tokens, cases_tokens, catch_tokens, lined_tokens, optional_tokens, for_left_tokens, for_tokens, initializer_tokens, as_declarators, for_init_tokens, pattern_tokens, arguments_tokens, function_word, is_generator, is_async, function_tokens, heritage_tokens, class_tokens, member_tokens, members_tokens, method_tokens, static_tokens, method_word}
+use Rattle.ecma_reread.specs.Shapes.{IsInitializer, Level, IsExpression, Ending, IsStatement, IsBlock, IsCase, AreCases, IsCatch, AreStatements, IsOptional, IsForLeft, IsForInit, IsPattern, IsFunction, IsHeritage, IsClass, IsMember, AreMembers}
+use Rattle.ecma_reread.specs.Tokens.{margin, line_at, blank, sign_of, expression_tokens, ident_word, declarators_tokens, closing_gap, is_braced, branch_gap, test_tokens, statement_tokens, block_tokens, case_tokens, cases_tokens, catch_tokens, lined_tokens, optional_tokens, for_left_tokens, for_tokens, initializer_tokens, as_declarators, for_init_tokens, pattern_tokens, arguments_tokens, function_word, is_generator, is_async, function_tokens, heritage_tokens, class_tokens, member_tokens, members_tokens, method_tokens, static_tokens, method_word, key_word}
 use Rattle.ecma_reread.proofs.Softs.{closing, semicolon, colon, Soft, is_object, parted}
 use Rattle.ecma_reread.proofs.Beginnings.{pattern_blank_joins, begun, blank_joins, opening_joins}
-use Rattle.ecma_reread.proofs.Joins.{ident_whole, no_gap_is, blank_is, Words, expression_joined, declarators_soft, declarator_joined, declarators_joined, pattern_joined, arguments_joined}
+use Rattle.ecma_reread.proofs.Joins.{ident_whole, no_gap_is, blank_is, Words, expression_joined, declarators_soft, declarator_joined, declarators_joined, pattern_joined, arguments_joined, initializer_joined, key_whole}
 
 -- gaps that keep any two tokens apart
 abbrev pub Wide : Gap → Type 0
@@ -123,9 +123,20 @@ method_apart false true false w g a us t = a t (sign (codes "*"))
 method_apart false false true w g a us t = a t (items.key (codes "async"))
 method_apart false false false w g a us t = a t (items.key w)
 
+field_apart : (s : Bool) (w : List ℕ) (g : Gap) → Wide g → (us : Items) → Apart (static_tokens s (λ h. it h (items.key w) us) g)
+field_apart true w g a us t = a t (items.key (codes "static"))
+field_apart false w g a us t = a t (items.key w)
+
+-- a word in front of a value, or of the end
+value_opens : {n : Node} (is : IsInitializer n) (w : List ℕ) (us : Items) → joins_next (items.key w) (initializer_tokens is (sign_of (codes ";") us)) ≡ true
+value_opens (shapes.no_initializer a) w us = refl
+value_opens (shapes.initializer e) w us = refl
+
 member_apart : {n : Node} (is : IsMember n) (d : ℕ) (g : Gap) → Wide g → (us : Items) → Apart (member_tokens is d g us)
 member_apart (shapes.static_block at b) d g w us t = w t (items.key (codes "static"))
 member_apart (shapes.method at s k f) d g w us t = method_apart s (is_generator f) (is_async f) (method_word k) g w (function_tokens f d us) t
+member_apart (shapes.class_constructor at at' at'' ps ws b) d g w us t = w t (items.key (codes "constructor"))
+member_apart (shapes.field at s k v a) d g w us t = field_apart s (key_word k) g w (initializer_tokens v (sign_of (codes ";") us)) t
 
 members_apart : {ns : List Node} (is : AreMembers ns) (d : ℕ) (us : Items) (t : Tok) → joins_next t us ≡ true → joins_next t (members_tokens is d us) ≡ true
 members_apart shapes.no_members d us t a = a
@@ -311,6 +322,15 @@ module _ (words : Words) where
     member_joined : {n : Node} (is : IsMember n) (d : ℕ) (g : Gap) → IsGap g → (us : Items) → Apart us → Joined us → Joined (member_tokens is d g us)
     member_joined (shapes.static_block at b) d g h us a j = (h, words.static_whole, block_apart b d blank blank_wide us (items.key (codes "static")), block_joined b d blank blank_is us a j)
     member_joined (shapes.method at s (shapes.method_name at' w t z) f) d g h us a j = static_joined s (is_generator f) (is_async f) w t g h (function_tokens f d us) (function_opens f d us (items.key w) refl) (function_joined f d us a j)
+    member_joined (shapes.class_constructor at at' at'' ps ws b) d g h us a j =
+        let bs = block_tokens b d blank us in
+        (h, words.constructor_whole, refl, arguments_joined words ps bs (no_gap_is, refl, block_apart b d blank blank_wide us (sign (codes ")")), block_joined b d blank blank_is us a j))
+    member_joined (shapes.field at true k v n) d g h us a j =
+        let vs = sign_of (codes ";") us in
+        (h, words.static_whole, refl, (blank_is, key_whole k, value_opens v (key_word k) us, initializer_joined words v vs semicolon (ended us a j)))
+    member_joined (shapes.field at false k v n) d g h us a j =
+        let vs = sign_of (codes ";") us in
+        (h, key_whole k, value_opens v (key_word k) us, initializer_joined words v vs semicolon (ended us a j))
 
     members_joined : {ns : List Node} (is : AreMembers ns) (d : ℕ) (us : Items) → Apart us → Joined us → Joined (members_tokens is d us)
     members_joined shapes.no_members d us a j = j

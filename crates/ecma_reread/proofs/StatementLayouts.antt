@@ -1,5 +1,5 @@
 -- The layout of a statement is the text of its tokens.
-use Rattle.std.proofs.Common.{◌≡◌, ℕ, suc, Bool, true, false, List, [], ◌∷◌, ◌++◌, map, codes, refl, ap, sym, ◌∙◌}
+use Rattle.std.proofs.Common.{◌≡◌, ℕ, suc, Bool, true, false, List, [], ◌∷◌, ◌++◌, map, codes, refl, ap, sym, ◌∙◌, None}
 use Rattle.std.proofs.lemmas.Bool.{false≢true}
 use Rattle.ecma_kind.specs.declared.operators.MethodKind.TheVariants.{Method}
 use Rattle.ecma_kind.specs.declared.operators.VarDeclKind.{VarDeclKind}
@@ -24,8 +24,8 @@ use Rattle.ecma_tokens.specs.Items as items
 use Rattle.ecma_tokens.specs.Items.{sign, Gap, no_gap, Items, it, render}
 use Rattle.ecma_reread.specs.Shapes as shapes
 use Rattle.ecma_reread.specs.Shapes.{Level, IsExpression, IsDeclarator, AreDeclarators, Ending, IsStatement, IsBlock, IsCase, AreCases, IsCatch, AreStatements, IsOptional, IsForLeft, IsInitializer, IsForDeclarator, AreForDeclarators, IsForInit, IsPattern, AreParams, IsFunction, IsFunctionName, IsIdent, IsHeritage, IsClass, IsMember, AreMembers, static_modifiers}
-use Rattle.ecma_reread.specs.Tokens.{margin, line_at, blank, sign_of, expression_tokens, declarator_tokens, declarators_tokens, closing_gap, is_braced, branch_gap, test_tokens, statement_tokens, block_tokens, case_tokens, cases_tokens, catch_tokens, lined_tokens, optional_tokens, for_left_tokens, for_tokens, initializer_tokens, as_declarator, as_declarators, for_init_tokens, arguments_tokens, function_word, is_generator, is_async, function_tokens, function_name_tokens, ident_word, heritage_tokens, class_tokens, member_tokens, members_tokens, method_tokens, static_tokens}
-use Rattle.ecma_reread.proofs.Layouts.{laid_node, at_node, gap_out, expression_laid, within_laid, arguments_laid, declarator_laid, more_declarators_laid, pattern_laid, pattern_gap_out}
+use Rattle.ecma_reread.specs.Tokens.{margin, line_at, blank, sign_of, expression_tokens, declarator_tokens, declarators_tokens, closing_gap, is_braced, branch_gap, test_tokens, statement_tokens, block_tokens, case_tokens, cases_tokens, catch_tokens, lined_tokens, optional_tokens, for_left_tokens, for_tokens, initializer_tokens, as_declarator, as_declarators, for_init_tokens, arguments_tokens, function_word, is_generator, is_async, function_tokens, function_name_tokens, ident_word, heritage_tokens, class_tokens, member_tokens, members_tokens, method_tokens, static_tokens, key_word}
+use Rattle.ecma_reread.proofs.Layouts.{laid_node, at_node, gap_out, expression_laid, within_laid, arguments_laid, declarator_laid, more_declarators_laid, pattern_laid, pattern_gap_out, initializer_laid}
 use Rattle.ecma_reread.proofs.Spots.{calm_start, calm_0, calm_1, quiet}
 use Rattle.ecma_reread.proofs.HeadLayouts.{head_laid}
 use Rattle.ecma_reread.specs.Heads.{may_hold_in}
@@ -226,6 +226,11 @@ static_text : (s x y : Bool) (w : List ℕ) (g : Gap) (us : Items) → render (s
 unfolding render
 static_text true x y w g us = ap (λ z. g.blanks ++ (codes "static" ++ z)) (method_text x y w blank us)
 static_text false x y w g us = method_text x y w g us
+
+static_field_text : (s : Bool) (w : List ℕ) (g : Gap) (us : Items) → render (static_tokens s (λ h. it h (items.key w) us) g) ≡ g.blanks ++ (static_word s ++ (w ++ render us))
+unfolding render
+static_field_text true w g us = refl
+static_field_text false w g us = refl
 
 blank_name_laid : {n : Node} (i : IsIdent n) (m : List ℕ) (us : Items) → (laid n).at (Within Blank (free 1)) m (render us) ≡ render (it blank (items.key (ident_word i)) us)
 unfolding render
@@ -448,6 +453,21 @@ mutual
       ∙ ap (λ z. static_word s ++ z)
       (method_head_laid f m ((laid (node_of at' (kind.IdentName w) [])).at (At (free 1)) m ((laid f').at (At (free 1)) m (render us)))
       ∙ ap (λ z. method_head (kind.Function x y) ++ z) (at_node at' (kind.IdentName w) [] (At (free 1)) m ((laid f').at (At (free 1)) m (render us)) ∙ ap (λ z. w ++ z) (function_laid f d us)))))
+  member_laid (shapes.class_constructor at at' of_params {params = ps'} {body = b'} ps ws b) d g us =
+      let m = margin d in
+      let bs = block_tokens b d blank us in
+      ap (λ z. g.blanks ++ z)
+      (sym (at_node at (kind.Constructor None false) (node_of at' (kind.IdentName (codes "constructor")) [] ∷ node_of of_params kind.List ps' ∷ b' ∷ []) (At (free 0)) m (render us)
+      ∙ (at_node at' (kind.IdentName (codes "constructor")) [] (At (free 1)) m ((laid (node_of of_params kind.List ps')).at Arguments m ((laid b').at (Within Blank (free 1)) m (render us)))
+      ∙ ap (λ z. codes "constructor" ++ z) (ap (λ z. (laid (node_of of_params kind.List ps')).at Arguments m z) (function_body_laid b m us bs (block_laid b d blank us)) ∙ (params_laid of_params ws m (render bs) ∙ arguments_laid ps m bs)))))
+  member_laid (shapes.field at s {value = v'} {none = n'} (shapes.key at' w t) v a) d g us =
+      let m = margin d in
+      let vs = initializer_tokens v (sign_of (codes ";") us) in
+      static_field_text s w g vs
+      ∙ ap (λ z. g.blanks ++ z)
+      (sym (at_node at (kind.ClassProp (static_modifiers s) false false false) (node_of at' (kind.IdentName w) [] ∷ v' ∷ n' ∷ []) (At (free 0)) m (render us)
+      ∙ ap (λ z. static_word s ++ z)
+      (at_node at' (kind.IdentName w) [] (At (free 1)) m ((laid v').at (Within Equals (free 1)) m (codes ";" ++ render us)) ∙ ap (λ z. w ++ z) (initializer_laid v m (sign_of (codes ";") us)))))
 
   members_laid : {ns : List Node} (is : AreMembers ns) (d : ℕ) (us : Items) → new_lines (map laid ns) (margin d) (render us) ≡ render (members_tokens is d us)
   members_laid shapes.no_members d us = refl

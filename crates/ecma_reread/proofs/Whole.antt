@@ -1,5 +1,5 @@
 -- The tree that is read of a statement is the tree without spans.
-use Rattle.std.proofs.Common.{true, false, ◌≡◌, List, [], ◌∷◌, map, refl, ap, ap₂, sym, ◌∙◌, Bool}
+use Rattle.std.proofs.Common.{true, false, ◌≡◌, List, [], ◌∷◌, map, refl, ap, ap₂, sym, ◌∙◌, Bool, None, codes}
 use Rattle.ecma_kind.specs.declared.operators.MethodKind.TheVariants.{Method}
 use Rattle.ecma_kind.specs.declared.operators.BinaryOp.TheVariants as op
 use Rattle.ecma_kind.specs.declared.kind.Kind.TheVariants as kind
@@ -271,6 +271,14 @@ mutual
   member_bare (shapes.static_block at b) = without_spans-node at kind.StaticBlock _ ∙ ap (λ x. bare kind.StaticBlock (x ∷ [])) (block_bare b)
   member_bare (shapes.method at s (shapes.method_name at' w t z) f) =
       without_spans-node at (kind.ClassMethod Method (static_modifiers s)) _ ∙ ap₂ (λ x y. bare (kind.ClassMethod Method (static_modifiers s)) (x ∷ y ∷ [])) (without_spans-node at' (kind.IdentName w) []) (function_bare f)
+  member_bare (shapes.class_constructor at at' at'' {body = b'} ps ws b) =
+      without_spans-node at (kind.Constructor None false) _
+      ∙ (ap₂ (λ x y. bare (kind.Constructor None false) (x ∷ y ∷ without_spans b' ∷ [])) (without_spans-node at' (kind.IdentName (codes "constructor")) []) (without_spans-node at'' kind.List _ ∙ ap list_node (params_bare at'' ps ws))
+      ∙ ap (λ z. bare (kind.Constructor None false) (bare (kind.IdentName (codes "constructor")) [] ∷ list_node (bare_params (bare_arguments ps)) ∷ z ∷ [])) (block_bare b))
+  member_bare (shapes.field at s {none = n'} k v a) =
+      without_spans-node at (kind.ClassProp (static_modifiers s) false false false) _
+      ∙ (ap₂ (λ x y. bare (kind.ClassProp (static_modifiers s) false false false) (x ∷ y ∷ without_spans n' ∷ [])) (key_bare k) (initializer_bare v)
+      ∙ ap (λ z. bare (kind.ClassProp (static_modifiers s) false false false) (bare (kind.IdentName (key_word k)) [] ∷ bare_initializer v ∷ z ∷ [])) (absent_bare a))
 
   members_bare : {ns : List Node} (is : AreMembers ns) → map without_spans ns ≡ bare_members is
   members_bare shapes.no_members = refl

@@ -75,6 +75,10 @@ static_spelled : Spelled IsKey (codes "static")
 unfolding chars is_utf8 encode is_xid_start is_xid_continue in_ranges xid_start_ranges xid_continue_ranges
 static_spelled = (IsUtf8-from_is_utf8 (codes "static") refl, (refl, refl))
 
+constructor_spelled : Spelled IsKey (codes "constructor")
+unfolding chars is_utf8 encode is_xid_start is_xid_continue in_ranges xid_start_ranges xid_continue_ranges
+constructor_spelled = (IsUtf8-from_is_utf8 (codes "constructor") refl, (refl, refl))
+
 function_spelled : Spelled IsKey (codes "function")
 unfolding chars is_utf8 encode is_xid_start is_xid_continue in_ranges xid_start_ranges xid_continue_ranges
 function_spelled = (IsUtf8-from_is_utf8 (codes "function") refl, (refl, refl))
@@ -246,5 +250,6 @@ layout_words = record {
   class_whole = whole (codes "class") class_spelled;
   extends_whole = whole (codes "extends") extends_spelled;
   static_whole = whole (codes "static") static_spelled;
+  constructor_whole = whole (codes "constructor") constructor_spelled;
   function_whole = whole (codes "function") function_spelled;
 }

@@ -381,6 +381,9 @@ mutual
   pub data IsMember : Node → Type 0 where
     static_block : (at : Span) {b : Node} → IsBlock b → IsMember (node_of at kind.StaticBlock (b ∷ []))
     method : (at : Span) (is_static : Bool) {key function : Node} → IsMethodName key → IsFunction function → IsMember (node_of at (kind.ClassMethod Method (static_modifiers is_static)) (key ∷ function ∷ []))
+    class_constructor : (at at_key of_params : Span) {elements params : List Node} {body : Node} → IsArguments bindings (node_of of_params kind.List elements) → AreParams elements params → IsBlock body
+        → IsMember (node_of at (kind.Constructor None false) (node_of at_key (kind.IdentName (codes "constructor")) [] ∷ node_of of_params kind.List params ∷ body ∷ []))
+    field : (at : Span) (is_static : Bool) {key value none : Node} → IsKey key → IsInitializer value → IsAbsent none → IsMember (node_of at (kind.ClassProp (static_modifiers is_static) false false false) (key ∷ value ∷ none ∷ []))
 
   pub data AreMembers : List Node → Type 0 where
     no_members : AreMembers []
