@@ -13,6 +13,7 @@ use Rattle.ecma_grammar.specs.productions.Types.{params, param, rest_pattern, de
 use Rattle.ecma_grammar.specs.productions.Chains as chains
 use Rattle.ecma_grammar.specs.productions.Functions as functions
 use Rattle.ecma_grammar.specs.productions.Classes.{member, modifier, getter, setter, method, field, question_or_exclamation, class_body, class_declaration}
+use Rattle.ecma_grammar.specs.productions.Primary.{class_expression}
 use Rattle.ecma_grammar.specs.productions.Declarations.{declaration}
 use Rattle.ecma_grammar.specs.productions.Statements as statements
 use Rattle.ecma_grammar.specs.productions.Statements.{statement_body, expression_statement}
@@ -22,9 +23,9 @@ use Rattle.ecma_tokens.specs.Items as items
 use Rattle.ecma_tokens.specs.Items.{sign, Gap, Items, it}
 use Rattle.ecma_reread.specs.Machine.{read, or_on, built_on, interp, means}
 use Rattle.ecma_reread.specs.Shapes as shapes
-use Rattle.ecma_reread.specs.Shapes.{IsHeritage}
-use Rattle.ecma_reread.specs.Tokens.{blank, expression_tokens, heritage_tokens}
-use Rattle.ecma_reread.specs.Bare.{expression_kind, expression_parts, bare_heritage}
+use Rattle.ecma_reread.specs.Shapes.{IsHeritage, IsFunctionName, ident}
+use Rattle.ecma_reread.specs.Tokens.{blank, expression_tokens, heritage_tokens, function_name_tokens}
+use Rattle.ecma_reread.specs.Bare.{expression_kind, expression_parts, bare_heritage, bare_function_name}
 use Rattle.ecma_reread.proofs.Moves.{eats}
 use Rattle.ecma_reread.proofs.Levels.{means_is}
 use Rattle.ecma_reread.proofs.Fronts.{exactly, at_token, refuses_all, all_refused}
@@ -88,6 +89,25 @@ module _ (assigned : Bool) where
     body_read (shapes.heritage e) H w free us =
         (let end = it h (sign (codes "}")) us in
         rw (free, direct assigned shapes.callee H blank (braces us) (exactly (sign (codes "{"))) at_token brace_ends_chain, repeated assigned member (f end) end ms (members_read us)) refl)
+
+    -- with a name, or without one
+
+    name_read : {m : Node} (i : IsFunctionName m) {n : Node} (is : IsHeritage n) → HeritageForm is → (us : Items)
+        → Reads assigned (class_body false) (function_name_tokens i (heritage_tokens is (braces us))) (bare_function_name i ∷ absent ∷ bare_heritage is ∷ absent ∷ list_node [] ∷ list_node ms ∷ []) us
+    unfolding is_reserved reserved_words
+    name_read (shapes.unnamed o) (shapes.no_heritage a) H us = (let end = it h (sign (codes "}")) us in rw (repeated assigned member (f end) end ms (members_read us)) refl)
+    name_read (shapes.unnamed o) (shapes.heritage e) H us =
+        (let end = it h (sign (codes "}")) us in
+        rw (direct assigned shapes.callee H blank (braces us) (exactly (sign (codes "{"))) at_token brace_ends_chain, repeated assigned member (f end) end ms (members_read us)) refl)
+    name_read (shapes.function_name (ident at w i)) (shapes.no_heritage a) H us = (let end = it h (sign (codes "}")) us in rw (i.free, repeated assigned member (f end) end ms (members_read us)) refl)
+    name_read (shapes.function_name (ident at w i)) (shapes.heritage e) H us =
+        (let end = it h (sign (codes "}")) us in
+        rw (i.free, direct assigned shapes.callee H blank (braces us) (exactly (sign (codes "{"))) at_token brace_ends_chain, repeated assigned member (f end) end ms (members_read us)) refl)
+
+    pub class_expression_read : {n : Node} (is : IsHeritage n) → HeritageForm is → {m : Node} (i : IsFunctionName m) (g : Gap) (us : Items)
+        → Reads assigned class_expression (it g (items.key (codes "class")) (function_name_tokens i (heritage_tokens is (braces us)))) (bare kind.ClassExpr (bare_function_name i ∷ bare (kind.Class false) (bare_heritage is ∷ list_node ms ∷ absent ∷ absent ∷ list_node [] ∷ []) ∷ []) ∷ []) us
+    unfolding class_expression
+    class_expression_read is H i g us = ap (built_on (form.Class plain.ClassExpr false)) (means_is assigned (part.Class false) (function_name_tokens i (heritage_tokens is (braces us))) ∙ name_read i is H us)
 
     module _ {n : Node} (is : IsHeritage n) (H : HeritageForm is) (w : List ℕ) (free : is_reserved w ≡ false) where
       abbrev tokens : Laid

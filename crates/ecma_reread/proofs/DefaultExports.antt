@@ -17,11 +17,12 @@ use Rattle.ecma_tokens.specs.Items as items
 use Rattle.ecma_tokens.specs.Items.{sign, Gap, Items, it}
 use Rattle.ecma_tokens.specs.Taking as taking
 use Rattle.ecma_tokens.specs.Taking.{Took, took, refused, token_in}
+use Rattle.ecma_reread.proofs.Classes.{class_expression_read}
 use Rattle.ecma_reread.specs.Machine.{Out, read, unsure, Turn, taken, behind_on, followed_on, fails, built_on, with_front, or_on, interp, means}
 use Rattle.ecma_reread.specs.Shapes as shapes
-use Rattle.ecma_reread.specs.Shapes.{IsExpression, IsFunctionName, IsFunction}
-use Rattle.ecma_reread.specs.Tokens.{blank, sign_of, expression_tokens, function_word, is_generator, is_async, function_name_tokens, function_tokens}
-use Rattle.ecma_reread.specs.Bare.{bare, bare_expression, bare_function_name, bare_function}
+use Rattle.ecma_reread.specs.Shapes.{IsExpression, IsFunctionName, IsFunction, IsClass}
+use Rattle.ecma_reread.specs.Tokens.{blank, sign_of, expression_tokens, function_word, is_generator, is_async, function_name_tokens, function_tokens, class_tokens, closing_gap}
+use Rattle.ecma_reread.specs.Bare.{bare, bare_expression, bare_function_name, bare_function, bare_class}
 use Rattle.ecma_reread.specs.ModuleTokens.{spaced_word}
 use Rattle.ecma_reread.proofs.Fronts.{exactly, at_token}
 use Rattle.ecma_reread.proofs.Towers.{without, excluded}
@@ -29,7 +30,7 @@ use Rattle.ecma_reread.proofs.Forms.{Reads, Refuses}
 use Rattle.ecma_reread.proofs.Bindings.{used}
 use Rattle.ecma_reread.proofs.Expressions.{semicolon_ends}
 use Rattle.ecma_reread.proofs.Calls.{expression_form, argument_forms}
-use Rattle.ecma_reread.proofs.StatementForms.{block_form}
+use Rattle.ecma_reread.proofs.StatementForms.{block_form, member_forms, heritage_form}
 use Rattle.ecma_reread.proofs.Functions.{function_expression_read}
 use Rattle.ecma_reread.proofs.Exports.{export_item}
 
@@ -111,3 +112,17 @@ module _ (assigned : Bool) where
       (ap (or_on (I (without 1 export_default)) ts)
       (ap (built_on (form.Node plain.ExportDefaultDecl)) (ap (with_front []) (ap (with_front []) (ap (or_on (I (class_expression // marked abstract_class_expression // marked interface)) e)
       (function_expression_read assigned ps (argument_forms assigned ps) (block_form assigned b 0) x y i blank us)))))))
+
+  pub export_default_class_read : {m n : Node} (i : IsFunctionName m) (is : IsClass n) (g : Gap) (us : Items)
+      → Reads assigned module_item (it g (items.key (codes "export")) (spaced_word (codes "default") (spaced_word (codes "class") (function_name_tokens i (class_tokens is 0 us)))))
+      (bare kind.ExportDefaultDecl (bare kind.ClassExpr (bare_function_name i ∷ bare_class is ∷ []) ∷ []) ∷ []) us
+  unfolding export export_default function_expression
+  export_default_class_read i (shapes.class_of at at' at'' {ms = ms'} h ms a a') g us =
+      let I = interp assigned (means assigned) in
+      let e = spaced_word (codes "class") (function_name_tokens i (class_tokens (shapes.class_of at at' at'' h ms a a') 0 us)) in
+      let ts = it g (items.key (codes "export")) (spaced_word (codes "default") e) in
+      export_item assigned g (spaced_word (codes "default") e) _ us refl
+      (ap (or_on (I (without 1 export)) ts)
+      (ap (or_on (I (without 1 export_default)) ts)
+      (ap (built_on (form.Node plain.ExportDefaultDecl)) (ap (with_front []) (ap (with_front []) (ap (or_on (I (marked abstract_class_expression // marked interface)) e)
+      (class_expression_read assigned (member_forms assigned ms 1) (closing_gap ms' 0) h (heritage_form assigned h) i blank us)))))))

@@ -10,12 +10,12 @@ use Rattle.ecma_tokens.specs.Joins.{parted_by, joins_next, Fine, Joined}
 use Rattle.ecma_reread.specs.Shapes as shapes
 use Rattle.ecma_reread.specs.Modules as modules
 use Rattle.ecma_reread.specs.Modules.{IsString, IsExportName, IsAttributeKey, IsAttribute, AreAttributes, IsWithClause, IsDefaultImport, IsNamespaceImport, IsNamedImport, AreNamedImports, IsImportClause, IsModuleItem, AreModuleItems, IsModule, IsNamedExport, AreNamedExports, IsExportClause}
-use Rattle.ecma_reread.specs.Tokens.{blank, line, sign_of, ident_word, is_generator, is_async, function_tokens}
+use Rattle.ecma_reread.specs.Tokens.{blank, line, sign_of, ident_word, is_generator, is_async, function_tokens, class_tokens}
 use Rattle.ecma_reread.specs.ModuleTokens.{spaced, spaced_sign, string_raw, export_name_token, attribute_key_token, attribute_tokens, more_attributes_tokens, with_tokens, source_tokens, default_import_tokens, namespace_import_tokens, named_import_tokens, more_imports_tokens, named_imports_tokens, import_clause_tokens, import_equals_tokens, item_tokens, items_tokens, module_tokens, spaced_word, from_tokens, named_export_tokens, more_exports_tokens, export_clause_tokens}
 use Rattle.ecma_reread.proofs.Softs.{semicolon}
 use Rattle.ecma_reread.proofs.Beginnings.{blank_joins}
 use Rattle.ecma_reread.proofs.Joins.{Words, expression_joined, no_gap_is, blank_is, ident_whole, key_whole}
-use Rattle.ecma_reread.proofs.StatementJoins.{line_wide, blank_wide, line_is, Apart, statement_apart, ended, statement_joined, function_word_apart, function_word_joined, function_opens, function_joined}
+use Rattle.ecma_reread.proofs.StatementJoins.{line_wide, blank_wide, line_is, Apart, statement_apart, ended, statement_joined, function_word_apart, function_word_joined, function_opens, function_joined, class_apart, class_joined}
 
 item_apart : {assignments : Bool} {n : Node} (is : IsModuleItem assignments n) (us : Items) → Apart (item_tokens is line us)
 item_apart (modules.statement s) us t = statement_apart s 0 line (line_wide 0) us t
@@ -28,6 +28,7 @@ item_apart (modules.export_all at s w) us t = refl
 item_apart (modules.export_declaration at is d) us t = refl
 item_apart (modules.export_default at e) us t = refl
 item_apart (modules.export_default_function at at' i f) us t = refl
+item_apart (modules.export_default_class at at' i c) us t = refl
 item_apart (modules.import_require z at of true i s) us t = refl
 item_apart (modules.import_require z at of false i s) us t = refl
 item_apart (modules.export_assignment z at e) us t = refl
@@ -214,6 +215,10 @@ module _ (words : Words) where
           function_word_joined words (is_generator f) (is_async f) blank blank_is fs refl refl (blank_is, ident_whole i, function_opens f 0 us (items.key (ident_word i)) refl, function_joined words f 0 us a j),
         ),
       )
+  item_joined (modules.export_default_class at at' (shapes.unnamed n) c) g h us a j =
+      (h, words.export_whole, refl, (blank_is, words.default_whole, refl, (blank_is, words.class_whole, class_apart c 0 us (items.key (codes "class")), class_joined words c 0 us a j)))
+  item_joined (modules.export_default_class at at' (shapes.function_name i) c) g h us a j =
+      (h, words.export_whole, refl, (blank_is, words.default_whole, refl, (blank_is, words.class_whole, refl, (blank_is, ident_whole i, class_apart c 0 us (items.key (ident_word i)), class_joined words c 0 us a j))))
   item_joined (modules.import_require z at of is_export i s) g h us a j =
       import_equals_joined is_export g h (items.key (ident_word i)) _
       (blank_is, ident_whole i, refl, (blank_is, refl, refl, (blank_is, words.require_whole, refl, (no_gap_is, refl, refl, (no_gap_is, string_whole s, refl, (no_gap_is, refl, refl, ended words us a j))))))

@@ -18,11 +18,11 @@ use Rattle.ecma_tokens.specs.Items.{Tok, Gap, no_gap, Items, token_text, render}
 use Rattle.ecma_reread.specs.Shapes.{ident, key, absent}
 use Rattle.ecma_reread.specs.Modules as modules
 use Rattle.ecma_reread.specs.Modules.{IsString, IsExportName, IsAttribute, AreAttributes, IsWithClause, IsNamedImport, AreNamedImports, IsImportClause, IsNamedExport, AreNamedExports, IsExportClause, IsModuleItem, AreModuleItems, IsModule}
-use Rattle.ecma_reread.specs.Tokens.{blank, line, sign_of, is_generator, is_async, function_name_tokens, function_tokens}
+use Rattle.ecma_reread.specs.Tokens.{blank, line, sign_of, is_generator, is_async, function_name_tokens, function_tokens, class_tokens}
 use Rattle.ecma_reread.specs.ModuleTokens.{module_head, spaced, spaced_word, spaced_sign, string_raw, export_name_token, attribute_tokens, more_attributes_tokens, with_tokens, source_tokens, named_import_tokens, more_imports_tokens, named_imports_tokens, import_clause_tokens, require_tokens, import_equals_tokens, item_tokens, items_tokens, module_tokens, from_tokens, named_export_tokens, more_exports_tokens, export_clause_tokens}
 use Rattle.ecma_reread.proofs.Layouts.{laid_node, at_node, gap_out, expression_laid}
 use Rattle.ecma_reread.proofs.Spots.{calm_default, calm_0}
-use Rattle.ecma_reread.proofs.StatementLayouts.{statement_laid, function_head_laid, function_laid, function_name_laid, function_word_text}
+use Rattle.ecma_reread.proofs.StatementLayouts.{statement_laid, function_head_laid, function_laid, function_name_laid, function_word_text, class_laid}
 
 string_laid : {n : Node} (s : IsString n) (m rest : List ℕ) → (laid n).at (At (free 0)) m rest ≡ string_raw s ++ rest
 string_laid (modules.string_literal at raw t) m rest = at_node at _ [] (At (free 0)) m rest
@@ -212,6 +212,12 @@ item_laid (modules.export_default_function at at' {name = i'} {function = f'} i 
     ∙ (function_head_laid f [] ((laid i').at (Within Blank (free 1)) [] ((laid f').at (At (free 1)) [] (render us)))
     ∙ ap (λ z. function_head (kind.Function (is_generator f) (is_async f)) ++ z) (ap (λ z. (laid i').at (Within Blank (free 1)) [] z) (function_laid f 0 us) ∙ function_name_laid i [] fs)))
     ∙ ap (λ z. codes "export default" ++ z) (sym (function_word_text (is_generator f) (is_async f) blank (function_name_tokens i fs))))))
+item_laid (modules.export_default_class at at' {name = i'} {class = c'} i c) g us =
+    ap (λ z. g.blanks ++ z)
+    (sym (at_node at kind.ExportDefaultDecl (node_of at' kind.ClassExpr (i' ∷ c' ∷ []) ∷ []) (At (free 0)) [] (render us)
+    ∙ ap (λ z. codes "export default " ++ z)
+    (at_node at' kind.ClassExpr (i' ∷ c' ∷ []) (At (free 0)) [] (render us)
+    ∙ ap (λ z. codes "class" ++ z) (ap (λ z. (laid i').at (Within Blank (free 1)) [] z) (class_laid c 0 us) ∙ function_name_laid i [] (class_tokens c 0 us)))))
 item_laid (modules.import_require z at of is_export {id = id} {source = source} (ident at' w i) s) g us =
     let reference = node_of of kind.TsExternalModuleRef (source ∷ []) in
     sym

@@ -11,7 +11,7 @@ use Rattle.ecma_reread.specs.Modules.{IsString, IsExportName, IsAttributeKey, Is
 use Rattle.ecma_reread.specs.Bare.{bare}
 use Rattle.ecma_reread.specs.ModuleTokens.{bare_string, bare_export_name, bare_attribute_key, bare_attribute, bare_attributes, bare_with, bare_default_import, bare_namespace_import, bare_named_import, bare_named_imports, bare_import_clause, bare_named_export, bare_named_exports, bare_export_clause, bare_item, bare_items, bare_module}
 use Rattle.ecma_reread.proofs.Unplaced.{without_spans-node}
-use Rattle.ecma_reread.proofs.Whole.{absent_bare, ident_bare, key_bare, expression_bare, statement_bare, function_name_bare, function_bare}
+use Rattle.ecma_reread.proofs.Whole.{absent_bare, ident_bare, key_bare, expression_bare, statement_bare, function_name_bare, function_bare, class_bare}
 
 string_bare : {n : Node} (s : IsString n) → without_spans n ≡ bare_string s
 string_bare (modules.string_literal at raw t) = without_spans-node at _ []
@@ -92,6 +92,8 @@ item_bare (modules.export_declaration at is d) = without_spans-node at kind.Expo
 item_bare (modules.export_default at e) = without_spans-node at kind.ExportDefaultExpr _ ∙ ap (λ x. bare kind.ExportDefaultExpr (x ∷ [])) (expression_bare e)
 item_bare (modules.export_default_function at at' i f) =
     without_spans-node at kind.ExportDefaultDecl _ ∙ ap (λ x. bare kind.ExportDefaultDecl (x ∷ [])) (without_spans-node at' kind.FnExpr _ ∙ ap₂ (λ x y. bare kind.FnExpr (x ∷ y ∷ [])) (function_name_bare i) (function_bare f))
+item_bare (modules.export_default_class at at' i c) =
+    without_spans-node at kind.ExportDefaultDecl _ ∙ ap (λ x. bare kind.ExportDefaultDecl (x ∷ [])) (without_spans-node at' kind.ClassExpr _ ∙ ap₂ (λ x y. bare kind.ClassExpr (x ∷ y ∷ [])) (function_name_bare i) (class_bare c))
 item_bare (modules.import_require z at of is_export i s) =
     without_spans-node at (kind.TsImportEqualsDecl is_export false) _
     ∙ ap₂ (λ x y. bare (kind.TsImportEqualsDecl is_export false) (x ∷ y ∷ [])) (ident_bare i) (without_spans-node of kind.TsExternalModuleRef _ ∙ ap (λ x. bare kind.TsExternalModuleRef (x ∷ [])) (string_bare s))

@@ -45,7 +45,7 @@ use Rattle.ecma_reread.proofs.Blocks.{Closing}
 use Rattle.ecma_reread.proofs.StatementForms.{statement_form}
 use Rattle.ecma_reread.proofs.ModuleAssignments.{import_require_read, export_assignment_read}
 use Rattle.ecma_reread.proofs.Exports.{export_bindings_read, export_bindings_from_read, export_namespace_read, export_all_read, export_declaration_read}
-use Rattle.ecma_reread.proofs.DefaultExports.{export_default_read, export_default_function_read}
+use Rattle.ecma_reread.proofs.DefaultExports.{export_default_read, export_default_function_read, export_default_class_read}
 
 -- no statement stands at the end of a text
 
@@ -100,6 +100,7 @@ module _ (assigned : Bool) where
   item_closing (shapes.export_declaration at is d) us = record { front = exactly (items.key (codes "export")); begins = at_token; closes = refl }
   item_closing (shapes.export_default at e) us = record { front = exactly (items.key (codes "export")); begins = at_token; closes = refl }
   item_closing (shapes.export_default_function at at' i f) us = record { front = exactly (items.key (codes "export")); begins = at_token; closes = refl }
+  item_closing (shapes.export_default_class at at' i c) us = record { front = exactly (items.key (codes "export")); begins = at_token; closes = refl }
   item_closing (shapes.import_require z at of true i s) us = record { front = exactly (items.key (codes "export")); begins = at_token; closes = refl }
   item_closing (shapes.import_require z at of false i s) us = record { front = exactly (items.key (codes "import")); begins = at_token; closes = refl }
   item_closing (shapes.export_assignment z at e) us = record { front = exactly (items.key (codes "export")); begins = at_token; closes = refl }
@@ -122,6 +123,7 @@ module _ (assigned : Bool) where
   module_item_read (shapes.export_declaration at is d) g us z = export_declaration_read assigned is d g us
   module_item_read (shapes.export_default at e) g us z = export_default_read assigned e g us
   module_item_read (shapes.export_default_function at at' i f) g us z = export_default_function_read assigned i f g us
+  module_item_read (shapes.export_default_class at at' i c) g us z = export_default_class_read assigned i c g us
   module_item_read (shapes.import_require z at of is_export i s) g us c = import_require_read assigned z is_export i s g us
   module_item_read (shapes.export_assignment z at e) g us c = export_assignment_read assigned z e g us
 

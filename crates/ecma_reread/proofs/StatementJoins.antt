@@ -150,7 +150,7 @@ heritage_apart : {n : Node} (is : IsHeritage n) (t : Tok) (us : Items) → Apart
 heritage_apart (shapes.no_heritage a) t us u = refl
 heritage_apart (shapes.heritage e) t us u = refl
 
-class_apart : {n : Node} (is : IsClass n) (d : ℕ) (us : Items) → Apart (class_tokens is d us)
+pub class_apart : {n : Node} (is : IsClass n) (d : ℕ) (us : Items) → Apart (class_tokens is d us)
 class_apart (shapes.class_of at at' at'' h ms a a') d us t = heritage_apart h (sign (codes "{")) _ t
 
 -- a word, or `*`, may stand in front of parameters, and of a name
@@ -314,7 +314,7 @@ module _ (words : Words) where
         (h, words.class_whole, refl, (blank_is, ident_whole i, class_apart c d us (items.key (ident_word i)), class_joined c d us a j))
 
     -- heritage and members
-    class_joined : {n : Node} (is : IsClass n) (d : ℕ) (us : Items) → Apart us → Joined us → Joined (class_tokens is d us)
+    pub class_joined : {n : Node} (is : IsClass n) (d : ℕ) (us : Items) → Apart us → Joined us → Joined (class_tokens is d us)
     class_joined (shapes.class_of at at' at'' {ms = ms'} h ms n n') d us a j =
         heritage_joined h (sign (codes "{")) _
         (braces_joined ms' d (members_tokens ms (suc d)) (λ vs e. members_empty ms (suc d) vs e) (λ vs b. members_apart ms (suc d) vs (sign (codes "{")) (b (sign (codes "{")))) (members_joined ms (suc d)) blank blank_is us a j)

@@ -430,7 +430,7 @@ mutual
       ∙ ap (λ z. codes "class" ++ z) (ap (λ z. (laid id').at (Within Blank (free 1)) m z) (class_laid c d us) ∙ blank_name_laid i m cs)))
 
   -- heritage and members
-  class_laid : {n : Node} (is : IsClass n) (d : ℕ) (us : Items) → (laid n).at (At (free 1)) (margin d) (render us) ≡ render (class_tokens is d us)
+  pub class_laid : {n : Node} (is : IsClass n) (d : ℕ) (us : Items) → (laid n).at (At (free 1)) (margin d) (render us) ≡ render (class_tokens is d us)
   class_laid (shapes.class_of at at' at'' {super = s'} {none = n'} {none' = n''} {ms = ms'} h ms a a') d us =
       let m = margin d in
       at_node at (kind.Class false) (s' ∷ node_of at' kind.List ms' ∷ n' ∷ n'' ∷ node_of at'' kind.List [] ∷ []) (At (free 1)) m (render us)

@@ -260,7 +260,7 @@ mutual
   statement_bare (shapes.function_statement at i f) = without_spans-node at (kind.FnDecl false) _ ∙ ap₂ (λ z zs. bare (kind.FnDecl false) (z ∷ zs ∷ [])) (ident_bare i) (function_bare f)
   statement_bare (shapes.class_statement at i c) = without_spans-node at (kind.ClassDecl false) _ ∙ ap₂ (λ z zs. bare (kind.ClassDecl false) (z ∷ zs ∷ [])) (ident_bare i) (class_bare c)
 
-  class_bare : {n : Node} (is : IsClass n) → without_spans n ≡ bare_class is
+  pub class_bare : {n : Node} (is : IsClass n) → without_spans n ≡ bare_class is
   class_bare (shapes.class_of at at' at'' {none = n'} {none' = n''} h ms a a') =
       without_spans-node at (kind.Class false) _
       ∙ (ap₂ (λ x y. bare (kind.Class false) (x ∷ y ∷ without_spans n' ∷ without_spans n'' ∷ without_spans (node_of at'' kind.List []) ∷ [])) (heritage_bare h) (without_spans-node at' kind.List _ ∙ ap list_node (members_bare ms))

@@ -7,9 +7,9 @@ use Rattle.ecma_tree.specs.declared.node.Node.{Node}
 use Rattle.ecma_tree.specs.Nodes.{absent, list_node}
 use Rattle.ecma_tokens.specs.Items as items
 use Rattle.ecma_tokens.specs.Items.{Tok, sign, Gap, no_gap, Items, ends, it}
-use Rattle.ecma_reread.specs.Modules.{IsString, string_literal, IsExportName, word_name, string_name, IsAttributeKey, word_key, string_key, IsAttribute, attribute, AreAttributes, no_attributes, more_attributes, IsWithClause, no_with, with_nothing, with_attributes, IsDefaultImport, default_import, IsNamespaceImport, namespace_import, IsNamedImport, same_import, other_import, AreNamedImports, no_imports, more_imports, IsImportClause, import_default, import_namespace, import_names, import_default_and_namespace, import_default_and_names, IsNamedExport, same_export, other_export, AreNamedExports, no_exports, more_exports, IsExportClause, export_nothing, export_names, IsModuleItem, statement, import_alone, import_bindings, export_bindings, export_bindings_from, export_namespace, export_all, export_declaration, export_default, import_require, export_assignment, AreModuleItems, no_items, more_items, IsModule, module_of, module_behind_hashbang, export_default_function}
-use Rattle.ecma_reread.specs.Tokens.{blank, line, sign_of, ident_word, key_word, expression_tokens, statement_tokens, function_word, is_generator, is_async, function_name_tokens, function_tokens}
-use Rattle.ecma_reread.specs.Bare.{bare, bare_ident, bare_expression, bare_statement, bare_function_name, bare_function}
+use Rattle.ecma_reread.specs.Modules.{IsString, string_literal, IsExportName, word_name, string_name, IsAttributeKey, word_key, string_key, IsAttribute, attribute, AreAttributes, no_attributes, more_attributes, IsWithClause, no_with, with_nothing, with_attributes, IsDefaultImport, default_import, IsNamespaceImport, namespace_import, IsNamedImport, same_import, other_import, AreNamedImports, no_imports, more_imports, IsImportClause, import_default, import_namespace, import_names, import_default_and_namespace, import_default_and_names, IsNamedExport, same_export, other_export, AreNamedExports, no_exports, more_exports, IsExportClause, export_nothing, export_names, IsModuleItem, statement, import_alone, import_bindings, export_bindings, export_bindings_from, export_namespace, export_all, export_declaration, export_default, import_require, export_assignment, AreModuleItems, no_items, more_items, IsModule, module_of, module_behind_hashbang, export_default_function, export_default_class}
+use Rattle.ecma_reread.specs.Tokens.{blank, line, sign_of, ident_word, key_word, expression_tokens, statement_tokens, function_word, is_generator, is_async, function_name_tokens, function_tokens, class_tokens}
+use Rattle.ecma_reread.specs.Bare.{bare, bare_ident, bare_expression, bare_statement, bare_function_name, bare_function, bare_class}
 
 -- a token behind a blank
 abbrev pub spaced : Tok → Items → Items
@@ -105,6 +105,7 @@ item_tokens (export_all at s w) g us = it g (items.key (codes "export")) (spaced
 item_tokens (export_declaration at is d) g us = it g (items.key (codes "export")) (statement_tokens is 0 blank us)
 item_tokens (export_default at e) g us = it g (items.key (codes "export")) (spaced_word (codes "default") (expression_tokens e blank (sign_of (codes ";") us)))
 item_tokens (export_default_function at at' i f) g us = it g (items.key (codes "export")) (spaced_word (codes "default") (function_word (is_generator f) (is_async f) blank (function_name_tokens i (function_tokens f 0 us))))
+item_tokens (export_default_class at at' i c) g us = it g (items.key (codes "export")) (spaced_word (codes "default") (spaced_word (codes "class") (function_name_tokens i (class_tokens c 0 us))))
 item_tokens (import_require z at of is_export i s) g us = import_equals_tokens is_export g (spaced_word (ident_word i) (spaced_sign (codes "=") (require_tokens s (sign_of (codes ";") us))))
 item_tokens (export_assignment z at e) g us = it g (items.key (codes "export")) (spaced_sign (codes "=") (expression_tokens e blank (sign_of (codes ";") us)))
 
@@ -191,6 +192,7 @@ bare_item (export_all at s w) = bare (kind.ExportAll false) (bare_string s ∷ b
 bare_item (export_declaration at is d) = bare kind.ExportDecl (bare_statement is ∷ [])
 bare_item (export_default at e) = bare kind.ExportDefaultExpr (bare_expression e ∷ [])
 bare_item (export_default_function at at' i f) = bare kind.ExportDefaultDecl (bare kind.FnExpr (bare_function_name i ∷ bare_function f ∷ []) ∷ [])
+bare_item (export_default_class at at' i c) = bare kind.ExportDefaultDecl (bare kind.ClassExpr (bare_function_name i ∷ bare_class c ∷ []) ∷ [])
 bare_item (import_require z at of is_export i s) = bare (kind.TsImportEqualsDecl is_export false) (bare_ident i ∷ bare kind.TsExternalModuleRef (bare_string s ∷ []) ∷ [])
 bare_item (export_assignment z at e) = bare kind.TsExportAssignment (bare_expression e ∷ [])
 

@@ -11,7 +11,7 @@ use Rattle.ecma_kind.specs.declared.kind.Kind.TheVariants as kind
 use Rattle.ecma_tree.specs.declared.node.Node.{Node}
 use Rattle.ecma_tree.specs.Nodes.{node_of}
 use Rattle.ecma_tokens.specs.Good.{IsToken}
-use Rattle.ecma_reread.specs.Shapes.{IsIdent, IsKey, IsAbsent, Level, assignment, IsExpression, Ending, IsStatement, declaration, function_statement, IsFunctionName, IsFunction, class_statement}
+use Rattle.ecma_reread.specs.Shapes.{IsIdent, IsKey, IsAbsent, Level, assignment, IsExpression, Ending, IsStatement, declaration, function_statement, IsFunctionName, IsFunction, class_statement, IsClass}
 
 pub data IsString : Node → Type 0 where
   string_literal : (at : Span) (raw : List ℕ) → IsToken str_end raw → IsString (node_of at (kind.Str (str_value (piece raw 1 (length raw - 1))) (Some raw)) [])
@@ -102,6 +102,7 @@ pub data IsModuleItem (assignments : Bool) : Node → Type 0 where
   export_declaration : (at : Span) {ending : Ending} {s : Node} (is : IsStatement ending s) → is_declaration is ≡ true → IsModuleItem assignments (node_of at kind.ExportDecl (s ∷ []))
   export_default : (at : Span) {e : Node} → IsExpression assignment e → IsModuleItem assignments (node_of at kind.ExportDefaultExpr (e ∷ []))
   export_default_function : (at at_function : Span) {name function : Node} → IsFunctionName name → IsFunction function → IsModuleItem assignments (node_of at kind.ExportDefaultDecl (node_of at_function kind.FnExpr (name ∷ function ∷ []) ∷ []))
+  export_default_class : (at at_class : Span) {name class : Node} → IsFunctionName name → IsClass class → IsModuleItem assignments (node_of at kind.ExportDefaultDecl (node_of at_class kind.ClassExpr (name ∷ class ∷ []) ∷ []))
   import_require : assignments ≡ true → (at of_source : Span) (is_export : Bool) {id source : Node} → IsIdent id → IsString source
       → IsModuleItem assignments (node_of at (kind.TsImportEqualsDecl is_export false) (id ∷ node_of of_source kind.TsExternalModuleRef (source ∷ []) ∷ []))
   export_assignment : assignments ≡ true → (at : Span) {level : Level} {e : Node} → IsExpression level e → IsModuleItem assignments (node_of at kind.TsExportAssignment (e ∷ []))

@@ -327,7 +327,7 @@ pub data IsMethodName : Node → Type 0 where
 abbrev pub static_modifiers : Bool → MemberModifiers
 static_modifiers is_static = record { accessibility = None; is_static = is_static; is_abstract = false; is_optional = false; is_override = false }
 
--- the name of a function that may have none
+-- the name of a function, or a class, that may have none
 pub data IsFunctionName : Node → Type 0 where
   unnamed : {none : Node} → IsAbsent none → IsFunctionName none
   function_name : {id : Node} → IsIdent id → IsFunctionName id
