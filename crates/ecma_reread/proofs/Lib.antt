@@ -83,5 +83,6 @@ pub mod Words
 pub mod Law
 mod Samples
 mod StatementSamples
+mod FunctionSamples
 mod ChainSamples
 mod ModuleSamples
