@@ -140,6 +140,8 @@ pub record Words : Type 0 where
   pub extends_whole : IsToken key_end (codes "extends")
   pub static_whole : IsToken key_end (codes "static")
   pub constructor_whole : IsToken key_end (codes "constructor")
+  pub get_whole : IsToken key_end (codes "get")
+  pub set_whole : IsToken key_end (codes "set")
   pub function_whole : IsToken key_end (codes "function")
 
 module _ (words : Words) where

@@ -52,6 +52,7 @@ pub mod Blocks
 pub mod Functions
 pub mod Classes
 pub mod Methods
+pub mod Accessors
 pub mod Fields
 pub mod Branches
 pub mod Loops

@@ -14,7 +14,7 @@ use Rattle.ecma_tokens.specs.Good.{IsGap, IsToken, is_gap_character}
 use Rattle.ecma_tokens.specs.Joins.{joins, joins_next, Joined}
 use Rattle.ecma_reread.specs.Shapes as shapes
 use Rattle.ecma_reread.specs.Shapes.{IsInitializer, Level, IsExpression, Ending, IsStatement, IsBlock, IsCase, AreCases, IsCatch, AreStatements, IsOptional, IsForLeft, IsForInit, IsPattern, IsFunction, IsHeritage, IsClass, IsMember, AreMembers}
-use Rattle.ecma_reread.specs.Tokens.{margin, line_at, blank, sign_of, expression_tokens, ident_word, declarators_tokens, closing_gap, is_braced, branch_gap, test_tokens, statement_tokens, block_tokens, case_tokens, cases_tokens, catch_tokens, lined_tokens, optional_tokens, for_left_tokens, for_tokens, initializer_tokens, as_declarators, for_init_tokens, pattern_tokens, arguments_tokens, function_word, is_generator, is_async, function_tokens, heritage_tokens, class_tokens, member_tokens, members_tokens, method_tokens, static_tokens, method_word, key_word}
+use Rattle.ecma_reread.specs.Tokens.{margin, line_at, blank, sign_of, expression_tokens, ident_word, declarators_tokens, closing_gap, is_braced, branch_gap, test_tokens, statement_tokens, block_tokens, case_tokens, cases_tokens, catch_tokens, lined_tokens, optional_tokens, for_left_tokens, for_tokens, initializer_tokens, as_declarators, for_init_tokens, pattern_tokens, arguments_tokens, function_word, is_generator, is_async, function_tokens, heritage_tokens, class_tokens, member_tokens, members_tokens, method_tokens, static_tokens, method_word, key_word, accessor_text}
 use Rattle.ecma_reread.proofs.Softs.{closing, semicolon, colon, Soft, is_object, parted}
 use Rattle.ecma_reread.proofs.Beginnings.{pattern_blank_joins, begun, blank_joins, opening_joins}
 use Rattle.ecma_reread.proofs.Joins.{ident_whole, no_gap_is, blank_is, Words, expression_joined, declarators_soft, declarator_joined, declarators_joined, pattern_joined, arguments_joined, initializer_joined, key_whole}
@@ -137,6 +137,7 @@ member_apart (shapes.static_block at b) d g w us t = w t (items.key (codes "stat
 member_apart (shapes.method at s k f) d g w us t = method_apart s (is_generator f) (is_async f) (method_word k) g w (function_tokens f d us) t
 member_apart (shapes.class_constructor at at' at'' ps ws b) d g w us t = w t (items.key (codes "constructor"))
 member_apart (shapes.field at s k v a) d g w us t = field_apart s (key_word k) g w (initializer_tokens v (sign_of (codes ";") us)) t
+member_apart (shapes.accessor at at' at'' s b k ps ws body n n') d g w us t = field_apart s (accessor_text b) g w _ t
 
 members_apart : {ns : List Node} (is : AreMembers ns) (d : ℕ) (us : Items) (t : Tok) → joins_next t us ≡ true → joins_next t (members_tokens is d us) ≡ true
 members_apart shapes.no_members d us t a = a
@@ -235,6 +236,12 @@ module _ (words : Words) where
   static_joined true x y w t g h us a j = (h, words.static_whole, method_apart false x y w blank blank_wide us (items.key (codes "static")), method_joined x y w t blank blank_is us a j)
   static_joined false x y w t g h us a j = method_joined x y w t g h us a j
 
+  accessor_joined : (s b : Bool) (w : List ℕ) → IsToken key_end w → (g : Gap) → IsGap g → (us : Items) → joins_next (items.key w) us ≡ true → Joined us → Joined (static_tokens s (λ h. it h (items.key (accessor_text b)) (it blank (items.key w) us)) g)
+  accessor_joined true true w t g h us a j = (h, words.static_whole, refl, (blank_is, words.set_whole, refl, (blank_is, t, a, j)))
+  accessor_joined true false w t g h us a j = (h, words.static_whole, refl, (blank_is, words.get_whole, refl, (blank_is, t, a, j)))
+  accessor_joined false true w t g h us a j = (h, words.set_whole, refl, (blank_is, t, a, j))
+  accessor_joined false false w t g h us a j = (h, words.get_whole, refl, (blank_is, t, a, j))
+
   heritage_joined : {n : Node} (is : IsHeritage n) (t : Tok) (us : Items) → Joined (it blank t us) → Joined (heritage_tokens is (it blank t us))
   heritage_joined (shapes.no_heritage a) t us j = j
   heritage_joined (shapes.heritage e) t us j = (blank_is, words.extends_whole, blank_joins (items.key (codes "extends")) e (it blank t us), expression_joined words e blank blank_is (it blank t us) parted j)
@@ -331,6 +338,10 @@ module _ (words : Words) where
     member_joined (shapes.field at false k v n) d g h us a j =
         let vs = sign_of (codes ";") us in
         (h, key_whole k, value_opens v (key_word k) us, initializer_joined words v vs semicolon (ended us a j))
+    member_joined (shapes.accessor at at' at'' s b k ps ws body n n') d g h us a j =
+        let bs = block_tokens body d blank us in
+        accessor_joined s b (key_word k) (key_whole k) g h (sign_of (codes "(") (arguments_tokens ps (sign_of (codes ")") bs))) refl
+        (arguments_joined words ps bs (no_gap_is, refl, block_apart body d blank blank_wide us (sign (codes ")")), block_joined body d blank blank_is us a j))
 
     members_joined : {ns : List Node} (is : AreMembers ns) (d : ℕ) (us : Items) → Apart us → Joined us → Joined (members_tokens is d us)
     members_joined shapes.no_members d us a j = j

@@ -18,13 +18,13 @@ use Rattle.ecma_print.specs.Places.{before, after, free, beginning, right}
 use Rattle.ecma_print.specs.Laid.{Laid, is_absent, is_block}
 use Rattle.ecma_print.specs.Lists.{new_lines, block, more_commas}
 use Rattle.ecma_print.specs.Statements.{else_behind, behind_body, case_word, keyword, head, for_word}
-use Rattle.ecma_print.specs.Functions.{function_head, method_head, static_word}
+use Rattle.ecma_print.specs.Functions.{function_head, method_head, static_word, accessor_word}
 use Rattle.ecma_print.specs.Layout.{in_place, lay_step, laid}
 use Rattle.ecma_tokens.specs.Items as items
 use Rattle.ecma_tokens.specs.Items.{sign, Gap, no_gap, Items, it, render}
 use Rattle.ecma_reread.specs.Shapes as shapes
-use Rattle.ecma_reread.specs.Shapes.{Level, IsExpression, IsDeclarator, AreDeclarators, Ending, IsStatement, IsBlock, IsCase, AreCases, IsCatch, AreStatements, IsOptional, IsForLeft, IsInitializer, IsForDeclarator, AreForDeclarators, IsForInit, IsPattern, AreParams, IsFunction, IsFunctionName, IsIdent, IsHeritage, IsClass, IsMember, AreMembers, static_modifiers}
-use Rattle.ecma_reread.specs.Tokens.{margin, line_at, blank, sign_of, expression_tokens, declarator_tokens, declarators_tokens, closing_gap, is_braced, branch_gap, test_tokens, statement_tokens, block_tokens, case_tokens, cases_tokens, catch_tokens, lined_tokens, optional_tokens, for_left_tokens, for_tokens, initializer_tokens, as_declarator, as_declarators, for_init_tokens, arguments_tokens, function_word, is_generator, is_async, function_tokens, function_name_tokens, ident_word, heritage_tokens, class_tokens, member_tokens, members_tokens, method_tokens, static_tokens, key_word}
+use Rattle.ecma_reread.specs.Shapes.{Level, IsExpression, IsDeclarator, AreDeclarators, Ending, IsStatement, IsBlock, IsCase, AreCases, IsCatch, AreStatements, IsOptional, IsForLeft, IsInitializer, IsForDeclarator, AreForDeclarators, IsForInit, IsPattern, AreParams, IsFunction, IsFunctionName, IsIdent, IsHeritage, IsClass, IsMember, AreMembers, static_modifiers, accessor_kind}
+use Rattle.ecma_reread.specs.Tokens.{margin, line_at, blank, sign_of, expression_tokens, declarator_tokens, declarators_tokens, closing_gap, is_braced, branch_gap, test_tokens, statement_tokens, block_tokens, case_tokens, cases_tokens, catch_tokens, lined_tokens, optional_tokens, for_left_tokens, for_tokens, initializer_tokens, as_declarator, as_declarators, for_init_tokens, arguments_tokens, function_word, is_generator, is_async, function_tokens, function_name_tokens, ident_word, heritage_tokens, class_tokens, member_tokens, members_tokens, method_tokens, static_tokens, key_word, accessor_text}
 use Rattle.ecma_reread.proofs.Layouts.{laid_node, at_node, gap_out, expression_laid, within_laid, arguments_laid, declarator_laid, more_declarators_laid, pattern_laid, pattern_gap_out, initializer_laid}
 use Rattle.ecma_reread.proofs.Spots.{calm_start, calm_0, calm_1, quiet}
 use Rattle.ecma_reread.proofs.HeadLayouts.{head_laid}
@@ -231,6 +231,13 @@ static_field_text : (s : Bool) (w : List ℕ) (g : Gap) (us : Items) → render 
 unfolding render
 static_field_text true w g us = refl
 static_field_text false w g us = refl
+
+accessor_text_laid : (s b : Bool) (w : List ℕ) (g : Gap) (us : Items) → render (static_tokens s (λ h. it h (items.key (accessor_text b)) (it blank (items.key w) us)) g) ≡ g.blanks ++ (static_word s ++ (accessor_word (accessor_kind b) ++ (w ++ render us)))
+unfolding render
+accessor_text_laid true true w g us = refl
+accessor_text_laid true false w g us = refl
+accessor_text_laid false true w g us = refl
+accessor_text_laid false false w g us = refl
 
 blank_name_laid : {n : Node} (i : IsIdent n) (m : List ℕ) (us : Items) → (laid n).at (Within Blank (free 1)) m (render us) ≡ render (it blank (items.key (ident_word i)) us)
 unfolding render
@@ -468,6 +475,22 @@ mutual
       (sym (at_node at (kind.ClassProp (static_modifiers s) false false false) (node_of at' (kind.IdentName w) [] ∷ v' ∷ n' ∷ []) (At (free 0)) m (render us)
       ∙ ap (λ z. static_word s ++ z)
       (at_node at' (kind.IdentName w) [] (At (free 1)) m ((laid v').at (Within Equals (free 1)) m (codes ";" ++ render us)) ∙ ap (λ z. w ++ z) (initializer_laid v m (sign_of (codes ";") us)))))
+  member_laid (shapes.accessor at at' of_params s b {body = b'} {none = n'} {none' = n''} {params = ps'} (shapes.key of w t) ps ws body a a') d g us =
+      let m = margin d in
+      let bs = block_tokens body d blank us in
+      let fs = sign_of (codes "(") (arguments_tokens ps (sign_of (codes ")") bs)) in
+      let children = node_of of_params kind.List ps' ∷ b' ∷ n' ∷ n'' ∷ [] in
+      let fn = node_of at' (kind.Function false false) children in
+      let inside = (laid fn).at (At (free 1)) m (render us) in
+      accessor_text_laid s b w g fs
+      ∙ ap (λ z. g.blanks ++ z)
+      (sym (at_node at (kind.ClassMethod (accessor_kind b) (static_modifiers s)) (node_of of (kind.IdentName w) [] ∷ fn ∷ []) (At (free 0)) m (render us)
+      ∙ ap (λ z. static_word s ++ (accessor_word (accessor_kind b) ++ z))
+      (at_node at' (kind.Function false false) children MethodHead m ((laid (node_of of (kind.IdentName w) [])).at (At (free 1)) m inside)
+      ∙ (at_node of (kind.IdentName w) [] (At (free 1)) m inside
+      ∙ ap (λ z. w ++ z)
+      (at_node at' (kind.Function false false) children (At (free 1)) m (render us)
+      ∙ (ap (λ z. (laid (node_of of_params kind.List ps')).at Arguments m z) (function_body_laid body m us bs (block_laid body d blank us)) ∙ (params_laid of_params ws m (render bs) ∙ arguments_laid ps m bs)))))))
 
   members_laid : {ns : List Node} (is : AreMembers ns) (d : ℕ) (us : Items) → new_lines (map laid ns) (margin d) (render us) ≡ render (members_tokens is d us)
   members_laid shapes.no_members d us = refl

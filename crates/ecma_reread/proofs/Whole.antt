@@ -9,7 +9,7 @@ use Rattle.ecma_tree.specs.Nodes.{absent, list_node, node_of, dummy_span}
 use Rattle.ecma_grammar.specs.trees.Parts.{children_of}
 use Rattle.ecma_tree.specs.Spans.{without_spans}
 use Rattle.ecma_reread.specs.Shapes as shapes
-use Rattle.ecma_reread.specs.Shapes.{Level, IsIdent, ident, IsKey, key, IsAbsent, IsExpression, IsElement, IsArguments, AreElements, AreExpressions, IsInitializer, IsDeclarator, AreDeclarators, Ending, IsStatement, IsBlock, AreStatements, AreSlots, IsCase, AreCases, IsCatch, IsChainKey, IsOptional, IsForLeft, IsPropertyName, IsProperty, AreProperties, Role, IsPattern, IsDefaulted, IsForInit, IsPart, AreParts, IsFunction, AreParams, IsFunctionName, IsHeritage, IsClass, IsMember, AreMembers, static_modifiers}
+use Rattle.ecma_reread.specs.Shapes.{Level, IsIdent, ident, IsKey, key, IsAbsent, IsExpression, IsElement, IsArguments, AreElements, AreExpressions, IsInitializer, IsDeclarator, AreDeclarators, Ending, IsStatement, IsBlock, AreStatements, AreSlots, IsCase, AreCases, IsCatch, IsChainKey, IsOptional, IsForLeft, IsPropertyName, IsProperty, AreProperties, Role, IsPattern, IsDefaulted, IsForInit, IsPart, AreParts, IsFunction, AreParams, IsFunctionName, IsHeritage, IsClass, IsMember, AreMembers, static_modifiers, accessor_kind}
 use Rattle.ecma_reread.specs.Tokens.{key_word, chain_kind, as_declarator, as_declarators}
 use Rattle.ecma_reread.specs.Bare.{bare, bare_ident, bare_expression, bare_element, bare_arguments, bare_elements, bare_expressions, bare_initializer, bare_declarator, bare_declarators, bare_statement, bare_block, bare_statements, bare_slots, bare_case, bare_cases, bare_catch, bare_optional, bare_for_left, bare_property_name, bare_property, bare_properties, bare_pattern, bare_defaulted, bare_for_init, bare_part, bare_parts, bare_substitutions, bare_params, bare_function, bare_function_name, bare_heritage, bare_class, bare_member, bare_members}
 use Rattle.ecma_reread.proofs.Unplaced.{without_spans-node}
@@ -279,6 +279,12 @@ mutual
       without_spans-node at (kind.ClassProp (static_modifiers s) false false false) _
       ∙ (ap₂ (λ x y. bare (kind.ClassProp (static_modifiers s) false false false) (x ∷ y ∷ without_spans n' ∷ [])) (key_bare k) (initializer_bare v)
       ∙ ap (λ z. bare (kind.ClassProp (static_modifiers s) false false false) (bare (kind.IdentName (key_word k)) [] ∷ bare_initializer v ∷ z ∷ [])) (absent_bare a))
+  member_bare (shapes.accessor at at' at'' s b {none = n'} {none' = n''} k ps ws body a a') =
+      without_spans-node at (kind.ClassMethod (accessor_kind b) (static_modifiers s)) _
+      ∙ ap₂ (λ x y. bare (kind.ClassMethod (accessor_kind b) (static_modifiers s)) (x ∷ y ∷ [])) (key_bare k)
+      (without_spans-node at' (kind.Function false false) _
+      ∙ (ap₂ (λ p q. bare (kind.Function false false) (p ∷ q ∷ without_spans n' ∷ without_spans n'' ∷ [])) (without_spans-node at'' kind.List _ ∙ ap list_node (params_bare at'' ps ws)) (block_bare body)
+      ∙ ap₂ (λ p q. bare (kind.Function false false) (list_node (bare_params (bare_arguments ps)) ∷ bare_block body ∷ p ∷ q ∷ [])) (absent_bare a) (absent_bare a')))
 
   members_bare : {ns : List Node} (is : AreMembers ns) → map without_spans ns ≡ bare_members is
   members_bare shapes.no_members = refl

@@ -79,6 +79,14 @@ constructor_spelled : Spelled IsKey (codes "constructor")
 unfolding chars is_utf8 encode is_xid_start is_xid_continue in_ranges xid_start_ranges xid_continue_ranges
 constructor_spelled = (IsUtf8-from_is_utf8 (codes "constructor") refl, (refl, refl))
 
+get_spelled : Spelled IsKey (codes "get")
+unfolding chars is_utf8 encode is_xid_start is_xid_continue in_ranges xid_start_ranges xid_continue_ranges
+get_spelled = (IsUtf8-from_is_utf8 (codes "get") refl, (refl, refl))
+
+set_spelled : Spelled IsKey (codes "set")
+unfolding chars is_utf8 encode is_xid_start is_xid_continue in_ranges xid_start_ranges xid_continue_ranges
+set_spelled = (IsUtf8-from_is_utf8 (codes "set") refl, (refl, refl))
+
 function_spelled : Spelled IsKey (codes "function")
 unfolding chars is_utf8 encode is_xid_start is_xid_continue in_ranges xid_start_ranges xid_continue_ranges
 function_spelled = (IsUtf8-from_is_utf8 (codes "function") refl, (refl, refl))
@@ -251,5 +259,7 @@ layout_words = record {
   extends_whole = whole (codes "extends") extends_spelled;
   static_whole = whole (codes "static") static_spelled;
   constructor_whole = whole (codes "constructor") constructor_spelled;
+  get_whole = whole (codes "get") get_spelled;
+  set_whole = whole (codes "set") set_spelled;
   function_whole = whole (codes "function") function_spelled;
 }

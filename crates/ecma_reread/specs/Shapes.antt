@@ -14,7 +14,8 @@ use Rattle.ecma_kind.specs.declared.operators.UpdateOp.{UpdateOp}
 use Rattle.ecma_kind.specs.declared.operators.AssignOp.{AssignOp}
 use Rattle.ecma_kind.specs.declared.operators.BinaryOp.{BinaryOp}
 use Rattle.ecma_kind.specs.declared.operators.BinaryOp.TheVariants as op
-use Rattle.ecma_kind.specs.declared.operators.MethodKind.TheVariants.{Method}
+use Rattle.ecma_kind.specs.declared.operators.MethodKind.{MethodKind}
+use Rattle.ecma_kind.specs.declared.operators.MethodKind.TheVariants.{Method, Getter, Setter}
 use Rattle.ecma_kind.specs.declared.operators.MemberModifiers.{MemberModifiers}
 use Rattle.ecma_kind.specs.declared.operators.MetaPropKind.TheVariants.{NewTarget, ImportMeta}
 use Rattle.ecma_kind.specs.declared.kind.Kind.TheVariants as kind
@@ -327,6 +328,10 @@ pub data IsMethodName : Node → Type 0 where
 abbrev pub static_modifiers : Bool → MemberModifiers
 static_modifiers is_static = record { accessibility = None; is_static = is_static; is_abstract = false; is_optional = false; is_override = false }
 
+abbrev pub accessor_kind : Bool → MethodKind
+accessor_kind true = Setter
+accessor_kind false = Getter
+
 -- the name of a function, or a class, that may have none
 pub data IsFunctionName : Node → Type 0 where
   unnamed : {none : Node} → IsAbsent none → IsFunctionName none
@@ -384,6 +389,9 @@ mutual
     class_constructor : (at at_key of_params : Span) {elements params : List Node} {body : Node} → IsArguments bindings (node_of of_params kind.List elements) → AreParams elements params → IsBlock body
         → IsMember (node_of at (kind.Constructor None false) (node_of at_key (kind.IdentName (codes "constructor")) [] ∷ node_of of_params kind.List params ∷ body ∷ []))
     field : (at : Span) (is_static : Bool) {key value none : Node} → IsKey key → IsInitializer value → IsAbsent none → IsMember (node_of at (kind.ClassProp (static_modifiers is_static) false false false) (key ∷ value ∷ none ∷ []))
+    -- a getter or a setter
+    accessor : (at at_function of_params : Span) (is_static is_setter : Bool) {key body none none' : Node} {elements params : List Node} → IsKey key → IsArguments bindings (node_of of_params kind.List elements) → AreParams elements params → IsBlock body → IsAbsent none → IsAbsent none'
+        → IsMember (node_of at (kind.ClassMethod (accessor_kind is_setter) (static_modifiers is_static)) (key ∷ node_of at_function (kind.Function false false) (node_of of_params kind.List params ∷ body ∷ none ∷ none' ∷ []) ∷ []))
 
   pub data AreMembers : List Node → Type 0 where
     no_members : AreMembers []
