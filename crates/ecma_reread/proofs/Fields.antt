@@ -1,5 +1,6 @@
 -- Fields of classes are read as they are laid out.
-use Rattle.std.proofs.Common.{◌≡◌, ℕ, Bool, true, false, List, [], ◌∷◌, bytes_eq, codes, refl, ap, ◌∙◌}
+use Rattle.std.proofs.Common.{◌≡◌, ℕ, Bool, true, false, List, [], ◌∷◌, ◌++◌, bytes_eq, codes, refl, ap, ◌∙◌}
+use Rattle.ecma_lex.specs.Keys.{priv_name_end}
 use Rattle.ecma_kind.specs.declared.kind.Kind.TheVariants as kind
 use Rattle.ecma_tree.specs.declared.node.Node.{Node}
 use Rattle.ecma_tree.specs.Nodes.{absent, list_node}
@@ -7,7 +8,7 @@ use Rattle.ecma_grammar.specs.declared.production.Plain.TheVariants as plain
 use Rattle.ecma_grammar.specs.declared.production.Form.TheVariants as form
 use Rattle.ecma_grammar.specs.Made.{made}
 use Rattle.ecma_grammar.specs.Grammar.{Grammar, ◌▸◌, ◌//◌, marked, build, word, punct, node}
-use Rattle.ecma_grammar.specs.productions.Names.{prop_start, member_start, class_element_name, prop_name, block}
+use Rattle.ecma_grammar.specs.productions.Names.{prop_start, member_start, class_element_name, prop_name, computed_prop_name, block}
 use Rattle.ecma_grammar.specs.productions.Functions.{method_async, signature}
 use Rattle.ecma_grammar.specs.productions.Classes.{member, modifier, modifiers, getter, setter, method, field, index_signature, question_or_exclamation}
 use Rattle.ecma_tokens.specs.Items as items
@@ -25,12 +26,19 @@ use Rattle.ecma_reread.proofs.Expressions.{semicolon_ends}
 use Rattle.ecma_reread.proofs.Spreads.{InitializerForm, initializer_read}
 use Rattle.ecma_reread.proofs.Repeats.{repeats_end, repeats_more, repeated}
 use Rattle.ecma_reread.proofs.Classes.{ReadAsMember}
+use Rattle.ecma_tokens.specs.Good.{IsToken}
+use Rattle.ecma_reread.proofs.Members.{name_behind}
 use Rattle.ecma_reread.proofs.Methods.{key_of, written, modifier_eats}
 
 field_made : (st : Bool) (w : List ℕ) (v : Node)
     → made form.Modified 0 0 (list_node (written st) ∷ made form.Field 0 0 (key_of w ∷ absent ∷ absent ∷ absent ∷ v ∷ []) ∷ []) ≡ bare (kind.ClassProp (static_modifiers st) false false false) (key_of w ∷ v ∷ absent ∷ [])
 field_made true w v = simp nodes
 field_made false w v = simp nodes
+
+private_made : (st : Bool) (w : List ℕ) (v : Node)
+    → made form.Modified 0 0 (list_node (written st) ∷ made form.Field 0 0 (bare (kind.PrivateName w) [] ∷ absent ∷ absent ∷ absent ∷ v ∷ []) ∷ []) ≡ bare (kind.PrivateProp (static_modifiers st) false false false) (bare (kind.PrivateName w) [] ∷ v ∷ absent ∷ [])
+private_made true w v = simp nodes
+private_made false w v = simp nodes
 
 module _ (assigned : Bool) {n : Node} (is : IsInitializer n) (F : InitializerForm assigned is) where
   abbrev rest : Items → Items
@@ -167,4 +175,53 @@ module _ (assigned : Bool) {n : Node} (is : IsInitializer n) (F : InitializerFor
         (ap (or_on (I (setter // method // field)) ns) (no_getter w (behind w st g) us)
         ∙ (ap (or_on (I (method // field)) ns) (no_setter w (behind w st g) us) ∙ (ap (or_on (I field) ns) (no_method w (behind w st g) us) ∙ field_read w (behind w st g) us))))
         ∙ ap (λ q. read (q ∷ []) us) (field_made st w (bare_initializer is)))));
+  }
+
+  -- with a private name
+  module _ (w : List ℕ) (t : IsToken priv_name_end (codes "#" ++ w)) where
+    abbrev privately : Gap → Items → Items
+    privately g us = it g (items.private_name (codes "#" ++ w)) (rest us)
+
+    abbrev private_tokens : Bool → Gap → Items → Items
+    private_tokens st g us = static_tokens st (λ h. privately h us) g
+
+    abbrev gap_behind : Bool → Gap → Gap
+    gap_behind true g = blank
+    gap_behind false g = g
+
+    private_modifiers_read : (st : Bool) (g : Gap) (us : Items) → Reads assigned modifiers (private_tokens st g us) (list_node (written st) ∷ []) (privately (gap_behind st g) us)
+    unfolding modifier member_start prop_start
+    private_modifiers_read true g us =
+        let ts = privately blank us in
+        ap (built_on form.List)
+        (repeated assigned modifier (it g (items.key (codes "static")) ts) ts (written true) (repeats_more assigned modifier modifier_eats (it g (items.key (codes "static")) ts) ts ts (written true) [] refl (repeats_end assigned modifier ts refl)))
+    private_modifiers_read false g us = let ts = privately g us in ap (built_on form.List) (repeated assigned modifier ts ts [] (repeats_end assigned modifier ts refl))
+
+    private_read : (g : Gap) (us : Items) → Reads assigned (getter // setter // method // field) (privately g us) (made form.Field 0 0 (bare (kind.PrivateName w) [] ∷ absent ∷ absent ∷ absent ∷ bare_initializer is ∷ []) ∷ []) us
+    unfolding getter setter method method_async field class_element_name prop_name computed_prop_name question_or_exclamation
+    private_read g us =
+        rw (no_signature us, initializer_read assigned false is F (s (codes ";") us) (record { front = exactly (sign (codes ";")); begins = at_token; ends = semicolon_ends }))
+        (ap (λ q. read (made form.Field 0 0 (bare (kind.PrivateName q) [] ∷ absent ∷ absent ∷ absent ∷ bare_initializer is ∷ []) ∷ []) us) (name_behind w t))
+
+    private_no_static_block : (st : Bool) (g : Gap) (us : Items) → Refuses assigned (node plain.StaticBlock (word (codes "static") ▸ block)) (private_tokens st g us)
+    unfolding block
+    private_no_static_block true g us = refl
+    private_no_static_block false g us = refl
+
+    private_no_empty : (st : Bool) (g : Gap) (us : Items) → Refuses assigned (node plain.EmptyStmt (punct (codes ";"))) (private_tokens st g us)
+    private_no_empty true g us = refl
+    private_no_empty false g us = refl
+
+  pub private_field_form : (st : Bool) (w : List ℕ) → IsToken priv_name_end (codes "#" ++ w)
+      → ReadAsMember assigned (λ g us. static_tokens st (λ h. it h (items.private_name (codes "#" ++ w)) (rest us)) g) (bare (kind.PrivateProp (static_modifiers st) false false false) (bare (kind.PrivateName w) [] ∷ bare_initializer is ∷ absent ∷ []))
+  unfolding member
+  private_field_form st w t = record {
+    reads = λ g us.
+        (let I = interp assigned (means assigned) in
+        let ts = private_tokens w t st g us in
+        let others = getter // setter // method // field in
+        ap (or_on (I (a_static_block w // marked index_signature // build form.Modified (modifiers ▸ others))) ts) (private_no_empty w t st g us)
+        ∙ (ap (or_on (I (marked index_signature // build form.Modified (modifiers ▸ others))) ts) (private_no_static_block w t st g us)
+        ∙ (ap (built_on form.Modified) (ap (followed_on (I others)) (private_modifiers_read w t st g us) ∙ ap (with_front (list_node (written st) ∷ [])) (private_read w t (gap_behind w t st g) us))
+        ∙ ap (λ q. read (q ∷ []) us) (private_made st w (bare_initializer is)))));
   }

@@ -2,7 +2,7 @@
 use Rattle.std.proofs.Common.{ℕ, suc, Bool, true, false, List, ap, codes, sym, ◌∙◌}
 use Rattle.ecma_tree.specs.declared.node.Node.{Node}
 use Rattle.ecma_reread.proofs.Accessors.{accessor_form}
-use Rattle.ecma_reread.proofs.Fields.{field_form}
+use Rattle.ecma_reread.proofs.Fields.{field_form, private_field_form}
 use Rattle.ecma_reread.proofs.Methods.{method_form, constructor_form}
 use Rattle.ecma_reread.proofs.Classes.{ReadAsMember, ReadAsMembers, no_members_form, more_members_form, static_block_form, HeritageForm, class_form}
 use Rattle.ecma_reread.specs.Machine.{taken}
@@ -100,6 +100,7 @@ module _ (assigned : Bool) where
     member_form_of (shapes.class_constructor at at' at'' ps ws b) d = constructor_form assigned ps (argument_forms assigned ps) (block_form b d)
     member_form_of (shapes.field at s k v a) d = field_form assigned v (initializer_form assigned v) s (key_word k)
     member_form_of (shapes.accessor at at' at'' s b k ps ws body a a') d = accessor_form assigned ps (argument_forms assigned ps) (block_form body d) b (key_word k) s
+    member_form_of (shapes.private_field at at' s w t v a) d = private_field_form assigned v (initializer_form assigned v) s w t
 
     pub member_forms : {ns : List Node} (is : AreMembers ns) (d : ℕ) → ReadAsMembers assigned (members_tokens is d) (bare_members is)
     member_forms shapes.no_members d = no_members_form assigned

@@ -1,5 +1,5 @@
 -- The tokens of statements are good: each joins the next.
-use Rattle.std.proofs.Common.{◌≡◌, ℕ, zero, suc, ◌&&◌, Bool, true, false, List, [], ◌∷◌, codes, refl, ap₂, ◌∙◌}
+use Rattle.std.proofs.Common.{◌≡◌, ℕ, zero, suc, ◌&&◌, Bool, true, false, List, [], ◌∷◌, codes, refl, ap₂, ◌∙◌, ◌++◌}
 use Rattle.std.specs.List.{list_all}
 use Rattle.std.proofs.lemmas.List.Folds.{list_all-append}
 use Rattle.ecma_lex.specs.Keys.{key_end}
@@ -132,12 +132,18 @@ value_opens : {n : Node} (is : IsInitializer n) (w : List ℕ) (us : Items) → 
 value_opens (shapes.no_initializer a) w us = refl
 value_opens (shapes.initializer e) w us = refl
 
+private_value_opens : {n : Node} (is : IsInitializer n) (w : List ℕ) (us : Items) → joins_next (items.private_name w) (initializer_tokens is (sign_of (codes ";") us)) ≡ true
+private_value_opens (shapes.no_initializer a) w us = refl
+private_value_opens (shapes.initializer e) w us = refl
+
 member_apart : {n : Node} (is : IsMember n) (d : ℕ) (g : Gap) → Wide g → (us : Items) → Apart (member_tokens is d g us)
 member_apart (shapes.static_block at b) d g w us t = w t (items.key (codes "static"))
 member_apart (shapes.method at s k f) d g w us t = method_apart s (is_generator f) (is_async f) (method_word k) g w (function_tokens f d us) t
 member_apart (shapes.class_constructor at at' at'' ps ws b) d g w us t = w t (items.key (codes "constructor"))
 member_apart (shapes.field at s k v a) d g w us t = field_apart s (key_word k) g w (initializer_tokens v (sign_of (codes ";") us)) t
 member_apart (shapes.accessor at at' at'' s b k ps ws body n n') d g w us t = field_apart s (accessor_text b) g w _ t
+member_apart (shapes.private_field at at' true q t' v a) d g w us t = w t (items.key (codes "static"))
+member_apart (shapes.private_field at at' false q t' v a) d g w us t = w t (items.private_name (codes "#" ++ q))
 
 members_apart : {ns : List Node} (is : AreMembers ns) (d : ℕ) (us : Items) (t : Tok) → joins_next t us ≡ true → joins_next t (members_tokens is d us) ≡ true
 members_apart shapes.no_members d us t a = a
@@ -342,6 +348,12 @@ module _ (words : Words) where
         let bs = block_tokens body d blank us in
         accessor_joined s b (key_word k) (key_whole k) g h (sign_of (codes "(") (arguments_tokens ps (sign_of (codes ")") bs))) refl
         (arguments_joined words ps bs (no_gap_is, refl, block_apart body d blank blank_wide us (sign (codes ")")), block_joined body d blank blank_is us a j))
+    member_joined (shapes.private_field at at' true w t v n) d g h us a j =
+        let vs = sign_of (codes ";") us in
+        (h, words.static_whole, refl, (blank_is, t, private_value_opens v (codes "#" ++ w) us, initializer_joined words v vs semicolon (ended us a j)))
+    member_joined (shapes.private_field at at' false w t v n) d g h us a j =
+        let vs = sign_of (codes ";") us in
+        (h, t, private_value_opens v (codes "#" ++ w) us, initializer_joined words v vs semicolon (ended us a j))
 
     members_joined : {ns : List Node} (is : AreMembers ns) (d : ℕ) (us : Items) → Apart us → Joined us → Joined (members_tokens is d us)
     members_joined shapes.no_members d us a j = j

@@ -239,6 +239,11 @@ accessor_text_laid true false w g us = refl
 accessor_text_laid false true w g us = refl
 accessor_text_laid false false w g us = refl
 
+private_field_text : (s : Bool) (w : List ℕ) (g : Gap) (us : Items) → render (static_tokens s (λ h. it h (items.private_name (codes "#" ++ w)) us) g) ≡ g.blanks ++ (static_word s ++ (codes "#" ++ (w ++ render us)))
+unfolding render
+private_field_text true w g us = refl
+private_field_text false w g us = refl
+
 blank_name_laid : {n : Node} (i : IsIdent n) (m : List ℕ) (us : Items) → (laid n).at (Within Blank (free 1)) m (render us) ≡ render (it blank (items.key (ident_word i)) us)
 unfolding render
 blank_name_laid (shapes.ident at w i) m us = at_node at (kind.Ident w 0 false) [] (Within Blank (free 1)) m (render us)
@@ -491,6 +496,14 @@ mutual
       ∙ ap (λ z. w ++ z)
       (at_node at' (kind.Function false false) children (At (free 1)) m (render us)
       ∙ (ap (λ z. (laid (node_of of_params kind.List ps')).at Arguments m z) (function_body_laid body m us bs (block_laid body d blank us)) ∙ (params_laid of_params ws m (render bs) ∙ arguments_laid ps m bs)))))))
+  member_laid (shapes.private_field at at' s w {value = v'} {none = n'} t v a) d g us =
+      let m = margin d in
+      let vs = initializer_tokens v (sign_of (codes ";") us) in
+      private_field_text s w g vs
+      ∙ ap (λ z. g.blanks ++ z)
+      (sym (at_node at (kind.PrivateProp (static_modifiers s) false false false) (node_of at' (kind.PrivateName w) [] ∷ v' ∷ n' ∷ []) (At (free 0)) m (render us)
+      ∙ ap (λ z. static_word s ++ z)
+      (at_node at' (kind.PrivateName w) [] (At (free 1)) m ((laid v').at (Within Equals (free 1)) m (codes ";" ++ render us)) ∙ ap (λ z. codes "#" ++ (w ++ z)) (initializer_laid v m (sign_of (codes ";") us)))))
 
   members_laid : {ns : List Node} (is : AreMembers ns) (d : ℕ) (us : Items) → new_lines (map laid ns) (margin d) (render us) ≡ render (members_tokens is d us)
   members_laid shapes.no_members d us = refl

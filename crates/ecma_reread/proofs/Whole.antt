@@ -285,6 +285,10 @@ mutual
       (without_spans-node at' (kind.Function false false) _
       ∙ (ap₂ (λ p q. bare (kind.Function false false) (p ∷ q ∷ without_spans n' ∷ without_spans n'' ∷ [])) (without_spans-node at'' kind.List _ ∙ ap list_node (params_bare at'' ps ws)) (block_bare body)
       ∙ ap₂ (λ p q. bare (kind.Function false false) (list_node (bare_params (bare_arguments ps)) ∷ bare_block body ∷ p ∷ q ∷ [])) (absent_bare a) (absent_bare a')))
+  member_bare (shapes.private_field at at' s w {none = n'} t v a) =
+      without_spans-node at (kind.PrivateProp (static_modifiers s) false false false) _
+      ∙ (ap₂ (λ x y. bare (kind.PrivateProp (static_modifiers s) false false false) (x ∷ y ∷ without_spans n' ∷ [])) (without_spans-node at' (kind.PrivateName w) []) (initializer_bare v)
+      ∙ ap (λ z. bare (kind.PrivateProp (static_modifiers s) false false false) (bare (kind.PrivateName w) [] ∷ bare_initializer v ∷ z ∷ [])) (absent_bare a))
 
   members_bare : {ns : List Node} (is : AreMembers ns) → map without_spans ns ≡ bare_members is
   members_bare shapes.no_members = refl

@@ -392,6 +392,8 @@ mutual
     -- a getter or a setter
     accessor : (at at_function of_params : Span) (is_static is_setter : Bool) {key body none none' : Node} {elements params : List Node} → IsKey key → IsArguments bindings (node_of of_params kind.List elements) → AreParams elements params → IsBlock body → IsAbsent none → IsAbsent none'
         → IsMember (node_of at (kind.ClassMethod (accessor_kind is_setter) (static_modifiers is_static)) (key ∷ node_of at_function (kind.Function false false) (node_of of_params kind.List params ∷ body ∷ none ∷ none' ∷ []) ∷ []))
+    private_field : (at at_key : Span) (is_static : Bool) (name : List ℕ) {value none : Node} → IsToken priv_name_end (codes "#" ++ name) → IsInitializer value → IsAbsent none
+        → IsMember (node_of at (kind.PrivateProp (static_modifiers is_static) false false false) (node_of at_key (kind.PrivateName name) [] ∷ value ∷ none ∷ []))
 
   pub data AreMembers : List Node → Type 0 where
     no_members : AreMembers []
