@@ -7,7 +7,7 @@ use Rattle.ecma_grammar.specs.declared.production.Plain.TheVariants as plain
 use Rattle.ecma_grammar.specs.declared.production.Form.TheVariants as form
 use Rattle.ecma_grammar.specs.trees.Functions.{parameters}
 use Rattle.ecma_grammar.specs.Made.{made}
-use Rattle.ecma_grammar.specs.Grammar.{Grammar, ◌▸◌, ◌//◌, marked, build, word, punct, node}
+use Rattle.ecma_grammar.specs.Grammar.{◌▸◌, ◌//◌, marked, build, punct, node}
 use Rattle.ecma_grammar.specs.productions.Names.{prop_start, member_start, class_element_name, prop_name, block}
 use Rattle.ecma_grammar.specs.productions.Classes.{member, modifier, modifiers, getter, setter, method, field, index_signature}
 use Rattle.ecma_tokens.specs.Items as items
@@ -23,7 +23,7 @@ use Rattle.ecma_reread.proofs.Arrows.{ArgumentForms}
 use Rattle.ecma_reread.proofs.Repeats.{repeats_end, repeats_more, repeated}
 use Rattle.ecma_reread.proofs.Blocks.{ReadAsBlock}
 use Rattle.ecma_reread.proofs.Functions.{params_made, signature_read}
-use Rattle.ecma_reread.proofs.Classes.{ReadAsMember}
+use Rattle.ecma_reread.proofs.Classes.{ReadAsMember, a_static_block, gap_behind}
 use Rattle.ecma_reread.proofs.Methods.{key_of, written, modifier_eats}
 
 accessor_made : (st is_setter : Bool) (w : List ℕ) (ps n : Node)
@@ -59,11 +59,7 @@ module _ (assigned : Bool) {ps : Node} (is : IsArguments shapes.bindings ps) (F 
   unfolding modifier member_start prop_start
   static_read g us = refl
 
-  abbrev behind : Bool → Gap → Gap
-  behind true g = blank
-  behind false g = g
-
-  modifiers_read : (st : Bool) (g : Gap) (us : Items) → Reads assigned modifiers (tokens st g us) (list_node (written st) ∷ []) (named (behind st g) us)
+  modifiers_read : (st : Bool) (g : Gap) (us : Items) → Reads assigned modifiers (tokens st g us) (list_node (written st) ∷ []) (named (gap_behind st g) us)
   modifiers_read true g us =
       let ts = named blank us in
       ap (built_on form.List)
@@ -80,9 +76,6 @@ module _ (assigned : Bool) {ps : Node} (is : IsArguments shapes.bindings ps) (F 
       go : (b : Bool) → Reads assigned (getter // setter // method // field) (it g (items.key (accessor_text b)) (rest us)) (made (form.Method (accessor_kind b)) 0 0 parts ∷ []) us
       go true = rw (signature_read assigned is F B us) refl
       go false = rw (signature_read assigned is F B us) refl
-
-  abbrev a_static_block : Grammar
-  a_static_block = node plain.StaticBlock (word (codes "static") ▸ block)
 
   no_empty : (st : Bool) (g : Gap) (us : Items) → Refuses assigned (node plain.EmptyStmt (punct (codes ";"))) (tokens st g us)
   no_empty true g us = refl
@@ -108,7 +101,7 @@ module _ (assigned : Bool) {ps : Node} (is : IsArguments shapes.bindings ps) (F 
         let functions = getter // setter // method // field in
         ap (or_on (I (a_static_block // marked index_signature // build form.Modified (modifiers ▸ functions))) ts) (no_empty st g us)
         ∙ (ap (or_on (I (marked index_signature // build form.Modified (modifiers ▸ functions))) ts) (no_static_block st g us)
-        ∙ (ap (built_on form.Modified) (ap (followed_on (I functions)) (modifiers_read st g us) ∙ ap (with_front (list_node (written st) ∷ [])) (accessor_read (behind st g) us))
+        ∙ (ap (built_on form.Modified) (ap (followed_on (I functions)) (modifiers_read st g us) ∙ ap (with_front (list_node (written st) ∷ [])) (accessor_read (gap_behind st g) us))
         ∙ ap (λ q. read (q ∷ []) us)
         (accessor_made st is_setter w (list_node (bare_arguments is)) n
         ∙ ap (λ q. bare (kind.ClassMethod (accessor_kind is_setter) (static_modifiers st)) (key_of w ∷ bare (kind.Function false false) (q ∷ n ∷ absent ∷ absent ∷ []) ∷ [])) (params_made is)))));

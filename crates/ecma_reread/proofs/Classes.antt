@@ -8,6 +8,7 @@ use Rattle.ecma_grammar.specs.declared.production.Part.TheVariants as part
 use Rattle.ecma_grammar.specs.declared.production.Plain.TheVariants as plain
 use Rattle.ecma_grammar.specs.declared.production.Form.TheVariants as form
 use Rattle.ecma_grammar.specs.Made.{made}
+use Rattle.ecma_grammar.specs.Grammar.{Grammar, ◌▸◌, word, node}
 use Rattle.ecma_grammar.specs.productions.Names as names
 use Rattle.ecma_grammar.specs.productions.Types.{params, param, rest_pattern, default_value}
 use Rattle.ecma_grammar.specs.productions.Chains as chains
@@ -36,6 +37,14 @@ use Rattle.ecma_reread.proofs.Repeats.{Repeats, repeats_end, repeats_more, repea
 use Rattle.ecma_reread.proofs.Bindings.{Stands, direct}
 use Rattle.ecma_reread.proofs.Statements.{ReadAsStatement, token_form}
 use Rattle.ecma_reread.proofs.Blocks.{ReadAsBlock}
+
+abbrev pub a_static_block : Grammar
+a_static_block = node plain.StaticBlock (word (codes "static") ▸ names.block)
+
+-- the gap before what may stand behind `static`
+abbrev pub gap_behind : Bool → Gap → Gap
+gap_behind true g = blank
+gap_behind false g = g
 
 -- no member begins with `}`
 no_member_at_brace : refuses_all (exactly (sign (codes "}"))) member ≡ true

@@ -7,7 +7,7 @@ use Rattle.ecma_tree.specs.Nodes.{absent, list_node}
 use Rattle.ecma_grammar.specs.declared.production.Plain.TheVariants as plain
 use Rattle.ecma_grammar.specs.declared.production.Form.TheVariants as form
 use Rattle.ecma_grammar.specs.Made.{made}
-use Rattle.ecma_grammar.specs.Grammar.{Grammar, ◌▸◌, ◌//◌, marked, build, word, punct, node}
+use Rattle.ecma_grammar.specs.Grammar.{◌▸◌, ◌//◌, marked, build, punct, node}
 use Rattle.ecma_grammar.specs.productions.Names.{prop_start, member_start, class_element_name, prop_name, computed_prop_name, block}
 use Rattle.ecma_grammar.specs.productions.Functions.{method_async, signature}
 use Rattle.ecma_grammar.specs.productions.Classes.{member, modifier, modifiers, getter, setter, method, field, index_signature, question_or_exclamation}
@@ -25,7 +25,7 @@ use Rattle.ecma_reread.proofs.Forms.{s, Reads, Refuses}
 use Rattle.ecma_reread.proofs.Expressions.{semicolon_ends}
 use Rattle.ecma_reread.proofs.Spreads.{InitializerForm, initializer_read}
 use Rattle.ecma_reread.proofs.Repeats.{repeats_end, repeats_more, repeated}
-use Rattle.ecma_reread.proofs.Classes.{ReadAsMember}
+use Rattle.ecma_reread.proofs.Classes.{ReadAsMember, a_static_block, gap_behind}
 use Rattle.ecma_tokens.specs.Good.{IsToken}
 use Rattle.ecma_reread.proofs.Members.{name_behind}
 use Rattle.ecma_reread.proofs.Methods.{key_of, written, modifier_eats}
@@ -119,14 +119,10 @@ module _ (assigned : Bool) {n : Node} (is : IsInitializer n) (F : InitializerFor
     unfolding modifier member_start prop_start
     static_read g us = refl
 
-    abbrev behind : Bool → Gap → Gap
-    behind true g = blank
-    behind false g = g
-
     abbrev tokens : Bool → Gap → Items → Items
     tokens st g us = static_tokens st (λ h. named h us) g
 
-    modifiers_read : (st : Bool) (g : Gap) (us : Items) → Reads assigned modifiers (tokens st g us) (list_node (written st) ∷ []) (named (behind st g) us)
+    modifiers_read : (st : Bool) (g : Gap) (us : Items) → Reads assigned modifiers (tokens st g us) (list_node (written st) ∷ []) (named (gap_behind st g) us)
     modifiers_read true g us =
         let ts = named blank us in
         ap (built_on form.List)
@@ -139,9 +135,6 @@ module _ (assigned : Bool) {n : Node} (is : IsInitializer n) (F : InitializerFor
     field_read : (g : Gap) (us : Items) → Reads assigned field (named g us) (made form.Field 0 0 (key_of w ∷ absent ∷ absent ∷ absent ∷ bare_initializer is ∷ []) ∷ []) us
     unfolding field class_element_name prop_name question_or_exclamation
     field_read g us = rw (initializer_read assigned false is F (s (codes ";") us) (record { front = exactly (sign (codes ";")); begins = at_token; ends = semicolon_ends })) refl
-
-    abbrev a_static_block : Grammar
-    a_static_block = node plain.StaticBlock (word (codes "static") ▸ block)
 
     no_empty : (st : Bool) (g : Gap) (us : Items) → Refuses assigned (node plain.EmptyStmt (punct (codes ";"))) (tokens st g us)
     no_empty true g us = refl
@@ -165,15 +158,15 @@ module _ (assigned : Bool) {n : Node} (is : IsInitializer n) (F : InitializerFor
     reads = λ g us.
         (let I = interp assigned (means assigned) in
         let ts = tokens w st g us in
-        let ns = named w (behind w st g) us in
+        let ns = named w (gap_behind st g) us in
         let others = getter // setter // method // field in
-        ap (or_on (I (a_static_block w // marked index_signature // build form.Modified (modifiers ▸ others))) ts) (no_empty w st g us)
+        ap (or_on (I (a_static_block // marked index_signature // build form.Modified (modifiers ▸ others))) ts) (no_empty w st g us)
         ∙ (ap (or_on (I (marked index_signature // build form.Modified (modifiers ▸ others))) ts) (no_static_block w st g us)
         ∙ (ap (built_on form.Modified)
         (ap (followed_on (I others)) (modifiers_read w st g us)
         ∙ ap (with_front (list_node (written st) ∷ []))
-        (ap (or_on (I (setter // method // field)) ns) (no_getter w (behind w st g) us)
-        ∙ (ap (or_on (I (method // field)) ns) (no_setter w (behind w st g) us) ∙ (ap (or_on (I field) ns) (no_method w (behind w st g) us) ∙ field_read w (behind w st g) us))))
+        (ap (or_on (I (setter // method // field)) ns) (no_getter w (gap_behind st g) us)
+        ∙ (ap (or_on (I (method // field)) ns) (no_setter w (gap_behind st g) us) ∙ (ap (or_on (I field) ns) (no_method w (gap_behind st g) us) ∙ field_read w (gap_behind st g) us))))
         ∙ ap (λ q. read (q ∷ []) us) (field_made st w (bare_initializer is)))));
   }
 
@@ -184,10 +177,6 @@ module _ (assigned : Bool) {n : Node} (is : IsInitializer n) (F : InitializerFor
 
     abbrev private_tokens : Bool → Gap → Items → Items
     private_tokens st g us = static_tokens st (λ h. privately h us) g
-
-    abbrev gap_behind : Bool → Gap → Gap
-    gap_behind true g = blank
-    gap_behind false g = g
 
     private_modifiers_read : (st : Bool) (g : Gap) (us : Items) → Reads assigned modifiers (private_tokens st g us) (list_node (written st) ∷ []) (privately (gap_behind st g) us)
     unfolding modifier member_start prop_start
@@ -203,7 +192,7 @@ module _ (assigned : Bool) {n : Node} (is : IsInitializer n) (F : InitializerFor
         rw (no_signature us, initializer_read assigned false is F (s (codes ";") us) (record { front = exactly (sign (codes ";")); begins = at_token; ends = semicolon_ends }))
         (ap (λ q. read (made form.Field 0 0 (bare (kind.PrivateName q) [] ∷ absent ∷ absent ∷ absent ∷ bare_initializer is ∷ []) ∷ []) us) (name_behind w t))
 
-    private_no_static_block : (st : Bool) (g : Gap) (us : Items) → Refuses assigned (node plain.StaticBlock (word (codes "static") ▸ block)) (private_tokens st g us)
+    private_no_static_block : (st : Bool) (g : Gap) (us : Items) → Refuses assigned a_static_block (private_tokens st g us)
     unfolding block
     private_no_static_block true g us = refl
     private_no_static_block false g us = refl
@@ -220,8 +209,8 @@ module _ (assigned : Bool) {n : Node} (is : IsInitializer n) (F : InitializerFor
         (let I = interp assigned (means assigned) in
         let ts = private_tokens w t st g us in
         let others = getter // setter // method // field in
-        ap (or_on (I (a_static_block w // marked index_signature // build form.Modified (modifiers ▸ others))) ts) (private_no_empty w t st g us)
+        ap (or_on (I (a_static_block // marked index_signature // build form.Modified (modifiers ▸ others))) ts) (private_no_empty w t st g us)
         ∙ (ap (or_on (I (marked index_signature // build form.Modified (modifiers ▸ others))) ts) (private_no_static_block w t st g us)
-        ∙ (ap (built_on form.Modified) (ap (followed_on (I others)) (private_modifiers_read w t st g us) ∙ ap (with_front (list_node (written st) ∷ [])) (private_read w t (gap_behind w t st g) us))
+        ∙ (ap (built_on form.Modified) (ap (followed_on (I others)) (private_modifiers_read w t st g us) ∙ ap (with_front (list_node (written st) ∷ [])) (private_read w t (gap_behind st g) us))
         ∙ ap (λ q. read (q ∷ []) us) (private_made st w (bare_initializer is)))));
   }

@@ -1,5 +1,5 @@
 -- Functions and classes that have the shape, and their text.
-use Rattle.std.proofs.Common.{◌≡◌, false, true, [], refl, ◌∙◌, codes}
+use Rattle.std.proofs.Common.{◌≡◌, false, true, refl, ◌∙◌, codes}
 use Rattle.ecma_tree.specs.declared.node.Node.{Node}
 use Rattle.ecma_print.specs.Layout.{layout}
 use Rattle.ecma_tokens.specs.Items.{render}

@@ -1,6 +1,6 @@
 -- Methods of classes are read as they are laid out.
 use Rattle.std.proofs.Common.{◌≡◌, ℕ, Bool, true, false, List, [], ◌∷◌, bytes_eq, codes, nat_le, refl, ap, ◌∙◌, None}
-use Rattle.ecma_kind.specs.declared.operators.MethodKind.TheVariants.{Method, Getter, Setter}
+use Rattle.ecma_kind.specs.declared.operators.MethodKind.TheVariants.{Method}
 use Rattle.ecma_kind.specs.declared.kind.Kind.TheVariants as kind
 use Rattle.ecma_tree.specs.declared.node.Node.{Node}
 use Rattle.ecma_tree.specs.Nodes.{absent, list_node}
@@ -9,7 +9,7 @@ use Rattle.ecma_grammar.specs.declared.production.Form.TheVariants as form
 use Rattle.ecma_grammar.specs.trees.Functions.{parameters}
 use Rattle.ecma_grammar.specs.trees.Classes.{no_modifiers}
 use Rattle.ecma_grammar.specs.Made.{made}
-use Rattle.ecma_grammar.specs.Grammar.{Grammar, ◌▸◌, ◌//◌, marked, build, word, punct, node}
+use Rattle.ecma_grammar.specs.Grammar.{Grammar, ◌▸◌, ◌//◌, marked, build, punct, node}
 use Rattle.ecma_grammar.specs.productions.Names.{prop_start, member_start, class_element_name, prop_name, block}
 use Rattle.ecma_grammar.specs.productions.Functions.{method_async}
 use Rattle.ecma_grammar.specs.productions.Classes.{member, modifier, modifiers, getter, setter, method, field, index_signature, question_or_exclamation}
@@ -27,7 +27,7 @@ use Rattle.ecma_reread.proofs.Arrows.{ArgumentForms}
 use Rattle.ecma_reread.proofs.Repeats.{repeats_end, repeats_more, repeated}
 use Rattle.ecma_reread.proofs.Blocks.{ReadAsBlock}
 use Rattle.ecma_reread.proofs.Functions.{flag, params_made, signature_read}
-use Rattle.ecma_reread.proofs.Classes.{ReadAsMember}
+use Rattle.ecma_reread.proofs.Classes.{ReadAsMember, a_static_block, gap_behind}
 
 abbrev pub key_of : List ℕ → Node
 key_of w = bare (kind.IdentName w) []
@@ -104,11 +104,7 @@ module _ (assigned : Bool) {ps : Node} (is : IsArguments shapes.bindings ps) (F 
   static_read false true w g us = refl
   static_read false false w g us = refl
 
-  abbrev behind : Bool → Gap → Gap
-  behind true g = blank
-  behind false g = g
-
-  modifiers_read : (st x y : Bool) (w : List ℕ) (g : Gap) (us : Items) → Reads assigned modifiers (static_tokens st (λ h. method_tokens x y w h (rest us)) g) (list_node (written st) ∷ []) (method_tokens x y w (behind st g) (rest us))
+  modifiers_read : (st x y : Bool) (w : List ℕ) (g : Gap) (us : Items) → Reads assigned modifiers (static_tokens st (λ h. method_tokens x y w h (rest us)) g) (list_node (written st) ∷ []) (method_tokens x y w (gap_behind st g) (rest us))
   modifiers_read true x y w g us =
       let ts = method_tokens x y w blank (rest us) in
       ap (built_on form.List)
@@ -138,9 +134,6 @@ module _ (assigned : Bool) {ps : Node} (is : IsArguments shapes.bindings ps) (F 
   no_empty false false true w g us = refl
   no_empty false false false w g us = refl
 
-  abbrev a_static_block : Grammar
-  a_static_block = node plain.StaticBlock (word (codes "static") ▸ block)
-
   no_static_block : (st x y : Bool) (w : List ℕ) (g : Gap) (us : Items) → Refuses assigned a_static_block (static_tokens st (λ h. method_tokens x y w h (rest us)) g)
   unfolding block
   no_static_block true true true w g us = refl
@@ -163,14 +156,14 @@ module _ (assigned : Bool) {ps : Node} (is : IsArguments shapes.bindings ps) (F 
     reads = λ g us.
         (let I = interp assigned (means assigned) in
         let ts = static_tokens st (λ h. method_tokens x y w h (rest us)) g in
-        let ms = method_tokens x y w (behind st g) (rest us) in
+        let ms = method_tokens x y w (gap_behind st g) (rest us) in
         ap (or_on (I (a_static_block // marked index_signature // build form.Modified (modifiers ▸ functions))) ts) (no_empty st x y w g us)
         ∙ (ap (or_on (I (marked index_signature // build form.Modified (modifiers ▸ functions))) ts) (no_static_block st x y w g us)
         ∙ (ap (built_on form.Modified)
         (ap (followed_on (I functions)) (modifiers_read st x y w g us)
         ∙ ap (with_front (list_node (written st) ∷ []))
-        (ap (or_on (I (setter // method // field)) ms) (no_getter x y w (behind st g) us)
-        ∙ (ap (or_on (I (method // field)) ms) (no_setter x y w (behind st g) us) ∙ ap (or_on (I field) ms) (method_read x y w (behind st g) us))))
+        (ap (or_on (I (setter // method // field)) ms) (no_getter x y w (gap_behind st g) us)
+        ∙ (ap (or_on (I (method // field)) ms) (no_setter x y w (gap_behind st g) us) ∙ ap (or_on (I field) ms) (method_read x y w (gap_behind st g) us))))
         ∙ ap (λ q. read (q ∷ []) us)
         (ap (λ q. made form.Modified 0 0 (list_node (written st) ∷ q ∷ []))
         (function_made x y w (list_node (bare_arguments is)) n ∙ ap (λ q. bare (kind.ClassMethod Method (no_modifiers false)) (key_of w ∷ bare (kind.Function x y) (q ∷ n ∷ absent ∷ absent ∷ []) ∷ [])) (params_made is))

@@ -6,7 +6,7 @@ use Rattle.ecma_tree.specs.Nodes.{node_of}
 use Rattle.ecma_print.specs.declared.place.Begins.TheVariants.{DefaultStart}
 use Rattle.ecma_print.specs.declared.place.Between.{Between}
 use Rattle.ecma_print.specs.declared.place.Between.TheVariants.{Blank, Attributes, From, As, BeforeAs}
-use Rattle.ecma_print.specs.declared.place.Place.TheVariants.{At, Within, Braces, Lines, Imports, Exports, FunctionHead}
+use Rattle.ecma_print.specs.declared.place.Place.TheVariants.{At, Within, Braces, Lines, Imports, Exports}
 use Rattle.ecma_print.specs.Places.{free, beginning, before, after}
 use Rattle.ecma_print.specs.Laid.{is_named}
 use Rattle.ecma_print.specs.Lists.{lines, more_commas, specifiers, more_specifiers, imports, exports}
