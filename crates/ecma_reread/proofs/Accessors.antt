@@ -34,9 +34,9 @@ accessor_made true false w ps n = simp nodes
 accessor_made false true w ps n = simp nodes
 accessor_made false false w ps n = simp nodes
 
-module _ (assigned : Bool) {ps : Node} (is : IsArguments shapes.bindings ps) (F : ArgumentForms assigned is) {f : Laid} {n : Node} (B : ReadAsBlock assigned f n) (is_setter : Bool) (w : List ℕ) where
+module _ (assigned : Bool) {ps : Node} (is : IsArguments shapes.bindings ps) (depth : ℕ) (F : ArgumentForms assigned is depth) {f : Laid} {n : Node} (B : ReadAsBlock assigned f n) (is_setter : Bool) (w : List ℕ) where
   abbrev rest : Items → Items
-  rest us = it blank (items.key w) (s (codes "(") (arguments_tokens is (s (codes ")") (f blank us))))
+  rest us = it blank (items.key w) (s (codes "(") (arguments_tokens is depth (s (codes ")") (f blank us))))
 
   abbrev named : Gap → Items → Items
   named g us = it g (items.key (accessor_text is_setter)) (rest us)
@@ -74,8 +74,8 @@ module _ (assigned : Bool) {ps : Node} (is : IsArguments shapes.bindings ps) (F 
   accessor_read g us = go is_setter
     where
       go : (b : Bool) → Reads assigned (getter // setter // method // field) (it g (items.key (accessor_text b)) (rest us)) (made (form.Method (accessor_kind b)) 0 0 parts ∷ []) us
-      go true = rw (signature_read assigned is F B us) refl
-      go false = rw (signature_read assigned is F B us) refl
+      go true = rw (signature_read assigned is depth F B us) refl
+      go false = rw (signature_read assigned is depth F B us) refl
 
   no_empty : (st : Bool) (g : Gap) (us : Items) → Refuses assigned (node plain.EmptyStmt (punct (codes ";"))) (tokens st g us)
   no_empty true g us = refl

@@ -1,5 +1,5 @@
 -- Arrays are read as they are laid out; as a pattern they are read whole, or not.
-use Rattle.std.proofs.Common.{◌≡◌, suc, ◌-◌, Bool, true, false, List, [], ◌∷◌, ◌++◌, length, take, slice_get, codes, nat_le, refl, ap, ◌∙◌, arith, if◌then◌else◌}
+use Rattle.std.proofs.Common.{ℕ, ◌≡◌, suc, ◌-◌, Bool, true, false, List, [], ◌∷◌, ◌++◌, length, take, slice_get, codes, nat_le, refl, ap, ◌∙◌, arith, if◌then◌else◌}
 use Rattle.std.proofs.lemmas.Bool.{and_parts}
 use Rattle.ecma_kind.specs.declared.kind.Kind.TheVariants as kind
 use Rattle.ecma_tree.specs.declared.node.Node.{Node}
@@ -141,22 +141,22 @@ slots_are (shapes.hole a es) = trimmed es absent true (λ z. absurd (let y : ⊥
 
 -- what stands behind an element, and behind a hole
 
-slots_followed : {role : Role} {ns : List Node} (is : AreSlots role ns) (us : Items) → Followed (more_slots_tokens is false no_gap us)
-slots_followed shapes.no_slots us = record { front = exactly (sign (codes "]")); begins = at_token; ends = bracket_ends }
-slots_followed (shapes.filled e es) us = record { front = exactly (sign (codes ",")); begins = at_token; ends = comma_ends }
-slots_followed (shapes.hole a es) us = record { front = exactly (sign (codes ",")); begins = at_token; ends = comma_ends }
+slots_followed : {role : Role} {ns : List Node} (is : AreSlots role ns) (depth : ℕ) (us : Items) → Followed (more_slots_tokens is depth false no_gap us)
+slots_followed shapes.no_slots depth us = record { front = exactly (sign (codes "]")); begins = at_token; ends = bracket_ends }
+slots_followed (shapes.filled e es) depth us = record { front = exactly (sign (codes ",")); begins = at_token; ends = comma_ends }
+slots_followed (shapes.hole a es) depth us = record { front = exactly (sign (codes ",")); begins = at_token; ends = comma_ends }
 
-comma_behind : {role : Role} {ns : List Node} (is : AreSlots role ns) (g : Gap) (us : Items) → Begins (exactly (sign (codes ","))) (more_slots_tokens is true g us)
-comma_behind shapes.no_slots g us = at_token
-comma_behind (shapes.filled e es) g us = at_token
-comma_behind (shapes.hole a es) g us = at_token
+comma_behind : {role : Role} {ns : List Node} (is : AreSlots role ns) (depth : ℕ) (g : Gap) (us : Items) → Begins (exactly (sign (codes ","))) (more_slots_tokens is depth true g us)
+comma_behind shapes.no_slots depth g us = at_token
+comma_behind (shapes.filled e es) depth g us = at_token
+comma_behind (shapes.hole a es) depth g us = at_token
 
 module _ (assigned : Bool) where
   -- what is said of each
-  abbrev pub SlotForms : {role : Role} {ns : List Node} → AreSlots role ns → Type 0
-  SlotForms shapes.no_slots = Unit {0}
-  SlotForms (shapes.filled e es) = ElementForm assigned e × SlotForms es
-  SlotForms (shapes.hole a es) = SlotForms es
+  abbrev pub SlotForms : {role : Role} {ns : List Node} → AreSlots role ns → ℕ → Type 0
+  SlotForms shapes.no_slots depth = Unit {0}
+  SlotForms (shapes.filled e es) depth = ElementForm assigned e depth × SlotForms es depth
+  SlotForms (shapes.hole a es) depth = SlotForms es depth
 
   -- what may be missing
 
@@ -176,45 +176,45 @@ module _ (assigned : Bool) where
   slot_eats shapes.values = refl
   slot_eats shapes.bindings = refl
 
-  more_slots_read : {role : Role} {ns : List Node} (is : AreSlots role ns) → SlotForms is → (b : Bool) (g : Gap) (us : Items) → Repeats assigned (more (slot role)) (more_slots_tokens is b g us) (slots_read is b) (s (codes "]") us)
-  more_slots_read {role} shapes.no_slots F false g us = repeats_end assigned (more (slot role)) (s (codes "]") us) refl
-  more_slots_read {role} shapes.no_slots F true g us =
+  more_slots_read : {role : Role} {ns : List Node} (is : AreSlots role ns) (depth : ℕ) → SlotForms is depth → (b : Bool) (g : Gap) (us : Items) → Repeats assigned (more (slot role)) (more_slots_tokens is depth b g us) (slots_read is b) (s (codes "]") us)
+  more_slots_read {role} shapes.no_slots depth F false g us = repeats_end assigned (more (slot role)) (s (codes "]") us) refl
+  more_slots_read {role} shapes.no_slots depth F true g us =
       repeats_more assigned (more (slot role)) (slot_eats role) _ (s (codes "]") us) (s (codes "]") us) (absent ∷ []) []
       (ap (with_front []) (none_read (item_of role) (s (codes "]") us) (all_refused assigned (item_of role) (exactly (sign (codes "]"))) (s (codes "]") us) at_token (no_item_at_bracket role))))
       (repeats_end assigned (more (slot role)) (s (codes "]") us) refl)
-  more_slots_read {role} (shapes.filled e es) F b g us =
-      let vs = more_slots_tokens es false no_gap us in
+  more_slots_read {role} (shapes.filled e es) depth F b g us =
+      let vs = more_slots_tokens es depth false no_gap us in
       repeats_more assigned (more (slot role)) (slot_eats role) _ vs (s (codes "]") us) (bare_element e ∷ []) (slots_read es false)
-      (ap (with_front []) (here_read (item_of role) (element_tokens e blank vs) vs (bare_element e ∷ []) (element_read assigned e F.0 blank vs (slots_followed es us))))
-      (more_slots_read es F.1 false no_gap us)
-  more_slots_read {role} (shapes.hole a es) F b g us =
-      let vs = more_slots_tokens es true blank us in
+      (ap (with_front []) (here_read (item_of role) (element_tokens e depth blank vs) vs (bare_element e ∷ []) (element_read assigned e depth F.0 blank vs (slots_followed es depth us))))
+      (more_slots_read es depth F.1 false no_gap us)
+  more_slots_read {role} (shapes.hole a es) depth F b g us =
+      let vs = more_slots_tokens es depth true blank us in
       repeats_more assigned (more (slot role)) (slot_eats role) _ vs (s (codes "]") us) (absent ∷ []) (slots_read es true)
-      (ap (with_front []) (none_read (item_of role) vs (all_refused assigned (item_of role) (exactly (sign (codes ","))) vs (comma_behind es blank us) (no_item_at_comma role))))
-      (more_slots_read es F true blank us)
+      (ap (with_front []) (none_read (item_of role) vs (all_refused assigned (item_of role) (exactly (sign (codes ","))) vs (comma_behind es depth blank us) (no_item_at_comma role))))
+      (more_slots_read es depth F true blank us)
 
   -- the first, and those behind it
   both_read : (item : Grammar) (ts vs us : Items) (xs ys : List Node) → Reads assigned item ts xs vs → Repeats assigned (more item) vs ys us → Reads assigned (item ▸ grammar.many (more item)) ts (xs ++ ys) us
   both_read item ts vs us xs ys h r = ap (followed_on (interp assigned (means assigned) (grammar.many (more item)))) h ∙ ap (with_front xs) (repeated assigned (more item) vs us ys r)
 
-  all_read : {role : Role} {ns : List Node} (is : AreSlots role ns) → SlotForms is → (us : Items) → Reads assigned (slot role ▸ grammar.many (more (slot role))) (slots_tokens is us) (slots_read is true) (s (codes "]") us)
-  all_read {role} shapes.no_slots F us =
+  all_read : {role : Role} {ns : List Node} (is : AreSlots role ns) (depth : ℕ) → SlotForms is depth → (us : Items) → Reads assigned (slot role ▸ grammar.many (more (slot role))) (slots_tokens is depth us) (slots_read is true) (s (codes "]") us)
+  all_read {role} shapes.no_slots depth F us =
       both_read (slot role) (s (codes "]") us) (s (codes "]") us) (s (codes "]") us) (absent ∷ []) []
       (none_read (item_of role) (s (codes "]") us) (all_refused assigned (item_of role) (exactly (sign (codes "]"))) (s (codes "]") us) at_token (no_item_at_bracket role))) (repeats_end assigned (more (slot role)) (s (codes "]") us) refl)
-  all_read {role} (shapes.filled e es) F us =
-      let vs = more_slots_tokens es false no_gap us in
-      both_read (slot role) (element_tokens e no_gap vs) vs (s (codes "]") us) (bare_element e ∷ []) (slots_read es false)
-      (here_read (item_of role) (element_tokens e no_gap vs) vs (bare_element e ∷ []) (element_read assigned e F.0 no_gap vs (slots_followed es us))) (more_slots_read es F.1 false no_gap us)
-  all_read {role} (shapes.hole a es) F us =
-      let vs = more_slots_tokens es true no_gap us in
+  all_read {role} (shapes.filled e es) depth F us =
+      let vs = more_slots_tokens es depth false no_gap us in
+      both_read (slot role) (element_tokens e depth no_gap vs) vs (s (codes "]") us) (bare_element e ∷ []) (slots_read es false)
+      (here_read (item_of role) (element_tokens e depth no_gap vs) vs (bare_element e ∷ []) (element_read assigned e depth F.0 no_gap vs (slots_followed es depth us))) (more_slots_read es depth F.1 false no_gap us)
+  all_read {role} (shapes.hole a es) depth F us =
+      let vs = more_slots_tokens es depth true no_gap us in
       both_read (slot role) vs vs (s (codes "]") us) (absent ∷ []) (slots_read es true)
-      (none_read (item_of role) vs (all_refused assigned (item_of role) (exactly (sign (codes ","))) vs (comma_behind es no_gap us) (no_item_at_comma role))) (more_slots_read es F true no_gap us)
+      (none_read (item_of role) vs (all_refused assigned (item_of role) (exactly (sign (codes ","))) vs (comma_behind es depth no_gap us) (no_item_at_comma role))) (more_slots_read es depth F true no_gap us)
 
-  array_read : {ns : List Node} (is : AreSlots shapes.values ns) → SlotForms is → (g : Gap) (us : Items) → Reads assigned array (it g (sign (codes "[")) (slots_tokens is us)) (bare kind.ArrayLit (list_node (bare_slots is) ∷ []) ∷ []) us
+  array_read : {ns : List Node} (is : AreSlots shapes.values ns) (depth : ℕ) → SlotForms is depth → (g : Gap) (us : Items) → Reads assigned array (it g (sign (codes "[")) (slots_tokens is depth us)) (bare kind.ArrayLit (list_node (bare_slots is) ∷ []) ∷ []) us
   unfolding array
-  array_read is F g us =
+  array_read is depth F g us =
       let I = interp assigned (means assigned) in
-      ap (built_on (form.Node plain.ArrayLit)) (ap (with_front []) (ap (followed_on (I (punct (codes "]")))) (ap (built_on form.Elements) (all_read is F us))))
+      ap (built_on (form.Node plain.ArrayLit)) (ap (with_front []) (ap (followed_on (I (punct (codes "]")))) (ap (built_on form.Elements) (all_read is depth F us))))
       ∙ ap (λ z. read (bare kind.ArrayLit (list_node z ∷ []) ∷ []) us) (slots_are is)
 
   -- as an array pattern
@@ -254,24 +254,24 @@ module _ (assigned : Bool) where
   ended : (us : Items) → Further assigned tried_slot (Bracketed us) (s (codes "]") us)
   ended us = further_end assigned tried_slot (Bracketed us) (s (codes "]") us) (exactly (sign (codes "]"))) at_token refl (at_bracket refl)
 
-  more_slots_tried : {ns : List Node} (is : AreSlots shapes.values ns) → SlotForms is → (b : Bool) (g : Gap) (us : Items) → Further assigned tried_slot (Bracketed us) (more_slots_tokens is b g us)
-  more_slots_tried shapes.no_slots F false g us = ended us
-  more_slots_tried shapes.no_slots F true g us = further_more assigned tried_slot (Bracketed us) (lasts us) g (s (codes "]") us) (s (codes "]") us) (whole_item (absent ∷ []) (missing_at_bracket us)) (ended us)
-  more_slots_tried (shapes.filled e es) F b g us =
-      let vs = more_slots_tokens es false no_gap us in
-      further_more assigned tried_slot (Bracketed us) (lasts us) g (element_tokens e blank vs) vs (maybe_item (element_tokens e blank vs) vs (element_as_pattern assigned e F.0 blank vs (slots_followed es us))) (more_slots_tried es F.1 false no_gap us)
-  more_slots_tried (shapes.hole a es) F b g us =
-      let vs = more_slots_tokens es true blank us in
-      further_more assigned tried_slot (Bracketed us) (lasts us) g vs vs (whole_item (absent ∷ []) (missing_at_comma vs (comma_behind es blank us))) (more_slots_tried es F true blank us)
+  more_slots_tried : {ns : List Node} (is : AreSlots shapes.values ns) (depth : ℕ) → SlotForms is depth → (b : Bool) (g : Gap) (us : Items) → Further assigned tried_slot (Bracketed us) (more_slots_tokens is depth b g us)
+  more_slots_tried shapes.no_slots depth F false g us = ended us
+  more_slots_tried shapes.no_slots depth F true g us = further_more assigned tried_slot (Bracketed us) (lasts us) g (s (codes "]") us) (s (codes "]") us) (whole_item (absent ∷ []) (missing_at_bracket us)) (ended us)
+  more_slots_tried (shapes.filled e es) depth F b g us =
+      let vs = more_slots_tokens es depth false no_gap us in
+      further_more assigned tried_slot (Bracketed us) (lasts us) g (element_tokens e depth blank vs) vs (maybe_item (element_tokens e depth blank vs) vs (element_as_pattern assigned e depth F.0 blank vs (slots_followed es depth us))) (more_slots_tried es depth F.1 false no_gap us)
+  more_slots_tried (shapes.hole a es) depth F b g us =
+      let vs = more_slots_tokens es depth true blank us in
+      further_more assigned tried_slot (Bracketed us) (lasts us) g vs vs (whole_item (absent ∷ []) (missing_at_comma vs (comma_behind es depth blank us))) (more_slots_tried es depth F true blank us)
 
-  slots_tried : {ns : List Node} (is : AreSlots shapes.values ns) → SlotForms is → (us : Items) → Listed assigned tried_slot (Bracketed us) (lasts us) (slots_tokens is us)
-  slots_tried shapes.no_slots F us = some_listed (absent ∷ []) (s (codes "]") us) (missing_at_bracket us) (ended us)
-  slots_tried (shapes.filled e es) F us =
-      let vs = more_slots_tokens es false no_gap us in
-      listed assigned tried_slot (Bracketed us) (lasts us) (element_tokens e no_gap vs) vs (maybe_item (element_tokens e no_gap vs) vs (element_as_pattern assigned e F.0 no_gap vs (slots_followed es us))) (more_slots_tried es F.1 false no_gap us)
-  slots_tried (shapes.hole a es) F us =
-      let vs = more_slots_tokens es true no_gap us in
-      some_listed (absent ∷ []) vs (missing_at_comma vs (comma_behind es no_gap us)) (more_slots_tried es F true no_gap us)
+  slots_tried : {ns : List Node} (is : AreSlots shapes.values ns) (depth : ℕ) → SlotForms is depth → (us : Items) → Listed assigned tried_slot (Bracketed us) (lasts us) (slots_tokens is depth us)
+  slots_tried shapes.no_slots depth F us = some_listed (absent ∷ []) (s (codes "]") us) (missing_at_bracket us) (ended us)
+  slots_tried (shapes.filled e es) depth F us =
+      let vs = more_slots_tokens es depth false no_gap us in
+      listed assigned tried_slot (Bracketed us) (lasts us) (element_tokens e depth no_gap vs) vs (maybe_item (element_tokens e depth no_gap vs) vs (element_as_pattern assigned e depth F.0 no_gap vs (slots_followed es depth us))) (more_slots_tried es depth F.1 false no_gap us)
+  slots_tried (shapes.hole a es) depth F us =
+      let vs = more_slots_tokens es depth true no_gap us in
+      some_listed (absent ∷ []) vs (missing_at_comma vs (comma_behind es depth no_gap us)) (more_slots_tried es depth F true no_gap us)
 
   abbrev behind_bracket : Grammar
   behind_bracket = build form.Elements (tried_slot ▸ grammar.many (more tried_slot)) ▸ punct (codes "]") ▸ put Absent
@@ -301,17 +301,17 @@ module _ (assigned : Bool) where
             (pattern_is ∙ ap (λ o. or_on (interp assigned (means assigned) object_pattern) (it g (sign (codes "[")) ts) (built_on (form.Node plain.ArrayPat) (with_front [] o)))
             (read_to ∙ ap (λ us'. with_front (list_node (elements (xs ++ F.nodes)) ∷ []) (interp assigned (means assigned) (punct (codes "]") ▸ put Absent) us')) k))
 
-  pub array_new : {ns : List Node} (is : AreSlots shapes.values ns) → SlotForms is → NewForm assigned (λ g us. it g (sign (codes "[")) (slots_tokens is us)) kind.ArrayLit (list_node (bare_slots is) ∷ [])
-  array_new is F = literal_new assigned bracket (slots_tokens is) kind.ArrayLit (list_node (bare_slots is) ∷ []) (array_read is F) (λ g us. by_list g (slots_tokens is us) us (slots_tried is F us))
+  pub array_new : {ns : List Node} (is : AreSlots shapes.values ns) (depth : ℕ) → SlotForms is depth → NewForm assigned (λ g us. it g (sign (codes "[")) (slots_tokens is depth us)) kind.ArrayLit (list_node (bare_slots is) ∷ [])
+  array_new is depth F = literal_new assigned bracket (slots_tokens is depth) kind.ArrayLit (list_node (bare_slots is) ∷ []) (array_read is depth F) (λ g us. by_list g (slots_tokens is depth us) us (slots_tried is depth F us))
 
   -- an array pattern
-  pub array_pattern_read : {ns : List Node} (is : AreSlots shapes.bindings ns) → SlotForms is → ReadAsPattern assigned (λ g us. it g (sign (codes "[")) (slots_tokens is us)) (bare (kind.ArrayPat false) (list_node (bare_slots is) ∷ absent ∷ []))
-  array_pattern_read is F = record {
+  pub array_pattern_read : {ns : List Node} (is : AreSlots shapes.bindings ns) (depth : ℕ) → SlotForms is depth → ReadAsPattern assigned (λ g us. it g (sign (codes "[")) (slots_tokens is depth us)) (bare (kind.ArrayPat false) (list_node (bare_slots is) ∷ absent ∷ []))
+  array_pattern_read is depth F = record {
     reads = λ g us.
         (let I = interp assigned (means assigned) in
-        let ts = it g (sign (codes "[")) (slots_tokens is us) in
-        pattern_is g (slots_tokens is us) us
-        ∙ (ap (λ o. or_on (I object_pattern) ts (built_on (form.Node plain.ArrayPat) (with_front [] (followed_on (I (punct (codes "]") ▸ put Absent)) (built_on form.Elements o))))) (all_read is F us)
+        let ts = it g (sign (codes "[")) (slots_tokens is depth us) in
+        pattern_is g (slots_tokens is depth us) us
+        ∙ (ap (λ o. or_on (I object_pattern) ts (built_on (form.Node plain.ArrayPat) (with_front [] (followed_on (I (punct (codes "]") ▸ put Absent)) (built_on form.Elements o))))) (all_read is depth F us)
         ∙ ap (λ z. read (bare (kind.ArrayPat false) (list_node z ∷ absent ∷ []) ∷ []) us) (slots_are is)));
     annotated = simp nodes;
     no_dots = λ g us. refl;

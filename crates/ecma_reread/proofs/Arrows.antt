@@ -1,5 +1,5 @@
 -- Arrow functions with expressions as their bodies are read as they are laid out.
-use Rattle.std.proofs.Common.{◌≡◌, Bool, true, false, List, [], ◌∷◌, codes, nat_le, refl, ap, ◌∙◌, append-nil}
+use Rattle.std.proofs.Common.{ℕ, ◌≡◌, Bool, true, false, List, [], ◌∷◌, codes, nat_le, refl, ap, ◌∙◌, append-nil}
 use Rattle.ecma_kind.specs.declared.kind.Kind.{Kind}
 use Rattle.ecma_kind.specs.declared.kind.Kind.TheVariants as kind
 use Rattle.ecma_tree.specs.declared.node.Node.{Node}
@@ -54,44 +54,44 @@ param_eats = refl
 arrow_made : (ps b : Node) → made form.Arrow 0 0 (absent ∷ absent ∷ ps ∷ absent ∷ b ∷ []) ≡ bare (kind.ArrowExpr false false) (ps ∷ b ∷ absent ∷ absent ∷ [])
 arrow_made ps b = simp nodes
 
-pub more_followed : {role : Role} {es : List Node} (is : AreElements role es) (us : Items) → Followed (elements_tokens is (s (codes ")") us))
-more_followed shapes.no_elements us = record { front = exactly (sign (codes ")")); begins = at_token; ends = parenthesis_ends }
-more_followed (shapes.more_elements e es) us = record { front = exactly (sign (codes ",")); begins = at_token; ends = comma_ends }
+pub more_followed : {role : Role} {es : List Node} (is : AreElements role es) (depth : ℕ) (us : Items) → Followed (elements_tokens is depth (s (codes ")") us))
+more_followed shapes.no_elements depth us = record { front = exactly (sign (codes ")")); begins = at_token; ends = parenthesis_ends }
+more_followed (shapes.more_elements e es) depth us = record { front = exactly (sign (codes ",")); begins = at_token; ends = comma_ends }
 
 async_made : (ps b : Node) → made form.Arrow 0 0 (flag_node Present ∷ absent ∷ ps ∷ absent ∷ b ∷ []) ≡ bare (kind.ArrowExpr true false) (ps ∷ b ∷ absent ∷ absent ∷ [])
 async_made ps b = simp nodes
 
 module _ (assigned : Bool) where
   -- what is said of each argument, or parameter
-  abbrev pub ElementForms : {role : Role} {es : List Node} → AreElements role es → Type 0
-  ElementForms shapes.no_elements = Unit {0}
-  ElementForms (shapes.more_elements e es) = ElementForm assigned e × ElementForms es
+  abbrev pub ElementForms : {role : Role} {es : List Node} → AreElements role es → ℕ → Type 0
+  ElementForms shapes.no_elements depth = Unit {0}
+  ElementForms (shapes.more_elements e es) depth = ElementForm assigned e depth × ElementForms es depth
 
-  abbrev pub ArgumentForms : {role : Role} {n : Node} → IsArguments role n → Type 0
-  ArgumentForms (shapes.no_arguments at) = Unit {0}
-  ArgumentForms (shapes.arguments at e es) = ElementForm assigned e × ElementForms es
+  abbrev pub ArgumentForms : {role : Role} {n : Node} → IsArguments role n → ℕ → Type 0
+  ArgumentForms (shapes.no_arguments at) depth = Unit {0}
+  ArgumentForms (shapes.arguments at e es) depth = ElementForm assigned e depth × ElementForms es depth
 
   -- parameters
 
-  more_read : {es : List Node} (is : AreElements shapes.bindings es) → ElementForms is → (us : Items) → Repeats assigned (more param) (elements_tokens is (s (codes ")") us)) (bare_elements is) (s (codes ")") us)
-  more_read shapes.no_elements F us = repeats_end assigned (more param) (s (codes ")") us) refl
-  more_read (shapes.more_elements e es) F us =
-      let vs = elements_tokens es (s (codes ")") us) in
-      repeats_more assigned (more param) param_eats _ vs (s (codes ")") us) (bare_element e ∷ []) (bare_elements es) (ap (with_front []) (param_read assigned e F.0 blank vs (more_followed es us))) (more_read es F.1 us)
+  more_read : {es : List Node} (is : AreElements shapes.bindings es) (depth : ℕ) → ElementForms is depth → (us : Items) → Repeats assigned (more param) (elements_tokens is depth (s (codes ")") us)) (bare_elements is) (s (codes ")") us)
+  more_read shapes.no_elements depth F us = repeats_end assigned (more param) (s (codes ")") us) refl
+  more_read (shapes.more_elements e es) depth F us =
+      let vs = elements_tokens es depth (s (codes ")") us) in
+      repeats_more assigned (more param) param_eats _ vs (s (codes ")") us) (bare_element e ∷ []) (bare_elements es) (ap (with_front []) (param_read assigned e depth F.0 blank vs (more_followed es depth us))) (more_read es depth F.1 us)
 
-  pub params_read : {n : Node} (is : IsArguments shapes.bindings n) → ArgumentForms is → (us : Items) → Reads assigned params (arguments_tokens is (s (codes ")") us)) (list_node (bare_arguments is) ∷ []) (s (codes ")") us)
+  pub params_read : {n : Node} (is : IsArguments shapes.bindings n) (depth : ℕ) → ArgumentForms is depth → (us : Items) → Reads assigned params (arguments_tokens is depth (s (codes ")") us)) (list_node (bare_arguments is) ∷ []) (s (codes ")") us)
   unfolding params
-  params_read (shapes.no_arguments at) F us = rw (all_refused assigned param (exactly (sign (codes ")"))) (s (codes ")") us) at_token no_param_there) refl
-  params_read (shapes.arguments at e es) F us =
-      let vs = elements_tokens es (s (codes ")") us) in
-      rw (param_read assigned e F.0 no_gap vs (more_followed es us), repeated assigned (more param) vs (s (codes ")") us) (bare_elements es) (more_read es F.1 us), append-nil (bare_elements es)) refl
+  params_read (shapes.no_arguments at) depth F us = rw (all_refused assigned param (exactly (sign (codes ")"))) (s (codes ")") us) at_token no_param_there) refl
+  params_read (shapes.arguments at e es) depth F us =
+      let vs = elements_tokens es depth (s (codes ")") us) in
+      rw (param_read assigned e depth F.0 no_gap vs (more_followed es depth us), repeated assigned (more param) vs (s (codes ")") us) (bare_elements es) (more_read es depth F.1 us), append-nil (bare_elements es)) refl
 
-  module _ {ps : Node} (is : IsArguments shapes.bindings ps) (F : ArgumentForms is) {no_in : Bool} {f : Laid} {k : Kind} {ns : List Node} (S : StandsIn assigned no_in shapes.assignment f k ns) (no_block : (g : Gap) (us : Items) → Refuses assigned (punct (codes "{")) (f g us)) where
+  module _ {ps : Node} (is : IsArguments shapes.bindings ps) (depth : ℕ) (F : ArgumentForms is depth) {no_in : Bool} {f : Laid} {k : Kind} {ns : List Node} (S : StandsIn assigned no_in shapes.assignment f k ns) (no_block : (g : Gap) (us : Items) → Refuses assigned (punct (codes "{")) (f g us)) where
     abbrev body : Items → Items
     body us = it blank (sign (codes "=>")) (f blank us)
 
     abbrev pub tokens : Laid
-    tokens g us = it g (sign (codes "(")) (arguments_tokens is (s (codes ")") (body us)))
+    tokens g us = it g (sign (codes "(")) (arguments_tokens is depth (s (codes ")") (body us)))
 
     abbrev whole : Node
     whole = bare (kind.ArrowExpr false false) (list_node (bare_arguments is) ∷ bare k ns ∷ absent ∷ absent ∷ [])
@@ -102,7 +102,7 @@ module _ (assigned : Bool) where
 
     rest_read : (g : Gap) (us : Items) (e : Front) → Begins e us → closes_in no_in shapes.assignment e ≡ true → Reads assigned (arrow_rest no_in false) (tokens g us) (absent ∷ list_node (bare_arguments is) ∷ absent ∷ bare k ns ∷ []) us
     unfolding arrow_rest names.binding_ident
-    rest_read g us e b z = rw (params_read is F (body us), body_read us e b z) refl
+    rest_read g us e b z = rw (params_read is depth F (body us), body_read us e b z) refl
 
     pub arrow_read : (g : Gap) (us : Items) (e : Front) → Begins e us → closes_in no_in shapes.assignment e ≡ true → means assigned (part.Assign no_in false) (tokens g us) ≡ read (whole ∷ []) us
     unfolding arrow
@@ -124,9 +124,9 @@ module _ (assigned : Bool) where
         ∙ (ap (or_on (I (behind_arrow no_in)) ts) (ap (or_on (I (build form.Arrow (put Absent ▸ arrow_rest no_in false))) ts) (ap (built_on form.Arrow) (ap (with_front []) (ap (with_front []) (ap (with_front (flag_node Present ∷ [])) (rest_read blank us e b z))))))
         ∙ ap (λ x. read (x ∷ []) us) (async_made (list_node (bare_arguments is)) (bare k ns)))
 
-  module _ {ps : Node} (is : IsArguments shapes.bindings ps) (F : ArgumentForms is) {f : Laid} {k : Kind} {ns : List Node} (S : Stands assigned shapes.assignment f k ns) (no_block : (g : Gap) (us : Items) → Refuses assigned (punct (codes "{")) (f g us)) where
+  module _ {ps : Node} (is : IsArguments shapes.bindings ps) (depth : ℕ) (F : ArgumentForms is depth) {f : Laid} {k : Kind} {ns : List Node} (S : Stands assigned shapes.assignment f k ns) (no_block : (g : Gap) (us : Items) → Refuses assigned (punct (codes "{")) (f g us)) where
     abbrev own : Laid
-    own = tokens is F S no_block
+    own = tokens is depth F S no_block
 
     pub arrow_form : Stands assigned shapes.assignment own (kind.ArrowExpr false false) (list_node (bare_arguments is) ∷ bare k ns ∷ absent ∷ absent ∷ [])
     unfolding labeled param rest_pattern default_value pattern_body array_pattern object_pattern names.binding_ident statements.statement_body names.block statements.if_ statements.for_await statements.for_ statements.while_ statements.do_while statements.switch statements.try_ statements.jump declarations.declaration functions.function_declaration classes.class_declaration modules.module_item modules.import modules.import_equals modules.export modules.export_default
@@ -148,7 +148,7 @@ module _ (assigned : Bool) where
           no_or = tt;
           no_arrow = tt;
           param = λ g us e b z. no_param_at assigned opening (own g us) us at_token refl refl;
-          reading = arrow_read is F S no_block;
+          reading = arrow_read is depth F S no_block;
         }
 
     pub async_arrow_form : Stands assigned shapes.assignment (λ g us. it g (items.key (codes "async")) (own blank us)) (kind.ArrowExpr true false) (list_node (bare_arguments is) ∷ bare k ns ∷ absent ∷ absent ∷ [])
@@ -170,5 +170,5 @@ module _ (assigned : Bool) where
           no_or = tt;
           no_arrow = tt;
           param = λ g us e b z. linked_param assigned at_token refl refl (A.as_param g (own blank us) opening at_token refl);
-          reading = async_arrow_read is F S no_block;
+          reading = async_arrow_read is depth F S no_block;
         }

@@ -43,61 +43,61 @@ pub record Begun (tokens : Gap → Items) : Type 0 where
   pub opens : Opens first by
   pub is : (g : Gap) → tokens g ≡ it g first rest
 
-pub begun : {level : Level} {e : Node} (is : IsExpression level e) (us : Items) → Begun (λ g. expression_tokens is g us)
-begun (shapes.looser e) us = begun e us
-begun (shapes.name i) us = record { first = items.key (ident_word i); by = NoNeighbor; rest = us; opens = by_key (ident_word i); is = λ g. refl }
-begun (shapes.string at raw t) us = record { first = items.string raw; by = NoNeighbor; rest = us; opens = by_string raw; is = λ g. refl }
-begun (shapes.number at raw t) us = record { first = items.number raw; by = NoNeighbor; rest = us; opens = by_number raw; is = λ g. refl }
-begun (shapes.this_word at) us = record { first = items.key (codes "this"); by = NoNeighbor; rest = us; opens = by_key (codes "this"); is = λ g. refl }
-begun (shapes.big_int at raw t) us = record { first = items.big_int raw; by = NoNeighbor; rest = us; opens = by_big_int raw; is = λ g. refl }
-begun (shapes.regex at b f t) us = record { first = items.regex (regex_text b f); by = NoNeighbor; rest = us; opens = by_regex (regex_text b f); is = λ g. refl }
-begun (shapes.template at a b ps) us = record { first = part_token true ps; by = NoNeighbor; rest = parts_tokens ps us; opens = by_template (ends_here ps) (part_text true (ends_here ps) (first_raw ps)); is = λ g. refl }
-begun (shapes.null_word at) us = record { first = items.key (codes "null"); by = NoNeighbor; rest = us; opens = by_key (codes "null"); is = λ g. refl }
-begun (shapes.true_word at) us = record { first = items.key (codes "true"); by = NoNeighbor; rest = us; opens = by_key (codes "true"); is = λ g. refl }
-begun (shapes.false_word at) us = record { first = items.key (codes "false"); by = NoNeighbor; rest = us; opens = by_key (codes "false"); is = λ g. refl }
-begun (shapes.member at i o k) us = begun o (sign_of (codes ".") (it no_gap (chain_token k) us))
-begun (shapes.call at c es none) us = begun c (sign_of (codes "(") (arguments_tokens es (sign_of (codes ")") us)))
-begun (shapes.parenthesized at e) us = record { first = sign (codes "("); by = NoNeighbor; rest = expression_tokens e no_gap (sign_of (codes ")") us); opens = by_parenthesis; is = λ g. refl }
-begun (shapes.element at at' i o e) us = begun o (sign_of (codes "[") (expression_tokens e no_gap (sign_of (codes "]") us)))
-begun (shapes.super_member at at' k) us = record { first = items.key (codes "super"); by = NoNeighbor; rest = sign_of (codes ".") (it no_gap (items.key (key_word k)) us); opens = by_key (codes "super"); is = λ g. refl }
-begun (shapes.super_element at at' at'' e) us = record { first = items.key (codes "super"); by = NoNeighbor; rest = sign_of (codes "[") (expression_tokens e no_gap (sign_of (codes "]") us)); opens = by_key (codes "super"); is = λ g. refl }
-begun (shapes.super_call at at' es none) us = record { first = items.key (codes "super"); by = NoNeighbor; rest = sign_of (codes "(") (arguments_tokens es (sign_of (codes ")") us)); opens = by_key (codes "super"); is = λ g. refl }
-begun (shapes.new_expression at e es none) us = record { first = items.key (codes "new"); by = NoNeighbor; rest = expression_tokens e blank (sign_of (codes "(") (arguments_tokens es (sign_of (codes ")") us))); opens = by_key (codes "new"); is = λ g. refl }
-begun (shapes.new_alone at e none none') us = record { first = items.key (codes "new"); by = NoNeighbor; rest = expression_tokens e blank us; opens = by_key (codes "new"); is = λ g. refl }
-begun (shapes.new_target at) us = record { first = items.key (codes "new"); by = NoNeighbor; rest = sign_of (codes ".") (it no_gap (items.key (codes "target")) us); opens = by_key (codes "new"); is = λ g. refl }
-begun (shapes.import_meta at) us = record { first = items.key (codes "import"); by = NoNeighbor; rest = sign_of (codes ".") (it no_gap (items.key (codes "meta")) us); opens = by_key (codes "import"); is = λ g. refl }
-begun (shapes.import_call at at' es none) us = record { first = items.key (codes "import"); by = NoNeighbor; rest = sign_of (codes "(") (arguments_tokens es (sign_of (codes ")") us)); opens = by_key (codes "import"); is = λ g. refl }
-begun (shapes.tagged_template at a b c i o none ps) us = begun o (it no_gap (part_token true ps) (parts_tokens ps us))
-begun (shapes.chain_member at a {asks = b} i o k) us = begun o (sign_of (point_of b) (it no_gap (chain_token k) us))
-begun (shapes.chain_element at a c {asks = b} i o e) us = begun o (question_of b (sign_of (codes "[") (expression_tokens e no_gap (sign_of (codes "]") us))))
-begun (shapes.chain_call at a {asks = b} i o es none) us = begun o (question_of b (sign_of (codes "(") (arguments_tokens es (sign_of (codes ")") us))))
-begun (shapes.prefix_update at o e) us = record { first = update_token o; by = update_sign o; rest = expression_tokens e no_gap us; opens = by_update o; is = λ g. refl }
-begun (shapes.postfix_update at o e) us = begun e (it no_gap (update_token o) us)
-begun (shapes.await_expression at e) us = record { first = items.key (codes "await"); by = NoNeighbor; rest = expression_tokens e blank us; opens = by_key (codes "await"); is = λ g. refl }
-begun (shapes.unary_expression at o e) us = record { first = unary_token o; by = unary_sign o; rest = expression_tokens e (unary_gap o (own_sign e)) us; opens = by_operator o; is = λ g. refl }
-begun (shapes.binary_expression at {operator = o} i l r) us = begun l (it blank (binary_token o) (expression_tokens r blank us))
-begun (shapes.private_in at at' w t r) us = record { first = items.private_name (codes "#" ++ w); by = NoNeighbor; rest = it blank (items.key (codes "in")) (expression_tokens r blank us); opens = by_private (codes "#" ++ w); is = λ g. refl }
-begun (shapes.exponentiation at l r) us = begun l (it blank (sign (codes "**")) (expression_tokens r blank us))
-begun (shapes.both at l r) us = begun l (it blank (sign (codes "&&")) (expression_tokens r blank us))
-begun (shapes.either at l r) us = begun l (it blank (sign (codes "||")) (expression_tokens r blank us))
-begun (shapes.coalesced at i l r) us = begun l (it blank (sign (codes "??")) (expression_tokens r blank us))
-begun (shapes.yield_nothing at none) us = record { first = items.key (codes "yield"); by = NoNeighbor; rest = us; opens = by_key (codes "yield"); is = λ g. refl }
-begun (shapes.yield_value at d e) us = record { first = items.key (codes "yield"); by = NoNeighbor; rest = star_of d (expression_tokens e blank us); opens = by_key (codes "yield"); is = λ g. refl }
-begun (shapes.assignment_expression at o t v) us = begun t (it blank (assign_token o) (expression_tokens v blank us))
-begun (shapes.conditional_expression at t x y) us = begun t (it blank (sign (codes "?")) (expression_tokens x blank (it blank (sign (codes ":")) (expression_tokens y blank us))))
-begun (shapes.arrow_function at true ps e z a b) us =
+pub begun : {level : Level} {e : Node} (is : IsExpression level e) (depth : ℕ) (us : Items) → Begun (λ g. expression_tokens is depth g us)
+begun (shapes.looser e) depth us = begun e depth us
+begun (shapes.name i) depth us = record { first = items.key (ident_word i); by = NoNeighbor; rest = us; opens = by_key (ident_word i); is = λ g. refl }
+begun (shapes.string at raw t) depth us = record { first = items.string raw; by = NoNeighbor; rest = us; opens = by_string raw; is = λ g. refl }
+begun (shapes.number at raw t) depth us = record { first = items.number raw; by = NoNeighbor; rest = us; opens = by_number raw; is = λ g. refl }
+begun (shapes.this_word at) depth us = record { first = items.key (codes "this"); by = NoNeighbor; rest = us; opens = by_key (codes "this"); is = λ g. refl }
+begun (shapes.big_int at raw t) depth us = record { first = items.big_int raw; by = NoNeighbor; rest = us; opens = by_big_int raw; is = λ g. refl }
+begun (shapes.regex at b f t) depth us = record { first = items.regex (regex_text b f); by = NoNeighbor; rest = us; opens = by_regex (regex_text b f); is = λ g. refl }
+begun (shapes.template at a b ps) depth us = record { first = part_token true ps; by = NoNeighbor; rest = parts_tokens ps depth us; opens = by_template (ends_here ps) (part_text true (ends_here ps) (first_raw ps)); is = λ g. refl }
+begun (shapes.null_word at) depth us = record { first = items.key (codes "null"); by = NoNeighbor; rest = us; opens = by_key (codes "null"); is = λ g. refl }
+begun (shapes.true_word at) depth us = record { first = items.key (codes "true"); by = NoNeighbor; rest = us; opens = by_key (codes "true"); is = λ g. refl }
+begun (shapes.false_word at) depth us = record { first = items.key (codes "false"); by = NoNeighbor; rest = us; opens = by_key (codes "false"); is = λ g. refl }
+begun (shapes.member at i o k) depth us = begun o depth (sign_of (codes ".") (it no_gap (chain_token k) us))
+begun (shapes.call at c es none) depth us = begun c depth (sign_of (codes "(") (arguments_tokens es depth (sign_of (codes ")") us)))
+begun (shapes.parenthesized at e) depth us = record { first = sign (codes "("); by = NoNeighbor; rest = expression_tokens e depth no_gap (sign_of (codes ")") us); opens = by_parenthesis; is = λ g. refl }
+begun (shapes.element at at' i o e) depth us = begun o depth (sign_of (codes "[") (expression_tokens e depth no_gap (sign_of (codes "]") us)))
+begun (shapes.super_member at at' k) depth us = record { first = items.key (codes "super"); by = NoNeighbor; rest = sign_of (codes ".") (it no_gap (items.key (key_word k)) us); opens = by_key (codes "super"); is = λ g. refl }
+begun (shapes.super_element at at' at'' e) depth us = record { first = items.key (codes "super"); by = NoNeighbor; rest = sign_of (codes "[") (expression_tokens e depth no_gap (sign_of (codes "]") us)); opens = by_key (codes "super"); is = λ g. refl }
+begun (shapes.super_call at at' es none) depth us = record { first = items.key (codes "super"); by = NoNeighbor; rest = sign_of (codes "(") (arguments_tokens es depth (sign_of (codes ")") us)); opens = by_key (codes "super"); is = λ g. refl }
+begun (shapes.new_expression at e es none) depth us = record { first = items.key (codes "new"); by = NoNeighbor; rest = expression_tokens e depth blank (sign_of (codes "(") (arguments_tokens es depth (sign_of (codes ")") us))); opens = by_key (codes "new"); is = λ g. refl }
+begun (shapes.new_alone at e none none') depth us = record { first = items.key (codes "new"); by = NoNeighbor; rest = expression_tokens e depth blank us; opens = by_key (codes "new"); is = λ g. refl }
+begun (shapes.new_target at) depth us = record { first = items.key (codes "new"); by = NoNeighbor; rest = sign_of (codes ".") (it no_gap (items.key (codes "target")) us); opens = by_key (codes "new"); is = λ g. refl }
+begun (shapes.import_meta at) depth us = record { first = items.key (codes "import"); by = NoNeighbor; rest = sign_of (codes ".") (it no_gap (items.key (codes "meta")) us); opens = by_key (codes "import"); is = λ g. refl }
+begun (shapes.import_call at at' es none) depth us = record { first = items.key (codes "import"); by = NoNeighbor; rest = sign_of (codes "(") (arguments_tokens es depth (sign_of (codes ")") us)); opens = by_key (codes "import"); is = λ g. refl }
+begun (shapes.tagged_template at a b c i o none ps) depth us = begun o depth (it no_gap (part_token true ps) (parts_tokens ps depth us))
+begun (shapes.chain_member at a {asks = b} i o k) depth us = begun o depth (sign_of (point_of b) (it no_gap (chain_token k) us))
+begun (shapes.chain_element at a c {asks = b} i o e) depth us = begun o depth (question_of b (sign_of (codes "[") (expression_tokens e depth no_gap (sign_of (codes "]") us))))
+begun (shapes.chain_call at a {asks = b} i o es none) depth us = begun o depth (question_of b (sign_of (codes "(") (arguments_tokens es depth (sign_of (codes ")") us))))
+begun (shapes.prefix_update at o e) depth us = record { first = update_token o; by = update_sign o; rest = expression_tokens e depth no_gap us; opens = by_update o; is = λ g. refl }
+begun (shapes.postfix_update at o e) depth us = begun e depth (it no_gap (update_token o) us)
+begun (shapes.await_expression at e) depth us = record { first = items.key (codes "await"); by = NoNeighbor; rest = expression_tokens e depth blank us; opens = by_key (codes "await"); is = λ g. refl }
+begun (shapes.unary_expression at o e) depth us = record { first = unary_token o; by = unary_sign o; rest = expression_tokens e depth (unary_gap o (own_sign e)) us; opens = by_operator o; is = λ g. refl }
+begun (shapes.binary_expression at {operator = o} i l r) depth us = begun l depth (it blank (binary_token o) (expression_tokens r depth blank us))
+begun (shapes.private_in at at' w t r) depth us = record { first = items.private_name (codes "#" ++ w); by = NoNeighbor; rest = it blank (items.key (codes "in")) (expression_tokens r depth blank us); opens = by_private (codes "#" ++ w); is = λ g. refl }
+begun (shapes.exponentiation at l r) depth us = begun l depth (it blank (sign (codes "**")) (expression_tokens r depth blank us))
+begun (shapes.both at l r) depth us = begun l depth (it blank (sign (codes "&&")) (expression_tokens r depth blank us))
+begun (shapes.either at l r) depth us = begun l depth (it blank (sign (codes "||")) (expression_tokens r depth blank us))
+begun (shapes.coalesced at i l r) depth us = begun l depth (it blank (sign (codes "??")) (expression_tokens r depth blank us))
+begun (shapes.yield_nothing at none) depth us = record { first = items.key (codes "yield"); by = NoNeighbor; rest = us; opens = by_key (codes "yield"); is = λ g. refl }
+begun (shapes.yield_value at d e) depth us = record { first = items.key (codes "yield"); by = NoNeighbor; rest = star_of d (expression_tokens e depth blank us); opens = by_key (codes "yield"); is = λ g. refl }
+begun (shapes.assignment_expression at o t v) depth us = begun t depth (it blank (assign_token o) (expression_tokens v depth blank us))
+begun (shapes.conditional_expression at t x y) depth us = begun t depth (it blank (sign (codes "?")) (expression_tokens x depth blank (it blank (sign (codes ":")) (expression_tokens y depth blank us))))
+begun (shapes.arrow_function at true ps e z a b) depth us =
     record {
       first = items.key (codes "async");
       by = NoNeighbor;
-      rest = it blank (sign (codes "(")) (arguments_tokens ps (sign_of (codes ")") (it blank (sign (codes "=>")) (expression_tokens e blank us))));
+      rest = it blank (sign (codes "(")) (arguments_tokens ps depth (sign_of (codes ")") (it blank (sign (codes "=>")) (expression_tokens e depth blank us))));
       opens = by_key (codes "async");
       is = λ g. refl;
     }
-begun (shapes.arrow_function at false ps e z a b) us =
-    record { first = sign (codes "("); by = NoNeighbor; rest = arguments_tokens ps (sign_of (codes ")") (it blank (sign (codes "=>")) (expression_tokens e blank us))); opens = by_parenthesis; is = λ g. refl }
-begun (shapes.array at at' es) us = record { first = sign (codes "["); by = NoNeighbor; rest = slots_tokens es us; opens = by_bracket; is = λ g. refl }
-begun (shapes.object_literal at at' ps) us = record { first = sign (codes "{"); by = NoNeighbor; rest = properties_tokens ps us; opens = by_brace; is = λ g. refl }
-begun (shapes.sequence_expression at x y es) us = begun x (sign_of (codes ",") (expression_tokens y blank (more_tokens es us)))
+begun (shapes.arrow_function at false ps e z a b) depth us =
+    record { first = sign (codes "("); by = NoNeighbor; rest = arguments_tokens ps depth (sign_of (codes ")") (it blank (sign (codes "=>")) (expression_tokens e depth blank us))); opens = by_parenthesis; is = λ g. refl }
+begun (shapes.array at at' es) depth us = record { first = sign (codes "["); by = NoNeighbor; rest = slots_tokens es depth us; opens = by_bracket; is = λ g. refl }
+begun (shapes.object_literal at at' ps) depth us = record { first = sign (codes "{"); by = NoNeighbor; rest = properties_tokens ps depth us; opens = by_brace; is = λ g. refl }
+begun (shapes.sequence_expression at x y es) depth us = begun x depth (sign_of (codes ",") (expression_tokens y depth blank (more_tokens es depth us)))
 
 -- behind `(`, behind a blank, and on a new line
 
@@ -119,29 +119,29 @@ dots_by (by_update PlusPlus) us = refl
 dots_by (by_operator Minus) us = refl
 dots_by h us = refl
 
-pub pattern_dots_joins : {n : Node} (is : IsPattern n) (us : Items) → joins_next (sign (codes "...")) (pattern_tokens is no_gap us) ≡ true
+pub pattern_dots_joins : {n : Node} (is : IsPattern n) (depth : ℕ) (us : Items) → joins_next (sign (codes "...")) (pattern_tokens is depth no_gap us) ≡ true
 unfolding punctuators
-pattern_dots_joins (shapes.name_pattern at i a) us = refl
-pattern_dots_joins is us = refl
+pattern_dots_joins (shapes.name_pattern at i a) depth us = refl
+pattern_dots_joins is depth us = refl
 
-pub dots_join : {level : Level} {e : Node} (is : IsExpression level e) (us : Items) → joins_next (sign (codes "...")) (expression_tokens is no_gap us) ≡ true
-dots_join is us = let b = begun is us in rw (b.is no_gap) (dots_by b.opens b.rest)
+pub dots_join : {level : Level} {e : Node} (is : IsExpression level e) (depth : ℕ) (us : Items) → joins_next (sign (codes "...")) (expression_tokens is depth no_gap us) ≡ true
+dots_join is depth us = let b = begun is depth us in rw (b.is no_gap) (dots_by b.opens b.rest)
 
-pub opening_joins : {level : Level} {e : Node} (is : IsExpression level e) (us : Items) → joins_next (sign (codes "(")) (expression_tokens is no_gap us) ≡ true
-opening_joins is us = let b = begun is us in rw (b.is no_gap) (opening_by b.opens b.rest)
+pub opening_joins : {level : Level} {e : Node} (is : IsExpression level e) (depth : ℕ) (us : Items) → joins_next (sign (codes "(")) (expression_tokens is depth no_gap us) ≡ true
+opening_joins is depth us = let b = begun is depth us in rw (b.is no_gap) (opening_by b.opens b.rest)
 
-pattern_opening_joins : {n : Node} (is : IsPattern n) (us : Items) → joins_next (sign (codes "(")) (pattern_tokens is no_gap us) ≡ true
+pattern_opening_joins : {n : Node} (is : IsPattern n) (depth : ℕ) (us : Items) → joins_next (sign (codes "(")) (pattern_tokens is depth no_gap us) ≡ true
 unfolding punctuators
-pattern_opening_joins (shapes.name_pattern at i a) us = refl
-pattern_opening_joins is us = refl
+pattern_opening_joins (shapes.name_pattern at i a) depth us = refl
+pattern_opening_joins is depth us = refl
 
-pub element_opening_joins : {role : Role} {n : Node} (is : IsElement role n) (us : Items) → joins_next (sign (codes "(")) (element_tokens is no_gap us) ≡ true
+pub element_opening_joins : {role : Role} {n : Node} (is : IsElement role n) (depth : ℕ) (us : Items) → joins_next (sign (codes "(")) (element_tokens is depth no_gap us) ≡ true
 unfolding punctuators
-element_opening_joins (shapes.one e) us = opening_joins e us
-element_opening_joins (shapes.spread at e) us = refl
-element_opening_joins (shapes.bound (shapes.no_default p)) us = pattern_opening_joins p us
-element_opening_joins (shapes.bound (shapes.with_default at p e)) us = pattern_opening_joins p (it blank (sign (codes "=")) (expression_tokens e blank us))
-element_opening_joins (shapes.rest at p a) us = refl
+element_opening_joins (shapes.one e) depth us = opening_joins e depth us
+element_opening_joins (shapes.spread at e) depth us = refl
+element_opening_joins (shapes.bound (shapes.no_default p)) depth us = pattern_opening_joins p depth us
+element_opening_joins (shapes.bound (shapes.with_default at p e)) depth us = pattern_opening_joins p depth (it blank (sign (codes "=")) (expression_tokens e depth blank us))
+element_opening_joins (shapes.rest at p a) depth us = refl
 
 pub update_by : (o : UpdateOp) {t : Tok} {b : Beside} → Opens t b → (us : Items) → joins_next (update_token o) (it no_gap t us) ≡ true
 unfolding punctuators
@@ -152,14 +152,14 @@ update_by MinusMinus (by_update PlusPlus) us = refl
 update_by MinusMinus (by_operator Minus) us = refl
 update_by MinusMinus h us = refl
 
-pub update_joins : (o : UpdateOp) {level : Level} {e : Node} (is : IsExpression level e) (us : Items) → joins_next (update_token o) (expression_tokens is no_gap us) ≡ true
-update_joins o is us = let b = begun is us in rw (b.is no_gap) (update_by o b.opens b.rest)
+pub update_joins : (o : UpdateOp) {level : Level} {e : Node} (is : IsExpression level e) (depth : ℕ) (us : Items) → joins_next (update_token o) (expression_tokens is depth no_gap us) ≡ true
+update_joins o is depth us = let b = begun is depth us in rw (b.is no_gap) (update_by o b.opens b.rest)
 
-pub bracket_joins : {level : Level} {e : Node} (is : IsExpression level e) (us : Items) → joins_next (sign (codes "[")) (expression_tokens is no_gap us) ≡ true
-bracket_joins is us = let b = begun is us in rw (b.is no_gap) (bracket_by b.opens b.rest)
+pub bracket_joins : {level : Level} {e : Node} (is : IsExpression level e) (depth : ℕ) (us : Items) → joins_next (sign (codes "[")) (expression_tokens is depth no_gap us) ≡ true
+bracket_joins is depth us = let b = begun is depth us in rw (b.is no_gap) (bracket_by b.opens b.rest)
 
-pub no_new_line : {level : Level} {e : Node} (is : IsExpression level e) (us : Items) → new_line_in (expression_tokens is blank us) ≡ false
-no_new_line is us = let b = begun is us in rw (b.is blank) refl
+pub no_new_line : {level : Level} {e : Node} (is : IsExpression level e) (depth : ℕ) (us : Items) → new_line_in (expression_tokens is depth blank us) ≡ false
+no_new_line is depth us = let b = begun is depth us in rw (b.is blank) refl
 
 pub update_brace : (o : UpdateOp) (g : Gap) (us : Items) → punct_in (codes "{") (it g (update_token o) us) ≡ refused
 update_brace PlusPlus g us = refl
@@ -175,101 +175,101 @@ star_by (by_update PlusPlus) g us = refl
 star_by (by_operator Minus) g us = refl
 star_by h g us = refl
 
-pub no_star : {level : Level} {e : Node} (is : IsExpression level e) (g : Gap) (us : Items) → punct_in (codes "*") (expression_tokens is g us) ≡ refused
-no_star is g us = let b = begun is us in rw (b.is g) (star_by b.opens g b.rest)
+pub no_star : {level : Level} {e : Node} (is : IsExpression level e) (depth : ℕ) (g : Gap) (us : Items) → punct_in (codes "*") (expression_tokens is depth g us) ≡ refused
+no_star is depth g us = let b = begun is depth us in rw (b.is g) (star_by b.opens g b.rest)
 
-pub no_brace : {level : Level} {e : Node} (is : IsExpression level e) → begins_with_brace is ≡ false → (g : Gap) (us : Items) → punct_in (codes "{") (expression_tokens is g us) ≡ refused
-no_brace (shapes.looser e) z g us = no_brace e z g us
-no_brace (shapes.member at i o k) z g us = no_brace o z g (sign_of (codes ".") (it no_gap (chain_token k) us))
-no_brace (shapes.call at c es none) z g us = no_brace c z g (sign_of (codes "(") (arguments_tokens es (sign_of (codes ")") us)))
-no_brace (shapes.element at at' i o e) z g us = no_brace o z g (sign_of (codes "[") (expression_tokens e no_gap (sign_of (codes "]") us)))
-no_brace (shapes.tagged_template at a b c i o none ps) z g us = no_brace o z g (it no_gap (part_token true ps) (parts_tokens ps us))
-no_brace (shapes.chain_member at a {asks = b} i o k) z g us = no_brace o z g (sign_of (point_of b) (it no_gap (chain_token k) us))
-no_brace (shapes.chain_element at a c {asks = b} i o e) z g us = no_brace o z g (question_of b (sign_of (codes "[") (expression_tokens e no_gap (sign_of (codes "]") us))))
-no_brace (shapes.chain_call at a {asks = b} i o es none) z g us = no_brace o z g (question_of b (sign_of (codes "(") (arguments_tokens es (sign_of (codes ")") us))))
-no_brace (shapes.prefix_update at o e) z g us = update_brace o g (expression_tokens e no_gap us)
-no_brace (shapes.postfix_update at o e) z g us = no_brace e z g (it no_gap (update_token o) us)
-no_brace (shapes.unary_expression at o e) z g us = unary_brace o g (expression_tokens e (unary_gap o (own_sign e)) us)
-no_brace (shapes.binary_expression at {operator = o} i l r) z g us = no_brace l z g (it blank (binary_token o) (expression_tokens r blank us))
-no_brace (shapes.exponentiation at l r) z g us = no_brace l z g (it blank (sign (codes "**")) (expression_tokens r blank us))
-no_brace (shapes.both at l r) z g us = no_brace l z g (it blank (sign (codes "&&")) (expression_tokens r blank us))
-no_brace (shapes.either at l r) z g us = no_brace l z g (it blank (sign (codes "||")) (expression_tokens r blank us))
-no_brace (shapes.coalesced at i l r) z g us = no_brace l z g (it blank (sign (codes "??")) (expression_tokens r blank us))
-no_brace (shapes.assignment_expression at o t v) z g us = no_brace t z g (it blank (assign_token o) (expression_tokens v blank us))
-no_brace (shapes.conditional_expression at t x y) z g us = no_brace t z g (it blank (sign (codes "?")) (expression_tokens x blank (it blank (sign (codes ":")) (expression_tokens y blank us))))
-no_brace (shapes.sequence_expression at x y es) z g us = no_brace x z g (sign_of (codes ",") (expression_tokens y blank (more_tokens es us)))
-no_brace (shapes.object_literal at at' ps) z g us = absurd (false≢true (sym z))
-no_brace (shapes.arrow_function at true ps e q a b) z g us = refl
-no_brace (shapes.arrow_function at false ps e q a b) z g us = refl
-no_brace is z g us = refl
+pub no_brace : {level : Level} {e : Node} (is : IsExpression level e) (depth : ℕ) → begins_with_brace is ≡ false → (g : Gap) (us : Items) → punct_in (codes "{") (expression_tokens is depth g us) ≡ refused
+no_brace (shapes.looser e) depth z g us = no_brace e depth z g us
+no_brace (shapes.member at i o k) depth z g us = no_brace o depth z g (sign_of (codes ".") (it no_gap (chain_token k) us))
+no_brace (shapes.call at c es none) depth z g us = no_brace c depth z g (sign_of (codes "(") (arguments_tokens es depth (sign_of (codes ")") us)))
+no_brace (shapes.element at at' i o e) depth z g us = no_brace o depth z g (sign_of (codes "[") (expression_tokens e depth no_gap (sign_of (codes "]") us)))
+no_brace (shapes.tagged_template at a b c i o none ps) depth z g us = no_brace o depth z g (it no_gap (part_token true ps) (parts_tokens ps depth us))
+no_brace (shapes.chain_member at a {asks = b} i o k) depth z g us = no_brace o depth z g (sign_of (point_of b) (it no_gap (chain_token k) us))
+no_brace (shapes.chain_element at a c {asks = b} i o e) depth z g us = no_brace o depth z g (question_of b (sign_of (codes "[") (expression_tokens e depth no_gap (sign_of (codes "]") us))))
+no_brace (shapes.chain_call at a {asks = b} i o es none) depth z g us = no_brace o depth z g (question_of b (sign_of (codes "(") (arguments_tokens es depth (sign_of (codes ")") us))))
+no_brace (shapes.prefix_update at o e) depth z g us = update_brace o g (expression_tokens e depth no_gap us)
+no_brace (shapes.postfix_update at o e) depth z g us = no_brace e depth z g (it no_gap (update_token o) us)
+no_brace (shapes.unary_expression at o e) depth z g us = unary_brace o g (expression_tokens e depth (unary_gap o (own_sign e)) us)
+no_brace (shapes.binary_expression at {operator = o} i l r) depth z g us = no_brace l depth z g (it blank (binary_token o) (expression_tokens r depth blank us))
+no_brace (shapes.exponentiation at l r) depth z g us = no_brace l depth z g (it blank (sign (codes "**")) (expression_tokens r depth blank us))
+no_brace (shapes.both at l r) depth z g us = no_brace l depth z g (it blank (sign (codes "&&")) (expression_tokens r depth blank us))
+no_brace (shapes.either at l r) depth z g us = no_brace l depth z g (it blank (sign (codes "||")) (expression_tokens r depth blank us))
+no_brace (shapes.coalesced at i l r) depth z g us = no_brace l depth z g (it blank (sign (codes "??")) (expression_tokens r depth blank us))
+no_brace (shapes.assignment_expression at o t v) depth z g us = no_brace t depth z g (it blank (assign_token o) (expression_tokens v depth blank us))
+no_brace (shapes.conditional_expression at t x y) depth z g us = no_brace t depth z g (it blank (sign (codes "?")) (expression_tokens x depth blank (it blank (sign (codes ":")) (expression_tokens y depth blank us))))
+no_brace (shapes.sequence_expression at x y es) depth z g us = no_brace x depth z g (sign_of (codes ",") (expression_tokens y depth blank (more_tokens es depth us)))
+no_brace (shapes.object_literal at at' ps) depth z g us = absurd (false≢true (sym z))
+no_brace (shapes.arrow_function at true ps e q a b) depth z g us = refl
+no_brace (shapes.arrow_function at false ps e q a b) depth z g us = refl
+no_brace is depth z g us = refl
 
-pub blank_joins : (t : Tok) {level : Level} {e : Node} (is : IsExpression level e) (us : Items) → joins_next t (expression_tokens is blank us) ≡ true
-blank_joins t is us = let b = begun is us in rw (b.is blank) refl
+pub blank_joins : (t : Tok) {level : Level} {e : Node} (is : IsExpression level e) (depth : ℕ) (us : Items) → joins_next t (expression_tokens is depth blank us) ≡ true
+blank_joins t is depth us = let b = begun is depth us in rw (b.is blank) refl
 
-pub pattern_blank_joins : (t : Tok) {n : Node} (is : IsPattern n) (us : Items) → joins_next t (pattern_tokens is blank us) ≡ true
-pattern_blank_joins t (shapes.name_pattern at i a) us = refl
-pattern_blank_joins t is us = refl
+pub pattern_blank_joins : (t : Tok) {n : Node} (is : IsPattern n) (depth : ℕ) (us : Items) → joins_next t (pattern_tokens is depth blank us) ≡ true
+pattern_blank_joins t (shapes.name_pattern at i a) depth us = refl
+pattern_blank_joins t is depth us = refl
 
-pub defaulted_blank_joins : (t : Tok) {n : Node} (is : IsDefaulted n) (us : Items) → joins_next t (defaulted_tokens is blank us) ≡ true
-defaulted_blank_joins t (shapes.no_default p) us = pattern_blank_joins t p us
-defaulted_blank_joins t (shapes.with_default at p e) us = pattern_blank_joins t p (it blank (sign (codes "=")) (expression_tokens e blank us))
+pub defaulted_blank_joins : (t : Tok) {n : Node} (is : IsDefaulted n) (depth : ℕ) (us : Items) → joins_next t (defaulted_tokens is depth blank us) ≡ true
+defaulted_blank_joins t (shapes.no_default p) depth us = pattern_blank_joins t p depth us
+defaulted_blank_joins t (shapes.with_default at p e) depth us = pattern_blank_joins t p depth (it blank (sign (codes "=")) (expression_tokens e depth blank us))
 
-pub element_blank_joins : (t : Tok) {role : Role} {n : Node} (is : IsElement role n) (us : Items) → joins_next t (element_tokens is blank us) ≡ true
-element_blank_joins t (shapes.one e) us = blank_joins t e us
-element_blank_joins t (shapes.spread at e) us = refl
-element_blank_joins t (shapes.bound p) us = defaulted_blank_joins t p us
-element_blank_joins t (shapes.rest at p a) us = refl
+pub element_blank_joins : (t : Tok) {role : Role} {n : Node} (is : IsElement role n) (depth : ℕ) (us : Items) → joins_next t (element_tokens is depth blank us) ≡ true
+element_blank_joins t (shapes.one e) depth us = blank_joins t e depth us
+element_blank_joins t (shapes.spread at e) depth us = refl
+element_blank_joins t (shapes.bound p) depth us = defaulted_blank_joins t p depth us
+element_blank_joins t (shapes.rest at p a) depth us = refl
 
 -- in brackets
 
-pattern_bracket_joins : {n : Node} (is : IsPattern n) (us : Items) → joins_next (sign (codes "[")) (pattern_tokens is no_gap us) ≡ true
+pattern_bracket_joins : {n : Node} (is : IsPattern n) (depth : ℕ) (us : Items) → joins_next (sign (codes "[")) (pattern_tokens is depth no_gap us) ≡ true
 unfolding punctuators
-pattern_bracket_joins (shapes.name_pattern at i a) us = refl
-pattern_bracket_joins is us = refl
+pattern_bracket_joins (shapes.name_pattern at i a) depth us = refl
+pattern_bracket_joins is depth us = refl
 
-pub element_bracket_joins : {role : Role} {n : Node} (is : IsElement role n) (us : Items) → joins_next (sign (codes "[")) (element_tokens is no_gap us) ≡ true
+pub element_bracket_joins : {role : Role} {n : Node} (is : IsElement role n) (depth : ℕ) (us : Items) → joins_next (sign (codes "[")) (element_tokens is depth no_gap us) ≡ true
 unfolding punctuators
-element_bracket_joins (shapes.one e) us = bracket_joins e us
-element_bracket_joins (shapes.spread at e) us = refl
-element_bracket_joins (shapes.bound (shapes.no_default p)) us = pattern_bracket_joins p us
-element_bracket_joins (shapes.bound (shapes.with_default at p e)) us = pattern_bracket_joins p (it blank (sign (codes "=")) (expression_tokens e blank us))
-element_bracket_joins (shapes.rest at p a) us = refl
+element_bracket_joins (shapes.one e) depth us = bracket_joins e depth us
+element_bracket_joins (shapes.spread at e) depth us = refl
+element_bracket_joins (shapes.bound (shapes.no_default p)) depth us = pattern_bracket_joins p depth us
+element_bracket_joins (shapes.bound (shapes.with_default at p e)) depth us = pattern_bracket_joins p depth (it blank (sign (codes "=")) (expression_tokens e depth blank us))
+element_bracket_joins (shapes.rest at p a) depth us = refl
 
-pub property_parted : (t : Tok) {role : Role} {n : Node} (is : IsProperty role n) (us : Items) → joins_next t (property_tokens is blank us) ≡ true
-property_parted t (shapes.key_value at (shapes.key_name k) v) us = refl
-property_parted t (shapes.renamed at (shapes.key_name k) p) us = refl
-property_parted t (shapes.renamed at k p) us = refl
-property_parted t (shapes.key_value at k v) us = refl
-property_parted t is us = refl
+pub property_parted : (t : Tok) {role : Role} {n : Node} (is : IsProperty role n) (depth : ℕ) (us : Items) → joins_next t (property_tokens is depth blank us) ≡ true
+property_parted t (shapes.key_value at (shapes.key_name k) v) depth us = refl
+property_parted t (shapes.renamed at (shapes.key_name k) p) depth us = refl
+property_parted t (shapes.renamed at k p) depth us = refl
+property_parted t (shapes.key_value at k v) depth us = refl
+property_parted t is depth us = refl
 
-pub properties_open : {role : Role} {ns : List Node} (is : AreProperties role ns) (us : Items) → joins_next (sign (codes "{")) (properties_tokens is us) ≡ true
+pub properties_open : {role : Role} {ns : List Node} (is : AreProperties role ns) (depth : ℕ) (us : Items) → joins_next (sign (codes "{")) (properties_tokens is depth us) ≡ true
 unfolding punctuators
-properties_open shapes.no_properties us = refl
-properties_open (shapes.more_properties p ps) us = property_parted (sign (codes "{")) p (more_properties_tokens ps us)
+properties_open shapes.no_properties depth us = refl
+properties_open (shapes.more_properties p ps) depth us = property_parted (sign (codes "{")) p depth (more_properties_tokens ps depth us)
 
-pub properties_soft : {role : Role} {ns : List Node} (is : AreProperties role ns) (us : Items) → Soft false (more_properties_tokens is us)
-properties_soft shapes.no_properties us = parted
-properties_soft (shapes.more_properties p ps) us = comma
+pub properties_soft : {role : Role} {ns : List Node} (is : AreProperties role ns) (depth : ℕ) (us : Items) → Soft false (more_properties_tokens is depth us)
+properties_soft shapes.no_properties depth us = parted
+properties_soft (shapes.more_properties p ps) depth us = comma
 
-pub initializer_soft : {n : Node} (is : IsInitializer n) {us : Items} → Soft false us → Soft false (initializer_tokens is us)
-initializer_soft (shapes.no_initializer a) z = z
-initializer_soft (shapes.initializer e) z = parted
+pub initializer_soft : {n : Node} (is : IsInitializer n) (depth : ℕ) {us : Items} → Soft false us → Soft false (initializer_tokens is depth us)
+initializer_soft (shapes.no_initializer a) depth z = z
+initializer_soft (shapes.initializer e) depth z = parted
 
-pub slots_open : {role : Role} {ns : List Node} (is : AreSlots role ns) (us : Items) → joins_next (sign (codes "[")) (slots_tokens is us) ≡ true
+pub slots_open : {role : Role} {ns : List Node} (is : AreSlots role ns) (depth : ℕ) (us : Items) → joins_next (sign (codes "[")) (slots_tokens is depth us) ≡ true
 unfolding punctuators
-slots_open shapes.no_slots us = refl
-slots_open (shapes.filled e es) us = element_bracket_joins e (more_slots_tokens es false no_gap us)
-slots_open (shapes.hole a shapes.no_slots) us = refl
-slots_open (shapes.hole a es) us = refl
+slots_open shapes.no_slots depth us = refl
+slots_open (shapes.filled e es) depth us = element_bracket_joins e depth (more_slots_tokens es depth false no_gap us)
+slots_open (shapes.hole a shapes.no_slots) depth us = refl
+slots_open (shapes.hole a es) depth us = refl
 
-pub slots_parted : {role : Role} {ns : List Node} (is : AreSlots role ns) (us : Items) → joins_next (sign (codes ",")) (more_slots_tokens is true blank us) ≡ true
-slots_parted shapes.no_slots us = refl
-slots_parted is us = refl
+pub slots_parted : {role : Role} {ns : List Node} (is : AreSlots role ns) (depth : ℕ) (us : Items) → joins_next (sign (codes ",")) (more_slots_tokens is depth true blank us) ≡ true
+slots_parted shapes.no_slots depth us = refl
+slots_parted is depth us = refl
 
-pub slots_soft : {role : Role} {ns : List Node} (is : AreSlots role ns) (us : Items) → Soft false (more_slots_tokens is false no_gap us)
-slots_soft shapes.no_slots us = closing_bracket
-slots_soft (shapes.filled e es) us = comma
-slots_soft (shapes.hole a es) us = comma
+pub slots_soft : {role : Role} {ns : List Node} (is : AreSlots role ns) (depth : ℕ) (us : Items) → Soft false (more_slots_tokens is depth false no_gap us)
+slots_soft shapes.no_slots depth us = closing_bracket
+slots_soft (shapes.filled e es) depth us = comma
+slots_soft (shapes.hole a es) depth us = comma
 
 -- the operand of a unary operator: it begins with no sign but that of an operator of its own
 
@@ -323,51 +323,51 @@ pub index_linked : {h l : Level} → IsIndexed h l → is_linked h ≡ true
 index_linked shapes.index_of_new = refl
 index_linked shapes.index_of_callee = refl
 
-pub plain : {level : Level} {e : Node} (is : IsExpression level e) (us : Items) → is_linked level ≡ true → (let b = begun is us in b.by) ≡ NoNeighbor
+pub plain : {level : Level} {e : Node} (is : IsExpression level e) (depth : ℕ) (us : Items) → is_linked level ≡ true → (let b = begun is depth us in b.by) ≡ NoNeighbor
 unfolding begun
-plain (shapes.looser {level = l} e) us h = plain e us (linked_first l h)
-plain (shapes.member at i o k) us h = plain o (sign_of (codes ".") (it no_gap (chain_token k) us)) h
-plain (shapes.call at c es none) us h = plain c (sign_of (codes "(") (arguments_tokens es (sign_of (codes ")") us))) refl
-plain (shapes.element at at' i o e) us h = plain o (sign_of (codes "[") (expression_tokens e no_gap (sign_of (codes "]") us))) (index_linked i)
-plain (shapes.chain_member at a {asks = b} i o k) us h = plain o (sign_of (point_of b) (it no_gap (chain_token k) us)) (chain_linked i)
-plain (shapes.chain_element at a c {asks = b} i o e) us h = plain o (question_of b (sign_of (codes "[") (expression_tokens e no_gap (sign_of (codes "]") us)))) (chain_linked i)
-plain (shapes.chain_call at a {asks = b} i o es none) us h = plain o (question_of b (sign_of (codes "(") (arguments_tokens es (sign_of (codes ")") us)))) (chain_linked i)
-plain (shapes.tagged_template at a b c i o none ps) us h = plain o (it no_gap (part_token true ps) (parts_tokens ps us)) (index_linked i)
-plain (shapes.prefix_update at o e) us h = absurd (false≢true h)
-plain (shapes.postfix_update at o e) us h = absurd (false≢true h)
-plain (shapes.unary_expression at o e) us h = absurd (false≢true h)
-plain (shapes.binary_expression at {level = l} i x y) us h = absurd (false≢true (sym (no_operand i) ∙ linked_operand l h))
-plain (shapes.exponentiation at l r) us h = absurd (false≢true h)
-plain (shapes.both at l r) us h = absurd (false≢true h)
-plain (shapes.either at l r) us h = absurd (false≢true h)
-plain (shapes.coalesced at i l r) us h = absurd (false≢true h)
-plain (shapes.assignment_expression at o t v) us h = absurd (false≢true h)
-plain (shapes.conditional_expression at t x y) us h = absurd (false≢true h)
-plain (shapes.sequence_expression at x y es) us h = absurd (false≢true h)
-plain (shapes.arrow_function at w ps e z a b) us h = absurd (false≢true h)
-plain is us h = refl
+plain (shapes.looser {level = l} e) depth us h = plain e depth us (linked_first l h)
+plain (shapes.member at i o k) depth us h = plain o depth (sign_of (codes ".") (it no_gap (chain_token k) us)) h
+plain (shapes.call at c es none) depth us h = plain c depth (sign_of (codes "(") (arguments_tokens es depth (sign_of (codes ")") us))) refl
+plain (shapes.element at at' i o e) depth us h = plain o depth (sign_of (codes "[") (expression_tokens e depth no_gap (sign_of (codes "]") us))) (index_linked i)
+plain (shapes.chain_member at a {asks = b} i o k) depth us h = plain o depth (sign_of (point_of b) (it no_gap (chain_token k) us)) (chain_linked i)
+plain (shapes.chain_element at a c {asks = b} i o e) depth us h = plain o depth (question_of b (sign_of (codes "[") (expression_tokens e depth no_gap (sign_of (codes "]") us)))) (chain_linked i)
+plain (shapes.chain_call at a {asks = b} i o es none) depth us h = plain o depth (question_of b (sign_of (codes "(") (arguments_tokens es depth (sign_of (codes ")") us)))) (chain_linked i)
+plain (shapes.tagged_template at a b c i o none ps) depth us h = plain o depth (it no_gap (part_token true ps) (parts_tokens ps depth us)) (index_linked i)
+plain (shapes.prefix_update at o e) depth us h = absurd (false≢true h)
+plain (shapes.postfix_update at o e) depth us h = absurd (false≢true h)
+plain (shapes.unary_expression at o e) depth us h = absurd (false≢true h)
+plain (shapes.binary_expression at {level = l} i x y) depth us h = absurd (false≢true (sym (no_operand i) ∙ linked_operand l h))
+plain (shapes.exponentiation at l r) depth us h = absurd (false≢true h)
+plain (shapes.both at l r) depth us h = absurd (false≢true h)
+plain (shapes.either at l r) depth us h = absurd (false≢true h)
+plain (shapes.coalesced at i l r) depth us h = absurd (false≢true h)
+plain (shapes.assignment_expression at o t v) depth us h = absurd (false≢true h)
+plain (shapes.conditional_expression at t x y) depth us h = absurd (false≢true h)
+plain (shapes.sequence_expression at x y es) depth us h = absurd (false≢true h)
+plain (shapes.arrow_function at w ps e z a b) depth us h = absurd (false≢true h)
+plain is depth us h = refl
 
-pub signed : {level : Level} {e : Node} (is : IsExpression level e) (us : Items) → is_operand level ≡ true → (let b = begun is us in b.by) ≡ own_sign is
+pub signed : {level : Level} {e : Node} (is : IsExpression level e) (depth : ℕ) (us : Items) → is_operand level ≡ true → (let b = begun is depth us in b.by) ≡ own_sign is
 unfolding begun
-signed (shapes.looser {level = l} e) us h = signed e us (operand_first l h)
-signed (shapes.member at i o k) us h = plain o (sign_of (codes ".") (it no_gap (chain_token k) us)) (member_linked i)
-signed (shapes.call at c es none) us h = plain c (sign_of (codes "(") (arguments_tokens es (sign_of (codes ")") us))) refl
-signed (shapes.element at at' i o e) us h = plain o (sign_of (codes "[") (expression_tokens e no_gap (sign_of (codes "]") us))) (index_linked i)
-signed (shapes.chain_member at a {asks = b} i o k) us h = plain o (sign_of (point_of b) (it no_gap (chain_token k) us)) (chain_linked i)
-signed (shapes.chain_element at a c {asks = b} i o e) us h = plain o (question_of b (sign_of (codes "[") (expression_tokens e no_gap (sign_of (codes "]") us)))) (chain_linked i)
-signed (shapes.chain_call at a {asks = b} i o es none) us h = plain o (question_of b (sign_of (codes "(") (arguments_tokens es (sign_of (codes ")") us)))) (chain_linked i)
-signed (shapes.tagged_template at a b c i o none ps) us h = plain o (it no_gap (part_token true ps) (parts_tokens ps us)) (index_linked i)
-signed (shapes.postfix_update at o e) us h = plain e (it no_gap (update_token o) us) refl
-signed (shapes.binary_expression at {level = l} i x y) us h = absurd (false≢true (sym (no_operand i) ∙ h))
-signed (shapes.exponentiation at l r) us h = absurd (false≢true h)
-signed (shapes.both at l r) us h = absurd (false≢true h)
-signed (shapes.either at l r) us h = absurd (false≢true h)
-signed (shapes.coalesced at i l r) us h = absurd (false≢true h)
-signed (shapes.assignment_expression at o t v) us h = absurd (false≢true h)
-signed (shapes.conditional_expression at t x y) us h = absurd (false≢true h)
-signed (shapes.sequence_expression at x y es) us h = absurd (false≢true h)
-signed (shapes.arrow_function at w ps e z a b) us h = absurd (false≢true h)
-signed is us h = refl
+signed (shapes.looser {level = l} e) depth us h = signed e depth us (operand_first l h)
+signed (shapes.member at i o k) depth us h = plain o depth (sign_of (codes ".") (it no_gap (chain_token k) us)) (member_linked i)
+signed (shapes.call at c es none) depth us h = plain c depth (sign_of (codes "(") (arguments_tokens es depth (sign_of (codes ")") us))) refl
+signed (shapes.element at at' i o e) depth us h = plain o depth (sign_of (codes "[") (expression_tokens e depth no_gap (sign_of (codes "]") us))) (index_linked i)
+signed (shapes.chain_member at a {asks = b} i o k) depth us h = plain o depth (sign_of (point_of b) (it no_gap (chain_token k) us)) (chain_linked i)
+signed (shapes.chain_element at a c {asks = b} i o e) depth us h = plain o depth (question_of b (sign_of (codes "[") (expression_tokens e depth no_gap (sign_of (codes "]") us)))) (chain_linked i)
+signed (shapes.chain_call at a {asks = b} i o es none) depth us h = plain o depth (question_of b (sign_of (codes "(") (arguments_tokens es depth (sign_of (codes ")") us)))) (chain_linked i)
+signed (shapes.tagged_template at a b c i o none ps) depth us h = plain o depth (it no_gap (part_token true ps) (parts_tokens ps depth us)) (index_linked i)
+signed (shapes.postfix_update at o e) depth us h = plain e depth (it no_gap (update_token o) us) refl
+signed (shapes.binary_expression at {level = l} i x y) depth us h = absurd (false≢true (sym (no_operand i) ∙ h))
+signed (shapes.exponentiation at l r) depth us h = absurd (false≢true h)
+signed (shapes.both at l r) depth us h = absurd (false≢true h)
+signed (shapes.either at l r) depth us h = absurd (false≢true h)
+signed (shapes.coalesced at i l r) depth us h = absurd (false≢true h)
+signed (shapes.assignment_expression at o t v) depth us h = absurd (false≢true h)
+signed (shapes.conditional_expression at t x y) depth us h = absurd (false≢true h)
+signed (shapes.sequence_expression at x y es) depth us h = absurd (false≢true h)
+signed (shapes.arrow_function at w ps e z a b) depth us h = absurd (false≢true h)
+signed is depth us h = refl
 
 -- a unary operator joins its operand
 pub unary_by : (o : UnaryOp) {t : Tok} {b : Beside} → Opens t b → (us : Items) → joins_next (unary_token o) (it (unary_gap o b) t us) ≡ true
@@ -388,5 +388,5 @@ unary_by TypeOf h us = refl
 unary_by Void h us = refl
 unary_by Delete h us = refl
 
-pub unary_joins : (o : UnaryOp) {e : Node} (is : IsExpression shapes.unary e) (us : Items) → joins_next (unary_token o) (expression_tokens is (unary_gap o (own_sign is)) us) ≡ true
-unary_joins o is us = let b = begun is us in rw (b.is (unary_gap o (own_sign is)), ← signed is us refl) (unary_by o b.opens b.rest)
+pub unary_joins : (o : UnaryOp) {e : Node} (is : IsExpression shapes.unary e) (depth : ℕ) (us : Items) → joins_next (unary_token o) (expression_tokens is depth (unary_gap o (own_sign is)) us) ≡ true
+unary_joins o is depth us = let b = begun is depth us in rw (b.is (unary_gap o (own_sign is)), ← signed is depth us refl) (unary_by o b.opens b.rest)

@@ -81,9 +81,9 @@ module _ (assigned : Bool) where
   static_block_form B = record { reads = λ g us. rw (B.reads blank us) refl }
 
   -- what is said of what a class extends
-  abbrev pub HeritageForm : {n : Node} → IsHeritage n → Type 0
-  HeritageForm (shapes.no_heritage a) = Unit {0}
-  HeritageForm (shapes.heritage e) = Stands assigned shapes.callee (expression_tokens e) (expression_kind e) (expression_parts e)
+  abbrev pub HeritageForm : {n : Node} → IsHeritage n → ℕ → Type 0
+  HeritageForm (shapes.no_heritage a) depth = Unit {0}
+  HeritageForm (shapes.heritage e) depth = Stands assigned shapes.callee (expression_tokens e depth) (expression_kind e) (expression_parts e)
 
   module _ {f : Items → Items} {ms : List Node} (M : ReadAsMembers f ms) (h : Gap) where
     abbrev braces : Items → Items
@@ -92,35 +92,35 @@ module _ (assigned : Bool) where
     members_read : (us : Items) → Repeats assigned member (f (it h (sign (codes "}")) us)) ms (it h (sign (codes "}")) us)
     members_read us = M.reads (it h (sign (codes "}")) us) (all_refused assigned member (exactly (sign (codes "}"))) (it h (sign (codes "}")) us) at_token no_member_at_brace)
 
-    body_read : {n : Node} (is : IsHeritage n) → HeritageForm is → (w : List ℕ) → is_reserved w ≡ false → (us : Items)
-        → Reads assigned (class_body true) (it blank (items.key w) (heritage_tokens is (braces us))) (bare (kind.Ident w 0 false) [] ∷ absent ∷ bare_heritage is ∷ absent ∷ list_node [] ∷ list_node ms ∷ []) us
-    body_read (shapes.no_heritage a) H w free us = (let end = it h (sign (codes "}")) us in rw (free, repeated assigned member (f end) end ms (members_read us)) refl)
-    body_read (shapes.heritage e) H w free us =
+    body_read : {n : Node} (is : IsHeritage n) (depth : ℕ) → HeritageForm is depth → (w : List ℕ) → is_reserved w ≡ false → (us : Items)
+        → Reads assigned (class_body true) (it blank (items.key w) (heritage_tokens is depth (braces us))) (bare (kind.Ident w 0 false) [] ∷ absent ∷ bare_heritage is ∷ absent ∷ list_node [] ∷ list_node ms ∷ []) us
+    body_read (shapes.no_heritage a) depth H w free us = (let end = it h (sign (codes "}")) us in rw (free, repeated assigned member (f end) end ms (members_read us)) refl)
+    body_read (shapes.heritage e) depth H w free us =
         (let end = it h (sign (codes "}")) us in
         rw (free, direct assigned shapes.callee H blank (braces us) (exactly (sign (codes "{"))) at_token brace_ends_chain, repeated assigned member (f end) end ms (members_read us)) refl)
 
     -- with a name, or without one
 
-    name_read : {m : Node} (i : IsFunctionName m) {n : Node} (is : IsHeritage n) → HeritageForm is → (us : Items)
-        → Reads assigned (class_body false) (function_name_tokens i (heritage_tokens is (braces us))) (bare_function_name i ∷ absent ∷ bare_heritage is ∷ absent ∷ list_node [] ∷ list_node ms ∷ []) us
+    name_read : {m : Node} (i : IsFunctionName m) {n : Node} (is : IsHeritage n) (depth : ℕ) → HeritageForm is depth → (us : Items)
+        → Reads assigned (class_body false) (function_name_tokens i (heritage_tokens is depth (braces us))) (bare_function_name i ∷ absent ∷ bare_heritage is ∷ absent ∷ list_node [] ∷ list_node ms ∷ []) us
     unfolding is_reserved reserved_words
-    name_read (shapes.unnamed o) (shapes.no_heritage a) H us = (let end = it h (sign (codes "}")) us in rw (repeated assigned member (f end) end ms (members_read us)) refl)
-    name_read (shapes.unnamed o) (shapes.heritage e) H us =
+    name_read (shapes.unnamed o) (shapes.no_heritage a) depth H us = (let end = it h (sign (codes "}")) us in rw (repeated assigned member (f end) end ms (members_read us)) refl)
+    name_read (shapes.unnamed o) (shapes.heritage e) depth H us =
         (let end = it h (sign (codes "}")) us in
         rw (direct assigned shapes.callee H blank (braces us) (exactly (sign (codes "{"))) at_token brace_ends_chain, repeated assigned member (f end) end ms (members_read us)) refl)
-    name_read (shapes.function_name (ident at w i)) (shapes.no_heritage a) H us = (let end = it h (sign (codes "}")) us in rw (i.free, repeated assigned member (f end) end ms (members_read us)) refl)
-    name_read (shapes.function_name (ident at w i)) (shapes.heritage e) H us =
+    name_read (shapes.function_name (ident at w i)) (shapes.no_heritage a) depth H us = (let end = it h (sign (codes "}")) us in rw (i.free, repeated assigned member (f end) end ms (members_read us)) refl)
+    name_read (shapes.function_name (ident at w i)) (shapes.heritage e) depth H us =
         (let end = it h (sign (codes "}")) us in
         rw (i.free, direct assigned shapes.callee H blank (braces us) (exactly (sign (codes "{"))) at_token brace_ends_chain, repeated assigned member (f end) end ms (members_read us)) refl)
 
-    pub class_expression_read : {n : Node} (is : IsHeritage n) → HeritageForm is → {m : Node} (i : IsFunctionName m) (g : Gap) (us : Items)
-        → Reads assigned class_expression (it g (items.key (codes "class")) (function_name_tokens i (heritage_tokens is (braces us)))) (bare kind.ClassExpr (bare_function_name i ∷ bare (kind.Class false) (bare_heritage is ∷ list_node ms ∷ absent ∷ absent ∷ list_node [] ∷ []) ∷ []) ∷ []) us
+    pub class_expression_read : {n : Node} (is : IsHeritage n) (depth : ℕ) → HeritageForm is depth → {m : Node} (i : IsFunctionName m) (g : Gap) (us : Items)
+        → Reads assigned class_expression (it g (items.key (codes "class")) (function_name_tokens i (heritage_tokens is depth (braces us)))) (bare kind.ClassExpr (bare_function_name i ∷ bare (kind.Class false) (bare_heritage is ∷ list_node ms ∷ absent ∷ absent ∷ list_node [] ∷ []) ∷ []) ∷ []) us
     unfolding class_expression
-    class_expression_read is H i g us = ap (built_on (form.Class plain.ClassExpr false)) (means_is assigned (part.Class false) (function_name_tokens i (heritage_tokens is (braces us))) ∙ name_read i is H us)
+    class_expression_read is depth H i g us = ap (built_on (form.Class plain.ClassExpr false)) (means_is assigned (part.Class false) (function_name_tokens i (heritage_tokens is depth (braces us))) ∙ name_read i is depth H us)
 
-    module _ {n : Node} (is : IsHeritage n) (H : HeritageForm is) (w : List ℕ) (free : is_reserved w ≡ false) where
+    module _ {n : Node} (is : IsHeritage n) (depth : ℕ) (H : HeritageForm is depth) (w : List ℕ) (free : is_reserved w ≡ false) where
       abbrev tokens : Laid
-      tokens g us = it g (items.key (codes "class")) (it blank (items.key w) (heritage_tokens is (braces us)))
+      tokens g us = it g (items.key (codes "class")) (it blank (items.key w) (heritage_tokens is depth (braces us)))
 
       abbrev whole : Node
       whole = bare (kind.ClassDecl false) (bare (kind.Ident w 0 false) [] ∷ bare (kind.Class false) (bare_heritage is ∷ list_node ms ∷ absent ∷ absent ∷ list_node [] ∷ []) ∷ [])
@@ -131,7 +131,7 @@ module _ (assigned : Bool) where
           let ts = tokens g us in
           skipped assigned (means assigned) 2 declaration (exactly (items.key (codes "class"))) ts at_token refl
           ∙ ap (or_on (interp assigned (means assigned) (without 3 declaration)) ts)
-          (ap (built_on (form.Class plain.ClassDecl false)) (means_is assigned (part.Class true) (it blank (items.key w) (heritage_tokens is (braces us))) ∙ body_read is H w free us)
+          (ap (built_on (form.Class plain.ClassDecl false)) (means_is assigned (part.Class true) (it blank (items.key w) (heritage_tokens is depth (braces us))) ∙ body_read is depth H w free us)
           ∙ ap (λ z. read (z ∷ []) us) (class_made (bare (kind.Ident w 0 false) []) (bare_heritage is) (list_node ms)))
 
       pub class_form : ReadAsStatement assigned shapes.closed tokens whole

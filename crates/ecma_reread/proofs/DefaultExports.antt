@@ -85,13 +85,13 @@ module _ (assigned : Bool) where
       rw (no_async_behind, no_function, class_refused ts no_class) refl
 
   pub export_default_read : {e : Node} (is : IsExpression shapes.assignment e) (g : Gap) (us : Items)
-      → Reads assigned module_item (it g (items.key (codes "export")) (spaced_word (codes "default") (expression_tokens is blank (sign_of (codes ";") us)))) (bare kind.ExportDefaultExpr (bare_expression is ∷ []) ∷ []) us
+      → Reads assigned module_item (it g (items.key (codes "export")) (spaced_word (codes "default") (expression_tokens is 0 blank (sign_of (codes ";") us)))) (bare kind.ExportDefaultExpr (bare_expression is ∷ []) ∷ []) us
   unfolding export export_default
   export_default_read is g us =
       let I = interp assigned (means assigned) in
-      let S = expression_form assigned is in
+      let S = expression_form assigned is 0 in
       let L = S.lead in
-      let e = expression_tokens is blank (sign_of (codes ";") us) in
+      let e = expression_tokens is 0 blank (sign_of (codes ";") us) in
       let ts = it g (items.key (codes "export")) (spaced_word (codes "default") e) in
       export_item assigned g (spaced_word (codes "default") e) _ us refl
       (ap (or_on (I (without 1 export)) ts)
@@ -111,7 +111,7 @@ module _ (assigned : Bool) where
       (ap (or_on (I (without 1 export)) ts)
       (ap (or_on (I (without 1 export_default)) ts)
       (ap (built_on (form.Node plain.ExportDefaultDecl)) (ap (with_front []) (ap (with_front []) (ap (or_on (I (class_expression // marked abstract_class_expression // marked interface)) e)
-      (function_expression_read assigned ps (argument_forms assigned ps) (block_form assigned b 0) x y i blank us)))))))
+      (function_expression_read assigned ps 0 (argument_forms assigned ps 0) (block_form assigned b 0) x y i blank us)))))))
 
   pub export_default_class_read : {m n : Node} (i : IsFunctionName m) (is : IsClass n) (g : Gap) (us : Items)
       → Reads assigned module_item (it g (items.key (codes "export")) (spaced_word (codes "default") (spaced_word (codes "class") (function_name_tokens i (class_tokens is 0 us)))))
@@ -125,4 +125,4 @@ module _ (assigned : Bool) where
       (ap (or_on (I (without 1 export)) ts)
       (ap (or_on (I (without 1 export_default)) ts)
       (ap (built_on (form.Node plain.ExportDefaultDecl)) (ap (with_front []) (ap (with_front []) (ap (or_on (I (marked abstract_class_expression // marked interface)) e)
-      (class_expression_read assigned (member_forms assigned ms 1) (closing_gap ms' 0) h (heritage_form assigned h) i blank us)))))))
+      (class_expression_read assigned (member_forms assigned ms 1) (closing_gap ms' 0) h 0 (heritage_form assigned h 0) i blank us)))))))

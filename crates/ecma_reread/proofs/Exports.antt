@@ -187,10 +187,10 @@ module _ (assigned : Bool) where
   pub export_declaration_read : {ending : Ending} {n : Node} (is : IsStatement ending n) → is_declaration is ≡ true → (g : Gap) (us : Items)
       → Reads assigned module_item (it g (items.key (codes "export")) (statement_tokens is 0 blank us)) (bare kind.ExportDecl (bare_statement is ∷ []) ∷ []) us
   export_declaration_read (shapes.declaration at at' k d ds) z g us =
-      declaration_item g _ _ us (keyword_declared k _) (declaration_read assigned k d ds (declarator_form assigned d) (declarator_forms assigned ds) blank us)
+      declaration_item g _ _ us (keyword_declared k _) (declaration_read assigned k d ds 0 (declarator_form assigned d 0) (declarator_forms assigned ds 0) blank us)
   export_declaration_read (shapes.function_statement at i (shapes.function_of at' at'' x y ps w b a a')) z g us =
-      declaration_item g _ _ us (function_declared x y _) (function_declaration_read assigned ps (argument_forms assigned ps) (block_form assigned b 0) x y (ident_word i) (ident_free assigned i) blank us)
+      declaration_item g _ _ us (function_declared x y _) (function_declaration_read assigned ps 0 (argument_forms assigned ps 0) (block_form assigned b 0) x y (ident_word i) (ident_free assigned i) blank us)
   export_declaration_read (shapes.class_statement at i (shapes.class_of at' at'' at''' {ms = ms'} h ms a a')) z g us =
       declaration_item g _ _ us (record { no_import = refl; no_default_word = refl; no_brace = refl; no_asterisk = refl; no_equals = refl })
-      (class_declaration_read assigned (member_forms assigned ms 1) (closing_gap ms' 0) h (heritage_form assigned h) (ident_word i) (ident_free assigned i) blank us)
+      (class_declaration_read assigned (member_forms assigned ms 1) (closing_gap ms' 0) h 0 (heritage_form assigned h 0) (ident_word i) (ident_free assigned i) blank us)
   export_declaration_read is z g us = absurd (false≢true z)

@@ -40,43 +40,43 @@ private_made : (st : Bool) (w : List ℕ) (v : Node)
 private_made true w v = simp nodes
 private_made false w v = simp nodes
 
-module _ (assigned : Bool) {n : Node} (is : IsInitializer n) (F : InitializerForm assigned is) where
+module _ (assigned : Bool) {n : Node} (is : IsInitializer n) (depth : ℕ) (F : InitializerForm assigned is depth) where
   abbrev rest : Items → Items
-  rest us = initializer_tokens is (s (codes ";") us)
+  rest us = initializer_tokens is depth (s (codes ";") us)
 
   -- what stands behind the name begins no name, block or parameters
 
   no_start : (us : Items) → Refuses assigned prop_start (rest us)
   unfolding prop_start
-  no_start us = go is
+  no_start us = go is depth
     where
-      go : {m : Node} (i : IsInitializer m) → Refuses assigned prop_start (initializer_tokens i (s (codes ";") us))
-      go (shapes.no_initializer a) = refl
-      go (shapes.initializer e) = refl
+      go : {m : Node} (i : IsInitializer m) (depth : ℕ) → Refuses assigned prop_start (initializer_tokens i depth (s (codes ";") us))
+      go (shapes.no_initializer a) depth = refl
+      go (shapes.initializer e) depth = refl
 
   no_member : (us : Items) → Refuses assigned member_start (rest us)
   unfolding member_start prop_start
-  no_member us = go is
+  no_member us = go is depth
     where
-      go : {m : Node} (i : IsInitializer m) → Refuses assigned member_start (initializer_tokens i (s (codes ";") us))
-      go (shapes.no_initializer a) = refl
-      go (shapes.initializer e) = refl
+      go : {m : Node} (i : IsInitializer m) (depth : ℕ) → Refuses assigned member_start (initializer_tokens i depth (s (codes ";") us))
+      go (shapes.no_initializer a) depth = refl
+      go (shapes.initializer e) depth = refl
 
   no_block : (us : Items) → Refuses assigned block (rest us)
   unfolding block
-  no_block us = go is
+  no_block us = go is depth
     where
-      go : {m : Node} (i : IsInitializer m) → Refuses assigned block (initializer_tokens i (s (codes ";") us))
-      go (shapes.no_initializer a) = refl
-      go (shapes.initializer e) = refl
+      go : {m : Node} (i : IsInitializer m) (depth : ℕ) → Refuses assigned block (initializer_tokens i depth (s (codes ";") us))
+      go (shapes.no_initializer a) depth = refl
+      go (shapes.initializer e) depth = refl
 
   no_signature : (us : Items) → Refuses assigned signature (rest us)
   unfolding signature
-  no_signature us = go is
+  no_signature us = go is depth
     where
-      go : {m : Node} (i : IsInitializer m) → Refuses assigned signature (initializer_tokens i (s (codes ";") us))
-      go (shapes.no_initializer a) = refl
-      go (shapes.initializer e) = refl
+      go : {m : Node} (i : IsInitializer m) (depth : ℕ) → Refuses assigned signature (initializer_tokens i depth (s (codes ";") us))
+      go (shapes.no_initializer a) depth = refl
+      go (shapes.initializer e) depth = refl
 
   module _ (w : List ℕ) where
     abbrev named : Gap → Items → Items
@@ -134,7 +134,7 @@ module _ (assigned : Bool) {n : Node} (is : IsInitializer n) (F : InitializerFor
 
     field_read : (g : Gap) (us : Items) → Reads assigned field (named g us) (made form.Field 0 0 (key_of w ∷ absent ∷ absent ∷ absent ∷ bare_initializer is ∷ []) ∷ []) us
     unfolding field class_element_name prop_name question_or_exclamation
-    field_read g us = rw (initializer_read assigned false is F (s (codes ";") us) (record { front = exactly (sign (codes ";")); begins = at_token; ends = semicolon_ends })) refl
+    field_read g us = rw (initializer_read assigned false is depth F (s (codes ";") us) (record { front = exactly (sign (codes ";")); begins = at_token; ends = semicolon_ends })) refl
 
     no_empty : (st : Bool) (g : Gap) (us : Items) → Refuses assigned (node plain.EmptyStmt (punct (codes ";"))) (tokens st g us)
     no_empty true g us = refl
@@ -189,7 +189,7 @@ module _ (assigned : Bool) {n : Node} (is : IsInitializer n) (F : InitializerFor
     private_read : (g : Gap) (us : Items) → Reads assigned (getter // setter // method // field) (privately g us) (made form.Field 0 0 (bare (kind.PrivateName w) [] ∷ absent ∷ absent ∷ absent ∷ bare_initializer is ∷ []) ∷ []) us
     unfolding getter setter method method_async field class_element_name prop_name computed_prop_name question_or_exclamation
     private_read g us =
-        rw (no_signature us, initializer_read assigned false is F (s (codes ";") us) (record { front = exactly (sign (codes ";")); begins = at_token; ends = semicolon_ends }))
+        rw (no_signature us, initializer_read assigned false is depth F (s (codes ";") us) (record { front = exactly (sign (codes ";")); begins = at_token; ends = semicolon_ends }))
         (ap (λ q. read (made form.Field 0 0 (bare (kind.PrivateName q) [] ∷ absent ∷ absent ∷ absent ∷ bare_initializer is ∷ []) ∷ []) us) (name_behind w t))
 
     private_no_static_block : (st : Bool) (g : Gap) (us : Items) → Refuses assigned a_static_block (private_tokens st g us)

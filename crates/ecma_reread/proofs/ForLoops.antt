@@ -116,17 +116,17 @@ for_of_made : (l e n : Node) → made form.Headed 0 0 (made form.Chain 0 0 (l �
 for_of_made l e n = simp nodes
 
 module _ (assigned : Bool) where
-  abbrev pub OptionalForm : {n : Node} → IsOptional n → Type 0
-  OptionalForm (shapes.left_out a) = Unit {0}
-  OptionalForm (shapes.given {e = e'} e) = Stands assigned shapes.sequence (expression_tokens e) (expression_kind e) (expression_parts e)
+  abbrev pub OptionalForm : {n : Node} → IsOptional n → ℕ → Type 0
+  OptionalForm (shapes.left_out a) depth = Unit {0}
+  OptionalForm (shapes.given {e = e'} e) depth = Stands assigned shapes.sequence (expression_tokens e depth) (expression_kind e) (expression_parts e)
 
-  test_read : {n : Node} (is : IsOptional n) → OptionalForm is → (us : Items) → Reads assigned (maybe (expression false)) (optional_tokens is (s (codes ";") us)) (bare_optional is ∷ []) (s (codes ";") us)
-  test_read (shapes.left_out a) S us = rw (all_refused assigned (expression false) (exactly (sign (codes ";"))) (s (codes ";") us) at_token no_expression) refl
-  test_read (shapes.given e) S us = rw (expression_read assigned S blank (s (codes ";") us) (exactly (sign (codes ";"))) at_token semicolon_ends refl) refl
+  test_read : {n : Node} (is : IsOptional n) (depth : ℕ) → OptionalForm is depth → (us : Items) → Reads assigned (maybe (expression false)) (optional_tokens is depth (s (codes ";") us)) (bare_optional is ∷ []) (s (codes ";") us)
+  test_read (shapes.left_out a) depth S us = rw (all_refused assigned (expression false) (exactly (sign (codes ";"))) (s (codes ";") us) at_token no_expression) refl
+  test_read (shapes.given e) depth S us = rw (expression_read assigned S blank (s (codes ";") us) (exactly (sign (codes ";"))) at_token semicolon_ends refl) refl
 
-  update_read : {n : Node} (is : IsOptional n) → OptionalForm is → (us : Items) → Reads assigned (maybe (expression false)) (optional_tokens is (s (codes ")") us)) (bare_optional is ∷ []) (s (codes ")") us)
-  update_read (shapes.left_out a) S us = rw (all_refused assigned (expression false) (exactly (sign (codes ")"))) (s (codes ")") us) at_token no_expression_there) refl
-  update_read (shapes.given e) S us = rw (expression_read assigned S blank (s (codes ")") us) (exactly (sign (codes ")"))) at_token parenthesis_ends refl) refl
+  update_read : {n : Node} (is : IsOptional n) (depth : ℕ) → OptionalForm is depth → (us : Items) → Reads assigned (maybe (expression false)) (optional_tokens is depth (s (codes ")") us)) (bare_optional is ∷ []) (s (codes ")") us)
+  update_read (shapes.left_out a) depth S us = rw (all_refused assigned (expression false) (exactly (sign (codes ")"))) (s (codes ")") us) at_token no_expression_there) refl
+  update_read (shapes.given e) depth S us = rw (expression_read assigned S blank (s (codes ")") us) (exactly (sign (codes ")"))) at_token parenthesis_ends refl) refl
 
   -- what each turn declares or assigns to, in front of `in` or `of`
   pub record ReadAsForLeft (word : List ℕ) (f : Items → Items) (n : Node) : Type 0 where
@@ -149,11 +149,11 @@ module _ (assigned : Bool) where
   }
 
   -- what is said of what stands before the first `;`
-  abbrev pub InitForm : {n : Node} → IsForInit n → Type 0
-  InitForm (shapes.no_init a) = Unit {0}
-  InitForm (shapes.init_declaration at of_list k d ds) = DeclaratorIn assigned true (as_declarator d) × DeclaratorsIn assigned true (as_declarators ds)
-  InitForm (shapes.init_expression e z) =
-      Stands assigned shapes.sequence (expression_tokens e) (expression_kind e) (expression_parts e) × StandsIn assigned true shapes.sequence (expression_tokens e) (expression_kind e) (expression_parts e)
+  abbrev pub InitForm : {n : Node} → IsForInit n → ℕ → Type 0
+  InitForm (shapes.no_init a) depth = Unit {0}
+  InitForm (shapes.init_declaration at of_list k d ds) depth = DeclaratorIn assigned true (as_declarator d) depth × DeclaratorsIn assigned true (as_declarators ds) depth
+  InitForm (shapes.init_expression e z) depth =
+      Stands assigned shapes.sequence (expression_tokens e depth) (expression_kind e) (expression_parts e) × StandsIn assigned true shapes.sequence (expression_tokens e depth) (expression_kind e) (expression_parts e)
 
   -- no expression declares variables
   module _ {f : Laid} {k : Kind} {ns : List Node} (S : Stands assigned shapes.sequence f k ns) where
@@ -188,11 +188,11 @@ module _ (assigned : Bool) where
     unfolding statement_body
     no_semicolon g us = let L = S.lead in let c = and_parts (refuses_at L.front (punct (codes ";"))) _ L.no_statement in refused_at assigned (means assigned) (punct (codes ";")) L.front (f g us) (L.begins g us) c.0
 
-  init_read : (k : VarDeclKind) {d : Node} {ds : List Node} (i : IsDeclarator d) (is : AreDeclarators ds) → DeclaratorIn assigned true i → DeclaratorsIn assigned true is → (us : Items)
-      → Reads assigned for_left (it no_gap (items.key (keyword k)) (declarator_tokens i (declarators_tokens is (s (codes ";") us)))) (bare (kind.VarDecl k false) (list_node (bare_declarator i ∷ bare_declarators is) ∷ []) ∷ []) (s (codes ";") us)
+  init_read : (k : VarDeclKind) {d : Node} {ds : List Node} (i : IsDeclarator d) (is : AreDeclarators ds) (depth : ℕ) → DeclaratorIn assigned true i depth → DeclaratorsIn assigned true is depth → (us : Items)
+      → Reads assigned for_left (it no_gap (items.key (keyword k)) (declarator_tokens i depth (declarators_tokens is depth (s (codes ";") us)))) (bare (kind.VarDecl k false) (list_node (bare_declarator i ∷ bare_declarators is) ∷ []) ∷ []) (s (codes ";") us)
   unfolding for_left
-  init_read k i is S T us =
-      ap (or_on (interp assigned (means assigned) (expression true)) (it no_gap (items.key (keyword k)) (declarator_tokens i (declarators_tokens is (s (codes ";") us))))) (variables_read assigned true nothing us (s (codes ";") us) refl k i is S T no_gap)
+  init_read k i is depth S T us =
+      ap (or_on (interp assigned (means assigned) (expression true)) (it no_gap (items.key (keyword k)) (declarator_tokens i depth (declarators_tokens is depth (s (codes ";") us))))) (variables_read assigned true nothing us (s (codes ";") us) refl k i is depth S T no_gap)
 
   init_expression_read : {f : Laid} {k : Kind} {ns : List Node} → Stands assigned shapes.sequence f k ns → StandsIn assigned true shapes.sequence f k ns → (us : Items) → Reads assigned for_left (f no_gap (s (codes ";") us)) (bare k ns ∷ []) (s (codes ";") us)
   unfolding for_left
@@ -200,15 +200,15 @@ module _ (assigned : Bool) where
       ap (or_on (interp assigned (means assigned) (expression true)) (f no_gap (s (codes ";") us))) (no_variables S no_gap (s (codes ";") us))
       ∙ expression_read assigned R no_gap (s (codes ";") us) (exactly (sign (codes ";"))) at_token (closed true shapes.assignment (exactly (sign (codes ";"))) semicolon_ends) refl
 
-  pub binding_left : (word : List ℕ) (k : VarDeclKind) {p : Node} (is : IsPattern p) → ReadAsPattern assigned (pattern_tokens is) (bare_pattern is)
-      → ReadAsForLeft word (λ us. it no_gap (items.key (keyword k)) (pattern_tokens is blank us)) (bare (kind.VarDecl k false) (list_node (bare (kind.VarDeclarator false) (bare_pattern is ∷ absent ∷ []) ∷ []) ∷ []))
+  pub binding_left : (word : List ℕ) (k : VarDeclKind) {p : Node} (is : IsPattern p) (depth : ℕ) → ReadAsPattern assigned (pattern_tokens is depth) (bare_pattern is)
+      → ReadAsForLeft word (λ us. it no_gap (items.key (keyword k)) (pattern_tokens is depth blank us)) (bare (kind.VarDecl k false) (list_node (bare (kind.VarDeclarator false) (bare_pattern is ∷ absent ∷ []) ∷ []) ∷ []))
   unfolding for_left many_up_to
-  binding_left word k is P = record {
+  binding_left word k is depth P = record {
     no_semicolon = λ us. refl;
     reads = λ us e b z. go k us;
   }
     where
-      go : (k : VarDeclKind) (us : Items) → Reads assigned for_left (it no_gap (items.key (keyword k)) (pattern_tokens is blank (it blank (items.key word) us))) (bare (kind.VarDecl k false) (list_node (bare (kind.VarDeclarator false) (bare_pattern is ∷ absent ∷ []) ∷ []) ∷ []) ∷ []) (it blank (items.key word) us)
+      go : (k : VarDeclKind) (us : Items) → Reads assigned for_left (it no_gap (items.key (keyword k)) (pattern_tokens is depth blank (it blank (items.key word) us))) (bare (kind.VarDecl k false) (list_node (bare (kind.VarDeclarator false) (bare_pattern is ∷ absent ∷ []) ∷ []) ∷ []) ∷ []) (it blank (items.key word) us)
       go Var us = rw (P.reads blank (it blank (items.key word) us), pattern_declared is absent) refl
       go Let us = rw (P.reads blank (it blank (items.key word) us), pattern_declared is absent) refl
       go Const us = rw (P.reads blank (it blank (items.key word) us), pattern_declared is absent) refl
@@ -249,32 +249,32 @@ module _ (assigned : Bool) where
     of_left = target_left (codes "of") refl refl (λ us e b z. name_no_rest assigned (codes "of") refl true blank us e b (refuses_first e (punct (codes "=>")) (names.block // grammar.unless (punct (codes "{")) ▸ assign_in true) z))
 
   module _ {ending : Ending} {body : Laid} {n : Node} (B : ReadAsStatement assigned ending body n) where
-    abbrev for_rest_tokens : {t u : Node} → IsOptional t → IsOptional u → Items → Items
-    for_rest_tokens is js us = s (codes ";") (optional_tokens is (s (codes ";") (optional_tokens js (s (codes ")") (body blank us)))))
+    abbrev for_rest_tokens : {t u : Node} → IsOptional t → IsOptional u → ℕ → Items → Items
+    for_rest_tokens is js depth us = s (codes ";") (optional_tokens is depth (s (codes ";") (optional_tokens js depth (s (codes ")") (body blank us)))))
 
-    for_read : {t u : Node} (is : IsOptional t) (js : IsOptional u) → OptionalForm is → OptionalForm js → (g : Gap) (us : Items) (e : Front) → Begins e us → closes_statement ending e ≡ true
-        → Reads assigned for_ (it g (items.key (codes "for")) (it blank (sign (codes "(")) (for_rest_tokens is js us))) (bare kind.ForStmt (absent ∷ bare_optional is ∷ bare_optional js ∷ n ∷ []) ∷ []) us
+    for_read : {t u : Node} (is : IsOptional t) (js : IsOptional u) (depth : ℕ) → OptionalForm is depth → OptionalForm js depth → (g : Gap) (us : Items) (e : Front) → Begins e us → closes_statement ending e ≡ true
+        → Reads assigned for_ (it g (items.key (codes "for")) (it blank (sign (codes "(")) (for_rest_tokens is js depth us))) (bare kind.ForStmt (absent ∷ bare_optional is ∷ bare_optional js ∷ n ∷ []) ∷ []) us
     unfolding for_ for_head for_rest
-    for_read is js S T g us e b z =
-        rw (test_read is S (optional_tokens js (s (codes ")") (body blank us))), update_read js T (body blank us), B.reads blank us e b z, for_made (bare_optional is) (bare_optional js) n) refl
+    for_read is js depth S T g us e b z =
+        rw (test_read is depth S (optional_tokens js depth (s (codes ")") (body blank us))), update_read js depth T (body blank us), B.reads blank us e b z, for_made (bare_optional is) (bare_optional js) n) refl
 
     -- behind what is read first
-    for_init_read : (ts : Items) (i : Node) {t u : Node} (is : IsOptional t) (js : IsOptional u) → OptionalForm is → OptionalForm js → (g : Gap) (us : Items) (e : Front) → Begins e us → closes_statement ending e ≡ true
-        → Refuses assigned (punct (codes ";")) ts → Reads assigned for_left ts (i ∷ []) (for_rest_tokens is js us)
+    for_init_read : (ts : Items) (i : Node) {t u : Node} (is : IsOptional t) (js : IsOptional u) (depth : ℕ) → OptionalForm is depth → OptionalForm js depth → (g : Gap) (us : Items) (e : Front) → Begins e us → closes_statement ending e ≡ true
+        → Refuses assigned (punct (codes ";")) ts → Reads assigned for_left ts (i ∷ []) (for_rest_tokens is js depth us)
         → Reads assigned for_ (it g (items.key (codes "for")) (it blank (sign (codes "(")) ts)) (bare kind.ForStmt (i ∷ bare_optional is ∷ bare_optional js ∷ n ∷ []) ∷ []) us
     unfolding for_ for_head for_rest
-    for_init_read ts i is js S T g us e b z none first =
-        rw (none, first, test_read is S (optional_tokens js (s (codes ")") (body blank us))), update_read js T (body blank us), B.reads blank us e b z, init_made i (bare_optional is) (bare_optional js) n) refl
+    for_init_read ts i is js depth S T g us e b z none first =
+        rw (none, first, test_read is depth S (optional_tokens js depth (s (codes ")") (body blank us))), update_read js depth T (body blank us), B.reads blank us e b z, init_made i (bare_optional is) (bare_optional js) n) refl
 
-    pub for_loop_form : {i t u : Node} (first : IsForInit i) (is : IsOptional t) (js : IsOptional u) → InitForm first → OptionalForm is → OptionalForm js
-        → ReadAsStatement assigned ending (λ g us. it g (items.key (codes "for")) (it blank (sign (codes "(")) (for_init_tokens first (for_rest_tokens is js us)))) (bare kind.ForStmt (bare_for_init first ∷ bare_optional is ∷ bare_optional js ∷ n ∷ []))
-    for_loop_form (shapes.no_init a) is js I S T = for_form (for_read is js S T)
-    for_loop_form (shapes.init_declaration at of_list k d ds) is js I S T =
-        for_form (λ g us e b z. for_init_read _ _ is js S T g us e b z refl (init_read k (as_declarator d) (as_declarators ds) I.0 I.1 (optional_tokens is (s (codes ";") (optional_tokens js (s (codes ")") (body blank us)))))))
-    for_loop_form (shapes.init_expression x y) is js I S T =
+    pub for_loop_form : {i t u : Node} (first : IsForInit i) (is : IsOptional t) (js : IsOptional u) (depth : ℕ) → InitForm first depth → OptionalForm is depth → OptionalForm js depth
+        → ReadAsStatement assigned ending (λ g us. it g (items.key (codes "for")) (it blank (sign (codes "(")) (for_init_tokens first depth (for_rest_tokens is js depth us)))) (bare kind.ForStmt (bare_for_init first ∷ bare_optional is ∷ bare_optional js ∷ n ∷ []))
+    for_loop_form (shapes.no_init a) is js depth I S T = for_form (for_read is js depth S T)
+    for_loop_form (shapes.init_declaration at of_list k d ds) is js depth I S T =
+        for_form (λ g us e b z. for_init_read _ _ is js depth S T g us e b z refl (init_read k (as_declarator d) (as_declarators ds) depth I.0 I.1 (optional_tokens is depth (s (codes ";") (optional_tokens js depth (s (codes ")") (body blank us)))))))
+    for_loop_form (shapes.init_expression x y) is js depth I S T =
         for_form (λ g us e b z.
-        (let vs = optional_tokens is (s (codes ";") (optional_tokens js (s (codes ")") (body blank us)))) in
-        for_init_read _ _ is js S T g us e b z (no_semicolon I.0 no_gap (s (codes ";") vs)) (init_expression_read I.0 I.1 vs)))
+        (let vs = optional_tokens is depth (s (codes ";") (optional_tokens js depth (s (codes ")") (body blank us)))) in
+        for_init_read _ _ is js depth S T g us e b z (no_semicolon I.0 no_gap (s (codes ";") vs)) (init_expression_read I.0 I.1 vs)))
 
     module _ {left : Items → Items} {l : Node} {f : Laid} {ek : Kind} {es : List Node} where
       for_in_read : ReadAsForLeft (codes "in") left l → Stands assigned shapes.sequence f ek es → (g : Gap) (us : Items) (e : Front) → Begins e us → closes_statement ending e ≡ true

@@ -109,13 +109,13 @@ module _ (assigned : Bool) where
   no_label true false w g us = refl
   no_label false false w g us = refl
 
-  module _ {ps : Node} (is : IsArguments shapes.bindings ps) (F : ArgumentForms assigned is) {f : Laid} {n : Node} (B : ReadAsBlock assigned f n) where
+  module _ {ps : Node} (is : IsArguments shapes.bindings ps) (depth : ℕ) (F : ArgumentForms assigned is depth) {f : Laid} {n : Node} (B : ReadAsBlock assigned f n) where
     abbrev rest : Items → Items
-    rest us = s (codes "(") (arguments_tokens is (s (codes ")") (f blank us)))
+    rest us = s (codes "(") (arguments_tokens is depth (s (codes ")") (f blank us)))
 
     pub signature_read : (us : Items) → Reads assigned signature (rest us) (absent ∷ list_node (bare_arguments is) ∷ absent ∷ n ∷ []) us
     unfolding signature
-    signature_read us = rw (params_read assigned is F (f blank us), B.reads blank us) refl
+    signature_read us = rw (params_read assigned is depth F (f blank us), B.reads blank us) refl
 
     module _ (x y : Bool) (w : List ℕ) (free : is_reserved w ≡ false) where
       abbrev name : Node

@@ -1,5 +1,5 @@
 -- The tokens of a statement are good: each joins the next.
-use Rattle.std.proofs.Common.{◌≡◌, ◌≤◌, Bool, true, false, List, ◌++◌, length, codes, refl, arith, length-append}
+use Rattle.std.proofs.Common.{ℕ, ◌≡◌, ◌≤◌, Bool, true, false, List, ◌++◌, length, codes, refl, arith, length-append}
 use Rattle.ecma_kind.specs.declared.operators.UnaryOp.{UnaryOp}
 use Rattle.ecma_kind.specs.declared.operators.UnaryOp.TheVariants.{Minus, Plus, Bang, Tilde, TypeOf, Void, Delete}
 use Rattle.ecma_kind.specs.declared.operators.UpdateOp.{UpdateOp}
@@ -145,13 +145,13 @@ pub record Words : Type 0 where
   pub function_whole : IsToken key_end (codes "function")
 
 module _ (words : Words) where
-  more_soft : {es : List Node} (is : AreExpressions es) {us : Items} → Soft false us → Soft false (more_tokens is us)
-  more_soft shapes.no_expressions z = z
-  more_soft (shapes.more_expressions e es) z = comma
+  more_soft : {es : List Node} (is : AreExpressions es) (depth : ℕ) {us : Items} → Soft false us → Soft false (more_tokens is depth us)
+  more_soft shapes.no_expressions depth z = z
+  more_soft (shapes.more_expressions e es) depth z = comma
 
-  elements_soft : {role : Role} {es : List Node} (is : AreElements role es) {us : Items} → Soft false us → Soft false (elements_tokens is us)
-  elements_soft shapes.no_elements z = z
-  elements_soft (shapes.more_elements e es) z = comma
+  elements_soft : {role : Role} {es : List Node} (is : AreElements role es) (depth : ℕ) {us : Items} → Soft false us → Soft false (elements_tokens is depth us)
+  elements_soft shapes.no_elements depth z = z
+  elements_soft (shapes.more_elements e es) depth z = comma
 
   update_fine : (o : UpdateOp) → Fine (update_token o)
   unfolding punctuators
@@ -202,183 +202,183 @@ module _ (words : Words) where
   right_soft shapes.times z = z
   right_soft i z = z
 
-  value_joined : {e : Node} (is : IsExpression shapes.assignment e) (us : Items) → Joined (expression_tokens is blank us) → Joined (it blank (sign (codes "=")) (expression_tokens is blank us))
+  value_joined : {e : Node} (is : IsExpression shapes.assignment e) (depth : ℕ) (us : Items) → Joined (expression_tokens is depth blank us) → Joined (it blank (sign (codes "=")) (expression_tokens is depth blank us))
   unfolding punctuators
-  value_joined is us j = (blank_is, refl, blank_joins (sign (codes "=")) is us, j)
+  value_joined is depth us j = (blank_is, refl, blank_joins (sign (codes "=")) is depth us, j)
 
   mutual
     unfolding punctuators
 
-    pub expression_joined : {level : Level} {e : Node} (is : IsExpression level e) (g : Gap) → IsGap g → (us : Items) → Soft (is_object level) us → Joined us → Joined (expression_tokens is g us)
-    expression_joined (shapes.name i) g h us z j = (h, ident_whole i, key_soft (ident_word i) z, j)
-    expression_joined (shapes.string at raw t) g h us z j = (h, t, string_soft raw z, j)
-    expression_joined (shapes.number at raw t) g h us z j = (h, t, number_soft raw z, j)
-    expression_joined (shapes.this_word at) g h us z j = (h, words.this_whole, key_soft (codes "this") z, j)
-    expression_joined (shapes.big_int at raw t) g h us z j = (h, t, big_int_soft raw z, j)
-    expression_joined (shapes.regex at b f t) g h us z j = (h, t.whole, regex_soft (regex_text b f) z, j)
-    expression_joined (shapes.template at a b ps) g h us z j = parts_joined ps g h us j
-    expression_joined (shapes.null_word at) g h us z j = (h, words.null_whole, key_soft (codes "null") z, j)
-    expression_joined (shapes.true_word at) g h us z j = (h, words.true_whole, key_soft (codes "true") z, j)
-    expression_joined (shapes.false_word at) g h us z j = (h, words.false_whole, key_soft (codes "false") z, j)
-    expression_joined (shapes.member at i o k) g h us z j =
-        expression_joined o g h (sign_of (codes ".") (it no_gap (chain_token k) us)) (point_behind i) (no_gap_is, refl, point_joins k us, (no_gap_is, chain_fine k, chain_soft k z, j))
-    expression_joined (shapes.call at c es none) g h us z j = expression_joined c g h (sign_of (codes "(") (arguments_tokens es (sign_of (codes ")") us))) opening (arguments_joined es us (no_gap_is, refl, closing_soft z, j))
-    expression_joined (shapes.parenthesized at e) g h us z j = (h, refl, opening_joins e (sign_of (codes ")") us), expression_joined e no_gap no_gap_is (sign_of (codes ")") us) closing (no_gap_is, refl, closing_soft z, j))
-    expression_joined (shapes.looser {level = l} e) g h us z j = expression_joined e g h us (softer l z) j
-    expression_joined (shapes.element at at' {level = l} i o e) g h us z j =
-        expression_joined o g h (sign_of (codes "[") (expression_tokens e no_gap (sign_of (codes "]") us))) opening_bracket
-        (no_gap_is, refl, bracket_joins e (sign_of (codes "]") us), expression_joined e no_gap no_gap_is (sign_of (codes "]") us) closing_bracket (no_gap_is, refl, bracket_soft z, j))
-    expression_joined (shapes.super_member at at' k) g h us z j = (h, words.super_whole, refl, (no_gap_is, refl, refl, (no_gap_is, key_whole k, key_soft (key_word k) z, j)))
-    expression_joined (shapes.super_element at at' at'' e) g h us z j =
-        (h, words.super_whole, refl, (no_gap_is, refl, bracket_joins e (sign_of (codes "]") us), expression_joined e no_gap no_gap_is (sign_of (codes "]") us) closing_bracket (no_gap_is, refl, bracket_soft z, j)))
-    expression_joined (shapes.super_call at at' es none) g h us z j = (h, words.super_whole, refl, arguments_joined es us (no_gap_is, refl, closing_soft z, j))
-    expression_joined (shapes.new_expression at e es none) g h us z j =
-        let args = sign_of (codes "(") (arguments_tokens es (sign_of (codes ")") us)) in
-        (h, words.new_whole, blank_joins (items.key (codes "new")) e args, expression_joined e blank blank_is args opening (arguments_joined es us (no_gap_is, refl, closing_soft z, j)))
-    expression_joined (shapes.new_alone at e none none') g h us z j = (h, words.new_whole, blank_joins (items.key (codes "new")) e us, expression_joined e blank blank_is us (softer shapes.object z) j)
-    expression_joined (shapes.new_target at) g h us z j = (h, words.new_whole, refl, (no_gap_is, refl, refl, (no_gap_is, words.target_whole, key_soft (codes "target") z, j)))
-    expression_joined (shapes.import_meta at) g h us z j = (h, words.import_whole, refl, (no_gap_is, refl, refl, (no_gap_is, words.meta_whole, key_soft (codes "meta") z, j)))
-    expression_joined (shapes.import_call at at' es none) g h us z j = (h, words.import_whole, refl, arguments_joined es us (no_gap_is, refl, closing_soft z, j))
-    expression_joined (shapes.tagged_template at a b c i o none ps) g h us z j = expression_joined o g h (it no_gap (part_token true ps) (parts_tokens ps us)) part (parts_joined ps no_gap no_gap_is us j)
-    expression_joined (shapes.chain_member at a {asks = b} i o k) g h us z j =
-        expression_joined o g h (sign_of (point_of b) (it no_gap (chain_token k) us)) (chain_point i) (no_gap_is, point_fine b, mark_joins b k us, (no_gap_is, chain_fine k, chain_soft k z, j))
-    expression_joined (shapes.chain_element at a c {asks = b} i o e) g h us z j =
-        let behind = expression_tokens e no_gap (sign_of (codes "]") us) in
-        expression_joined o g h (question_of b (sign_of (codes "[") behind)) (chain_bracket i behind)
-        (question_bracket b behind (no_gap_is, refl, bracket_joins e (sign_of (codes "]") us), expression_joined e no_gap no_gap_is (sign_of (codes "]") us) closing_bracket (no_gap_is, refl, bracket_soft z, j)))
-    expression_joined (shapes.chain_call at a {asks = b} i o es none) g h us z j =
-        expression_joined o g h (question_of b (sign_of (codes "(") (arguments_tokens es (sign_of (codes ")") us)))) (chain_opening i (arguments_tokens es (sign_of (codes ")") us))) (question_opening b (arguments_tokens es (sign_of (codes ")") us)) (arguments_joined es us (no_gap_is, refl, closing_soft z, j)))
-    expression_joined (shapes.prefix_update at o e) g h us z j = (h, update_fine o, update_joins o e us, expression_joined e no_gap no_gap_is us z j)
-    expression_joined (shapes.postfix_update at o e) g h us z j = expression_joined e g h (it no_gap (update_token o) us) (update_behind o) (no_gap_is, update_fine o, update_soft o z, j)
-    expression_joined (shapes.await_expression at e) g h us z j = (h, words.await_whole, blank_joins (items.key (codes "await")) e us, expression_joined e blank blank_is us z j)
-    expression_joined (shapes.unary_expression at o e) g h us z j = (h, unary_fine o, unary_joins o e us, expression_joined e (unary_gap o (own_sign e)) (unary_gap_is o (own_sign e)) us z j)
-    expression_joined (shapes.binary_expression at {operator = o} i x y) g h us z j =
-        expression_joined x g h (it blank (binary_token o) (expression_tokens y blank us)) parted (blank_is, binary_fine o, blank_joins (binary_token o) y us, expression_joined y blank blank_is us (right_soft i z) j)
-    expression_joined (shapes.private_in at at' w t r) g h us z j = (h, t, refl, (blank_is, words.in_whole, blank_joins (items.key (codes "in")) r us, expression_joined r blank blank_is us z j))
-    expression_joined (shapes.exponentiation at x y) g h us z j =
-        expression_joined x g h (it blank (sign (codes "**")) (expression_tokens y blank us)) parted (blank_is, refl, blank_joins (sign (codes "**")) y us, expression_joined y blank blank_is us z j)
-    expression_joined (shapes.both at x y) g h us z j =
-        expression_joined x g h (it blank (sign (codes "&&")) (expression_tokens y blank us)) parted (blank_is, refl, blank_joins (sign (codes "&&")) y us, expression_joined y blank blank_is us z j)
-    expression_joined (shapes.either at x y) g h us z j =
-        expression_joined x g h (it blank (sign (codes "||")) (expression_tokens y blank us)) parted (blank_is, refl, blank_joins (sign (codes "||")) y us, expression_joined y blank blank_is us z j)
-    expression_joined (shapes.coalesced at i x y) g h us z j =
-        expression_joined x g h (it blank (sign (codes "??")) (expression_tokens y blank us)) parted (blank_is, refl, blank_joins (sign (codes "??")) y us, expression_joined y blank blank_is us z j)
-    expression_joined (shapes.yield_nothing at none) g h us z j = (h, words.yield_whole, key_soft (codes "yield") z, j)
-    expression_joined (shapes.yield_value at false e) g h us z j = (h, words.yield_whole, blank_joins (items.key (codes "yield")) e us, expression_joined e blank blank_is us z j)
-    expression_joined (shapes.yield_value at true e) g h us z j = (h, words.yield_whole, refl, (no_gap_is, refl, blank_joins (sign (codes "*")) e us, expression_joined e blank blank_is us z j))
-    expression_joined (shapes.assignment_expression at o t v) g h us z j =
-        expression_joined t g h (it blank (assign_token o) (expression_tokens v blank us)) parted (blank_is, assign_fine o, blank_joins (assign_token o) v us, expression_joined v blank blank_is us z j)
-    expression_joined (shapes.conditional_expression at t x y) g h us z j =
-        let seconds = it blank (sign (codes ":")) (expression_tokens y blank us) in
-        expression_joined t g h (it blank (sign (codes "?")) (expression_tokens x blank seconds)) parted
-        (blank_is, refl, blank_joins (sign (codes "?")) x seconds, expression_joined x blank blank_is seconds parted (blank_is, refl, blank_joins (sign (codes ":")) y us, expression_joined y blank blank_is us z j))
-    expression_joined (shapes.arrow_function at true ps e q a b) g h us z j =
-        let arrow = it blank (sign (codes "=>")) (expression_tokens e blank us) in
-        let k = arguments_joined ps arrow (no_gap_is, refl, refl, (blank_is, refl, blank_joins (sign (codes "=>")) e us, expression_joined e blank blank_is us z j)) in
+    pub expression_joined : {level : Level} {e : Node} (is : IsExpression level e) (depth : ℕ) (g : Gap) → IsGap g → (us : Items) → Soft (is_object level) us → Joined us → Joined (expression_tokens is depth g us)
+    expression_joined (shapes.name i) depth g h us z j = (h, ident_whole i, key_soft (ident_word i) z, j)
+    expression_joined (shapes.string at raw t) depth g h us z j = (h, t, string_soft raw z, j)
+    expression_joined (shapes.number at raw t) depth g h us z j = (h, t, number_soft raw z, j)
+    expression_joined (shapes.this_word at) depth g h us z j = (h, words.this_whole, key_soft (codes "this") z, j)
+    expression_joined (shapes.big_int at raw t) depth g h us z j = (h, t, big_int_soft raw z, j)
+    expression_joined (shapes.regex at b f t) depth g h us z j = (h, t.whole, regex_soft (regex_text b f) z, j)
+    expression_joined (shapes.template at a b ps) depth g h us z j = parts_joined ps depth g h us j
+    expression_joined (shapes.null_word at) depth g h us z j = (h, words.null_whole, key_soft (codes "null") z, j)
+    expression_joined (shapes.true_word at) depth g h us z j = (h, words.true_whole, key_soft (codes "true") z, j)
+    expression_joined (shapes.false_word at) depth g h us z j = (h, words.false_whole, key_soft (codes "false") z, j)
+    expression_joined (shapes.member at i o k) depth g h us z j =
+        expression_joined o depth g h (sign_of (codes ".") (it no_gap (chain_token k) us)) (point_behind i) (no_gap_is, refl, point_joins k us, (no_gap_is, chain_fine k, chain_soft k z, j))
+    expression_joined (shapes.call at c es none) depth g h us z j = expression_joined c depth g h (sign_of (codes "(") (arguments_tokens es depth (sign_of (codes ")") us))) opening (arguments_joined es depth us (no_gap_is, refl, closing_soft z, j))
+    expression_joined (shapes.parenthesized at e) depth g h us z j = (h, refl, opening_joins e depth (sign_of (codes ")") us), expression_joined e depth no_gap no_gap_is (sign_of (codes ")") us) closing (no_gap_is, refl, closing_soft z, j))
+    expression_joined (shapes.looser {level = l} e) depth g h us z j = expression_joined e depth g h us (softer l z) j
+    expression_joined (shapes.element at at' {level = l} i o e) depth g h us z j =
+        expression_joined o depth g h (sign_of (codes "[") (expression_tokens e depth no_gap (sign_of (codes "]") us))) opening_bracket
+        (no_gap_is, refl, bracket_joins e depth (sign_of (codes "]") us), expression_joined e depth no_gap no_gap_is (sign_of (codes "]") us) closing_bracket (no_gap_is, refl, bracket_soft z, j))
+    expression_joined (shapes.super_member at at' k) depth g h us z j = (h, words.super_whole, refl, (no_gap_is, refl, refl, (no_gap_is, key_whole k, key_soft (key_word k) z, j)))
+    expression_joined (shapes.super_element at at' at'' e) depth g h us z j =
+        (h, words.super_whole, refl, (no_gap_is, refl, bracket_joins e depth (sign_of (codes "]") us), expression_joined e depth no_gap no_gap_is (sign_of (codes "]") us) closing_bracket (no_gap_is, refl, bracket_soft z, j)))
+    expression_joined (shapes.super_call at at' es none) depth g h us z j = (h, words.super_whole, refl, arguments_joined es depth us (no_gap_is, refl, closing_soft z, j))
+    expression_joined (shapes.new_expression at e es none) depth g h us z j =
+        let args = sign_of (codes "(") (arguments_tokens es depth (sign_of (codes ")") us)) in
+        (h, words.new_whole, blank_joins (items.key (codes "new")) e depth args, expression_joined e depth blank blank_is args opening (arguments_joined es depth us (no_gap_is, refl, closing_soft z, j)))
+    expression_joined (shapes.new_alone at e none none') depth g h us z j = (h, words.new_whole, blank_joins (items.key (codes "new")) e depth us, expression_joined e depth blank blank_is us (softer shapes.object z) j)
+    expression_joined (shapes.new_target at) depth g h us z j = (h, words.new_whole, refl, (no_gap_is, refl, refl, (no_gap_is, words.target_whole, key_soft (codes "target") z, j)))
+    expression_joined (shapes.import_meta at) depth g h us z j = (h, words.import_whole, refl, (no_gap_is, refl, refl, (no_gap_is, words.meta_whole, key_soft (codes "meta") z, j)))
+    expression_joined (shapes.import_call at at' es none) depth g h us z j = (h, words.import_whole, refl, arguments_joined es depth us (no_gap_is, refl, closing_soft z, j))
+    expression_joined (shapes.tagged_template at a b c i o none ps) depth g h us z j = expression_joined o depth g h (it no_gap (part_token true ps) (parts_tokens ps depth us)) part (parts_joined ps depth no_gap no_gap_is us j)
+    expression_joined (shapes.chain_member at a {asks = b} i o k) depth g h us z j =
+        expression_joined o depth g h (sign_of (point_of b) (it no_gap (chain_token k) us)) (chain_point i) (no_gap_is, point_fine b, mark_joins b k us, (no_gap_is, chain_fine k, chain_soft k z, j))
+    expression_joined (shapes.chain_element at a c {asks = b} i o e) depth g h us z j =
+        let behind = expression_tokens e depth no_gap (sign_of (codes "]") us) in
+        expression_joined o depth g h (question_of b (sign_of (codes "[") behind)) (chain_bracket i behind)
+        (question_bracket b behind (no_gap_is, refl, bracket_joins e depth (sign_of (codes "]") us), expression_joined e depth no_gap no_gap_is (sign_of (codes "]") us) closing_bracket (no_gap_is, refl, bracket_soft z, j)))
+    expression_joined (shapes.chain_call at a {asks = b} i o es none) depth g h us z j =
+        expression_joined o depth g h (question_of b (sign_of (codes "(") (arguments_tokens es depth (sign_of (codes ")") us)))) (chain_opening i (arguments_tokens es depth (sign_of (codes ")") us))) (question_opening b (arguments_tokens es depth (sign_of (codes ")") us)) (arguments_joined es depth us (no_gap_is, refl, closing_soft z, j)))
+    expression_joined (shapes.prefix_update at o e) depth g h us z j = (h, update_fine o, update_joins o e depth us, expression_joined e depth no_gap no_gap_is us z j)
+    expression_joined (shapes.postfix_update at o e) depth g h us z j = expression_joined e depth g h (it no_gap (update_token o) us) (update_behind o) (no_gap_is, update_fine o, update_soft o z, j)
+    expression_joined (shapes.await_expression at e) depth g h us z j = (h, words.await_whole, blank_joins (items.key (codes "await")) e depth us, expression_joined e depth blank blank_is us z j)
+    expression_joined (shapes.unary_expression at o e) depth g h us z j = (h, unary_fine o, unary_joins o e depth us, expression_joined e depth (unary_gap o (own_sign e)) (unary_gap_is o (own_sign e)) us z j)
+    expression_joined (shapes.binary_expression at {operator = o} i x y) depth g h us z j =
+        expression_joined x depth g h (it blank (binary_token o) (expression_tokens y depth blank us)) parted (blank_is, binary_fine o, blank_joins (binary_token o) y depth us, expression_joined y depth blank blank_is us (right_soft i z) j)
+    expression_joined (shapes.private_in at at' w t r) depth g h us z j = (h, t, refl, (blank_is, words.in_whole, blank_joins (items.key (codes "in")) r depth us, expression_joined r depth blank blank_is us z j))
+    expression_joined (shapes.exponentiation at x y) depth g h us z j =
+        expression_joined x depth g h (it blank (sign (codes "**")) (expression_tokens y depth blank us)) parted (blank_is, refl, blank_joins (sign (codes "**")) y depth us, expression_joined y depth blank blank_is us z j)
+    expression_joined (shapes.both at x y) depth g h us z j =
+        expression_joined x depth g h (it blank (sign (codes "&&")) (expression_tokens y depth blank us)) parted (blank_is, refl, blank_joins (sign (codes "&&")) y depth us, expression_joined y depth blank blank_is us z j)
+    expression_joined (shapes.either at x y) depth g h us z j =
+        expression_joined x depth g h (it blank (sign (codes "||")) (expression_tokens y depth blank us)) parted (blank_is, refl, blank_joins (sign (codes "||")) y depth us, expression_joined y depth blank blank_is us z j)
+    expression_joined (shapes.coalesced at i x y) depth g h us z j =
+        expression_joined x depth g h (it blank (sign (codes "??")) (expression_tokens y depth blank us)) parted (blank_is, refl, blank_joins (sign (codes "??")) y depth us, expression_joined y depth blank blank_is us z j)
+    expression_joined (shapes.yield_nothing at none) depth g h us z j = (h, words.yield_whole, key_soft (codes "yield") z, j)
+    expression_joined (shapes.yield_value at false e) depth g h us z j = (h, words.yield_whole, blank_joins (items.key (codes "yield")) e depth us, expression_joined e depth blank blank_is us z j)
+    expression_joined (shapes.yield_value at true e) depth g h us z j = (h, words.yield_whole, refl, (no_gap_is, refl, blank_joins (sign (codes "*")) e depth us, expression_joined e depth blank blank_is us z j))
+    expression_joined (shapes.assignment_expression at o t v) depth g h us z j =
+        expression_joined t depth g h (it blank (assign_token o) (expression_tokens v depth blank us)) parted (blank_is, assign_fine o, blank_joins (assign_token o) v depth us, expression_joined v depth blank blank_is us z j)
+    expression_joined (shapes.conditional_expression at t x y) depth g h us z j =
+        let seconds = it blank (sign (codes ":")) (expression_tokens y depth blank us) in
+        expression_joined t depth g h (it blank (sign (codes "?")) (expression_tokens x depth blank seconds)) parted
+        (blank_is, refl, blank_joins (sign (codes "?")) x depth seconds, expression_joined x depth blank blank_is seconds parted (blank_is, refl, blank_joins (sign (codes ":")) y depth us, expression_joined y depth blank blank_is us z j))
+    expression_joined (shapes.arrow_function at true ps e q a b) depth g h us z j =
+        let arrow = it blank (sign (codes "=>")) (expression_tokens e depth blank us) in
+        let k = arguments_joined ps depth arrow (no_gap_is, refl, refl, (blank_is, refl, blank_joins (sign (codes "=>")) e depth us, expression_joined e depth blank blank_is us z j)) in
         (h, words.async_whole, refl, (blank_is, refl, k.2, k.3))
-    expression_joined (shapes.arrow_function at false ps e q a b) g h us z j =
-        let arrow = it blank (sign (codes "=>")) (expression_tokens e blank us) in
-        let k = arguments_joined ps arrow (no_gap_is, refl, refl, (blank_is, refl, blank_joins (sign (codes "=>")) e us, expression_joined e blank blank_is us z j)) in
+    expression_joined (shapes.arrow_function at false ps e q a b) depth g h us z j =
+        let arrow = it blank (sign (codes "=>")) (expression_tokens e depth blank us) in
+        let k = arguments_joined ps depth arrow (no_gap_is, refl, refl, (blank_is, refl, blank_joins (sign (codes "=>")) e depth us, expression_joined e depth blank blank_is us z j)) in
         (h, refl, k.2, k.3)
-    expression_joined (shapes.array at at' es) g h us z j = (h, refl, slots_open es us, slots_joined es us (no_gap_is, refl, bracket_soft z, j))
-    expression_joined (shapes.object_literal at at' ps) g h us z j = (h, refl, properties_open ps us, properties_joined ps us (brace_soft z) j)
-    expression_joined (shapes.sequence_expression at x y es) g h us z j =
-        let rest = more_tokens es us in
-        expression_joined x g h (sign_of (codes ",") (expression_tokens y blank rest)) comma (no_gap_is, refl, blank_joins (sign (codes ",")) y rest, expression_joined y blank blank_is rest (more_soft es z) (more_joined es us z j))
+    expression_joined (shapes.array at at' es) depth g h us z j = (h, refl, slots_open es depth us, slots_joined es depth us (no_gap_is, refl, bracket_soft z, j))
+    expression_joined (shapes.object_literal at at' ps) depth g h us z j = (h, refl, properties_open ps depth us, properties_joined ps depth us (brace_soft z) j)
+    expression_joined (shapes.sequence_expression at x y es) depth g h us z j =
+        let rest = more_tokens es depth us in
+        expression_joined x depth g h (sign_of (codes ",") (expression_tokens y depth blank rest)) comma (no_gap_is, refl, blank_joins (sign (codes ",")) y depth rest, expression_joined y depth blank blank_is rest (more_soft es depth z) (more_joined es depth us z j))
 
-    parts_joined : {t f : Bool} {es ps : List Node} (is : AreParts t f es ps) (g : Gap) → IsGap g → (us : Items) → Joined us → Joined (it g (part_token f is) (parts_tokens is us))
-    parts_joined {f = f} (shapes.last_part p) g h us j = (h, part_fine p, part_joins f true (part_text f true (part_raw p)) us, j)
-    parts_joined {f = f} (shapes.more_parts p e ps) g h us j =
-        let behind = it no_gap (part_token false ps) (parts_tokens ps us) in
-        (h, part_fine p, part_joins f false (part_text f false (part_raw p)) (expression_tokens e no_gap behind), expression_joined e no_gap no_gap_is behind part (parts_joined ps no_gap no_gap_is us j))
+    parts_joined : {t f : Bool} {es ps : List Node} (is : AreParts t f es ps) (depth : ℕ) (g : Gap) → IsGap g → (us : Items) → Joined us → Joined (it g (part_token f is) (parts_tokens is depth us))
+    parts_joined {f = f} (shapes.last_part p) depth g h us j = (h, part_fine p, part_joins f true (part_text f true (part_raw p)) us, j)
+    parts_joined {f = f} (shapes.more_parts p e ps) depth g h us j =
+        let behind = it no_gap (part_token false ps) (parts_tokens ps depth us) in
+        (h, part_fine p, part_joins f false (part_text f false (part_raw p)) (expression_tokens e depth no_gap behind), expression_joined e depth no_gap no_gap_is behind part (parts_joined ps depth no_gap no_gap_is us j))
 
-    pub arguments_joined : {role : Role} {n : Node} (is : IsArguments role n) (us : Items) → Joined (sign_of (codes ")") us) → Joined (sign_of (codes "(") (arguments_tokens is (sign_of (codes ")") us)))
-    arguments_joined (shapes.no_arguments at) us j = (no_gap_is, refl, refl, j)
-    arguments_joined (shapes.arguments at e es) us j =
-        (no_gap_is, refl, element_opening_joins e (elements_tokens es (sign_of (codes ")") us)), element_joined e no_gap no_gap_is (elements_tokens es (sign_of (codes ")") us)) (elements_soft es closing) (elements_joined es us j))
+    pub arguments_joined : {role : Role} {n : Node} (is : IsArguments role n) (depth : ℕ) (us : Items) → Joined (sign_of (codes ")") us) → Joined (sign_of (codes "(") (arguments_tokens is depth (sign_of (codes ")") us)))
+    arguments_joined (shapes.no_arguments at) depth us j = (no_gap_is, refl, refl, j)
+    arguments_joined (shapes.arguments at e es) depth us j =
+        (no_gap_is, refl, element_opening_joins e depth (elements_tokens es depth (sign_of (codes ")") us)), element_joined e depth no_gap no_gap_is (elements_tokens es depth (sign_of (codes ")") us)) (elements_soft es depth closing) (elements_joined es depth us j))
 
-    element_joined : {role : Role} {n : Node} (is : IsElement role n) (g : Gap) → IsGap g → (us : Items) → Soft false us → Joined us → Joined (element_tokens is g us)
-    element_joined (shapes.one e) g h us z j = expression_joined e g h us z j
-    element_joined (shapes.bound p) g h us z j = defaulted_joined p g h us z j
-    element_joined (shapes.rest at p a) g h us z j = (h, refl, pattern_dots_joins p us, pattern_joined p no_gap no_gap_is us z j)
-    element_joined (shapes.spread at e) g h us z j = (h, refl, dots_join e us, expression_joined e no_gap no_gap_is us z j)
+    element_joined : {role : Role} {n : Node} (is : IsElement role n) (depth : ℕ) (g : Gap) → IsGap g → (us : Items) → Soft false us → Joined us → Joined (element_tokens is depth g us)
+    element_joined (shapes.one e) depth g h us z j = expression_joined e depth g h us z j
+    element_joined (shapes.bound p) depth g h us z j = defaulted_joined p depth g h us z j
+    element_joined (shapes.rest at p a) depth g h us z j = (h, refl, pattern_dots_joins p depth us, pattern_joined p depth no_gap no_gap_is us z j)
+    element_joined (shapes.spread at e) depth g h us z j = (h, refl, dots_join e depth us, expression_joined e depth no_gap no_gap_is us z j)
 
-    slots_joined : {role : Role} {ns : List Node} (is : AreSlots role ns) (us : Items) → Joined (sign_of (codes "]") us) → Joined (slots_tokens is us)
-    slots_joined shapes.no_slots us j = j
-    slots_joined (shapes.filled e es) us j = element_joined e no_gap no_gap_is (more_slots_tokens es false no_gap us) (slots_soft es us) (more_slots_joined es false no_gap no_gap_is us j)
-    slots_joined (shapes.hole a es) us j = more_slots_joined es true no_gap no_gap_is us j
+    slots_joined : {role : Role} {ns : List Node} (is : AreSlots role ns) (depth : ℕ) (us : Items) → Joined (sign_of (codes "]") us) → Joined (slots_tokens is depth us)
+    slots_joined shapes.no_slots depth us j = j
+    slots_joined (shapes.filled e es) depth us j = element_joined e depth no_gap no_gap_is (more_slots_tokens es depth false no_gap us) (slots_soft es depth us) (more_slots_joined es depth false no_gap no_gap_is us j)
+    slots_joined (shapes.hole a es) depth us j = more_slots_joined es depth true no_gap no_gap_is us j
 
-    more_slots_joined : {role : Role} {ns : List Node} (is : AreSlots role ns) (b : Bool) (g : Gap) → IsGap g → (us : Items) → Joined (sign_of (codes "]") us) → Joined (more_slots_tokens is b g us)
-    more_slots_joined shapes.no_slots false g h us j = j
-    more_slots_joined shapes.no_slots true g h us j = (h, refl, refl, j)
-    more_slots_joined (shapes.filled e es) b g h us j =
-        let rest = more_slots_tokens es false no_gap us in
-        (h, refl, element_blank_joins (sign (codes ",")) e rest, element_joined e blank blank_is rest (slots_soft es us) (more_slots_joined es false no_gap no_gap_is us j))
-    more_slots_joined (shapes.hole a es) b g h us j = (h, refl, slots_parted es us, more_slots_joined es true blank blank_is us j)
+    more_slots_joined : {role : Role} {ns : List Node} (is : AreSlots role ns) (depth : ℕ) (b : Bool) (g : Gap) → IsGap g → (us : Items) → Joined (sign_of (codes "]") us) → Joined (more_slots_tokens is depth b g us)
+    more_slots_joined shapes.no_slots depth false g h us j = j
+    more_slots_joined shapes.no_slots depth true g h us j = (h, refl, refl, j)
+    more_slots_joined (shapes.filled e es) depth b g h us j =
+        let rest = more_slots_tokens es depth false no_gap us in
+        (h, refl, element_blank_joins (sign (codes ",")) e depth rest, element_joined e depth blank blank_is rest (slots_soft es depth us) (more_slots_joined es depth false no_gap no_gap_is us j))
+    more_slots_joined (shapes.hole a es) depth b g h us j = (h, refl, slots_parted es depth us, more_slots_joined es depth true blank blank_is us j)
 
-    property_name_joined : {n : Node} (is : IsPropertyName n) (g : Gap) → IsGap g → (us : Items) → Joined (sign_of (codes ":") us) → Joined (property_name_tokens is g (sign_of (codes ":") us))
-    property_name_joined (shapes.key_name k) g h us j = (h, key_whole k, refl, j)
-    property_name_joined (shapes.string_name at raw t) g h us j = (h, t, refl, j)
-    property_name_joined (shapes.number_name at raw t) g h us j = (h, t, refl, j)
-    property_name_joined (shapes.big_int_name at raw t) g h us j = (h, t, refl, j)
-    property_name_joined (shapes.computed_name at e) g h us j =
+    property_name_joined : {n : Node} (is : IsPropertyName n) (depth : ℕ) (g : Gap) → IsGap g → (us : Items) → Joined (sign_of (codes ":") us) → Joined (property_name_tokens is depth g (sign_of (codes ":") us))
+    property_name_joined (shapes.key_name k) depth g h us j = (h, key_whole k, refl, j)
+    property_name_joined (shapes.string_name at raw t) depth g h us j = (h, t, refl, j)
+    property_name_joined (shapes.number_name at raw t) depth g h us j = (h, t, refl, j)
+    property_name_joined (shapes.big_int_name at raw t) depth g h us j = (h, t, refl, j)
+    property_name_joined (shapes.computed_name at e) depth g h us j =
         let end = sign_of (codes "]") (sign_of (codes ":") us) in
-        (h, refl, bracket_joins e end, expression_joined e no_gap no_gap_is end closing_bracket (no_gap_is, refl, refl, j))
+        (h, refl, bracket_joins e depth end, expression_joined e depth no_gap no_gap_is end closing_bracket (no_gap_is, refl, refl, j))
 
-    property_joined : {role : Role} {n : Node} (is : IsProperty role n) (g : Gap) → IsGap g → (us : Items) → Soft false us → Joined us → Joined (property_tokens is g us)
-    property_joined (shapes.key_value at k v) g h us z j = property_name_joined k g h (expression_tokens v blank us) (no_gap_is, refl, blank_joins (sign (codes ":")) v us, expression_joined v blank blank_is us z j)
-    property_joined (shapes.shorthand i) g h us z j = (h, ident_whole i, key_soft (ident_word i) z, j)
-    property_joined (shapes.initialized at i v) g h us z j = (h, ident_whole i, refl, (blank_is, refl, blank_joins (sign (codes "=")) v us, expression_joined v blank blank_is us z j))
-    property_joined (shapes.renamed at k p) g h us z j =
-        property_name_joined k g h (defaulted_tokens p blank us) (no_gap_is, refl, defaulted_blank_joins (sign (codes ":")) p us, defaulted_joined p blank blank_is us z j)
-    property_joined (shapes.named at at' i a v) g h us z j = (h, ident_whole i, key_soft (ident_word i) (initializer_soft v z), initializer_joined v us z j)
-    property_joined (shapes.rest_property at at' i a b) g h us z j = (h, refl, refl, (no_gap_is, ident_whole i, key_soft (ident_word i) z, j))
-    property_joined (shapes.spread_property at e) g h us z j = (h, refl, dots_join e us, expression_joined e no_gap no_gap_is us z j)
+    property_joined : {role : Role} {n : Node} (is : IsProperty role n) (depth : ℕ) (g : Gap) → IsGap g → (us : Items) → Soft false us → Joined us → Joined (property_tokens is depth g us)
+    property_joined (shapes.key_value at k v) depth g h us z j = property_name_joined k depth g h (expression_tokens v depth blank us) (no_gap_is, refl, blank_joins (sign (codes ":")) v depth us, expression_joined v depth blank blank_is us z j)
+    property_joined (shapes.shorthand i) depth g h us z j = (h, ident_whole i, key_soft (ident_word i) z, j)
+    property_joined (shapes.initialized at i v) depth g h us z j = (h, ident_whole i, refl, (blank_is, refl, blank_joins (sign (codes "=")) v depth us, expression_joined v depth blank blank_is us z j))
+    property_joined (shapes.renamed at k p) depth g h us z j =
+        property_name_joined k depth g h (defaulted_tokens p depth blank us) (no_gap_is, refl, defaulted_blank_joins (sign (codes ":")) p depth us, defaulted_joined p depth blank blank_is us z j)
+    property_joined (shapes.named at at' i a v) depth g h us z j = (h, ident_whole i, key_soft (ident_word i) (initializer_soft v depth z), initializer_joined v depth us z j)
+    property_joined (shapes.rest_property at at' i a b) depth g h us z j = (h, refl, refl, (no_gap_is, ident_whole i, key_soft (ident_word i) z, j))
+    property_joined (shapes.spread_property at e) depth g h us z j = (h, refl, dots_join e depth us, expression_joined e depth no_gap no_gap_is us z j)
 
-    properties_joined : {role : Role} {ns : List Node} (is : AreProperties role ns) (us : Items) → joins_next (sign (codes "}")) us ≡ true → Joined us → Joined (properties_tokens is us)
-    properties_joined shapes.no_properties us z j = (no_gap_is, refl, z, j)
-    properties_joined (shapes.more_properties p ps) us z j = property_joined p blank blank_is (more_properties_tokens ps us) (properties_soft ps us) (more_properties_joined ps us z j)
+    properties_joined : {role : Role} {ns : List Node} (is : AreProperties role ns) (depth : ℕ) (us : Items) → joins_next (sign (codes "}")) us ≡ true → Joined us → Joined (properties_tokens is depth us)
+    properties_joined shapes.no_properties depth us z j = (no_gap_is, refl, z, j)
+    properties_joined (shapes.more_properties p ps) depth us z j = property_joined p depth blank blank_is (more_properties_tokens ps depth us) (properties_soft ps depth us) (more_properties_joined ps depth us z j)
 
-    more_properties_joined : {role : Role} {ns : List Node} (is : AreProperties role ns) (us : Items) → joins_next (sign (codes "}")) us ≡ true → Joined us → Joined (more_properties_tokens is us)
-    more_properties_joined shapes.no_properties us z j = (blank_is, refl, z, j)
-    more_properties_joined (shapes.more_properties p ps) us z j =
-        let rest = more_properties_tokens ps us in
-        (no_gap_is, refl, property_parted (sign (codes ",")) p rest, property_joined p blank blank_is rest (properties_soft ps us) (more_properties_joined ps us z j))
+    more_properties_joined : {role : Role} {ns : List Node} (is : AreProperties role ns) (depth : ℕ) (us : Items) → joins_next (sign (codes "}")) us ≡ true → Joined us → Joined (more_properties_tokens is depth us)
+    more_properties_joined shapes.no_properties depth us z j = (blank_is, refl, z, j)
+    more_properties_joined (shapes.more_properties p ps) depth us z j =
+        let rest = more_properties_tokens ps depth us in
+        (no_gap_is, refl, property_parted (sign (codes ",")) p depth rest, property_joined p depth blank blank_is rest (properties_soft ps depth us) (more_properties_joined ps depth us z j))
 
-    pub pattern_joined : {n : Node} (is : IsPattern n) (g : Gap) → IsGap g → (us : Items) → Soft false us → Joined us → Joined (pattern_tokens is g us)
-    pattern_joined (shapes.name_pattern at i a) g h us z j = (h, ident_whole i, key_soft (ident_word i) z, j)
-    pattern_joined (shapes.array_pattern at at' es a) g h us z j = (h, refl, slots_open es us, slots_joined es us (no_gap_is, refl, bracket_soft z, j))
-    pattern_joined (shapes.object_pattern at at' ps a) g h us z j = (h, refl, properties_open ps us, properties_joined ps us (brace_soft z) j)
+    pub pattern_joined : {n : Node} (is : IsPattern n) (depth : ℕ) (g : Gap) → IsGap g → (us : Items) → Soft false us → Joined us → Joined (pattern_tokens is depth g us)
+    pattern_joined (shapes.name_pattern at i a) depth g h us z j = (h, ident_whole i, key_soft (ident_word i) z, j)
+    pattern_joined (shapes.array_pattern at at' es a) depth g h us z j = (h, refl, slots_open es depth us, slots_joined es depth us (no_gap_is, refl, bracket_soft z, j))
+    pattern_joined (shapes.object_pattern at at' ps a) depth g h us z j = (h, refl, properties_open ps depth us, properties_joined ps depth us (brace_soft z) j)
 
-    defaulted_joined : {n : Node} (is : IsDefaulted n) (g : Gap) → IsGap g → (us : Items) → Soft false us → Joined us → Joined (defaulted_tokens is g us)
-    defaulted_joined (shapes.no_default p) g h us z j = pattern_joined p g h us z j
-    defaulted_joined (shapes.with_default at p e) g h us z j = pattern_joined p g h (it blank (sign (codes "=")) (expression_tokens e blank us)) parted (value_joined e us (expression_joined e blank blank_is us z j))
+    defaulted_joined : {n : Node} (is : IsDefaulted n) (depth : ℕ) (g : Gap) → IsGap g → (us : Items) → Soft false us → Joined us → Joined (defaulted_tokens is depth g us)
+    defaulted_joined (shapes.no_default p) depth g h us z j = pattern_joined p depth g h us z j
+    defaulted_joined (shapes.with_default at p e) depth g h us z j = pattern_joined p depth g h (it blank (sign (codes "=")) (expression_tokens e depth blank us)) parted (value_joined e depth us (expression_joined e depth blank blank_is us z j))
 
-    pub initializer_joined : {n : Node} (is : IsInitializer n) (us : Items) → Soft false us → Joined us → Joined (initializer_tokens is us)
-    initializer_joined (shapes.no_initializer a) us z j = j
-    initializer_joined (shapes.initializer e) us z j = value_joined e us (expression_joined e blank blank_is us z j)
+    pub initializer_joined : {n : Node} (is : IsInitializer n) (depth : ℕ) (us : Items) → Soft false us → Joined us → Joined (initializer_tokens is depth us)
+    initializer_joined (shapes.no_initializer a) depth us z j = j
+    initializer_joined (shapes.initializer e) depth us z j = value_joined e depth us (expression_joined e depth blank blank_is us z j)
 
-    elements_joined : {role : Role} {es : List Node} (is : AreElements role es) (us : Items) → Joined (sign_of (codes ")") us) → Joined (elements_tokens is (sign_of (codes ")") us))
-    elements_joined shapes.no_elements us j = j
-    elements_joined (shapes.more_elements e es) us j =
-        (no_gap_is, refl, element_blank_joins (sign (codes ",")) e (elements_tokens es (sign_of (codes ")") us)), element_joined e blank blank_is (elements_tokens es (sign_of (codes ")") us)) (elements_soft es closing) (elements_joined es us j))
+    elements_joined : {role : Role} {es : List Node} (is : AreElements role es) (depth : ℕ) (us : Items) → Joined (sign_of (codes ")") us) → Joined (elements_tokens is depth (sign_of (codes ")") us))
+    elements_joined shapes.no_elements depth us j = j
+    elements_joined (shapes.more_elements e es) depth us j =
+        (no_gap_is, refl, element_blank_joins (sign (codes ",")) e depth (elements_tokens es depth (sign_of (codes ")") us)), element_joined e depth blank blank_is (elements_tokens es depth (sign_of (codes ")") us)) (elements_soft es depth closing) (elements_joined es depth us j))
 
-    more_joined : {es : List Node} (is : AreExpressions es) (us : Items) → Soft false us → Joined us → Joined (more_tokens is us)
-    more_joined shapes.no_expressions us z j = j
-    more_joined (shapes.more_expressions e es) us z j = (no_gap_is, refl, blank_joins (sign (codes ",")) e (more_tokens es us), expression_joined e blank blank_is (more_tokens es us) (more_soft es z) (more_joined es us z j))
+    more_joined : {es : List Node} (is : AreExpressions es) (depth : ℕ) (us : Items) → Soft false us → Joined us → Joined (more_tokens is depth us)
+    more_joined shapes.no_expressions depth us z j = j
+    more_joined (shapes.more_expressions e es) depth us z j = (no_gap_is, refl, blank_joins (sign (codes ",")) e depth (more_tokens es depth us), expression_joined e depth blank blank_is (more_tokens es depth us) (more_soft es depth z) (more_joined es depth us z j))
 
   -- a declarator ends before `,` or `;`
-  pub declarators_soft : {ds : List Node} (is : AreDeclarators ds) (object : Bool) (us : Items) → Soft object (declarators_tokens is (sign_of (codes ";") us))
-  declarators_soft shapes.no_declarators object us = semicolon
-  declarators_soft (shapes.more_declarators d ds) object us = comma
+  pub declarators_soft : {ds : List Node} (is : AreDeclarators ds) (depth : ℕ) (object : Bool) (us : Items) → Soft object (declarators_tokens is depth (sign_of (codes ";") us))
+  declarators_soft shapes.no_declarators depth object us = semicolon
+  declarators_soft (shapes.more_declarators d ds) depth object us = comma
 
-  pub declarator_joined : {n : Node} (is : IsDeclarator n) (us : Items) → ((object : Bool) → Soft object us) → Joined us → Joined (declarator_tokens is us)
+  pub declarator_joined : {n : Node} (is : IsDeclarator n) (depth : ℕ) (us : Items) → ((object : Bool) → Soft object us) → Joined us → Joined (declarator_tokens is depth us)
   unfolding punctuators
-  declarator_joined (shapes.declarator at p e) us z j = pattern_joined p blank blank_is (initializer_tokens e us) (initializer_soft e (z false)) (initializer_joined e us (z false) j)
+  declarator_joined (shapes.declarator at p e) depth us z j = pattern_joined p depth blank blank_is (initializer_tokens e depth us) (initializer_soft e depth (z false)) (initializer_joined e depth us (z false) j)
 
-  pub declarators_joined : {ds : List Node} (is : AreDeclarators ds) (us : Items) → Joined (sign_of (codes ";") us) → Joined (declarators_tokens is (sign_of (codes ";") us))
+  pub declarators_joined : {ds : List Node} (is : AreDeclarators ds) (depth : ℕ) (us : Items) → Joined (sign_of (codes ";") us) → Joined (declarators_tokens is depth (sign_of (codes ";") us))
   unfolding punctuators
-  declarators_joined shapes.no_declarators us j = j
-  declarators_joined (shapes.more_declarators (shapes.declarator at p e) ds) us j =
-      let rest = declarators_tokens ds (sign_of (codes ";") us) in
-      (no_gap_is, refl, pattern_blank_joins (sign (codes ",")) p (initializer_tokens e rest), declarator_joined (shapes.declarator at p e) rest (λ n. declarators_soft ds n us) (declarators_joined ds us j))
+  declarators_joined shapes.no_declarators depth us j = j
+  declarators_joined (shapes.more_declarators (shapes.declarator at p e) ds) depth us j =
+      let rest = declarators_tokens ds depth (sign_of (codes ";") us) in
+      (no_gap_is, refl, pattern_blank_joins (sign (codes ",")) p depth (initializer_tokens e depth rest), declarator_joined (shapes.declarator at p e) depth rest (λ n. declarators_soft ds depth n us) (declarators_joined ds depth us j))

@@ -57,9 +57,9 @@ pub modifier_eats : nat_le 1 (eats modifier) ≡ true
 unfolding modifier
 modifier_eats = refl
 
-module _ (assigned : Bool) {ps : Node} (is : IsArguments shapes.bindings ps) (F : ArgumentForms assigned is) {f : Laid} {n : Node} (B : ReadAsBlock assigned f n) where
+module _ (assigned : Bool) {ps : Node} (is : IsArguments shapes.bindings ps) (depth : ℕ) (F : ArgumentForms assigned is depth) {f : Laid} {n : Node} (B : ReadAsBlock assigned f n) where
   abbrev rest : Items → Items
-  rest us = s (codes "(") (arguments_tokens is (s (codes ")") (f blank us)))
+  rest us = s (codes "(") (arguments_tokens is depth (s (codes ")") (f blank us)))
 
   abbrev functions : Grammar
   functions = getter // setter // method // field
@@ -117,15 +117,15 @@ module _ (assigned : Bool) {ps : Node} (is : IsArguments shapes.bindings ps) (F 
   method_read : (x y : Bool) (w : List ℕ) (g : Gap) (us : Items)
       → Reads assigned method (method_tokens x y w g (rest us)) (made (form.Method Method) 0 0 (flag y ∷ flag x ∷ key_of w ∷ absent ∷ absent ∷ absent ∷ list_node (bare_arguments is) ∷ absent ∷ n ∷ []) ∷ []) us
   unfolding method method_async member_start prop_start class_element_name prop_name question_or_exclamation
-  method_read true true w g us = rw (signature_read assigned is F B us) refl
-  method_read true false w g us = rw (signature_read assigned is F B us) refl
-  method_read false true w g us = rw (signature_read assigned is F B us) refl
+  method_read true true w g us = rw (signature_read assigned is depth F B us) refl
+  method_read true false w g us = rw (signature_read assigned is depth F B us) refl
+  method_read false true w g us = rw (signature_read assigned is depth F B us) refl
   method_read false false w g us = go (bytes_eq w (codes "async")) refl
     where
       go : (b : Bool) → bytes_eq w (codes "async") ≡ b
           → Reads assigned method (it g (items.key w) (rest us)) (made (form.Method Method) 0 0 (absent ∷ absent ∷ key_of w ∷ absent ∷ absent ∷ absent ∷ list_node (bare_arguments is) ∷ absent ∷ n ∷ []) ∷ []) us
-      go true e = rw (e, signature_read assigned is F B us) refl
-      go false e = rw (e, signature_read assigned is F B us) refl
+      go true e = rw (e, signature_read assigned is depth F B us) refl
+      go false e = rw (e, signature_read assigned is depth F B us) refl
 
   no_empty : (st x y : Bool) (w : List ℕ) (g : Gap) (us : Items) → Refuses assigned (node plain.EmptyStmt (punct (codes ";"))) (static_tokens st (λ h. method_tokens x y w h (rest us)) g)
   no_empty true x y w g us = refl

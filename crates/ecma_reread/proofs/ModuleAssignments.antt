@@ -85,13 +85,13 @@ module _ (assigned : Bool) where
       ap (or_on (interp assigned (means assigned) (import_equals // export // statement)) ts) (no_import i g rest) ∙ ap (or_on (interp assigned (means assigned) (export // statement)) ts) (import_equals_read z false i s g us)
 
   pub export_assignment_read : assigned ≡ true → {level : Level} {e : Node} (is : IsExpression level e) (g : Gap) (us : Items)
-      → Reads assigned module_item (it g (items.key (codes "export")) (spaced_sign (codes "=") (expression_tokens is blank (sign_of (codes ";") us)))) (bare kind.TsExportAssignment (bare_expression is ∷ []) ∷ []) us
+      → Reads assigned module_item (it g (items.key (codes "export")) (spaced_sign (codes "=") (expression_tokens is 0 blank (sign_of (codes ";") us)))) (bare kind.TsExportAssignment (bare_expression is ∷ []) ∷ []) us
   unfolding export
   export_assignment_read z is g us =
       let I = interp assigned (means assigned) in
-      let value = expression_tokens is blank (sign_of (codes ";") us) in
+      let value = expression_tokens is 0 blank (sign_of (codes ";") us) in
       let behind = spaced_sign (codes "=") value in
-      let value_read = expression_read assigned (standing assigned (expression_form assigned is)) blank (sign_of (codes ";") us) (exactly (sign (codes ";"))) at_token semicolon_ends refl in
+      let value_read = expression_read assigned (standing assigned (expression_form assigned is 0)) blank (sign_of (codes ";") us) (exactly (sign (codes ";"))) at_token semicolon_ends refl in
       export_item assigned g behind _ us refl
       (rw (
         no_default assigned g behind refl,

@@ -190,7 +190,7 @@ module _ (words : Words) where
   item_joined (modules.export_declaration at is d) g h us a j = (h, words.export_whole, statement_apart is 0 blank blank_wide us (items.key (codes "export")), statement_joined words is 0 blank blank_is us a j)
   item_joined (modules.export_default at e) g h us a j =
       let after = sign_of (codes ";") us in
-      (h, words.export_whole, refl, (blank_is, words.default_whole, blank_joins (items.key (codes "default")) e after, expression_joined words e blank blank_is after semicolon (ended words us a j)))
+      (h, words.export_whole, refl, (blank_is, words.default_whole, blank_joins (items.key (codes "default")) e 0 after, expression_joined words e 0 blank blank_is after semicolon (ended words us a j)))
   item_joined (modules.export_default_function at at' (shapes.unnamed n) f) g h us a j =
       let fs = function_tokens f 0 us in (
         h,
@@ -224,7 +224,7 @@ module _ (words : Words) where
       (blank_is, ident_whole i, refl, (blank_is, refl, refl, (blank_is, words.require_whole, refl, (no_gap_is, refl, refl, (no_gap_is, string_whole s, refl, (no_gap_is, refl, refl, ended words us a j))))))
   item_joined (modules.export_assignment z at e) g h us a j =
       let after = sign_of (codes ";") us in
-      (h, words.export_whole, refl, (blank_is, refl, blank_joins (sign (codes "=")) e after, expression_joined words e blank blank_is after semicolon (ended words us a j)))
+      (h, words.export_whole, refl, (blank_is, refl, blank_joins (sign (codes "=")) e 0 after, expression_joined words e 0 blank blank_is after semicolon (ended words us a j)))
 
   items_joined : {assignments : Bool} {ns : List Node} (is : AreModuleItems assignments ns) (g : Gap) → IsGap g → Joined (items_tokens is g)
   unfolding punctuators

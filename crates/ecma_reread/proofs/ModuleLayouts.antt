@@ -201,8 +201,8 @@ item_laid (modules.export_declaration at {s = s} is d) g us =
 item_laid (modules.export_default at {e = e'} e) g us =
     ap (λ z. g.blanks ++ z)
     (sym (at_node at kind.ExportDefaultExpr (e' ∷ []) (At (free 0)) [] (render us)
-    ∙ (ap (λ z. codes "export default " ++ z) (expression_laid e (beginning 1 DefaultStart false) calm_default refl [] (sign_of (codes ";") us))
-    ∙ ap (λ z. codes "export default" ++ z) (sym (gap_out e blank (sign_of (codes ";") us))))))
+    ∙ (ap (λ z. codes "export default " ++ z) (expression_laid e (beginning 1 DefaultStart false) calm_default refl 0 (sign_of (codes ";") us))
+    ∙ ap (λ z. codes "export default" ++ z) (sym (gap_out e 0 blank (sign_of (codes ";") us))))))
 item_laid (modules.export_default_function at at' {name = i'} {function = f'} i f) g us =
     let fs = function_tokens f 0 us in
     ap (λ z. g.blanks ++ z)
@@ -229,7 +229,7 @@ item_laid (modules.import_require z at of is_export {id = id} {source = source} 
 item_laid (modules.export_assignment z at {level = level} {e = e'} e) g us =
     ap (λ z. g.blanks ++ z)
     (sym (at_node at kind.TsExportAssignment (e' ∷ []) (At (free 0)) [] (render us)
-    ∙ (ap (λ z. codes "export = " ++ z) (expression_laid e (free 0) (calm_0 level) refl [] (sign_of (codes ";") us)) ∙ ap (λ z. codes "export =" ++ z) (sym (gap_out e blank (sign_of (codes ";") us))))))
+    ∙ (ap (λ z. codes "export = " ++ z) (expression_laid e (free 0) (calm_0 level) refl 0 (sign_of (codes ";") us)) ∙ ap (λ z. codes "export =" ++ z) (sym (gap_out e 0 blank (sign_of (codes ";") us))))))
 
 lines_laid : {assignments : Bool} {ns : List Node} (is : AreModuleItems assignments ns) (g : Gap) → render (items_tokens is g) ≡ g.blanks ++ lines (map laid ns) [] []
 unfolding render

@@ -77,10 +77,10 @@ brace_ends : Ends (exactly (sign (codes "}")))
 unfolding factors terms shifts relations equalities assignments links chains.template_start functions.arrow_rest binding_ident
 brace_ends = refl
 
-ended : {role : Role} {ns : List Node} (is : AreProperties role ns) (us : Items) → Ended (more_properties_tokens is us)
+ended : {role : Role} {ns : List Node} (is : AreProperties role ns) (depth : ℕ) (us : Items) → Ended (more_properties_tokens is depth us)
 unfolding prop_start member_start signature
-ended shapes.no_properties us = record { front = exactly (sign (codes "}")); begins = at_token; ends = brace_ends; name = refl; no_colon = refl }
-ended (shapes.more_properties p ps) us = record { front = exactly (sign (codes ",")); begins = at_token; ends = comma_ends; name = refl; no_colon = refl }
+ended shapes.no_properties depth us = record { front = exactly (sign (codes "}")); begins = at_token; ends = brace_ends; name = refl; no_colon = refl }
+ended (shapes.more_properties p ps) depth us = record { front = exactly (sign (codes ",")); begins = at_token; ends = comma_ends; name = refl; no_colon = refl }
 
 no_property_at_brace : refuses_all (exactly (sign (codes "}"))) property ≡ true
 unfolding property spread getter_property setter_property method_property method_async prop_name computed_prop_name
@@ -117,22 +117,22 @@ on_line false f us h = ap (with_front []) h
 
 module _ (assigned : Bool) where
   -- what is said of the name, and of a property
-  abbrev NameForm : {n : Node} → IsPropertyName n → Type 0
-  NameForm (shapes.computed_name at e) = Stands assigned shapes.assignment (expression_tokens e) (expression_kind e) (expression_parts e)
-  NameForm k = Unit {0}
+  abbrev NameForm : {n : Node} → IsPropertyName n → ℕ → Type 0
+  NameForm (shapes.computed_name at e) depth = Stands assigned shapes.assignment (expression_tokens e depth) (expression_kind e) (expression_parts e)
+  NameForm k depth = Unit {0}
 
-  abbrev pub PropertyForm : {role : Role} {n : Node} → IsProperty role n → Type 0
-  PropertyForm (shapes.key_value at k v) = NameForm k × Stands assigned shapes.assignment (expression_tokens v) (expression_kind v) (expression_parts v)
-  PropertyForm (shapes.shorthand i) = Unit {0}
-  PropertyForm (shapes.initialized at i v) = Stands assigned shapes.assignment (expression_tokens v) (expression_kind v) (expression_parts v)
-  PropertyForm (shapes.renamed at k p) = NameForm k × ReadAsDefaulted assigned (defaulted_tokens p) (bare_defaulted p)
-  PropertyForm (shapes.named at at' i a v) = InitializerForm assigned v
-  PropertyForm (shapes.rest_property at at' i a b) = Unit {0}
-  PropertyForm (shapes.spread_property at e) = Stands assigned shapes.assignment (expression_tokens e) (expression_kind e) (expression_parts e)
+  abbrev pub PropertyForm : {role : Role} {n : Node} → IsProperty role n → ℕ → Type 0
+  PropertyForm (shapes.key_value at k v) depth = NameForm k depth × Stands assigned shapes.assignment (expression_tokens v depth) (expression_kind v) (expression_parts v)
+  PropertyForm (shapes.shorthand i) depth = Unit {0}
+  PropertyForm (shapes.initialized at i v) depth = Stands assigned shapes.assignment (expression_tokens v depth) (expression_kind v) (expression_parts v)
+  PropertyForm (shapes.renamed at k p) depth = NameForm k depth × ReadAsDefaulted assigned (defaulted_tokens p depth) (bare_defaulted p)
+  PropertyForm (shapes.named at at' i a v) depth = InitializerForm assigned v depth
+  PropertyForm (shapes.rest_property at at' i a b) depth = Unit {0}
+  PropertyForm (shapes.spread_property at e) depth = Stands assigned shapes.assignment (expression_tokens e depth) (expression_kind e) (expression_parts e)
 
-  abbrev pub PropertyForms : {role : Role} {ns : List Node} → AreProperties role ns → Type 0
-  PropertyForms shapes.no_properties = Unit {0}
-  PropertyForms (shapes.more_properties p ps) = PropertyForm p × PropertyForms ps
+  abbrev pub PropertyForms : {role : Role} {ns : List Node} → AreProperties role ns → ℕ → Type 0
+  PropertyForms shapes.no_properties depth = Unit {0}
+  PropertyForms (shapes.more_properties p ps) depth = PropertyForm p depth × PropertyForms ps depth
 
   -- names
 
@@ -140,13 +140,13 @@ module _ (assigned : Bool) where
   unfolding prop_name
   key_read w g us = refl
 
-  name_read : {n : Node} (is : IsPropertyName n) → NameForm is → (g : Gap) (us : Items) → Reads assigned prop_name (property_name_tokens is g us) (bare_property_name is ∷ []) us
+  name_read : {n : Node} (is : IsPropertyName n) (depth : ℕ) → NameForm is depth → (g : Gap) (us : Items) → Reads assigned prop_name (property_name_tokens is depth g us) (bare_property_name is ∷ []) us
   unfolding prop_name computed_prop_name
-  name_read (shapes.key_name k) F g us = refl
-  name_read (shapes.string_name at raw t) F g us = refl
-  name_read (shapes.number_name at raw t) F g us = refl
-  name_read (shapes.big_int_name at raw t) F g us = refl
-  name_read (shapes.computed_name at e) F g us = rw (used assigned F no_gap (s (codes "]") us) (exactly (sign (codes "]"))) at_token bracket_ends) refl
+  name_read (shapes.key_name k) depth F g us = refl
+  name_read (shapes.string_name at raw t) depth F g us = refl
+  name_read (shapes.number_name at raw t) depth F g us = refl
+  name_read (shapes.big_int_name at raw t) depth F g us = refl
+  name_read (shapes.computed_name at e) depth F g us = rw (used assigned F no_gap (s (codes "]") us) (exactly (sign (codes "]"))) at_token bracket_ends) refl
 
   record NoFunction (ts : Items) : Type 0 where
     pub no_getter : Refuses assigned getter_property ts
@@ -189,16 +189,16 @@ module _ (assigned : Bool) where
     unfolding getter_property setter_property method_property method_async
     other_no_function ts n a c d k h = record { no_getter = rw a refl; no_setter = rw c refl; no_method = rw (d, k, h, no_signature) refl }
 
-    no_function : {n : Node} (is : IsPropertyName n) → NameForm is → (g : Gap) → NoFunction (property_name_tokens is g us)
-    no_function (shapes.key_name k) F g = key_no_function (key_word k) g
-    no_function (shapes.string_name at raw t) F g = other_no_function (it g (items.string raw) us) _ refl refl refl refl (name_read (shapes.string_name at raw t) F g us)
-    no_function (shapes.number_name at raw t) F g = other_no_function (it g (items.number raw) us) _ refl refl refl refl (name_read (shapes.number_name at raw t) F g us)
-    no_function (shapes.big_int_name at raw t) F g = other_no_function (it g (items.big_int raw) us) _ refl refl refl refl (name_read (shapes.big_int_name at raw t) F g us)
-    no_function (shapes.computed_name at e) F g = other_no_function (property_name_tokens (shapes.computed_name at e) g us) _ refl refl refl refl (name_read (shapes.computed_name at e) F g us)
+    no_function : {n : Node} (is : IsPropertyName n) (depth : ℕ) → NameForm is depth → (g : Gap) → NoFunction (property_name_tokens is depth g us)
+    no_function (shapes.key_name k) depth F g = key_no_function (key_word k) g
+    no_function (shapes.string_name at raw t) depth F g = other_no_function (it g (items.string raw) us) _ refl refl refl refl (name_read (shapes.string_name at raw t) depth F g us)
+    no_function (shapes.number_name at raw t) depth F g = other_no_function (it g (items.number raw) us) _ refl refl refl refl (name_read (shapes.number_name at raw t) depth F g us)
+    no_function (shapes.big_int_name at raw t) depth F g = other_no_function (it g (items.big_int raw) us) _ refl refl refl refl (name_read (shapes.big_int_name at raw t) depth F g us)
+    no_function (shapes.computed_name at e) depth F g = other_no_function (property_name_tokens (shapes.computed_name at e) depth g us) _ refl refl refl refl (name_read (shapes.computed_name at e) depth F g us)
 
-  no_spread : {n : Node} (is : IsPropertyName n) (g : Gap) (us : Items) → Refuses assigned (punct (codes "...")) (property_name_tokens is g us)
-  no_spread (shapes.key_name k) g us = refl
-  no_spread is g us = refl
+  no_spread : {n : Node} (is : IsPropertyName n) (depth : ℕ) (g : Gap) (us : Items) → Refuses assigned (punct (codes "...")) (property_name_tokens is depth g us)
+  no_spread (shapes.key_name k) depth g us = refl
+  no_spread is depth g us = refl
 
   -- the other alternatives
 
@@ -216,21 +216,21 @@ module _ (assigned : Bool) where
       ap (or_on (I (getter_property // setter_property // method_property // others)) ts) (ap (built_on (form.Node plain.SpreadElement)) (ap (followed_on (I assign)) a))
       ∙ (ap (or_on (I (setter_property // method_property // others)) ts) N.no_getter ∙ (ap (or_on (I (method_property // others)) ts) N.no_setter ∙ (ap (or_on (I others) ts) N.no_method ∙ h)))
 
-  property_read : {n : Node} (is : IsProperty shapes.values n) → PropertyForm is → (g : Gap) (us : Items) → Ended us → Reads assigned property (property_tokens is g us) (bare_property is ∷ []) us
+  property_read : {n : Node} (is : IsProperty shapes.values n) (depth : ℕ) → PropertyForm is depth → (g : Gap) (us : Items) → Ended us → Reads assigned property (property_tokens is depth g us) (bare_property is ∷ []) us
   unfolding property spread
-  property_read (shapes.key_value at k v) F g us E =
-      let vs = expression_tokens v blank us in
-      let ts = property_name_tokens k g (s (codes ":") vs) in
-      behind_functions ts us _ (no_spread k g (s (codes ":") vs)) (no_function (s (codes ":") vs) (exactly (sign (codes ":"))) at_token colon_ends_name k F.0 g)
-      (rw (name_read k F.0 g (s (codes ":") vs), used assigned F.1 blank us E.front E.begins E.ends) refl)
-  property_read (shapes.shorthand (ident at w i)) F g us E =
+  property_read (shapes.key_value at k v) depth F g us E =
+      let vs = expression_tokens v depth blank us in
+      let ts = property_name_tokens k depth g (s (codes ":") vs) in
+      behind_functions ts us _ (no_spread k depth g (s (codes ":") vs)) (no_function (s (codes ":") vs) (exactly (sign (codes ":"))) at_token colon_ends_name k depth F.0 g)
+      (rw (name_read k depth F.0 g (s (codes ":") vs), used assigned F.1 blank us E.front E.begins E.ends) refl)
+  property_read (shapes.shorthand (ident at w i)) depth F g us E =
       let no_equals = refused_at assigned (means assigned) (punct (codes "=")) E.front us E.begins (ends_no_equals E.front E.ends) in
       let no_colon = refused_at assigned (means assigned) (punct (codes ":")) E.front us E.begins E.no_colon in
       behind_functions (it g (items.key w) us) us _ refl (key_no_function us E.front E.begins E.name w g) (rw (key_read w g us, no_colon, i.free, no_equals, i.free) refl)
-  property_read (shapes.initialized at (ident at' w i) v) F g us E =
-      let vs = it blank (sign (codes "=")) (expression_tokens v blank us) in
+  property_read (shapes.initialized at (ident at' w i) v) depth F g us E =
+      let vs = it blank (sign (codes "=")) (expression_tokens v depth blank us) in
       behind_functions (it g (items.key w) vs) us _ refl (key_no_function vs (exactly (sign (codes "="))) at_token equals_ends_name w g) (rw (key_read w g vs, i.free, used assigned F blank us E.front E.begins E.ends) refl)
-  property_read (shapes.spread_property at e) F g us E = rw (used assigned F no_gap us E.front E.begins E.ends) refl
+  property_read (shapes.spread_property at e) depth F g us E = rw (used assigned F no_gap us E.front E.begins E.ends) refl
 
   -- as an object
 
@@ -238,18 +238,18 @@ module _ (assigned : Bool) where
   unfolding property spread getter_property setter_property method_property method_async prop_name computed_prop_name signature params param rest_pattern default_value names.block
   property_eats = refl
 
-  more_properties_read : {ns : List Node} (is : AreProperties shapes.values ns) → PropertyForms is → (us : Items) → Repeats assigned (more property) (more_properties_tokens is us) (bare_properties is) (it blank (sign (codes "}")) us)
-  more_properties_read shapes.no_properties F us = repeats_end assigned (more property) (it blank (sign (codes "}")) us) refl
-  more_properties_read (shapes.more_properties p ps) F us =
-      let vs = more_properties_tokens ps us in
-      repeats_more assigned (more property) property_eats _ vs (it blank (sign (codes "}")) us) (bare_property p ∷ []) (bare_properties ps) (ap (with_front []) (property_read p F.0 blank vs (ended ps us))) (more_properties_read ps F.1 us)
+  more_properties_read : {ns : List Node} (is : AreProperties shapes.values ns) (depth : ℕ) → PropertyForms is depth → (us : Items) → Repeats assigned (more property) (more_properties_tokens is depth us) (bare_properties is) (it blank (sign (codes "}")) us)
+  more_properties_read shapes.no_properties depth F us = repeats_end assigned (more property) (it blank (sign (codes "}")) us) refl
+  more_properties_read (shapes.more_properties p ps) depth F us =
+      let vs = more_properties_tokens ps depth us in
+      repeats_more assigned (more property) property_eats _ vs (it blank (sign (codes "}")) us) (bare_property p ∷ []) (bare_properties ps) (ap (with_front []) (property_read p depth F.0 blank vs (ended ps depth us))) (more_properties_read ps depth F.1 us)
 
-  object_read : {ns : List Node} (is : AreProperties shapes.values ns) → PropertyForms is → (g : Gap) (us : Items) → Reads assigned object (it g (sign (codes "{")) (properties_tokens is us)) (bare kind.ObjectLit (list_node (bare_properties is) ∷ []) ∷ []) us
+  object_read : {ns : List Node} (is : AreProperties shapes.values ns) (depth : ℕ) → PropertyForms is depth → (g : Gap) (us : Items) → Reads assigned object (it g (sign (codes "{")) (properties_tokens is depth us)) (bare kind.ObjectLit (list_node (bare_properties is) ∷ []) ∷ []) us
   unfolding object
-  object_read shapes.no_properties F g us = rw (all_refused assigned property (exactly (sign (codes "}"))) (s (codes "}") us) at_token no_property_at_brace) refl
-  object_read (shapes.more_properties p ps) F g us =
-      let vs = more_properties_tokens ps us in
-      rw (property_read p F.0 blank vs (ended ps us), repeated assigned (more property) vs (it blank (sign (codes "}")) us) (bare_properties ps) (more_properties_read ps F.1 us), append-nil (bare_properties ps)) refl
+  object_read shapes.no_properties depth F g us = rw (all_refused assigned property (exactly (sign (codes "}"))) (s (codes "}") us) at_token no_property_at_brace) refl
+  object_read (shapes.more_properties p ps) depth F g us =
+      let vs = more_properties_tokens ps depth us in
+      rw (property_read p depth F.0 blank vs (ended ps depth us), repeated assigned (more property) vs (it blank (sign (codes "}")) us) (bare_properties ps) (more_properties_read ps depth F.1 us), append-nil (bare_properties ps)) refl
 
   -- as a pattern of properties
 
@@ -278,31 +278,31 @@ module _ (assigned : Bool) where
     key_named true w r g us = item_refused (rw r refl) (exactly (items.key w)) at_token refl
     key_named false w r g us = item_before (bare kind.AssignPatProp (bare kind.BindingIdent (bare (kind.Ident w 0 false) [] ∷ absent ∷ []) ∷ absent ∷ []) ∷ []) colon (exactly (sign (codes ":"))) at_token refl (rw r refl)
 
-    name_named : {n : Node} (is : IsPropertyName n) (g : Gap) (us : Items) → AsItem assigned by_own_name (property_name_tokens is g colon) us
+    name_named : {n : Node} (is : IsPropertyName n) (depth : ℕ) (g : Gap) (us : Items) → AsItem assigned by_own_name (property_name_tokens is depth g colon) us
     unfolding binding_ident
-    name_named (shapes.key_name k) g us = key_named (is_reserved (key_word k)) (key_word k) refl g us
-    name_named (shapes.string_name at raw t) g us = item_refused refl (exactly (items.string raw)) at_token refl
-    name_named (shapes.number_name at raw t) g us = item_refused refl (exactly (items.number raw)) at_token refl
-    name_named (shapes.big_int_name at raw t) g us = item_refused refl (exactly (items.big_int raw)) at_token refl
-    name_named (shapes.computed_name at e) g us = item_refused refl (exactly (sign (codes "["))) at_token refl
+    name_named (shapes.key_name k) depth g us = key_named (is_reserved (key_word k)) (key_word k) refl g us
+    name_named (shapes.string_name at raw t) depth g us = item_refused refl (exactly (items.string raw)) at_token refl
+    name_named (shapes.number_name at raw t) depth g us = item_refused refl (exactly (items.number raw)) at_token refl
+    name_named (shapes.big_int_name at raw t) depth g us = item_refused refl (exactly (items.big_int raw)) at_token refl
+    name_named (shapes.computed_name at e) depth g us = item_refused refl (exactly (sign (codes "["))) at_token refl
 
     -- with what its value is as a pattern
-    name_renamed : {n : Node} (is : IsPropertyName n) → NameForm is → (g : Gap) (us : Items) → AsItem assigned (defaulted assigned) vs us → AsItem assigned (by_other_name // by_own_name) (property_name_tokens is g colon) us
-    name_renamed is F g us p =
+    name_renamed : {n : Node} (is : IsPropertyName n) (depth : ℕ) → NameForm is depth → (g : Gap) (us : Items) → AsItem assigned (defaulted assigned) vs us → AsItem assigned (by_other_name // by_own_name) (property_name_tokens is depth g colon) us
+    name_renamed is depth F g us p =
         let I = interp assigned (means assigned) in
-        let ts = property_name_tokens is g colon in
+        let ts = property_name_tokens is depth g colon in
         let n = bare_property_name is in
         let step : (o : Out) → I (defaulted assigned) vs ≡ o → I by_other_name ts ≡ built_on (form.Node plain.KeyValuePatProp) (with_front (n ∷ []) (with_front [] o)) =
-        λ o h. ap (built_on (form.Node plain.KeyValuePatProp)) (ap (followed_on (I (punct (codes ":") ▸ defaulted assigned))) (name_read is F g colon) ∙ ap (λ x. with_front (n ∷ []) (with_front [] x)) h) in
-        by_value is g us step p
+        λ o h. ap (built_on (form.Node plain.KeyValuePatProp)) (ap (followed_on (I (punct (codes ":") ▸ defaulted assigned))) (name_read is depth F g colon) ∙ ap (λ x. with_front (n ∷ []) (with_front [] x)) h) in
+        by_value is depth g us step p
       where
-        by_value : {n : Node} (is : IsPropertyName n) (g : Gap) (us : Items)
-            → ((o : Out) → interp assigned (means assigned) (defaulted assigned) vs ≡ o → interp assigned (means assigned) by_other_name (property_name_tokens is g colon) ≡ built_on (form.Node plain.KeyValuePatProp) (with_front (bare_property_name is ∷ []) (with_front [] o)))
-            → AsItem assigned (defaulted assigned) vs us → AsItem assigned (by_other_name // by_own_name) (property_name_tokens is g colon) us
-        by_value is g us step (item_refused h e b z) =
-            same_item assigned (by_other_name // by_own_name) by_own_name (property_name_tokens is g colon) us (ap (or_on (interp assigned (means assigned) by_own_name) (property_name_tokens is g colon)) (step fails h)) (name_named is g us)
-        by_value is g us step (whole_item xs h) = whole_item _ (ap (or_on (interp assigned (means assigned) by_own_name) (property_name_tokens is g colon)) (step (read xs us) h))
-        by_value is g us step (item_before xs ws e b z h) = item_before _ ws e b z (ap (or_on (interp assigned (means assigned) by_own_name) (property_name_tokens is g colon)) (step (read xs ws) h))
+        by_value : {n : Node} (is : IsPropertyName n) (depth : ℕ) (g : Gap) (us : Items)
+            → ((o : Out) → interp assigned (means assigned) (defaulted assigned) vs ≡ o → interp assigned (means assigned) by_other_name (property_name_tokens is depth g colon) ≡ built_on (form.Node plain.KeyValuePatProp) (with_front (bare_property_name is ∷ []) (with_front [] o)))
+            → AsItem assigned (defaulted assigned) vs us → AsItem assigned (by_other_name // by_own_name) (property_name_tokens is depth g colon) us
+        by_value is depth g us step (item_refused h e b z) =
+            same_item assigned (by_other_name // by_own_name) by_own_name (property_name_tokens is depth g colon) us (ap (or_on (interp assigned (means assigned) by_own_name) (property_name_tokens is depth g colon)) (step fails h)) (name_named is depth g us)
+        by_value is depth g us step (whole_item xs h) = whole_item _ (ap (or_on (interp assigned (means assigned) by_own_name) (property_name_tokens is depth g colon)) (step (read xs us) h))
+        by_value is depth g us step (item_before xs ws e b z h) = item_before _ ws e b z (ap (or_on (interp assigned (means assigned) by_own_name) (property_name_tokens is depth g colon)) (step (read xs ws) h))
 
   -- a name that no `:` follows
   named_read : (w : List ℕ) (g : Gap) (vs us : Items) (xs : List Node) → is_reserved w ≡ false → Refuses assigned (punct (codes ":")) vs → Reads assigned (maybe (punct (codes "=") ▸ assign)) vs xs us
@@ -323,21 +323,21 @@ module _ (assigned : Bool) where
       stopped assigned pattern_property dots us vs (bare kind.RestPat (xs ++ flag_node Absent ∷ []) ∷ [])
       (ap (or_on (I (by_other_name // by_own_name)) dots) (ap (built_on (form.Node plain.RestPat)) (ap (with_front []) (ap (followed_on (I (put Absent))) h)))) st
 
-  property_tried : {n : Node} (is : IsProperty shapes.values n) → PropertyForm is → (g : Gap) (us : Items) → Ended us → AsItem assigned pattern_property (property_tokens is g us) us
-  property_tried (shapes.key_value at k v) F g us E =
-      let vs = expression_tokens v blank us in
+  property_tried : {n : Node} (is : IsProperty shapes.values n) (depth : ℕ) → PropertyForm is depth → (g : Gap) (us : Items) → Ended us → AsItem assigned pattern_property (property_tokens is depth g us) us
+  property_tried (shapes.key_value at k v) depth F g us E =
+      let vs = expression_tokens v depth blank us in
       let V = F.1 in
-      behind_rest (property_name_tokens k g (s (codes ":") vs)) us (no_spread k g (s (codes ":") vs))
-      (name_renamed vs k F.0 g us (defaulted_pattern assigned vs us (as_pattern assigned vs us (no_rest assigned V.lead blank us) (V.param blank us E.front E.begins (ends_no_equals E.front E.ends, E.ends)))))
-  property_tried (shapes.shorthand (ident at w i)) F g us E =
+      behind_rest (property_name_tokens k depth g (s (codes ":") vs)) us (no_spread k depth g (s (codes ":") vs))
+      (name_renamed vs k depth F.0 g us (defaulted_pattern assigned vs us (as_pattern assigned vs us (no_rest assigned V.lead blank us) (V.param blank us E.front E.begins (ends_no_equals E.front E.ends, E.ends)))))
+  property_tried (shapes.shorthand (ident at w i)) depth F g us E =
       let no_equals = refused_at assigned (means assigned) (punct (codes "=")) E.front us E.begins (ends_no_equals E.front E.ends) in
       let no_colon = refused_at assigned (means assigned) (punct (codes ":")) E.front us E.begins E.no_colon in
       behind_rest (it g (items.key w) us) us refl (whole_item _ (named_read w g us us (absent ∷ []) i.free no_colon (rw no_equals refl)))
-  property_tried (shapes.initialized at (ident at' w i) v) F g us E =
-      let vs = it blank (sign (codes "=")) (expression_tokens v blank us) in
+  property_tried (shapes.initialized at (ident at' w i) v) depth F g us E =
+      let vs = it blank (sign (codes "=")) (expression_tokens v depth blank us) in
       behind_rest (it g (items.key w) vs) us refl (whole_item _ (named_read w g vs us (bare_expression v ∷ []) i.free refl (rw (used assigned F blank us E.front E.begins E.ends) refl)))
-  property_tried (shapes.spread_property at e) F g us E =
-      let ts = expression_tokens e no_gap us in
+  property_tried (shapes.spread_property at e) depth F g us E =
+      let ts = expression_tokens e depth no_gap us in
       by_name g ts us (as_name assigned ts us (as_pattern assigned ts us (no_rest assigned F.lead no_gap us) (F.param no_gap us E.front E.begins (ends_no_equals E.front E.ends, E.ends))))
 
   -- `}` ends them, or does not stand there
@@ -361,14 +361,14 @@ module _ (assigned : Bool) where
   lasts : (us : Items) → Lasts assigned pattern_property (Last us)
   lasts us = closing assigned pattern_property (Braced us) pattern_eats (λ ts e b z. no_brace (never ts e b z))
 
-  more_properties_tried : {ns : List Node} (is : AreProperties shapes.values ns) → PropertyForms is → (us : Items) → Further assigned pattern_property (Last us) (more_properties_tokens is us)
-  more_properties_tried shapes.no_properties F us =
+  more_properties_tried : {ns : List Node} (is : AreProperties shapes.values ns) (depth : ℕ) → PropertyForms is depth → (us : Items) → Further assigned pattern_property (Last us) (more_properties_tokens is depth us)
+  more_properties_tried shapes.no_properties depth F us =
       let end = it blank (sign (codes "}")) us in
       let brace = exactly (sign (codes "}")) in
       further_end assigned pattern_property (Last us) end brace at_token refl (no_comma assigned (Braced us) end brace at_token refl (at_brace refl))
-  more_properties_tried (shapes.more_properties p ps) F us =
-      let vs = more_properties_tokens ps us in
-      further_more assigned pattern_property (Last us) (lasts us) no_gap (property_tokens p blank vs) vs (property_tried p F.0 blank vs (ended ps us)) (more_properties_tried ps F.1 us)
+  more_properties_tried (shapes.more_properties p ps) depth F us =
+      let vs = more_properties_tokens ps depth us in
+      further_more assigned pattern_property (Last us) (lasts us) no_gap (property_tokens p depth blank vs) vs (property_tried p depth F.0 blank vs (ended ps depth us)) (more_properties_tried ps depth F.1 us)
 
   abbrev behind_brace : Grammar
   behind_brace = list (commas pattern_property) ▸ punct (codes "}") ▸ put Absent
@@ -416,50 +416,50 @@ module _ (assigned : Bool) where
         ∙ ap (with_front (list_node [] ∷ [])) (ap (followed_on (I (put Absent))) (never ts e b c.1)))
     by_list (some_listed xs vs h F) = some_tried xs vs h F (let l = F.last in l.closed)
 
-  properties_tried : {ns : List Node} (is : AreProperties shapes.values ns) → PropertyForms is → (g : Gap) (us : Items) → Wholly assigned (it g (sign (codes "{")) (properties_tokens is us)) us
-  properties_tried shapes.no_properties F g us =
+  properties_tried : {ns : List Node} (is : AreProperties shapes.values ns) (depth : ℕ) → PropertyForms is depth → (g : Gap) (us : Items) → Wholly assigned (it g (sign (codes "{")) (properties_tokens is depth us)) us
+  properties_tried shapes.no_properties depth F g us =
       pattern_whole g (s (codes "}") us) us (list_node [] ∷ flag_node Absent ∷ []) (rw (all_refused assigned pattern_property (exactly (sign (codes "}"))) (s (codes "}") us) at_token no_pattern_at_brace) refl)
-  properties_tried (shapes.more_properties p ps) F g us =
-      let vs = more_properties_tokens ps us in
-      by_list g (property_tokens p blank vs) us (listed assigned pattern_property (Last us) (lasts us) (property_tokens p blank vs) vs (property_tried p F.0 blank vs (ended ps us)) (more_properties_tried ps F.1 us))
+  properties_tried (shapes.more_properties p ps) depth F g us =
+      let vs = more_properties_tokens ps depth us in
+      by_list g (property_tokens p depth blank vs) us (listed assigned pattern_property (Last us) (lasts us) (property_tokens p depth blank vs) vs (property_tried p depth F.0 blank vs (ended ps depth us)) (more_properties_tried ps depth F.1 us))
 
-  pub object_new : {ns : List Node} (is : AreProperties shapes.values ns) → PropertyForms is → NewForm assigned (λ g us. it g (sign (codes "{")) (properties_tokens is us)) kind.ObjectLit (list_node (bare_properties is) ∷ [])
-  object_new is F = literal_new assigned brace (properties_tokens is) kind.ObjectLit (list_node (bare_properties is) ∷ []) (object_read is F) (properties_tried is F)
+  pub object_new : {ns : List Node} (is : AreProperties shapes.values ns) (depth : ℕ) → PropertyForms is depth → NewForm assigned (λ g us. it g (sign (codes "{")) (properties_tokens is depth us)) kind.ObjectLit (list_node (bare_properties is) ∷ [])
+  object_new is depth F = literal_new assigned brace (properties_tokens is depth) kind.ObjectLit (list_node (bare_properties is) ∷ []) (object_read is depth F) (properties_tried is depth F)
 
   -- an object pattern
 
-  pattern_property_read : {n : Node} (is : IsProperty shapes.bindings n) → PropertyForm is → (g : Gap) (us : Items) → Ended us → Reads assigned pattern_property (property_tokens is g us) (bare_property is ∷ []) us
+  pattern_property_read : {n : Node} (is : IsProperty shapes.bindings n) (depth : ℕ) → PropertyForm is depth → (g : Gap) (us : Items) → Ended us → Reads assigned pattern_property (property_tokens is depth g us) (bare_property is ∷ []) us
   unfolding pattern_property binding_ident
-  pattern_property_read (shapes.renamed at k p) F g us E =
+  pattern_property_read (shapes.renamed at k p) depth F g us E =
       let I = interp assigned (means assigned) in
-      let vs = defaulted_tokens p blank us in
+      let vs = defaulted_tokens p depth blank us in
       let D = F.1 in
-      ap (or_on (I (by_other_name // by_own_name)) (property_name_tokens k g (s (codes ":") vs))) (ap (built_on (form.Node plain.RestPat)) (ap (followed_on (I (binding_ident ▸ put Absent))) (no_spread k g (s (codes ":") vs))))
-      ∙ rw (name_read k F.0 g (s (codes ":") vs), D.reads blank us (record { front = E.front; begins = E.begins; ends = E.ends })) refl
-  pattern_property_read (shapes.named at at' (ident of w i) a v) F g us E =
-      named_read w g (initializer_tokens v us) us (bare_initializer v ∷ []) i.free (no_colon_behind v us E) (initializer_read assigned false v F us (record { front = E.front; begins = E.begins; ends = E.ends }))
+      ap (or_on (I (by_other_name // by_own_name)) (property_name_tokens k depth g (s (codes ":") vs))) (ap (built_on (form.Node plain.RestPat)) (ap (followed_on (I (binding_ident ▸ put Absent))) (no_spread k depth g (s (codes ":") vs))))
+      ∙ rw (name_read k depth F.0 g (s (codes ":") vs), D.reads blank us (record { front = E.front; begins = E.begins; ends = E.ends })) refl
+  pattern_property_read (shapes.named at at' (ident of w i) a v) depth F g us E =
+      named_read w g (initializer_tokens v depth us) us (bare_initializer v ∷ []) i.free (no_colon_behind v depth us E) (initializer_read assigned false v depth F us (record { front = E.front; begins = E.begins; ends = E.ends }))
     where
-      no_colon_behind : {n : Node} (v : IsInitializer n) (us : Items) → Ended us → Refuses assigned (punct (codes ":")) (initializer_tokens v us)
-      no_colon_behind (shapes.no_initializer a) us E = refused_at assigned (means assigned) (punct (codes ":")) E.front us E.begins E.no_colon
-      no_colon_behind (shapes.initializer e) us E = refl
-  pattern_property_read (shapes.rest_property at at' (ident of w i) a b) F g us E = rw i.free refl
+      no_colon_behind : {n : Node} (v : IsInitializer n) (depth : ℕ) (us : Items) → Ended us → Refuses assigned (punct (codes ":")) (initializer_tokens v depth us)
+      no_colon_behind (shapes.no_initializer a) depth us E = refused_at assigned (means assigned) (punct (codes ":")) E.front us E.begins E.no_colon
+      no_colon_behind (shapes.initializer e) depth us E = refl
+  pattern_property_read (shapes.rest_property at at' (ident of w i) a b) depth F g us E = rw i.free refl
 
-  more_pattern_properties_read : {ns : List Node} (is : AreProperties shapes.bindings ns) → PropertyForms is → (us : Items) → Repeats assigned (more pattern_property) (more_properties_tokens is us) (bare_properties is) (it blank (sign (codes "}")) us)
-  more_pattern_properties_read shapes.no_properties F us = repeats_end assigned (more pattern_property) (it blank (sign (codes "}")) us) refl
-  more_pattern_properties_read (shapes.more_properties p ps) F us =
-      let vs = more_properties_tokens ps us in
-      repeats_more assigned (more pattern_property) pattern_eats _ vs (it blank (sign (codes "}")) us) (bare_property p ∷ []) (bare_properties ps) (ap (with_front []) (pattern_property_read p F.0 blank vs (ended ps us))) (more_pattern_properties_read ps F.1 us)
+  more_pattern_properties_read : {ns : List Node} (is : AreProperties shapes.bindings ns) (depth : ℕ) → PropertyForms is depth → (us : Items) → Repeats assigned (more pattern_property) (more_properties_tokens is depth us) (bare_properties is) (it blank (sign (codes "}")) us)
+  more_pattern_properties_read shapes.no_properties depth F us = repeats_end assigned (more pattern_property) (it blank (sign (codes "}")) us) refl
+  more_pattern_properties_read (shapes.more_properties p ps) depth F us =
+      let vs = more_properties_tokens ps depth us in
+      repeats_more assigned (more pattern_property) pattern_eats _ vs (it blank (sign (codes "}")) us) (bare_property p ∷ []) (bare_properties ps) (ap (with_front []) (pattern_property_read p depth F.0 blank vs (ended ps depth us))) (more_pattern_properties_read ps depth F.1 us)
 
-  behind_brace_read : {ns : List Node} (is : AreProperties shapes.bindings ns) → PropertyForms is → (us : Items) → Reads assigned behind_brace (properties_tokens is us) (list_node (bare_properties is) ∷ absent ∷ []) us
-  behind_brace_read shapes.no_properties F us = rw (all_refused assigned pattern_property (exactly (sign (codes "}"))) (s (codes "}") us) at_token no_pattern_at_brace) refl
-  behind_brace_read (shapes.more_properties p ps) F us =
-      let vs = more_properties_tokens ps us in
-      rw (pattern_property_read p F.0 blank vs (ended ps us), repeated assigned (more pattern_property) vs (it blank (sign (codes "}")) us) (bare_properties ps) (more_pattern_properties_read ps F.1 us), append-nil (bare_properties ps)) refl
+  behind_brace_read : {ns : List Node} (is : AreProperties shapes.bindings ns) (depth : ℕ) → PropertyForms is depth → (us : Items) → Reads assigned behind_brace (properties_tokens is depth us) (list_node (bare_properties is) ∷ absent ∷ []) us
+  behind_brace_read shapes.no_properties depth F us = rw (all_refused assigned pattern_property (exactly (sign (codes "}"))) (s (codes "}") us) at_token no_pattern_at_brace) refl
+  behind_brace_read (shapes.more_properties p ps) depth F us =
+      let vs = more_properties_tokens ps depth us in
+      rw (pattern_property_read p depth F.0 blank vs (ended ps depth us), repeated assigned (more pattern_property) vs (it blank (sign (codes "}")) us) (bare_properties ps) (more_pattern_properties_read ps depth F.1 us), append-nil (bare_properties ps)) refl
 
-  pub object_pattern_read : {ns : List Node} (is : AreProperties shapes.bindings ns) → PropertyForms is
-      → ReadAsPattern assigned (λ g us. it g (sign (codes "{")) (properties_tokens is us)) (bare (kind.ObjectPat false) (list_node (bare_properties is) ∷ absent ∷ []))
-  object_pattern_read is F = record {
-    reads = λ g us. pattern_is g (properties_tokens is us) us ∙ ap (λ o. built_on (form.Node plain.ObjectPat) (with_front [] o)) (behind_brace_read is F us);
+  pub object_pattern_read : {ns : List Node} (is : AreProperties shapes.bindings ns) (depth : ℕ) → PropertyForms is depth
+      → ReadAsPattern assigned (λ g us. it g (sign (codes "{")) (properties_tokens is depth us)) (bare (kind.ObjectPat false) (list_node (bare_properties is) ∷ absent ∷ []))
+  object_pattern_read is depth F = record {
+    reads = λ g us. pattern_is g (properties_tokens is depth us) us ∙ ap (λ o. built_on (form.Node plain.ObjectPat) (with_front [] o)) (behind_brace_read is depth F us);
     annotated = simp nodes;
     no_dots = λ g us. refl;
   }

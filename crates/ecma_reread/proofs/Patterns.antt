@@ -1,5 +1,5 @@
 -- Names as patterns, and patterns with default values, are read as they are laid out.
-use Rattle.std.proofs.Common.{◌≡◌, Bool, false, List, [], ◌∷◌, codes, refl, ap, ◌∙◌}
+use Rattle.std.proofs.Common.{ℕ, ◌≡◌, Bool, false, List, [], ◌∷◌, codes, refl, ap, ◌∙◌}
 use Rattle.ecma_kind.specs.declared.kind.Kind.{Kind}
 use Rattle.ecma_kind.specs.declared.kind.Kind.TheVariants as kind
 use Rattle.ecma_tree.specs.declared.node.Node.{Node}
@@ -85,12 +85,12 @@ module _ (assigned : Bool) where
     }
 
   -- a parameter
-  pub param_read : {n : Node} (is : IsElement shapes.bindings n) → ElementForm assigned is → (g : Gap) (us : Items) → Followed us → Reads assigned param (element_tokens is g us) (bare_element is ∷ []) us
+  pub param_read : {n : Node} (is : IsElement shapes.bindings n) (depth : ℕ) → ElementForm assigned is depth → (g : Gap) (us : Items) → Followed us → Reads assigned param (element_tokens is depth g us) (bare_element is ∷ []) us
   unfolding rest_pattern
-  param_read (shapes.bound p) D g us w = D.as_param g us w
-  param_read (shapes.rest at p a) P g us w =
+  param_read (shapes.bound p) depth D g us w = D.as_param g us w
+  param_read (shapes.rest at p a) depth P g us w =
       let I = interp assigned (means assigned) in
-      let ts = it g (sign (codes "...")) (pattern_tokens p no_gap us) in
+      let ts = it g (sign (codes "...")) (pattern_tokens p depth no_gap us) in
       let n = bare kind.RestPat (bare_pattern p ∷ absent ∷ []) in
       let found : Reads assigned rest_pattern ts (n ∷ []) us = rw (P.reads no_gap us) refl in
       param_is assigned ts

@@ -28,79 +28,79 @@ use Rattle.ecma_reread.proofs.HeadForms.{head_form}
 use Rattle.ecma_reread.proofs.Braces.{braces_agree}
 
 module _ (assigned : Bool) where
-  pub declarator_form : {n : Node} (is : IsDeclarator n) → DeclaratorForm assigned is
-  declarator_form (shapes.declarator at p e) = (pattern_form assigned p, initializer_form assigned e)
+  pub declarator_form : {n : Node} (is : IsDeclarator n) (depth : ℕ) → DeclaratorForm assigned is depth
+  declarator_form (shapes.declarator at p e) depth = (pattern_form assigned p depth, initializer_form assigned e depth)
 
-  pub declarator_forms : {ds : List Node} (is : AreDeclarators ds) → DeclaratorForms assigned is
-  declarator_forms shapes.no_declarators = tt
-  declarator_forms (shapes.more_declarators d ds) = (declarator_form d, declarator_forms ds)
+  pub declarator_forms : {ds : List Node} (is : AreDeclarators ds) (depth : ℕ) → DeclaratorForms assigned is depth
+  declarator_forms shapes.no_declarators depth = tt
+  declarator_forms (shapes.more_declarators d ds) depth = (declarator_form d depth, declarator_forms ds depth)
 
-  optional_form : {n : Node} (is : IsOptional n) → OptionalForm assigned is
-  optional_form (shapes.left_out a) = tt
-  optional_form (shapes.given e) = standing assigned (expression_form assigned e)
+  optional_form : {n : Node} (is : IsOptional n) (depth : ℕ) → OptionalForm assigned is depth
+  optional_form (shapes.left_out a) depth = tt
+  optional_form (shapes.given e) depth = standing assigned (expression_form assigned e depth)
 
-  for_declarator_form : {n : Node} (is : IsForDeclarator n) → DeclaratorIn assigned true (as_declarator is)
-  for_declarator_form (shapes.for_declarator at p (shapes.no_initializer b) z) = (pattern_form assigned p, tt)
-  for_declarator_form (shapes.for_declarator at p (shapes.initializer e) z) = (pattern_form assigned p, head_form assigned e z)
+  for_declarator_form : {n : Node} (is : IsForDeclarator n) (depth : ℕ) → DeclaratorIn assigned true (as_declarator is) depth
+  for_declarator_form (shapes.for_declarator at p (shapes.no_initializer b) z) depth = (pattern_form assigned p depth, tt)
+  for_declarator_form (shapes.for_declarator at p (shapes.initializer e) z) depth = (pattern_form assigned p depth, head_form assigned e depth z)
 
-  for_declarator_forms : {ds : List Node} (is : AreForDeclarators ds) → DeclaratorsIn assigned true (as_declarators is)
-  for_declarator_forms shapes.no_for_declarators = tt
-  for_declarator_forms (shapes.more_for_declarators d ds) = (for_declarator_form d, for_declarator_forms ds)
+  for_declarator_forms : {ds : List Node} (is : AreForDeclarators ds) (depth : ℕ) → DeclaratorsIn assigned true (as_declarators is) depth
+  for_declarator_forms shapes.no_for_declarators depth = tt
+  for_declarator_forms (shapes.more_for_declarators d ds) depth = (for_declarator_form d depth, for_declarator_forms ds depth)
 
-  init_form : {n : Node} (is : IsForInit n) → InitForm assigned is
-  init_form (shapes.no_init a) = tt
-  init_form (shapes.init_declaration at of_list k d ds) = (for_declarator_form d, for_declarator_forms ds)
-  init_form (shapes.init_expression e z) = (standing assigned (expression_form assigned e), standing assigned (head_form assigned e z))
+  init_form : {n : Node} (is : IsForInit n) (depth : ℕ) → InitForm assigned is depth
+  init_form (shapes.no_init a) depth = tt
+  init_form (shapes.init_declaration at of_list k d ds) depth = (for_declarator_form d depth, for_declarator_forms ds depth)
+  init_form (shapes.init_expression e z) depth = (standing assigned (expression_form assigned e depth), standing assigned (head_form assigned e depth z))
 
-  in_form : {n : Node} (is : IsForLeft n) → ReadAsForLeft assigned (codes "in") (for_left_tokens is) (bare_for_left is)
-  in_form (shapes.for_binding at at' at'' k p a) = binding_left assigned (codes "in") k p (pattern_form assigned p)
-  in_form (shapes.for_target e z) = in_left assigned (expression_form assigned e) (head_form assigned e z)
+  in_form : {n : Node} (is : IsForLeft n) (depth : ℕ) → ReadAsForLeft assigned (codes "in") (for_left_tokens is depth) (bare_for_left is)
+  in_form (shapes.for_binding at at' at'' k p a) depth = binding_left assigned (codes "in") k p depth (pattern_form assigned p depth)
+  in_form (shapes.for_target e z) depth = in_left assigned (expression_form assigned e depth) (head_form assigned e depth z)
 
-  of_form : {n : Node} (is : IsForLeft n) → ReadAsForLeft assigned (codes "of") (for_left_tokens is) (bare_for_left is)
-  of_form (shapes.for_binding at at' at'' k p a) = binding_left assigned (codes "of") k p (pattern_form assigned p)
-  of_form (shapes.for_target e z) = of_left assigned (expression_form assigned e) (head_form assigned e z)
+  of_form : {n : Node} (is : IsForLeft n) (depth : ℕ) → ReadAsForLeft assigned (codes "of") (for_left_tokens is depth) (bare_for_left is)
+  of_form (shapes.for_binding at at' at'' k p a) depth = binding_left assigned (codes "of") k p depth (pattern_form assigned p depth)
+  of_form (shapes.for_target e z) depth = of_left assigned (expression_form assigned e depth) (head_form assigned e depth z)
 
-  pub heritage_form : {n : Node} (is : IsHeritage n) → HeritageForm assigned is
-  heritage_form (shapes.no_heritage a) = tt
-  heritage_form (shapes.heritage e) = expression_form assigned e
+  pub heritage_form : {n : Node} (is : IsHeritage n) (depth : ℕ) → HeritageForm assigned is depth
+  heritage_form (shapes.no_heritage a) depth = tt
+  heritage_form (shapes.heritage e) depth = expression_form assigned e depth
 
   mutual
     pub statement_form : {ending : Ending} {n : Node} (is : IsStatement ending n) (d : ℕ) → ReadAsStatement assigned ending (statement_tokens is d) (bare_statement is)
     statement_form (shapes.empty at) d = empty_form assigned
     statement_form (shapes.debugger_word at) d = debugger_form assigned
-    statement_form (shapes.throw at e) d = throw_form assigned (standing assigned (expression_form assigned e)) (λ us. no_new_line e us)
-    statement_form (shapes.return_value at e) d = return_value_form assigned (standing assigned (expression_form assigned e)) (λ us. no_new_line e us)
+    statement_form (shapes.throw at e) d = throw_form assigned (standing assigned (expression_form assigned e d)) (λ us. no_new_line e d us)
+    statement_form (shapes.return_value at e) d = return_value_form assigned (standing assigned (expression_form assigned e d)) (λ us. no_new_line e d us)
     statement_form (shapes.return_nothing at a) d = return_form assigned
     statement_form (shapes.break_nothing at a) d = break_form assigned
     statement_form (shapes.continue_nothing at a) d = continue_form assigned
-    statement_form (shapes.expression at e z) d = expression_statement_form assigned (standing assigned (expression_form assigned e)) (λ g us. ap taken (no_brace e (sym (braces_agree e) ∙ z) g us))
-    statement_form (shapes.declaration at at' k i is) d = declaration_form assigned k i is (declarator_form i) (declarator_forms is)
+    statement_form (shapes.expression at e z) d = expression_statement_form assigned (standing assigned (expression_form assigned e d)) (λ g us. ap taken (no_brace e d (sym (braces_agree e) ∙ z) g us))
+    statement_form (shapes.declaration at at' k i is) d = declaration_form assigned k i is d (declarator_form i d) (declarator_forms is d)
     statement_form (shapes.break_label at i) d = break_label_form assigned (ident_word i) (ident_free assigned i)
     statement_form (shapes.continue_label at i) d = continue_label_form assigned (ident_word i) (ident_free assigned i)
     statement_form (shapes.block b) d = block_statement assigned (block_form b d)
-    statement_form (shapes.if_only at e b a) d = if_form assigned (standing assigned (expression_form assigned e)) (statement_form b d)
-    statement_form (shapes.if_else at e b a) d = if_else_form assigned (standing assigned (expression_form assigned e)) (statement_form b d) (statement_form a d) (branch_gap (is_braced b) d)
-    statement_form (shapes.while_loop at e b) d = while_form assigned (standing assigned (expression_form assigned e)) (statement_form b d)
-    statement_form (shapes.do_loop at e b) d = do_form assigned (standing assigned (expression_form assigned e)) (statement_form b d) (branch_gap (is_braced b) d)
-    statement_form (shapes.switch_statement at at' {cs = cs'} e cs) d = switch_form assigned (standing assigned (expression_form assigned e)) (case_forms cs (suc d)) (closing_gap cs' d)
+    statement_form (shapes.if_only at e b a) d = if_form assigned (standing assigned (expression_form assigned e d)) (statement_form b d)
+    statement_form (shapes.if_else at e b a) d = if_else_form assigned (standing assigned (expression_form assigned e d)) (statement_form b d) (statement_form a d) (branch_gap (is_braced b) d)
+    statement_form (shapes.while_loop at e b) d = while_form assigned (standing assigned (expression_form assigned e d)) (statement_form b d)
+    statement_form (shapes.do_loop at e b) d = do_form assigned (standing assigned (expression_form assigned e d)) (statement_form b d) (branch_gap (is_braced b) d)
+    statement_form (shapes.switch_statement at at' {cs = cs'} e cs) d = switch_form assigned (standing assigned (expression_form assigned e d)) (case_forms cs (suc d)) (closing_gap cs' d)
     statement_form (shapes.try_catch at b c a) d = try_catch_form assigned (block_form b d) (catch_form c d)
     statement_form (shapes.try_finally at b a f) d = try_finally_form assigned (block_form b d) (block_form f d)
     statement_form (shapes.try_catch_finally at b c f) d = try_catch_finally_form assigned (block_form b d) (catch_form c d) (block_form f d)
-    statement_form (shapes.for_loop at i t u b) d = for_loop_form assigned (statement_form b d) i t u (init_form i) (optional_form t) (optional_form u)
-    statement_form (shapes.for_in at l e b) d = for_in_form assigned (statement_form b d) (in_form l) (standing assigned (expression_form assigned e))
-    statement_form (shapes.for_of at true l e b) d = for_await_form assigned (statement_form b d) (of_form l) (expression_form assigned e)
-    statement_form (shapes.for_of at false l e b) d = for_of_form assigned (statement_form b d) (of_form l) (expression_form assigned e)
-    statement_form (shapes.labeled at i b) d = labeled_form assigned (ident_word i) (ident_free assigned i) (standing assigned (expression_form assigned (shapes.name i))) (statement_form b d)
-    statement_form (shapes.function_statement at i (shapes.function_of at' at'' x y ps w b a a')) d = function_form assigned ps (argument_forms assigned ps) (block_form b d) x y (ident_word i) (ident_free assigned i)
-    statement_form (shapes.class_statement at i (shapes.class_of at' at'' at''' {ms = ms'} h ms a a')) d = class_form assigned (member_forms ms (suc d)) (closing_gap ms' d) h (heritage_form h) (ident_word i) (ident_free assigned i)
+    statement_form (shapes.for_loop at i t u b) d = for_loop_form assigned (statement_form b d) i t u d (init_form i d) (optional_form t d) (optional_form u d)
+    statement_form (shapes.for_in at l e b) d = for_in_form assigned (statement_form b d) (in_form l d) (standing assigned (expression_form assigned e d))
+    statement_form (shapes.for_of at true l e b) d = for_await_form assigned (statement_form b d) (of_form l d) (expression_form assigned e d)
+    statement_form (shapes.for_of at false l e b) d = for_of_form assigned (statement_form b d) (of_form l d) (expression_form assigned e d)
+    statement_form (shapes.labeled at i b) d = labeled_form assigned (ident_word i) (ident_free assigned i) (standing assigned (expression_form assigned (shapes.name i) d)) (statement_form b d)
+    statement_form (shapes.function_statement at i (shapes.function_of at' at'' x y ps w b a a')) d = function_form assigned ps d (argument_forms assigned ps d) (block_form b d) x y (ident_word i) (ident_free assigned i)
+    statement_form (shapes.class_statement at i (shapes.class_of at' at'' at''' {ms = ms'} h ms a a')) d = class_form assigned (member_forms ms (suc d)) (closing_gap ms' d) h d (heritage_form h d) (ident_word i) (ident_free assigned i)
 
     member_form_of : {n : Node} (is : IsMember n) (d : ℕ) → ReadAsMember assigned (member_tokens is d) (bare_member is)
     member_form_of (shapes.static_block at b) d = static_block_form assigned (block_form b d)
-    member_form_of (shapes.method at s (shapes.method_name at' w t z) (shapes.function_of at'' at''' x y ps ws b a a')) d = method_form assigned ps (argument_forms assigned ps) (block_form b d) s x y w z
-    member_form_of (shapes.class_constructor at at' at'' ps ws b) d = constructor_form assigned ps (argument_forms assigned ps) (block_form b d)
-    member_form_of (shapes.field at s k v a) d = field_form assigned v (initializer_form assigned v) s (key_word k)
-    member_form_of (shapes.accessor at at' at'' s b k ps ws body a a') d = accessor_form assigned ps (argument_forms assigned ps) (block_form body d) b (key_word k) s
-    member_form_of (shapes.private_field at at' s w t v a) d = private_field_form assigned v (initializer_form assigned v) s w t
+    member_form_of (shapes.method at s (shapes.method_name at' w t z) (shapes.function_of at'' at''' x y ps ws b a a')) d = method_form assigned ps d (argument_forms assigned ps d) (block_form b d) s x y w z
+    member_form_of (shapes.class_constructor at at' at'' ps ws b) d = constructor_form assigned ps d (argument_forms assigned ps d) (block_form b d)
+    member_form_of (shapes.field at s k v a) d = field_form assigned v d (initializer_form assigned v d) s (key_word k)
+    member_form_of (shapes.accessor at at' at'' s b k ps ws body a a') d = accessor_form assigned ps d (argument_forms assigned ps d) (block_form body d) b (key_word k) s
+    member_form_of (shapes.private_field at at' s w t v a) d = private_field_form assigned v d (initializer_form assigned v d) s w t
 
     pub member_forms : {ns : List Node} (is : AreMembers ns) (d : ℕ) → ReadAsMembers assigned (members_tokens is d) (bare_members is)
     member_forms shapes.no_members d = no_members_form assigned
@@ -110,7 +110,7 @@ module _ (assigned : Bool) where
     block_form (shapes.block_of at at' {ss = ss'} ss) d = braces_form assigned (statement_forms ss (suc d)) (closing_gap ss' d)
 
     case_of_form : {n : Node} (is : IsCase n) (d : ℕ) → ReadAsCase assigned (case_tokens is d) (bare_case is)
-    case_of_form (shapes.case_of at at' e ss) d = case_form assigned (standing assigned (expression_form assigned e)) (statement_forms ss (suc d))
+    case_of_form (shapes.case_of at at' e ss) d = case_form assigned (standing assigned (expression_form assigned e d)) (statement_forms ss (suc d))
     case_of_form (shapes.default_of at at' a ss) d = default_form assigned (statement_forms ss (suc d))
 
     case_forms : {cs : List Node} (is : AreCases cs) (d : ℕ) → ReadAsCases assigned (cases_tokens is d) (bare_cases is)
@@ -119,7 +119,7 @@ module _ (assigned : Bool) where
 
     catch_form : {n : Node} (is : IsCatch n) (d : ℕ) → ReadAsCatch assigned (catch_tokens is d) (bare_catch is)
     catch_form (shapes.catch_any at a b) d = catch_any_form assigned (block_form b d)
-    catch_form (shapes.catch_pattern at p b) d = catch_pattern_form assigned (block_form b d) p (pattern_form assigned p)
+    catch_form (shapes.catch_pattern at p b) d = catch_pattern_form assigned (block_form b d) p d (pattern_form assigned p d)
 
     statement_forms : {ss : List Node} (is : AreStatements ss) (d : ℕ) → ReadAsStatements assigned (lined_tokens is d) (bare_statements is)
     statement_forms shapes.no_statements d = no_statements_form assigned

@@ -50,7 +50,7 @@ function_word_apart true false g w us t = w t (items.key (codes "function"))
 function_word_apart false false g w us t = w t (items.key (codes "function"))
 
 pub statement_apart : {ending : Ending} {n : Node} (is : IsStatement ending n) (d : ℕ) (g : Gap) → Wide g → (us : Items) → Apart (statement_tokens is d g us)
-statement_apart (shapes.expression at e z) d g w us t = let b = begun e (sign_of (codes ";") us) in rw (b.is g) (w t b.first)
+statement_apart (shapes.expression at e z) d g w us t = let b = begun e d (sign_of (codes ";") us) in rw (b.is g) (w t b.first)
 statement_apart (shapes.declaration at at' k i is) d g w us t = w t (items.key (keyword k))
 statement_apart (shapes.empty at) d g w us t = w t (sign (codes ";"))
 statement_apart (shapes.debugger_word at) d g w us t = w t (items.key (codes "debugger"))
@@ -111,10 +111,10 @@ branch_apart true d u us t = refl
 branch_apart false d u us t = refl
 
 -- `(` in front of a pattern
-pattern_opening : {n : Node} (is : IsPattern n) (us : Items) → joins_next (sign (codes "(")) (pattern_tokens is no_gap us) ≡ true
+pattern_opening : {n : Node} (is : IsPattern n) (depth : ℕ) (us : Items) → joins_next (sign (codes "(")) (pattern_tokens is depth no_gap us) ≡ true
 unfolding punctuators
-pattern_opening (shapes.name_pattern at i a) us = refl
-pattern_opening is us = refl
+pattern_opening (shapes.name_pattern at i a) depth us = refl
+pattern_opening is depth us = refl
 
 method_apart : (s x y : Bool) (w : List ℕ) (g : Gap) → Wide g → (us : Items) → Apart (static_tokens s (λ h. method_tokens x y w h us) g)
 method_apart true x y w g a us t = a t (items.key (codes "static"))
@@ -128,19 +128,19 @@ field_apart true w g a us t = a t (items.key (codes "static"))
 field_apart false w g a us t = a t (items.key w)
 
 -- a word in front of a value, or of the end
-value_opens : {n : Node} (is : IsInitializer n) (w : List ℕ) (us : Items) → joins_next (items.key w) (initializer_tokens is (sign_of (codes ";") us)) ≡ true
-value_opens (shapes.no_initializer a) w us = refl
-value_opens (shapes.initializer e) w us = refl
+value_opens : {n : Node} (is : IsInitializer n) (depth : ℕ) (w : List ℕ) (us : Items) → joins_next (items.key w) (initializer_tokens is depth (sign_of (codes ";") us)) ≡ true
+value_opens (shapes.no_initializer a) depth w us = refl
+value_opens (shapes.initializer e) depth w us = refl
 
-private_value_opens : {n : Node} (is : IsInitializer n) (w : List ℕ) (us : Items) → joins_next (items.private_name w) (initializer_tokens is (sign_of (codes ";") us)) ≡ true
-private_value_opens (shapes.no_initializer a) w us = refl
-private_value_opens (shapes.initializer e) w us = refl
+private_value_opens : {n : Node} (is : IsInitializer n) (depth : ℕ) (w : List ℕ) (us : Items) → joins_next (items.private_name w) (initializer_tokens is depth (sign_of (codes ";") us)) ≡ true
+private_value_opens (shapes.no_initializer a) depth w us = refl
+private_value_opens (shapes.initializer e) depth w us = refl
 
 member_apart : {n : Node} (is : IsMember n) (d : ℕ) (g : Gap) → Wide g → (us : Items) → Apart (member_tokens is d g us)
 member_apart (shapes.static_block at b) d g w us t = w t (items.key (codes "static"))
 member_apart (shapes.method at s k f) d g w us t = method_apart s (is_generator f) (is_async f) (method_word k) g w (function_tokens f d us) t
 member_apart (shapes.class_constructor at at' at'' ps ws b) d g w us t = w t (items.key (codes "constructor"))
-member_apart (shapes.field at s k v a) d g w us t = field_apart s (key_word k) g w (initializer_tokens v (sign_of (codes ";") us)) t
+member_apart (shapes.field at s k v a) d g w us t = field_apart s (key_word k) g w (initializer_tokens v d (sign_of (codes ";") us)) t
 member_apart (shapes.accessor at at' at'' s b k ps ws body n n') d g w us t = field_apart s (accessor_text b) g w _ t
 member_apart (shapes.private_field at at' true q t' v a) d g w us t = w t (items.key (codes "static"))
 member_apart (shapes.private_field at at' false q t' v a) d g w us t = w t (items.private_name (codes "#" ++ q))
@@ -153,12 +153,12 @@ members_empty : {ns : List Node} (is : AreMembers ns) (d : ℕ) (us : Items) →
 members_empty shapes.no_members d us e = refl
 members_empty (shapes.more_members m ms) d us e = cc
 
-heritage_apart : {n : Node} (is : IsHeritage n) (t : Tok) (us : Items) → Apart (heritage_tokens is (it blank t us))
-heritage_apart (shapes.no_heritage a) t us u = refl
-heritage_apart (shapes.heritage e) t us u = refl
+heritage_apart : {n : Node} (is : IsHeritage n) (depth : ℕ) (t : Tok) (us : Items) → Apart (heritage_tokens is depth (it blank t us))
+heritage_apart (shapes.no_heritage a) depth t us u = refl
+heritage_apart (shapes.heritage e) depth t us u = refl
 
 pub class_apart : {n : Node} (is : IsClass n) (d : ℕ) (us : Items) → Apart (class_tokens is d us)
-class_apart (shapes.class_of at at' at'' h ms a a') d us t = heritage_apart h (sign (codes "{")) _ t
+class_apart (shapes.class_of at at' at'' h ms a a') d us t = heritage_apart h d (sign (codes "{")) _ t
 
 -- a word, or `*`, may stand in front of parameters, and of a name
 pub function_opens : {n : Node} (is : IsFunction n) (d : ℕ) (us : Items) (w : Tok) → joins_next w (sign_of (codes "(") us) ≡ true → joins_next w (function_tokens is d us) ≡ true
@@ -174,41 +174,41 @@ module _ (words : Words) where
   keyword_whole Let = words.let_whole
   keyword_whole Const = words.const_whole
 
-  optional_opens : (t : Tok) {n : Node} (is : IsOptional n) (us : Items) → joins_next t us ≡ true → joins_next t (optional_tokens is us) ≡ true
-  optional_opens t (shapes.left_out a) us h = h
-  optional_opens t (shapes.given e) us h = blank_joins t e us
+  optional_opens : (t : Tok) {n : Node} (is : IsOptional n) (depth : ℕ) (us : Items) → joins_next t us ≡ true → joins_next t (optional_tokens is depth us) ≡ true
+  optional_opens t (shapes.left_out a) depth us h = h
+  optional_opens t (shapes.given e) depth us h = blank_joins t e depth us
 
-  optional_joined : {n : Node} (is : IsOptional n) (us : Items) → ((object : Bool) → Soft object us) → Joined us → Joined (optional_tokens is us)
-  optional_joined (shapes.left_out a) us z j = j
-  optional_joined (shapes.given {level = l} e) us z j = expression_joined words e blank blank_is us (z (is_object l)) j
+  optional_joined : {n : Node} (is : IsOptional n) (depth : ℕ) (us : Items) → ((object : Bool) → Soft object us) → Joined us → Joined (optional_tokens is depth us)
+  optional_joined (shapes.left_out a) depth us z j = j
+  optional_joined (shapes.given {level = l} e) depth us z j = expression_joined words e depth blank blank_is us (z (is_object l)) j
 
-  for_init_joined : {n : Node} (is : IsForInit n) (us : Items) → Joined (sign_of (codes ";") us) → Joined (it blank (sign (codes "(")) (for_init_tokens is (sign_of (codes ";") us)))
+  for_init_joined : {n : Node} (is : IsForInit n) (depth : ℕ) (us : Items) → Joined (sign_of (codes ";") us) → Joined (it blank (sign (codes "(")) (for_init_tokens is depth (sign_of (codes ";") us)))
   unfolding punctuators
-  for_init_joined (shapes.no_init a) us j = (blank_is, refl, refl, j)
-  for_init_joined (shapes.init_declaration at of_list k (shapes.for_declarator p q e z) ds) us j =
-      let more = declarators_tokens (as_declarators ds) (sign_of (codes ";") us) in (
+  for_init_joined (shapes.no_init a) depth us j = (blank_is, refl, refl, j)
+  for_init_joined (shapes.init_declaration at of_list k (shapes.for_declarator p q e z) ds) depth us j =
+      let more = declarators_tokens (as_declarators ds) depth (sign_of (codes ";") us) in (
         blank_is,
         refl,
         refl,
         (
           no_gap_is,
           keyword_whole k,
-          pattern_blank_joins (items.key (keyword k)) q (initializer_tokens e more),
-          declarator_joined words (shapes.declarator p q e) more (λ o. declarators_soft words (as_declarators ds) o us) (declarators_joined words (as_declarators ds) us j),
+          pattern_blank_joins (items.key (keyword k)) q depth (initializer_tokens e depth more),
+          declarator_joined words (shapes.declarator p q e) depth more (λ o. declarators_soft words (as_declarators ds) depth o us) (declarators_joined words (as_declarators ds) depth us j),
         ),
       )
-  for_init_joined (shapes.init_expression e z) us j = (blank_is, refl, opening_joins e (sign_of (codes ";") us), expression_joined words e no_gap no_gap_is (sign_of (codes ";") us) semicolon j)
+  for_init_joined (shapes.init_expression e z) depth us j = (blank_is, refl, opening_joins e depth (sign_of (codes ";") us), expression_joined words e depth no_gap no_gap_is (sign_of (codes ";") us) semicolon j)
 
-  for_left_joined : {n : Node} (is : IsForLeft n) (t : Tok) (us : Items) → Joined (it blank t us) → Joined (it blank (sign (codes "(")) (for_left_tokens is (it blank t us)))
+  for_left_joined : {n : Node} (is : IsForLeft n) (depth : ℕ) (t : Tok) (us : Items) → Joined (it blank t us) → Joined (it blank (sign (codes "(")) (for_left_tokens is depth (it blank t us)))
   unfolding punctuators
-  for_left_joined (shapes.for_binding at of_list at_declarator k p a) t us j =
-      (blank_is, refl, refl, (no_gap_is, keyword_whole k, pattern_blank_joins (items.key (keyword k)) p (it blank t us), pattern_joined words p blank blank_is (it blank t us) parted j))
-  for_left_joined (shapes.for_target e z) t us j = (blank_is, refl, opening_joins e (it blank t us), expression_joined words e no_gap no_gap_is (it blank t us) parted j)
+  for_left_joined (shapes.for_binding at of_list at_declarator k p a) depth t us j =
+      (blank_is, refl, refl, (no_gap_is, keyword_whole k, pattern_blank_joins (items.key (keyword k)) p depth (it blank t us), pattern_joined words p depth blank blank_is (it blank t us) parted j))
+  for_left_joined (shapes.for_target e z) depth t us j = (blank_is, refl, opening_joins e depth (it blank t us), expression_joined words e depth no_gap no_gap_is (it blank t us) parted j)
 
   -- the head of a loop over what is given
-  for_joined : (is_await : Bool) {n : Node} (is : IsForLeft n) (t : Tok) (us : Items) (g : Gap) → IsGap g → Joined (it blank t us) → Joined (for_tokens is_await g (for_left_tokens is (it blank t us)))
-  for_joined true l t us g h j = (h, words.for_whole, refl, (blank_is, words.await_whole, refl, for_left_joined l t us j))
-  for_joined false l t us g h j = (h, words.for_whole, refl, for_left_joined l t us j)
+  for_joined : (is_await : Bool) {n : Node} (is : IsForLeft n) (depth : ℕ) (t : Tok) (us : Items) (g : Gap) → IsGap g → Joined (it blank t us) → Joined (for_tokens is_await g (for_left_tokens is depth (it blank t us)))
+  for_joined true l depth t us g h j = (h, words.for_whole, refl, (blank_is, words.await_whole, refl, for_left_joined l depth t us j))
+  for_joined false l depth t us g h j = (h, words.for_whole, refl, for_left_joined l depth t us j)
 
   -- several in braces, where each is on a line of its own
   braces_joined : (ss : List Node) (d : ℕ) (f : Items → Items) → ((vs : Items) → ss ≡ [] → f vs ≡ vs) → ((vs : Items) → Apart vs → joins_next (sign (codes "{")) (f vs) ≡ true) → ((vs : Items) → Apart vs → Joined vs → Joined (f vs))
@@ -220,9 +220,9 @@ module _ (words : Words) where
       let b : Apart vs = λ t. line_wide d t (sign (codes "}")) in
       (h, refl, o vs b, k vs b (line_is d, refl, a (sign (codes "}")), j))
 
-  test_joined : {level : Level} {e : Node} (is : IsExpression level e) (us : Items) → joins_next (sign (codes ")")) us ≡ true → Joined us → Joined (test_tokens is us)
+  test_joined : {level : Level} {e : Node} (is : IsExpression level e) (depth : ℕ) (us : Items) → joins_next (sign (codes ")")) us ≡ true → Joined us → Joined (test_tokens is depth us)
   unfolding punctuators
-  test_joined is us a j = (blank_is, refl, opening_joins is (sign_of (codes ")") us), expression_joined words is no_gap no_gap_is (sign_of (codes ")") us) closing (no_gap_is, refl, a, j))
+  test_joined is depth us a j = (blank_is, refl, opening_joins is depth (sign_of (codes ")") us), expression_joined words is depth no_gap no_gap_is (sign_of (codes ")") us) closing (no_gap_is, refl, a, j))
 
   pub function_word_joined : (x y : Bool) (g : Gap) → IsGap g → (us : Items) → joins_next (items.key (codes "function")) us ≡ true → joins_next (sign (codes "*")) us ≡ true → Joined us → Joined (function_word x y g us)
   unfolding punctuators
@@ -248,9 +248,9 @@ module _ (words : Words) where
   accessor_joined false true w t g h us a j = (h, words.set_whole, refl, (blank_is, t, a, j))
   accessor_joined false false w t g h us a j = (h, words.get_whole, refl, (blank_is, t, a, j))
 
-  heritage_joined : {n : Node} (is : IsHeritage n) (t : Tok) (us : Items) → Joined (it blank t us) → Joined (heritage_tokens is (it blank t us))
-  heritage_joined (shapes.no_heritage a) t us j = j
-  heritage_joined (shapes.heritage e) t us j = (blank_is, words.extends_whole, blank_joins (items.key (codes "extends")) e (it blank t us), expression_joined words e blank blank_is (it blank t us) parted j)
+  heritage_joined : {n : Node} (is : IsHeritage n) (depth : ℕ) (t : Tok) (us : Items) → Joined (it blank t us) → Joined (heritage_tokens is depth (it blank t us))
+  heritage_joined (shapes.no_heritage a) depth t us j = j
+  heritage_joined (shapes.heritage e) depth t us j = (blank_is, words.extends_whole, blank_joins (items.key (codes "extends")) e depth (it blank t us), expression_joined words e depth blank blank_is (it blank t us) parted j)
 
   finally_joined : {n : Node} (is : IsBlock n) (d : ℕ) (us : Items) → Joined (block_tokens is d blank us) → Joined (it blank (items.key (codes "finally")) (block_tokens is d blank us))
   finally_joined is d us j = (blank_is, words.finally_whole, block_apart is d blank blank_wide us (items.key (codes "finally")), j)
@@ -262,37 +262,37 @@ module _ (words : Words) where
     statement_joined (shapes.empty at) d g h us a j = (h, refl, a (sign (codes ";")), j)
     statement_joined (shapes.debugger_word at) d g h us a j = (h, words.debugger_whole, refl, ended us a j)
     statement_joined (shapes.throw at e) d g h us a j =
-        (h, words.throw_whole, blank_joins (items.key (codes "throw")) e (sign_of (codes ";") us), expression_joined words e blank blank_is (sign_of (codes ";") us) semicolon (ended us a j))
+        (h, words.throw_whole, blank_joins (items.key (codes "throw")) e d (sign_of (codes ";") us), expression_joined words e d blank blank_is (sign_of (codes ";") us) semicolon (ended us a j))
     statement_joined (shapes.return_value at e) d g h us a j =
-        (h, words.return_whole, blank_joins (items.key (codes "return")) e (sign_of (codes ";") us), expression_joined words e blank blank_is (sign_of (codes ";") us) semicolon (ended us a j))
+        (h, words.return_whole, blank_joins (items.key (codes "return")) e d (sign_of (codes ";") us), expression_joined words e d blank blank_is (sign_of (codes ";") us) semicolon (ended us a j))
     statement_joined (shapes.return_nothing at n) d g h us a j = (h, words.return_whole, refl, ended us a j)
     statement_joined (shapes.break_nothing at n) d g h us a j = (h, words.break_whole, refl, ended us a j)
     statement_joined (shapes.continue_nothing at n) d g h us a j = (h, words.continue_whole, refl, ended us a j)
-    statement_joined (shapes.expression at e z) d g h us a j = expression_joined words e g h (sign_of (codes ";") us) semicolon (ended us a j)
+    statement_joined (shapes.expression at e z) d g h us a j = expression_joined words e d g h (sign_of (codes ";") us) semicolon (ended us a j)
     statement_joined (shapes.declaration at at' k (shapes.declarator q p e) ds) d g h us a j =
-        (h, keyword_whole k, pattern_blank_joins (items.key (keyword k)) p (initializer_tokens e (declarators_tokens ds (sign_of (codes ";") us))), declarator_joined words (shapes.declarator q p e) (declarators_tokens ds (sign_of (codes ";") us)) (λ n. declarators_soft words ds n us) (declarators_joined words ds us (ended us a j)))
+        (h, keyword_whole k, pattern_blank_joins (items.key (keyword k)) p d (initializer_tokens e d (declarators_tokens ds d (sign_of (codes ";") us))), declarator_joined words (shapes.declarator q p e) d (declarators_tokens ds d (sign_of (codes ";") us)) (λ n. declarators_soft words ds d n us) (declarators_joined words ds d us (ended us a j)))
     statement_joined (shapes.break_label at i) d g h us a j = (h, words.break_whole, refl, (blank_is, ident_whole i, refl, ended us a j))
     statement_joined (shapes.continue_label at i) d g h us a j = (h, words.continue_whole, refl, (blank_is, ident_whole i, refl, ended us a j))
     statement_joined (shapes.block b) d g h us a j = block_joined b d g h us a j
     statement_joined (shapes.if_only at e b n) d g h us a j =
-        (h, words.if_whole, refl, test_joined e (statement_tokens b d blank us) (statement_apart b d blank blank_wide us (sign (codes ")"))) (statement_joined b d blank blank_is us a j))
+        (h, words.if_whole, refl, test_joined e d (statement_tokens b d blank us) (statement_apart b d blank blank_wide us (sign (codes ")"))) (statement_joined b d blank blank_is us a j))
     statement_joined (shapes.if_else at e b c) d g h us a j =
         let cs = statement_tokens c d blank us in
         let es = it (branch_gap (is_braced b) d) (items.key (codes "else")) cs in
         let rest : Joined es = (branch_is (is_braced b) d, words.else_whole, statement_apart c d blank blank_wide us (items.key (codes "else")), statement_joined c d blank blank_is us a j) in
-        (h, words.if_whole, refl, test_joined e (statement_tokens b d blank es) (statement_apart b d blank blank_wide es (sign (codes ")"))) (statement_joined b d blank blank_is es (branch_apart (is_braced b) d (items.key (codes "else")) cs) rest))
+        (h, words.if_whole, refl, test_joined e d (statement_tokens b d blank es) (statement_apart b d blank blank_wide es (sign (codes ")"))) (statement_joined b d blank blank_is es (branch_apart (is_braced b) d (items.key (codes "else")) cs) rest))
     statement_joined (shapes.while_loop at e b) d g h us a j =
-        (h, words.while_whole, refl, test_joined e (statement_tokens b d blank us) (statement_apart b d blank blank_wide us (sign (codes ")"))) (statement_joined b d blank blank_is us a j))
+        (h, words.while_whole, refl, test_joined e d (statement_tokens b d blank us) (statement_apart b d blank blank_wide us (sign (codes ")"))) (statement_joined b d blank blank_is us a j))
     statement_joined (shapes.do_loop at e b) d g h us a j =
-        let ts = test_tokens e (sign_of (codes ";") us) in
+        let ts = test_tokens e d (sign_of (codes ";") us) in
         let ws = it (branch_gap (is_braced b) d) (items.key (codes "while")) ts in
-        let rest : Joined ws = (branch_is (is_braced b) d, words.while_whole, refl, test_joined e (sign_of (codes ";") us) refl (ended us a j)) in
+        let rest : Joined ws = (branch_is (is_braced b) d, words.while_whole, refl, test_joined e d (sign_of (codes ";") us) refl (ended us a j)) in
         (h, words.do_whole, statement_apart b d blank blank_wide ws (items.key (codes "do")), statement_joined b d blank blank_is ws (branch_apart (is_braced b) d (items.key (codes "while")) ts) rest)
     statement_joined (shapes.switch_statement at at' {cs = cs'} e cs) d g h us a j = (
       h,
       words.switch_whole,
       refl,
-      test_joined e (it blank (sign (codes "{")) (cases_tokens cs (suc d) (it (closing_gap cs' d) (sign (codes "}")) us))) refl
+      test_joined e d (it blank (sign (codes "{")) (cases_tokens cs (suc d) (it (closing_gap cs' d) (sign (codes "}")) us))) refl
           (braces_joined cs' d (cases_tokens cs (suc d)) (λ vs e. cases_empty cs (suc d) vs e) (λ vs b. cases_apart cs (suc d) vs (sign (codes "{")) (b (sign (codes "{")))) (cases_joined cs (suc d)) blank blank_is us a j),
     )
     statement_joined (shapes.try_catch at b c n) d g h us a j =
@@ -307,18 +307,18 @@ module _ (words : Words) where
         (h, words.try_whole, block_apart b d blank blank_wide cs (items.key (codes "try")), block_joined b d blank blank_is cs (catch_apart c d end) (catch_joined c d end (λ t. refl) (finally_joined f d us (block_joined f d blank blank_is us a j))))
     statement_joined (shapes.for_loop at i t u b) d g h us a j =
         let bs = statement_tokens b d blank us in
-        let us' = optional_tokens u (sign_of (codes ")") bs) in
-        let last : Joined us' = optional_joined u (sign_of (codes ")") bs) (λ o. closing) (no_gap_is, refl, statement_apart b d blank blank_wide us (sign (codes ")")), statement_joined b d blank blank_is us a j) in
-        let more : Joined (optional_tokens t (sign_of (codes ";") us')) = optional_joined t (sign_of (codes ";") us') (λ o. semicolon) (no_gap_is, refl, optional_opens (sign (codes ";")) u (sign_of (codes ")") bs) refl, last) in
-        (h, words.for_whole, refl, for_init_joined i (optional_tokens t (sign_of (codes ";") us')) (no_gap_is, refl, optional_opens (sign (codes ";")) t (sign_of (codes ";") us') refl, more))
+        let us' = optional_tokens u d (sign_of (codes ")") bs) in
+        let last : Joined us' = optional_joined u d (sign_of (codes ")") bs) (λ o. closing) (no_gap_is, refl, statement_apart b d blank blank_wide us (sign (codes ")")), statement_joined b d blank blank_is us a j) in
+        let more : Joined (optional_tokens t d (sign_of (codes ";") us')) = optional_joined t d (sign_of (codes ";") us') (λ o. semicolon) (no_gap_is, refl, optional_opens (sign (codes ";")) u d (sign_of (codes ")") bs) refl, last) in
+        (h, words.for_whole, refl, for_init_joined i d (optional_tokens t d (sign_of (codes ";") us')) (no_gap_is, refl, optional_opens (sign (codes ";")) t d (sign_of (codes ";") us') refl, more))
     statement_joined (shapes.for_in at l e b) d g h us a j =
         let bs = sign_of (codes ")") (statement_tokens b d blank us) in
         let rest : Joined bs = (no_gap_is, refl, statement_apart b d blank blank_wide us (sign (codes ")")), statement_joined b d blank blank_is us a j) in
-        for_joined false l (items.key (codes "in")) (expression_tokens e blank bs) g h (blank_is, words.in_whole, blank_joins (items.key (codes "in")) e bs, expression_joined words e blank blank_is bs closing rest)
+        for_joined false l d (items.key (codes "in")) (expression_tokens e d blank bs) g h (blank_is, words.in_whole, blank_joins (items.key (codes "in")) e d bs, expression_joined words e d blank blank_is bs closing rest)
     statement_joined (shapes.for_of at w l e b) d g h us a j =
         let bs = sign_of (codes ")") (statement_tokens b d blank us) in
         let rest : Joined bs = (no_gap_is, refl, statement_apart b d blank blank_wide us (sign (codes ")")), statement_joined b d blank blank_is us a j) in
-        for_joined w l (items.key (codes "of")) (expression_tokens e blank bs) g h (blank_is, words.of_whole, blank_joins (items.key (codes "of")) e bs, expression_joined words e blank blank_is bs closing rest)
+        for_joined w l d (items.key (codes "of")) (expression_tokens e d blank bs) g h (blank_is, words.of_whole, blank_joins (items.key (codes "of")) e d bs, expression_joined words e d blank blank_is bs closing rest)
     statement_joined (shapes.labeled at i b) d g h us a j = (h, ident_whole i, refl, (no_gap_is, refl, statement_apart b d blank blank_wide us (sign (codes ":")), statement_joined b d blank blank_is us a j))
     statement_joined (shapes.function_statement at i f) d g h us a j =
         let fs = function_tokens f d us in
@@ -329,7 +329,7 @@ module _ (words : Words) where
     -- heritage and members
     pub class_joined : {n : Node} (is : IsClass n) (d : ℕ) (us : Items) → Apart us → Joined us → Joined (class_tokens is d us)
     class_joined (shapes.class_of at at' at'' {ms = ms'} h ms n n') d us a j =
-        heritage_joined h (sign (codes "{")) _
+        heritage_joined h d (sign (codes "{")) _
         (braces_joined ms' d (members_tokens ms (suc d)) (λ vs e. members_empty ms (suc d) vs e) (λ vs b. members_apart ms (suc d) vs (sign (codes "{")) (b (sign (codes "{")))) (members_joined ms (suc d)) blank blank_is us a j)
 
     member_joined : {n : Node} (is : IsMember n) (d : ℕ) (g : Gap) → IsGap g → (us : Items) → Apart us → Joined us → Joined (member_tokens is d g us)
@@ -337,23 +337,23 @@ module _ (words : Words) where
     member_joined (shapes.method at s (shapes.method_name at' w t z) f) d g h us a j = static_joined s (is_generator f) (is_async f) w t g h (function_tokens f d us) (function_opens f d us (items.key w) refl) (function_joined f d us a j)
     member_joined (shapes.class_constructor at at' at'' ps ws b) d g h us a j =
         let bs = block_tokens b d blank us in
-        (h, words.constructor_whole, refl, arguments_joined words ps bs (no_gap_is, refl, block_apart b d blank blank_wide us (sign (codes ")")), block_joined b d blank blank_is us a j))
+        (h, words.constructor_whole, refl, arguments_joined words ps d bs (no_gap_is, refl, block_apart b d blank blank_wide us (sign (codes ")")), block_joined b d blank blank_is us a j))
     member_joined (shapes.field at true k v n) d g h us a j =
         let vs = sign_of (codes ";") us in
-        (h, words.static_whole, refl, (blank_is, key_whole k, value_opens v (key_word k) us, initializer_joined words v vs semicolon (ended us a j)))
+        (h, words.static_whole, refl, (blank_is, key_whole k, value_opens v d (key_word k) us, initializer_joined words v d vs semicolon (ended us a j)))
     member_joined (shapes.field at false k v n) d g h us a j =
         let vs = sign_of (codes ";") us in
-        (h, key_whole k, value_opens v (key_word k) us, initializer_joined words v vs semicolon (ended us a j))
+        (h, key_whole k, value_opens v d (key_word k) us, initializer_joined words v d vs semicolon (ended us a j))
     member_joined (shapes.accessor at at' at'' s b k ps ws body n n') d g h us a j =
         let bs = block_tokens body d blank us in
-        accessor_joined s b (key_word k) (key_whole k) g h (sign_of (codes "(") (arguments_tokens ps (sign_of (codes ")") bs))) refl
-        (arguments_joined words ps bs (no_gap_is, refl, block_apart body d blank blank_wide us (sign (codes ")")), block_joined body d blank blank_is us a j))
+        accessor_joined s b (key_word k) (key_whole k) g h (sign_of (codes "(") (arguments_tokens ps d (sign_of (codes ")") bs))) refl
+        (arguments_joined words ps d bs (no_gap_is, refl, block_apart body d blank blank_wide us (sign (codes ")")), block_joined body d blank blank_is us a j))
     member_joined (shapes.private_field at at' true w t v n) d g h us a j =
         let vs = sign_of (codes ";") us in
-        (h, words.static_whole, refl, (blank_is, t, private_value_opens v (codes "#" ++ w) us, initializer_joined words v vs semicolon (ended us a j)))
+        (h, words.static_whole, refl, (blank_is, t, private_value_opens v d (codes "#" ++ w) us, initializer_joined words v d vs semicolon (ended us a j)))
     member_joined (shapes.private_field at at' false w t v n) d g h us a j =
         let vs = sign_of (codes ";") us in
-        (h, t, private_value_opens v (codes "#" ++ w) us, initializer_joined words v vs semicolon (ended us a j))
+        (h, t, private_value_opens v d (codes "#" ++ w) us, initializer_joined words v d vs semicolon (ended us a j))
 
     members_joined : {ns : List Node} (is : AreMembers ns) (d : ℕ) (us : Items) → Apart us → Joined us → Joined (members_tokens is d us)
     members_joined shapes.no_members d us a j = j
@@ -363,7 +363,7 @@ module _ (words : Words) where
     pub function_joined : {n : Node} (is : IsFunction n) (d : ℕ) (us : Items) → Apart us → Joined us → Joined (function_tokens is d us)
     function_joined (shapes.function_of at at' x y ps ws b n n') d us a j =
         let bs = block_tokens b d blank us in
-        arguments_joined words ps bs (no_gap_is, refl, block_apart b d blank blank_wide us (sign (codes ")")), block_joined b d blank blank_is us a j)
+        arguments_joined words ps d bs (no_gap_is, refl, block_apart b d blank blank_wide us (sign (codes ")")), block_joined b d blank blank_is us a j)
 
     block_joined : {n : Node} (is : IsBlock n) (d : ℕ) (g : Gap) → IsGap g → (us : Items) → Apart us → Joined us → Joined (block_tokens is d g us)
     block_joined (shapes.block_of at at' {ss = ss'} ss) d g h us a j =
@@ -372,7 +372,7 @@ module _ (words : Words) where
     case_joined : {n : Node} (is : IsCase n) (d : ℕ) (g : Gap) → IsGap g → (us : Items) → Apart us → Joined us → Joined (case_tokens is d g us)
     case_joined (shapes.case_of at at' e ss) d g h us a j =
         let body = sign_of (codes ":") (lined_tokens ss (suc d) us) in
-        (h, words.case_whole, blank_joins (items.key (codes "case")) e body, expression_joined words e blank blank_is body colon (no_gap_is, refl, lined_apart ss (suc d) us (sign (codes ":")) (a (sign (codes ":"))), lined_joined ss (suc d) us a j))
+        (h, words.case_whole, blank_joins (items.key (codes "case")) e d body, expression_joined words e d blank blank_is body colon (no_gap_is, refl, lined_apart ss (suc d) us (sign (codes ":")) (a (sign (codes ":"))), lined_joined ss (suc d) us a j))
     case_joined (shapes.default_of at at' n ss) d g h us a j = (h, words.default_whole, refl, (no_gap_is, refl, lined_apart ss (suc d) us (sign (codes ":")) (a (sign (codes ":"))), lined_joined ss (suc d) us a j))
 
     cases_joined : {cs : List Node} (is : AreCases cs) (d : ℕ) (us : Items) → Apart us → Joined us → Joined (cases_tokens is d us)
@@ -384,7 +384,7 @@ module _ (words : Words) where
     catch_joined (shapes.catch_pattern at p b) d us a j =
         let bs = sign_of (codes ")") (block_tokens b d blank us) in
         let rest : Joined bs = (no_gap_is, refl, block_apart b d blank blank_wide us (sign (codes ")")), block_joined b d blank blank_is us a j) in
-        (blank_is, words.catch_whole, refl, (blank_is, refl, pattern_opening p bs, pattern_joined words p no_gap no_gap_is bs closing rest))
+        (blank_is, words.catch_whole, refl, (blank_is, refl, pattern_opening p d bs, pattern_joined words p d no_gap no_gap_is bs closing rest))
 
     lined_joined : {ss : List Node} (is : AreStatements ss) (d : ℕ) (us : Items) → Apart us → Joined us → Joined (lined_tokens is d us)
     lined_joined shapes.no_statements d us a j = j

@@ -32,70 +32,70 @@ use Rattle.ecma_reread.specs.Heads.{may_hold_in}
 use Rattle.ecma_reread.proofs.Braces.{braces_agree}
 
 -- an expression behind a word, and the end of the statement
-argument_laid : {level : Level} {e : Node} (is : IsExpression level e) (m : List ℕ) (us : Items) → (laid e).at (Within Blank (free 0)) m (codes ";" ++ render us) ≡ render (expression_tokens is blank (sign_of (codes ";") us))
+argument_laid : {level : Level} {e : Node} (is : IsExpression level e) (depth : ℕ) (us : Items) → (laid e).at (Within Blank (free 0)) (margin depth) (codes ";" ++ render us) ≡ render (expression_tokens is depth blank (sign_of (codes ";") us))
 unfolding render
-argument_laid {level} is m us =
-    within_laid is Blank (free 0) m (codes ";" ++ render us)
-    ∙ (ap (λ z. codes " " ++ z) (expression_laid is (free 0) (calm_0 level) refl m (sign_of (codes ";") us)) ∙ sym (gap_out is blank (sign_of (codes ";") us)))
+argument_laid {level} is depth us =
+    within_laid is Blank (free 0) (margin depth) (codes ";" ++ render us)
+    ∙ (ap (λ z. codes " " ++ z) (expression_laid is (free 0) (calm_0 level) refl depth (sign_of (codes ";") us)) ∙ sym (gap_out is depth blank (sign_of (codes ";") us)))
 
-keyword_laid : (k : VarDeclKind) {d : Node} {ds : List Node} (is : IsDeclarator d) (more : AreDeclarators ds) (at at' : Span) (m : List ℕ) (us : Items)
-    → (laid (node_of at (kind.VarDecl k false) (node_of at' kind.List (d ∷ ds) ∷ []))).at (At (free 0)) m (render us) ≡ keyword k ++ render (declarator_tokens is (declarators_tokens more (sign_of (codes ";") us)))
+keyword_laid : (k : VarDeclKind) {d : Node} {ds : List Node} (is : IsDeclarator d) (more : AreDeclarators ds) (at at' : Span) (depth : ℕ) (us : Items)
+    → (laid (node_of at (kind.VarDecl k false) (node_of at' kind.List (d ∷ ds) ∷ []))).at (At (free 0)) (margin depth) (render us) ≡ keyword k ++ render (declarator_tokens is depth (declarators_tokens more depth (sign_of (codes ";") us)))
 unfolding render
-keyword_laid k {d = d'} {ds = ds'} is more at at' m us =
-    at_node at (kind.VarDecl k false) (node_of at' kind.List (d' ∷ ds') ∷ []) (At (free 0)) m (render us)
-    ∙ (ap (λ z. keyword k ++ (codes " " ++ z)) (at_node at' kind.List (d' ∷ ds') (Commas (free 1)) m (codes ";" ++ render us))
-    ∙ ap (λ z. keyword k ++ z) (ap (λ z. codes " " ++ (laid d').at (At (free 1)) m z) (more_declarators_laid more m us) ∙ declarator_laid is m (declarators_tokens more (sign_of (codes ";") us))))
+keyword_laid k {d = d'} {ds = ds'} is more at at' depth us =
+    at_node at (kind.VarDecl k false) (node_of at' kind.List (d' ∷ ds') ∷ []) (At (free 0)) (margin depth) (render us)
+    ∙ (ap (λ z. keyword k ++ (codes " " ++ z)) (at_node at' kind.List (d' ∷ ds') (Commas (free 1)) (margin depth) (codes ";" ++ render us))
+    ∙ ap (λ z. keyword k ++ z) (ap (λ z. codes " " ++ (laid d').at (At (free 1)) (margin depth) z) (more_declarators_laid more depth us) ∙ declarator_laid is depth (declarators_tokens more depth (sign_of (codes ";") us))))
 
 -- what may be left out, behind a blank
-optional_laid : {n : Node} (is : IsOptional n) (m : List ℕ) (us : Items) → (laid n).at (Within Blank (free 0)) m (render us) ≡ render (optional_tokens is us)
+optional_laid : {n : Node} (is : IsOptional n) (depth : ℕ) (us : Items) → (laid n).at (Within Blank (free 0)) (margin depth) (render us) ≡ render (optional_tokens is depth us)
 unfolding render
-optional_laid (shapes.left_out (shapes.absent at)) m us = at_node at kind.Absent [] (Within Blank (free 0)) m (render us)
-optional_laid (shapes.given {level = l} e) m us = within_laid e Blank (free 0) m (render us) ∙ (ap (λ z. codes " " ++ z) (expression_laid e (free 0) (calm_0 l) refl m us) ∙ sym (gap_out e blank us))
+optional_laid (shapes.left_out (shapes.absent at)) depth us = at_node at kind.Absent [] (Within Blank (free 0)) (margin depth) (render us)
+optional_laid (shapes.given {level = l} e) depth us = within_laid e Blank (free 0) (margin depth) (render us) ∙ (ap (λ z. codes " " ++ z) (expression_laid e (free 0) (calm_0 l) refl depth us) ∙ sym (gap_out e depth blank us))
 
 -- in the first part of a head
 abbrev head_spot : Spot
 head_spot = right (beginning 0 Anywhere true) 1 NoNeighbor
 
-for_value_laid : {n : Node} (is : IsInitializer n) → may_hold_in n ≡ false → (m : List ℕ) (us : Items) → (laid n).at (Within Equals head_spot) m (render us) ≡ render (initializer_tokens is us)
+for_value_laid : {n : Node} (is : IsInitializer n) → may_hold_in n ≡ false → (depth : ℕ) (us : Items) → (laid n).at (Within Equals head_spot) (margin depth) (render us) ≡ render (initializer_tokens is depth us)
 unfolding render
-for_value_laid (shapes.no_initializer (shapes.absent at)) z m us = at_node at kind.Absent [] (Within Equals head_spot) m (render us)
-for_value_laid (shapes.initializer {e = e'} e) z m us =
-    within_laid e Equals head_spot m (render us)
-    ∙ (ap (λ z. codes " = " ++ z) (head_laid e' z head_spot m (render us) ∙ expression_laid e (free 1) calm_1 refl m us) ∙ ap (λ z. codes " =" ++ z) (sym (gap_out e blank us)))
+for_value_laid (shapes.no_initializer (shapes.absent at)) z depth us = at_node at kind.Absent [] (Within Equals head_spot) (margin depth) (render us)
+for_value_laid (shapes.initializer {e = e'} e) z depth us =
+    within_laid e Equals head_spot (margin depth) (render us)
+    ∙ (ap (λ z. codes " = " ++ z) (head_laid e' z head_spot (margin depth) (render us) ∙ expression_laid e (free 1) calm_1 refl depth us) ∙ ap (λ z. codes " =" ++ z) (sym (gap_out e depth blank us)))
 
-for_declarator_laid : {n : Node} (is : IsForDeclarator n) (m : List ℕ) (us : Items) → codes " " ++ (laid n).at (At head_spot) m (render us) ≡ render (declarator_tokens (as_declarator is) us)
+for_declarator_laid : {n : Node} (is : IsForDeclarator n) (depth : ℕ) (us : Items) → codes " " ++ (laid n).at (At head_spot) (margin depth) (render us) ≡ render (declarator_tokens (as_declarator is) depth us)
 unfolding render
-for_declarator_laid (shapes.for_declarator at {p = p'} {init = e'} p e z) m us =
-    ap (λ z. codes " " ++ z) (at_node at (kind.VarDeclarator false) (p' ∷ e' ∷ []) (At head_spot) m (render us) ∙ (ap (λ z. (laid p').at (At (free 1)) m z) (for_value_laid e z m us) ∙ pattern_laid p m (initializer_tokens e us)))
-    ∙ sym (pattern_gap_out p blank (initializer_tokens e us))
+for_declarator_laid (shapes.for_declarator at {p = p'} {init = e'} p e z) depth us =
+    ap (λ z. codes " " ++ z) (at_node at (kind.VarDeclarator false) (p' ∷ e' ∷ []) (At head_spot) (margin depth) (render us) ∙ (ap (λ z. (laid p').at (At (free 1)) (margin depth) z) (for_value_laid e z depth us) ∙ pattern_laid p depth (initializer_tokens e depth us)))
+    ∙ sym (pattern_gap_out p depth blank (initializer_tokens e depth us))
 
-more_for_laid : {ds : List Node} (is : AreForDeclarators ds) (m : List ℕ) (us : Items) → more_commas head_spot (map laid ds) m (codes ";" ++ render us) ≡ render (declarators_tokens (as_declarators is) (sign_of (codes ";") us))
+more_for_laid : {ds : List Node} (is : AreForDeclarators ds) (depth : ℕ) (us : Items) → more_commas head_spot (map laid ds) (margin depth) (codes ";" ++ render us) ≡ render (declarators_tokens (as_declarators is) depth (sign_of (codes ";") us))
 unfolding render
-more_for_laid shapes.no_for_declarators m us = refl
-more_for_laid (shapes.more_for_declarators {d = d'} d ds) m us =
-    ap (λ z. codes "," ++ z) (ap (λ z. codes " " ++ (laid d').at (At head_spot) m z) (more_for_laid ds m us) ∙ for_declarator_laid d m (declarators_tokens (as_declarators ds) (sign_of (codes ";") us)))
+more_for_laid shapes.no_for_declarators depth us = refl
+more_for_laid (shapes.more_for_declarators {d = d'} d ds) depth us =
+    ap (λ z. codes "," ++ z) (ap (λ z. codes " " ++ (laid d').at (At head_spot) (margin depth) z) (more_for_laid ds depth us) ∙ for_declarator_laid d depth (declarators_tokens (as_declarators ds) depth (sign_of (codes ";") us)))
 
-for_init_laid : {n : Node} (is : IsForInit n) (m : List ℕ) (us : Items) → (laid n).at head m (codes ";" ++ render us) ≡ render (for_init_tokens is (sign_of (codes ";") us))
+for_init_laid : {n : Node} (is : IsForInit n) (depth : ℕ) (us : Items) → (laid n).at head (margin depth) (codes ";" ++ render us) ≡ render (for_init_tokens is depth (sign_of (codes ";") us))
 unfolding render
-for_init_laid (shapes.no_init (shapes.absent at)) m us = at_node at kind.Absent [] head m (codes ";" ++ render us)
-for_init_laid (shapes.init_declaration at of_list k {d = d'} {ds = ds'} d ds) m us =
-    at_node at (kind.VarDecl k false) (node_of of_list kind.List (d' ∷ ds') ∷ []) head m (codes ";" ++ render us)
-    ∙ (ap (λ z. keyword k ++ (codes " " ++ z)) (at_node of_list kind.List (d' ∷ ds') (Commas head_spot) m (codes ";" ++ render us))
-    ∙ ap (λ z. keyword k ++ z) (ap (λ z. codes " " ++ (laid d').at (At head_spot) m z) (more_for_laid ds m us) ∙ for_declarator_laid d m (declarators_tokens (as_declarators ds) (sign_of (codes ";") us))))
-for_init_laid (shapes.init_expression {level = l} {e = e'} e z) m us = head_laid e' z (beginning 0 Anywhere true) m (codes ";" ++ render us) ∙ expression_laid e (free 0) (calm_0 l) refl m (sign_of (codes ";") us)
+for_init_laid (shapes.no_init (shapes.absent at)) depth us = at_node at kind.Absent [] head (margin depth) (codes ";" ++ render us)
+for_init_laid (shapes.init_declaration at of_list k {d = d'} {ds = ds'} d ds) depth us =
+    at_node at (kind.VarDecl k false) (node_of of_list kind.List (d' ∷ ds') ∷ []) head (margin depth) (codes ";" ++ render us)
+    ∙ (ap (λ z. keyword k ++ (codes " " ++ z)) (at_node of_list kind.List (d' ∷ ds') (Commas head_spot) (margin depth) (codes ";" ++ render us))
+    ∙ ap (λ z. keyword k ++ z) (ap (λ z. codes " " ++ (laid d').at (At head_spot) (margin depth) z) (more_for_laid ds depth us) ∙ for_declarator_laid d depth (declarators_tokens (as_declarators ds) depth (sign_of (codes ";") us))))
+for_init_laid (shapes.init_expression {level = l} {e = e'} e z) depth us = head_laid e' z (beginning 0 Anywhere true) (margin depth) (codes ";" ++ render us) ∙ expression_laid e (free 0) (calm_0 l) refl depth (sign_of (codes ";") us)
 
-for_left_laid : {n : Node} (is : IsForLeft n) (m : List ℕ) (us : Items) → (laid n).at head m (render us) ≡ render (for_left_tokens is us)
+for_left_laid : {n : Node} (is : IsForLeft n) (depth : ℕ) (us : Items) → (laid n).at head (margin depth) (render us) ≡ render (for_left_tokens is depth us)
 unfolding render
-for_left_laid (shapes.for_binding at of_list at_declarator k {p = p'} {init = i'} p (shapes.absent at')) m us =
+for_left_laid (shapes.for_binding at of_list at_declarator k {p = p'} {init = i'} p (shapes.absent at')) depth us =
     let d = node_of at_declarator (kind.VarDeclarator false) (p' ∷ i' ∷ []) in
-    at_node at (kind.VarDecl k false) (node_of of_list kind.List (d ∷ []) ∷ []) head m (render us)
+    at_node at (kind.VarDecl k false) (node_of of_list kind.List (d ∷ []) ∷ []) head (margin depth) (render us)
     ∙ ap (λ z. keyword k ++ z)
     (ap (λ z. codes " " ++ z)
-    (at_node of_list kind.List (d ∷ []) (Commas head_spot) m (render us)
-    ∙ (at_node at_declarator (kind.VarDeclarator false) (p' ∷ i' ∷ []) (At head_spot) m (render us)
-    ∙ (ap (λ z. (laid p').at (At (free 1)) m z) (at_node at' kind.Absent [] (Within Equals head_spot) m (render us)) ∙ pattern_laid p m us)))
-    ∙ sym (pattern_gap_out p blank us))
-for_left_laid (shapes.for_target {e = e'} e z) m us = head_laid e' z (beginning 0 Anywhere true) m (render us) ∙ expression_laid e (free 0) (calm_0 shapes.callee) refl m us
+    (at_node of_list kind.List (d ∷ []) (Commas head_spot) (margin depth) (render us)
+    ∙ (at_node at_declarator (kind.VarDeclarator false) (p' ∷ i' ∷ []) (At head_spot) (margin depth) (render us)
+    ∙ (ap (λ z. (laid p').at (At (free 1)) (margin depth) z) (at_node at' kind.Absent [] (Within Equals head_spot) (margin depth) (render us)) ∙ pattern_laid p depth us)))
+    ∙ sym (pattern_gap_out p depth blank us))
+for_left_laid (shapes.for_target {e = e'} e z) depth us = head_laid e' z (beginning 0 Anywhere true) (margin depth) (render us) ∙ expression_laid e (free 0) (calm_0 shapes.callee) refl depth us
 
 for_laid : (is_await : Bool) (us : Items) → for_word is_await ++ render us ≡ render (for_tokens is_await no_gap us)
 unfolding render
@@ -203,11 +203,11 @@ params_laid at (shapes.more_params at' {p = p} {ps = es} {ns = ps} is) m rest =
     ∙ (ap (λ z. codes "(" ++ z) (param_laid at' p m (more_commas (free 1) (map laid es) m (codes ")" ++ rest))) ∙ sym (at_node at kind.List (p ∷ es) Arguments m rest)))
 
 -- what a class extends
-heritage_laid : {n : Node} (is : IsHeritage n) (m : List ℕ) (us : Items) → (laid n).at (Within Extends (free 16)) m (render us) ≡ render (heritage_tokens is us)
+heritage_laid : {n : Node} (is : IsHeritage n) (depth : ℕ) (us : Items) → (laid n).at (Within Extends (free 16)) (margin depth) (render us) ≡ render (heritage_tokens is depth us)
 unfolding render
-heritage_laid (shapes.no_heritage (shapes.absent at)) m us = at_node at kind.Absent [] (Within Extends (free 16)) m (render us)
-heritage_laid (shapes.heritage e) m us =
-    within_laid e Extends (free 16) m (render us) ∙ (ap (λ z. codes " extends " ++ z) (expression_laid e (free 16) (quiet refl refl refl refl) refl m us) ∙ ap (λ z. codes " extends" ++ z) (sym (gap_out e blank us)))
+heritage_laid (shapes.no_heritage (shapes.absent at)) depth us = at_node at kind.Absent [] (Within Extends (free 16)) (margin depth) (render us)
+heritage_laid (shapes.heritage e) depth us =
+    within_laid e Extends (free 16) (margin depth) (render us) ∙ (ap (λ z. codes " extends " ++ z) (expression_laid e (free 16) (quiet refl refl refl refl) refl depth us) ∙ ap (λ z. codes " extends" ++ z) (sym (gap_out e depth blank us)))
 
 pub function_head_laid : {n : Node} (is : IsFunction n) (m rest : List ℕ) → (laid n).at FunctionHead m rest ≡ function_head (kind.Function (is_generator is) (is_async is)) ++ rest
 function_head_laid (shapes.function_of at of_params x y {params = ps'} {body = b'} {none = n'} {none' = n''} ps ws b a a') m rest = at_node at (kind.Function x y) (node_of of_params kind.List ps' ∷ b' ∷ n' ∷ n'' ∷ []) FunctionHead m rest
@@ -287,9 +287,9 @@ branch_text true d x = refl
 branch_text false d x = refl
 
 -- `(`, a test, `)`
-test_laid : {level : Level} {e : Node} (is : IsExpression level e) (m : List ℕ) (us : Items) → codes " (" ++ (laid e).at (At (free 0)) m (codes ")" ++ render us) ≡ render (test_tokens is us)
+test_laid : {level : Level} {e : Node} (is : IsExpression level e) (depth : ℕ) (us : Items) → codes " (" ++ (laid e).at (At (free 0)) (margin depth) (codes ")" ++ render us) ≡ render (test_tokens is depth us)
 unfolding render
-test_laid {level} is m us = ap (λ z. codes " (" ++ z) (expression_laid is (free 0) (calm_0 level) refl m (sign_of (codes ")") us))
+test_laid {level} is depth us = ap (λ z. codes " (" ++ z) (expression_laid is (free 0) (calm_0 level) refl depth (sign_of (codes ")") us))
 
 mutual
   unfolding render
@@ -298,9 +298,9 @@ mutual
   statement_laid (shapes.empty at) d g us = ap (λ z. g.blanks ++ z) (sym (at_node at kind.EmptyStmt [] (At (free 0)) (margin d) (render us)))
   statement_laid (shapes.debugger_word at) d g us = ap (λ z. g.blanks ++ z) (sym (at_node at kind.DebuggerStmt [] (At (free 0)) (margin d) (render us)))
   statement_laid (shapes.throw at {e = e'} e) d g us =
-      ap (λ z. g.blanks ++ z) (sym (at_node at kind.ThrowStmt (e' ∷ []) (At (free 0)) (margin d) (render us) ∙ ap (λ z. codes "throw" ++ z) (argument_laid e (margin d) us)))
+      ap (λ z. g.blanks ++ z) (sym (at_node at kind.ThrowStmt (e' ∷ []) (At (free 0)) (margin d) (render us) ∙ ap (λ z. codes "throw" ++ z) (argument_laid e d us)))
   statement_laid (shapes.return_value at {e = e'} e) d g us =
-      ap (λ z. g.blanks ++ z) (sym (at_node at kind.ReturnStmt (e' ∷ []) (At (free 0)) (margin d) (render us) ∙ ap (λ z. codes "return" ++ z) (argument_laid e (margin d) us)))
+      ap (λ z. g.blanks ++ z) (sym (at_node at kind.ReturnStmt (e' ∷ []) (At (free 0)) (margin d) (render us) ∙ ap (λ z. codes "return" ++ z) (argument_laid e d us)))
   statement_laid (shapes.return_nothing at (shapes.absent at')) d g us =
       ap (λ z. g.blanks ++ z)
       (sym (at_node at kind.ReturnStmt (node_of at' kind.Absent [] ∷ []) (At (free 0)) (margin d) (render us) ∙ ap (λ z. codes "return" ++ z) (at_node at' kind.Absent [] (Within Blank (free 0)) (margin d) (codes ";" ++ render us))))
@@ -311,11 +311,11 @@ mutual
       ap (λ z. g.blanks ++ z)
       (sym (at_node at kind.ContinueStmt (node_of at' kind.Absent [] ∷ []) (At (free 0)) (margin d) (render us) ∙ ap (λ z. codes "continue" ++ z) (at_node at' kind.Absent [] (Within Blank (free 0)) (margin d) (codes ";" ++ render us))))
   statement_laid (shapes.expression at {level = l} {e = e'} e z) d g us =
-      gap_out e g (sign_of (codes ";") us)
+      gap_out e d g (sign_of (codes ";") us)
       ∙ ap (λ z. g.blanks ++ z)
       (sym (at_node at kind.ExprStmt (e' ∷ []) (At (free 0)) (margin d) (render us)
-      ∙ expression_laid e (beginning 0 StatementStart false) (calm_start l) (sym (braces_agree e) ∙ z) (margin d) (sign_of (codes ";") us)))
-  statement_laid (shapes.declaration at at' k i is) d g us = ap (λ z. g.blanks ++ z) (sym (keyword_laid k i is at at' (margin d) us))
+      ∙ expression_laid e (beginning 0 StatementStart false) (calm_start l) (sym (braces_agree e) ∙ z) d (sign_of (codes ";") us)))
+  statement_laid (shapes.declaration at at' k i is) d g us = ap (λ z. g.blanks ++ z) (sym (keyword_laid k i is at at' d us))
   statement_laid (shapes.break_label at (shapes.ident of w i)) d g us =
       ap (λ z. g.blanks ++ z)
       (sym (at_node at kind.BreakStmt (node_of of (kind.Ident w 0 false) [] ∷ []) (At (free 0)) (margin d) (render us) ∙ ap (λ z. codes "break" ++ z) (at_node of (kind.Ident w 0 false) [] (Within Blank (free 0)) (margin d) (codes ";" ++ render us))))
@@ -329,7 +329,7 @@ mutual
       (sym (at_node at kind.IfStmt (t' ∷ b' ∷ node_of at' kind.Absent [] ∷ []) (At (free 0)) m (render us)
       ∙ ap (λ z. codes "if" ++ z)
       (ap (λ z. codes " (" ++ (laid t').at (At (free 0)) m (codes ")" ++ (laid b').at (Within Blank (free 0)) m z)) (at_node at' kind.Absent [] (Within (else_behind (is_block (laid b').kind)) (free 0)) m (render us))
-      ∙ (ap (λ z. codes " (" ++ (laid t').at (At (free 0)) m (codes ")" ++ z)) (body_laid (statement_seen b) m us (statement_tokens b d blank us) (statement_laid b d blank us)) ∙ test_laid t m bs))))
+      ∙ (ap (λ z. codes " (" ++ (laid t').at (At (free 0)) m (codes ")" ++ z)) (body_laid (statement_seen b) m us (statement_tokens b d blank us) (statement_laid b d blank us)) ∙ test_laid t d bs))))
   statement_laid (shapes.if_else at {test = t'} {body = b'} {alternative = a'} t b a) d g us =
       let m = margin d in
       let es = it (branch_gap (is_braced b) d) (items.key (codes "else")) (statement_tokens a d blank us) in
@@ -340,22 +340,22 @@ mutual
       ∙ ap (λ z. codes "if" ++ z)
       (ap (λ z. codes " (" ++ (laid t').at (At (free 0)) m (codes ")" ++ (laid b').at (Within Blank (free 0)) m z))
       (ap (λ c. (laid a').at (Within (else_behind c) (free 0)) m (render us)) sb.block_is ∙ else_laid (is_braced b) (statement_seen a) d us (statement_tokens a d blank us) (statement_laid a d blank us))
-      ∙ (ap (λ z. codes " (" ++ (laid t').at (At (free 0)) m (codes ")" ++ z)) (body_laid sb m es bs (statement_laid b d blank es)) ∙ test_laid t m bs))))
+      ∙ (ap (λ z. codes " (" ++ (laid t').at (At (free 0)) m (codes ")" ++ z)) (body_laid sb m es bs (statement_laid b d blank es)) ∙ test_laid t d bs))))
   statement_laid (shapes.while_loop at {test = t'} {body = b'} t b) d g us =
       let m = margin d in
       ap (λ z. g.blanks ++ z)
       (sym (at_node at kind.WhileStmt (t' ∷ b' ∷ []) (At (free 0)) m (render us)
       ∙ ap (λ z. codes "while" ++ z)
-      (ap (λ z. codes " (" ++ (laid t').at (At (free 0)) m (codes ")" ++ z)) (body_laid (statement_seen b) m us (statement_tokens b d blank us) (statement_laid b d blank us)) ∙ test_laid t m (statement_tokens b d blank us))))
+      (ap (λ z. codes " (" ++ (laid t').at (At (free 0)) m (codes ")" ++ z)) (body_laid (statement_seen b) m us (statement_tokens b d blank us) (statement_laid b d blank us)) ∙ test_laid t d (statement_tokens b d blank us))))
   statement_laid (shapes.do_loop at {test = t'} {body = b'} t b) d g us =
       let m = margin d in
-      let ws = it (branch_gap (is_braced b) d) (items.key (codes "while")) (test_tokens t (sign_of (codes ";") us)) in
+      let ws = it (branch_gap (is_braced b) d) (items.key (codes "while")) (test_tokens t d (sign_of (codes ";") us)) in
       let sb = statement_seen b in
       ap (λ z. g.blanks ++ z)
       (sym (at_node at kind.DoWhileStmt (t' ∷ b' ∷ []) (At (free 0)) m (render us)
       ∙ ap (λ z. codes "do" ++ z)
       (ap (λ c. (laid b').at (Within Blank (free 0)) m (behind_body c m (codes "while (" ++ (laid t').at (At (free 0)) m (codes ");" ++ render us)))) sb.block_is
-      ∙ (ap (λ z. (laid b').at (Within Blank (free 0)) m z) (branch_text (is_braced b) d (codes "while (" ++ (laid t').at (At (free 0)) m (codes ");" ++ render us)) ∙ ap (λ z. (let h = branch_gap (is_braced b) d in h.blanks ++ (codes "while" ++ z))) (test_laid t m (sign_of (codes ";") us)))
+      ∙ (ap (λ z. (laid b').at (Within Blank (free 0)) m z) (branch_text (is_braced b) d (codes "while (" ++ (laid t').at (At (free 0)) m (codes ");" ++ render us)) ∙ ap (λ z. (let h = branch_gap (is_braced b) d in h.blanks ++ (codes "while" ++ z))) (test_laid t d (sign_of (codes ";") us)))
       ∙ body_laid sb m ws (statement_tokens b d blank ws) (statement_laid b d blank ws)))))
   statement_laid (shapes.switch_statement at at' {test = t'} {cs = cs'} t cs) d g us =
       let m = margin d in
@@ -363,7 +363,7 @@ mutual
       (sym (at_node at kind.SwitchStmt (t' ∷ node_of at' kind.List cs' ∷ []) (At (free 0)) m (render us)
       ∙ ap (λ z. codes "switch" ++ z)
       (ap (λ z. codes " (" ++ (laid t').at (At (free 0)) m (codes ") " ++ z)) (at_node at' kind.List cs' Block m (render us) ∙ in_braces cs' d (cases_tokens cs (suc d)) (cases_laid cs (suc d)) us)
-      ∙ test_laid t m (it blank (sign (codes "{")) (cases_tokens cs (suc d) (it (closing_gap cs' d) (sign (codes "}")) us))))))
+      ∙ test_laid t d (it blank (sign (codes "{")) (cases_tokens cs (suc d) (it (closing_gap cs' d) (sign (codes "}")) us))))))
   statement_laid (shapes.try_catch at {b = b'} {c = c'} b c (shapes.absent at')) d g us =
       let m = margin d in
       ap (λ z. g.blanks ++ z)
@@ -389,34 +389,34 @@ mutual
   statement_laid (shapes.for_loop at {init = i'} {test = t'} {update = u'} {body = b'} i t u b) d g us =
       let m = margin d in
       let bs = statement_tokens b d blank us in
-      let us' = optional_tokens u (sign_of (codes ")") bs) in
+      let us' = optional_tokens u d (sign_of (codes ")") bs) in
       ap (λ z. g.blanks ++ z)
       (sym (at_node at kind.ForStmt (i' ∷ t' ∷ u' ∷ b' ∷ []) (At (free 0)) m (render us)
       ∙ ap (λ z. codes "for (" ++ z)
       (ap (λ z. (laid i').at head m (codes ";" ++ z))
-      (ap (λ z. (laid t').at (Within Blank (free 0)) m (codes ";" ++ z)) (ap (λ z. (laid u').at (Within Blank (free 0)) m (codes ")" ++ z)) (body_laid (statement_seen b) m us bs (statement_laid b d blank us)) ∙ optional_laid u m (sign_of (codes ")") bs))
-      ∙ optional_laid t m (sign_of (codes ";") us'))
-      ∙ for_init_laid i m (optional_tokens t (sign_of (codes ";") us')))))
+      (ap (λ z. (laid t').at (Within Blank (free 0)) m (codes ";" ++ z)) (ap (λ z. (laid u').at (Within Blank (free 0)) m (codes ")" ++ z)) (body_laid (statement_seen b) m us bs (statement_laid b d blank us)) ∙ optional_laid u d (sign_of (codes ")") bs))
+      ∙ optional_laid t d (sign_of (codes ";") us'))
+      ∙ for_init_laid i d (optional_tokens t d (sign_of (codes ";") us')))))
   statement_laid (shapes.for_in at {level = l} {left = l'} {object = e'} {body = b'} left e b) d g us =
       let m = margin d in
       let bs = statement_tokens b d blank us in
-      let es = expression_tokens e blank (sign_of (codes ")") bs) in
+      let es = expression_tokens e d blank (sign_of (codes ")") bs) in
       ap (λ z. g.blanks ++ z)
       (sym (at_node at kind.ForInStmt (l' ∷ e' ∷ b' ∷ []) (At (free 0)) m (render us)
       ∙ ap (λ z. codes "for (" ++ z)
-      (ap (λ z. (laid l').at head m (codes " in " ++ z)) (ap (λ z. (laid e').at (At (free 0)) m (codes ")" ++ z)) (body_laid (statement_seen b) m us bs (statement_laid b d blank us)) ∙ expression_laid e (free 0) (calm_0 l) refl m (sign_of (codes ")") bs))
-      ∙ (ap (λ z. (laid l').at head m (codes " in" ++ z)) (sym (gap_out e blank (sign_of (codes ")") bs))) ∙ for_left_laid left m (it blank (items.key (codes "in")) es)))))
+      (ap (λ z. (laid l').at head m (codes " in " ++ z)) (ap (λ z. (laid e').at (At (free 0)) m (codes ")" ++ z)) (body_laid (statement_seen b) m us bs (statement_laid b d blank us)) ∙ expression_laid e (free 0) (calm_0 l) refl d (sign_of (codes ")") bs))
+      ∙ (ap (λ z. (laid l').at head m (codes " in" ++ z)) (sym (gap_out e d blank (sign_of (codes ")") bs))) ∙ for_left_laid left d (it blank (items.key (codes "in")) es)))))
   statement_laid (shapes.for_of at w {left = l'} {iterable = e'} {body = b'} left e b) d g us =
       let m = margin d in
       let bs = statement_tokens b d blank us in
-      let es = expression_tokens e blank (sign_of (codes ")") bs) in
-      let ls = for_left_tokens left (it blank (items.key (codes "of")) es) in
+      let es = expression_tokens e d blank (sign_of (codes ")") bs) in
+      let ls = for_left_tokens left d (it blank (items.key (codes "of")) es) in
       for_gap w g ls
       ∙ ap (λ z. g.blanks ++ z)
       (sym (at_node at (kind.ForOfStmt w) (l' ∷ e' ∷ b' ∷ []) (At (free 0)) m (render us)
       ∙ (ap (λ z. for_word w ++ z)
-      (ap (λ z. (laid l').at head m (codes " of " ++ z)) (ap (λ z. (laid e').at (At (free 1)) m (codes ")" ++ z)) (body_laid (statement_seen b) m us bs (statement_laid b d blank us)) ∙ expression_laid e (free 1) calm_1 refl m (sign_of (codes ")") bs))
-      ∙ (ap (λ z. (laid l').at head m (codes " of" ++ z)) (sym (gap_out e blank (sign_of (codes ")") bs))) ∙ for_left_laid left m (it blank (items.key (codes "of")) es)))
+      (ap (λ z. (laid l').at head m (codes " of " ++ z)) (ap (λ z. (laid e').at (At (free 1)) m (codes ")" ++ z)) (body_laid (statement_seen b) m us bs (statement_laid b d blank us)) ∙ expression_laid e (free 1) calm_1 refl d (sign_of (codes ")") bs))
+      ∙ (ap (λ z. (laid l').at head m (codes " of" ++ z)) (sym (gap_out e d blank (sign_of (codes ")") bs))) ∙ for_left_laid left d (it blank (items.key (codes "of")) es)))
       ∙ for_laid w ls)))
   statement_laid (shapes.labeled at {body = b'} (shapes.ident of w i) b) d g us =
       let m = margin d in
@@ -447,7 +447,7 @@ mutual
       let m = margin d in
       at_node at (kind.Class false) (s' ∷ node_of at' kind.List ms' ∷ n' ∷ n'' ∷ node_of at'' kind.List [] ∷ []) (At (free 1)) m (render us)
       ∙ (ap (λ z. (laid s').at (Within Extends (free 16)) m (codes " " ++ z)) (at_node at' kind.List ms' Block m (render us) ∙ in_braces ms' d (members_tokens ms (suc d)) (members_laid ms (suc d)) us)
-      ∙ heritage_laid h m (it blank (sign (codes "{")) (members_tokens ms (suc d) (it (closing_gap ms' d) (sign (codes "}")) us))))
+      ∙ heritage_laid h d (it blank (sign (codes "{")) (members_tokens ms (suc d) (it (closing_gap ms' d) (sign (codes "}")) us))))
 
   member_laid : {n : Node} (is : IsMember n) (d : ℕ) (g : Gap) (us : Items) → render (member_tokens is d g us) ≡ g.blanks ++ (laid n).at (At (free 0)) (margin d) (render us)
   member_laid (shapes.static_block at {b = b'} b) d g us =
@@ -471,19 +471,19 @@ mutual
       ap (λ z. g.blanks ++ z)
       (sym (at_node at (kind.Constructor None false) (node_of at' (kind.IdentName (codes "constructor")) [] ∷ node_of of_params kind.List ps' ∷ b' ∷ []) (At (free 0)) m (render us)
       ∙ (at_node at' (kind.IdentName (codes "constructor")) [] (At (free 1)) m ((laid (node_of of_params kind.List ps')).at Arguments m ((laid b').at (Within Blank (free 1)) m (render us)))
-      ∙ ap (λ z. codes "constructor" ++ z) (ap (λ z. (laid (node_of of_params kind.List ps')).at Arguments m z) (function_body_laid b m us bs (block_laid b d blank us)) ∙ (params_laid of_params ws m (render bs) ∙ arguments_laid ps m bs)))))
+      ∙ ap (λ z. codes "constructor" ++ z) (ap (λ z. (laid (node_of of_params kind.List ps')).at Arguments m z) (function_body_laid b m us bs (block_laid b d blank us)) ∙ (params_laid of_params ws m (render bs) ∙ arguments_laid ps d bs)))))
   member_laid (shapes.field at s {value = v'} {none = n'} (shapes.key at' w t) v a) d g us =
       let m = margin d in
-      let vs = initializer_tokens v (sign_of (codes ";") us) in
+      let vs = initializer_tokens v d (sign_of (codes ";") us) in
       static_field_text s w g vs
       ∙ ap (λ z. g.blanks ++ z)
       (sym (at_node at (kind.ClassProp (static_modifiers s) false false false) (node_of at' (kind.IdentName w) [] ∷ v' ∷ n' ∷ []) (At (free 0)) m (render us)
       ∙ ap (λ z. static_word s ++ z)
-      (at_node at' (kind.IdentName w) [] (At (free 1)) m ((laid v').at (Within Equals (free 1)) m (codes ";" ++ render us)) ∙ ap (λ z. w ++ z) (initializer_laid v m (sign_of (codes ";") us)))))
+      (at_node at' (kind.IdentName w) [] (At (free 1)) m ((laid v').at (Within Equals (free 1)) m (codes ";" ++ render us)) ∙ ap (λ z. w ++ z) (initializer_laid v d (sign_of (codes ";") us)))))
   member_laid (shapes.accessor at at' of_params s b {body = b'} {none = n'} {none' = n''} {params = ps'} (shapes.key of w t) ps ws body a a') d g us =
       let m = margin d in
       let bs = block_tokens body d blank us in
-      let fs = sign_of (codes "(") (arguments_tokens ps (sign_of (codes ")") bs)) in
+      let fs = sign_of (codes "(") (arguments_tokens ps d (sign_of (codes ")") bs)) in
       let children = node_of of_params kind.List ps' ∷ b' ∷ n' ∷ n'' ∷ [] in
       let fn = node_of at' (kind.Function false false) children in
       let inside = (laid fn).at (At (free 1)) m (render us) in
@@ -495,15 +495,15 @@ mutual
       ∙ (at_node of (kind.IdentName w) [] (At (free 1)) m inside
       ∙ ap (λ z. w ++ z)
       (at_node at' (kind.Function false false) children (At (free 1)) m (render us)
-      ∙ (ap (λ z. (laid (node_of of_params kind.List ps')).at Arguments m z) (function_body_laid body m us bs (block_laid body d blank us)) ∙ (params_laid of_params ws m (render bs) ∙ arguments_laid ps m bs)))))))
+      ∙ (ap (λ z. (laid (node_of of_params kind.List ps')).at Arguments m z) (function_body_laid body m us bs (block_laid body d blank us)) ∙ (params_laid of_params ws m (render bs) ∙ arguments_laid ps d bs)))))))
   member_laid (shapes.private_field at at' s w {value = v'} {none = n'} t v a) d g us =
       let m = margin d in
-      let vs = initializer_tokens v (sign_of (codes ";") us) in
+      let vs = initializer_tokens v d (sign_of (codes ";") us) in
       private_field_text s w g vs
       ∙ ap (λ z. g.blanks ++ z)
       (sym (at_node at (kind.PrivateProp (static_modifiers s) false false false) (node_of at' (kind.PrivateName w) [] ∷ v' ∷ n' ∷ []) (At (free 0)) m (render us)
       ∙ ap (λ z. static_word s ++ z)
-      (at_node at' (kind.PrivateName w) [] (At (free 1)) m ((laid v').at (Within Equals (free 1)) m (codes ";" ++ render us)) ∙ ap (λ z. codes "#" ++ (w ++ z)) (initializer_laid v m (sign_of (codes ";") us)))))
+      (at_node at' (kind.PrivateName w) [] (At (free 1)) m ((laid v').at (Within Equals (free 1)) m (codes ";" ++ render us)) ∙ ap (λ z. codes "#" ++ (w ++ z)) (initializer_laid v d (sign_of (codes ";") us)))))
 
   members_laid : {ns : List Node} (is : AreMembers ns) (d : ℕ) (us : Items) → new_lines (map laid ns) (margin d) (render us) ≡ render (members_tokens is d us)
   members_laid shapes.no_members d us = refl
@@ -515,7 +515,7 @@ mutual
       let m = margin d in
       let bs = block_tokens b d blank us in
       at_node at (kind.Function x y) (node_of of_params kind.List ps' ∷ b' ∷ n' ∷ n'' ∷ []) (At (free 1)) m (render us)
-      ∙ (ap (λ z. (laid (node_of of_params kind.List ps')).at Arguments m z) (function_body_laid b m us bs (block_laid b d blank us)) ∙ (params_laid of_params ws m (render bs) ∙ arguments_laid ps m bs))
+      ∙ (ap (λ z. (laid (node_of of_params kind.List ps')).at Arguments m z) (function_body_laid b m us bs (block_laid b d blank us)) ∙ (params_laid of_params ws m (render bs) ∙ arguments_laid ps d bs))
 
   block_laid : {n : Node} (is : IsBlock n) (d : ℕ) (g : Gap) (us : Items) → g.blanks ++ (laid n).at (At (free 0)) (margin d) (render us) ≡ render (block_tokens is d g us)
   block_laid (shapes.block_of at at' {ss = ss'} ss) d g us =
@@ -531,7 +531,7 @@ mutual
       (sym (at_node at kind.SwitchCase (t' ∷ node_of at' kind.List ss' ∷ []) (At (free 0)) m (render us)
       ∙ (ap (λ b. case_word b ++ (laid t').at (At (free 0)) m (codes ":" ++ (laid (node_of at' kind.List ss')).at Deeper m (render us))) (no_absent t)
       ∙ (ap (λ z. codes "case " ++ (laid t').at (At (free 0)) m (codes ":" ++ z)) (at_node at' kind.List ss' Deeper m (render us) ∙ lined_laid ss (suc d) us)
-      ∙ (ap (λ z. codes "case " ++ z) (expression_laid t (free 0) (calm_0 l) refl m (sign_of (codes ":") body)) ∙ ap (λ z. codes "case" ++ z) (sym (gap_out t blank (sign_of (codes ":") body))))))))
+      ∙ (ap (λ z. codes "case " ++ z) (expression_laid t (free 0) (calm_0 l) refl d (sign_of (codes ":") body)) ∙ ap (λ z. codes "case" ++ z) (sym (gap_out t d blank (sign_of (codes ":") body))))))))
   case_laid (shapes.default_of at at' {ss = ss'} (shapes.absent at'') ss) d g us =
       let m = margin d in
       let none = node_of at'' kind.Absent [] in
@@ -557,7 +557,7 @@ mutual
       at_node at kind.CatchClause (p' ∷ b' ∷ []) (Within Blank (free 0)) m (render us)
       ∙ ap (λ z. codes " catch" ++ z)
       (within_there p' s.there Parentheses (free 1) m ((laid b').at (Within Blank (free 0)) m (render us))
-      ∙ ap (λ z. codes " (" ++ z) (ap (λ z. (laid p').at (At (free 1)) m (codes ")" ++ z)) (body_laid (block_seen b) m us bs (sym (block_laid b d blank us))) ∙ pattern_laid p m (sign_of (codes ")") bs)))
+      ∙ ap (λ z. codes " (" ++ z) (ap (λ z. (laid p').at (At (free 1)) m (codes ")" ++ z)) (body_laid (block_seen b) m us bs (sym (block_laid b d blank us))) ∙ pattern_laid p d (sign_of (codes ")") bs)))
 
   lined_laid : {ss : List Node} (is : AreStatements ss) (d : ℕ) (us : Items) → new_lines (map laid ss) (margin d) (render us) ≡ render (lined_tokens is d us)
   lined_laid shapes.no_statements d us = refl

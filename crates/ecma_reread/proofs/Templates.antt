@@ -121,9 +121,9 @@ part_ends last w = refl
 
 module _ (assigned : Bool) where
   -- what is said of each
-  abbrev pub PartForms : {t f : Bool} {es ps : List Node} → AreParts t f es ps → Type 0
-  PartForms (shapes.last_part p) = Unit {0}
-  PartForms (shapes.more_parts p e ps) = Stands assigned shapes.sequence (expression_tokens e) (expression_kind e) (expression_parts e) × PartForms ps
+  abbrev pub PartForms : {t f : Bool} {es ps : List Node} → AreParts t f es ps → ℕ → Type 0
+  PartForms (shapes.last_part p) depth = Unit {0}
+  PartForms (shapes.more_parts p e ps) depth = Stands assigned shapes.sequence (expression_tokens e depth) (expression_kind e) (expression_parts e) × PartForms ps depth
 
   part_kept : (first last : Bool) {t : Bool} {n : Node} (p : IsPart t first last n) (g : Gap) (us : Items) → Reads assigned (wanted first t last) (it g (items.template first last (part_text first last (part_raw p))) us) (bare_part p ∷ []) us
   part_kept true true {t = t} (shapes.part at raw w r v) g us = let i = inside_is true true raw w.utf8 in rw (valued t true (part_text true true raw) raw i v) (ap (λ k. read (bare k [] ∷ []) us) (said_is true (part_text true true raw) raw i r))
@@ -138,42 +138,42 @@ module _ (assigned : Bool) where
   unfolding expression
   middle_eats t = refl
 
-  middles_read : {t : Bool} {es ps : List Node} (is : AreParts t false es ps) → PartForms is → (us : Items) → Repeats assigned (middle t) (it no_gap (part_token false is) (parts_tokens is us)) (middles is) (final_tokens is us)
+  middles_read : {t : Bool} {es ps : List Node} (is : AreParts t false es ps) (depth : ℕ) → PartForms is depth → (us : Items) → Repeats assigned (middle t) (it no_gap (part_token false is) (parts_tokens is depth us)) (middles is) (final_tokens is us)
   unfolding middles final_tokens
-  middles_read {t = t} (shapes.last_part p) F us = repeats_end assigned (middle t) (it no_gap (items.template false true (part_text false true (part_raw p))) us) refl
-  middles_read {t = t} (shapes.more_parts p e ps) F us =
-      let behind = it no_gap (part_token false ps) (parts_tokens ps us) in
+  middles_read {t = t} (shapes.last_part p) depth F us = repeats_end assigned (middle t) (it no_gap (items.template false true (part_text false true (part_raw p))) us) refl
+  middles_read {t = t} (shapes.more_parts p e ps) depth F us =
+      let behind = it no_gap (part_token false ps) (parts_tokens ps depth us) in
       repeats_more assigned (middle t) (middle_eats t) _ behind (final_tokens ps us) (bare_part p ∷ bare_expression e ∷ []) (middles ps)
-      (ap (followed_on (interp assigned (means assigned) (expression false))) (part_kept false false p no_gap (expression_tokens e no_gap behind))
+      (ap (followed_on (interp assigned (means assigned) (expression false))) (part_kept false false p no_gap (expression_tokens e depth no_gap behind))
       ∙ ap (with_front (bare_part p ∷ [])) (expression_read assigned F.0 no_gap behind (exactly (part_token false ps)) at_token (part_ends _ _) refl))
-      (middles_read ps F.1 us)
+      (middles_read ps depth F.1 us)
 
   final_read : {t : Bool} {es ps : List Node} (is : AreParts t false es ps) (us : Items) → Reads assigned (wanted false t true) (final_tokens is us) (final is ∷ []) us
   unfolding final final_tokens
   final_read (shapes.last_part p) us = part_kept false true p no_gap us
   final_read (shapes.more_parts p e ps) us = final_read ps us
 
-  rest_read : {t : Bool} {es ps : List Node} (is : AreParts t false es ps) → PartForms is → (us : Items) → Reads assigned (grammar.many (middle t) ▸ wanted false t true) (it no_gap (part_token false is) (parts_tokens is us)) (mixed is) us
-  rest_read {t = t} is F us =
-      ap (followed_on (interp assigned (means assigned) (wanted false t true))) (repeated assigned (middle t) (it no_gap (part_token false is) (parts_tokens is us)) (final_tokens is us) (middles is) (middles_read is F us))
+  rest_read : {t : Bool} {es ps : List Node} (is : AreParts t false es ps) (depth : ℕ) → PartForms is depth → (us : Items) → Reads assigned (grammar.many (middle t) ▸ wanted false t true) (it no_gap (part_token false is) (parts_tokens is depth us)) (mixed is) us
+  rest_read {t = t} is depth F us =
+      ap (followed_on (interp assigned (means assigned) (wanted false t true))) (repeated assigned (middle t) (it no_gap (part_token false is) (parts_tokens is depth us)) (final_tokens is us) (middles is) (middles_read is depth F us))
       ∙ ap (with_front (middles is)) (final_read is us) ∙ ap (λ xs. read xs us) (mixed_is is)
 
   -- a template, behind a tag or not
-  template_read : {t : Bool} {es ps : List Node} (is : AreParts t true es ps) → PartForms is → (g : Gap) (us : Items) → Reads assigned (primaries.template t) (it g (part_token true is) (parts_tokens is us)) (bare kind.Tpl (list_node (bare_substitutions is) ∷ list_node (bare_parts is) ∷ []) ∷ []) us
+  template_read : {t : Bool} {es ps : List Node} (is : AreParts t true es ps) (depth : ℕ) → PartForms is depth → (g : Gap) (us : Items) → Reads assigned (primaries.template t) (it g (part_token true is) (parts_tokens is depth us)) (bare kind.Tpl (list_node (bare_substitutions is) ∷ list_node (bare_parts is) ∷ []) ∷ []) us
   unfolding primaries.template mixed
-  template_read {t = t} (shapes.last_part p) F g us =
+  template_read {t = t} (shapes.last_part p) depth F g us =
       let I = interp assigned (means assigned) in
       let ts = it g (items.template true true (part_text true true (part_raw p))) us in
       ap (built_on form.Template) (ap (or_on (I (wanted true t false ▸ (expression false ▸ (grammar.many (middle t) ▸ wanted false t true)))) ts) (part_kept true true p g us))
       ∙ ap (λ n. read (n ∷ []) us) (template_made (shapes.last_part p))
-  template_read {t = t} (shapes.more_parts p e ps) F g us =
+  template_read {t = t} (shapes.more_parts p e ps) depth F g us =
       let I = interp assigned (means assigned) in
-      let behind = it no_gap (part_token false ps) (parts_tokens ps us) in
+      let behind = it no_gap (part_token false ps) (parts_tokens ps depth us) in
       ap (built_on form.Template)
-      (ap (followed_on (I (expression false ▸ (grammar.many (middle t) ▸ wanted false t true)))) (part_kept true false p g (expression_tokens e no_gap behind))
+      (ap (followed_on (I (expression false ▸ (grammar.many (middle t) ▸ wanted false t true)))) (part_kept true false p g (expression_tokens e depth no_gap behind))
       ∙ ap (with_front (bare_part p ∷ []))
       (ap (followed_on (I (grammar.many (middle t) ▸ wanted false t true))) (expression_read assigned F.0 no_gap behind (exactly (part_token false ps)) at_token (part_ends _ _) refl)
-      ∙ ap (with_front (bare_expression e ∷ [])) (rest_read ps F.1 us)))
+      ∙ ap (with_front (bare_expression e ∷ [])) (rest_read ps depth F.1 us)))
       ∙ ap (λ n. read (n ∷ []) us) (template_made (shapes.more_parts p e ps))
 
   -- by itself
@@ -194,15 +194,15 @@ module _ (assigned : Bool) where
   unfolding primary function_expression class_expression
   backtick_tower last w e = later refl (later refl (later refl (later refl (later refl (later refl (later refl (later refl (later refl (later refl (later refl (sooner here)))))))))))
 
-  pub template_form : {es ps : List Node} (is : AreParts false true es ps) → PartForms is → NewForm assigned (λ g us. it g (part_token true is) (parts_tokens is us)) kind.Tpl (list_node (bare_substitutions is) ∷ list_node (bare_parts is) ∷ [])
-  template_form is F =
+  pub template_form : {es ps : List Node} (is : AreParts false true es ps) (depth : ℕ) → PartForms is depth → NewForm assigned (λ g us. it g (part_token true is) (parts_tokens is depth us)) kind.Tpl (list_node (bare_substitutions is) ∷ list_node (bare_parts is) ∷ [])
+  template_form is depth F =
       let t = part_token true is in
       let n = bare kind.Tpl (list_node (bare_substitutions is) ∷ list_node (bare_parts is) ∷ []) in
-      let whole : (g : Gap) (us : Items) → Reads assigned primary (it g t (parts_tokens is us)) (n ∷ []) us = λ g us. primary_by assigned (exactly t) (primaries.template false) (it g t (parts_tokens is us)) us n (backtick_tower _ _) at_token (template_read is F g us) in
+      let whole : (g : Gap) (us : Items) → Reads assigned primary (it g t (parts_tokens is depth us)) (n ∷ []) us = λ g us. primary_by assigned (exactly t) (primaries.template false) (it g t (parts_tokens is depth us)) us n (backtick_tower _ _) at_token (template_read is depth F g us) in
       record {
-        form = form_by assigned t (backtick_opens _ _) (begins_operand _ _) (parts_tokens is) (n ∷ []) refl (λ g us e b z ys vs h. head_read assigned (exactly t) (it g t (parts_tokens is us)) us n (backtick_primary _ _) at_token (whole g us) ys vs h);
+        form = form_by assigned t (backtick_opens _ _) (begins_operand _ _) (parts_tokens is depth) (n ∷ []) refl (λ g us e b z ys vs h. head_read assigned (exactly t) (it g t (parts_tokens is depth us)) us n (backtick_primary _ _) at_token (whole g us) ys vs h);
         no_point = refl;
-        own = λ g us e b z ys vs h. new_head_read assigned (exactly t) (it g t (parts_tokens is us)) us n (backtick_primary _ _) at_token (whole g us) ys vs h;
+        own = λ g us e b z ys vs h. new_head_read assigned (exactly t) (it g t (parts_tokens is depth us)) us n (backtick_primary _ _) at_token (whole g us) ys vs h;
       }
 
   -- behind a tag
@@ -216,7 +216,7 @@ module _ (assigned : Bool) where
   unfolding arrow_rest names.binding_ident
   backtick_apart last w = refl
 
-  module _ {es ps : List Node} (is : AreParts true true es ps) (F : PartForms is) where
+  module _ {es ps : List Node} (is : AreParts true true es ps) (depth : ℕ) (F : PartForms is depth) where
     abbrev said : Node
     said = bare kind.Tpl (list_node (bare_substitutions is) ∷ list_node (bare_parts is) ∷ [])
 
@@ -224,22 +224,22 @@ module _ (assigned : Bool) where
     item = bare kind.TaggedTpl (absent ∷ absent ∷ said ∷ [])
 
     abbrev tokens : Items → Items
-    tokens us = it no_gap (part_token true is) (parts_tokens is us)
+    tokens us = it no_gap (part_token true is) (parts_tokens is depth us)
 
     body_read : (us : Items) (ys : List Node) (vs : Items) (g : Grammar) → Reads assigned g us ys vs → Reads assigned (chains.tagged_template ▸ g) (tokens us) (item ∷ ys) vs
     unfolding chains.tagged_template
-    body_read us ys vs g h = rw (template_read is F no_gap us, h) refl
+    body_read us ys vs g h = rw (template_read is depth F no_gap us, h) refl
 
     pub tagged_read : (us : Items) (ys : List Node) (vs : Items) → Reads assigned links us ys vs → Reads assigned links (tokens us) (item ∷ ys) vs
     unfolding links chains.tagged_body
-    tagged_read us ys vs h = rw (start_at (ends_here is) (part_text true (ends_here is) (first_raw is)) (parts_tokens is us), means_is assigned (part.Link link.Tagged) (tokens us), body_read us ys vs links h) refl
+    tagged_read us ys vs h = rw (start_at (ends_here is) (part_text true (ends_here is) (first_raw is)) (parts_tokens is depth us), means_is assigned (part.Link link.Tagged) (tokens us), body_read us ys vs links h) refl
 
     new_tagged_read : (us : Items) (ys : List Node) (vs : Items) → Reads assigned new_links us ys vs → Reads assigned new_links (tokens us) (item ∷ ys) vs
     unfolding new_links chains.new_tagged_body
-    new_tagged_read us ys vs h = rw (start_at (ends_here is) (part_text true (ends_here is) (first_raw is)) (parts_tokens is us), means_is assigned (part.NewLink link.Tagged) (tokens us), body_read us ys vs new_links h) refl
+    new_tagged_read us ys vs h = rw (start_at (ends_here is) (part_text true (ends_here is) (first_raw is)) (parts_tokens is depth us), means_is assigned (part.NewLink link.Tagged) (tokens us), body_read us ys vs new_links h) refl
 
     abbrev pub tagged_form : {f : Laid} {k : Kind} {ns : List Node} → is_head k ≡ true → Form assigned f k ns → Form assigned (λ g us. f g (tokens us)) kind.TaggedTpl (bare k ns ∷ absent ∷ said ∷ [])
-    tagged_form {k = k} {ns = ns} head T = link_form assigned T (part_token true is) refl (backtick_apart _ _) refl (parts_tokens is) item (tagged_made k head ns said) tagged_read
+    tagged_form {k = k} {ns = ns} head T = link_form assigned T (part_token true is) refl (backtick_apart _ _) refl (parts_tokens is depth) item (tagged_made k head ns said) tagged_read
 
     pub new_tagged_form : {f : Laid} {k : Kind} {ns : List Node} → is_head k ≡ true → NewForm assigned f k ns → NewForm assigned (λ g us. f g (tokens us)) kind.TaggedTpl (bare k ns ∷ absent ∷ said ∷ [])
     new_tagged_form head N =

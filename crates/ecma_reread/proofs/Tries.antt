@@ -1,5 +1,5 @@
 -- `try` is read as it is laid out.
-use Rattle.std.proofs.Common.{◌≡◌, Bool, [], ◌∷◌, codes, refl}
+use Rattle.std.proofs.Common.{ℕ, ◌≡◌, Bool, [], ◌∷◌, codes, refl}
 use Rattle.ecma_lex.specs.Keys.{is_reserved, reserved_words}
 use Rattle.ecma_kind.specs.declared.kind.Kind.TheVariants as kind
 use Rattle.ecma_tree.specs.declared.node.Node.{Node}
@@ -42,10 +42,10 @@ module _ (assigned : Bool) where
     unfolding catch_clause
     catch_any_form = record { reads = λ us. rw (refused_at assigned (means assigned) (punct (codes "(")) (exactly (sign (codes "{"))) (f blank us) (B.begins blank us) refl, B.reads blank us) refl }
 
-    pub catch_pattern_form : {p : Node} (is : IsPattern p) → ReadAsPattern assigned (pattern_tokens is) (bare_pattern is)
-        → ReadAsCatch (λ us. it blank (items.key (codes "catch")) (it blank (sign (codes "(")) (pattern_tokens is no_gap (s (codes ")") (f blank us))))) (bare kind.CatchClause (bare_pattern is ∷ n ∷ []))
+    pub catch_pattern_form : {p : Node} (is : IsPattern p) (depth : ℕ) → ReadAsPattern assigned (pattern_tokens is depth) (bare_pattern is)
+        → ReadAsCatch (λ us. it blank (items.key (codes "catch")) (it blank (sign (codes "(")) (pattern_tokens is depth no_gap (s (codes ")") (f blank us))))) (bare kind.CatchClause (bare_pattern is ∷ n ∷ []))
     unfolding catch_clause
-    catch_pattern_form is P = record { reads = λ us. rw (P.reads no_gap (s (codes ")") (f blank us)), pattern_alone is, B.reads blank us) refl }
+    catch_pattern_form is depth P = record { reads = λ us. rw (P.reads no_gap (s (codes ")") (f blank us)), pattern_alone is, B.reads blank us) refl }
 
     pub try_catch_form : {c : Items → Items} {m : Node} → ReadAsCatch c m → ReadAsStatement assigned shapes.closed (λ g us. it g (items.key (codes "try")) (f blank (c us))) (bare kind.TryStmt (n ∷ m ∷ absent ∷ []))
     unfolding statement_body try_ names.block statements.if_ statements.for_await statements.for_ statements.while_ statements.do_while statements.switch module_item modules.import modules.import_equals modules.export modules.export_default is_reserved reserved_words

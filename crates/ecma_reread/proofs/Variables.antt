@@ -73,63 +73,63 @@ pattern_declared (shapes.array_pattern at at' es a) init = simp nodes
 pattern_declared (shapes.object_pattern at at' ps a) init = simp nodes
 
 module _ (assigned : Bool) where
-  abbrev pub DeclaratorIn : Bool → {n : Node} → IsDeclarator n → Type 0
-  DeclaratorIn no_in (shapes.declarator at p e) = ReadAsPattern assigned (pattern_tokens p) (bare_pattern p) × InitializerIn assigned no_in e
+  abbrev pub DeclaratorIn : Bool → {n : Node} → IsDeclarator n → ℕ → Type 0
+  DeclaratorIn no_in (shapes.declarator at p e) depth = ReadAsPattern assigned (pattern_tokens p depth) (bare_pattern p) × InitializerIn assigned no_in e depth
 
-  abbrev pub DeclaratorsIn : Bool → {ds : List Node} → AreDeclarators ds → Type 0
-  DeclaratorsIn no_in shapes.no_declarators = Unit {0}
-  DeclaratorsIn no_in (shapes.more_declarators d ds) = DeclaratorIn no_in d × DeclaratorsIn no_in ds
+  abbrev pub DeclaratorsIn : Bool → {ds : List Node} → AreDeclarators ds → ℕ → Type 0
+  DeclaratorsIn no_in shapes.no_declarators depth = Unit {0}
+  DeclaratorsIn no_in (shapes.more_declarators d ds) depth = DeclaratorIn no_in d depth × DeclaratorsIn no_in ds depth
 
   -- where `in` is an operator
-  abbrev pub DeclaratorForm : {n : Node} → IsDeclarator n → Type 0
-  DeclaratorForm d = DeclaratorIn false d
+  abbrev pub DeclaratorForm : {n : Node} → IsDeclarator n → ℕ → Type 0
+  DeclaratorForm d depth = DeclaratorIn false d depth
 
-  abbrev pub DeclaratorForms : {ds : List Node} → AreDeclarators ds → Type 0
-  DeclaratorForms ds = DeclaratorsIn false ds
+  abbrev pub DeclaratorForms : {ds : List Node} → AreDeclarators ds → ℕ → Type 0
+  DeclaratorForms ds depth = DeclaratorsIn false ds depth
 
   pub pattern_read : (w : List ℕ) → is_reserved w ≡ false → (g : Gap) (us : Items) → means assigned part.Pattern (it g (items.key w) us) ≡ read (binding w ∷ []) us
   unfolding pattern_body names.binding_ident
   pattern_read w n g us = rw (means_is assigned part.Pattern (it g (items.key w) us), n) refl
 
-  declarator_read : (no_in : Bool) {n : Node} (d : IsDeclarator n) → DeclaratorIn no_in d → (us : Items) → Followed us → Reads assigned (declarator no_in) (declarator_tokens d us) (bare_declarator d ∷ []) us
-  declarator_read no_in (shapes.declarator at p e) F us w =
+  declarator_read : (no_in : Bool) {n : Node} (d : IsDeclarator n) (depth : ℕ) → DeclaratorIn no_in d depth → (us : Items) → Followed us → Reads assigned (declarator no_in) (declarator_tokens d depth us) (bare_declarator d ∷ []) us
+  declarator_read no_in (shapes.declarator at p e) depth F us w =
       let P = F.0 in
-      ap (built_on form.Declarator) (ap (followed_on (interp assigned (means assigned) (whether (marked (punct (codes "!"))) ▸ annotation ▸ maybe (punct (codes "=") ▸ assign_in no_in)))) (P.reads blank (initializer_tokens e us))
-      ∙ ap (with_front (bare_pattern p ∷ [])) (ap (with_front (absent ∷ [])) (ap (with_front (absent ∷ [])) (initializer_read assigned no_in e F.1 us w))))
+      ap (built_on form.Declarator) (ap (followed_on (interp assigned (means assigned) (whether (marked (punct (codes "!"))) ▸ annotation ▸ maybe (punct (codes "=") ▸ assign_in no_in)))) (P.reads blank (initializer_tokens e depth us))
+      ∙ ap (with_front (bare_pattern p ∷ [])) (ap (with_front (absent ∷ [])) (ap (with_front (absent ∷ [])) (initializer_read assigned no_in e depth F.1 us w))))
       ∙ ap (λ x. read (x ∷ []) us) (pattern_declared p (bare_initializer e))
 
-  more_follow : {ds : List Node} (is : AreDeclarators ds) (us : Items) → Followed (declarators_tokens is (s (codes ";") us))
-  more_follow shapes.no_declarators us = record { front = exactly (sign (codes ";")); begins = at_token; ends = semicolon_ends }
-  more_follow (shapes.more_declarators d ds) us = record { front = exactly (sign (codes ",")); begins = at_token; ends = comma_ends }
+  more_follow : {ds : List Node} (is : AreDeclarators ds) (depth : ℕ) (us : Items) → Followed (declarators_tokens is depth (s (codes ";") us))
+  more_follow shapes.no_declarators depth us = record { front = exactly (sign (codes ";")); begins = at_token; ends = semicolon_ends }
+  more_follow (shapes.more_declarators d ds) depth us = record { front = exactly (sign (codes ",")); begins = at_token; ends = comma_ends }
 
-  more_read : (no_in : Bool) {ds : List Node} (is : AreDeclarators ds) → DeclaratorsIn no_in is → (us : Items) → Repeats assigned (punct (codes ",") ▸ declarator no_in) (declarators_tokens is (s (codes ";") us)) (bare_declarators is) (s (codes ";") us)
-  more_read no_in shapes.no_declarators S us = repeats_end assigned (punct (codes ",") ▸ declarator no_in) (s (codes ";") us) refl
-  more_read no_in (shapes.more_declarators d ds) S us =
-      repeats_more assigned (punct (codes ",") ▸ declarator no_in) refl _ (declarators_tokens ds (s (codes ";") us)) (s (codes ";") us) (bare_declarator d ∷ []) (bare_declarators ds)
-      (ap (with_front []) (declarator_read no_in d S.0 (declarators_tokens ds (s (codes ";") us)) (more_follow ds us))) (more_read no_in ds S.1 us)
+  more_read : (no_in : Bool) {ds : List Node} (is : AreDeclarators ds) (depth : ℕ) → DeclaratorsIn no_in is depth → (us : Items) → Repeats assigned (punct (codes ",") ▸ declarator no_in) (declarators_tokens is depth (s (codes ";") us)) (bare_declarators is) (s (codes ";") us)
+  more_read no_in shapes.no_declarators depth S us = repeats_end assigned (punct (codes ",") ▸ declarator no_in) (s (codes ";") us) refl
+  more_read no_in (shapes.more_declarators d ds) depth S us =
+      repeats_more assigned (punct (codes ",") ▸ declarator no_in) refl _ (declarators_tokens ds depth (s (codes ";") us)) (s (codes ";") us) (bare_declarator d ∷ []) (bare_declarators ds)
+      (ap (with_front []) (declarator_read no_in d depth S.0 (declarators_tokens ds depth (s (codes ";") us)) (more_follow ds depth us))) (more_read no_in ds depth S.1 us)
 
-  declarators_read : (no_in : Bool) {d : Node} {ds : List Node} (i : IsDeclarator d) (is : AreDeclarators ds) → DeclaratorIn no_in i → DeclaratorsIn no_in is → (us : Items)
-      → Reads assigned (declarators no_in) (declarator_tokens i (declarators_tokens is (s (codes ";") us))) (list_node (bare_declarator i ∷ bare_declarators is) ∷ []) (s (codes ";") us)
-  declarators_read no_in i is S T us =
+  declarators_read : (no_in : Bool) {d : Node} {ds : List Node} (i : IsDeclarator d) (is : AreDeclarators ds) (depth : ℕ) → DeclaratorIn no_in i depth → DeclaratorsIn no_in is depth → (us : Items)
+      → Reads assigned (declarators no_in) (declarator_tokens i depth (declarators_tokens is depth (s (codes ";") us))) (list_node (bare_declarator i ∷ bare_declarators is) ∷ []) (s (codes ";") us)
+  declarators_read no_in i is depth S T us =
       ap (built_on form.List)
-      (ap (followed_on (interp assigned (means assigned) (grammar.many (punct (codes ",") ▸ declarator no_in)))) (declarator_read no_in i S (declarators_tokens is (s (codes ";") us)) (more_follow is us))
-      ∙ ap (with_front (bare_declarator i ∷ [])) (repeated assigned (punct (codes ",") ▸ declarator no_in) (declarators_tokens is (s (codes ";") us)) (s (codes ";") us) (bare_declarators is) (more_read no_in is T us)))
+      (ap (followed_on (interp assigned (means assigned) (grammar.many (punct (codes ",") ▸ declarator no_in)))) (declarator_read no_in i depth S (declarators_tokens is depth (s (codes ";") us)) (more_follow is depth us))
+      ∙ ap (with_front (bare_declarator i ∷ [])) (repeated assigned (punct (codes ",") ▸ declarator no_in) (declarators_tokens is depth (s (codes ";") us)) (s (codes ";") us) (bare_declarators is) (more_read no_in is depth T us)))
 
   -- with what ends them
-  pub variables_read : (no_in : Bool) (tail : Grammar) (us vs : Items) → Reads assigned tail (s (codes ";") us) [] vs → (k : VarDeclKind) {d : Node} {ds : List Node} (i : IsDeclarator d) (is : AreDeclarators ds) → DeclaratorIn no_in i → DeclaratorsIn no_in is → (g : Gap)
-      → Reads assigned (variables no_in tail) (it g (items.key (keyword k)) (declarator_tokens i (declarators_tokens is (s (codes ";") us)))) (bare (kind.VarDecl k false) (list_node (bare_declarator i ∷ bare_declarators is) ∷ []) ∷ []) vs
-  variables_read no_in tail us vs h Var i is S T g = rw (declarators_read no_in i is S T us, h) refl
-  variables_read no_in tail us vs h Let i is S T g = rw (declarators_read no_in i is S T us, h) refl
-  variables_read no_in tail us vs h Const i is S T g = rw (declarators_read no_in i is S T us, h) refl
+  pub variables_read : (no_in : Bool) (tail : Grammar) (us vs : Items) → Reads assigned tail (s (codes ";") us) [] vs → (k : VarDeclKind) {d : Node} {ds : List Node} (i : IsDeclarator d) (is : AreDeclarators ds) (depth : ℕ) → DeclaratorIn no_in i depth → DeclaratorsIn no_in is depth → (g : Gap)
+      → Reads assigned (variables no_in tail) (it g (items.key (keyword k)) (declarator_tokens i depth (declarators_tokens is depth (s (codes ";") us)))) (bare (kind.VarDecl k false) (list_node (bare_declarator i ∷ bare_declarators is) ∷ []) ∷ []) vs
+  variables_read no_in tail us vs h Var i is depth S T g = rw (declarators_read no_in i is depth S T us, h) refl
+  variables_read no_in tail us vs h Let i is depth S T g = rw (declarators_read no_in i is depth S T us, h) refl
+  variables_read no_in tail us vs h Const i is depth S T g = rw (declarators_read no_in i is depth S T us, h) refl
 
-  pub declaration_read : (k : VarDeclKind) {d : Node} {ds : List Node} (i : IsDeclarator d) (is : AreDeclarators ds) → DeclaratorForm i → DeclaratorForms is → (g : Gap) (us : Items)
-      → Reads assigned declaration (it g (items.key (keyword k)) (declarator_tokens i (declarators_tokens is (s (codes ";") us)))) (bare (kind.VarDecl k false) (list_node (bare_declarator i ∷ bare_declarators is) ∷ []) ∷ []) us
+  pub declaration_read : (k : VarDeclKind) {d : Node} {ds : List Node} (i : IsDeclarator d) (is : AreDeclarators ds) (depth : ℕ) → DeclaratorForm i depth → DeclaratorForms is depth → (g : Gap) (us : Items)
+      → Reads assigned declaration (it g (items.key (keyword k)) (declarator_tokens i depth (declarators_tokens is depth (s (codes ";") us)))) (bare (kind.VarDecl k false) (list_node (bare_declarator i ∷ bare_declarators is) ∷ []) ∷ []) us
   unfolding declaration
-  declaration_read k i is S T g us = ap (or_on (interp assigned (means assigned) other_declarations) (it g (items.key (keyword k)) (declarator_tokens i (declarators_tokens is (s (codes ";") us))))) (variables_read false end us us refl k i is S T g)
+  declaration_read k i is depth S T g us = ap (or_on (interp assigned (means assigned) other_declarations) (it g (items.key (keyword k)) (declarator_tokens i depth (declarators_tokens is depth (s (codes ";") us))))) (variables_read false end us us refl k i is depth S T g)
 
-  pub declaration_form : (k : VarDeclKind) {d : Node} {ds : List Node} (i : IsDeclarator d) (is : AreDeclarators ds) → DeclaratorForm i → DeclaratorForms is
-      → ReadAsStatement assigned shapes.closed (λ g us. it g (items.key (keyword k)) (declarator_tokens i (declarators_tokens is (s (codes ";") us)))) (bare (kind.VarDecl k false) (list_node (bare_declarator i ∷ bare_declarators is) ∷ []))
+  pub declaration_form : (k : VarDeclKind) {d : Node} {ds : List Node} (i : IsDeclarator d) (is : AreDeclarators ds) (depth : ℕ) → DeclaratorForm i depth → DeclaratorForms is depth
+      → ReadAsStatement assigned shapes.closed (λ g us. it g (items.key (keyword k)) (declarator_tokens i depth (declarators_tokens is depth (s (codes ";") us)))) (bare (kind.VarDecl k false) (list_node (bare_declarator i ∷ bare_declarators is) ∷ []))
   unfolding statement_body
-  declaration_form k i is S T =
+  declaration_form k i is depth S T =
       let D = keyword_declares k in
-      token_form assigned 11 declaration expression_statement refl (items.key (keyword k)) D.no_statement D.no_item D.closes (λ g us e b z. declaration_read k i is S T g us)
+      token_form assigned 11 declaration expression_statement refl (items.key (keyword k)) D.no_statement D.no_item D.closes (λ g us e b z. declaration_read k i is depth S T g us)

@@ -103,11 +103,11 @@ item_tokens (export_bindings_from at at' c s w) g us = it g (items.key (codes "e
 item_tokens (export_namespace at at' of x s w) g us = it g (items.key (codes "export")) (spaced_sign (codes "*") (spaced_word (codes "as") (spaced (export_name_token x) (from_tokens s w (sign_of (codes ";") us)))))
 item_tokens (export_all at s w) g us = it g (items.key (codes "export")) (spaced_sign (codes "*") (from_tokens s w (sign_of (codes ";") us)))
 item_tokens (export_declaration at is d) g us = it g (items.key (codes "export")) (statement_tokens is 0 blank us)
-item_tokens (export_default at e) g us = it g (items.key (codes "export")) (spaced_word (codes "default") (expression_tokens e blank (sign_of (codes ";") us)))
+item_tokens (export_default at e) g us = it g (items.key (codes "export")) (spaced_word (codes "default") (expression_tokens e 0 blank (sign_of (codes ";") us)))
 item_tokens (export_default_function at at' i f) g us = it g (items.key (codes "export")) (spaced_word (codes "default") (function_word (is_generator f) (is_async f) blank (function_name_tokens i (function_tokens f 0 us))))
 item_tokens (export_default_class at at' i c) g us = it g (items.key (codes "export")) (spaced_word (codes "default") (spaced_word (codes "class") (function_name_tokens i (class_tokens c 0 us))))
 item_tokens (import_require z at of is_export i s) g us = import_equals_tokens is_export g (spaced_word (ident_word i) (spaced_sign (codes "=") (require_tokens s (sign_of (codes ";") us))))
-item_tokens (export_assignment z at e) g us = it g (items.key (codes "export")) (spaced_sign (codes "=") (expression_tokens e blank (sign_of (codes ";") us)))
+item_tokens (export_assignment z at e) g us = it g (items.key (codes "export")) (spaced_sign (codes "=") (expression_tokens e 0 blank (sign_of (codes ";") us)))
 
 -- each item ends its line
 abbrev pub items_tokens : {assignments : Bool} {ns : List Node} → AreModuleItems assignments ns → Gap → Items

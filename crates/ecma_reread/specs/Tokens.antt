@@ -153,143 +153,144 @@ unary_gap Void b = blank
 unary_gap Delete b = blank
 unary_gap o b = no_gap
 
+-- an expression on a line that stands so many levels further in
 abbrev mutual
-  pub expression_tokens : {level : Level} {e : Node} → IsExpression level e → Gap → Items → Items
-  expression_tokens (name i) g us = it g (items.key (ident_word i)) us
-  expression_tokens (string at raw t) g us = it g (items.string raw) us
-  expression_tokens (number at raw t) g us = it g (items.number raw) us
-  expression_tokens (this_word at) g us = it g (items.key (codes "this")) us
-  expression_tokens (big_int at raw t) g us = it g (items.big_int raw) us
-  expression_tokens (regex at b f t) g us = it g (items.regex (regex_text b f)) us
-  expression_tokens (template at a b ps) g us = it g (part_token true ps) (parts_tokens ps us)
-  expression_tokens (null_word at) g us = it g (items.key (codes "null")) us
-  expression_tokens (true_word at) g us = it g (items.key (codes "true")) us
-  expression_tokens (false_word at) g us = it g (items.key (codes "false")) us
-  expression_tokens (member at i o k) g us = expression_tokens o g (sign_of (codes ".") (it no_gap (chain_token k) us))
-  expression_tokens (call at c es none) g us = expression_tokens c g (sign_of (codes "(") (arguments_tokens es (sign_of (codes ")") us)))
-  expression_tokens (parenthesized at e) g us = it g (sign (codes "(")) (expression_tokens e no_gap (sign_of (codes ")") us))
-  expression_tokens (looser e) g us = expression_tokens e g us
-  expression_tokens (element at at' i o e) g us = expression_tokens o g (sign_of (codes "[") (expression_tokens e no_gap (sign_of (codes "]") us)))
-  expression_tokens (super_member at at' k) g us = it g (items.key (codes "super")) (sign_of (codes ".") (it no_gap (items.key (key_word k)) us))
-  expression_tokens (super_element at at' at'' e) g us = it g (items.key (codes "super")) (sign_of (codes "[") (expression_tokens e no_gap (sign_of (codes "]") us)))
-  expression_tokens (super_call at at' es none) g us = it g (items.key (codes "super")) (sign_of (codes "(") (arguments_tokens es (sign_of (codes ")") us)))
-  expression_tokens (new_expression at e es none) g us = it g (items.key (codes "new")) (expression_tokens e blank (sign_of (codes "(") (arguments_tokens es (sign_of (codes ")") us))))
-  expression_tokens (new_alone at e none none') g us = it g (items.key (codes "new")) (expression_tokens e blank us)
-  expression_tokens (new_target at) g us = it g (items.key (codes "new")) (sign_of (codes ".") (it no_gap (items.key (codes "target")) us))
-  expression_tokens (import_meta at) g us = it g (items.key (codes "import")) (sign_of (codes ".") (it no_gap (items.key (codes "meta")) us))
-  expression_tokens (import_call at at' es none) g us = it g (items.key (codes "import")) (sign_of (codes "(") (arguments_tokens es (sign_of (codes ")") us)))
-  expression_tokens (tagged_template at a b c i o none ps) g us = expression_tokens o g (it no_gap (part_token true ps) (parts_tokens ps us))
-  expression_tokens (chain_member at a {asks = b} i o k) g us = expression_tokens o g (sign_of (point_of b) (it no_gap (chain_token k) us))
-  expression_tokens (chain_element at a c {asks = b} i o e) g us = expression_tokens o g (question_of b (sign_of (codes "[") (expression_tokens e no_gap (sign_of (codes "]") us))))
-  expression_tokens (chain_call at a {asks = b} i o es none) g us = expression_tokens o g (question_of b (sign_of (codes "(") (arguments_tokens es (sign_of (codes ")") us))))
-  expression_tokens (prefix_update at o e) g us = it g (update_token o) (expression_tokens e no_gap us)
-  expression_tokens (postfix_update at o e) g us = expression_tokens e g (it no_gap (update_token o) us)
-  expression_tokens (await_expression at e) g us = it g (items.key (codes "await")) (expression_tokens e blank us)
-  expression_tokens (unary_expression at o e) g us = it g (unary_token o) (expression_tokens e (unary_gap o (own_sign e)) us)
-  expression_tokens (binary_expression at {operator = o} i l r) g us = expression_tokens l g (it blank (binary_token o) (expression_tokens r blank us))
-  expression_tokens (private_in at at' w t r) g us = it g (items.private_name (codes "#" ++ w)) (it blank (items.key (codes "in")) (expression_tokens r blank us))
-  expression_tokens (exponentiation at l r) g us = expression_tokens l g (it blank (sign (codes "**")) (expression_tokens r blank us))
-  expression_tokens (both at l r) g us = expression_tokens l g (it blank (sign (codes "&&")) (expression_tokens r blank us))
-  expression_tokens (either at l r) g us = expression_tokens l g (it blank (sign (codes "||")) (expression_tokens r blank us))
-  expression_tokens (coalesced at i l r) g us = expression_tokens l g (it blank (sign (codes "??")) (expression_tokens r blank us))
-  expression_tokens (yield_nothing at none) g us = it g (items.key (codes "yield")) us
-  expression_tokens (yield_value at d e) g us = it g (items.key (codes "yield")) (star_of d (expression_tokens e blank us))
-  expression_tokens (assignment_expression at o t v) g us = expression_tokens t g (it blank (assign_token o) (expression_tokens v blank us))
-  expression_tokens (conditional_expression at t x y) g us = expression_tokens t g (it blank (sign (codes "?")) (expression_tokens x blank (it blank (sign (codes ":")) (expression_tokens y blank us))))
-  expression_tokens (arrow_function at true ps e z a b) g us = it g (items.key (codes "async")) (it blank (sign (codes "(")) (arguments_tokens ps (sign_of (codes ")") (it blank (sign (codes "=>")) (expression_tokens e blank us)))))
-  expression_tokens (arrow_function at false ps e z a b) g us = it g (sign (codes "(")) (arguments_tokens ps (sign_of (codes ")") (it blank (sign (codes "=>")) (expression_tokens e blank us))))
-  expression_tokens (array at at' es) g us = it g (sign (codes "[")) (slots_tokens es us)
-  expression_tokens (object_literal at at' ps) g us = it g (sign (codes "{")) (properties_tokens ps us)
-  expression_tokens (sequence_expression at x y es) g us = expression_tokens x g (sign_of (codes ",") (expression_tokens y blank (more_tokens es us)))
+  pub expression_tokens : {level : Level} {e : Node} → IsExpression level e → ℕ → Gap → Items → Items
+  expression_tokens (name i) depth g us = it g (items.key (ident_word i)) us
+  expression_tokens (string at raw t) depth g us = it g (items.string raw) us
+  expression_tokens (number at raw t) depth g us = it g (items.number raw) us
+  expression_tokens (this_word at) depth g us = it g (items.key (codes "this")) us
+  expression_tokens (big_int at raw t) depth g us = it g (items.big_int raw) us
+  expression_tokens (regex at b f t) depth g us = it g (items.regex (regex_text b f)) us
+  expression_tokens (template at a b ps) depth g us = it g (part_token true ps) (parts_tokens ps depth us)
+  expression_tokens (null_word at) depth g us = it g (items.key (codes "null")) us
+  expression_tokens (true_word at) depth g us = it g (items.key (codes "true")) us
+  expression_tokens (false_word at) depth g us = it g (items.key (codes "false")) us
+  expression_tokens (member at i o k) depth g us = expression_tokens o depth g (sign_of (codes ".") (it no_gap (chain_token k) us))
+  expression_tokens (call at c es none) depth g us = expression_tokens c depth g (sign_of (codes "(") (arguments_tokens es depth (sign_of (codes ")") us)))
+  expression_tokens (parenthesized at e) depth g us = it g (sign (codes "(")) (expression_tokens e depth no_gap (sign_of (codes ")") us))
+  expression_tokens (looser e) depth g us = expression_tokens e depth g us
+  expression_tokens (element at at' i o e) depth g us = expression_tokens o depth g (sign_of (codes "[") (expression_tokens e depth no_gap (sign_of (codes "]") us)))
+  expression_tokens (super_member at at' k) depth g us = it g (items.key (codes "super")) (sign_of (codes ".") (it no_gap (items.key (key_word k)) us))
+  expression_tokens (super_element at at' at'' e) depth g us = it g (items.key (codes "super")) (sign_of (codes "[") (expression_tokens e depth no_gap (sign_of (codes "]") us)))
+  expression_tokens (super_call at at' es none) depth g us = it g (items.key (codes "super")) (sign_of (codes "(") (arguments_tokens es depth (sign_of (codes ")") us)))
+  expression_tokens (new_expression at e es none) depth g us = it g (items.key (codes "new")) (expression_tokens e depth blank (sign_of (codes "(") (arguments_tokens es depth (sign_of (codes ")") us))))
+  expression_tokens (new_alone at e none none') depth g us = it g (items.key (codes "new")) (expression_tokens e depth blank us)
+  expression_tokens (new_target at) depth g us = it g (items.key (codes "new")) (sign_of (codes ".") (it no_gap (items.key (codes "target")) us))
+  expression_tokens (import_meta at) depth g us = it g (items.key (codes "import")) (sign_of (codes ".") (it no_gap (items.key (codes "meta")) us))
+  expression_tokens (import_call at at' es none) depth g us = it g (items.key (codes "import")) (sign_of (codes "(") (arguments_tokens es depth (sign_of (codes ")") us)))
+  expression_tokens (tagged_template at a b c i o none ps) depth g us = expression_tokens o depth g (it no_gap (part_token true ps) (parts_tokens ps depth us))
+  expression_tokens (chain_member at a {asks = b} i o k) depth g us = expression_tokens o depth g (sign_of (point_of b) (it no_gap (chain_token k) us))
+  expression_tokens (chain_element at a c {asks = b} i o e) depth g us = expression_tokens o depth g (question_of b (sign_of (codes "[") (expression_tokens e depth no_gap (sign_of (codes "]") us))))
+  expression_tokens (chain_call at a {asks = b} i o es none) depth g us = expression_tokens o depth g (question_of b (sign_of (codes "(") (arguments_tokens es depth (sign_of (codes ")") us))))
+  expression_tokens (prefix_update at o e) depth g us = it g (update_token o) (expression_tokens e depth no_gap us)
+  expression_tokens (postfix_update at o e) depth g us = expression_tokens e depth g (it no_gap (update_token o) us)
+  expression_tokens (await_expression at e) depth g us = it g (items.key (codes "await")) (expression_tokens e depth blank us)
+  expression_tokens (unary_expression at o e) depth g us = it g (unary_token o) (expression_tokens e depth (unary_gap o (own_sign e)) us)
+  expression_tokens (binary_expression at {operator = o} i l r) depth g us = expression_tokens l depth g (it blank (binary_token o) (expression_tokens r depth blank us))
+  expression_tokens (private_in at at' w t r) depth g us = it g (items.private_name (codes "#" ++ w)) (it blank (items.key (codes "in")) (expression_tokens r depth blank us))
+  expression_tokens (exponentiation at l r) depth g us = expression_tokens l depth g (it blank (sign (codes "**")) (expression_tokens r depth blank us))
+  expression_tokens (both at l r) depth g us = expression_tokens l depth g (it blank (sign (codes "&&")) (expression_tokens r depth blank us))
+  expression_tokens (either at l r) depth g us = expression_tokens l depth g (it blank (sign (codes "||")) (expression_tokens r depth blank us))
+  expression_tokens (coalesced at i l r) depth g us = expression_tokens l depth g (it blank (sign (codes "??")) (expression_tokens r depth blank us))
+  expression_tokens (yield_nothing at none) depth g us = it g (items.key (codes "yield")) us
+  expression_tokens (yield_value at d e) depth g us = it g (items.key (codes "yield")) (star_of d (expression_tokens e depth blank us))
+  expression_tokens (assignment_expression at o t v) depth g us = expression_tokens t depth g (it blank (assign_token o) (expression_tokens v depth blank us))
+  expression_tokens (conditional_expression at t x y) depth g us = expression_tokens t depth g (it blank (sign (codes "?")) (expression_tokens x depth blank (it blank (sign (codes ":")) (expression_tokens y depth blank us))))
+  expression_tokens (arrow_function at true ps e z a b) depth g us = it g (items.key (codes "async")) (it blank (sign (codes "(")) (arguments_tokens ps depth (sign_of (codes ")") (it blank (sign (codes "=>")) (expression_tokens e depth blank us)))))
+  expression_tokens (arrow_function at false ps e z a b) depth g us = it g (sign (codes "(")) (arguments_tokens ps depth (sign_of (codes ")") (it blank (sign (codes "=>")) (expression_tokens e depth blank us))))
+  expression_tokens (array at at' es) depth g us = it g (sign (codes "[")) (slots_tokens es depth us)
+  expression_tokens (object_literal at at' ps) depth g us = it g (sign (codes "{")) (properties_tokens ps depth us)
+  expression_tokens (sequence_expression at x y es) depth g us = expression_tokens x depth g (sign_of (codes ",") (expression_tokens y depth blank (more_tokens es depth us)))
 
-  pub element_tokens : {role : Role} {n : Node} → IsElement role n → Gap → Items → Items
-  element_tokens (one e) g us = expression_tokens e g us
-  element_tokens (spread at e) g us = it g (sign (codes "...")) (expression_tokens e no_gap us)
-  element_tokens (bound p) g us = defaulted_tokens p g us
-  element_tokens (rest at p a) g us = it g (sign (codes "...")) (pattern_tokens p no_gap us)
+  pub element_tokens : {role : Role} {n : Node} → IsElement role n → ℕ → Gap → Items → Items
+  element_tokens (one e) depth g us = expression_tokens e depth g us
+  element_tokens (spread at e) depth g us = it g (sign (codes "...")) (expression_tokens e depth no_gap us)
+  element_tokens (bound p) depth g us = defaulted_tokens p depth g us
+  element_tokens (rest at p a) depth g us = it g (sign (codes "...")) (pattern_tokens p depth no_gap us)
 
   -- behind `[`
-  pub slots_tokens : {role : Role} {ns : List Node} → AreSlots role ns → Items → Items
-  slots_tokens no_slots us = sign_of (codes "]") us
-  slots_tokens (filled e es) us = element_tokens e no_gap (more_slots_tokens es false no_gap us)
-  slots_tokens (hole a es) us = more_slots_tokens es true no_gap us
+  pub slots_tokens : {role : Role} {ns : List Node} → AreSlots role ns → ℕ → Items → Items
+  slots_tokens no_slots depth us = sign_of (codes "]") us
+  slots_tokens (filled e es) depth us = element_tokens e depth no_gap (more_slots_tokens es depth false no_gap us)
+  slots_tokens (hole a es) depth us = more_slots_tokens es depth true no_gap us
 
   -- behind an element, or behind a hole and this gap: behind a last hole stands one comma more
-  pub more_slots_tokens : {role : Role} {ns : List Node} → AreSlots role ns → Bool → Gap → Items → Items
-  more_slots_tokens no_slots false g us = sign_of (codes "]") us
-  more_slots_tokens no_slots true g us = it g (sign (codes ",")) (sign_of (codes "]") us)
-  more_slots_tokens (filled e es) b g us = it g (sign (codes ",")) (element_tokens e blank (more_slots_tokens es false no_gap us))
-  more_slots_tokens (hole a es) b g us = it g (sign (codes ",")) (more_slots_tokens es true blank us)
+  pub more_slots_tokens : {role : Role} {ns : List Node} → AreSlots role ns → ℕ → Bool → Gap → Items → Items
+  more_slots_tokens no_slots depth false g us = sign_of (codes "]") us
+  more_slots_tokens no_slots depth true g us = it g (sign (codes ",")) (sign_of (codes "]") us)
+  more_slots_tokens (filled e es) depth b g us = it g (sign (codes ",")) (element_tokens e depth blank (more_slots_tokens es depth false no_gap us))
+  more_slots_tokens (hole a es) depth b g us = it g (sign (codes ",")) (more_slots_tokens es depth true blank us)
 
-  pub property_name_tokens : {n : Node} → IsPropertyName n → Gap → Items → Items
-  property_name_tokens (key_name k) g us = it g (items.key (key_word k)) us
-  property_name_tokens (string_name at raw t) g us = it g (items.string raw) us
-  property_name_tokens (number_name at raw t) g us = it g (items.number raw) us
-  property_name_tokens (big_int_name at raw t) g us = it g (items.big_int raw) us
-  property_name_tokens (computed_name at e) g us = it g (sign (codes "[")) (expression_tokens e no_gap (sign_of (codes "]") us))
+  pub property_name_tokens : {n : Node} → IsPropertyName n → ℕ → Gap → Items → Items
+  property_name_tokens (key_name k) depth g us = it g (items.key (key_word k)) us
+  property_name_tokens (string_name at raw t) depth g us = it g (items.string raw) us
+  property_name_tokens (number_name at raw t) depth g us = it g (items.number raw) us
+  property_name_tokens (big_int_name at raw t) depth g us = it g (items.big_int raw) us
+  property_name_tokens (computed_name at e) depth g us = it g (sign (codes "[")) (expression_tokens e depth no_gap (sign_of (codes "]") us))
 
-  pub property_tokens : {role : Role} {n : Node} → IsProperty role n → Gap → Items → Items
-  property_tokens (key_value at k v) g us = property_name_tokens k g (sign_of (codes ":") (expression_tokens v blank us))
-  property_tokens (shorthand i) g us = it g (items.key (ident_word i)) us
-  property_tokens (initialized at i v) g us = it g (items.key (ident_word i)) (it blank (sign (codes "=")) (expression_tokens v blank us))
-  property_tokens (spread_property at e) g us = it g (sign (codes "...")) (expression_tokens e no_gap us)
-  property_tokens (renamed at k p) g us = property_name_tokens k g (sign_of (codes ":") (defaulted_tokens p blank us))
-  property_tokens (named at at' i a v) g us = it g (items.key (ident_word i)) (initializer_tokens v us)
-  property_tokens (rest_property at at' i a b) g us = it g (sign (codes "...")) (it no_gap (items.key (ident_word i)) us)
+  pub property_tokens : {role : Role} {n : Node} → IsProperty role n → ℕ → Gap → Items → Items
+  property_tokens (key_value at k v) depth g us = property_name_tokens k depth g (sign_of (codes ":") (expression_tokens v depth blank us))
+  property_tokens (shorthand i) depth g us = it g (items.key (ident_word i)) us
+  property_tokens (initialized at i v) depth g us = it g (items.key (ident_word i)) (it blank (sign (codes "=")) (expression_tokens v depth blank us))
+  property_tokens (spread_property at e) depth g us = it g (sign (codes "...")) (expression_tokens e depth no_gap us)
+  property_tokens (renamed at k p) depth g us = property_name_tokens k depth g (sign_of (codes ":") (defaulted_tokens p depth blank us))
+  property_tokens (named at at' i a v) depth g us = it g (items.key (ident_word i)) (initializer_tokens v depth us)
+  property_tokens (rest_property at at' i a b) depth g us = it g (sign (codes "...")) (it no_gap (items.key (ident_word i)) us)
 
   -- behind `{`, with a blank within each brace
-  pub properties_tokens : {role : Role} {ns : List Node} → AreProperties role ns → Items → Items
-  properties_tokens no_properties us = sign_of (codes "}") us
-  properties_tokens (more_properties p ps) us = property_tokens p blank (more_properties_tokens ps us)
+  pub properties_tokens : {role : Role} {ns : List Node} → AreProperties role ns → ℕ → Items → Items
+  properties_tokens no_properties depth us = sign_of (codes "}") us
+  properties_tokens (more_properties p ps) depth us = property_tokens p depth blank (more_properties_tokens ps depth us)
 
-  pub more_properties_tokens : {role : Role} {ns : List Node} → AreProperties role ns → Items → Items
-  more_properties_tokens no_properties us = it blank (sign (codes "}")) us
-  more_properties_tokens (more_properties p ps) us = sign_of (codes ",") (property_tokens p blank (more_properties_tokens ps us))
+  pub more_properties_tokens : {role : Role} {ns : List Node} → AreProperties role ns → ℕ → Items → Items
+  more_properties_tokens no_properties depth us = it blank (sign (codes "}")) us
+  more_properties_tokens (more_properties p ps) depth us = sign_of (codes ",") (property_tokens p depth blank (more_properties_tokens ps depth us))
 
-  pub pattern_tokens : {n : Node} → IsPattern n → Gap → Items → Items
-  pattern_tokens (name_pattern at i a) g us = it g (items.key (ident_word i)) us
-  pattern_tokens (array_pattern at at' es a) g us = it g (sign (codes "[")) (slots_tokens es us)
-  pattern_tokens (object_pattern at at' ps a) g us = it g (sign (codes "{")) (properties_tokens ps us)
+  pub pattern_tokens : {n : Node} → IsPattern n → ℕ → Gap → Items → Items
+  pattern_tokens (name_pattern at i a) depth g us = it g (items.key (ident_word i)) us
+  pattern_tokens (array_pattern at at' es a) depth g us = it g (sign (codes "[")) (slots_tokens es depth us)
+  pattern_tokens (object_pattern at at' ps a) depth g us = it g (sign (codes "{")) (properties_tokens ps depth us)
 
-  pub defaulted_tokens : {n : Node} → IsDefaulted n → Gap → Items → Items
-  defaulted_tokens (no_default p) g us = pattern_tokens p g us
-  defaulted_tokens (with_default at p e) g us = pattern_tokens p g (it blank (sign (codes "=")) (expression_tokens e blank us))
+  pub defaulted_tokens : {n : Node} → IsDefaulted n → ℕ → Gap → Items → Items
+  defaulted_tokens (no_default p) depth g us = pattern_tokens p depth g us
+  defaulted_tokens (with_default at p e) depth g us = pattern_tokens p depth g (it blank (sign (codes "=")) (expression_tokens e depth blank us))
 
-  pub initializer_tokens : {n : Node} → IsInitializer n → Items → Items
-  initializer_tokens (no_initializer a) us = us
-  initializer_tokens (initializer e) us = it blank (sign (codes "=")) (expression_tokens e blank us)
+  pub initializer_tokens : {n : Node} → IsInitializer n → ℕ → Items → Items
+  initializer_tokens (no_initializer a) depth us = us
+  initializer_tokens (initializer e) depth us = it blank (sign (codes "=")) (expression_tokens e depth blank us)
 
-  pub arguments_tokens : {role : Role} {n : Node} → IsArguments role n → Items → Items
-  arguments_tokens (no_arguments at) us = us
-  arguments_tokens (arguments at e es) us = element_tokens e no_gap (elements_tokens es us)
+  pub arguments_tokens : {role : Role} {n : Node} → IsArguments role n → ℕ → Items → Items
+  arguments_tokens (no_arguments at) depth us = us
+  arguments_tokens (arguments at e es) depth us = element_tokens e depth no_gap (elements_tokens es depth us)
 
-  pub elements_tokens : {role : Role} {es : List Node} → AreElements role es → Items → Items
-  elements_tokens no_elements us = us
-  elements_tokens (more_elements e es) us = sign_of (codes ",") (element_tokens e blank (elements_tokens es us))
+  pub elements_tokens : {role : Role} {es : List Node} → AreElements role es → ℕ → Items → Items
+  elements_tokens no_elements depth us = us
+  elements_tokens (more_elements e es) depth us = sign_of (codes ",") (element_tokens e depth blank (elements_tokens es depth us))
 
   -- behind the first part
-  pub parts_tokens : {t f : Bool} {es ps : List Node} → AreParts t f es ps → Items → Items
-  parts_tokens (last_part p) us = us
-  parts_tokens (more_parts p e ps) us = expression_tokens e no_gap (it no_gap (part_token false ps) (parts_tokens ps us))
+  pub parts_tokens : {t f : Bool} {es ps : List Node} → AreParts t f es ps → ℕ → Items → Items
+  parts_tokens (last_part p) depth us = us
+  parts_tokens (more_parts p e ps) depth us = expression_tokens e depth no_gap (it no_gap (part_token false ps) (parts_tokens ps depth us))
 
-  pub more_tokens : {es : List Node} → AreExpressions es → Items → Items
-  more_tokens no_expressions us = us
-  more_tokens (more_expressions e es) us = sign_of (codes ",") (expression_tokens e blank (more_tokens es us))
+  pub more_tokens : {es : List Node} → AreExpressions es → ℕ → Items → Items
+  more_tokens no_expressions depth us = us
+  more_tokens (more_expressions e es) depth us = sign_of (codes ",") (expression_tokens e depth blank (more_tokens es depth us))
 
-abbrev pub declarator_tokens : {n : Node} → IsDeclarator n → Items → Items
-declarator_tokens (declarator at p e) us = pattern_tokens p blank (initializer_tokens e us)
+abbrev pub declarator_tokens : {n : Node} → IsDeclarator n → ℕ → Items → Items
+declarator_tokens (declarator at p e) depth us = pattern_tokens p depth blank (initializer_tokens e depth us)
 
-abbrev pub declarators_tokens : {ds : List Node} → AreDeclarators ds → Items → Items
-declarators_tokens no_declarators us = us
-declarators_tokens (more_declarators d ds) us = sign_of (codes ",") (declarator_tokens d (declarators_tokens ds us))
+abbrev pub declarators_tokens : {ds : List Node} → AreDeclarators ds → ℕ → Items → Items
+declarators_tokens no_declarators depth us = us
+declarators_tokens (more_declarators d ds) depth us = sign_of (codes ",") (declarator_tokens d depth (declarators_tokens ds depth us))
 
-abbrev pub optional_tokens : {n : Node} → IsOptional n → Items → Items
-optional_tokens (left_out a) us = us
-optional_tokens (given e) us = expression_tokens e blank us
+abbrev pub optional_tokens : {n : Node} → IsOptional n → ℕ → Items → Items
+optional_tokens (left_out a) depth us = us
+optional_tokens (given e) depth us = expression_tokens e depth blank us
 
-abbrev pub for_left_tokens : {n : Node} → IsForLeft n → Items → Items
-for_left_tokens (for_binding at of_list at_declarator k p a) us = it no_gap (items.key (keyword k)) (pattern_tokens p blank us)
-for_left_tokens (for_target e z) us = expression_tokens e no_gap us
+abbrev pub for_left_tokens : {n : Node} → IsForLeft n → ℕ → Items → Items
+for_left_tokens (for_binding at of_list at_declarator k p a) depth us = it no_gap (items.key (keyword k)) (pattern_tokens p depth blank us)
+for_left_tokens (for_target e z) depth us = expression_tokens e depth no_gap us
 
 abbrev pub as_declarator : {d : Node} → IsForDeclarator d → IsDeclarator d
 as_declarator (for_declarator at p e z) = declarator at p e
@@ -298,10 +299,10 @@ abbrev pub as_declarators : {ds : List Node} → AreForDeclarators ds → AreDec
 as_declarators no_for_declarators = no_declarators
 as_declarators (more_for_declarators d ds) = more_declarators (as_declarator d) (as_declarators ds)
 
-abbrev pub for_init_tokens : {n : Node} → IsForInit n → Items → Items
-for_init_tokens (no_init a) us = us
-for_init_tokens (init_declaration at of_list k d ds) us = it no_gap (items.key (keyword k)) (declarator_tokens (as_declarator d) (declarators_tokens (as_declarators ds) us))
-for_init_tokens (init_expression e z) us = expression_tokens e no_gap us
+abbrev pub for_init_tokens : {n : Node} → IsForInit n → ℕ → Items → Items
+for_init_tokens (no_init a) depth us = us
+for_init_tokens (init_declaration at of_list k d ds) depth us = it no_gap (items.key (keyword k)) (declarator_tokens (as_declarator d) depth (declarators_tokens (as_declarators ds) depth us))
+for_init_tokens (init_expression e z) depth us = expression_tokens e depth no_gap us
 
 -- `for (`, and `await` between
 abbrev pub for_tokens : Bool → Gap → Items → Items
@@ -323,8 +324,8 @@ branch_gap true depth = blank
 branch_gap false depth = line_at depth
 
 -- `(`, a test, `)`
-abbrev pub test_tokens : {level : Level} {e : Node} → IsExpression level e → Items → Items
-test_tokens e us = it blank (sign (codes "(")) (expression_tokens e no_gap (sign_of (codes ")") us))
+abbrev pub test_tokens : {level : Level} {e : Node} → IsExpression level e → ℕ → Items → Items
+test_tokens e depth us = it blank (sign (codes "(")) (expression_tokens e depth no_gap (sign_of (codes ")") us))
 
 -- what stands before the name of a function: whether it is a generator, and asynchronous
 abbrev pub star_word : Bool → Gap → Items → Items
@@ -354,9 +355,9 @@ abbrev pub accessor_text : Bool → List ℕ
 accessor_text true = codes "set"
 accessor_text false = codes "get"
 
-abbrev pub heritage_tokens : {n : Node} → IsHeritage n → Items → Items
-heritage_tokens (no_heritage a) us = us
-heritage_tokens (heritage e) us = it blank (items.key (codes "extends")) (expression_tokens e blank us)
+abbrev pub heritage_tokens : {n : Node} → IsHeritage n → ℕ → Items → Items
+heritage_tokens (no_heritage a) depth us = us
+heritage_tokens (heritage e) depth us = it blank (items.key (codes "extends")) (expression_tokens e depth blank us)
 
 abbrev pub function_name_tokens : {n : Node} → IsFunctionName n → Items → Items
 function_name_tokens (unnamed a) us = us
@@ -373,59 +374,59 @@ abbrev mutual
   pub statement_tokens : {ending : Ending} {s : Node} → IsStatement ending s → ℕ → Gap → Items → Items
   statement_tokens (empty at) d g us = it g (sign (codes ";")) us
   statement_tokens (debugger_word at) d g us = it g (items.key (codes "debugger")) (sign_of (codes ";") us)
-  statement_tokens (throw at e) d g us = it g (items.key (codes "throw")) (expression_tokens e blank (sign_of (codes ";") us))
-  statement_tokens (return_value at e) d g us = it g (items.key (codes "return")) (expression_tokens e blank (sign_of (codes ";") us))
+  statement_tokens (throw at e) d g us = it g (items.key (codes "throw")) (expression_tokens e d blank (sign_of (codes ";") us))
+  statement_tokens (return_value at e) d g us = it g (items.key (codes "return")) (expression_tokens e d blank (sign_of (codes ";") us))
   statement_tokens (return_nothing at a) d g us = it g (items.key (codes "return")) (sign_of (codes ";") us)
   statement_tokens (break_nothing at a) d g us = it g (items.key (codes "break")) (sign_of (codes ";") us)
   statement_tokens (continue_nothing at a) d g us = it g (items.key (codes "continue")) (sign_of (codes ";") us)
-  statement_tokens (expression at e z) d g us = expression_tokens e g (sign_of (codes ";") us)
-  statement_tokens (declaration at at' k i is) d g us = it g (items.key (keyword k)) (declarator_tokens i (declarators_tokens is (sign_of (codes ";") us)))
+  statement_tokens (expression at e z) d g us = expression_tokens e d g (sign_of (codes ";") us)
+  statement_tokens (declaration at at' k i is) d g us = it g (items.key (keyword k)) (declarator_tokens i d (declarators_tokens is d (sign_of (codes ";") us)))
   statement_tokens (break_label at i) d g us = it g (items.key (codes "break")) (it blank (items.key (ident_word i)) (sign_of (codes ";") us))
   statement_tokens (continue_label at i) d g us = it g (items.key (codes "continue")) (it blank (items.key (ident_word i)) (sign_of (codes ";") us))
   statement_tokens (block b) d g us = block_tokens b d g us
-  statement_tokens (if_only at e b a) d g us = it g (items.key (codes "if")) (test_tokens e (statement_tokens b d blank us))
-  statement_tokens (if_else at e b a) d g us = it g (items.key (codes "if")) (test_tokens e (statement_tokens b d blank (it (branch_gap (is_braced b) d) (items.key (codes "else")) (statement_tokens a d blank us))))
-  statement_tokens (while_loop at e b) d g us = it g (items.key (codes "while")) (test_tokens e (statement_tokens b d blank us))
-  statement_tokens (do_loop at e b) d g us = it g (items.key (codes "do")) (statement_tokens b d blank (it (branch_gap (is_braced b) d) (items.key (codes "while")) (test_tokens e (sign_of (codes ";") us))))
-  statement_tokens (switch_statement at at' {cs = cs'} e cs) d g us = it g (items.key (codes "switch")) (test_tokens e (it blank (sign (codes "{")) (cases_tokens cs (suc d) (it (closing_gap cs' d) (sign (codes "}")) us))))
+  statement_tokens (if_only at e b a) d g us = it g (items.key (codes "if")) (test_tokens e d (statement_tokens b d blank us))
+  statement_tokens (if_else at e b a) d g us = it g (items.key (codes "if")) (test_tokens e d (statement_tokens b d blank (it (branch_gap (is_braced b) d) (items.key (codes "else")) (statement_tokens a d blank us))))
+  statement_tokens (while_loop at e b) d g us = it g (items.key (codes "while")) (test_tokens e d (statement_tokens b d blank us))
+  statement_tokens (do_loop at e b) d g us = it g (items.key (codes "do")) (statement_tokens b d blank (it (branch_gap (is_braced b) d) (items.key (codes "while")) (test_tokens e d (sign_of (codes ";") us))))
+  statement_tokens (switch_statement at at' {cs = cs'} e cs) d g us = it g (items.key (codes "switch")) (test_tokens e d (it blank (sign (codes "{")) (cases_tokens cs (suc d) (it (closing_gap cs' d) (sign (codes "}")) us))))
   statement_tokens (try_catch at b c a) d g us = it g (items.key (codes "try")) (block_tokens b d blank (catch_tokens c d us))
   statement_tokens (try_finally at b a f) d g us = it g (items.key (codes "try")) (block_tokens b d blank (it blank (items.key (codes "finally")) (block_tokens f d blank us)))
   statement_tokens (try_catch_finally at b c f) d g us = it g (items.key (codes "try")) (block_tokens b d blank (catch_tokens c d (it blank (items.key (codes "finally")) (block_tokens f d blank us))))
-  statement_tokens (for_loop at i t u b) d g us = for_tokens false g (for_init_tokens i (sign_of (codes ";") (optional_tokens t (sign_of (codes ";") (optional_tokens u (sign_of (codes ")") (statement_tokens b d blank us)))))))
-  statement_tokens (for_in at l e b) d g us = for_tokens false g (for_left_tokens l (it blank (items.key (codes "in")) (expression_tokens e blank (sign_of (codes ")") (statement_tokens b d blank us)))))
-  statement_tokens (for_of at w l e b) d g us = for_tokens w g (for_left_tokens l (it blank (items.key (codes "of")) (expression_tokens e blank (sign_of (codes ")") (statement_tokens b d blank us)))))
+  statement_tokens (for_loop at i t u b) d g us = for_tokens false g (for_init_tokens i d (sign_of (codes ";") (optional_tokens t d (sign_of (codes ";") (optional_tokens u d (sign_of (codes ")") (statement_tokens b d blank us)))))))
+  statement_tokens (for_in at l e b) d g us = for_tokens false g (for_left_tokens l d (it blank (items.key (codes "in")) (expression_tokens e d blank (sign_of (codes ")") (statement_tokens b d blank us)))))
+  statement_tokens (for_of at w l e b) d g us = for_tokens w g (for_left_tokens l d (it blank (items.key (codes "of")) (expression_tokens e d blank (sign_of (codes ")") (statement_tokens b d blank us)))))
   statement_tokens (labeled at i b) d g us = it g (items.key (ident_word i)) (sign_of (codes ":") (statement_tokens b d blank us))
   statement_tokens (function_statement at i f) d g us = function_word (is_generator f) (is_async f) g (it blank (items.key (ident_word i)) (function_tokens f d us))
   statement_tokens (class_statement at i c) d g us = it g (items.key (codes "class")) (it blank (items.key (ident_word i)) (class_tokens c d us))
 
   pub class_tokens : {n : Node} → IsClass n → ℕ → Items → Items
-  class_tokens (class_of at at' at'' {ms = ms'} h ms a a') d us = heritage_tokens h (it blank (sign (codes "{")) (members_tokens ms (suc d) (it (closing_gap ms' d) (sign (codes "}")) us)))
+  class_tokens (class_of at at' at'' {ms = ms'} h ms a a') d us = heritage_tokens h d (it blank (sign (codes "{")) (members_tokens ms (suc d) (it (closing_gap ms' d) (sign (codes "}")) us)))
 
   pub member_tokens : {n : Node} → IsMember n → ℕ → Gap → Items → Items
   member_tokens (static_block at b) d g us = it g (items.key (codes "static")) (block_tokens b d blank us)
   member_tokens (method at s k f) d g us = static_tokens s (λ h. method_tokens (is_generator f) (is_async f) (method_word k) h (function_tokens f d us)) g
-  member_tokens (class_constructor at at' at'' ps ws b) d g us = it g (items.key (codes "constructor")) (sign_of (codes "(") (arguments_tokens ps (sign_of (codes ")") (block_tokens b d blank us))))
-  member_tokens (field at s k v a) d g us = static_tokens s (λ h. it h (items.key (key_word k)) (initializer_tokens v (sign_of (codes ";") us))) g
-  member_tokens (accessor at at' at'' s b k ps ws body a a') d g us = static_tokens s (λ h. it h (items.key (accessor_text b)) (it blank (items.key (key_word k)) (sign_of (codes "(") (arguments_tokens ps (sign_of (codes ")") (block_tokens body d blank us)))))) g
-  member_tokens (private_field at at' s w t v a) d g us = static_tokens s (λ h. it h (items.private_name (codes "#" ++ w)) (initializer_tokens v (sign_of (codes ";") us))) g
+  member_tokens (class_constructor at at' at'' ps ws b) d g us = it g (items.key (codes "constructor")) (sign_of (codes "(") (arguments_tokens ps d (sign_of (codes ")") (block_tokens b d blank us))))
+  member_tokens (field at s k v a) d g us = static_tokens s (λ h. it h (items.key (key_word k)) (initializer_tokens v d (sign_of (codes ";") us))) g
+  member_tokens (accessor at at' at'' s b k ps ws body a a') d g us = static_tokens s (λ h. it h (items.key (accessor_text b)) (it blank (items.key (key_word k)) (sign_of (codes "(") (arguments_tokens ps d (sign_of (codes ")") (block_tokens body d blank us)))))) g
+  member_tokens (private_field at at' s w t v a) d g us = static_tokens s (λ h. it h (items.private_name (codes "#" ++ w)) (initializer_tokens v d (sign_of (codes ";") us))) g
 
   pub members_tokens : {ns : List Node} → AreMembers ns → ℕ → Items → Items
   members_tokens no_members d us = us
   members_tokens (more_members m ms) d us = member_tokens m d (line_at d) (members_tokens ms d us)
 
   pub function_tokens : {n : Node} → IsFunction n → ℕ → Items → Items
-  function_tokens (function_of at at' x y ps w b a a') d us = sign_of (codes "(") (arguments_tokens ps (sign_of (codes ")") (block_tokens b d blank us)))
+  function_tokens (function_of at at' x y ps w b a a') d us = sign_of (codes "(") (arguments_tokens ps d (sign_of (codes ")") (block_tokens b d blank us)))
 
   pub block_tokens : {b : Node} → IsBlock b → ℕ → Gap → Items → Items
   block_tokens (block_of at at' {ss = ss'} ss) d g us = it g (sign (codes "{")) (lined_tokens ss (suc d) (it (closing_gap ss' d) (sign (codes "}")) us))
 
   pub case_tokens : {c : Node} → IsCase c → ℕ → Gap → Items → Items
-  case_tokens (case_of at at' e ss) d g us = it g (items.key (codes "case")) (expression_tokens e blank (sign_of (codes ":") (lined_tokens ss (suc d) us)))
+  case_tokens (case_of at at' e ss) d g us = it g (items.key (codes "case")) (expression_tokens e d blank (sign_of (codes ":") (lined_tokens ss (suc d) us)))
   case_tokens (default_of at at' a ss) d g us = it g (items.key (codes "default")) (sign_of (codes ":") (lined_tokens ss (suc d) us))
 
   pub catch_tokens : {c : Node} → IsCatch c → ℕ → Items → Items
   catch_tokens (catch_any at a b) d us = it blank (items.key (codes "catch")) (block_tokens b d blank us)
-  catch_tokens (catch_pattern at p b) d us = it blank (items.key (codes "catch")) (it blank (sign (codes "(")) (pattern_tokens p no_gap (sign_of (codes ")") (block_tokens b d blank us))))
+  catch_tokens (catch_pattern at p b) d us = it blank (items.key (codes "catch")) (it blank (sign (codes "(")) (pattern_tokens p d no_gap (sign_of (codes ")") (block_tokens b d blank us))))
 
   -- each on a line of its own
   pub cases_tokens : {cs : List Node} → AreCases cs → ℕ → Items → Items
