@@ -1,0 +1,5 @@
+mod Bare
+pub mod Finishing
+mod Tests
+mod Walks
+pub mod Rules
