@@ -1,1 +1,1 @@
-mod Uncovering
+pub mod Uncovering

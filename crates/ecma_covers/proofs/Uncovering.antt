@@ -20,7 +20,7 @@ use Rattle.ecma_covers.specs.Laws.{FinishingUncovers}
 spanless : (at : Span) (k : Kind) (cs : List Node) → without_spans (node_of at k cs) ≡ node_of dummy_span k (map without_spans cs)
 spanless at k cs = fold-roll-Node Node unplaced (record { span = at; kind = k; children = cs })
 
-cover_node : (at : Span) (k : Kind) (cs : List Node) (t : Target) → cover_at (node_of at k cs) t ≡ cover_by t (record { span = at; kind = k; children = each_in (cover_in t k) (map cover_at cs) })
+pub cover_node : (at : Span) (k : Kind) (cs : List Node) (t : Target) → cover_at (node_of at k cs) t ≡ cover_by t (record { span = at; kind = k; children = each_in (cover_in t k) (map cover_at cs) })
 cover_node at k cs t = ap (λ f. f t) (fold-roll-Node (Target → Node) cover_step (record { span = at; kind = k; children = cs }))
 
 finished_node : (at : Span) (k : Kind) (cs : List Node) (t : Target) → finished_at (node_of at k cs) t ≡ finished_by t (record { span = at; kind = k; children = each_in (target_in t k) (map finished_at cs) })
@@ -73,7 +73,7 @@ property_kept kind.RestPat p h = absurd (cc)
 property_kept _ p h = (refl, refl)
 
 -- a node that is itself there is neither covered nor turned
-kept : (t : Target) (p : Node-F Node) → as_read t p.kind ≡ true → (cover_by t p ≡ roll-Node p) × (finished_by t p ≡ roll-Node p)
+pub kept : (t : Target) (p : Node-F Node) → as_read t p.kind ≡ true → (cover_by t p ≡ roll-Node p) × (finished_by t p ≡ roll-Node p)
 kept target.Left p h = left_kept p.kind p h
 kept target.Head p h = part_kept p.kind p h
 kept target.Part p h = part_kept p.kind p h
@@ -118,7 +118,7 @@ free_at : (wanted i : ℕ) (t : Target) → t ≡ target.Free → at_child wante
 free_at wanted i t e = rw e (either_free (nat_eq i wanted))
 
 -- and its children are asked the same
-asks_same : (t : Target) (k : Kind) (i : ℕ) → as_read t k ≡ true → cover_in t k i ≡ target_in t k i
+pub asks_same : (t : Target) (k : Kind) (i : ℕ) → as_read t k ≡ true → cover_in t k i ≡ target_in t k i
 unfolding cover_in target_in
 asks_same t (kind.ArrayPat optional) i h = free_at 0 i (in_literal t target.Elements) (array_asks t optional h)
 asks_same t (kind.ObjectPat optional) i h = free_at 0 i (in_literal t target.Properties) (object_asks t optional h)
@@ -128,13 +128,13 @@ asks_same t kind.KeyValuePatProp i h = free_at 1 i (in_value t) (value_asks t h)
 asks_same t kind.AssignPatProp i h = free_at 0 i (in_short_default t) (short_asks t h)
 asks_same t k i h = refl
 
-each_same : (f g : ℕ → Target) → ((i : ℕ) → f i ≡ g i) → (xs : List (Target → Node)) → each_in f xs ≡ each_in g xs
+pub each_same : (f g : ℕ → Target) → ((i : ℕ) → f i ≡ g i) → (xs : List (Target → Node)) → each_in f xs ≡ each_in g xs
 each_same f g e [] = refl
 each_same f g e (x ∷ xs) = ap₂ (λ t rest. x t ∷ rest) (e 0) (each_same (λ i. f (suc i)) (λ i. g (suc i)) (λ i. e (suc i)) xs)
 
 -- literals and patterns
 
-array_covered : (t : Target) → takes_patterns t ≡ true → (at : Span) (a b : Node) → cover_by t (record { span = at; kind = kind.ArrayPat false; children = a ∷ b ∷ [] }) ≡ node_of at kind.ArrayLit (a ∷ [])
+pub array_covered : (t : Target) → takes_patterns t ≡ true → (at : Span) (a b : Node) → cover_by t (record { span = at; kind = kind.ArrayPat false; children = a ∷ b ∷ [] }) ≡ node_of at kind.ArrayLit (a ∷ [])
 array_covered target.Left h at a b = refl
 array_covered target.Head h at a b = refl
 array_covered target.Part h at a b = refl
@@ -148,7 +148,7 @@ array_turned target.Part h at a = refl
 array_turned target.Element h at a = refl
 array_turned _ h at a = absurd (cc)
 
-object_covered : (t : Target) → takes_patterns t ≡ true → (at : Span) (a b : Node) → cover_by t (record { span = at; kind = kind.ObjectPat false; children = a ∷ b ∷ [] }) ≡ node_of at kind.ObjectLit (a ∷ [])
+pub object_covered : (t : Target) → takes_patterns t ≡ true → (at : Span) (a b : Node) → cover_by t (record { span = at; kind = kind.ObjectPat false; children = a ∷ b ∷ [] }) ≡ node_of at kind.ObjectLit (a ∷ [])
 object_covered target.Left h at a b = refl
 object_covered target.Head h at a b = refl
 object_covered target.Part h at a b = refl
@@ -162,15 +162,15 @@ object_turned target.Part h at a = refl
 object_turned target.Element h at a = refl
 object_turned _ h at a = absurd (cc)
 
-literal_asks : (t items : Target) → takes_patterns t ≡ true → in_literal t items ≡ items
+pub literal_asks : (t items : Target) → takes_patterns t ≡ true → in_literal t items ≡ items
 literal_asks t items h = rw h refl
 
 -- names
 
-abbrev name_node : Span → List ℕ → ℕ → Bool → Node
+abbrev pub name_node : Span → List ℕ → ℕ → Bool → Node
 name_node at word ctxt optional = node_of at (kind.Ident word ctxt optional) []
 
-abbrev binding_node : Span → Span → Span → List ℕ → ℕ → Bool → Node
+abbrev pub binding_node : Span → Span → Span → List ℕ → ℕ → Bool → Node
 binding_node at of_name of_type word ctxt optional = node_of at kind.BindingIdent (name_node of_name word ctxt optional ∷ node_of of_type kind.Absent [] ∷ [])
 
 name_covered : (t : Target) → binds t ≡ true → (at : Span) (a b : Node) → cover_by t (record { span = at; kind = kind.BindingIdent; children = a ∷ b ∷ [] }) ≡ a
@@ -193,10 +193,10 @@ name_turned _ h at word ctxt optional = absurd (cc)
 free_name : (at : Span) (word : List ℕ) (ctxt : ℕ) (optional : Bool) → cover_at (name_node at word ctxt optional) target.Free ≡ name_node at word ctxt optional
 free_name at word ctxt optional = cover_node at (kind.Ident word ctxt optional) [] target.Free
 
-free_missing : (at : Span) → cover_at (node_of at kind.Absent []) target.Free ≡ node_of at kind.Absent []
+pub free_missing : (at : Span) → cover_at (node_of at kind.Absent []) target.Free ≡ node_of at kind.Absent []
 free_missing at = cover_node at kind.Absent [] target.Free
 
-binding_covered : (t : Target) → binds t ≡ true → (at of_name of_type : Span) (word : List ℕ) (ctxt : ℕ) (optional : Bool) → cover_at (binding_node at of_name of_type word ctxt optional) t ≡ name_node of_name word ctxt optional
+pub binding_covered : (t : Target) → binds t ≡ true → (at of_name of_type : Span) (word : List ℕ) (ctxt : ℕ) (optional : Bool) → cover_at (binding_node at of_name of_type word ctxt optional) t ≡ name_node of_name word ctxt optional
 unfolding cover_in target_in
 binding_covered t h at of_name of_type word ctxt optional =
     cover_node at kind.BindingIdent (name_node of_name word ctxt optional ∷ node_of of_type kind.Absent [] ∷ []) t
@@ -216,17 +216,17 @@ name_again t h of_name word ctxt optional = finished_node of_name (kind.Ident wo
 
 -- a shorthand, and one with a default
 
-is_missing_there : (at : Span) → is_absent (out-Node (node_of at kind.Absent [])).kind ≡ true
+pub is_missing_there : (at : Span) → is_absent (out-Node (node_of at kind.Absent [])).kind ≡ true
 is_missing_there at = ap (λ p. is_absent p.kind) (out-roll-Node (record { span = at; kind = kind.Absent; children = [] }))
 
-short_covered : (at of_value : Span) (name : Node) → cover_by target.Property (record { span = at; kind = kind.AssignPatProp; children = name ∷ node_of of_value kind.Absent [] ∷ [] }) ≡ name
+pub short_covered : (at of_value : Span) (name : Node) → cover_by target.Property (record { span = at; kind = kind.AssignPatProp; children = name ∷ node_of of_value kind.Absent [] ∷ [] }) ≡ name
 short_covered at of_value name = ap (λ b. cond b name (node_of at kind.AssignProp (name ∷ node_of of_value kind.Absent [] ∷ []))) (is_missing_there of_value)
 
-default_covered : (at : Span) (name value : Node) → is_absent (out-Node value).kind ≡ false → cover_by target.Property (record { span = at; kind = kind.AssignPatProp; children = name ∷ value ∷ [] }) ≡ node_of at kind.AssignProp (name ∷ value ∷ [])
+pub default_covered : (at : Span) (name value : Node) → is_absent (out-Node value).kind ≡ false → cover_by target.Property (record { span = at; kind = kind.AssignPatProp; children = name ∷ value ∷ [] }) ≡ node_of at kind.AssignProp (name ∷ value ∷ [])
 default_covered at name value there = ap (λ b. cond b name (node_of at kind.AssignProp (name ∷ value ∷ []))) there
 
 -- what covers a node keeps its kind where nothing is asked of it
-free_kind : (n : Node) → (out-Node (cover_at n target.Free)).kind ≡ (out-Node n).kind
+pub free_kind : (n : Node) → (out-Node (cover_at n target.Free)).kind ≡ (out-Node n).kind
 free_kind n =
     ap (λ m. (out-Node (cover_at m target.Free)).kind) (sym (roll-out-Node n))
     ∙ (ap (λ m. (out-Node m).kind) (cover_node (out-Node n).span (out-Node n).kind (out-Node n).children target.Free)

@@ -1,0 +1,3 @@
+mod Parts
+mod Roles
+pub mod Placed

@@ -1,0 +1,23 @@
+-- Laws of finished trees that fit.
+use Rattle.std.specs.Prelude.{◌≡◌, Bool, false}
+use Rattle.ecma_kind.specs.declared.kind.Kind.{Kind}
+use Rattle.ecma_kind.specs.declared.kind.Kind.TheVariants as kind
+use Rattle.ecma_tree.specs.declared.node.Node.{Node}
+use Rattle.ecma_tree.specs.Finding.{enters_all, finds}
+use Rattle.ecma_rules.specs.declared.target.Target.TheVariants as target
+use Rattle.ecma_covers.specs.Placing.{Stands}
+use Rattle.ecma_fits.specs.Fitting.{Fits}
+
+-- a pattern with a `?`, which is TypeScript
+abbrev pub is_optional_pattern : Kind → Bool
+is_optional_pattern (kind.ArrayPat optional) = optional
+is_optional_pattern (kind.ObjectPat optional) = optional
+is_optional_pattern _ = false
+
+-- no pattern of a tree has one
+abbrev pub HasNoOptionalPatterns : Node → Type 0
+HasNoOptionalPatterns tree = finds is_optional_pattern enters_all tree ≡ false
+
+-- in what fits, patterns stand where they may: finishing a covered tree gives it again
+abbrev pub WhatFitsStands : Type 0
+WhatFitsStands = (tree : Node) → Fits tree → HasNoOptionalPatterns tree → Stands target.Free tree

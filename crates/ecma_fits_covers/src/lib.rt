@@ -1,0 +1,12 @@
+//! Laws of finished trees that fit, and of the raw trees that are made of them.
+//!
+//! Each function carries one law over the definitions, and does nothing. The laws are stated in `specs/`.
+#![tactic(auto)]
+
+ghost use Rattle.ecma_fits_covers.specs.Laws.{WhatFitsStands};
+
+/// In a tree that fits, and whose patterns have no `?`, patterns stand where they may.
+#[tactic(auto, using(crate::proofs::Placed::placed))]
+pub fn what_fits_stands()
+    ensures { WhatFitsStands }
+{}
