@@ -3,11 +3,12 @@ use Rattle.std.proofs.Common.{◌≡◌, false, true, refl, ◌∙◌, codes}
 use Rattle.ecma_tree.specs.declared.node.Node.{Node}
 use Rattle.ecma_print.specs.Layout.{layout}
 use Rattle.ecma_tokens.specs.Items.{render}
-use Rattle.ecma_reread.specs.Shapes.{ident, name, key, absent, arguments, no_arguments, bound, no_default, name_pattern, no_elements, no_params, more_params, no_initializer, initializer, block_of, no_statements, more_statements, return_nothing, function_of, function_statement, unnamed, heritage, class_of, class_statement, class_constructor, method, method_name, field, static_block, no_members, more_members}
+use Rattle.ecma_reread.specs.Shapes.{ident, name, key, absent, arguments, no_arguments, bound, no_default, name_pattern, no_elements, no_params, more_params, no_initializer, initializer, block_of, no_statements, more_statements, return_nothing, function_of, function_statement, unnamed, heritage, class_of, class_statement, class_constructor, method, field, key_name, string_name, computed_name, property_member, static_block, no_members, more_members}
 use Rattle.ecma_reread.specs.Modules.{statement, export_declaration, export_default_function, no_items, more_items, IsModule, module_of}
 use Rattle.ecma_reread.specs.ModuleTokens.{module_tokens}
 use Rattle.ecma_reread.proofs.ModuleLayouts.{module_laid}
-use Rattle.ecma_reread.proofs.Words.{whole}
+use Rattle.ecma_reread.proofs.Words.{whole, layout_words}
+use Rattle.ecma_reread.proofs.ModuleSamples.{m_whole}
 use Rattle.ecma_reread.proofs.Samples.{at, a_spelled, a_name, out}
 
 abbrev sample : (tree : Node) × IsModule false tree
@@ -19,10 +20,10 @@ sample =
     let body = block_of at at (more_statements (return_nothing at none) no_statements) in
     let nothing = block_of at at no_statements in
     let members =
-    more_members (class_constructor at at at params (more_params at no_params) nothing)
-    (more_members (method at true (method_name at (codes "a") word refl) (function_of at at true true params (more_params at no_params) body none none))
-    (more_members (field at false (key at (codes "a") word) (initializer (out 18 (name id))) none)
-    (more_members (field at true (key at (codes "a") word) (no_initializer none) none)
+    more_members (class_constructor at at (key_name (key at (codes "constructor") layout_words.constructor_whole)) refl params (more_params at no_params) nothing)
+    (more_members (method at true (property_member (string_name at (codes "\"m\"") m_whole)) (function_of at at true true params (more_params at no_params) body none none) refl)
+    (more_members (field at false (property_member (key_name (key at (codes "a") word))) (initializer (out 18 (name id))) none)
+    (more_members (field at true (property_member (computed_name at (out 18 (name id)))) (no_initializer none) none)
     (more_members (static_block at body) no_members)))) in (
       _,
       module_of at at
@@ -31,9 +32,9 @@ sample =
           (more_items (export_default_function at at (unnamed none) (function_of at at true false (no_arguments at) no_params nothing none none)) no_items))),
     )
 
-text : render (module_tokens sample.1) ≡ codes "async function a(a) {\n    return;\n}\nexport class a extends a {\n    constructor(a) {}\n    static async *a(a) {\n        return;\n    }\n    a = a;\n    static a;\n    static {\n        return;\n    }\n}\nexport default function*() {}\n"
+text : render (module_tokens sample.1) ≡ codes "async function a(a) {\n    return;\n}\nexport class a extends a {\n    constructor(a) {}\n    static async *\"m\"(a) {\n        return;\n    }\n    a = a;\n    static [a];\n    static {\n        return;\n    }\n}\nexport default function*() {}\n"
 unfolding render
 text = refl
 
-laid : layout sample.0 ≡ codes "async function a(a) {\n    return;\n}\nexport class a extends a {\n    constructor(a) {}\n    static async *a(a) {\n        return;\n    }\n    a = a;\n    static a;\n    static {\n        return;\n    }\n}\nexport default function*() {}\n"
+laid : layout sample.0 ≡ codes "async function a(a) {\n    return;\n}\nexport class a extends a {\n    constructor(a) {}\n    static async *\"m\"(a) {\n        return;\n    }\n    a = a;\n    static [a];\n    static {\n        return;\n    }\n}\nexport default function*() {}\n"
 laid = module_laid sample.1 ∙ text

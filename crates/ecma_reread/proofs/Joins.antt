@@ -144,6 +144,19 @@ pub record Words : Type 0 where
   pub set_whole : IsToken key_end (codes "set")
   pub function_whole : IsToken key_end (codes "function")
 
+-- what may stand behind each token that ends a name
+pub record BehindName (us : Items) : Type 0 where
+  pub word : (w : List ℕ) → joins_next (items.key w) us ≡ true
+  pub string : (w : List ℕ) → joins_next (items.string w) us ≡ true
+  pub number : (w : List ℕ) → joins_next (items.number w) us ≡ true
+  pub big_int : (w : List ℕ) → joins_next (items.big_int w) us ≡ true
+  pub private : (w : List ℕ) → joins_next (items.private_name w) us ≡ true
+  pub bracket : joins_next (sign (codes "]")) us ≡ true
+
+colon_behind_name : (us : Items) → BehindName (sign_of (codes ":") us)
+unfolding punctuators
+colon_behind_name us = record { word = λ w. refl; string = λ w. refl; number = λ w. refl; big_int = λ w. refl; private = λ w. refl; bracket = refl }
+
 module _ (words : Words) where
   more_soft : {es : List Node} (is : AreExpressions es) (depth : ℕ) {us : Items} → Soft false us → Soft false (more_tokens is depth us)
   more_soft shapes.no_expressions depth z = z
@@ -316,21 +329,21 @@ module _ (words : Words) where
         (h, refl, element_blank_joins (sign (codes ",")) e depth rest, element_joined e depth blank blank_is rest (slots_soft es depth us) (more_slots_joined es depth false no_gap no_gap_is us j))
     more_slots_joined (shapes.hole a es) depth b g h us j = (h, refl, slots_parted es depth us, more_slots_joined es depth true blank blank_is us j)
 
-    property_name_joined : {n : Node} (is : IsPropertyName n) (depth : ℕ) (g : Gap) → IsGap g → (us : Items) → Joined (sign_of (codes ":") us) → Joined (property_name_tokens is depth g (sign_of (codes ":") us))
-    property_name_joined (shapes.key_name k) depth g h us j = (h, key_whole k, refl, j)
-    property_name_joined (shapes.string_name at raw t) depth g h us j = (h, t, refl, j)
-    property_name_joined (shapes.number_name at raw t) depth g h us j = (h, t, refl, j)
-    property_name_joined (shapes.big_int_name at raw t) depth g h us j = (h, t, refl, j)
-    property_name_joined (shapes.computed_name at e) depth g h us j =
-        let end = sign_of (codes "]") (sign_of (codes ":") us) in
-        (h, refl, bracket_joins e depth end, expression_joined e depth no_gap no_gap_is end closing_bracket (no_gap_is, refl, refl, j))
+    pub property_name_joined : {n : Node} (is : IsPropertyName n) (depth : ℕ) (g : Gap) → IsGap g → (us : Items) → BehindName us → Joined us → Joined (property_name_tokens is depth g us)
+    property_name_joined (shapes.key_name k) depth g h us b j = (h, key_whole k, b.word (key_word k), j)
+    property_name_joined (shapes.string_name at raw t) depth g h us b j = (h, t, b.string raw, j)
+    property_name_joined (shapes.number_name at raw t) depth g h us b j = (h, t, b.number raw, j)
+    property_name_joined (shapes.big_int_name at raw t) depth g h us b j = (h, t, b.big_int raw, j)
+    property_name_joined (shapes.computed_name at e) depth g h us b j =
+        let end = sign_of (codes "]") us in
+        (h, refl, bracket_joins e depth end, expression_joined e depth no_gap no_gap_is end closing_bracket (no_gap_is, refl, b.bracket, j))
 
     property_joined : {role : Role} {n : Node} (is : IsProperty role n) (depth : ℕ) (g : Gap) → IsGap g → (us : Items) → Soft false us → Joined us → Joined (property_tokens is depth g us)
-    property_joined (shapes.key_value at k v) depth g h us z j = property_name_joined k depth g h (expression_tokens v depth blank us) (no_gap_is, refl, blank_joins (sign (codes ":")) v depth us, expression_joined v depth blank blank_is us z j)
+    property_joined (shapes.key_value at k v) depth g h us z j = property_name_joined k depth g h (sign_of (codes ":") (expression_tokens v depth blank us)) (colon_behind_name _) (no_gap_is, refl, blank_joins (sign (codes ":")) v depth us, expression_joined v depth blank blank_is us z j)
     property_joined (shapes.shorthand i) depth g h us z j = (h, ident_whole i, key_soft (ident_word i) z, j)
     property_joined (shapes.initialized at i v) depth g h us z j = (h, ident_whole i, refl, (blank_is, refl, blank_joins (sign (codes "=")) v depth us, expression_joined v depth blank blank_is us z j))
     property_joined (shapes.renamed at k p) depth g h us z j =
-        property_name_joined k depth g h (defaulted_tokens p depth blank us) (no_gap_is, refl, defaulted_blank_joins (sign (codes ":")) p depth us, defaulted_joined p depth blank blank_is us z j)
+        property_name_joined k depth g h (sign_of (codes ":") (defaulted_tokens p depth blank us)) (colon_behind_name _) (no_gap_is, refl, defaulted_blank_joins (sign (codes ":")) p depth us, defaulted_joined p depth blank blank_is us z j)
     property_joined (shapes.named at at' i a v) depth g h us z j = (h, ident_whole i, key_soft (ident_word i) (initializer_soft v depth z), initializer_joined v depth us z j)
     property_joined (shapes.rest_property at at' i a b) depth g h us z j = (h, refl, refl, (no_gap_is, ident_whole i, key_soft (ident_word i) z, j))
     property_joined (shapes.spread_property at e) depth g h us z j = (h, refl, dots_join e depth us, expression_joined e depth no_gap no_gap_is us z j)

@@ -528,7 +528,7 @@ mutual
       ap (λ z. codes ", " ++ z) (at_node at kind.Absent [] (At (free 1)) (margin depth) _ ∙ more_slots_laid es (laid (node_of at kind.Absent [])) true (ap (λ x. is_absent x.kind) (laid_node at kind.Absent [])) depth us)
       ∙ ap (λ z. codes "," ++ z) (sym (slots_gap_out es depth us))
 
-  property_name_laid : {n : Node} (is : IsPropertyName n) (depth : ℕ) (us : Items) → (laid n).at (At (free 1)) (margin depth) (render us) ≡ render (property_name_tokens is depth no_gap us)
+  pub property_name_laid : {n : Node} (is : IsPropertyName n) (depth : ℕ) (us : Items) → (laid n).at (At (free 1)) (margin depth) (render us) ≡ render (property_name_tokens is depth no_gap us)
   property_name_laid (shapes.key_name (key at w t)) depth us = at_node at (kind.IdentName w) [] (At (free 1)) (margin depth) (render us)
   property_name_laid (shapes.string_name at raw t) depth us = at_node at _ [] (At (free 1)) (margin depth) (render us)
   property_name_laid (shapes.number_name at raw t) depth us = at_node at _ [] (At (free 1)) (margin depth) (render us)

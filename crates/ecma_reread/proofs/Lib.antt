@@ -51,6 +51,8 @@ pub mod Jumps
 pub mod Blocks
 pub mod Functions
 pub mod Classes
+pub mod MemberNames
+pub mod ClassMembers
 pub mod Methods
 pub mod Accessors
 pub mod Fields

@@ -1,179 +1,133 @@
 -- Methods of classes are read as they are laid out.
-use Rattle.std.proofs.Common.{◌≡◌, ℕ, Bool, true, false, List, [], ◌∷◌, bytes_eq, codes, nat_le, refl, ap, ◌∙◌, None}
+use Rattle.std.proofs.Common.{◌≡◌, ℕ, Bool, true, false, not, ◌&&◌, List, [], ◌∷◌, codes, refl, ap, ◌∙◌, None}
+use Rattle.ecma_kind.specs.declared.operators.MethodKind.{MethodKind}
 use Rattle.ecma_kind.specs.declared.operators.MethodKind.TheVariants.{Method}
+use Rattle.ecma_kind.specs.declared.kind.Kind.{Kind}
 use Rattle.ecma_kind.specs.declared.kind.Kind.TheVariants as kind
 use Rattle.ecma_tree.specs.declared.node.Node.{Node}
 use Rattle.ecma_tree.specs.Nodes.{absent, list_node}
-use Rattle.ecma_grammar.specs.declared.production.Plain.TheVariants as plain
 use Rattle.ecma_grammar.specs.declared.production.Form.TheVariants as form
 use Rattle.ecma_grammar.specs.trees.Functions.{parameters}
-use Rattle.ecma_grammar.specs.trees.Classes.{no_modifiers}
+use Rattle.ecma_grammar.specs.trees.Parts.{kind_of}
+use Rattle.ecma_grammar.specs.trees.Classes.{no_modifiers, is_private_name, is_constructor_key}
 use Rattle.ecma_grammar.specs.Made.{made}
-use Rattle.ecma_grammar.specs.Grammar.{Grammar, ◌▸◌, ◌//◌, marked, build, punct, node}
-use Rattle.ecma_grammar.specs.productions.Names.{prop_start, member_start, class_element_name, prop_name, block}
+use Rattle.ecma_grammar.specs.Grammar.{◌//◌}
+use Rattle.ecma_grammar.specs.productions.Names.{prop_start, member_start}
 use Rattle.ecma_grammar.specs.productions.Functions.{method_async}
-use Rattle.ecma_grammar.specs.productions.Classes.{member, modifier, modifiers, getter, setter, method, field, index_signature, question_or_exclamation}
-use Rattle.ecma_tokens.specs.Items as items
-use Rattle.ecma_tokens.specs.Items.{Gap, Items, it}
-use Rattle.ecma_reread.specs.Machine.{read, with_front, followed_on, or_on, built_on, interp, means}
+use Rattle.ecma_grammar.specs.productions.Classes.{getter, setter, method, field, modifier, question_or_exclamation}
+use Rattle.ecma_tokens.specs.Items.{Gap, no_gap, Items}
+use Rattle.ecma_reread.specs.Machine.{or_on, interp, means}
 use Rattle.ecma_reread.specs.Shapes as shapes
-use Rattle.ecma_reread.specs.Shapes.{IsArguments, static_modifiers}
+use Rattle.ecma_reread.specs.Shapes.{IsArguments, method_kind}
 use Rattle.ecma_reread.specs.Tokens.{blank, arguments_tokens, method_tokens, static_tokens}
 use Rattle.ecma_reread.specs.Bare.{bare_arguments, bare_params}
-use Rattle.ecma_reread.proofs.Moves.{eats}
 use Rattle.ecma_reread.proofs.Heads.{bare, nodes}
-use Rattle.ecma_reread.proofs.Forms.{Laid, s, Reads, Refuses}
+use Rattle.ecma_reread.proofs.Forms.{Laid, s, Reads}
 use Rattle.ecma_reread.proofs.Arrows.{ArgumentForms}
-use Rattle.ecma_reread.proofs.Repeats.{repeats_end, repeats_more, repeated}
 use Rattle.ecma_reread.proofs.Blocks.{ReadAsBlock}
 use Rattle.ecma_reread.proofs.Functions.{flag, params_made, signature_read}
-use Rattle.ecma_reread.proofs.Classes.{ReadAsMember, a_static_block, gap_behind}
+use Rattle.ecma_reread.proofs.Classes.{ReadAsMember}
+use Rattle.ecma_reread.proofs.MemberNames.{ReadAsName, Behind, no_getter, no_setter, no_async}
+use Rattle.ecma_reread.proofs.ClassMembers.{written, ReadAsPlainMember, named_member, modified_form}
 
-abbrev pub key_of : List ℕ → Node
-key_of w = bare (kind.IdentName w) []
+-- as it is read first, without modifiers
+abbrev pub first_kind : Bool → MethodKind → Kind
+first_kind true k = kind.PrivateMethod k (no_modifiers false)
+first_kind false k = kind.ClassMethod k (no_modifiers false)
 
-abbrev pub written : Bool → List Node
-written true = key_of (codes "static") ∷ []
-written false = []
+pub method_made : (m : MethodKind) (p x y : Bool) (n : Node) (ps b : Node) → is_private_name (kind_of n) ≡ p
+    → made (form.Method m) 0 0 (flag y ∷ flag x ∷ n ∷ absent ∷ absent ∷ absent ∷ ps ∷ absent ∷ b ∷ []) ≡ bare (first_kind p m) (n ∷ bare (kind.Function x y) (parameters ps ∷ b ∷ absent ∷ absent ∷ []) ∷ [])
+method_made m true true true n ps b z = simp (nodes, z)
+method_made m true true false n ps b z = simp (nodes, z)
+method_made m true false true n ps b z = simp (nodes, z)
+method_made m true false false n ps b z = simp (nodes, z)
+method_made m false true true n ps b z = simp (nodes, z)
+method_made m false true false n ps b z = simp (nodes, z)
+method_made m false false true n ps b z = simp (nodes, z)
+method_made m false false false n ps b z = simp (nodes, z)
 
-function_made : (x y : Bool) (w : List ℕ) (ps n : Node) → made (form.Method Method) 0 0 (flag y ∷ flag x ∷ key_of w ∷ absent ∷ absent ∷ absent ∷ ps ∷ absent ∷ n ∷ [])
-    ≡ bare (kind.ClassMethod Method (no_modifiers false)) (key_of w ∷ bare (kind.Function x y) (parameters ps ∷ n ∷ absent ∷ absent ∷ []) ∷ [])
-function_made true true w ps n = simp nodes
-function_made true false w ps n = simp nodes
-function_made false true w ps n = simp nodes
-function_made false false w ps n = simp nodes
+private_made : (st : Bool) (m : MethodKind) (ns : List Node) → made form.Modified 0 0 (list_node (written st) ∷ bare (first_kind true m) ns ∷ []) ≡ bare (method_kind true m st) ns
+private_made true m ns = simp nodes
+private_made false m ns = simp nodes
 
-modified_made : (st : Bool) (w : List ℕ) (f : Node) → bytes_eq w (codes "constructor") ≡ false
-    → made form.Modified 0 0 (list_node (written st) ∷ bare (kind.ClassMethod Method (no_modifiers false)) (key_of w ∷ f ∷ []) ∷ []) ≡ bare (kind.ClassMethod Method (static_modifiers st)) (key_of w ∷ f ∷ [])
-modified_made true w f z = simp (nodes, z)
-modified_made false w f z = simp (nodes, z)
+modified_made : (st x y : Bool) (n : Node) (fs : List Node) → (is_constructor_key (kind_of n) && ((not x && not y) && not st)) ≡ false
+    → made form.Modified 0 0 (list_node (written st) ∷ bare (first_kind false Method) (n ∷ bare (kind.Function x y) fs ∷ []) ∷ []) ≡ bare (method_kind false Method st) (n ∷ bare (kind.Function x y) fs ∷ [])
+modified_made true x y n fs z = simp (nodes, z)
+modified_made false x y n fs z = simp (nodes, z)
 
-constructor_made : (ps n : Node)
-    → made form.Modified 0 0 (list_node [] ∷ bare (kind.ClassMethod Method (no_modifiers false)) (key_of (codes "constructor") ∷ bare (kind.Function false false) (ps ∷ n ∷ absent ∷ absent ∷ []) ∷ []) ∷ [])
-    ≡ bare (kind.Constructor None false) (key_of (codes "constructor") ∷ ps ∷ n ∷ [])
-constructor_made ps n = simp nodes
+constructor_made : (n : Node) (ps b : Node) → is_constructor_key (kind_of n) ≡ true
+    → made form.Modified 0 0 (list_node [] ∷ bare (first_kind false Method) (n ∷ bare (kind.Function false false) (ps ∷ b ∷ absent ∷ absent ∷ []) ∷ []) ∷ [])
+    ≡ bare (kind.Constructor None false) (n ∷ ps ∷ b ∷ [])
+constructor_made n ps b z = simp (nodes, z)
 
-pub modifier_eats : nat_le 1 (eats modifier) ≡ true
-unfolding modifier
-modifier_eats = refl
-
-module _ (assigned : Bool) {ps : Node} (is : IsArguments shapes.bindings ps) (depth : ℕ) (F : ArgumentForms assigned is depth) {f : Laid} {n : Node} (B : ReadAsBlock assigned f n) where
+module _ (assigned : Bool) {ps : Node} (is : IsArguments shapes.bindings ps) (depth : ℕ) (F : ArgumentForms assigned is depth) {f : Laid} {b : Node} (B : ReadAsBlock assigned f b) where
   abbrev rest : Items → Items
   rest us = s (codes "(") (arguments_tokens is depth (s (codes ")") (f blank us)))
 
-  abbrev functions : Grammar
-  functions = getter // setter // method // field
+  behind : (us : Items) → Behind assigned (rest us)
+  unfolding prop_start
+  behind us = record { no_start = refl; no_star = refl; no_brace = refl }
 
-  no_getter : (x y : Bool) (w : List ℕ) (g : Gap) (us : Items) → Refuses assigned getter (method_tokens x y w g (rest us))
-  unfolding getter prop_start
-  no_getter true true w g us = refl
-  no_getter true false w g us = refl
-  no_getter false true w g us = refl
-  no_getter false false w g us = go (bytes_eq w (codes "get")) refl
-    where
-      go : (b : Bool) → bytes_eq w (codes "get") ≡ b → Refuses assigned getter (it g (items.key w) (rest us))
-      go true e = rw e refl
-      go false e = rw e refl
+  abbrev tokens : Laid → Bool → Bool → Laid
+  tokens name x y g us = method_tokens x y (λ h. name h (rest us)) g
 
-  no_setter : (x y : Bool) (w : List ℕ) (g : Gap) (us : Items) → Refuses assigned setter (method_tokens x y w g (rest us))
-  unfolding setter prop_start
-  no_setter true true w g us = refl
-  no_setter true false w g us = refl
-  no_setter false true w g us = refl
-  no_setter false false w g us = go (bytes_eq w (codes "set")) refl
-    where
-      go : (b : Bool) → bytes_eq w (codes "set") ≡ b → Refuses assigned setter (it g (items.key w) (rest us))
-      go true e = rw e refl
-      go false e = rw e refl
+  abbrev whole : Node → Bool → Bool → Node
+  whole n x y = made (form.Method Method) 0 0 (flag y ∷ flag x ∷ n ∷ absent ∷ absent ∷ absent ∷ list_node (bare_arguments is) ∷ absent ∷ b ∷ [])
 
-  no_modifier : (x y : Bool) (w : List ℕ) (g : Gap) (us : Items) → Refuses assigned modifier (method_tokens x y w g (rest us))
-  unfolding modifier member_start prop_start
-  no_modifier true true w g us = refl
-  no_modifier true false w g us = refl
-  no_modifier false true w g us = refl
-  no_modifier false false w g us = go (bytes_eq w (codes "static")) refl
-    where
-      go : (b : Bool) → bytes_eq w (codes "static") ≡ b → Refuses assigned modifier (it g (items.key w) (rest us))
-      go true e = rw e refl
-      go false e = rw e refl
+  module _ {name : Laid} {n : Node} (K : ReadAsName assigned name n) where
+    async_star_read : (g : Gap) (us : Items) → Reads assigned method (tokens name true true g us) (whole n true true ∷ []) us
+    unfolding method method_async member_start prop_start question_or_exclamation
+    async_star_read g us = rw (K.reads no_gap (rest us), signature_read assigned is depth F B us) refl
 
-  static_read : (x y : Bool) (w : List ℕ) (g : Gap) (us : Items) → Reads assigned modifier (it g (items.key (codes "static")) (method_tokens x y w blank (rest us))) (key_of (codes "static") ∷ []) (method_tokens x y w blank (rest us))
-  unfolding modifier member_start prop_start
-  static_read true true w g us = refl
-  static_read true false w g us = refl
-  static_read false true w g us = refl
-  static_read false false w g us = refl
+    method_read : (x y : Bool) (g : Gap) (us : Items) → Reads assigned method (tokens name x y g us) (whole n x y ∷ []) us
+    unfolding method method_async member_start question_or_exclamation
+    method_read true true g us = async_star_read g us
+    method_read true false g us = rw (K.reads no_gap (rest us), signature_read assigned is depth F B us) refl
+    method_read false true g us = (let a = K.starts blank (rest us) in let c = K.no_sign blank (rest us) in rw (K.on_line blank (rest us), a.1, c.0, K.reads blank (rest us), signature_read assigned is depth F B us) refl)
+    method_read false false g us = (let c = K.no_sign g (rest us) in rw (no_async assigned K g (rest us) (behind us), c.0, K.reads g (rest us), signature_read assigned is depth F B us) refl)
 
-  modifiers_read : (st x y : Bool) (w : List ℕ) (g : Gap) (us : Items) → Reads assigned modifiers (static_tokens st (λ h. method_tokens x y w h (rest us)) g) (list_node (written st) ∷ []) (method_tokens x y w (gap_behind st g) (rest us))
-  modifiers_read true x y w g us =
-      let ts = method_tokens x y w blank (rest us) in
-      ap (built_on form.List)
-      (repeated assigned modifier (it g (items.key (codes "static")) ts) ts (written true)
-      (repeats_more assigned modifier modifier_eats (it g (items.key (codes "static")) ts) ts ts (written true) [] (static_read x y w g us) (repeats_end assigned modifier ts (no_modifier x y w blank us))))
-  modifiers_read false x y w g us =
-      let ts = method_tokens x y w g (rest us) in
-      ap (built_on form.List) (repeated assigned modifier ts ts [] (repeats_end assigned modifier ts (no_modifier x y w g us)))
-
-  method_read : (x y : Bool) (w : List ℕ) (g : Gap) (us : Items)
-      → Reads assigned method (method_tokens x y w g (rest us)) (made (form.Method Method) 0 0 (flag y ∷ flag x ∷ key_of w ∷ absent ∷ absent ∷ absent ∷ list_node (bare_arguments is) ∷ absent ∷ n ∷ []) ∷ []) us
-  unfolding method method_async member_start prop_start class_element_name prop_name question_or_exclamation
-  method_read true true w g us = rw (signature_read assigned is depth F B us) refl
-  method_read true false w g us = rw (signature_read assigned is depth F B us) refl
-  method_read false true w g us = rw (signature_read assigned is depth F B us) refl
-  method_read false false w g us = go (bytes_eq w (codes "async")) refl
-    where
-      go : (b : Bool) → bytes_eq w (codes "async") ≡ b
-          → Reads assigned method (it g (items.key w) (rest us)) (made (form.Method Method) 0 0 (absent ∷ absent ∷ key_of w ∷ absent ∷ absent ∷ absent ∷ list_node (bare_arguments is) ∷ absent ∷ n ∷ []) ∷ []) us
-      go true e = rw (e, signature_read assigned is depth F B us) refl
-      go false e = rw (e, signature_read assigned is depth F B us) refl
-
-  no_empty : (st x y : Bool) (w : List ℕ) (g : Gap) (us : Items) → Refuses assigned (node plain.EmptyStmt (punct (codes ";"))) (static_tokens st (λ h. method_tokens x y w h (rest us)) g)
-  no_empty true x y w g us = refl
-  no_empty false true true w g us = refl
-  no_empty false true false w g us = refl
-  no_empty false false true w g us = refl
-  no_empty false false false w g us = refl
-
-  no_static_block : (st x y : Bool) (w : List ℕ) (g : Gap) (us : Items) → Refuses assigned a_static_block (static_tokens st (λ h. method_tokens x y w h (rest us)) g)
-  unfolding block
-  no_static_block true true true w g us = refl
-  no_static_block true true false w g us = refl
-  no_static_block true false true w g us = refl
-  no_static_block true false false w g us = refl
-  no_static_block false true true w g us = refl
-  no_static_block false true false w g us = refl
-  no_static_block false false true w g us = refl
-  no_static_block false false false w g us = go (bytes_eq w (codes "static")) refl
-    where
-      go : (b : Bool) → bytes_eq w (codes "static") ≡ b → Refuses assigned a_static_block (it g (items.key w) (rest us))
-      go true e = rw e refl
-      go false e = rw e refl
-
-  as_member : (st x y : Bool) (w : List ℕ) {whole : Node} → made form.Modified 0 0 (list_node (written st) ∷ bare (kind.ClassMethod Method (no_modifiers false)) (key_of w ∷ bare (kind.Function x y) (list_node (bare_params (bare_arguments is)) ∷ n ∷ absent ∷ absent ∷ []) ∷ []) ∷ []) ≡ whole
-      → ReadAsMember assigned (λ g us. static_tokens st (λ h. method_tokens x y w h (rest us)) g) whole
-  unfolding member
-  as_member st x y w {whole} e = record {
-    reads = λ g us.
+    plain_form : (x y : Bool) → ReadAsPlainMember assigned (tokens name x y) (whole n x y)
+    unfolding getter setter modifier member_start prop_start
+    plain_form true true = record {
+      no_modifier = λ g us. refl;
+      starts = λ g us. (_, refl);
+      no_empty = λ g us. refl;
+      no_brace = λ g us. refl;
+      no_static_block = λ g us. refl;
+      reads = λ g us. ap (or_on (interp assigned (means assigned) field) (tokens name true true g us)) (method_read true true g us);
+    }
+    plain_form true false = record {
+      no_modifier = λ g us. refl;
+      starts = λ g us. (_, refl);
+      no_empty = λ g us. refl;
+      no_brace = λ g us. refl;
+      no_static_block = λ g us. refl;
+      reads = λ g us. ap (or_on (interp assigned (means assigned) field) (tokens name true false g us)) (method_read true false g us);
+    }
+    plain_form false true = record {
+      no_modifier = λ g us. refl;
+      starts = λ g us. (_, refl);
+      no_empty = λ g us. refl;
+      no_brace = λ g us. refl;
+      no_static_block = λ g us. refl;
+      reads = λ g us. ap (or_on (interp assigned (means assigned) field) (tokens name false true g us)) (method_read false true g us);
+    }
+    plain_form false false = named_member assigned K rest behind (λ g us.
         (let I = interp assigned (means assigned) in
-        let ts = static_tokens st (λ h. method_tokens x y w h (rest us)) g in
-        let ms = method_tokens x y w (gap_behind st g) (rest us) in
-        ap (or_on (I (a_static_block // marked index_signature // build form.Modified (modifiers ▸ functions))) ts) (no_empty st x y w g us)
-        ∙ (ap (or_on (I (marked index_signature // build form.Modified (modifiers ▸ functions))) ts) (no_static_block st x y w g us)
-        ∙ (ap (built_on form.Modified)
-        (ap (followed_on (I functions)) (modifiers_read st x y w g us)
-        ∙ ap (with_front (list_node (written st) ∷ []))
-        (ap (or_on (I (setter // method // field)) ms) (no_getter x y w (gap_behind st g) us)
-        ∙ (ap (or_on (I (method // field)) ms) (no_setter x y w (gap_behind st g) us) ∙ ap (or_on (I field) ms) (method_read x y w (gap_behind st g) us))))
-        ∙ ap (λ q. read (q ∷ []) us)
-        (ap (λ q. made form.Modified 0 0 (list_node (written st) ∷ q ∷ []))
-        (function_made x y w (list_node (bare_arguments is)) n ∙ ap (λ q. bare (kind.ClassMethod Method (no_modifiers false)) (key_of w ∷ bare (kind.Function x y) (q ∷ n ∷ absent ∷ absent ∷ []) ∷ [])) (params_made is))
-        ∙ e))));
-  }
+        let ts = tokens name false false g us in
+        ap (or_on (I (setter // method // field)) ts) (no_getter assigned K g (rest us) (behind us))
+        ∙ (ap (or_on (I (method // field)) ts) (no_setter assigned K g (rest us) (behind us)) ∙ ap (or_on (I field) ts) (method_read false false g us))))
 
-  pub method_form : (st x y : Bool) (w : List ℕ) → bytes_eq w (codes "constructor") ≡ false
-      → ReadAsMember assigned (λ g us. static_tokens st (λ h. method_tokens x y w h (rest us)) g)
-      (bare (kind.ClassMethod Method (static_modifiers st)) (key_of w ∷ bare (kind.Function x y) (list_node (bare_params (bare_arguments is)) ∷ n ∷ absent ∷ absent ∷ []) ∷ []))
-  method_form st x y w z = as_member st x y w (modified_made st w _ z)
+    abbrev function : Bool → Bool → Node
+    function x y = bare (kind.Function x y) (list_node (bare_params (bare_arguments is)) ∷ b ∷ absent ∷ absent ∷ [])
 
-  pub constructor_form : ReadAsMember assigned (λ g us. it g (items.key (codes "constructor")) (rest us)) (bare (kind.Constructor None false) (key_of (codes "constructor") ∷ list_node (bare_params (bare_arguments is)) ∷ n ∷ []))
-  constructor_form = as_member false false false (codes "constructor") (constructor_made (list_node (bare_params (bare_arguments is))) n)
+    abbrev made_first : (p x y : Bool) → is_private_name (kind_of n) ≡ p → whole n x y ≡ bare (first_kind p Method) (n ∷ function x y ∷ [])
+    made_first p x y z = method_made Method p x y n (list_node (bare_arguments is)) b z ∙ ap (λ q. bare (first_kind p Method) (n ∷ bare (kind.Function x y) (q ∷ b ∷ absent ∷ absent ∷ []) ∷ [])) (params_made is)
+
+    pub method_form : (st p x y : Bool) → is_private_name (kind_of n) ≡ p → (is_constructor_key (kind_of n) && ((not x && not y) && not st)) ≡ false
+        → ReadAsMember assigned (λ g us. static_tokens st (method_tokens x y (λ h. name h (rest us))) g) (bare (method_kind p Method st) (n ∷ function x y ∷ []))
+    method_form st true x y z c = modified_form assigned (plain_form x y) st (ap (λ q. made form.Modified 0 0 (list_node (written st) ∷ q ∷ [])) (made_first true x y z) ∙ private_made st Method _)
+    method_form st false x y z c = modified_form assigned (plain_form x y) st (ap (λ q. made form.Modified 0 0 (list_node (written st) ∷ q ∷ [])) (made_first false x y z) ∙ modified_made st x y n _ c)
+
+    pub constructor_form : is_private_name (kind_of n) ≡ false → is_constructor_key (kind_of n) ≡ true → ReadAsMember assigned (λ g us. name g (rest us)) (bare (kind.Constructor None false) (n ∷ list_node (bare_params (bare_arguments is)) ∷ b ∷ []))
+    constructor_form z c = modified_form assigned (plain_form false false) false (ap (λ q. made form.Modified 0 0 (list_node [] ∷ q ∷ [])) (made_first false false false z) ∙ constructor_made n _ b c)

@@ -22,7 +22,7 @@ use Rattle.ecma_reread.proofs.ModuleLayouts.{module_laid}
 use Rattle.ecma_reread.proofs.Words.{whole, async_spelled, layout_words}
 use Rattle.ecma_reread.proofs.Samples.{at, a_spelled, a_name, async_name, gone, a, async, out}
 
-m_whole : IsToken str_end (codes "\"m\"")
+pub m_whole : IsToken str_end (codes "\"m\"")
 unfolding chars is_utf8 encode after literal_part string_part literal_value value_behind text_of utf16_chars code_points code_points_up_to part_value str_end literal quoted string_character many at_most
 m_whole = record { utf8 = IsUtf8-from_is_utf8 (codes "\"m\"") refl; whole = refl }
 

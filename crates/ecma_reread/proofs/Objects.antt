@@ -117,7 +117,7 @@ on_line false f us h = ap (with_front []) h
 
 module _ (assigned : Bool) where
   -- what is said of the name, and of a property
-  abbrev NameForm : {n : Node} → IsPropertyName n → ℕ → Type 0
+  abbrev pub NameForm : {n : Node} → IsPropertyName n → ℕ → Type 0
   NameForm (shapes.computed_name at e) depth = Stands assigned shapes.assignment (expression_tokens e depth) (expression_kind e) (expression_parts e)
   NameForm k depth = Unit {0}
 

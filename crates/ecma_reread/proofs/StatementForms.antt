@@ -2,14 +2,15 @@
 use Rattle.std.proofs.Common.{ℕ, suc, Bool, true, false, List, ap, codes, sym, ◌∙◌}
 use Rattle.ecma_tree.specs.declared.node.Node.{Node}
 use Rattle.ecma_reread.proofs.Accessors.{accessor_form}
-use Rattle.ecma_reread.proofs.Fields.{field_form, private_field_form}
+use Rattle.ecma_reread.proofs.Fields.{field_form}
+use Rattle.ecma_reread.proofs.MemberNames.{ReadAsName, name_private, constructor_named, no_constructor, member_name_form}
 use Rattle.ecma_reread.proofs.Methods.{method_form, constructor_form}
 use Rattle.ecma_reread.proofs.Classes.{ReadAsMember, ReadAsMembers, no_members_form, more_members_form, static_block_form, HeritageForm, class_form}
 use Rattle.ecma_reread.specs.Machine.{taken}
 use Rattle.ecma_reread.specs.Shapes as shapes
-use Rattle.ecma_reread.specs.Shapes.{IsInitializer, IsDeclarator, AreDeclarators, Ending, IsStatement, IsBlock, IsCase, AreCases, IsCatch, AreStatements, IsOptional, IsForDeclarator, AreForDeclarators, IsForInit, IsForLeft, IsHeritage, IsMember, AreMembers}
-use Rattle.ecma_reread.specs.Tokens.{line_at, ident_word, closing_gap, is_braced, branch_gap, statement_tokens, block_tokens, case_tokens, cases_tokens, catch_tokens, lined_tokens, as_declarator, as_declarators, for_left_tokens, member_tokens, members_tokens, key_word}
-use Rattle.ecma_reread.specs.Bare.{bare_statement, bare_block, bare_case, bare_cases, bare_catch, bare_statements, bare_for_left, bare_member, bare_members}
+use Rattle.ecma_reread.specs.Shapes.{IsInitializer, IsDeclarator, AreDeclarators, Ending, IsStatement, IsBlock, IsCase, AreCases, IsCatch, AreStatements, IsOptional, IsForDeclarator, AreForDeclarators, IsForInit, IsForLeft, IsHeritage, IsMemberName, is_private, IsMember, AreMembers}
+use Rattle.ecma_reread.specs.Tokens.{line_at, ident_word, closing_gap, is_braced, branch_gap, statement_tokens, block_tokens, case_tokens, cases_tokens, catch_tokens, lined_tokens, as_declarator, as_declarators, for_left_tokens, member_tokens, members_tokens, member_name_tokens}
+use Rattle.ecma_reread.specs.Bare.{bare_statement, bare_block, bare_case, bare_cases, bare_catch, bare_statements, bare_for_left, bare_member_name, bare_member, bare_members}
 use Rattle.ecma_reread.proofs.Bindings.{standing}
 use Rattle.ecma_reread.proofs.Beginnings.{no_new_line, no_brace}
 use Rattle.ecma_reread.proofs.Calls.{ident_free, argument_forms, expression_form, pattern_form, initializer_form}
@@ -64,6 +65,14 @@ module _ (assigned : Bool) where
   heritage_form (shapes.no_heritage a) depth = tt
   heritage_form (shapes.heritage e) depth = expression_form assigned e depth
 
+  name_form : {n : Node} (is : IsMemberName n) (d : ℕ) → ReadAsName assigned (member_name_tokens is d) (bare_member_name is)
+  name_form (shapes.property_member (shapes.computed_name at e)) d = member_name_form assigned (shapes.property_member (shapes.computed_name at e)) d (expression_form assigned e d)
+  name_form (shapes.property_member (shapes.key_name k)) d = member_name_form assigned (shapes.property_member (shapes.key_name k)) d tt
+  name_form (shapes.property_member (shapes.string_name at raw t)) d = member_name_form assigned (shapes.property_member (shapes.string_name at raw t)) d tt
+  name_form (shapes.property_member (shapes.number_name at raw t)) d = member_name_form assigned (shapes.property_member (shapes.number_name at raw t)) d tt
+  name_form (shapes.property_member (shapes.big_int_name at raw t)) d = member_name_form assigned (shapes.property_member (shapes.big_int_name at raw t)) d tt
+  name_form (shapes.private_member at w t) d = member_name_form assigned (shapes.private_member at w t) d tt
+
   mutual
     pub statement_form : {ending : Ending} {n : Node} (is : IsStatement ending n) (d : ℕ) → ReadAsStatement assigned ending (statement_tokens is d) (bare_statement is)
     statement_form (shapes.empty at) d = empty_form assigned
@@ -96,11 +105,13 @@ module _ (assigned : Bool) where
 
     member_form_of : {n : Node} (is : IsMember n) (d : ℕ) → ReadAsMember assigned (member_tokens is d) (bare_member is)
     member_form_of (shapes.static_block at b) d = static_block_form assigned (block_form b d)
-    member_form_of (shapes.method at s (shapes.method_name at' w t z) (shapes.function_of at'' at''' x y ps ws b a a')) d = method_form assigned ps d (argument_forms assigned ps d) (block_form b d) s x y w z
-    member_form_of (shapes.class_constructor at at' at'' ps ws b) d = constructor_form assigned ps d (argument_forms assigned ps d) (block_form b d)
-    member_form_of (shapes.field at s k v a) d = field_form assigned v d (initializer_form assigned v d) s (key_word k)
-    member_form_of (shapes.accessor at at' at'' s b k ps ws body a a') d = accessor_form assigned ps d (argument_forms assigned ps d) (block_form body d) b (key_word k) s
-    member_form_of (shapes.private_field at at' s w t v a) d = private_field_form assigned v d (initializer_form assigned v d) s w t
+    member_form_of (shapes.method at s k (shapes.function_of at' at'' x y ps ws b a a') z) d =
+        method_form assigned ps d (argument_forms assigned ps d) (block_form b d) (name_form k d) s (is_private k) x y (name_private k) (no_constructor k x y s z)
+    member_form_of (shapes.class_constructor at at' k z ps ws b) d =
+        let key = shapes.property_member k in
+        constructor_form assigned ps d (argument_forms assigned ps d) (block_form b d) (name_form key d) (name_private key) (constructor_named key ∙ z)
+    member_form_of (shapes.field at s k v a) d = field_form assigned v d (initializer_form assigned v d) (name_form k d) s (is_private k) (name_private k)
+    member_form_of (shapes.accessor at at' at'' s b k ps ws body a a') d = accessor_form assigned ps d (argument_forms assigned ps d) (block_form body d) (name_form k d) s (is_private k) b (name_private k)
 
     pub member_forms : {ns : List Node} (is : AreMembers ns) (d : ℕ) → ReadAsMembers assigned (members_tokens is d) (bare_members is)
     member_forms shapes.no_members d = no_members_form assigned

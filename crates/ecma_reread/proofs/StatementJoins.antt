@@ -13,11 +13,11 @@ use Rattle.ecma_tokens.specs.Items.{Tok, sign, Gap, no_gap, Items, it}
 use Rattle.ecma_tokens.specs.Good.{IsGap, IsToken, is_gap_character}
 use Rattle.ecma_tokens.specs.Joins.{joins, joins_next, Joined}
 use Rattle.ecma_reread.specs.Shapes as shapes
-use Rattle.ecma_reread.specs.Shapes.{IsInitializer, Level, IsExpression, Ending, IsStatement, IsBlock, IsCase, AreCases, IsCatch, AreStatements, IsOptional, IsForLeft, IsForInit, IsPattern, IsFunction, IsHeritage, IsClass, IsMember, AreMembers}
-use Rattle.ecma_reread.specs.Tokens.{margin, line_at, blank, sign_of, expression_tokens, ident_word, declarators_tokens, closing_gap, is_braced, branch_gap, test_tokens, statement_tokens, block_tokens, case_tokens, cases_tokens, catch_tokens, lined_tokens, optional_tokens, for_left_tokens, for_tokens, initializer_tokens, as_declarators, for_init_tokens, pattern_tokens, arguments_tokens, function_word, is_generator, is_async, function_tokens, heritage_tokens, class_tokens, member_tokens, members_tokens, method_tokens, static_tokens, method_word, key_word, accessor_text}
+use Rattle.ecma_reread.specs.Shapes.{IsInitializer, Level, IsExpression, Ending, IsStatement, IsBlock, IsCase, AreCases, IsCatch, AreStatements, IsOptional, IsForLeft, IsForInit, IsPattern, IsFunction, IsHeritage, IsClass, IsMemberName, IsMember, AreMembers}
+use Rattle.ecma_reread.specs.Tokens.{margin, line_at, blank, sign_of, expression_tokens, ident_word, declarators_tokens, closing_gap, is_braced, branch_gap, test_tokens, statement_tokens, block_tokens, case_tokens, cases_tokens, catch_tokens, lined_tokens, optional_tokens, for_left_tokens, for_tokens, initializer_tokens, as_declarators, for_init_tokens, pattern_tokens, arguments_tokens, function_word, is_generator, is_async, function_tokens, heritage_tokens, class_tokens, member_tokens, members_tokens, method_tokens, static_tokens, key_word, accessor_text, member_name_tokens}
 use Rattle.ecma_reread.proofs.Softs.{closing, semicolon, colon, Soft, is_object, parted}
 use Rattle.ecma_reread.proofs.Beginnings.{pattern_blank_joins, begun, blank_joins, opening_joins}
-use Rattle.ecma_reread.proofs.Joins.{ident_whole, no_gap_is, blank_is, Words, expression_joined, declarators_soft, declarator_joined, declarators_joined, pattern_joined, arguments_joined, initializer_joined, key_whole}
+use Rattle.ecma_reread.proofs.Joins.{ident_whole, no_gap_is, blank_is, Words, expression_joined, declarators_soft, declarator_joined, declarators_joined, pattern_joined, arguments_joined, initializer_joined, BehindName, property_name_joined}
 
 -- gaps that keep any two tokens apart
 abbrev pub Wide : Gap → Type 0
@@ -116,34 +116,45 @@ unfolding punctuators
 pattern_opening (shapes.name_pattern at i a) depth us = refl
 pattern_opening is depth us = refl
 
-method_apart : (s x y : Bool) (w : List ℕ) (g : Gap) → Wide g → (us : Items) → Apart (static_tokens s (λ h. method_tokens x y w h us) g)
-method_apart true x y w g a us t = a t (items.key (codes "static"))
-method_apart false true true w g a us t = a t (items.key (codes "async"))
-method_apart false true false w g a us t = a t (sign (codes "*"))
-method_apart false false true w g a us t = a t (items.key (codes "async"))
-method_apart false false false w g a us t = a t (items.key w)
+name_apart : {n : Node} (is : IsMemberName n) (depth : ℕ) (g : Gap) → Wide g → (us : Items) → Apart (member_name_tokens is depth g us)
+name_apart (shapes.property_member (shapes.key_name k)) depth g w us t = w t (items.key (key_word k))
+name_apart (shapes.property_member (shapes.string_name at raw z)) depth g w us t = w t (items.string raw)
+name_apart (shapes.property_member (shapes.number_name at raw z)) depth g w us t = w t (items.number raw)
+name_apart (shapes.property_member (shapes.big_int_name at raw z)) depth g w us t = w t (items.big_int raw)
+name_apart (shapes.property_member (shapes.computed_name at e)) depth g w us t = w t (sign (codes "["))
+name_apart (shapes.private_member at q z) depth g w us t = w t (items.private_name (codes "#" ++ q))
 
-field_apart : (s : Bool) (w : List ℕ) (g : Gap) → Wide g → (us : Items) → Apart (static_tokens s (λ h. it h (items.key w) us) g)
-field_apart true w g a us t = a t (items.key (codes "static"))
-field_apart false w g a us t = a t (items.key w)
+method_apart : (x y : Bool) (f : Gap → Items) → ((g : Gap) → Wide g → Apart (f g)) → (g : Gap) → Wide g → Apart (method_tokens x y f g)
+method_apart true true f a g w t = w t (items.key (codes "async"))
+method_apart true false f a g w t = w t (sign (codes "*"))
+method_apart false true f a g w t = w t (items.key (codes "async"))
+method_apart false false f a g w t = a g w t
 
--- a word in front of a value, or of the end
-value_opens : {n : Node} (is : IsInitializer n) (depth : ℕ) (w : List ℕ) (us : Items) → joins_next (items.key w) (initializer_tokens is depth (sign_of (codes ";") us)) ≡ true
-value_opens (shapes.no_initializer a) depth w us = refl
-value_opens (shapes.initializer e) depth w us = refl
+static_apart : (s : Bool) (f : Gap → Items) → ((g : Gap) → Wide g → Apart (f g)) → (g : Gap) → Wide g → Apart (static_tokens s f g)
+static_apart true f a g w t = w t (items.key (codes "static"))
+static_apart false f a g w t = a g w t
 
-private_value_opens : {n : Node} (is : IsInitializer n) (depth : ℕ) (w : List ℕ) (us : Items) → joins_next (items.private_name w) (initializer_tokens is depth (sign_of (codes ";") us)) ≡ true
-private_value_opens (shapes.no_initializer a) depth w us = refl
-private_value_opens (shapes.initializer e) depth w us = refl
+-- a value, or the end, and parameters
+
+value_behind_name : {n : Node} (is : IsInitializer n) (depth : ℕ) (us : Items) → BehindName (initializer_tokens is depth (sign_of (codes ";") us))
+unfolding punctuators
+value_behind_name (shapes.no_initializer a) depth us = record { word = λ w. refl; string = λ w. refl; number = λ w. refl; big_int = λ w. refl; private = λ w. refl; bracket = refl }
+value_behind_name (shapes.initializer e) depth us = record { word = λ w. refl; string = λ w. refl; number = λ w. refl; big_int = λ w. refl; private = λ w. refl; bracket = refl }
+
+params_behind_name : (us : Items) → BehindName (sign_of (codes "(") us)
+unfolding punctuators
+params_behind_name us = record { word = λ w. refl; string = λ w. refl; number = λ w. refl; big_int = λ w. refl; private = λ w. refl; bracket = refl }
+
+function_behind_name : {n : Node} (is : IsFunction n) (d : ℕ) (us : Items) → BehindName (function_tokens is d us)
+function_behind_name (shapes.function_of at at' x y ps ws b n n') d us = params_behind_name _
 
 member_apart : {n : Node} (is : IsMember n) (d : ℕ) (g : Gap) → Wide g → (us : Items) → Apart (member_tokens is d g us)
-member_apart (shapes.static_block at b) d g w us t = w t (items.key (codes "static"))
-member_apart (shapes.method at s k f) d g w us t = method_apart s (is_generator f) (is_async f) (method_word k) g w (function_tokens f d us) t
-member_apart (shapes.class_constructor at at' at'' ps ws b) d g w us t = w t (items.key (codes "constructor"))
-member_apart (shapes.field at s k v a) d g w us t = field_apart s (key_word k) g w (initializer_tokens v d (sign_of (codes ";") us)) t
-member_apart (shapes.accessor at at' at'' s b k ps ws body n n') d g w us t = field_apart s (accessor_text b) g w _ t
-member_apart (shapes.private_field at at' true q t' v a) d g w us t = w t (items.key (codes "static"))
-member_apart (shapes.private_field at at' false q t' v a) d g w us t = w t (items.private_name (codes "#" ++ q))
+member_apart (shapes.static_block at b) d g w us = λ t. w t (items.key (codes "static"))
+member_apart (shapes.method at s k f z) d g w us =
+    static_apart s (method_tokens (is_generator f) (is_async f) (λ h. member_name_tokens k d h (function_tokens f d us))) (method_apart (is_generator f) (is_async f) (λ h. member_name_tokens k d h (function_tokens f d us)) (λ h v. name_apart k d h v _)) g w
+member_apart (shapes.class_constructor at at' k z ps ws b) d g w us = name_apart (shapes.property_member k) d g w _
+member_apart (shapes.field at s k v a) d g w us = static_apart s (λ h. member_name_tokens k d h (initializer_tokens v d (sign_of (codes ";") us))) (λ h v. name_apart k d h v _) g w
+member_apart (shapes.accessor at at' at'' s b k ps ws body n n') d g w us = static_apart s (λ h. it h (items.key (accessor_text b)) _) (λ h v t. v t (items.key (accessor_text b))) g w
 
 members_apart : {ns : List Node} (is : AreMembers ns) (d : ℕ) (us : Items) (t : Tok) → joins_next t us ≡ true → joins_next t (members_tokens is d us) ≡ true
 members_apart shapes.no_members d us t a = a
@@ -231,22 +242,33 @@ module _ (words : Words) where
   function_word_joined false true g h us a b j = (h, words.async_whole, refl, (blank_is, words.function_whole, a, j))
   function_word_joined false false g h us a b j = (h, words.function_whole, a, j)
 
-  method_joined : (x y : Bool) (w : List ℕ) → IsToken key_end w → (g : Gap) → IsGap g → (us : Items) → joins_next (items.key w) us ≡ true → Joined us → Joined (method_tokens x y w g us)
+  member_name_joined : {n : Node} (is : IsMemberName n) (depth : ℕ) (g : Gap) → IsGap g → (us : Items) → BehindName us → Joined us → Joined (member_name_tokens is depth g us)
+  member_name_joined (shapes.property_member k) depth g h us b j = property_name_joined words k depth g h us b j
+  member_name_joined (shapes.private_member at w t) depth g h us b j = (h, t, b.private (codes "#" ++ w), j)
+
+  star_joins : {n : Node} (is : IsMemberName n) (depth : ℕ) (us : Items) → joins_next (sign (codes "*")) (member_name_tokens is depth no_gap us) ≡ true
   unfolding punctuators
-  method_joined true true w t g h us a j = (h, words.async_whole, refl, (blank_is, refl, refl, (no_gap_is, t, a, j)))
-  method_joined true false w t g h us a j = (h, refl, refl, (no_gap_is, t, a, j))
-  method_joined false true w t g h us a j = (h, words.async_whole, refl, (blank_is, t, a, j))
-  method_joined false false w t g h us a j = (h, t, a, j)
+  star_joins (shapes.property_member (shapes.key_name k)) depth us = refl
+  star_joins (shapes.property_member (shapes.string_name at raw t)) depth us = refl
+  star_joins (shapes.property_member (shapes.number_name at raw t)) depth us = refl
+  star_joins (shapes.property_member (shapes.big_int_name at raw t)) depth us = refl
+  star_joins (shapes.property_member (shapes.computed_name at e)) depth us = refl
+  star_joins (shapes.private_member at w t) depth us = refl
 
-  static_joined : (s x y : Bool) (w : List ℕ) → IsToken key_end w → (g : Gap) → IsGap g → (us : Items) → joins_next (items.key w) us ≡ true → Joined us → Joined (static_tokens s (λ h. method_tokens x y w h us) g)
-  static_joined true x y w t g h us a j = (h, words.static_whole, method_apart false x y w blank blank_wide us (items.key (codes "static")), method_joined x y w t blank blank_is us a j)
-  static_joined false x y w t g h us a j = method_joined x y w t g h us a j
+  method_joined : (x y : Bool) {n : Node} (is : IsMemberName n) (depth : ℕ) (us : Items) → BehindName us → Joined us → (g : Gap) → IsGap g → Joined (method_tokens x y (λ h. member_name_tokens is depth h us) g)
+  unfolding punctuators
+  method_joined true true is depth us b j g h = (h, words.async_whole, refl, (blank_is, refl, star_joins is depth us, member_name_joined is depth no_gap no_gap_is us b j))
+  method_joined true false is depth us b j g h = (h, refl, star_joins is depth us, member_name_joined is depth no_gap no_gap_is us b j)
+  method_joined false true is depth us b j g h = (h, words.async_whole, name_apart is depth blank blank_wide us (items.key (codes "async")), member_name_joined is depth blank blank_is us b j)
+  method_joined false false is depth us b j g h = member_name_joined is depth g h us b j
 
-  accessor_joined : (s b : Bool) (w : List ℕ) → IsToken key_end w → (g : Gap) → IsGap g → (us : Items) → joins_next (items.key w) us ≡ true → Joined us → Joined (static_tokens s (λ h. it h (items.key (accessor_text b)) (it blank (items.key w) us)) g)
-  accessor_joined true true w t g h us a j = (h, words.static_whole, refl, (blank_is, words.set_whole, refl, (blank_is, t, a, j)))
-  accessor_joined true false w t g h us a j = (h, words.static_whole, refl, (blank_is, words.get_whole, refl, (blank_is, t, a, j)))
-  accessor_joined false true w t g h us a j = (h, words.set_whole, refl, (blank_is, t, a, j))
-  accessor_joined false false w t g h us a j = (h, words.get_whole, refl, (blank_is, t, a, j))
+  accessor_joined : (is_setter : Bool) {n : Node} (is : IsMemberName n) (depth : ℕ) (us : Items) → BehindName us → Joined us → (g : Gap) → IsGap g → Joined (it g (items.key (accessor_text is_setter)) (member_name_tokens is depth blank us))
+  accessor_joined true is depth us b j g h = (h, words.set_whole, name_apart is depth blank blank_wide us (items.key (codes "set")), member_name_joined is depth blank blank_is us b j)
+  accessor_joined false is depth us b j g h = (h, words.get_whole, name_apart is depth blank blank_wide us (items.key (codes "get")), member_name_joined is depth blank blank_is us b j)
+
+  static_joined : (s : Bool) (f : Gap → Items) → ((g : Gap) → Wide g → Apart (f g)) → ((g : Gap) → IsGap g → Joined (f g)) → (g : Gap) → IsGap g → Joined (static_tokens s f g)
+  static_joined true f a j g h = (h, words.static_whole, a blank blank_wide (items.key (codes "static")), j blank blank_is)
+  static_joined false f a j g h = j g h
 
   heritage_joined : {n : Node} (is : IsHeritage n) (depth : ℕ) (t : Tok) (us : Items) → Joined (it blank t us) → Joined (heritage_tokens is depth (it blank t us))
   heritage_joined (shapes.no_heritage a) depth t us j = j
@@ -334,26 +356,25 @@ module _ (words : Words) where
 
     member_joined : {n : Node} (is : IsMember n) (d : ℕ) (g : Gap) → IsGap g → (us : Items) → Apart us → Joined us → Joined (member_tokens is d g us)
     member_joined (shapes.static_block at b) d g h us a j = (h, words.static_whole, block_apart b d blank blank_wide us (items.key (codes "static")), block_joined b d blank blank_is us a j)
-    member_joined (shapes.method at s (shapes.method_name at' w t z) f) d g h us a j = static_joined s (is_generator f) (is_async f) w t g h (function_tokens f d us) (function_opens f d us (items.key w) refl) (function_joined f d us a j)
-    member_joined (shapes.class_constructor at at' at'' ps ws b) d g h us a j =
+    member_joined (shapes.method at s k f z) d g h us a j =
+        let x = is_generator f in
+        let y = is_async f in
+        let fs = function_tokens f d us in
+        let name : Gap → Items = λ h. member_name_tokens k d h fs in
+        static_joined s (method_tokens x y name) (method_apart x y name (λ g' w. name_apart k d g' w fs)) (method_joined x y k d fs (function_behind_name f d us) (function_joined f d us a j)) g h
+    member_joined (shapes.class_constructor at at' k z ps ws b) d g h us a j =
         let bs = block_tokens b d blank us in
-        (h, words.constructor_whole, refl, arguments_joined words ps d bs (no_gap_is, refl, block_apart b d blank blank_wide us (sign (codes ")")), block_joined b d blank blank_is us a j))
-    member_joined (shapes.field at true k v n) d g h us a j =
-        let vs = sign_of (codes ";") us in
-        (h, words.static_whole, refl, (blank_is, key_whole k, value_opens v d (key_word k) us, initializer_joined words v d vs semicolon (ended us a j)))
-    member_joined (shapes.field at false k v n) d g h us a j =
-        let vs = sign_of (codes ";") us in
-        (h, key_whole k, value_opens v d (key_word k) us, initializer_joined words v d vs semicolon (ended us a j))
+        property_name_joined words k d g h (sign_of (codes "(") (arguments_tokens ps d (sign_of (codes ")") bs))) (params_behind_name _)
+        (arguments_joined words ps d bs (no_gap_is, refl, block_apart b d blank blank_wide us (sign (codes ")")), block_joined b d blank blank_is us a j))
+    member_joined (shapes.field at s k v n) d g h us a j =
+        let end = sign_of (codes ";") us in
+        let vs = initializer_tokens v d end in
+        static_joined s (λ h. member_name_tokens k d h vs) (λ g' w. name_apart k d g' w vs) (λ g' h'. member_name_joined k d g' h' vs (value_behind_name v d us) (initializer_joined words v d end semicolon (ended us a j))) g h
     member_joined (shapes.accessor at at' at'' s b k ps ws body n n') d g h us a j =
         let bs = block_tokens body d blank us in
-        accessor_joined s b (key_word k) (key_whole k) g h (sign_of (codes "(") (arguments_tokens ps d (sign_of (codes ")") bs))) refl
-        (arguments_joined words ps d bs (no_gap_is, refl, block_apart body d blank blank_wide us (sign (codes ")")), block_joined body d blank blank_is us a j))
-    member_joined (shapes.private_field at at' true w t v n) d g h us a j =
-        let vs = sign_of (codes ";") us in
-        (h, words.static_whole, refl, (blank_is, t, private_value_opens v d (codes "#" ++ w) us, initializer_joined words v d vs semicolon (ended us a j)))
-    member_joined (shapes.private_field at at' false w t v n) d g h us a j =
-        let vs = sign_of (codes ";") us in
-        (h, t, private_value_opens v d (codes "#" ++ w) us, initializer_joined words v d vs semicolon (ended us a j))
+        let fs = sign_of (codes "(") (arguments_tokens ps d (sign_of (codes ")") bs)) in
+        static_joined s (λ h. it h (items.key (accessor_text b)) (member_name_tokens k d blank fs)) (λ g' w t. w t (items.key (accessor_text b)))
+        (accessor_joined b k d fs (params_behind_name _) (arguments_joined words ps d bs (no_gap_is, refl, block_apart body d blank blank_wide us (sign (codes ")")), block_joined body d blank blank_is us a j))) g h
 
     members_joined : {ns : List Node} (is : AreMembers ns) (d : ℕ) (us : Items) → Apart us → Joined us → Joined (members_tokens is d us)
     members_joined shapes.no_members d us a j = j

@@ -1,6 +1,7 @@
 -- The layout of a statement is the text of its tokens.
 use Rattle.std.proofs.Common.{◌≡◌, ℕ, suc, Bool, true, false, List, [], ◌∷◌, ◌++◌, map, codes, refl, ap, sym, ◌∙◌, None}
 use Rattle.std.proofs.lemmas.Bool.{false≢true}
+use Rattle.ecma_kind.specs.declared.operators.MethodKind.{MethodKind}
 use Rattle.ecma_kind.specs.declared.operators.MethodKind.TheVariants.{Method}
 use Rattle.ecma_kind.specs.declared.operators.VarDeclKind.{VarDeclKind}
 use Rattle.ecma_kind.specs.declared.kind.Kind.{Kind}
@@ -23,9 +24,9 @@ use Rattle.ecma_print.specs.Layout.{in_place, lay_step, laid}
 use Rattle.ecma_tokens.specs.Items as items
 use Rattle.ecma_tokens.specs.Items.{sign, Gap, no_gap, Items, it, render}
 use Rattle.ecma_reread.specs.Shapes as shapes
-use Rattle.ecma_reread.specs.Shapes.{Level, IsExpression, IsDeclarator, AreDeclarators, Ending, IsStatement, IsBlock, IsCase, AreCases, IsCatch, AreStatements, IsOptional, IsForLeft, IsInitializer, IsForDeclarator, AreForDeclarators, IsForInit, IsPattern, AreParams, IsFunction, IsFunctionName, IsIdent, IsHeritage, IsClass, IsMember, AreMembers, static_modifiers, accessor_kind}
-use Rattle.ecma_reread.specs.Tokens.{margin, line_at, blank, sign_of, expression_tokens, declarator_tokens, declarators_tokens, closing_gap, is_braced, branch_gap, test_tokens, statement_tokens, block_tokens, case_tokens, cases_tokens, catch_tokens, lined_tokens, optional_tokens, for_left_tokens, for_tokens, initializer_tokens, as_declarator, as_declarators, for_init_tokens, arguments_tokens, function_word, is_generator, is_async, function_tokens, function_name_tokens, ident_word, heritage_tokens, class_tokens, member_tokens, members_tokens, method_tokens, static_tokens, accessor_text}
-use Rattle.ecma_reread.proofs.Layouts.{laid_node, at_node, gap_out, expression_laid, within_laid, arguments_laid, declarator_laid, more_declarators_laid, pattern_laid, pattern_gap_out, initializer_laid}
+use Rattle.ecma_reread.specs.Shapes.{Level, IsExpression, IsDeclarator, AreDeclarators, Ending, IsStatement, IsBlock, IsCase, AreCases, IsCatch, AreStatements, IsOptional, IsForLeft, IsInitializer, IsForDeclarator, AreForDeclarators, IsForInit, IsPattern, AreParams, IsFunction, IsFunctionName, IsIdent, IsHeritage, IsClass, IsMember, AreMembers, static_modifiers, accessor_kind, IsMemberName, is_private, method_kind, field_kind}
+use Rattle.ecma_reread.specs.Tokens.{margin, line_at, blank, sign_of, expression_tokens, declarator_tokens, declarators_tokens, closing_gap, is_braced, branch_gap, test_tokens, statement_tokens, block_tokens, case_tokens, cases_tokens, catch_tokens, lined_tokens, optional_tokens, for_left_tokens, for_tokens, initializer_tokens, as_declarator, as_declarators, for_init_tokens, arguments_tokens, function_word, is_generator, is_async, function_tokens, function_name_tokens, ident_word, heritage_tokens, class_tokens, member_tokens, members_tokens, method_tokens, static_tokens, accessor_text, member_name_tokens}
+use Rattle.ecma_reread.proofs.Layouts.{laid_node, at_node, gap_out, expression_laid, within_laid, arguments_laid, declarator_laid, more_declarators_laid, pattern_laid, pattern_gap_out, initializer_laid, property_name_laid}
 use Rattle.ecma_reread.proofs.Spots.{calm_start, calm_0, calm_1, quiet}
 use Rattle.ecma_reread.proofs.HeadLayouts.{head_laid}
 use Rattle.ecma_reread.specs.Heads.{may_hold_in}
@@ -215,34 +216,50 @@ function_head_laid (shapes.function_of at of_params x y {params = ps'} {body = b
 method_head_laid : {n : Node} (is : IsFunction n) (m rest : List ℕ) → (laid n).at MethodHead m rest ≡ method_head (kind.Function (is_generator is) (is_async is)) ++ rest
 method_head_laid (shapes.function_of at of_params x y {params = ps'} {body = b'} {none = n'} {none' = n''} ps ws b a a') m rest = at_node at (kind.Function x y) (node_of of_params kind.List ps' ∷ b' ∷ n' ∷ n'' ∷ []) MethodHead m rest
 
-method_text : (x y : Bool) (w : List ℕ) (g : Gap) (us : Items) → render (method_tokens x y w g us) ≡ g.blanks ++ (method_head (kind.Function x y) ++ (w ++ render us))
+name_gap_out : {n : Node} (is : IsMemberName n) (depth : ℕ) (g : Gap) (us : Items) → render (member_name_tokens is depth g us) ≡ g.blanks ++ render (member_name_tokens is depth no_gap us)
 unfolding render
-method_text true true w g us = refl
-method_text true false w g us = refl
-method_text false true w g us = refl
-method_text false false w g us = refl
+name_gap_out (shapes.property_member (shapes.key_name k)) depth g us = refl
+name_gap_out (shapes.property_member (shapes.string_name at raw t)) depth g us = refl
+name_gap_out (shapes.property_member (shapes.number_name at raw t)) depth g us = refl
+name_gap_out (shapes.property_member (shapes.big_int_name at raw t)) depth g us = refl
+name_gap_out (shapes.property_member (shapes.computed_name at e)) depth g us = refl
+name_gap_out (shapes.private_member at w t) depth g us = refl
 
-static_text : (s x y : Bool) (w : List ℕ) (g : Gap) (us : Items) → render (static_tokens s (λ h. method_tokens x y w h us) g) ≡ g.blanks ++ (static_word s ++ (method_head (kind.Function x y) ++ (w ++ render us)))
+member_name_laid : {n : Node} (is : IsMemberName n) (depth : ℕ) (us : Items) → (laid n).at (At (free 1)) (margin depth) (render us) ≡ render (member_name_tokens is depth no_gap us)
 unfolding render
-static_text true x y w g us = ap (λ z. g.blanks ++ (codes "static" ++ z)) (method_text x y w blank us)
-static_text false x y w g us = method_text x y w g us
+member_name_laid (shapes.property_member k) depth us = property_name_laid k depth us
+member_name_laid (shapes.private_member at w t) depth us = at_node at (kind.PrivateName w) [] (At (free 1)) (margin depth) (render us)
 
-static_field_text : (s : Bool) (w : List ℕ) (g : Gap) (us : Items) → render (static_tokens s (λ h. it h (items.key w) us) g) ≡ g.blanks ++ (static_word s ++ (w ++ render us))
-unfolding render
-static_field_text true w g us = refl
-static_field_text false w g us = refl
+-- the text behind a gap
+abbrev Written : (Gap → Items) → List ℕ → Type 0
+Written f x = (g : Gap) → render (f g) ≡ g.blanks ++ x
 
-accessor_text_laid : (s b : Bool) (w : List ℕ) (g : Gap) (us : Items) → render (static_tokens s (λ h. it h (items.key (accessor_text b)) (it blank (items.key w) us)) g) ≡ g.blanks ++ (static_word s ++ (accessor_word (accessor_kind b) ++ (w ++ render us)))
+method_text : (x y : Bool) {n : Node} (is : IsMemberName n) (depth : ℕ) (us : Items) → Written (method_tokens x y (λ h. member_name_tokens is depth h us)) (method_head (kind.Function x y) ++ render (member_name_tokens is depth no_gap us))
 unfolding render
-accessor_text_laid true true w g us = refl
-accessor_text_laid true false w g us = refl
-accessor_text_laid false true w g us = refl
-accessor_text_laid false false w g us = refl
+method_text true true is depth us g = refl
+method_text true false is depth us g = refl
+method_text false true is depth us g = ap (λ z. g.blanks ++ (codes "async" ++ z)) (name_gap_out is depth blank us)
+method_text false false is depth us g = name_gap_out is depth g us
 
-private_field_text : (s : Bool) (w : List ℕ) (g : Gap) (us : Items) → render (static_tokens s (λ h. it h (items.private_name (codes "#" ++ w)) us) g) ≡ g.blanks ++ (static_word s ++ (codes "#" ++ (w ++ render us)))
+accessor_written : (is_setter : Bool) {n : Node} (is : IsMemberName n) (depth : ℕ) (us : Items) → Written (λ h. it h (items.key (accessor_text is_setter)) (member_name_tokens is depth blank us)) (accessor_word (accessor_kind is_setter) ++ render (member_name_tokens is depth no_gap us))
 unfolding render
-private_field_text true w g us = refl
-private_field_text false w g us = refl
+accessor_written true is depth us g = ap (λ z. g.blanks ++ (codes "set" ++ z)) (name_gap_out is depth blank us)
+accessor_written false is depth us g = ap (λ z. g.blanks ++ (codes "get" ++ z)) (name_gap_out is depth blank us)
+
+static_text : (s : Bool) (f : Gap → Items) (x : List ℕ) → Written f x → Written (static_tokens s f) (static_word s ++ x)
+unfolding render
+static_text true f x h g = ap (λ z. g.blanks ++ (codes "static" ++ z)) (h blank)
+static_text false f x h g = h g
+
+method_node : (p s : Bool) (k : MethodKind) (at : Span) (key function : Node) (m rest : List ℕ) → (laid (node_of at (method_kind p k s) (key ∷ function ∷ []))).at (At (free 0)) m rest
+    ≡ static_word s ++ (accessor_word k ++ (laid function).at MethodHead m ((laid key).at (At (free 1)) m ((laid function).at (At (free 1)) m rest)))
+method_node true s k at key function m rest = at_node at (kind.PrivateMethod k (static_modifiers s)) (key ∷ function ∷ []) (At (free 0)) m rest
+method_node false s k at key function m rest = at_node at (kind.ClassMethod k (static_modifiers s)) (key ∷ function ∷ []) (At (free 0)) m rest
+
+field_node : (p s : Bool) (at : Span) (key value none : Node) (m rest : List ℕ) → (laid (node_of at (field_kind p s) (key ∷ value ∷ none ∷ []))).at (At (free 0)) m rest
+    ≡ static_word s ++ (laid key).at (At (free 1)) m ((laid value).at (Within Equals (free 1)) m (codes ";" ++ rest))
+field_node true s at key value none m rest = at_node at (kind.PrivateProp (static_modifiers s) false false false) (key ∷ value ∷ none ∷ []) (At (free 0)) m rest
+field_node false s at key value none m rest = at_node at (kind.ClassProp (static_modifiers s) false false false) (key ∷ value ∷ none ∷ []) (At (free 0)) m rest
 
 blank_name_laid : {n : Node} (i : IsIdent n) (m : List ℕ) (us : Items) → (laid n).at (Within Blank (free 1)) m (render us) ≡ render (it blank (items.key (ident_word i)) us)
 unfolding render
@@ -454,56 +471,47 @@ mutual
       let m = margin d in
       ap (λ z. g.blanks ++ z)
       (sym (at_node at kind.StaticBlock (b' ∷ []) (At (free 0)) m (render us) ∙ (ap (λ z. codes "static " ++ z) (block_again b m (render us)) ∙ ap (λ z. codes "static" ++ z) (block_laid b d blank us))))
-  member_laid (shapes.method at s {function = f'} (shapes.method_name at' w t z) f) d g us =
+  member_laid (shapes.method at s {key = k'} {function = f'} k f z) d g us =
       let m = margin d in
       let x = is_generator f in
       let y = is_async f in
       let fs = function_tokens f d us in
-      static_text s x y w g fs
+      static_text s (method_tokens x y (λ h. member_name_tokens k d h fs)) _ (method_text x y k d fs) g
       ∙ ap (λ z. g.blanks ++ z)
-      (sym (at_node at (kind.ClassMethod Method (static_modifiers s)) (node_of at' (kind.IdentName w) [] ∷ f' ∷ []) (At (free 0)) m (render us)
+      (sym (method_node (is_private k) s Method at k' f' m (render us)
       ∙ ap (λ z. static_word s ++ z)
-      (method_head_laid f m ((laid (node_of at' (kind.IdentName w) [])).at (At (free 1)) m ((laid f').at (At (free 1)) m (render us)))
-      ∙ ap (λ z. method_head (kind.Function x y) ++ z) (at_node at' (kind.IdentName w) [] (At (free 1)) m ((laid f').at (At (free 1)) m (render us)) ∙ ap (λ z. w ++ z) (function_laid f d us)))))
-  member_laid (shapes.class_constructor at at' of_params {params = ps'} {body = b'} ps ws b) d g us =
+      (method_head_laid f m ((laid k').at (At (free 1)) m ((laid f').at (At (free 1)) m (render us)))
+      ∙ ap (λ z. method_head (kind.Function x y) ++ z) (ap (λ z. (laid k').at (At (free 1)) m z) (function_laid f d us) ∙ member_name_laid k d fs))))
+  member_laid (shapes.class_constructor at of_params {key = k'} {params = ps'} {body = b'} k z ps ws b) d g us =
       let m = margin d in
       let bs = block_tokens b d blank us in
-      ap (λ z. g.blanks ++ z)
-      (sym (at_node at (kind.Constructor None false) (node_of at' (kind.IdentName (codes "constructor")) [] ∷ node_of of_params kind.List ps' ∷ b' ∷ []) (At (free 0)) m (render us)
-      ∙ (at_node at' (kind.IdentName (codes "constructor")) [] (At (free 1)) m ((laid (node_of of_params kind.List ps')).at Arguments m ((laid b').at (Within Blank (free 1)) m (render us)))
-      ∙ ap (λ z. codes "constructor" ++ z) (ap (λ z. (laid (node_of of_params kind.List ps')).at Arguments m z) (function_body_laid b m us bs (block_laid b d blank us)) ∙ (params_laid of_params ws m (render bs) ∙ arguments_laid ps d bs)))))
-  member_laid (shapes.field at s {value = v'} {none = n'} (shapes.key at' w t) v a) d g us =
+      let fs = sign_of (codes "(") (arguments_tokens ps d (sign_of (codes ")") bs)) in
+      name_gap_out (shapes.property_member k) d g fs
+      ∙ ap (λ z. g.blanks ++ z)
+      (sym (at_node at (kind.Constructor None false) (k' ∷ node_of of_params kind.List ps' ∷ b' ∷ []) (At (free 0)) m (render us)
+      ∙ (ap (λ z. (laid k').at (At (free 1)) m z) (ap (λ z. (laid (node_of of_params kind.List ps')).at Arguments m z) (function_body_laid b m us bs (block_laid b d blank us)) ∙ (params_laid of_params ws m (render bs) ∙ arguments_laid ps d bs))
+      ∙ property_name_laid k d fs)))
+  member_laid (shapes.field at s {key = k'} {value = v'} {none = n'} k v a) d g us =
       let m = margin d in
       let vs = initializer_tokens v d (sign_of (codes ";") us) in
-      static_field_text s w g vs
+      static_text s (λ h. member_name_tokens k d h vs) _ (λ h. name_gap_out k d h vs) g
       ∙ ap (λ z. g.blanks ++ z)
-      (sym (at_node at (kind.ClassProp (static_modifiers s) false false false) (node_of at' (kind.IdentName w) [] ∷ v' ∷ n' ∷ []) (At (free 0)) m (render us)
-      ∙ ap (λ z. static_word s ++ z)
-      (at_node at' (kind.IdentName w) [] (At (free 1)) m ((laid v').at (Within Equals (free 1)) m (codes ";" ++ render us)) ∙ ap (λ z. w ++ z) (initializer_laid v d (sign_of (codes ";") us)))))
-  member_laid (shapes.accessor at at' of_params s b {body = b'} {none = n'} {none' = n''} {params = ps'} (shapes.key of w t) ps ws body a a') d g us =
+      (sym (field_node (is_private k) s at k' v' n' m (render us) ∙ ap (λ z. static_word s ++ z) (ap (λ z. (laid k').at (At (free 1)) m z) (initializer_laid v d (sign_of (codes ";") us)) ∙ member_name_laid k d vs)))
+  member_laid (shapes.accessor at at' of_params s b {key = k'} {body = b'} {none = n'} {none' = n''} {params = ps'} k ps ws body a a') d g us =
       let m = margin d in
       let bs = block_tokens body d blank us in
       let fs = sign_of (codes "(") (arguments_tokens ps d (sign_of (codes ")") bs)) in
       let children = node_of of_params kind.List ps' ∷ b' ∷ n' ∷ n'' ∷ [] in
       let fn = node_of at' (kind.Function false false) children in
-      let inside = (laid fn).at (At (free 1)) m (render us) in
-      accessor_text_laid s b w g fs
+      static_text s (λ h. it h (items.key (accessor_text b)) (member_name_tokens k d blank fs)) _ (accessor_written b k d fs) g
       ∙ ap (λ z. g.blanks ++ z)
-      (sym (at_node at (kind.ClassMethod (accessor_kind b) (static_modifiers s)) (node_of of (kind.IdentName w) [] ∷ fn ∷ []) (At (free 0)) m (render us)
+      (sym (method_node (is_private k) s (accessor_kind b) at k' fn m (render us)
       ∙ ap (λ z. static_word s ++ (accessor_word (accessor_kind b) ++ z))
-      (at_node at' (kind.Function false false) children MethodHead m ((laid (node_of of (kind.IdentName w) [])).at (At (free 1)) m inside)
-      ∙ (at_node of (kind.IdentName w) [] (At (free 1)) m inside
-      ∙ ap (λ z. w ++ z)
+      (at_node at' (kind.Function false false) children MethodHead m ((laid k').at (At (free 1)) m ((laid fn).at (At (free 1)) m (render us)))
+      ∙ (ap (λ z. (laid k').at (At (free 1)) m z)
       (at_node at' (kind.Function false false) children (At (free 1)) m (render us)
-      ∙ (ap (λ z. (laid (node_of of_params kind.List ps')).at Arguments m z) (function_body_laid body m us bs (block_laid body d blank us)) ∙ (params_laid of_params ws m (render bs) ∙ arguments_laid ps d bs)))))))
-  member_laid (shapes.private_field at at' s w {value = v'} {none = n'} t v a) d g us =
-      let m = margin d in
-      let vs = initializer_tokens v d (sign_of (codes ";") us) in
-      private_field_text s w g vs
-      ∙ ap (λ z. g.blanks ++ z)
-      (sym (at_node at (kind.PrivateProp (static_modifiers s) false false false) (node_of at' (kind.PrivateName w) [] ∷ v' ∷ n' ∷ []) (At (free 0)) m (render us)
-      ∙ ap (λ z. static_word s ++ z)
-      (at_node at' (kind.PrivateName w) [] (At (free 1)) m ((laid v').at (Within Equals (free 1)) m (codes ";" ++ render us)) ∙ ap (λ z. codes "#" ++ (w ++ z)) (initializer_laid v d (sign_of (codes ";") us)))))
+      ∙ (ap (λ z. (laid (node_of of_params kind.List ps')).at Arguments m z) (function_body_laid body m us bs (block_laid body d blank us)) ∙ (params_laid of_params ws m (render bs) ∙ arguments_laid ps d bs)))
+      ∙ member_name_laid k d fs))))
 
   members_laid : {ns : List Node} (is : AreMembers ns) (d : ℕ) (us : Items) → new_lines (map laid ns) (margin d) (render us) ≡ render (members_tokens is d us)
   members_laid shapes.no_members d us = refl

@@ -1,5 +1,5 @@
 -- The tree that is read of a statement is the tree without spans.
-use Rattle.std.proofs.Common.{true, false, ◌≡◌, List, [], ◌∷◌, map, refl, ap, ap₂, sym, ◌∙◌, Bool, None, codes}
+use Rattle.std.proofs.Common.{true, false, ◌≡◌, List, [], ◌∷◌, map, refl, ap, ap₂, sym, ◌∙◌, Bool, None}
 use Rattle.ecma_kind.specs.declared.operators.MethodKind.TheVariants.{Method}
 use Rattle.ecma_kind.specs.declared.operators.BinaryOp.TheVariants as op
 use Rattle.ecma_kind.specs.declared.kind.Kind.TheVariants as kind
@@ -9,9 +9,9 @@ use Rattle.ecma_tree.specs.Nodes.{absent, list_node, node_of, dummy_span}
 use Rattle.ecma_grammar.specs.trees.Parts.{children_of}
 use Rattle.ecma_tree.specs.Spans.{without_spans}
 use Rattle.ecma_reread.specs.Shapes as shapes
-use Rattle.ecma_reread.specs.Shapes.{Level, IsIdent, ident, IsKey, key, IsAbsent, IsExpression, IsElement, IsArguments, AreElements, AreExpressions, IsInitializer, IsDeclarator, AreDeclarators, Ending, IsStatement, IsBlock, AreStatements, AreSlots, IsCase, AreCases, IsCatch, IsChainKey, IsOptional, IsForLeft, IsPropertyName, IsProperty, AreProperties, Role, IsPattern, IsDefaulted, IsForInit, IsPart, AreParts, IsFunction, AreParams, IsFunctionName, IsHeritage, IsClass, IsMember, AreMembers, static_modifiers, accessor_kind}
+use Rattle.ecma_reread.specs.Shapes.{Level, IsIdent, ident, IsKey, key, IsAbsent, IsExpression, IsElement, IsArguments, AreElements, AreExpressions, IsInitializer, IsDeclarator, AreDeclarators, Ending, IsStatement, IsBlock, AreStatements, AreSlots, IsCase, AreCases, IsCatch, IsChainKey, IsOptional, IsForLeft, IsPropertyName, IsProperty, AreProperties, Role, IsPattern, IsDefaulted, IsForInit, IsPart, AreParts, IsFunction, AreParams, IsFunctionName, IsHeritage, IsClass, IsMember, AreMembers, IsMemberName, is_private, method_kind, field_kind, accessor_kind}
 use Rattle.ecma_reread.specs.Tokens.{key_word, chain_kind, as_declarator, as_declarators}
-use Rattle.ecma_reread.specs.Bare.{bare, bare_ident, bare_expression, bare_element, bare_arguments, bare_elements, bare_expressions, bare_initializer, bare_declarator, bare_declarators, bare_statement, bare_block, bare_statements, bare_slots, bare_case, bare_cases, bare_catch, bare_optional, bare_for_left, bare_property_name, bare_property, bare_properties, bare_pattern, bare_defaulted, bare_for_init, bare_part, bare_parts, bare_substitutions, bare_params, bare_function, bare_function_name, bare_heritage, bare_class, bare_member, bare_members}
+use Rattle.ecma_reread.specs.Bare.{bare, bare_ident, bare_expression, bare_element, bare_arguments, bare_elements, bare_expressions, bare_initializer, bare_declarator, bare_declarators, bare_statement, bare_block, bare_statements, bare_slots, bare_case, bare_cases, bare_catch, bare_optional, bare_for_left, bare_property_name, bare_property, bare_properties, bare_pattern, bare_defaulted, bare_for_init, bare_part, bare_parts, bare_substitutions, bare_params, bare_function, bare_function_name, bare_heritage, bare_class, bare_member_name, bare_member, bare_members}
 use Rattle.ecma_reread.proofs.Unplaced.{without_spans-node}
 use Rattle.ecma_reread.proofs.Heads.{children-node}
 
@@ -195,6 +195,10 @@ for_left_bare (shapes.for_binding at of_list at_declarator k p a) =
     (without_spans-node at_declarator (kind.VarDeclarator false) _ ∙ ap₂ (λ x y. bare (kind.VarDeclarator false) (x ∷ y ∷ [])) (pattern_bare p) (absent_bare a)))
 for_left_bare (shapes.for_target e z) = expression_bare e
 
+member_name_bare : {n : Node} (is : IsMemberName n) → without_spans n ≡ bare_member_name is
+member_name_bare (shapes.property_member k) = property_name_bare k
+member_name_bare (shapes.private_member at w t) = without_spans-node at (kind.PrivateName w) []
+
 heritage_bare : {n : Node} (is : IsHeritage n) → without_spans n ≡ bare_heritage is
 heritage_bare (shapes.no_heritage a) = absent_bare a
 heritage_bare (shapes.heritage e) = expression_bare e
@@ -269,26 +273,21 @@ mutual
 
   member_bare : {n : Node} (is : IsMember n) → without_spans n ≡ bare_member is
   member_bare (shapes.static_block at b) = without_spans-node at kind.StaticBlock _ ∙ ap (λ x. bare kind.StaticBlock (x ∷ [])) (block_bare b)
-  member_bare (shapes.method at s (shapes.method_name at' w t z) f) =
-      without_spans-node at (kind.ClassMethod Method (static_modifiers s)) _ ∙ ap₂ (λ x y. bare (kind.ClassMethod Method (static_modifiers s)) (x ∷ y ∷ [])) (without_spans-node at' (kind.IdentName w) []) (function_bare f)
-  member_bare (shapes.class_constructor at at' at'' {body = b'} ps ws b) =
+  member_bare (shapes.method at s k f z) = without_spans-node at (method_kind (is_private k) Method s) _ ∙ ap₂ (λ x y. bare (method_kind (is_private k) Method s) (x ∷ y ∷ [])) (member_name_bare k) (function_bare f)
+  member_bare (shapes.class_constructor at at' {body = b'} k z ps ws b) =
       without_spans-node at (kind.Constructor None false) _
-      ∙ (ap₂ (λ x y. bare (kind.Constructor None false) (x ∷ y ∷ without_spans b' ∷ [])) (without_spans-node at' (kind.IdentName (codes "constructor")) []) (without_spans-node at'' kind.List _ ∙ ap list_node (params_bare at'' ps ws))
-      ∙ ap (λ z. bare (kind.Constructor None false) (bare (kind.IdentName (codes "constructor")) [] ∷ list_node (bare_params (bare_arguments ps)) ∷ z ∷ [])) (block_bare b))
+      ∙ (ap₂ (λ x y. bare (kind.Constructor None false) (x ∷ y ∷ without_spans b' ∷ [])) (property_name_bare k) (without_spans-node at' kind.List _ ∙ ap list_node (params_bare at' ps ws))
+      ∙ ap (λ z. bare (kind.Constructor None false) (bare_property_name k ∷ list_node (bare_params (bare_arguments ps)) ∷ z ∷ [])) (block_bare b))
   member_bare (shapes.field at s {none = n'} k v a) =
-      without_spans-node at (kind.ClassProp (static_modifiers s) false false false) _
-      ∙ (ap₂ (λ x y. bare (kind.ClassProp (static_modifiers s) false false false) (x ∷ y ∷ without_spans n' ∷ [])) (key_bare k) (initializer_bare v)
-      ∙ ap (λ z. bare (kind.ClassProp (static_modifiers s) false false false) (bare (kind.IdentName (key_word k)) [] ∷ bare_initializer v ∷ z ∷ [])) (absent_bare a))
+      without_spans-node at (field_kind (is_private k) s) _
+      ∙ (ap₂ (λ x y. bare (field_kind (is_private k) s) (x ∷ y ∷ without_spans n' ∷ [])) (member_name_bare k) (initializer_bare v)
+      ∙ ap (λ z. bare (field_kind (is_private k) s) (bare_member_name k ∷ bare_initializer v ∷ z ∷ [])) (absent_bare a))
   member_bare (shapes.accessor at at' at'' s b {none = n'} {none' = n''} k ps ws body a a') =
-      without_spans-node at (kind.ClassMethod (accessor_kind b) (static_modifiers s)) _
-      ∙ ap₂ (λ x y. bare (kind.ClassMethod (accessor_kind b) (static_modifiers s)) (x ∷ y ∷ [])) (key_bare k)
+      without_spans-node at (method_kind (is_private k) (accessor_kind b) s) _
+      ∙ ap₂ (λ x y. bare (method_kind (is_private k) (accessor_kind b) s) (x ∷ y ∷ [])) (member_name_bare k)
       (without_spans-node at' (kind.Function false false) _
       ∙ (ap₂ (λ p q. bare (kind.Function false false) (p ∷ q ∷ without_spans n' ∷ without_spans n'' ∷ [])) (without_spans-node at'' kind.List _ ∙ ap list_node (params_bare at'' ps ws)) (block_bare body)
       ∙ ap₂ (λ p q. bare (kind.Function false false) (list_node (bare_params (bare_arguments ps)) ∷ bare_block body ∷ p ∷ q ∷ [])) (absent_bare a) (absent_bare a')))
-  member_bare (shapes.private_field at at' s w {none = n'} t v a) =
-      without_spans-node at (kind.PrivateProp (static_modifiers s) false false false) _
-      ∙ (ap₂ (λ x y. bare (kind.PrivateProp (static_modifiers s) false false false) (x ∷ y ∷ without_spans n' ∷ [])) (without_spans-node at' (kind.PrivateName w) []) (initializer_bare v)
-      ∙ ap (λ z. bare (kind.PrivateProp (static_modifiers s) false false false) (bare (kind.PrivateName w) [] ∷ bare_initializer v ∷ z ∷ [])) (absent_bare a))
 
   members_bare : {ns : List Node} (is : AreMembers ns) → map without_spans ns ≡ bare_members is
   members_bare shapes.no_members = refl

@@ -1,5 +1,5 @@
 -- The tree without spans that is read of the tokens of a tree.
-use Rattle.std.specs.Prelude.{◌-◌, true, false, List, [], ◌∷◌, length, Some, Bool, map, None, codes}
+use Rattle.std.specs.Prelude.{◌-◌, true, false, List, [], ◌∷◌, length, Some, Bool, map, None}
 use Rattle.ecma_number.specs.Numeral.{numeral_of}
 use Rattle.ecma_lex.specs.Text.{piece}
 use Rattle.ecma_lex.specs.Strings.{str_value}
@@ -12,8 +12,8 @@ use Rattle.ecma_kind.specs.declared.kind.Kind.TheVariants as kind
 use Rattle.ecma_tree.specs.declared.node.Node.{Node}
 use Rattle.ecma_tree.specs.Nodes.{node_of, dummy_span, absent, list_node}
 use Rattle.ecma_grammar.specs.Reads.{without_separators}
-use Rattle.ecma_reread.specs.Shapes.{IsIdent, Level, IsExpression, looser, element, prefix_update, postfix_update, await_expression, unary_expression, binary_expression, exponentiation, both, either, coalesced, assignment_expression, conditional_expression, sequence_expression, name, string, number, this_word, big_int, null_word, true_word, false_word, member, call, parenthesized, IsElement, one, spread, IsArguments, no_arguments, arguments, AreElements, no_elements, more_elements, AreExpressions, no_expressions, more_expressions, IsInitializer, no_initializer, initializer, IsDeclarator, declarator, AreDeclarators, no_declarators, more_declarators, IsStatement, expression, declaration, empty, debugger_word, throw, return_value, return_nothing, break_nothing, continue_nothing, Ending, break_label, continue_label, block, if_only, if_else, while_loop, do_loop, labeled, IsBlock, block_of, AreStatements, no_statements, more_statements, array, AreSlots, no_slots, filled, hole, switch_statement, IsCase, case_of, default_of, AreCases, no_cases, more_cases, new_expression, new_alone, new_target, try_catch, try_finally, try_catch_finally, IsCatch, catch_any, super_member, super_element, super_call, IsOptional, left_out, given, IsForLeft, for_binding, for_target, for_loop, for_in, for_of, object_literal, IsPropertyName, key_name, string_name, number_name, big_int_name, computed_name, IsProperty, key_value, shorthand, initialized, spread_property, AreProperties, no_properties, more_properties, private_in, yield_nothing, yield_value, import_meta, import_call, regex, Role, bound, rest, renamed, named, rest_property, IsPattern, name_pattern, array_pattern, object_pattern, IsDefaulted, no_default, with_default, IsForInit, no_init, init_declaration, init_expression, IsPart, part, AreParts, last_part, more_parts, template, tagged_template, arrow_function, catch_pattern, chain_member, chain_element, chain_call, function_statement, IsFunction, function_of, IsFunctionName, unnamed, function_name, IsHeritage, no_heritage, heritage, class_statement, IsClass, class_of, IsMember, static_block, AreMembers, no_members, more_members, method, static_modifiers, class_constructor, field, accessor, accessor_kind, private_field}
-use Rattle.ecma_reread.specs.Tokens.{as_declarator, as_declarators, chain_kind, ident_word, is_async, key_word, method_word}
+use Rattle.ecma_reread.specs.Shapes.{IsIdent, Level, IsExpression, looser, element, prefix_update, postfix_update, await_expression, unary_expression, binary_expression, exponentiation, both, either, coalesced, assignment_expression, conditional_expression, sequence_expression, name, string, number, this_word, big_int, null_word, true_word, false_word, member, call, parenthesized, IsElement, one, spread, IsArguments, no_arguments, arguments, AreElements, no_elements, more_elements, AreExpressions, no_expressions, more_expressions, IsInitializer, no_initializer, initializer, IsDeclarator, declarator, AreDeclarators, no_declarators, more_declarators, IsStatement, expression, declaration, empty, debugger_word, throw, return_value, return_nothing, break_nothing, continue_nothing, Ending, break_label, continue_label, block, if_only, if_else, while_loop, do_loop, labeled, IsBlock, block_of, AreStatements, no_statements, more_statements, array, AreSlots, no_slots, filled, hole, switch_statement, IsCase, case_of, default_of, AreCases, no_cases, more_cases, new_expression, new_alone, new_target, try_catch, try_finally, try_catch_finally, IsCatch, catch_any, super_member, super_element, super_call, IsOptional, left_out, given, IsForLeft, for_binding, for_target, for_loop, for_in, for_of, object_literal, IsPropertyName, key_name, string_name, number_name, big_int_name, computed_name, IsProperty, key_value, shorthand, initialized, spread_property, AreProperties, no_properties, more_properties, private_in, yield_nothing, yield_value, import_meta, import_call, regex, Role, bound, rest, renamed, named, rest_property, IsPattern, name_pattern, array_pattern, object_pattern, IsDefaulted, no_default, with_default, IsForInit, no_init, init_declaration, init_expression, IsPart, part, AreParts, last_part, more_parts, template, tagged_template, arrow_function, catch_pattern, chain_member, chain_element, chain_call, function_statement, IsFunction, function_of, IsFunctionName, unnamed, function_name, IsHeritage, no_heritage, heritage, class_statement, IsClass, class_of, IsMember, static_block, AreMembers, no_members, more_members, method, class_constructor, field, accessor, accessor_kind, IsMemberName, property_member, private_member, is_private, method_kind, field_kind}
+use Rattle.ecma_reread.specs.Tokens.{as_declarator, as_declarators, chain_kind, ident_word, is_async, key_word}
 
 abbrev pub bare : Kind → List Node → Node
 bare k ns = node_of dummy_span k ns
@@ -176,6 +176,10 @@ abbrev mutual
 abbrev pub bare_expression : {level : Level} {e : Node} → IsExpression level e → Node
 bare_expression e = bare (expression_kind e) (expression_parts e)
 
+abbrev pub bare_member_name : {n : Node} → IsMemberName n → Node
+bare_member_name (property_member k) = bare_property_name k
+bare_member_name (private_member at w t) = bare (kind.PrivateName w) []
+
 abbrev pub bare_declarator : {n : Node} → IsDeclarator n → Node
 bare_declarator (declarator at p e) = bare (kind.VarDeclarator false) (bare_pattern p ∷ bare_initializer e ∷ [])
 
@@ -241,12 +245,11 @@ abbrev mutual
 
   pub bare_member : {n : Node} → IsMember n → Node
   bare_member (static_block at b) = bare kind.StaticBlock (bare_block b ∷ [])
-  bare_member (method at s k f) = bare (kind.ClassMethod Method (static_modifiers s)) (bare (kind.IdentName (method_word k)) [] ∷ bare_function f ∷ [])
-  bare_member (class_constructor at at' at'' ps ws b) = bare (kind.Constructor None false) (bare (kind.IdentName (codes "constructor")) [] ∷ list_node (bare_params (bare_arguments ps)) ∷ bare_block b ∷ [])
-  bare_member (field at s k v a) = bare (kind.ClassProp (static_modifiers s) false false false) (bare (kind.IdentName (key_word k)) [] ∷ bare_initializer v ∷ absent ∷ [])
+  bare_member (method at s k f z) = bare (method_kind (is_private k) Method s) (bare_member_name k ∷ bare_function f ∷ [])
+  bare_member (class_constructor at at' k z ps ws b) = bare (kind.Constructor None false) (bare_property_name k ∷ list_node (bare_params (bare_arguments ps)) ∷ bare_block b ∷ [])
+  bare_member (field at s k v a) = bare (field_kind (is_private k) s) (bare_member_name k ∷ bare_initializer v ∷ absent ∷ [])
   bare_member (accessor at at' at'' s b k ps ws body a a') =
-      bare (kind.ClassMethod (accessor_kind b) (static_modifiers s)) (bare (kind.IdentName (key_word k)) [] ∷ bare (kind.Function false false) (list_node (bare_params (bare_arguments ps)) ∷ bare_block body ∷ absent ∷ absent ∷ []) ∷ [])
-  bare_member (private_field at at' s w t v a) = bare (kind.PrivateProp (static_modifiers s) false false false) (bare (kind.PrivateName w) [] ∷ bare_initializer v ∷ absent ∷ [])
+      bare (method_kind (is_private k) (accessor_kind b) s) (bare_member_name k ∷ bare (kind.Function false false) (list_node (bare_params (bare_arguments ps)) ∷ bare_block body ∷ absent ∷ absent ∷ []) ∷ [])
 
   pub bare_members : {ns : List Node} → AreMembers ns → List Node
   bare_members no_members = []

@@ -1,5 +1,5 @@
 -- The trees of expressions and statements, a constructor for each form. Parentheses are parts of these trees: none have to be added.
-use Rattle.std.specs.Prelude.{◌≡◌, ℕ, ◌-◌, true, false, List, [], ◌∷◌, length, Some, ◌++◌, codes, Bool, ◌+◌, ◌||◌, is_some, None, bytes_eq}
+use Rattle.std.specs.Prelude.{◌≡◌, ℕ, ◌-◌, true, false, List, [], ◌∷◌, length, Some, ◌++◌, codes, Bool, ◌+◌, ◌||◌, ◌&&◌, not, is_some, None, bytes_eq}
 use Rattle.ecma_number.specs.Numeral.{numeral_of}
 use Rattle.ecma_lex.specs.Text.{piece}
 use Rattle.ecma_lex.specs.Keys.{is_reserved, key_end, priv_name_end}
@@ -18,6 +18,7 @@ use Rattle.ecma_kind.specs.declared.operators.MethodKind.{MethodKind}
 use Rattle.ecma_kind.specs.declared.operators.MethodKind.TheVariants.{Method, Getter, Setter}
 use Rattle.ecma_kind.specs.declared.operators.MemberModifiers.{MemberModifiers}
 use Rattle.ecma_kind.specs.declared.operators.MetaPropKind.TheVariants.{NewTarget, ImportMeta}
+use Rattle.ecma_kind.specs.declared.kind.Kind.{Kind}
 use Rattle.ecma_kind.specs.declared.kind.Kind.TheVariants as kind
 use Rattle.ecma_tree.specs.declared.node.Node.{Node}
 use Rattle.ecma_tree.specs.Nodes.{node_of}
@@ -321,12 +322,31 @@ pub data IsHeritage : Node → Type 0 where
   no_heritage : {none : Node} → IsAbsent none → IsHeritage none
   heritage : {e : Node} → IsExpression callee e → IsHeritage e
 
--- a name of a method; the constructor is none
-pub data IsMethodName : Node → Type 0 where
-  method_name : (at : Span) (word : List ℕ) → IsToken key_end word → bytes_eq word (codes "constructor") ≡ false → IsMethodName (node_of at (kind.IdentName word) [])
+-- what names a member of a class: a property name, or a private name (ClassElementName)
+pub data IsMemberName : Node → Type 0 where
+  property_member : {n : Node} → IsPropertyName n → IsMemberName n
+  private_member : (at : Span) (name : List ℕ) → IsToken priv_name_end (codes "#" ++ name) → IsMemberName (node_of at (kind.PrivateName name) [])
+
+-- `constructor`, as a name or a text
+abbrev pub names_constructor : {n : Node} → IsMemberName n → Bool
+names_constructor (property_member (key_name (key at word t))) = bytes_eq word (codes "constructor")
+names_constructor (property_member (string_name at raw t)) = bytes_eq (str_value (piece raw 1 (length raw - 1))) (codes "constructor")
+names_constructor is = false
+
+abbrev pub is_private : {n : Node} → IsMemberName n → Bool
+is_private (property_member k) = false
+is_private (private_member at word t) = true
 
 abbrev pub static_modifiers : Bool → MemberModifiers
 static_modifiers is_static = record { accessibility = None; is_static = is_static; is_abstract = false; is_optional = false; is_override = false }
+
+abbrev pub method_kind : Bool → MethodKind → Bool → Kind
+method_kind true k is_static = kind.PrivateMethod k (static_modifiers is_static)
+method_kind false k is_static = kind.ClassMethod k (static_modifiers is_static)
+
+abbrev pub field_kind : Bool → Bool → Kind
+field_kind true is_static = kind.PrivateProp (static_modifiers is_static) false false false
+field_kind false is_static = kind.ClassProp (static_modifiers is_static) false false false
 
 abbrev pub accessor_kind : Bool → MethodKind
 accessor_kind true = Setter
@@ -385,15 +405,15 @@ mutual
 
   pub data IsMember : Node → Type 0 where
     static_block : (at : Span) {b : Node} → IsBlock b → IsMember (node_of at kind.StaticBlock (b ∷ []))
-    method : (at : Span) (is_static : Bool) {key function : Node} → IsMethodName key → IsFunction function → IsMember (node_of at (kind.ClassMethod Method (static_modifiers is_static)) (key ∷ function ∷ []))
-    class_constructor : (at at_key of_params : Span) {elements params : List Node} {body : Node} → IsArguments bindings (node_of of_params kind.List elements) → AreParams elements params → IsBlock body
-        → IsMember (node_of at (kind.Constructor None false) (node_of at_key (kind.IdentName (codes "constructor")) [] ∷ node_of of_params kind.List params ∷ body ∷ []))
-    field : (at : Span) (is_static : Bool) {key value none : Node} → IsKey key → IsInitializer value → IsAbsent none → IsMember (node_of at (kind.ClassProp (static_modifiers is_static) false false false) (key ∷ value ∷ none ∷ []))
+    -- the constructor is none, unless it is static
+    method : (at : Span) (is_static : Bool) {key function : Node} (is : IsMemberName key) → IsFunction function → (not is_static && names_constructor is) ≡ false
+        → IsMember (node_of at (method_kind (is_private is) Method is_static) (key ∷ function ∷ []))
+    class_constructor : (at of_params : Span) {key : Node} {elements params : List Node} {body : Node} → (is : IsPropertyName key) → names_constructor (property_member is) ≡ true → IsArguments bindings (node_of of_params kind.List elements) → AreParams elements params → IsBlock body
+        → IsMember (node_of at (kind.Constructor None false) (key ∷ node_of of_params kind.List params ∷ body ∷ []))
+    field : (at : Span) (is_static : Bool) {key value none : Node} (is : IsMemberName key) → IsInitializer value → IsAbsent none → IsMember (node_of at (field_kind (is_private is) is_static) (key ∷ value ∷ none ∷ []))
     -- a getter or a setter
-    accessor : (at at_function of_params : Span) (is_static is_setter : Bool) {key body none none' : Node} {elements params : List Node} → IsKey key → IsArguments bindings (node_of of_params kind.List elements) → AreParams elements params → IsBlock body → IsAbsent none → IsAbsent none'
-        → IsMember (node_of at (kind.ClassMethod (accessor_kind is_setter) (static_modifiers is_static)) (key ∷ node_of at_function (kind.Function false false) (node_of of_params kind.List params ∷ body ∷ none ∷ none' ∷ []) ∷ []))
-    private_field : (at at_key : Span) (is_static : Bool) (name : List ℕ) {value none : Node} → IsToken priv_name_end (codes "#" ++ name) → IsInitializer value → IsAbsent none
-        → IsMember (node_of at (kind.PrivateProp (static_modifiers is_static) false false false) (node_of at_key (kind.PrivateName name) [] ∷ value ∷ none ∷ []))
+    accessor : (at at_function of_params : Span) (is_static is_setter : Bool) {key body none none' : Node} {elements params : List Node} (is : IsMemberName key) → IsArguments bindings (node_of of_params kind.List elements) → AreParams elements params → IsBlock body → IsAbsent none → IsAbsent none'
+        → IsMember (node_of at (method_kind (is_private is) (accessor_kind is_setter) is_static) (key ∷ node_of at_function (kind.Function false false) (node_of of_params kind.List params ∷ body ∷ none ∷ none' ∷ []) ∷ []))
 
   pub data AreMembers : List Node → Type 0 where
     no_members : AreMembers []
