@@ -1,0 +1,4 @@
+pub mod Moved
+pub mod Tests
+pub mod Rules
+pub mod Contexts
