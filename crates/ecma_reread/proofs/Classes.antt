@@ -55,7 +55,7 @@ member_eats : nat_le 1 (eats member) ≡ true
 unfolding member modifier getter setter method field functions.method_async names.class_element_name names.prop_name names.computed_prop_name question_or_exclamation functions.signature names.block params param rest_pattern default_value
 member_eats = refl
 
-brace_ends_chain : closes shapes.callee (exactly (sign (codes "{"))) ≡ true
+brace_ends_chain : closes shapes.left_hand_side (exactly (sign (codes "{"))) ≡ true
 unfolding chains.links chains.template_start
 brace_ends_chain = refl
 
@@ -83,7 +83,7 @@ module _ (assigned : Bool) where
   -- what is said of what a class extends
   abbrev pub HeritageForm : {n : Node} → IsHeritage n → ℕ → Type 0
   HeritageForm (shapes.no_heritage a) depth = Unit {0}
-  HeritageForm (shapes.heritage e) depth = Stands assigned shapes.callee (expression_tokens e depth) (expression_kind e) (expression_parts e)
+  HeritageForm (shapes.heritage e) depth = Stands assigned shapes.left_hand_side (expression_tokens e depth) (expression_kind e) (expression_parts e)
 
   module _ {f : Items → Items} {ms : List Node} (M : ReadAsMembers f ms) (h : Gap) where
     abbrev braces : Items → Items
@@ -97,7 +97,7 @@ module _ (assigned : Bool) where
     body_read (shapes.no_heritage a) depth H w free us = (let end = it h (sign (codes "}")) us in rw (free, repeated assigned member (f end) end ms (members_read us)) refl)
     body_read (shapes.heritage e) depth H w free us =
         (let end = it h (sign (codes "}")) us in
-        rw (free, direct assigned shapes.callee H blank (braces us) (exactly (sign (codes "{"))) at_token brace_ends_chain, repeated assigned member (f end) end ms (members_read us)) refl)
+        rw (free, direct assigned shapes.left_hand_side H blank (braces us) (exactly (sign (codes "{"))) at_token brace_ends_chain, repeated assigned member (f end) end ms (members_read us)) refl)
 
     -- with a name, or without one
 
@@ -107,11 +107,11 @@ module _ (assigned : Bool) where
     name_read (shapes.unnamed o) (shapes.no_heritage a) depth H us = (let end = it h (sign (codes "}")) us in rw (repeated assigned member (f end) end ms (members_read us)) refl)
     name_read (shapes.unnamed o) (shapes.heritage e) depth H us =
         (let end = it h (sign (codes "}")) us in
-        rw (direct assigned shapes.callee H blank (braces us) (exactly (sign (codes "{"))) at_token brace_ends_chain, repeated assigned member (f end) end ms (members_read us)) refl)
+        rw (direct assigned shapes.left_hand_side H blank (braces us) (exactly (sign (codes "{"))) at_token brace_ends_chain, repeated assigned member (f end) end ms (members_read us)) refl)
     name_read (shapes.function_name (ident at w i)) (shapes.no_heritage a) depth H us = (let end = it h (sign (codes "}")) us in rw (i.free, repeated assigned member (f end) end ms (members_read us)) refl)
     name_read (shapes.function_name (ident at w i)) (shapes.heritage e) depth H us =
         (let end = it h (sign (codes "}")) us in
-        rw (i.free, direct assigned shapes.callee H blank (braces us) (exactly (sign (codes "{"))) at_token brace_ends_chain, repeated assigned member (f end) end ms (members_read us)) refl)
+        rw (i.free, direct assigned shapes.left_hand_side H blank (braces us) (exactly (sign (codes "{"))) at_token brace_ends_chain, repeated assigned member (f end) end ms (members_read us)) refl)
 
     pub class_expression_read : {n : Node} (is : IsHeritage n) (depth : ℕ) → HeritageForm is depth → {m : Node} (i : IsFunctionName m) (g : Gap) (us : Items)
         → Reads assigned class_expression (it g (items.key (codes "class")) (function_name_tokens i (heritage_tokens is depth (braces us)))) (bare kind.ClassExpr (bare_function_name i ∷ bare (kind.Class false) (bare_heritage is ∷ list_node ms ∷ absent ∷ absent ∷ list_node [] ∷ []) ∷ []) ∷ []) us

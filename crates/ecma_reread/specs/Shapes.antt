@@ -320,7 +320,7 @@ pub data IsForInit : Node → Type 0 where
 -- what a class extends
 pub data IsHeritage : Node → Type 0 where
   no_heritage : {none : Node} → IsAbsent none → IsHeritage none
-  heritage : {e : Node} → IsExpression callee e → IsHeritage e
+  heritage : {e : Node} → IsExpression left_hand_side e → IsHeritage e
 
 -- what names a member of a class: a property name, or a private name (ClassElementName)
 pub data IsMemberName : Node → Type 0 where
