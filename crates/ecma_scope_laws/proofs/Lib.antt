@@ -1,0 +1,3 @@
+mod Bare
+mod Names
+pub mod Resolved
