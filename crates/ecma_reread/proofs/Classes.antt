@@ -76,6 +76,10 @@ module _ (assigned : Bool) where
   pub more_members_form : {f : Laid} {n : Node} {rest : Items → Items} {ns : List Node} → ReadAsMember f n → ReadAsMembers rest ns → (g : Gap) → ReadAsMembers (λ us. f g (rest us)) (n ∷ ns)
   more_members_form {f} {n} {rest} {ns} M T g = record { reads = λ us h. repeats_more assigned member member_eats (f g (rest us)) (rest us) us (n ∷ []) ns (M.reads g (rest us)) (T.reads us h) }
 
+  pub empty_member_form : ReadAsMember (λ g us. it g (sign (codes ";")) us) (bare kind.EmptyStmt [])
+  unfolding member
+  empty_member_form = record { reads = λ g us. refl }
+
   pub static_block_form : {f : Laid} {n : Node} → ReadAsBlock assigned f n → ReadAsMember (λ g us. it g (items.key (codes "static")) (f blank us)) (bare kind.StaticBlock (n ∷ []))
   unfolding member
   static_block_form B = record { reads = λ g us. rw (B.reads blank us) refl }

@@ -5,7 +5,7 @@ use Rattle.ecma_reread.proofs.Accessors.{accessor_form}
 use Rattle.ecma_reread.proofs.Fields.{field_form}
 use Rattle.ecma_reread.proofs.MemberNames.{ReadAsName, name_private, constructor_named, no_constructor, member_name_form}
 use Rattle.ecma_reread.proofs.Methods.{method_form, constructor_form}
-use Rattle.ecma_reread.proofs.Classes.{ReadAsMember, ReadAsMembers, no_members_form, more_members_form, static_block_form, HeritageForm, class_form}
+use Rattle.ecma_reread.proofs.Classes.{ReadAsMember, ReadAsMembers, no_members_form, more_members_form, static_block_form, empty_member_form, HeritageForm, class_form}
 use Rattle.ecma_reread.specs.Machine.{taken}
 use Rattle.ecma_reread.specs.Shapes as shapes
 use Rattle.ecma_reread.specs.Shapes.{IsInitializer, IsDeclarator, AreDeclarators, Ending, IsStatement, IsBlock, IsCase, AreCases, IsCatch, AreStatements, IsOptional, IsForDeclarator, AreForDeclarators, IsForInit, IsForLeft, IsHeritage, IsMemberName, is_private, IsMember, AreMembers}
@@ -104,6 +104,7 @@ module _ (assigned : Bool) where
     statement_form (shapes.class_statement at i (shapes.class_of at' at'' at''' {ms = ms'} h ms a a')) d = class_form assigned (member_forms ms (suc d)) (closing_gap ms' d) h d (heritage_form h d) (ident_word i) (ident_free assigned i)
 
     member_form_of : {n : Node} (is : IsMember n) (d : ℕ) → ReadAsMember assigned (member_tokens is d) (bare_member is)
+    member_form_of (shapes.empty_member at) d = empty_member_form assigned
     member_form_of (shapes.static_block at b) d = static_block_form assigned (block_form b d)
     member_form_of (shapes.method at s k (shapes.function_of at' at'' x y ps ws b a a') z) d =
         method_form assigned ps d (argument_forms assigned ps d) (block_form b d) (name_form k d) s (is_private k) x y (name_private k) (no_constructor k x y s z)

@@ -149,6 +149,7 @@ function_behind_name : {n : Node} (is : IsFunction n) (d : ℕ) (us : Items) →
 function_behind_name (shapes.function_of at at' x y ps ws b n n') d us = params_behind_name _
 
 member_apart : {n : Node} (is : IsMember n) (d : ℕ) (g : Gap) → Wide g → (us : Items) → Apart (member_tokens is d g us)
+member_apart (shapes.empty_member at) d g w us = λ t. w t (sign (codes ";"))
 member_apart (shapes.static_block at b) d g w us = λ t. w t (items.key (codes "static"))
 member_apart (shapes.method at s k f z) d g w us =
     static_apart s (method_tokens (is_generator f) (is_async f) (λ h. member_name_tokens k d h (function_tokens f d us))) (method_apart (is_generator f) (is_async f) (λ h. member_name_tokens k d h (function_tokens f d us)) (λ h v. name_apart k d h v _)) g w
@@ -355,6 +356,7 @@ module _ (words : Words) where
         (braces_joined ms' d (members_tokens ms (suc d)) (λ vs e. members_empty ms (suc d) vs e) (λ vs b. members_apart ms (suc d) vs (sign (codes "{")) (b (sign (codes "{")))) (members_joined ms (suc d)) blank blank_is us a j)
 
     member_joined : {n : Node} (is : IsMember n) (d : ℕ) (g : Gap) → IsGap g → (us : Items) → Apart us → Joined us → Joined (member_tokens is d g us)
+    member_joined (shapes.empty_member at) d g h us a j = (h, refl, a (sign (codes ";")), j)
     member_joined (shapes.static_block at b) d g h us a j = (h, words.static_whole, block_apart b d blank blank_wide us (items.key (codes "static")), block_joined b d blank blank_is us a j)
     member_joined (shapes.method at s k f z) d g h us a j =
         let x = is_generator f in

@@ -467,6 +467,7 @@ mutual
       ∙ heritage_laid h d (it blank (sign (codes "{")) (members_tokens ms (suc d) (it (closing_gap ms' d) (sign (codes "}")) us))))
 
   member_laid : {n : Node} (is : IsMember n) (d : ℕ) (g : Gap) (us : Items) → render (member_tokens is d g us) ≡ g.blanks ++ (laid n).at (At (free 0)) (margin d) (render us)
+  member_laid (shapes.empty_member at) d g us = ap (λ z. g.blanks ++ z) (sym (at_node at kind.EmptyStmt [] (At (free 0)) (margin d) (render us)))
   member_laid (shapes.static_block at {b = b'} b) d g us =
       let m = margin d in
       ap (λ z. g.blanks ++ z)

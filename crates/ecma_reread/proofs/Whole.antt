@@ -272,6 +272,7 @@ mutual
       ∙ ap (λ x. bare (kind.Class false) (bare_heritage h ∷ list_node (bare_members ms) ∷ absent ∷ absent ∷ x ∷ [])) (without_spans-node at'' kind.List [])))
 
   member_bare : {n : Node} (is : IsMember n) → without_spans n ≡ bare_member is
+  member_bare (shapes.empty_member at) = without_spans-node at kind.EmptyStmt []
   member_bare (shapes.static_block at b) = without_spans-node at kind.StaticBlock _ ∙ ap (λ x. bare kind.StaticBlock (x ∷ [])) (block_bare b)
   member_bare (shapes.method at s k f z) = without_spans-node at (method_kind (is_private k) Method s) _ ∙ ap₂ (λ x y. bare (method_kind (is_private k) Method s) (x ∷ y ∷ [])) (member_name_bare k) (function_bare f)
   member_bare (shapes.class_constructor at at' {body = b'} k z ps ws b) =

@@ -404,6 +404,7 @@ mutual
         → IsClass (node_of at (kind.Class false) (super ∷ node_of of_members kind.List ms ∷ none ∷ none' ∷ node_of of_interfaces kind.List [] ∷ []))
 
   pub data IsMember : Node → Type 0 where
+    empty_member : (at : Span) → IsMember (node_of at kind.EmptyStmt [])
     static_block : (at : Span) {b : Node} → IsBlock b → IsMember (node_of at kind.StaticBlock (b ∷ []))
     -- the constructor is none, unless it is static
     method : (at : Span) (is_static : Bool) {key function : Node} (is : IsMemberName key) → IsFunction function → (not is_static && names_constructor is) ≡ false
