@@ -9,8 +9,8 @@ use Rattle.ecma_scope.specs.declared.form.Form.{Form}
 use Rattle.ecma_scope.specs.declared.form.Form.TheVariants as form
 use Rattle.ecma_scope.specs.declared.role.Role.{Role}
 use Rattle.ecma_scope.specs.Declarations.{declares, is_stated}
-use Rattle.ecma_scope.specs.Conflicts.{clashes, clashing, conflict, is_function_body, is_lexical, mark, marked, may_be_merged, may_merge, may_not_meet, merges}
-use Rattle.ecma_hygiene.proofs.Telling.{or-first, or-second, true-false}
+use Rattle.ecma_scope.specs.Conflicts.{clashes, clashing, conflict, is_function_body, is_further_out, is_lexical, mark, marked, may_be_merged, may_merge, may_not_meet, merges}
+use Rattle.ecma_hygiene.proofs.Telling.{and-both, or-first, or-second, text-refl, true-false}
 
 abbrev pub Stays : Declaration → Type 0
 Stays d = d.stays ≡ true
@@ -25,31 +25,13 @@ or-right false b h = h
 
 -- ---- lists
 
-filter-by : (d : Declaration) (ds : List Declaration) (b : Bool) → d.stays ≡ b → b ≡ true → cond b (d ∷ ds) ds ≡ d ∷ ds
-filter-by d ds true is h = refl
-filter-by d ds false is h = cc
-
-pub filter-stays : (ds : List Declaration) → All Stays ds → filter (λ d. d.stays) ds ≡ ds
-filter-stays [] all = refl
-filter-stays (d ∷ ds) all =
-    ap (λ (b : Bool). cond b (d ∷ filter (λ e. e.stays) ds) (filter (λ e. e.stays) ds)) (All-head Stays d ds all) ∙ ap (λ (zs : List Declaration). d ∷ zs) (filter-stays ds (All-tail Stays d ds all))
-
-module _ (f : Declaration → Bool) where
-  filter-cons : (b : Bool) (d : Declaration) (xs ys : List Declaration) → cond b (d ∷ (xs ++ ys)) (xs ++ ys) ≡ cond b (d ∷ xs) xs ++ ys
-  filter-cons true d xs ys = refl
-  filter-cons false d xs ys = refl
-
-  pub filter-append : (xs ys : List Declaration) → filter f (xs ++ ys) ≡ filter f xs ++ filter f ys
-  filter-append [] ys = refl
-  filter-append (x ∷ xs) ys = ap (λ (zs : List Declaration). cond (f x) (x ∷ zs) zs) (filter-append xs ys) ∙ filter-cons (f x) x (filter f xs) (filter f ys)
-
 module _ (P : Declaration → Type 0) where
   back-by : (d : Declaration) (ds : List Declaration) (b : Bool) → d.stays ≡ b → All P (cond b (d ∷ filter (λ e. e.stays) ds) (filter (λ e. e.stays) ds)) → (All P (filter (λ e. e.stays) ds) → All (λ e. e.stays ≡ true → P e) ds)
       → All (λ e. e.stays ≡ true → P e) (d ∷ ds)
   back-by d ds true is all rec = All-cons (λ e. e.stays ≡ true → P e) d ds (λ stays. All-head P d (filter (λ e. e.stays) ds) all) (rec (All-tail P d (filter (λ e. e.stays) ds) all))
   back-by d ds false is all rec = All-cons (λ e. e.stays ≡ true → P e) d ds (λ stays. absurd (true-false stays is)) (rec all)
 
-  all-back : (ds : List Declaration) → All P (filter (λ e. e.stays) ds) → All (λ e. e.stays ≡ true → P e) ds
+  pub all-back : (ds : List Declaration) → All P (filter (λ e. e.stays) ds) → All (λ e. e.stays ≡ true → P e) ds
   all-back [] all = All-nil (λ e. e.stays ≡ true → P e)
   all-back (d ∷ ds) all = back-by d ds d.stays refl all (all-back ds)
 
@@ -103,15 +85,6 @@ mark-by : (d : Declaration) (b : Bool) → (cond b (record d { form = form.Merge
 mark-by d true = refl
 mark-by d false = refl
 
-stays-by : (d : Declaration) (b : Bool) → (cond b (record d { form = form.Merged }) d).stays ≡ d.stays
-stays-by d true = refl
-stays-by d false = refl
-
-marked-stay : (earlier ds : List Declaration) → All Stays ds → All Stays (marked earlier ds)
-marked-stay earlier [] all = All-nil Stays
-marked-stay earlier (d ∷ ds) all =
-    All-cons Stays (mark earlier d) (marked (earlier ++ mark earlier d ∷ []) ds) (stays-by d (merges earlier d) ∙ All-head Stays d ds all) (marked-stay (earlier ++ mark earlier d ∷ []) ds (All-tail Stays d ds all))
-
 none-merged : (text : List ℕ) (earlier : List Declaration) → declares earlier text ≡ false → list_any (λ e. bytes_eq e.sym text && may_be_merged e.form) earlier ≡ false
 none-merged text [] h = refl
 none-merged text (e ∷ es) h =
@@ -154,60 +127,95 @@ declares-by : (ds : List Declaration) (text : List ℕ) (b : Bool) → declares 
 declares-by ds text true is never = absurd (never is)
 declares-by ds text false is never = is
 
--- no `var` that stays passes a scope that declares its text
-module _ (r : Role) (around : List ℕ → Option Bool) (own passing : List Declaration) (stay : All Stays own) (meets : All (λ e. may_not_meet r e.form form.Var ≡ true) own) (vars : All (λ d. d.form ≡ form.Var) passing)
-    (none : clashing r around [] (filter (λ d. d.stays) (marked [] (filter (λ d. d.stays) own) ++ passing)) ≡ []) where
-  apart-meeting : filter (λ d. d.stays) (marked [] (filter (λ d. d.stays) own) ++ passing) ≡ marked [] own ++ filter (λ d. d.stays) passing
-  apart-meeting =
-      ap (λ (zs : List Declaration). filter (λ d. d.stays) (marked [] zs ++ passing)) (filter-stays own stay)
-      ∙ filter-append (λ d. d.stays) (marked [] own) passing ∙ ap (λ (zs : List Declaration). zs ++ filter (λ d. d.stays) passing) (filter-stays (marked [] own) (marked-stay [] own stay))
+-- ---- what counts
 
-  conflict-free : All (λ d. test r around (marked [] own) d ≡ false) (filter (λ d. d.stays) passing)
-  conflict-free = clashing-none r around (marked [] own) (filter (λ d. d.stays) passing) (clashing-behind r around [] (marked [] own) (filter (λ d. d.stays) passing) (ap (clashing r around []) (sym apart-meeting) ∙ none))
+pub all-filter : (P : Declaration → Type 0) (test : Declaration → Bool) (ds : List Declaration) → All (λ d. test d ≡ true → P d) ds → All P (filter test ds)
+all-filter P test [] all = All-nil P
+all-filter P test (d ∷ ds) all = by (test d) refl (All-head (λ d. test d ≡ true → P d) d ds all) (all-filter P test ds (All-tail (λ d. test d ≡ true → P d) d ds all))
+  where
+    by : (b : Bool) → test d ≡ b → (test d ≡ true → P d) → All P (filter test ds) → All P (cond b (d ∷ filter test ds) (filter test ds))
+    by true is h rest = All-cons P d (filter test ds) (h is) rest
+    by false is h rest = rest
 
-  own-none : (d : Declaration) → d.form ≡ form.Var → test r around (marked [] own) d ≡ false → declares own d.sym ≡ true → ⊥
-  own-none d is free there =
-      true-false (first-wanted d.sym (λ f. may_not_meet r f form.Var) [] own refl there (λ k e lt same. meets k e lt))
-      (ap (λ (f : Form). list_any (λ e. bytes_eq e.sym d.sym && may_not_meet r e.form f) (marked [] own)) (sym is)
-      ∙ or-left (list_any (λ e. conflict r e d) (marked [] own)) (is_function_body r && (is_lexical r d.form && is_stated (around d.sym))) free)
+declared-more : (d : Declaration) (ds xs : List Declaration) → All (λ x. declares ds x.sym ≡ true) xs → All (λ x. declares (d ∷ ds) x.sym ≡ true) xs
+declared-more d ds xs all = λ k e lt. or-second (bytes_eq d.sym (get_or xs k e).sym) (declares ds (get_or xs k e).sym) (all k e lt)
 
-  pub passes-none : All (λ d. d.stays ≡ true → declares own d.sym ≡ false) passing
-  passes-none k d lt stays =
-      let free = all-back (λ e. test r around (marked [] own) e ≡ false) passing conflict-free k d lt stays in
-      let x : Declaration = get_or passing k d in
-      declares-by own x.sym (declares own x.sym) refl (own-none x (vars k d lt) free)
+all-declared : (ds : List Declaration) → All (λ d. declares ds d.sym ≡ true) ds
+all-declared [] = All-nil (λ d. declares [] d.sym ≡ true)
+all-declared (d ∷ ds) =
+    All-cons (λ x. declares (d ∷ ds) x.sym ≡ true) d ds (or-first (bytes_eq d.sym d.sym) (declares ds d.sym) (text-refl d.sym)) (declared-more d ds ds (all-declared ds))
 
--- no name of a body is that of a parameter
-module _ (r : Role) (body : is_function_body r ≡ true) (around : List ℕ → Option Bool) (own passing : List Declaration) (stay : All Stays own)
-    (none : clashing r around [] (filter (λ d. d.stays) (marked [] (filter (λ d. d.stays) own) ++ passing)) ≡ []) where
-  own-part : All (λ d. test r around [] d ≡ false) (marked [] own)
-  own-part =
-      first-part (marked [] own) (filter (λ d. d.stays) passing)
-      (clashing-none r around [] (marked [] own ++ filter (λ d. d.stays) passing)
-      (ap (clashing r around [])
-      (sym (ap (λ (zs : List Declaration). filter (λ d. d.stays) (marked [] zs ++ passing)) (filter-stays own stay)
-      ∙ filter-append (λ d. d.stays) (marked [] own) passing ∙ ap (λ (zs : List Declaration). zs ++ filter (λ d. d.stays) passing) (filter-stays (marked [] own) (marked-stay [] own stay)))) ∙ none))
-    where
-      first-part : (xs ys : List Declaration) → All (λ d. test r around [] d ≡ false) (xs ++ ys) → All (λ d. test r around [] d ≡ false) xs
-      first-part [] ys h = All-nil (λ d. test r around [] d ≡ false)
-      first-part (x ∷ xs) ys h =
-          All-cons (λ d. test r around [] d ≡ false) x xs (All-head (λ d. test r around [] d ≡ false) x (xs ++ ys) h) (first-part xs ys (All-tail (λ d. test r around [] d ≡ false) x (xs ++ ys) h))
+-- where a test keeps all declarations of a text, those that it keeps declare it too
+module _ (test : Declaration → Bool) (text : List ℕ) (passes : (d : Declaration) → d.sym ≡ text → test d ≡ true) where
+  declared-by : (d : Declaration) (ds rest : List Declaration) (b same : Bool) → test d ≡ b → bytes_eq d.sym text ≡ same → (same || declares ds text) ≡ true → (declares ds text ≡ true → declares rest text ≡ true)
+      → declares (cond b (d ∷ rest) rest) text ≡ true
+  declared-by d ds rest true true is same h rec = or-first (bytes_eq d.sym text) (declares rest text) same
+  declared-by d ds rest true false is same h rec = or-second (bytes_eq d.sym text) (declares rest text) (rec h)
+  declared-by d ds rest false true is same h rec = absurd (true-false (passes d ((bytes_eq-Decides d.sym text).0 same)) is)
+  declared-by d ds rest false false is same h rec = rec h
 
-  any-none : (f : Declaration → Bool) (ds : List Declaration) → All (λ d. f d ≡ false) ds → list_any f ds ≡ false
-  any-none f [] all = refl
-  any-none f (d ∷ ds) all = ap (λ (b : Bool). b || list_any f ds) (All-head (λ d. f d ≡ false) d ds all) ∙ any-none f ds (All-tail (λ d. f d ≡ false) d ds all)
+  still-declared : (ds : List Declaration) → declares ds text ≡ true → declares (filter test ds) text ≡ true
+  still-declared [] h = h
+  still-declared (d ∷ ds) h = declared-by d ds (filter test ds) (test d) (bytes_eq d.sym text) refl refl h (still-declared ds)
 
-  not-wanted : (text : List ℕ) → is_stated (around text) ≡ true → (d : Declaration) → test r around [] d ≡ false → (b : Bool) → bytes_eq d.sym text ≡ b → (b && is_lexical r d.form) ≡ false
-  not-wanted text stated d free true is =
-      let equal : d.sym ≡ text = (bytes_eq-Decides d.sym text).0 is in
-      by-lexical (is_lexical r d.form) (is_stated (around d.sym)) (ap (λ (t : List ℕ). is_stated (around t)) equal ∙ stated) (ap (λ (z : Bool). z && (is_lexical r d.form && is_stated (around d.sym))) (sym body) ∙ free)
-    where
-      by-lexical : (a b : Bool) → b ≡ true → (a && b) ≡ false → a ≡ false
-      by-lexical true b is h = absurd (true-false is h)
-      by-lexical false b is h = refl
-  not-wanted text stated d free false is = refl
+module _ (r : Role) (around : List ℕ → Option Bool) (own passing : List Declaration) where
+  abbrev counts : Declaration → Bool
+  counts d = d.stays || is_further_out r around passing d.sym
 
-  pub body-none : (text : List ℕ) → is_stated (around text) ≡ true → All (λ e. bytes_eq e.sym text ≡ true → is_lexical r e.form ≡ true) own → declares own text ≡ false
-  body-none text stated lexical =
-      declares-by own text (declares own text) refl (λ there. true-false (first-wanted text (is_lexical r) [] own refl there lexical)
-      (any-none (λ e. bytes_eq e.sym text && is_lexical r e.form) (marked [] own) (λ k d lt. not-wanted text stated (get_or (marked [] own) k d) (own-part k d lt) (bytes_eq (get_or (marked [] own) k d).sym text) refl)))
+  abbrev pub counted : List Declaration
+  counted = filter counts own
+
+  module _ (none : clashing r around [] (marked [] counted ++ passing) ≡ []) where
+    -- no `var` that stays passes a scope that declares its text
+    module _ (meets : All (λ e. may_not_meet r e.form form.Var ≡ true) own) (vars : All (λ d. d.form ≡ form.Var) passing) where
+      conflict-free : All (λ d. test r around (marked [] counted) d ≡ false) passing
+      conflict-free = clashing-none r around (marked [] counted) passing (clashing-behind r around [] (marked [] counted) passing none)
+
+      own-none : (d : Declaration) → d.form ≡ form.Var → declares passing d.sym ≡ true → test r around (marked [] counted) d ≡ false → declares own d.sym ≡ true → ⊥
+      own-none d is passed free there =
+          let all_count : (e : Declaration) → e.sym ≡ d.sym → counts e ≡ true =
+          (λ e same. or-second e.stays (is_further_out r around passing e.sym) (or-first (declares passing e.sym) (is_function_body r && is_stated (around e.sym)) (ap (declares passing) same ∙ passed))) in
+          let wanted : All (λ e. bytes_eq e.sym d.sym ≡ true → may_not_meet r e.form form.Var ≡ true) counted =
+          all-filter (λ e. bytes_eq e.sym d.sym ≡ true → may_not_meet r e.form form.Var ≡ true) counts own (λ k e lt kept same. meets k e lt) in
+          true-false (first-wanted d.sym (λ f. may_not_meet r f form.Var) [] counted refl (still-declared counts d.sym all_count own there) wanted)
+          (ap (λ (f : Form). list_any (λ e. bytes_eq e.sym d.sym && may_not_meet r e.form f) (marked [] counted)) (sym is)
+          ∙ or-left (list_any (λ e. conflict r e d) (marked [] counted)) (is_function_body r && (is_lexical r d.form && is_stated (around d.sym))) free)
+
+      pub passes-none : All (λ d. declares own d.sym ≡ false) passing
+      passes-none k d lt =
+          let x : Declaration = get_or passing k d in
+          declares-by own x.sym (declares own x.sym) refl (own-none x (vars k d lt) (all-declared passing k d lt) (conflict-free k d lt))
+
+    -- no name of a body is that of a parameter
+    module _ (body : is_function_body r ≡ true) where
+      own-part : All (λ d. test r around [] d ≡ false) (marked [] counted)
+      own-part = first-part (marked [] counted) passing (clashing-none r around [] (marked [] counted ++ passing) none)
+        where
+          first-part : (xs ys : List Declaration) → All (λ d. test r around [] d ≡ false) (xs ++ ys) → All (λ d. test r around [] d ≡ false) xs
+          first-part [] ys h = All-nil (λ d. test r around [] d ≡ false)
+          first-part (x ∷ xs) ys h =
+              All-cons (λ d. test r around [] d ≡ false) x xs (All-head (λ d. test r around [] d ≡ false) x (xs ++ ys) h) (first-part xs ys (All-tail (λ d. test r around [] d ≡ false) x (xs ++ ys) h))
+
+      any-none : (f : Declaration → Bool) (ds : List Declaration) → All (λ d. f d ≡ false) ds → list_any f ds ≡ false
+      any-none f [] all = refl
+      any-none f (d ∷ ds) all = ap (λ (b : Bool). b || list_any f ds) (All-head (λ d. f d ≡ false) d ds all) ∙ any-none f ds (All-tail (λ d. f d ≡ false) d ds all)
+
+      not-wanted : (text : List ℕ) → is_stated (around text) ≡ true → (d : Declaration) → test r around [] d ≡ false → (b : Bool) → bytes_eq d.sym text ≡ b → (b && is_lexical r d.form) ≡ false
+      not-wanted text stated d free true is =
+          let equal : d.sym ≡ text = (bytes_eq-Decides d.sym text).0 is in
+          by-lexical (is_lexical r d.form) (is_stated (around d.sym)) (ap (λ (t : List ℕ). is_stated (around t)) equal ∙ stated) (ap (λ (z : Bool). z && (is_lexical r d.form && is_stated (around d.sym))) (sym body) ∙ free)
+        where
+          by-lexical : (a b : Bool) → b ≡ true → (a && b) ≡ false → a ≡ false
+          by-lexical true b is h = absurd (true-false is h)
+          by-lexical false b is h = refl
+      not-wanted text stated d free false is = refl
+
+      pub body-none : (text : List ℕ) → is_stated (around text) ≡ true → All (λ e. bytes_eq e.sym text ≡ true → is_lexical r e.form ≡ true) own → declares own text ≡ false
+      body-none text stated lexical =
+          let all_count : (e : Declaration) → e.sym ≡ text → counts e ≡ true =
+          (λ e same. or-second e.stays (is_further_out r around passing e.sym) (or-second (declares passing e.sym) (is_function_body r && is_stated (around e.sym))
+          (and-both (is_function_body r) (is_stated (around e.sym)) body (ap (λ (t : List ℕ). is_stated (around t)) same ∙ stated)))) in
+          let wanted : All (λ e. bytes_eq e.sym text ≡ true → is_lexical r e.form ≡ true) counted =
+          all-filter (λ e. bytes_eq e.sym text ≡ true → is_lexical r e.form ≡ true) counts own (λ k e lt kept. lexical k e lt) in
+          declares-by own text (declares own text) refl (λ there. true-false (first-wanted text (is_lexical r) [] counted refl (still-declared counts text all_count own there) wanted)
+          (any-none (λ e. bytes_eq e.sym text && is_lexical r e.form) (marked [] counted) (λ k d lt. not-wanted text stated (get_or (marked [] counted) k d) (own-part k d lt) (bytes_eq (get_or (marked [] counted) k d).sym text) refl)))

@@ -25,7 +25,7 @@ use Rattle.ecma_hygiene.proofs.Telling.{and-left, and-right, or-first, or-second
 use Rattle.ecma_hygiene_laws.specs.DeclaredIds.{DeclaredId, id_here, ids_declared, scope_ids, with_text}
 use Rattle.ecma_hygiene_laws.specs.Seats.{all_names}
 use Rattle.ecma_hygiene_laws.proofs.Alike.{Alike, Like, States, innermost-like, states-own}
-use Rattle.ecma_hygiene_laws.proofs.Clashes.{Stays, body-none}
+use Rattle.ecma_hygiene_laws.proofs.Clashes.{Stays, all-filter, body-none, counted}
 use Rattle.ecma_hygiene_laws.proofs.Crossing.{context-last}
 use Rattle.ecma_hygiene_laws.proofs.Directly.{Given, place_in}
 use Rattle.ecma_hygiene_laws.proofs.Forms.{Allowed, Formed, forms, forms-by, is_item_form}
@@ -42,14 +42,6 @@ abbrev pub any_id : Id → Bool
 any_id id = true
 
 -- ---- lists
-
-all-filter : (P : Declaration → Type 0) (test : Declaration → Bool) (ds : List Declaration) → All (λ d. test d ≡ true → P d) ds → All P (filter test ds)
-all-filter P test [] all = All-nil P
-all-filter P test (d ∷ ds) all = by (test d) refl (All-head (λ d. test d ≡ true → P d) d ds all) (all-filter P test ds (All-tail (λ d. test d ≡ true → P d) d ds all))
-  where
-    by : (b : Bool) → test d ≡ b → (test d ≡ true → P d) → All P (filter test ds) → All P (cond b (d ∷ filter test ds) (filter test ds))
-    by true is h rest = All-cons P d (filter test ds) (h is) rest
-    by false is h rest = rest
 
 -- what passes a test is declared by those that pass it
 filter-declares : (test : Declaration → Bool) (ds : List DeclaredId) → All (λ d. test (with_text no_text d) ≡ true → declares (filter test (map (with_text no_text) ds)) d.id.0 ≡ true) ds
@@ -135,10 +127,7 @@ module _ (unresolved top : ℕ) where
     pub stay : All (λ (d : DeclaredId). d.stays ≡ true) (scope_ids r n)
     stay = all-map Stays (with_text no_text) (scope_ids r n) (subst (All Stays) all-same (fits.kept opened).1)
 
-    names-stay : All Stays (names r around m)
-    names-stay = all-filter Stays (is_own_name r around) (all_names r m) (λ k d lt passes. (fits.kept opened).1 k d lt)
-
-    clear : clashing r around [] (filter (λ d. d.stays) (marked [] (filter (λ d. d.stays) (names r around m)) ++ passing r m)) ≡ []
+    clear : clashing r around [] (marked [] (counted r around (names r around m) (passing r m)) ++ passing r m) ≡ []
     clear = clear-cond (opens r m) (clashing r around [] (meeting r around m)) opened (own-clear m r around good)
 
     -- ---- in the body of a function
@@ -162,7 +151,7 @@ module _ (unresolved top : ℕ) where
     -- a text of a parameter is declared by no name of the body
     parameter-none : is_block (out-Node m).kind ≡ true → r ≡ role.Body → (text : List ℕ) → is_stated (around text) ≡ true → declares (names r around m) text ≡ false
     parameter-none block is text stated_ =
-        body-none r (ap is_function_body is) around (names r around m) (passing r m) names-stay clear text stated_
+        body-none r around (names r around m) (passing r m) clear (ap is_function_body is) text stated_
         (all-filter (λ e. bytes_eq e.sym text ≡ true → is_lexical r e.form ≡ true) (is_own_name r around) (all_names r m)
         (λ k d lt passes same. subst (λ (q : Role). is_lexical q (get_or (all_names r m) k d).form ≡ true) (sym is)
         (lexical-by (get_or (all_names r m) k d).form (body-forms block is k d lt)

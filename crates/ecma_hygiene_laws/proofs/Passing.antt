@@ -21,7 +21,7 @@ use Rattle.ecma_hygiene.specs.Ids.{is_block}
 use Rattle.ecma_hygiene.proofs.Telling.{true-false}
 use Rattle.ecma_hygiene_laws.specs.DeclaredIds.{DeclaredId, id_here, ids_declared, ids_in, with_text}
 use Rattle.ecma_hygiene_laws.specs.Seats.{all_names}
-use Rattle.ecma_hygiene_laws.proofs.Clashes.{Stays, passes-none}
+use Rattle.ecma_hygiene_laws.proofs.Clashes.{all-back, all-filter, counted, passes-none}
 use Rattle.ecma_hygiene_laws.proofs.Directly.{ids-out, place_in}
 use Rattle.ecma_hygiene_laws.proofs.Forms.{Allowed, Formed, forms, forms-by, is_item_form}
 use Rattle.ecma_hygiene_laws.proofs.Goodness.{Caught, Fits, Good, fits-here, frame_of, is_module_kind, own-clear}
@@ -280,22 +280,26 @@ module _ (unresolved top : ℕ) where
     names-same : names r around m ≡ declarations m scope
     names-same = passes-own r around (all_names r m) passed ∙ all-same
 
-    passing-same : passing r m ≡ declarations m vars
-    passing-same = (λ j. cond (holds-none r (out-Node m).kind passed other j) [] (declarations m (record { part = part.Var; stays = not (passes-calm r passed j) })))
+    abbrev passed_vars : List Declaration
+    passed_vars = filter (λ d. d.stays) (declarations m vars)
+
+    passing-same : passing r m ≡ passed_vars
+    passing-same = (λ j. cond (holds-none r (out-Node m).kind passed other j) [] (filter (λ (d : Declaration). d.stays) (declarations m (record { part = part.Var; stays = not (passes-calm r passed j) }))))
 
     pub all-clear : All (Clear (frame_of top m r frames left)) (ids_declared (resolved_at unresolved top m (place_in unresolved top r frames) left) vars)
     all-clear =
-        let stay : All Stays (declarations m scope) = subst (All Stays) all-same (fits.kept opened).1 in
         let meet : All (λ e. may_not_meet r e.form form.Var ≡ true) (declarations m scope) =
         subst (All (λ e. may_not_meet r e.form form.Var ≡ true)) (sym (declares-ids m scope))
         (map-all (λ e. may_not_meet r e.form form.Var ≡ true) (with_text no_text) (ids_declared m scope)
         (λ k d lt. meets-by r _ passed (scope-meets m r true (out-Node m).kind refl _ var opened other fits.caught k d lt))) in
         let are : All (λ d. d.form ≡ form.Var) (declarations m vars) =
         subst (All (λ d. d.form ≡ form.Var)) (sym (declares-ids m vars)) (map-all (λ d. d.form ≡ form.Var) (with_text no_text) (ids_declared m vars) (forms m vars)) in
-        let none : clashing r around [] (filter (λ d. d.stays) (marked [] (filter (λ d. d.stays) (declarations m scope)) ++ declarations m vars)) ≡ [] =
-        (λ j. clashing r around [] (filter (λ d. d.stays) (marked [] (filter (λ d. d.stays) (sym names-same j)) ++ sym passing-same j)))
+        let none : clashing r around [] (marked [] (counted r around (declarations m scope) passed_vars) ++ passed_vars) ≡ [] =
+        (λ j. clashing r around [] (marked [] (counted r around (sym names-same j) (sym passing-same j)) ++ sym passing-same j))
         ∙ clear-cond (opens r m) (clashing r around [] (meeting r around m)) opened (own-clear m r around good) in
-        let free = passes-none r around (declarations m scope) (declarations m vars) stay meet are none in
+        let passed_form : All (λ d. d.form ≡ form.Var) passed_vars = all-filter (λ d. d.form ≡ form.Var) (λ d. d.stays) (declarations m vars) (λ k d lt stays. are k d lt) in
+        let free : All (λ d. d.stays ≡ true → declares (declarations m scope) d.sym ≡ false) (declarations m vars) =
+        all-back (λ d. declares (declarations m scope) d.sym ≡ false) (declarations m vars) (passes-none r around (declarations m scope) passed_vars none meet passed_form) in
         let ids : List DeclaredId = ids_declared (resolved_at unresolved top m (place_in unresolved top r frames) left) vars in
         let by_ids = all-map (λ d. d.stays ≡ true → declares (declarations m scope) d.sym ≡ false) (with_text no_text) ids
         (subst (All (λ d. d.stays ≡ true → declares (declarations m scope) d.sym ≡ false)) (declares-resolved unresolved top m (place_in unresolved top r frames) left vars) free) in

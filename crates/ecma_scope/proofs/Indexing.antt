@@ -6,7 +6,7 @@ use Rattle.std.proofs.lemmas.List.Folds.{list_any-append}
 use Rattle.std.proofs.lemmas.Slice.Eq.{bytes_eq-Decides}
 use Rattle.ecma_tree.proofs.Items.{take-item}
 use Rattle.ecma_scope.specs.declared.form.Declaration.{Declaration}
-use Rattle.ecma_scope.specs.Declarations.{declares, keeps, stated}
+use Rattle.ecma_scope.specs.Declarations.{declares, is_stated, keeps, stated}
 use Rattle.ecma_scope.specs.Indexed.{adds}
 
 -- what a scope keeps it declares
@@ -71,3 +71,11 @@ pub indexed-all : (states : List ℕ → Option Bool) (ds : List Declaration) (i
 indexed-all states ds i all before text = before text ∙ ap (λ (z : List Declaration). stated z text) (take_all i ds (omega arith))
 
 pub ruleset indexing = (indexed-all)
+
+-- a text is stated where it is declared
+by-stated : (b k : Bool) → is_stated (cond b (Some k) None) ≡ b
+by-stated true k = refl
+by-stated false k = refl
+
+pub stated-declares : (ds : List Declaration) (text : List ℕ) → is_stated (stated ds text) ≡ declares ds text
+stated-declares ds text = by-stated (declares ds text) (keeps ds text)

@@ -14,7 +14,7 @@ use Rattle.ecma_scope.specs.declared.index.Index.{Index}
 use Rattle.ecma_scope.specs.Indexed.{states_of}
 use Rattle.ecma_scope.specs.Layers.{from_leaves}
 use Rattle.ecma_scope.specs.Scopes.{covers, is_ambient, is_root, opens, role_in}
-use Rattle.ecma_scope.specs.Declarations.{declarations, holds_vars, is_body, is_stated, names, stated}
+use Rattle.ecma_scope.specs.Declarations.{declarations, declares, holds_vars, is_body, is_stated, names, stated}
 
 -- whether a declaration is lexical, in a scope that is opened in this role: a function is in all but the body of a function, and the variable of an enum
 -- or of a namespace is in all but a module
@@ -72,9 +72,9 @@ abbrev pub marked : List Declaration → List Declaration → List Declaration
 marked earlier [] = []
 marked earlier (d ∷ ds) = mark earlier d ∷ marked (earlier ++ mark earlier d ∷ []) ds
 
--- the `var` names that pass through the scope of a node to one around it
+-- the `var` names that pass through the scope of a node to one around it, as values that stay
 abbrev pub passing : Role → Node → List Declaration
-passing r node = cond (holds_vars r (out-Node node).kind) [] (declarations node (record { part = part.Var; stays = not (is_ambient r) }))
+passing r node = cond (holds_vars r (out-Node node).kind) [] (filter (λ d. d.stays) (declarations node (record { part = part.Var; stays = not (is_ambient r) })))
 
 abbrev pub is_function_body : Role → Bool
 is_function_body role.Body = true
@@ -89,9 +89,13 @@ abbrev pub clashing : Role → (List ℕ → Option Bool) → List Declaration �
 clashing r around earlier [] = []
 clashing r around earlier (d ∷ ds) = cond (clashes r around earlier d) (d.sym ∷ []) [] ++ clashing r around (earlier ++ d ∷ []) ds
 
--- the declarations that meet in the scope of a node: those of its own that stay, and the `var` names that pass through
+-- whether a name of this text belongs to a scope further out: a `var` that passes through, or, in the body of a function, a parameter
+abbrev pub is_further_out : Role → (List ℕ → Option Bool) → List Declaration → List ℕ → Bool
+is_further_out r around passed sym = declares passed sym || (is_function_body r && is_stated (around sym))
+
+-- the declarations that meet in the scope of a node: its own that stay, or go and have the text of a name further out, and the `var` names that pass through
 abbrev pub meeting : Role → (List ℕ → Option Bool) → Node → List Declaration
-meeting r around node = filter (λ d. d.stays) (marked [] (filter (λ d. d.stays) (names r around node)) ++ passing r node)
+meeting r around node = marked [] (filter (λ d. d.stays || is_further_out r around (passing r node) d.sym) (names r around node)) ++ passing r node
 
 -- what stands around a node: what it is to its parent, and what the innermost scope states of a text
 pub record Surrounding : Type 0 where

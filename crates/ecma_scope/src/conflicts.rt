@@ -1,9 +1,9 @@
 //! Declarations that may not stand beside each other.
-ghost use Rattle.std.specs.Prelude.{◌≡◌, ◌&&◌, ◌++◌, [], ◌∷◌, List, ℕ, OnOk, IfOk, bytes_eq, cond, map};
+ghost use Rattle.std.specs.Prelude.{◌≡◌, ◌&&◌, ◌||◌, [], ◌∷◌, List, ℕ, IfOk, bytes_eq, cond, map};
 ghost use Rattle.std.specs.List.{list_any};
 ghost use Rattle.ecma_tree.specs.declared.node.Node.{out-Node};
 ghost use Rattle.ecma_scope.specs.declared.form.Form.TheVariants as form;
-ghost use Rattle.ecma_scope.specs.Declarations.{is_body, names};
+ghost use Rattle.ecma_scope.specs.Declarations.{is_body, is_stated, names};
 ghost use Rattle.ecma_scope.specs.Indexed.{states_of};
 ghost use Rattle.ecma_scope.specs.Meetings.{clashes_with};
 ghost use Rattle.ecma_scope.specs.Conflicts.{Answers, clashing, is_catch, is_function_body, is_lexical, is_parameter, child_surrounding, chosen, clashes_in, is_var, mark, marked, may_be_merged, may_merge, meeting, merges, passing, redeclared, redeclared_at, surrounding};
@@ -15,7 +15,7 @@ use crate::meetings::{Met, hits, meet, met_in, no_meetings};
 use crate::names::push_declarations;
 use crate::role::{Role, covers, is_ambient, is_root, opens, role_in};
 use crate::stated::{holds_vars, is_body, is_stated, own_names};
-use ecma_tree::{Module, NoMemory, Node};
+use ecma_tree::{JsWord, Module, NoMemory, Node};
 use item_list::ItemList;
 use std::alloc::Global;
 
@@ -117,16 +117,26 @@ fn mark_merged(names: &mut ItemList<Declaration>)
     }
 }
 
-/// Puts the `var` names that pass through the scope of a node behind those that are there.
-fn push_passing(role: Role, node: &Node, names: &mut ItemList<Declaration>) -> Result<(), NoMemory>
-    ensures { OnOk result (names.new ≡ names.old ++ passing role node.now) }
+/// The `var` names that pass through the scope of a node, as values that stay.
+fn passing(alloc: Global, role: Role, node: &Node) -> Result<ItemList<Declaration>, NoMemory>
+    ensures { IfOk result (λ names. names ≡ passing role node.now) }
 {
+    let mut names = ItemList::new(alloc);
     if holds_vars(role, &node.kind) {
-        return Ok(());
+        return Ok(names);
     }
     let stays = !is_ambient(role);
     let part = Part::Var;
-    push_declarations(Sought { part, stays }, node, names)
+    push_declarations(Sought { part, stays }, node, &mut names)?;
+    names.retain(|name| name.stays);
+    Ok(names)
+}
+
+/// Whether a name of this text belongs to a scope further out.
+fn is_further_out(role: Role, around: &Index, passed: &Index, sym: &JsWord) -> bool
+    ensures { result ≡ (is_stated (states_of passed.now sym.now) || (is_function_body role && is_stated (states_of around.now sym.now))) }
+{
+    is_stated(states(passed, sym)) || (is_function_body(role) && is_stated(states(around, sym)))
 }
 
 /// The declarations that meet in the scope of a node.
@@ -138,11 +148,12 @@ fn meeting(
 ) -> Result<ItemList<Declaration>, NoMemory>
     ensures { IfOk result (λ names. names ≡ meeting role (states_of around.now) node.now) }
 {
+    let passed = passing(alloc, role, node)?;
+    let index = index_of(alloc, &passed)?;
     let mut names = own_names(alloc, role, around, node)?;
-    names.retain(|name| name.stays);
+    names.retain(|name| name.stays || is_further_out(role, around, &index, &name.sym));
     mark_merged(&mut names);
-    push_passing(role, node, &mut names)?;
-    names.retain(|name| name.stays);
+    names.append(passed)?;
     Ok(names)
 }
 

@@ -68,6 +68,26 @@ fn ambient(alloc: Global) -> Result<Node, NoMemory> {
     Node::module(alloc, DUMMY_SP, None, body)
 }
 
+/// `{ function text(); var other; }`
+fn passed_by(alloc: Global, text: &str, other: &str) -> Result<Node, NoMemory> {
+    let parameters = Nodes::new(alloc);
+    let function = Node::function(alloc, DUMMY_SP, false, false, parameters, None, None, None)?;
+    let inside = [
+        Node::fn_decl(alloc, DUMMY_SP, false, name(alloc, text)?, function)?,
+        variable(alloc, VarDeclKind::Var, false, other)?,
+    ];
+    let block = Node::block_stmt(alloc, DUMMY_SP, Nodes::from_array(alloc, inside)?)?;
+    Node::module(alloc, DUMMY_SP, None, Nodes::from_array(alloc, [block])?)
+}
+
+/// `function g(a = b) { declare let text; }`
+fn ambient_in_body(alloc: Global, text: &str) -> Result<Node, NoMemory> {
+    let inside = [variable(alloc, VarDeclKind::Let, true, text)?];
+    let body = Nodes::from_array(alloc, inside)?;
+    let function = function(alloc, "g", parameter(alloc, "a", "b")?, body)?;
+    Node::module(alloc, DUMMY_SP, None, Nodes::from_array(alloc, [function])?)
+}
+
 /// `function g(a = b) { word b; a; b; }`
 fn shadowed(alloc: Global, word: VarDeclKind, text: &str) -> Result<Node, NoMemory> {
     let inside = [
@@ -193,6 +213,18 @@ fn a_body_does_not_declare_a_parameter_again(rt: HostRuntime) -> Result<(), Fail
     assert!(rt; refused(alloc, &shadowed(alloc, VarDeclKind::Let, "a")?)? == Some(a));
     assert!(rt; refused(alloc, &shadowed(alloc, VarDeclKind::Let, "b")?)?.is_none());
     assert!(rt; refused(alloc, &shadowed(alloc, VarDeclKind::Var, "a")?)?.is_none());
+    Ok(())
+}
+
+#[test]
+fn a_name_further_out_does_not_meet_one_that_goes(rt: HostRuntime) -> Result<(), Fail> {
+    let alloc = rt.alloc();
+    let x = JsWord::new(alloc, "x")?;
+    assert!(rt; refused(alloc, &passed_by(alloc, "x", "x")?)? == Some(x));
+    assert!(rt; refused(alloc, &passed_by(alloc, "x", "y")?)?.is_none());
+    let a = JsWord::new(alloc, "a")?;
+    assert!(rt; refused(alloc, &ambient_in_body(alloc, "a")?)? == Some(a));
+    assert!(rt; refused(alloc, &ambient_in_body(alloc, "b")?)?.is_none());
     Ok(())
 }
 

@@ -1,17 +1,22 @@
-use Rattle.std.proofs.Common.{rules, ◌≡◌, ◌∙◌, ◌++◌, List, [], filter, ap}
+use Rattle.std.proofs.Common.{rules, ◌≡◌, ◌∙◌, ◌++◌, ◌&&◌, ◌||◌, List, ℕ, [], filter, ap}
 use Rattle.std.proofs.lemmas.Fn.{filter_same}
 use Rattle.ecma_scope.specs.declared.form.Declaration.{Declaration}
-use Rattle.ecma_scope.specs.Declarations.{names}
+use Rattle.ecma_scope.specs.Declarations.{declares, is_stated, names}
 use Rattle.ecma_scope.specs.Indexed.{states_of}
-use Rattle.ecma_scope.specs.Conflicts.{marked, passing}
+use Rattle.ecma_scope.specs.Conflicts.{is_function_body, is_further_out, marked, passing}
+use Rattle.ecma_scope.proofs.Indexing.{stated-declares}
 use Rattle.ecma_scope.proofs.conflicts.meeting.Goals as goal
 
 pub returns : goal.returns
 returns c =
-    let first : c.retain.new.self ≡ filter (λ (d : Declaration). d.stays) c.in_ok-names.names = filter_same _ _ _ (λ x b f' k. search rules) _ _ c.retain.ensures in
-    let last : c.retain-2.new.self ≡ filter (λ (d : Declaration). d.stays) c.push_passing.new.names = filter_same _ _ _ (λ x b f' k. search rules) _ _ c.retain-2.ensures in
-    let own : c.in_ok-names.names ≡ names c.args.role (states_of c.args.around.now) c.args.node.now = c.in_ok-names.ensures {u = tt} in
-    let all : c.push_passing.new.names ≡ marked [] (filter (λ (d : Declaration). d.stays) (names c.args.role (states_of c.args.around.now) c.args.node.now)) ++ passing c.args.role c.args.node.now =
-    c.in_ok-push_passing.ensures {u = tt}
-    ∙ ap (λ (ds : List Declaration). ds ++ passing c.args.role c.args.node.now) (c.mark_merged.ensures ∙ ap (marked []) (first ∙ ap (filter (λ (d : Declaration). d.stays)) own)) in
-    last ∙ ap (filter (λ (d : Declaration). d.stays)) all
+    let around : List ℕ → _ = states_of c.args.around.now in
+    let passed : c.in_ok-passed.passed ≡ passing c.args.role c.args.node.now = c.in_ok-passed.ensures {u = tt} in
+    let own : c.in_ok-names.names ≡ names c.args.role around c.args.node.now = c.in_ok-names.ensures {u = tt} in
+    let passes : (text : List ℕ) → is_stated (states_of c.in_ok-index.index text) ≡ declares (passing c.args.role c.args.node.now) text =
+    (λ text. ap is_stated (c.in_ok-index.ensures {u = tt} text) ∙ stated-declares c.in_ok-passed.passed text ∙ ap (λ (ds : List Declaration). declares ds text) passed) in
+    let kept : c.retain.new.self
+    ≡ filter (λ (d : Declaration). d.stays || (is_stated (states_of c.in_ok-index.index d.sym) || (is_function_body c.args.role && is_stated (around d.sym)))) c.in_ok-names.names =
+    filter_same _ _ _ (λ x b f' k. search rules) _ _ c.retain.ensures in
+    let meeting_own : c.retain.new.self ≡ filter (λ (d : Declaration). d.stays || is_further_out c.args.role around (passing c.args.role c.args.node.now) d.sym) (names c.args.role around c.args.node.now) =
+    kept ∙ (λ j. filter (λ (d : Declaration). d.stays || (passes d.sym j || (is_function_body c.args.role && is_stated (around d.sym)))) (own j)) in
+    (c.in_ok-append.ensures {u = tt}).ok ∙ (λ j. (c.mark_merged.ensures ∙ ap (marked []) meeting_own) j ++ passed j)
