@@ -29,8 +29,7 @@ use Rattle.ecma_reread.proofs.Towers.{without, excluded}
 use Rattle.ecma_reread.proofs.Forms.{Reads, Refuses}
 use Rattle.ecma_reread.proofs.Bindings.{used}
 use Rattle.ecma_reread.proofs.Expressions.{semicolon_ends}
-use Rattle.ecma_reread.proofs.Calls.{expression_form, argument_forms}
-use Rattle.ecma_reread.proofs.StatementForms.{block_form, member_forms, heritage_form}
+use Rattle.ecma_reread.proofs.StatementForms.{expression_form, argument_forms, block_form, member_forms, heritage_form}
 use Rattle.ecma_reread.proofs.Functions.{function_expression_read}
 use Rattle.ecma_reread.proofs.Exports.{export_item}
 

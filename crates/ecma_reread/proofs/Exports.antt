@@ -32,9 +32,9 @@ use Rattle.ecma_reread.proofs.Towers.{without, skipped}
 use Rattle.ecma_reread.proofs.Forms.{Reads, Refuses}
 use Rattle.ecma_reread.proofs.Repeats.{Repeats, repeats_end, repeats_more, repeated}
 use Rattle.ecma_reread.proofs.Variables.{declaration_read}
-use Rattle.ecma_reread.proofs.StatementForms.{declarator_form, declarator_forms, block_form, member_forms, heritage_form}
+use Rattle.ecma_reread.proofs.StatementForms.{argument_forms, declarator_form, declarator_forms, block_form, member_forms, heritage_form}
 use Rattle.ecma_reread.proofs.Functions.{function_declaration_read}
-use Rattle.ecma_reread.proofs.Calls.{ident_free, argument_forms}
+use Rattle.ecma_reread.proofs.Calls.{ident_free}
 use Rattle.ecma_reread.proofs.Sources.{from_read}
 
 specifier_eats : nat_le 1 (eats (punct (codes ",") ▸ export_specifier)) ≡ true

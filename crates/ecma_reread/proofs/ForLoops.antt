@@ -32,7 +32,7 @@ use Rattle.ecma_tokens.specs.Items.{Tok, sign, Gap, no_gap, Items, it}
 use Rattle.ecma_reread.specs.Machine.{read, or_on, interp, means, many_up_to, fails}
 use Rattle.ecma_reread.specs.Shapes as shapes
 use Rattle.ecma_reread.specs.Shapes.{Ending, IsOptional, IsForInit, IsDeclarator, AreDeclarators, IsPattern}
-use Rattle.ecma_reread.specs.Tokens.{blank, expression_tokens, optional_tokens, for_init_tokens, as_declarator, as_declarators, declarator_tokens, declarators_tokens, pattern_tokens}
+use Rattle.ecma_reread.specs.Tokens.{blank, expression_tokens, optional_tokens, for_init_tokens, declarator_tokens, declarators_tokens, pattern_tokens}
 use Rattle.ecma_reread.specs.Bare.{bare, expression_kind, expression_parts, bare_optional, bare_for_init, bare_declarator, bare_declarators, bare_pattern}
 use Rattle.ecma_reread.proofs.Levels.{means_is}
 use Rattle.ecma_reread.proofs.Fronts.{Front, exactly, Begins, at_token, refuses_all, all_refused, is_known, refuses_at, refused_at, refuses_first, a_name, the_end, passes_at}
@@ -151,7 +151,7 @@ module _ (assigned : Bool) where
   -- what is said of what stands before the first `;`
   abbrev pub InitForm : {n : Node} → IsForInit n → ℕ → Type 0
   InitForm (shapes.no_init a) depth = Unit {0}
-  InitForm (shapes.init_declaration at of_list k d ds) depth = DeclaratorIn assigned true (as_declarator d) depth × DeclaratorsIn assigned true (as_declarators ds) depth
+  InitForm (shapes.init_declaration at of_list k d ds z) depth = DeclaratorIn assigned true d depth × DeclaratorsIn assigned true ds depth
   InitForm (shapes.init_expression e z) depth =
       Stands assigned shapes.sequence (expression_tokens e depth) (expression_kind e) (expression_parts e) × StandsIn assigned true shapes.sequence (expression_tokens e depth) (expression_kind e) (expression_parts e)
 
@@ -269,8 +269,8 @@ module _ (assigned : Bool) where
     pub for_loop_form : {i t u : Node} (first : IsForInit i) (is : IsOptional t) (js : IsOptional u) (depth : ℕ) → InitForm first depth → OptionalForm is depth → OptionalForm js depth
         → ReadAsStatement assigned ending (λ g us. it g (items.key (codes "for")) (it blank (sign (codes "(")) (for_init_tokens first depth (for_rest_tokens is js depth us)))) (bare kind.ForStmt (bare_for_init first ∷ bare_optional is ∷ bare_optional js ∷ n ∷ []))
     for_loop_form (shapes.no_init a) is js depth I S T = for_form (for_read is js depth S T)
-    for_loop_form (shapes.init_declaration at of_list k d ds) is js depth I S T =
-        for_form (λ g us e b z. for_init_read _ _ is js depth S T g us e b z refl (init_read k (as_declarator d) (as_declarators ds) depth I.0 I.1 (optional_tokens is depth (s (codes ";") (optional_tokens js depth (s (codes ")") (body blank us)))))))
+    for_loop_form (shapes.init_declaration at of_list k d ds z) is js depth I S T =
+        for_form (λ g us e b z. for_init_read _ _ is js depth S T g us e b z refl (init_read k d ds depth I.0 I.1 (optional_tokens is depth (s (codes ";") (optional_tokens js depth (s (codes ")") (body blank us)))))))
     for_loop_form (shapes.init_expression x y) is js depth I S T =
         for_form (λ g us e b z.
         (let vs = optional_tokens is depth (s (codes ";") (optional_tokens js depth (s (codes ")") (body blank us)))) in

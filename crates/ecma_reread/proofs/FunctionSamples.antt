@@ -1,6 +1,8 @@
 -- Functions and classes that have the shape, and their text.
-use Rattle.std.proofs.Common.{◌≡◌, false, true, refl, ◌∙◌, codes}
+use Rattle.std.proofs.Common.{◌≡◌, false, true, refl, ap, ◌∙◌, [], codes}
+use Rattle.ecma_kind.specs.declared.kind.Kind.TheVariants as kind
 use Rattle.ecma_tree.specs.declared.node.Node.{Node}
+use Rattle.ecma_grammar.specs.trees.Classes.{is_constructor_key}
 use Rattle.ecma_print.specs.Layout.{layout}
 use Rattle.ecma_tokens.specs.Items.{render}
 use Rattle.ecma_reread.specs.Shapes.{ident, name, key, absent, arguments, no_arguments, bound, no_default, name_pattern, no_elements, no_params, more_params, no_initializer, initializer, block_of, no_statements, more_statements, return_nothing, function_of, function_statement, unnamed, heritage, new_alone, class_of, class_statement, class_constructor, method, field, key_name, string_name, computed_name, property_member, static_block, no_members, more_members}
@@ -9,6 +11,7 @@ use Rattle.ecma_reread.specs.ModuleTokens.{module_tokens}
 use Rattle.ecma_reread.proofs.ModuleLayouts.{module_laid}
 use Rattle.ecma_reread.proofs.Words.{whole, layout_words}
 use Rattle.ecma_reread.proofs.ModuleSamples.{m_whole}
+use Rattle.ecma_reread.proofs.Heads.{kind-node}
 use Rattle.ecma_reread.proofs.Samples.{at, a_spelled, a_name, out}
 
 abbrev sample : (tree : Node) × IsModule false tree
@@ -20,7 +23,7 @@ sample =
     let body = block_of at at (more_statements (return_nothing at none) no_statements) in
     let nothing = block_of at at no_statements in
     let members =
-    more_members (class_constructor at at (key_name (key at (codes "constructor") layout_words.constructor_whole)) refl params (more_params at no_params) nothing)
+    more_members (class_constructor at at (key_name (key at (codes "constructor") layout_words.constructor_whole)) (ap is_constructor_key (kind-node at (kind.IdentName (codes "constructor")) [])) params (more_params at no_params) nothing)
     (more_members (method at true (property_member (string_name at (codes "\"m\"") m_whole)) (function_of at at true true params (more_params at no_params) body none none) refl)
     (more_members (field at false (property_member (key_name (key at (codes "a") word))) (initializer (out 18 (name id))) none)
     (more_members (field at true (property_member (computed_name at (out 18 (name id)))) (no_initializer none) none)

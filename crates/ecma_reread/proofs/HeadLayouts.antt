@@ -11,11 +11,12 @@ use Rattle.ecma_tree.specs.Nodes.{node_of}
 use Rattle.ecma_print.specs.declared.place.Begins.TheVariants.{ArrowBodyStart}
 use Rattle.ecma_print.specs.declared.place.Beside.{Beside}
 use Rattle.ecma_print.specs.declared.place.Beside.TheVariants.{NoNeighbor, BeforeLink, InChain}
-use Rattle.ecma_print.specs.declared.place.Between.TheVariants.{Blank}
+use Rattle.ecma_print.specs.declared.place.Between.{Between}
+use Rattle.ecma_print.specs.declared.place.Between.TheVariants.{Blank, Equals}
 use Rattle.ecma_print.specs.declared.place.Spot.{Spot}
 use Rattle.ecma_print.specs.declared.place.Place.TheVariants.{At, Within, Key, Arguments}
 use Rattle.ecma_print.specs.Pieces.{say, ◌>>◌}
-use Rattle.ecma_print.specs.Places.{free, left, right, beginning, gap}
+use Rattle.ecma_print.specs.Places.{before, after, free, left, right, beginning, gap}
 use Rattle.ecma_print.specs.Laid.{Laid, is_computed}
 use Rattle.ecma_print.specs.Levels.{clashes, in_parentheses}
 use Rattle.ecma_print.specs.Operators.{assign_word, unary_word, unary_sign, update_word, update_sign, binary_word, left_level, right_level, under}
@@ -73,22 +74,22 @@ held k cs = may_hold_by k (hold cs)
 pub one_same : (b : Bool) → (b || false) ≡ false → b ≡ false
 one_same b h = (neither b false h).0
 
--- behind a blank, if it is there
-behind_by : (k : Kind) (xs : List Laid) → ((spot : Spot) (m rest : List ℕ) → in_place k xs (At spot) m rest ≡ in_place k xs (At (with_in spot)) m rest)
-    → (spot : Spot) (m rest : List ℕ) → in_place k xs (Within Blank spot) m rest ≡ in_place k xs (Within Blank (with_in spot)) m rest
-behind_by kind.Absent xs h spot m rest = refl
-behind_by kind.List xs h spot m rest = refl
-behind_by k xs h spot m rest = ap (λ z. codes " " ++ z) (h spot m rest)
+-- with what stands before and behind it, if it is there
+within_by : (k : Kind) (xs : List Laid) → ((spot : Spot) (m rest : List ℕ) → in_place k xs (At spot) m rest ≡ in_place k xs (At (with_in spot)) m rest)
+    → (between : Between) (spot : Spot) (m rest : List ℕ) → in_place k xs (Within between spot) m rest ≡ in_place k xs (Within between (with_in spot)) m rest
+within_by kind.Absent xs h between spot m rest = refl
+within_by kind.List xs h between spot m rest = refl
+within_by k xs h between spot m rest = ap (λ z. before between m z) (h spot m (after between m rest))
 
-abbrev BehindSame : Node → Type 0
-BehindSame n = Same (laid n) → (spot : Spot) (m rest : List ℕ) → (laid n).at (Within Blank spot) m rest ≡ (laid n).at (Within Blank (with_in spot)) m rest
+abbrev WithinSame : Node → Type 0
+WithinSame n = Same (laid n) → (between : Between) (spot : Spot) (m rest : List ℕ) → (laid n).at (Within between spot) m rest ≡ (laid n).at (Within between (with_in spot)) m rest
 
-behind_same : (n : Node) → BehindSame n
-behind_same = ind-Node BehindSame (λ x y is S spot m rest.
+within_same : (n : Node) → WithinSame n
+within_same = ind-Node WithinSame (λ x y is S between spot m rest.
     (let at = at_node x.span x.kind x.children in
-    at (Within Blank spot) m rest
-    ∙ (behind_by x.kind (map laid x.children) (λ p l r. sym (at (At p) l r) ∙ (S p l r ∙ at (At (with_in p)) l r)) spot m rest
-    ∙ sym (at (Within Blank (with_in spot)) m rest))))
+    at (Within between spot) m rest
+    ∙ (within_by x.kind (map laid x.children) (λ p l r. sym (at (At p) l r) ∙ (S p l r ∙ at (At (with_in p)) l r)) between spot m rest
+    ∙ sym (at (Within between (with_in spot)) m rest))))
 
 -- those behind the first of a sequence
 rest_same : (cs : Children) → any_of (hold cs) ≡ false → (spot : Spot) (m rest : List ℕ) → more_of_sequence (texts cs) spot m rest ≡ more_of_sequence (texts cs) (with_in spot) m rest
@@ -142,14 +143,16 @@ step_same kind.SeqExpr (x ∷ cs) h spot m rest =
     standing_same kind.SeqExpr (texts (x ∷ cs)) spot refl m rest
     (ap (λ z. (laid x.0).at (At (left spot 1 NoNeighbor)) m z) (rest_same cs c.1 spot m rest) ∙ x.1 c.0 (left spot 1 NoNeighbor) m (more_of_sequence (texts cs) (with_in spot) m rest))
 step_same (kind.YieldExpr delegate) (x ∷ []) h spot m rest =
-    standing_same (kind.YieldExpr delegate) (texts (x ∷ [])) spot refl m rest (ap (λ z. yield_word delegate ++ z) (behind_same x.0 (x.1 (one_same _ h)) (right spot 1 NoNeighbor) m rest))
+    standing_same (kind.YieldExpr delegate) (texts (x ∷ [])) spot refl m rest (ap (λ z. yield_word delegate ++ z) (within_same x.0 (x.1 (one_same _ h)) Blank (right spot 1 NoNeighbor) m rest))
 step_same (kind.ArrowExpr is_async is_generator) (p ∷ b ∷ t ∷ r ∷ []) h spot m rest =
     let c = neither (may_hold_in p.0) _ h in
     let d = neither (may_hold_in b.0) _ c.1 in
     standing_same (kind.ArrowExpr is_async is_generator) (texts (p ∷ b ∷ t ∷ r ∷ [])) spot refl m rest
     (ap (λ z. async_word is_async ++ (laid p.0).at Arguments m (codes " => " ++ z)) (b.1 d.0 (beginning 1 ArrowBodyStart spot.without_in) m rest))
 step_same (kind.VarDecl k declare) cs h spot m rest = absurd (false≢true (sym h))
-step_same (kind.VarDeclarator definite) cs h spot m rest = absurd (false≢true (sym h))
+step_same (kind.VarDeclarator definite) (x ∷ y ∷ []) h spot m rest =
+    let c = neither (may_hold_in x.0) _ h in
+    standing_same (kind.VarDeclarator definite) (texts (x ∷ y ∷ [])) spot refl m rest (ap (λ z. (laid x.0).at (At (free 1)) m z) (within_same y.0 (y.1 (one_same _ c.1)) Equals (right spot 1 NoNeighbor) m rest))
 step_same (kind.BinExpr o) [] h spot m rest = standing_same (kind.BinExpr o) (texts []) spot (rw (clash_same o (hold []) h spot spot.beside) refl) m rest refl
 step_same (kind.BinExpr o) (x ∷ []) h spot m rest = standing_same (kind.BinExpr o) (texts (x ∷ [])) spot (rw (clash_same o (hold (x ∷ [])) h spot spot.beside) refl) m rest refl
 step_same (kind.BinExpr o) (x ∷ y ∷ z ∷ zs) h spot m rest = standing_same (kind.BinExpr o) (texts (x ∷ y ∷ z ∷ zs)) spot (rw (clash_same o (hold (x ∷ y ∷ z ∷ zs)) h spot spot.beside) refl) m rest refl

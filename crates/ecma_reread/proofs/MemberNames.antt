@@ -28,7 +28,7 @@ use Rattle.ecma_reread.proofs.Members.{name_behind}
 use Rattle.ecma_reread.proofs.Classes.{a_static_block}
 use Rattle.ecma_reread.proofs.Objects.{NameForm}
 
-pub name_private : {n : Node} (is : IsMemberName n) → is_private_name (kind_of (bare_member_name is)) ≡ is_private is
+pub name_private : {private : Bool} {n : Node} (is : IsMemberName private n) → is_private_name (kind_of (bare_member_name is)) ≡ is_private is
 name_private (shapes.property_member (shapes.key_name k)) = simp nodes
 name_private (shapes.property_member (shapes.string_name at raw t)) = simp nodes
 name_private (shapes.property_member (shapes.number_name at raw t)) = simp nodes
@@ -36,7 +36,7 @@ name_private (shapes.property_member (shapes.big_int_name at raw t)) = simp node
 name_private (shapes.property_member (shapes.computed_name at e)) = simp nodes
 name_private (shapes.private_member at w t) = simp nodes
 
-pub constructor_named : {n : Node} (is : IsMemberName n) → is_constructor_key (kind_of (bare_member_name is)) ≡ names_constructor is
+pub constructor_named : {private : Bool} {n : Node} (is : IsMemberName private n) → is_constructor_key (kind_of (bare_member_name is)) ≡ names_constructor n
 constructor_named (shapes.property_member (shapes.key_name (shapes.key at w t))) = simp nodes
 constructor_named (shapes.property_member (shapes.string_name at raw t)) = simp nodes
 constructor_named (shapes.property_member (shapes.number_name at raw t)) = simp nodes
@@ -50,8 +50,8 @@ not_both true true false z = refl
 not_both true false c z = refl
 not_both false b c z = refl
 
-pub no_constructor : {n : Node} (is : IsMemberName n) (x y st : Bool) → (not st && names_constructor is) ≡ false → (is_constructor_key (kind_of (bare_member_name is)) && ((not x && not y) && not st)) ≡ false
-no_constructor is x y st z = rw (constructor_named is) (not_both (names_constructor is) (not x && not y) (not st) z)
+pub no_constructor : {private : Bool} {n : Node} (is : IsMemberName private n) (x y st : Bool) → (not st && names_constructor n) ≡ false → (is_constructor_key (kind_of (bare_member_name is)) && ((not x && not y) && not st)) ≡ false
+no_constructor {n = n} is x y st z = rw (constructor_named is) (not_both (names_constructor n) (not x && not y) (not st) z)
 
 module _ (assigned : Bool) where
   -- no word stands there, or one alone
@@ -98,11 +98,11 @@ module _ (assigned : Bool) where
   }
 
   -- what is said of the expression of a computed name
-  abbrev pub MemberNameForm : {n : Node} → IsMemberName n → ℕ → Type 0
+  abbrev pub MemberNameForm : {private : Bool} {n : Node} → IsMemberName private n → ℕ → Type 0
   MemberNameForm (shapes.property_member k) depth = NameForm assigned k depth
   MemberNameForm (shapes.private_member at w t) depth = Unit {0}
 
-  pub member_name_form : {n : Node} (is : IsMemberName n) (depth : ℕ) → MemberNameForm is depth → ReadAsName (member_name_tokens is depth) (bare_member_name is)
+  pub member_name_form : {private : Bool} {n : Node} (is : IsMemberName private n) (depth : ℕ) → MemberNameForm is depth → ReadAsName (member_name_tokens is depth) (bare_member_name is)
   member_name_form (shapes.property_member k) depth F = property_name_form k depth F
   member_name_form (shapes.private_member at w t) depth F = private_name_form w t
 

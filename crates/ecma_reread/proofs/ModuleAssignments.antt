@@ -27,7 +27,8 @@ use Rattle.ecma_reread.proofs.Heads.{nodes}
 use Rattle.ecma_reread.proofs.Forms.{Reads, Refuses}
 use Rattle.ecma_reread.proofs.Bindings.{standing, expression_read}
 use Rattle.ecma_reread.proofs.Expressions.{semicolon_ends}
-use Rattle.ecma_reread.proofs.Calls.{ident_free, expression_form}
+use Rattle.ecma_reread.proofs.Calls.{ident_free}
+use Rattle.ecma_reread.proofs.StatementForms.{expression_form}
 use Rattle.ecma_reread.proofs.Exports.{export_item, no_default, no_names, no_star_as, no_star}
 
 abbrev export_flag : Bool → Flag

@@ -14,8 +14,8 @@ use Rattle.ecma_reread.specs.Tokens.{blank, line, sign_of, ident_word, is_genera
 use Rattle.ecma_reread.specs.ModuleTokens.{spaced, spaced_sign, string_raw, export_name_token, attribute_key_token, attribute_tokens, more_attributes_tokens, with_tokens, source_tokens, default_import_tokens, namespace_import_tokens, named_import_tokens, more_imports_tokens, named_imports_tokens, import_clause_tokens, import_equals_tokens, item_tokens, items_tokens, module_tokens, spaced_word, from_tokens, named_export_tokens, more_exports_tokens, export_clause_tokens}
 use Rattle.ecma_reread.proofs.Softs.{semicolon}
 use Rattle.ecma_reread.proofs.Beginnings.{blank_joins}
-use Rattle.ecma_reread.proofs.Joins.{Words, expression_joined, no_gap_is, blank_is, ident_whole, key_whole}
-use Rattle.ecma_reread.proofs.StatementJoins.{line_wide, blank_wide, line_is, Apart, statement_apart, ended, statement_joined, function_word_apart, function_word_joined, function_opens, function_joined, class_apart, class_joined}
+use Rattle.ecma_reread.proofs.Joins.{Words, no_gap_is, blank_is, ident_whole, key_whole}
+use Rattle.ecma_reread.proofs.StatementJoins.{expression_joined, line_wide, blank_wide, line_is, Apart, statement_apart, ended, statement_joined, function_word_apart, function_word_joined, function_opens, function_joined, class_apart, class_joined}
 
 item_apart : {assignments : Bool} {n : Node} (is : IsModuleItem assignments n) (us : Items) → Apart (item_tokens is line us)
 item_apart (modules.statement s) us t = statement_apart s 0 line (line_wide 0) us t

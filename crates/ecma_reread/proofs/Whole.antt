@@ -10,7 +10,7 @@ use Rattle.ecma_grammar.specs.trees.Parts.{children_of}
 use Rattle.ecma_tree.specs.Spans.{without_spans}
 use Rattle.ecma_reread.specs.Shapes as shapes
 use Rattle.ecma_reread.specs.Shapes.{Level, IsIdent, ident, IsKey, key, IsAbsent, IsExpression, IsElement, IsArguments, AreElements, AreExpressions, IsInitializer, IsDeclarator, AreDeclarators, Ending, IsStatement, IsBlock, AreStatements, AreSlots, IsCase, AreCases, IsCatch, IsChainKey, IsOptional, IsForLeft, IsPropertyName, IsProperty, AreProperties, Role, IsPattern, IsDefaulted, IsForInit, IsPart, AreParts, IsFunction, AreParams, IsFunctionName, IsHeritage, IsClass, IsMember, AreMembers, IsMemberName, is_private, method_kind, field_kind, accessor_kind}
-use Rattle.ecma_reread.specs.Tokens.{key_word, chain_kind, as_declarator, as_declarators}
+use Rattle.ecma_reread.specs.Tokens.{key_word, chain_kind}
 use Rattle.ecma_reread.specs.Bare.{bare, bare_ident, bare_expression, bare_element, bare_arguments, bare_elements, bare_expressions, bare_initializer, bare_declarator, bare_declarators, bare_statement, bare_block, bare_statements, bare_slots, bare_case, bare_cases, bare_catch, bare_optional, bare_for_left, bare_property_name, bare_property, bare_properties, bare_pattern, bare_defaulted, bare_for_init, bare_part, bare_parts, bare_substitutions, bare_params, bare_function, bare_function_name, bare_heritage, bare_class, bare_member_name, bare_member, bare_members}
 use Rattle.ecma_reread.proofs.Unplaced.{without_spans-node}
 use Rattle.ecma_reread.proofs.Heads.{children-node}
@@ -37,6 +37,20 @@ part_bare (shapes.part at raw w r v) = without_spans-node at _ []
 parts_bare : {t f : Bool} {es ps : List Node} (is : AreParts t f es ps) → map without_spans ps ≡ bare_parts is
 parts_bare (shapes.last_part p) = ap (λ x. x ∷ []) (part_bare p)
 parts_bare (shapes.more_parts p e ps) = ap₂ (λ x xs. x ∷ xs) (part_bare p) (parts_bare ps)
+
+pub function_name_bare : {n : Node} (is : IsFunctionName n) → without_spans n ≡ bare_function_name is
+function_name_bare (shapes.unnamed a) = absent_bare a
+function_name_bare (shapes.function_name i) = ident_bare i
+
+more_params_bare : {es ps : List Node} → AreParams es ps → map without_spans ps ≡ bare_params (map without_spans es)
+more_params_bare shapes.no_params = refl
+more_params_bare (shapes.more_params at is) = ap₂ (λ x xs. x ∷ xs) (without_spans-node at kind.Param _) (more_params_bare is)
+
+params_bare : (at : Span) {es ps : List Node} (is : IsArguments shapes.bindings (node_of at kind.List es)) → AreParams es ps → without_spans (node_of at kind.List es) ≡ list_node (bare_arguments is) → map without_spans ps ≡ bare_params (bare_arguments is)
+params_bare at {es} is ws h =
+    let same : list_node (map without_spans es) ≡ list_node (bare_arguments is) = sym (without_spans-node at kind.List es) ∙ h in
+    more_params_bare ws
+    ∙ ap bare_params (sym (children-node dummy_span kind.List (map without_spans es)) ∙ (ap children_of same ∙ children-node dummy_span kind.List (bare_arguments is)))
 
 mutual
   pub expression_bare : {level : Level} {e : Node} (is : IsExpression level e) → without_spans e ≡ bare_expression is
@@ -169,55 +183,40 @@ mutual
   expressions_bare shapes.no_expressions = refl
   expressions_bare (shapes.more_expressions e es) = ap₂ (λ x xs. x ∷ xs) (expression_bare e) (expressions_bare es)
 
-declarator_bare : {n : Node} (is : IsDeclarator n) → without_spans n ≡ bare_declarator is
-declarator_bare (shapes.declarator at p e) = without_spans-node at (kind.VarDeclarator false) _ ∙ ap₂ (λ x y. bare (kind.VarDeclarator false) (x ∷ y ∷ [])) (pattern_bare p) (initializer_bare e)
+  declarator_bare : {n : Node} (is : IsDeclarator n) → without_spans n ≡ bare_declarator is
+  declarator_bare (shapes.declarator at p e) = without_spans-node at (kind.VarDeclarator false) _ ∙ ap₂ (λ x y. bare (kind.VarDeclarator false) (x ∷ y ∷ [])) (pattern_bare p) (initializer_bare e)
 
-declarators_bare : {ds : List Node} (is : AreDeclarators ds) → map without_spans ds ≡ bare_declarators is
-declarators_bare shapes.no_declarators = refl
-declarators_bare (shapes.more_declarators d ds) = ap₂ (λ x xs. x ∷ xs) (declarator_bare d) (declarators_bare ds)
+  declarators_bare : {ds : List Node} (is : AreDeclarators ds) → map without_spans ds ≡ bare_declarators is
+  declarators_bare shapes.no_declarators = refl
+  declarators_bare (shapes.more_declarators d ds) = ap₂ (λ x xs. x ∷ xs) (declarator_bare d) (declarators_bare ds)
 
-optional_bare : {n : Node} (is : IsOptional n) → without_spans n ≡ bare_optional is
-optional_bare (shapes.left_out a) = absent_bare a
-optional_bare (shapes.given e) = expression_bare e
+  optional_bare : {n : Node} (is : IsOptional n) → without_spans n ≡ bare_optional is
+  optional_bare (shapes.left_out a) = absent_bare a
+  optional_bare (shapes.given e) = expression_bare e
 
-for_init_bare : {n : Node} (is : IsForInit n) → without_spans n ≡ bare_for_init is
-for_init_bare (shapes.no_init a) = absent_bare a
-for_init_bare (shapes.init_declaration at of_list k d ds) =
-    without_spans-node at (kind.VarDecl k false) _ ∙ ap (λ x. bare (kind.VarDecl k false) (x ∷ [])) (without_spans-node of_list kind.List _ ∙ ap₂ (λ x xs. list_node (x ∷ xs)) (declarator_bare (as_declarator d)) (declarators_bare (as_declarators ds)))
-for_init_bare (shapes.init_expression e z) = expression_bare e
+  for_init_bare : {n : Node} (is : IsForInit n) → without_spans n ≡ bare_for_init is
+  for_init_bare (shapes.no_init a) = absent_bare a
+  for_init_bare (shapes.init_declaration at of_list k d ds z) =
+      without_spans-node at (kind.VarDecl k false) _ ∙ ap (λ x. bare (kind.VarDecl k false) (x ∷ [])) (without_spans-node of_list kind.List _ ∙ ap₂ (λ x xs. list_node (x ∷ xs)) (declarator_bare d) (declarators_bare ds))
+  for_init_bare (shapes.init_expression e z) = expression_bare e
 
-for_left_bare : {n : Node} (is : IsForLeft n) → without_spans n ≡ bare_for_left is
-for_left_bare (shapes.for_binding at of_list at_declarator k p a) =
-    without_spans-node at (kind.VarDecl k false) _
-    ∙ ap (λ x. bare (kind.VarDecl k false) (x ∷ []))
-    (without_spans-node of_list kind.List _
-    ∙ ap (λ x. list_node (x ∷ []))
-    (without_spans-node at_declarator (kind.VarDeclarator false) _ ∙ ap₂ (λ x y. bare (kind.VarDeclarator false) (x ∷ y ∷ [])) (pattern_bare p) (absent_bare a)))
-for_left_bare (shapes.for_target e z) = expression_bare e
+  for_left_bare : {n : Node} (is : IsForLeft n) → without_spans n ≡ bare_for_left is
+  for_left_bare (shapes.for_binding at of_list at_declarator k p a) =
+      without_spans-node at (kind.VarDecl k false) _
+      ∙ ap (λ x. bare (kind.VarDecl k false) (x ∷ []))
+      (without_spans-node of_list kind.List _
+      ∙ ap (λ x. list_node (x ∷ []))
+      (without_spans-node at_declarator (kind.VarDeclarator false) _ ∙ ap₂ (λ x y. bare (kind.VarDeclarator false) (x ∷ y ∷ [])) (pattern_bare p) (absent_bare a)))
+  for_left_bare (shapes.for_target e z) = expression_bare e
 
-member_name_bare : {n : Node} (is : IsMemberName n) → without_spans n ≡ bare_member_name is
-member_name_bare (shapes.property_member k) = property_name_bare k
-member_name_bare (shapes.private_member at w t) = without_spans-node at (kind.PrivateName w) []
+  member_name_bare : {private : Bool} {n : Node} (is : IsMemberName private n) → without_spans n ≡ bare_member_name is
+  member_name_bare (shapes.property_member k) = property_name_bare k
+  member_name_bare (shapes.private_member at w t) = without_spans-node at (kind.PrivateName w) []
 
-heritage_bare : {n : Node} (is : IsHeritage n) → without_spans n ≡ bare_heritage is
-heritage_bare (shapes.no_heritage a) = absent_bare a
-heritage_bare (shapes.heritage e) = expression_bare e
+  heritage_bare : {n : Node} (is : IsHeritage n) → without_spans n ≡ bare_heritage is
+  heritage_bare (shapes.no_heritage a) = absent_bare a
+  heritage_bare (shapes.heritage e) = expression_bare e
 
-pub function_name_bare : {n : Node} (is : IsFunctionName n) → without_spans n ≡ bare_function_name is
-function_name_bare (shapes.unnamed a) = absent_bare a
-function_name_bare (shapes.function_name i) = ident_bare i
-
-more_params_bare : {es ps : List Node} → AreParams es ps → map without_spans ps ≡ bare_params (map without_spans es)
-more_params_bare shapes.no_params = refl
-more_params_bare (shapes.more_params at is) = ap₂ (λ x xs. x ∷ xs) (without_spans-node at kind.Param _) (more_params_bare is)
-
-params_bare : (at : Span) {es ps : List Node} (is : IsArguments shapes.bindings (node_of at kind.List es)) → AreParams es ps → map without_spans ps ≡ bare_params (bare_arguments is)
-params_bare at {es} is ws =
-    let same : list_node (map without_spans es) ≡ list_node (bare_arguments is) = sym (without_spans-node at kind.List es) ∙ arguments_bare is in
-    more_params_bare ws
-    ∙ ap bare_params (sym (children-node dummy_span kind.List (map without_spans es)) ∙ (ap children_of same ∙ children-node dummy_span kind.List (bare_arguments is)))
-
-mutual
   pub statement_bare : {ending : Ending} {n : Node} (is : IsStatement ending n) → without_spans n ≡ bare_statement is
   statement_bare (shapes.empty at) = without_spans-node at kind.EmptyStmt []
   statement_bare (shapes.debugger_word at) = without_spans-node at kind.DebuggerStmt []
@@ -277,7 +276,7 @@ mutual
   member_bare (shapes.method at s k f z) = without_spans-node at (method_kind (is_private k) Method s) _ ∙ ap₂ (λ x y. bare (method_kind (is_private k) Method s) (x ∷ y ∷ [])) (member_name_bare k) (function_bare f)
   member_bare (shapes.class_constructor at at' {body = b'} k z ps ws b) =
       without_spans-node at (kind.Constructor None false) _
-      ∙ (ap₂ (λ x y. bare (kind.Constructor None false) (x ∷ y ∷ without_spans b' ∷ [])) (property_name_bare k) (without_spans-node at' kind.List _ ∙ ap list_node (params_bare at' ps ws))
+      ∙ (ap₂ (λ x y. bare (kind.Constructor None false) (x ∷ y ∷ without_spans b' ∷ [])) (property_name_bare k) (without_spans-node at' kind.List _ ∙ ap list_node (params_bare at' ps ws (arguments_bare ps)))
       ∙ ap (λ z. bare (kind.Constructor None false) (bare_property_name k ∷ list_node (bare_params (bare_arguments ps)) ∷ z ∷ [])) (block_bare b))
   member_bare (shapes.field at s {none = n'} k v a) =
       without_spans-node at (field_kind (is_private k) s) _
@@ -287,7 +286,7 @@ mutual
       without_spans-node at (method_kind (is_private k) (accessor_kind b) s) _
       ∙ ap₂ (λ x y. bare (method_kind (is_private k) (accessor_kind b) s) (x ∷ y ∷ [])) (member_name_bare k)
       (without_spans-node at' (kind.Function false false) _
-      ∙ (ap₂ (λ p q. bare (kind.Function false false) (p ∷ q ∷ without_spans n' ∷ without_spans n'' ∷ [])) (without_spans-node at'' kind.List _ ∙ ap list_node (params_bare at'' ps ws)) (block_bare body)
+      ∙ (ap₂ (λ p q. bare (kind.Function false false) (p ∷ q ∷ without_spans n' ∷ without_spans n'' ∷ [])) (without_spans-node at'' kind.List _ ∙ ap list_node (params_bare at'' ps ws (arguments_bare ps))) (block_bare body)
       ∙ ap₂ (λ p q. bare (kind.Function false false) (list_node (bare_params (bare_arguments ps)) ∷ bare_block body ∷ p ∷ q ∷ [])) (absent_bare a) (absent_bare a')))
 
   members_bare : {ns : List Node} (is : AreMembers ns) → map without_spans ns ≡ bare_members is
@@ -297,7 +296,7 @@ mutual
   pub function_bare : {n : Node} (is : IsFunction n) → without_spans n ≡ bare_function is
   function_bare (shapes.function_of at at' x y {none = n'} {none' = n''} ps ws b a a') =
       without_spans-node at (kind.Function x y) _
-      ∙ (ap₂ (λ p q. bare (kind.Function x y) (p ∷ q ∷ without_spans n' ∷ without_spans n'' ∷ [])) (without_spans-node at' kind.List _ ∙ ap list_node (params_bare at' ps ws)) (block_bare b)
+      ∙ (ap₂ (λ p q. bare (kind.Function x y) (p ∷ q ∷ without_spans n' ∷ without_spans n'' ∷ [])) (without_spans-node at' kind.List _ ∙ ap list_node (params_bare at' ps ws (arguments_bare ps))) (block_bare b)
       ∙ ap₂ (λ p q. bare (kind.Function x y) (list_node (bare_params (bare_arguments ps)) ∷ bare_block b ∷ p ∷ q ∷ [])) (absent_bare a) (absent_bare a'))
 
   block_bare : {n : Node} (is : IsBlock n) → without_spans n ≡ bare_block is

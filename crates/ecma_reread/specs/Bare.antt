@@ -13,7 +13,7 @@ use Rattle.ecma_tree.specs.declared.node.Node.{Node}
 use Rattle.ecma_tree.specs.Nodes.{node_of, dummy_span, absent, list_node}
 use Rattle.ecma_grammar.specs.Reads.{without_separators}
 use Rattle.ecma_reread.specs.Shapes.{IsIdent, Level, IsExpression, looser, element, prefix_update, postfix_update, await_expression, unary_expression, binary_expression, exponentiation, both, either, coalesced, assignment_expression, conditional_expression, sequence_expression, name, string, number, this_word, big_int, null_word, true_word, false_word, member, call, parenthesized, IsElement, one, spread, IsArguments, no_arguments, arguments, AreElements, no_elements, more_elements, AreExpressions, no_expressions, more_expressions, IsInitializer, no_initializer, initializer, IsDeclarator, declarator, AreDeclarators, no_declarators, more_declarators, IsStatement, expression, declaration, empty, debugger_word, throw, return_value, return_nothing, break_nothing, continue_nothing, Ending, break_label, continue_label, block, if_only, if_else, while_loop, do_loop, labeled, IsBlock, block_of, AreStatements, no_statements, more_statements, array, AreSlots, no_slots, filled, hole, switch_statement, IsCase, case_of, default_of, AreCases, no_cases, more_cases, new_expression, new_alone, new_target, try_catch, try_finally, try_catch_finally, IsCatch, catch_any, super_member, super_element, super_call, IsOptional, left_out, given, IsForLeft, for_binding, for_target, for_loop, for_in, for_of, object_literal, IsPropertyName, key_name, string_name, number_name, big_int_name, computed_name, IsProperty, key_value, shorthand, initialized, spread_property, AreProperties, no_properties, more_properties, private_in, yield_nothing, yield_value, import_meta, import_call, regex, Role, bound, rest, renamed, named, rest_property, IsPattern, name_pattern, array_pattern, object_pattern, IsDefaulted, no_default, with_default, IsForInit, no_init, init_declaration, init_expression, IsPart, part, AreParts, last_part, more_parts, template, tagged_template, arrow_function, catch_pattern, chain_member, chain_element, chain_call, function_statement, IsFunction, function_of, IsFunctionName, unnamed, function_name, IsHeritage, no_heritage, heritage, class_statement, IsClass, class_of, IsMember, empty_member, static_block, AreMembers, no_members, more_members, method, class_constructor, field, accessor, accessor_kind, IsMemberName, property_member, private_member, is_private, method_kind, field_kind}
-use Rattle.ecma_reread.specs.Tokens.{as_declarator, as_declarators, chain_kind, ident_word, is_async, key_word}
+use Rattle.ecma_reread.specs.Tokens.{chain_kind, ident_word, is_async, key_word}
 
 abbrev pub bare : Kind → List Node → Node
 bare k ns = node_of dummy_span k ns
@@ -74,6 +74,13 @@ bare_part {l = l} (part at raw w r v) = bare (kind.TplElement raw (template_valu
 abbrev pub bare_parts : {t f : Bool} {es ps : List Node} → AreParts t f es ps → List Node
 bare_parts (last_part p) = bare_part p ∷ []
 bare_parts (more_parts p e ps) = bare_part p ∷ bare_parts ps
+
+abbrev pub bare_function_name : {n : Node} → IsFunctionName n → Node
+bare_function_name (unnamed a) = absent
+bare_function_name (function_name i) = bare_ident i
+
+abbrev pub bare_params : List Node → List Node
+bare_params ns = map (λ n. bare kind.Param (n ∷ [])) ns
 
 abbrev mutual
   pub expression_parts : {level : Level} {e : Node} → IsExpression level e → List Node
@@ -173,69 +180,58 @@ abbrev mutual
   bare_expressions no_expressions = []
   bare_expressions (more_expressions e es) = bare (expression_kind e) (expression_parts e) ∷ bare_expressions es
 
-abbrev pub bare_expression : {level : Level} {e : Node} → IsExpression level e → Node
-bare_expression e = bare (expression_kind e) (expression_parts e)
+  pub bare_member_name : {private : Bool} {n : Node} → IsMemberName private n → Node
+  bare_member_name (property_member k) = bare_property_name k
+  bare_member_name (private_member at w t) = bare (kind.PrivateName w) []
 
-abbrev pub bare_member_name : {n : Node} → IsMemberName n → Node
-bare_member_name (property_member k) = bare_property_name k
-bare_member_name (private_member at w t) = bare (kind.PrivateName w) []
+  pub bare_declarator : {n : Node} → IsDeclarator n → Node
+  bare_declarator (declarator at p e) = bare (kind.VarDeclarator false) (bare_pattern p ∷ bare_initializer e ∷ [])
 
-abbrev pub bare_declarator : {n : Node} → IsDeclarator n → Node
-bare_declarator (declarator at p e) = bare (kind.VarDeclarator false) (bare_pattern p ∷ bare_initializer e ∷ [])
+  pub bare_declarators : {ds : List Node} → AreDeclarators ds → List Node
+  bare_declarators no_declarators = []
+  bare_declarators (more_declarators d ds) = bare_declarator d ∷ bare_declarators ds
 
-abbrev pub bare_declarators : {ds : List Node} → AreDeclarators ds → List Node
-bare_declarators no_declarators = []
-bare_declarators (more_declarators d ds) = bare_declarator d ∷ bare_declarators ds
+  pub bare_optional : {n : Node} → IsOptional n → Node
+  bare_optional (left_out a) = absent
+  bare_optional (given e) = bare (expression_kind e) (expression_parts e)
 
-abbrev pub bare_optional : {n : Node} → IsOptional n → Node
-bare_optional (left_out a) = absent
-bare_optional (given e) = bare_expression e
+  pub bare_heritage : {n : Node} → IsHeritage n → Node
+  bare_heritage (no_heritage a) = absent
+  bare_heritage (heritage e) = bare (expression_kind e) (expression_parts e)
 
-abbrev pub bare_heritage : {n : Node} → IsHeritage n → Node
-bare_heritage (no_heritage a) = absent
-bare_heritage (heritage e) = bare_expression e
+  pub bare_for_init : {n : Node} → IsForInit n → Node
+  bare_for_init (no_init a) = absent
+  bare_for_init (init_declaration at of_list k d ds z) = bare (kind.VarDecl k false) (list_node (bare_declarator d ∷ bare_declarators ds) ∷ [])
+  bare_for_init (init_expression e z) = bare (expression_kind e) (expression_parts e)
 
-abbrev pub bare_function_name : {n : Node} → IsFunctionName n → Node
-bare_function_name (unnamed a) = absent
-bare_function_name (function_name i) = bare_ident i
+  pub bare_for_left : {n : Node} → IsForLeft n → Node
+  bare_for_left (for_binding at of_list at_declarator k p a) = bare (kind.VarDecl k false) (list_node (bare (kind.VarDeclarator false) (bare_pattern p ∷ absent ∷ []) ∷ []) ∷ [])
+  bare_for_left (for_target e z) = bare (expression_kind e) (expression_parts e)
 
-abbrev pub bare_params : List Node → List Node
-bare_params ns = map (λ n. bare kind.Param (n ∷ [])) ns
-
-abbrev pub bare_for_init : {n : Node} → IsForInit n → Node
-bare_for_init (no_init a) = absent
-bare_for_init (init_declaration at of_list k d ds) = bare (kind.VarDecl k false) (list_node (bare_declarator (as_declarator d) ∷ bare_declarators (as_declarators ds)) ∷ [])
-bare_for_init (init_expression e z) = bare_expression e
-
-abbrev pub bare_for_left : {n : Node} → IsForLeft n → Node
-bare_for_left (for_binding at of_list at_declarator k p a) = bare (kind.VarDecl k false) (list_node (bare (kind.VarDeclarator false) (bare_pattern p ∷ absent ∷ []) ∷ []) ∷ [])
-bare_for_left (for_target e z) = bare_expression e
-
-abbrev mutual
   pub bare_statement : {ending : Ending} {s : Node} → IsStatement ending s → Node
   bare_statement (empty at) = bare kind.EmptyStmt []
   bare_statement (debugger_word at) = bare kind.DebuggerStmt []
-  bare_statement (throw at e) = bare kind.ThrowStmt (bare_expression e ∷ [])
-  bare_statement (return_value at e) = bare kind.ReturnStmt (bare_expression e ∷ [])
+  bare_statement (throw at e) = bare kind.ThrowStmt (bare (expression_kind e) (expression_parts e) ∷ [])
+  bare_statement (return_value at e) = bare kind.ReturnStmt (bare (expression_kind e) (expression_parts e) ∷ [])
   bare_statement (return_nothing at a) = bare kind.ReturnStmt (absent ∷ [])
   bare_statement (break_nothing at a) = bare kind.BreakStmt (absent ∷ [])
   bare_statement (continue_nothing at a) = bare kind.ContinueStmt (absent ∷ [])
-  bare_statement (expression at e z) = bare kind.ExprStmt (bare_expression e ∷ [])
+  bare_statement (expression at e z) = bare kind.ExprStmt (bare (expression_kind e) (expression_parts e) ∷ [])
   bare_statement (declaration at at' k d ds) = bare (kind.VarDecl k false) (list_node (bare_declarator d ∷ bare_declarators ds) ∷ [])
   bare_statement (break_label at i) = bare kind.BreakStmt (bare_ident i ∷ [])
   bare_statement (continue_label at i) = bare kind.ContinueStmt (bare_ident i ∷ [])
   bare_statement (block b) = bare_block b
-  bare_statement (if_only at e b a) = bare kind.IfStmt (bare_expression e ∷ bare_statement b ∷ absent ∷ [])
-  bare_statement (if_else at e b a) = bare kind.IfStmt (bare_expression e ∷ bare_statement b ∷ bare_statement a ∷ [])
-  bare_statement (while_loop at e b) = bare kind.WhileStmt (bare_expression e ∷ bare_statement b ∷ [])
-  bare_statement (do_loop at e b) = bare kind.DoWhileStmt (bare_expression e ∷ bare_statement b ∷ [])
-  bare_statement (switch_statement at at' e cs) = bare kind.SwitchStmt (bare_expression e ∷ list_node (bare_cases cs) ∷ [])
+  bare_statement (if_only at e b a) = bare kind.IfStmt (bare (expression_kind e) (expression_parts e) ∷ bare_statement b ∷ absent ∷ [])
+  bare_statement (if_else at e b a) = bare kind.IfStmt (bare (expression_kind e) (expression_parts e) ∷ bare_statement b ∷ bare_statement a ∷ [])
+  bare_statement (while_loop at e b) = bare kind.WhileStmt (bare (expression_kind e) (expression_parts e) ∷ bare_statement b ∷ [])
+  bare_statement (do_loop at e b) = bare kind.DoWhileStmt (bare (expression_kind e) (expression_parts e) ∷ bare_statement b ∷ [])
+  bare_statement (switch_statement at at' e cs) = bare kind.SwitchStmt (bare (expression_kind e) (expression_parts e) ∷ list_node (bare_cases cs) ∷ [])
   bare_statement (try_catch at b c a) = bare kind.TryStmt (bare_block b ∷ bare_catch c ∷ absent ∷ [])
   bare_statement (try_finally at b a f) = bare kind.TryStmt (bare_block b ∷ absent ∷ bare_block f ∷ [])
   bare_statement (try_catch_finally at b c f) = bare kind.TryStmt (bare_block b ∷ bare_catch c ∷ bare_block f ∷ [])
   bare_statement (for_loop at i t u b) = bare kind.ForStmt (bare_for_init i ∷ bare_optional t ∷ bare_optional u ∷ bare_statement b ∷ [])
-  bare_statement (for_in at l e b) = bare kind.ForInStmt (bare_for_left l ∷ bare_expression e ∷ bare_statement b ∷ [])
-  bare_statement (for_of at w l e b) = bare (kind.ForOfStmt w) (bare_for_left l ∷ bare_expression e ∷ bare_statement b ∷ [])
+  bare_statement (for_in at l e b) = bare kind.ForInStmt (bare_for_left l ∷ bare (expression_kind e) (expression_parts e) ∷ bare_statement b ∷ [])
+  bare_statement (for_of at w l e b) = bare (kind.ForOfStmt w) (bare_for_left l ∷ bare (expression_kind e) (expression_parts e) ∷ bare_statement b ∷ [])
   bare_statement (labeled at i b) = bare kind.LabeledStmt (bare_ident i ∷ bare_statement b ∷ [])
   bare_statement (function_statement at i f) = bare (kind.FnDecl false) (bare_ident i ∷ bare_function f ∷ [])
   bare_statement (class_statement at i c) = bare (kind.ClassDecl false) (bare_ident i ∷ bare_class c ∷ [])
@@ -263,7 +259,7 @@ abbrev mutual
   bare_block (block_of at at' ss) = bare kind.BlockStmt (list_node (bare_statements ss) ∷ [])
 
   pub bare_case : {c : Node} → IsCase c → Node
-  bare_case (case_of at at' e ss) = bare kind.SwitchCase (bare_expression e ∷ list_node (bare_statements ss) ∷ [])
+  bare_case (case_of at at' e ss) = bare kind.SwitchCase (bare (expression_kind e) (expression_parts e) ∷ list_node (bare_statements ss) ∷ [])
   bare_case (default_of at at' a ss) = bare kind.SwitchCase (absent ∷ list_node (bare_statements ss) ∷ [])
 
   pub bare_cases : {cs : List Node} → AreCases cs → List Node
@@ -277,3 +273,6 @@ abbrev mutual
   pub bare_statements : {ss : List Node} → AreStatements ss → List Node
   bare_statements no_statements = []
   bare_statements (more_statements s ss) = bare_statement s ∷ bare_statements ss
+
+abbrev pub bare_expression : {level : Level} {e : Node} → IsExpression level e → Node
+bare_expression e = bare (expression_kind e) (expression_parts e)

@@ -32,12 +32,12 @@ may_hold_by kind.SeqExpr bs = any_of bs
 may_hold_by (kind.YieldExpr delegate) bs = any_of bs
 may_hold_by (kind.ArrowExpr is_async is_generator) bs = any_of bs
 may_hold_by (kind.VarDecl k declare) bs = true
-may_hold_by (kind.VarDeclarator definite) bs = true
+may_hold_by (kind.VarDeclarator definite) bs = any_of bs
 may_hold_by k bs = false
 
 abbrev pub may_hold_step : Node-F Bool → Bool
 may_hold_step parts = may_hold_by parts.kind parts.children
 
--- whether an `in` may stand in an expression as an operator outside of parentheses and brackets
+-- whether an `in` may stand in an expression, or in the value of a declarator, as an operator outside of parentheses and brackets
 abbrev pub may_hold_in : Node → Bool
 may_hold_in = fold-Node Bool may_hold_step

@@ -1,5 +1,5 @@
 -- The trees of expressions and statements, a constructor for each form. Parentheses are parts of these trees: none have to be added.
-use Rattle.std.specs.Prelude.{◌≡◌, ℕ, ◌-◌, true, false, List, [], ◌∷◌, length, Some, ◌++◌, codes, Bool, ◌+◌, ◌||◌, ◌&&◌, not, is_some, None, bytes_eq}
+use Rattle.std.specs.Prelude.{map, ◌≡◌, ℕ, ◌-◌, true, false, List, [], ◌∷◌, length, Some, ◌++◌, codes, Bool, ◌+◌, ◌||◌, ◌&&◌, not, is_some, None}
 use Rattle.ecma_number.specs.Numeral.{numeral_of}
 use Rattle.ecma_lex.specs.Text.{piece}
 use Rattle.ecma_lex.specs.Keys.{is_reserved, key_end, priv_name_end}
@@ -23,8 +23,10 @@ use Rattle.ecma_kind.specs.declared.kind.Kind.TheVariants as kind
 use Rattle.ecma_tree.specs.declared.node.Node.{Node}
 use Rattle.ecma_tree.specs.Nodes.{node_of}
 use Rattle.ecma_grammar.specs.Reads.{without_separators}
+use Rattle.ecma_grammar.specs.trees.Parts.{kind_of}
+use Rattle.ecma_grammar.specs.trees.Classes.{is_constructor_key}
 use Rattle.ecma_tokens.specs.Good.{IsToken, IsTextPart}
-use Rattle.ecma_reread.specs.Heads.{may_hold_in}
+use Rattle.ecma_reread.specs.Heads.{any_of, may_hold_in}
 use Rattle.ecma_reread.specs.Braces.{starts_with_brace}
 
 -- a name that is no reserved word
@@ -153,6 +155,39 @@ pub data IsCoalesceHead : Level → Type 0 where
 -- what the brackets or braces round a list stand for: a value, or a pattern that declares names
 pub data Role : Type 0 where
   values bindings : Role
+
+-- `constructor`, as a name or a text
+abbrev pub names_constructor : Node → Bool
+names_constructor n = is_constructor_key (kind_of n)
+
+abbrev pub static_modifiers : Bool → MemberModifiers
+static_modifiers is_static = record { accessibility = None; is_static = is_static; is_abstract = false; is_optional = false; is_override = false }
+
+abbrev pub method_kind : Bool → MethodKind → Bool → Kind
+method_kind true k is_static = kind.PrivateMethod k (static_modifiers is_static)
+method_kind false k is_static = kind.ClassMethod k (static_modifiers is_static)
+
+abbrev pub field_kind : Bool → Bool → Kind
+field_kind true is_static = kind.PrivateProp (static_modifiers is_static) false false false
+field_kind false is_static = kind.ClassProp (static_modifiers is_static) false false false
+
+abbrev pub accessor_kind : Bool → MethodKind
+accessor_kind true = Setter
+accessor_kind false = Getter
+
+-- the name of a function, or a class, that may have none
+pub data IsFunctionName : Node → Type 0 where
+  unnamed : {none : Node} → IsAbsent none → IsFunctionName none
+  function_name : {id : Node} → IsIdent id → IsFunctionName id
+
+-- patterns as the parameters of a function
+pub data AreParams : List Node → List Node → Type 0 where
+  no_params : AreParams [] []
+  more_params : (at : Span) {p : Node} {ps ns : List Node} → AreParams ps ns → AreParams (p ∷ ps) (node_of at kind.Param (p ∷ []) ∷ ns)
+
+-- whether a statement ends with an `if` without `else`: that would take an `else` behind it as its own
+pub data Ending : Type 0 where
+  closed dangling : Ending
 
 mutual
   -- at a level: its own, or a looser one
@@ -285,88 +320,40 @@ mutual
     no_expressions : AreExpressions []
     more_expressions : {e : Node} {es : List Node} → IsExpression assignment e → AreExpressions es → AreExpressions (e ∷ es)
 
-pub data IsDeclarator : Node → Type 0 where
-  declarator : (at : Span) {p init : Node} → IsPattern p → IsInitializer init → IsDeclarator (node_of at (kind.VarDeclarator false) (p ∷ init ∷ []))
+  pub data IsDeclarator : Node → Type 0 where
+    declarator : (at : Span) {p init : Node} → IsPattern p → IsInitializer init → IsDeclarator (node_of at (kind.VarDeclarator false) (p ∷ init ∷ []))
 
-pub data AreDeclarators : List Node → Type 0 where
-  no_declarators : AreDeclarators []
-  more_declarators : {d : Node} {ds : List Node} → IsDeclarator d → AreDeclarators ds → AreDeclarators (d ∷ ds)
+  pub data AreDeclarators : List Node → Type 0 where
+    no_declarators : AreDeclarators []
+    more_declarators : {d : Node} {ds : List Node} → IsDeclarator d → AreDeclarators ds → AreDeclarators (d ∷ ds)
 
--- what may be left out
-pub data IsOptional : Node → Type 0 where
-  left_out : {none : Node} → IsAbsent none → IsOptional none
-  given : {level : Level} {e : Node} → IsExpression level e → IsOptional e
+  -- what may be left out
+  pub data IsOptional : Node → Type 0 where
+    left_out : {none : Node} → IsAbsent none → IsOptional none
+    given : {level : Level} {e : Node} → IsExpression level e → IsOptional e
 
--- what each turn of a loop declares, or assigns to
-pub data IsForLeft : Node → Type 0 where
-  for_binding : (at of_list at_declarator : Span) (k : VarDeclKind) {p init : Node} → IsPattern p → IsAbsent init
-      → IsForLeft (node_of at (kind.VarDecl k false) (node_of of_list kind.List (node_of at_declarator (kind.VarDeclarator false) (p ∷ init ∷ []) ∷ []) ∷ []))
-  for_target : {e : Node} → IsExpression callee e → may_hold_in e ≡ false → IsForLeft e
+  -- what each turn of a loop declares, or assigns to
+  pub data IsForLeft : Node → Type 0 where
+    for_binding : (at of_list at_declarator : Span) (k : VarDeclKind) {p init : Node} → IsPattern p → IsAbsent init
+        → IsForLeft (node_of at (kind.VarDecl k false) (node_of of_list kind.List (node_of at_declarator (kind.VarDeclarator false) (p ∷ init ∷ []) ∷ []) ∷ []))
+    for_target : {e : Node} → IsExpression callee e → may_hold_in e ≡ false → IsForLeft e
 
--- a declarator in the first part of the head of a loop, where `in` is no operator
-pub data IsForDeclarator : Node → Type 0 where
-  for_declarator : (at : Span) {p init : Node} → IsPattern p → IsInitializer init → may_hold_in init ≡ false → IsForDeclarator (node_of at (kind.VarDeclarator false) (p ∷ init ∷ []))
+  -- what stands before the first `;` of a head
+  pub data IsForInit : Node → Type 0 where
+    no_init : {none : Node} → IsAbsent none → IsForInit none
+    init_declaration : (at of_list : Span) (k : VarDeclKind) {d : Node} {ds : List Node} → IsDeclarator d → AreDeclarators ds → any_of (map may_hold_in (d ∷ ds)) ≡ false → IsForInit (node_of at (kind.VarDecl k false) (node_of of_list kind.List (d ∷ ds) ∷ []))
+    init_expression : {level : Level} {e : Node} → IsExpression level e → may_hold_in e ≡ false → IsForInit e
 
-pub data AreForDeclarators : List Node → Type 0 where
-  no_for_declarators : AreForDeclarators []
-  more_for_declarators : {d : Node} {ds : List Node} → IsForDeclarator d → AreForDeclarators ds → AreForDeclarators (d ∷ ds)
+  -- what a class extends
+  pub data IsHeritage : Node → Type 0 where
+    no_heritage : {none : Node} → IsAbsent none → IsHeritage none
+    heritage : {e : Node} → IsExpression left_hand_side e → IsHeritage e
 
--- what stands before the first `;` of a head
-pub data IsForInit : Node → Type 0 where
-  no_init : {none : Node} → IsAbsent none → IsForInit none
-  init_declaration : (at of_list : Span) (k : VarDeclKind) {d : Node} {ds : List Node} → IsForDeclarator d → AreForDeclarators ds → IsForInit (node_of at (kind.VarDecl k false) (node_of of_list kind.List (d ∷ ds) ∷ []))
-  init_expression : {level : Level} {e : Node} → IsExpression level e → may_hold_in e ≡ false → IsForInit e
+  -- a name of a member of a class, which may be private
+  pub data IsMemberName : Bool → Node → Type 0 where
+    property_member : {n : Node} → IsPropertyName n → IsMemberName false n
+    private_member : (at : Span) (name : List ℕ) → IsToken priv_name_end (codes "#" ++ name) → IsMemberName true (node_of at (kind.PrivateName name) [])
 
--- what a class extends
-pub data IsHeritage : Node → Type 0 where
-  no_heritage : {none : Node} → IsAbsent none → IsHeritage none
-  heritage : {e : Node} → IsExpression left_hand_side e → IsHeritage e
-
--- what names a member of a class: a property name, or a private name (ClassElementName)
-pub data IsMemberName : Node → Type 0 where
-  property_member : {n : Node} → IsPropertyName n → IsMemberName n
-  private_member : (at : Span) (name : List ℕ) → IsToken priv_name_end (codes "#" ++ name) → IsMemberName (node_of at (kind.PrivateName name) [])
-
--- `constructor`, as a name or a text
-abbrev pub names_constructor : {n : Node} → IsMemberName n → Bool
-names_constructor (property_member (key_name (key at word t))) = bytes_eq word (codes "constructor")
-names_constructor (property_member (string_name at raw t)) = bytes_eq (str_value (piece raw 1 (length raw - 1))) (codes "constructor")
-names_constructor is = false
-
-abbrev pub is_private : {n : Node} → IsMemberName n → Bool
-is_private (property_member k) = false
-is_private (private_member at word t) = true
-
-abbrev pub static_modifiers : Bool → MemberModifiers
-static_modifiers is_static = record { accessibility = None; is_static = is_static; is_abstract = false; is_optional = false; is_override = false }
-
-abbrev pub method_kind : Bool → MethodKind → Bool → Kind
-method_kind true k is_static = kind.PrivateMethod k (static_modifiers is_static)
-method_kind false k is_static = kind.ClassMethod k (static_modifiers is_static)
-
-abbrev pub field_kind : Bool → Bool → Kind
-field_kind true is_static = kind.PrivateProp (static_modifiers is_static) false false false
-field_kind false is_static = kind.ClassProp (static_modifiers is_static) false false false
-
-abbrev pub accessor_kind : Bool → MethodKind
-accessor_kind true = Setter
-accessor_kind false = Getter
-
--- the name of a function, or a class, that may have none
-pub data IsFunctionName : Node → Type 0 where
-  unnamed : {none : Node} → IsAbsent none → IsFunctionName none
-  function_name : {id : Node} → IsIdent id → IsFunctionName id
-
--- patterns as the parameters of a function
-pub data AreParams : List Node → List Node → Type 0 where
-  no_params : AreParams [] []
-  more_params : (at : Span) {p : Node} {ps ns : List Node} → AreParams ps ns → AreParams (p ∷ ps) (node_of at kind.Param (p ∷ []) ∷ ns)
-
--- whether a statement ends with an `if` without `else`: that would take an `else` behind it as its own
-pub data Ending : Type 0 where
-  closed dangling : Ending
-
-mutual
   pub data IsStatement : Ending → Node → Type 0 where
     expression : (at : Span) {level : Level} {e : Node} → IsExpression level e → starts_with_brace e ≡ false → IsStatement closed (node_of at kind.ExprStmt (e ∷ []))
     declaration : (at of_list : Span) (k : VarDeclKind) {d : Node} {ds : List Node} → IsDeclarator d → AreDeclarators ds → IsStatement closed (node_of at (kind.VarDecl k false) (node_of of_list kind.List (d ∷ ds) ∷ []))
@@ -407,14 +394,14 @@ mutual
     empty_member : (at : Span) → IsMember (node_of at kind.EmptyStmt [])
     static_block : (at : Span) {b : Node} → IsBlock b → IsMember (node_of at kind.StaticBlock (b ∷ []))
     -- the constructor is none, unless it is static
-    method : (at : Span) (is_static : Bool) {key function : Node} (is : IsMemberName key) → IsFunction function → (not is_static && names_constructor is) ≡ false
-        → IsMember (node_of at (method_kind (is_private is) Method is_static) (key ∷ function ∷ []))
-    class_constructor : (at of_params : Span) {key : Node} {elements params : List Node} {body : Node} → (is : IsPropertyName key) → names_constructor (property_member is) ≡ true → IsArguments bindings (node_of of_params kind.List elements) → AreParams elements params → IsBlock body
+    method : (at : Span) (is_static : Bool) {private : Bool} {key function : Node} → IsMemberName private key → IsFunction function → (not is_static && names_constructor key) ≡ false
+        → IsMember (node_of at (method_kind private Method is_static) (key ∷ function ∷ []))
+    class_constructor : (at of_params : Span) {key : Node} {elements params : List Node} {body : Node} → IsPropertyName key → names_constructor key ≡ true → IsArguments bindings (node_of of_params kind.List elements) → AreParams elements params → IsBlock body
         → IsMember (node_of at (kind.Constructor None false) (key ∷ node_of of_params kind.List params ∷ body ∷ []))
-    field : (at : Span) (is_static : Bool) {key value none : Node} (is : IsMemberName key) → IsInitializer value → IsAbsent none → IsMember (node_of at (field_kind (is_private is) is_static) (key ∷ value ∷ none ∷ []))
+    field : (at : Span) (is_static : Bool) {private : Bool} {key value none : Node} → IsMemberName private key → IsInitializer value → IsAbsent none → IsMember (node_of at (field_kind private is_static) (key ∷ value ∷ none ∷ []))
     -- a getter or a setter
-    accessor : (at at_function of_params : Span) (is_static is_setter : Bool) {key body none none' : Node} {elements params : List Node} (is : IsMemberName key) → IsArguments bindings (node_of of_params kind.List elements) → AreParams elements params → IsBlock body → IsAbsent none → IsAbsent none'
-        → IsMember (node_of at (method_kind (is_private is) (accessor_kind is_setter) is_static) (key ∷ node_of at_function (kind.Function false false) (node_of of_params kind.List params ∷ body ∷ none ∷ none' ∷ []) ∷ []))
+    accessor : (at at_function of_params : Span) (is_static is_setter : Bool) {private : Bool} {key body none none' : Node} {elements params : List Node} → IsMemberName private key → IsArguments bindings (node_of of_params kind.List elements) → AreParams elements params → IsBlock body → IsAbsent none → IsAbsent none'
+        → IsMember (node_of at (method_kind private (accessor_kind is_setter) is_static) (key ∷ node_of at_function (kind.Function false false) (node_of of_params kind.List params ∷ body ∷ none ∷ none' ∷ []) ∷ []))
 
   pub data AreMembers : List Node → Type 0 where
     no_members : AreMembers []
@@ -443,3 +430,6 @@ mutual
   pub data AreStatements : List Node → Type 0 where
     no_statements : AreStatements []
     more_statements : {ending : Ending} {s : Node} {ss : List Node} → IsStatement ending s → AreStatements ss → AreStatements (s ∷ ss)
+
+abbrev pub is_private : {private : Bool} {n : Node} → IsMemberName private n → Bool
+is_private {private} k = private

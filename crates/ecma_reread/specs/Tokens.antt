@@ -17,7 +17,7 @@ use Rattle.ecma_print.specs.Operators.{unary_sign, update_sign}
 use Rattle.ecma_print.specs.Statements.{keyword}
 use Rattle.ecma_tokens.specs.Items as items
 use Rattle.ecma_tokens.specs.Items.{Tok, sign, Gap, no_gap, Items, it}
-use Rattle.ecma_reread.specs.Shapes.{IsIdent, ident, IsKey, key, Level, IsExpression, looser, element, prefix_update, postfix_update, await_expression, unary_expression, binary_expression, exponentiation, both, either, coalesced, assignment_expression, conditional_expression, sequence_expression, name, string, number, this_word, big_int, null_word, true_word, false_word, member, call, parenthesized, IsElement, one, spread, IsArguments, no_arguments, arguments, AreElements, no_elements, more_elements, AreExpressions, no_expressions, more_expressions, IsInitializer, no_initializer, initializer, IsDeclarator, declarator, AreDeclarators, no_declarators, more_declarators, IsStatement, expression, declaration, empty, debugger_word, throw, return_value, return_nothing, break_nothing, continue_nothing, Ending, break_label, continue_label, block, if_only, if_else, while_loop, do_loop, labeled, IsBlock, block_of, AreStatements, no_statements, more_statements, array, AreSlots, no_slots, filled, hole, switch_statement, IsCase, case_of, default_of, AreCases, no_cases, more_cases, new_expression, new_alone, new_target, try_catch, try_finally, try_catch_finally, IsCatch, catch_any, IsChainKey, plain_key, private_key, super_member, super_element, super_call, IsOptional, left_out, given, IsForLeft, for_binding, for_target, for_loop, for_in, for_of, object_literal, IsPropertyName, key_name, string_name, number_name, big_int_name, computed_name, IsProperty, key_value, shorthand, initialized, spread_property, AreProperties, no_properties, more_properties, private_in, yield_nothing, yield_value, import_meta, import_call, regex, regex_text, Role, bound, rest, renamed, named, rest_property, IsPattern, name_pattern, array_pattern, object_pattern, IsDefaulted, no_default, with_default, IsForDeclarator, for_declarator, AreForDeclarators, no_for_declarators, more_for_declarators, IsForInit, no_init, init_declaration, init_expression, part_text, IsPart, part, AreParts, last_part, more_parts, template, tagged_template, arrow_function, catch_pattern, chain_member, chain_element, chain_call, function_statement, IsFunction, function_of, IsFunctionName, unnamed, function_name, IsHeritage, no_heritage, heritage, class_statement, IsClass, class_of, IsMember, empty_member, static_block, AreMembers, no_members, more_members, IsMemberName, property_member, private_member, method, class_constructor, field, accessor}
+use Rattle.ecma_reread.specs.Shapes.{IsIdent, ident, IsKey, key, Level, IsExpression, looser, element, prefix_update, postfix_update, await_expression, unary_expression, binary_expression, exponentiation, both, either, coalesced, assignment_expression, conditional_expression, sequence_expression, name, string, number, this_word, big_int, null_word, true_word, false_word, member, call, parenthesized, IsElement, one, spread, IsArguments, no_arguments, arguments, AreElements, no_elements, more_elements, AreExpressions, no_expressions, more_expressions, IsInitializer, no_initializer, initializer, IsDeclarator, declarator, AreDeclarators, no_declarators, more_declarators, IsStatement, expression, declaration, empty, debugger_word, throw, return_value, return_nothing, break_nothing, continue_nothing, Ending, break_label, continue_label, block, if_only, if_else, while_loop, do_loop, labeled, IsBlock, block_of, AreStatements, no_statements, more_statements, array, AreSlots, no_slots, filled, hole, switch_statement, IsCase, case_of, default_of, AreCases, no_cases, more_cases, new_expression, new_alone, new_target, try_catch, try_finally, try_catch_finally, IsCatch, catch_any, IsChainKey, plain_key, private_key, super_member, super_element, super_call, IsOptional, left_out, given, IsForLeft, for_binding, for_target, for_loop, for_in, for_of, object_literal, IsPropertyName, key_name, string_name, number_name, big_int_name, computed_name, IsProperty, key_value, shorthand, initialized, spread_property, AreProperties, no_properties, more_properties, private_in, yield_nothing, yield_value, import_meta, import_call, regex, regex_text, Role, bound, rest, renamed, named, rest_property, IsPattern, name_pattern, array_pattern, object_pattern, IsDefaulted, no_default, with_default, IsForInit, no_init, init_declaration, init_expression, part_text, IsPart, part, AreParts, last_part, more_parts, template, tagged_template, arrow_function, catch_pattern, chain_member, chain_element, chain_call, function_statement, IsFunction, function_of, IsFunctionName, unnamed, function_name, IsHeritage, no_heritage, heritage, class_statement, IsClass, class_of, IsMember, empty_member, static_block, AreMembers, no_members, more_members, IsMemberName, property_member, private_member, method, class_constructor, field, accessor}
 
 abbrev pub blank : Gap
 blank = record { blanks = codes " "; new_line = false }
@@ -153,7 +153,65 @@ unary_gap Void b = blank
 unary_gap Delete b = blank
 unary_gap o b = no_gap
 
--- an expression on a line that stands so many levels further in
+-- `for (`, and `await` between
+abbrev pub for_tokens : Bool → Gap → Items → Items
+for_tokens true g us = it g (items.key (codes "for")) (it blank (items.key (codes "await")) (it blank (sign (codes "(")) us))
+for_tokens false g us = it g (items.key (codes "for")) (it blank (sign (codes "(")) us)
+
+-- what stands before `}`
+abbrev pub closing_gap : List Node → ℕ → Gap
+closing_gap [] depth = no_gap
+closing_gap (x ∷ xs) depth = line_at depth
+
+abbrev pub is_braced : {ending : Ending} {s : Node} → IsStatement ending s → Bool
+is_braced (block b) = true
+is_braced s = false
+
+-- what stands before `else`, and before the `while` of `do`: it stands on the line of `}`
+abbrev pub branch_gap : Bool → ℕ → Gap
+branch_gap true depth = blank
+branch_gap false depth = line_at depth
+
+-- what stands before the name of a function: whether it is a generator, and asynchronous
+abbrev pub star_word : Bool → Gap → Items → Items
+star_word true g us = it g (items.key (codes "function")) (sign_of (codes "*") us)
+star_word false g us = it g (items.key (codes "function")) us
+
+abbrev pub function_word : Bool → Bool → Gap → Items → Items
+function_word is_generator true g us = it g (items.key (codes "async")) (star_word is_generator blank us)
+function_word is_generator false g us = star_word is_generator g us
+
+-- the name of a method and what follows, with what stands before it: whether it is a generator, and asynchronous
+abbrev pub method_tokens : Bool → Bool → (Gap → Items) → Gap → Items
+method_tokens true true f g = it g (items.key (codes "async")) (it blank (sign (codes "*")) (f no_gap))
+method_tokens true false f g = it g (sign (codes "*")) (f no_gap)
+method_tokens false true f g = it g (items.key (codes "async")) (f blank)
+method_tokens false false f g = f g
+
+-- with `static` before it, or without
+abbrev pub static_tokens : Bool → (Gap → Items) → Gap → Items
+static_tokens true f g = it g (items.key (codes "static")) (f blank)
+static_tokens false f g = f g
+
+abbrev pub accessor_text : Bool → List ℕ
+accessor_text true = codes "set"
+accessor_text false = codes "get"
+
+abbrev pub function_name_tokens : {n : Node} → IsFunctionName n → Items → Items
+function_name_tokens (unnamed a) us = us
+function_name_tokens (function_name i) us = it blank (items.key (ident_word i)) us
+
+abbrev pub is_generator : {n : Node} → IsFunction n → Bool
+is_generator (function_of at at' x y ps w b a a') = x
+
+abbrev pub is_async : {n : Node} → IsFunction n → Bool
+is_async (function_of at at' x y ps w b a a') = y
+
+-- `(`, a test, `)`
+abbrev pub enclosed : (Gap → Items → Items) → Items → Items
+enclosed f us = it blank (sign (codes "(")) (f no_gap (sign_of (codes ")") us))
+
+-- an expression or a statement on a line that stands so many levels further in
 abbrev mutual
   pub expression_tokens : {level : Level} {e : Node} → IsExpression level e → ℕ → Gap → Items → Items
   expression_tokens (name i) depth g us = it g (items.key (ident_word i)) us
@@ -277,101 +335,34 @@ abbrev mutual
   more_tokens no_expressions depth us = us
   more_tokens (more_expressions e es) depth us = sign_of (codes ",") (expression_tokens e depth blank (more_tokens es depth us))
 
-abbrev pub declarator_tokens : {n : Node} → IsDeclarator n → ℕ → Items → Items
-declarator_tokens (declarator at p e) depth us = pattern_tokens p depth blank (initializer_tokens e depth us)
+  pub declarator_tokens : {n : Node} → IsDeclarator n → ℕ → Items → Items
+  declarator_tokens (declarator at p e) depth us = pattern_tokens p depth blank (initializer_tokens e depth us)
 
-abbrev pub declarators_tokens : {ds : List Node} → AreDeclarators ds → ℕ → Items → Items
-declarators_tokens no_declarators depth us = us
-declarators_tokens (more_declarators d ds) depth us = sign_of (codes ",") (declarator_tokens d depth (declarators_tokens ds depth us))
+  pub declarators_tokens : {ds : List Node} → AreDeclarators ds → ℕ → Items → Items
+  declarators_tokens no_declarators depth us = us
+  declarators_tokens (more_declarators d ds) depth us = sign_of (codes ",") (declarator_tokens d depth (declarators_tokens ds depth us))
 
-abbrev pub optional_tokens : {n : Node} → IsOptional n → ℕ → Items → Items
-optional_tokens (left_out a) depth us = us
-optional_tokens (given e) depth us = expression_tokens e depth blank us
+  pub optional_tokens : {n : Node} → IsOptional n → ℕ → Items → Items
+  optional_tokens (left_out a) depth us = us
+  optional_tokens (given e) depth us = expression_tokens e depth blank us
 
-abbrev pub for_left_tokens : {n : Node} → IsForLeft n → ℕ → Items → Items
-for_left_tokens (for_binding at of_list at_declarator k p a) depth us = it no_gap (items.key (keyword k)) (pattern_tokens p depth blank us)
-for_left_tokens (for_target e z) depth us = expression_tokens e depth no_gap us
+  pub for_left_tokens : {n : Node} → IsForLeft n → ℕ → Items → Items
+  for_left_tokens (for_binding at of_list at_declarator k p a) depth us = it no_gap (items.key (keyword k)) (pattern_tokens p depth blank us)
+  for_left_tokens (for_target e z) depth us = expression_tokens e depth no_gap us
 
-abbrev pub as_declarator : {d : Node} → IsForDeclarator d → IsDeclarator d
-as_declarator (for_declarator at p e z) = declarator at p e
+  pub for_init_tokens : {n : Node} → IsForInit n → ℕ → Items → Items
+  for_init_tokens (no_init a) depth us = us
+  for_init_tokens (init_declaration at of_list k d ds z) depth us = it no_gap (items.key (keyword k)) (declarator_tokens d depth (declarators_tokens ds depth us))
+  for_init_tokens (init_expression e z) depth us = expression_tokens e depth no_gap us
 
-abbrev pub as_declarators : {ds : List Node} → AreForDeclarators ds → AreDeclarators ds
-as_declarators no_for_declarators = no_declarators
-as_declarators (more_for_declarators d ds) = more_declarators (as_declarator d) (as_declarators ds)
+  pub member_name_tokens : {private : Bool} {n : Node} → IsMemberName private n → ℕ → Gap → Items → Items
+  member_name_tokens (property_member k) depth g us = property_name_tokens k depth g us
+  member_name_tokens (private_member at w t) depth g us = it g (items.private_name (codes "#" ++ w)) us
 
-abbrev pub for_init_tokens : {n : Node} → IsForInit n → ℕ → Items → Items
-for_init_tokens (no_init a) depth us = us
-for_init_tokens (init_declaration at of_list k d ds) depth us = it no_gap (items.key (keyword k)) (declarator_tokens (as_declarator d) depth (declarators_tokens (as_declarators ds) depth us))
-for_init_tokens (init_expression e z) depth us = expression_tokens e depth no_gap us
+  pub heritage_tokens : {n : Node} → IsHeritage n → ℕ → Items → Items
+  heritage_tokens (no_heritage a) depth us = us
+  heritage_tokens (heritage e) depth us = it blank (items.key (codes "extends")) (expression_tokens e depth blank us)
 
--- `for (`, and `await` between
-abbrev pub for_tokens : Bool → Gap → Items → Items
-for_tokens true g us = it g (items.key (codes "for")) (it blank (items.key (codes "await")) (it blank (sign (codes "(")) us))
-for_tokens false g us = it g (items.key (codes "for")) (it blank (sign (codes "(")) us)
-
--- what stands before `}`
-abbrev pub closing_gap : List Node → ℕ → Gap
-closing_gap [] depth = no_gap
-closing_gap (x ∷ xs) depth = line_at depth
-
-abbrev pub is_braced : {ending : Ending} {s : Node} → IsStatement ending s → Bool
-is_braced (block b) = true
-is_braced s = false
-
--- what stands before `else`, and before the `while` of `do`: it stands on the line of `}`
-abbrev pub branch_gap : Bool → ℕ → Gap
-branch_gap true depth = blank
-branch_gap false depth = line_at depth
-
--- `(`, a test, `)`
-abbrev pub test_tokens : {level : Level} {e : Node} → IsExpression level e → ℕ → Items → Items
-test_tokens e depth us = it blank (sign (codes "(")) (expression_tokens e depth no_gap (sign_of (codes ")") us))
-
--- what stands before the name of a function: whether it is a generator, and asynchronous
-abbrev pub star_word : Bool → Gap → Items → Items
-star_word true g us = it g (items.key (codes "function")) (sign_of (codes "*") us)
-star_word false g us = it g (items.key (codes "function")) us
-
-abbrev pub function_word : Bool → Bool → Gap → Items → Items
-function_word is_generator true g us = it g (items.key (codes "async")) (star_word is_generator blank us)
-function_word is_generator false g us = star_word is_generator g us
-
-abbrev pub member_name_tokens : {n : Node} → IsMemberName n → ℕ → Gap → Items → Items
-member_name_tokens (property_member k) depth g us = property_name_tokens k depth g us
-member_name_tokens (private_member at w t) depth g us = it g (items.private_name (codes "#" ++ w)) us
-
--- the name of a method and what follows, with what stands before it: whether it is a generator, and asynchronous
-abbrev pub method_tokens : Bool → Bool → (Gap → Items) → Gap → Items
-method_tokens true true f g = it g (items.key (codes "async")) (it blank (sign (codes "*")) (f no_gap))
-method_tokens true false f g = it g (sign (codes "*")) (f no_gap)
-method_tokens false true f g = it g (items.key (codes "async")) (f blank)
-method_tokens false false f g = f g
-
--- with `static` before it, or without
-abbrev pub static_tokens : Bool → (Gap → Items) → Gap → Items
-static_tokens true f g = it g (items.key (codes "static")) (f blank)
-static_tokens false f g = f g
-
-abbrev pub accessor_text : Bool → List ℕ
-accessor_text true = codes "set"
-accessor_text false = codes "get"
-
-abbrev pub heritage_tokens : {n : Node} → IsHeritage n → ℕ → Items → Items
-heritage_tokens (no_heritage a) depth us = us
-heritage_tokens (heritage e) depth us = it blank (items.key (codes "extends")) (expression_tokens e depth blank us)
-
-abbrev pub function_name_tokens : {n : Node} → IsFunctionName n → Items → Items
-function_name_tokens (unnamed a) us = us
-function_name_tokens (function_name i) us = it blank (items.key (ident_word i)) us
-
-abbrev pub is_generator : {n : Node} → IsFunction n → Bool
-is_generator (function_of at at' x y ps w b a a') = x
-
-abbrev pub is_async : {n : Node} → IsFunction n → Bool
-is_async (function_of at at' x y ps w b a a') = y
-
--- a statement so many levels further in
-abbrev mutual
   pub statement_tokens : {ending : Ending} {s : Node} → IsStatement ending s → ℕ → Gap → Items → Items
   statement_tokens (empty at) d g us = it g (sign (codes ";")) us
   statement_tokens (debugger_word at) d g us = it g (items.key (codes "debugger")) (sign_of (codes ";") us)
@@ -385,11 +376,11 @@ abbrev mutual
   statement_tokens (break_label at i) d g us = it g (items.key (codes "break")) (it blank (items.key (ident_word i)) (sign_of (codes ";") us))
   statement_tokens (continue_label at i) d g us = it g (items.key (codes "continue")) (it blank (items.key (ident_word i)) (sign_of (codes ";") us))
   statement_tokens (block b) d g us = block_tokens b d g us
-  statement_tokens (if_only at e b a) d g us = it g (items.key (codes "if")) (test_tokens e d (statement_tokens b d blank us))
-  statement_tokens (if_else at e b a) d g us = it g (items.key (codes "if")) (test_tokens e d (statement_tokens b d blank (it (branch_gap (is_braced b) d) (items.key (codes "else")) (statement_tokens a d blank us))))
-  statement_tokens (while_loop at e b) d g us = it g (items.key (codes "while")) (test_tokens e d (statement_tokens b d blank us))
-  statement_tokens (do_loop at e b) d g us = it g (items.key (codes "do")) (statement_tokens b d blank (it (branch_gap (is_braced b) d) (items.key (codes "while")) (test_tokens e d (sign_of (codes ";") us))))
-  statement_tokens (switch_statement at at' {cs = cs'} e cs) d g us = it g (items.key (codes "switch")) (test_tokens e d (it blank (sign (codes "{")) (cases_tokens cs (suc d) (it (closing_gap cs' d) (sign (codes "}")) us))))
+  statement_tokens (if_only at e b a) d g us = it g (items.key (codes "if")) (enclosed (expression_tokens e d) (statement_tokens b d blank us))
+  statement_tokens (if_else at e b a) d g us = it g (items.key (codes "if")) (enclosed (expression_tokens e d) (statement_tokens b d blank (it (branch_gap (is_braced b) d) (items.key (codes "else")) (statement_tokens a d blank us))))
+  statement_tokens (while_loop at e b) d g us = it g (items.key (codes "while")) (enclosed (expression_tokens e d) (statement_tokens b d blank us))
+  statement_tokens (do_loop at e b) d g us = it g (items.key (codes "do")) (statement_tokens b d blank (it (branch_gap (is_braced b) d) (items.key (codes "while")) (enclosed (expression_tokens e d) (sign_of (codes ";") us))))
+  statement_tokens (switch_statement at at' {cs = cs'} e cs) d g us = it g (items.key (codes "switch")) (enclosed (expression_tokens e d) (it blank (sign (codes "{")) (cases_tokens cs (suc d) (it (closing_gap cs' d) (sign (codes "}")) us))))
   statement_tokens (try_catch at b c a) d g us = it g (items.key (codes "try")) (block_tokens b d blank (catch_tokens c d us))
   statement_tokens (try_finally at b a f) d g us = it g (items.key (codes "try")) (block_tokens b d blank (it blank (items.key (codes "finally")) (block_tokens f d blank us)))
   statement_tokens (try_catch_finally at b c f) d g us = it g (items.key (codes "try")) (block_tokens b d blank (catch_tokens c d (it blank (items.key (codes "finally")) (block_tokens f d blank us))))
@@ -437,3 +428,6 @@ abbrev mutual
   pub lined_tokens : {ss : List Node} → AreStatements ss → ℕ → Items → Items
   lined_tokens no_statements d us = us
   lined_tokens (more_statements s ss) d us = statement_tokens s d (line_at d) (lined_tokens ss d us)
+
+abbrev pub test_tokens : {level : Level} {e : Node} → IsExpression level e → ℕ → Items → Items
+test_tokens e depth us = enclosed (expression_tokens e depth) us
