@@ -1,0 +1,7 @@
+mod Telling
+mod Lists
+mod Expressions
+mod Functions
+mod Statements
+mod Modules
+pub mod Layouts
