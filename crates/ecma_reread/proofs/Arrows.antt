@@ -1,4 +1,4 @@
--- Arrow functions with expressions as their bodies are read as they are laid out.
+-- Arrow functions are read as they are laid out.
 use Rattle.std.proofs.Common.{ℕ, ◌≡◌, Bool, true, false, List, [], ◌∷◌, codes, nat_le, refl, ap, ◌∙◌, append-nil}
 use Rattle.ecma_kind.specs.declared.kind.Kind.{Kind}
 use Rattle.ecma_kind.specs.declared.kind.Kind.TheVariants as kind
@@ -42,6 +42,7 @@ use Rattle.ecma_reread.proofs.Async.{async_form}
 use Rattle.ecma_reread.proofs.Lists.{Followed}
 use Rattle.ecma_reread.proofs.Spreads.{ElementForm}
 use Rattle.ecma_reread.proofs.Patterns.{param_read}
+use Rattle.ecma_reread.proofs.Blocks.{ReadAsBlock}
 
 no_param_there : refuses_all (exactly (sign (codes ")"))) param ≡ true
 unfolding param rest_pattern default_value pattern_body array_pattern object_pattern names.binding_ident
@@ -86,23 +87,29 @@ module _ (assigned : Bool) where
       let vs = elements_tokens es depth (s (codes ")") us) in
       rw (param_read assigned e depth F.0 no_gap vs (more_followed es depth us), repeated assigned (more param) vs (s (codes ")") us) (bare_elements es) (more_read es depth F.1 us), append-nil (bare_elements es)) refl
 
-  module _ {ps : Node} (is : IsArguments shapes.bindings ps) (depth : ℕ) (F : ArgumentForms is depth) {no_in : Bool} {f : Laid} {k : Kind} {ns : List Node} (S : StandsIn assigned no_in shapes.assignment f k ns) (no_block : (g : Gap) (us : Items) → Refuses assigned (punct (codes "{")) (f g us)) where
-    abbrev body : Items → Items
-    body us = it blank (sign (codes "=>")) (f blank us)
+  -- what stands behind the parameters
+  pub record ReadsBody (no_in : Bool) (body : Items → Items) (n : Node) : Type 0 where
+    pub reads : (us : Items) (e : Front) → Begins e us → closes_in no_in shapes.assignment e ≡ true → Reads assigned (arrow_body no_in) (body us) (n ∷ []) us
 
+  -- an expression
+  pub expression_body : {no_in : Bool} {f : Laid} {k : Kind} {ns : List Node} → StandsIn assigned no_in shapes.assignment f k ns → ((g : Gap) (us : Items) → Refuses assigned (punct (codes "{")) (f g us)) → ReadsBody no_in (λ us. it blank (sign (codes "=>")) (f blank us)) (bare k ns)
+  unfolding names.block
+  expression_body S no_block = record { reads = λ us e b z. rw (no_block blank us, no_block blank us, used assigned S blank us e b z) refl }
+
+  -- or a block
+  pub block_body : {no_in : Bool} {f : Laid} {n : Node} → ReadAsBlock assigned f n → ReadsBody no_in (λ us. it blank (sign (codes "=>")) (f blank us)) n
+  block_body B = record { reads = λ us e b z. rw (B.reads blank us) refl }
+
+  module _ {ps : Node} (is : IsArguments shapes.bindings ps) (depth : ℕ) (F : ArgumentForms is depth) {no_in : Bool} {body : Items → Items} {n : Node} (R : ReadsBody no_in body n) where
     abbrev pub tokens : Laid
     tokens g us = it g (sign (codes "(")) (arguments_tokens is depth (s (codes ")") (body us)))
 
     abbrev whole : Node
-    whole = bare (kind.ArrowExpr false false) (list_node (bare_arguments is) ∷ bare k ns ∷ absent ∷ absent ∷ [])
+    whole = bare (kind.ArrowExpr false false) (list_node (bare_arguments is) ∷ n ∷ absent ∷ absent ∷ [])
 
-    body_read : (us : Items) (e : Front) → Begins e us → closes_in no_in shapes.assignment e ≡ true → Reads assigned (arrow_body no_in) (body us) (bare k ns ∷ []) us
-    unfolding names.block
-    body_read us e b z = rw (no_block blank us, no_block blank us, used assigned S blank us e b z) refl
-
-    rest_read : (g : Gap) (us : Items) (e : Front) → Begins e us → closes_in no_in shapes.assignment e ≡ true → Reads assigned (arrow_rest no_in false) (tokens g us) (absent ∷ list_node (bare_arguments is) ∷ absent ∷ bare k ns ∷ []) us
+    rest_read : (g : Gap) (us : Items) (e : Front) → Begins e us → closes_in no_in shapes.assignment e ≡ true → Reads assigned (arrow_rest no_in false) (tokens g us) (absent ∷ list_node (bare_arguments is) ∷ absent ∷ n ∷ []) us
     unfolding arrow_rest names.binding_ident
-    rest_read g us e b z = rw (params_read is depth F (body us), body_read us e b z) refl
+    rest_read g us e b z = rw (params_read is depth F (body us), R.reads us e b z) refl
 
     pub arrow_read : (g : Gap) (us : Items) (e : Front) → Begins e us → closes_in no_in shapes.assignment e ≡ true → means assigned (part.Assign no_in false) (tokens g us) ≡ read (whole ∷ []) us
     unfolding arrow
@@ -111,24 +118,24 @@ module _ (assigned : Bool) where
         let ts = tokens g us in
         means_is assigned (part.Assign no_in false) ts
         ∙ (ap (or_on (I (behind_arrow no_in)) ts) (ap (built_on form.Arrow) (ap (with_front (absent ∷ [])) (rest_read g us e b z)))
-        ∙ ap (λ x. read (x ∷ []) us) (arrow_made (list_node (bare_arguments is)) (bare k ns)))
+        ∙ ap (λ x. read (x ∷ []) us) (arrow_made (list_node (bare_arguments is)) (n)))
 
     -- behind `async`
     pub async_arrow_read : (g : Gap) (us : Items) (e : Front) → Begins e us → closes_in no_in shapes.assignment e ≡ true
-        → means assigned (part.Assign no_in false) (it g (items.key (codes "async")) (tokens blank us)) ≡ read (bare (kind.ArrowExpr true false) (list_node (bare_arguments is) ∷ bare k ns ∷ absent ∷ absent ∷ []) ∷ []) us
+        → means assigned (part.Assign no_in false) (it g (items.key (codes "async")) (tokens blank us)) ≡ read (bare (kind.ArrowExpr true false) (list_node (bare_arguments is) ∷ n ∷ absent ∷ absent ∷ []) ∷ []) us
     unfolding arrow
     async_arrow_read g us e b z =
         let I = interp assigned (means assigned) in
         let ts = it g (items.key (codes "async")) (tokens blank us) in
         means_is assigned (part.Assign no_in false) ts
         ∙ (ap (or_on (I (behind_arrow no_in)) ts) (ap (or_on (I (build form.Arrow (put Absent ▸ arrow_rest no_in false))) ts) (ap (built_on form.Arrow) (ap (with_front []) (ap (with_front []) (ap (with_front (flag_node Present ∷ [])) (rest_read blank us e b z))))))
-        ∙ ap (λ x. read (x ∷ []) us) (async_made (list_node (bare_arguments is)) (bare k ns)))
+        ∙ ap (λ x. read (x ∷ []) us) (async_made (list_node (bare_arguments is)) (n)))
 
-  module _ {ps : Node} (is : IsArguments shapes.bindings ps) (depth : ℕ) (F : ArgumentForms is depth) {f : Laid} {k : Kind} {ns : List Node} (S : Stands assigned shapes.assignment f k ns) (no_block : (g : Gap) (us : Items) → Refuses assigned (punct (codes "{")) (f g us)) where
+  module _ {ps : Node} (is : IsArguments shapes.bindings ps) (depth : ℕ) (F : ArgumentForms is depth) {body : Items → Items} {n : Node} (R : ReadsBody false body n) where
     abbrev own : Laid
-    own = tokens is depth F S no_block
+    own = tokens is depth F R
 
-    pub arrow_form : Stands assigned shapes.assignment own (kind.ArrowExpr false false) (list_node (bare_arguments is) ∷ bare k ns ∷ absent ∷ absent ∷ [])
+    pub arrow_form : Stands assigned shapes.assignment own (kind.ArrowExpr false false) (list_node (bare_arguments is) ∷ n ∷ absent ∷ absent ∷ [])
     unfolding labeled param rest_pattern default_value pattern_body array_pattern object_pattern names.binding_ident statements.statement_body names.block statements.if_ statements.for_await statements.for_ statements.while_ statements.do_while statements.switch statements.try_ statements.jump declarations.declaration functions.function_declaration classes.class_declaration modules.module_item modules.import modules.import_equals modules.export modules.export_default
     arrow_form =
         let opening = exactly (sign (codes "(")) in
@@ -148,10 +155,10 @@ module _ (assigned : Bool) where
           no_or = tt;
           no_arrow = tt;
           param = λ g us e b z. no_param_at assigned opening (own g us) us at_token refl refl;
-          reading = arrow_read is depth F S no_block;
+          reading = arrow_read is depth F R;
         }
 
-    pub async_arrow_form : Stands assigned shapes.assignment (λ g us. it g (items.key (codes "async")) (own blank us)) (kind.ArrowExpr true false) (list_node (bare_arguments is) ∷ bare k ns ∷ absent ∷ absent ∷ [])
+    pub async_arrow_form : Stands assigned shapes.assignment (λ g us. it g (items.key (codes "async")) (own blank us)) (kind.ArrowExpr true false) (list_node (bare_arguments is) ∷ n ∷ absent ∷ absent ∷ [])
     async_arrow_form =
         let A = async_form assigned in
         let opening = exactly (sign (codes "(")) in
@@ -170,5 +177,5 @@ module _ (assigned : Bool) where
           no_or = tt;
           no_arrow = tt;
           param = λ g us e b z. linked_param assigned at_token refl refl (A.as_param g (own blank us) opening at_token refl);
-          reading = async_arrow_read is depth F S no_block;
+          reading = async_arrow_read is depth F R;
         }

@@ -17,7 +17,7 @@ use Rattle.ecma_print.specs.declared.place.Beside.TheVariants.{NoNeighbor}
 use Rattle.ecma_print.specs.Operators.{unary_sign, update_sign}
 use Rattle.ecma_reread.specs.Shapes as shapes
 use Rattle.ecma_reread.specs.Shapes.{Level, looser_than, IsOperator, IsIdent, ident, IsKey, key, IsExpression, IsElement, IsArguments, AreElements, AreExpressions, IsInitializer, IsDeclarator, AreDeclarators, AreSlots, IsMemberLevel, IsIndexed, IsChainKey, AreProperties, IsPropertyName, IsProperty, regex_text, IsDefaulted, IsPattern, Role, part_text, IsChainLink}
-use Rattle.ecma_reread.specs.Tokens.{blank, sign_of, assign_token, update_token, unary_token, binary_token, own_sign, unary_gap, ident_word, key_word, expression_tokens, element_tokens, arguments_tokens, more_tokens, slots_tokens, more_slots_tokens, chain_token, properties_tokens, more_properties_tokens, property_tokens, star_of, initializer_tokens, defaulted_tokens, pattern_tokens, part_token, parts_tokens, ends_here, first_raw, point_of, question_of}
+use Rattle.ecma_reread.specs.Tokens.{blank, sign_of, assign_token, update_token, unary_token, binary_token, own_sign, unary_gap, ident_word, key_word, expression_tokens, element_tokens, arguments_tokens, more_tokens, slots_tokens, more_slots_tokens, chain_token, properties_tokens, more_properties_tokens, property_tokens, star_of, initializer_tokens, defaulted_tokens, pattern_tokens, part_token, parts_tokens, ends_here, first_raw, point_of, question_of, block_tokens}
 use Rattle.ecma_reread.proofs.Braces.{begins_with_brace}
 use Rattle.ecma_reread.proofs.Softs.{Soft, comma, closing_bracket, parted}
 
@@ -95,6 +95,16 @@ begun (shapes.arrow_function at true ps e z a b) depth us =
     }
 begun (shapes.arrow_function at false ps e z a b) depth us =
     record { first = sign (codes "("); by = NoNeighbor; rest = arguments_tokens ps depth (sign_of (codes ")") (it blank (sign (codes "=>")) (expression_tokens e depth blank us))); opens = by_parenthesis; is = λ g. refl }
+begun (shapes.arrow_block at true ps b n n') depth us =
+    record {
+      first = items.key (codes "async");
+      by = NoNeighbor;
+      rest = it blank (sign (codes "(")) (arguments_tokens ps depth (sign_of (codes ")") (it blank (sign (codes "=>")) (block_tokens b depth blank us))));
+      opens = by_key (codes "async");
+      is = λ g. refl;
+    }
+begun (shapes.arrow_block at false ps b n n') depth us =
+    record { first = sign (codes "("); by = NoNeighbor; rest = arguments_tokens ps depth (sign_of (codes ")") (it blank (sign (codes "=>")) (block_tokens b depth blank us))); opens = by_parenthesis; is = λ g. refl }
 begun (shapes.array at at' es) depth us = record { first = sign (codes "["); by = NoNeighbor; rest = slots_tokens es depth us; opens = by_bracket; is = λ g. refl }
 begun (shapes.object_literal at at' ps) depth us = record { first = sign (codes "{"); by = NoNeighbor; rest = properties_tokens ps depth us; opens = by_brace; is = λ g. refl }
 begun (shapes.sequence_expression at x y es) depth us = begun x depth (sign_of (codes ",") (expression_tokens y depth blank (more_tokens es depth us)))
@@ -201,6 +211,8 @@ no_brace (shapes.sequence_expression at x y es) depth z g us = no_brace x depth 
 no_brace (shapes.object_literal at at' ps) depth z g us = absurd (false≢true (sym z))
 no_brace (shapes.arrow_function at true ps e q a b) depth z g us = refl
 no_brace (shapes.arrow_function at false ps e q a b) depth z g us = refl
+no_brace (shapes.arrow_block at true ps b n n') depth z g us = refl
+no_brace (shapes.arrow_block at false ps b n n') depth z g us = refl
 no_brace is depth z g us = refl
 
 pub blank_joins : (t : Tok) {level : Level} {e : Node} (is : IsExpression level e) (depth : ℕ) (us : Items) → joins_next t (expression_tokens is depth blank us) ≡ true
@@ -345,6 +357,7 @@ plain (shapes.assignment_expression at o t v) depth us h = absurd (false≢true 
 plain (shapes.conditional_expression at t x y) depth us h = absurd (false≢true h)
 plain (shapes.sequence_expression at x y es) depth us h = absurd (false≢true h)
 plain (shapes.arrow_function at w ps e z a b) depth us h = absurd (false≢true h)
+plain (shapes.arrow_block at w ps b n n') depth us h = absurd (false≢true h)
 plain is depth us h = refl
 
 pub signed : {level : Level} {e : Node} (is : IsExpression level e) (depth : ℕ) (us : Items) → is_operand level ≡ true → (let b = begun is depth us in b.by) ≡ own_sign is
@@ -367,6 +380,7 @@ signed (shapes.assignment_expression at o t v) depth us h = absurd (false≢true
 signed (shapes.conditional_expression at t x y) depth us h = absurd (false≢true h)
 signed (shapes.sequence_expression at x y es) depth us h = absurd (false≢true h)
 signed (shapes.arrow_function at w ps e z a b) depth us h = absurd (false≢true h)
+signed (shapes.arrow_block at w ps b n n') depth us h = absurd (false≢true h)
 signed is depth us h = refl
 
 -- a unary operator joins its operand

@@ -200,7 +200,7 @@ module _ (words : Words) where
           blank_is,
           words.default_whole,
           function_word_apart (is_generator f) (is_async f) blank blank_wide fs (items.key (codes "default")),
-          function_word_joined words (is_generator f) (is_async f) blank blank_is fs (function_opens f 0 us (items.key (codes "function")) refl) (function_opens f 0 us (sign (codes "*")) refl) (function_joined words f 0 us a j),
+          function_word_joined words (is_generator f) (is_async f) blank blank_is fs (function_opens f 0 us (items.key (codes "function")) refl) (function_opens f 0 us (sign (codes "*")) refl) (function_joined words f 0 us (a (sign (codes "}"))) j),
         ),
       )
   item_joined (modules.export_default_function at at' (shapes.function_name i) f) g h us a j =
@@ -212,13 +212,13 @@ module _ (words : Words) where
           blank_is,
           words.default_whole,
           function_word_apart (is_generator f) (is_async f) blank blank_wide fs (items.key (codes "default")),
-          function_word_joined words (is_generator f) (is_async f) blank blank_is fs refl refl (blank_is, ident_whole i, function_opens f 0 us (items.key (ident_word i)) refl, function_joined words f 0 us a j),
+          function_word_joined words (is_generator f) (is_async f) blank blank_is fs refl refl (blank_is, ident_whole i, function_opens f 0 us (items.key (ident_word i)) refl, function_joined words f 0 us (a (sign (codes "}"))) j),
         ),
       )
   item_joined (modules.export_default_class at at' (shapes.unnamed n) c) g h us a j =
-      (h, words.export_whole, refl, (blank_is, words.default_whole, refl, (blank_is, words.class_whole, class_apart c 0 us (items.key (codes "class")), class_joined words c 0 us a j)))
+      (h, words.export_whole, refl, (blank_is, words.default_whole, refl, (blank_is, words.class_whole, class_apart c 0 us (items.key (codes "class")), class_joined words c 0 us (a (sign (codes "}"))) j)))
   item_joined (modules.export_default_class at at' (shapes.function_name i) c) g h us a j =
-      (h, words.export_whole, refl, (blank_is, words.default_whole, refl, (blank_is, words.class_whole, refl, (blank_is, ident_whole i, class_apart c 0 us (items.key (ident_word i)), class_joined words c 0 us a j))))
+      (h, words.export_whole, refl, (blank_is, words.default_whole, refl, (blank_is, words.class_whole, refl, (blank_is, ident_whole i, class_apart c 0 us (items.key (ident_word i)), class_joined words c 0 us (a (sign (codes "}"))) j))))
   item_joined (modules.import_require z at of is_export i s) g h us a j =
       import_equals_joined is_export g h (items.key (ident_word i)) _
       (blank_is, ident_whole i, refl, (blank_is, refl, refl, (blank_is, words.require_whole, refl, (no_gap_is, refl, refl, (no_gap_is, string_whole s, refl, (no_gap_is, refl, refl, ended words us a j))))))

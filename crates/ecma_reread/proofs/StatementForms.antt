@@ -54,7 +54,7 @@ use Rattle.ecma_reread.proofs.Yields.{yield_alone, yield_form, alone_read, yield
 use Rattle.ecma_reread.proofs.ImportCalls.{meta_form, import_call_form}
 use Rattle.ecma_reread.proofs.Templates.{PartForms, template_form}
 use Rattle.ecma_reread.proofs.Patterns.{pattern_unplaced, name_pattern_read, no_default_read, default_read}
-use Rattle.ecma_reread.proofs.Arrows.{ElementForms, ArgumentForms, arrow_form, async_arrow_form, arrow_read, async_arrow_read}
+use Rattle.ecma_reread.proofs.Arrows.{ElementForms, ArgumentForms, arrow_form, async_arrow_form, arrow_read, async_arrow_read, expression_body, block_body}
 use Rattle.ecma_reread.specs.Heads.{any_of, may_hold_in}
 use Rattle.ecma_reread.proofs.HeadLayouts.{neither, may_hold_node, operands_hold, one_same}
 
@@ -102,8 +102,10 @@ module _ (assigned : Bool) where
     expression_form (shapes.yield_value at d e) depth = yield_form assigned (expression_form e depth) d (no_new_line e depth) (λ us. ap taken (no_star e depth blank us))
     expression_form (shapes.assignment_expression at o t v) depth = assignment_form assigned o (expression_form t depth) (expression_form v depth)
     expression_form (shapes.conditional_expression at t x y) depth = choice_form assigned (expression_form t depth) (expression_form x depth) (expression_form y depth)
-    expression_form (shapes.arrow_function at true ps e z a b) depth = async_arrow_form assigned ps depth (argument_forms ps depth) (expression_form e depth) (λ g us. ap taken (no_brace e depth (sym (braces_agree e) ∙ z) g us))
-    expression_form (shapes.arrow_function at false ps e z a b) depth = arrow_form assigned ps depth (argument_forms ps depth) (expression_form e depth) (λ g us. ap taken (no_brace e depth (sym (braces_agree e) ∙ z) g us))
+    expression_form (shapes.arrow_function at true ps e z a b) depth = async_arrow_form assigned ps depth (argument_forms ps depth) (expression_body assigned (expression_form e depth) (λ g us. ap taken (no_brace e depth (sym (braces_agree e) ∙ z) g us)))
+    expression_form (shapes.arrow_function at false ps e z a b) depth = arrow_form assigned ps depth (argument_forms ps depth) (expression_body assigned (expression_form e depth) (λ g us. ap taken (no_brace e depth (sym (braces_agree e) ∙ z) g us)))
+    expression_form (shapes.arrow_block at true ps b n n') depth = async_arrow_form assigned ps depth (argument_forms ps depth) (block_body assigned (block_form b depth))
+    expression_form (shapes.arrow_block at false ps b n n') depth = arrow_form assigned ps depth (argument_forms ps depth) (block_body assigned (block_form b depth))
     expression_form (shapes.array at at' es) depth = from_new assigned refl (array_new assigned es depth (slot_forms es depth))
     expression_form (shapes.object_literal at at' ps) depth = from_new assigned refl (object_new assigned ps depth (property_forms ps depth))
     expression_form (shapes.sequence_expression at x y es) depth = sequence_form assigned (expression_form x depth) (expression_form y depth) es depth (expression_forms es depth)
@@ -200,11 +202,15 @@ module _ (assigned : Bool) where
     head_form (shapes.arrow_function at false {params = ps'} {body = e'} {none = n} {none' = n'} ps e z a b) depth h S =
         let c = neither (may_hold_in ps') _ (sym (may_hold_node at (kind.ArrowExpr false false) (ps' ∷ e' ∷ n ∷ n' ∷ [])) ∙ h) in
         let d = neither (may_hold_in e') _ c.1 in
-        record { lead = S.lead; tight = S.tight; no_or = S.no_or; no_arrow = S.no_arrow; param = S.param; reading = arrow_read assigned ps depth (argument_forms ps depth) (head_form e depth d.0 (expression_form e depth)) (λ g us. ap taken (no_brace e depth (sym (braces_agree e) ∙ z) g us)) }
+        record { lead = S.lead; tight = S.tight; no_or = S.no_or; no_arrow = S.no_arrow; param = S.param; reading = arrow_read assigned ps depth (argument_forms ps depth) (expression_body assigned (head_form e depth d.0 (expression_form e depth)) (λ g us. ap taken (no_brace e depth (sym (braces_agree e) ∙ z) g us))) }
     head_form (shapes.arrow_function at true {params = ps'} {body = e'} {none = n} {none' = n'} ps e z a b) depth h S =
         let c = neither (may_hold_in ps') _ (sym (may_hold_node at (kind.ArrowExpr true false) (ps' ∷ e' ∷ n ∷ n' ∷ [])) ∙ h) in
         let d = neither (may_hold_in e') _ c.1 in
-        record { lead = S.lead; tight = S.tight; no_or = S.no_or; no_arrow = S.no_arrow; param = S.param; reading = async_arrow_read assigned ps depth (argument_forms ps depth) (head_form e depth d.0 (expression_form e depth)) (λ g us. ap taken (no_brace e depth (sym (braces_agree e) ∙ z) g us)) }
+        record { lead = S.lead; tight = S.tight; no_or = S.no_or; no_arrow = S.no_arrow; param = S.param; reading = async_arrow_read assigned ps depth (argument_forms ps depth) (expression_body assigned (head_form e depth d.0 (expression_form e depth)) (λ g us. ap taken (no_brace e depth (sym (braces_agree e) ∙ z) g us))) }
+    head_form (shapes.arrow_block at false ps b n n') depth h S =
+        record { lead = S.lead; tight = S.tight; no_or = S.no_or; no_arrow = S.no_arrow; param = S.param; reading = arrow_read assigned ps depth (argument_forms ps depth) (block_body assigned (block_form b depth)) }
+    head_form (shapes.arrow_block at true ps b n n') depth h S =
+        record { lead = S.lead; tight = S.tight; no_or = S.no_or; no_arrow = S.no_arrow; param = S.param; reading = async_arrow_read assigned ps depth (argument_forms ps depth) (block_body assigned (block_form b depth)) }
     head_form (shapes.sequence_expression at {first = x'} {second = y'} {more = es'} x y es) depth h S =
         let c = neither (may_hold_in x') _ (sym (may_hold_node at kind.SeqExpr (x' ∷ y' ∷ es')) ∙ h) in
         let d = neither (may_hold_in y') _ c.1 in

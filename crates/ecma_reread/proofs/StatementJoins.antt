@@ -195,13 +195,13 @@ module _ (words : Words) where
 
   -- several in braces, where each is on a line of its own
   braces_joined : (ss : List Node) (d : ℕ) (f : Items → Items) → ((vs : Items) → ss ≡ [] → f vs ≡ vs) → ((vs : Items) → Apart vs → joins_next (sign (codes "{")) (f vs) ≡ true) → ((vs : Items) → Apart vs → Joined vs → Joined (f vs))
-      → (g : Gap) → IsGap g → (us : Items) → Apart us → Joined us → Joined (it g (sign (codes "{")) (f (it (closing_gap ss d) (sign (codes "}")) us)))
+      → (g : Gap) → IsGap g → (us : Items) → joins_next (sign (codes "}")) us ≡ true → Joined us → Joined (it g (sign (codes "{")) (f (it (closing_gap ss d) (sign (codes "}")) us)))
   unfolding punctuators
-  braces_joined [] d f e o k g h us a j = rw (e (it no_gap (sign (codes "}")) us) refl) (h, refl, refl, (no_gap_is, refl, a (sign (codes "}")), j))
+  braces_joined [] d f e o k g h us a j = rw (e (it no_gap (sign (codes "}")) us) refl) (h, refl, refl, (no_gap_is, refl, a, j))
   braces_joined (x ∷ xs) d f e o k g h us a j =
       let vs = it (line_at d) (sign (codes "}")) us in
       let b : Apart vs = λ t. line_wide d t (sign (codes "}")) in
-      (h, refl, o vs b, k vs b (line_is d, refl, a (sign (codes "}")), j))
+      (h, refl, o vs b, k vs b (line_is d, refl, a, j))
 
   pub function_word_joined : (x y : Bool) (g : Gap) → IsGap g → (us : Items) → joins_next (items.key (codes "function")) us ≡ true → joins_next (sign (codes "*")) us ≡ true → Joined us → Joined (function_word x y g us)
   unfolding punctuators
@@ -319,6 +319,14 @@ module _ (words : Words) where
     expression_joined (shapes.arrow_function at false ps e q a b) depth g h us z j =
         let arrow = it blank (sign (codes "=>")) (expression_tokens e depth blank us) in
         let k = arguments_joined ps depth arrow (no_gap_is, refl, refl, (blank_is, refl, blank_joins (sign (codes "=>")) e depth us, expression_joined e depth blank blank_is us z j)) in
+        (h, refl, k.2, k.3)
+    expression_joined (shapes.arrow_block at true ps b x y) depth g h us z j =
+        let arrow = it blank (sign (codes "=>")) (block_tokens b depth blank us) in
+        let k = arguments_joined ps depth arrow (no_gap_is, refl, refl, (blank_is, refl, block_apart b depth blank blank_wide us (sign (codes "=>")), block_joined b depth blank blank_is us (brace_soft z) j)) in
+        (h, words.async_whole, refl, (blank_is, refl, k.2, k.3))
+    expression_joined (shapes.arrow_block at false ps b x y) depth g h us z j =
+        let arrow = it blank (sign (codes "=>")) (block_tokens b depth blank us) in
+        let k = arguments_joined ps depth arrow (no_gap_is, refl, refl, (blank_is, refl, block_apart b depth blank blank_wide us (sign (codes "=>")), block_joined b depth blank blank_is us (brace_soft z) j)) in
         (h, refl, k.2, k.3)
     expression_joined (shapes.array at at' es) depth g h us z j = (h, refl, slots_open es depth us, slots_joined es depth us (no_gap_is, refl, bracket_soft z, j))
     expression_joined (shapes.object_literal at at' ps) depth g h us z j = (h, refl, properties_open ps depth us, properties_joined ps depth us (brace_soft z) j)
@@ -456,7 +464,7 @@ module _ (words : Words) where
         (h, keyword_whole k, declarator_blank_joins (items.key (keyword k)) i d more, declarator_joined i d more (λ n. declarators_soft words is d n us) (declarators_joined is d us (ended us a j)))
     statement_joined (shapes.break_label at i) d g h us a j = (h, words.break_whole, refl, (blank_is, ident_whole i, refl, ended us a j))
     statement_joined (shapes.continue_label at i) d g h us a j = (h, words.continue_whole, refl, (blank_is, ident_whole i, refl, ended us a j))
-    statement_joined (shapes.block b) d g h us a j = block_joined b d g h us a j
+    statement_joined (shapes.block b) d g h us a j = block_joined b d g h us (a (sign (codes "}"))) j
     statement_joined (shapes.if_only at e b n) d g h us a j =
         (h, words.if_whole, refl, test_joined e d (statement_tokens b d blank us) (expression_joined e d no_gap no_gap_is (sign_of (codes ")") (statement_tokens b d blank us)) closing (no_gap_is, refl, (statement_apart b d blank blank_wide us (sign (codes ")"))), (statement_joined b d blank blank_is us a j))))
     statement_joined (shapes.if_else at e b c) d g h us a j =
@@ -475,18 +483,18 @@ module _ (words : Words) where
       h,
       words.switch_whole,
       refl,
-      test_joined e d (it blank (sign (codes "{")) (cases_tokens cs (suc d) (it (closing_gap cs' d) (sign (codes "}")) us))) (expression_joined e d no_gap no_gap_is (sign_of (codes ")") (it blank (sign (codes "{")) (cases_tokens cs (suc d) (it (closing_gap cs' d) (sign (codes "}")) us)))) closing (no_gap_is, refl, refl, (braces_joined cs' d (cases_tokens cs (suc d)) (λ vs e. cases_empty cs (suc d) vs e) (λ vs b. cases_apart cs (suc d) vs (sign (codes "{")) (b (sign (codes "{")))) (cases_joined cs (suc d)) blank blank_is us a j))),
+      test_joined e d (it blank (sign (codes "{")) (cases_tokens cs (suc d) (it (closing_gap cs' d) (sign (codes "}")) us))) (expression_joined e d no_gap no_gap_is (sign_of (codes ")") (it blank (sign (codes "{")) (cases_tokens cs (suc d) (it (closing_gap cs' d) (sign (codes "}")) us)))) closing (no_gap_is, refl, refl, (braces_joined cs' d (cases_tokens cs (suc d)) (λ vs e. cases_empty cs (suc d) vs e) (λ vs b. cases_apart cs (suc d) vs (sign (codes "{")) (b (sign (codes "{")))) (cases_joined cs (suc d)) blank blank_is us (a (sign (codes "}"))) j))),
     )
     statement_joined (shapes.try_catch at b c n) d g h us a j =
         let cs = catch_tokens c d us in
-        (h, words.try_whole, block_apart b d blank blank_wide cs (items.key (codes "try")), block_joined b d blank blank_is cs (catch_apart c d us) (catch_joined c d us a j))
+        (h, words.try_whole, block_apart b d blank blank_wide cs (items.key (codes "try")), block_joined b d blank blank_is cs (catch_apart c d us (sign (codes "}"))) (catch_joined c d us a j))
     statement_joined (shapes.try_finally at b n f) d g h us a j =
         let end = it blank (items.key (codes "finally")) (block_tokens f d blank us) in
-        (h, words.try_whole, block_apart b d blank blank_wide end (items.key (codes "try")), block_joined b d blank blank_is end (λ t. refl) (finally_joined f d us (block_joined f d blank blank_is us a j)))
+        (h, words.try_whole, block_apart b d blank blank_wide end (items.key (codes "try")), block_joined b d blank blank_is end refl (finally_joined f d us (block_joined f d blank blank_is us (a (sign (codes "}"))) j)))
     statement_joined (shapes.try_catch_finally at b c f) d g h us a j =
         let end = it blank (items.key (codes "finally")) (block_tokens f d blank us) in
         let cs = catch_tokens c d end in
-        (h, words.try_whole, block_apart b d blank blank_wide cs (items.key (codes "try")), block_joined b d blank blank_is cs (catch_apart c d end) (catch_joined c d end (λ t. refl) (finally_joined f d us (block_joined f d blank blank_is us a j))))
+        (h, words.try_whole, block_apart b d blank blank_wide cs (items.key (codes "try")), block_joined b d blank blank_is cs (catch_apart c d end (sign (codes "}"))) (catch_joined c d end (λ t. refl) (finally_joined f d us (block_joined f d blank blank_is us (a (sign (codes "}"))) j))))
     statement_joined (shapes.for_loop at i t u b) d g h us a j =
         let bs = statement_tokens b d blank us in
         let us' = optional_tokens u d (sign_of (codes ")") bs) in
@@ -504,29 +512,29 @@ module _ (words : Words) where
     statement_joined (shapes.labeled at i b) d g h us a j = (h, ident_whole i, refl, (no_gap_is, refl, statement_apart b d blank blank_wide us (sign (codes ":")), statement_joined b d blank blank_is us a j))
     statement_joined (shapes.function_statement at i f) d g h us a j =
         let fs = function_tokens f d us in
-        function_word_joined (is_generator f) (is_async f) g h (it blank (items.key (ident_word i)) fs) refl refl (blank_is, ident_whole i, function_opens f d us (items.key (ident_word i)) refl, function_joined f d us a j)
+        function_word_joined (is_generator f) (is_async f) g h (it blank (items.key (ident_word i)) fs) refl refl (blank_is, ident_whole i, function_opens f d us (items.key (ident_word i)) refl, function_joined f d us (a (sign (codes "}"))) j)
     statement_joined (shapes.class_statement at i c) d g h us a j =
-        (h, words.class_whole, refl, (blank_is, ident_whole i, class_apart c d us (items.key (ident_word i)), class_joined c d us a j))
+        (h, words.class_whole, refl, (blank_is, ident_whole i, class_apart c d us (items.key (ident_word i)), class_joined c d us (a (sign (codes "}"))) j))
 
     -- heritage and members
-    pub class_joined : {n : Node} (is : IsClass n) (d : ℕ) (us : Items) → Apart us → Joined us → Joined (class_tokens is d us)
+    pub class_joined : {n : Node} (is : IsClass n) (d : ℕ) (us : Items) → joins_next (sign (codes "}")) us ≡ true → Joined us → Joined (class_tokens is d us)
     class_joined (shapes.class_of at at' at'' {ms = ms'} h ms n n') d us a j =
         heritage_joined h d (sign (codes "{")) _
         (braces_joined ms' d (members_tokens ms (suc d)) (λ vs e. members_empty ms (suc d) vs e) (λ vs b. members_apart ms (suc d) vs (sign (codes "{")) (b (sign (codes "{")))) (members_joined ms (suc d)) blank blank_is us a j)
 
     member_joined : {n : Node} (is : IsMember n) (d : ℕ) (g : Gap) → IsGap g → (us : Items) → Apart us → Joined us → Joined (member_tokens is d g us)
     member_joined (shapes.empty_member at) d g h us a j = (h, refl, a (sign (codes ";")), j)
-    member_joined (shapes.static_block at b) d g h us a j = (h, words.static_whole, block_apart b d blank blank_wide us (items.key (codes "static")), block_joined b d blank blank_is us a j)
+    member_joined (shapes.static_block at b) d g h us a j = (h, words.static_whole, block_apart b d blank blank_wide us (items.key (codes "static")), block_joined b d blank blank_is us (a (sign (codes "}"))) j)
     member_joined (shapes.method at s k f z) d g h us a j =
         let x = is_generator f in
         let y = is_async f in
         let fs = function_tokens f d us in
         let name : Gap → Items = λ h. member_name_tokens k d h fs in
-        static_joined s (method_tokens x y name) (method_apart x y name (λ g' w. name_apart k d g' w fs)) (method_joined x y k d fs (λ g' h'. member_name_joined k d g' h' fs (function_behind_name f d us) (function_joined f d us a j))) g h
+        static_joined s (method_tokens x y name) (method_apart x y name (λ g' w. name_apart k d g' w fs)) (method_joined x y k d fs (λ g' h'. member_name_joined k d g' h' fs (function_behind_name f d us) (function_joined f d us (a (sign (codes "}"))) j))) g h
     member_joined (shapes.class_constructor at at' k z ps ws b) d g h us a j =
         let bs = block_tokens b d blank us in
         property_name_joined k d g h (sign_of (codes "(") (arguments_tokens ps d (sign_of (codes ")") bs))) (params_behind_name _)
-        (arguments_joined ps d bs (no_gap_is, refl, block_apart b d blank blank_wide us (sign (codes ")")), block_joined b d blank blank_is us a j))
+        (arguments_joined ps d bs (no_gap_is, refl, block_apart b d blank blank_wide us (sign (codes ")")), block_joined b d blank blank_is us (a (sign (codes "}"))) j))
     member_joined (shapes.field at s k v n) d g h us a j =
         let end = sign_of (codes ";") us in
         let vs = initializer_tokens v d end in
@@ -535,19 +543,19 @@ module _ (words : Words) where
         let bs = block_tokens body d blank us in
         let fs = sign_of (codes "(") (arguments_tokens ps d (sign_of (codes ")") bs)) in
         static_joined s (λ h. it h (items.key (accessor_text b)) (member_name_tokens k d blank fs)) (λ g' w t. w t (items.key (accessor_text b)))
-        (accessor_joined b k d fs (λ g' h'. member_name_joined k d g' h' fs (params_behind_name _) (arguments_joined ps d bs (no_gap_is, refl, block_apart body d blank blank_wide us (sign (codes ")")), block_joined body d blank blank_is us a j)))) g h
+        (accessor_joined b k d fs (λ g' h'. member_name_joined k d g' h' fs (params_behind_name _) (arguments_joined ps d bs (no_gap_is, refl, block_apart body d blank blank_wide us (sign (codes ")")), block_joined body d blank blank_is us (a (sign (codes "}"))) j)))) g h
 
     members_joined : {ns : List Node} (is : AreMembers ns) (d : ℕ) (us : Items) → Apart us → Joined us → Joined (members_tokens is d us)
     members_joined shapes.no_members d us a j = j
     members_joined (shapes.more_members m ms) d us a j = member_joined m d (line_at d) (line_is d) (members_tokens ms d us) (λ t. members_apart ms d us t (a t)) (members_joined ms d us a j)
 
     -- parameters and body
-    pub function_joined : {n : Node} (is : IsFunction n) (d : ℕ) (us : Items) → Apart us → Joined us → Joined (function_tokens is d us)
+    pub function_joined : {n : Node} (is : IsFunction n) (d : ℕ) (us : Items) → joins_next (sign (codes "}")) us ≡ true → Joined us → Joined (function_tokens is d us)
     function_joined (shapes.function_of at at' x y ps ws b n n') d us a j =
         let bs = block_tokens b d blank us in
         arguments_joined ps d bs (no_gap_is, refl, block_apart b d blank blank_wide us (sign (codes ")")), block_joined b d blank blank_is us a j)
 
-    block_joined : {n : Node} (is : IsBlock n) (d : ℕ) (g : Gap) → IsGap g → (us : Items) → Apart us → Joined us → Joined (block_tokens is d g us)
+    block_joined : {n : Node} (is : IsBlock n) (d : ℕ) (g : Gap) → IsGap g → (us : Items) → joins_next (sign (codes "}")) us ≡ true → Joined us → Joined (block_tokens is d g us)
     block_joined (shapes.block_of at at' {ss = ss'} ss) d g h us a j =
         braces_joined ss' d (lined_tokens ss (suc d)) (λ vs e. lined_empty ss (suc d) vs e) (λ vs b. lined_apart ss (suc d) vs (sign (codes "{")) (b (sign (codes "{")))) (lined_joined ss (suc d)) g h us a j
 
@@ -562,10 +570,10 @@ module _ (words : Words) where
     cases_joined (shapes.more_cases c cs) d us a j = case_joined c d (line_at d) (line_is d) (cases_tokens cs d us) (λ t. cases_apart cs d us t (a t)) (cases_joined cs d us a j)
 
     catch_joined : {n : Node} (is : IsCatch n) (d : ℕ) (us : Items) → Apart us → Joined us → Joined (catch_tokens is d us)
-    catch_joined (shapes.catch_any at n b) d us a j = (blank_is, words.catch_whole, block_apart b d blank blank_wide us (items.key (codes "catch")), block_joined b d blank blank_is us a j)
+    catch_joined (shapes.catch_any at n b) d us a j = (blank_is, words.catch_whole, block_apart b d blank blank_wide us (items.key (codes "catch")), block_joined b d blank blank_is us (a (sign (codes "}"))) j)
     catch_joined (shapes.catch_pattern at p b) d us a j =
         let bs = sign_of (codes ")") (block_tokens b d blank us) in
-        let rest : Joined bs = (no_gap_is, refl, block_apart b d blank blank_wide us (sign (codes ")")), block_joined b d blank blank_is us a j) in
+        let rest : Joined bs = (no_gap_is, refl, block_apart b d blank blank_wide us (sign (codes ")")), block_joined b d blank blank_is us (a (sign (codes "}"))) j) in
         (blank_is, words.catch_whole, refl, (blank_is, refl, pattern_opening p d bs, pattern_joined p d no_gap no_gap_is bs closing rest))
 
     lined_joined : {ss : List Node} (is : AreStatements ss) (d : ℕ) (us : Items) → Apart us → Joined us → Joined (lined_tokens is d us)

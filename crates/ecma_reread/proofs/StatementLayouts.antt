@@ -239,6 +239,10 @@ function_word_text false false g us = refl
 block_again : {n : Node} → IsBlock n → (m rest : List ℕ) → (laid n).at (At (free 1)) m rest ≡ (laid n).at (At (free 0)) m rest
 block_again (shapes.block_of at at' {ss = ss'} ss) m rest = at_node at kind.BlockStmt (node_of at' kind.List ss' ∷ []) (At (free 1)) m rest ∙ sym (at_node at kind.BlockStmt (node_of at' kind.List ss' ∷ []) (At (free 0)) m rest)
 
+block_behind_arrow : {n : Node} → IsBlock n → (without_in : Bool) (m rest : List ℕ) → (laid n).at (At (beginning 1 ArrowBodyStart without_in)) m rest ≡ (laid n).at (At (free 0)) m rest
+block_behind_arrow (shapes.block_of at at' {ss = ss'} ss) w m rest =
+    at_node at kind.BlockStmt (node_of at' kind.List ss' ∷ []) (At (beginning 1 ArrowBodyStart w)) m rest ∙ sym (at_node at kind.BlockStmt (node_of at' kind.List ss' ∷ []) (At (free 0)) m rest)
+
 function_body_laid : {n : Node} → IsBlock n → (m : List ℕ) (us ts : Items) → codes " " ++ (laid n).at (At (free 0)) m (render us) ≡ render ts → (laid n).at (Within Blank (free 1)) m (render us) ≡ render ts
 function_body_laid {n} is m us ts e = let s = block_seen is in within_there n s.there Blank (free 1) m (render us) ∙ (ap (λ z. codes " " ++ z) (block_again is m (render us)) ∙ e)
 
@@ -431,6 +435,19 @@ mutual
       at_node at (kind.ArrowExpr false false) (p' ∷ e' ∷ n' ∷ n'' ∷ []) (At spot) (margin depth) (render us)
       ∙ rw (c.low, no_sign spot.beside)
       (ap (λ z. (laid p').at Arguments (margin depth) z) (ap (λ z. codes " => " ++ z) (expression_laid e body (quiet refl c.with_in refl refl) (sym (braces_agree e) ∙ z) depth us) ∙ ap (λ z. codes " =>" ++ z) (sym (gap_out e depth blank us)))
+      ∙ arguments_laid ps depth rest)
+  expression_laid (shapes.arrow_block at true {params = p'} {body = b'} {none = n'} {none' = n''} ps b x y) spot c q depth us =
+      let rest = it blank (sign (codes "=>")) (block_tokens b depth blank us) in
+      at_node at (kind.ArrowExpr true false) (p' ∷ b' ∷ n' ∷ n'' ∷ []) (At spot) (margin depth) (render us)
+      ∙ rw (c.low, no_sign spot.beside)
+      (ap (λ z. codes "async " ++ z)
+      (ap (λ z. (laid p').at Arguments (margin depth) z) (ap (λ z. codes " => " ++ z) (block_behind_arrow b spot.without_in (margin depth) (render us)) ∙ ap (λ z. codes " =>" ++ z) (block_laid b depth blank us))
+      ∙ arguments_laid ps depth rest))
+  expression_laid (shapes.arrow_block at false {params = p'} {body = b'} {none = n'} {none' = n''} ps b x y) spot c q depth us =
+      let rest = it blank (sign (codes "=>")) (block_tokens b depth blank us) in
+      at_node at (kind.ArrowExpr false false) (p' ∷ b' ∷ n' ∷ n'' ∷ []) (At spot) (margin depth) (render us)
+      ∙ rw (c.low, no_sign spot.beside)
+      (ap (λ z. (laid p').at Arguments (margin depth) z) (ap (λ z. codes " => " ++ z) (block_behind_arrow b spot.without_in (margin depth) (render us)) ∙ ap (λ z. codes " =>" ++ z) (block_laid b depth blank us))
       ∙ arguments_laid ps depth rest)
   expression_laid (shapes.array at at' {slots = ns} es) spot c q depth us =
       at_node at kind.ArrayLit (node_of at' kind.List ns ∷ []) (At spot) (margin depth) (render us) ∙ rw (c.low, no_sign spot.beside) (at_node at' kind.List ns Brackets (margin depth) (render us) ∙ slots_laid es depth us)

@@ -117,6 +117,9 @@ mutual
   expression_bare (shapes.arrow_function at w {none = n'} {none' = n''} ps e z a b) =
       without_spans-node at (kind.ArrowExpr w false) _
       ∙ (ap₂ (λ x y. bare (kind.ArrowExpr w false) (x ∷ y ∷ without_spans n' ∷ without_spans n'' ∷ [])) (arguments_bare ps) (expression_bare e) ∙ ap₂ (λ x y. bare (kind.ArrowExpr w false) (list_node (bare_arguments ps) ∷ bare_expression e ∷ x ∷ y ∷ [])) (absent_bare a) (absent_bare b))
+  expression_bare (shapes.arrow_block at w {none = n'} {none' = n''} ps b x y) =
+      without_spans-node at (kind.ArrowExpr w false) _
+      ∙ (ap₂ (λ p q. bare (kind.ArrowExpr w false) (p ∷ q ∷ without_spans n' ∷ without_spans n'' ∷ [])) (arguments_bare ps) (block_bare b) ∙ ap₂ (λ p q. bare (kind.ArrowExpr w false) (list_node (bare_arguments ps) ∷ bare_block b ∷ p ∷ q ∷ [])) (absent_bare x) (absent_bare y))
   expression_bare (shapes.array at at' es) = without_spans-node at kind.ArrayLit _ ∙ ap (λ x. bare kind.ArrayLit (x ∷ [])) (without_spans-node at' kind.List _ ∙ ap list_node (slots_bare es))
   expression_bare (shapes.object_literal at at' ps) = without_spans-node at kind.ObjectLit _ ∙ ap (λ x. bare kind.ObjectLit (x ∷ [])) (without_spans-node at' kind.List _ ∙ ap list_node (properties_bare ps))
   expression_bare (shapes.sequence_expression at x y es) = without_spans-node at kind.SeqExpr _ ∙ ap₂ (λ z zs. bare kind.SeqExpr (z ∷ zs)) (expression_bare x) (ap₂ (λ b bs. b ∷ bs) (expression_bare y) (expressions_bare es))

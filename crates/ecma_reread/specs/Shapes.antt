@@ -248,6 +248,8 @@ mutual
     -- with an expression as its body; its parameters stand in parentheses
     arrow_function : (at : Span) (is_async : Bool) {params body none none' : Node} → IsArguments bindings params → IsExpression assignment body → starts_with_brace body ≡ false → IsAbsent none → IsAbsent none'
         → IsExpression assignment (node_of at (kind.ArrowExpr is_async false) (params ∷ body ∷ none ∷ none' ∷ []))
+    -- with a block
+    arrow_block : (at : Span) (is_async : Bool) {params body none none' : Node} → IsArguments bindings params → IsBlock body → IsAbsent none → IsAbsent none' → IsExpression assignment (node_of at (kind.ArrowExpr is_async false) (params ∷ body ∷ none ∷ none' ∷ []))
     array : (at of_list : Span) {slots : List Node} → AreSlots values slots → IsExpression new_callee (node_of at kind.ArrayLit (node_of of_list kind.List slots ∷ []))
     object_literal : (at of_list : Span) {properties : List Node} → AreProperties values properties → IsExpression new_callee (node_of at kind.ObjectLit (node_of of_list kind.List properties ∷ []))
     sequence_expression : (at : Span) {first second : Node} {more : List Node} → IsExpression assignment first → IsExpression assignment second → AreExpressions more → IsExpression sequence (node_of at kind.SeqExpr (first ∷ second ∷ more))
