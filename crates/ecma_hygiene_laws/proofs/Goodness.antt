@@ -1,4 +1,4 @@
--- Trees whose nodes stand where they may, in which no declaration goes, and nothing clashes.
+-- Trees whose nodes stand where they may, in which no scope is ambient, and nothing clashes.
 use Rattle.std.proofs.Common.{◌≡◌, ℕ, suc, Bool, true, false, ◌&&◌, cond, List, [], ◌∷◌, ◌++◌, map, Option, is_some, refl, sym, ap, ◌∙◌, subst}
 use Rattle.std.specs.List.{All}
 use Rattle.std.proofs.lemmas.List.Elements.{All-head, All-tail}
@@ -9,13 +9,13 @@ use Rattle.ecma_scope.specs.declared.role.Role.{Role}
 use Rattle.ecma_scope.specs.declared.role.Role.TheVariants as role
 use Rattle.ecma_scope.specs.Conflicts.{Surrounding, clash_step, clashes_in, own_clashes, redeclared_at, surrounds}
 use Rattle.ecma_scope.specs.Resolved.{Scope as Frame, innermost, is_name, scope_at}
-use Rattle.ecma_scope.specs.Scopes.{covers, opens, role_in}
+use Rattle.ecma_scope.specs.Scopes.{covers, is_ambient, opens, role_in}
 use Rattle.ecma_scope.proofs.Layers.{from_leaves_out}
 use Rattle.ecma_hygiene.specs.Ids.{is_block}
 use Rattle.ecma_hygiene.specs.Renamed.{kind_is_absent}
 use Rattle.ecma_hygiene.specs.Walks.{gathered_from}
 use Rattle.ecma_hygiene.proofs.Walking.{gathered-out}
-use Rattle.ecma_hygiene_laws.specs.Seats.{IsKept, Seat, seat_here, seats_at}
+use Rattle.ecma_hygiene_laws.specs.Seats.{Seat, seat_here, seats_at}
 use Rattle.ecma_hygiene_laws.proofs.Stopping.{All-first, All-second}
 use Rattle.ecma_hygiene_laws.proofs.Ways.{next_var}
 
@@ -54,7 +54,7 @@ pub record Fits (seat : Seat) : Type 0 where
   pub body : seat.role ≡ role.Body → opens seat.role seat.node ≡ true → is_body_kind (out-Node seat.node).kind ≡ true
   pub nested : is_some (next_var (out-Node seat.node).kind) ≡ true → Nested (out-Node seat.node).children
   pub empty : (s : List ℕ) (c : ℕ) (o : Bool) → (out-Node seat.node).kind ≡ kind.Ident s c o → is_name seat.role ≡ true → c ≡ 0
-  pub kept : IsKept seat
+  pub calm : opens seat.role seat.node ≡ true → is_ambient seat.role ≡ false
 
 pub record Good (m : Node) (r : Role) (around : List ℕ → Option Bool) : Type 0 where
   pub all : All Fits (seats_at m r)
@@ -118,7 +118,7 @@ module _ (m : Node) (r : Role) (around : List ℕ → Option Bool) (good : Good 
 
 -- ---- what the scopes in force state around the children
 
-inner-last : (frames : List Frame) (f : Frame) → innermost (frames ++ f ∷ []) ≡ f.states
+pub inner-last : (frames : List Frame) (f : Frame) → innermost (frames ++ f ∷ []) ≡ f.states
 inner-last [] f = (λ j sym. f.states sym)
 inner-last (g ∷ []) f = (λ j sym. f.states sym)
 inner-last (g ∷ h ∷ frames) f = (λ j sym. inner-last (h ∷ frames) f j sym)

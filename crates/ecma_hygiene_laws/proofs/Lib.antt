@@ -23,8 +23,11 @@ pub mod Goodness
 pub mod Passing
 pub mod Crossing
 pub mod Owning
+pub mod Keeping
+pub mod Settling
 pub mod OwnScopes
 pub mod ResolvedRight
+pub mod ResolvedStays
 pub mod Sorting
 pub mod ResolvedModules
 pub mod Numbers

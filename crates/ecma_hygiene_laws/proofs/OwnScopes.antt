@@ -1,5 +1,5 @@
 -- The scope of a node of a resolved tree declares its ids in its own context.
-use Rattle.std.proofs.Common.{◌≡◌, ◌≢◌, ◌⊎◌, inl, inr, ℕ, ◌==◌, Bool, true, false, ◌&&◌, ◌||◌, not, cond, filter, List, [], ◌∷◌, ◌++◌, map, Option, Some, None, refl, sym, ap, ap₂, ◌∙◌, subst, get_or, bytes_eq}
+use Rattle.std.proofs.Common.{◌≡◌, ◌⊎◌, inl, inr, ℕ, ◌==◌, Bool, true, false, ◌&&◌, ◌||◌, not, cond, filter, List, [], ◌∷◌, ◌++◌, map, Option, Some, None, refl, sym, ap, ap₂, ◌∙◌, subst, get_or, bytes_eq}
 use Rattle.std.specs.List.{All, list_any}
 use Rattle.std.proofs.lemmas.List.{map-append}
 use Rattle.std.proofs.lemmas.List.Elements.{All-append, All-cons, All-head, All-nil, All-tail}
@@ -15,31 +15,29 @@ use Rattle.ecma_scope.specs.declared.form.Sought.{Sought}
 use Rattle.ecma_scope.specs.declared.role.Role.{Role}
 use Rattle.ecma_scope.specs.declared.role.Role.TheVariants as role
 use Rattle.ecma_scope.specs.Conflicts.{clashing, is_function_body, is_lexical, marked, meeting, passing}
-use Rattle.ecma_scope.specs.Declarations.{declarations, declares, holds_vars, in_scope, is_hoisted, is_own as is_own_name, is_stated, is_value, keeps, names, own_part, sought_in, stated, vars_of}
+use Rattle.ecma_scope.specs.Declarations.{declarations, declares, holds_vars, in_scope, is_hoisted, is_own as is_own_name, is_stated, is_value, keeps, names, own_part, sought_in, vars_of}
 use Rattle.ecma_scope.specs.Resolved.{Scope as Frame, context_in, given, innermost as innermost_states, resolved_at}
 use Rattle.ecma_scope.specs.Scopes.{is_ambient, opens}
 use Rattle.ecma_hygiene.specs.Ids.{Id, Scope, has_context, innermost, is_block, is_body_block, is_function_body as is_body_role, is_own}
-use Rattle.ecma_hygiene.specs.Renamed.{text_of}
 use Rattle.ecma_hygiene.specs.Sights.{own_scope}
-use Rattle.ecma_hygiene.proofs.Telling.{and-left, and-right, or-first, or-second, text-refl, true-false}
+use Rattle.ecma_hygiene.proofs.Telling.{and-both, and-left, and-right, or-first, or-second, text-refl, true-false}
 use Rattle.ecma_hygiene_laws.specs.DeclaredIds.{DeclaredId, id_here, ids_declared, scope_ids, with_text}
 use Rattle.ecma_hygiene_laws.specs.Seats.{all_names}
-use Rattle.ecma_hygiene_laws.proofs.Alike.{Alike, Like, States, innermost-like, states-own}
+use Rattle.ecma_hygiene_laws.proofs.Alike.{keeps-id}
 use Rattle.ecma_hygiene_laws.proofs.Clashes.{Stays, all-filter, body-none, counted}
 use Rattle.ecma_hygiene_laws.proofs.Crossing.{context-last}
 use Rattle.ecma_hygiene_laws.proofs.Directly.{Given, place_in}
 use Rattle.ecma_hygiene_laws.proofs.Forms.{Allowed, Formed, forms, forms-by, is_item_form}
 use Rattle.ecma_hygiene_laws.proofs.Goodness.{Fits, Good, fits-here, frame_of, is_body_kind, own-clear}
+use Rattle.ecma_hygiene_laws.proofs.Keeping.{AllKeep, Keeps, inner-only, inner-written, kept-declared, kept-id, kept-stated, stated-kept}
 use Rattle.ecma_hygiene_laws.proofs.Membership.{id-same, is_kept, own-agrees}
 use Rattle.ecma_hygiene_laws.proofs.Owning.{own-given}
 use Rattle.ecma_hygiene_laws.proofs.Passing.{all-map, block-list, clear-cond, list-forms, map-all}
+use Rattle.ecma_hygiene_laws.proofs.Settling.{Settled}
 use Rattle.ecma_hygiene_laws.proofs.Sameness.{declares-ids, declares-resolved, kind-resolved, no_text}
 
 abbrev pub same_context : ℕ → ℕ
 same_context ctxt = ctxt
-
-abbrev pub any_id : Id → Bool
-any_id id = true
 
 -- ---- lists
 
@@ -76,16 +74,33 @@ module _ (unresolved top : ℕ) where
       by true is h rec = subst (λ (i : Id). i.1 ≡ context_in unresolved frames i.0 unresolved) (id-same d.id b (and-left _ d.stays is)) (All-head (Given unresolved top frames) d ds all (and-right _ d.stays is))
       by false is h rec = rec h
 
-  -- the innermost scope gives its own context to what it declares
-  inner-gives : (ws : List Scope) (fs : List Frame) (p : Id) (outer : ℕ) → Like no_text same_context any_id ws fs → has_context p.1 (innermost ws p.0) ≡ true → context_in unresolved fs p.0 outer ≡ p.1
-  inner-gives [] fs p outer like has = absurd (true-false has refl)
-  inner-gives (w ∷ ws) [] p outer like has = absurd like
-  inner-gives (w ∷ []) (f ∷ []) p outer like has = ap (λ (o : Option Bool). given o f.ctxt unresolved outer) (like.0.states.written p has) ∙ sym (like.0.number p has)
-  inner-gives (w ∷ []) (f ∷ g ∷ fs) p outer like has = absurd like.1
-  inner-gives (w ∷ v ∷ ws) (f ∷ []) p outer like has = absurd like.1
-  inner-gives (w ∷ v ∷ ws) (f ∷ g ∷ fs) p outer like has = inner-gives (v ∷ ws) (g ∷ fs) p (given (f.states p.0) f.ctxt unresolved outer) like.1 has
+  module _ (m : Node) (r : Role) (frames : List Frame) (left : ℕ) where
+    abbrev it : Node
+    it = resolved_at unresolved top m (place_in unresolved top r frames) left
 
-  module _ (m : Node) (r : Role) (scopes : List Scope) (frames : List Frame) (left : ℕ) (like : Like no_text same_context any_id scopes frames) (good : Good m r (innermost_states frames)) (opened : opens r m ≡ true) where
+    holds-resolved : holds_vars r (out-Node it).kind ≡ holds_vars r (out-Node m).kind
+    unfolding holds_vars
+    holds-resolved = kind-resolved unresolved top (λ (k : Kind). holds_vars r k) (λ s t c d o. refl) m (place_in unresolved top r frames) left
+
+    cond-map : (b : Bool) (ds : List DeclaredId) → cond b (map (with_text no_text) ds) [] ≡ map (with_text no_text) (cond b ds [])
+    cond-map true ds = refl
+    cond-map false ds = refl
+
+    -- the names of the node are those of the resolved node
+    all-resolved : all_names r m ≡ map (with_text no_text) (scope_ids r it)
+    all-resolved =
+        let own : Sought = record { part = own_part r; stays = not (is_ambient r) } in
+        let vars : Sought = record { part = part.Var; stays = not (is_ambient r) } in
+        ap₂ (λ (a b : List Declaration). a ++ b) (declares-resolved unresolved top m (place_in unresolved top r frames) left own)
+        (ap₂ (λ (b : Bool) (ds : List Declaration). cond b ds []) (sym holds-resolved) (declares-resolved unresolved top m (place_in unresolved top r frames) left vars) ∙ cond-map (holds_vars r (out-Node it).kind) (ids_declared it vars))
+        ∙ sym (map-append (with_text no_text) (ids_declared it own) (cond (holds_vars r (out-Node it).kind) (ids_declared it vars) []))
+
+    -- where none of these goes
+    pub stay : All Stays (all_names r m) → All (λ (d : DeclaredId). d.stays ≡ true) (scope_ids r it)
+    stay all = all-map Stays (with_text no_text) (scope_ids r it) (subst (All Stays) all-resolved all)
+
+  module _ (m : Node) (r : Role) (scopes : List Scope) (frames : List Frame) (left : ℕ) (keep : AllKeep scopes frames) (settled : Settled r (innermost_states frames)) (good : Good m r (innermost_states frames))
+      (opened : opens r m ≡ true) where
     abbrev n : Node
     n = resolved_at unresolved top m (place_in unresolved top r frames) left
 
@@ -98,34 +113,14 @@ module _ (unresolved top : ℕ) where
     fits : Fits (record { role = r; node = m })
     fits = fits-here m r around good
 
-    inner : States no_text same_context any_id (innermost scopes) around
-    inner = innermost-like no_text same_context any_id scopes frames like
-
-    holds-same : holds_vars r (out-Node n).kind ≡ holds_vars r (out-Node m).kind
-    unfolding holds_vars
-    holds-same = kind-resolved unresolved top (λ (k : Kind). holds_vars r k) (λ s t c d o. refl) m (place_in unresolved top r frames) left
-
     block-same : is_block (out-Node n).kind ≡ is_block (out-Node m).kind
     block-same = kind-resolved unresolved top is_block (λ s t c d o. refl) m (place_in unresolved top r frames) left
 
-    cond-map : (b : Bool) (ds : List DeclaredId) → cond b (map (with_text no_text) ds) [] ≡ map (with_text no_text) (cond b ds [])
-    cond-map true ds = refl
-    cond-map false ds = refl
-
-    -- the names of the node are those of the resolved node
     all-same : all_names r m ≡ map (with_text no_text) (scope_ids r n)
-    all-same =
-        let own : Sought = record { part = own_part r; stays = not (is_ambient r) } in
-        let vars : Sought = record { part = part.Var; stays = not (is_ambient r) } in
-        ap₂ (λ (a b : List Declaration). a ++ b) (declares-resolved unresolved top m (place_in unresolved top r frames) left own)
-        (ap₂ (λ (b : Bool) (ds : List Declaration). cond b ds []) (sym holds-same) (declares-resolved unresolved top m (place_in unresolved top r frames) left vars) ∙ cond-map (holds_vars r (out-Node n).kind) (ids_declared n vars))
-        ∙ sym (map-append (with_text no_text) (ids_declared n own) (cond (holds_vars r (out-Node n).kind) (ids_declared n vars) []))
+    all-same = all-resolved m r frames left
 
     names-same : names r around m ≡ filter (is_own_name r around) (map (with_text no_text) (scope_ids r n))
     names-same = ap (filter (is_own_name r around)) all-same
-
-    pub stay : All (λ (d : DeclaredId). d.stays ≡ true) (scope_ids r n)
-    stay = all-map Stays (with_text no_text) (scope_ids r n) (subst (All Stays) all-same (fits.kept opened).1)
 
     clear : clashing r around [] (marked [] (counted r around (names r around m) (passing r m)) ++ passing r m) ≡ []
     clear = clear-cond (opens r m) (clashing r around [] (meeting r around m)) opened (own-clear m r around good)
@@ -189,7 +184,7 @@ module _ (unresolved top : ℕ) where
             let here : r ≡ role.Body = body-role (out-Node n).kind block in
             let passes : is_own_name r around (with_text no_text d) ≡ true = ap (λ (q : Role). is_own_name q around (with_text no_text d)) here ∙ ap (λ (b : Bool). not (b && is_stated (around d.id.0))) is in
             absurd (true-false (there passes)
-            (ap (λ (ds : List Declaration). declares ds d.id.0) (sym names-same) ∙ parameter-none (block-here block) here d.id.0 (stated-some (around d.id.0) (inner.written d.id has))))
+            (ap (λ (ds : List Declaration). declares ds d.id.0) (sym names-same) ∙ parameter-none (block-here block) here d.id.0 (stated-some (around d.id.0) (inner-written scopes frames keep d.id has))))
 
     -- where the body of a function declares a `var` or a function, it is a block
     no-item : (s : Bool) (k : Kind) (f : Form) → All (Formed (part.Name f)) (id_here (record { part = part.Scope; stays = s }) k)
@@ -251,24 +246,62 @@ module _ (unresolved top : ℕ) where
         given-id more b (scope_ids r n) (own-given unresolved top m r frames left opened good) (and-left (list_any (is_kept b) (scope_ids r n)) (is_own (is_body_block r (out-Node n).kind) (innermost scopes) b) both)
         ∙ context-last unresolved frames f b.0 unresolved
 
-    -- a binding of the body has not the text of a parameter that is another
-    beside : is_body_block r (out-Node n).kind ≡ true → (p b : Id) → has_context p.1 (innermost scopes p.0) ≡ true → has_context b.1 (own_scope r scopes n b.0) ≡ true → p ≢ b → text_of no_text p ≢ text_of no_text b
-    beside block p b has own apart same =
-        let here : r ≡ role.Body = body-role (out-Node n).kind block in
-        let texts : p.0 ≡ b.0 = same in
-        let none : declares (names r around m) b.0 ≡ false = parameter-none (block-here block) here b.0 (stated-some (around b.0) (ap around (sym texts) ∙ inner.written p has)) in
-        let open_here : f.states b.0 ≡ None = ap (λ (d : Bool). cond d (Some (keeps (names r around m) b.0)) None) none in
-        let bs : b.1 ≡ context_in unresolved frames b.0 unresolved = given-own b own ∙ ap (λ (o : Option Bool). given o f.ctxt unresolved (context_in unresolved frames b.0 unresolved)) open_here in
-        let ps : context_in unresolved frames p.0 unresolved ≡ p.1 = inner-gives scopes frames p unresolved like has in
-        apart (λ j. (texts j, (sym ps ∙ ap (λ (t : List ℕ). context_in unresolved frames t unresolved) texts ∙ sym bs) j))
+    -- ---- what it declares as values that stay is what the scope keeps
 
-    states : States no_text same_context any_id (own_scope r scopes n) f.states
-    states =
-        subst (λ (ds : List Declaration). States no_text same_context any_id (own_scope r scopes n) (stated ds)) (sym names-same)
-        (states-own no_text same_context any_id r scopes n around inner stay blocks parameters (λ b h. refl) beside)
+    abbrev body : Bool
+    body = is_body_block r (out-Node n).kind
 
-    pub contexts : (b : Id) → has_context b.1 (own_scope r scopes n b.0) ≡ true → b.1 ≡ f.ctxt
-    contexts b h = given-own b h ∙ ap (λ (o : Option Bool). given o f.ctxt unresolved (context_in unresolved frames b.0 unresolved)) (states.written b h)
+    abbrev Blocked : DeclaredId → Type 0
+    Blocked d = r ≡ role.Body → is_hoisted d.form ≡ true → is_block (out-Node n).kind ≡ true
 
-    pub own-alike : Alike no_text same_context any_id (own_scope r scopes n) f
-    own-alike = record { states = states; number = contexts }
+    -- a parameter of its text is the id itself
+    is-parameter : r ≡ role.Body → is_block (out-Node n).kind ≡ true → (b : Id) → has_context b.1 (own_scope r scopes n b.0) ≡ true → is_own body (innermost scopes) b ≡ true → around b.0 ≡ Some true → ⊥
+    is-parameter is block b h mine stated_ =
+        let none : declares (names r around m) b.0 ≡ false = parameter-none (sym block-same ∙ block) is b.0 (stated-some (around b.0) stated_) in
+        let open_here : f.states b.0 ≡ None = (λ j. cond (none j) (Some (keeps (names r around m) b.0)) None) in
+        let same : b.1 ≡ context_in unresolved frames b.0 unresolved = given-own b h ∙ ap (λ (o : Option Bool). given o f.ctxt unresolved (context_in unresolved frames b.0 unresolved)) open_here in
+        let has : has_context b.1 (innermost scopes b.0) ≡ true = ap (λ (c : ℕ). has_context c (innermost scopes b.0)) same ∙ inner-only unresolved scopes frames keep b.0 unresolved stated_ in
+        true-false mine (λ j. not ((is_body_role (is j) && block j) && has j))
+
+    own-name : (q : Role) → r ≡ q → (b : Id) → has_context b.1 (own_scope r scopes n b.0) ≡ true → is_own body (innermost scopes) b ≡ true → (d : DeclaredId) → d.id ≡ b → Blocked d
+        → is_own_name q around (with_text no_text d) ≡ true
+    own-name role.Body is b h mine d same blocked = by (is_hoisted d.form) (around d.id.0) refl refl
+      where
+        by : (hoisted : Bool) (o : Option Bool) → is_hoisted d.form ≡ hoisted → around d.id.0 ≡ o → not (hoisted && is_stated o) ≡ true
+        by false o hoists states_ = refl
+        by true None hoists states_ = refl
+        by true (Some false) hoists states_ = absurd (settled is d.id.0 states_)
+        by true (Some true) hoists states_ = absurd (is-parameter is (blocked is hoists) b h mine (ap (λ (i : Id). around i.0) (sym same) ∙ states_))
+    own-name _ is b h mine d same blocked = refl
+
+    written : (b : Id) → has_context b.1 (own_scope r scopes n b.0) ≡ true → f.states b.0 ≡ Some true
+    written b h =
+        let both = sym (own-agrees b r scopes n) ∙ h in
+        let mine = and-right (list_any (is_kept b) (scope_ids r n)) (is_own body (innermost scopes) b) both in
+        stated-kept (names r around m) b.0
+        (ap (λ (ds : List Declaration). keeps ds b.0) names-same
+        ∙ keeps-id no_text Blocked (is_own_name r around) b (scope_ids r n) (λ k d lt is. blocks is k d lt) (λ d same blocked. own-name r refl b h mine d same blocked)
+        (and-left (list_any (is_kept b) (scope_ids r n)) (is_own body (innermost scopes) b) both))
+
+    number : (b : Id) → has_context b.1 (own_scope r scopes n b.0) ≡ true → b.1 ≡ f.ctxt
+    number b h = given-own b h ∙ ap (λ (o : Option Bool). given o f.ctxt unresolved (context_in unresolved frames b.0 unresolved)) (written b h)
+
+    -- what it keeps is no parameter
+    no-parameter : (b : Id) (t h : Bool) → body ≡ t → has_context b.1 (innermost scopes b.0) ≡ h → keeps (names r around m) b.0 ≡ true → is_own body (innermost scopes) b ≡ true
+    no-parameter b false h block has kept = ap (λ (z : Bool). not (z && has_context b.1 (innermost scopes b.0))) block
+    no-parameter b true false block has kept = (λ j. not (block j && has j))
+    no-parameter b true true block has kept =
+        absurd (true-false (kept-declared (names r around m) b.0 kept)
+        (parameter-none (block-here block) (body-role (out-Node n).kind block) b.0 (stated-some (around b.0) (inner-written scopes frames keep b has))))
+
+    only : (text : List ℕ) → f.states text ≡ Some true → has_context f.ctxt (own_scope r scopes n text) ≡ true
+    only text h =
+        let kept : keeps (names r around m) text ≡ true = kept-stated (names r around m) text h in
+        let x = kept-id (is_own_name r around) text (scope_ids r n) (sym (ap (λ (ds : List Declaration). keeps ds text) names-same) ∙ kept) in
+        let id : Id = x.found.id in
+        let mine = no-parameter id body (has_context id.1 (innermost scopes id.0)) refl refl (ap (keeps (names r around m)) x.is ∙ kept) in
+        let own : has_context id.1 (own_scope r scopes n id.0) ≡ true = own-agrees id r scopes n ∙ and-both (list_any (is_kept id) (scope_ids r n)) (is_own body (innermost scopes) id) x.kept mine in
+        (λ j. has_context (sym (number id own) j) (own_scope r scopes n (sym x.is j))) ∙ own
+
+    pub own-keeps : Keeps (own_scope r scopes n) f
+    own-keeps = record { written = written; number = number; only = only }

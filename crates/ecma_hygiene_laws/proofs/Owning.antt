@@ -285,7 +285,7 @@ module _ (unresolved top : ℕ) (m : Node) (r : Role) (frames : List Frame) (lef
   -- all that it declares
   pub own-given : All (Given unresolved top more) (scope_ids r (resolved_at unresolved top m place left))
   own-given =
-      let calm : is_ambient r ≡ false = (fits.kept opened).0 in
+      let calm : is_ambient r ≡ false = fits.calm opened in
       All-append G (ids_declared n (record { part = own_part r; stays = not (is_ambient r) })) (cond (holds_vars r (out-Node n).kind) (ids_declared n (record { part = part.Var; stays = not (is_ambient r) })) [])
       (own-by r refl (not (is_ambient r)))
       (cond-given (holds_vars r (out-Node n).kind) (ids_declared n (record { part = part.Var; stays = not (is_ambient r) }))

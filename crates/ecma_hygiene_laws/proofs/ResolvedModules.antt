@@ -19,12 +19,16 @@ use Rattle.ecma_hygiene.specs.Sights.{nowhere}
 use Rattle.ecma_hygiene.specs.Texts.{text_in}
 use Rattle.ecma_hygiene.specs.Walks.{gathered_from}
 use Rattle.ecma_hygiene.proofs.Walking.{gathered-out}
+use Rattle.ecma_hygiene_laws.specs.Lasting.{IsCheckedModule}
 use Rattle.ecma_hygiene_laws.specs.Resolving.{IsPlainModule, ResolvedFollowsItsTexts, ResolvedIsReadAgain, ResolvedIsRight}
 use Rattle.ecma_hygiene_laws.specs.Seats.{Seat, seat_here, seats_at}
 use Rattle.ecma_hygiene_laws.proofs.Goodness.{Fits}
 use Rattle.ecma_hygiene_laws.proofs.Parts.{children-of, kind-of}
 use Rattle.ecma_hygiene_laws.proofs.ReadingAgain.{follows-its-texts, is-read-again}
-use Rattle.ecma_hygiene_laws.proofs.ResolvedRight.{rights}
+use Rattle.ecma_hygiene_laws.specs.Stops.{stops}
+use Rattle.ecma_hygiene_laws.proofs.ResolvedRight.{IsPlaced, rights}
+use Rattle.ecma_hygiene_laws.proofs.ResolvedStays.{resolved-stays}
+use Rattle.ecma_hygiene_laws.proofs.Settling.{settled-root}
 use Rattle.ecma_hygiene_laws.proofs.Sameness.{contexts-stay, counts-resolved}
 use Rattle.ecma_hygiene_laws.proofs.Sorting.{module-shaped}
 
@@ -83,24 +87,37 @@ empties = ind-Node Empties (λ x y is.
 
 -- ---- the laws
 
-module _ (source : Node) (plain : IsPlainModule source) where
-  fit : All Fits (seats_at source role.Root)
-  fit =
-      let shaped = module-shaped source plain.sorted in
-      let empty = empties source role.Root plain.bare in
-      λ k d lt. record {
-        absent = (shaped k d lt).absent;
-        caught = (shaped k d lt).caught;
-        default = (shaped k d lt).default;
-        body = (shaped k d lt).body;
-        nested = (shaped k d lt).nested;
-        empty = empty k d lt;
-        kept = plain.kept k d lt;
-      }
+fit : (source : Node) → IsCheckedModule source → All Fits (seats_at source role.Root)
+fit source checked =
+    let shaped = module-shaped source checked.sorted in
+    let empty = empties source role.Root checked.bare in
+    λ k d lt. record {
+      absent = (shaped k d lt).absent;
+      caught = (shaped k d lt).caught;
+      default = (shaped k d lt).default;
+      body = (shaped k d lt).body;
+      nested = (shaped k d lt).nested;
+      empty = empty k d lt;
+      calm = checked.calm k d lt;
+    }
+
+pub resolved-is-placed : (unresolved top left : ℕ) (source : Node) → IsCheckedModule source → All (IsPlaced unresolved top) (stops left (resolved unresolved top left source))
+resolved-is-placed unresolved top left source checked = rights unresolved top source nowhere [] left tt settled-root (record { all = fit source checked; clear = checked.clear })
+
+-- a module in which nothing goes is one of these
+pub checked : (source : Node) → IsPlainModule source → IsCheckedModule source
+checked source plain = record { sorted = plain.sorted; bare = plain.bare; clear = plain.clear; calm = λ k d lt opened. (plain.kept k d lt opened).0 }
 
 pub resolved-is-right : ResolvedIsRight
 resolved-is-right unresolved top left source plain =
-    rights unresolved top source nowhere [] left tt (record { all = fit source plain; clear = plain.clear })
+    let placed = resolved-is-placed unresolved top left source (checked source plain) in
+    let stay = resolved-stays unresolved top left source plain.kept in
+    λ k d lt. (let p = placed k d lt in record {
+      absent = p.absent;
+      names = p.names;
+      free = p.free;
+      declares = λ opened. record { stay = stay k d lt opened; blocks = p.blocks opened; parameters = p.parameters opened; contexts = p.contexts opened };
+    })
 
 pub resolved-is-read-again : ResolvedIsReadAgain
 resolved-is-read-again unresolved top left source written plain hygienic =

@@ -5,3 +5,4 @@ pub mod ReadAgain
 pub mod Seats
 pub mod Resolving
 pub mod Apart
+pub mod Lasting

@@ -5,6 +5,7 @@
 #![tactic(auto)]
 
 ghost use Rattle.ecma_hygiene_laws.specs.Apart.{ContextsAreMapped, ResolvedTellsScopesApart, TextsNameWhatIdsDo};
+ghost use Rattle.ecma_hygiene_laws.specs.Lasting.{ResolvedKeepsScopesApart};
 ghost use Rattle.ecma_hygiene_laws.specs.ReadAgain.{FollowsItsTexts, IdsStayApart, IsReadAgain};
 ghost use Rattle.ecma_hygiene_laws.specs.Resolving.{ResolvedFollowsItsTexts, ResolvedIsReadAgain, ResolvedIsRight};
 ghost use Rattle.ecma_hygiene_laws.specs.Scopes.{ScopesDeclareFinalTexts};
@@ -62,4 +63,10 @@ pub fn final_texts_name_what_ids_do()
 /// The contexts of a resolved module tell its scopes apart.
 pub fn resolved_contexts_tell_scopes_apart()
     ensures { ResolvedTellsScopesApart }
+{}
+
+/// Of a resolved module in which declarations may go: what its scopes declare as values that stay, they declare in one context
+/// each, no two in the same, and a name that none of them declares so is free.
+pub fn resolved_modules_keep_their_scopes_apart()
+    ensures { ResolvedKeepsScopesApart }
 {}
