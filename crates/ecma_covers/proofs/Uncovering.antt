@@ -232,31 +232,39 @@ free_kind n =
     ∙ (ap (λ m. (out-Node m).kind) (cover_node (out-Node n).span (out-Node n).kind (out-Node n).children target.Free)
     ∙ ap (λ p. p.kind) (out-roll-Node (record { span = (out-Node n).span; kind = (out-Node n).kind; children = each_in (cover_in target.Free (out-Node n).kind) (map cover_at (out-Node n).children) })))
 
-short_again : (at of_binding of_name of_type of_value : Span) (word : List ℕ) (ctxt : ℕ) (optional : Bool) → Same target.Property (node_of at kind.AssignPatProp (binding_node of_binding of_name of_type word ctxt optional ∷ node_of of_value kind.Absent [] ∷ []))
+pub short_name : (at of_binding of_name of_type of_value : Span) (word : List ℕ) (ctxt : ℕ) (optional : Bool)
+    → cover_at (node_of at kind.AssignPatProp (binding_node of_binding of_name of_type word ctxt optional ∷ node_of of_value kind.Absent [] ∷ [])) target.Property ≡ name_node of_name word ctxt optional
 unfolding cover_in
+short_name at of_binding of_name of_type of_value word ctxt optional =
+    cover_node at kind.AssignPatProp (binding_node of_binding of_name of_type word ctxt optional ∷ node_of of_value kind.Absent [] ∷ []) target.Property
+    ∙ (ap₂ (λ x y. cover_by target.Property (record { span = at; kind = kind.AssignPatProp; children = x ∷ y ∷ [] })) (binding_covered target.Name refl of_binding of_name of_type word ctxt optional) (free_missing of_value)
+    ∙ short_covered at of_value (name_node of_name word ctxt optional))
+
+pub default_name : (at of_binding of_name of_type : Span) (word : List ℕ) (ctxt : ℕ) (optional : Bool) (value : Node) → is_absent (out-Node value).kind ≡ false
+    → cover_at (node_of at kind.AssignPatProp (binding_node of_binding of_name of_type word ctxt optional ∷ value ∷ [])) target.Property ≡ node_of at kind.AssignProp (name_node of_name word ctxt optional ∷ cover_at value target.Free ∷ [])
+unfolding cover_in
+default_name at of_binding of_name of_type word ctxt optional value there =
+    cover_node at kind.AssignPatProp (binding_node of_binding of_name of_type word ctxt optional ∷ value ∷ []) target.Property
+    ∙ (ap (λ x. cover_by target.Property (record { span = at; kind = kind.AssignPatProp; children = x ∷ cover_at value target.Free ∷ [] })) (binding_covered target.Name refl of_binding of_name of_type word ctxt optional)
+    ∙ default_covered at (name_node of_name word ctxt optional) (cover_at value target.Free) (ap is_absent (free_kind value) ∙ there))
+
+short_again : (at of_binding of_name of_type of_value : Span) (word : List ℕ) (ctxt : ℕ) (optional : Bool) → Same target.Property (node_of at kind.AssignPatProp (binding_node of_binding of_name of_type word ctxt optional ∷ node_of of_value kind.Absent [] ∷ []))
 short_again at of_binding of_name of_type of_value word ctxt optional =
     let b = binding_node of_binding of_name of_type word ctxt optional in
     let name = name_node of_name word ctxt optional in
-    let e : cover_at (node_of at kind.AssignPatProp (b ∷ node_of of_value kind.Absent [] ∷ [])) target.Property ≡ name =
-    cover_node at kind.AssignPatProp (b ∷ node_of of_value kind.Absent [] ∷ []) target.Property
-    ∙ (ap₂ (λ x y. cover_by target.Property (record { span = at; kind = kind.AssignPatProp; children = x ∷ y ∷ [] })) (binding_covered target.Name refl of_binding of_name of_type word ctxt optional) (free_missing of_value) ∙ short_covered at of_value name) in
-    ap (λ n. without_spans (finished_at n target.Property)) e
+    ap (λ n. without_spans (finished_at n target.Property)) (short_name at of_binding of_name of_type of_value word ctxt optional)
     ∙ (ap without_spans (finished_node of_name (kind.Ident word ctxt optional) [] target.Property)
     ∙ (spanless (out-Node name).span kind.AssignPatProp (binding name ∷ absent ∷ [])
     ∙ (ap₂ (λ x y. node_of dummy_span kind.AssignPatProp (x ∷ y ∷ [])) (binding_bare of_binding of_name of_type word ctxt optional) (sym (missing_bare of_value)) ∙ sym (spanless at kind.AssignPatProp (b ∷ node_of of_value kind.Absent [] ∷ [])))))
 
 short_default_again : (at of_binding of_name of_type : Span) (word : List ℕ) (ctxt : ℕ) (optional : Bool) (value : Node) → is_absent (out-Node value).kind ≡ false → Same target.Free value
     → Same target.Property (node_of at kind.AssignPatProp (binding_node of_binding of_name of_type word ctxt optional ∷ value ∷ []))
-unfolding cover_in target_in
+unfolding target_in
 short_default_again at of_binding of_name of_type word ctxt optional value there same =
     let b = binding_node of_binding of_name of_type word ctxt optional in
     let name = name_node of_name word ctxt optional in
     let d = cover_at value target.Free in
-    let e : cover_at (node_of at kind.AssignPatProp (b ∷ value ∷ [])) target.Property ≡ node_of at kind.AssignProp (name ∷ d ∷ []) =
-    cover_node at kind.AssignPatProp (b ∷ value ∷ []) target.Property
-    ∙ (ap (λ x. cover_by target.Property (record { span = at; kind = kind.AssignPatProp; children = x ∷ d ∷ [] })) (binding_covered target.Name refl of_binding of_name of_type word ctxt optional)
-    ∙ default_covered at name d (ap is_absent (free_kind value) ∙ there)) in
-    ap (λ n. without_spans (finished_at n target.Property)) e
+    ap (λ n. without_spans (finished_at n target.Property)) (default_name at of_binding of_name of_type word ctxt optional value there)
     ∙ (ap without_spans (finished_node at kind.AssignProp (name ∷ d ∷ []) target.Property)
     ∙ (spanless at kind.AssignPatProp (finished_at name target.Name ∷ again target.Free value ∷ [])
     ∙ (ap₂ (λ x y. node_of dummy_span kind.AssignPatProp (x ∷ y ∷ [])) (ap without_spans (name_again target.Name refl of_name word ctxt optional) ∙ binding_bare of_binding of_name of_type word ctxt optional) same

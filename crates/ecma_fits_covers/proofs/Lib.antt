@@ -1,3 +1,11 @@
 mod Parts
 mod Roles
 pub mod Placed
+mod Tests
+mod Fine
+mod Aimed
+mod Sorted
+mod Reading
+mod Itself
+mod Below
+pub mod Unbroken

@@ -4,16 +4,13 @@ use Rattle.ecma_kind.specs.Sorts.{belongs}
 use Rattle.ecma_kind.specs.declared.span.Span.{Span}
 use Rattle.ecma_kind.specs.declared.kind.Kind.{Kind}
 use Rattle.ecma_kind.specs.declared.kind.Kind.TheVariants as kind
-use Rattle.ecma_kind.specs.declared.shapes.Count.{Count}
-use Rattle.ecma_kind.specs.declared.shapes.Count.TheVariants.{One}
 use Rattle.ecma_kind.specs.declared.shapes.Shape.{Shape}
-use Rattle.ecma_kind.specs.declared.shapes.Sort.{Sort}
 use Rattle.ecma_kind.specs.declared.shapes.Sort.TheVariants as sort
 use Rattle.ecma_tree.specs.declared.node.Node.{Node, Node-F, ind-Node, out-Node, roll-Node}
 use Rattle.ecma_tree.specs.declared.node.Node.TheViews.{roll-out-Node}
 use Rattle.ecma_tree.specs.Laws.{HaveShapes}
 use Rattle.ecma_tree.specs.Nodes.{node_of}
-use Rattle.ecma_tree.specs.Sorted.{HasShape, allows_by, child_shapes, is_absent, maybe, one}
+use Rattle.ecma_tree.specs.Sorted.{HasShape, child_shapes, is_absent, maybe, one}
 use Rattle.ecma_rules.specs.declared.target.Target.{Target}
 use Rattle.ecma_rules.specs.declared.target.Target.TheVariants as target
 use Rattle.ecma_rules.specs.Children.{kind_of}
@@ -28,7 +25,7 @@ use Rattle.ecma_fits.specs.Fitting.{at_top, first_unfit_in}
 use Rattle.ecma_fits.specs.Roles.{is_assigned, role_in}
 use Rattle.ecma_fits_covers.specs.Laws.{WhatFitsStands, is_optional_pattern}
 use Rattle.ecma_fits_covers.proofs.Parts.{AllFit, AllLack, Fit, IsMissing, IsName, Lacks, fitting, is_missing, is_name, kind_allowed, lacking, neither_least, not_true, nothing_stands, shape_made, where_by}
-use Rattle.ecma_fits_covers.proofs.Roles.{AllSuit, Way, array, asked, bound, default, is_property, itself, key_value, object, rest_element, rest_property, short, suited, suits, target_of, way_of}
+use Rattle.ecma_fits_covers.proofs.Roles.{AllSuit, Way, array, asked, bound, default, itself, key_value, object, property_kind, rest_element, rest_property, short, suited, suits, target_of, way_of}
 
 each_alike : (f g : ℕ → Target) → ((i : ℕ) → f i ≡ g i) → {ns : List Node} → EachStands f ns → EachStands g ns
 each_alike f g e place.none = place.none
@@ -209,12 +206,6 @@ all_placed [] where_of os suit have fit lack = place.none
 all_placed (e ∷ es) where_of [] suit have fit lack = absurd have
 all_placed (e ∷ es) where_of (o ∷ os) suit have fit lack =
     place.more (e.1 (where_of 0) o suit.0 have.0 fit.0 lack.0) (all_placed es (λ i. where_of (suc i)) os suit.1 have.1 fit.1 lack.1)
-
--- what is a property of a pattern that is assigned to, by its sort
-property_kind : (c : Count) (s : Sort) (k : Kind) → is_property c s ≡ true → allows_by c s k ≡ true → belongs sort.ObjectPatProp k ≡ true
-property_kind One sort.ObjectPatProp k h b = b
-property_kind One _ k h b = not_true h
-property_kind _ s k h b = not_true h
 
 node_placed : (x : Node-F Node) → AllPlaced x.children → Placed (roll-Node x)
 node_placed x below w o suit h fit lack =

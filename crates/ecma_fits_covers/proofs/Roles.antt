@@ -11,7 +11,7 @@ use Rattle.ecma_kind.specs.declared.shapes.Count.TheVariants.{One, Many}
 use Rattle.ecma_kind.specs.declared.shapes.Shape.{Shape}
 use Rattle.ecma_kind.specs.declared.shapes.Sort.{Sort}
 use Rattle.ecma_kind.specs.declared.shapes.Sort.TheVariants as sort
-use Rattle.ecma_tree.specs.Sorted.{child_shapes, item_count, item_shape, many, maybe}
+use Rattle.ecma_tree.specs.Sorted.{allows_by, child_shapes, item_count, item_shape, many, maybe}
 use Rattle.ecma_rules.specs.declared.target.Target.{Target}
 use Rattle.ecma_rules.specs.declared.target.Target.TheVariants as target
 use Rattle.ecma_rules.specs.Targets.{in_literal, in_short_default, in_spread, in_value, is_plain, on_left, takes_patterns, target_in}
@@ -159,6 +159,12 @@ abbrev pub suits : Role → Shape → Bool
 suits role.AssignedProperties o = are_properties o.count o.sort
 suits role.AssignedProperty o = is_property o.count o.sort
 suits _ o = true
+
+-- what is a property of a pattern that is assigned to, by its sort
+pub property_kind : (c : Count) (s : Sort) (k : Kind) → is_property c s ≡ true → allows_by c s k ≡ true → belongs sort.ObjectPatProp k ≡ true
+property_kind One sort.ObjectPatProp k h b = b
+property_kind One _ k h b = not_true h
+property_kind _ s k h b = not_true h
 
 pub way_of : (r : Role) (k : Kind) → allowed r k ≡ true → (r ≡ role.AssignedProperty → belongs sort.ObjectPatProp k ≡ true) → Way r k
 way_of role.Left k h p = left_way k h

@@ -1,10 +1,13 @@
 -- Laws of finished trees that fit.
-use Rattle.std.specs.Prelude.{◌≡◌, Bool, false}
+use Rattle.std.specs.Prelude.{◌≡◌, Bool, false, None}
 use Rattle.ecma_kind.specs.declared.kind.Kind.{Kind}
 use Rattle.ecma_kind.specs.declared.kind.Kind.TheVariants as kind
 use Rattle.ecma_tree.specs.declared.node.Node.{Node}
 use Rattle.ecma_tree.specs.Finding.{enters_all, finds}
 use Rattle.ecma_rules.specs.declared.target.Target.TheVariants as target
+use Rattle.ecma_rules.specs.Rules.{first_misplaced}
+use Rattle.ecma_rules.specs.Surroundings.{at_root}
+use Rattle.ecma_covers.specs.Covering.{cover}
 use Rattle.ecma_covers.specs.Placing.{Stands}
 use Rattle.ecma_fits.specs.Fitting.{Fits}
 
@@ -21,3 +24,7 @@ HasNoOptionalPatterns tree = finds is_optional_pattern enters_all tree ≡ false
 -- in what fits, patterns stand where they may: finishing a covered tree gives it again
 abbrev pub WhatFitsStands : Type 0
 WhatFitsStands = (tree : Node) → Fits tree → HasNoOptionalPatterns tree → Stands target.Free tree
+
+-- no node of the raw tree of what fits is misplaced: it breaks no context rule but perhaps that on what belongs to nothing
+abbrev pub CoversAreNotMisplaced : Type 0
+CoversAreNotMisplaced = (tree : Node) → Fits tree → HasNoOptionalPatterns tree → first_misplaced (cover tree) at_root ≡ None

@@ -3,10 +3,16 @@
 //! Each function carries one law over the definitions, and does nothing. The laws are stated in `specs/`.
 #![tactic(auto)]
 
-ghost use Rattle.ecma_fits_covers.specs.Laws.{WhatFitsStands};
+ghost use Rattle.ecma_fits_covers.specs.Laws.{CoversAreNotMisplaced, WhatFitsStands};
 
 /// In a tree that fits, and whose patterns have no `?`, patterns stand where they may.
 #[tactic(auto, using(crate::proofs::Placed::placed))]
 pub fn what_fits_stands()
     ensures { WhatFitsStands }
+{}
+
+/// In the raw tree of such a tree no node breaks a context rule, but perhaps one that belongs to nothing inside the enum initialiser or namespace body around it.
+#[tactic(auto, using(crate::proofs::Unbroken::whole))]
+pub fn covers_are_not_misplaced()
+    ensures { CoversAreNotMisplaced }
 {}
