@@ -35,3 +35,4 @@ pub mod Mapping
 pub mod Seeing
 pub mod NamingAgain
 pub mod ResolvedApart
+pub mod Calming

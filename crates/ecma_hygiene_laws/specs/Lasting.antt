@@ -1,8 +1,10 @@
 -- Resolved modules in which declarations may go: what scopes declare as values that stay, they declare in contexts of their own.
 use Rattle.std.specs.Prelude.{◌≡◌, ◌≢◌, ◌<◌, ◌≤◌, ℕ, Bool, true, false, List, [], map}
 use Rattle.std.specs.List.{All}
+use Rattle.ecma_kind.specs.declared.kind.Kind.{Kind}
 use Rattle.ecma_kind.specs.declared.kind.Kind.TheVariants as kind
 use Rattle.ecma_kind.specs.declared.shapes.Sort.TheVariants as sort
+use Rattle.ecma_tree.specs.Finding.{enters_all, finds}
 use Rattle.ecma_tree.specs.Sorted.{HasSort}
 use Rattle.ecma_tree.specs.declared.node.Node.{Node, out-Node}
 use Rattle.ecma_scope.specs.declared.role.Role.TheVariants as role
@@ -48,3 +50,13 @@ pub record IsCheckedModule (source : Node) : Type 0 where
 abbrev pub ResolvedKeepsScopesApart : Type 0
 ResolvedKeepsScopesApart = (unresolved top left : ℕ) (source : Node) → IsCheckedModule source → left < unresolved → left < top → unresolved ≢ top → contexts source ≤ left
     → KeepsScopesApart unresolved left (resolved unresolved top left source)
+
+-- a namespace that is written `declare`
+abbrev pub is_ambient_namespace : Kind → Bool
+is_ambient_namespace (kind.TsModuleDecl declare global) = declare
+is_ambient_namespace (kind.TsNamespaceDecl declare global) = declare
+is_ambient_namespace _ = false
+
+-- where there is none, nothing stands in an ambient namespace, so no scope is ambient
+abbrev pub NothingIsAmbient : Type 0
+NothingIsAmbient = (tree : Node) → finds is_ambient_namespace enters_all tree ≡ false → All (λ (seat : Seat). is_ambient seat.role ≡ false) (seats_at tree role.Root)
