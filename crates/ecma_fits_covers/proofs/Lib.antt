@@ -9,3 +9,5 @@ mod Reading
 mod Itself
 mod Below
 pub mod Unbroken
+mod Strays
+pub mod Strayless

@@ -40,7 +40,7 @@ neither_least None b h = (refl, h)
 neither_least (Some i) None h = cc
 neither_least (Some i) (Some j) h = cc
 
-not_failing : (b : Bool) (n : Node) → failing_here b n ≡ None → b ≡ false
+pub not_failing : (b : Bool) (n : Node) → failing_here b n ≡ None → b ≡ false
 not_failing true n h = cc
 not_failing false n h = refl
 

@@ -49,7 +49,7 @@ abbrev is_element : Target → Bool
 is_element target.Element = true
 is_element _ = false
 
-takes_assigned : (r : Role) → takes_patterns (target_of r) ≡ true → is_assigned r ≡ true
+pub takes_assigned : (r : Role) → takes_patterns (target_of r) ≡ true → is_assigned r ≡ true
 takes_assigned role.Left h = refl
 takes_assigned role.Head h = refl
 takes_assigned role.Assigned h = refl
@@ -57,17 +57,17 @@ takes_assigned role.AssignedValue h = refl
 takes_assigned role.AssignedElement h = refl
 takes_assigned _ h = not_true h
 
-before_default : (r : Role) → target.Element ≡ target_of r → target.Part ≡ target_of (in_default r)
+pub before_default : (r : Role) → target.Element ≡ target_of r → target.Part ≡ target_of (in_default r)
 before_default role.AssignedValue e = refl
 before_default role.AssignedElement e = refl
 before_default _ e = not_true (sym (ap is_element e))
 
-behind_rest : (r : Role) → target.Element ≡ target_of r → target.Part ≡ target_of (in_rest r)
+pub behind_rest : (r : Role) → target.Element ≡ target_of r → target.Part ≡ target_of (in_rest r)
 behind_rest role.AssignedValue e = refl
 behind_rest role.AssignedElement e = refl
 behind_rest _ e = not_true (sym (ap is_element e))
 
-is_property_role : (r : Role) → target.Property ≡ target_of r → r ≡ role.AssignedProperty
+pub is_property_role : (r : Role) → target.Property ≡ target_of r → r ≡ role.AssignedProperty
 is_property_role role.AssignedProperty e = refl
 is_property_role _ e = not_true (sym (ap is_property e))
 
@@ -121,17 +121,17 @@ module _ (t : Target) (l : Bool) (w : Where) (o : Shape) (at : Span) (k : Kind) 
   abbrev x : Node-F Node
   x = record { span = at; kind = k; children = cs }
 
-  shapes : (allows o k ≡ true) × HaveShapes (child_shapes k o (length cs)) cs
+  pub shapes : (allows o k ≡ true) × HaveShapes (child_shapes k o (length cs)) cs
   shapes = shape_made x o shape
 
-  fits : Fitting w x
+  pub fits : Fitting w x
   fits = fitting x w fit
 
   abbrev kids : List Node
   kids = each_in (target_in t k) (map cover_at cs)
 
   -- a child that stands anyhow, as it is read
-  below_there : as_read t k ≡ true → AllThere (target_in t k) (λ i. last_by l k (length kids) i) (where_by w x) (child_shapes k o (length cs))
+  pub below_there : as_read t k ≡ true → AllThere (target_in t k) (λ i. last_by l k (length kids) i) (where_by w x) (child_shapes k o (length cs))
   below_there h =
       let read : as_read (target_of w.role) k ≡ true = sym (ap (λ u. as_read u k) there.same) ∙ h in
       let free = declared w.role k (kind_allowed x w.role fits.role) (λ e. property_kind o.count o.sort k (subst (λ r. suits r o ≡ true) e there.suit) shapes.0) read in
@@ -159,7 +159,7 @@ module _ (t : Target) (l : Bool) (w : Where) (o : Shape) (at : Span) where
   parts k cs = record { span = at; kind = k; children = cs }
 
   -- a child of a part of a pattern
-  child_there : (k : Kind) (cs : List Node) (i : ℕ) (u : Target) (s : Shape) → u ≡ target_of (role_in w.role k i) → is_head (target_in w.around.target k i) ≡ is_head u → suits (role_in w.role k i) s ≡ true
+  pub child_there : (k : Kind) (cs : List Node) (i : ℕ) (u : Target) (s : Shape) → u ≡ target_of (role_in w.role k i) → is_head (target_in w.around.target k i) ≡ is_head u → suits (role_in w.role k i) s ≡ true
       → (belongs s.sort kind.AssignProp ≡ true → role_in w.role k i ≡ role.Free) → (belongs s.sort kind.Super ≡ true → is_linked (where_by w (parts k cs) i).around.standing ≡ true) → There u true (where_by w (parts k cs) i) s
   child_there k cs i u s same head suit defaults super = record { same = same; head = head; last = λ e. refl; suit = suit; short = defaults; super = super }
 

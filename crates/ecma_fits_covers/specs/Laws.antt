@@ -5,7 +5,7 @@ use Rattle.ecma_kind.specs.declared.kind.Kind.TheVariants as kind
 use Rattle.ecma_tree.specs.declared.node.Node.{Node}
 use Rattle.ecma_tree.specs.Finding.{enters_all, finds}
 use Rattle.ecma_rules.specs.declared.target.Target.TheVariants as target
-use Rattle.ecma_rules.specs.Rules.{first_misplaced}
+use Rattle.ecma_rules.specs.Rules.{first_broken, first_misplaced}
 use Rattle.ecma_rules.specs.Surroundings.{at_root}
 use Rattle.ecma_covers.specs.Covering.{cover}
 use Rattle.ecma_covers.specs.Placing.{Stands}
@@ -28,3 +28,7 @@ WhatFitsStands = (tree : Node) → Fits tree → HasNoOptionalPatterns tree → 
 -- no node of the raw tree of what fits is misplaced: it breaks no context rule but perhaps that on what belongs to nothing
 abbrev pub CoversAreNotMisplaced : Type 0
 CoversAreNotMisplaced = (tree : Node) → Fits tree → HasNoOptionalPatterns tree → first_misplaced (cover tree) at_root ≡ None
+
+-- the raw tree of what fits keeps all context rules
+abbrev pub CoversBreakNoRule : Type 0
+CoversBreakNoRule = (tree : Node) → Fits tree → HasNoOptionalPatterns tree → first_broken (cover tree) ≡ None

@@ -3,7 +3,7 @@
 //! Each function carries one law over the definitions, and does nothing. The laws are stated in `specs/`.
 #![tactic(auto)]
 
-ghost use Rattle.ecma_fits_covers.specs.Laws.{CoversAreNotMisplaced, WhatFitsStands};
+ghost use Rattle.ecma_fits_covers.specs.Laws.{CoversAreNotMisplaced, CoversBreakNoRule, WhatFitsStands};
 
 /// In a tree that fits, and whose patterns have no `?`, patterns stand where they may.
 #[tactic(auto, using(crate::proofs::Placed::placed))]
@@ -15,4 +15,10 @@ pub fn what_fits_stands()
 #[tactic(auto, using(crate::proofs::Unbroken::whole))]
 pub fn covers_are_not_misplaced()
     ensures { CoversAreNotMisplaced }
+{}
+
+/// It keeps all context rules.
+#[tactic(auto, using(crate::proofs::Strayless::keeping))]
+pub fn covers_break_no_rule()
+    ensures { CoversBreakNoRule }
 {}
