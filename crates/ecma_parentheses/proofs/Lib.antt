@@ -1,8 +1,8 @@
-mod Standing
+pub mod Standing
 mod Shaped
-mod Asking
+pub mod Asking
 pub mod Adding
-mod Spotted
+pub mod Spotted
 pub mod Lacks
 mod Places
 mod LaidExpressions

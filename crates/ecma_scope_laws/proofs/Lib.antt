@@ -1,3 +1,8 @@
 mod Bare
 mod Names
 pub mod Resolved
+mod Looking
+mod Roles
+mod ExplicitNames
+mod ExplicitCounts
+pub mod ExplicitContexts
