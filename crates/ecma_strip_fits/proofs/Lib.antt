@@ -1,0 +1,16 @@
+pub mod Lists
+pub mod Classes
+pub mod Walk
+pub mod ChildrenKept
+pub mod Strays
+pub mod Tests
+pub mod Chains
+pub mod Branches
+pub mod Constructors
+pub mod StaysAll
+pub mod Counts
+pub mod FullNodes
+pub mod Standing
+pub mod Leaves
+pub mod Ruled
+pub mod RuleStanding

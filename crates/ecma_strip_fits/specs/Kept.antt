@@ -1,0 +1,53 @@
+-- What a tree that fits keeps without its types.
+use Rattle.std.specs.Prelude.{◌≡◌, Bool, not, None, is_some}
+use Rattle.ecma_tree.specs.declared.node.Node.{Node}
+use Rattle.ecma_leaves.specs.Words.{is_spelled}
+use Rattle.ecma_rules.specs.Children.{kind_of}
+use Rattle.ecma_rules.specs.Failing.{failing_here, first_failing}
+use Rattle.ecma_rules.specs.Jumps.{first_stray}
+use Rattle.ecma_rules.specs.Members.{second_constructor}
+use Rattle.ecma_fits.specs.declared.unfit.Where.{Where}
+use Rattle.ecma_fits.specs.Branches.{is_dangling}
+use Rattle.ecma_fits.specs.Chains.{is_loose}
+use Rattle.ecma_fits.specs.Counts.{is_short}
+use Rattle.ecma_fits.specs.Fitting.{Fits, at_top, where_in}
+use Rattle.ecma_fits.specs.Members.{is_misread}
+use Rattle.ecma_fits.specs.Roles.{is_tagged}
+use Rattle.ecma_fits.specs.Strays.{is_stray_target}
+use Rattle.ecma_strip.specs.Stripping.{stripped}
+
+-- no node of a tree fails a test of it and of where it stands
+abbrev pub NoneFails : (Where → Node → Bool) → Node → Type 0
+NoneFails fails tree = first_failing Where (λ w node. failing_here (fails w node) node) where_in tree at_top ≡ None
+
+-- a constructor is the member `constructor` that is not static, and no other is; no getter or setter of a class is a generator or async
+abbrev pub StrippingKeepsMembers : Type 0
+StrippingKeepsMembers = (tree : Node) → Fits tree → NoneFails (λ w node. is_misread node) (stripped tree)
+
+-- a node has what its production asks for
+abbrev pub StrippingKeepsCounts : Type 0
+StrippingKeepsCounts = (tree : Node) → Fits tree → NoneFails (λ w node. is_short node) (stripped tree)
+
+-- no `if` without `else` stands directly before an outer `else`
+abbrev pub StrippingKeepsBranches : Type 0
+StrippingKeepsBranches = (tree : Node) → Fits tree → NoneFails (λ w node. is_dangling node) (stripped tree)
+
+-- a link of an optional chain without its own `?.` stands behind a link
+abbrev pub StrippingKeepsChains : Type 0
+StrippingKeepsChains = (tree : Node) → Fits tree → NoneFails (λ w node. is_loose node) (stripped tree)
+
+-- a class has no second constructor with a body
+abbrev pub StrippingKeepsConstructors : Type 0
+StrippingKeepsConstructors = (tree : Node) → Fits tree → NoneFails (λ w node. is_some (second_constructor node)) (stripped tree)
+
+-- a leaf is spelled as its terminal reads it, and says what that says
+abbrev pub StrippingKeepsLeaves : Type 0
+StrippingKeepsLeaves = (tree : Node) → Fits tree → NoneFails (λ w node. not (is_spelled (is_tagged w.role) (kind_of node))) (stripped tree)
+
+-- no `arguments` is assigned to in a pattern that belongs to nothing inside an enum initialiser or a namespace body
+abbrev pub StrippingKeepsTargets : Type 0
+StrippingKeepsTargets = (tree : Node) → Fits tree → NoneFails (λ w node. is_stray_target w.role w.arguments node) (stripped tree)
+
+-- nothing belongs to nothing inside an enum initialiser or a namespace body
+abbrev pub StrippingKeepsStrays : Type 0
+StrippingKeepsStrays = (tree : Node) → Fits tree → first_stray (stripped tree) ≡ None

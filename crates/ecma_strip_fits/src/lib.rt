@@ -1,0 +1,18 @@
+//! What fits, without its types: which clauses the tree keeps, over the definitions alone.
+//!
+//! Each function carries one law, and does nothing. The laws are stated in `specs/`.
+#![tactic(auto)]
+
+ghost use Rattle.ecma_strip_fits.specs.Kept.{StrippingKeepsBranches, StrippingKeepsChains, StrippingKeepsConstructors, StrippingKeepsCounts, StrippingKeepsLeaves, StrippingKeepsMembers, StrippingKeepsStrays, StrippingKeepsTargets};
+
+/// Where a tree fits, the tree without its types keeps these clauses of fitting.
+pub fn stripping_keeps_clauses_of_what_fits()
+    ensures counts { StrippingKeepsCounts }
+    ensures branches { StrippingKeepsBranches }
+    ensures members { StrippingKeepsMembers }
+    ensures chains { StrippingKeepsChains }
+    ensures constructors { StrippingKeepsConstructors }
+    ensures leaves { StrippingKeepsLeaves }
+    ensures targets { StrippingKeepsTargets }
+    ensures strays { StrippingKeepsStrays }
+{}
