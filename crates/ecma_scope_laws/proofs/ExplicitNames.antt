@@ -157,7 +157,7 @@ mutual
   all_found (more {n} h hs) (spot ∷ spots) further fit fits into i blind =
       ap₂ (λ a rest. a ++ rest) (at_kept n spot (into i) (λ sought b. found_kept h spot fit.0 sought b) (blind 0)) (all_found hs spots further fit.1 fits into (suc i) (λ j. blind (suc j)))
 
-found_bare : (at : Span) (k : Kind) {ns : List Node} → AllHaveBodies ns → (spot : Spot) → Fits spot → (sought : Sought) → declarations (bare' at k ns spot) sought ≡ declarations (node_of at k ns) sought
+pub found_bare : (at : Span) (k : Kind) {ns : List Node} → AllHaveBodies ns → (spot : Spot) → Fits spot → (sought : Sought) → declarations (bare' at k ns spot) sought ≡ declarations (node_of at k ns) sought
 found_bare at k {ns} all spot fits sought =
     found_layer at k all spot fits sought (all_found all (first_spots k (map laid ns) spot) (further_spot k spot) (first_fit k (map laid ns) spot fits) (further_fits k spot fits) (into_children sought at k ns) 0 (blind_children sought at k ns spot))
 

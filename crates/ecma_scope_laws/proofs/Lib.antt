@@ -6,3 +6,5 @@ mod Roles
 mod ExplicitNames
 mod ExplicitCounts
 pub mod ExplicitContexts
+mod SpanConflicts
+mod ExplicitConflicts

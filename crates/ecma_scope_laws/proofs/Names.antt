@@ -66,7 +66,7 @@ node-found n found sought =
     (ap (λ (nodes : List Node). found_in (sought_in sought (without_spans n)) 0 (map declarations nodes)) (bare-children n) ∙ found (sought_in sought (without_spans n)) (sought_in sought n) (sought-bare sought n) 0)
     ∙ sym (declarations-out n sought)
 
-declarations-bare : (n : Node) → Found n
+pub declarations-bare : (n : Node) → Found n
 declarations-bare = ind-Node Found (λ x y is. node-found (roll-Node x) (subst (λ (z : Node-F Node). AllFound z.children) (is ∙ sym (out-roll-Node x)) (all-found y.children)))
 
 vars-bare : (r : Role) (stays : Bool) (n : Node) → vars_of r stays (without_spans n) ≡ vars_of r stays n

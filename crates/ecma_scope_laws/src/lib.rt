@@ -1,8 +1,9 @@
-//! Laws of resolved trees: neither where nodes stand in a text nor parentheses matter to their contexts.
+//! Laws of resolved trees: neither where nodes stand in a text nor parentheses matter to their contexts, and to which names are declared twice.
 //!
 //! Each function carries one law over the definitions, and does nothing. The laws are stated in `specs/`.
 #![tactic(auto)]
 
+ghost use Rattle.ecma_scope_laws.specs.Conflicts.{ParenthesesDoNotMatterToConflicts, SpansDoNotMatterToConflicts};
 ghost use Rattle.ecma_scope_laws.specs.Parentheses.{ParenthesesDoNotMatterToContexts};
 ghost use Rattle.ecma_scope_laws.specs.Spans.{SpansDoNotMatterToContexts};
 
@@ -15,4 +16,14 @@ pub fn spans_do_not_matter_to_contexts()
 /// expression has a body.
 pub fn parentheses_do_not_matter_to_contexts()
     ensures { ParenthesesDoNotMatterToContexts }
+{}
+
+/// In trees that are equal up to spans the same names are declared again where they may not be.
+pub fn spans_do_not_matter_to_conflicts()
+    ensures { SpansDoNotMatterToConflicts }
+{}
+
+/// So they are in a tree and in that in which the parentheses of its layout are nodes.
+pub fn parentheses_do_not_matter_to_conflicts()
+    ensures { ParenthesesDoNotMatterToConflicts }
 {}
