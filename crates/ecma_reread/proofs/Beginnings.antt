@@ -17,7 +17,7 @@ use Rattle.ecma_print.specs.declared.place.Beside.TheVariants.{NoNeighbor}
 use Rattle.ecma_print.specs.Operators.{unary_sign, update_sign}
 use Rattle.ecma_reread.specs.Shapes as shapes
 use Rattle.ecma_reread.specs.Shapes.{Level, looser_than, IsOperator, IsIdent, ident, IsKey, key, IsExpression, IsElement, IsArguments, AreElements, AreExpressions, IsInitializer, IsDeclarator, AreDeclarators, AreSlots, IsMemberLevel, IsIndexed, IsChainKey, AreProperties, IsPropertyName, IsProperty, regex_text, IsDefaulted, IsPattern, Role, part_text, IsChainLink}
-use Rattle.ecma_reread.specs.Tokens.{blank, sign_of, assign_token, update_token, unary_token, binary_token, own_sign, unary_gap, ident_word, key_word, expression_tokens, element_tokens, arguments_tokens, more_tokens, slots_tokens, more_slots_tokens, chain_token, properties_tokens, more_properties_tokens, property_tokens, star_of, initializer_tokens, defaulted_tokens, pattern_tokens, part_token, parts_tokens, ends_here, first_raw, point_of, question_of, block_tokens}
+use Rattle.ecma_reread.specs.Tokens.{blank, sign_of, assign_token, update_token, unary_token, binary_token, own_sign, unary_gap, ident_word, key_word, expression_tokens, element_tokens, arguments_tokens, more_tokens, slots_tokens, more_slots_tokens, chain_token, properties_tokens, more_properties_tokens, property_tokens, star_of, initializer_tokens, defaulted_tokens, pattern_tokens, part_token, parts_tokens, ends_here, first_raw, point_of, question_of, block_tokens, method_tokens, is_generator, is_async, function_tokens, property_name_tokens}
 use Rattle.ecma_reread.proofs.Braces.{begins_with_brace}
 use Rattle.ecma_reread.proofs.Softs.{Soft, comma, closing_bracket, parted}
 
@@ -247,7 +247,21 @@ element_bracket_joins (shapes.bound (shapes.no_default p)) depth us = pattern_br
 element_bracket_joins (shapes.bound (shapes.with_default at p e)) depth us = pattern_bracket_joins p depth (it blank (sign (codes "=")) (expression_tokens e depth blank us))
 element_bracket_joins (shapes.rest at p a) depth us = refl
 
+key_parted : (t : Tok) {n : Node} (is : IsPropertyName n) (depth : ℕ) (us : Items) → joins_next t (property_name_tokens is depth blank us) ≡ true
+key_parted t (shapes.key_name k) depth us = refl
+key_parted t (shapes.string_name at raw z) depth us = refl
+key_parted t (shapes.number_name at raw z) depth us = refl
+key_parted t (shapes.big_int_name at raw z) depth us = refl
+key_parted t (shapes.computed_name at e) depth us = refl
+
+method_parted : (t : Tok) (x y : Bool) {n : Node} (is : IsPropertyName n) (depth : ℕ) (us : Items) → joins_next t (method_tokens x y (λ h. property_name_tokens is depth h us) blank) ≡ true
+method_parted t true true is depth us = refl
+method_parted t true false is depth us = refl
+method_parted t false true is depth us = refl
+method_parted t false false is depth us = key_parted t is depth us
+
 pub property_parted : (t : Tok) {role : Role} {n : Node} (is : IsProperty role n) (depth : ℕ) (us : Items) → joins_next t (property_tokens is depth blank us) ≡ true
+property_parted t (shapes.method_property at k f) depth us = method_parted t (is_generator f) (is_async f) k depth (function_tokens f depth us)
 property_parted t (shapes.key_value at (shapes.key_name k) v) depth us = refl
 property_parted t (shapes.renamed at (shapes.key_name k) p) depth us = refl
 property_parted t (shapes.renamed at k p) depth us = refl

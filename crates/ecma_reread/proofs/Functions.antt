@@ -68,7 +68,7 @@ flag true = flag_node Present
 flag false = flag_node Absent
 
 -- a generator or none, asynchronous or not
-function_made : (k : Plain) (x y : Bool) (name ps n : Node) → made (form.Function k) 0 0 (flag y ∷ flag x ∷ name ∷ absent ∷ ps ∷ absent ∷ n ∷ []) ≡ bare (plain_kind k) (name ∷ bare (kind.Function x y) (parameters ps ∷ n ∷ absent ∷ absent ∷ []) ∷ [])
+pub function_made : (k : Plain) (x y : Bool) (name ps n : Node) → made (form.Function k) 0 0 (flag y ∷ flag x ∷ name ∷ absent ∷ ps ∷ absent ∷ n ∷ []) ≡ bare (plain_kind k) (name ∷ bare (kind.Function x y) (parameters ps ∷ n ∷ absent ∷ absent ∷ []) ∷ [])
 function_made k true true name ps n = simp nodes
 function_made k true false name ps n = simp nodes
 function_made k false true name ps n = simp nodes

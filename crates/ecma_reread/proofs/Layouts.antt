@@ -28,7 +28,7 @@ use Rattle.ecma_tokens.specs.Items as items
 use Rattle.ecma_tokens.specs.Items.{Tok, sign, Gap, no_gap, Items, it, token_text, render}
 use Rattle.ecma_reread.specs.Shapes as shapes
 use Rattle.ecma_reread.specs.Shapes.{Level, looser_than, IsOperator, IsIdent, ident, IsKey, key, IsAbsent, IsExpression, IsElement, IsArguments, AreElements, AreExpressions, IsInitializer, IsDeclarator, AreDeclarators, AreSlots, IsMemberLevel, IsIndexed, IsProperty, IsPropertyName, AreProperties, Role, IsDefaulted, IsPattern, part_opening, part_closing, part_text, AreParts, IsChainKey}
-use Rattle.ecma_reread.specs.Tokens.{margin, blank, sign_of, assign_token, update_token, unary_token, binary_token, own_sign, unary_gap, expression_tokens, element_tokens, arguments_tokens, more_tokens, more_slots_tokens, chain_token, property_tokens, ident_word, defaulted_tokens, pattern_tokens, part_token, parts_tokens, point_of, question_of}
+use Rattle.ecma_reread.specs.Tokens.{margin, blank, sign_of, assign_token, update_token, unary_token, binary_token, own_sign, unary_gap, expression_tokens, element_tokens, arguments_tokens, more_tokens, more_slots_tokens, chain_token, property_tokens, ident_word, defaulted_tokens, pattern_tokens, part_token, parts_tokens, point_of, question_of, method_tokens, is_generator, is_async, function_tokens, property_name_tokens}
 
 pub laid_node : (at : Span) (k : Kind) (cs : List Node) → laid (node_of at k cs) ≡ record { kind = k; at = in_place k (map laid cs); parts = map by_itself (map laid cs) }
 laid_node at k cs = fold-roll-Node Laid lay_step (record { span = at; kind = k; children = cs })
@@ -216,8 +216,26 @@ element_gap_out (shapes.spread at e) depth g us = refl
 element_gap_out (shapes.bound p) depth g us = defaulted_gap_out p depth g us
 element_gap_out (shapes.rest at p a) depth g us = refl
 
+-- the name of a property, and of a method
+pub key_gap_out : {n : Node} (is : IsPropertyName n) (depth : ℕ) (g : Gap) (us : Items) → render (property_name_tokens is depth g us) ≡ g.blanks ++ render (property_name_tokens is depth no_gap us)
+unfolding render
+key_gap_out (shapes.key_name k) depth g us = refl
+key_gap_out (shapes.string_name at raw t) depth g us = refl
+key_gap_out (shapes.number_name at raw t) depth g us = refl
+key_gap_out (shapes.big_int_name at raw t) depth g us = refl
+key_gap_out (shapes.computed_name at e) depth g us = refl
+
+method_gap_out : (x y : Bool) {n : Node} (is : IsPropertyName n) (depth : ℕ) (g : Gap) (us : Items)
+    → render (method_tokens x y (λ h. property_name_tokens is depth h us) g) ≡ g.blanks ++ render (method_tokens x y (λ h. property_name_tokens is depth h us) no_gap)
+unfolding render
+method_gap_out true true is depth g us = refl
+method_gap_out true false is depth g us = refl
+method_gap_out false true is depth g us = refl
+method_gap_out false false is depth g us = key_gap_out is depth g us
+
 pub property_gap_out : {role : Role} {n : Node} (is : IsProperty role n) (depth : ℕ) (g : Gap) (us : Items) → render (property_tokens is depth g us) ≡ g.blanks ++ render (property_tokens is depth no_gap us)
 unfolding render
+property_gap_out (shapes.method_property at k f) depth g us = method_gap_out (is_generator f) (is_async f) k depth g (function_tokens f depth us)
 property_gap_out (shapes.key_value at (shapes.key_name k) v) depth g us = refl
 property_gap_out (shapes.renamed at (shapes.key_name k) v) depth g us = refl
 property_gap_out (shapes.renamed at k v) depth g us = refl

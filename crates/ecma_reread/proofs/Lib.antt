@@ -38,6 +38,8 @@ pub mod Async
 pub mod Lists
 pub mod Literals
 pub mod Arrays
+pub mod PropertyNames
+pub mod ObjectMethods
 pub mod Objects
 pub mod Patterns
 pub mod Arrows

@@ -26,7 +26,7 @@ use Rattle.ecma_reread.proofs.Bindings.{used}
 use Rattle.ecma_reread.proofs.Elements.{bracket_ends}
 use Rattle.ecma_reread.proofs.Members.{name_behind}
 use Rattle.ecma_reread.proofs.Classes.{a_static_block}
-use Rattle.ecma_reread.proofs.Objects.{NameForm}
+use Rattle.ecma_reread.proofs.PropertyNames.{NameForm}
 
 pub name_private : {private : Bool} {n : Node} (is : IsMemberName private n) → is_private_name (kind_of (bare_member_name is)) ≡ is_private is
 name_private (shapes.property_member (shapes.key_name k)) = simp nodes

@@ -35,8 +35,8 @@ use Rattle.ecma_tokens.specs.Taking.{took_if, new_line_in}
 use Rattle.ecma_reread.specs.Machine.{Turn, Out, read, fails, taken, with_front, followed_on, or_on, built_on, ahead_on, interp, means}
 use Rattle.ecma_reread.specs.Shapes as shapes
 use Rattle.ecma_reread.specs.Shapes.{Role, IsIdent, ident, IsPropertyName, IsProperty, AreProperties, IsInitializer}
-use Rattle.ecma_reread.specs.Tokens.{blank, initializer_tokens, defaulted_tokens, key_word, expression_tokens, property_name_tokens, property_tokens, properties_tokens, more_properties_tokens}
-use Rattle.ecma_reread.specs.Bare.{bare_initializer, bare_defaulted, expression_kind, expression_parts, bare_property_name, bare_property, bare_properties, bare_expression}
+use Rattle.ecma_reread.specs.Tokens.{blank, initializer_tokens, defaulted_tokens, key_word, expression_tokens, property_name_tokens, property_tokens, properties_tokens, more_properties_tokens, block_tokens}
+use Rattle.ecma_reread.specs.Bare.{bare_initializer, bare_defaulted, expression_kind, expression_parts, bare_property_name, bare_property, bare_properties, bare_expression, bare_block}
 use Rattle.ecma_reread.proofs.Moves.{eats}
 use Rattle.ecma_reread.proofs.Levels.{means_is}
 use Rattle.ecma_reread.proofs.Fronts.{Front, exactly, Begins, at_token, refuses_at, refused_at, refuses_all, all_refused}
@@ -48,10 +48,13 @@ use Rattle.ecma_reread.proofs.Repeats.{Repeats, repeats_end, repeats_more, repea
 use Rattle.ecma_reread.proofs.Further.{more, Lasts, Further, further_end, further_more, Listed, none_listed, some_listed, listed}
 use Rattle.ecma_reread.proofs.Params.{last_comma, Closes, no_comma, closing}
 use Rattle.ecma_reread.proofs.Expressions.{comma_ends}
-use Rattle.ecma_reread.proofs.Elements.{bracket_ends}
 use Rattle.ecma_reread.proofs.Spreads.{no_rest, ReadAsPattern, ReadAsDefaulted, InitializerForm, initializer_read}
 use Rattle.ecma_reread.proofs.Tried.{same_item, as_pattern, defaulted, defaulted_pattern, AsName, no_name, a_name, as_name, stopped, Wholly, wholly_refused, wholly_read}
+use Rattle.ecma_reread.proofs.ObjectMethods as methods
 use Rattle.ecma_reread.proofs.Literals.{Literal, literal_new}
+use Rattle.ecma_reread.proofs.PropertyNames.{NameForm, key_read, name_read, by_own_name, by_other_name, behind_rest, named_read}
+use Rattle.ecma_reread.proofs.Arrows.{ArgumentForms}
+use Rattle.ecma_reread.proofs.Blocks.{ReadAsBlock}
 
 -- what stands behind the name of a property begins neither another name nor a function
 abbrev ends_name : Front → Bool
@@ -116,16 +119,15 @@ on_line true f us h = refl
 on_line false f us h = ap (with_front []) h
 
 module _ (assigned : Bool) where
-  -- what is said of the name, and of a property
-  abbrev pub NameForm : {n : Node} → IsPropertyName n → ℕ → Type 0
-  NameForm (shapes.computed_name at e) depth = Stands assigned shapes.assignment (expression_tokens e depth) (expression_kind e) (expression_parts e)
-  NameForm k depth = Unit {0}
-
+  -- what is said of a property
   abbrev pub PropertyForm : {role : Role} {n : Node} → IsProperty role n → ℕ → Type 0
-  PropertyForm (shapes.key_value at k v) depth = NameForm k depth × Stands assigned shapes.assignment (expression_tokens v depth) (expression_kind v) (expression_parts v)
+  PropertyForm (shapes.key_value at k v) depth = NameForm assigned k depth × Stands assigned shapes.assignment (expression_tokens v depth) (expression_kind v) (expression_parts v)
   PropertyForm (shapes.shorthand i) depth = Unit {0}
   PropertyForm (shapes.initialized at i v) depth = Stands assigned shapes.assignment (expression_tokens v depth) (expression_kind v) (expression_parts v)
-  PropertyForm (shapes.renamed at k p) depth = NameForm k depth × ReadAsDefaulted assigned (defaulted_tokens p depth) (bare_defaulted p)
+  PropertyForm (shapes.method_property at k (shapes.function_of at' at'' x y ps w b a a')) depth = NameForm assigned k depth × (ArgumentForms assigned ps depth × ReadAsBlock assigned (block_tokens b depth) (bare_block b))
+  PropertyForm (shapes.getter_property at k a b) depth = NameForm assigned k depth × ReadAsBlock assigned (block_tokens b depth) (bare_block b)
+  PropertyForm (shapes.setter_property at k a p b) depth = NameForm assigned k depth × (ReadAsDefaulted assigned (defaulted_tokens p depth) (bare_defaulted p) × ReadAsBlock assigned (block_tokens b depth) (bare_block b))
+  PropertyForm (shapes.renamed at k p) depth = NameForm assigned k depth × ReadAsDefaulted assigned (defaulted_tokens p depth) (bare_defaulted p)
   PropertyForm (shapes.named at at' i a v) depth = InitializerForm assigned v depth
   PropertyForm (shapes.rest_property at at' i a b) depth = Unit {0}
   PropertyForm (shapes.spread_property at e) depth = Stands assigned shapes.assignment (expression_tokens e depth) (expression_kind e) (expression_parts e)
@@ -133,20 +135,6 @@ module _ (assigned : Bool) where
   abbrev pub PropertyForms : {role : Role} {ns : List Node} → AreProperties role ns → ℕ → Type 0
   PropertyForms shapes.no_properties depth = Unit {0}
   PropertyForms (shapes.more_properties p ps) depth = PropertyForm p depth × PropertyForms ps depth
-
-  -- names
-
-  key_read : (w : List ℕ) (g : Gap) (us : Items) → Reads assigned prop_name (it g (items.key w) us) (bare (kind.IdentName w) [] ∷ []) us
-  unfolding prop_name
-  key_read w g us = refl
-
-  name_read : {n : Node} (is : IsPropertyName n) (depth : ℕ) → NameForm is depth → (g : Gap) (us : Items) → Reads assigned prop_name (property_name_tokens is depth g us) (bare_property_name is ∷ []) us
-  unfolding prop_name computed_prop_name
-  name_read (shapes.key_name k) depth F g us = refl
-  name_read (shapes.string_name at raw t) depth F g us = refl
-  name_read (shapes.number_name at raw t) depth F g us = refl
-  name_read (shapes.big_int_name at raw t) depth F g us = refl
-  name_read (shapes.computed_name at e) depth F g us = rw (used assigned F no_gap (s (codes "]") us) (exactly (sign (codes "]"))) at_token bracket_ends) refl
 
   record NoFunction (ts : Items) : Type 0 where
     pub no_getter : Refuses assigned getter_property ts
@@ -182,19 +170,19 @@ module _ (assigned : Bool) where
           no_setter = ap (built_on form.Setter) (no_word (bytes_eq w (codes "set")) w (I (ahead prop_start ▸ rest)) us starts);
           no_method =
               ap (built_on (form.Function plain.MethodProp)) (ap (followed_on (I (whether (punct (codes "*")) ▸ rest))) none
-              ∙ ap (with_front (absent ∷ [])) (ap (with_front (absent ∷ [])) (ap (followed_on (I signature)) (key_read w g us) ∙ ap (with_front (bare (kind.IdentName w) [] ∷ [])) no_signature)));
+              ∙ ap (with_front (absent ∷ [])) (ap (with_front (absent ∷ [])) (ap (followed_on (I signature)) (key_read assigned w g us) ∙ ap (with_front (bare (kind.IdentName w) [] ∷ [])) no_signature)));
         }
 
     other_no_function : (ts : Items) (n : Node) → Refuses assigned (word (codes "get")) ts → Refuses assigned (word (codes "set")) ts → Refuses assigned (word (codes "async")) ts → Refuses assigned (punct (codes "*")) ts → Reads assigned prop_name ts (n ∷ []) us → NoFunction ts
     unfolding getter_property setter_property method_property method_async
     other_no_function ts n a c d k h = record { no_getter = rw a refl; no_setter = rw c refl; no_method = rw (d, k, h, no_signature) refl }
 
-    no_function : {n : Node} (is : IsPropertyName n) (depth : ℕ) → NameForm is depth → (g : Gap) → NoFunction (property_name_tokens is depth g us)
+    no_function : {n : Node} (is : IsPropertyName n) (depth : ℕ) → NameForm assigned is depth → (g : Gap) → NoFunction (property_name_tokens is depth g us)
     no_function (shapes.key_name k) depth F g = key_no_function (key_word k) g
-    no_function (shapes.string_name at raw t) depth F g = other_no_function (it g (items.string raw) us) _ refl refl refl refl (name_read (shapes.string_name at raw t) depth F g us)
-    no_function (shapes.number_name at raw t) depth F g = other_no_function (it g (items.number raw) us) _ refl refl refl refl (name_read (shapes.number_name at raw t) depth F g us)
-    no_function (shapes.big_int_name at raw t) depth F g = other_no_function (it g (items.big_int raw) us) _ refl refl refl refl (name_read (shapes.big_int_name at raw t) depth F g us)
-    no_function (shapes.computed_name at e) depth F g = other_no_function (property_name_tokens (shapes.computed_name at e) depth g us) _ refl refl refl refl (name_read (shapes.computed_name at e) depth F g us)
+    no_function (shapes.string_name at raw t) depth F g = other_no_function (it g (items.string raw) us) _ refl refl refl refl (name_read assigned (shapes.string_name at raw t) depth F g us)
+    no_function (shapes.number_name at raw t) depth F g = other_no_function (it g (items.number raw) us) _ refl refl refl refl (name_read assigned (shapes.number_name at raw t) depth F g us)
+    no_function (shapes.big_int_name at raw t) depth F g = other_no_function (it g (items.big_int raw) us) _ refl refl refl refl (name_read assigned (shapes.big_int_name at raw t) depth F g us)
+    no_function (shapes.computed_name at e) depth F g = other_no_function (property_name_tokens (shapes.computed_name at e) depth g us) _ refl refl refl refl (name_read assigned (shapes.computed_name at e) depth F g us)
 
   no_spread : {n : Node} (is : IsPropertyName n) (depth : ℕ) (g : Gap) (us : Items) → Refuses assigned (punct (codes "...")) (property_name_tokens is depth g us)
   no_spread (shapes.key_name k) depth g us = refl
@@ -208,11 +196,13 @@ module _ (assigned : Bool) where
   abbrev valued : Grammar
   valued = node plain.KeyValueProp (prop_name ▸ punct (codes ":") ▸ assign)
 
+  abbrev others : Grammar
+  others = valued // assigned_property // names.ident
+
   behind_functions : (ts us : Items) (xs : List Node) → Refuses assigned (punct (codes "...")) ts → NoFunction ts → Reads assigned (valued // assigned_property // names.ident) ts xs us → Reads assigned property ts xs us
   unfolding property spread
   behind_functions ts us xs a N h =
       let I = interp assigned (means assigned) in
-      let others = valued // assigned_property // names.ident in
       ap (or_on (I (getter_property // setter_property // method_property // others)) ts) (ap (built_on (form.Node plain.SpreadElement)) (ap (followed_on (I assign)) a))
       ∙ (ap (or_on (I (setter_property // method_property // others)) ts) N.no_getter ∙ (ap (or_on (I (method_property // others)) ts) N.no_setter ∙ (ap (or_on (I others) ts) N.no_method ∙ h)))
 
@@ -222,14 +212,30 @@ module _ (assigned : Bool) where
       let vs = expression_tokens v depth blank us in
       let ts = property_name_tokens k depth g (s (codes ":") vs) in
       behind_functions ts us _ (no_spread k depth g (s (codes ":") vs)) (no_function (s (codes ":") vs) (exactly (sign (codes ":"))) at_token colon_ends_name k depth F.0 g)
-      (rw (name_read k depth F.0 g (s (codes ":") vs), used assigned F.1 blank us E.front E.begins E.ends) refl)
+      (rw (name_read assigned k depth F.0 g (s (codes ":") vs), used assigned F.1 blank us E.front E.begins E.ends) refl)
   property_read (shapes.shorthand (ident at w i)) depth F g us E =
       let no_equals = refused_at assigned (means assigned) (punct (codes "=")) E.front us E.begins (ends_no_equals E.front E.ends) in
       let no_colon = refused_at assigned (means assigned) (punct (codes ":")) E.front us E.begins E.no_colon in
-      behind_functions (it g (items.key w) us) us _ refl (key_no_function us E.front E.begins E.name w g) (rw (key_read w g us, no_colon, i.free, no_equals, i.free) refl)
+      behind_functions (it g (items.key w) us) us _ refl (key_no_function us E.front E.begins E.name w g) (rw (key_read assigned w g us, no_colon, i.free, no_equals, i.free) refl)
   property_read (shapes.initialized at (ident at' w i) v) depth F g us E =
       let vs = it blank (sign (codes "=")) (expression_tokens v depth blank us) in
-      behind_functions (it g (items.key w) vs) us _ refl (key_no_function vs (exactly (sign (codes "="))) at_token equals_ends_name w g) (rw (key_read w g vs, i.free, used assigned F blank us E.front E.begins E.ends) refl)
+      behind_functions (it g (items.key w) vs) us _ refl (key_no_function vs (exactly (sign (codes "="))) at_token equals_ends_name w g) (rw (key_read assigned w g vs, i.free, used assigned F blank us E.front E.begins E.ends) refl)
+  property_read (shapes.method_property at k (shapes.function_of at' at'' x y ps w b a a')) depth F g us E =
+      let M = F.1 in
+      let I = interp assigned (means assigned) in
+      let ts = property_tokens (shapes.method_property at k (shapes.function_of at' at'' x y ps w b a a')) depth g us in
+      ap (or_on (I (getter_property // setter_property // method_property // others)) ts) (ap (built_on (form.Node plain.SpreadElement)) (ap (followed_on (I assign)) (methods.no_dots assigned ps depth M.0 M.1 k F.0 x y g us)))
+      ∙ (ap (or_on (I (setter_property // method_property // others)) ts) (methods.no_getter assigned ps depth M.0 M.1 k F.0 x y g us)
+      ∙ (ap (or_on (I (method_property // others)) ts) (methods.no_setter assigned ps depth M.0 M.1 k F.0 x y g us) ∙ ap (or_on (I others) ts) (methods.method_form assigned ps depth M.0 M.1 k F.0 x y g us)))
+  property_read (shapes.getter_property at k a b) depth F g us E =
+      let I = interp assigned (means assigned) in
+      let ts = property_tokens (shapes.getter_property at k a b) depth g us in
+      ap (or_on (I (setter_property // method_property // others)) ts) (methods.getter_form assigned depth F.1 k F.0 g us)
+  property_read (shapes.setter_property at k a p b) depth F g us E =
+      let M = F.1 in
+      let I = interp assigned (means assigned) in
+      let ts = property_tokens (shapes.setter_property at k a p b) depth g us in
+      ap (or_on (I (setter_property // method_property // others)) ts) (methods.no_getter_at_set assigned g _) ∙ ap (or_on (I (method_property // others)) ts) (methods.setter_form assigned depth p M.0 M.1 k F.0 g us)
   property_read (shapes.spread_property at e) depth F g us E = rw (used assigned F no_gap us E.front E.begins E.ends) refl
 
   -- as an object
@@ -253,32 +259,17 @@ module _ (assigned : Bool) where
 
   -- as a pattern of properties
 
-  abbrev by_own_name : Grammar
-  by_own_name = node plain.AssignPatProp (binding_ident ▸ maybe (punct (codes "=") ▸ assign))
-
-  abbrev by_other_name : Grammar
-  by_other_name = node plain.KeyValuePatProp (prop_name ▸ punct (codes ":") ▸ defaulted assigned)
-
-  abbrev others_by_name : Grammar
-  others_by_name = node plain.RestPat (punct (codes "...") ▸ binding_ident ▸ put Absent)
-
-  behind_rest : (ts us : Items) → Refuses assigned (punct (codes "...")) ts → AsItem assigned (by_other_name // by_own_name) ts us → AsItem assigned pattern_property ts us
-  unfolding pattern_property
-  behind_rest ts us a p =
-      same_item assigned pattern_property (by_other_name // by_own_name) ts us
-      (ap (or_on (interp assigned (means assigned) (by_other_name // by_own_name)) ts) (ap (built_on (form.Node plain.RestPat)) (ap (followed_on (interp assigned (means assigned) (binding_ident ▸ put Absent))) a))) p
-
   -- a name before `:`, by itself
   module _ (vs : Items) where
     abbrev colon : Items
     colon = s (codes ":") vs
 
-    key_named : (b : Bool) (w : List ℕ) → is_reserved w ≡ b → (g : Gap) (us : Items) → AsItem assigned by_own_name (it g (items.key w) colon) us
+    key_named : (b : Bool) (w : List ℕ) → is_reserved w ≡ b → (g : Gap) (us : Items) → AsItem assigned (by_own_name assigned) (it g (items.key w) colon) us
     unfolding binding_ident
     key_named true w r g us = item_refused (rw r refl) (exactly (items.key w)) at_token refl
     key_named false w r g us = item_before (bare kind.AssignPatProp (bare kind.BindingIdent (bare (kind.Ident w 0 false) [] ∷ absent ∷ []) ∷ absent ∷ []) ∷ []) colon (exactly (sign (codes ":"))) at_token refl (rw r refl)
 
-    name_named : {n : Node} (is : IsPropertyName n) (depth : ℕ) (g : Gap) (us : Items) → AsItem assigned by_own_name (property_name_tokens is depth g colon) us
+    name_named : {n : Node} (is : IsPropertyName n) (depth : ℕ) (g : Gap) (us : Items) → AsItem assigned (by_own_name assigned) (property_name_tokens is depth g colon) us
     unfolding binding_ident
     name_named (shapes.key_name k) depth g us = key_named (is_reserved (key_word k)) (key_word k) refl g us
     name_named (shapes.string_name at raw t) depth g us = item_refused refl (exactly (items.string raw)) at_token refl
@@ -287,28 +278,22 @@ module _ (assigned : Bool) where
     name_named (shapes.computed_name at e) depth g us = item_refused refl (exactly (sign (codes "["))) at_token refl
 
     -- with what its value is as a pattern
-    name_renamed : {n : Node} (is : IsPropertyName n) (depth : ℕ) → NameForm is depth → (g : Gap) (us : Items) → AsItem assigned (defaulted assigned) vs us → AsItem assigned (by_other_name // by_own_name) (property_name_tokens is depth g colon) us
+    name_renamed : {n : Node} (is : IsPropertyName n) (depth : ℕ) → NameForm assigned is depth → (g : Gap) (us : Items) → AsItem assigned (defaulted assigned) vs us → AsItem assigned ((by_other_name assigned) // (by_own_name assigned)) (property_name_tokens is depth g colon) us
     name_renamed is depth F g us p =
         let I = interp assigned (means assigned) in
         let ts = property_name_tokens is depth g colon in
         let n = bare_property_name is in
-        let step : (o : Out) → I (defaulted assigned) vs ≡ o → I by_other_name ts ≡ built_on (form.Node plain.KeyValuePatProp) (with_front (n ∷ []) (with_front [] o)) =
-        λ o h. ap (built_on (form.Node plain.KeyValuePatProp)) (ap (followed_on (I (punct (codes ":") ▸ defaulted assigned))) (name_read is depth F g colon) ∙ ap (λ x. with_front (n ∷ []) (with_front [] x)) h) in
+        let step : (o : Out) → I (defaulted assigned) vs ≡ o → I (by_other_name assigned) ts ≡ built_on (form.Node plain.KeyValuePatProp) (with_front (n ∷ []) (with_front [] o)) =
+        λ o h. ap (built_on (form.Node plain.KeyValuePatProp)) (ap (followed_on (I (punct (codes ":") ▸ defaulted assigned))) (name_read assigned is depth F g colon) ∙ ap (λ x. with_front (n ∷ []) (with_front [] x)) h) in
         by_value is depth g us step p
       where
         by_value : {n : Node} (is : IsPropertyName n) (depth : ℕ) (g : Gap) (us : Items)
-            → ((o : Out) → interp assigned (means assigned) (defaulted assigned) vs ≡ o → interp assigned (means assigned) by_other_name (property_name_tokens is depth g colon) ≡ built_on (form.Node plain.KeyValuePatProp) (with_front (bare_property_name is ∷ []) (with_front [] o)))
-            → AsItem assigned (defaulted assigned) vs us → AsItem assigned (by_other_name // by_own_name) (property_name_tokens is depth g colon) us
+            → ((o : Out) → interp assigned (means assigned) (defaulted assigned) vs ≡ o → interp assigned (means assigned) (by_other_name assigned) (property_name_tokens is depth g colon) ≡ built_on (form.Node plain.KeyValuePatProp) (with_front (bare_property_name is ∷ []) (with_front [] o)))
+            → AsItem assigned (defaulted assigned) vs us → AsItem assigned ((by_other_name assigned) // (by_own_name assigned)) (property_name_tokens is depth g colon) us
         by_value is depth g us step (item_refused h e b z) =
-            same_item assigned (by_other_name // by_own_name) by_own_name (property_name_tokens is depth g colon) us (ap (or_on (interp assigned (means assigned) by_own_name) (property_name_tokens is depth g colon)) (step fails h)) (name_named is depth g us)
-        by_value is depth g us step (whole_item xs h) = whole_item _ (ap (or_on (interp assigned (means assigned) by_own_name) (property_name_tokens is depth g colon)) (step (read xs us) h))
-        by_value is depth g us step (item_before xs ws e b z h) = item_before _ ws e b z (ap (or_on (interp assigned (means assigned) by_own_name) (property_name_tokens is depth g colon)) (step (read xs ws) h))
-
-  -- a name that no `:` follows
-  named_read : (w : List ℕ) (g : Gap) (vs us : Items) (xs : List Node) → is_reserved w ≡ false → Refuses assigned (punct (codes ":")) vs → Reads assigned (maybe (punct (codes "=") ▸ assign)) vs xs us
-      → Reads assigned (by_other_name // by_own_name) (it g (items.key w) vs) (bare kind.AssignPatProp (bare kind.BindingIdent (bare (kind.Ident w 0 false) [] ∷ absent ∷ []) ∷ xs) ∷ []) us
-  unfolding binding_ident
-  named_read w g vs us xs r c h = rw (key_read w g vs, c, r, h) refl
+            same_item assigned ((by_other_name assigned) // (by_own_name assigned)) (by_own_name assigned) (property_name_tokens is depth g colon) us (ap (or_on (interp assigned (means assigned) (by_own_name assigned)) (property_name_tokens is depth g colon)) (step fails h)) (name_named is depth g us)
+        by_value is depth g us step (whole_item xs h) = whole_item _ (ap (or_on (interp assigned (means assigned) (by_own_name assigned)) (property_name_tokens is depth g colon)) (step (read xs us) h))
+        by_value is depth g us step (item_before xs ws e b z h) = item_before _ ws e b z (ap (or_on (interp assigned (means assigned) (by_own_name assigned)) (property_name_tokens is depth g colon)) (step (read xs ws) h))
 
   -- a name behind `...`
   by_name : (g : Gap) (ts us : Items) → AsName assigned ts us → AsItem assigned pattern_property (it g (sign (codes "...")) ts) us
@@ -316,26 +301,29 @@ module _ (assigned : Bool) where
   by_name g ts us (no_name h) =
       let I = interp assigned (means assigned) in
       let dots = it g (sign (codes "...")) ts in
-      item_refused (ap (or_on (I (by_other_name // by_own_name)) dots) (ap (built_on (form.Node plain.RestPat)) (ap (with_front []) (ap (followed_on (I (put Absent))) h)))) (exactly (sign (codes "..."))) at_token refl
+      item_refused (ap (or_on (I ((by_other_name assigned) // (by_own_name assigned))) dots) (ap (built_on (form.Node plain.RestPat)) (ap (with_front []) (ap (followed_on (I (put Absent))) h)))) (exactly (sign (codes "..."))) at_token refl
   by_name g ts us (a_name xs vs h st) =
       let I = interp assigned (means assigned) in
       let dots = it g (sign (codes "...")) ts in
       stopped assigned pattern_property dots us vs (bare kind.RestPat (xs ++ flag_node Absent ∷ []) ∷ [])
-      (ap (or_on (I (by_other_name // by_own_name)) dots) (ap (built_on (form.Node plain.RestPat)) (ap (with_front []) (ap (followed_on (I (put Absent))) h)))) st
+      (ap (or_on (I ((by_other_name assigned) // (by_own_name assigned))) dots) (ap (built_on (form.Node plain.RestPat)) (ap (with_front []) (ap (followed_on (I (put Absent))) h)))) st
 
   property_tried : {n : Node} (is : IsProperty shapes.values n) (depth : ℕ) → PropertyForm is depth → (g : Gap) (us : Items) → Ended us → AsItem assigned pattern_property (property_tokens is depth g us) us
   property_tried (shapes.key_value at k v) depth F g us E =
       let vs = expression_tokens v depth blank us in
       let V = F.1 in
-      behind_rest (property_name_tokens k depth g (s (codes ":") vs)) us (no_spread k depth g (s (codes ":") vs))
+      behind_rest assigned (property_name_tokens k depth g (s (codes ":") vs)) us (no_spread k depth g (s (codes ":") vs))
       (name_renamed vs k depth F.0 g us (defaulted_pattern assigned vs us (as_pattern assigned vs us (no_rest assigned V.lead blank us) (V.param blank us E.front E.begins (ends_no_equals E.front E.ends, E.ends)))))
   property_tried (shapes.shorthand (ident at w i)) depth F g us E =
       let no_equals = refused_at assigned (means assigned) (punct (codes "=")) E.front us E.begins (ends_no_equals E.front E.ends) in
       let no_colon = refused_at assigned (means assigned) (punct (codes ":")) E.front us E.begins E.no_colon in
-      behind_rest (it g (items.key w) us) us refl (whole_item _ (named_read w g us us (absent ∷ []) i.free no_colon (rw no_equals refl)))
+      behind_rest assigned (it g (items.key w) us) us refl (whole_item _ (named_read assigned w g us us (absent ∷ []) i.free no_colon (rw no_equals refl)))
   property_tried (shapes.initialized at (ident at' w i) v) depth F g us E =
       let vs = it blank (sign (codes "=")) (expression_tokens v depth blank us) in
-      behind_rest (it g (items.key w) vs) us refl (whole_item _ (named_read w g vs us (bare_expression v ∷ []) i.free refl (rw (used assigned F blank us E.front E.begins E.ends) refl)))
+      behind_rest assigned (it g (items.key w) vs) us refl (whole_item _ (named_read assigned w g vs us (bare_expression v ∷ []) i.free refl (rw (used assigned F blank us E.front E.begins E.ends) refl)))
+  property_tried (shapes.method_property at k (shapes.function_of at' at'' x y ps w b a a')) depth F g us E = let M = F.1 in methods.method_tried assigned ps depth M.0 M.1 k F.0 x y g us
+  property_tried (shapes.getter_property at k a b) depth F g us E = methods.accessor_tried assigned k depth (codes "get") g _ us
+  property_tried (shapes.setter_property at k a p b) depth F g us E = methods.accessor_tried assigned k depth (codes "set") g _ us
   property_tried (shapes.spread_property at e) depth F g us E =
       let ts = expression_tokens e depth no_gap us in
       by_name g ts us (as_name assigned ts us (as_pattern assigned ts us (no_rest assigned F.lead no_gap us) (F.param no_gap us E.front E.begins (ends_no_equals E.front E.ends, E.ends))))
@@ -434,10 +422,10 @@ module _ (assigned : Bool) where
       let I = interp assigned (means assigned) in
       let vs = defaulted_tokens p depth blank us in
       let D = F.1 in
-      ap (or_on (I (by_other_name // by_own_name)) (property_name_tokens k depth g (s (codes ":") vs))) (ap (built_on (form.Node plain.RestPat)) (ap (followed_on (I (binding_ident ▸ put Absent))) (no_spread k depth g (s (codes ":") vs))))
-      ∙ rw (name_read k depth F.0 g (s (codes ":") vs), D.reads blank us (record { front = E.front; begins = E.begins; ends = E.ends })) refl
+      ap (or_on (I ((by_other_name assigned) // (by_own_name assigned))) (property_name_tokens k depth g (s (codes ":") vs))) (ap (built_on (form.Node plain.RestPat)) (ap (followed_on (I (binding_ident ▸ put Absent))) (no_spread k depth g (s (codes ":") vs))))
+      ∙ rw (name_read assigned k depth F.0 g (s (codes ":") vs), D.reads blank us (record { front = E.front; begins = E.begins; ends = E.ends })) refl
   pattern_property_read (shapes.named at at' (ident of w i) a v) depth F g us E =
-      named_read w g (initializer_tokens v depth us) us (bare_initializer v ∷ []) i.free (no_colon_behind v depth us E) (initializer_read assigned false v depth F us (record { front = E.front; begins = E.begins; ends = E.ends }))
+      named_read assigned w g (initializer_tokens v depth us) us (bare_initializer v ∷ []) i.free (no_colon_behind v depth us E) (initializer_read assigned false v depth F us (record { front = E.front; begins = E.begins; ends = E.ends }))
     where
       no_colon_behind : {n : Node} (v : IsInitializer n) (depth : ℕ) (us : Items) → Ended us → Refuses assigned (punct (codes ":")) (initializer_tokens v depth us)
       no_colon_behind (shapes.no_initializer a) depth us E = refused_at assigned (means assigned) (punct (codes ":")) E.front us E.begins E.no_colon

@@ -57,6 +57,7 @@ use Rattle.ecma_reread.proofs.Patterns.{pattern_unplaced, name_pattern_read, no_
 use Rattle.ecma_reread.proofs.Arrows.{ElementForms, ArgumentForms, arrow_form, async_arrow_form, arrow_read, async_arrow_read, expression_body, block_body}
 use Rattle.ecma_reread.specs.Heads.{any_of, may_hold_in}
 use Rattle.ecma_reread.proofs.HeadLayouts.{neither, may_hold_node, operands_hold, one_same}
+use Rattle.ecma_reread.proofs.PropertyNames.{NameForm}
 
 module _ (assigned : Bool) where
   mutual
@@ -132,11 +133,19 @@ module _ (assigned : Bool) where
     property_form_of (shapes.shorthand i) depth = tt
     property_form_of (shapes.initialized at i v) depth = expression_form v depth
     property_form_of (shapes.spread_property at e) depth = expression_form e depth
+    property_form_of (shapes.method_property at k (shapes.function_of at' at'' x y ps w b a a')) depth = (name_form_of k depth, (argument_forms ps depth, block_form b depth))
+    property_form_of (shapes.getter_property at k a b) depth = (name_form_of k depth, block_form b depth)
+    property_form_of (shapes.setter_property at k a p b) depth = (name_form_of k depth, (defaulted_form p depth, block_form b depth))
     property_form_of (shapes.renamed at (shapes.computed_name at' e) p) depth = (expression_form e depth, defaulted_form p depth)
     property_form_of (shapes.renamed at (shapes.key_name k) p) depth = (tt, defaulted_form p depth)
     property_form_of (shapes.renamed at k p) depth = (tt, defaulted_form p depth)
     property_form_of (shapes.named at at' i a v) depth = initializer_form v depth
     property_form_of (shapes.rest_property at at' i a b) depth = tt
+
+    name_form_of : {n : Node} (is : IsPropertyName n) (depth : ℕ) → NameForm assigned is depth
+    name_form_of (shapes.computed_name at e) depth = expression_form e depth
+    name_form_of (shapes.key_name k) depth = tt
+    name_form_of is depth = tt
 
     property_forms : {role : Role} {ns : List Node} (is : AreProperties role ns) (depth : ℕ) → PropertyForms assigned is depth
     property_forms shapes.no_properties depth = tt

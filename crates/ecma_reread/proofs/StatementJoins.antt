@@ -377,6 +377,20 @@ module _ (words : Words) where
     property_joined (shapes.key_value at k v) depth g h us z j = property_name_joined k depth g h (sign_of (codes ":") (expression_tokens v depth blank us)) (colon_behind_name _) (no_gap_is, refl, blank_joins (sign (codes ":")) v depth us, expression_joined v depth blank blank_is us z j)
     property_joined (shapes.shorthand i) depth g h us z j = (h, ident_whole i, key_soft (ident_word i) z, j)
     property_joined (shapes.initialized at i v) depth g h us z j = (h, ident_whole i, refl, (blank_is, refl, blank_joins (sign (codes "=")) v depth us, expression_joined v depth blank blank_is us z j))
+    property_joined (shapes.method_property at k f) depth g h us z j =
+        let fs = function_tokens f depth us in
+        method_joined (is_generator f) (is_async f) (shapes.property_member k) depth fs (λ g' h'. property_name_joined k depth g' h' fs (function_behind_name f depth us) (function_joined f depth us (brace_soft z) j)) g h
+    property_joined (shapes.getter_property at k n b) depth g h us z j =
+        let bs = block_tokens b depth blank us in
+        let fs = sign_of (codes "(") (sign_of (codes ")") bs) in
+        let rest : Joined fs = (no_gap_is, refl, refl, (no_gap_is, refl, block_apart b depth blank blank_wide us (sign (codes ")")), block_joined b depth blank blank_is us (brace_soft z) j)) in
+        accessor_joined false (shapes.property_member k) depth fs (λ g' h'. property_name_joined k depth g' h' fs (params_behind_name _) rest) g h
+    property_joined (shapes.setter_property at k n p b) depth g h us z j =
+        let bs = block_tokens b depth blank us in
+        let end = sign_of (codes ")") bs in
+        let fs = sign_of (codes "(") (defaulted_tokens p depth no_gap end) in
+        let rest : Joined fs = (no_gap_is, refl, element_opening_joins (shapes.bound p) depth end, defaulted_joined p depth no_gap no_gap_is end closing (no_gap_is, refl, block_apart b depth blank blank_wide us (sign (codes ")")), block_joined b depth blank blank_is us (brace_soft z) j)) in
+        accessor_joined true (shapes.property_member k) depth fs (λ g' h'. property_name_joined k depth g' h' fs (params_behind_name _) rest) g h
     property_joined (shapes.renamed at k p) depth g h us z j =
         property_name_joined k depth g h (sign_of (codes ":") (defaulted_tokens p depth blank us)) (colon_behind_name _) (no_gap_is, refl, defaulted_blank_joins (sign (codes ":")) p depth us, defaulted_joined p depth blank blank_is us z j)
     property_joined (shapes.named at at' i a v) depth g h us z j = (h, ident_whole i, key_soft (ident_word i) (initializer_soft v depth z), initializer_joined v depth us z j)

@@ -27,7 +27,7 @@ use Rattle.ecma_print.specs.Layout.{in_place, lay_step, laid, by_itself, key_mar
 use Rattle.ecma_tokens.specs.Items.{sign, Gap, no_gap, Items, it, render, token_text}
 use Rattle.ecma_reread.specs.Shapes.{Level, IsExpression, IsDeclarator, AreDeclarators, Ending, IsStatement, IsBlock, IsCase, AreCases, IsCatch, AreStatements, IsOptional, IsForLeft, IsInitializer, IsForInit, IsPattern, AreParams, IsFunction, IsFunctionName, IsIdent, IsHeritage, IsClass, IsMember, AreMembers, static_modifiers, accessor_kind, IsMemberName, is_private, method_kind, field_kind, ident, IsElement, IsArguments, AreElements, AreExpressions, AreSlots, IsProperty, IsPropertyName, AreProperties, Role, IsDefaulted, part_opening, AreParts}
 use Rattle.ecma_reread.specs.Tokens.{margin, line_at, blank, sign_of, expression_tokens, declarator_tokens, declarators_tokens, closing_gap, is_braced, branch_gap, test_tokens, statement_tokens, block_tokens, case_tokens, cases_tokens, catch_tokens, lined_tokens, optional_tokens, for_left_tokens, for_tokens, initializer_tokens, for_init_tokens, arguments_tokens, function_word, is_generator, is_async, function_tokens, function_name_tokens, ident_word, heritage_tokens, class_tokens, member_tokens, members_tokens, method_tokens, static_tokens, accessor_text, member_name_tokens, assign_token, update_token, unary_token, binary_token, own_sign, unary_gap, element_tokens, elements_tokens, more_tokens, slots_tokens, more_slots_tokens, chain_token, property_tokens, property_name_tokens, properties_tokens, more_properties_tokens, defaulted_tokens, pattern_tokens, part_token, parts_tokens, point_of, question_of}
-use Rattle.ecma_reread.proofs.Layouts.{laid_node, at_node, no_sign, word_gap, update_text, no_gap_before, and_false, assign_text, arguments_there, within_laid, gap_out, pattern_gap_out, defaulted_gap_out, element_gap_out, property_gap_out, slots_gap_out, element_there, value_laid, binding_laid, and_true, part_split, link_beside, link_asks, question_text, dot_text, key_named, key_laid, no_pattern}
+use Rattle.ecma_reread.proofs.Layouts.{laid_node, at_node, no_sign, word_gap, update_text, no_gap_before, and_false, assign_text, arguments_there, within_laid, gap_out, pattern_gap_out, defaulted_gap_out, element_gap_out, property_gap_out, slots_gap_out, element_there, value_laid, binding_laid, and_true, part_split, link_beside, link_asks, question_text, dot_text, key_named, key_laid, no_pattern, key_gap_out}
 use Rattle.ecma_reread.proofs.Spots.{calm_start, calm_0, calm_1, quiet, before_dot, number_of, Calm, tightly, calmer, same_low, under_logical, under_nullish, before_link, index_calm, member_low, index_low, further, update_calm, unary_calm, operator_calls, printed, head_calm, callee_calm, chain_calm}
 use Rattle.ecma_reread.proofs.HeadLayouts.{head_laid, neither}
 use Rattle.ecma_reread.specs.Heads.{any_of, may_hold_in}
@@ -182,11 +182,7 @@ method_head_laid (shapes.function_of at of_params x y {params = ps'} {body = b'}
 
 name_gap_out : {private : Bool} {n : Node} (is : IsMemberName private n) (depth : ℕ) (g : Gap) (us : Items) → render (member_name_tokens is depth g us) ≡ g.blanks ++ render (member_name_tokens is depth no_gap us)
 unfolding render
-name_gap_out (shapes.property_member (shapes.key_name k)) depth g us = refl
-name_gap_out (shapes.property_member (shapes.string_name at raw t)) depth g us = refl
-name_gap_out (shapes.property_member (shapes.number_name at raw t)) depth g us = refl
-name_gap_out (shapes.property_member (shapes.big_int_name at raw t)) depth g us = refl
-name_gap_out (shapes.property_member (shapes.computed_name at e)) depth g us = refl
+name_gap_out (shapes.property_member k) depth g us = key_gap_out k depth g us
 name_gap_out (shapes.private_member at w t) depth g us = refl
 
 -- the text behind a gap
@@ -529,6 +525,27 @@ mutual
       at_node at kind.AssignProp (node_of at' (kind.Ident w 0 false) [] ∷ v' ∷ []) (At (free 1)) (margin depth) (render us)
       ∙ (at_node at' (kind.Ident w 0 false) [] (At (free 1)) (margin depth) ((laid v').at (Within Equals (free 1)) (margin depth) (render us))
       ∙ ap (λ z. w ++ z) (within_laid v Equals (free 1) (margin depth) (render us) ∙ ap (λ z. codes " =" ++ z) (ap (λ z. codes " " ++ z) (expression_laid v (free 1) calm_1 refl depth us) ∙ sym (gap_out v depth blank us))))
+  property_laid (shapes.method_property at {name = k'} {function = f'} k f) depth us =
+      let m = margin depth in
+      let x = is_generator f in
+      let y = is_async f in
+      let fs = function_tokens f depth us in
+      at_node at kind.MethodProp (k' ∷ f' ∷ []) (At (free 1)) m (render us)
+      ∙ (method_head_laid f m ((laid k').at (At (free 1)) m ((laid f').at (At (free 1)) m (render us)))
+      ∙ (ap (λ z. method_head (kind.Function x y) ++ z) (ap (λ z. (laid k').at (At (free 1)) m z) (function_laid f depth us) ∙ property_name_laid k depth fs) ∙ sym (method_text x y (shapes.property_member k) depth fs no_gap)))
+  property_laid (shapes.getter_property at {name = k'} {none = n'} {body = b'} k a b) depth us =
+      let m = margin depth in
+      let bs = block_tokens b depth blank us in
+      let fs = sign_of (codes "(") (sign_of (codes ")") bs) in
+      at_node at kind.GetterProp (k' ∷ n' ∷ b' ∷ []) (At (free 1)) m (render us)
+      ∙ (ap (λ z. codes "get " ++ z) (ap (λ z. (laid k').at (At (free 1)) m (codes "()" ++ z)) (function_body_laid b m us bs (block_laid b depth blank us)) ∙ property_name_laid k depth fs) ∙ sym (accessor_written false (shapes.property_member k) depth fs no_gap))
+  property_laid (shapes.setter_property at {name = k'} {none = n'} {param = p'} {body = b'} k a p b) depth us =
+      let m = margin depth in
+      let bs = block_tokens b depth blank us in
+      let fs = sign_of (codes "(") (defaulted_tokens p depth no_gap (sign_of (codes ")") bs)) in
+      at_node at kind.SetterProp (k' ∷ n' ∷ p' ∷ b' ∷ []) (At (free 1)) m (render us)
+      ∙ (ap (λ z. codes "set " ++ (laid k').at (At (free 1)) m (codes "(" ++ (laid p').at (At (free 1)) m (codes ")" ++ z))) (function_body_laid b m us bs (block_laid b depth blank us))
+      ∙ (ap (λ z. codes "set " ++ z) (ap (λ z. (laid k').at (At (free 1)) m (codes "(" ++ z)) (defaulted_laid p depth (sign_of (codes ")") bs)) ∙ property_name_laid k depth fs) ∙ sym (accessor_written true (shapes.property_member k) depth fs no_gap)))
   property_laid (shapes.renamed at {name = k'} {p = p'} k p) depth us =
       at_node at kind.KeyValuePatProp (k' ∷ p' ∷ []) (At (free 1)) (margin depth) (render us)
       ∙ (ap (λ z. (laid k').at (At (free 1)) (margin depth) (codes ":" ++ z)) (ap (λ z. codes " " ++ z) (defaulted_laid p depth us) ∙ sym (defaulted_gap_out p depth blank us))

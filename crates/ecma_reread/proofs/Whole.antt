@@ -151,6 +151,13 @@ mutual
   property_bare (shapes.shorthand i) = ident_bare i
   property_bare (shapes.initialized at i v) = without_spans-node at kind.AssignProp _ ∙ ap₂ (λ x y. bare kind.AssignProp (x ∷ y ∷ [])) (ident_bare i) (expression_bare v)
   property_bare (shapes.spread_property at e) = without_spans-node at kind.SpreadElement _ ∙ ap (λ x. bare kind.SpreadElement (x ∷ [])) (expression_bare e)
+  property_bare (shapes.method_property at k f) = without_spans-node at kind.MethodProp _ ∙ ap₂ (λ x y. bare kind.MethodProp (x ∷ y ∷ [])) (property_name_bare k) (function_bare f)
+  property_bare (shapes.getter_property at {body = b'} k a b) =
+      without_spans-node at kind.GetterProp _
+      ∙ (ap₂ (λ x y. bare kind.GetterProp (x ∷ y ∷ without_spans b' ∷ [])) (property_name_bare k) (absent_bare a) ∙ ap (λ z. bare kind.GetterProp (bare_property_name k ∷ absent ∷ z ∷ [])) (block_bare b))
+  property_bare (shapes.setter_property at {param = p'} {body = b'} k a p b) =
+      without_spans-node at kind.SetterProp _
+      ∙ (ap₂ (λ x y. bare kind.SetterProp (x ∷ y ∷ without_spans p' ∷ without_spans b' ∷ [])) (property_name_bare k) (absent_bare a) ∙ ap₂ (λ x y. bare kind.SetterProp (bare_property_name k ∷ absent ∷ x ∷ y ∷ [])) (defaulted_bare p) (block_bare b))
   property_bare (shapes.renamed at k p) = without_spans-node at kind.KeyValuePatProp _ ∙ ap₂ (λ x y. bare kind.KeyValuePatProp (x ∷ y ∷ [])) (property_name_bare k) (defaulted_bare p)
   property_bare (shapes.named at at' i a v) = without_spans-node at kind.AssignPatProp _ ∙ ap₂ (λ x y. bare kind.AssignPatProp (x ∷ y ∷ [])) (binding_bare at' i a) (initializer_bare v)
   property_bare (shapes.rest_property at at' i a b) = without_spans-node at kind.RestPat _ ∙ ap₂ (λ x y. bare kind.RestPat (x ∷ y ∷ [])) (binding_bare at' i a) (absent_bare b)

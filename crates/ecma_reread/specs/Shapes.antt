@@ -281,6 +281,9 @@ mutual
     -- a name and a default value, where the object is assigned to
     initialized : (at : Span) {id value : Node} → IsIdent id → IsExpression assignment value → IsProperty values (node_of at kind.AssignProp (id ∷ value ∷ []))
     spread_property : (at : Span) {e : Node} → IsExpression assignment e → IsProperty values (node_of at kind.SpreadElement (e ∷ []))
+    method_property : (at : Span) {name function : Node} → IsPropertyName name → IsFunction function → IsProperty values (node_of at kind.MethodProp (name ∷ function ∷ []))
+    getter_property : (at : Span) {name none body : Node} → IsPropertyName name → IsAbsent none → IsBlock body → IsProperty values (node_of at kind.GetterProp (name ∷ none ∷ body ∷ []))
+    setter_property : (at : Span) {name none param body : Node} → IsPropertyName name → IsAbsent none → IsDefaulted param → IsBlock body → IsProperty values (node_of at kind.SetterProp (name ∷ none ∷ param ∷ body ∷ []))
     renamed : (at : Span) {name p : Node} → IsPropertyName name → IsDefaulted p → IsProperty bindings (node_of at kind.KeyValuePatProp (name ∷ p ∷ []))
     named : (at at_binding : Span) {id none value : Node} → IsIdent id → IsAbsent none → IsInitializer value → IsProperty bindings (node_of at kind.AssignPatProp (node_of at_binding kind.BindingIdent (id ∷ none ∷ []) ∷ value ∷ []))
     rest_property : (at at_binding : Span) {id none none' : Node} → IsIdent id → IsAbsent none → IsAbsent none' → IsProperty bindings (node_of at kind.RestPat (node_of at_binding kind.BindingIdent (id ∷ none ∷ []) ∷ none' ∷ []))
