@@ -1,12 +1,11 @@
 -- What is read as a module keeps the rules, and its names, keys, texts and numbers are spelled.
-use Rattle.std.proofs.Common.{◌≡◌, ◌∙◌, ◌<◌, ℕ, suc, Bool, true, false, not, ◌&&◌, List, [], ◌∷◌, map, length, Option, Some, None, Result, Ok, Err, refl, sym, ap, subst}
+use Rattle.std.proofs.Common.{◌≡◌, ◌∙◌, ◌<◌, ℕ, suc, Bool, true, false, not, ◌&&◌, List, [], ◌∷◌, map, length, Option, None, Ok, refl, sym, ap, subst}
 use Rattle.std.specs.Str.{IsUtf8}
 use Rattle.ecma_kind.specs.declared.kind.Kind.{Kind}
 use Rattle.ecma_kind.specs.declared.kind.Kind.TheVariants as kind
 use Rattle.ecma_kind.specs.declared.shapes.Sort.TheVariants as sort
 use Rattle.ecma_tree.specs.declared.node.Node.{Node, Node-F, ind-Node, roll-Node}
 use Rattle.ecma_tree.specs.Sorted.{HasSort}
-use Rattle.ecma_grammar.specs.declared.modules.RawError.{RawError}
 use Rattle.ecma_grammar.specs.declared.production.Mode.{Mode}
 use Rattle.ecma_grammar.specs.Modules as grammar
 use Rattle.ecma_grammar.specs.Modules.{reads_module}
@@ -18,12 +17,10 @@ use Rattle.ecma_rules.specs.declared.target.Target.TheVariants as target
 use Rattle.ecma_rules.specs.Children.{kind_of}
 use Rattle.ecma_rules.specs.Failing.{failing_here, failing_step, first_failing, least_from}
 use Rattle.ecma_rules.specs.Finishing.{finished}
-use Rattle.ecma_rules.specs.Rules.{first_broken}
 use Rattle.ecma_rules.proofs.Layers.{from_leaves-roll}
 use Rattle.ecma_spelling.specs.Everywhere.{Each, Everywhere, more, none}
 use Rattle.ecma_spelling.proofs.Forms.{is_leaf}
 use Rattle.ecma_spelling.proofs.Trees.{children_good, good_absent, good_framed, kind_good}
-use Rattle.ecma_text.specs.Modules.{answer_by, kept_by, reads_as}
 use Rattle.ecma_text_laws.specs.Sorts.{ReadModulesAreSorted}
 use Rattle.ecma_leaves.specs.Words.{is_spelled}
 use Rattle.ecma_fits.specs.declared.unfit.Where.{Where}
@@ -33,24 +30,12 @@ use Rattle.ecma_fits_laws.specs.Clauses.{NoneFails}
 use Rattle.ecma_fits_laws.specs.Read.{KeepsRules, ReadLeavesAreSpelled, ReadTreesKeepRules, is_told, is_told_wrong}
 use Rattle.ecma_fits_laws.proofs.Constructors.{one_constructor}
 use Rattle.ecma_fits_laws.proofs.Everywhere.{finished_good}
+use Rattle.ecma_fits_laws.proofs.Raws.{of_raw}
 use Rattle.ecma_fits_laws.proofs.ReadLeaves.{Told, leaf_told}
 use Rattle.ecma_fits_laws.proofs.ReadingOf.{read_holds}
 use Rattle.ecma_fits_laws.proofs.Rules.{children_made, keeps_rules}
 use Rattle.ecma_fits_laws.proofs.Strays.{no_strays}
 use Rattle.ecma_fits_laws.proofs.Walks.{both_none, not_true, shifted}
-
--- a tree that is read is a raw one, finished, that keeps the rules
-of_raw : (Q : Node → Type 0) (text : List ℕ) (mode : Mode) (bound : ℕ) (tree : Node) → ((raw : Node) → grammar.answer_of (reads_module text mode bound) ≡ Ok raw → first_broken raw ≡ None → finished raw ≡ tree → Q tree)
-    → reads_as text mode bound ≡ Ok tree → Q tree
-of_raw Q text mode bound tree g e = of_answer (grammar.answer_of (reads_module text mode bound)) refl e
-  where
-    kept : (raw : Node) (broken : Option ℕ) → first_broken raw ≡ broken → grammar.answer_of (reads_module text mode bound) ≡ Ok raw → kept_by raw broken ≡ Ok tree → Q tree
-    kept raw None b h f = let is : finished raw ≡ tree = cc in g raw h b is
-    kept raw (Some at) b h f = cc
-
-    of_answer : (a : Result Node RawError) → grammar.answer_of (reads_module text mode bound) ≡ a → answer_by a ≡ Ok tree → Q tree
-    of_answer (Ok raw) h f = kept raw (first_broken raw) refl h f
-    of_answer (Err reason) h f = cc
 
 pub read_keeps : ReadModulesAreSorted → ReadTreesKeepRules
 read_keeps read_sorted text mode bound tree e =

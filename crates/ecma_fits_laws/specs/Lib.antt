@@ -2,3 +2,4 @@ pub mod Clauses
 pub mod Finished
 pub mod Read
 pub mod Least
+pub mod Shapes

@@ -6,6 +6,7 @@
 ghost use Rattle.ecma_fits_laws.specs.Clauses.{FitsByClauses};
 ghost use Rattle.ecma_fits_laws.specs.Least.{FirstUnfitIsLeast};
 ghost use Rattle.ecma_fits_laws.specs.Read.{ReadLeavesAreSpelled, ReadTreesKeepRules};
+ghost use Rattle.ecma_fits_laws.specs.Shapes.{ReadLinksAreNotLoose, ReadMembersAreNotMisread, ReadNodesAreFull};
 ghost use Rattle.ecma_fits_laws.specs.Finished.{FinishedClassesHaveOneConstructor, FinishedTreesHaveNoStrays, FinishedTreesKeepRules};
 
 use ecma_text_laws::modules_that_are_read_are_sorted;
@@ -52,3 +53,24 @@ pub fn trees_that_are_read_keep_rules()
 pub fn leaves_that_are_read_are_spelled()
     ensures { ReadLeavesAreSpelled }
 {}
+
+/// Each node of what is read as a module has the parts that its production asks for.
+pub fn nodes_that_are_read_are_full()
+    ensures { ReadNodesAreFull }
+{
+    trees_that_are_read_keep_rules();
+}
+
+/// Each link of an optional chain in it that has no `?.` of its own stands behind one that has it.
+pub fn links_that_are_read_are_not_loose()
+    ensures { ReadLinksAreNotLoose }
+{
+    trees_that_are_read_keep_rules();
+}
+
+/// A member `constructor` in it that is not static is the constructor, and no other is; its getters and setters of classes are no generators and not async.
+pub fn members_that_are_read_are_not_misread()
+    ensures { ReadMembersAreNotMisread }
+{
+    trees_that_are_read_keep_rules();
+}
