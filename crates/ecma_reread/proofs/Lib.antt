@@ -89,5 +89,6 @@ pub mod Law
 mod Samples
 mod StatementSamples
 mod FunctionSamples
+mod MemberSamples
 mod ChainSamples
 mod ModuleSamples
