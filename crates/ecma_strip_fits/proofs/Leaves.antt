@@ -54,7 +54,7 @@ module _ (fails : Where → Kind → Node → Bool) (missing : (w : Where) (n : 
     under = λ n s a b w h r none e at has. under n s a b w h r e has;
     here = λ n s a b u h r none. none_failing (fails b (kind_of (stripped n)) (stripped n)) (stripped n)
         (ap (λ k. fails b k (stripped n)) (usual_kind n u) ∙ kept_here n s a b u h r none);
-    items = items;
+    items = λ n s a b l r m list c i j last. items n s a b l r m list c i j;
     below = λ n s a b u h r none c o i at shape. below n s a b u r c o i shape;
   }
 

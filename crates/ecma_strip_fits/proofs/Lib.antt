@@ -14,3 +14,4 @@ pub mod Standing
 pub mod Leaves
 pub mod Ruled
 pub mod RuleStanding
+pub mod RulesKept

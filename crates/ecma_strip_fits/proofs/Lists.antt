@@ -1,20 +1,32 @@
 -- Items of lists by their index.
-use Rattle.std.proofs.Common.{◌≡◌, ◌∙◌, ℕ, zero, suc, Bool, true, false, cond, List, [], ◌∷◌, map, filter, length, replicate, Option, Some, None, refl, sym, ap, subst, slice_get}
+use Rattle.std.proofs.Common.{◌≡◌, ◌∙◌, ℕ, zero, suc, Bool, true, false, cond, List, [], ◌∷◌, map, filter, length, replicate, Option, Some, None, refl, sym, ap, subst, slice_get, arith}
 use Rattle.ecma_kind.specs.declared.shapes.Shape.{Shape}
 use Rattle.ecma_tree.specs.declared.node.Node.{Node}
 use Rattle.ecma_tree.specs.Laws.{HaveShapes}
 use Rattle.ecma_tree.specs.Sorted.{HasShape}
 
 module _ {X : Type 0} where
-  -- an item of what is left of a list is one of the list
-  pub filter_at : (f : X → Bool) (xs : List X) (j : ℕ) (x : X) → slice_get (filter f xs) j ≡ Some x → (i : ℕ) × (slice_get xs i ≡ Some x)
+  none_left : (f : X → Bool) (xs : List X) → length xs ≡ 0 → length (filter f xs) ≡ 0
+  none_left f [] h = refl
+  none_left f (x ∷ xs) h = absurd (omega (arith, h))
+
+  -- an item of what is left of a list is one of the list, and the last if that was the last
+  abbrev pub At : (X → Bool) → List X → ℕ → X → Type 0
+  At f xs j x = (i : ℕ) × (slice_get xs i ≡ Some x) × (suc i ≡ length xs → suc j ≡ length (filter f xs))
+
+  pub filter_at : (f : X → Bool) (xs : List X) (j : ℕ) (x : X) → slice_get (filter f xs) j ≡ Some x → At f xs j x
   filter_at f [] j x at = cc
-  filter_at f (y ∷ ys) j x at = by (f y) (filter_at f ys) j at
+  filter_at f (y ∷ ys) j x at = by (f y) refl (filter_at f ys) j at
     where
-      by : (b : Bool) → ((j : ℕ) (x : X) → slice_get (filter f ys) j ≡ Some x → (i : ℕ) × (slice_get ys i ≡ Some x)) → (j : ℕ) → slice_get (cond b (y ∷ filter f ys) (filter f ys)) j ≡ Some x → (i : ℕ) × (slice_get (y ∷ ys) i ≡ Some x)
-      by true rest zero at = (0, at)
-      by true rest (suc j) at = let t = rest j x at in (suc t.0, t.1)
-      by false rest j at = let t = rest j x at in (suc t.0, t.1)
+      first_last : (b : Bool) → b ≡ true → suc 0 ≡ length (y ∷ ys) → suc 0 ≡ length (cond b (y ∷ filter f ys) (filter f ys))
+      first_last true e h = let n : length ys ≡ 0 = omega (arith, h) in let z = none_left f ys n in omega (arith, z)
+      first_last false e h = cc
+
+      by : (b : Bool) → f y ≡ b → ((j : ℕ) (x : X) → slice_get (filter f ys) j ≡ Some x → At f ys j x) → (j : ℕ) → slice_get (cond b (y ∷ filter f ys) (filter f ys)) j ≡ Some x
+          → (i : ℕ) × (slice_get (y ∷ ys) i ≡ Some x) × (suc i ≡ length (y ∷ ys) → suc j ≡ length (cond b (y ∷ filter f ys) (filter f ys)))
+      by true e rest zero at = (0, at, first_last true refl)
+      by true e rest (suc j) at = let t = rest j x at in (suc t.0, t.1, λ h. ap suc (t.2 (omega (arith, h))))
+      by false e rest j at = let t = rest j x at in (suc t.0, t.1, λ h. t.2 (omega (arith, h)))
 
   -- and it passes the test
   pub filter_passes : (f : X → Bool) (xs : List X) (j : ℕ) (x : X) → slice_get (filter f xs) j ≡ Some x → f x ≡ true

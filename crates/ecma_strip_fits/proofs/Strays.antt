@@ -158,7 +158,7 @@ carries = record {
   under = λ n s a b w h r none e at has. wrapped_held (kind_of n) w a (label_of n) ∙ r;
   here = λ n s a b u h r none. none_failing (is_held_stray b (stripped n)) (stripped n)
       (stray_same n s h u b ∙ (ap (λ z. is_held_stray z n) (sym r) ∙ not_failing (is_held_stray a n) n none));
-  items = λ n s a b l r m list c i j. item_held a n i l ∙ (r ∙ sym (item_held b m j list));
+  items = λ n s a b l r m list c i j last. item_held a n i l ∙ (r ∙ sym (item_held b m j list));
   below = λ n s a b u h r none c o i at shape. ap (λ z. held_in z n i) r ∙ sym (held_same n s h u b i);
 }
 

@@ -64,7 +64,7 @@ module _ (fails : Kind → Node → Bool) (missing : (n : Node) → fails kind.A
     under = λ n s a b w h r none e at has. tt;
     here = λ n s a b u h r none. none_failing (fails (kind_of (stripped n)) (stripped n)) (stripped n)
         (ap (λ k. fails k (stripped n)) (usual_kind n u) ∙ kept_here n s a u h none);
-    items = λ n s a b l r m list c i j. tt;
+    items = λ n s a b l r m list c i j last. tt;
     below = λ n s a b u h r none c o i at shape. tt;
   }
 

@@ -1,5 +1,6 @@
 -- A walk over a tree without its types tells nothing where one over the tree tells nothing.
 use Rattle.std.proofs.Common.{◌≡◌, ◌∙◌, ◌⊎◌, inl, inr, ℕ, zero, suc, Bool, true, false, not, cond, List, [], ◌∷◌, map, filter, length, Option, Some, None, refl, sym, ap, ap₂, subst, slice_get}
+use Rattle.std.proofs.lemmas.List.{length-map}
 use Rattle.ecma_kind.specs.declared.kind.Kind.{Kind}
 use Rattle.ecma_kind.specs.declared.kind.Kind.TheVariants as kind
 use Rattle.ecma_kind.specs.declared.shapes.Shape.{Shape}
@@ -102,7 +103,8 @@ module _ (A : Type 0) (inside : A → Node → ℕ → A) (p q : A → Node → 
     pub lists : (a : A) (span : Span) (cs : List Node) → q a (node_of span kind.List cs) ≡ None
     pub under : (n : Node) (s : Shape) (a b : A) → class_of (kind_of n) ≡ Wrapped → HasShape s n → R n s a b → p a n ≡ None → (e : Node) → slice_get (children_of n) 0 ≡ Some e → HasShape (one sort.Expr) e → R e (one sort.Expr) (inside a n 0) b
     pub here : (n : Node) (s : Shape) (a b : A) → class_of (kind_of n) ≡ Usual → HasShape s n → R n s a b → p a n ≡ None → q b (stripped n) ≡ None
-    pub items : (n : Node) (s : Shape) (a b : A) → is_list (kind_of n) ≡ true → R n s a b → (m : Node) → is_list (kind_of m) ≡ true → (c : Node) (i j : ℕ) → R c (item_shape s) (inside a n i) (inside b m j)
+    pub items : (n : Node) (s : Shape) (a b : A) → is_list (kind_of n) ≡ true → R n s a b → (m : Node) → is_list (kind_of m) ≡ true → (c : Node) (i j : ℕ)
+        → (suc i ≡ length (children_of n) → suc j ≡ length (children_of m)) → R c (item_shape s) (inside a n i) (inside b m j)
     pub below : (n : Node) (s : Shape) (a b : A) → class_of (kind_of n) ≡ Usual → HasShape s n → R n s a b → p a n ≡ None → (c : Node) (o : Shape) (i : ℕ) → slice_get (children_of n) i ≡ Some c
         → slice_get (child_shapes (kind_of n) s (length (children_of n))) i ≡ Some o → R c o (inside a n i) (inside b (stripped n) i)
 
@@ -183,32 +185,37 @@ module _ (A : Type 0) (inside : A → Node → ℕ → A) (p q : A → Node → 
           tells_none q (stripped n) b (carries.here n s a b u h r told.0)
           (subst (NoneTells A (first q) (inside b (stripped n))) (sym (usual_children n u)) (usual_each u))
 
-      -- what is left of a list
-      left_each : (l : is_list (kind_of n) ≡ true) (m : Node) → is_list (kind_of m) ≡ true → (k : ℕ) (d : Node) → slice_get (map stripped (filter stays (children_of n))) k ≡ Some d → (j : ℕ) → first q d (inside b m j) ≡ None
-      left_each l m list k d at j =
+      -- what is left of a list: the last item, where it stays, is the last
+      left_each : (l : is_list (kind_of n) ≡ true) (m : Node) → is_list (kind_of m) ≡ true → (k : ℕ) (d : Node) → slice_get (map stripped (filter stays (children_of n))) k ≡ Some d → (j : ℕ)
+          → (suc k ≡ length (map stripped (filter stays (children_of n))) → suc j ≡ length (children_of m)) → first q d (inside b m j) ≡ None
+      left_each l m list k d at j last =
           let t = map_at stripped (filter stays (children_of n)) k d at in
           let c = t.0 in
           let f = filter_at stays (children_of n) k c t.1 in
           let parts = shape_parts n s h in
           let has = items_at (item_shape s) (children_of n) (subst (λ k. HaveShapes (child_shapes k s (length (children_of n))) (children_of n)) (list-kind (kind_of n) l) parts.1) f.0 c f.1 in
-          ap (λ (x : Node). first q x (inside b m j)) (sym t.2) ∙ (below f.0 c f.1 (item_shape s) (inside a n f.0) (inside b m j) has (carries.items n s a b l r m list c f.0 j) (each f.0 c f.1)).0
+          let last' : suc f.0 ≡ length (children_of n) → suc j ≡ length (children_of m) = λ e. last (f.2 e ∙ sym (length-map (filter stays (children_of n)) stripped)) in
+          ap (λ (x : Node). first q x (inside b m j)) (sym t.2)
+          ∙ (below f.0 c f.1 (item_shape s) (inside a n f.0) (inside b m j) has (carries.items n s a b l r m list c f.0 j last') (each f.0 c f.1)).0
 
-      left_none : (l : is_list (kind_of n) ≡ true) (span : Span) (ds : List Node) → ((m : Node) → is_list (kind_of m) ≡ true → NoneTells A (first q) (inside b m) ds) → first q (node_of span kind.List ds) b ≡ None
+      left_none : (l : is_list (kind_of n) ≡ true) (span : Span) (ds : List Node) → ((m : Node) → is_list (kind_of m) ≡ true → children_of m ≡ ds → NoneTells A (first q) (inside b m) ds) → first q (node_of span kind.List ds) b ≡ None
       left_none l span ds all =
           let m = node_of span kind.List ds in
           let parts : out-Node m ≡ record { span = span; kind = kind.List; children = ds } = out-roll-Node (record { span = span; kind = kind.List; children = ds }) in
-          tells_none q m b (carries.lists b span ds)
-          (subst (NoneTells A (first q) (inside b m)) (sym (ap (λ (z : Node-F Node). z.children) parts)) (all m (ap (λ (z : Node-F Node). is_list z.kind) parts)))
+          let children : children_of m ≡ ds = ap (λ (z : Node-F Node). z.children) parts in
+          tells_none q m b (carries.lists b span ds) (subst (NoneTells A (first q) (inside b m)) (sym children) (all m (ap (λ (z : Node-F Node). is_list z.kind) parts) children))
 
       listed_kept : is_list (kind_of n) ≡ true → first q (stripped n) b ≡ None
-      listed_kept l = ap (λ (m : Node). first q m b) (listed_is n l) ∙ left_none l (out-Node n).span (map stripped (filter stays (children_of n))) (λ m list j d at. left_each l m list j d at j)
+      listed_kept l =
+          ap (λ (m : Node). first q m b) (listed_is n l)
+          ∙ left_none l (out-Node n).span (map stripped (filter stays (children_of n))) (λ m list is j d at. left_each l m list j d at j (λ e. e ∙ ap length (sym is)))
 
       tidied_kept : is_list (kind_of n) ≡ true → first q (without_empty (stripped n)) b ≡ None
       tidied_kept l =
           let ds = map stripped (filter stays (children_of n)) in
           ap (λ (z : Node-F Node). first q (node_of z.span z.kind (filter (λ m. not (is_empty_stmt (out-Node m).kind)) z.children)) b) (listed_parts n l)
-          ∙ left_none l (out-Node n).span (filter (λ m. not (is_empty_stmt (out-Node m).kind)) ds) (λ m list j d at.
-          (let f = filter_at (λ (x : Node). not (is_empty_stmt (out-Node x).kind)) ds j d at in left_each l m list f.0 d f.1 j))
+          ∙ left_none l (out-Node n).span (filter (λ m. not (is_empty_stmt (out-Node m).kind)) ds) (λ m list is j d at.
+          (let f = filter_at (λ (x : Node). not (is_empty_stmt (out-Node x).kind)) ds j d at in left_each l m list f.0 d f.1 j (λ e. f.2 e ∙ ap length (sym is))))
 
       by_class : (k : Class) → class_of (kind_of n) ≡ k → first q (stripped n) b ≡ None
       by_class Typed e = typed_kept e

@@ -1,11 +1,12 @@
 -- What a tree that fits keeps without its types.
-use Rattle.std.specs.Prelude.{◌≡◌, Bool, not, None, is_some}
+use Rattle.std.specs.Prelude.{◌≡◌, Bool, not, ◌||◌, None, is_some}
 use Rattle.ecma_tree.specs.declared.node.Node.{Node}
 use Rattle.ecma_leaves.specs.Words.{is_spelled}
 use Rattle.ecma_rules.specs.Children.{kind_of}
 use Rattle.ecma_rules.specs.Failing.{failing_here, first_failing}
 use Rattle.ecma_rules.specs.Jumps.{first_stray}
 use Rattle.ecma_rules.specs.Members.{second_constructor}
+use Rattle.ecma_rules.specs.Rules.{fails_list, fails_statement}
 use Rattle.ecma_fits.specs.declared.unfit.Where.{Where}
 use Rattle.ecma_fits.specs.Branches.{is_dangling}
 use Rattle.ecma_fits.specs.Chains.{is_loose}
@@ -47,6 +48,10 @@ StrippingKeepsLeaves = (tree : Node) → Fits tree → NoneFails (λ w node. not
 -- no `arguments` is assigned to in a pattern that belongs to nothing inside an enum initialiser or a namespace body
 abbrev pub StrippingKeepsTargets : Type 0
 StrippingKeepsTargets = (tree : Node) → Fits tree → NoneFails (λ w node. is_stray_target w.role w.arguments node) (stripped tree)
+
+-- context rules 3, 4, 7 and 9: heads of loops, rests, quoted names and bodies of statements
+abbrev pub StrippingKeepsRules : Type 0
+StrippingKeepsRules = (tree : Node) → Fits tree → NoneFails (λ w node. fails_list w.around node || fails_statement w.around node) (stripped tree)
 
 -- nothing belongs to nothing inside an enum initialiser or a namespace body
 abbrev pub StrippingKeepsStrays : Type 0

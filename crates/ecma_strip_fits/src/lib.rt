@@ -3,7 +3,7 @@
 //! Each function carries one law, and does nothing. The laws are stated in `specs/`.
 #![tactic(auto)]
 
-ghost use Rattle.ecma_strip_fits.specs.Kept.{StrippingKeepsBranches, StrippingKeepsChains, StrippingKeepsConstructors, StrippingKeepsCounts, StrippingKeepsLeaves, StrippingKeepsMembers, StrippingKeepsStrays, StrippingKeepsTargets};
+ghost use Rattle.ecma_strip_fits.specs.Kept.{StrippingKeepsBranches, StrippingKeepsChains, StrippingKeepsConstructors, StrippingKeepsCounts, StrippingKeepsLeaves, StrippingKeepsMembers, StrippingKeepsRules, StrippingKeepsStrays, StrippingKeepsTargets};
 
 /// Where a tree fits, the tree without its types keeps these clauses of fitting.
 pub fn stripping_keeps_clauses_of_what_fits()
@@ -11,6 +11,7 @@ pub fn stripping_keeps_clauses_of_what_fits()
     ensures branches { StrippingKeepsBranches }
     ensures members { StrippingKeepsMembers }
     ensures chains { StrippingKeepsChains }
+    ensures rules { StrippingKeepsRules }
     ensures constructors { StrippingKeepsConstructors }
     ensures leaves { StrippingKeepsLeaves }
     ensures targets { StrippingKeepsTargets }

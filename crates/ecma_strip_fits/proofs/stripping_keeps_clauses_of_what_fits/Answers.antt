@@ -4,6 +4,7 @@ use Rattle.ecma_strip_fits.proofs.Constructors.{constructors_kept}
 use Rattle.ecma_strip_fits.proofs.FullNodes.{counts_kept}
 use Rattle.ecma_strip_fits.proofs.Leaves.{leaves_kept, targets_kept}
 use Rattle.ecma_strip_fits.proofs.Chains.{chains_kept}
+use Rattle.ecma_strip_fits.proofs.RulesKept.{rules_kept}
 use Rattle.ecma_strip_fits.proofs.Strays.{keeps_strays}
 use Rattle.ecma_strip_fits.proofs.Tests.{members_kept}
 
@@ -30,3 +31,6 @@ returns-clause-leaves c = leaves_kept
 
 pub returns-clause-targets : goal.returns-clause-targets
 returns-clause-targets c = targets_kept
+
+pub returns-clause-rules : goal.returns-clause-rules
+returns-clause-rules c = rules_kept
