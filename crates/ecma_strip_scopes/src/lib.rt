@@ -1,0 +1,11 @@
+//! What scopes declare without the types of a tree, over the definitions of `ecma_strip`, `ecma_scope` and `ecma_hygiene_laws`.
+//!
+//! Each function carries one law, and does nothing. The laws are stated in `specs/`.
+#![tactic(auto)]
+
+ghost use Rattle.ecma_strip_scopes.specs.Going.{WhatGoesDeclaresNothing};
+
+/// Where names are looked for in a list, no item that goes with the types declares a value that stays.
+pub fn what_goes_declares_nothing()
+    ensures { WhatGoesDeclaresNothing }
+{}
