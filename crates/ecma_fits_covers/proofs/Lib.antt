@@ -11,3 +11,4 @@ mod Below
 pub mod Unbroken
 mod Strays
 pub mod Strayless
+pub mod Explicit

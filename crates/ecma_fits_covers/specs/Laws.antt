@@ -7,9 +7,14 @@ use Rattle.ecma_tree.specs.Finding.{enters_all, finds}
 use Rattle.ecma_rules.specs.declared.target.Target.TheVariants as target
 use Rattle.ecma_rules.specs.Rules.{first_broken, first_misplaced}
 use Rattle.ecma_rules.specs.Surroundings.{at_root}
+use Rattle.ecma_rules.specs.Failing.{failing_here, first_failing}
 use Rattle.ecma_covers.specs.Covering.{cover}
 use Rattle.ecma_covers.specs.Placing.{Stands}
-use Rattle.ecma_fits.specs.Fitting.{Fits}
+use Rattle.ecma_parentheses.specs.Explicit.{explicit}
+use Rattle.ecma_fits.specs.declared.unfit.Where.{Where}
+use Rattle.ecma_fits.specs.Branches.{is_dangling}
+use Rattle.ecma_fits.specs.Fitting.{Fits, at_top, where_in}
+use Rattle.ecma_fits.specs.Members.{is_misread}
 
 -- a pattern with a `?`, which is TypeScript
 abbrev pub is_optional_pattern : Kind → Bool
@@ -32,3 +37,15 @@ CoversAreNotMisplaced = (tree : Node) → Fits tree → HasNoOptionalPatterns tr
 -- the raw tree of what fits keeps all context rules
 abbrev pub CoversBreakNoRule : Type 0
 CoversBreakNoRule = (tree : Node) → Fits tree → HasNoOptionalPatterns tree → first_broken (cover tree) ≡ None
+
+-- no node of a tree is such a one
+abbrev pub NoneIs : (Node → Bool) → Node → Type 0
+NoneIs is tree = first_failing Where (λ w node. failing_here (is node) node) where_in tree at_top ≡ None
+
+-- with explicit parentheses no `if` without `else` stands directly before an outer `else` where none did
+abbrev pub ExplicitBranchesStay : Type 0
+ExplicitBranchesStay = (tree : Node) → NoneIs is_dangling tree → NoneIs is_dangling (explicit tree)
+
+-- and members are read as they stand where they were
+abbrev pub ExplicitMembersStay : Type 0
+ExplicitMembersStay = (tree : Node) → NoneIs is_misread tree → NoneIs is_misread (explicit tree)
