@@ -159,7 +159,7 @@ not_true false h = refl
 none_of_one : (a : Bool) → a ≡ false → (a || false) ≡ false
 none_of_one a h = rw h refl
 
-none_of_more : (a b : Bool) → a ≡ false → b ≡ false → (a || b) ≡ false
+pub none_of_more : (a b : Bool) → a ≡ false → b ≡ false → (a || b) ≡ false
 none_of_more a b h k = rw (h, k) refl
 
 abbrev is_in : BinaryOp → Bool

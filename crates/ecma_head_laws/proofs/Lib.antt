@@ -1,1 +1,2 @@
 pub mod BareIn
+pub mod Covered
