@@ -12,8 +12,10 @@ use Rattle.ecma_grammar.specs.productions.Classes.{modifier, getter, setter}
 use Rattle.ecma_tokens.specs.Items as items
 use Rattle.ecma_tokens.specs.Items.{Gap, Items, it}
 use Rattle.ecma_reread.specs.Shapes as shapes
-use Rattle.ecma_reread.specs.Shapes.{IsArguments, method_kind, accessor_kind}
-use Rattle.ecma_reread.specs.Tokens.{blank, arguments_tokens, static_tokens, accessor_text}
+use Rattle.ecma_reread.specs.Shapes.{IsArguments}
+use Rattle.ecma_reread.specs.MemberKinds.{method_kind, accessor_kind}
+use Rattle.ecma_reread.specs.Tokens.{arguments_tokens}
+use Rattle.ecma_reread.specs.Signs.{blank, static_tokens, accessor_text}
 use Rattle.ecma_reread.specs.Bare.{bare_arguments, bare_params}
 use Rattle.ecma_reread.proofs.Heads.{bare, nodes}
 use Rattle.ecma_reread.proofs.Forms.{Laid, s, Reads}

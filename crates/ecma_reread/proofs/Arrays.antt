@@ -32,7 +32,8 @@ use Rattle.ecma_tokens.specs.Items.{sign, no_gap, Gap, Items, it}
 use Rattle.ecma_reread.specs.Machine.{read, with_front, followed_on, or_on, built_on, interp, means}
 use Rattle.ecma_reread.specs.Shapes as shapes
 use Rattle.ecma_reread.specs.Shapes.{Role, IsExpression, IsElement, AreSlots}
-use Rattle.ecma_reread.specs.Tokens.{blank, element_tokens, slots_tokens, more_slots_tokens}
+use Rattle.ecma_reread.specs.Tokens.{element_tokens, slots_tokens, more_slots_tokens}
+use Rattle.ecma_reread.specs.Signs.{blank}
 use Rattle.ecma_reread.specs.Bare.{expression_kind, bare_element, bare_slots}
 use Rattle.ecma_reread.proofs.Moves.{eats}
 use Rattle.ecma_reread.proofs.Levels.{means_is}

@@ -16,8 +16,10 @@ use Rattle.ecma_print.specs.declared.place.Beside.{Beside}
 use Rattle.ecma_print.specs.declared.place.Beside.TheVariants.{NoNeighbor}
 use Rattle.ecma_print.specs.Operators.{unary_sign, update_sign}
 use Rattle.ecma_reread.specs.Shapes as shapes
-use Rattle.ecma_reread.specs.Shapes.{Level, looser_than, IsOperator, IsIdent, ident, IsKey, key, IsExpression, IsElement, IsArguments, AreElements, AreExpressions, IsInitializer, IsDeclarator, AreDeclarators, AreSlots, IsMemberLevel, IsIndexed, IsChainKey, AreProperties, IsPropertyName, IsProperty, regex_text, IsDefaulted, IsPattern, Role, part_text, IsChainLink}
-use Rattle.ecma_reread.specs.Tokens.{blank, sign_of, assign_token, update_token, unary_token, binary_token, own_sign, unary_gap, ident_word, key_word, expression_tokens, element_tokens, arguments_tokens, more_tokens, slots_tokens, more_slots_tokens, chain_token, properties_tokens, more_properties_tokens, property_tokens, star_of, initializer_tokens, defaulted_tokens, pattern_tokens, part_token, parts_tokens, ends_here, first_raw, point_of, question_of, block_tokens, method_tokens, is_generator, is_async, function_tokens, property_name_tokens}
+use Rattle.ecma_reread.specs.Shapes.{Level, looser_than, IsOperator, IsIdent, ident, IsKey, key, IsExpression, IsElement, IsArguments, AreElements, AreExpressions, IsInitializer, IsDeclarator, AreDeclarators, AreSlots, IsMemberLevel, IsIndexed, IsChainKey, AreProperties, IsPropertyName, IsProperty, IsDefaulted, IsPattern, Role, IsChainLink}
+use Rattle.ecma_reread.specs.LiteralTexts.{regex_text, part_text}
+use Rattle.ecma_reread.specs.Tokens.{own_sign, ident_word, key_word, expression_tokens, element_tokens, arguments_tokens, more_tokens, slots_tokens, more_slots_tokens, chain_token, properties_tokens, more_properties_tokens, property_tokens, initializer_tokens, defaulted_tokens, pattern_tokens, part_token, parts_tokens, ends_here, first_raw, block_tokens, is_generator, is_async, function_tokens, property_name_tokens}
+use Rattle.ecma_reread.specs.Signs.{blank, sign_of, assign_token, update_token, unary_token, binary_token, unary_gap, star_of, point_of, question_of, method_tokens}
 use Rattle.ecma_reread.proofs.Braces.{begins_with_brace}
 use Rattle.ecma_reread.proofs.Softs.{Soft, comma, closing_bracket, parted}
 

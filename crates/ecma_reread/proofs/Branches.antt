@@ -16,7 +16,7 @@ use Rattle.ecma_tokens.specs.Items.{sign, Gap, no_gap, Items, it}
 use Rattle.ecma_reread.specs.Machine.{means}
 use Rattle.ecma_reread.specs.Shapes as shapes
 use Rattle.ecma_reread.specs.Shapes.{Ending}
-use Rattle.ecma_reread.specs.Tokens.{blank}
+use Rattle.ecma_reread.specs.Signs.{blank}
 use Rattle.ecma_reread.specs.Bare.{bare}
 use Rattle.ecma_reread.proofs.Fronts.{exactly, at_token, refuses_at, refused_at}
 use Rattle.ecma_reread.proofs.Forms.{Laid, s, Reads}

@@ -12,7 +12,7 @@ use Rattle.ecma_grammar.specs.productions.Classes.{member, modifier, modifiers, 
 use Rattle.ecma_tokens.specs.Items as items
 use Rattle.ecma_tokens.specs.Items.{Gap, Items, it}
 use Rattle.ecma_reread.specs.Machine.{read, with_front, followed_on, or_on, built_on, interp, means}
-use Rattle.ecma_reread.specs.Tokens.{blank, static_tokens}
+use Rattle.ecma_reread.specs.Signs.{blank, static_tokens}
 use Rattle.ecma_reread.proofs.Moves.{eats}
 use Rattle.ecma_reread.proofs.Heads.{bare}
 use Rattle.ecma_reread.proofs.Forms.{Laid, Reads, Refuses}

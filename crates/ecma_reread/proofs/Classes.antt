@@ -25,7 +25,8 @@ use Rattle.ecma_tokens.specs.Items.{sign, Gap, Items, it}
 use Rattle.ecma_reread.specs.Machine.{read, or_on, built_on, interp, means}
 use Rattle.ecma_reread.specs.Shapes as shapes
 use Rattle.ecma_reread.specs.Shapes.{IsHeritage, IsFunctionName, ident}
-use Rattle.ecma_reread.specs.Tokens.{blank, expression_tokens, heritage_tokens, function_name_tokens}
+use Rattle.ecma_reread.specs.Tokens.{expression_tokens, heritage_tokens, function_name_tokens}
+use Rattle.ecma_reread.specs.Signs.{blank}
 use Rattle.ecma_reread.specs.Bare.{expression_kind, expression_parts, bare_heritage, bare_function_name}
 use Rattle.ecma_reread.proofs.Moves.{eats}
 use Rattle.ecma_reread.proofs.Levels.{means_is}

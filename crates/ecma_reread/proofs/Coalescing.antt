@@ -20,7 +20,7 @@ use Rattle.ecma_tokens.specs.Items.{sign, Items, it}
 use Rattle.ecma_reread.specs.Machine.{with_front, followed_on, or_on, built_on, interp, means}
 use Rattle.ecma_reread.specs.Shapes as shapes
 use Rattle.ecma_reread.specs.Shapes.{Level, IsCoalesceHead}
-use Rattle.ecma_reread.specs.Tokens.{blank}
+use Rattle.ecma_reread.specs.Signs.{blank}
 use Rattle.ecma_reread.proofs.Levels.{means_is}
 use Rattle.ecma_reread.proofs.Fronts.{Front, exactly, Begins, at_token}
 use Rattle.ecma_reread.proofs.Towers.{closes_in}

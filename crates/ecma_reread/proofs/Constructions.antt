@@ -29,7 +29,7 @@ use Rattle.ecma_grammar.specs.productions.Chains.{arguments, links, new_links, n
 use Rattle.ecma_tokens.specs.Items.{key, sign, no_gap, Gap, Items, it}
 use Rattle.ecma_reread.specs.Machine.{read, with_front, followed_on, or_on, built_on, interp, means}
 use Rattle.ecma_reread.specs.Shapes as shapes
-use Rattle.ecma_reread.specs.Tokens.{blank}
+use Rattle.ecma_reread.specs.Signs.{blank}
 use Rattle.ecma_reread.proofs.Levels.{means_is}
 use Rattle.ecma_reread.proofs.Fronts.{Front, exactly, Begins, at_token, refuses_at, refused_at, refuses_first, first_refuses, passes_at, passed_at}
 use Rattle.ecma_reread.proofs.Towers.{Opens, closes, refuses_choices, skipped}

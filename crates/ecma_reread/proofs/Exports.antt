@@ -23,7 +23,8 @@ use Rattle.ecma_reread.specs.Shapes as shapes
 use Rattle.ecma_reread.specs.Shapes.{IsExpression, Ending, IsStatement}
 use Rattle.ecma_reread.specs.Modules as modules
 use Rattle.ecma_reread.specs.Modules.{IsString, IsExportName, IsWithClause, IsNamedExport, AreNamedExports, IsExportClause, is_declaration}
-use Rattle.ecma_reread.specs.Tokens.{blank, sign_of, statement_tokens, ident_word, function_word, closing_gap}
+use Rattle.ecma_reread.specs.Tokens.{statement_tokens, ident_word}
+use Rattle.ecma_reread.specs.Signs.{blank, sign_of, function_word, closing_gap}
 use Rattle.ecma_reread.specs.Bare.{bare, bare_statement}
 use Rattle.ecma_reread.specs.ModuleTokens.{spaced, spaced_word, spaced_sign, export_name_token, from_tokens, named_export_tokens, more_exports_tokens, export_clause_tokens, bare_string, bare_export_name, bare_with, bare_named_export, bare_named_exports, bare_export_clause}
 use Rattle.ecma_reread.proofs.Moves.{eats}

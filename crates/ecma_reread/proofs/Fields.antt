@@ -13,8 +13,10 @@ use Rattle.ecma_grammar.specs.productions.Classes.{setter, method, field, questi
 use Rattle.ecma_tokens.specs.Items.{sign, Gap, Items}
 use Rattle.ecma_reread.specs.Machine.{or_on, interp, means}
 use Rattle.ecma_reread.specs.Shapes as shapes
-use Rattle.ecma_reread.specs.Shapes.{IsInitializer, field_kind}
-use Rattle.ecma_reread.specs.Tokens.{initializer_tokens, static_tokens}
+use Rattle.ecma_reread.specs.Shapes.{IsInitializer}
+use Rattle.ecma_reread.specs.MemberKinds.{field_kind}
+use Rattle.ecma_reread.specs.Tokens.{initializer_tokens}
+use Rattle.ecma_reread.specs.Signs.{static_tokens}
 use Rattle.ecma_reread.specs.Bare.{bare_initializer}
 use Rattle.ecma_reread.proofs.Fronts.{exactly, at_token}
 use Rattle.ecma_reread.proofs.Heads.{bare, nodes}

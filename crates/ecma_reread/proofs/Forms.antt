@@ -18,7 +18,7 @@ use Rattle.ecma_grammar.specs.productions.Statements.{labeled, statement_body}
 use Rattle.ecma_grammar.specs.productions.Modules.{module_item, import, import_equals, export}
 use Rattle.ecma_tokens.specs.Items.{Tok, sign, Gap, no_gap, Items, it}
 use Rattle.ecma_grammar.specs.declared.production.Part.TheVariants as part
-use Rattle.ecma_reread.specs.Tokens.{blank}
+use Rattle.ecma_reread.specs.Signs.{blank}
 use Rattle.ecma_reread.specs.Machine.{read, fails, built_on, interp, means}
 use Rattle.ecma_reread.specs.Shapes as shapes
 use Rattle.ecma_reread.proofs.Fronts.{Front, exactly, Begins, at_token, refuses_at, refused_at, refuses_all, all_refused, passes_at, passed_at}

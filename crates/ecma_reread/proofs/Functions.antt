@@ -26,7 +26,8 @@ use Rattle.ecma_tokens.specs.Items.{Gap, Items, it}
 use Rattle.ecma_reread.specs.Machine.{read, or_on, interp, means}
 use Rattle.ecma_reread.specs.Shapes as shapes
 use Rattle.ecma_reread.specs.Shapes.{IsPattern, IsDefaulted, IsElement, AreElements, IsArguments, IsFunctionName, ident}
-use Rattle.ecma_reread.specs.Tokens.{blank, arguments_tokens, function_word, function_name_tokens}
+use Rattle.ecma_reread.specs.Tokens.{arguments_tokens, function_name_tokens}
+use Rattle.ecma_reread.specs.Signs.{blank, function_word}
 use Rattle.ecma_reread.specs.Bare.{bare_pattern, bare_defaulted, bare_element, bare_elements, bare_arguments, bare_params, bare_function_name}
 use Rattle.ecma_reread.proofs.Levels.{means_is}
 use Rattle.ecma_reread.proofs.Fronts.{Front, exactly, Begins, at_token}

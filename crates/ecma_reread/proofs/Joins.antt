@@ -20,8 +20,10 @@ use Rattle.ecma_print.specs.declared.place.Beside.TheVariants.{BehindMinus, Behi
 use Rattle.ecma_tokens.proofs.Wholes.{some_text}
 use Rattle.ecma_reread.specs.Machine.{count}
 use Rattle.ecma_reread.specs.Shapes as shapes
-use Rattle.ecma_reread.specs.Shapes.{Level, looser_than, IsOperator, IsIdent, ident, IsKey, key, IsExpression, IsElement, IsArguments, AreElements, AreExpressions, IsInitializer, IsDeclarator, AreDeclarators, AreSlots, IsMemberLevel, IsIndexed, IsChainKey, AreProperties, IsPropertyName, IsProperty, regex_text, IsPattern, Role, IsDefaulted, part_text, IsPart, AreParts}
-use Rattle.ecma_reread.specs.Tokens.{blank, sign_of, assign_token, update_token, unary_token, binary_token, unary_gap, ident_word, key_word, expression_tokens, elements_tokens, more_tokens, declarators_tokens, chain_token, part_raw, point_of, question_of}
+use Rattle.ecma_reread.specs.Shapes.{Level, looser_than, IsOperator, IsIdent, ident, IsKey, key, IsExpression, IsElement, IsArguments, AreElements, AreExpressions, IsInitializer, IsDeclarator, AreDeclarators, AreSlots, IsMemberLevel, IsIndexed, IsChainKey, AreProperties, IsPropertyName, IsProperty, IsPattern, Role, IsDefaulted, IsPart, AreParts}
+use Rattle.ecma_reread.specs.LiteralTexts.{part_text}
+use Rattle.ecma_reread.specs.Tokens.{ident_word, key_word, expression_tokens, elements_tokens, more_tokens, declarators_tokens, chain_token, part_raw}
+use Rattle.ecma_reread.specs.Signs.{blank, sign_of, assign_token, update_token, unary_token, binary_token, unary_gap, point_of, question_of}
 use Rattle.ecma_reread.proofs.Softs.{Soft, key_soft, private_soft, is_object, comma, semicolon, increment, decrement}
 use Rattle.ecma_reread.proofs.Beginnings.{blank_joins}
 

@@ -22,7 +22,7 @@ use Rattle.ecma_tokens.specs.Items as items
 use Rattle.ecma_tokens.specs.Items.{sign, Items, it}
 use Rattle.ecma_tokens.specs.Taking.{new_line_in}
 use Rattle.ecma_reread.specs.Shapes as shapes
-use Rattle.ecma_reread.specs.Tokens.{blank}
+use Rattle.ecma_reread.specs.Signs.{blank}
 use Rattle.ecma_reread.specs.Bare.{bare}
 use Rattle.ecma_reread.proofs.Fronts.{exactly, at_token, refuses_all, all_refused}
 use Rattle.ecma_reread.proofs.Forms.{Laid, s}

@@ -15,7 +15,7 @@ use Rattle.ecma_tokens.specs.Items as items
 use Rattle.ecma_tokens.specs.Items.{Gap, Items, it}
 use Rattle.ecma_reread.specs.Shapes as shapes
 use Rattle.ecma_reread.specs.Shapes.{Ending}
-use Rattle.ecma_reread.specs.Tokens.{blank}
+use Rattle.ecma_reread.specs.Signs.{blank}
 use Rattle.ecma_reread.specs.Bare.{bare}
 use Rattle.ecma_reread.specs.Machine.{or_on, interp, means}
 use Rattle.ecma_reread.proofs.Levels.{means_is}

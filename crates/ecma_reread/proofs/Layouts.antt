@@ -27,8 +27,10 @@ use Rattle.ecma_print.specs.Layout.{in_place, by_itself, lay_step, laid, key_mar
 use Rattle.ecma_tokens.specs.Items as items
 use Rattle.ecma_tokens.specs.Items.{Tok, sign, Gap, no_gap, Items, it, token_text, render}
 use Rattle.ecma_reread.specs.Shapes as shapes
-use Rattle.ecma_reread.specs.Shapes.{Level, looser_than, IsOperator, IsIdent, ident, IsKey, key, IsAbsent, IsExpression, IsElement, IsArguments, AreElements, AreExpressions, IsInitializer, IsDeclarator, AreDeclarators, AreSlots, IsMemberLevel, IsIndexed, IsProperty, IsPropertyName, AreProperties, Role, IsDefaulted, IsPattern, part_opening, part_closing, part_text, AreParts, IsChainKey}
-use Rattle.ecma_reread.specs.Tokens.{margin, blank, sign_of, assign_token, update_token, unary_token, binary_token, own_sign, unary_gap, expression_tokens, element_tokens, arguments_tokens, more_tokens, more_slots_tokens, chain_token, property_tokens, ident_word, defaulted_tokens, pattern_tokens, part_token, parts_tokens, point_of, question_of, method_tokens, is_generator, is_async, function_tokens, property_name_tokens}
+use Rattle.ecma_reread.specs.Shapes.{Level, looser_than, IsOperator, IsIdent, ident, IsKey, key, IsAbsent, IsExpression, IsElement, IsArguments, AreElements, AreExpressions, IsInitializer, IsDeclarator, AreDeclarators, AreSlots, IsMemberLevel, IsIndexed, IsProperty, IsPropertyName, AreProperties, Role, IsDefaulted, IsPattern, AreParts, IsChainKey}
+use Rattle.ecma_reread.specs.LiteralTexts.{part_opening, part_closing, part_text}
+use Rattle.ecma_reread.specs.Tokens.{own_sign, expression_tokens, element_tokens, arguments_tokens, more_tokens, more_slots_tokens, chain_token, property_tokens, ident_word, defaulted_tokens, pattern_tokens, part_token, parts_tokens, is_generator, is_async, function_tokens, property_name_tokens}
+use Rattle.ecma_reread.specs.Signs.{margin, blank, sign_of, assign_token, update_token, unary_token, binary_token, unary_gap, point_of, question_of, method_tokens}
 
 pub laid_node : (at : Span) (k : Kind) (cs : List Node) → laid (node_of at k cs) ≡ record { kind = k; at = in_place k (map laid cs); parts = map by_itself (map laid cs) }
 laid_node at k cs = fold-roll-Node Laid lay_step (record { span = at; kind = k; children = cs })

@@ -76,6 +76,7 @@ pub mod Layouts
 pub mod ModuleLayouts
 pub mod HeadLayouts
 pub mod HeadForms
+pub mod LayoutParts
 pub mod StatementLayouts
 pub mod Softs
 pub mod Beginnings
@@ -90,5 +91,6 @@ mod Samples
 mod StatementSamples
 mod FunctionSamples
 mod MemberSamples
+mod ObjectSamples
 mod ChainSamples
 mod ModuleSamples

@@ -4,7 +4,8 @@ use Rattle.ecma_tree.specs.declared.node.Node.{Node}
 use Rattle.ecma_tokens.specs.Items.{sign, Items}
 use Rattle.ecma_reread.specs.Shapes as shapes
 use Rattle.ecma_reread.specs.Shapes.{AreExpressions}
-use Rattle.ecma_reread.specs.Tokens.{blank, expression_tokens, more_tokens}
+use Rattle.ecma_reread.specs.Tokens.{expression_tokens, more_tokens}
+use Rattle.ecma_reread.specs.Signs.{blank}
 use Rattle.ecma_reread.specs.Bare.{expression_kind, expression_parts}
 use Rattle.ecma_reread.proofs.Fronts.{Front, exactly, Begins, at_token}
 use Rattle.ecma_reread.proofs.Towers.{Ends, closes_in}

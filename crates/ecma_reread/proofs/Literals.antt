@@ -10,7 +10,7 @@ use Rattle.ecma_grammar.specs.productions.Declarations.{declaration}
 use Rattle.ecma_grammar.specs.productions.Statements.{labeled}
 use Rattle.ecma_tokens.specs.Items.{Tok, sign, Gap, Items, it}
 use Rattle.ecma_reread.specs.Machine.{means}
-use Rattle.ecma_reread.specs.Tokens.{blank}
+use Rattle.ecma_reread.specs.Signs.{blank}
 use Rattle.ecma_reread.proofs.Fronts.{Front, exactly, at_token, refuses_at, refused_at}
 use Rattle.ecma_reread.proofs.Towers.{Tower, excluded, Opens, Starts}
 use Rattle.ecma_reread.proofs.Heads.{bare}

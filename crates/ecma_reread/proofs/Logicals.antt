@@ -18,7 +18,7 @@ use Rattle.ecma_grammar.proofs.Steps.{steps-append}
 use Rattle.ecma_tokens.specs.Items.{sign, it}
 use Rattle.ecma_reread.specs.Machine.{read, with_front, followed_on, built_on, interp, means}
 use Rattle.ecma_reread.specs.Shapes as shapes
-use Rattle.ecma_reread.specs.Tokens.{blank}
+use Rattle.ecma_reread.specs.Signs.{blank}
 use Rattle.ecma_reread.proofs.Levels.{means_is}
 use Rattle.ecma_reread.proofs.Fronts.{exactly, at_token}
 use Rattle.ecma_reread.proofs.Heads.{bare, kind-node, nodes}

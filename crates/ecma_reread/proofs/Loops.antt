@@ -13,7 +13,7 @@ use Rattle.ecma_tokens.specs.Items as items
 use Rattle.ecma_tokens.specs.Items.{Gap, it}
 use Rattle.ecma_reread.specs.Shapes as shapes
 use Rattle.ecma_reread.specs.Shapes.{Ending}
-use Rattle.ecma_reread.specs.Tokens.{blank}
+use Rattle.ecma_reread.specs.Signs.{blank}
 use Rattle.ecma_reread.specs.Bare.{bare}
 use Rattle.ecma_reread.proofs.Fronts.{exactly, at_token}
 use Rattle.ecma_reread.proofs.Forms.{Laid, s}

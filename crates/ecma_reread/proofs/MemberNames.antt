@@ -16,7 +16,8 @@ use Rattle.ecma_tokens.specs.Taking.{new_line_in}
 use Rattle.ecma_tokens.specs.Good.{IsToken}
 use Rattle.ecma_reread.specs.Machine.{read}
 use Rattle.ecma_reread.specs.Shapes as shapes
-use Rattle.ecma_reread.specs.Shapes.{IsPropertyName, IsMemberName, names_constructor, is_private}
+use Rattle.ecma_reread.specs.Shapes.{IsPropertyName, IsMemberName, is_private}
+use Rattle.ecma_reread.specs.MemberKinds.{names_constructor}
 use Rattle.ecma_reread.specs.Tokens.{key_word, member_name_tokens, property_name_tokens}
 use Rattle.ecma_reread.specs.Bare.{bare_member_name}
 use Rattle.ecma_reread.proofs.Fronts.{exactly, at_token}

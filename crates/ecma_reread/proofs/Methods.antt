@@ -18,8 +18,10 @@ use Rattle.ecma_grammar.specs.productions.Classes.{getter, setter, method, field
 use Rattle.ecma_tokens.specs.Items.{Gap, no_gap, Items}
 use Rattle.ecma_reread.specs.Machine.{or_on, interp, means}
 use Rattle.ecma_reread.specs.Shapes as shapes
-use Rattle.ecma_reread.specs.Shapes.{IsArguments, method_kind}
-use Rattle.ecma_reread.specs.Tokens.{blank, arguments_tokens, method_tokens, static_tokens}
+use Rattle.ecma_reread.specs.Shapes.{IsArguments}
+use Rattle.ecma_reread.specs.MemberKinds.{method_kind}
+use Rattle.ecma_reread.specs.Tokens.{arguments_tokens}
+use Rattle.ecma_reread.specs.Signs.{blank, method_tokens, static_tokens}
 use Rattle.ecma_reread.specs.Bare.{bare_arguments, bare_params}
 use Rattle.ecma_reread.proofs.Heads.{bare, nodes}
 use Rattle.ecma_reread.proofs.Forms.{Laid, s, Reads}

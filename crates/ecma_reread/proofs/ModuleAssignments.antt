@@ -18,7 +18,8 @@ use Rattle.ecma_tokens.specs.Items.{sign, Gap, Items, it}
 use Rattle.ecma_reread.specs.Machine.{Out, read, fails, with_front, followed_on, or_on, built_on, interp, means}
 use Rattle.ecma_reread.specs.Shapes.{Level, IsIdent, IsExpression}
 use Rattle.ecma_reread.specs.Modules.{IsString}
-use Rattle.ecma_reread.specs.Tokens.{blank, sign_of, ident_word, expression_tokens}
+use Rattle.ecma_reread.specs.Tokens.{ident_word, expression_tokens}
+use Rattle.ecma_reread.specs.Signs.{blank, sign_of}
 use Rattle.ecma_reread.specs.Bare.{bare, bare_ident, bare_expression}
 use Rattle.ecma_reread.specs.ModuleTokens.{spaced_word, spaced_sign, require_tokens, import_equals_tokens, bare_string}
 use Rattle.ecma_reread.proofs.Fronts.{exactly, at_token}

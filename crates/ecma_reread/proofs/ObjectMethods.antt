@@ -19,7 +19,8 @@ use Rattle.ecma_tokens.specs.Items.{sign, no_gap, Gap, Items, it}
 use Rattle.ecma_reread.specs.Machine.{read, means}
 use Rattle.ecma_reread.specs.Shapes as shapes
 use Rattle.ecma_reread.specs.Shapes.{IsArguments, IsPropertyName, IsDefaulted, ident}
-use Rattle.ecma_reread.specs.Tokens.{blank, key_word, arguments_tokens, method_tokens, property_name_tokens, defaulted_tokens}
+use Rattle.ecma_reread.specs.Tokens.{key_word, arguments_tokens, property_name_tokens, defaulted_tokens}
+use Rattle.ecma_reread.specs.Signs.{blank, method_tokens}
 use Rattle.ecma_reread.specs.Bare.{bare_arguments, bare_params, bare_property_name, bare_defaulted}
 use Rattle.ecma_reread.proofs.Fronts.{Front, exactly, Begins, at_token, refuses_at, refused_at, refuses_all, all_refused}
 use Rattle.ecma_reread.proofs.Heads.{nodes, bare}

@@ -35,7 +35,8 @@ use Rattle.ecma_tokens.specs.Taking.{took_if, new_line_in}
 use Rattle.ecma_reread.specs.Machine.{Turn, Out, read, fails, taken, with_front, followed_on, or_on, built_on, ahead_on, interp, means}
 use Rattle.ecma_reread.specs.Shapes as shapes
 use Rattle.ecma_reread.specs.Shapes.{Role, IsIdent, ident, IsPropertyName, IsProperty, AreProperties, IsInitializer}
-use Rattle.ecma_reread.specs.Tokens.{blank, initializer_tokens, defaulted_tokens, key_word, expression_tokens, property_name_tokens, property_tokens, properties_tokens, more_properties_tokens, block_tokens}
+use Rattle.ecma_reread.specs.Tokens.{initializer_tokens, defaulted_tokens, key_word, expression_tokens, property_name_tokens, property_tokens, properties_tokens, more_properties_tokens, block_tokens}
+use Rattle.ecma_reread.specs.Signs.{blank}
 use Rattle.ecma_reread.specs.Bare.{bare_initializer, bare_defaulted, expression_kind, expression_parts, bare_property_name, bare_property, bare_properties, bare_expression, bare_block}
 use Rattle.ecma_reread.proofs.Moves.{eats}
 use Rattle.ecma_reread.proofs.Levels.{means_is}

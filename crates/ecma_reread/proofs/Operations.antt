@@ -35,7 +35,7 @@ use Rattle.ecma_tokens.specs.Items.{key, sign, Gap, Items, it}
 use Rattle.ecma_reread.specs.Machine.{read, with_front, followed_on, or_on, built_on, interp, means}
 use Rattle.ecma_reread.specs.Shapes as shapes
 use Rattle.ecma_reread.specs.Shapes.{Level, IsOperator}
-use Rattle.ecma_reread.specs.Tokens.{blank, unary_token, binary_token}
+use Rattle.ecma_reread.specs.Signs.{blank, unary_token, binary_token}
 use Rattle.ecma_reread.proofs.Levels.{means_is}
 use Rattle.ecma_reread.proofs.Fronts.{Front, refused_at, exactly, Begins, at_token}
 use Rattle.ecma_reread.proofs.Towers.{power_tail, closes_in, closes}

@@ -19,7 +19,8 @@ use Rattle.ecma_tokens.specs.Items.{sign, no_gap, Gap, Items, it}
 use Rattle.ecma_reread.specs.Machine.{read, or_on, with_front, followed_on, built_on, interp, means}
 use Rattle.ecma_reread.specs.Shapes as shapes
 use Rattle.ecma_reread.specs.Shapes.{IsIdent, ident, IsPattern, IsElement}
-use Rattle.ecma_reread.specs.Tokens.{blank, ident_word, element_tokens, pattern_tokens}
+use Rattle.ecma_reread.specs.Tokens.{ident_word, element_tokens, pattern_tokens}
+use Rattle.ecma_reread.specs.Signs.{blank}
 use Rattle.ecma_reread.specs.Bare.{bare_ident, bare_pattern, bare_element}
 use Rattle.ecma_reread.proofs.Levels.{means_is}
 use Rattle.ecma_reread.proofs.Heads.{bare, nodes, span-node}

@@ -26,7 +26,7 @@ use Rattle.ecma_tokens.specs.Items.{key, private_name, Gap, Items, it}
 use Rattle.ecma_tokens.specs.Good.{IsToken}
 use Rattle.ecma_reread.specs.Machine.{read, with_front, followed_on, or_on, built_on, interp, means}
 use Rattle.ecma_reread.specs.Shapes as shapes
-use Rattle.ecma_reread.specs.Tokens.{blank}
+use Rattle.ecma_reread.specs.Signs.{blank}
 use Rattle.ecma_reread.proofs.Fronts.{Front, exactly, Begins, at_token}
 use Rattle.ecma_reread.proofs.Towers.{closes, private_in, refuses_choices}
 use Rattle.ecma_reread.proofs.Heads.{bare}

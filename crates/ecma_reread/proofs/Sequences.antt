@@ -15,7 +15,8 @@ use Rattle.ecma_tokens.specs.Items.{sign, no_gap, Gap, Items}
 use Rattle.ecma_reread.specs.Machine.{read, with_front, followed_on, built_on, interp, means}
 use Rattle.ecma_reread.specs.Shapes as shapes
 use Rattle.ecma_reread.specs.Shapes.{AreExpressions}
-use Rattle.ecma_reread.specs.Tokens.{blank, more_tokens}
+use Rattle.ecma_reread.specs.Tokens.{more_tokens}
+use Rattle.ecma_reread.specs.Signs.{blank}
 use Rattle.ecma_reread.specs.Bare.{bare, bare_expression, bare_expressions}
 use Rattle.ecma_reread.proofs.Fronts.{Front, exactly, Begins, at_token, refuses_at, refused_at, refuses_first}
 use Rattle.ecma_reread.proofs.Towers.{closes_in}

@@ -8,7 +8,7 @@ use Rattle.ecma_tokens.specs.Items.{Tok, sign, Gap, no_gap, Items, ends, it, ren
 use Rattle.ecma_tokens.specs.Joins.{joins_next, parted_by}
 use Rattle.ecma_reread.specs.Shapes as shapes
 use Rattle.ecma_reread.specs.Shapes.{Level, looser_than, IsOperator, IsIdent, ident, IsKey, key, IsExpression, IsElement, IsArguments, AreElements, AreExpressions, IsInitializer, IsDeclarator, AreDeclarators, AreSlots, IsMemberLevel, IsIndexed, IsChainKey, AreProperties, IsPropertyName, IsProperty, IsChainLink}
-use Rattle.ecma_reread.specs.Tokens.{blank, sign_of, update_token, point_of, question_of}
+use Rattle.ecma_reread.specs.Signs.{blank, sign_of, update_token, point_of, question_of}
 
 -- what may stand directly behind an expression; a point behind an object alone
 pub data Soft : Bool → Items → Type 0 where

@@ -10,7 +10,7 @@ use Rattle.ecma_tokens.specs.Items.{Items}
 use Rattle.ecma_reread.specs.Machine.{with_front}
 use Rattle.ecma_reread.specs.Modules as modules
 use Rattle.ecma_reread.specs.Modules.{IsString, IsAttribute, AreAttributes, IsWithClause}
-use Rattle.ecma_reread.specs.Tokens.{sign_of}
+use Rattle.ecma_reread.specs.Signs.{sign_of}
 use Rattle.ecma_reread.specs.ModuleTokens.{spaced_sign, spaced_word, attribute_tokens, more_attributes_tokens, with_tokens, source_tokens, bare_string, bare_attribute, bare_attributes, bare_with}
 use Rattle.ecma_reread.proofs.Forms.{Reads}
 use Rattle.ecma_reread.proofs.Repeats.{Repeats, repeats_end, repeats_more, repeated}

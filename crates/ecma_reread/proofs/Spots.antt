@@ -18,7 +18,7 @@ use Rattle.ecma_print.specs.Expressions.{before_key, object_beside, is_optional,
 use Rattle.ecma_tokens.specs.Items.{token_text}
 use Rattle.ecma_reread.specs.Shapes as shapes
 use Rattle.ecma_reread.specs.Shapes.{Level, looser_than, IsOperator, IsIdent, ident, IsKey, key, IsAbsent, IsExpression, IsElement, IsArguments, AreElements, AreExpressions, IsInitializer, IsDeclarator, AreDeclarators, AreSlots, IsMemberLevel, IsIndexed, IsProperty, IsPropertyName, AreProperties, IsChainLink}
-use Rattle.ecma_reread.specs.Tokens.{binary_token}
+use Rattle.ecma_reread.specs.Signs.{binary_token}
 
 -- the level of the printer that is each level
 abbrev pub number_of : Level → ℕ

@@ -16,7 +16,8 @@ use Rattle.ecma_tokens.specs.Items.{no_gap, Gap, Items}
 use Rattle.ecma_reread.specs.Machine.{read, followed_on, or_on, built_on, interp, means}
 use Rattle.ecma_reread.specs.Shapes as shapes
 use Rattle.ecma_reread.specs.Shapes.{Role, IsElement, IsInitializer}
-use Rattle.ecma_reread.specs.Tokens.{blank, expression_tokens, element_tokens, pattern_tokens, defaulted_tokens, initializer_tokens}
+use Rattle.ecma_reread.specs.Tokens.{expression_tokens, element_tokens, pattern_tokens, defaulted_tokens, initializer_tokens}
+use Rattle.ecma_reread.specs.Signs.{blank}
 use Rattle.ecma_reread.specs.Bare.{expression_kind, expression_parts, bare_element, bare_pattern, bare_defaulted, bare_initializer}
 use Rattle.ecma_reread.proofs.Fronts.{refused_at}
 use Rattle.ecma_reread.proofs.Forms.{Laid, Reads, Refuses, Lead, AsItem, AsParam}

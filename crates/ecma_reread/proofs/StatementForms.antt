@@ -12,8 +12,10 @@ use Rattle.ecma_reread.proofs.MemberNames.{ReadAsName, name_private, constructor
 use Rattle.ecma_reread.proofs.Methods.{method_form, constructor_form}
 use Rattle.ecma_reread.proofs.Classes.{ReadAsMember, ReadAsMembers, no_members_form, more_members_form, static_block_form, empty_member_form, HeritageForm, class_form}
 use Rattle.ecma_reread.specs.Machine.{taken}
-use Rattle.ecma_reread.specs.Shapes.{IsPropertyName, IsInitializer, IsDeclarator, AreDeclarators, Ending, IsStatement, IsBlock, IsCase, AreCases, IsCatch, AreStatements, IsOptional, IsForInit, IsForLeft, IsHeritage, IsMemberName, is_private, IsMember, AreMembers, Level, key, IsExpression, IsElement, AreSlots, IsProperty, AreProperties, IsArguments, AreElements, AreExpressions, regex_text, Role, IsPattern, IsDefaulted, AreParts}
-use Rattle.ecma_reread.specs.Tokens.{property_name_tokens, line_at, ident_word, closing_gap, is_braced, branch_gap, statement_tokens, block_tokens, case_tokens, cases_tokens, catch_tokens, lined_tokens, for_left_tokens, member_tokens, members_tokens, member_name_tokens, blank, key_word, own_sign, unary_gap, expression_tokens, arguments_tokens, pattern_tokens, defaulted_tokens}
+use Rattle.ecma_reread.specs.Shapes.{IsPropertyName, IsInitializer, IsDeclarator, AreDeclarators, Ending, IsStatement, IsBlock, IsCase, AreCases, IsCatch, AreStatements, IsOptional, IsForInit, IsForLeft, IsHeritage, IsMemberName, is_private, IsMember, AreMembers, Level, key, IsExpression, IsElement, AreSlots, IsProperty, AreProperties, IsArguments, AreElements, AreExpressions, Role, IsPattern, IsDefaulted, AreParts}
+use Rattle.ecma_reread.specs.LiteralTexts.{regex_text}
+use Rattle.ecma_reread.specs.Tokens.{property_name_tokens, ident_word, is_braced, statement_tokens, block_tokens, case_tokens, cases_tokens, catch_tokens, lined_tokens, for_left_tokens, member_tokens, members_tokens, member_name_tokens, key_word, own_sign, expression_tokens, arguments_tokens, pattern_tokens, defaulted_tokens}
+use Rattle.ecma_reread.specs.Signs.{line_at, closing_gap, branch_gap, blank, unary_gap}
 use Rattle.ecma_reread.specs.Bare.{bare_property_name, bare_statement, bare_block, bare_case, bare_cases, bare_catch, bare_statements, bare_for_left, bare_member_name, bare_member, bare_members, expression_kind, expression_parts, bare_arguments, bare_pattern, bare_defaulted}
 use Rattle.ecma_reread.proofs.Bindings.{standing, Stands, from_form, loosened, from_new, StandsIn}
 use Rattle.ecma_reread.proofs.Beginnings.{no_new_line, no_brace, no_star}

@@ -37,7 +37,8 @@ use Rattle.ecma_tokens.specs.Items.{Tok, no_gap, Gap, Items, it}
 use Rattle.ecma_tokens.specs.Taking.{part_inside}
 use Rattle.ecma_reread.specs.Machine.{read, with_front, followed_on, or_on, built_on, interp, means}
 use Rattle.ecma_reread.specs.Shapes as shapes
-use Rattle.ecma_reread.specs.Shapes.{Level, IsExpression, part_text, IsPart, AreParts}
+use Rattle.ecma_reread.specs.Shapes.{Level, IsExpression, IsPart, AreParts}
+use Rattle.ecma_reread.specs.LiteralTexts.{part_text}
 use Rattle.ecma_reread.specs.Tokens.{part_raw, part_token, expression_tokens, parts_tokens, ends_here, first_raw}
 use Rattle.ecma_reread.specs.Bare.{bare, expression_kind, expression_parts, bare_expression, bare_part, bare_parts, bare_substitutions}
 use Rattle.ecma_reread.proofs.Moves.{eats}

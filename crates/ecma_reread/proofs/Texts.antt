@@ -21,7 +21,7 @@ use Rattle.ecma_tokens.specs.Lexing.{At, Goes, Lexes}
 use Rattle.ecma_reread.specs.Machine.{read, count, with_front, built_on, interp, means}
 use Rattle.ecma_reread.specs.Modules as modules
 use Rattle.ecma_reread.specs.Modules.{IsHashbangText, AreModuleItems, IsModule}
-use Rattle.ecma_reread.specs.Tokens.{line}
+use Rattle.ecma_reread.specs.Signs.{line}
 use Rattle.ecma_reread.specs.Bare.{bare}
 use Rattle.ecma_reread.specs.ModuleTokens.{items_tokens, module_tokens, module_head, bare_items, bare_module}
 use Rattle.ecma_reread.proofs.Ranks.{leads, module_leads}

@@ -20,7 +20,7 @@ use Rattle.ecma_tokens.specs.Items.{sign, number, regex, template, Gap, Items, i
 use Rattle.ecma_tokens.specs.Taking as taking
 use Rattle.ecma_tokens.specs.Taking.{Took, took, refused, took_if, unsure_if, punct_in}
 use Rattle.ecma_reread.specs.Machine.{Out, read, fails, unsure, taken, with_front, followed_on, or_on, built_on, interp, means}
-use Rattle.ecma_reread.specs.Tokens.{blank}
+use Rattle.ecma_reread.specs.Signs.{blank}
 use Rattle.ecma_reread.proofs.Levels.{means_is}
 use Rattle.ecma_reread.proofs.Fronts.{Front, exactly, Begins, at_token, refuses_at, refused_at, refuses_all, all_refused}
 use Rattle.ecma_reread.proofs.Forms.{Reads, Refuses, ends_no_item, AsItem, item_refused, whole_item, item_before, AsParam}

@@ -17,7 +17,8 @@ use Rattle.ecma_tokens.specs.Items.{sign, no_gap, Items, it}
 use Rattle.ecma_reread.specs.Machine.{means}
 use Rattle.ecma_reread.specs.Shapes as shapes
 use Rattle.ecma_reread.specs.Shapes.{IsPattern}
-use Rattle.ecma_reread.specs.Tokens.{blank, pattern_tokens}
+use Rattle.ecma_reread.specs.Tokens.{pattern_tokens}
+use Rattle.ecma_reread.specs.Signs.{blank}
 use Rattle.ecma_reread.specs.Bare.{bare, bare_pattern}
 use Rattle.ecma_reread.proofs.Fronts.{exactly, refused_at}
 use Rattle.ecma_reread.proofs.Heads.{nodes}

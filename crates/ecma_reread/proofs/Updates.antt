@@ -26,7 +26,7 @@ use Rattle.ecma_grammar.specs.productions.Operators.{prefixed}
 use Rattle.ecma_tokens.specs.Items.{no_gap, Gap, Items, it}
 use Rattle.ecma_reread.specs.Machine.{read, with_front, followed_on, built_on, interp, means}
 use Rattle.ecma_reread.specs.Shapes as shapes
-use Rattle.ecma_reread.specs.Tokens.{update_token}
+use Rattle.ecma_reread.specs.Signs.{update_token}
 use Rattle.ecma_reread.proofs.Levels.{means_is}
 use Rattle.ecma_reread.proofs.Fronts.{Front, exactly, Begins, at_token, refuses_at}
 use Rattle.ecma_reread.proofs.Towers.{suffix, closes, skipped}

@@ -29,7 +29,8 @@ use Rattle.ecma_tokens.specs.Items.{sign, Gap, Items, it}
 use Rattle.ecma_reread.specs.Machine.{read, with_front, followed_on, or_on, built_on, interp, means}
 use Rattle.ecma_reread.specs.Shapes as shapes
 use Rattle.ecma_reread.specs.Shapes.{IsInitializer, IsDeclarator, AreDeclarators, IsPattern}
-use Rattle.ecma_reread.specs.Tokens.{blank, ident_word, initializer_tokens, declarator_tokens, declarators_tokens, pattern_tokens}
+use Rattle.ecma_reread.specs.Tokens.{ident_word, initializer_tokens, declarator_tokens, declarators_tokens, pattern_tokens}
+use Rattle.ecma_reread.specs.Signs.{blank}
 use Rattle.ecma_reread.specs.Bare.{bare, bare_initializer, bare_declarator, bare_declarators, bare_pattern}
 use Rattle.ecma_reread.proofs.Levels.{means_is}
 use Rattle.ecma_reread.proofs.Fronts.{exactly, at_token}

@@ -34,7 +34,7 @@ use Rattle.ecma_tokens.specs.Items.{key, private_name, sign, string, number, big
 use Rattle.ecma_tokens.specs.Taking.{new_line_in}
 use Rattle.ecma_reread.specs.Machine.{read, fails, with_front, followed_on, or_on, built_on, interp, means}
 use Rattle.ecma_reread.specs.Shapes as shapes
-use Rattle.ecma_reread.specs.Tokens.{blank, star_of}
+use Rattle.ecma_reread.specs.Signs.{blank, star_of}
 use Rattle.ecma_reread.proofs.Levels.{means_is}
 use Rattle.ecma_reread.proofs.Fronts.{Front, exactly, a_name, the_end, Begins, at_token, refuses_at, refused_at, refuses_all, all_refused}
 use Rattle.ecma_reread.proofs.Towers.{behind_arrow, refuses_choices, is_stop, stops, Ends, closes_in}

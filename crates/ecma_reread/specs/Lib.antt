@@ -1,8 +1,11 @@
 pub mod Machine
 pub mod Heads
 pub mod Braces
+pub mod LiteralTexts
+pub mod MemberKinds
 pub mod Shapes
 pub mod Modules
+pub mod Signs
 pub mod Tokens
 pub mod Bare
 pub mod ModuleTokens

@@ -14,20 +14,17 @@ use Rattle.ecma_kind.specs.declared.operators.UpdateOp.{UpdateOp}
 use Rattle.ecma_kind.specs.declared.operators.AssignOp.{AssignOp}
 use Rattle.ecma_kind.specs.declared.operators.BinaryOp.{BinaryOp}
 use Rattle.ecma_kind.specs.declared.operators.BinaryOp.TheVariants as op
-use Rattle.ecma_kind.specs.declared.operators.MethodKind.{MethodKind}
-use Rattle.ecma_kind.specs.declared.operators.MethodKind.TheVariants.{Method, Getter, Setter}
-use Rattle.ecma_kind.specs.declared.operators.MemberModifiers.{MemberModifiers}
+use Rattle.ecma_kind.specs.declared.operators.MethodKind.TheVariants.{Method}
 use Rattle.ecma_kind.specs.declared.operators.MetaPropKind.TheVariants.{NewTarget, ImportMeta}
-use Rattle.ecma_kind.specs.declared.kind.Kind.{Kind}
 use Rattle.ecma_kind.specs.declared.kind.Kind.TheVariants as kind
 use Rattle.ecma_tree.specs.declared.node.Node.{Node}
 use Rattle.ecma_tree.specs.Nodes.{node_of}
 use Rattle.ecma_grammar.specs.Reads.{without_separators}
-use Rattle.ecma_grammar.specs.trees.Parts.{kind_of}
-use Rattle.ecma_grammar.specs.trees.Classes.{is_constructor_key}
 use Rattle.ecma_tokens.specs.Good.{IsToken, IsTextPart}
 use Rattle.ecma_reread.specs.Heads.{any_of, may_hold_in}
 use Rattle.ecma_reread.specs.Braces.{starts_with_brace}
+use Rattle.ecma_reread.specs.MemberKinds.{names_constructor, method_kind, field_kind, accessor_kind}
+use Rattle.ecma_reread.specs.LiteralTexts.{regex_text, part_text}
 
 -- a name that is no reserved word
 pub record IsPlainName (word : List ℕ) : Type 0 where
@@ -45,28 +42,12 @@ pub data IsChainKey : Node → Type 0 where
   plain_key : {n : Node} → IsKey n → IsChainKey n
   private_key : (at : Span) (name : List ℕ) → IsToken priv_name_end (codes "#" ++ name) → IsChainKey (node_of at (kind.PrivateName name) [])
 
--- a regular expression literal, of this body and these flags
-abbrev pub regex_text : List ℕ → List ℕ → List ℕ
-regex_text body flags = codes "/" ++ (body ++ (codes "/" ++ flags))
-
 pub record IsRegex (body flags : List ℕ) : Type 0 where
   pub whole : IsToken regex_end (regex_text body flags)
   pub ends : regex_body_end (regex_text body flags) 0 ≡ 1 + length body
 
 pub data IsAbsent : Node → Type 0 where
   absent : (at : Span) → IsAbsent (node_of at kind.Absent [])
-
--- a text part of a template: behind a backtick or `}`, and up to a backtick or `${`
-abbrev pub part_opening : Bool → List ℕ
-part_opening true = codes "`"
-part_opening false = codes "}"
-
-abbrev pub part_closing : Bool → List ℕ
-part_closing true = codes "`"
-part_closing false = codes "${"
-
-abbrev pub part_text : Bool → Bool → List ℕ → List ℕ
-part_text first last raw = part_opening first ++ (raw ++ part_closing last)
 
 -- without line ends other than line feeds; behind a tag it may have no value
 pub data IsPart (behind_tag first last : Bool) : Node → Type 0 where
@@ -155,25 +136,6 @@ pub data IsCoalesceHead : Level → Type 0 where
 -- what the brackets or braces round a list stand for: a value, or a pattern that declares names
 pub data Role : Type 0 where
   values bindings : Role
-
--- `constructor`, as a name or a text
-abbrev pub names_constructor : Node → Bool
-names_constructor n = is_constructor_key (kind_of n)
-
-abbrev pub static_modifiers : Bool → MemberModifiers
-static_modifiers is_static = record { accessibility = None; is_static = is_static; is_abstract = false; is_optional = false; is_override = false }
-
-abbrev pub method_kind : Bool → MethodKind → Bool → Kind
-method_kind true k is_static = kind.PrivateMethod k (static_modifiers is_static)
-method_kind false k is_static = kind.ClassMethod k (static_modifiers is_static)
-
-abbrev pub field_kind : Bool → Bool → Kind
-field_kind true is_static = kind.PrivateProp (static_modifiers is_static) false false false
-field_kind false is_static = kind.ClassProp (static_modifiers is_static) false false false
-
-abbrev pub accessor_kind : Bool → MethodKind
-accessor_kind true = Setter
-accessor_kind false = Getter
 
 -- the name of a function, or a class, that may have none
 pub data IsFunctionName : Node → Type 0 where

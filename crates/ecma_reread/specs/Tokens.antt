@@ -1,40 +1,17 @@
 -- The tokens that a tree is laid out as, in front of others.
-use Rattle.std.specs.Prelude.{ℕ, true, false, List, [], ◌∷◌, codes, zero, suc, Bool, ◌++◌}
-use Rattle.ecma_kind.specs.declared.operators.UnaryOp.{UnaryOp}
-use Rattle.ecma_kind.specs.declared.operators.UnaryOp.TheVariants.{Minus, Plus, Bang, Tilde, TypeOf, Void, Delete}
-use Rattle.ecma_kind.specs.declared.operators.UpdateOp.{UpdateOp}
-use Rattle.ecma_kind.specs.declared.operators.UpdateOp.TheVariants.{PlusPlus, MinusMinus}
-use Rattle.ecma_kind.specs.declared.operators.AssignOp.{AssignOp}
-use Rattle.ecma_kind.specs.declared.operators.AssignOp.TheVariants.{Assign, AddAssign, SubAssign, MulAssign, DivAssign, ModAssign, LShiftAssign, RShiftAssign, ZeroFillRShiftAssign, BitOrAssign, BitXorAssign, BitAndAssign, ExpAssign, AndAssign, OrAssign, NullishAssign}
-use Rattle.ecma_kind.specs.declared.operators.BinaryOp.{BinaryOp}
-use Rattle.ecma_kind.specs.declared.operators.BinaryOp.TheVariants as op
+use Rattle.std.specs.Prelude.{ℕ, true, false, List, codes, suc, Bool, ◌++◌}
 use Rattle.ecma_kind.specs.declared.kind.Kind.{Kind}
 use Rattle.ecma_kind.specs.declared.kind.Kind.TheVariants as kind
 use Rattle.ecma_tree.specs.declared.node.Node.{Node}
 use Rattle.ecma_print.specs.declared.place.Beside.{Beside}
-use Rattle.ecma_print.specs.declared.place.Beside.TheVariants.{NoNeighbor, BehindMinus, BehindPlus}
+use Rattle.ecma_print.specs.declared.place.Beside.TheVariants.{NoNeighbor}
 use Rattle.ecma_print.specs.Operators.{unary_sign, update_sign}
 use Rattle.ecma_print.specs.Statements.{keyword}
 use Rattle.ecma_tokens.specs.Items as items
 use Rattle.ecma_tokens.specs.Items.{Tok, sign, Gap, no_gap, Items, it}
-use Rattle.ecma_reread.specs.Shapes.{IsIdent, ident, IsKey, key, Level, IsExpression, looser, element, prefix_update, postfix_update, await_expression, unary_expression, binary_expression, exponentiation, both, either, coalesced, assignment_expression, conditional_expression, sequence_expression, name, string, number, this_word, big_int, null_word, true_word, false_word, member, call, parenthesized, IsElement, one, spread, IsArguments, no_arguments, arguments, AreElements, no_elements, more_elements, AreExpressions, no_expressions, more_expressions, IsInitializer, no_initializer, initializer, IsDeclarator, declarator, AreDeclarators, no_declarators, more_declarators, IsStatement, expression, declaration, empty, debugger_word, throw, return_value, return_nothing, break_nothing, continue_nothing, Ending, break_label, continue_label, block, if_only, if_else, while_loop, do_loop, labeled, IsBlock, block_of, AreStatements, no_statements, more_statements, array, AreSlots, no_slots, filled, hole, switch_statement, IsCase, case_of, default_of, AreCases, no_cases, more_cases, new_expression, new_alone, new_target, try_catch, try_finally, try_catch_finally, IsCatch, catch_any, IsChainKey, plain_key, private_key, super_member, super_element, super_call, IsOptional, left_out, given, IsForLeft, for_binding, for_target, for_loop, for_in, for_of, object_literal, IsPropertyName, key_name, string_name, number_name, big_int_name, computed_name, IsProperty, key_value, shorthand, initialized, spread_property, AreProperties, no_properties, more_properties, private_in, yield_nothing, yield_value, import_meta, import_call, regex, regex_text, Role, bound, rest, renamed, named, rest_property, IsPattern, name_pattern, array_pattern, object_pattern, IsDefaulted, no_default, with_default, IsForInit, no_init, init_declaration, init_expression, part_text, IsPart, part, AreParts, last_part, more_parts, template, tagged_template, arrow_function, catch_pattern, chain_member, chain_element, chain_call, function_statement, IsFunction, function_of, IsFunctionName, unnamed, function_name, IsHeritage, no_heritage, heritage, class_statement, IsClass, class_of, IsMember, empty_member, static_block, AreMembers, no_members, more_members, IsMemberName, property_member, private_member, method, class_constructor, field, accessor, arrow_block, method_property, getter_property, setter_property}
-
-abbrev pub blank : Gap
-blank = record { blanks = codes " "; new_line = false }
-
--- what the lines begin with that stand so many levels further in
-abbrev pub margin : ℕ → List ℕ
-margin zero = []
-margin (suc depth) = margin depth ++ codes "    "
-
-abbrev pub line_at : ℕ → Gap
-line_at depth = record { blanks = codes "\n" ++ margin depth; new_line = true }
-
-abbrev pub line : Gap
-line = line_at 0
-
-abbrev pub sign_of : List ℕ → Items → Items
-sign_of w us = it no_gap (sign w) us
+use Rattle.ecma_reread.specs.Shapes.{IsIdent, ident, IsKey, key, Level, IsExpression, looser, element, prefix_update, postfix_update, await_expression, unary_expression, binary_expression, exponentiation, both, either, coalesced, assignment_expression, conditional_expression, sequence_expression, name, string, number, this_word, big_int, null_word, true_word, false_word, member, call, parenthesized, IsElement, one, spread, IsArguments, no_arguments, arguments, AreElements, no_elements, more_elements, AreExpressions, no_expressions, more_expressions, IsInitializer, no_initializer, initializer, IsDeclarator, declarator, AreDeclarators, no_declarators, more_declarators, IsStatement, expression, declaration, empty, debugger_word, throw, return_value, return_nothing, break_nothing, continue_nothing, Ending, break_label, continue_label, block, if_only, if_else, while_loop, do_loop, labeled, IsBlock, block_of, AreStatements, no_statements, more_statements, array, AreSlots, no_slots, filled, hole, switch_statement, IsCase, case_of, default_of, AreCases, no_cases, more_cases, new_expression, new_alone, new_target, try_catch, try_finally, try_catch_finally, IsCatch, catch_any, IsChainKey, plain_key, private_key, super_member, super_element, super_call, IsOptional, left_out, given, IsForLeft, for_binding, for_target, for_loop, for_in, for_of, object_literal, IsPropertyName, key_name, string_name, number_name, big_int_name, computed_name, IsProperty, key_value, shorthand, initialized, spread_property, AreProperties, no_properties, more_properties, private_in, yield_nothing, yield_value, import_meta, import_call, regex, Role, bound, rest, renamed, named, rest_property, IsPattern, name_pattern, array_pattern, object_pattern, IsDefaulted, no_default, with_default, IsForInit, no_init, init_declaration, init_expression, IsPart, part, AreParts, last_part, more_parts, template, tagged_template, arrow_function, catch_pattern, chain_member, chain_element, chain_call, function_statement, IsFunction, function_of, IsFunctionName, unnamed, function_name, IsHeritage, no_heritage, heritage, class_statement, IsClass, class_of, IsMember, empty_member, static_block, AreMembers, no_members, more_members, IsMemberName, property_member, private_member, method, class_constructor, field, accessor, arrow_block, method_property, getter_property, setter_property}
+use Rattle.ecma_reread.specs.LiteralTexts.{regex_text, part_text}
+use Rattle.ecma_reread.specs.Signs.{blank, line_at, sign_of, unary_token, update_token, binary_token, assign_token, star_of, point_of, question_of, unary_gap, for_tokens, closing_gap, branch_gap, function_word, method_tokens, static_tokens, accessor_text, enclosed}
 
 abbrev pub ident_word : {n : Node} → IsIdent n → List ℕ
 ident_word (ident at word i) = word
@@ -50,75 +27,12 @@ abbrev pub chain_kind : {n : Node} → IsChainKey n → Kind
 chain_kind (plain_key k) = kind.IdentName (key_word k)
 chain_kind (private_key at w t) = kind.PrivateName w
 
-abbrev pub unary_token : UnaryOp → Tok
-unary_token Minus = sign (codes "-")
-unary_token Plus = sign (codes "+")
-unary_token Bang = sign (codes "!")
-unary_token Tilde = sign (codes "~")
-unary_token TypeOf = items.key (codes "typeof")
-unary_token Void = items.key (codes "void")
-unary_token Delete = items.key (codes "delete")
-
-abbrev pub update_token : UpdateOp → Tok
-update_token PlusPlus = sign (codes "++")
-update_token MinusMinus = sign (codes "--")
-
-abbrev pub binary_token : BinaryOp → Tok
-binary_token op.EqEq = sign (codes "==")
-binary_token op.NotEq = sign (codes "!=")
-binary_token op.EqEqEq = sign (codes "===")
-binary_token op.NotEqEq = sign (codes "!==")
-binary_token op.Lt = sign (codes "<")
-binary_token op.LtEq = sign (codes "<=")
-binary_token op.Gt = sign (codes ">")
-binary_token op.GtEq = sign (codes ">=")
-binary_token op.LShift = sign (codes "<<")
-binary_token op.RShift = sign (codes ">>")
-binary_token op.ZeroFillRShift = sign (codes ">>>")
-binary_token op.Add = sign (codes "+")
-binary_token op.Sub = sign (codes "-")
-binary_token op.Mul = sign (codes "*")
-binary_token op.Div = sign (codes "/")
-binary_token op.Mod = sign (codes "%")
-binary_token op.BitOr = sign (codes "|")
-binary_token op.BitXor = sign (codes "^")
-binary_token op.BitAnd = sign (codes "&")
-binary_token op.LogicalOr = sign (codes "||")
-binary_token op.LogicalAnd = sign (codes "&&")
-binary_token op.In = items.key (codes "in")
-binary_token op.InstanceOf = items.key (codes "instanceof")
-binary_token op.Exp = sign (codes "**")
-binary_token op.NullishCoalescing = sign (codes "??")
-
-abbrev pub assign_token : AssignOp → Tok
-assign_token Assign = sign (codes "=")
-assign_token AddAssign = sign (codes "+=")
-assign_token SubAssign = sign (codes "-=")
-assign_token MulAssign = sign (codes "*=")
-assign_token DivAssign = sign (codes "/=")
-assign_token ModAssign = sign (codes "%=")
-assign_token LShiftAssign = sign (codes "<<=")
-assign_token RShiftAssign = sign (codes ">>=")
-assign_token ZeroFillRShiftAssign = sign (codes ">>>=")
-assign_token BitOrAssign = sign (codes "|=")
-assign_token BitXorAssign = sign (codes "^=")
-assign_token BitAndAssign = sign (codes "&=")
-assign_token ExpAssign = sign (codes "**=")
-assign_token AndAssign = sign (codes "&&=")
-assign_token OrAssign = sign (codes "||=")
-assign_token NullishAssign = sign (codes "??=")
-
 -- the sign that an expression begins with, where it is an operator
 abbrev pub own_sign : {level : Level} {e : Node} → IsExpression level e → Beside
 own_sign (looser e) = own_sign e
 own_sign (unary_expression at o e) = unary_sign o
 own_sign (prefix_update at o e) = update_sign o
 own_sign e = NoNeighbor
-
--- what stands between `yield` and its operand
-abbrev pub star_of : Bool → Items → Items
-star_of true us = sign_of (codes "*") us
-star_of false us = us
 
 abbrev pub part_raw : {t f l : Bool} {n : Node} → IsPart t f l n → List ℕ
 part_raw (part at raw w r v) = raw
@@ -135,67 +49,9 @@ ends_here (more_parts p e ps) = false
 abbrev pub part_token : (first : Bool) {t f : Bool} {es ps : List Node} → AreParts t f es ps → Tok
 part_token first ps = items.template first (ends_here ps) (part_text first (ends_here ps) (first_raw ps))
 
--- what stands before the key of a link of an optional chain, and before its brackets or parentheses
-abbrev pub point_of : Bool → List ℕ
-point_of true = codes "?."
-point_of false = codes "."
-
-abbrev pub question_of : Bool → Items → Items
-question_of true us = sign_of (codes "?.") us
-question_of false us = us
-
--- what stands between a unary operator and its operand
-abbrev pub unary_gap : UnaryOp → Beside → Gap
-unary_gap Minus BehindMinus = blank
-unary_gap Plus BehindPlus = blank
-unary_gap TypeOf b = blank
-unary_gap Void b = blank
-unary_gap Delete b = blank
-unary_gap o b = no_gap
-
--- `for (`, and `await` between
-abbrev pub for_tokens : Bool → Gap → Items → Items
-for_tokens true g us = it g (items.key (codes "for")) (it blank (items.key (codes "await")) (it blank (sign (codes "(")) us))
-for_tokens false g us = it g (items.key (codes "for")) (it blank (sign (codes "(")) us)
-
--- what stands before `}`
-abbrev pub closing_gap : List Node → ℕ → Gap
-closing_gap [] depth = no_gap
-closing_gap (x ∷ xs) depth = line_at depth
-
 abbrev pub is_braced : {ending : Ending} {s : Node} → IsStatement ending s → Bool
 is_braced (block b) = true
 is_braced s = false
-
--- what stands before `else`, and before the `while` of `do`: it stands on the line of `}`
-abbrev pub branch_gap : Bool → ℕ → Gap
-branch_gap true depth = blank
-branch_gap false depth = line_at depth
-
--- what stands before the name of a function: whether it is a generator, and asynchronous
-abbrev pub star_word : Bool → Gap → Items → Items
-star_word true g us = it g (items.key (codes "function")) (sign_of (codes "*") us)
-star_word false g us = it g (items.key (codes "function")) us
-
-abbrev pub function_word : Bool → Bool → Gap → Items → Items
-function_word is_generator true g us = it g (items.key (codes "async")) (star_word is_generator blank us)
-function_word is_generator false g us = star_word is_generator g us
-
--- the name of a method and what follows, with what stands before it: whether it is a generator, and asynchronous
-abbrev pub method_tokens : Bool → Bool → (Gap → Items) → Gap → Items
-method_tokens true true f g = it g (items.key (codes "async")) (it blank (sign (codes "*")) (f no_gap))
-method_tokens true false f g = it g (sign (codes "*")) (f no_gap)
-method_tokens false true f g = it g (items.key (codes "async")) (f blank)
-method_tokens false false f g = f g
-
--- with `static` before it, or without
-abbrev pub static_tokens : Bool → (Gap → Items) → Gap → Items
-static_tokens true f g = it g (items.key (codes "static")) (f blank)
-static_tokens false f g = f g
-
-abbrev pub accessor_text : Bool → List ℕ
-accessor_text true = codes "set"
-accessor_text false = codes "get"
 
 abbrev pub function_name_tokens : {n : Node} → IsFunctionName n → Items → Items
 function_name_tokens (unnamed a) us = us
@@ -206,10 +62,6 @@ is_generator (function_of at at' x y ps w b a a') = x
 
 abbrev pub is_async : {n : Node} → IsFunction n → Bool
 is_async (function_of at at' x y ps w b a a') = y
-
--- `(`, a test, `)`
-abbrev pub enclosed : (Gap → Items → Items) → Items → Items
-enclosed f us = it blank (sign (codes "(")) (f no_gap (sign_of (codes ")") us))
 
 -- an expression or a statement on a line that stands so many levels further in
 abbrev mutual
