@@ -11,4 +11,6 @@ mod Below
 pub mod Unbroken
 mod Strays
 pub mod Strayless
-pub mod Explicit
+mod Explicit
+pub mod Branching
+pub mod Chaining

@@ -2,8 +2,10 @@
 use Rattle.std.specs.Prelude.{◌≡◌, Bool, false, None}
 use Rattle.ecma_kind.specs.declared.kind.Kind.{Kind}
 use Rattle.ecma_kind.specs.declared.kind.Kind.TheVariants as kind
+use Rattle.ecma_kind.specs.declared.shapes.Sort.TheVariants as sort
 use Rattle.ecma_tree.specs.declared.node.Node.{Node}
 use Rattle.ecma_tree.specs.Finding.{enters_all, finds}
+use Rattle.ecma_tree.specs.Sorted.{HasSort}
 use Rattle.ecma_rules.specs.declared.target.Target.TheVariants as target
 use Rattle.ecma_rules.specs.Rules.{first_broken, first_misplaced}
 use Rattle.ecma_rules.specs.Surroundings.{at_root}
@@ -13,6 +15,7 @@ use Rattle.ecma_covers.specs.Placing.{Stands}
 use Rattle.ecma_parentheses.specs.Explicit.{explicit}
 use Rattle.ecma_fits.specs.declared.unfit.Where.{Where}
 use Rattle.ecma_fits.specs.Branches.{is_dangling}
+use Rattle.ecma_fits.specs.Chains.{is_loose}
 use Rattle.ecma_fits.specs.Fitting.{Fits, at_top, where_in}
 use Rattle.ecma_fits.specs.Members.{is_misread}
 
@@ -49,3 +52,7 @@ ExplicitBranchesStay = (tree : Node) → NoneIs is_dangling tree → NoneIs is_d
 -- and members are read as they stand where they were
 abbrev pub ExplicitMembersStay : Type 0
 ExplicitMembersStay = (tree : Node) → NoneIs is_misread tree → NoneIs is_misread (explicit tree)
+
+-- in a module each link of an optional chain without its own `?.` stands behind a link where it did
+abbrev pub ExplicitChainsStay : Type 0
+ExplicitChainsStay = (tree : Node) → HasSort sort.Module tree → NoneIs is_loose tree → NoneIs is_loose (explicit tree)

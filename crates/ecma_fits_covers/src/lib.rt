@@ -3,7 +3,7 @@
 //! Each function carries one law over the definitions, and does nothing. The laws are stated in `specs/`.
 #![tactic(auto)]
 
-ghost use Rattle.ecma_fits_covers.specs.Laws.{CoversAreNotMisplaced, CoversBreakNoRule, ExplicitBranchesStay, ExplicitMembersStay, WhatFitsStands};
+ghost use Rattle.ecma_fits_covers.specs.Laws.{CoversAreNotMisplaced, CoversBreakNoRule, ExplicitBranchesStay, ExplicitChainsStay, ExplicitMembersStay, WhatFitsStands};
 
 /// In a tree that fits, and whose patterns have no `?`, patterns stand where they may.
 #[tactic(auto, using(crate::proofs::Placed::placed))]
@@ -24,13 +24,19 @@ pub fn covers_break_no_rule()
 {}
 
 /// In the tree with explicit parentheses no `if` without `else` stands directly before an outer `else`, where none did.
-#[tactic(auto, using(crate::proofs::Explicit::explicit_clauses))]
+#[tactic(auto, using(crate::proofs::Branching::explicit_clauses))]
 pub fn explicit_branches_stay()
     ensures { ExplicitBranchesStay }
 {}
 
 /// Its members are read as they stand, where those of the tree were.
-#[tactic(auto, using(crate::proofs::Explicit::explicit_clauses))]
+#[tactic(auto, using(crate::proofs::Branching::explicit_clauses))]
 pub fn explicit_members_stay()
     ensures { ExplicitMembersStay }
+{}
+
+/// In a module with explicit parentheses each link of an optional chain without its own `?.` stands behind a link, where it did.
+#[tactic(auto, using(crate::proofs::Chaining::chains))]
+pub fn explicit_chains_stay()
+    ensures { ExplicitChainsStay }
 {}
