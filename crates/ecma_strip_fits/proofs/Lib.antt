@@ -15,3 +15,4 @@ pub mod Leaves
 pub mod Ruled
 pub mod RuleStanding
 pub mod RulesKept
+pub mod SortsKept

@@ -139,7 +139,7 @@ met_child t r _ i m idle = refl
 
 -- ---- an expression there is a simple target
 
-left_expression : (r : Role) → is_left r ≡ true → (k : Kind) → belongs sort.Expr k ≡ true → may_be r k ≡ false
+pub left_expression : (r : Role) → is_left r ≡ true → (k : Kind) → belongs sort.Expr k ≡ true → may_be r k ≡ false
 unfolding may_be
 left_expression role.Left l kind.BindingIdent b = cc
 left_expression role.Left l _ b = cc
@@ -147,7 +147,7 @@ left_expression role.Head l kind.BindingIdent b = cc
 left_expression role.Head l _ b = cc
 left_expression _ l k b = cc
 
-must_take : (a b c d : Bool) → (a || not (b || (c && d))) ≡ false → b ≡ false → d ≡ true
+pub must_take : (a b c d : Bool) → (a || not (b || (c && d))) ≡ false → b ≡ false → d ≡ true
 must_take true b c d h f = cc
 must_take false true c d h f = cc
 must_take false false false d h f = cc
@@ -227,12 +227,12 @@ name_usual sort.ExportSpecifier n = refl
 name_usual sort.ModuleExportName n = refl
 name_usual _ n = cc
 
-wrapped_no_list : (k : Kind) → class_of k ≡ Wrapped → is_list k ≡ false
+pub wrapped_no_list : (k : Kind) → class_of k ≡ Wrapped → is_list k ≡ false
 unfolding class_of
 wrapped_no_list kind.List w = cc
 wrapped_no_list _ w = refl
 
-wrapped_there : (k : Kind) → class_of k ≡ Wrapped → is_absent k ≡ false
+pub wrapped_there : (k : Kind) → class_of k ≡ Wrapped → is_absent k ≡ false
 unfolding class_of
 wrapped_there kind.Absent w = cc
 wrapped_there _ w = refl

@@ -40,7 +40,7 @@ some_same : {X : Type 0} {x y : X} → Some x ≡ Some y → x ≡ y
 some_same e = cc
 
 -- of a node that fits where it stands
-in_role : (w : Where) (n : Node) → unfit_here w n ≡ None → is_out_of_role w.role n ≡ false
+pub in_role : (w : Where) (n : Node) → unfit_here w n ≡ None → is_out_of_role w.role n ≡ false
 in_role w n h = (neither (is_out_of_role w.role n) (is_stray_target w.role w.arguments n || breaks_rule w n) (unfit_none w n h).0).0
 
 no_rule : (w : Where) (n : Node) → unfit_here w n ≡ None → (fails_list w.around n ≡ false) × (fails_statement w.around n ≡ false)

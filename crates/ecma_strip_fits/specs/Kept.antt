@@ -1,6 +1,8 @@
 -- What a tree that fits keeps without its types.
 use Rattle.std.specs.Prelude.{◌≡◌, Bool, not, ◌||◌, None, is_some}
+use Rattle.ecma_kind.specs.declared.shapes.Sort.TheVariants as sort
 use Rattle.ecma_tree.specs.declared.node.Node.{Node}
+use Rattle.ecma_tree.specs.Sorted.{HasSort}
 use Rattle.ecma_leaves.specs.Words.{is_spelled}
 use Rattle.ecma_rules.specs.Children.{kind_of}
 use Rattle.ecma_rules.specs.Failing.{failing_here, first_failing}
@@ -24,6 +26,10 @@ NoneFails fails tree = first_failing Where (λ w node. failing_here (fails w nod
 -- a constructor is the member `constructor` that is not static, and no other is; no getter or setter of a class is a generator or async
 abbrev pub StrippingKeepsMembers : Type 0
 StrippingKeepsMembers = (tree : Node) → Fits tree → NoneFails (λ w node. is_misread node) (stripped tree)
+
+-- a module by its sorts
+abbrev pub StrippingKeepsSorts : Type 0
+StrippingKeepsSorts = (tree : Node) → Fits tree → HasSort sort.Module (stripped tree)
 
 -- a node has what its production asks for
 abbrev pub StrippingKeepsCounts : Type 0

@@ -5,6 +5,7 @@ use Rattle.ecma_strip_fits.proofs.FullNodes.{counts_kept}
 use Rattle.ecma_strip_fits.proofs.Leaves.{leaves_kept, targets_kept}
 use Rattle.ecma_strip_fits.proofs.Chains.{chains_kept}
 use Rattle.ecma_strip_fits.proofs.RulesKept.{rules_kept}
+use Rattle.ecma_strip_fits.proofs.SortsKept.{sorts_kept}
 use Rattle.ecma_strip_fits.proofs.Strays.{keeps_strays}
 use Rattle.ecma_strip_fits.proofs.Tests.{members_kept}
 
@@ -34,3 +35,6 @@ returns-clause-targets c = targets_kept
 
 pub returns-clause-rules : goal.returns-clause-rules
 returns-clause-rules c = rules_kept
+
+pub returns-clause-sorts : goal.returns-clause-sorts
+returns-clause-sorts c = sorts_kept
