@@ -14,3 +14,4 @@ pub mod Strayless
 mod Explicit
 pub mod Branching
 pub mod Chaining
+pub mod Holding

@@ -18,6 +18,7 @@ use Rattle.ecma_fits.specs.Branches.{is_dangling}
 use Rattle.ecma_fits.specs.Chains.{is_loose}
 use Rattle.ecma_fits.specs.Fitting.{Fits, at_top, where_in}
 use Rattle.ecma_fits.specs.Members.{is_misread}
+use Rattle.ecma_fits.specs.Roles.{is_out_of_role}
 
 -- a pattern with a `?`, which is TypeScript
 abbrev pub is_optional_pattern : Kind → Bool
@@ -56,3 +57,11 @@ ExplicitMembersStay = (tree : Node) → NoneIs is_misread tree → NoneIs is_mis
 -- in a module each link of an optional chain without its own `?.` stands behind a link where it did
 abbrev pub ExplicitChainsStay : Type 0
 ExplicitChainsStay = (tree : Node) → HasSort sort.Module tree → NoneIs is_loose tree → NoneIs is_loose (explicit tree)
+
+-- no node of a tree is out of its role
+abbrev pub NoneIsOutOfRole : Node → Type 0
+NoneIsOutOfRole tree = first_failing Where (λ w node. failing_here (is_out_of_role w.role node) node) where_in tree at_top ≡ None
+
+-- nor with explicit parentheses where none was
+abbrev pub ExplicitRolesStay : Type 0
+ExplicitRolesStay = (tree : Node) → NoneIsOutOfRole tree → NoneIsOutOfRole (explicit tree)

@@ -3,7 +3,7 @@
 //! Each function carries one law over the definitions, and does nothing. The laws are stated in `specs/`.
 #![tactic(auto)]
 
-ghost use Rattle.ecma_fits_covers.specs.Laws.{CoversAreNotMisplaced, CoversBreakNoRule, ExplicitBranchesStay, ExplicitChainsStay, ExplicitMembersStay, WhatFitsStands};
+ghost use Rattle.ecma_fits_covers.specs.Laws.{CoversAreNotMisplaced, CoversBreakNoRule, ExplicitBranchesStay, ExplicitChainsStay, ExplicitMembersStay, ExplicitRolesStay, WhatFitsStands};
 
 /// In a tree that fits, and whose patterns have no `?`, patterns stand where they may.
 #[tactic(auto, using(crate::proofs::Placed::placed))]
@@ -39,4 +39,10 @@ pub fn explicit_members_stay()
 #[tactic(auto, using(crate::proofs::Chaining::chains))]
 pub fn explicit_chains_stay()
     ensures { ExplicitChainsStay }
+{}
+
+/// In the tree with explicit parentheses no node is out of its role, where none was.
+#[tactic(auto, using(crate::proofs::Holding::roles))]
+pub fn explicit_roles_stay()
+    ensures { ExplicitRolesStay }
 {}
