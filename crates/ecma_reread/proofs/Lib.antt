@@ -41,6 +41,7 @@ pub mod Arrays
 pub mod PropertyNames
 pub mod ObjectMethods
 pub mod Objects
+pub mod ObjectPatterns
 pub mod Patterns
 pub mod Arrows
 pub mod Sequences
@@ -84,6 +85,7 @@ pub mod Joins
 pub mod ModuleJoins
 pub mod Hashbangs
 pub mod Texts
+pub mod JoinParts
 pub mod StatementJoins
 pub mod Words
 pub mod Law

@@ -16,7 +16,8 @@ use Rattle.ecma_reread.specs.ModuleTokens.{spaced, spaced_sign, string_raw, expo
 use Rattle.ecma_reread.proofs.Softs.{semicolon}
 use Rattle.ecma_reread.proofs.Beginnings.{blank_joins}
 use Rattle.ecma_reread.proofs.Joins.{Words, no_gap_is, blank_is, ident_whole, key_whole}
-use Rattle.ecma_reread.proofs.StatementJoins.{expression_joined, line_wide, blank_wide, line_is, Apart, statement_apart, ended, statement_joined, function_word_apart, function_word_joined, function_opens, function_joined, class_apart, class_joined}
+use Rattle.ecma_reread.proofs.StatementJoins.{expression_joined, statement_joined, function_joined, class_joined}
+use Rattle.ecma_reread.proofs.JoinParts.{line_wide, blank_wide, line_is, Apart, statement_apart, ended, function_word_apart, function_word_joined, function_opens, class_apart}
 
 item_apart : {assignments : Bool} {n : Node} (is : IsModuleItem assignments n) (us : Items) → Apart (item_tokens is line us)
 item_apart (modules.statement s) us t = statement_apart s 0 line (line_wide 0) us t

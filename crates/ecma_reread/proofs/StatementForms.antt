@@ -49,7 +49,8 @@ use Rattle.ecma_reread.proofs.Expressions.{string_single, number_single, this_si
 use Rattle.ecma_reread.proofs.Lists.{Forms, FormsIn}
 use Rattle.ecma_reread.proofs.Sequences.{sequence_form}
 use Rattle.ecma_reread.proofs.Arrays.{SlotForms, array_new, array_pattern_read}
-use Rattle.ecma_reread.proofs.Objects.{PropertyForm, PropertyForms, object_new, object_pattern_read}
+use Rattle.ecma_reread.proofs.Objects.{PropertyForm, PropertyForms}
+use Rattle.ecma_reread.proofs.ObjectPatterns.{object_new, object_pattern_read}
 use Rattle.ecma_reread.proofs.Spreads.{ElementForm, ReadAsPattern, ReadAsDefaulted, InitializerForm}
 use Rattle.ecma_reread.proofs.PrivateTests.{private_form}
 use Rattle.ecma_reread.proofs.Yields.{yield_alone, yield_form, alone_read, yield_read}
