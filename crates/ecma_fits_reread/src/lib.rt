@@ -1,0 +1,11 @@
+//! Laws: the raw tree of a finished one that fits, with explicit parentheses, has the shapes that are read again.
+//!
+//! Each function carries one law over the definitions, and does nothing. The laws are stated in `specs/`.
+#![tactic(auto)]
+
+ghost use Rattle.ecma_fits_reread.specs.Laws.{ExpressionsHaveTheirShapes};
+
+/// The raw tree of an expression that fits, lacks no parentheses and is of the forms of `specs/Forms.antt` has the shape of an expression.
+pub fn expressions_have_their_shapes()
+    ensures { ExpressionsHaveTheirShapes }
+{}
