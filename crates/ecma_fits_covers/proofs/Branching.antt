@@ -107,7 +107,7 @@ module _ (x : Node-F Node) (below : AllTake x.children) where
 takes_kept : IsKept takes_else
 takes_kept = ind-Node Takes (λ x y is. node_takes x (subst (λ (z : Node-F Node). AllTake z.children) is (all_take y.children)))
 
-present_kept : IsKept (λ n. is_present (kind_of n))
+pub present_kept : IsKept (λ n. is_present (kind_of n))
 present_kept n spot fits = ap not (kind_kept is_absent refl (λ k children spot fits e. absent_opens k children spot fits (ap not e)) n spot fits)
 
 abbrev dangles : Kind → List Node → Bool

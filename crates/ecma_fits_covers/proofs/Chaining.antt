@@ -28,7 +28,7 @@ use Rattle.ecma_fits_covers.proofs.Parts.{children_made, kind_made, not_true, sh
 use Rattle.ecma_fits_covers.proofs.Explicit.{AllHold, kept, spotted}
 
 -- nodes with a shape
-abbrev Shaped : Node → Type 0
+abbrev pub Shaped : Node → Type 0
 Shaped n = (o : Shape) × HasShape o n
 
 all_shaped : (os : List Shape) (ns : List Node) → HaveShapes os ns → AllHold Shaped ns
@@ -37,7 +37,7 @@ all_shaped [] (n ∷ ns) h = absurd h
 all_shaped (o ∷ os) [] h = absurd h
 all_shaped (o ∷ os) (n ∷ ns) h = ((o, h.0), all_shaped os ns h.1)
 
-shaped_below : (x : Node-F Node) → Shaped (roll-Node x) → AllHold Shaped x.children
+pub shaped_below : (x : Node-F Node) → Shaped (roll-Node x) → AllHold Shaped x.children
 shaped_below x h = all_shaped (child_shapes x.kind h.0 (length x.children)) x.children (shape_made x h.0 h.1).1
 
 -- a spot in which no parentheses stand round what a chain goes on behind

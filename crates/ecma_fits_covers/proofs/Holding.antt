@@ -29,7 +29,7 @@ use Rattle.ecma_fits_covers.proofs.Parts.{kind_made, neither, neither_least, not
 use Rattle.ecma_fits_covers.proofs.Explicit.{spotted}
 
 -- the kinds that may stand in parentheses
-abbrev closes : Kind → Bool
+abbrev pub closes : Kind → Bool
 closes kind.SeqExpr = true
 closes (kind.AssignExpr op) = true
 closes (kind.ArrowExpr is_async is_generator) = true
@@ -175,7 +175,7 @@ module _ (T : Role → Node → Bool)
       let ls = laid_children (map stood x.children) in
       ap (λ m. walk m v) (stands x spot) ∙ either_kept x below w h (in_parentheses x.kind ls spot) spot fits (λ e. closed x.kind ls spot fits e) v same
 
-  kept : (n : Node) → Kept n
+  pub kept : (n : Node) → Kept n
   kept = ind-Node Kept (λ x y is. node_kept x (subst (λ (z : Node-F Node). AllKept z.children) is (all_kept y.children)))
 
 -- roles

@@ -15,3 +15,5 @@ mod Explicit
 pub mod Branching
 pub mod Chaining
 pub mod Holding
+pub mod Spelling
+pub mod Constructing

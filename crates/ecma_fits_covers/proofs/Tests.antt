@@ -184,7 +184,7 @@ full_stays n = ap (λ k. is_constructor k && has_child (free n) 2) (free_kind n)
     go true e = ap (λ b. is_constructor (kind_of n) && b) (child_kind_at is_present n 2 (constructor_free (kind_of n) e))
     go false e = ap (λ b. b && has_child (free n) 2) e ∙ sym (ap (λ b. b && has_child n 2) e)
 
-counted : (a b : Bool) (x y : Node) (xs ys : List Node) → a ≡ b → length xs ≡ length ys → length (cond a (x ∷ xs) xs) ≡ length (cond b (y ∷ ys) ys)
+pub counted : (a b : Bool) (x y : Node) (xs ys : List Node) → a ≡ b → length xs ≡ length ys → length (cond a (x ∷ xs) xs) ≡ length (cond b (y ∷ ys) ys)
 counted true true x y xs ys e h = ap suc h
 counted true false x y xs ys e h = not_true (sym e)
 counted false true x y xs ys e h = not_true e
@@ -194,7 +194,7 @@ as_many_full : (ns : List Node) → length (filter is_full_constructor (each_in 
 as_many_full [] = refl
 as_many_full (n ∷ ns) = counted (is_full_constructor (free n)) (is_full_constructor n) (free n) n _ _ (full_stays n) (as_many_full ns)
 
-no_second : (xs ys : List Node) → length xs ≡ length ys → second_of ys ≡ None → second_of xs ≡ None
+pub no_second : (xs ys : List Node) → length xs ≡ length ys → second_of ys ≡ None → second_of xs ≡ None
 no_second [] ys e h = refl
 no_second (x ∷ []) ys e h = refl
 no_second (x ∷ y ∷ xs) [] e h = cc

@@ -1,5 +1,5 @@
 -- Laws of finished trees that fit.
-use Rattle.std.specs.Prelude.{◌≡◌, Bool, false, None}
+use Rattle.std.specs.Prelude.{◌≡◌, Bool, false, not, None, is_some}
 use Rattle.ecma_kind.specs.declared.kind.Kind.{Kind}
 use Rattle.ecma_kind.specs.declared.kind.Kind.TheVariants as kind
 use Rattle.ecma_kind.specs.declared.shapes.Sort.TheVariants as sort
@@ -7,6 +7,8 @@ use Rattle.ecma_tree.specs.declared.node.Node.{Node}
 use Rattle.ecma_tree.specs.Finding.{enters_all, finds}
 use Rattle.ecma_tree.specs.Sorted.{HasSort}
 use Rattle.ecma_rules.specs.declared.target.Target.TheVariants as target
+use Rattle.ecma_rules.specs.Children.{kind_of}
+use Rattle.ecma_rules.specs.Members.{second_constructor}
 use Rattle.ecma_rules.specs.Rules.{first_broken, first_misplaced}
 use Rattle.ecma_rules.specs.Surroundings.{at_root}
 use Rattle.ecma_rules.specs.Failing.{failing_here, first_failing}
@@ -16,9 +18,10 @@ use Rattle.ecma_parentheses.specs.Explicit.{explicit}
 use Rattle.ecma_fits.specs.declared.unfit.Where.{Where}
 use Rattle.ecma_fits.specs.Branches.{is_dangling}
 use Rattle.ecma_fits.specs.Chains.{is_loose}
+use Rattle.ecma_leaves.specs.Words.{is_spelled}
 use Rattle.ecma_fits.specs.Fitting.{Fits, at_top, where_in}
 use Rattle.ecma_fits.specs.Members.{is_misread}
-use Rattle.ecma_fits.specs.Roles.{is_out_of_role}
+use Rattle.ecma_fits.specs.Roles.{is_out_of_role, is_tagged}
 
 -- a pattern with a `?`, which is TypeScript
 abbrev pub is_optional_pattern : Kind → Bool
@@ -65,3 +68,19 @@ NoneIsOutOfRole tree = first_failing Where (λ w node. failing_here (is_out_of_r
 -- nor with explicit parentheses where none was
 abbrev pub ExplicitRolesStay : Type 0
 ExplicitRolesStay = (tree : Node) → NoneIsOutOfRole tree → NoneIsOutOfRole (explicit tree)
+
+-- no leaf of a tree is misspelled
+abbrev pub NoneIsMisspelled : Node → Type 0
+NoneIsMisspelled tree = first_failing Where (λ w node. failing_here (not (is_spelled (is_tagged w.role) (kind_of node))) node) where_in tree at_top ≡ None
+
+-- nor with explicit parentheses where none was
+abbrev pub ExplicitLeavesStay : Type 0
+ExplicitLeavesStay = (tree : Node) → NoneIsMisspelled tree → NoneIsMisspelled (explicit tree)
+
+-- a class has two constructors with bodies
+abbrev pub has_second_constructor : Node → Bool
+has_second_constructor node = is_some (second_constructor node)
+
+-- no class of a module has, with explicit parentheses, where none had
+abbrev pub ExplicitConstructorsStay : Type 0
+ExplicitConstructorsStay = (tree : Node) → HasSort sort.Module tree → NoneIs has_second_constructor tree → NoneIs has_second_constructor (explicit tree)

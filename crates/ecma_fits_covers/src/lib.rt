@@ -3,7 +3,7 @@
 //! Each function carries one law over the definitions, and does nothing. The laws are stated in `specs/`.
 #![tactic(auto)]
 
-ghost use Rattle.ecma_fits_covers.specs.Laws.{CoversAreNotMisplaced, CoversBreakNoRule, ExplicitBranchesStay, ExplicitChainsStay, ExplicitMembersStay, ExplicitRolesStay, WhatFitsStands};
+ghost use Rattle.ecma_fits_covers.specs.Laws.{CoversAreNotMisplaced, CoversBreakNoRule, ExplicitBranchesStay, ExplicitChainsStay, ExplicitConstructorsStay, ExplicitLeavesStay, ExplicitMembersStay, ExplicitRolesStay, WhatFitsStands};
 
 /// In a tree that fits, and whose patterns have no `?`, patterns stand where they may.
 #[tactic(auto, using(crate::proofs::Placed::placed))]
@@ -45,4 +45,16 @@ pub fn explicit_chains_stay()
 #[tactic(auto, using(crate::proofs::Holding::roles))]
 pub fn explicit_roles_stay()
     ensures { ExplicitRolesStay }
+{}
+
+/// In the tree with explicit parentheses no leaf is misspelled, where none was.
+#[tactic(auto, using(crate::proofs::Spelling::leaves))]
+pub fn explicit_leaves_stay()
+    ensures { ExplicitLeavesStay }
+{}
+
+/// In a module with explicit parentheses no class has two constructors with bodies, where none had.
+#[tactic(auto, using(crate::proofs::Constructing::constructors))]
+pub fn explicit_constructors_stay()
+    ensures { ExplicitConstructorsStay }
 {}
