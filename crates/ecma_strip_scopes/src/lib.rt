@@ -4,8 +4,14 @@
 #![tactic(auto)]
 
 ghost use Rattle.ecma_strip_scopes.specs.Going.{WhatGoesDeclaresNothing};
+ghost use Rattle.ecma_strip_scopes.specs.Standing.{WhatStaysIsDeclared};
 
 /// Where names are looked for in a list, no item that goes with the types declares a value that stays.
 pub fn what_goes_declares_nothing()
     ensures { WhatGoesDeclaresNothing }
+{}
+
+/// What stays of a tree declares, without its types, what the tree declares as values that stay.
+pub fn what_stays_is_declared()
+    ensures { WhatStaysIsDeclared }
 {}
