@@ -173,7 +173,7 @@ name_node at word ctxt optional = node_of at (kind.Ident word ctxt optional) []
 abbrev pub binding_node : Span → Span → Span → List ℕ → ℕ → Bool → Node
 binding_node at of_name of_type word ctxt optional = node_of at kind.BindingIdent (name_node of_name word ctxt optional ∷ node_of of_type kind.Absent [] ∷ [])
 
-name_covered : (t : Target) → binds t ≡ true → (at : Span) (a b : Node) → cover_by t (record { span = at; kind = kind.BindingIdent; children = a ∷ b ∷ [] }) ≡ a
+pub name_covered : (t : Target) → binds t ≡ true → (at : Span) (a b : Node) → cover_by t (record { span = at; kind = kind.BindingIdent; children = a ∷ b ∷ [] }) ≡ a
 name_covered target.Head h at a b = refl
 name_covered target.Part h at a b = refl
 name_covered target.Element h at a b = refl
@@ -190,7 +190,7 @@ name_turned target.Rest h at word ctxt optional = refl
 name_turned target.Name h at word ctxt optional = refl
 name_turned _ h at word ctxt optional = absurd (cc)
 
-free_name : (at : Span) (word : List ℕ) (ctxt : ℕ) (optional : Bool) → cover_at (name_node at word ctxt optional) target.Free ≡ name_node at word ctxt optional
+pub free_name : (at : Span) (word : List ℕ) (ctxt : ℕ) (optional : Bool) → cover_at (name_node at word ctxt optional) target.Free ≡ name_node at word ctxt optional
 free_name at word ctxt optional = cover_node at (kind.Ident word ctxt optional) [] target.Free
 
 pub free_missing : (at : Span) → cover_at (node_of at kind.Absent []) target.Free ≡ node_of at kind.Absent []
