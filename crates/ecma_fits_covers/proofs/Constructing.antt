@@ -1,16 +1,15 @@
 -- Explicit parentheses keep the clause on constructors.
-use Rattle.std.proofs.Common.{◌≡◌, ◌∙◌, ◌&&◌, ℕ, zero, suc, Bool, true, false, List, [], ◌∷◌, map, length, filter, Option, None, is_some, refl, sym, ap, ap₂, subst, slice_get}
+use Rattle.std.proofs.Common.{◌≡◌, ◌∙◌, ◌&&◌, ℕ, Bool, true, false, List, [], ◌∷◌, map, length, filter, Option, None, is_some, refl, sym, ap, ap₂, subst, slice_get}
 use Rattle.ecma_kind.specs.declared.kind.Kind.{Kind}
 use Rattle.ecma_kind.specs.declared.kind.Kind.TheVariants as kind
 use Rattle.ecma_kind.specs.declared.shapes.Shape.{Shape}
 use Rattle.ecma_kind.specs.declared.shapes.Sort.TheVariants as sort
-use Rattle.ecma_kind.specs.declared.span.Span.{Span}
 use Rattle.ecma_tree.specs.declared.node.Node.{Node, Node-F, out-Node, roll-Node}
 use Rattle.ecma_tree.specs.declared.node.Node.TheViews.{roll-out-Node}
 use Rattle.ecma_tree.specs.Laws.{HaveShapes}
 use Rattle.ecma_tree.specs.Nodes.{dummy_span, node_of}
 use Rattle.ecma_tree.specs.Sorted.{HasShape, child_shapes, is_list, many, one}
-use Rattle.ecma_rules.specs.Children.{children_of as items_of, is_present, kind_of, of_kind}
+use Rattle.ecma_rules.specs.Children.{children_of as items_of, is_present, of_kind}
 use Rattle.ecma_rules.specs.Members.{is_constructor, is_full_constructor, second_by, second_constructor, second_of}
 use Rattle.ecma_print.specs.declared.place.Spot.{Spot}
 use Rattle.ecma_print.specs.Places.{free}

@@ -1,12 +1,11 @@
 -- What no node of a tree is by its role, none is in the tree with explicit parentheses.
-use Rattle.std.proofs.Common.{◌≡◌, ◌∙◌, ◌||◌, ◌&&◌, ltb, not, if◌then◌else◌, ℕ, suc, Bool, true, false, List, [], ◌∷◌, map, Option, Some, None, refl, sym, ap, ap₂, subst}
+use Rattle.std.proofs.Common.{◌≡◌, ◌∙◌, ◌||◌, ◌&&◌, not, if◌then◌else◌, ℕ, suc, Bool, true, false, List, [], ◌∷◌, map, Option, None, refl, sym, ap, ap₂, subst}
 use Rattle.ecma_kind.specs.declared.span.Span.{Span}
 use Rattle.ecma_kind.specs.declared.kind.Kind.{Kind}
 use Rattle.ecma_kind.specs.declared.kind.Kind.TheVariants as kind
 use Rattle.ecma_tree.specs.declared.node.Node.{Node, Node-F, fold-roll-Node, ind-Node, roll-Node}
 use Rattle.ecma_tree.specs.Nodes.{dummy_span, node_of}
 use Rattle.ecma_tree.specs.Sorted.{is_absent}
-use Rattle.ecma_rules.specs.Children.{kind_of}
 use Rattle.ecma_rules.specs.Failing.{failing_here, failing_step, least, least_from}
 use Rattle.ecma_rules.specs.Layers.{from_leaves}
 use Rattle.ecma_rules.specs.Targets.{first_is, is_plain_target, is_simple_target, is_wrapper, simple_step}
@@ -25,7 +24,7 @@ use Rattle.ecma_fits.specs.declared.unfit.Where.{Where}
 use Rattle.ecma_fits.specs.Fitting.{at_top, where_in}
 use Rattle.ecma_fits.specs.Roles.{is_binding, is_bound_name, is_default, is_free, is_out_of_role, is_pattern, is_rest, is_variables, is_wrong_name, may_be, role_in, takes}
 use Rattle.ecma_fits_covers.specs.Laws.{ExplicitRolesStay}
-use Rattle.ecma_fits_covers.proofs.Parts.{kind_made, neither, neither_least, not_failing, not_true, shifted}
+use Rattle.ecma_fits_covers.proofs.Parts.{kind_made, neither_least, not_failing, not_true, shifted}
 use Rattle.ecma_fits_covers.proofs.Explicit.{spotted}
 
 -- the kinds that may stand in parentheses
