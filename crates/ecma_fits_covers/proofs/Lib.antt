@@ -17,3 +17,4 @@ pub mod Chaining
 pub mod Holding
 pub mod Spelling
 pub mod Constructing
+pub mod Usual

@@ -1,5 +1,5 @@
 -- Laws of finished trees that fit.
-use Rattle.std.specs.Prelude.{◌≡◌, Bool, false, not, None, is_some}
+use Rattle.std.specs.Prelude.{◌≡◌, Bool, false, not, None, is_some, true}
 use Rattle.ecma_kind.specs.declared.kind.Kind.{Kind}
 use Rattle.ecma_kind.specs.declared.kind.Kind.TheVariants as kind
 use Rattle.ecma_kind.specs.declared.shapes.Sort.TheVariants as sort
@@ -14,6 +14,7 @@ use Rattle.ecma_rules.specs.Surroundings.{at_root}
 use Rattle.ecma_rules.specs.Failing.{failing_here, first_failing}
 use Rattle.ecma_covers.specs.Covering.{cover}
 use Rattle.ecma_covers.specs.Placing.{Stands}
+use Rattle.ecma_cover_layouts.specs.Layouts.{has_usual_defaults}
 use Rattle.ecma_parentheses.specs.Explicit.{explicit}
 use Rattle.ecma_fits.specs.declared.unfit.Where.{Where}
 use Rattle.ecma_fits.specs.Branches.{is_dangling}
@@ -84,3 +85,7 @@ has_second_constructor node = is_some (second_constructor node)
 -- no class of a module has, with explicit parentheses, where none had
 abbrev pub ExplicitConstructorsStay : Type 0
 ExplicitConstructorsStay = (tree : Node) → HasSort sort.Module tree → NoneIs has_second_constructor tree → NoneIs has_second_constructor (explicit tree)
+
+-- in what fits nothing but a target has a default
+abbrev pub WhatFitsHasUsualDefaults : Type 0
+WhatFitsHasUsualDefaults = (tree : Node) → Fits tree → has_usual_defaults tree ≡ true

@@ -3,7 +3,7 @@
 //! Each function carries one law over the definitions, and does nothing. The laws are stated in `specs/`.
 #![tactic(auto)]
 
-ghost use Rattle.ecma_fits_covers.specs.Laws.{CoversAreNotMisplaced, CoversBreakNoRule, ExplicitBranchesStay, ExplicitChainsStay, ExplicitConstructorsStay, ExplicitLeavesStay, ExplicitMembersStay, ExplicitRolesStay, WhatFitsStands};
+ghost use Rattle.ecma_fits_covers.specs.Laws.{CoversAreNotMisplaced, CoversBreakNoRule, ExplicitBranchesStay, ExplicitChainsStay, ExplicitConstructorsStay, ExplicitLeavesStay, ExplicitMembersStay, ExplicitRolesStay, WhatFitsStands, WhatFitsHasUsualDefaults};
 
 /// In a tree that fits, and whose patterns have no `?`, patterns stand where they may.
 #[tactic(auto, using(crate::proofs::Placed::placed))]
@@ -57,4 +57,10 @@ pub fn explicit_leaves_stay()
 #[tactic(auto, using(crate::proofs::Constructing::constructors))]
 pub fn explicit_constructors_stay()
     ensures { ExplicitConstructorsStay }
+{}
+
+/// In a tree that fits nothing but a target has a default.
+#[tactic(auto, using(crate::proofs::Usual::usual))]
+pub fn what_fits_has_usual_defaults()
+    ensures { WhatFitsHasUsualDefaults }
 {}
