@@ -68,7 +68,7 @@ either_none f g tree = follows (by f) (by g) (by (either f g)) (λ w n a b. join
     join true b n h g = h
     join false b n h g = g
 
-less : (f g : Where → Node → Bool) → ((w : Where) (n : Node) → f w n ≡ false → g w n ≡ false) → (tree : Node) → NoneFails f tree → NoneFails g tree
+pub less : (f g : Where → Node → Bool) → ((w : Where) (n : Node) → f w n ≡ false → g w n ≡ false) → (tree : Node) → NoneFails f tree → NoneFails g tree
 less f g weaker tree h = follows (by f) (by f) (by g) (λ w n a b. ap (λ z. failing_here z n) (weaker w n (not_failing (f w n) n a))) tree at_top h h
 
 abbrev misshapen : Where → Node → Bool
@@ -86,10 +86,10 @@ loose w n = is_loose n
 abbrev misread : Where → Node → Bool
 misread w n = is_misread n
 
-abbrev out_of_role : Where → Node → Bool
+abbrev pub out_of_role : Where → Node → Bool
 out_of_role w n = is_out_of_role w.role n
 
-abbrev stray_target : Where → Node → Bool
+abbrev pub stray_target : Where → Node → Bool
 stray_target w n = is_stray_target w.role w.arguments n
 
 abbrev second : Where → Node → Bool

@@ -27,11 +27,11 @@ use Rattle.ecma_fits_laws.specs.Finished.{FinishedTreesHaveNoStrays}
 use Rattle.ecma_fits_laws.proofs.Walks.{both_none, free_kind, have_front, neither_least, not_failing, not_true, one_more, shifted}
 
 -- the label of a node with these children
-abbrev label_in : List Node → Option (List ℕ)
+abbrev pub label_in : List Node → Option (List ℕ)
 label_in children = text_of (slice_get children 0)
 
 -- what is held in the child at an index
-abbrev held_by : Held → Kind → Option (List ℕ) → ℕ → Held
+abbrev pub held_by : Held → Kind → Option (List ℕ) → ℕ → Held
 held_by held k label i = held_behind (strays_in held.strays k i) (ends_jumps k) (own_label k label) held.labels
 
 -- a node tells nothing exactly where it is no stray and its children tell nothing
@@ -45,7 +45,7 @@ module _ (x : Node-F Node) (held : Held) where
   equation : first_held_stray n held ≡ least (stray_here held n) (least_from Held (held_in held n) 0 (map first_held_stray x.children))
   equation = ap (λ f. f held) (from_leaves-roll (Held → Option ℕ) (failing_step Held stray_here held_in) x)
 
-  none_parts : first_held_stray n held ≡ None → (is_stray_in held x.kind (label_in x.children) ≡ false) × (least_from Held (held_by held x.kind (label_in x.children)) 0 (map first_held_stray x.children) ≡ None)
+  pub none_parts : first_held_stray n held ≡ None → (is_stray_in held x.kind (label_in x.children) ≡ false) × (least_from Held (held_by held x.kind (label_in x.children)) 0 (map first_held_stray x.children) ≡ None)
   none_parts h =
       let w = neither_least (stray_here held n) (least_from Held (held_in held n) 0 (map first_held_stray x.children)) (sym equation ∙ h) in (
         subst (λ (p : Node-F Node). is_stray_in held p.kind (label_in p.children) ≡ false) is (not_failing (is_held_stray held n) n w.0),

@@ -7,6 +7,8 @@ ghost use Rattle.ecma_fits_laws.specs.Clauses.{FitsByClauses};
 ghost use Rattle.ecma_fits_laws.specs.Least.{FirstUnfitIsLeast};
 ghost use Rattle.ecma_fits_laws.specs.Read.{ReadLeavesAreSpelled, ReadTreesKeepRules};
 ghost use Rattle.ecma_fits_laws.specs.Shapes.{ReadLinksAreNotLoose, ReadMembersAreNotMisread, ReadNodesAreFull};
+ghost use Rattle.ecma_fits_laws.specs.FinishedRoles.{FinishedTargetsAreNoStrays, FinishedTreesHaveTheirRoles};
+ghost use Rattle.ecma_fits_laws.specs.ReadRoles.{RawModulesHaveTheirRoles, ReadTargetsAreNoStrays, ReadTreesHaveTheirRoles};
 ghost use Rattle.ecma_fits_laws.specs.Finished.{FinishedClassesHaveOneConstructor, FinishedTreesHaveNoStrays, FinishedTreesKeepRules};
 
 use ecma_text_laws::modules_that_are_read_are_sorted;
@@ -74,3 +76,35 @@ pub fn members_that_are_read_are_not_misread()
 {
     trees_that_are_read_keep_rules();
 }
+
+/// In the raw module that the grammar gives, names, patterns and parameters stand where something is declared, private names where they may, and
+/// reserved words where they name nothing.
+#[tactic(auto, using(crate::proofs::RoleReads::roles_given))]
+pub fn raw_modules_have_their_roles()
+    ensures { RawModulesHaveTheirRoles }
+{}
+
+/// Where a raw module has these roles and keeps the context rules, each node of the finished one is what it has to be where it stands.
+#[tactic(auto, using(crate::proofs::ReadRoles::roles_finish))]
+pub fn finished_trees_have_their_roles()
+    ensures { FinishedTreesHaveTheirRoles }
+{}
+
+/// Each node of what is read as a module, in either mode and with any number of levels, is what it has to be where it stands.
+#[tactic(auto, using(crate::proofs::ReadRoles::roles_read))]
+pub fn trees_that_are_read_have_their_roles()
+    ensures { ReadTreesHaveTheirRoles }
+{}
+
+/// In the patterns of the same finished module nothing assigns to an `arguments` that belongs to nothing inside the enum initialiser or namespace body
+/// around it.
+#[tactic(auto, using(crate::proofs::ReadRoles::targets_finish))]
+pub fn finished_targets_are_no_strays()
+    ensures { FinishedTargetsAreNoStrays }
+{}
+
+/// Nor does anything in the patterns of what is read as a module.
+#[tactic(auto, using(crate::proofs::ReadRoles::targets_read))]
+pub fn targets_that_are_read_are_no_strays()
+    ensures { ReadTargetsAreNoStrays }
+{}
