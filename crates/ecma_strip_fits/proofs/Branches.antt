@@ -10,8 +10,8 @@ use Rattle.ecma_tree.specs.declared.node.Node.{Node, Node-F, ind-Node, fold_out-
 use Rattle.ecma_tree.specs.declared.node.Node.TheViews.{out-roll-Node}
 use Rattle.ecma_tree.specs.Laws.{HaveShapes}
 use Rattle.ecma_tree.specs.Nodes.{node_of}
-use Rattle.ecma_tree.specs.Sorted.{HasShape, allows, child_shapes, is_absent, maybe, one}
-use Rattle.ecma_rules.specs.Children.{child_holds, child_is, has_child, holds_of, is_present, kind_of, of_kind}
+use Rattle.ecma_tree.specs.Sorted.{HasShape, child_shapes, is_absent, maybe, one}
+use Rattle.ecma_rules.specs.Children.{child_holds, has_child, holds_of, is_present, kind_of, of_kind}
 use Rattle.ecma_strip.specs.Staying.{is_ambient, is_empty_stmt, item_stays}
 use Rattle.ecma_strip.specs.Values.{is_value}
 use Rattle.ecma_strip.specs.Stripping.{body_of, changed_at, plain_children, plain_kind, stripped}

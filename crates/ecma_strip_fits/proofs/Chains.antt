@@ -1,13 +1,13 @@
 -- Chains go on without types.
-use Rattle.std.proofs.Common.{◌≡◌, ◌∙◌, ℕ, zero, suc, Bool, true, false, not, ◌&&◌, ◌||◌, List, [], ◌∷◌, map, length, Option, Some, None, refl, sym, ap, subst, slice_get}
+use Rattle.std.proofs.Common.{◌≡◌, ◌∙◌, ℕ, zero, suc, Bool, true, false, not, ◌&&◌, ◌||◌, List, [], ◌∷◌, map, length, Some, refl, sym, ap, subst, slice_get}
 use Rattle.ecma_kind.specs.Sorts.{belongs}
 use Rattle.ecma_kind.specs.declared.kind.Kind.{Kind}
 use Rattle.ecma_kind.specs.declared.kind.Kind.TheVariants as kind
 use Rattle.ecma_kind.specs.declared.shapes.Shape.{Shape}
 use Rattle.ecma_kind.specs.declared.shapes.Sort.TheVariants as sort
-use Rattle.ecma_tree.specs.declared.node.Node.{Node, Node-F, ind-Node, fold_out-Node, out-Node, roll-Node}
+use Rattle.ecma_tree.specs.declared.node.Node.{Node, Node-F, ind-Node, fold_out-Node, roll-Node}
 use Rattle.ecma_tree.specs.declared.node.Node.TheViews.{out-roll-Node}
-use Rattle.ecma_tree.specs.Sorted.{HasShape, allows, child_shapes, one}
+use Rattle.ecma_tree.specs.Sorted.{HasShape, child_shapes, one}
 use Rattle.ecma_rules.specs.Children.{child_holds, holds_of, kind_of}
 use Rattle.ecma_rules.specs.Targets.{first_is}
 use Rattle.ecma_strip.specs.Stripping.{plain_children, plain_kind, stripped}

@@ -1,15 +1,14 @@
 -- What is said of a child's kind is said of it without types.
-use Rattle.std.proofs.Common.{◌≡◌, ◌∙◌, ℕ, zero, suc, Bool, true, false, not, ◌||◌, ◌&&◌, List, [], ◌∷◌, map, length, Option, Some, None, refl, sym, ap, subst, slice_get}
+use Rattle.std.proofs.Common.{◌≡◌, ◌∙◌, ℕ, zero, suc, Bool, true, false, not, ◌&&◌, List, [], ◌∷◌, map, length, Option, Some, None, refl, sym, ap, subst, slice_get}
 use Rattle.std.specs.List.{list_all}
 use Rattle.ecma_kind.specs.Sorts.{belongs}
 use Rattle.ecma_kind.specs.declared.kind.Kind.{Kind}
 use Rattle.ecma_kind.specs.declared.kind.Kind.TheVariants as kind
 use Rattle.ecma_kind.specs.declared.shapes.Shape.{Shape}
 use Rattle.ecma_kind.specs.declared.shapes.Sort.{Sort}
-use Rattle.ecma_kind.specs.declared.shapes.Sort.TheVariants as sort
-use Rattle.ecma_tree.specs.declared.node.Node.{Node, out-Node}
+use Rattle.ecma_tree.specs.declared.node.Node.{Node}
 use Rattle.ecma_tree.specs.Sorted.{HasShape, allows, child_shapes, maybe, one}
-use Rattle.ecma_rules.specs.Children.{child_holds, child_is, has_child, holds_of, is_present, kind_of, of_kind}
+use Rattle.ecma_rules.specs.Children.{child_is, kind_of, of_kind}
 use Rattle.ecma_strip.specs.Stripping.{plain_children, plain_kind, stripped}
 use Rattle.ecma_strip_fits.proofs.Classes.{class_of}
 use Rattle.ecma_strip_fits.proofs.Classes.Class.{Usual}

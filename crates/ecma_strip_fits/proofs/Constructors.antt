@@ -1,14 +1,14 @@
 -- A class has no second constructor with a body without types, where it had none.
-use Rattle.std.proofs.Common.{◌≡◌, ◌∙◌, ℕ, zero, suc, ◌≤◌, Bool, true, false, not, ◌&&◌, cond, List, [], ◌∷◌, map, filter, length, replicate, Option, Some, None, is_some, refl, sym, ap, ap₂, subst, slice_get, arith}
+use Rattle.std.proofs.Common.{◌≡◌, ◌∙◌, ℕ, ◌≤◌, Bool, true, false, ◌&&◌, cond, List, [], ◌∷◌, map, filter, length, replicate, Option, Some, None, is_some, refl, sym, ap, ap₂, subst, slice_get, arith}
 use Rattle.ecma_kind.specs.declared.kind.Kind.{Kind}
 use Rattle.ecma_kind.specs.declared.kind.Kind.TheVariants as kind
 use Rattle.ecma_kind.specs.declared.shapes.Shape.{Shape}
 use Rattle.ecma_kind.specs.declared.shapes.Sort.TheVariants as sort
-use Rattle.ecma_tree.specs.declared.node.Node.{Node, Node-F, out-Node}
+use Rattle.ecma_tree.specs.declared.node.Node.{Node, Node-F}
 use Rattle.ecma_tree.specs.Laws.{HaveShapes}
-use Rattle.ecma_tree.specs.Sorted.{HasShape, allows, child_shapes, is_list, many, maybe, one}
-use Rattle.ecma_rules.specs.Children.{child_is, children_of as items_of, has_child, is_present, items_at, kind_of, of_kind}
-use Rattle.ecma_rules.specs.Failing.{failing_here, least}
+use Rattle.ecma_tree.specs.Sorted.{HasShape, child_shapes, is_list, many, one}
+use Rattle.ecma_rules.specs.Children.{children_of as items_of, has_child, is_present, items_at, kind_of}
+use Rattle.ecma_rules.specs.Failing.{failing_here}
 use Rattle.ecma_rules.specs.Members.{is_constructor, is_full_constructor, second_by, second_constructor, second_of}
 use Rattle.ecma_strip.specs.Staying.{stays}
 use Rattle.ecma_strip.specs.Stripping.{plain_children, plain_kind, stripped}
@@ -16,8 +16,6 @@ use Rattle.ecma_strip.proofs.Sorting.{list-kind}
 use Rattle.ecma_fits.specs.declared.unfit.Where.{Where}
 use Rattle.ecma_fits.specs.Fitting.{Fits, is_unfit, unfit_here}
 use Rattle.ecma_strip_fits.specs.Kept.{NoneFails}
-use Rattle.ecma_strip_fits.proofs.Classes.{class_of}
-use Rattle.ecma_strip_fits.proofs.Classes.Class.{Usual}
 use Rattle.ecma_strip_fits.proofs.ChildrenKept.{AsUsual, Plain, child_by, kind_kept, maybe_usual, one_usual}
 use Rattle.ecma_strip_fits.proofs.Tests.{test_kept}
 use Rattle.ecma_strip_fits.proofs.Walk.{children_of, listed_parts, neither_least, shape_parts, usual_kind}

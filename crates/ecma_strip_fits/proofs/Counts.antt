@@ -1,29 +1,19 @@
 -- Nodes have what their productions ask for without types.
-use Rattle.std.proofs.Common.{◌≡◌, ◌∙◌, ◌⊎◌, inl, inr, ℕ, zero, suc, ◌+◌, Bool, true, false, not, ◌&&◌, ◌||◌, ◌==◌, cond, List, [], ◌∷◌, map, filter, length, replicate, Option, Some, None, refl, sym, ap, ap₂, subst, slice_get, nat_lt}
-use Rattle.std.specs.List.{list_all}
-use Rattle.std.proofs.lemmas.List.{length-map}
+use Rattle.std.proofs.Common.{◌≡◌, ◌∙◌, ◌⊎◌, inl, inr, Bool, true, false, not, ◌&&◌, ◌||◌, cond, List, [], ◌∷◌, map, filter, length, replicate, Some, refl, ap, ap₂}
 use Rattle.ecma_kind.specs.declared.kind.Kind.{Kind}
 use Rattle.ecma_kind.specs.declared.kind.Kind.TheVariants as kind
-use Rattle.ecma_kind.specs.declared.shapes.Shape.{Shape}
 use Rattle.ecma_kind.specs.declared.shapes.Sort.{Sort}
 use Rattle.ecma_kind.specs.declared.shapes.Sort.TheVariants as sort
-use Rattle.ecma_tree.specs.declared.node.Node.{Node, Node-F, out-Node}
+use Rattle.ecma_tree.specs.declared.node.Node.{Node}
 use Rattle.ecma_tree.specs.Laws.{HaveShapes}
-use Rattle.ecma_tree.specs.Sorted.{HasShape, allows, child_shapes, many, maybe, one}
-use Rattle.ecma_rules.specs.Children.{child_holds, child_is, children_of as items_of, has_child, holds_of, is_present, items_at, kind_of, of_kind}
-use Rattle.ecma_rules.specs.Targets.{is_key_value}
+use Rattle.ecma_tree.specs.Sorted.{HasShape, one}
+use Rattle.ecma_rules.specs.Children.{kind_of}
 use Rattle.ecma_strip.specs.Staying.{stays}
-use Rattle.ecma_strip.specs.Stripping.{plain_children, plain_kind, stripped}
-use Rattle.ecma_fits.specs.Counts.{are, are_exports, are_imports, are_stars_or_names, ends_once, ends_template, has_attributes_at, holds_attributes, is_attribute, is_attribute_key, is_default_import, is_empty, is_full_by, is_named_export, is_named_import, is_short, is_star_export, is_star_import, is_star_of, is_text, is_whole_template}
-use Rattle.ecma_fits.specs.Fitting.{Fits}
-use Rattle.ecma_strip_fits.specs.Kept.{NoneFails}
-use Rattle.ecma_strip_fits.proofs.Classes.{class_of}
-use Rattle.ecma_strip_fits.proofs.Classes.Class.{Usual}
-use Rattle.ecma_strip_fits.proofs.ChildrenKept.{AsUsual, Plain, child_by, child_kept, kind_kept, maybe_usual, one_usual}
-use Rattle.ecma_strip_fits.proofs.Constructors.{present_plain}
-use Rattle.ecma_strip_fits.proofs.StaysAll.{all_left, all_of_list, declarators_calm, expressions_calm, items_have, left_of_list, texts_calm}
-use Rattle.ecma_strip_fits.proofs.Tests.{not_short, test_kept}
-use Rattle.ecma_strip_fits.proofs.Walk.{children_of, shape_parts, usual_children, usual_kind}
+use Rattle.ecma_strip.specs.Stripping.{plain_kind, stripped}
+use Rattle.ecma_fits.specs.Counts.{are, are_exports, are_imports, are_stars_or_names, ends_once, ends_template, is_default_import, is_empty, is_named_export, is_named_import, is_star_export, is_star_import, is_star_of}
+use Rattle.ecma_strip_fits.proofs.ChildrenKept.{AsUsual, Plain, one_usual}
+use Rattle.ecma_strip_fits.proofs.StaysAll.{all_left}
+use Rattle.ecma_strip_fits.proofs.Walk.{shape_parts, usual_kind}
 
 some_same : {X : Type 0} {x y : X} → Some x ≡ Some y → x ≡ y
 some_same e = cc

@@ -1,5 +1,5 @@
 -- Each node has what its production asks for without types, where it had it.
-use Rattle.std.proofs.Common.{◌≡◌, ◌∙◌, ℕ, zero, suc, ◌+◌, Bool, true, false, not, ◌&&◌, ◌||◌, ◌==◌, List, [], ◌∷◌, map, filter, length, replicate, Option, Some, None, refl, sym, ap, ap₂, subst, slice_get, nat_lt}
+use Rattle.std.proofs.Common.{◌≡◌, ◌∙◌, ℕ, zero, suc, ◌+◌, Bool, true, false, not, ◌&&◌, ◌||◌, ◌==◌, List, [], ◌∷◌, map, length, Some, refl, sym, ap, ap₂, subst, slice_get, nat_lt}
 use Rattle.std.specs.List.{list_all}
 use Rattle.std.proofs.lemmas.List.{length-map}
 use Rattle.ecma_kind.specs.Sorts.{belongs}
@@ -8,15 +8,13 @@ use Rattle.ecma_kind.specs.declared.kind.Kind.TheVariants as kind
 use Rattle.ecma_kind.specs.declared.shapes.Shape.{Shape}
 use Rattle.ecma_kind.specs.declared.shapes.Sort.{Sort}
 use Rattle.ecma_kind.specs.declared.shapes.Sort.TheVariants as sort
-use Rattle.ecma_tree.specs.declared.node.Node.{Node, Node-F, ind-Node, out-Node, roll-Node}
+use Rattle.ecma_tree.specs.declared.node.Node.{Node, Node-F, ind-Node, roll-Node}
 use Rattle.ecma_tree.specs.declared.node.Node.TheViews.{out-roll-Node}
-use Rattle.ecma_tree.specs.Laws.{HaveShapes}
 use Rattle.ecma_tree.specs.Sorted.{HasShape, allows, child_shapes, many, maybe, one}
-use Rattle.ecma_rules.specs.Children.{child_holds, child_is, children_of as items_of, has_child, holds_of, is_present, items_at, kind_of, of_kind}
+use Rattle.ecma_rules.specs.Children.{child_is, children_of as items_of, has_child, holds_of, is_present, items_at, kind_of, of_kind}
 use Rattle.ecma_rules.specs.Targets.{is_key_value}
-use Rattle.ecma_strip.specs.Staying.{stays}
 use Rattle.ecma_strip.specs.Stripping.{plain_children, plain_kind, stripped}
-use Rattle.ecma_fits.specs.Counts.{are_exports, are_imports, ends_once, has_attributes_at, holds_attributes, is_attribute, is_attribute_key, is_empty, is_full_by, is_short, is_text, is_whole_template}
+use Rattle.ecma_fits.specs.Counts.{are_exports, are_imports, ends_once, has_attributes_at, holds_attributes, is_attribute, is_attribute_key, is_empty, is_full_by, is_short, is_text}
 use Rattle.ecma_fits.specs.Fitting.{Fits}
 use Rattle.ecma_strip_fits.specs.Kept.{NoneFails}
 use Rattle.ecma_strip_fits.proofs.Classes.{Class, class_of, only_list, wrapped_front}

@@ -1,21 +1,18 @@
 -- Leaves stay spelled without types, and `arguments` is assigned to where it was.
-use Rattle.std.proofs.Common.{◌≡◌, ◌∙◌, ◌⊎◌, inl, inr, ℕ, Bool, true, false, not, ◌&&◌, ◌||◌, codes, List, [], ◌∷◌, length, Option, Some, None, refl, sym, ap, ap₂, subst, slice_get}
+use Rattle.std.proofs.Common.{◌≡◌, ◌∙◌, inl, inr, ℕ, Bool, true, false, not, ◌&&◌, ◌||◌, codes, List, [], length, Some, None, refl, sym, ap, subst, slice_get}
 use Rattle.ecma_kind.specs.Sorts.{belongs}
 use Rattle.ecma_kind.specs.declared.kind.Kind.{Kind}
 use Rattle.ecma_kind.specs.declared.kind.Kind.TheVariants as kind
 use Rattle.ecma_kind.specs.declared.shapes.Shape.{Shape}
 use Rattle.ecma_kind.specs.declared.shapes.Sort.TheVariants as sort
-use Rattle.ecma_kind.specs.declared.span.Span.{Span}
-use Rattle.ecma_tree.specs.declared.node.Node.{Node, out-Node}
+use Rattle.ecma_tree.specs.declared.node.Node.{Node}
 use Rattle.ecma_tree.specs.Nodes.{absent, dummy_span, node_of}
 use Rattle.ecma_tree.specs.Sorted.{HasShape, child_shapes, one}
 use Rattle.ecma_leaves.specs.Words.{is_spelled}
 use Rattle.ecma_rules.specs.Children.{child_is, is_named, kind_of}
-use Rattle.ecma_rules.specs.Failing.{failing_here, least}
+use Rattle.ecma_rules.specs.Failing.{failing_here}
 use Rattle.ecma_rules.specs.Members.{second_constructor}
 use Rattle.ecma_strip.specs.Stripping.{plain_children, plain_kind, stripped}
-use Rattle.ecma_fits.specs.declared.role.Role.{Role}
-use Rattle.ecma_fits.specs.declared.strays.Arguments.{Arguments}
 use Rattle.ecma_fits.specs.declared.unfit.Where.{Where}
 use Rattle.ecma_fits.specs.Fitting.{Fits, at_top, breaks_rule, first_unfit_in, is_misplaced, is_misshapen, is_unfit, unfit_here, where_in}
 use Rattle.ecma_fits.specs.Roles.{is_assigned, is_bound_name, is_out_of_role, is_tagged}
@@ -27,7 +24,7 @@ use Rattle.ecma_strip_fits.proofs.ChildrenKept.{AsUsual, Plain, kind_kept, one_u
 use Rattle.ecma_strip_fits.proofs.Standing.{How, Stands, below, items, under}
 use Rattle.ecma_strip_fits.proofs.Strays.{kind_node, none_failing, not_failing}
 use Rattle.ecma_strip_fits.proofs.Tests.{neither}
-use Rattle.ecma_strip_fits.proofs.Walk.{Carries, children_of, kept, neither_least, shape_parts, usual_kind}
+use Rattle.ecma_strip_fits.proofs.Walk.{Carries, children_of, kept, neither_least, usual_kind}
 
 some_same : {X : Type 0} {x y : X} → Some x ≡ Some y → x ≡ y
 some_same e = cc

@@ -16,3 +16,4 @@ pub mod Ruled
 pub mod RuleStanding
 pub mod RulesKept
 pub mod SortsKept
+pub mod NamesKept

@@ -1,5 +1,5 @@
 -- How nodes stand to the rules, and how they do without types.
-use Rattle.std.proofs.Common.{◌≡◌, ◌∙◌, ◌⊎◌, inl, inr, ℕ, zero, suc, Bool, true, false, not, ◌&&◌, ◌||◌, ◌==◌, cond, List, [], ◌∷◌, map, length, Option, Some, None, refl, sym, ap, ap₂, subst, slice_get, arith}
+use Rattle.std.proofs.Common.{◌≡◌, ◌∙◌, ◌⊎◌, inl, inr, ℕ, suc, Bool, true, false, not, ◌&&◌, ◌||◌, ◌==◌, map, length, Some, refl, sym, ap, slice_get}
 use Rattle.std.proofs.lemmas.Bool.{eq-eqb, eqb-true}
 use Rattle.ecma_kind.specs.Sorts.{belongs}
 use Rattle.ecma_kind.specs.declared.kind.Kind.{Kind}
@@ -8,7 +8,7 @@ use Rattle.ecma_kind.specs.declared.operators.AssignOp.{AssignOp}
 use Rattle.ecma_kind.specs.declared.operators.AssignOp.TheVariants.{Assign}
 use Rattle.ecma_kind.specs.declared.shapes.Shape.{Shape}
 use Rattle.ecma_kind.specs.declared.shapes.Sort.TheVariants as sort
-use Rattle.ecma_tree.specs.declared.node.Node.{Node, out-Node}
+use Rattle.ecma_tree.specs.declared.node.Node.{Node}
 use Rattle.ecma_tree.specs.Sorted.{HasShape, child_shapes, is_list, item_shape, maybe, one}
 use Rattle.ecma_rules.specs.declared.standing.Standing.{Standing}
 use Rattle.ecma_rules.specs.declared.standing.Standing.TheVariants as standing
@@ -21,7 +21,6 @@ use Rattle.ecma_rules.specs.Surroundings.{at_child, if_there, standing_by}
 use Rattle.ecma_rules.specs.Targets.{at_child as target_at, first_is, in_list, in_literal, is_plain_target, is_simple_target, is_wrapper, on_left, target_in}
 use Rattle.ecma_strip.specs.Stripping.{plain_children, plain_kind, stripped}
 use Rattle.ecma_strip.proofs.Sorting.{list-kind}
-use Rattle.ecma_fits.specs.declared.role.Role.TheVariants as role
 use Rattle.ecma_fits.specs.declared.unfit.Where.{Where}
 use Rattle.ecma_fits.specs.Fitting.{where_in}
 use Rattle.ecma_fits.specs.Roles.{is_out_of_role, role_in}
@@ -29,7 +28,7 @@ use Rattle.ecma_strip_fits.proofs.Classes.{class_of}
 use Rattle.ecma_strip_fits.proofs.Classes.Class.{Usual, Wrapped}
 use Rattle.ecma_strip_fits.proofs.ChildrenKept.{Plain, maybe_usual}
 use Rattle.ecma_strip_fits.proofs.FullNodes.{present}
-use Rattle.ecma_strip_fits.proofs.Ruled.{idle_or_left, is_idle, is_left, is_literal, is_met, is_name_sort, list_met, literal_idle, met_child, named_child, no_name_wrapped, simple_there, simple_under, simple-out, wrapped_expression}
+use Rattle.ecma_strip_fits.proofs.Ruled.{idle_or_left, is_idle, is_left, is_met, is_name_sort, list_met, literal_idle, met_child, named_child, no_name_wrapped, simple_there, simple_under, simple-out, wrapped_expression}
 use Rattle.ecma_strip_fits.proofs.Walk.{children_of, shape_parts, usual_kind}
 
 -- ---- what kinds say of their children

@@ -1,5 +1,5 @@
 -- How nodes stand to the rules of lists and statements, and how they do without types.
-use Rattle.std.proofs.Common.{◌≡◌, ◌∙◌, ◌⊎◌, inl, inr, ℕ, zero, suc, Bool, true, false, not, ◌&&◌, ◌||◌, ◌==◌, cond, List, [], ◌∷◌, map, length, Option, Some, None, refl, sym, ap, ap₂, subst, slice_get, arith}
+use Rattle.std.proofs.Common.{◌≡◌, ◌∙◌, ◌⊎◌, inl, inr, ℕ, zero, suc, Bool, true, false, not, ◌&&◌, ◌||◌, ◌==◌, cond, List, [], ◌∷◌, map, Some, refl, sym, ap, ap₂, slice_get, arith}
 use Rattle.std.proofs.lemmas.Bool.{eqb-true}
 use Rattle.ecma_kind.specs.Sorts.{belongs}
 use Rattle.ecma_kind.specs.declared.kind.Kind.{Kind}
@@ -11,29 +11,23 @@ use Rattle.ecma_kind.specs.declared.shapes.Count.TheVariants.{One, Maybe, Many, 
 use Rattle.ecma_kind.specs.declared.shapes.Shape.{Shape}
 use Rattle.ecma_kind.specs.declared.shapes.Sort.{Sort}
 use Rattle.ecma_kind.specs.declared.shapes.Sort.TheVariants as sort
-use Rattle.ecma_tree.specs.declared.node.Node.{Node, fold_out-Node, out-Node}
+use Rattle.ecma_tree.specs.declared.node.Node.{Node, fold_out-Node}
 use Rattle.ecma_tree.specs.Sorted.{allows_by, child_shapes, is_absent, is_list}
 use Rattle.ecma_rules.specs.declared.standing.Standing.{Standing}
 use Rattle.ecma_rules.specs.declared.standing.Standing.TheVariants as standing
 use Rattle.ecma_rules.specs.declared.target.Target.{Target}
 use Rattle.ecma_rules.specs.declared.target.Target.TheVariants as target
-use Rattle.ecma_rules.specs.Children.{has_child, is_present, kind_of}
-use Rattle.ecma_rules.specs.Lists.{last_by}
+use Rattle.ecma_rules.specs.Children.{kind_of}
 use Rattle.ecma_rules.specs.Statements.{is_exported}
-use Rattle.ecma_rules.specs.Surroundings.{at_child, if_there, in_branch, standing_by, standing_in}
-use Rattle.ecma_rules.specs.Targets.{at_child as target_at, first_is, in_list, in_literal, in_short_default, in_spread, in_value, is_plain, is_plain_target, is_simple_target, is_wrapper, on_left, simple_step, target_in}
+use Rattle.ecma_rules.specs.Surroundings.{at_child, if_there, standing_by}
+use Rattle.ecma_rules.specs.Targets.{first_is, in_list, in_literal, in_short_default, in_spread, in_value, is_plain_target, is_simple_target, is_wrapper, on_left, simple_step, target_in}
 use Rattle.ecma_fits.specs.declared.role.Role.{Role}
 use Rattle.ecma_fits.specs.declared.role.Role.TheVariants as role
-use Rattle.ecma_fits.specs.declared.unfit.Where.{Where}
-use Rattle.ecma_fits.specs.Fitting.{unfit_here, where_in}
-use Rattle.ecma_fits.specs.Roles.{at_child as role_at, is_out_of_role, is_wrong_name, left_of, may_be, role_in, takes}
-use Rattle.ecma_strip.specs.Stripping.{plain_children, plain_kind, stripped}
-use Rattle.ecma_strip.proofs.Sorting.{list-kind}
+use Rattle.ecma_fits.specs.Roles.{is_out_of_role, is_wrong_name, left_of, may_be, role_in, takes}
 use Rattle.ecma_strip_fits.proofs.Classes.{class_of}
 use Rattle.ecma_strip_fits.proofs.Classes.Class.{Usual, Wrapped}
 use Rattle.ecma_strip_fits.proofs.ChildrenKept.{is_usual, maybe_usual, usual_by}
-use Rattle.ecma_strip_fits.proofs.Constructors.{present_plain}
-use Rattle.ecma_strip_fits.proofs.Walk.{children_of, shape_parts, usual_children, usual_kind}
+use Rattle.ecma_strip_fits.proofs.Walk.{children_of}
 
 some_same : {X : Type 0} {x y : X} → Some x ≡ Some y → x ≡ y
 some_same e = cc

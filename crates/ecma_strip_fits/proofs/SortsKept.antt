@@ -1,6 +1,5 @@
 -- A tree that fits is a module by its sorts without its types.
-use Rattle.std.proofs.Common.{◌≡◌, ◌∙◌, ◌⊎◌, inl, inr, ℕ, zero, suc, Bool, true, false, not, ◌&&◌, ◌||◌, ◌==◌, cond, List, [], ◌∷◌, map, length, replicate, Option, Some, None, refl, sym, ap, ap₂, subst, slice_get, arith}
-use Rattle.std.proofs.lemmas.Bool.{eqb-true}
+use Rattle.std.proofs.Common.{◌≡◌, ◌∙◌, ℕ, zero, suc, Bool, true, false, not, ◌&&◌, ◌||◌, cond, List, [], ◌∷◌, map, length, replicate, Option, Some, None, refl, sym, ap, ap₂, subst, slice_get}
 use Rattle.std.proofs.lemmas.List.{length-map}
 use Rattle.ecma_kind.specs.Sorts.{belongs, is_assign_target_pat, is_pattern, is_simple_assign_target, is_type_wrapper}
 use Rattle.ecma_kind.specs.declared.kind.Kind.{Kind}
@@ -11,26 +10,24 @@ use Rattle.ecma_kind.specs.declared.shapes.Count.TheVariants.{One, Maybe, Many, 
 use Rattle.ecma_kind.specs.declared.shapes.Shape.{Shape}
 use Rattle.ecma_kind.specs.declared.shapes.Sort.{Sort}
 use Rattle.ecma_kind.specs.declared.shapes.Sort.TheVariants as sort
-use Rattle.ecma_tree.specs.declared.node.Node.{Node, Node-F, fold_out-Node, ind-Node, out-Node, roll-Node}
+use Rattle.ecma_tree.specs.declared.node.Node.{Node, Node-F, fold_out-Node, ind-Node, roll-Node}
 use Rattle.ecma_tree.specs.declared.node.Node.TheViews.{out-roll-Node}
 use Rattle.ecma_tree.specs.Laws.{HaveShapes}
-use Rattle.ecma_tree.specs.Sorted.{HasShape, all_have_shapes, allows, allows_by, child_shapes, is_absent, is_list, item_shape, one}
+use Rattle.ecma_tree.specs.Sorted.{HasShape, all_have_shapes, allows, allows_by, child_shapes, is_absent, item_shape, one}
 use Rattle.ecma_rules.specs.Children.{kind_of}
-use Rattle.ecma_rules.specs.Failing.{failing_step, least, least_from}
+use Rattle.ecma_rules.specs.Failing.{failing_step, least_from}
 use Rattle.ecma_rules.specs.Targets.{first_is, is_plain, is_plain_target, is_simple_target, is_wrapper}
 use Rattle.ecma_rules.proofs.Layers.{from_leaves_out}
 use Rattle.ecma_strip.specs.Laws.{first_has, has_shape_under_types, shape_under_types_by}
-use Rattle.ecma_strip.specs.Stripping.{stripped}
 use Rattle.ecma_strip.proofs.Sorting.{sorts_are_kept}
 use Rattle.ecma_fits.specs.declared.role.Role.{Role}
 use Rattle.ecma_fits.specs.declared.role.Role.TheVariants as role
 use Rattle.ecma_fits.specs.declared.unfit.Where.{Where}
-use Rattle.ecma_fits.specs.Fitting.{Fits, at_top, first_unfit_in, unfit_here, where_in}
-use Rattle.ecma_fits.specs.Roles.{at_child, is_out_of_role, is_wrong_name, left_of, may_be, role_in, takes}
+use Rattle.ecma_fits.specs.Fitting.{at_top, first_unfit_in, unfit_here, where_in}
+use Rattle.ecma_fits.specs.Roles.{is_out_of_role, is_wrong_name, left_of, may_be, role_in, takes}
 use Rattle.ecma_strip_fits.specs.Kept.{StrippingKeepsSorts}
-use Rattle.ecma_strip_fits.proofs.Classes.{Class, class_of, only_list, wrapped_front}
-use Rattle.ecma_strip_fits.proofs.Classes.Class.{Listed, Typed, Usual, Wrapped}
-use Rattle.ecma_strip_fits.proofs.Lists.{have_at}
+use Rattle.ecma_strip_fits.proofs.Classes.{Class, class_of, wrapped_front}
+use Rattle.ecma_strip_fits.proofs.Classes.Class.{Listed, Wrapped}
 use Rattle.ecma_strip_fits.proofs.Ruled.{left_expression, must_take, simple-out, simple_under, wrapped_expression, wrapped_no_list, wrapped_there}
 use Rattle.ecma_strip_fits.proofs.RulesKept.{in_role}
 use Rattle.ecma_strip_fits.proofs.Walk.{NoneTells, children_of, each_none, neither_least, shape_parts}

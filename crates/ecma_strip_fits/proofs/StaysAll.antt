@@ -1,15 +1,14 @@
 -- Lists from which nothing goes, and what is said of all items of a list.
-use Rattle.std.proofs.Common.{◌≡◌, ◌∙◌, ℕ, zero, suc, Bool, true, false, not, ◌&&◌, ◌||◌, cond, List, [], ◌∷◌, map, filter, length, replicate, Option, Some, None, refl, sym, ap, ap₂, subst, slice_get}
+use Rattle.std.proofs.Common.{◌≡◌, ◌∙◌, Bool, true, false, not, ◌&&◌, cond, List, [], ◌∷◌, map, filter, length, replicate, refl, ap, ap₂, subst}
 use Rattle.std.specs.List.{list_all}
 use Rattle.ecma_kind.specs.Sorts.{belongs}
 use Rattle.ecma_kind.specs.declared.kind.Kind.{Kind}
 use Rattle.ecma_kind.specs.declared.kind.Kind.TheVariants as kind
-use Rattle.ecma_kind.specs.declared.shapes.Shape.{Shape}
 use Rattle.ecma_kind.specs.declared.shapes.Sort.{Sort}
 use Rattle.ecma_kind.specs.declared.shapes.Sort.TheVariants as sort
-use Rattle.ecma_tree.specs.declared.node.Node.{Node, Node-F, out-Node}
+use Rattle.ecma_tree.specs.declared.node.Node.{Node, Node-F}
 use Rattle.ecma_tree.specs.Laws.{HaveShapes}
-use Rattle.ecma_tree.specs.Sorted.{HasShape, allows, child_shapes, is_list, many, one}
+use Rattle.ecma_tree.specs.Sorted.{HasShape, child_shapes, many, one}
 use Rattle.ecma_rules.specs.Children.{kind_of}
 use Rattle.ecma_strip.specs.Staying.{is_ambient, is_empty_stmt, is_this_by, is_this_param_by, member_stays_by, specifier_stays, stays}
 use Rattle.ecma_strip.specs.Stripping.{stripped}

@@ -1,20 +1,20 @@
 -- Nothing belongs to nothing without types, where nothing did.
-use Rattle.std.proofs.Common.{◌≡◌, ◌∙◌, ℕ, zero, suc, Bool, true, false, List, [], ◌∷◌, map, length, Option, Some, None, refl, sym, ap, ap₂, subst, slice_get}
+use Rattle.std.proofs.Common.{◌≡◌, ◌∙◌, ℕ, Bool, true, false, List, [], ◌∷◌, length, Option, Some, None, refl, sym, ap, subst, slice_get}
 use Rattle.ecma_kind.specs.declared.kind.Kind.{Kind}
 use Rattle.ecma_kind.specs.declared.kind.Kind.TheVariants as kind
 use Rattle.ecma_kind.specs.declared.shapes.Shape.{Shape}
 use Rattle.ecma_kind.specs.declared.shapes.Sort.TheVariants as sort
 use Rattle.ecma_kind.specs.declared.span.Span.{Span}
-use Rattle.ecma_tree.specs.declared.node.Node.{Node, Node-F, out-Node, roll-Node}
+use Rattle.ecma_tree.specs.declared.node.Node.{Node, Node-F}
 use Rattle.ecma_tree.specs.declared.node.Node.TheViews.{out-roll-Node}
 use Rattle.ecma_tree.specs.Nodes.{absent, dummy_span, node_of}
-use Rattle.ecma_tree.specs.Sorted.{HasShape, child_shapes, is_list, item_shape, maybe, one}
+use Rattle.ecma_tree.specs.Sorted.{HasShape, child_shapes, is_list, one}
 use Rattle.ecma_rules.specs.declared.strays.Strays.{Strays}
 use Rattle.ecma_rules.specs.Children.{kind_of}
-use Rattle.ecma_rules.specs.Failing.{failing_here, least}
+use Rattle.ecma_rules.specs.Failing.{failing_here}
 use Rattle.ecma_rules.specs.Jumps.{Held, ends_jumps, held_behind, held_in, is_held_stray, is_stray_in, label_of, not_held, own_label, stray_here, text_by, text_of}
 use Rattle.ecma_rules.specs.Strays.{in_named, is_stray, strays_in}
-use Rattle.ecma_strip.specs.Stripping.{changed_at, body_of, plain_children, plain_kind, stripped}
+use Rattle.ecma_strip.specs.Stripping.{plain_children, plain_kind, stripped}
 use Rattle.ecma_strip.proofs.Sorting.{list-kind}
 use Rattle.ecma_fits.specs.Fitting.{at_top, first_unfit_in}
 use Rattle.ecma_strip_fits.specs.Kept.{StrippingKeepsStrays}

@@ -1,31 +1,28 @@
 -- Tests that look at nothing around a node.
-use Rattle.std.proofs.Common.{◌≡◌, ◌∙◌, ℕ, zero, suc, Bool, true, false, not, ◌&&◌, ◌||◌, List, [], ◌∷◌, map, length, Option, Some, None, refl, sym, ap, subst, slice_get}
+use Rattle.std.proofs.Common.{◌≡◌, ◌∙◌, ℕ, Bool, true, false, not, ◌&&◌, ◌||◌, List, [], length, Some, None, refl, sym, ap, subst, slice_get}
 use Rattle.ecma_kind.specs.declared.kind.Kind.{Kind}
 use Rattle.ecma_kind.specs.declared.kind.Kind.TheVariants as kind
-use Rattle.ecma_kind.specs.declared.operators.MethodKind.{MethodKind}
 use Rattle.ecma_kind.specs.declared.shapes.Shape.{Shape}
 use Rattle.ecma_kind.specs.declared.shapes.Sort.TheVariants as sort
-use Rattle.ecma_kind.specs.declared.span.Span.{Span}
-use Rattle.ecma_tree.specs.declared.node.Node.{Node, Node-F, ind-Node, fold_out-Node, out-Node, roll-Node}
-use Rattle.ecma_tree.specs.declared.node.Node.TheViews.{out-roll-Node}
+use Rattle.ecma_tree.specs.declared.node.Node.{Node}
 use Rattle.ecma_tree.specs.Nodes.{absent, dummy_span, node_of}
-use Rattle.ecma_tree.specs.Sorted.{HasShape, child_shapes, is_list, item_shape, maybe, one}
-use Rattle.ecma_rules.specs.Children.{child_holds, child_is, has_child, holds_of, is_present, kind_of, of_kind}
-use Rattle.ecma_rules.specs.Failing.{failing_here, least}
+use Rattle.ecma_tree.specs.Sorted.{HasShape, child_shapes, one}
+use Rattle.ecma_rules.specs.Children.{child_is, kind_of}
+use Rattle.ecma_rules.specs.Failing.{failing_here}
 use Rattle.ecma_rules.specs.Members.{is_constructor_key, is_method, is_special_function, second_constructor}
 use Rattle.ecma_strip.specs.Stripping.{plain_children, plain_kind, stripped}
 use Rattle.ecma_fits.specs.declared.unfit.Where.{Where}
 use Rattle.ecma_fits.specs.Branches.{is_dangling}
 use Rattle.ecma_fits.specs.Chains.{is_loose}
 use Rattle.ecma_fits.specs.Counts.{is_short}
-use Rattle.ecma_fits.specs.Fitting.{Fits, at_top, first_unfit_in, is_misplaced, is_misshapen, is_unfit, unfit_here, where_in}
-use Rattle.ecma_fits.specs.Members.{is_misread, is_misread_by, is_special_accessor}
+use Rattle.ecma_fits.specs.Fitting.{Fits, at_top, first_unfit_in, is_misshapen, is_unfit, unfit_here, where_in}
+use Rattle.ecma_fits.specs.Members.{is_misread, is_misread_by}
 use Rattle.ecma_strip_fits.specs.Kept.{NoneFails}
-use Rattle.ecma_strip_fits.proofs.Classes.{class_of, wrapped_front}
-use Rattle.ecma_strip_fits.proofs.Classes.Class.{Usual, Wrapped}
-use Rattle.ecma_strip_fits.proofs.ChildrenKept.{AsUsual, Plain, child_kept, kind_kept, maybe_usual, one_usual}
+use Rattle.ecma_strip_fits.proofs.Classes.{class_of}
+use Rattle.ecma_strip_fits.proofs.Classes.Class.{Usual}
+use Rattle.ecma_strip_fits.proofs.ChildrenKept.{AsUsual, Plain, kind_kept, one_usual}
 use Rattle.ecma_strip_fits.proofs.Strays.{kind_node, none_failing, not_failing}
-use Rattle.ecma_strip_fits.proofs.Walk.{Carries, children_of, kept, neither_least, shape_parts, usual_kind, wrapped_is}
+use Rattle.ecma_strip_fits.proofs.Walk.{Carries, children_of, kept, neither_least, usual_kind}
 
 pub neither : (a b : Bool) → (a || b) ≡ false → (a ≡ false) × (b ≡ false)
 neither true b h = cc

@@ -1,17 +1,15 @@
 -- A walk over a tree without its types tells nothing where one over the tree tells nothing.
-use Rattle.std.proofs.Common.{◌≡◌, ◌∙◌, ◌⊎◌, inl, inr, ℕ, zero, suc, Bool, true, false, not, cond, List, [], ◌∷◌, map, filter, length, Option, Some, None, refl, sym, ap, ap₂, subst, slice_get}
+use Rattle.std.proofs.Common.{◌≡◌, ◌∙◌, inl, inr, ℕ, zero, suc, Bool, true, false, not, cond, List, [], ◌∷◌, map, filter, length, Option, Some, None, refl, sym, ap, ap₂, subst, slice_get}
 use Rattle.std.proofs.lemmas.List.{length-map}
-use Rattle.ecma_kind.specs.declared.kind.Kind.{Kind}
 use Rattle.ecma_kind.specs.declared.kind.Kind.TheVariants as kind
 use Rattle.ecma_kind.specs.declared.shapes.Shape.{Shape}
-use Rattle.ecma_kind.specs.declared.shapes.Sort.{Sort}
 use Rattle.ecma_kind.specs.declared.shapes.Sort.TheVariants as sort
 use Rattle.ecma_kind.specs.declared.span.Span.{Span}
 use Rattle.ecma_tree.specs.declared.node.Node.{Node, Node-F, ind-Node, out-Node, roll-Node}
 use Rattle.ecma_tree.specs.declared.node.Node.TheViews.{out-roll-Node, roll-out-Node}
 use Rattle.ecma_tree.specs.Laws.{HaveShapes}
 use Rattle.ecma_tree.specs.Nodes.{absent, dummy_span, node_of}
-use Rattle.ecma_tree.specs.Sorted.{HasShape, allows, child_shapes, is_absent, is_list, item_shape, many, one}
+use Rattle.ecma_tree.specs.Sorted.{HasShape, allows, child_shapes, is_absent, is_list, item_shape, one}
 use Rattle.ecma_tree.proofs.ShapeLaws.{node_has_shape}
 use Rattle.ecma_rules.specs.Children.{kind_of}
 use Rattle.ecma_rules.specs.Failing.{failing_step, first_failing, least, least_from}
@@ -20,7 +18,7 @@ use Rattle.ecma_strip.specs.Staying.{is_empty_stmt, item_stays, stays}
 use Rattle.ecma_strip.specs.Stripping.{body_of, operand, plain, plain_children, plain_kind, staying_nodes, stripped, without_empty, without_this}
 use Rattle.ecma_strip.proofs.Sorting.{list-kind}
 use Rattle.ecma_strip.proofs.Stripping.{stripped-out}
-use Rattle.ecma_strip_fits.proofs.Classes.{Class, Front, Turned, class_of, only_list, plain_listed, plain_typed, plain_usual, plain_wrapped, turned, usual_stay, wrapped_front, wrapped_stay}
+use Rattle.ecma_strip_fits.proofs.Classes.{Class, Turned, class_of, only_list, plain_listed, plain_typed, plain_usual, plain_wrapped, turned, usual_stay, wrapped_front, wrapped_stay}
 use Rattle.ecma_strip_fits.proofs.Classes.Class.{Listed, Typed, Usual, Wrapped}
 use Rattle.ecma_strip_fits.proofs.Lists.{filter_at, have_at, items_at, map_at}
 

@@ -15,7 +15,7 @@ use Rattle.ecma_fits.specs.Chains.{is_loose}
 use Rattle.ecma_fits.specs.Counts.{is_short}
 use Rattle.ecma_fits.specs.Fitting.{Fits, at_top, where_in}
 use Rattle.ecma_fits.specs.Members.{is_misread}
-use Rattle.ecma_fits.specs.Roles.{is_tagged}
+use Rattle.ecma_fits.specs.Roles.{is_tagged, is_wrong_name}
 use Rattle.ecma_fits.specs.Strays.{is_stray_target}
 use Rattle.ecma_strip.specs.Stripping.{stripped}
 
@@ -30,6 +30,10 @@ StrippingKeepsMembers = (tree : Node) → Fits tree → NoneFails (λ w node. is
 -- a module by its sorts
 abbrev pub StrippingKeepsSorts : Type 0
 StrippingKeepsSorts = (tree : Node) → Fits tree → HasSort sort.Module (stripped tree)
+
+-- a reserved word names nothing, but where it may
+abbrev pub StrippingKeepsNames : Type 0
+StrippingKeepsNames = (tree : Node) → Fits tree → NoneFails (λ w node. is_wrong_name w.role (kind_of node)) (stripped tree)
 
 -- a node has what its production asks for
 abbrev pub StrippingKeepsCounts : Type 0

@@ -3,11 +3,12 @@
 //! Each function carries one law, and does nothing. The laws are stated in `specs/`.
 #![tactic(auto)]
 
-ghost use Rattle.ecma_strip_fits.specs.Kept.{StrippingKeepsBranches, StrippingKeepsChains, StrippingKeepsConstructors, StrippingKeepsCounts, StrippingKeepsLeaves, StrippingKeepsMembers, StrippingKeepsRules, StrippingKeepsSorts, StrippingKeepsStrays, StrippingKeepsTargets};
+ghost use Rattle.ecma_strip_fits.specs.Kept.{StrippingKeepsBranches, StrippingKeepsChains, StrippingKeepsConstructors, StrippingKeepsCounts, StrippingKeepsLeaves, StrippingKeepsMembers, StrippingKeepsNames, StrippingKeepsRules, StrippingKeepsSorts, StrippingKeepsStrays, StrippingKeepsTargets};
 
 /// Where a tree fits, the tree without its types keeps these clauses of fitting.
 pub fn stripping_keeps_clauses_of_what_fits()
     ensures sorts { StrippingKeepsSorts }
+    ensures names { StrippingKeepsNames }
     ensures counts { StrippingKeepsCounts }
     ensures branches { StrippingKeepsBranches }
     ensures members { StrippingKeepsMembers }

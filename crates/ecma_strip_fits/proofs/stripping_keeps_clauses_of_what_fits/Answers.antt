@@ -4,6 +4,7 @@ use Rattle.ecma_strip_fits.proofs.Constructors.{constructors_kept}
 use Rattle.ecma_strip_fits.proofs.FullNodes.{counts_kept}
 use Rattle.ecma_strip_fits.proofs.Leaves.{leaves_kept, targets_kept}
 use Rattle.ecma_strip_fits.proofs.Chains.{chains_kept}
+use Rattle.ecma_strip_fits.proofs.NamesKept.{names_kept}
 use Rattle.ecma_strip_fits.proofs.RulesKept.{rules_kept}
 use Rattle.ecma_strip_fits.proofs.SortsKept.{sorts_kept}
 use Rattle.ecma_strip_fits.proofs.Strays.{keeps_strays}
@@ -38,3 +39,6 @@ returns-clause-rules c = rules_kept
 
 pub returns-clause-sorts : goal.returns-clause-sorts
 returns-clause-sorts c = sorts_kept
+
+pub returns-clause-names : goal.returns-clause-names
+returns-clause-names c = names_kept
