@@ -1,5 +1,5 @@
 -- What is sound, of nodes that nothing is assigned to.
-use Rattle.std.proofs.Common.{◌≡◌, ◌∙◌, ℕ, suc, Bool, true, false, not, ◌&&◌, ◌||◌, List, [], ◌∷◌, map, length, refl, sym, ap, ap₂, subst, slice_get}
+use Rattle.std.proofs.Common.{◌≡◌, ◌∙◌, ℕ, None, Some, Option, zero, suc, Bool, true, false, not, ◌&&◌, ◌||◌, List, [], ◌∷◌, map, length, refl, sym, ap, ap₂, subst, slice_get}
 use Rattle.std.specs.List.{list_all}
 use Rattle.std.proofs.lemmas.Bool.{and_parts}
 use Rattle.ecma_kind.specs.declared.kind.Kind.{Kind}
@@ -12,6 +12,7 @@ use Rattle.ecma_rules.specs.declared.target.Target.TheVariants as target
 use Rattle.ecma_rules.specs.Children.{holds_of, of_kind}
 use Rattle.ecma_rules.specs.Finishing.{each_in, finished_at}
 use Rattle.ecma_rules.specs.Targets.{first_is, is_key_value, target_in}
+use Rattle.ecma_fits.specs.Branches.{holds_at, holds_at_last, last_part, takes_else, takes_else_step}
 use Rattle.ecma_fits.specs.Chains.{goes_on, goes_on_step, is_behind_chain, is_link, keeps_chain}
 use Rattle.ecma_fits.specs.Counts.{are, are_exports, are_imports, are_stars_or_names, ends_once, ends_template, is_attribute, is_attribute_key, is_default_import, is_empty, is_named_export, is_named_import, is_star_export, is_star_import, is_star_of, is_text, is_whole_template}
 use Rattle.ecma_fits_laws.proofs.Sound.{both_true, holds_with, is_attribute_list, is_base, is_list_of, is_object, or_first, or_second}
@@ -119,6 +120,43 @@ with_free n h =
     or_second (is_absent (kind_of (free n)) && is_empty (children_of (free n))) (is_object (kind_of (free n)) && is_attribute_list (children_of (free n)))
     (both_true (is_object (kind_of (free n))) (is_attribute_list (children_of (free n))) (ap is_object (free_kind n) ∙ both.0)
     (ap is_attribute_list (free_children n) ∙ attribute_list_free (target_in target.Free (kind_of n)) (children_of n) (object_free (kind_of n) both.0) both.1))))
+
+-- branches
+
+last_free : (k : Kind) (i : ℕ) → last_part k ≡ Some i → target_in target.Free k i ≡ target.Free
+unfolding target_in
+last_free kind.IfStmt i h = refl
+last_free kind.LabeledStmt i h = refl
+last_free kind.WhileStmt i h = refl
+last_free kind.ForStmt i h = refl
+last_free kind.ForInStmt i h = let e : 2 ≡ i = cc in subst (λ j. target_in target.Free kind.ForInStmt j ≡ target.Free) e refl
+last_free (kind.ForOfStmt is_await) i h = let e : 2 ≡ i = cc in subst (λ j. target_in target.Free (kind.ForOfStmt is_await) j ≡ target.Free) e refl
+last_free _ i h = cc
+
+abbrev Takes : Node → Type 0
+Takes n = takes_else (free n) ≡ takes_else n
+
+AllTake : List Node → Type 0
+AllTake ns = (target_of : ℕ → Target) (i : ℕ) → target_of i ≡ target.Free → holds_at (map takes_else (each_in target_of (map finished_at ns))) i ≡ holds_at (map takes_else ns) i
+
+all_take : (es : List ((n : Node) × Takes n)) → AllTake (map (λ e. e.0) es)
+unfolding AllTake
+all_take [] target_of i f = refl
+all_take (e ∷ es) target_of zero f = ap (λ t. takes_else (finished_at e.0 t)) f ∙ e.1
+all_take (e ∷ es) target_of (suc i) f = all_take es (λ j. target_of (suc j)) i f
+
+node_takes : (x : Node-F Node) → AllTake x.children → Takes (roll-Node x)
+unfolding AllTake
+node_takes x below =
+    let now : Node-F Node = record { span = x.span; kind = x.kind; children = each_in (target_in target.Free x.kind) (map finished_at x.children) } in
+    ap takes_else (finished_parts x target.Free) ∙ fold-roll-Node Bool takes_else_step now ∙ ap (λ b. is_absent x.kind || b) (by_last (last_part x.kind) refl) ∙ sym (fold-roll-Node Bool takes_else_step x)
+  where
+    by_last : (o : Option ℕ) → last_part x.kind ≡ o → holds_at_last (map takes_else (each_in (target_in target.Free x.kind) (map finished_at x.children))) o ≡ holds_at_last (map takes_else x.children) o
+    by_last None e = refl
+    by_last (Some i) e = below (target_in target.Free x.kind) i (last_free x.kind i e)
+
+pub takes_free : (n : Node) → Takes n
+takes_free = ind-Node Takes (λ x y is. node_takes x (subst (λ (z : Node-F Node). AllTake z.children) is (all_take y.children)))
 
 -- chains
 

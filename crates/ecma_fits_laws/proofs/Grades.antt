@@ -18,7 +18,7 @@ use Rattle.ecma_rules.specs.Children.{is_present, of_kind}
 use Rattle.ecma_rules.specs.Targets.{is_key_value}
 use Rattle.ecma_fits.specs.Counts.{are, are_imports, is_attribute, is_attribute_key, is_default_import, is_empty, is_named_export, is_named_import, is_star_export, is_star_import, is_star_of, is_text}
 use Rattle.ecma_spelling.proofs.Trees.{children_made, kind_made}
-use Rattle.ecma_fits_laws.proofs.Sound.{Sound, are_attributes, is_base, is_method_pair, is_mild, is_pattern, is_some}
+use Rattle.ecma_fits_laws.proofs.Sound.{Sound, are_attributes, is_base, is_method_pair, is_mild, is_pair, is_pattern, is_some, is_triple}
 use Rattle.ecma_fits_laws.proofs.Throughout.{EachThroughout, Throughout, none, throughout}
 use Rattle.ecma_fits_laws.proofs.Walks.{not_true}
 
@@ -33,8 +33,8 @@ pub data Grade : Type 0 where
   named_import star_import default_import named_export star_export : Grade
   -- attributes or nothing; a list of attributes; one; its key and its text
   attributes attribute_list attribute attribute_key a_text : Grade
-  -- the head of a loop; a member of a class before its modifiers
-  head member : Grade
+  -- it is there, and its kind ends with no statement; the head of a loop; a member of a class before its modifiers
+  closed head member : Grade
 
 abbrev pub is_text_part : Bool → Kind → Bool
 is_text_part false (kind.TplElement raw cooked tail) = not tail
@@ -50,11 +50,22 @@ abbrev pub is_link : Kind → Bool
 is_link (kind.OptChainExpr optional) = optional
 is_link k = is_mild k
 
-abbrev pub is_head : Kind → Bool
-is_head kind.ForStmt = true
-is_head kind.ForInStmt = true
-is_head (kind.ForOfStmt is_await) = true
-is_head _ = false
+abbrev pub is_closed : Kind → Bool
+is_closed kind.Absent = false
+is_closed kind.IfStmt = false
+is_closed kind.LabeledStmt = false
+is_closed kind.WhileStmt = false
+is_closed kind.ForStmt = false
+is_closed kind.ForInStmt = false
+is_closed (kind.ForOfStmt is_await) = false
+is_closed _ = true
+
+-- a loop without its body
+abbrev pub is_head : Kind → List Node → Bool
+is_head kind.ForStmt cs = is_triple cs
+is_head kind.ForInStmt cs = is_pair cs
+is_head (kind.ForOfStmt is_await) cs = is_pair cs
+is_head _ cs = false
 
 abbrev pub is_member : Kind → List Node → Bool
 is_member (kind.ClassMethod k modifiers) cs = is_method_pair k cs
@@ -88,7 +99,8 @@ allowed attribute_list k cs = is_list k && list_all is_attribute cs
 allowed attribute k cs = is_key_value k && (of_kind is_attribute_key (slice_get cs 0) && of_kind is_text (slice_get cs 1))
 allowed attribute_key k cs = is_attribute_key k
 allowed a_text k cs = is_text k
-allowed head k cs = is_head k
+allowed closed k cs = is_closed k
+allowed head k cs = is_head k cs
 allowed _ k cs = true
 
 abbrev pub Is : Grade → Node → Type 0
@@ -135,6 +147,8 @@ fits expression present = true
 fits named_import named_import = true
 fits named_export named_export = true
 fits attribute attribute = true
+fits closed closed = true
+fits closed good = true
 fits _ _ = false
 
 pub mild_expression : (k : Kind) → is_mild k ≡ true → is_expression k ≡ true
@@ -171,6 +185,8 @@ fits_sound expression present n e m = (m.0, expression_present (kind_of n) m.1)
 fits_sound named_import named_import n e m = m
 fits_sound named_export named_export n e m = m
 fits_sound attribute attribute n e m = m
+fits_sound closed closed n e m = m
+fits_sound closed good n e m = (m.0, refl)
 fits_sound _ _ n e m = not_true e
 
 -- flags

@@ -4,7 +4,7 @@ use Rattle.ecma_grammar.specs.declared.production.Part.{Part}
 use Rattle.ecma_grammar.specs.declared.production.Part.TheVariants as part
 use Rattle.ecma_grammar.specs.Grammar as grammar
 use Rattle.ecma_grammar.specs.Grammar.{Grammar}
-use Rattle.ecma_fits_laws.proofs.Grades.{expression, flag_fits, good, leaf_fits, link, mild, pattern}
+use Rattle.ecma_fits_laws.proofs.Grades.{closed, expression, flag_fits, good, leaf_fits, link, mild, pattern}
 use Rattle.ecma_fits_laws.proofs.Needs.{needs, six}
 use Rattle.ecma_fits_laws.proofs.Wanted.{Wanted, choice, done, each, either, ends, is_whatever, one, passes, repeats_then, steps, whatever}
 
@@ -12,7 +12,7 @@ use Rattle.ecma_fits_laws.proofs.Wanted.{Wanted, choice, done, each, either, end
 abbrev pub part_keeps : Part → Wanted
 part_keeps part.Statement = one good done
 part_keeps part.NamespaceBody = one good done
-part_keeps part.Declared = one good done
+part_keeps part.Declared = one closed done
 part_keeps (part.Assign no_in middle) = one expression done
 part_keeps part.Pattern = one pattern done
 part_keeps part.«Type» = whatever

@@ -1,16 +1,23 @@
 -- What each part keeps, computed from the productions.
-use Rattle.std.proofs.Common.{◌≡◌, Bool, true, false, refl}
+use Rattle.std.proofs.Common.{◌≡◌, Bool, true, false, codes, refl, sym}
 use Rattle.ecma_kind.specs.declared.operators.BinaryOp.{BinaryOp}
 use Rattle.ecma_kind.specs.declared.operators.BinaryOp.TheVariants as binary
 use Rattle.ecma_grammar.specs.declared.production.Part.{Part}
 use Rattle.ecma_grammar.specs.declared.production.Part.TheVariants as part
 use Rattle.ecma_grammar.specs.declared.production.Link.{Link}
 use Rattle.ecma_grammar.specs.declared.production.Link.TheVariants as link
+use Rattle.ecma_grammar.specs.declared.production.Plain.TheVariants as plain
+use Rattle.ecma_grammar.specs.Grammar as grammar
+use Rattle.ecma_grammar.specs.Grammar.{Grammar}
 use Rattle.ecma_grammar.specs.PartBodies.{part_body}
+use Rattle.ecma_grammar.specs.productions.Declarations.{declaration}
 use Rattle.ecma_grammar.specs.productions.Modules.{module_body}
+use Rattle.ecma_grammar.specs.productions.Names.{block}
+use Rattle.ecma_grammar.specs.productions.Statements.{do_while, expression_statement, in_parentheses, jump, switch, try_}
 use Rattle.ecma_spelling.proofs.Productions.{productions}
-use Rattle.ecma_fits_laws.proofs.Grades.{good}
+use Rattle.ecma_fits_laws.proofs.Grades.{closed, good}
 use Rattle.ecma_fits_laws.proofs.Keeps.{keeps, part_keeps}
+use Rattle.ecma_fits_laws.proofs.Walks.{not_true}
 use Rattle.ecma_fits_laws.proofs.Wanted.{done, ends, one}
 
 pub module_kept : keeps module_body ends (one good done) ≡ true
@@ -20,9 +27,45 @@ module_kept = refl
 abbrev pub IsKept : Part → Type 0
 IsKept u = keeps (part_body u) ends (part_keeps u) ≡ true
 
-statement_kept : IsKept part.Statement
+-- statements that end with no statement
+
+abbrev EndsClosed : Grammar → Type 0
+EndsClosed g = keeps g ends (one closed done) ≡ true
+
+pub block_closed : EndsClosed block
 unfolding productions
-statement_kept = refl
+block_closed = refl
+
+pub empty_closed : EndsClosed (grammar.node plain.EmptyStmt (grammar.punct (codes ";")))
+empty_closed = refl
+
+pub do_closed : EndsClosed do_while
+unfolding productions
+do_closed = refl
+
+pub switch_closed : EndsClosed switch
+unfolding productions
+switch_closed = refl
+
+pub try_closed : EndsClosed try_
+unfolding productions
+try_closed = refl
+
+pub jump_closed : EndsClosed jump
+unfolding productions
+jump_closed = refl
+
+pub declaration_closed : EndsClosed declaration
+unfolding productions
+declaration_closed = refl
+
+pub expression_closed : EndsClosed expression_statement
+unfolding productions
+expression_closed = refl
+
+pub condition_kept : keeps in_parentheses ends (one good done) ≡ true
+unfolding productions
+condition_kept = refl
 
 namespace_kept : IsKept part.NamespaceBody
 unfolding productions
@@ -146,25 +189,29 @@ link_kept link.Tagged = tagged_kept
 link_kept link.NonNull = non_null_kept
 link_kept link.Instantiation = instantiation_kept
 
-pub part_kept : (u : Part) → IsKept u
-part_kept part.Statement = statement_kept
-part_kept part.NamespaceBody = namespace_kept
-part_kept part.Declared = declared_kept
-part_kept (part.Assign no_in middle) = assign_kept no_in middle
-part_kept part.Pattern = pattern_kept
-part_kept part.«Type» = type_kept
-part_kept part.TypeOperator = operator_kept
-part_kept part.ArraySuffix = suffix_kept
-part_kept part.Operand = operand_kept
-part_kept part.Assertion = assertion_kept
-part_kept part.New = new_kept
-part_kept part.Power = power_kept
-part_kept (part.Class named) = class_kept named
-part_kept (part.Binary op false) = binary_kept op
-part_kept (part.Binary op true) = binary_no_in_kept op
-part_kept (part.As no_in) = as_kept no_in
-part_kept (part.Satisfies no_in) = satisfies_kept no_in
-part_kept part.DottedName = name_kept
-part_kept part.DottedKey = key_kept
-part_kept (part.Link l) = link_kept l
-part_kept (part.NewLink l) = new_link_kept l
+abbrev pub is_statement : Part → Bool
+is_statement part.Statement = true
+is_statement _ = false
+
+pub part_kept : (u : Part) → is_statement u ≡ false → IsKept u
+part_kept part.Statement h = not_true (sym h)
+part_kept part.NamespaceBody h = namespace_kept
+part_kept part.Declared h = declared_kept
+part_kept (part.Assign no_in middle) h = assign_kept no_in middle
+part_kept part.Pattern h = pattern_kept
+part_kept part.«Type» h = type_kept
+part_kept part.TypeOperator h = operator_kept
+part_kept part.ArraySuffix h = suffix_kept
+part_kept part.Operand h = operand_kept
+part_kept part.Assertion h = assertion_kept
+part_kept part.New h = new_kept
+part_kept part.Power h = power_kept
+part_kept (part.Class named) h = class_kept named
+part_kept (part.Binary op false) h = binary_kept op
+part_kept (part.Binary op true) h = binary_no_in_kept op
+part_kept (part.As no_in) h = as_kept no_in
+part_kept (part.Satisfies no_in) h = satisfies_kept no_in
+part_kept part.DottedName h = name_kept
+part_kept part.DottedKey h = key_kept
+part_kept (part.Link l) h = link_kept l
+part_kept (part.NewLink l) h = new_link_kept l

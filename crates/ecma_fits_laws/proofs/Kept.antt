@@ -1,4 +1,4 @@
--- What a grammar keeps is as it is computed, by one induction over grammars and one over levels.
+-- What a grammar keeps is as it is computed, by one induction over grammars.
 use Rattle.std.proofs.Common.{◌≡◌, ℕ, zero, suc, ◌+◌, Bool, true, false, ◌&&◌, ◌||◌, List, [], ◌∷◌, ◌++◌, append-nil, append_assoc, length, refl, sym, subst, max}
 use Rattle.std.specs.Prelude.{if◌then◌else◌}
 use Rattle.std.proofs.lemmas.Bool.{and_parts}
@@ -13,13 +13,11 @@ use Rattle.ecma_grammar.specs.Reading.{Position, Outcome, read, fails, too_deep,
 use Rattle.ecma_grammar.specs.Grammar as grammar
 use Rattle.ecma_grammar.specs.Grammar.{Grammar, Terminal}
 use Rattle.ecma_grammar.specs.Made.{made}
-use Rattle.ecma_grammar.specs.Reads.{reads, levels, Parts, token, same_line_on, built_on, next_start, leaf_node}
-use Rattle.ecma_grammar.specs.PartBodies.{part_body}
+use Rattle.ecma_grammar.specs.Reads.{reads, Parts, token, same_line_on, built_on, next_start, leaf_node}
 use Rattle.ecma_spelling.proofs.Leaves.{Holds, holds_read, holds_fails, holds_deep, holds_then}
 use Rattle.ecma_fits_laws.proofs.GradedLeaves.{leaf_graded}
 use Rattle.ecma_fits_laws.proofs.Grades.{Grade, Meets, flag_fits, flag_meets, leaf_fits}
 use Rattle.ecma_fits_laws.proofs.Keeps.{keeps, none, part_keeps, single}
-use Rattle.ecma_fits_laws.proofs.KeepsChecks.{part_kept}
 use Rattle.ecma_fits_laws.proofs.Needs.{needs}
 use Rattle.ecma_fits_laws.proofs.Makings.{form_made}
 use Rattle.ecma_fits_laws.proofs.Steps.{Leaves, Repeated, ends_given, leaves_both, one_true, passes_leave, repeats_leave, stays, steps_leave}
@@ -38,7 +36,7 @@ holds_followed P R q (read xs u) p h = holds_front R xs (q u) (h xs (p u xs refl
 holds_followed P R q (fails n) p h = holds_fails R n
 holds_followed P R q (too_deep n) p h = holds_deep R n
 
-holds_or : (Q : List Node → Type 0) (q : Reading (List Node)) (s : Position) (o : Outcome (List Node)) → Holds o Q → ((s : Position) → Holds (q s) Q) → Holds (or_on q s o) Q
+pub holds_or : (Q : List Node → Type 0) (q : Reading (List Node)) (s : Position) (o : Outcome (List Node)) → Holds o Q → ((s : Position) → Holds (q s) Q) → Holds (or_on q s o) Q
 holds_or Q q s (read xs u) p h = p
 holds_or Q q s (fails n) p h = h (record { place = s.place; failed = n })
 holds_or Q q s (too_deep n) p h = holds_deep Q n
@@ -107,7 +105,7 @@ module _ (text : List ℕ) (mode : Mode) (parts : Parts text) where
   abbrev Nothing : List Node → Type 0
   Nothing xs = xs ≡ []
 
-  takes_nothing : (t : Terminal) (s : Position) → Holds (R (grammar.take t) s) Nothing
+  pub takes_nothing : (t : Terminal) (s : Position) → Holds (R (grammar.take t) s) Nothing
   takes_nothing t s = holds_then _ (λ k. Unit {0}) Nothing (token text t s) (λ p x e. tt) (λ x p q. holds_read Nothing [] p refl)
 
   keeps_none : (g : Grammar) (s : Position) → none g ≡ true → Holds (R g s) Nothing
@@ -148,7 +146,7 @@ module _ (text : List ℕ) (mode : Mode) (parts : Parts text) where
   built_leaves next w f lo meets h (fails n) k = holds_fails (Leaves next w) n
   built_leaves next w f lo meets h (too_deep n) k = holds_deep (Leaves next w) n
 
-  holds_ended : (w : Wanted) (o : Outcome (List Node)) → Holds o (Leaves ends w) → Holds o (Given w)
+  pub holds_ended : (w : Wanted) (o : Outcome (List Node)) → Holds o (Leaves ends w) → Holds o (Given w)
   holds_ended w o h t xs r = ended w xs (h t xs r)
 
   -- one of two, that each keep one node
@@ -175,7 +173,7 @@ module _ (text : List ℕ) (mode : Mode) (parts : Parts text) where
     passed : (p : Part) (next : Wanted → Bool) (w : Wanted) (o : Outcome (List Node)) → passes (part_keeps p) next w ≡ true → Holds o (Given (part_keeps p)) → Holds o (Leaves next w)
     passed p next w o h k t xs r = passes_leave (part_keeps p) next w h xs (k t xs r)
 
-    as_kept : (g : Grammar) (next : Wanted → Bool) (w : Wanted) (s : Position) → keeps g next w ≡ true → Holds (R g s) (Leaves next w)
+    pub as_kept : (g : Grammar) (next : Wanted → Bool) (w : Wanted) (s : Position) → keeps g next w ≡ true → Holds (R g s) (Leaves next w)
     as_kept grammar.nothing next w s h = holds_read (Leaves next w) [] s (stays next w h)
     as_kept grammar.same_line next w s h = holds_line (Leaves next w) (stays next w h) s (skipped text s.place)
     as_kept (grammar.take t) next w s h = holds_none next w (R (grammar.take t) s) h (takes_nothing t s)
@@ -209,12 +207,3 @@ module _ (text : List ℕ) (mode : Mode) (parts : Parts text) where
     as_kept (grammar.enter p) next w s h = passed p next w (parts p (next_start text s) s) h (inside p (next_start text s) s)
     as_kept (grammar.behind t p) next w s h = holds_then _ (λ k. Unit {0}) (Leaves next w) (token text t s) (λ q x e. tt) (λ k u q. passed p next w (parts p k.start u) h (inside p k.start u))
     as_kept (grammar.build f a) next w s h = built_leaves next w f (next_start text s) (λ g. keeps a ends (needs f g)) h (R a s) (λ g e. holds_ended (needs f g) (R a s) (as_kept a ends (needs f g) s e))
-
--- every part keeps what it is said to keep, at each level
-levels_kept : (text : List ℕ) (mode : Mode) (n : ℕ) (p : Part) (at : ℕ) (s : Position) → Holds (levels text mode n p at s) (Given (part_keeps p))
-unfolding levels
-levels_kept text mode zero p at s = holds_deep (Given (part_keeps p)) at
-levels_kept text mode (suc n) p at s = holds_ended text mode (levels text mode n) (part_keeps p) (reads text mode (levels text mode n) (part_body p) s) (as_kept text mode (levels text mode n) (levels_kept text mode n) (part_body p) ends (part_keeps p) s (part_kept p))
-
-pub kept : (text : List ℕ) (mode : Mode) (n : ℕ) (g : Grammar) (w : Wanted) (s : Position) → keeps g ends w ≡ true → Holds (reads text mode (levels text mode n) g s) (Given w)
-kept text mode n g w s h = holds_ended text mode (levels text mode n) w (reads text mode (levels text mode n) g s) (as_kept text mode (levels text mode n) (levels_kept text mode n) g ends w s h)

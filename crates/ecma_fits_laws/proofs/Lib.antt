@@ -29,6 +29,8 @@ pub mod MadeFunctions
 pub mod MadeClasses
 pub mod Makings
 pub mod Kept
+pub mod Deeper
+pub mod Statements
 pub mod RawSound
 pub mod FinishedKinds
 pub mod FinishedSound

@@ -20,7 +20,7 @@ use Rattle.ecma_spelling.proofs.Trees.{children_made, kind_made}
 use Rattle.ecma_fits_laws.proofs.Grades.{Grade, Is, Meets, expression, good, head, is_expression, is_head, is_link, is_text_part as grade_text, link, mild, mild_expression, node_meets}
 use Rattle.ecma_fits_laws.proofs.MadeLists.{made_usually}
 use Rattle.ecma_fits_laws.proofs.Needs.{chain_needs, usually}
-use Rattle.ecma_fits_laws.proofs.Sound.{Sound, base_mild, both_true, is_base, is_linked, is_mild, is_some, is_triple, mild_set}
+use Rattle.ecma_fits_laws.proofs.Sound.{Sound, base_mild, both_true, is_base, is_linked, is_mild, is_some, is_triple, mild_set, set_pair, set_triple}
 use Rattle.ecma_fits_laws.proofs.Throughout.{EachThroughout, Throughout, below, filter_all, first_of, here, more, none, others_of, set_all, throughout}
 use Rattle.ecma_fits_laws.proofs.Walks.{not_true}
 use Rattle.ecma_fits_laws.proofs.Wanted.{Each, Given, Turns, each, one, turns}
@@ -44,11 +44,17 @@ module _ (g h : Grade) (step : Node → Node → Node) (keeps : (x n : Node) →
 chain_good : (x n : Node) → Is good x → Is mild n → Is good (in_front x n)
 chain_good x n s m = (front_sound x n s.0 m.0 m.1, refl)
 
-head_mild : (k : Kind) → is_head k ≡ true → is_mild k ≡ true
-head_mild kind.ForStmt h = refl
-head_mild kind.ForInStmt h = refl
-head_mild (kind.ForOfStmt is_await) h = refl
-head_mild _ h = not_true h
+head_mild : (k : Kind) (cs : List Node) → is_head k cs ≡ true → is_mild k ≡ true
+head_mild kind.ForStmt cs h = refl
+head_mild kind.ForInStmt cs h = refl
+head_mild (kind.ForOfStmt is_await) cs h = refl
+head_mild _ cs h = not_true h
+
+head_set : (k : Kind) (cs : List Node) (x : Node) → is_head k cs ≡ true → is_head k (slice_set cs 0 x) ≡ true
+head_set kind.ForStmt cs x h = set_triple cs x h
+head_set kind.ForInStmt cs x h = set_pair cs x h
+head_set (kind.ForOfStmt is_await) cs x h = set_pair cs x h
+head_set _ cs x h = not_true h
 
 pub chain_made : (g : Grade) (xs : List Node) → Given (chain_needs g) xs → Meets g (chained xs)
 chain_made good [] k = absurd k
@@ -59,7 +65,8 @@ chain_made head [] k = absurd k
 chain_made head (x ∷ []) k = absurd k.1
 chain_made head (x ∷ n ∷ []) k =
     let m = k.1.0 in
-    (front_sound x n k.0.0 m.0 (head_mild (kind_of n) m.1), subst (λ j. is_head j ≡ true) (sym (front_kind x n)) m.1)
+    node_meets head (from_to (span_of x).lo (span_of n).hi) (kind_of n) (slice_set (children_of n) 0 x) refl (set_all Sound 0 x k.0.0 (below Sound m.0))
+    (mild_set (kind_of n) (children_of n) x (head_mild (kind_of n) (children_of n) m.1) (here Sound m.0)) (head_set (kind_of n) (children_of n) x m.1)
 chain_made head (x ∷ n ∷ m ∷ ms) k = absurd k.1.1
 chain_made _ xs k = absurd k
 

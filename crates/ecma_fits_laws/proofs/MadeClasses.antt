@@ -17,9 +17,9 @@ use Rattle.ecma_grammar.specs.trees.Parts.{by_frame, children_of, framed, is_pre
 use Rattle.ecma_rules.specs.Members.{is_constructor_key, is_method, is_special_function}
 use Rattle.ecma_fits.specs.Counts.{is_empty}
 use Rattle.ecma_spelling.proofs.Trees.{children_made, kind_made}
-use Rattle.ecma_fits_laws.proofs.Grades.{Is, IsMember, absent as absent_grade, expression, good, is_member, member as member_grade, node_meets}
-use Rattle.ecma_fits_laws.proofs.MadeFunctions.{function_of_sound, same_absent}
-use Rattle.ecma_fits_laws.proofs.MadeNodes.{quiet_expression, quiet_sound}
+use Rattle.ecma_fits_laws.proofs.Grades.{Grade, Is, IsMember, Meets, absent as absent_grade, good, is_member, member as member_grade, node_meets}
+use Rattle.ecma_fits_laws.proofs.MadeFunctions.{Allowed, function_of_sound, same_absent}
+use Rattle.ecma_fits_laws.proofs.MadeNodes.{quiet_sound}
 use Rattle.ecma_fits_laws.proofs.Needs.{five, is_quiet, method_parts, nine, seven, six, three}
 use Rattle.ecma_fits_laws.proofs.Sound.{Sound, both_true, is_function, is_method_pair, may_be_named, or_first, or_second}
 use Rattle.ecma_fits_laws.proofs.Throughout.{EachThroughout, Throughout, below, first_of, more, none, others_of, throughout}
@@ -29,19 +29,19 @@ use Rattle.ecma_fits_laws.proofs.Wanted.{Given, done, one}
 absent_sound : Throughout Sound absent
 absent_sound = throughout dummy_span kind.Absent refl none
 
-pub class_is : (at : Span) (k : Kind) (is_abstract : Bool) (xs : List Node) → is_quiet k ≡ true → Given six xs → Is expression (framed 6 (class at k is_abstract) xs)
-class_is at k t [] q g = absurd g
-class_is at k t (a ∷ []) q g = absurd g.1
-class_is at k t (a ∷ b ∷ []) q g = absurd g.1.1
-class_is at k t (a ∷ b ∷ c ∷ []) q g = absurd g.1.1.1
-class_is at k t (a ∷ b ∷ c ∷ d ∷ []) q g = absurd g.1.1.1.1
-class_is at k t (a ∷ b ∷ c ∷ d ∷ e ∷ []) q g = absurd g.1.1.1.1.1
-class_is at k t (a ∷ b ∷ c ∷ d ∷ e ∷ f ∷ []) q g =
+pub class_is : (at : Span) (k : Kind) (is_abstract : Bool) (g : Grade) → Allowed g k → (xs : List Node) → is_quiet k ≡ true → Given six xs → Meets g (framed 6 (class at k is_abstract) xs)
+class_is at k t g m [] q r = absurd r
+class_is at k t g m (a ∷ []) q r = absurd r.1
+class_is at k t g m (a ∷ b ∷ []) q r = absurd r.1.1
+class_is at k t g m (a ∷ b ∷ c ∷ []) q r = absurd r.1.1.1
+class_is at k t g m (a ∷ b ∷ c ∷ d ∷ []) q r = absurd r.1.1.1.1
+class_is at k t g m (a ∷ b ∷ c ∷ d ∷ e ∷ []) q r = absurd r.1.1.1.1.1
+class_is at k t g m (a ∷ b ∷ c ∷ d ∷ e ∷ f ∷ []) q r =
     let body = node_of at (kind.Class t) (c ∷ f ∷ b ∷ d ∷ e ∷ []) in
-    let rest = g.1.1 in
-    let inside : EachThroughout Sound (c ∷ f ∷ b ∷ d ∷ e ∷ []) = more rest.0.0 (more rest.1.1.1.0.0 (more g.1.0.0 (more rest.1.0.0 (more rest.1.1.0.0 none)))) in
-    node_meets expression at k (a ∷ body ∷ []) refl (more g.0.0 (more (throughout at (kind.Class t) refl inside) none)) (quiet_sound k (a ∷ body ∷ []) q) (quiet_expression k q)
-class_is at k t (a ∷ b ∷ c ∷ d ∷ e ∷ f ∷ h ∷ xs) q g = absurd g.1.1.1.1.1.1
+    let rest = r.1.1 in
+    let inside : EachThroughout Sound (c ∷ f ∷ b ∷ d ∷ e ∷ []) = more rest.0.0 (more rest.1.1.1.0.0 (more r.1.0.0 (more rest.1.0.0 (more rest.1.1.0.0 none)))) in
+    node_meets g at k (a ∷ body ∷ []) m.0 (more r.0.0 (more (throughout at (kind.Class t) refl inside) none)) (quiet_sound k (a ∷ body ∷ []) q) (m.1 (a ∷ body ∷ []))
+class_is at k t g m (a ∷ b ∷ c ∷ d ∷ e ∷ f ∷ h ∷ xs) q r = absurd r.1.1.1.1.1.1
 
 -- members before their modifiers
 

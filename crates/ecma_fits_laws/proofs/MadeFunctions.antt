@@ -15,13 +15,13 @@ use Rattle.ecma_grammar.specs.trees.Others.{assertion, declared, declared_kind, 
 use Rattle.ecma_grammar.specs.trees.Parts.{by_frame, children_of, framed, from_to, is_absent, is_absent_kind, is_present, kind_of, span_of}
 use Rattle.ecma_rules.specs.Children.{is_present as is_there}
 use Rattle.ecma_fits.specs.Counts.{is_empty}
-use Rattle.ecma_fits_laws.proofs.Grades.{Is, absent as absent_grade, expression, expression_present, good, head, is_head, node_meets, pattern as pattern_grade, present}
-use Rattle.ecma_fits_laws.proofs.MadeNodes.{all_sound, quiet_expression, quiet_sound}
-use Rattle.ecma_fits_laws.proofs.Needs.{five, four, is_quiet, seven, three, two}
+use Rattle.ecma_fits_laws.proofs.Grades.{Grade, Is, Meets, absent as absent_grade, allowed, closed, expression, expression_present, good, head, is_closed, is_head, is_member_grade, node_meets, pattern as pattern_grade, present}
+use Rattle.ecma_fits_laws.proofs.MadeNodes.{all_sound, quiet_sound}
+use Rattle.ecma_fits_laws.proofs.Needs.{declared_needs, five, four, is_quiet, namespace_needs, seven, three, two}
 use Rattle.ecma_fits_laws.proofs.Sound.{Sound, declared_sound, is_pattern, or_first, or_second, questioned_sound}
 use Rattle.ecma_fits_laws.proofs.Throughout.{EachThroughout, Throughout, append_all, below, first_of, here, map_all, more, none, others_of, throughout}
 use Rattle.ecma_fits_laws.proofs.Walks.{not_true}
-use Rattle.ecma_fits_laws.proofs.Wanted.{Each, Given, done, either, one}
+use Rattle.ecma_fits_laws.proofs.Wanted.{Given, done, either, one}
 
 absent_sound : Throughout Sound absent
 absent_sound = throughout dummy_span kind.Absent refl none
@@ -43,19 +43,24 @@ pub function_of_sound : (at : Span) (is_async is_generator : Bool) (type_params 
     → Throughout Sound (function_of at is_async is_generator type_params params return_type body)
 function_of_sound at is_async is_generator t p r b s u v w = throughout at (kind.Function is_generator is_async) refl (more (parameters_sound p u) (more w (more s (more v none))))
 
-pub function_is : (at : Span) (k : Kind) (xs : List Node) → is_quiet k ≡ true → Given seven xs → Is expression (framed 7 (function at k) xs)
-function_is at k [] q g = absurd g
-function_is at k (a ∷ []) q g = absurd g.1
-function_is at k (a ∷ b ∷ []) q g = absurd g.1.1
-function_is at k (a ∷ b ∷ c ∷ []) q g = absurd g.1.1.1
-function_is at k (a ∷ b ∷ c ∷ d ∷ []) q g = absurd g.1.1.1.1
-function_is at k (a ∷ b ∷ c ∷ d ∷ e ∷ []) q g = absurd g.1.1.1.1.1
-function_is at k (a ∷ b ∷ c ∷ d ∷ e ∷ f ∷ []) q g = absurd g.1.1.1.1.1.1
-function_is at k (a ∷ b ∷ c ∷ d ∷ e ∷ f ∷ h ∷ []) q g =
-    let rest = g.1.1.1 in
+-- a grade that depends on the kind alone
+abbrev pub Allowed : Grade → Kind → Type 0
+Allowed g k = (is_member_grade g ≡ false) × ((cs : List Node) → allowed g k cs ≡ true)
+
+pub function_is : (at : Span) (k : Kind) (g : Grade) → Allowed g k → (xs : List Node) → is_quiet k ≡ true → Given seven xs → Meets g (framed 7 (function at k) xs)
+function_is at k g m [] q r = absurd r
+function_is at k g m (a ∷ []) q r = absurd r.1
+function_is at k g m (a ∷ b ∷ []) q r = absurd r.1.1
+function_is at k g m (a ∷ b ∷ c ∷ []) q r = absurd r.1.1.1
+function_is at k g m (a ∷ b ∷ c ∷ d ∷ []) q r = absurd r.1.1.1.1
+function_is at k g m (a ∷ b ∷ c ∷ d ∷ e ∷ []) q r = absurd r.1.1.1.1.1
+function_is at k g m (a ∷ b ∷ c ∷ d ∷ e ∷ f ∷ []) q r = absurd r.1.1.1.1.1.1
+function_is at k g m (a ∷ b ∷ c ∷ d ∷ e ∷ f ∷ h ∷ []) q r =
+    let rest = r.1.1.1 in
     let made = function_of_sound at (is_present a) (is_present b) d e f h rest.0.0 rest.1.0.0 rest.1.1.0.0 rest.1.1.1.0.0 in
-    node_meets expression at k (c ∷ function_of at (is_present a) (is_present b) d e f h ∷ []) refl (more g.1.1.0.0 (more made none)) (quiet_sound k (c ∷ function_of at (is_present a) (is_present b) d e f h ∷ []) q) (quiet_expression k q)
-function_is at k (a ∷ b ∷ c ∷ d ∷ e ∷ f ∷ h ∷ i ∷ xs) q g = absurd g.1.1.1.1.1.1.1
+    let children = c ∷ function_of at (is_present a) (is_present b) d e f h ∷ [] in
+    node_meets g at k children m.0 (more r.1.1.0.0 (more made none)) (quiet_sound k children q) (m.1 children)
+function_is at k g m (a ∷ b ∷ c ∷ d ∷ e ∷ f ∷ h ∷ i ∷ xs) q r = absurd r.1.1.1.1.1.1.1
 
 pub arrow_is : (at : Span) (xs : List Node) → Given five xs → Is expression (framed 5 (arrow at) xs)
 arrow_is at [] g = absurd g
@@ -186,22 +191,36 @@ setter_sound at (a ∷ b ∷ c ∷ d ∷ e ∷ f ∷ xs) g = absurd g.1.1.1.1.1
 
 -- loops, declarations, namespaces, imports by `=`, modules
 
-head_sound : (k : Kind) (cs : List Node) → is_head k ≡ true → Sound k cs
-head_sound kind.ForStmt cs h = refl
-head_sound kind.ForInStmt cs h = refl
-head_sound (kind.ForOfStmt is_await) cs h = refl
-head_sound _ cs h = not_true h
+head_sound : (k : Kind) (cs ds : List Node) → is_head k cs ≡ true → Sound k ds
+head_sound kind.ForStmt cs ds h = refl
+head_sound kind.ForInStmt cs ds h = refl
+head_sound (kind.ForOfStmt is_await) cs ds h = refl
+head_sound _ cs ds h = not_true h
 
 pub headed_sound : (at : Span) (xs : List Node) → Given (one head (one good done)) xs → Throughout Sound (framed 2 (headed at) xs)
 headed_sound at [] k = absurd k
 headed_sound at (a ∷ []) k = absurd k.1
-headed_sound at (a ∷ b ∷ []) k = throughout at (kind_of a) (head_sound (kind_of a) (children_of a ++ b ∷ []) k.0.1) (append_all Sound (below Sound k.0.0) (more k.1.0.0 none))
+headed_sound at (a ∷ b ∷ []) k = throughout at (kind_of a) (head_sound (kind_of a) (children_of a) (children_of a ++ b ∷ []) k.0.1) (append_all Sound (below Sound k.0.0) (more k.1.0.0 none))
 headed_sound at (a ∷ b ∷ c ∷ cs) k = absurd k.1.1
 
-pub declared_is : (at : Span) (xs : List Node) → Given (one good done) xs → Throughout Sound (framed 1 (declared at) xs)
-declared_is at [] k = absurd k
-declared_is at (a ∷ []) k = throughout at (declared_kind (kind_of a)) (declared_sound (kind_of a) (children_of a) (here Sound k.0.0)) (below Sound k.0.0)
-declared_is at (a ∷ b ∷ bs) k = absurd k.1
+declared_closed : (k : Kind) → is_closed k ≡ true → is_closed (declared_kind k) ≡ true
+declared_closed (kind.FnDecl declare) h = refl
+declared_closed (kind.ClassDecl declare) h = refl
+declared_closed (kind.VarDecl k declare) h = refl
+declared_closed (kind.TsInterfaceDecl declare) h = refl
+declared_closed (kind.TsTypeAliasDecl declare) h = refl
+declared_closed (kind.TsEnumDecl declare is_const) h = refl
+declared_closed (kind.TsModuleDecl declare global) h = refl
+declared_closed _ h = h
+
+pub declared_made : (g : Grade) (at : Span) (xs : List Node) → Given (declared_needs g) xs → Meets g (framed 1 (declared at) xs)
+declared_made good at [] k = absurd k
+declared_made good at (a ∷ []) k = node_meets good at (declared_kind (kind_of a)) (children_of a) refl (below Sound k.0.0) (declared_sound (kind_of a) (children_of a) (here Sound k.0.0)) refl
+declared_made good at (a ∷ b ∷ bs) k = absurd k.1
+declared_made closed at [] k = absurd k
+declared_made closed at (a ∷ []) k = node_meets closed at (declared_kind (kind_of a)) (children_of a) refl (below Sound k.0.0) (declared_sound (kind_of a) (children_of a) (here Sound k.0.0)) (declared_closed (kind_of a) k.0.1)
+declared_made closed at (a ∷ b ∷ bs) k = absurd k.1
+declared_made _ at xs k = absurd k
 
 nested_sound : (hi : ℕ) (name body : Node) → Throughout Sound name → Throughout Sound body → Throughout Sound (nested hi name body)
 nested_sound hi a b s t = throughout (from_to (span_of a).lo hi) (kind.TsNamespaceDecl false false) refl (more s (more t none))
@@ -216,8 +235,13 @@ namespace_made at [] h = absent_sound
 namespace_made at (a ∷ []) h = absent_sound
 namespace_made at (a ∷ b ∷ bs) h = throughout at (kind.TsModuleDecl false false) refl (more (first_of Sound h) (more (namespaces_sound at.hi (b ∷ bs) (others_of Sound h)) none))
 
-pub namespace_sound : (at : Span) (xs : List Node) → Each good xs → Throughout Sound (namespace at xs)
-namespace_sound at xs k = namespace_made at xs (all_sound good xs refl k)
+pub namespace_is : (g : Grade) (at : Span) (xs : List Node) → Given (namespace_needs g) xs → Meets g (namespace at xs)
+namespace_is good at xs k = (namespace_made at xs (all_sound good xs refl k), refl)
+namespace_is closed at [] k = absurd k
+namespace_is closed at (a ∷ []) k = absurd k.1
+namespace_is closed at (a ∷ b ∷ bs) k =
+    node_meets closed at (kind.TsModuleDecl false false) (a ∷ namespaces at.hi (b ∷ bs) ∷ []) refl (more k.0.0 (more (namespaces_sound at.hi (b ∷ bs) (more k.1.0.0 (all_sound good bs refl k.1.1))) none)) refl refl
+namespace_is _ at xs k = absurd k
 
 pub import_equals_sound : (at : Span) (xs : List Node) → Given four xs → Throughout Sound (framed 4 (import_equals at) xs)
 import_equals_sound at [] g = absurd g

@@ -1,5 +1,5 @@
 -- Nodes of a kind, lists and sequences have the grades that are asked.
-use Rattle.std.proofs.Common.{◌≡◌, inl, inr, Bool, true, false, not, ◌&&◌, ◌||◌, ◌-◌, List, [], ◌∷◌, take, length, nat_le, refl, sym, subst}
+use Rattle.std.proofs.Common.{◌≡◌, inl, inr, Bool, true, false, not, ◌&&◌, ◌||◌, ◌-◌, List, [], ◌∷◌, take, length, nat_le, refl, sym, ap, subst}
 use Rattle.std.specs.Prelude.{if◌then◌else◌}
 use Rattle.std.specs.List.{swap}
 use Rattle.std.proofs.lemmas.Bool.{and_parts}
@@ -16,9 +16,9 @@ use Rattle.ecma_rules.specs.Children.{is_present}
 use Rattle.ecma_rules.specs.Targets.{is_key_value}
 use Rattle.ecma_fits.specs.Chains.{is_behind_chain}
 use Rattle.ecma_fits.specs.Counts.{are, are_exports, are_imports, is_attribute_key, is_default_import, is_empty, is_named_export, is_named_import, is_star_export, is_star_import, is_star_of, is_text}
-use Rattle.ecma_fits_laws.proofs.Grades.{Grade, Is, Meets, a_text, absent, allowed, attribute, attribute_key, attribute_list, attributes, base, default_import, expression, filled, good, head, is_expression, is_head, is_link, is_member_grade, link, member, mild, named_export, named_exports, named_import, node_meets, pattern, present, star_export, star_import}
-use Rattle.ecma_fits_laws.proofs.Needs.{bare_needs, first_needs, if_so, import_parts, is_quiet, kind_needs, named_parts, node_needs, star_parts, swapped_needs, three, try_parts, two}
-use Rattle.ecma_fits_laws.proofs.Sound.{Sound, both_true, holds_with, is_attribute_list, is_base, is_list_of, is_mild, is_object, is_pattern, or_first, or_second}
+use Rattle.ecma_fits_laws.proofs.Grades.{Grade, Is, Meets, a_text, absent, allowed, attribute, attribute_key, attribute_list, attributes, base, closed, default_import, expression, filled, good, head, is_closed, is_expression, is_head, is_link, is_member_grade, link, member, mild, named_export, named_exports, named_import, node_meets, pattern, present, star_export, star_import}
+use Rattle.ecma_fits_laws.proofs.Needs.{bare_needs, first_needs, head_needs, if_so, import_parts, is_quiet, kind_needs, named_parts, node_needs, star_parts, swapped_needs, three, try_parts, two}
+use Rattle.ecma_fits_laws.proofs.Sound.{Sound, both_true, holds_with, is_attribute_list, is_base, is_list_of, is_mild, is_object, is_pair, is_pattern, is_triple, or_first, or_second}
 use Rattle.ecma_fits_laws.proofs.Throughout.{EachThroughout, Throughout, more, none, swap_all}
 use Rattle.ecma_fits_laws.proofs.Walks.{not_true}
 use Rattle.ecma_fits_laws.proofs.Wanted.{Each, Given, Wanted, done, each, either, one, whatever}
@@ -143,6 +143,7 @@ kind_sound : (k : Kind) (xs : List Node) → Given (kind_needs k) xs → IsSound
 kind_sound kind.Absent xs g = absurd g
 kind_sound kind.Tpl xs g = absurd g
 kind_sound kind.SeqExpr xs g = absurd g
+kind_sound kind.IfStmt xs g = absurd g
 kind_sound (kind.YieldExpr delegate) xs g = absurd g
 kind_sound (kind.ArrowExpr is_async is_generator) xs g = absurd g
 kind_sound (kind.Constructor accessibility is_optional) xs g = absurd g
@@ -157,6 +158,9 @@ kind_sound kind.MemberExpr xs g = member_sound xs g
 kind_sound kind.CallExpr xs g = three_sound kind.CallExpr xs (λ a b c. refl) g
 kind_sound kind.TaggedTpl xs g = three_sound kind.TaggedTpl xs (λ a b c. refl) g
 kind_sound (kind.BinExpr op) xs g = two_sound (kind.BinExpr op) xs (λ a b. refl) g
+kind_sound kind.WhileStmt xs g = two_sound kind.WhileStmt xs (λ a b. refl) g
+kind_sound kind.LabeledStmt xs g = two_sound kind.LabeledStmt xs (λ a b. refl) g
+kind_sound (kind.ForOfStmt is_await) xs g = three_sound (kind.ForOfStmt is_await) xs (λ a b c. refl) g
 kind_sound (kind.OptChainExpr optional) xs g = link_sound optional xs (given_so optional (one base done) xs g)
 kind_sound _ xs g = (all_sound good xs refl g, refl)
 
@@ -188,6 +192,25 @@ attribute_made at k (a ∷ b ∷ []) o g =
     (both_true (is_key_value k) (is_attribute_key (kind_of a) && is_text (kind_of b)) o (both_true (is_attribute_key (kind_of a)) (is_text (kind_of b)) g.0.1 g.1.0.1))
 attribute_made at k (a ∷ b ∷ c ∷ cs) o g = absurd g.1.1
 
+triple_made : (at : Span) (k : Kind) (xs : List Node) → ((cs : List Node) → Sound k cs) → is_head k ≡ (λ cs. is_triple cs) → Given three xs → Meets head (node_of at k xs)
+triple_made at k [] f e g = absurd g
+triple_made at k (a ∷ []) f e g = absurd g.1
+triple_made at k (a ∷ b ∷ []) f e g = absurd g.1.1
+triple_made at k (a ∷ b ∷ c ∷ []) f e g = node_meets head at k (a ∷ b ∷ c ∷ []) refl (more g.0.0 (more g.1.0.0 (more g.1.1.0.0 none))) (f (a ∷ b ∷ c ∷ [])) (ap (λ t. t (a ∷ b ∷ c ∷ [])) e)
+triple_made at k (a ∷ b ∷ c ∷ d ∷ ds) f e g = absurd g.1.1.1
+
+pair_made : (at : Span) (k : Kind) (xs : List Node) → ((cs : List Node) → Sound k cs) → is_head k ≡ (λ cs. is_pair cs) → Given two xs → Meets head (node_of at k xs)
+pair_made at k [] f e g = absurd g
+pair_made at k (a ∷ []) f e g = absurd g.1
+pair_made at k (a ∷ b ∷ []) f e g = node_meets head at k (a ∷ b ∷ []) refl (more g.0.0 (more g.1.0.0 none)) (f (a ∷ b ∷ [])) (ap (λ t. t (a ∷ b ∷ [])) e)
+pair_made at k (a ∷ b ∷ c ∷ cs) f e g = absurd g.1.1
+
+head_made : (at : Span) (k : Kind) (xs : List Node) → Given (head_needs k) xs → Meets head (node_of at k xs)
+head_made at kind.ForStmt xs g = triple_made at kind.ForStmt xs (λ cs. refl) refl g
+head_made at kind.ForInStmt xs g = pair_made at kind.ForInStmt xs (λ cs. refl) refl g
+head_made at (kind.ForOfStmt is_await) xs g = pair_made at (kind.ForOfStmt is_await) xs (λ cs. refl) refl g
+head_made at _ xs g = absurd g
+
 pub node_made : (k : Kind) (g : Grade) (at : Span) (xs : List Node) → Given (node_needs k g) xs → Meets g (node_of at k xs)
 node_made k good at xs d = let s = kind_sound k xs d in node_meets good at k xs refl s.0 s.1 refl
 node_made k mild at xs d = by_kind at k xs mild (is_mild k) refl (λ e. e) d
@@ -196,7 +219,8 @@ node_made k link at xs d = by_kind at k xs link (is_link k) refl (λ e. e) d
 node_made k base at xs d = by_kind at k xs base (is_base k) refl (λ e. e) d
 node_made k expression at xs d = by_kind at k xs expression (is_expression k) refl (λ e. e) d
 node_made k present at xs d = by_kind at k xs present (is_present k) refl (λ e. e) d
-node_made k head at xs d = by_kind at k xs head (is_head k) refl (λ e. e) d
+node_made k closed at xs d = by_kind at k xs closed (is_closed k) refl (λ e. e) d
+node_made k head at xs d = head_made at k xs d
 node_made k named_import at xs d = by_kind at k xs named_import (is_named_import k) refl (λ e. e) d
 node_made k star_import at xs d = by_kind at k xs star_import (is_star_import k) refl (λ e. e) d
 node_made k default_import at xs d = by_kind at k xs default_import (is_default_import k) refl (λ e. e) d
@@ -229,16 +253,27 @@ quiet_expression kind.Absent h = not_true h
 quiet_expression (kind.TplElement raw cooked tail) h = not_true h
 quiet_expression _ h = refl
 
+pub quiet_closed : (k : Kind) → is_quiet k ≡ true → is_closed k ≡ true
+quiet_closed kind.Absent h = not_true h
+quiet_closed kind.IfStmt h = not_true h
+quiet_closed kind.LabeledStmt h = not_true h
+quiet_closed kind.WhileStmt h = not_true h
+quiet_closed kind.ForStmt h = not_true h
+quiet_closed kind.ForInStmt h = not_true h
+quiet_closed (kind.ForOfStmt is_await) h = not_true h
+quiet_closed _ h = refl
+
 pub bare_made : (k : Kind) (g : Grade) (at : Span) (xs : List Node) → Given (bare_needs k g) xs → Meets g (node_of at k [])
 bare_made k good at xs d = let t = given_so (is_quiet k) whatever xs d in node_meets good at k [] refl none (quiet_sound k [] t.0) refl
 bare_made k _ at xs d = absurd d
 
+front_sound : (xs : List Node) → Given (one good whatever) xs → EachThroughout Sound (take 1 xs)
+front_sound [] e = absurd e
+front_sound (x ∷ xs) e = more e.0.0 none
+
 pub first_made : (k : Kind) (g : Grade) (at : Span) (xs : List Node) → Given (first_needs k g) xs → Meets g (node_of at k (take 1 xs))
-first_made k good at xs d = let t = given_so (is_quiet k) (one good whatever) xs d in node_meets good at k (take 1 xs) refl (front xs t.1) (quiet_sound k (take 1 xs) t.0) refl
-  where
-    front : (xs : List Node) → Given (one good whatever) xs → EachThroughout Sound (take 1 xs)
-    front [] e = absurd e
-    front (x ∷ xs) e = more e.0.0 none
+first_made k good at xs d = let t = given_so (is_quiet k) (one good whatever) xs d in node_meets good at k (take 1 xs) refl (front_sound xs t.1) (quiet_sound k (take 1 xs) t.0) refl
+first_made k closed at xs d = let t = given_so (is_quiet k) (one good whatever) xs d in node_meets closed at k (take 1 xs) refl (front_sound xs t.1) (quiet_sound k (take 1 xs) t.0) (quiet_closed k t.0)
 first_made k _ at xs d = absurd d
 
 swapped_sound : (xs : List Node) → Each good xs → EachThroughout Sound (swapped xs)
@@ -250,6 +285,7 @@ swapped_sound xs k = go (nat_le 2 (length xs))
 
 pub swapped_made : (k : Kind) (g : Grade) (at : Span) (xs : List Node) → Given (swapped_needs k g) xs → Meets g (node_of at k (swapped xs))
 swapped_made k good at xs d = let t = given_so (is_quiet k) (each good) xs d in node_meets good at k (swapped xs) refl (swapped_sound xs t.1) (quiet_sound k (swapped xs) t.0) refl
+swapped_made k closed at xs d = let t = given_so (is_quiet k) (each good) xs d in node_meets closed at k (swapped xs) refl (swapped_sound xs t.1) (quiet_sound k (swapped xs) t.0) (quiet_closed k t.0)
 swapped_made k base at xs d =
     let t = given_so (is_quiet k && is_base k) (each good) xs d in
     let both = and_parts (is_quiet k) (is_base k) t.0 in

@@ -10,9 +10,9 @@ use Rattle.ecma_grammar.specs.trees.Plain.{plain_kind}
 use Rattle.ecma_rules.specs.Children.{is_present}
 use Rattle.ecma_rules.specs.Targets.{is_key_value}
 use Rattle.ecma_fits.specs.Counts.{is_default_import, is_named_export, is_named_import, is_star_export, is_star_import}
-use Rattle.ecma_fits_laws.proofs.Grades.{Grade, a_text, absent, attribute, attribute_key, attribute_list, attributes, base, default_import, expression, filled, good, head, imports, is_expression, is_head, is_link, link, member, mild, named_export, named_exports, named_import, pattern, present, star_export, star_exports, star_import}
+use Rattle.ecma_fits_laws.proofs.Grades.{Grade, a_text, absent, attribute, attribute_key, attribute_list, attributes, base, closed, default_import, expression, filled, good, head, imports, is_closed, is_expression, is_link, link, member, mild, named_export, named_exports, named_import, pattern, present, star_export, star_exports, star_import}
 use Rattle.ecma_fits_laws.proofs.Sound.{is_base, is_mild, is_object, is_pattern}
-use Rattle.ecma_fits_laws.proofs.Wanted.{Wanted, done, each, either, never, one, turns, whatever}
+use Rattle.ecma_fits_laws.proofs.Wanted.{Wanted, done, each, either, never, one, some, turns, whatever}
 
 abbrev pub if_so : Bool → Wanted → Wanted
 if_so true w = w
@@ -76,6 +76,7 @@ abbrev pub kind_needs : Kind → Wanted
 kind_needs kind.Absent = never
 kind_needs kind.Tpl = never
 kind_needs kind.SeqExpr = never
+kind_needs kind.IfStmt = never
 kind_needs (kind.YieldExpr delegate) = never
 kind_needs (kind.ArrowExpr is_async is_generator) = never
 kind_needs (kind.Constructor accessibility is_optional) = never
@@ -90,8 +91,17 @@ kind_needs kind.MemberExpr = one good (each good)
 kind_needs kind.CallExpr = three
 kind_needs kind.TaggedTpl = three
 kind_needs (kind.BinExpr op) = two
+kind_needs kind.WhileStmt = two
+kind_needs kind.LabeledStmt = two
+kind_needs (kind.ForOfStmt is_await) = three
 kind_needs (kind.OptChainExpr optional) = if_so optional (one base done)
 kind_needs _ = each good
+
+abbrev pub head_needs : Kind → Wanted
+head_needs kind.ForStmt = three
+head_needs kind.ForInStmt = two
+head_needs (kind.ForOfStmt is_await) = two
+head_needs _ = never
 
 abbrev pub node_needs : Kind → Grade → Wanted
 node_needs k good = kind_needs k
@@ -101,7 +111,8 @@ node_needs k link = if_so (is_link k) (kind_needs k)
 node_needs k base = if_so (is_base k) (kind_needs k)
 node_needs k expression = if_so (is_expression k) (kind_needs k)
 node_needs k present = if_so (is_present k) (kind_needs k)
-node_needs k head = if_so (is_head k) (kind_needs k)
+node_needs k closed = if_so (is_closed k) (kind_needs k)
+node_needs k head = head_needs k
 node_needs k named_import = if_so (is_named_import k) (kind_needs k)
 node_needs k star_import = if_so (is_star_import k) (kind_needs k)
 node_needs k default_import = if_so (is_default_import k) (kind_needs k)
@@ -117,10 +128,12 @@ bare_needs k _ = never
 
 abbrev pub first_needs : Kind → Grade → Wanted
 first_needs k good = if_so (is_quiet k) (one good whatever)
+first_needs k closed = if_so (is_quiet k) (one good whatever)
 first_needs k _ = never
 
 abbrev pub swapped_needs : Kind → Grade → Wanted
 swapped_needs k good = if_so (is_quiet k) (each good)
+swapped_needs k closed = if_so (is_quiet k) (each good)
 swapped_needs k base = if_so (is_quiet k && is_base k) (each good)
 swapped_needs k named_import = if_so (is_quiet k && is_named_import k) (each good)
 swapped_needs k _ = never
@@ -148,6 +161,23 @@ abbrev pub usually : Grade → Wanted → Wanted
 usually good w = w
 usually expression w = w
 usually _ w = never
+
+-- and what ends with no statement too
+abbrev pub firmly : Grade → Wanted → Wanted
+firmly good w = w
+firmly expression w = w
+firmly closed w = w
+firmly _ w = never
+
+abbrev pub declared_needs : Grade → Wanted
+declared_needs good = one good done
+declared_needs closed = one closed done
+declared_needs _ = never
+
+abbrev pub namespace_needs : Grade → Wanted
+namespace_needs good = each good
+namespace_needs closed = one good (some good)
+namespace_needs _ = never
 
 abbrev pub chain_needs : Grade → Wanted
 chain_needs good = one good (each mild)
@@ -185,16 +215,16 @@ needs form.Assertion g = usually g (either (one expression done) (one good (one 
 needs form.Annotated g = plainly g (one pattern (one good (one good done)))
 needs form.Declarator g = plainly g (one pattern three)
 needs form.Param g = plainly g two
-needs (form.Function p) g = if_so (is_quiet (plain_kind p)) (usually g seven)
+needs (form.Function p) g = if_so (is_quiet (plain_kind p)) (firmly g seven)
 needs form.Getter g = plainly g five
 needs form.Setter g = plainly g five
-needs (form.Class p is_abstract) g = if_so (is_quiet (plain_kind p)) (usually g six)
+needs (form.Class p is_abstract) g = if_so (is_quiet (plain_kind p)) (firmly g six)
 needs (form.Method k) g = before_modifiers g (method_parts k)
 needs form.Field g = before_modifiers g five
 needs form.Modified g = plainly g (one good (one member done))
 needs form.IndexSignature g = plainly g three
 needs form.Headed g = plainly g (one head (one good done))
-needs form.Declared g = plainly g (one good done)
-needs form.Namespace g = plainly g (each good)
+needs form.Declared g = declared_needs g
+needs form.Namespace g = namespace_needs g
 needs form.ImportEquals g = plainly g four
 needs form.Module g = plainly g two

@@ -7,7 +7,7 @@ use Rattle.ecma_grammar.specs.productions.Modules.{module_body}
 use Rattle.ecma_grammar.specs.Reading.{Outcome, fails, read, too_deep}
 use Rattle.ecma_spelling.proofs.Leaves.{Holds}
 use Rattle.ecma_fits_laws.proofs.Grades.{good}
-use Rattle.ecma_fits_laws.proofs.Kept.{kept}
+use Rattle.ecma_fits_laws.proofs.Statements.{kept}
 use Rattle.ecma_fits_laws.proofs.KeepsChecks.{module_kept}
 use Rattle.ecma_fits_laws.proofs.Sound.{Sound}
 use Rattle.ecma_fits_laws.proofs.Throughout.{Throughout}

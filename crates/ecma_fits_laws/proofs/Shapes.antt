@@ -11,13 +11,14 @@ use Rattle.ecma_grammar.specs.declared.production.Mode.{Mode}
 use Rattle.ecma_grammar.specs.trees.Classes.{is_plain_function}
 use Rattle.ecma_grammar.specs.trees.Parts.{children_of, kind_of}
 use Rattle.ecma_rules.specs.declared.target.Target.TheVariants as target
-use Rattle.ecma_rules.specs.Children.{holds_of, is_present, of_kind}
+use Rattle.ecma_rules.specs.Children.{child_holds, has_child, holds_of, is_present, of_kind}
 use Rattle.ecma_rules.specs.Failing.{failing_here, failing_step, first_failing, least_from}
 use Rattle.ecma_rules.specs.Members.{is_constructor_key, is_method, is_special_by, is_special_constructor, is_special_function, is_stray_property, is_wrong_accessor}
 use Rattle.ecma_rules.specs.Rules.{fails_list, fails_member, fails_statement}
 use Rattle.ecma_rules.proofs.Layers.{from_leaves-roll}
 use Rattle.ecma_text.specs.Modules.{reads_as}
 use Rattle.ecma_fits.specs.declared.unfit.Where.{Where}
+use Rattle.ecma_fits.specs.Branches.{is_choice as is_choice_kind, is_dangling, takes_else}
 use Rattle.ecma_fits.specs.Chains.{is_behind_chain, is_loose, is_loose_by}
 use Rattle.ecma_fits.specs.Counts.{are_exports, are_imports, holds_attributes, is_attribute, is_full_by, is_short, is_whole_template}
 use Rattle.ecma_fits.specs.Fitting.{at_top, breaks_rule, where_in}
@@ -25,10 +26,10 @@ use Rattle.ecma_fits.specs.Members.{is_misread, is_misread_by}
 use Rattle.ecma_spelling.proofs.Trees.{children_made}
 use Rattle.ecma_fits_laws.specs.Clauses.{NoneFails}
 use Rattle.ecma_fits_laws.specs.Read.{KeepsRules, ReadTreesKeepRules}
-use Rattle.ecma_fits_laws.specs.Shapes.{ReadLinksAreNotLoose, ReadMembersAreNotMisread, ReadNodesAreFull}
+use Rattle.ecma_fits_laws.specs.Shapes.{ReadBranchesTakeTheirElse, ReadLinksAreNotLoose, ReadMembersAreNotMisread, ReadNodesAreFull}
 use Rattle.ecma_fits_laws.proofs.RawSound.{raw_sound}
 use Rattle.ecma_fits_laws.proofs.Raws.{of_raw}
-use Rattle.ecma_fits_laws.proofs.Sound.{Sound, are_attributes, are_several, both_true, has, holds_with, is_attribute_list, is_base, is_export, is_export_all, is_function, is_import, is_linked, is_list_of, is_method_pair, is_named_well, is_object, is_template, items, may_be_named}
+use Rattle.ecma_fits_laws.proofs.Sound.{Sound, are_attributes, are_several, both_true, has, holds_with, is_attribute_list, is_base, is_choice, is_export, is_export_all, is_function, is_import, is_linked, is_list_of, is_method_pair, is_named_well, is_object, is_template, items, may_be_named}
 use Rattle.ecma_fits_laws.proofs.SoundStays.{finished_sound}
 use Rattle.ecma_fits_laws.proofs.Steps.{one_true}
 use Rattle.ecma_fits_laws.proofs.Throughout.{EachThroughout, Throughout, below, here, more}
@@ -116,6 +117,21 @@ full (kind.NamedExport type_only) n h = export_full (children_of n) h
 full (kind.ExportAll type_only) n h = all_export_full (children_of n) h
 full _ n h = refl
 
+-- branches
+
+choice_held : (cs : List Node) → is_choice cs ≡ true → (has cs 2 && holds_of takes_else (slice_get cs 1)) ≡ false
+choice_held (a ∷ b ∷ c ∷ []) h = go (is_absent (kind_of c)) (takes_else b) h
+  where
+    go : (p q : Bool) → (p || not q) ≡ true → (not p && q) ≡ false
+    go true q e = refl
+    go false true e = not_true e
+    go false false e = refl
+choice_held _ h = not_true h
+
+not_dangling : (k : Kind) (n : Node) → Sound k (children_of n) → (is_choice_kind k && (has_child n 2 && child_holds takes_else n 1)) ≡ false
+not_dangling kind.IfStmt n h = choice_held (children_of n) h
+not_dangling _ n h = refl
+
 -- links
 
 either_given : (a b : Bool) → (a || b) ≡ true → (not a && not b) ≡ false
@@ -190,6 +206,9 @@ module _ (rules : ReadTreesKeepRules) where
 
   pub read_full : ReadNodesAreFull
   read_full = none_fails (λ w n. is_short n) (λ w n s r. ap not (full (kind_of n) n s))
+
+  pub read_branches : ReadBranchesTakeTheirElse
+  read_branches = none_fails (λ w n. is_dangling n) (λ w n s r. not_dangling (kind_of n) n s)
 
   pub read_linked : ReadLinksAreNotLoose
   read_linked = none_fails (λ w n. is_loose n) (λ w n s r. not_loose (kind_of n) n s)

@@ -13,6 +13,7 @@ use Rattle.ecma_grammar.specs.trees.Others.{declared_kind}
 use Rattle.ecma_grammar.specs.trees.Parts.{children_of, kind_of}
 use Rattle.ecma_rules.specs.Children.{children_of as items_of, is_present, of_kind}
 use Rattle.ecma_rules.specs.Members.{is_constructor_key, is_method, is_special_function}
+use Rattle.ecma_fits.specs.Branches.{takes_else}
 use Rattle.ecma_fits.specs.Chains.{is_behind_chain}
 use Rattle.ecma_fits.specs.Counts.{are_exports, are_imports, is_attribute, is_empty, is_whole_template}
 use Rattle.ecma_fits_laws.proofs.Walks.{not_true}
@@ -110,6 +111,7 @@ is_mild (kind.Constructor accessibility is_optional) = false
 is_mild (kind.ClassMethod k modifiers) = false
 is_mild (kind.PrivateMethod k modifiers) = false
 is_mild (kind.OptChainExpr optional) = false
+is_mild kind.IfStmt = false
 is_mild _ = true
 
 -- what a link holds
@@ -127,6 +129,11 @@ base_mild _ h = not_true h
 abbrev pub is_linked : Bool → List Node → Bool
 is_linked optional (base ∷ []) = is_base (kind_of base) && (optional || is_behind_chain base)
 is_linked optional _ = false
+
+-- no alternative, or a body that takes none
+abbrev pub is_choice : List Node → Bool
+is_choice (test ∷ body ∷ alternative ∷ []) = is_absent (kind_of alternative) || not (takes_else body)
+is_choice _ = false
 
 -- each node is so
 abbrev pub is_sound : Kind → List Node → Bool
@@ -147,16 +154,17 @@ is_sound kind.CallExpr cs = is_triple cs
 is_sound kind.TaggedTpl cs = is_triple cs
 is_sound (kind.BinExpr op) cs = is_pair cs
 is_sound (kind.OptChainExpr optional) cs = is_linked optional cs
+is_sound kind.IfStmt cs = is_choice cs
 is_sound _ cs = true
 
 abbrev pub Sound : Kind → List Node → Type 0
 Sound k cs = is_sound k cs ≡ true
 
-set_pair : (cs : List Node) (x : Node) → is_pair cs ≡ true → is_pair (slice_set cs 0 x) ≡ true
+pub set_pair : (cs : List Node) (x : Node) → is_pair cs ≡ true → is_pair (slice_set cs 0 x) ≡ true
 set_pair (a ∷ b ∷ []) x h = refl
 set_pair _ x h = not_true h
 
-set_triple : (cs : List Node) (x : Node) → is_triple cs ≡ true → is_triple (slice_set cs 0 x) ≡ true
+pub set_triple : (cs : List Node) (x : Node) → is_triple cs ≡ true → is_triple (slice_set cs 0 x) ≡ true
 set_triple (a ∷ b ∷ c ∷ []) x h = refl
 set_triple _ x h = not_true h
 
@@ -194,6 +202,7 @@ mild_set kind.CallExpr cs x m h = set_triple cs x h
 mild_set kind.TaggedTpl cs x m h = set_triple cs x h
 mild_set (kind.BinExpr op) cs x m h = set_pair cs x h
 mild_set (kind.OptChainExpr optional) cs x m h = not_true m
+mild_set kind.IfStmt cs x m h = not_true m
 mild_set _ cs x m h = refl
 
 -- kinds of patterns, which have their annotation behind

@@ -5,7 +5,7 @@ use Rattle.ecma_kind.specs.declared.kind.Kind.{Kind}
 use Rattle.ecma_kind.specs.declared.kind.Kind.TheVariants as kind
 use Rattle.ecma_kind.specs.declared.operators.MethodKind.{MethodKind}
 use Rattle.ecma_tree.specs.declared.node.Node.{Node}
-use Rattle.ecma_tree.specs.Sorted.{is_list}
+use Rattle.ecma_tree.specs.Sorted.{is_absent, is_list}
 use Rattle.ecma_grammar.specs.trees.Classes.{is_plain_function}
 use Rattle.ecma_grammar.specs.trees.Parts.{children_of, kind_of}
 use Rattle.ecma_rules.specs.declared.target.Target.{Target}
@@ -17,8 +17,8 @@ use Rattle.ecma_rules.specs.Targets.{target_in}
 use Rattle.ecma_fits.specs.Chains.{is_behind_chain}
 use Rattle.ecma_fits.specs.Counts.{are_exports, are_imports, is_empty, is_whole_template}
 use Rattle.ecma_fits_laws.proofs.FinishedKinds.{is_turned, throughout_finished}
-use Rattle.ecma_fits_laws.proofs.FinishedSound.{behind_free, empty_each, exports_map, free, imports_map, list_free, list_of_free, whole_map, with_free}
-use Rattle.ecma_fits_laws.proofs.Sound.{Sound, are_several, both_true, holds_with, is_base, is_export, is_export_all, is_function, is_import, is_linked, is_list_of, is_method_pair, is_named_well, is_pair, is_some, is_template, is_triple, items}
+use Rattle.ecma_fits_laws.proofs.FinishedSound.{behind_free, empty_each, exports_map, free, imports_map, list_free, list_of_free, takes_free, whole_map, with_free}
+use Rattle.ecma_fits_laws.proofs.Sound.{Sound, are_several, both_true, holds_with, is_base, is_choice, is_export, is_export_all, is_function, is_import, is_linked, is_list_of, is_method_pair, is_named_well, is_pair, is_some, is_template, is_triple, items}
 use Rattle.ecma_fits_laws.proofs.Standing.{presence}
 use Rattle.ecma_fits_laws.proofs.Tests.{free_children, kind_at}
 use Rattle.ecma_fits_laws.proofs.Throughout.{Throughout}
@@ -98,6 +98,10 @@ linked_stays optional (base ∷ []) h =
     both_true (is_base (kind_of (free base))) (optional || is_behind_chain (free base)) (ap is_base (free_kind base) ∙ both.0) (ap (λ b. optional || b) (behind_free base both.0) ∙ both.1)
 linked_stays optional _ h = not_true h
 
+choice_stays : (cs : List Node) → is_choice cs ≡ true → is_choice (frees cs) ≡ true
+choice_stays (a ∷ b ∷ c ∷ []) h = ap₂ (λ k e. is_absent k || not e) (free_kind c) (takes_free b) ∙ h
+choice_stays _ h = not_true h
+
 sound_stays : (t : Target) (k : Kind) (cs : List Node) → Sound k cs → Sound k (each_in (target_in t k) (map finished_at cs))
 unfolding target_in
 sound_stays t kind.Tpl cs h = template_stays cs h
@@ -117,6 +121,7 @@ sound_stays t kind.CallExpr cs h = triple_stays (λ i. target.Free) cs h
 sound_stays t kind.TaggedTpl cs h = triple_stays (λ i. target.Free) cs h
 sound_stays t (kind.BinExpr op) cs h = pair_stays (λ i. target.Free) cs h
 sound_stays t (kind.OptChainExpr optional) cs h = linked_stays optional cs h
+sound_stays t kind.IfStmt cs h = choice_stays cs h
 sound_stays t _ cs h = refl
 
 turned_sound : (k : Kind) (cs : List Node) → is_turned k ≡ true → Sound k cs

@@ -4,7 +4,7 @@ use Rattle.std.proofs.lemmas.Bool.{and_parts}
 use Rattle.ecma_tree.specs.declared.node.Node.{Node}
 use Rattle.ecma_fits_laws.proofs.Grades.{Grade, Meets, expression, fits, fits_sound, last_part, text_part}
 use Rattle.ecma_fits_laws.proofs.Walks.{not_true}
-use Rattle.ecma_fits_laws.proofs.Wanted.{Each, Given, Turns, Wanted, again, also, behind_text, done, each, either, ends, is_turns, is_whatever, never, one, passes, repeats, repeats_then, steps, turns, whatever}
+use Rattle.ecma_fits_laws.proofs.Wanted.{Each, Given, Some, Turns, Wanted, again, also, behind_text, done, each, either, ends, is_turns, is_whatever, never, one, passes, repeats, repeats_then, some, steps, turns, whatever}
 
 -- in front of what is wanted then, these nodes are wanted now; and a test holds of what is wanted then
 abbrev pub Leaves : (Wanted → Bool) → Wanted → List Node → Type 0
@@ -38,6 +38,17 @@ one_in_front g w xs ys u k = let e = u.1 in subst (λ zs. Given (one g w) (zs ++
 each_in_front : (g : Grade) (xs ys : List Node) → IsOf g xs → Each g ys → Each g (xs ++ ys)
 each_in_front g xs ys u k = let e = u.1 in subst (λ zs. Each g (zs ++ ys)) (sym e) (u.2, k)
 
+some_in_front : (g : Grade) (xs ys : List Node) → IsOf g xs → Each g ys → Some g (xs ++ ys)
+some_in_front g xs ys u k = let e = u.1 in subst (λ zs. Some g (zs ++ ys)) (sym e) (u.2, k)
+
+each_of_some : (g : Grade) (ys : List Node) → Some g ys → Each g ys
+each_of_some g [] k = absurd k
+each_of_some g (y ∷ ys) k = k
+
+some_of_each : (g : Grade) (xs ys : List Node) → Each g (xs ++ ys) → Some g ys → Some g (xs ++ ys)
+some_of_each g [] ys a k = k
+some_of_each g (x ∷ xs) ys a k = a
+
 last_turn : (xs ys : List Node) → IsOf last_part xs → Given done ys → Turns (xs ++ ys)
 last_turn xs [] u k = let e = u.1 in subst (λ zs. Turns (zs ++ [])) (sym e) u.2
 last_turn xs (y ∷ ys) u k = absurd k
@@ -59,6 +70,7 @@ pub steps_leave : (meets : Grade → Bool) (next : Wanted → Bool) (xs : List N
 steps_leave meets next xs m whatever h = (whatever, h, λ ys g. tt)
 steps_leave meets next xs m (one g w) h = let p = also_parts (meets g) (λ u. next w) h in (w, p.1, λ ys k. one_in_front g w xs ys (m g p.0) k)
 steps_leave meets next xs m (each g) h = let p = also_parts (meets g) (λ u. next (each g)) h in (each g, p.1, λ ys k. each_in_front g xs ys (m g p.0) k)
+steps_leave meets next xs m (some g) h = let p = also_parts (meets g) (λ u. next (each g)) h in (each g, p.1, λ ys k. some_in_front g xs ys (m g p.0) k)
 steps_leave meets next xs m (either v w) h =
     one_true (steps meets next v) (steps meets next w) h
     (λ e. left_leaves next v w xs (steps_leave meets next xs m v e))
@@ -99,6 +111,9 @@ module _ (once : (Wanted → Bool) → Wanted → Bool) (U : List Node → Type 
   repeats_closed : (w : Wanted) → repeats once w ≡ true → Closed U w
   repeats_closed whatever h xs u ys k = tt
   repeats_closed (each g) h xs u ys k = let r = unit (again g) (each g) h xs u in r.2 ys (again_given g r.0 ys r.1 k)
+  repeats_closed (some g) h xs u ys k =
+      let r = unit (again g) (each g) h xs u in
+      some_of_each g xs ys (r.2 ys (again_given g r.0 ys r.1 (each_of_some g ys k))) k
   repeats_closed turns h xs u ys k = let r = unit is_turns turns h xs u in r.2 ys (turns_given r.0 ys r.1 k)
   repeats_closed _ h xs u ys k = not_true h
 

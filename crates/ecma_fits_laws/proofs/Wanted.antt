@@ -6,10 +6,10 @@ use Rattle.ecma_fits_laws.proofs.Grades.{Grade, Meets, expression, fits, last_pa
 pub data Wanted : Type 0 where
   -- nothing may stand; whatever stands
   never whatever : Wanted
-  -- no more nodes; one of a grade and then what is wanted behind it; others of a grade; either
+  -- no more nodes; one of a grade and then what is wanted behind it; others of a grade; one and others; either
   done : Wanted
   one : Grade → Wanted → Wanted
-  each : Grade → Wanted
+  each some : Grade → Wanted
   either : Wanted → Wanted → Wanted
   -- text parts and expressions by turns, from a text part on or from an expression on, up to the last text part
   turns behind_text : Wanted
@@ -17,6 +17,10 @@ pub data Wanted : Type 0 where
 abbrev pub Each : Grade → List Node → Type 0
 Each g [] = Unit {0}
 Each g (x ∷ xs) = Meets g x × Each g xs
+
+abbrev pub Some : Grade → List Node → Type 0
+Some g [] = ⊥
+Some g (x ∷ xs) = Meets g x × Each g xs
 
 abbrev pub Turns : List Node → Type 0
 Turns [] = ⊥
@@ -35,6 +39,7 @@ Given done (x ∷ xs) = ⊥
 Given (one g w) [] = ⊥
 Given (one g w) (x ∷ xs) = Meets g x × Given w xs
 Given (each g) xs = Each g xs
+Given (some g) xs = Some g xs
 Given (either v w) xs = Given v xs ⊎ Given w xs
 Given turns xs = Turns xs
 Given behind_text xs = BehindText xs
@@ -63,6 +68,7 @@ abbrev pub steps : (Grade → Bool) → (Wanted → Bool) → Wanted → Bool
 steps meets next whatever = next whatever
 steps meets next (one g w) = also (meets g) (λ u. next w)
 steps meets next (each g) = also (meets g) (λ u. next (each g))
+steps meets next (some g) = also (meets g) (λ u. next (each g))
 steps meets next (either v w) = steps meets next v || steps meets next w
 steps meets next turns = also (meets last_part) (λ u. next done) || also (meets text_part) (λ u. next behind_text)
 steps meets next behind_text = also (meets expression) (λ u. next turns)
@@ -84,6 +90,7 @@ is_whatever _ = false
 abbrev pub repeats : ((Wanted → Bool) → Wanted → Bool) → Wanted → Bool
 repeats once whatever = true
 repeats once (each g) = once (again g) (each g)
+repeats once (some g) = once (again g) (each g)
 repeats once turns = once is_turns turns
 repeats once _ = false
 

@@ -6,7 +6,7 @@
 ghost use Rattle.ecma_fits_laws.specs.Clauses.{FitsByClauses};
 ghost use Rattle.ecma_fits_laws.specs.Least.{FirstUnfitIsLeast};
 ghost use Rattle.ecma_fits_laws.specs.Read.{ReadLeavesAreSpelled, ReadTreesKeepRules};
-ghost use Rattle.ecma_fits_laws.specs.Shapes.{ReadLinksAreNotLoose, ReadMembersAreNotMisread, ReadNodesAreFull};
+ghost use Rattle.ecma_fits_laws.specs.Shapes.{ReadBranchesTakeTheirElse, ReadLinksAreNotLoose, ReadMembersAreNotMisread, ReadNodesAreFull};
 ghost use Rattle.ecma_fits_laws.specs.FinishedRoles.{FinishedTargetsAreNoStrays, FinishedTreesHaveTheirRoles};
 ghost use Rattle.ecma_fits_laws.specs.ReadRoles.{RawModulesHaveTheirRoles, ReadTargetsAreNoStrays, ReadTreesHaveTheirRoles};
 ghost use Rattle.ecma_fits_laws.specs.Finished.{FinishedClassesHaveOneConstructor, FinishedTreesHaveNoStrays, FinishedTreesKeepRules};
@@ -59,6 +59,13 @@ pub fn leaves_that_are_read_are_spelled()
 /// Each node of what is read as a module has the parts that its production asks for.
 pub fn nodes_that_are_read_are_full()
     ensures { ReadNodesAreFull }
+{
+    trees_that_are_read_keep_rules();
+}
+
+/// No `if` without `else` in it stands directly before an outer `else`.
+pub fn branches_that_are_read_take_their_else()
+    ensures { ReadBranchesTakeTheirElse }
 {
     trees_that_are_read_keep_rules();
 }
