@@ -1,5 +1,5 @@
 -- Assignments to simple targets, `++` and `--`, `yield` and sequences have their shapes.
-use Rattle.std.proofs.Common.{◌≡◌, ◌∙◌, refl, sym, ap, subst, ℕ, suc, Bool, true, false, not, ◌&&◌, ◌||◌, List, [], ◌∷◌, map, length, replicate, nat_lt, cond}
+use Rattle.std.proofs.Common.{◌≡◌, ◌∙◌, refl, sym, ap, subst, Bool, true, false, not, ◌||◌, List, [], ◌∷◌, map, length, replicate, nat_lt}
 use Rattle.ecma_kind.specs.Sorts.{is_expr}
 use Rattle.ecma_kind.specs.declared.span.Span.{Span}
 use Rattle.ecma_kind.specs.declared.kind.Kind.{Kind}
@@ -11,7 +11,6 @@ use Rattle.ecma_kind.specs.declared.operators.UpdateOp.TheVariants.{MinusMinus, 
 use Rattle.ecma_kind.specs.declared.shapes.Shape.{Shape}
 use Rattle.ecma_kind.specs.declared.shapes.Sort.TheVariants as sort
 use Rattle.ecma_tree.specs.declared.node.Node.{Node, out-Node}
-use Rattle.ecma_tree.specs.declared.node.Node.TheViews.{roll-out-Node}
 use Rattle.ecma_tree.specs.Nodes.{node_of}
 use Rattle.ecma_tree.specs.Sorted.{is_absent, maybe, one}
 use Rattle.ecma_rules.specs.declared.target.Target.{Target}
@@ -22,7 +21,6 @@ use Rattle.ecma_rules.specs.Targets.{is_simple_target, on_left, target_in}
 use Rattle.ecma_covers.specs.Covering.{cover_at, cover_in}
 use Rattle.ecma_fits.specs.declared.role.Role.{Role}
 use Rattle.ecma_fits.specs.declared.role.Role.TheVariants as role
-use Rattle.ecma_fits.specs.Branches.{is_dangling}
 use Rattle.ecma_fits.specs.Counts.{is_full_by, is_short}
 use Rattle.ecma_fits.specs.Roles.{is_pattern, left_of, may_be, role_in, takes}
 use Rattle.ecma_print.specs.declared.place.Beside.TheVariants as beside

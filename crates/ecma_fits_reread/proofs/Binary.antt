@@ -1,5 +1,5 @@
 -- Operators of two operands have their shapes.
-use Rattle.std.proofs.Common.{◌≡◌, ◌∙◌, ◌⊎◌, inl, inr, refl, sym, ap, subst, ℕ, ◌-◌, ◌≤◌, Bool, true, false, ◌&&◌, List, [], ◌∷◌, map, arith, ltb, nat_le}
+use Rattle.std.proofs.Common.{◌≡◌, ◌⊎◌, inl, inr, refl, subst, true, false, List, [], ◌∷◌, map, arith, ltb}
 use Rattle.ecma_kind.specs.declared.span.Span.{Span}
 use Rattle.ecma_kind.specs.declared.kind.Kind.TheVariants as kind
 use Rattle.ecma_kind.specs.declared.operators.BinaryOp.{BinaryOp}
@@ -12,18 +12,15 @@ use Rattle.ecma_rules.specs.declared.target.Target.TheVariants as target
 use Rattle.ecma_rules.specs.Targets.{target_in}
 use Rattle.ecma_covers.specs.Covering.{cover_at, cover_in}
 use Rattle.ecma_fits.specs.declared.role.Role.{Role}
-use Rattle.ecma_fits.specs.declared.role.Role.TheVariants as role
 use Rattle.ecma_fits.specs.Roles.{operand_of, role_in}
-use Rattle.ecma_print.specs.declared.place.Beside.TheVariants as beside
 use Rattle.ecma_print.specs.declared.place.Spot.{Spot}
 use Rattle.ecma_print.specs.Layout.{laid}
-use Rattle.ecma_print.specs.Levels.{in_parentheses, level_of}
 use Rattle.ecma_print.specs.Operators.{binary_level, left_level, right_level, under}
 use Rattle.ecma_print.specs.Places.{left, right}
-use Rattle.ecma_reread.specs.Shapes.{Level, new_callee, object, callee, chain, left_hand_side, update, unary, power, product, sum, shift, relation, equality, bit_and, bit_xor, bit_or, logical_and, logical_or, coalescing, short_circuit, assignment, sequence, IsExpression, IsOperator, times, divided, modulo, plus, minus, left_shift, right_shift, unsigned_shift, less, greater, at_most, at_least, instance_of, contained, equal, unequal, same, other, conjunction, exclusion, disjunction, IsCoalesceHead, first_head, next_head, binary_expression, exponentiation, both, either, coalesced}
-use Rattle.ecma_fits_reread.proofs.Claims.{AllFormed, Expressed, Proper, is_of_link, level_open, reads_values}
+use Rattle.ecma_reread.specs.Shapes.{Level, coalescing, IsExpression, times, divided, modulo, plus, minus, left_shift, right_shift, unsigned_shift, less, greater, at_most, at_least, instance_of, contained, equal, unequal, same, other, conjunction, exclusion, disjunction, first_head, next_head, binary_expression, exponentiation, both, either, coalesced}
+use Rattle.ecma_fits_reread.proofs.Claims.{AllFormed, Expressed, Proper, is_of_link, reads_values}
 use Rattle.ecma_fits_reread.proofs.Covered.{covered_children}
-use Rattle.ecma_fits_reread.proofs.Ranks.{IsWithin, operator_level, own_level, rank, to_bit_and, to_bit_or, to_bit_xor, to_equality, to_logical_and, to_logical_or, to_power, to_product, to_relation, to_shift, to_sum, to_update}
+use Rattle.ecma_fits_reread.proofs.Ranks.{IsWithin, operator_level, own_level, to_bit_and, to_bit_or, to_bit_xor, to_equality, to_logical_and, to_logical_or, to_power, to_product, to_relation, to_shift, to_sum, to_update}
 use Rattle.ecma_fits_reread.proofs.Seats.{left_of_coalesced, left_of_either, right_of_coalesced}
 use Rattle.ecma_fits_reread.proofs.Sound.{Here}
 use Rattle.ecma_fits_reread.proofs.Spots.{and_false, child_value, low_outside, proper_left, proper_right, tight}

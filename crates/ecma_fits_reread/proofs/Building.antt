@@ -1,11 +1,10 @@
 -- How the shape of a node is made of those of its children: what is missing, and what is assigned to.
-use Rattle.std.proofs.Common.{◌≡◌, ◌∙◌, refl, sym, ap, subst, ℕ, Bool, true, false, not, ◌&&◌, ◌||◌, List, [], ◌∷◌, map, nat_le, Some, None, Option, slice_get}
-use Rattle.std.proofs.lemmas.Bool.{and_parts}
+use Rattle.std.proofs.Common.{◌≡◌, ◌∙◌, refl, sym, ap, subst, ℕ, Bool, true, false, not, ◌&&◌, ◌||◌, List, [], ◌∷◌, map, slice_get}
 use Rattle.ecma_kind.specs.declared.span.Span.{Span}
 use Rattle.ecma_kind.specs.declared.kind.Kind.{Kind}
 use Rattle.ecma_kind.specs.declared.kind.Kind.TheVariants as kind
 use Rattle.ecma_kind.specs.declared.shapes.Shape.{Shape}
-use Rattle.ecma_tree.specs.declared.node.Node.{Node, Node-F, fold-roll-Node, out-Node, roll-Node}
+use Rattle.ecma_tree.specs.declared.node.Node.{Node, fold-roll-Node, out-Node}
 use Rattle.ecma_tree.specs.declared.node.Node.TheViews.{roll-out-Node}
 use Rattle.ecma_tree.specs.Nodes.{node_of}
 use Rattle.ecma_tree.specs.Sorted.{is_absent}
@@ -15,8 +14,7 @@ use Rattle.ecma_rules.specs.Children.{kind_of, of_kind, is_present, has_child}
 use Rattle.ecma_rules.specs.Targets.{first_is, is_plain_target, is_simple_target, is_wrapper, simple_step}
 use Rattle.ecma_covers.specs.Covering.{cover_at}
 use Rattle.ecma_fits.specs.declared.role.Role.{Role}
-use Rattle.ecma_fits.specs.declared.role.Role.TheVariants as role
-use Rattle.ecma_fits.specs.Roles.{is_out_of_role, is_wrong_name, may_be, role_in, takes}
+use Rattle.ecma_fits.specs.Roles.{is_wrong_name, may_be, role_in, takes}
 use Rattle.ecma_print.specs.declared.place.Spot.{Spot}
 use Rattle.ecma_print.specs.Laid.{Laid}
 use Rattle.ecma_print.specs.Places.{free}

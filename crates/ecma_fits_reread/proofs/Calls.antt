@@ -1,5 +1,5 @@
 -- Calls, and what `new` constructs, have their shapes.
-use Rattle.std.proofs.Common.{◌≡◌, ◌∙◌, refl, sym, ap, subst, ℕ, Bool, true, false, ◌&&◌, ◌||◌, List, [], ◌∷◌, map, nat_le, cond}
+use Rattle.std.proofs.Common.{◌≡◌, ◌∙◌, refl, sym, ap, subst, Bool, true, false, ◌||◌, List, [], ◌∷◌, map}
 use Rattle.ecma_kind.specs.Sorts.{is_expr}
 use Rattle.ecma_kind.specs.declared.span.Span.{Span}
 use Rattle.ecma_kind.specs.declared.kind.Kind.{Kind}
@@ -20,18 +20,16 @@ use Rattle.ecma_fits.specs.declared.role.Role.TheVariants as role
 use Rattle.ecma_fits.specs.Roles.{role_in}
 use Rattle.ecma_print.specs.declared.place.Beside.TheVariants as beside
 use Rattle.ecma_print.specs.declared.place.Spot.{Spot}
-use Rattle.ecma_print.specs.Expressions.{callee_spot}
-use Rattle.ecma_print.specs.Laid.{Laid}
 use Rattle.ecma_print.specs.Laid as print
 use Rattle.ecma_print.specs.Layout.{laid}
 use Rattle.ecma_print.specs.Levels.{lacks_arguments}
 use Rattle.ecma_print.specs.Places.{free, left}
 use Rattle.ecma_print.proofs.LaidOut.{laid_kind}
-use Rattle.ecma_reread.specs.Shapes.{IsAbsent, IsArguments, IsExpression, Level, call, callee, import_call, left_hand_side, new_alone, new_callee, new_expression, object, super_call, super_element, super_member, values}
+use Rattle.ecma_reread.specs.Shapes.{IsAbsent, IsArguments, IsExpression, call, import_call, new_alone, new_callee, new_expression, object, super_call, super_element, super_member, values}
 use Rattle.ecma_fits_reread.specs.Forms.{is_of_forms}
-use Rattle.ecma_fits_reread.specs.Numerals.{is_numeral, numerals}
+use Rattle.ecma_fits_reread.specs.Numerals.{numerals}
 use Rattle.ecma_fits_reread.proofs.Building.{absent_shape, childless}
-use Rattle.ecma_fits_reread.proofs.Claims.{AllFormed, Expressed, Formed, Proper, SuperKey, bracketed_of_super, named_of_super, seen, value_kind}
+use Rattle.ecma_fits_reread.proofs.Claims.{AllFormed, Formed, SuperKey, bracketed_of_super, named_of_super, seen, value_kind}
 use Rattle.ecma_fits_reread.proofs.Covered.{covered, covered_children}
 use Rattle.ecma_fits_reread.proofs.Members.{before_link_shape, no_numeral, to_new_callee}
 use Rattle.ecma_fits_reread.proofs.ObjectSeats.{at_callee_of_new, before_link}

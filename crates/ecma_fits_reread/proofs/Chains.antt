@@ -1,5 +1,5 @@
 -- Optional chains have their shapes.
-use Rattle.std.proofs.Common.{◌≡◌, ◌∙◌, ◌⊎◌, inl, inr, refl, sym, ap, subst, ℕ, Bool, true, false, not, ◌&&◌, ◌||◌, List, [], ◌∷◌, map, nat_le, ltb, slice_get}
+use Rattle.std.proofs.Common.{◌≡◌, ◌∙◌, ◌⊎◌, inl, inr, refl, sym, ap, subst, Bool, true, false, not, ◌&&◌, ◌||◌, List, [], ◌∷◌, map, ltb, slice_get}
 use Rattle.ecma_kind.specs.declared.span.Span.{Span}
 use Rattle.ecma_kind.specs.declared.kind.Kind.{Kind}
 use Rattle.ecma_kind.specs.declared.kind.Kind.TheVariants as kind
@@ -25,7 +25,6 @@ use Rattle.ecma_print.specs.declared.place.Spot.{Spot}
 use Rattle.ecma_print.specs.Expressions.{link_of, object_beside}
 use Rattle.ecma_print.specs.Laid.{Laid, is_computed}
 use Rattle.ecma_print.specs.Layout.{laid}
-use Rattle.ecma_print.specs.Levels.{level_of}
 use Rattle.ecma_print.specs.Places.{ends_a_chain, left}
 use Rattle.ecma_reread.specs.Shapes.{IsChainLink, IsExpression, Level, asks_on, callee, chain, chain_call, chain_element, chain_member, opens_chain}
 use Rattle.ecma_reread.specs.Shapes as shapes

@@ -1,6 +1,5 @@
 -- What is shown of each node, from its children: the shape that it has where it may stand.
-use Rattle.std.proofs.Common.{◌≡◌, ◌⊎◌, ◌∙◌, refl, sym, ap, subst, ℕ, Bool, true, false, not, ◌&&◌, ◌||◌, List, [], ◌∷◌, map, ltb, nat_le}
-use Rattle.std.proofs.lemmas.Bool.{and_parts}
+use Rattle.std.proofs.Common.{◌≡◌, ◌⊎◌, refl, sym, subst, ℕ, Bool, true, false, ◌&&◌, List, [], ◌∷◌, ltb, nat_le}
 use Rattle.ecma_lex.specs.Keys.{is_reserved}
 use Rattle.ecma_kind.specs.Sorts.{is_expr}
 use Rattle.ecma_kind.specs.declared.span.Span.{Span}
@@ -29,7 +28,7 @@ use Rattle.ecma_print.specs.Layout.{laid}
 use Rattle.ecma_print.specs.Levels.{in_parentheses, level_of}
 use Rattle.ecma_print.specs.Places.{ends_a_chain, free, left}
 use Rattle.ecma_reread.specs.Shapes.{AreSlots, IsAbsent, IsArguments, IsChainKey, IsElement, IsExpression, IsKey, Level, callee, chain, values}
-use Rattle.ecma_fits_reread.specs.Forms.{IsTaken, is_of_forms}
+use Rattle.ecma_fits_reread.specs.Forms.{is_of_forms}
 use Rattle.ecma_fits_reread.specs.Numerals.{numerals}
 use Rattle.ecma_fits_reread.proofs.Ranks.{own_level}
 use Rattle.ecma_fits_reread.proofs.Seats.{either_parts}

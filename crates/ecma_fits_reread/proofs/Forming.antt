@@ -1,13 +1,11 @@
 -- Each node has the shapes that it may have where it stands.
-use Rattle.std.proofs.Common.{◌≡◌, refl, sym, ap, subst, Bool, true, false, ◌&&◌, List, [], ◌∷◌, map}
+use Rattle.std.proofs.Common.{◌≡◌, refl, sym, ap, subst, true, false, List, [], ◌∷◌, map}
 use Rattle.ecma_kind.specs.declared.span.Span.{Span}
 use Rattle.ecma_kind.specs.declared.kind.Kind.{Kind}
 use Rattle.ecma_kind.specs.declared.shapes.Sort.TheVariants as sort
-use Rattle.ecma_tree.specs.declared.node.Node.{Node, Node-F, ind-Node, out-Node, roll-Node}
+use Rattle.ecma_tree.specs.declared.node.Node.{Node, ind-Node, out-Node}
 use Rattle.ecma_tree.specs.Nodes.{node_of}
 use Rattle.ecma_tree.specs.Sorted.{one}
-use Rattle.ecma_rules.specs.declared.target.Target.TheVariants as target
-use Rattle.ecma_rules.specs.Children.{kind_of}
 use Rattle.ecma_fits.specs.declared.role.Role.TheVariants as role
 use Rattle.ecma_print.specs.Places.{free}
 use Rattle.ecma_fits_reread.specs.Laws.{ExpressionsHaveTheirShapes}

@@ -1,11 +1,11 @@
 -- Keys of members have their shapes.
-use Rattle.std.proofs.Common.{◌≡◌, ◌∙◌, refl, sym, ap, subst, ℕ, Bool, true, false, ◌&&◌, List, [], ◌∷◌, map}
+use Rattle.std.proofs.Common.{◌≡◌, ◌∙◌, refl, sym, ap, subst, ℕ, Bool, true, false, List, [], ◌∷◌}
 use Rattle.ecma_kind.specs.declared.span.Span.{Span}
 use Rattle.ecma_kind.specs.declared.kind.Kind.{Kind}
 use Rattle.ecma_kind.specs.declared.kind.Kind.TheVariants as kind
 use Rattle.ecma_kind.specs.declared.shapes.Shape.{Shape}
 use Rattle.ecma_kind.specs.declared.shapes.Sort.TheVariants as sort
-use Rattle.ecma_tree.specs.declared.node.Node.{Node, out-Node}
+use Rattle.ecma_tree.specs.declared.node.Node.{Node}
 use Rattle.ecma_tree.specs.Nodes.{node_of}
 use Rattle.ecma_tree.specs.Sorted.{one}
 use Rattle.ecma_rules.specs.declared.target.Target.TheVariants as target
@@ -19,13 +19,13 @@ use Rattle.ecma_print.specs.Laid.{is_computed}
 use Rattle.ecma_print.specs.Layout.{laid}
 use Rattle.ecma_print.specs.Places.{free}
 use Rattle.ecma_print.proofs.LaidOut.{laid_kind_of-node}
-use Rattle.ecma_reread.specs.Shapes.{IsChainKey, IsExpression, IsKey, Level, plain_key}
+use Rattle.ecma_reread.specs.Shapes.{IsExpression, IsKey, Level, plain_key}
 use Rattle.ecma_fits_reread.proofs.Building.{childless}
 use Rattle.ecma_fits_reread.proofs.Claims.{AllFormed, MemberKey, SuperKey, bracketed_key, bracketed_of_super, named_key, named_of_super}
-use Rattle.ecma_fits_reread.proofs.Covered.{covered, covered_children}
+use Rattle.ecma_fits_reread.proofs.Covered.{covered}
 use Rattle.ecma_fits_reread.proofs.Leaves.{key_shape}
 use Rattle.ecma_fits_reread.proofs.Ranks.{own_level}
-use Rattle.ecma_fits_reread.proofs.Sound.{AllSound, Here, Sound, here}
+use Rattle.ecma_fits_reread.proofs.Sound.{Here}
 use Rattle.ecma_fits_reread.proofs.Spots.{child_value, proper_free}
 
 -- a name behind a point

@@ -1,10 +1,9 @@
 -- Leaves that are spelled and bare have the shapes of leaves.
-use Rattle.std.proofs.Common.{◌≡◌, refl, sym, ap, subst, ℕ, Bool, true, false, [], List, Option, Some, None}
+use Rattle.std.proofs.Common.{◌≡◌, sym, subst, ℕ, Bool, true, false, [], List, Option, Some, None}
 use Rattle.ecma_number.specs.declared.js_number.JsNumber.{JsNumber}
 use Rattle.ecma_lex.specs.Keys.{is_reserved}
 use Rattle.ecma_kind.specs.declared.span.Span.{Span}
 use Rattle.ecma_kind.specs.declared.kind.Kind.TheVariants as kind
-use Rattle.ecma_tree.specs.declared.node.Node.{Node}
 use Rattle.ecma_tree.specs.Nodes.{node_of}
 use Rattle.ecma_leaves.specs.Words.{is_spelled}
 use Rattle.ecma_reread.specs.Shapes.{IsExpression, IsIdent, IsKey, IsPropertyName, callee, ident, key, new_callee, number, number_name, string, string_name}

@@ -1,5 +1,5 @@
 -- Arguments and the elements of arrays have their shapes.
-use Rattle.std.proofs.Common.{◌≡◌, ◌∙◌, refl, sym, ap, subst, ℕ, Bool, true, false, ◌&&◌, ◌||◌, List, [], ◌∷◌, map, length, replicate}
+use Rattle.std.proofs.Common.{◌≡◌, ◌∙◌, refl, sym, ap, subst, Bool, true, false, ◌||◌, List, [], ◌∷◌, map, length, replicate}
 use Rattle.ecma_kind.specs.Sorts.{is_expr}
 use Rattle.ecma_kind.specs.declared.span.Span.{Span}
 use Rattle.ecma_kind.specs.declared.kind.Kind.{Kind}
@@ -20,7 +20,7 @@ use Rattle.ecma_fits.specs.declared.role.Role.TheVariants as role
 use Rattle.ecma_fits.specs.Roles.{role_in}
 use Rattle.ecma_print.specs.declared.place.Spot.{Spot}
 use Rattle.ecma_print.specs.Places.{free}
-use Rattle.ecma_reread.specs.Shapes.{AreElements, AreSlots, IsArguments, IsElement, IsExpression, arguments, array, assignment, filled, hole, more_elements, new_callee, no_arguments, no_elements, no_slots, spread, values}
+use Rattle.ecma_reread.specs.Shapes.{AreElements, AreSlots, IsArguments, IsElement, IsExpression, arguments, array, filled, hole, more_elements, new_callee, no_arguments, no_elements, no_slots, spread, values}
 use Rattle.ecma_reread.specs.Shapes as shapes
 use Rattle.ecma_fits_reread.proofs.Building.{absent_shape}
 use Rattle.ecma_fits_reread.proofs.Claims.{AllFormed, Formed, FormedExpression, seen, value_kind}

@@ -1,5 +1,5 @@
 -- Members have their shapes, in optional chains and outside.
-use Rattle.std.proofs.Common.{◌≡◌, ◌∙◌, ◌⊎◌, inl, inr, refl, sym, ap, subst, ℕ, Bool, true, false, not, ◌&&◌, ◌||◌, cond, List, [], ◌∷◌, map, nat_le, slice_get, Some}
+use Rattle.std.proofs.Common.{◌≡◌, ◌∙◌, refl, sym, ap, subst, Bool, true, false, ◌&&◌, List, [], ◌∷◌}
 use Rattle.ecma_kind.specs.declared.span.Span.{Span}
 use Rattle.ecma_kind.specs.declared.kind.Kind.{Kind}
 use Rattle.ecma_kind.specs.declared.kind.Kind.TheVariants as kind
@@ -21,13 +21,12 @@ use Rattle.ecma_print.specs.declared.place.Beside.{Beside}
 use Rattle.ecma_print.specs.declared.place.Beside.TheVariants as beside
 use Rattle.ecma_print.specs.declared.place.Spot.{Spot}
 use Rattle.ecma_print.specs.Expressions.{before_key, object_beside}
-use Rattle.ecma_print.specs.Laid.{Laid, is_computed}
+use Rattle.ecma_print.specs.Laid.{is_computed}
 use Rattle.ecma_print.specs.Layout.{laid}
-use Rattle.ecma_print.specs.Levels.{in_parentheses}
 use Rattle.ecma_print.specs.Places.{left}
-use Rattle.ecma_reread.specs.Shapes.{IsExpression, IsIndexed, IsMemberLevel, Level, callee, element, index_of_callee, index_of_new, member, member_of_new, member_of_object, new_callee, object, parenthesized, super_element, super_member}
-use Rattle.ecma_fits_reread.specs.Numerals.{first_begins, is_numeral, numerals}
-use Rattle.ecma_fits_reread.proofs.Claims.{AllFormed, Expressed, MemberKey, Proper, SuperKey, bracketed_key, bracketed_of_super, is_of_link, named_key, named_of_super}
+use Rattle.ecma_reread.specs.Shapes.{IsExpression, IsIndexed, IsMemberLevel, Level, element, index_of_callee, index_of_new, member, member_of_new, member_of_object, new_callee, parenthesized}
+use Rattle.ecma_fits_reread.specs.Numerals.{is_numeral, numerals}
+use Rattle.ecma_fits_reread.proofs.Claims.{AllFormed, Expressed, MemberKey, Proper, bracketed_key, is_of_link, named_key}
 use Rattle.ecma_fits_reread.proofs.Covered.{covered_children}
 use Rattle.ecma_fits_reread.proofs.ObjectSeats.{at_link, at_object, before_link}
 use Rattle.ecma_fits_reread.proofs.Ranks.{IsWithin, member_level, own_level, rank, to_callee, to_object}

@@ -4,11 +4,10 @@ use Rattle.ecma_kind.specs.declared.kind.Kind.{Kind}
 use Rattle.ecma_kind.specs.declared.kind.Kind.TheVariants as kind
 use Rattle.ecma_kind.specs.declared.operators.BinaryOp.{BinaryOp}
 use Rattle.ecma_kind.specs.declared.operators.BinaryOp.TheVariants as op
-use Rattle.ecma_print.specs.declared.place.Beside.{Beside}
 use Rattle.ecma_print.specs.declared.place.Beside.TheVariants as beside
 use Rattle.ecma_print.specs.declared.place.Spot.{Spot}
 use Rattle.ecma_print.specs.Laid.{Laid}
-use Rattle.ecma_print.specs.Levels.{in_parentheses, lacks_arguments, level_of}
+use Rattle.ecma_print.specs.Levels.{in_parentheses, lacks_arguments}
 use Rattle.ecma_print.specs.Expressions.{callee_spot}
 use Rattle.ecma_print.specs.Operators.{binary_level}
 use Rattle.ecma_print.specs.Places.{left}

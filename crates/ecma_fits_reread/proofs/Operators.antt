@@ -1,18 +1,11 @@
 -- Expressions with operators have their shapes.
-use Rattle.std.proofs.Common.{◌≡◌, ◌∙◌, refl, sym, ap, subst, ℕ, ◌-◌, ◌≤◌, Bool, true, false, not, ◌&&◌, ◌||◌, List, [], ◌∷◌, map, arith, nat_lt, length, cond, ltb, ◌⊎◌}
+use Rattle.std.proofs.Common.{◌≡◌, refl, false, List, [], ◌∷◌, map, arith}
 use Rattle.ecma_kind.specs.declared.span.Span.{Span}
-use Rattle.ecma_kind.specs.declared.kind.Kind.{Kind}
 use Rattle.ecma_kind.specs.declared.kind.Kind.TheVariants as kind
-use Rattle.ecma_kind.specs.declared.operators.AssignOp.{AssignOp}
-use Rattle.ecma_kind.specs.declared.operators.AssignOp.TheVariants.{Assign}
-use Rattle.ecma_kind.specs.declared.operators.BinaryOp.{BinaryOp}
-use Rattle.ecma_kind.specs.declared.operators.BinaryOp.TheVariants as op
 use Rattle.ecma_kind.specs.declared.operators.UnaryOp.{UnaryOp}
 use Rattle.ecma_kind.specs.declared.operators.UnaryOp.TheVariants.{Minus, Plus}
-use Rattle.ecma_kind.specs.declared.operators.UpdateOp.{UpdateOp}
-use Rattle.ecma_kind.specs.declared.operators.UpdateOp.TheVariants.{PlusPlus, MinusMinus}
 use Rattle.ecma_kind.specs.declared.shapes.Shape.{Shape}
-use Rattle.ecma_tree.specs.declared.node.Node.{Node, out-Node}
+use Rattle.ecma_tree.specs.declared.node.Node.{Node}
 use Rattle.ecma_tree.specs.Nodes.{node_of}
 use Rattle.ecma_rules.specs.declared.target.Target.{Target}
 use Rattle.ecma_rules.specs.Targets.{target_in}
@@ -21,11 +14,10 @@ use Rattle.ecma_fits.specs.declared.role.Role.{Role}
 use Rattle.ecma_fits.specs.Roles.{role_in}
 use Rattle.ecma_print.specs.declared.place.Beside.TheVariants as beside
 use Rattle.ecma_print.specs.declared.place.Spot.{Spot}
-use Rattle.ecma_print.specs.Operators.{left_level, right_level, unary_sign, under, update_sign}
+use Rattle.ecma_print.specs.Operators.{unary_sign}
 use Rattle.ecma_print.specs.Layout.{laid}
-use Rattle.ecma_print.specs.Places.{left, right}
 use Rattle.ecma_reread.specs.Shapes.{IsExpression, unary, unary_expression, await_expression, assignment, conditional_expression}
-use Rattle.ecma_fits_reread.proofs.Claims.{AllFormed, Expressed, Proper, is_of_link, level_open}
+use Rattle.ecma_fits_reread.proofs.Claims.{AllFormed, Proper, is_of_link, level_open}
 use Rattle.ecma_fits_reread.proofs.Covered.{covered_children}
 use Rattle.ecma_fits_reread.proofs.Ranks.{own_level, to_short_circuit, to_unary}
 use Rattle.ecma_fits_reread.proofs.Seats.{at_test}

@@ -1,17 +1,13 @@
 -- How tightly an expression binds by its kind, and that it binds as tightly as its spot asks where it needs no parentheses there.
-use Rattle.std.proofs.Common.{◌≡◌, refl, ℕ, ◌+◌, ◌≤◌, Bool, true, false, not, ◌&&◌, ◌||◌, List, [], ◌∷◌, arith, ltb, nat_le, cond}
-use Rattle.ecma_kind.specs.Sorts.{is_expr}
+use Rattle.std.proofs.Common.{◌≡◌, ℕ, Bool, true, List, nat_le, cond}
 use Rattle.ecma_kind.specs.declared.kind.Kind.{Kind}
 use Rattle.ecma_kind.specs.declared.kind.Kind.TheVariants as kind
 use Rattle.ecma_kind.specs.declared.operators.BinaryOp.{BinaryOp}
 use Rattle.ecma_kind.specs.declared.operators.BinaryOp.TheVariants as op
 use Rattle.ecma_tree.specs.declared.node.Node.{Node}
-use Rattle.ecma_print.specs.declared.place.Beside.{Beside}
-use Rattle.ecma_print.specs.declared.place.Beside.TheVariants as beside
-use Rattle.ecma_print.specs.declared.place.Spot.{Spot}
 use Rattle.ecma_print.specs.Laid.{Laid}
-use Rattle.ecma_print.specs.Levels.{in_parentheses, lacks_arguments, level_of}
-use Rattle.ecma_reread.specs.Shapes.{Level, new_callee, object, callee, chain, left_hand_side, update, unary, power, product, sum, shift, relation, equality, bit_and, bit_xor, bit_or, logical_and, logical_or, coalescing, short_circuit, assignment, sequence, looser_than, IsExpression, looser}
+use Rattle.ecma_print.specs.Levels.{lacks_arguments}
+use Rattle.ecma_reread.specs.Shapes.{Level, new_callee, object, callee, chain, left_hand_side, update, unary, power, product, sum, shift, relation, equality, bit_and, bit_xor, bit_or, logical_and, logical_or, coalescing, short_circuit, assignment, sequence, IsExpression, looser}
 
 -- of an operator
 abbrev pub operator_level : BinaryOp → Level

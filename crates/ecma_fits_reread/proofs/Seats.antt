@@ -1,19 +1,18 @@
 -- What needs no parentheses in its spot binds as tightly as the spot asks.
-use Rattle.std.proofs.Common.{◌≡◌, ◌⊎◌, inl, inr, refl, sym, ℕ, ◌+◌, ◌-◌, ◌≤◌, ◌<◌, Bool, true, false, not, ◌&&◌, ◌||◌, List, [], ◌∷◌, arith, ltb, nat_le, cond}
+use Rattle.std.proofs.Common.{◌≡◌, ◌⊎◌, inl, inr, refl, ℕ, ◌+◌, ◌-◌, ◌≤◌, ◌<◌, Bool, true, false, ◌&&◌, ◌||◌, List, arith, ltb, nat_le}
 use Rattle.std.proofs.lemmas.Bool.Decides.{leb_tells, nat_tests}
 use Rattle.ecma_kind.specs.declared.kind.Kind.{Kind}
 use Rattle.ecma_kind.specs.declared.kind.Kind.TheVariants as kind
 use Rattle.ecma_kind.specs.declared.operators.BinaryOp.{BinaryOp}
 use Rattle.ecma_kind.specs.declared.operators.BinaryOp.TheVariants as op
-use Rattle.ecma_print.specs.declared.place.Beside.{Beside}
 use Rattle.ecma_print.specs.declared.place.Beside.TheVariants as beside
 use Rattle.ecma_print.specs.declared.place.Spot.{Spot}
 use Rattle.ecma_print.specs.Laid.{Laid}
-use Rattle.ecma_print.specs.Levels.{in_parentheses, is_misread, lacks_arguments, level_of}
+use Rattle.ecma_print.specs.Levels.{in_parentheses, lacks_arguments, level_of}
 use Rattle.ecma_print.specs.Operators.{binary_level}
-use Rattle.ecma_print.specs.Places.{ends_a_chain, left, right}
-use Rattle.ecma_reread.specs.Shapes.{chain, coalescing, new_callee}
-use Rattle.ecma_fits_reread.proofs.Ranks.{IsWithin, member_level, new_level, operator_level, own_level, rank}
+use Rattle.ecma_print.specs.Places.{left, right}
+use Rattle.ecma_reread.specs.Shapes.{coalescing}
+use Rattle.ecma_fits_reread.proofs.Ranks.{IsWithin, member_level, new_level, operator_level, own_level}
 
 pub either_parts : (a b : Bool) → (a || b) ≡ false → (a ≡ false) × (b ≡ false)
 either_parts true b h = cc

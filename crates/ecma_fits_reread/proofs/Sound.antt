@@ -1,5 +1,5 @@
 -- A node that fits where it stands, in its spot without parentheses of the layout: what that says of it, and of its children.
-use Rattle.std.proofs.Common.{◌≡◌, ◌∙◌, refl, sym, ap, subst, ℕ, zero, suc, Bool, true, false, not, ◌&&◌, ◌||◌, List, [], ◌∷◌, map, length, Option, Some, None}
+use Rattle.std.proofs.Common.{◌≡◌, ◌∙◌, refl, sym, ap, subst, ℕ, suc, Bool, true, false, not, ◌&&◌, ◌||◌, List, [], ◌∷◌, map, length, Option, None}
 use Rattle.ecma_kind.specs.declared.span.Span.{Span}
 use Rattle.ecma_kind.specs.declared.kind.Kind.{Kind}
 use Rattle.ecma_kind.specs.declared.shapes.Shape.{Shape}
@@ -13,7 +13,7 @@ use Rattle.ecma_rules.specs.Children.{kind_of}
 use Rattle.ecma_rules.specs.Failing.{failing_here, failing_step, least_from}
 use Rattle.ecma_rules.specs.Members.{second_constructor}
 use Rattle.ecma_rules.proofs.Layers.{from_leaves-roll}
-use Rattle.ecma_spelling.specs.Everywhere.{Each, Everywhere, everywhere, more, none}
+use Rattle.ecma_spelling.specs.Everywhere.{Each, Everywhere, everywhere, more}
 use Rattle.ecma_leaves.specs.Words.{is_spelled}
 use Rattle.ecma_fits.specs.declared.role.Role.{Role}
 use Rattle.ecma_fits.specs.declared.unfit.Where.{Where}
@@ -21,10 +21,9 @@ use Rattle.ecma_fits.specs.Fitting.{first_unfit_in, is_misplaced, is_misshapen, 
 use Rattle.ecma_fits.specs.Roles.{is_out_of_role, is_tagged, role_in}
 use Rattle.ecma_fits_laws.proofs.Walks.{neither, neither_least, not_failing, shifted}
 use Rattle.ecma_print.specs.declared.place.Spot.{Spot}
-use Rattle.ecma_print.specs.Laid.{Laid}
 use Rattle.ecma_print.specs.Layout.{laid}
 use Rattle.ecma_print.specs.Levels.{in_parentheses}
-use Rattle.ecma_parentheses.specs.Lacking.{Complete, all_complete, complete, complete_by}
+use Rattle.ecma_parentheses.specs.Lacking.{all_complete, complete}
 use Rattle.ecma_parentheses.specs.Spots.{first_spots, further_spot}
 use Rattle.ecma_parentheses.proofs.Lacks.{complete_in}
 use Rattle.ecma_fits_reread.specs.Forms.{IsTaken}

@@ -1,8 +1,6 @@
 -- The spots in which expressions stand.
-use Rattle.std.proofs.Common.{◌≡◌, ◌∙◌, refl, sym, ap, subst, ℕ, ◌-◌, ◌≤◌, Bool, true, false, not, ◌&&◌, ◌||◌, List, arith, ltb, nat_le}
-use Rattle.std.proofs.lemmas.Bool.{and_parts}
+use Rattle.std.proofs.Common.{◌≡◌, refl, subst, ℕ, ◌-◌, ◌≤◌, Bool, true, false, ◌&&◌, List, arith, ltb, nat_le}
 use Rattle.std.proofs.lemmas.Bool.Decides.{leb_tells, nat_tests}
-use Rattle.ecma_kind.specs.Sorts.{is_expr}
 use Rattle.ecma_kind.specs.declared.kind.Kind.{Kind}
 use Rattle.ecma_kind.specs.declared.shapes.Sort.TheVariants as sort
 use Rattle.ecma_tree.specs.declared.node.Node.{Node}
@@ -11,7 +9,6 @@ use Rattle.ecma_rules.specs.declared.target.Target.{Target}
 use Rattle.ecma_rules.specs.declared.target.Target.TheVariants as target
 use Rattle.ecma_rules.specs.Children.{kind_of}
 use Rattle.ecma_fits.specs.declared.role.Role.{Role}
-use Rattle.ecma_fits.specs.declared.role.Role.TheVariants as role
 use Rattle.ecma_print.specs.declared.place.Begins.{Begins}
 use Rattle.ecma_print.specs.declared.place.Beside.{Beside}
 use Rattle.ecma_print.specs.declared.place.Spot.{Spot}

@@ -1,5 +1,5 @@
 -- What is spelled as its terminal reads it is that token by itself, and says what it says.
-use Rattle.std.proofs.Common.{◌≡◌, ◌∙◌, refl, sym, ap, subst, ℕ, ◌-◌, Bool, true, false, not, ◌&&◌, cond, List, length, nat_eq, nat_lt, arith, bytes_eq, Option, Some, None, ℤ, pos, negsuc}
+use Rattle.std.proofs.Common.{◌≡◌, ◌∙◌, refl, sym, ap, subst, ℕ, ◌-◌, Bool, true, false, not, ◌&&◌, cond, List, length, nat_eq, arith, bytes_eq, Option, Some, None, ℤ, pos, negsuc}
 use Rattle.std.specs.Int.RustNames.{int_lt}
 use Rattle.std.specs.Str.{IsUtf8}
 use Rattle.std.proofs.lemmas.Bool.{and_parts}
@@ -11,14 +11,14 @@ use Rattle.ecma_number.specs.Numeral.{numeral_of}
 use Rattle.ecma_lex.specs.declared.blanks.Skipped.{Skipped}
 use Rattle.ecma_lex.specs.Blanks.{skipped}
 use Rattle.ecma_lex.specs.Keys.{key_end}
-use Rattle.ecma_lex.specs.Numerals.{big_end, num_end}
+use Rattle.ecma_lex.specs.Numerals.{num_end}
 use Rattle.ecma_lex.specs.Strings.{str_end, str_value}
 use Rattle.ecma_lex.specs.Strings as strings
 use Rattle.ecma_lex.specs.Text.{piece}
 use Rattle.ecma_lex.specs.Tokens as lex
 use Rattle.ecma_lex.specs.Tokens.{found, term}
 use Rattle.ecma_tokens.specs.Good.{IsToken}
-use Rattle.ecma_leaves.specs.Words.{is_big_int, is_number, is_one, is_readable, is_same_whole, is_string, is_value, is_whole}
+use Rattle.ecma_leaves.specs.Words.{is_number, is_one, is_readable, is_same_whole, is_string, is_value, is_whole}
 
 -- nothing stands before it, and nothing behind
 found_whole : (find : List ℕ → ℕ → Option ℕ) (w : List ℕ) (before : Skipped) → is_whole w (found before (cond before.closed (find w before.to) None)) ≡ true → find w 0 ≡ Some (length w)

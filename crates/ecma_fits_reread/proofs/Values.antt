@@ -1,6 +1,5 @@
 -- Each expression has its shape, by its kind.
-use Rattle.std.proofs.Common.{◌≡◌, ◌∙◌, refl, sym, ap, subst, ℕ, Bool, true, false, ◌&&◌, ◌||◌, List, [], ◌∷◌, map}
-use Rattle.std.proofs.lemmas.Bool.{and_parts}
+use Rattle.std.proofs.Common.{◌≡◌, ◌∙◌, refl, sym, subst, ℕ, Bool, true, false, ◌&&◌, List, [], map}
 use Rattle.ecma_lex.specs.Keys.{is_reserved}
 use Rattle.ecma_kind.specs.Sorts.{is_expr}
 use Rattle.ecma_kind.specs.declared.span.Span.{Span}
@@ -17,7 +16,7 @@ use Rattle.ecma_fits.specs.Roles.{is_tagged, role_in}
 use Rattle.ecma_print.specs.declared.place.Spot.{Spot}
 use Rattle.ecma_print.specs.Layout.{laid}
 use Rattle.ecma_print.specs.Places.{free}
-use Rattle.ecma_reread.specs.Shapes.{IsExpression, Level, false_word, import_meta, name, new_callee, new_target, null_word, this_word, true_word}
+use Rattle.ecma_reread.specs.Shapes.{IsExpression, false_word, import_meta, name, new_target, null_word, this_word, true_word}
 use Rattle.ecma_fits_reread.specs.Forms.{is_of_forms}
 use Rattle.ecma_fits_reread.specs.Numerals.{numerals}
 use Rattle.ecma_fits_reread.proofs.Assignments.{assignment_formed, sequence_formed, update_formed, yield_formed}
