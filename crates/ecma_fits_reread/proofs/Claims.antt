@@ -10,7 +10,7 @@ use Rattle.ecma_kind.specs.declared.shapes.Sort.TheVariants as sort
 use Rattle.ecma_tree.specs.declared.node.Node.{Node, out-Node}
 use Rattle.ecma_tree.specs.declared.node.Node.TheViews.{roll-out-Node}
 use Rattle.ecma_tree.specs.Nodes.{node_of}
-use Rattle.ecma_tree.specs.Sorted.{allows, is_list, item_shape, one, with_holes}
+use Rattle.ecma_tree.specs.Sorted.{allows, is_list, item_shape, many, one, with_holes}
 use Rattle.ecma_rules.specs.declared.target.Target.{Target}
 use Rattle.ecma_rules.specs.declared.target.Target.TheVariants as target
 use Rattle.ecma_rules.specs.Children.{kind_of, child_holds}
@@ -27,7 +27,7 @@ use Rattle.ecma_print.specs.Laid.{Laid, is_computed}
 use Rattle.ecma_print.specs.Layout.{laid}
 use Rattle.ecma_print.specs.Levels.{in_parentheses, level_of}
 use Rattle.ecma_print.specs.Places.{ends_a_chain, free, left}
-use Rattle.ecma_reread.specs.Shapes.{AreSlots, IsAbsent, IsArguments, IsChainKey, IsElement, IsExpression, IsKey, Level, callee, chain, values}
+use Rattle.ecma_reread.specs.Shapes.{AreProperties, AreSlots, IsAbsent, IsArguments, IsChainKey, IsElement, IsExpression, IsKey, IsProperty, IsPropertyName, Level, callee, chain, values}
 use Rattle.ecma_fits_reread.specs.Forms.{is_of_forms}
 use Rattle.ecma_fits_reread.specs.Numerals.{numerals}
 use Rattle.ecma_fits_reread.proofs.Ranks.{own_level}
@@ -130,6 +130,9 @@ pub record Formed (n : Node) : Type 0 where
   pub slots : Sound role.Free (free 1) (with_holes sort.ExprOrSpread) n → (at : Span) × (ns : List Node) × (cover_at n target.Free ≡ node_of at kind.List ns) × AreSlots values ns
   pub member_key : Sound role.Private (free 0) (one sort.MemberProp) n → MemberKey n
   pub super_key : Sound role.Free (free 0) (one sort.SuperProp) n → SuperKey n
+  pub property_name : Sound role.Free (free 1) (one sort.PropName) n → IsPropertyName (cover_at n target.Free)
+  pub property : Sound role.Free (free 1) (one sort.PropOrSpread) n → IsProperty values (cover_at n target.Free)
+  pub properties : Sound role.Free (free 1) (many sort.PropOrSpread) n → (at : Span) × (ns : List Node) × (cover_at n target.Free ≡ node_of at kind.List ns) × AreProperties values ns
   pub link : (spot : Spot) (optional : Bool) → spot.in_callee_of_new ≡ false → Sound role.Free (left spot 0 (link_of optional)) (one sort.OptChainBase) n → LinkedBehind n
 
 abbrev pub AllFormed : List Node → Type 0

@@ -13,6 +13,7 @@ use Rattle.ecma_fits_reread.proofs.Chains.{link_formed}
 use Rattle.ecma_fits_reread.proofs.Claims.{AllFormed, Formed, FormedExpression, is_value}
 use Rattle.ecma_fits_reread.proofs.Keys.{member_key_formed, super_key_formed}
 use Rattle.ecma_fits_reread.proofs.Lists.{arguments_formed, element_formed, slots_formed}
+use Rattle.ecma_fits_reread.proofs.Objects.{properties_formed, property_formed, property_name_formed}
 use Rattle.ecma_fits_reread.proofs.Ranks.{own_level}
 use Rattle.ecma_fits_reread.proofs.Sound.{Sound, children_made, here, kind_made}
 use Rattle.ecma_fits_reread.proofs.Spots.{child_value, proper_free}
@@ -38,6 +39,9 @@ module _ (at : Span) (k : Kind) (cs : List Node) (f : AllFormed cs) where
     slots = slots_formed own its_children;
     member_key = λ s. member_key_formed at k cs f (here role.Private (free 0) (one sort.MemberProp) at k cs s);
     super_key = λ s. super_key_formed at k cs f (here role.Free (free 0) (one sort.SuperProp) at k cs s);
+    property_name = λ s. property_name_formed at k cs f (here role.Free (free 1) (one sort.PropName) at k cs s);
+    property = λ s. property_formed at k cs f (here role.Free (free 1) (one sort.PropOrSpread) at k cs s);
+    properties = properties_formed own its_children;
     link = λ spot optional out s. link_formed spot optional out at k cs f (here role.Free _ (one sort.OptChainBase) at k cs s);
   }
 

@@ -29,7 +29,7 @@ use Rattle.ecma_fits_reread.proofs.Sound.{Here}
 use Rattle.ecma_fits_reread.proofs.Spots.{child_value, proper_free}
 
 -- a name behind a point
-plain_name : {r : Role} {spot : Spot} {shape : Shape} (at : Span) (word : List ℕ) (cs : List Node) → Here r spot shape at (kind.IdentName word) cs → IsKey (cover_at (node_of at (kind.IdentName word) cs) target.Free)
+pub plain_name : {r : Role} {spot : Spot} {shape : Shape} (at : Span) (word : List ℕ) (cs : List Node) → Here r spot shape at (kind.IdentName word) cs → IsKey (cover_at (node_of at (kind.IdentName word) cs) target.Free)
 plain_name {r} {spot} at word cs h =
     let e = childless (role_in r (kind.IdentName word)) [] (free 0) cs h.below in
     subst IsKey (sym (ap (λ z. cover_at (node_of at (kind.IdentName word) z) target.Free) e ∙ covered at (kind.IdentName word) [] target.Free refl)) (key_shape (is_tagged r) at word h.spelled h.bare.0)

@@ -16,5 +16,6 @@ pub mod Calls
 pub mod Chains
 pub mod Assignments
 pub mod Lists
+pub mod Objects
 pub mod Values
 pub mod Forming

@@ -60,7 +60,7 @@ element_formed n below f shape s h = element_by n below f s (element_kind (kind_
 
 -- arguments
 
-abbrev Items : Shape → List Node → Type 0
+abbrev pub Items : Shape → List Node → Type 0
 Items shape cs = AllSound (λ i. role.Free) [] (free 1) (replicate (length cs) shape) cs
 
 one_item : (shape : Shape) → shape ≡ one sort.ExprOrSpread → (n : Node) → Formed n → Sound role.Free (free 1) shape n → IsElement values (cover_at n target.Free)
@@ -78,7 +78,7 @@ list_covered : (at : Span) (cs : List Node) → cover_at (node_of at kind.List c
 unfolding cover_in target_in
 list_covered at cs = covered at kind.List cs target.Free refl
 
-list_items : {shape : Shape} (at : Span) (cs : List Node) → Here role.Free (free 1) shape at kind.List cs → Items (item_shape shape) cs
+pub list_items : {shape : Shape} (at : Span) (cs : List Node) → Here role.Free (free 1) shape at kind.List cs → Items (item_shape shape) cs
 unfolding role_in
 list_items at cs h = h.below
 
@@ -87,10 +87,10 @@ list_kind kind.List h = refl
 list_kind k h = cc
 
 -- a list by its parts
-list_there : {shape : Shape} (n : Node) → Sound role.Free (free 1) shape n → is_list (kind_of n) ≡ true → Here role.Free (free 1) shape (out-Node n).span kind.List (out-Node n).children
+pub list_there : {shape : Shape} (n : Node) → Sound role.Free (free 1) shape n → is_list (kind_of n) ≡ true → Here role.Free (free 1) shape (out-Node n).span kind.List (out-Node n).children
 list_there {shape} n s is = subst (λ k. Here role.Free (free 1) shape (out-Node n).span k (out-Node n).children) (list_kind (kind_of n) is) (seen n s)
 
-cover_of_list : (n : Node) → is_list (kind_of n) ≡ true → cover_at n target.Free ≡ node_of (out-Node n).span kind.List (each_in (λ i. target.Free) (map cover_at (out-Node n).children))
+pub cover_of_list : (n : Node) → is_list (kind_of n) ≡ true → cover_at n target.Free ≡ node_of (out-Node n).span kind.List (each_in (λ i. target.Free) (map cover_at (out-Node n).children))
 cover_of_list n is =
     let x = out-Node n in
     ap (λ m. cover_at m target.Free) (sym (roll-out-Node n)) ∙ ap (λ k. cover_at (node_of x.span k x.children) target.Free) (list_kind x.kind is) ∙ list_covered x.span x.children

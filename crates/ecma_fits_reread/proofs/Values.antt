@@ -29,6 +29,7 @@ use Rattle.ecma_fits_reread.proofs.Covered.{covered_children, is_of_pattern}
 use Rattle.ecma_fits_reread.proofs.Leaves.{ident_shape, number_shape, string_shape}
 use Rattle.ecma_fits_reread.proofs.Lists.{array_formed}
 use Rattle.ecma_fits_reread.proofs.Members.{member_formed, parenthesized_formed}
+use Rattle.ecma_fits_reread.proofs.Objects.{object_formed}
 use Rattle.ecma_fits_reread.proofs.Operators.{await_formed, conditional_formed, unary_formed}
 use Rattle.ecma_fits_reread.proofs.Ranks.{own_level}
 use Rattle.ecma_fits_reread.proofs.Sound.{AllSound, Here}
@@ -89,6 +90,8 @@ module _ {r : Role} {spot : Spot} {shape : Shape} (t : Target) (at : Span) where
         subst (λ z. Expressed z spot (node_of at (kind.AssignExpr o) cs)) (sym (only_free t (kind.AssignExpr o) refl is)) (built target.Free at (kind.AssignExpr o) cs h refl (assignment_formed at o cs f h p))
     value_by kind.ArrayLit h p first reads is v =
         subst (λ z. Expressed z spot (node_of at kind.ArrayLit cs)) (sym (only_free t kind.ArrayLit refl is)) (built target.Free at kind.ArrayLit cs h refl (array_formed at cs f h))
+    value_by kind.ObjectLit h p first reads is v =
+        subst (λ z. Expressed z spot (node_of at kind.ObjectLit cs)) (sym (only_free t kind.ObjectLit refl is)) (built target.Free at kind.ObjectLit cs h refl (object_formed at cs f h))
     value_by kind.MemberExpr h p first reads is v = built t at kind.MemberExpr cs h refl (member_formed t at cs f h p first)
     value_by kind.SuperPropExpr h p first reads is v = built t at kind.SuperPropExpr cs h refl (super_formed t at cs f h)
     value_by kind.CallExpr h p first reads is v = built t at kind.CallExpr cs h refl (call_formed t at cs f h)
