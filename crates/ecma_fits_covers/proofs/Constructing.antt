@@ -28,7 +28,7 @@ use Rattle.ecma_fits_covers.proofs.Branching.{present_kept}
 use Rattle.ecma_fits_covers.proofs.Chaining.{Shaped, shaped_below}
 
 -- where nothing stands around, a node stands without parentheses
-open_there : (x : Node-F Node) → (stood (roll-Node x)).at (free 0) ≡ bare x.span x.kind (map stood x.children) (free 0)
+pub open_there : (x : Node-F Node) → (stood (roll-Node x)).at (free 0) ≡ bare x.span x.kind (map stood x.children) (free 0)
 open_there x =
     let own = map stood x.children in
     let ls = laid_children own in

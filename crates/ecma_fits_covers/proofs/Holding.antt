@@ -47,7 +47,7 @@ closes kind.FnExpr = true
 closes kind.ClassExpr = true
 closes _ = false
 
-closed : (k : Kind) (children : List Laid) (spot : Spot) → Fits spot → in_parentheses k children spot ≡ true → closes k ≡ true
+pub closed : (k : Kind) (children : List Laid) (spot : Spot) → Fits spot → in_parentheses k children spot ≡ true → closes k ≡ true
 closed kind.SeqExpr children spot h e = refl
 closed (kind.AssignExpr op) children spot h e = refl
 closed (kind.ArrowExpr is_async is_generator) children spot h e = refl

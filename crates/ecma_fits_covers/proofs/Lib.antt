@@ -17,4 +17,6 @@ pub mod Chaining
 pub mod Holding
 pub mod Spelling
 pub mod Constructing
+mod Opening
+pub mod Counting
 pub mod Usual

@@ -19,6 +19,7 @@ use Rattle.ecma_parentheses.specs.Explicit.{explicit}
 use Rattle.ecma_fits.specs.declared.unfit.Where.{Where}
 use Rattle.ecma_fits.specs.Branches.{is_dangling}
 use Rattle.ecma_fits.specs.Chains.{is_loose}
+use Rattle.ecma_fits.specs.Counts.{is_short}
 use Rattle.ecma_leaves.specs.Words.{is_spelled}
 use Rattle.ecma_fits.specs.Fitting.{Fits, at_top, where_in}
 use Rattle.ecma_fits.specs.Members.{is_misread}
@@ -49,6 +50,10 @@ CoversBreakNoRule = (tree : Node) → Fits tree → HasNoOptionalPatterns tree �
 -- no node of a tree is such a one
 abbrev pub NoneIs : (Node → Bool) → Node → Type 0
 NoneIs is tree = first_failing Where (λ w node. failing_here (is node) node) where_in tree at_top ≡ None
+
+-- in a module with explicit parentheses each node has what its production asks for where it had
+abbrev pub ExplicitCountsStay : Type 0
+ExplicitCountsStay = (tree : Node) → HasSort sort.Module tree → NoneIs is_short tree → NoneIs is_short (explicit tree)
 
 -- with explicit parentheses no `if` without `else` stands directly before an outer `else` where none did
 abbrev pub ExplicitBranchesStay : Type 0

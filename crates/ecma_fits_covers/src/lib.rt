@@ -3,7 +3,7 @@
 //! Each function carries one law over the definitions, and does nothing. The laws are stated in `specs/`.
 #![tactic(auto)]
 
-ghost use Rattle.ecma_fits_covers.specs.Laws.{CoversAreNotMisplaced, CoversBreakNoRule, ExplicitBranchesStay, ExplicitChainsStay, ExplicitConstructorsStay, ExplicitLeavesStay, ExplicitMembersStay, ExplicitRolesStay, WhatFitsStands, WhatFitsHasUsualDefaults};
+ghost use Rattle.ecma_fits_covers.specs.Laws.{CoversAreNotMisplaced, CoversBreakNoRule, ExplicitBranchesStay, ExplicitChainsStay, ExplicitConstructorsStay, ExplicitCountsStay, ExplicitLeavesStay, ExplicitMembersStay, ExplicitRolesStay, WhatFitsStands, WhatFitsHasUsualDefaults};
 
 /// In a tree that fits, and whose patterns have no `?`, patterns stand where they may.
 #[tactic(auto, using(crate::proofs::Placed::placed))]
@@ -21,6 +21,12 @@ pub fn covers_are_not_misplaced()
 #[tactic(auto, using(crate::proofs::Strayless::keeping))]
 pub fn covers_break_no_rule()
     ensures { CoversBreakNoRule }
+{}
+
+/// In a module with explicit parentheses each node has the parts that its production asks for, where it had.
+#[tactic(auto, using(crate::proofs::Counting::counts))]
+pub fn explicit_counts_stay()
+    ensures { ExplicitCountsStay }
 {}
 
 /// In the tree with explicit parentheses no `if` without `else` stands directly before an outer `else`, where none did.
