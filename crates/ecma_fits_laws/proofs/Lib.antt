@@ -55,3 +55,5 @@ pub mod RoleLeaves
 pub mod RoleChecks
 pub mod RoleReads
 pub mod ReadRoles
+pub mod ReadRegexes
+pub mod WhatIsRead

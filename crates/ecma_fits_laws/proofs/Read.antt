@@ -1,4 +1,4 @@
--- What is read as a module keeps the rules, and its names, keys, texts and numbers are spelled.
+-- What is read as a module keeps the rules, and its names, keys, literals and regular expressions are spelled.
 use Rattle.std.proofs.Common.{◌≡◌, ◌∙◌, ◌<◌, ℕ, suc, Bool, true, false, not, ◌&&◌, List, [], ◌∷◌, map, length, Option, None, Ok, refl, sym, ap, subst}
 use Rattle.std.specs.Str.{IsUtf8}
 use Rattle.ecma_kind.specs.declared.kind.Kind.{Kind}
@@ -54,6 +54,7 @@ told_other (kind.PrivateName text) h = not_true (sym h)
 told_other (kind.Str value raw) h = not_true (sym h)
 told_other (kind.Number value raw) h = not_true (sym h)
 told_other (kind.BigInt value raw) h = not_true (sym h)
+told_other (kind.Regex exp flags) h = not_true (sym h)
 told_other _ h = λ is. not_true is
 
 told_question : (optional : Bool) (k : Kind) → Told k → Told (questioned_kind optional k)
@@ -87,6 +88,7 @@ tag_same (kind.PrivateName text) tagged h = refl
 tag_same (kind.Str value raw) tagged h = refl
 tag_same (kind.Number value raw) tagged h = refl
 tag_same (kind.BigInt value raw) tagged h = refl
+tag_same (kind.Regex exp flags) tagged h = refl
 tag_same _ tagged h = not_true h
 
 told_right : (w : Where) (k : Kind) → Told k → (is_told k && not (is_spelled (is_tagged w.role) k)) ≡ false

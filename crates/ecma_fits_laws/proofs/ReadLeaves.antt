@@ -16,6 +16,7 @@ use Rattle.ecma_lex.specs.Blanks.{skipped}
 use Rattle.ecma_lex.specs.Keys.{key_end, name_end, priv_name_end, word_end}
 use Rattle.ecma_lex.specs.Numerals.{big_end, num_end}
 use Rattle.ecma_lex.specs.Parts.{char_at, passes, then_at}
+use Rattle.ecma_lex.specs.Regexes.{regex_body_end, regex_end}
 use Rattle.ecma_lex.specs.Strings.{str_end, str_value}
 use Rattle.ecma_lex.specs.Strings as strings
 use Rattle.ecma_lex.specs.Text.{piece}
@@ -41,11 +42,12 @@ use Rattle.ecma_grammar.specs.Reads.{any_token, leaf_node, regex_token, template
 use Rattle.ecma_spelling.specs.Everywhere.{Everywhere, none}
 use Rattle.ecma_spelling.proofs.Leaves.{Holds, holds_fails, holds_read, holds_then}
 use Rattle.ecma_spelling.proofs.Trees.{good_node}
-use Rattle.ecma_leaves.specs.Words.{digits_of, is_big_int, is_number, is_one, is_readable, is_spelled, is_string, is_value, is_whole}
+use Rattle.ecma_leaves.specs.Words.{are_flags, digits_of, is_big_int, is_body, is_number, is_one, is_readable, is_regex, is_spelled, is_string, is_value, is_whole}
 use Rattle.ecma_leaves.proofs.Characters.{piece_within}
 use Rattle.ecma_fits_laws.specs.Read.{is_told}
 use Rattle.ecma_fits_laws.proofs.ReadDigits.{digits_are, word, word_is, word_token as big_word_token}
 use Rattle.ecma_fits_laws.proofs.ReadingOf.{is_hashbang}
+use Rattle.ecma_fits_laws.proofs.ReadRegexes.{regex_body, regex_flags}
 use Rattle.ecma_fits_laws.proofs.Walks.{not_true}
 
 -- one of these is spelled
@@ -225,6 +227,21 @@ module _ (text : List ℕ) (u : IsUtf8 text) (small : length text < 4294967296) 
   unfolding lex.big
   holds_big s = holds_term big_end IsBigInt (λ i j b h. is_big i j h) s
 
+  -- regular expressions
+
+  abbrev IsRegex : Token → Type 0
+  IsRegex t = is_regex (piece text (t.start + 1) (regex_body_end text t.start)) (piece text (regex_body_end text t.start + 1) t.next) ≡ true
+
+  is_expression : (i j : ℕ) → regex_end text i ≡ Some j → is_regex (piece text (i + 1) (regex_body_end text i)) (piece text (regex_body_end text i + 1) j) ≡ true
+  is_expression i j h =
+      let exp = piece text (i + 1) (regex_body_end text i) in
+      let flags = piece text (regex_body_end text i + 1) j in
+      both_true (is_readable exp) (is_body exp && are_flags flags) (readable text (i + 1) (regex_body_end text i) small) (both_true (is_body exp) (are_flags flags) (regex_body text u i j h) (regex_flags text u i j h))
+
+  holds_regex : (s : Position) → Holds (regex_token text s) IsRegex
+  unfolding lex.regex
+  holds_regex s = holds_term regex_end IsRegex (λ i j b h. is_expression i j h) s
+
   -- leaves
 
   abbrev Good : Node → Type 0
@@ -248,7 +265,7 @@ module _ (text : List ℕ) (u : IsUtf8 text) (small : length text < 4294967296) 
   leaf_told leaf.Str s h = leaf_of (any_token text token_kind.Str) IsText _ s (holds_text s) (λ t q. leaf_at t _ (λ is. q))
   leaf_told leaf.Number s h = leaf_of (any_token text token_kind.Number) IsNumeral _ s (holds_numeral s) (λ t q. leaf_at t _ (λ is. q))
   leaf_told leaf.BigInt s h = leaf_of (any_token text token_kind.BigInt) IsBigInt _ s (holds_big s) (λ t q. leaf_at t _ (λ is. q))
-  leaf_told leaf.Regex s h = any_leaf (regex_token text) _ s (λ t. leaf_at t _ (λ is. not_true is))
+  leaf_told leaf.Regex s h = leaf_of (regex_token text) IsRegex _ s (holds_regex s) (λ t q. leaf_at t _ (λ is. q))
   leaf_told (leaf.TplElement wanted) s h = any_leaf (template_part text wanted) _ s (λ part. leaf_at part.token _ (λ is. not_true is))
   leaf_told leaf.This s h = any_leaf (word_token text (codes "this")) _ s (λ t. leaf_at t kind.ThisExpr (λ is. not_true is))
   leaf_told leaf.Null s h = any_leaf (word_token text (codes "null")) _ s (λ t. leaf_at t kind.Null (λ is. not_true is))

@@ -6,3 +6,4 @@ pub mod Shapes
 pub mod RawRoles
 pub mod FinishedRoles
 pub mod ReadRoles
+pub mod WhatIsRead

@@ -12,7 +12,7 @@ use Rattle.ecma_fits.specs.declared.unfit.Where.{Where}
 use Rattle.ecma_fits.specs.Fitting.{breaks_rule}
 use Rattle.ecma_fits_laws.specs.Clauses.{NoneFails, has_second_constructor, is_misspelled}
 
--- names, keys, private names, texts, numbers and BigInts
+-- names, keys, private names, texts, numbers, BigInts and regular expressions
 abbrev pub is_told : Kind → Bool
 is_told (kind.Ident sym ctxt optional) = true
 is_told (kind.IdentName sym) = true
@@ -20,6 +20,7 @@ is_told (kind.PrivateName name) = true
 is_told (kind.Str value raw) = true
 is_told (kind.Number value raw) = true
 is_told (kind.BigInt value raw) = true
+is_told (kind.Regex exp flags) = true
 is_told _ = false
 
 -- one of these that is not spelled as its terminal reads it, or says something else

@@ -9,6 +9,7 @@ ghost use Rattle.ecma_fits_laws.specs.Read.{ReadLeavesAreSpelled, ReadTreesKeepR
 ghost use Rattle.ecma_fits_laws.specs.Shapes.{ReadBranchesTakeTheirElse, ReadLinksAreNotLoose, ReadMembersAreNotMisread, ReadNodesAreFull};
 ghost use Rattle.ecma_fits_laws.specs.FinishedRoles.{FinishedTargetsAreNoStrays, FinishedTreesHaveTheirRoles};
 ghost use Rattle.ecma_fits_laws.specs.ReadRoles.{RawModulesHaveTheirRoles, ReadTargetsAreNoStrays, ReadTreesHaveTheirRoles};
+ghost use Rattle.ecma_fits_laws.specs.WhatIsRead.{SpelledTreesFit};
 ghost use Rattle.ecma_fits_laws.specs.Finished.{FinishedClassesHaveOneConstructor, FinishedTreesHaveNoStrays, FinishedTreesKeepRules};
 
 use ecma_text_laws::modules_that_are_read_are_sorted;
@@ -50,7 +51,7 @@ pub fn trees_that_are_read_keep_rules()
     modules_that_are_read_are_sorted();
 }
 
-/// Names, keys, private names, texts, numbers and BigInts of what is read as a module are spelled as their terminals read them, and say what these say.
+/// Names, keys, private names, texts, numbers, BigInts and regular expressions of what is read as a module are spelled as their terminals read them, and say what these say.
 #[tactic(auto, using(crate::proofs::Read::reading))]
 pub fn leaves_that_are_read_are_spelled()
     ensures { ReadLeavesAreSpelled }
@@ -115,3 +116,19 @@ pub fn finished_targets_are_no_strays()
 pub fn targets_that_are_read_are_no_strays()
     ensures { ReadTargetsAreNoStrays }
 {}
+
+/// What is read as a module, in either mode and with any number of levels, fits, where its leaves are spelled as their terminals read them and say what
+/// these say.
+pub fn what_is_read_fits_where_its_leaves_are_spelled()
+    ensures { SpelledTreesFit }
+{
+    trees_fit_by_clauses();
+    modules_that_are_read_are_sorted();
+    nodes_that_are_read_are_full();
+    branches_that_are_read_take_their_else();
+    links_that_are_read_are_not_loose();
+    members_that_are_read_are_not_misread();
+    trees_that_are_read_have_their_roles();
+    targets_that_are_read_are_no_strays();
+    trees_that_are_read_keep_rules();
+}

@@ -1,0 +1,24 @@
+-- What is read fits, clause by clause.
+use Rattle.ecma_text_laws.specs.Sorts.{ReadModulesAreSorted}
+use Rattle.ecma_fits_laws.specs.Clauses.{FitsByClauses}
+use Rattle.ecma_fits_laws.specs.Read.{ReadTreesKeepRules}
+use Rattle.ecma_fits_laws.specs.ReadRoles.{ReadTargetsAreNoStrays, ReadTreesHaveTheirRoles}
+use Rattle.ecma_fits_laws.specs.Shapes.{ReadBranchesTakeTheirElse, ReadLinksAreNotLoose, ReadMembersAreNotMisread, ReadNodesAreFull}
+use Rattle.ecma_fits_laws.specs.WhatIsRead.{SpelledTreesFit}
+
+pub spelled_fit : FitsByClauses → ReadModulesAreSorted → ReadNodesAreFull → ReadBranchesTakeTheirElse → ReadLinksAreNotLoose → ReadMembersAreNotMisread → ReadTreesHaveTheirRoles → ReadTargetsAreNoStrays → ReadTreesKeepRules → SpelledTreesFit
+spelled_fit by_clauses sorted full branches links members roles targets keeps text mode bound tree e leaves =
+    let rules = keeps text mode bound tree e in
+    (by_clauses tree).1 (record {
+      sorted = sorted text mode bound tree e;
+      counts = full text mode bound tree e;
+      branches = branches text mode bound tree e;
+      chains = links text mode bound tree e;
+      members = members text mode bound tree e;
+      roles = roles text mode bound tree e;
+      targets = targets text mode bound tree e;
+      rules = rules.rules;
+      constructors = rules.constructors;
+      leaves = leaves;
+      strays = rules.strays;
+    })
