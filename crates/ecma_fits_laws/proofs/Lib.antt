@@ -56,4 +56,6 @@ pub mod RoleChecks
 pub mod RoleReads
 pub mod ReadRoles
 pub mod ReadRegexes
+pub mod ReadHashbangs
+pub mod Programs
 pub mod WhatIsRead

@@ -1,11 +1,17 @@
 -- What is read as a module keeps the rules, and its names, keys, literals and regular expressions are spelled.
 use Rattle.std.proofs.Common.{◌≡◌, ◌∙◌, ◌<◌, ℕ, suc, Bool, true, false, not, ◌&&◌, List, [], ◌∷◌, map, length, Option, None, Ok, refl, sym, ap, subst}
+use Rattle.std.specs.List.{list_all}
 use Rattle.std.specs.Str.{IsUtf8}
+use Rattle.std.proofs.lemmas.Bool.{and_parts}
 use Rattle.ecma_kind.specs.declared.kind.Kind.{Kind}
 use Rattle.ecma_kind.specs.declared.kind.Kind.TheVariants as kind
+use Rattle.ecma_kind.specs.declared.shapes.Shape.{Shape}
 use Rattle.ecma_kind.specs.declared.shapes.Sort.TheVariants as sort
-use Rattle.ecma_tree.specs.declared.node.Node.{Node, Node-F, ind-Node, roll-Node}
-use Rattle.ecma_tree.specs.Sorted.{HasSort}
+use Rattle.ecma_tree.specs.declared.node.Node.{Node, Node-F, ind-Node, out-Node, roll-Node}
+use Rattle.ecma_tree.specs.declared.node.Node.TheViews.{roll-out-Node}
+use Rattle.ecma_tree.specs.Laws.{HaveShapes}
+use Rattle.ecma_tree.specs.Sorted.{HasShape, HasSort, child_shapes, one}
+use Rattle.ecma_tree.proofs.ShapeLaws.{node_has_shape}
 use Rattle.ecma_grammar.specs.declared.production.Mode.{Mode}
 use Rattle.ecma_grammar.specs.Modules as grammar
 use Rattle.ecma_grammar.specs.Modules.{reads_module}
@@ -31,11 +37,14 @@ use Rattle.ecma_fits_laws.specs.Read.{KeepsRules, ReadLeavesAreSpelled, ReadTree
 use Rattle.ecma_fits_laws.proofs.Constructors.{one_constructor}
 use Rattle.ecma_fits_laws.proofs.Everywhere.{finished_good}
 use Rattle.ecma_fits_laws.proofs.Raws.{of_raw}
-use Rattle.ecma_fits_laws.proofs.ReadLeaves.{Told, leaf_told}
+use Rattle.ecma_fits_laws.proofs.Programs.{inner_children, inner_kind, is_inner, module_children}
+use Rattle.ecma_fits_laws.proofs.ReadHashbangs.{IsModule, module_told}
+use Rattle.ecma_fits_laws.proofs.ReadLeaves.{Told, is_program, leaf_told}
 use Rattle.ecma_fits_laws.proofs.ReadingOf.{read_holds}
 use Rattle.ecma_fits_laws.proofs.Rules.{children_made, keeps_rules}
+use Rattle.ecma_fits_laws.proofs.Standing.{kind_made}
 use Rattle.ecma_fits_laws.proofs.Strays.{no_strays}
-use Rattle.ecma_fits_laws.proofs.Walks.{both_none, not_true, shifted}
+use Rattle.ecma_fits_laws.proofs.Walks.{both_none, free_kind, not_true, shifted}
 
 pub read_keeps : ReadModulesAreSorted → ReadTreesKeepRules
 read_keeps read_sorted text mode bound tree e =
@@ -71,6 +80,19 @@ one_good none = good_absent Told (told_other kind.Absent refl)
 one_good (more a none) = a
 one_good (more a (more b h)) = good_absent Told (told_other kind.Absent refl)
 
+-- a module has its hashbang in one line
+raw_told : (text : List ℕ) (mode : Mode) (bound : ℕ) (raw : Node) → IsUtf8 text → length text < 4294967296 → grammar.answer_of (reads_module text mode bound) ≡ Ok raw → is_spelled true (kind_of raw) ≡ true
+raw_told text mode bound raw u small e = by_outcome (reads_module text mode bound) (module_told text mode u small bound (record { place = 0; failed = 0 })) e
+  where
+    by_outcome : (o : Outcome (List Node)) → ((s : Position) (xs : List Node) → o ≡ read xs s → IsModule xs) → grammar.answer_of o ≡ Ok raw → is_spelled true (kind_of raw) ≡ true
+    by_outcome (read xs s) h f =
+        let t = h s xs refl in
+        let one : xs ≡ t.0 ∷ [] = t.1 in
+        let is : t.0 ≡ raw = (let g = rw one at f in cc) in
+        subst (λ (n : Node). is_spelled true (kind_of n) ≡ true) is t.2
+    by_outcome (fails at) h f = cc
+    by_outcome (too_deep at) h f = cc
+
 raw_good : (text : List ℕ) (mode : Mode) (bound : ℕ) (raw : Node) → IsUtf8 text → length text < 4294967296 → grammar.answer_of (reads_module text mode bound) ≡ Ok raw → Good raw
 raw_good text mode bound raw u small e = by_outcome (reads_module text mode bound) (read_holds Told told_other told_question text mode (leaf_told text u small) bound (record { place = 0; failed = 0 })) e
   where
@@ -82,6 +104,8 @@ raw_good text mode bound raw u small e = by_outcome (reads_module text mode boun
     by_outcome (too_deep at) h f = cc
 
 tag_same : (k : Kind) (tagged : Bool) → is_told k ≡ true → is_spelled tagged k ≡ is_spelled true k
+tag_same (kind.Module shebang) tagged h = refl
+tag_same (kind.Script shebang) tagged h = refl
 tag_same (kind.Ident text ctxt optional) tagged h = refl
 tag_same (kind.IdentName text) tagged h = refl
 tag_same (kind.PrivateName text) tagged h = refl
@@ -91,41 +115,74 @@ tag_same (kind.BigInt value raw) tagged h = refl
 tag_same (kind.Regex exp flags) tagged h = refl
 tag_same _ tagged h = not_true h
 
-told_right : (w : Where) (k : Kind) → Told k → (is_told k && not (is_spelled (is_tagged w.role) k)) ≡ false
+told_right : (w : Where) (k : Kind) → (is_told k ≡ true → is_spelled true k ≡ true) → (is_told k && not (is_spelled (is_tagged w.role) k)) ≡ false
 told_right w k told = go (is_told k) refl
   where
     go : (b : Bool) → is_told k ≡ b → (is_told k && not (is_spelled (is_tagged w.role) k)) ≡ false
     go true e = let s = tag_same k (is_tagged w.role) e ∙ told e in rw (e, s) refl
     go false e = rw e refl
 
+within : (k : Kind) → Told k → is_program k ≡ false → is_told k ≡ true → is_spelled true k ≡ true
+within k told inner is = told (rw (is, inner) refl)
+
 abbrev walk : Node → Where → Option ℕ
 walk = first_failing Where (λ w node. failing_here (is_told_wrong w node) node) where_in
 
 abbrev Walks : Node → Type 0
-Walks n = Good n → (w : Where) → walk n w ≡ None
+Walks n = (o : Shape) → is_inner o ≡ true → HasShape o n → Good n → (w : Where) → walk n w ≡ None
 
-all_walk : (es : List ((n : Node) × Walks n)) → Each Told (map (λ e. e.0) es) → (where_of : ℕ → Where) → least_from Where where_of 0 (map walk (map (λ e. e.0) es)) ≡ None
-all_walk [] h where_of = refl
-all_walk (e ∷ es) (more a h) where_of =
+-- children whose shapes are inner
+abbrev AllWalk : List Node → Type 0
+AllWalk ns = (os : List Shape) → list_all is_inner os ≡ true → HaveShapes os ns → Each Told ns → (where_of : ℕ → Where) → least_from Where where_of 0 (map walk ns) ≡ None
+
+all_walk : (es : List ((n : Node) × Walks n)) → AllWalk (map (λ e. e.0) es)
+all_walk [] os i s h where_of = refl
+all_walk (e ∷ es) [] i s h where_of = absurd s
+all_walk (e ∷ es) (o ∷ os) i s (more a h) where_of =
     let ns = map (λ e. e.0) es in
-    both_none (walk e.0 (where_of 0)) (least_from Where where_of 1 (map walk ns)) (e.1 a (where_of 0)) (shifted Where where_of 0 (map walk ns) ∙ all_walk es h (λ i. where_of (suc i)))
+    let p = and_parts (is_inner o) (list_all is_inner os) i in
+    both_none (walk e.0 (where_of 0)) (least_from Where where_of 1 (map walk ns)) (e.1 o p.0 s.0 a (where_of 0)) (shifted Where where_of 0 (map walk ns) ∙ all_walk es os p.1 s.1 h (λ i. where_of (suc i)))
 
-node_walks : (x : Node-F Node) → (Each Told x.children → (where_of : ℕ → Where) → least_from Where where_of 0 (map walk x.children) ≡ None) → Walks (roll-Node x)
-node_walks x below g w =
+-- a node that is spelled, with such children
+whole_walks : (x : Node-F Node) → AllWalk x.children → (os : List Shape) → list_all is_inner os ≡ true → HaveShapes os x.children → (is_told x.kind ≡ true → is_spelled true x.kind ≡ true) → Good (roll-Node x) → (w : Where) → walk (roll-Node x) w ≡ None
+whole_walks x below os i s told g w =
     let n = roll-Node x in
-    let here : is_told_wrong w n ≡ false = told_right w (kind_of n) (kind_good Told g) in
+    let here : is_told_wrong w n ≡ false = told_right w (kind_of n) (subst (λ k. is_told k ≡ true → is_spelled true k ≡ true) (sym (kind_made x)) told) in
     let all : Each Told x.children = subst (Each Told) (children_made x) (children_good Told g) in
     ap (λ f. f w) (from_leaves-roll (Where → Option ℕ) (failing_step Where (λ w node. failing_here (is_told_wrong w node) node) where_in) x)
-    ∙ both_none (failing_here (is_told_wrong w n) n) (least_from Where (where_in w n) 0 (map walk x.children)) (ap (λ b. failing_here b n) here) (below all (where_in w n))
+    ∙ both_none (failing_here (is_told_wrong w n) n) (least_from Where (where_in w n) 0 (map walk x.children)) (ap (λ b. failing_here b n) here) (below os i s all (where_in w n))
 
-good_walks : (n : Node) → Walks n
-good_walks = ind-Node Walks (λ x y is. node_walks x (subst (λ (z : Node-F Node). Each Told z.children → (where_of : ℕ → Where) → least_from Where where_of 0 (map walk z.children) ≡ None) is (all_walk y.children)))
+node_walks : (x : Node-F Node) → AllWalk x.children → Walks (roll-Node x)
+node_walks x below o i s g w =
+    let h = (node_has_shape x.span x.kind x.children o).0 s in
+    let told : Told x.kind = subst Told (kind_made x) (kind_good Told g) in
+    whole_walks x below (child_shapes x.kind o (length x.children)) (inner_children x.kind o (length x.children) i) h.1 (within x.kind told (inner_kind o i x.kind h.0)) g w
 
-pub read_spelled : ReadLeavesAreSpelled
-read_spelled text mode bound tree u small e =
+inner_walks : (n : Node) → Walks n
+inner_walks = ind-Node Walks (λ x y is. node_walks x (subst (λ (z : Node-F Node). AllWalk z.children) is (all_walk y.children)))
+
+each_walks : (ns : List Node) → AllWalk ns
+each_walks [] os i s h where_of = refl
+each_walks (n ∷ ns) [] i s h where_of = absurd s
+each_walks (n ∷ ns) (o ∷ os) i s (more a h) where_of =
+    let p = and_parts (is_inner o) (list_all is_inner os) i in
+    both_none (walk n (where_of 0)) (least_from Where where_of 1 (map walk ns)) (inner_walks n o p.0 s.0 a (where_of 0)) (shifted Where where_of 0 (map walk ns) ∙ each_walks ns os p.1 s.1 h (λ i. where_of (suc i)))
+
+-- and the root
+root_walks : (n : Node) → HasSort sort.Module n → is_spelled true (kind_of n) ≡ true → Good n → (w : Where) → walk n w ≡ None
+root_walks n s told g w = subst (λ (m : Node). walk m w ≡ None) (roll-out-Node n) (of_parts (out-Node n) (subst (HasSort sort.Module) (sym (roll-out-Node n)) s) told (subst Good (sym (roll-out-Node n)) g))
+  where
+    of_parts : (x : Node-F Node) → HasSort sort.Module (roll-Node x) → is_spelled true x.kind ≡ true → Good (roll-Node x) → walk (roll-Node x) w ≡ None
+    of_parts x s told g =
+        let h = (node_has_shape x.span x.kind x.children (one sort.Module)).0 s in
+        whole_walks x (each_walks x.children) (child_shapes x.kind (one sort.Module) (length x.children)) (module_children x.kind (length x.children) h.0) h.1 (λ is. told) g w
+
+pub read_spelled : ReadModulesAreSorted → ReadLeavesAreSpelled
+read_spelled read_sorted text mode bound tree u small e =
+    let sorted : HasSort sort.Module tree = read_sorted text mode bound tree e in
     of_raw (NoneFails is_told_wrong) text mode bound tree
     (λ raw h b is.
     let good = finished_good Told (λ k. not_true k) (λ k. not_true k) (λ k. not_true k) (λ k. not_true k) (λ k. not_true k) (λ k. not_true k) (λ k. not_true k) (λ k. not_true k) raw (raw_good text mode bound raw u small h) target.Free in
-    subst (NoneFails is_told_wrong) is (good_walks (finished raw) good at_top)) e
-
-pub ruleset reading = (read_spelled)
+    let s : HasSort sort.Module (finished raw) = subst (HasSort sort.Module) (sym is) sorted in
+    let told : is_spelled true (kind_of (finished raw)) ≡ true = ap (is_spelled true) (free_kind raw) ∙ raw_told text mode bound raw u small h in
+    subst (NoneFails is_told_wrong) is (root_walks (finished raw) s told good at_top)) e

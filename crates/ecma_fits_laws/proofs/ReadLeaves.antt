@@ -50,9 +50,15 @@ use Rattle.ecma_fits_laws.proofs.ReadingOf.{is_hashbang}
 use Rattle.ecma_fits_laws.proofs.ReadRegexes.{regex_body, regex_flags}
 use Rattle.ecma_fits_laws.proofs.Walks.{not_true}
 
--- one of these is spelled
+-- a whole program, which stands nowhere but at the root
+abbrev pub is_program : Kind → Bool
+is_program (kind.Module shebang) = true
+is_program (kind.Script shebang) = true
+is_program _ = false
+
+-- one of these that is no program is spelled
 abbrev pub Told : Kind → Type 0
-Told k = is_told k ≡ true → is_spelled true k ≡ true
+Told k = (is_told k && not (is_program k)) ≡ true → is_spelled true k ≡ true
 
 -- a token by itself, before which nothing is skipped
 
@@ -115,7 +121,7 @@ module _ (text : List ℕ) (u : IsUtf8 text) (small : length text < 4294967296) 
   holds_found Q s before None g = holds_fails Q (max s.failed before.to)
   holds_found Q s before (Some j) g = holds_read Q (record { start = before.to; next = j; new_line = before.new_line }) (record { place = j; failed = s.failed }) (g j refl)
 
-  holds_term : (find : List ℕ → ℕ → Option ℕ) (Q : Token → Type 0) → ((i j : ℕ) (b : Bool) → find text i ≡ Some j → Q (record { start = i; next = j; new_line = b })) → (s : Position) → Holds (terminal_on s (term find text s.place)) Q
+  pub holds_term : (find : List ℕ → ℕ → Option ℕ) (Q : Token → Type 0) → ((i j : ℕ) (b : Bool) → find text i ≡ Some j → Q (record { start = i; next = j; new_line = b })) → (s : Position) → Holds (terminal_on s (term find text s.place)) Q
   holds_term find Q g s =
       let before = skipped text s.place in
       holds_found Q s before (cond before.closed (find text before.to) None) (λ j h. g before.to j before.new_line (if_closed find before.closed before.to j h))

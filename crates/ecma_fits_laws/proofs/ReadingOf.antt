@@ -101,12 +101,12 @@ holds_front Q R xs (read ys u) q f = holds_read R (xs ++ ys) u (f ys (q u ys ref
 holds_front Q R xs (fails n) q f = holds_fails R n
 holds_front Q R xs (too_deep n) q f = holds_deep R n
 
-holds_followed : (P Q R : List Node → Type 0) (q : Reading (List Node)) (o : Outcome (List Node)) → Holds o P → ((s : Position) → Holds (q s) Q) → ((xs ys : List Node) → P xs → Q ys → R (xs ++ ys)) → Holds (followed_on q o) R
+pub holds_followed : (P Q R : List Node → Type 0) (q : Reading (List Node)) (o : Outcome (List Node)) → Holds o P → ((s : Position) → Holds (q s) Q) → ((xs ys : List Node) → P xs → Q ys → R (xs ++ ys)) → Holds (followed_on q o) R
 holds_followed P Q R q (read xs u) p h f = holds_front Q R xs (q u) (h u) (λ ys k. f xs ys (p u xs refl) k)
 holds_followed P Q R q (fails n) p h f = holds_fails R n
 holds_followed P Q R q (too_deep n) p h f = holds_deep R n
 
-holds_or : (Q : List Node → Type 0) (q : Reading (List Node)) (s : Position) (o : Outcome (List Node)) → Holds o Q → ((s : Position) → Holds (q s) Q) → Holds (or_on q s o) Q
+pub holds_or : (Q : List Node → Type 0) (q : Reading (List Node)) (s : Position) (o : Outcome (List Node)) → Holds o Q → ((s : Position) → Holds (q s) Q) → Holds (or_on q s o) Q
 holds_or Q q s (read xs u) p h = p
 holds_or Q q s (fails n) p h = h (record { place = s.place; failed = n })
 holds_or Q q s (too_deep n) p h = holds_deep Q n
@@ -115,7 +115,7 @@ holds_marked : (Q : List Node → Type 0) (b : Bool) (p : Reading (List Node)) (
 holds_marked Q true p s h = h
 holds_marked Q false p s h = holds_fails Q s.failed
 
-holds_built : (Q R : List Node → Type 0) (f : Form) (lo : ℕ) (o : Outcome (List Node)) → Holds o Q → ((hi : ℕ) (xs : List Node) → Q xs → R (made f lo hi xs ∷ [])) → Holds (built_on f lo o) R
+pub holds_built : (Q R : List Node → Type 0) (f : Form) (lo : ℕ) (o : Outcome (List Node)) → Holds o Q → ((hi : ℕ) (xs : List Node) → Q xs → R (made f lo hi xs ∷ [])) → Holds (built_on f lo o) R
 holds_built Q R f lo (read xs u) h g = holds_read R _ u (g u.place xs (h u xs refl))
 holds_built Q R f lo (fails n) h g = holds_fails R n
 holds_built Q R f lo (too_deep n) h g = holds_deep R n

@@ -12,8 +12,10 @@ use Rattle.ecma_fits.specs.declared.unfit.Where.{Where}
 use Rattle.ecma_fits.specs.Fitting.{breaks_rule}
 use Rattle.ecma_fits_laws.specs.Clauses.{NoneFails, has_second_constructor, is_misspelled}
 
--- names, keys, private names, texts, numbers, BigInts and regular expressions
+-- all leaves but the text parts of templates: names, keys, private names, texts, numbers, BigInts, regular expressions and hashbangs
 abbrev pub is_told : Kind → Bool
+is_told (kind.Module shebang) = true
+is_told (kind.Script shebang) = true
 is_told (kind.Ident sym ctxt optional) = true
 is_told (kind.IdentName sym) = true
 is_told (kind.PrivateName name) = true

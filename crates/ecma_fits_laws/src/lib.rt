@@ -51,11 +51,13 @@ pub fn trees_that_are_read_keep_rules()
     modules_that_are_read_are_sorted();
 }
 
-/// Names, keys, private names, texts, numbers, BigInts and regular expressions of what is read as a module are spelled as their terminals read them, and say what these say.
-#[tactic(auto, using(crate::proofs::Read::reading))]
+/// All leaves of what is read as a module but the text parts of templates are spelled as their terminals read them, and say what these say: names, keys,
+/// private names, texts, numbers, BigInts, regular expressions and hashbangs.
 pub fn leaves_that_are_read_are_spelled()
     ensures { ReadLeavesAreSpelled }
-{}
+{
+    modules_that_are_read_are_sorted();
+}
 
 /// Each node of what is read as a module has the parts that its production asks for.
 pub fn nodes_that_are_read_are_full()
