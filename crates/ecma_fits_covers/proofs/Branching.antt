@@ -129,12 +129,12 @@ branches_stay tree h =
 
 -- members
 
-key_opens : (k : Kind) (children : List Laid) (spot : Spot) → Fits spot → is_constructor_key k ≡ true → in_parentheses k children spot ≡ false
+pub key_opens : (k : Kind) (children : List Laid) (spot : Spot) → Fits spot → is_constructor_key k ≡ true → in_parentheses k children spot ≡ false
 key_opens (kind.IdentName text) children spot h e = ap (λ b. b || false) h
 key_opens (kind.Str value raw) children spot h e = ap (λ b. b || false) h
 key_opens _ children spot h e = not_true e
 
-function_opens : (k : Kind) (children : List Laid) (spot : Spot) → Fits spot → is_special_function k ≡ true → in_parentheses k children spot ≡ false
+pub function_opens : (k : Kind) (children : List Laid) (spot : Spot) → Fits spot → is_special_function k ≡ true → in_parentheses k children spot ≡ false
 function_opens (kind.Function is_generator is_async) children spot h e = ap (λ b. b || false) h
 function_opens _ children spot h e = not_true e
 

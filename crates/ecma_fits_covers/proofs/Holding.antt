@@ -67,7 +67,7 @@ closed kind.ClassExpr children spot h e = refl
 closed _ children spot h e = not_true (sym (ap (λ b. b || false) h) ∙ e)
 
 -- what is asked of the children of such a node does not depend on what is asked of it
-same_roles : (r : Role) (k : Kind) (i : ℕ) → closes k ≡ true → role_in r k i ≡ role_in role.Free k i
+pub same_roles : (r : Role) (k : Kind) (i : ℕ) → closes k ≡ true → role_in r k i ≡ role_in role.Free k i
 unfolding role_in
 same_roles r kind.SeqExpr i h = refl
 same_roles r (kind.AssignExpr op) i h = refl
@@ -248,20 +248,20 @@ roles_here r span k ns children spot fits h =
     out_made r y ∙ out_less r k (is_simple_target (roll-Node x)) (is_simple_target (roll-Node y)) (simple_here span k ns children spot (firsts_simple ns)) (sym (out_made r x) ∙ h)
 
 -- a kind that may stand in parentheses is nothing that is declared or assigned to
-record Expression (k : Kind) : Type 0 where
-  pattern : is_pattern k ≡ false
-  binding : is_binding k ≡ false
-  bound : is_bound_name k ≡ false
-  variables : is_variables k ≡ false
-  absent : is_absent k ≡ false
-  default : is_default k ≡ false
-  rest : is_rest k ≡ false
-  free : is_free k ≡ true
-  plain : is_plain_target k ≡ false
-  wrapper : is_wrapper k ≡ false
+pub record Expression (k : Kind) : Type 0 where
+  pub pattern : is_pattern k ≡ false
+  pub binding : is_binding k ≡ false
+  pub bound : is_bound_name k ≡ false
+  pub variables : is_variables k ≡ false
+  pub absent : is_absent k ≡ false
+  pub default : is_default k ≡ false
+  pub rest : is_rest k ≡ false
+  pub free : is_free k ≡ true
+  pub plain : is_plain_target k ≡ false
+  pub wrapper : is_wrapper k ≡ false
   name : (r : Role) → is_wrong_name r k ≡ false
 
-expression : (k : Kind) → closes k ≡ true → Expression k
+pub expression : (k : Kind) → closes k ≡ true → Expression k
 expression kind.SeqExpr h = record { pattern = refl; binding = refl; bound = refl; variables = refl; absent = refl; default = refl; rest = refl; free = refl; plain = refl; wrapper = refl; name = λ r. refl }
 expression (kind.AssignExpr op) h = record { pattern = refl; binding = refl; bound = refl; variables = refl; absent = refl; default = refl; rest = refl; free = refl; plain = refl; wrapper = refl; name = λ r. refl }
 expression (kind.ArrowExpr is_async is_generator) h = record { pattern = refl; binding = refl; bound = refl; variables = refl; absent = refl; default = refl; rest = refl; free = refl; plain = refl; wrapper = refl; name = λ r. refl }

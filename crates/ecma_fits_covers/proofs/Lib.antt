@@ -19,4 +19,9 @@ pub mod Spelling
 pub mod Constructing
 mod Opening
 pub mod Counting
+mod Walking
+pub mod Straying
+mod Aiming
+pub mod Targeting
+pub mod Ruling
 pub mod Usual

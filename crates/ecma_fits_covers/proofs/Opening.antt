@@ -1,5 +1,5 @@
 -- Nodes and lists in their spots, and tests that parentheses do not change.
-use Rattle.std.proofs.Common.{◌≡◌, ◌∙◌, ◌&&◌, if◌then◌else◌, suc, Bool, true, false, List, [], ◌∷◌, map, length, refl, sym, ap, ap₂, subst}
+use Rattle.std.proofs.Common.{◌≡◌, ◌∙◌, ◌&&◌, if◌then◌else◌, ℕ, suc, Bool, true, false, List, [], ◌∷◌, map, length, refl, sym, ap, ap₂, subst, slice_get}
 use Rattle.std.specs.List.{list_all}
 use Rattle.ecma_kind.specs.declared.span.Span.{Span}
 use Rattle.ecma_kind.specs.declared.kind.Kind.{Kind}
@@ -8,7 +8,7 @@ use Rattle.ecma_tree.specs.declared.node.Node.{Node, Node-F, out-Node, roll-Node
 use Rattle.ecma_tree.specs.declared.node.Node.TheViews.{roll-out-Node}
 use Rattle.ecma_tree.specs.Nodes.{node_of}
 use Rattle.ecma_tree.specs.Sorted.{is_list}
-use Rattle.ecma_rules.specs.Children.{kind_of}
+use Rattle.ecma_rules.specs.Children.{child_holds, child_is, holds_of, kind_of, of_kind}
 use Rattle.ecma_print.specs.declared.place.Spot.{Spot}
 use Rattle.ecma_print.specs.Places.{free}
 use Rattle.ecma_print.specs.Laid.{Laid}
@@ -18,7 +18,7 @@ use Rattle.ecma_parentheses.specs.Spots.{first_spots, further_spot}
 use Rattle.ecma_parentheses.proofs.Standing.{if_false, stands}
 use Rattle.ecma_parentheses.proofs.Asking.{AllFit, Fits, first_fit, further_fits}
 use Rattle.ecma_fits_covers.proofs.Parts.{children_made, not_true}
-use Rattle.ecma_fits_covers.proofs.Explicit.{IsKept, kind_kept, spotted}
+use Rattle.ecma_fits_covers.proofs.Explicit.{IsKept, kept_at, kind_at, kind_kept, spotted}
 use Rattle.ecma_fits_covers.proofs.Holding.{closed, closes}
 
 abbrev children_of : Node → List Node
@@ -100,3 +100,24 @@ module _ (T : Node → Bool) (t : Kind → List Node → Bool) (made : (x : Node
 pub by_children : (span : Span) (k : Kind) (cs ns : List Node) (read : List Node → Bool) → read cs ≡ read ns → read (children_of (node_of span k cs)) ≡ read (children_of (node_of span k ns))
 by_children span k cs ns read e =
     ap read (children_made (record { span = span; kind = k; children = cs })) ∙ (e ∙ sym (ap read (children_made (record { span = span; kind = k; children = ns }))))
+
+-- tests of the children of a node that stands in no parentheses
+
+pub children_in : (n : Node) (spot : Spot) → Fits spot → closes (kind_of n) ≡ false
+    → children_of ((stood n).at spot) ≡ spotted (children_of n) (first_spots (kind_of n) (laid_children (map stood (children_of n))) spot) (further_spot (kind_of n) spot)
+children_in n spot fits h =
+    let x = out-Node n in
+    ap (λ m. children_of ((stood m).at spot)) (sym (roll-out-Node n))
+    ∙ (ap children_of (open_in x spot fits h) ∙ children_made (record { span = x.span; kind = x.kind; children = spotted x.children (first_spots x.kind (laid_children (map stood x.children)) spot) (further_spot x.kind spot) }))
+
+pub holds_in : (test : Node → Bool) → IsKept test → (n : Node) (spot : Spot) → Fits spot → closes (kind_of n) ≡ false → (i : ℕ) → child_holds test ((stood n).at spot) i ≡ child_holds test n i
+holds_in test kept n spot fits h i =
+    let ls = laid_children (map stood (children_of n)) in
+    ap (λ (z : List Node). holds_of test (slice_get z i)) (children_in n spot fits h)
+    ∙ kept_at test kept (children_of n) (first_spots (kind_of n) ls spot) (further_spot (kind_of n) spot) (first_fit (kind_of n) ls spot fits) (further_fits (kind_of n) spot fits) i
+
+pub is_in : (is : Kind → Bool) → IsKept (λ n. is (kind_of n)) → (n : Node) (spot : Spot) → Fits spot → closes (kind_of n) ≡ false → (i : ℕ) → child_is is ((stood n).at spot) i ≡ child_is is n i
+is_in is kept n spot fits h i =
+    let ls = laid_children (map stood (children_of n)) in
+    ap (λ (z : List Node). of_kind is (slice_get z i)) (children_in n spot fits h)
+    ∙ kind_at is kept (children_of n) (first_spots (kind_of n) ls spot) (further_spot (kind_of n) spot) (first_fit (kind_of n) ls spot fits) (further_fits (kind_of n) spot fits) i

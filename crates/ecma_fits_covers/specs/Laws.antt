@@ -8,6 +8,7 @@ use Rattle.ecma_tree.specs.Finding.{enters_all, finds}
 use Rattle.ecma_tree.specs.Sorted.{HasSort}
 use Rattle.ecma_rules.specs.declared.target.Target.TheVariants as target
 use Rattle.ecma_rules.specs.Children.{kind_of}
+use Rattle.ecma_rules.specs.Jumps.{first_stray}
 use Rattle.ecma_rules.specs.Members.{second_constructor}
 use Rattle.ecma_rules.specs.Rules.{first_broken, first_misplaced}
 use Rattle.ecma_rules.specs.Surroundings.{at_root}
@@ -21,9 +22,10 @@ use Rattle.ecma_fits.specs.Branches.{is_dangling}
 use Rattle.ecma_fits.specs.Chains.{is_loose}
 use Rattle.ecma_fits.specs.Counts.{is_short}
 use Rattle.ecma_leaves.specs.Words.{is_spelled}
-use Rattle.ecma_fits.specs.Fitting.{Fits, at_top, where_in}
+use Rattle.ecma_fits.specs.Fitting.{Fits, at_top, breaks_rule, where_in}
 use Rattle.ecma_fits.specs.Members.{is_misread}
 use Rattle.ecma_fits.specs.Roles.{is_out_of_role, is_tagged}
+use Rattle.ecma_fits.specs.Strays.{is_stray_target}
 
 -- a pattern with a `?`, which is TypeScript
 abbrev pub is_optional_pattern : Kind → Bool
@@ -90,6 +92,26 @@ has_second_constructor node = is_some (second_constructor node)
 -- no class of a module has, with explicit parentheses, where none had
 abbrev pub ExplicitConstructorsStay : Type 0
 ExplicitConstructorsStay = (tree : Node) → HasSort sort.Module tree → NoneIs has_second_constructor tree → NoneIs has_second_constructor (explicit tree)
+
+-- no node of a tree is `arguments` that is assigned to in a pattern and belongs to nothing
+abbrev pub NoneIsStrayTarget : Node → Type 0
+NoneIsStrayTarget tree = first_failing Where (λ w node. failing_here (is_stray_target w.role w.arguments node) node) where_in tree at_top ≡ None
+
+-- nor of a module with explicit parentheses where none was, and none out of its role
+abbrev pub ExplicitTargetsStay : Type 0
+ExplicitTargetsStay = (tree : Node) → HasSort sort.Module tree → NoneIsOutOfRole tree → NoneIsStrayTarget tree → NoneIsStrayTarget (explicit tree)
+
+-- no node of a tree breaks a rule that reads it as it reads a raw one
+abbrev pub NoneBreaksRule : Node → Type 0
+NoneBreaksRule tree = first_failing Where (λ w node. failing_here (breaks_rule w node) node) where_in tree at_top ≡ None
+
+-- nor of a module with explicit parentheses where none did, and none was out of its role
+abbrev pub ExplicitRulesStay : Type 0
+ExplicitRulesStay = (tree : Node) → HasSort sort.Module tree → NoneIsOutOfRole tree → NoneBreaksRule tree → NoneBreaksRule (explicit tree)
+
+-- with explicit parentheses nothing is a stray where nothing was
+abbrev pub ExplicitStraysStay : Type 0
+ExplicitStraysStay = (tree : Node) → first_stray tree ≡ None → first_stray (explicit tree) ≡ None
 
 -- in what fits nothing but a target has a default
 abbrev pub WhatFitsHasUsualDefaults : Type 0

@@ -3,7 +3,7 @@
 //! Each function carries one law over the definitions, and does nothing. The laws are stated in `specs/`.
 #![tactic(auto)]
 
-ghost use Rattle.ecma_fits_covers.specs.Laws.{CoversAreNotMisplaced, CoversBreakNoRule, ExplicitBranchesStay, ExplicitChainsStay, ExplicitConstructorsStay, ExplicitCountsStay, ExplicitLeavesStay, ExplicitMembersStay, ExplicitRolesStay, WhatFitsStands, WhatFitsHasUsualDefaults};
+ghost use Rattle.ecma_fits_covers.specs.Laws.{CoversAreNotMisplaced, CoversBreakNoRule, ExplicitBranchesStay, ExplicitChainsStay, ExplicitConstructorsStay, ExplicitCountsStay, ExplicitLeavesStay, ExplicitMembersStay, ExplicitRolesStay, ExplicitRulesStay, ExplicitStraysStay, ExplicitTargetsStay, WhatFitsStands, WhatFitsHasUsualDefaults};
 
 /// In a tree that fits, and whose patterns have no `?`, patterns stand where they may.
 #[tactic(auto, using(crate::proofs::Placed::placed))]
@@ -63,6 +63,24 @@ pub fn explicit_leaves_stay()
 #[tactic(auto, using(crate::proofs::Constructing::constructors))]
 pub fn explicit_constructors_stay()
     ensures { ExplicitConstructorsStay }
+{}
+
+/// In a module with explicit parentheses no node breaks a context rule that reads it as it reads a raw one, where none did and none was out of its role.
+#[tactic(auto, using(crate::proofs::Ruling::rules_kept))]
+pub fn explicit_rules_stay()
+    ensures { ExplicitRulesStay }
+{}
+
+/// In a module with explicit parentheses no `arguments` that is assigned to in a pattern belongs to nothing, where none did and no node was out of its role.
+#[tactic(auto, using(crate::proofs::Targeting::targets))]
+pub fn explicit_targets_stay()
+    ensures { ExplicitTargetsStay }
+{}
+
+/// In the tree with explicit parentheses nothing belongs to nothing inside an enum initialiser or namespace body, where nothing did.
+#[tactic(auto, using(crate::proofs::Straying::strays))]
+pub fn explicit_strays_stay()
+    ensures { ExplicitStraysStay }
 {}
 
 /// In a tree that fits nothing but a target has a default.

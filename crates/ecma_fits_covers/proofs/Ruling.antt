@@ -1,0 +1,304 @@
+-- Explicit parentheses keep the context rules on lists, members and statements.
+use Rattle.std.proofs.Common.{◌≡◌, ◌∙◌, ◌||◌, ◌&&◌, not, codes, ℕ, zero, suc, Bool, true, false, List, [], ◌∷◌, length, replicate, map, refl, sym, ap, ap₂, subst, slice_get}
+use Rattle.ecma_kind.specs.Sorts.{belongs}
+use Rattle.ecma_kind.specs.declared.span.Span.{Span}
+use Rattle.ecma_kind.specs.declared.kind.Kind.{Kind}
+use Rattle.ecma_kind.specs.declared.kind.Kind.TheVariants as kind
+use Rattle.ecma_kind.specs.declared.operators.MethodKind.{MethodKind}
+use Rattle.ecma_kind.specs.declared.operators.MethodKind.TheVariants.{Method, Getter, Setter}
+use Rattle.ecma_kind.specs.declared.shapes.Shape.{Shape}
+use Rattle.ecma_kind.specs.declared.shapes.Sort.TheVariants as sort
+use Rattle.ecma_tree.specs.declared.node.Node.{Node, Node-F, out-Node, roll-Node}
+use Rattle.ecma_tree.specs.declared.node.Node.TheViews.{out-roll-Node, roll-out-Node}
+use Rattle.ecma_tree.specs.Laws.{HaveShapes}
+use Rattle.ecma_tree.specs.Nodes.{dummy_span, node_of}
+use Rattle.ecma_tree.specs.Sorted.{HasShape, child_shapes, is_list, many, one}
+use Rattle.ecma_rules.specs.declared.standing.Around.{Around}
+use Rattle.ecma_rules.specs.declared.standing.Standing.{Standing}
+use Rattle.ecma_rules.specs.declared.target.Target.{Target}
+use Rattle.ecma_rules.specs.Children.{children_of as items_of, holds_of, is_named, is_present, items_at, kind_of, of_kind}
+use Rattle.ecma_rules.specs.Lists.{is_head, is_item, is_one_without_value, is_rest}
+use Rattle.ecma_rules.specs.Members.{fits_kind, is_binding_name, is_constructor_key, is_declaring, is_empty_list, is_method, is_named_pattern, is_one_parameter, is_plain_parameter, is_property_kind, is_special_by, is_special_constructor, is_special_function, is_this_by, is_this_parameter, is_this_pattern, is_wrong_accessor, misfits_by}
+use Rattle.ecma_rules.specs.Statements.{is_body, is_declaration, is_exported, is_text}
+use Rattle.ecma_rules.specs.Targets.{is_variables}
+use Rattle.ecma_print.specs.declared.place.Beside.TheVariants.{NoNeighbor}
+use Rattle.ecma_print.specs.declared.place.Spot.{Spot}
+use Rattle.ecma_print.specs.Places.{free, right}
+use Rattle.ecma_print.specs.Laid.{Laid}
+use Rattle.ecma_parentheses.specs.Explicit.{laid_children, parenthesized, stood}
+use Rattle.ecma_parentheses.specs.Spots.{first_spots, further_spot}
+use Rattle.ecma_parentheses.proofs.Asking.{AllFit, Fits, first_fit, further_fits}
+use Rattle.ecma_fits.specs.declared.unfit.Where.{Where}
+use Rattle.ecma_fits.specs.Fitting.{at_top, breaks_rule, where_in}
+use Rattle.ecma_fits_covers.specs.Laws.{ExplicitRulesStay}
+use Rattle.ecma_fits_covers.proofs.Parts.{kind_made, not_true, shape_allows, shape_made}
+use Rattle.ecma_fits_covers.proofs.Explicit.{IsKept, kept_at, kind_at, kind_kept, spotted}
+use Rattle.ecma_fits_covers.proofs.Branching.{function_opens, key_opens, present_kept}
+use Rattle.ecma_fits_covers.proofs.Holding.{closes}
+use Rattle.ecma_fits_covers.proofs.Opening.{NoneClose, children_in, holds_in, is_in, items_in, kinds_kept, test_kept}
+use Rattle.ecma_fits_covers.proofs.Targeting.{names_open}
+use Rattle.ecma_fits_covers.proofs.Walking.{kept}
+use Rattle.ecma_fits_covers.proofs.Aiming.{Known, and_none, known_below, where_around, where_stays}
+
+-- the rules, by the kind and the children of a node
+
+abbrev head_by : Target → Kind → List Node → Bool
+head_by t k ns = (is_head t && is_variables k) && not (is_one_without_value (items_of (slice_get ns 0)))
+
+abbrev property_by : Standing → Kind → List Node → Bool
+property_by s k ns = is_property_kind k && not (is_declaring s && holds_of is_plain_parameter (slice_get ns 0))
+
+abbrev misfit_by : Kind → List Node → Bool
+misfit_by kind.GetterProp ns = of_kind is_present (slice_get ns 3)
+misfit_by kind.SetterProp ns = of_kind is_list (slice_get ns 2)
+misfit_by (kind.ClassMethod k modifiers) ns = not (holds_of (fits_kind k) (slice_get ns 1))
+misfit_by (kind.PrivateMethod k modifiers) ns = not (holds_of (fits_kind k) (slice_get ns 1))
+misfit_by _ ns = false
+
+abbrev special_by : Kind → List Node → Bool
+special_by (kind.ClassMethod k modifiers) ns = not modifiers.is_static && (of_kind is_constructor_key (slice_get ns 0) && (not (is_method k) || of_kind is_special_function (slice_get ns 1)))
+special_by _ ns = false
+
+abbrev rule_of : Around → Kind → Bool → Bool → Bool → Bool → Bool
+rule_of a k head property misfit special =
+    (head || (is_rest a.target k && not a.is_last)) || ((property || (misfit || special)) || ((is_exported a.standing && is_text k) || (is_body a.standing && is_declaration k)))
+
+abbrev rule_by : Around → Kind → List Node → Bool
+rule_by a k ns = rule_of a k (head_by a.target k ns) (property_by a.standing k ns) (misfit_by k ns) (special_by k ns)
+
+misfit_made : (x : Node-F Node) → is_wrong_accessor (roll-Node x) ≡ misfit_by x.kind x.children
+unfolding misfits_by
+misfit_made x = ap (λ k. misfits_by k (roll-Node x)) (kind_made x) ∙ by x.kind
+  where
+    by : (k : Kind) → misfits_by k (roll-Node x) ≡ misfit_by k x.children
+    by kind.GetterProp = ap (λ (p : Node-F Node). misfit_by kind.GetterProp p.children) (out-roll-Node x)
+    by kind.SetterProp = ap (λ (p : Node-F Node). misfit_by kind.SetterProp p.children) (out-roll-Node x)
+    by (kind.ClassMethod k modifiers) = ap (λ (p : Node-F Node). misfit_by (kind.ClassMethod k modifiers) p.children) (out-roll-Node x)
+    by (kind.PrivateMethod k modifiers) = ap (λ (p : Node-F Node). misfit_by (kind.PrivateMethod k modifiers) p.children) (out-roll-Node x)
+    by _ = refl
+
+special_made : (x : Node-F Node) → is_special_constructor (roll-Node x) ≡ special_by x.kind x.children
+special_made x = ap (λ k. is_special_by k (roll-Node x)) (kind_made x) ∙ by x.kind
+  where
+    by : (k : Kind) → is_special_by k (roll-Node x) ≡ special_by k x.children
+    by (kind.ClassMethod k modifiers) = ap (λ (p : Node-F Node). special_by (kind.ClassMethod k modifiers) p.children) (out-roll-Node x)
+    by _ = refl
+
+rule_made : (w : Where) (x : Node-F Node) → breaks_rule w (roll-Node x) ≡ rule_by w.around x.kind x.children
+rule_made w x =
+    ap (λ (p : Node-F Node). rule_of w.around p.kind (head_by w.around.target p.kind p.children) (property_by w.around.standing p.kind p.children) (is_wrong_accessor (roll-Node x)) (is_special_constructor (roll-Node x))) (out-roll-Node x)
+    ∙ ap₂ (rule_of w.around x.kind (head_by w.around.target x.kind x.children) (property_by w.around.standing x.kind x.children)) (misfit_made x) (special_made x)
+
+-- what may stand in parentheses breaks none of them
+
+quiet : (head item exported body one last : Bool) → ((((head && false) && one) || ((item && false) && last)) || ((exported && false) || (body && false))) ≡ false
+quiet head item exported body one last =
+    ap₂ (λ a b. a || b) (ap₂ (λ a b. (a && one) || (b && last)) (and_none head) (and_none item)) (ap₂ (λ a b. a || b) (and_none exported) (and_none body))
+
+parentheses_silent : (a : Around) (ns : List Node) → rule_by a kind.ParenExpr ns ≡ false
+unfolding is_declaration
+parentheses_silent a ns = quiet (is_head a.target) (is_item a.target) (is_exported a.standing) (is_body a.standing) (not (is_one_without_value (items_of (slice_get ns 0)))) (not a.is_last)
+
+silent : (a : Around) (k : Kind) (ns : List Node) → closes k ≡ true → rule_by a k ns ≡ false
+unfolding is_declaration
+silent a kind.SeqExpr ns h = parentheses_silent a ns
+silent a (kind.AssignExpr op) ns h = parentheses_silent a ns
+silent a (kind.ArrowExpr is_async is_generator) ns h = parentheses_silent a ns
+silent a (kind.YieldExpr delegate) ns h = parentheses_silent a ns
+silent a kind.CondExpr ns h = parentheses_silent a ns
+silent a (kind.BinExpr op) ns h = parentheses_silent a ns
+silent a (kind.UnaryExpr op) ns h = parentheses_silent a ns
+silent a kind.AwaitExpr ns h = parentheses_silent a ns
+silent a (kind.UpdateExpr op prefix) ns h = parentheses_silent a ns
+silent a kind.CallExpr ns h = parentheses_silent a ns
+silent a (kind.OptChainExpr optional) ns h = parentheses_silent a ns
+silent a kind.NewExpr ns h = parentheses_silent a ns
+silent a (kind.Number value raw) ns h = parentheses_silent a ns
+silent a kind.ObjectLit ns h = parentheses_silent a ns
+silent a kind.FnExpr ns h = parentheses_silent a ns
+silent a kind.ClassExpr ns h = parentheses_silent a ns
+silent a _ ns h = not_true h
+
+-- declarators
+
+declarator_opens : (k : Kind) → belongs sort.VarDeclarator k ≡ true → closes k ≡ false
+declarator_opens (kind.VarDeclarator definite) h = refl
+declarator_opens _ h = not_true h
+
+list_only : (k : Kind) → is_list k ≡ true → k ≡ kind.List
+list_only kind.List h = refl
+list_only _ h = not_true h
+
+-- the items of a list, by their sort
+items_have : (n : Node) (o : Shape) → HasShape o n → is_list (kind_of n) ≡ true → HaveShapes (child_shapes kind.List o (length (out-Node n).children)) (out-Node n).children
+items_have n o h l =
+    let x = out-Node n in
+    subst (λ k. HaveShapes (child_shapes k o (length x.children)) x.children) (list_only x.kind l) (shape_made x o (subst (HasShape o) (sym (roll-out-Node n)) h)).1
+
+one_declarator : (ds : List Node) (n : ℕ) (spot : Spot) → Fits spot → HaveShapes (replicate n (one sort.VarDeclarator)) ds → is_one_without_value (spotted ds [] spot) ≡ is_one_without_value ds
+one_declarator [] n spot fits have = refl
+one_declarator (d ∷ []) zero spot fits have = absurd have
+one_declarator (d ∷ []) (suc n) spot fits have = ap not (is_in is_present present_kept d spot fits (declarator_opens (kind_of d) (shape_allows d (one sort.VarDeclarator) have.0)) 1)
+one_declarator (d ∷ e ∷ ds) n spot fits have = refl
+
+no_head : (head a b : Bool) → ((head && false) && a) ≡ ((head && false) && b)
+no_head head a b = ap (λ z. z && a) (and_none head) ∙ sym (ap (λ z. z && b) (and_none head))
+
+head_here : (t : Target) (k : Kind) (ns : List Node) (ls : List Laid) (spot : Spot) (o : Shape) (n : ℕ) → HaveShapes (child_shapes k o n) ns → head_by t k (spotted ns (first_spots k ls spot) (further_spot k spot)) ≡ head_by t k ns
+head_here t (kind.VarDecl keyword declare) [] ls spot o n have = absurd have
+head_here t (kind.VarDecl keyword declare) (a ∷ ns) ls spot o n have =
+    let s = right spot 1 NoNeighbor in
+    let l = shape_allows a (many sort.VarDeclarator) have.0 in
+    ap (λ b. (is_head t && true) && not b)
+    (ap is_one_without_value (items_in a s refl l) ∙ one_declarator (out-Node a).children (length (out-Node a).children) s refl (items_have a (many sort.VarDeclarator) have.0 l))
+head_here t k ns ls spot o n have = no_head (is_head t) (not (is_one_without_value (items_of (slice_get (spotted ns (first_spots k ls spot) (further_spot k spot)) 0)))) (not (is_one_without_value (items_of (slice_get ns 0))))
+
+-- plain parameters, and `this`
+
+binding_open : NoneClose is_binding_name
+binding_open kind.BindingIdent h = refl
+binding_open _ h = not_true h
+
+abbrev plain : Kind → List Node → Bool
+plain kind.BindingIdent ns = true
+plain kind.AssignPat ns = of_kind is_binding_name (slice_get ns 0)
+plain _ ns = false
+
+plain_made : (x : Node-F Node) → is_plain_parameter (roll-Node x) ≡ plain x.kind x.children
+plain_made x = ap (λ k. is_named_pattern k (roll-Node x)) (kind_made x) ∙ by x.kind
+  where
+    by : (k : Kind) → is_named_pattern k (roll-Node x) ≡ plain k x.children
+    by kind.BindingIdent = refl
+    by kind.AssignPat = ap (λ (p : Node-F Node). of_kind is_binding_name (slice_get p.children 0)) (out-roll-Node x)
+    by _ = refl
+
+plain_closing : (k : Kind) (ns : List Node) → closes k ≡ true → plain k ns ≡ false
+plain_closing kind.BindingIdent ns h = not_true h
+plain_closing kind.AssignPat ns h = not_true h
+plain_closing _ ns h = refl
+
+plain_here : (k : Kind) (ns : List Node) (spots : List Spot) (further : Spot) → AllFit spots → Fits further → plain k (spotted ns spots further) ≡ plain k ns
+plain_here kind.BindingIdent ns spots further fit fits = refl
+plain_here kind.AssignPat ns spots further fit fits = kind_at is_binding_name (kinds_kept is_binding_name refl binding_open) ns spots further fit fits 0
+plain_here _ ns spots further fit fits = refl
+
+plain_parameters : IsKept is_plain_parameter
+plain_parameters = test_kept is_plain_parameter plain plain_made (λ n. plain_made (record { span = dummy_span; kind = kind.ParenExpr; children = n ∷ [] })) plain_closing plain_here
+
+abbrev this_is : List Node → Bool
+this_is ns = of_kind (is_named (codes "this")) (slice_get ns 0)
+
+abbrev this_by : Kind → List Node → Bool
+this_by kind.BindingIdent ns = this_is ns
+this_by _ ns = false
+
+this_made : (x : Node-F Node) → is_this_pattern (roll-Node x) ≡ this_by x.kind x.children
+this_made x = ap (λ k. is_this_by k (roll-Node x)) (kind_made x) ∙ by x.kind
+  where
+    by : (k : Kind) → is_this_by k (roll-Node x) ≡ this_by k x.children
+    by kind.BindingIdent = ap (λ (p : Node-F Node). this_is p.children) (out-roll-Node x)
+    by _ = refl
+
+this_closing : (k : Kind) (ns : List Node) → closes k ≡ true → this_by k ns ≡ false
+this_closing kind.BindingIdent ns h = not_true h
+this_closing _ ns h = refl
+
+this_here : (k : Kind) (ns : List Node) (spots : List Spot) (further : Spot) → AllFit spots → Fits further → this_by k (spotted ns spots further) ≡ this_by k ns
+this_here kind.BindingIdent ns spots further fit fits = kind_at (is_named (codes "this")) (kinds_kept (is_named (codes "this")) refl (names_open (codes "this"))) ns spots further fit fits 0
+this_here _ ns spots further fit fits = refl
+
+this_patterns : IsKept is_this_pattern
+this_patterns = test_kept is_this_pattern this_by this_made (λ n. this_made (record { span = dummy_span; kind = kind.ParenExpr; children = n ∷ [] })) this_closing this_here
+
+-- the parameters of a function
+
+param_opens : (k : Kind) → belongs sort.Param k ≡ true → closes k ≡ false
+param_opens kind.Param h = refl
+param_opens _ h = not_true h
+
+this_parameter : (n : Node) (spot : Spot) → Fits spot → HasShape (one sort.Param) n → is_this_parameter ((stood n).at spot) ≡ is_this_parameter n
+this_parameter n spot fits h = holds_in is_this_pattern this_patterns n spot fits (param_opens (kind_of n) (shape_allows n (one sort.Param) h)) 0
+
+one_parameter : (ns : List Node) (k : ℕ) (spot : Spot) → Fits spot → HaveShapes (replicate k (one sort.Param)) ns → is_one_parameter (spotted ns [] spot) ≡ is_one_parameter ns
+one_parameter [] k spot fits have = refl
+one_parameter (n ∷ ns) zero spot fits have = absurd have
+one_parameter (n ∷ []) (suc k) spot fits have = ap not (this_parameter n spot fits have.0)
+one_parameter (n ∷ m ∷ []) (suc k) spot fits have = this_parameter n spot fits have.0
+one_parameter (n ∷ m ∷ l ∷ ns) (suc k) spot fits have = refl
+
+empty_here : (ns : List Node) (spot : Spot) → is_empty_list (spotted ns [] spot) ≡ is_empty_list ns
+empty_here [] spot = refl
+empty_here (n ∷ ns) spot = refl
+
+function_opens_there : (k : Kind) → belongs sort.Function k ≡ true → closes k ≡ false
+function_opens_there (kind.Function is_generator is_async) h = refl
+function_opens_there _ h = not_true h
+
+-- a test of the parameters of a function
+module _ (test : List Node → Bool) (stays : (ns : List Node) (k : ℕ) → HaveShapes (replicate k (one sort.Param)) ns → test (spotted ns [] (free 1)) ≡ test ns) where
+  parameters_by : (k : Kind) (ns : List Node) (ls : List Laid) (spot : Spot) (n : ℕ) → belongs sort.Function k ≡ true → HaveShapes (child_shapes k (one sort.Function) n) ns
+      → test (items_of (slice_get (spotted ns (first_spots k ls spot) (further_spot k spot)) 0)) ≡ test (items_of (slice_get ns 0))
+  parameters_by (kind.Function is_generator is_async) [] ls spot n b have = absurd have
+  parameters_by (kind.Function is_generator is_async) (p ∷ ns) ls spot n b have =
+      let l = shape_allows p (many sort.Param) have.0 in
+      ap test (items_in p (free 1) refl l) ∙ stays (out-Node p).children (length (out-Node p).children) (items_have p (many sort.Param) have.0 l)
+  parameters_by _ ns ls spot n b have = not_true b
+
+  parameters_here : (f : Node) (spot : Spot) → Fits spot → HasShape (one sort.Function) f → test (items_at ((stood f).at spot) 0) ≡ test (items_at f 0)
+  parameters_here f spot fits h =
+      let x = out-Node f in
+      let t = shape_made x (one sort.Function) (subst (HasShape (one sort.Function)) (sym (roll-out-Node f)) h) in
+      ap (λ (z : List Node). test (items_of (slice_get z 0))) (children_in f spot fits (function_opens_there x.kind t.0))
+      ∙ parameters_by x.kind x.children (laid_children (map stood x.children)) spot (length x.children) t.0 t.1
+
+fits_here : (k : MethodKind) (f : Node) (spot : Spot) → Fits spot → HasShape (one sort.Function) f → fits_kind k ((stood f).at spot) ≡ fits_kind k f
+fits_here Method f spot fits h = refl
+fits_here Getter f spot fits h = parameters_here is_empty_list (λ ns k have. empty_here ns (free 1)) f spot fits h
+fits_here Setter f spot fits h = parameters_here is_one_parameter (λ ns k have. one_parameter ns k (free 1) refl have) f spot fits h
+
+lists_open : NoneClose is_list
+lists_open kind.List h = refl
+lists_open _ h = not_true h
+
+misfit_here : (k : Kind) (ns : List Node) (ls : List Laid) (spot : Spot) (o : Shape) (n : ℕ) → HaveShapes (child_shapes k o n) ns → misfit_by k (spotted ns (first_spots k ls spot) (further_spot k spot)) ≡ misfit_by k ns
+misfit_here kind.GetterProp ns ls spot o n have = kind_at is_present present_kept ns [] (free 1) tt refl 3
+misfit_here kind.SetterProp ns ls spot o n have = kind_at is_list (kinds_kept is_list refl lists_open) ns [] (free 1) tt refl 2
+misfit_here (kind.ClassMethod k modifiers) [] ls spot o n have = absurd have
+misfit_here (kind.ClassMethod k modifiers) (a ∷ []) ls spot o n have = absurd have.1
+misfit_here (kind.ClassMethod k modifiers) (a ∷ f ∷ ns) ls spot o n have = ap not (fits_here k f (free 1) refl have.1.0)
+misfit_here (kind.PrivateMethod k modifiers) [] ls spot o n have = absurd have
+misfit_here (kind.PrivateMethod k modifiers) (a ∷ []) ls spot o n have = absurd have.1
+misfit_here (kind.PrivateMethod k modifiers) (a ∷ f ∷ ns) ls spot o n have = ap not (fits_here k f (free 1) refl have.1.0)
+misfit_here _ ns ls spot o n have = refl
+
+special_here : (k : Kind) (ns : List Node) (spots : List Spot) (further : Spot) → AllFit spots → Fits further → special_by k (spotted ns spots further) ≡ special_by k ns
+special_here (kind.ClassMethod k modifiers) ns spots further fit fits =
+    ap₂ (λ a b. not modifiers.is_static && (a && (not (is_method k) || b))) (kind_at is_constructor_key (kind_kept is_constructor_key refl key_opens) ns spots further fit fits 0)
+    (kind_at is_special_function (kind_kept is_special_function refl function_opens) ns spots further fit fits 1)
+special_here _ ns spots further fit fits = refl
+
+-- a node whose children stand in their spots
+rule_here : (w : Where) (span : Span) (k : Kind) (ns : List Node) (ls : List Laid) (spot : Spot) (o : Shape) → Fits spot → HasShape o (node_of span k ns)
+    → breaks_rule w (node_of span k (spotted ns (first_spots k ls spot) (further_spot k spot))) ≡ breaks_rule w (node_of span k ns)
+rule_here w span k ns ls spot o fits h =
+    let a = w.around in
+    let spots = first_spots k ls spot in
+    let further = further_spot k spot in
+    let fit = first_fit k ls spot fits in
+    let more = further_fits k spot fits in
+    let there = spotted ns spots further in
+    let have = (shape_made (record { span = span; kind = k; children = ns }) o h).1 in
+    rule_made w (record { span = span; kind = k; children = there })
+    ∙ (ap₂ (λ head property. rule_of a k head property (misfit_by k there) (special_by k there)) (head_here a.target k ns ls spot o (length ns) have)
+    (ap (λ b. is_property_kind k && not (is_declaring a.standing && b)) (kept_at is_plain_parameter plain_parameters ns spots further fit more 0))
+    ∙ (ap₂ (rule_of a k (head_by a.target k ns) (property_by a.standing k ns)) (misfit_here k ns ls spot o (length ns) have) (special_here k ns spots further fit more)
+    ∙ sym (rule_made w (record { span = span; kind = k; children = ns }))))
+
+pub rules_stay : ExplicitRulesStay
+rules_stay tree sorted roles h =
+    kept Where Known breaks_rule where_in known_below where_stays (λ w span k ns ls spot fits p e. rule_here w span k ns ls spot p.shape fits p.shaped ∙ e)
+    (λ w n. rule_made w (record { span = dummy_span; kind = kind.ParenExpr; children = n ∷ [] }) ∙ parentheses_silent w.around (n ∷ [])) where_around
+    (λ w x n c e. let v = where_in w (parenthesized n) 0 in rule_made v x ∙ silent v.around x.kind x.children c) tree at_top
+    (record { shape = one sort.Module; shaped = sorted; role = roles; aim = refl }) h (free 0) refl
+
+pub ruleset rules_kept = (rules_stay)
