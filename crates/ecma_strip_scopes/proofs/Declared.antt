@@ -174,7 +174,7 @@ absent-none q =
     silent absent q (ap (id_here q) (kind-of _ kind.Absent []))
     (λ j. ap (λ (k : Kind). sought_by q.part q.stays (is_value absent) k j) (kind-of _ kind.Absent []) ∙ absent-by q.part q.stays (is_value absent) j)
 
-not-list : (k : Kind) (cs : List Node) → is_list k ≡ false → staying_nodes k cs ≡ cs
+pub not-list : (k : Kind) (cs : List Node) → is_list k ≡ false → staying_nodes k cs ≡ cs
 not-list kind.List cs h = absurd (true-false refl h)
 not-list _ cs h = refl
 

@@ -4,3 +4,10 @@ pub mod Exporting
 pub mod Seeking
 pub mod Standing
 pub mod Declared
+pub mod Thinning
+pub mod RolesAlike
+pub mod ScopesDeclare
+pub mod ScopesSame
+pub mod StopsKept
+pub mod KindsKept
+pub mod Walking

@@ -3,6 +3,7 @@
 //! Each function carries one law, and does nothing. The laws are stated in `specs/`.
 #![tactic(auto)]
 
+ghost use Rattle.ecma_strip_scopes.specs.Apart.{ScopesDeclareWhatStays, StrippedTellsScopesApart};
 ghost use Rattle.ecma_strip_scopes.specs.Going.{WhatGoesDeclaresNothing};
 ghost use Rattle.ecma_strip_scopes.specs.Standing.{WhatStaysIsDeclared};
 
@@ -14,4 +15,14 @@ pub fn what_goes_declares_nothing()
 /// What stays of a tree declares, without its types, what the tree declares as values that stay.
 pub fn what_stays_is_declared()
     ensures { WhatStaysIsDeclared }
+{}
+
+/// A scope declares without its types what it declares as values that stay, where it is clear what these are.
+pub fn scopes_declare_what_stays()
+    ensures { ScopesDeclareWhatStays }
+{}
+
+/// A tree that keeps its scopes apart tells them apart without its types, where it is clear what its scopes declare.
+pub fn stripped_trees_tell_scopes_apart()
+    ensures { StrippedTellsScopesApart }
 {}

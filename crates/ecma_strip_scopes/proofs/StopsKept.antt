@@ -1,0 +1,189 @@
+-- A stop of the tree without types is scoped where that of the tree keeps its scope.
+use Rattle.std.proofs.Common.{◌≡◌, ◌⊎◌, inl, inr, ℕ, ◌==◌, Bool, true, false, ◌&&◌, not, cond, List, [], ◌∷◌, ◌++◌, map, Option, Some, None, refl, sym, ap, ap₂, ◌∙◌, subst, get_or}
+use Rattle.std.specs.List.{All, list_any}
+use Rattle.std.proofs.lemmas.List.Elements.{All-append, All-nil}
+use Rattle.ecma_kind.specs.Sorts.{is_expr}
+use Rattle.ecma_kind.specs.declared.kind.Kind.{Kind}
+use Rattle.ecma_kind.specs.declared.kind.Kind.TheVariants as kind
+use Rattle.ecma_tree.specs.Sorted.{is_absent}
+use Rattle.ecma_tree.specs.declared.node.Node.{Node, out-Node}
+use Rattle.ecma_scope.specs.declared.form.Form.{Form}
+use Rattle.ecma_scope.specs.declared.form.Form.TheVariants as form
+use Rattle.ecma_scope.specs.declared.form.Part.TheVariants as part
+use Rattle.ecma_scope.specs.declared.form.Sought.{Sought}
+use Rattle.ecma_scope.specs.declared.role.Role.{Role}
+use Rattle.ecma_scope.specs.declared.role.Role.TheVariants as role
+use Rattle.ecma_scope.specs.Declarations.{holds_vars, in_scope, is_hoisted, is_value, sought_in}
+use Rattle.ecma_scope.specs.Scopes.{covers, is_there, opens, opens_by}
+use Rattle.ecma_strip.specs.Stripping.{plain_kind}
+use Rattle.ecma_hygiene.specs.Ids.{Id, has_context, innermost, is_block, is_body_block, own_ids}
+use Rattle.ecma_hygiene.specs.Sights.{Around, own_scope}
+use Rattle.ecma_hygiene.proofs.Telling.{true-false}
+use Rattle.ecma_hygiene_laws.specs.Apart.{DeclaresCleanly, IsScoped, own_contexts}
+use Rattle.ecma_hygiene_laws.specs.DeclaredIds.{DeclaredId, id_here, ids_declared, scope_ids}
+use Rattle.ecma_hygiene_laws.specs.Lasting.{KeepsScope}
+use Rattle.ecma_hygiene_laws.specs.Stops.{Stop}
+use Rattle.ecma_hygiene_laws.proofs.Forms.{Allowed, Formed, forms-by}
+use Rattle.ecma_hygiene_laws.proofs.Membership.{contexts-agree, is_kept, own-agrees}
+use Rattle.ecma_strip_scopes.proofs.Gone.{kept}
+use Rattle.ecma_strip_scopes.proofs.RolesAlike.{Alike}
+use Rattle.ecma_strip_scopes.proofs.ScopesSame.{AreSame, IsSame, all-kept, any-kept, context-id, id-context, kept-stays, same-innermost, same-last, same-none}
+
+-- ---- an expression declares no `var` and no function in its own scope
+
+abbrev Unhoisted : DeclaredId → Type 0
+Unhoisted d = is_hoisted d.form ≡ true → ⊥
+
+no-item : (s : Bool) (k : Kind) (f : Form) → All (Formed (part.Name f)) (id_here (record { part = part.Scope; stays = s }) k)
+no-item s (kind.Ident t c o) f = All-nil (Formed (part.Name f))
+no-item s _ f = All-nil (Formed (part.Name f))
+
+name-of : (b s : Bool) (g : Form) (found : Sought) → ◌≡◌ {A = Option Sought} (cond b (Some (record { part = part.Name g; stays = s })) None) (Some found) → (h : Form) → Allowed found.part h → h ≡ g
+name-of true s g found is h a = subst (λ p. Allowed p h) (sym (same is)) a
+  where
+    same : ◌≡◌ {A = Option Sought} (Some (record { part = part.Name g; stays = s })) (Some found) → part.Name g ≡ found.part
+    same is = cc
+name-of false s g found is h a = absurd (never is)
+  where
+    never : ◌≡◌ {A = Option Sought} None (Some found) → ⊥
+    never is = cc
+
+cond-none : (b : Bool) (ds : List DeclaredId) → b ≡ false → All Unhoisted (cond b ds [])
+cond-none true ds is = absurd (true-false refl is)
+cond-none false ds is = All-nil Unhoisted
+
+module _ (n : Node) where
+  named : (g : Form) → is_hoisted g ≡ false → holds_vars role.Plain (out-Node n).kind ≡ false
+      → ((s v : Bool) (j : ℕ) (found : Sought) → in_scope s v (out-Node n).kind j ≡ Some found → (h : Form) → Allowed found.part h → h ≡ g) → All Unhoisted (scope_ids role.Plain n)
+  unfolding sought_in
+  named g other none step =
+      let scope : Sought = record { part = part.Scope; stays = true } in
+      let formed = forms-by n scope (part.Name g) (no-item true (out-Node n).kind g) (λ j found h k a. step true (is_value n) j found h k a) in
+      All-append Unhoisted (ids_declared n scope) (cond (holds_vars role.Plain (out-Node n).kind) (ids_declared n (record { part = part.Var; stays = true })) [])
+      (λ k d lt hoisted. true-false hoisted (ap is_hoisted (formed k d lt) ∙ other))
+      (cond-none (holds_vars role.Plain (out-Node n).kind) (ids_declared n (record { part = part.Var; stays = true })) none)
+
+  unhoisted-by : (k : Kind) (there : Bool) → (out-Node n).kind ≡ k → is_expr k ≡ true → opens_by role.Plain k there ≡ true → All Unhoisted (scope_ids role.Plain n)
+  unfolding in_scope holds_vars opens_by
+  unhoisted-by kind.FnExpr there at expr opened =
+      named form.Own refl (ap (holds_vars role.Plain) at) (λ s v j found seeks g a. name-of (j == 0) s form.Own found (ap (λ (k : Kind). in_scope s v k j) (sym at) ∙ seeks) g a)
+  unhoisted-by kind.ClassExpr there at expr opened =
+      named form.Own refl (ap (holds_vars role.Plain) at) (λ s v j found seeks g a. name-of (j == 0) s form.Own found (ap (λ (k : Kind). in_scope s v k j) (sym at) ∙ seeks) g a)
+  unhoisted-by (kind.ArrowExpr x y) there at expr opened =
+      named form.Parameter refl (ap (holds_vars role.Plain) at) (λ s v j found seeks g a. name-of (j == 0) s form.Parameter found (ap (λ (k : Kind). in_scope s v k j) (sym at) ∙ seeks) g a)
+  unhoisted-by _ there at expr opened = absurd (both-no)
+    where
+      both-no : ⊥
+      both-no = cc
+
+  unhoisted : is_expr (out-Node n).kind ≡ true → opens role.Plain n ≡ true → All Unhoisted (scope_ids role.Plain n)
+  unhoisted expr opened = unhoisted-by (out-Node n).kind (is_there (out-Node n).children 0) refl expr opened
+
+-- ---- kinds
+
+plain-block : (k : Kind) → is_block (plain_kind k) ≡ is_block k
+unfolding plain_kind
+plain-block kind.BlockStmt = refl
+plain-block _ = refl
+
+plain-body : (r : Role) (k : Kind) → is_body_block r (plain_kind k) ≡ is_body_block r k
+plain-body role.Body k = plain-block k
+plain-body _ k = refl
+
+plain-absent : (k : Kind) → is_absent (plain_kind k) ≡ is_absent k
+unfolding plain_kind
+plain-absent kind.Absent = refl
+plain-absent _ = refl
+
+plain-ident : (k : Kind) (s : List ℕ) (c : ℕ) (o : Bool) → plain_kind k ≡ kind.Ident s c o → (p : Bool) × (k ≡ kind.Ident s c p)
+unfolding plain_kind
+plain-ident (kind.Ident t d p) s c o h = (p, again h)
+  where
+    again : ◌≡◌ {A = Kind} (kind.Ident t d false) (kind.Ident s c o) → ◌≡◌ {A = Kind} (kind.Ident t d p) (kind.Ident s c p)
+    again h = cc
+plain-ident k s c o h = absurd (never h)
+  where
+    never : ◌≡◌ {A = Kind} (plain_kind k) (kind.Ident s c o) → ⊥
+    never h = cc
+
+abbrev pub stop_of : Node → Around → ℕ → Stop
+stop_of n a left = record { node = n; around = a; left = left }
+
+module _ (free : ℕ) (n m : Node) (a b : Around) (left less : ℕ) (kind_st : (out-Node m).kind ≡ plain_kind (out-Node n).kind) (absent : is_absent (out-Node n).kind ≡ true → (out-Node m).children ≡ [])
+    (alike : Alike a.role b.role (out-Node n).kind) (same : AreSame a.scopes b.scopes) (opened : opens b.role m ≡ opens a.role n)
+    (ids : opens a.role n ≡ true → scope_ids b.role m ≡ kept (scope_ids a.role n)) (keep : KeepsScope free (stop_of n a left)) where
+  abbrev body_same : is_body_block b.role (out-Node m).kind ≡ is_body_block a.role (out-Node n).kind
+  body_same = ap (is_body_block b.role) kind_st ∙ plain-body b.role (out-Node n).kind ∙ alike.body
+
+  block-same : is_block (out-Node m).kind ≡ is_block (out-Node n).kind
+  block-same = ap is_block kind_st ∙ plain-block (out-Node n).kind
+
+  pub own-same : opens a.role n ≡ true → IsSame (own_scope a.role a.scopes n) (own_scope b.role b.scopes m)
+  own-same is id =
+      own-agrees id b.role b.scopes m
+      ∙ (λ j. list_any (is_kept id) (ids is j) && not (body_same j && has_context id.1 (innermost b.scopes id.0)))
+      ∙ ap₂ (λ (x y : Bool). x && not (is_body_block a.role (out-Node n).kind && y)) (any-kept id (scope_ids a.role n)) (same-innermost a.scopes b.scopes same id)
+      ∙ sym (own-agrees id a.role a.scopes n)
+
+  contexts-by : (x : Bool) → opens a.role n ≡ x → (c : ℕ) → has_context c (cond x (map (λ id. id.1) (own_ids b.role (innermost b.scopes) m)) []) ≡ true
+      → has_context c (cond x (map (λ id. id.1) (own_ids a.role (innermost a.scopes) n)) []) ≡ true
+  contexts-by true is c h =
+      let one = context-id c (own_ids b.role (innermost b.scopes) m) h in
+      let id : Id = one.0 in
+      subst (λ (z : ℕ). has_context z (map (λ id. id.1) (own_ids a.role (innermost a.scopes) n)) ≡ true) one.1
+      (id-context id (own_ids a.role (innermost a.scopes) n)
+      (sym (contexts-agree id (own_ids a.role (innermost a.scopes) n)) ∙ sym (own-same is id) ∙ contexts-agree id (own_ids b.role (innermost b.scopes) m) ∙ one.2))
+  contexts-by false is c h = absurd (true-false h refl)
+
+  -- it declares in contexts in which the other does
+  pub contexts-within : (c : ℕ) → has_context c (own_contexts (stop_of m b less)) ≡ true → has_context c (own_contexts (stop_of n a left)) ≡ true
+  contexts-within c h =
+      contexts-by' c (sym (ap (λ (x : Bool). has_context c (cond x (map (λ id. id.1) (own_ids b.role (innermost b.scopes) m)) [])) opened) ∙ h)
+    where
+      contexts-by' : (c : ℕ) → has_context c (cond (opens a.role n) (map (λ id. id.1) (own_ids b.role (innermost b.scopes) m)) []) ≡ true → has_context c (own_contexts (stop_of n a left)) ≡ true
+      contexts-by' c = contexts-by (opens a.role n) refl c
+
+  abbrev Blocks : Node → DeclaredId → Type 0
+  Blocks node d = is_hoisted d.form ≡ true → is_block (out-Node node).kind ≡ true
+
+  blocks-by : opens a.role n ≡ true → (a.role ≡ role.Body) ⊎ ((a.role ≡ role.Plain) × (is_expr (out-Node n).kind ≡ true)) → All (Blocks n) (scope_ids a.role n)
+  blocks-by is (inl body) = keep.blocks is body
+  blocks-by is (inr plain) =
+      subst (λ (r : Role). All (Blocks n) (scope_ids r n)) (sym plain.0) (λ k d lt hoisted. absurd (unhoisted n plain.1 (subst (λ (r : Role). opens r n ≡ true) plain.0 is) k d lt hoisted))
+
+  cleanly : opens a.role n ≡ true → DeclaresCleanly (stop_of m b less)
+  cleanly is = record {
+    stay = subst (All (λ (d : DeclaredId). d.stays ≡ true)) (sym (ids is)) (kept-stays (scope_ids a.role n));
+    blocks = λ body. (λ k d lt hoisted. block-same ∙ subst (All (Blocks n)) (sym (ids is)) (all-kept (Blocks n) (scope_ids a.role n) (blocks-by is (alike.blocks body))) k d lt hoisted);
+    parameters = λ body.
+        (λ k d lt has. subst (All (λ (d : DeclaredId). has_context d.id.1 (innermost a.scopes d.id.0) ≡ true → is_hoisted d.form ≡ true)) (sym (ids is))
+        (all-kept (λ (d : DeclaredId). has_context d.id.1 (innermost a.scopes d.id.0) ≡ true → is_hoisted d.form ≡ true) (scope_ids a.role n) (keep.parameters is (sym body_same ∙ body))) k d lt
+        (sym (same-innermost a.scopes b.scopes same (get_or (scope_ids b.role m) k d).id) ∙ has));
+  }
+
+  by-test : (x : Bool) → (x ≡ true → ⊥) → x ≡ false
+  by-test true never = absurd (never refl)
+  by-test false never = refl
+
+  pub is-scoped : IsScoped free (stop_of m b less)
+  is-scoped = record {
+    absent = λ gone. absent (sym (plain-absent (out-Node n).kind) ∙ sym (ap is_absent kind_st) ∙ gone);
+    names = λ s c o is name. (let was = plain-ident (out-Node n).kind s c o (sym kind_st ∙ is) in keep.names s c was.0 was.1 (sym alike.name ∙ name));
+    free_names = λ s c o is name none. (let was = plain-ident (out-Node n).kind s c o (sym kind_st ∙ is) in keep.free_names s c was.0 was.1 (sym alike.name ∙ name) (same-none a.scopes b.scopes (s, c) same none));
+    declares = λ is. cleanly (sym opened ∙ is);
+    one = λ c d h k. keep.one c d (contexts-within c h) (contexts-within d k);
+    not_free = by-test (has_context free (own_contexts (stop_of m b less))) (λ h. true-false (contexts-within free h) keep.not_free);
+    not_empty = by-test (has_context 0 (own_contexts (stop_of m b less))) (λ h. true-false (contexts-within 0 h) keep.not_empty);
+  }
+
+  -- and what stands in it stands in scopes that declare the same
+  pub scopes-inside : (i j : ℕ) → covers b.role (out-Node m).kind j ≡ covers a.role (out-Node n).kind i
+      → AreSame (cond (opens a.role n && covers a.role (out-Node n).kind i) (a.scopes ++ own_scope a.role a.scopes n ∷ []) a.scopes) (cond (opens b.role m && covers b.role (out-Node m).kind j) (b.scopes ++ own_scope b.role b.scopes m ∷ []) b.scopes)
+  scopes-inside i j covered =
+      subst (λ (x : Bool). AreSame (cond (opens a.role n && covers a.role (out-Node n).kind i) (a.scopes ++ own_scope a.role a.scopes n ∷ []) a.scopes) (cond x (b.scopes ++ own_scope b.role b.scopes m ∷ []) b.scopes))
+      (sym (λ j. opened j && covered j)) (by (opens a.role n) (covers a.role (out-Node n).kind i) refl)
+    where
+      by : (x y : Bool) → opens a.role n ≡ x → AreSame (cond (x && y) (a.scopes ++ own_scope a.role a.scopes n ∷ []) a.scopes) (cond (x && y) (b.scopes ++ own_scope b.role b.scopes m ∷ []) b.scopes)
+      by true true is = same-last a.scopes b.scopes (own_scope a.role a.scopes n) (own_scope b.role b.scopes m) same (own-same is)
+      by true false is = same
+      by false y is = same

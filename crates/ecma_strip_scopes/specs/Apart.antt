@@ -1,0 +1,43 @@
+-- Trees whose scopes are told apart without their types.
+use Rattle.std.specs.Prelude.{◌≡◌, ℕ, Bool, true, false, filter}
+use Rattle.std.specs.List.{All}
+use Rattle.ecma_kind.specs.Sorts.{is_type_wrapper}
+use Rattle.ecma_kind.specs.declared.shapes.Shape.{Shape}
+use Rattle.ecma_tree.specs.Sorted.{HasShape}
+use Rattle.ecma_tree.specs.declared.node.Node.{Node, out-Node}
+use Rattle.ecma_scope.specs.declared.form.Part.TheVariants as part
+use Rattle.ecma_scope.specs.declared.role.Role.{Role}
+use Rattle.ecma_scope.specs.declared.role.Role.TheVariants as role
+use Rattle.ecma_scope.specs.Declarations.{holds_vars, own_part}
+use Rattle.ecma_scope.specs.Scopes.{is_ambient, opens}
+use Rattle.ecma_strip.specs.Stripping.{stripped}
+use Rattle.ecma_hygiene_laws.specs.Apart.{TellsScopesApart}
+use Rattle.ecma_hygiene_laws.specs.DeclaredIds.{scope_ids}
+use Rattle.ecma_hygiene_laws.specs.Lasting.{KeepsScopesApart}
+use Rattle.ecma_hygiene_laws.specs.Stops.{Stop, stops}
+use Rattle.ecma_strip_scopes.specs.Standing.{is_clear}
+
+-- a role in which every expression is the same to its scopes
+abbrev pub is_free : Role → Bool
+is_free role.Plain = true
+is_free role.Body = true
+is_free _ = false
+
+-- a scope is not ambient, and where its names are looked for is clear
+pub record IsClearScope (r : Role) (n : Node) : Type 0 where
+  pub calm : is_ambient r ≡ false
+  pub own : is_clear n (record { part = own_part r; stays = true }) ≡ true
+  pub vars : holds_vars r (out-Node n).kind ≡ true → is_clear n (record { part = part.Var; stays = true }) ≡ true
+
+-- so it declares without types what it declares as values that stay
+abbrev pub ScopesDeclareWhatStays : Type 0
+ScopesDeclareWhatStays = (shape : Shape) (r : Role) (n : Node) → HasShape shape n → opens r n ≡ true → IsClearScope r n → scope_ids r (stripped n) ≡ filter (λ d. d.stays) (scope_ids r n)
+
+-- a node of a walk: a scope is clear, and types stand round expressions that are the same to their scopes without them
+pub record IsClearStop (stop : Stop) : Type 0 where
+  pub clear : opens stop.around.role stop.node ≡ true → IsClearScope stop.around.role stop.node
+  pub wrapped : is_type_wrapper (out-Node stop.node).kind ≡ true → is_free stop.around.role ≡ true
+
+-- a tree that keeps its scopes apart, and in which all is clear, tells them apart without its types, however its contexts are counted
+abbrev pub StrippedTellsScopesApart : Type 0
+StrippedTellsScopesApart = (free left less : ℕ) (shape : Shape) (tree : Node) → HasShape shape tree → KeepsScopesApart free left tree → All IsClearStop (stops left tree) → TellsScopesApart free less (stripped tree)
