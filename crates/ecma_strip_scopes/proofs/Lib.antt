@@ -11,3 +11,5 @@ pub mod ScopesSame
 pub mod StopsKept
 pub mod KindsKept
 pub mod Walking
+pub mod Wrapping
+pub mod StrippedModules

@@ -1,5 +1,5 @@
 -- Trees whose scopes are told apart without their types.
-use Rattle.std.specs.Prelude.{◌≡◌, ℕ, Bool, true, false, filter}
+use Rattle.std.specs.Prelude.{◌≡◌, ◌≢◌, ◌<◌, ◌≤◌, ℕ, Bool, true, false, filter}
 use Rattle.std.specs.List.{All}
 use Rattle.ecma_kind.specs.Sorts.{is_type_wrapper}
 use Rattle.ecma_kind.specs.declared.shapes.Shape.{Shape}
@@ -9,11 +9,13 @@ use Rattle.ecma_scope.specs.declared.form.Part.TheVariants as part
 use Rattle.ecma_scope.specs.declared.role.Role.{Role}
 use Rattle.ecma_scope.specs.declared.role.Role.TheVariants as role
 use Rattle.ecma_scope.specs.Declarations.{holds_vars, own_part}
+use Rattle.ecma_scope.specs.Resolved.{contexts, resolved}
 use Rattle.ecma_scope.specs.Scopes.{is_ambient, opens}
 use Rattle.ecma_strip.specs.Stripping.{stripped}
 use Rattle.ecma_hygiene_laws.specs.Apart.{TellsScopesApart}
 use Rattle.ecma_hygiene_laws.specs.DeclaredIds.{scope_ids}
-use Rattle.ecma_hygiene_laws.specs.Lasting.{KeepsScopesApart}
+use Rattle.ecma_hygiene_laws.specs.Lasting.{IsCheckedModule, KeepsScopesApart}
+use Rattle.ecma_hygiene_laws.specs.Seats.{Seat, seats_at}
 use Rattle.ecma_hygiene_laws.specs.Stops.{Stop, stops}
 use Rattle.ecma_strip_scopes.specs.Standing.{is_clear}
 
@@ -41,3 +43,11 @@ pub record IsClearStop (stop : Stop) : Type 0 where
 -- a tree that keeps its scopes apart, and in which all is clear, tells them apart without its types, however its contexts are counted
 abbrev pub StrippedTellsScopesApart : Type 0
 StrippedTellsScopesApart = (free left less : ℕ) (shape : Shape) (tree : Node) → HasShape shape tree → KeepsScopesApart free left tree → All IsClearStop (stops left tree) → TellsScopesApart free less (stripped tree)
+
+abbrev pub IsClearSeat : Seat → Type 0
+IsClearSeat seat = opens seat.role seat.node ≡ true → IsClearScope seat.role seat.node
+
+-- so does a module that is resolved, and stripped of its types then, where there were contexts enough
+abbrev pub StrippedModulesTellScopesApart : Type 0
+StrippedModulesTellScopesApart = (unresolved top left less : ℕ) (source : Node) → IsCheckedModule source → left < unresolved → left < top → unresolved ≢ top → contexts source ≤ left
+    → All IsClearSeat (seats_at (resolved unresolved top left source) role.Root) → TellsScopesApart unresolved less (stripped (resolved unresolved top left source))

@@ -3,7 +3,7 @@
 //! Each function carries one law, and does nothing. The laws are stated in `specs/`.
 #![tactic(auto)]
 
-ghost use Rattle.ecma_strip_scopes.specs.Apart.{ScopesDeclareWhatStays, StrippedTellsScopesApart};
+ghost use Rattle.ecma_strip_scopes.specs.Apart.{ScopesDeclareWhatStays, StrippedModulesTellScopesApart, StrippedTellsScopesApart};
 ghost use Rattle.ecma_strip_scopes.specs.Going.{WhatGoesDeclaresNothing};
 ghost use Rattle.ecma_strip_scopes.specs.Standing.{WhatStaysIsDeclared};
 
@@ -25,4 +25,10 @@ pub fn scopes_declare_what_stays()
 /// A tree that keeps its scopes apart tells them apart without its types, where it is clear what its scopes declare.
 pub fn stripped_trees_tell_scopes_apart()
     ensures { StrippedTellsScopesApart }
+{}
+
+/// A module that is resolved, and stripped of its types then, tells its scopes apart, where it is clear what its scopes declare: each name is declared
+/// where it may be, no scope is ambient, and there were contexts enough.
+pub fn stripped_modules_tell_scopes_apart()
+    ensures { StrippedModulesTellScopesApart }
 {}
