@@ -45,12 +45,12 @@ cond-kept true xs ys h = h refl
 cond-kept false xs ys h = refl
 
 pub scopes-declare : ScopesDeclareWhatStays
-scopes-declare shape r n has opened clear =
+scopes-declare shape r n has opened calm clear =
     let m : Node = stripped n in
     let stays : Bool = not (is_ambient r) in
     let own : Sought = record { part = own_part r; stays = stays } in
     let var : Sought = record { part = part.Var; stays = stays } in
-    let is : stays ≡ true = ap not clear.calm in
+    let is : stays ≡ true = ap not calm in
     let cs : List Node = map stripped (staying_nodes (out-Node n).kind (out-Node n).children) in
     let kind_st : (out-Node m).kind ≡ plain_kind (out-Node n).kind = ap (λ (z : Node). (out-Node z).kind) (stripped-out n ∙ opened-plain r (out-Node n).kind (is_there (out-Node n).children 0) opened (out-Node n).span cs)
     ∙ kind-of (out-Node n).span (plain_kind (out-Node n).kind) (plain_children (out-Node n).kind cs) in

@@ -328,7 +328,7 @@ module _ (free : ℕ) where
         let covered : (i : ℕ) → covers b.role (out-Node m).kind i ≡ covers a.role k i = (λ i. ap (λ (z : Kind). covers b.role z i) kind_st ∙ covers-plain b.role k i ∙ alike.covered i) in
         let roles : (i : ℕ) → role_in b.role m i ≡ role_in a.role n i = (λ i. (λ j. role_by b.role (kind_st j) (is_there (children_st j) 1) i) ∙ role-plain b.role k (is_there cs 1) i ∙ role-kept b.role k shape count (nodes ns) have i
         ∙ alike.inner (is_there (nodes ns) 1) i ∙ sym (ap (λ (z : List Node). role_by a.role k (is_there z 1) i) are)) in
-        let ids : opens a.role n ≡ true → scope_ids b.role m ≡ kept (scope_ids a.role n) = (λ is. role-ids a.role b.role k alike m kind_st ∙ scopes-declare shape a.role n has is (here.1.clear is)) in
+        let ids : opens a.role n ≡ true → scope_ids b.role m ≡ kept (scope_ids a.role n) = (λ is. role-ids a.role b.role k alike m kind_st ∙ scopes-declare shape a.role n has is (here.1.calm is) (here.1.clear is)) in
         let gone : is_absent k ≡ true → (out-Node m).children ≡ [] = (λ is. children_st ∙ absent-children k is (nodes ns) (sym are ∙ here.0.absent is)) in
         node-part m (is-scoped free n m a b left less kind_st gone alike same opened ids here.0) (contexts-within free n m a b left less kind_st gone alike same opened ids here.0)
         (subst (λ (z : List Node). Part (below (around_child b m) 0 z (less - taken b.role m)) (contexts_at inner)) (sym children_st)

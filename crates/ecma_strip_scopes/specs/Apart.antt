@@ -25,18 +25,18 @@ is_free role.Plain = true
 is_free role.Body = true
 is_free _ = false
 
--- a scope is not ambient, and where its names are looked for is clear
+-- where the names of a scope are looked for is clear
 pub record IsClearScope (r : Role) (n : Node) : Type 0 where
-  pub calm : is_ambient r ≡ false
   pub own : is_clear n (record { part = own_part r; stays = true }) ≡ true
   pub vars : holds_vars r (out-Node n).kind ≡ true → is_clear n (record { part = part.Var; stays = true }) ≡ true
 
--- so it declares without types what it declares as values that stay
+-- so it declares without types what it declares as values that stay, if it is not ambient
 abbrev pub ScopesDeclareWhatStays : Type 0
-ScopesDeclareWhatStays = (shape : Shape) (r : Role) (n : Node) → HasShape shape n → opens r n ≡ true → IsClearScope r n → scope_ids r (stripped n) ≡ filter (λ d. d.stays) (scope_ids r n)
+ScopesDeclareWhatStays = (shape : Shape) (r : Role) (n : Node) → HasShape shape n → opens r n ≡ true → is_ambient r ≡ false → IsClearScope r n → scope_ids r (stripped n) ≡ filter (λ d. d.stays) (scope_ids r n)
 
--- a node of a walk: a scope is clear, and types stand round expressions that are the same to their scopes without them
+-- a node of a walk: a scope is clear and not ambient, and types stand round expressions that are the same to their scopes without them
 pub record IsClearStop (stop : Stop) : Type 0 where
+  pub calm : opens stop.around.role stop.node ≡ true → is_ambient stop.around.role ≡ false
   pub clear : opens stop.around.role stop.node ≡ true → IsClearScope stop.around.role stop.node
   pub wrapped : is_type_wrapper (out-Node stop.node).kind ≡ true → is_free stop.around.role ≡ true
 
