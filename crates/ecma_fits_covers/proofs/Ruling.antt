@@ -1,5 +1,5 @@
 -- Explicit parentheses keep the context rules on lists, members and statements.
-use Rattle.std.proofs.Common.{◌≡◌, ◌∙◌, ◌||◌, ◌&&◌, not, codes, ℕ, zero, suc, Bool, true, false, List, [], ◌∷◌, length, replicate, map, refl, sym, ap, ap₂, subst, slice_get}
+use Rattle.std.proofs.Common.{◌≡◌, ◌∙◌, ◌||◌, ◌&&◌, not, codes, ℕ, zero, suc, Bool, true, false, List, [], ◌∷◌, length, replicate, map, refl, sym, ap, ap₂, slice_get}
 use Rattle.ecma_kind.specs.Sorts.{belongs}
 use Rattle.ecma_kind.specs.declared.span.Span.{Span}
 use Rattle.ecma_kind.specs.declared.kind.Kind.{Kind}
@@ -9,7 +9,7 @@ use Rattle.ecma_kind.specs.declared.operators.MethodKind.TheVariants.{Method, Ge
 use Rattle.ecma_kind.specs.declared.shapes.Shape.{Shape}
 use Rattle.ecma_kind.specs.declared.shapes.Sort.TheVariants as sort
 use Rattle.ecma_tree.specs.declared.node.Node.{Node, Node-F, out-Node, roll-Node}
-use Rattle.ecma_tree.specs.declared.node.Node.TheViews.{out-roll-Node, roll-out-Node}
+use Rattle.ecma_tree.specs.declared.node.Node.TheViews.{out-roll-Node}
 use Rattle.ecma_tree.specs.Laws.{HaveShapes}
 use Rattle.ecma_tree.specs.Nodes.{dummy_span, node_of}
 use Rattle.ecma_tree.specs.Sorted.{HasShape, child_shapes, is_list, many, one}
@@ -32,6 +32,7 @@ use Rattle.ecma_fits.specs.declared.unfit.Where.{Where}
 use Rattle.ecma_fits.specs.Fitting.{at_top, breaks_rule, where_in}
 use Rattle.ecma_fits_covers.specs.Laws.{ExplicitRulesStay}
 use Rattle.ecma_fits_covers.proofs.Parts.{kind_made, not_true, shape_allows, shape_made}
+use Rattle.ecma_fits_covers.proofs.Tests.{items_have, shape_parts}
 use Rattle.ecma_fits_covers.proofs.Explicit.{IsKept, kept_at, kind_at, kind_kept, spotted}
 use Rattle.ecma_fits_covers.proofs.Branching.{function_opens, key_opens, present_kept}
 use Rattle.ecma_fits_covers.proofs.Holding.{closes}
@@ -125,16 +126,6 @@ declarator_opens : (k : Kind) → belongs sort.VarDeclarator k ≡ true → clos
 declarator_opens (kind.VarDeclarator definite) h = refl
 declarator_opens _ h = not_true h
 
-list_only : (k : Kind) → is_list k ≡ true → k ≡ kind.List
-list_only kind.List h = refl
-list_only _ h = not_true h
-
--- the items of a list, by their sort
-items_have : (n : Node) (o : Shape) → HasShape o n → is_list (kind_of n) ≡ true → HaveShapes (child_shapes kind.List o (length (out-Node n).children)) (out-Node n).children
-items_have n o h l =
-    let x = out-Node n in
-    subst (λ k. HaveShapes (child_shapes k o (length x.children)) x.children) (list_only x.kind l) (shape_made x o (subst (HasShape o) (sym (roll-out-Node n)) h)).1
-
 one_declarator : (ds : List Node) (n : ℕ) (spot : Spot) → Fits spot → HaveShapes (replicate n (one sort.VarDeclarator)) ds → is_one_without_value (spotted ds [] spot) ≡ is_one_without_value ds
 one_declarator [] n spot fits have = refl
 one_declarator (d ∷ []) zero spot fits have = absurd have
@@ -150,7 +141,7 @@ head_here t (kind.VarDecl keyword declare) (a ∷ ns) ls spot o n have =
     let s = right spot 1 NoNeighbor in
     let l = shape_allows a (many sort.VarDeclarator) have.0 in
     ap (λ b. (is_head t && true) && not b)
-    (ap is_one_without_value (items_in a s refl l) ∙ one_declarator (out-Node a).children (length (out-Node a).children) s refl (items_have a (many sort.VarDeclarator) have.0 l))
+    (ap is_one_without_value (items_in a s refl l) ∙ one_declarator (out-Node a).children (length (out-Node a).children) s refl (items_have a (many sort.VarDeclarator) l (shape_parts a (many sort.VarDeclarator) have.0).1))
 head_here t k ns ls spot o n have = no_head (is_head t) (not (is_one_without_value (items_of (slice_get (spotted ns (first_spots k ls spot) (further_spot k spot)) 0)))) (not (is_one_without_value (items_of (slice_get ns 0))))
 
 -- plain parameters, and `this`
@@ -241,13 +232,13 @@ module _ (test : List Node → Bool) (stays : (ns : List Node) (k : ℕ) → Hav
   parameters_by (kind.Function is_generator is_async) [] ls spot n b have = absurd have
   parameters_by (kind.Function is_generator is_async) (p ∷ ns) ls spot n b have =
       let l = shape_allows p (many sort.Param) have.0 in
-      ap test (items_in p (free 1) refl l) ∙ stays (out-Node p).children (length (out-Node p).children) (items_have p (many sort.Param) have.0 l)
+      ap test (items_in p (free 1) refl l) ∙ stays (out-Node p).children (length (out-Node p).children) (items_have p (many sort.Param) l (shape_parts p (many sort.Param) have.0).1)
   parameters_by _ ns ls spot n b have = not_true b
 
   parameters_here : (f : Node) (spot : Spot) → Fits spot → HasShape (one sort.Function) f → test (items_at ((stood f).at spot) 0) ≡ test (items_at f 0)
   parameters_here f spot fits h =
       let x = out-Node f in
-      let t = shape_made x (one sort.Function) (subst (HasShape (one sort.Function)) (sym (roll-out-Node f)) h) in
+      let t = shape_parts f (one sort.Function) h in
       ap (λ (z : List Node). test (items_of (slice_get z 0))) (children_in f spot fits (function_opens_there x.kind t.0))
       ∙ parameters_by x.kind x.children (laid_children (map stood x.children)) spot (length x.children) t.0 t.1
 

@@ -29,7 +29,7 @@ children_of n = (out-Node n).children
 abbrev pub free : Node → Node
 free n = cover_at n target.Free
 
-shape_parts : (n : Node) (o : Shape) → HasShape o n → (allows o (kind_of n) ≡ true) × HaveShapes (child_shapes (kind_of n) o (length (children_of n))) (children_of n)
+pub shape_parts : (n : Node) (o : Shape) → HasShape o n → (allows o (kind_of n) ≡ true) × HaveShapes (child_shapes (kind_of n) o (length (children_of n))) (children_of n)
 shape_parts n o h = shape_made (out-Node n) o (subst (HasShape o) (sym (roll-out-Node n)) h)
 
 -- its children are what is made of them as the kind asks
@@ -83,7 +83,7 @@ one_declarator (d ∷ []) (suc n) h = ap not (child_kind_at is_present d 1 (decl
 one_declarator (d ∷ e ∷ ds) n h = refl
 
 -- the items of a list, by their sort
-items_have : (n : Node) (o : Shape) → is_list (kind_of n) ≡ true → HaveShapes (child_shapes (kind_of n) o (length (children_of n))) (children_of n) → HaveShapes (child_shapes kind.List o (length (children_of n))) (children_of n)
+pub items_have : (n : Node) (o : Shape) → is_list (kind_of n) ≡ true → HaveShapes (child_shapes (kind_of n) o (length (children_of n))) (children_of n) → HaveShapes (child_shapes kind.List o (length (children_of n))) (children_of n)
 items_have n o h have = subst (λ k. HaveShapes (child_shapes k o (length (children_of n))) (children_of n)) (list_only (kind_of n) h) have
 
 pub without_value : (n : Node) → HasShape (many sort.VarDeclarator) n → is_one_without_value (children_of (free n)) ≡ is_one_without_value (children_of n)
