@@ -59,3 +59,4 @@ pub mod ReadRegexes
 pub mod ReadHashbangs
 pub mod Programs
 pub mod WhatIsRead
+pub mod TextParts

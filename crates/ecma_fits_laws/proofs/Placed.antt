@@ -103,6 +103,7 @@ public_place : (k : Kind) → displaced_by role.Private k ≡ false → is_priva
 unfolding may_be may_be_raw
 public_place (kind.Ident text ctxt optional) h p = h
 public_place (kind.PrivateName name) h p = not_true (sym p)
+public_place (kind.TplElement raw cooked tail) h p = h
 public_place _ h p = refl
 
 pub public_free : (n : Node) → HasRawRole role.Private n → is_private_name (kind_of n) ≡ false → HasRawRole role.Free n

@@ -6,7 +6,7 @@ use Rattle.ecma_kind.specs.declared.kind.Kind.TheVariants as kind
 use Rattle.ecma_tree.specs.declared.node.Node.{Node}
 use Rattle.ecma_tree.specs.Nodes.{node_of}
 use Rattle.ecma_grammar.specs.trees.Parts.{kind_of, children_of, in_front}
-use Rattle.ecma_grammar.specs.trees.Chains.{in_front_link, steps}
+use Rattle.ecma_grammar.specs.trees.Chains.{in_front_link, is_text_part, steps}
 use Rattle.ecma_fits.specs.declared.role.Role.{Role}
 use Rattle.ecma_fits.specs.declared.role.Role.TheVariants as role
 use Rattle.ecma_fits_laws.specs.RawRoles.{HasRawRole}
@@ -22,6 +22,8 @@ pub data Ask : Type 0 where
   before : Role → Role → Ask
   -- a link of a chain of members and calls
   link : Ask
+  -- a text part behind a tag, or free
+  text_or_free : Ask
   -- the head of a loop, whose body is missing; the rest of the head
   head head_rest : Ask
 
@@ -50,6 +52,7 @@ Meets (at r) n = HasRawRole r n
 Meets (single r) n = HasRawRole r n × (is_annotated (kind_of n) ≡ true)
 Meets (both r s) n = HasRawRole r n × HasRawRole s n
 Meets (before r s) n = (x : Node) → HasRawRole r x → HasRawRole s (in_front x n)
+Meets text_or_free n = HasRawRole role.Free n ⊎ ((is_text_part n ≡ true) × HasRawRole role.TaggedText n)
 Meets link n = (x : Node) → HasRawRole role.Free x → HasRawRole role.Free (in_front_link x n)
 Meets head n = IsHead n
 Meets head_rest n = (x : Node) → HasRawRole role.Free x → IsHead (in_front x n)
@@ -137,6 +140,7 @@ fits (at role.Declared) (single r) = takes_patterns r
 fits (at p) (both r s) = wider p r && wider p s
 fits (before p q) (before r s) = (is_free_role p && is_free_role q) && (is_free_role r && is_free_role s)
 fits link link = true
+fits (at p) text_or_free = is_free_role p
 fits _ _ = false
 
 abbrev pub all_fit : List Ask → List Ask → Bool

@@ -64,25 +64,6 @@ stand ts rs ws (o ∷ os) (n ∷ ns) a p =
 
 -- the same as in the raw tree
 
-tagged_alike : (k : Kind) (i : ℕ) → raw_role (role_in role.Free k i) ≡ raw_role (role_in role.Tagged k i)
-unfolding role_in
-tagged_alike kind.Tpl i = go (i == 1)
-  where
-    go : (b : Bool) → raw_role (cond b role.Free role.Free) ≡ raw_role (cond b role.TaggedTexts role.Free)
-    go true = refl
-    go false = refl
-tagged_alike _ i = refl
-
-texts_alike : (k : Kind) (i : ℕ) → raw_role (role_in role.Free k i) ≡ raw_role (role_in role.TaggedTexts k i)
-unfolding role_in
-texts_alike kind.List i = refl
-texts_alike _ i = refl
-
-text_alike : (k : Kind) (i : ℕ) → raw_role (role_in role.Free k i) ≡ raw_role (role_in role.TaggedText k i)
-unfolding role_in
-text_alike kind.List i = refl
-text_alike _ i = refl
-
 alike : (w : Role) → is_declared w ≡ true → (k : Kind) (i : ℕ) → raw_role (role_in (raw_role w) k i) ≡ raw_role (role_in w k i)
 alike role.Left d k i = not_true d
 alike role.Simple d k i = not_true d
@@ -95,9 +76,6 @@ alike role.AssignedElements d k i = not_true d
 alike role.AssignedProperty d k i = not_true d
 alike role.AssignedProperties d k i = not_true d
 alike role.AssignedName d k i = not_true d
-alike role.Tagged d k i = tagged_alike k i
-alike role.TaggedTexts d k i = texts_alike k i
-alike role.TaggedText d k i = text_alike k i
 alike _ d k i = refl
 
 pub raw_alike : (w : Role) → is_declared w ≡ true → (k : Kind) (i : ℕ) → is_getter k ≡ false → (is_parameter (raw_role w) && is_list k) ≡ false → usual_role_in (raw_role w) k i ≡ raw_role (role_in w k i)

@@ -1,5 +1,5 @@
 -- What forms that keep or arrange what they are given make of it meets what is asked.
-use Rattle.std.proofs.Common.{◌≡◌, inl, inr, ℕ, zero, suc, ◌-◌, Bool, true, false, cond, not, ◌&&◌, ◌||◌, ◌==◌, List, [], ◌∷◌, ◌++◌, filter, take, length, slice_get, slice_set, Some, None, refl, sym, subst, unwrap_or}
+use Rattle.std.proofs.Common.{◌≡◌, ◌∙◌, ap, inl, inr, ℕ, zero, suc, ◌-◌, Bool, true, false, cond, not, ◌&&◌, ◌||◌, ◌==◌, List, [], ◌∷◌, ◌++◌, filter, take, length, slice_get, slice_set, Some, None, refl, sym, subst, unwrap_or}
 use Rattle.ecma_kind.specs.declared.span.Span.{Span}
 use Rattle.ecma_kind.specs.declared.operators.MetaPropKind.TheVariants.{NewTarget}
 use Rattle.ecma_kind.specs.declared.kind.Kind.{Kind}
@@ -19,9 +19,9 @@ use Rattle.ecma_fits.specs.Roles.{may_be, role_in}
 use Rattle.ecma_fits_laws.specs.RawRoles.{HasRawRole, may_be_raw, raw_role, raw_role_in, usual_role_in}
 use Rattle.ecma_fits_laws.proofs.Walks.{neither}
 use Rattle.ecma_fits_laws.proofs.Placed.{displaced_by}
-use Rattle.ecma_fits_laws.proofs.Placed.{Along, absent_free, along_last, along_same, placed, placed_parts}
-use Rattle.ecma_fits_laws.proofs.RoleAsks.{Ask, Asked, Chained, Given, IsHead, MeetAll, MeetEach, Meets, any, at, before, behind, both, chain, each, first, first_and_each, free, head, head_rest, is_annotated, link, single, these, whatever, wider, with_default}
-use Rattle.ecma_fits_laws.proofs.RoleNeeds.{as_free, ats, bare_kind_needs, boths, chain_at, chain_needs, count, first_kind_needs, if_so, is_loop, kind_needs, list_needs, node_needs, swapped_asked, without_first}
+use Rattle.ecma_fits_laws.proofs.Placed.{Along, absent_free, along_last, along_same, moved, placed, placed_parts}
+use Rattle.ecma_fits_laws.proofs.RoleAsks.{Ask, Asked, Chained, Given, IsHead, MeetAll, MeetEach, Meets, any, at, before, behind, both, chain, each, first, first_and_each, free, head, head_rest, is_annotated, link, single, text_or_free, these, whatever, wider, with_default}
+use Rattle.ecma_fits_laws.proofs.RoleNeeds.{as_free, ats, bare_kind_needs, boths, chain_at, chain_needs, count, first_kind_needs, if_so, is_loop, kind_needs, list_needs, node_needs, swapped_asked, template_at, template_needs, without_first}
 use Rattle.ecma_fits_laws.proofs.RoleGiven.{is_wider, no, two}
 
 pub given_so : (b : Bool) (asked : Asked) (xs : List Node) → Given (if_so b asked) xs → (b ≡ true) × Given asked xs
@@ -36,6 +36,7 @@ unnot false h = refl
 pub freely : (q : Ask) (asked : Asked) (n : Node) (xs : List Node) → (Given asked xs → HasRawRole role.Free n) → Given (as_free q asked) xs → Meets q n
 freely any asked n xs f g = tt
 freely (at r) asked n xs f g = let t = given_so (wider role.Free r) asked xs g in is_wider role.Free r n t.0 (f t.1)
+freely text_or_free asked n xs f g = inl (f g)
 freely _ asked n xs f g = absurd g
 
 -- what is made of nodes, one for each ask
@@ -135,6 +136,7 @@ module _ (linked : (span : Span) (k : Kind) (xs : List Node) → Given (kind_nee
       subst (HasRawRole s) (sym (in_front_is x span k xs))
       (placed (from_to (span_of x).lo span.hi) k (slice_set xs 0 x) s (unnot (displaced_by s k) w.0) (along_front (raw_role_in s k) (count k) x xs (is_wider r (raw_role_in s k 0) x w.1 h) t.1)))
   kind_made_of k link span xs g = linked span k xs g
+  kind_made_of k text_or_free span xs g = absurd g
   kind_made_of k head span xs g = let t = given_so _ _ xs g in head_node k span xs t.0 t.1
   kind_made_of k head_rest span xs g = λ x h.
       (let t = given_so _ _ xs g in subst IsHead (sym (in_front_is x span k xs)) (head_node k (from_to (span_of x).lo span.hi) (slice_set xs 0 x) t.0 (front_each x xs h t.1)))
@@ -304,7 +306,58 @@ template_free span xs m =
     placed span kind.Tpl (list_node (filter is_substitution xs) ∷ list_node (filter is_text_part xs) ∷ []) role.Free refl
     (free_list (filter is_substitution xs) (filtered free is_substitution xs m), (free_list (filter is_text_part xs) (filtered free is_text_part xs m), tt))
 
-pub template_made : (q : Ask) (span : Span) (xs : List Node) → Given (as_free q (each free)) xs → Meets q (template span xs)
+-- behind a tag
+
+text_place : (k : Kind) → displaced_by role.Free k ≡ false → displaced_by role.TaggedText k ≡ false
+unfolding may_be may_be_raw
+text_place (kind.Ident text ctxt optional) h = h
+text_place (kind.TplElement raw None tail) h = refl
+text_place (kind.TplElement raw (Some cooked) tail) h = refl
+text_place _ h = refl
+
+same_text : (k : Kind) (i : ℕ) → raw_role_in role.Free k i ≡ raw_role_in role.TaggedText k i
+unfolding raw_role_in usual_role_in role_in
+same_text kind.List i = refl
+same_text _ i = refl
+
+as_text : (x : Node) → Meets text_or_free x → HasRawRole role.TaggedText x
+as_text x (inl h) = moved x role.Free role.TaggedText (text_place (kind_of x) (placed_parts x role.Free h).0) (same_text (kind_of x)) h
+as_text x (inr h) = h.1
+
+as_expression : (x : Node) → is_substitution x ≡ true → Meets text_or_free x → HasRawRole role.Free x
+as_expression x e (inl h) = h
+as_expression x e (inr h) = no (sym (ap not h.0) ∙ e)
+
+texts_along : (xs : List Node) → MeetEach text_or_free xs → Along (λ i. role.TaggedText) (filter is_text_part xs)
+texts_along [] m = tt
+texts_along (x ∷ xs) m = go (is_text_part x) (texts_along xs m.1)
+  where
+    go : (b : Bool) → Along (λ i. role.TaggedText) (filter is_text_part xs) → Along (λ i. role.TaggedText) (cond b (x ∷ filter is_text_part xs) (filter is_text_part xs))
+    go true r = (as_text x m.0, r)
+    go false r = r
+
+expressions_along : (xs : List Node) → MeetEach text_or_free xs → Along (λ i. role.Free) (filter is_substitution xs)
+expressions_along [] m = tt
+expressions_along (x ∷ xs) m = go (is_substitution x) refl (expressions_along xs m.1)
+  where
+    go : (b : Bool) → is_substitution x ≡ b → Along (λ i. role.Free) (filter is_substitution xs) → Along (λ i. role.Free) (cond b (x ∷ filter is_substitution xs) (filter is_substitution xs))
+    go true e r = (as_expression x e m.0, r)
+    go false e r = r
+
+template_tagged : (span : Span) (xs : List Node) → MeetEach text_or_free xs → HasRawRole role.Tagged (template span xs)
+unfolding may_be may_be_raw raw_role_in usual_role_in role_in
+template_tagged span xs m =
+    let expressions = filter is_substitution xs in
+    let texts = filter is_text_part xs in
+    placed span kind.Tpl (list_node expressions ∷ list_node texts ∷ []) role.Tagged refl
+    (placed dummy_span kind.List expressions role.Free refl (expressions_along xs m), (placed dummy_span kind.List texts role.TaggedTexts refl (texts_along xs m), tt))
+
+template_in : (r : Role) (span : Span) (xs : List Node) → Given (template_at r) xs → HasRawRole r (template span xs)
+template_in role.Tagged span xs g = template_tagged span xs g
+template_in r span xs g = let t = given_so (wider role.Free r) (each free) xs g in is_wider role.Free r (template span xs) t.0 (template_free span xs t.1)
+
+pub template_made : (q : Ask) (span : Span) (xs : List Node) → Given (template_needs q) xs → Meets q (template span xs)
+template_made (at r) span xs g = template_in r span xs g
 template_made q span xs g = freely q (each free) (template span xs) xs (template_free span xs) g
 
 new_free : (span : Span) (xs : List Node) → MeetEach free xs → HasRawRole role.Free (new_expr span xs)

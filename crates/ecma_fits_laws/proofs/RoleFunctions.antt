@@ -227,6 +227,8 @@ list_along : (k : Kind) → displaced_by role.Parameters k ≡ false → (is_lis
 unfolding may_be_raw
 list_along kind.List h = refl
 list_along (kind.Ident text ctxt optional) h = or_true (is_reserved text) h
+list_along (kind.TplElement raw None tail) h = not_true (sym h)
+list_along (kind.TplElement raw (Some cooked) tail) h = not_true (sym h)
 list_along _ h = not_true (sym h)
 
 items_of : (k : Kind) → is_list k ≡ true → (cs : List Node) → Along (raw_role_in role.Parameters k) cs → MeetEach (at role.Parameter) cs

@@ -14,7 +14,7 @@ use Rattle.ecma_lex.specs.Keys.{is_reserved}
 use Rattle.ecma_fits_laws.specs.RawRoles.{HasRawRole, may_be_raw, raw_role_in, usual_role_in}
 use Rattle.ecma_fits_laws.proofs.Walks.{not_true}
 use Rattle.ecma_fits_laws.proofs.Placed.{Along, along_same, displaced_by, moved, placed, placed_parts, same_private}
-use Rattle.ecma_fits_laws.proofs.RoleAsks.{Ask, Asked, Chained, Given, MeetAll, MeetEach, Meets, all_fit, all_given, any, at, before, behind, both, chain, each, each_fits, first, first_and_each, first_part, fits, free, is_annotated, is_free_role, is_loose, is_one, link, never, none_asked, of_many, of_one, perhaps, second_part, single, takes_defaulted, takes_patterns, takes_private, these, whatever, wider, with_default}
+use Rattle.ecma_fits_laws.proofs.RoleAsks.{Ask, Asked, Chained, Given, MeetAll, MeetEach, Meets, all_fit, all_given, any, at, before, behind, both, chain, each, each_fits, first, first_and_each, first_part, fits, free, is_annotated, is_free_role, is_loose, is_one, link, never, none_asked, of_many, of_one, perhaps, second_part, single, takes_defaulted, takes_patterns, takes_private, text_or_free, these, whatever, wider, with_default}
 
 pub no : {A : Type 0} → false ≡ true → A
 no h = cc
@@ -42,12 +42,14 @@ same_this _ i = refl
 private_place : (k : Kind) → displaced_by role.Free k ≡ false → displaced_by role.Private k ≡ false
 unfolding may_be may_be_raw
 private_place (kind.Ident text ctxt optional) h = h
+private_place (kind.TplElement raw cooked tail) h = h
 private_place _ h = refl
 
-key_place : (k : Kind) → displaced_by role.Key k ≡ false
+key_place : (k : Kind) → displaced_by role.Free k ≡ false → displaced_by role.Key k ≡ false
 unfolding may_be may_be_raw
-key_place (kind.Ident text ctxt optional) = refl
-key_place _ = refl
+key_place (kind.Ident text ctxt optional) h = refl
+key_place (kind.TplElement raw cooked tail) h = h
+key_place _ h = refl
 
 this_name : (b c : Bool) → (b || false) ≡ false → ((b && c) || false) ≡ false
 this_name true c h = not_true (sym h)
@@ -56,6 +58,7 @@ this_name false c h = refl
 this_place : (k : Kind) → displaced_by role.Free k ≡ false → displaced_by role.NameOrThis k ≡ false
 unfolding may_be may_be_raw
 this_place (kind.Ident text ctxt optional) h = this_name _ _ h
+this_place (kind.TplElement raw cooked tail) h = h
 this_place _ h = refl
 
 -- what is declared is a name, a pattern or missing
@@ -69,6 +72,8 @@ declared_kind kind.BindingIdent h = refl
 declared_kind (kind.ArrayPat optional) h = refl
 declared_kind (kind.ObjectPat optional) h = refl
 declared_kind kind.Absent h = refl
+declared_kind (kind.TplElement raw None tail) h = not_true (sym h)
+declared_kind (kind.TplElement raw (Some cooked) tail) h = not_true (sym h)
 declared_kind (kind.Ident text ctxt optional) h = or_true (is_reserved text) h
 declared_kind _ h = not_true (sym h)
 
@@ -162,7 +167,7 @@ declared_wider r t n h =
 free_wider : (r : Role) → is_loose r ≡ true → (n : Node) → HasRawRole role.Free n → HasRawRole r n
 free_wider role.Free l n h = h
 free_wider role.Private l n h = moved n role.Free role.Private (private_place (kind_of n) (placed_parts n role.Free h).0) (same_private (kind_of n)) h
-free_wider role.Key l n h = moved n role.Free role.Key (key_place (kind_of n)) (same_key (kind_of n)) h
+free_wider role.Key l n h = moved n role.Free role.Key (key_place (kind_of n) (placed_parts n role.Free h).0) (same_key (kind_of n)) h
 free_wider _ l n h = not_true l
 
 private_wider : (r : Role) → takes_private r ≡ true → (n : Node) → HasRawRole role.Private n → HasRawRole r n
@@ -197,6 +202,7 @@ fits_sound (before p q) (before r s) n h m =
     let second = is_free q a.1 ∙ sym (is_free s b.1) in
     subst (λ z. Meets (before z s) n) first (subst (λ z. Meets (before p z) n) second m)
 fits_sound link link n h m = m
+fits_sound (at p) text_or_free n h m = inl (subst (λ r. HasRawRole r n) (is_free p h) m)
 fits_sound _ _ n h m = no h
 
 meet_wider : (ps qs : List Ask) (xs : List Node) → all_fit ps qs ≡ true → MeetAll ps xs → MeetAll qs xs

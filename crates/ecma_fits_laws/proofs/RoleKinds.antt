@@ -1,5 +1,6 @@
 -- What the roles of finished trees ask of kinds, by what the raw ones and the sorts say.
 use Rattle.std.proofs.Common.{◌≡◌, ◌∙◌, ℕ, Bool, true, false, not, ◌&&◌, ◌||◌, List, refl, sym}
+use Rattle.std.proofs.lemmas.Bool.{and_parts}
 use Rattle.ecma_kind.specs.Sorts.{belongs}
 use Rattle.ecma_kind.specs.declared.kind.Kind.{Kind}
 use Rattle.ecma_kind.specs.declared.kind.Kind.TheVariants as kind
@@ -13,7 +14,7 @@ use Rattle.ecma_grammar_laws.specs.RawSorts.{is_parameter_property}
 use Rattle.ecma_fits.specs.declared.role.Role.{Role}
 use Rattle.ecma_fits.specs.declared.role.Role.TheVariants as role
 use Rattle.ecma_fits.specs.Roles.{in_list, is_assigned, is_binding, is_default, is_free, is_rest, is_wrong_name, is_wrong_text, may_be, takes}
-use Rattle.ecma_fits_laws.specs.RawRoles.{is_parameter, may_be_raw, raw_role}
+use Rattle.ecma_fits_laws.specs.RawRoles.{is_parameter, may_be_raw, may_say, may_stand as may_stand_raw, raw_role}
 use Rattle.ecma_fits_laws.proofs.Walks.{neither, not_true}
 
 -- roles of what is declared, and of all else that is not assigned to
@@ -217,24 +218,28 @@ free_stands (kind.PrivateName name) h e = not_true h
 free_stands kind.AssignProp h e = not_true (sym e)
 free_stands _ h e = refl
 
+stands_so : (w : Role) (k : Kind) → is_declared w ≡ true → may_stand_raw (raw_role w) k ≡ true → is_odd w k ≡ false → is_short_default k ≡ false → may_be w k ≡ true
+unfolding may_be
+stands_so role.Free k d h odd short = free_stands k h short
+stands_so role.Left k d h odd short = not_true d
+stands_so role.Simple k d h odd short = not_true d
+stands_so role.Head k d h odd short = not_true d
+stands_so role.Nothing k d h odd short = not_true d
+stands_so role.Assigned k d h odd short = not_true d
+stands_so role.AssignedValue k d h odd short = not_true d
+stands_so role.AssignedElement k d h odd short = not_true d
+stands_so role.AssignedName k d h odd short = not_true d
+stands_so role.Declared k d h odd short = or_twice (is_binding k) (is_absent k) h
+stands_so role.DeclaredValue k d h odd short = missing_or _ _ h odd
+stands_so role.DeclaredElement k d h odd short = element_missing (is_binding k) (is_default k) (is_rest k) (is_absent k) h
+stands_so role.Parameter k d h odd short = missing_or _ _ h odd
+stands_so role.DefaultedParameter k d h odd short = missing_or _ _ h odd
+stands_so role.DeclaredName k d h odd short = missing_or _ _ h odd
+stands_so _ k d h odd short = refl
+
 pub stands : (w : Role) (k : Kind) → is_declared w ≡ true → may_be_raw (raw_role w) k ≡ true → is_odd w k ≡ false → is_short_default k ≡ false → may_be w k ≡ true
-unfolding may_be may_be_raw
-stands role.Free k d h odd short = free_stands k h short
-stands role.Left k d h odd short = not_true d
-stands role.Simple k d h odd short = not_true d
-stands role.Head k d h odd short = not_true d
-stands role.Nothing k d h odd short = not_true d
-stands role.Assigned k d h odd short = not_true d
-stands role.AssignedValue k d h odd short = not_true d
-stands role.AssignedElement k d h odd short = not_true d
-stands role.AssignedName k d h odd short = not_true d
-stands role.Declared k d h odd short = or_twice (is_binding k) (is_absent k) h
-stands role.DeclaredValue k d h odd short = missing_or _ _ h odd
-stands role.DeclaredElement k d h odd short = element_missing (is_binding k) (is_default k) (is_rest k) (is_absent k) h
-stands role.Parameter k d h odd short = missing_or _ _ h odd
-stands role.DefaultedParameter k d h odd short = missing_or _ _ h odd
-stands role.DeclaredName k d h odd short = missing_or _ _ h odd
-stands _ k d h odd short = refl
+unfolding may_be_raw
+stands w k d h odd short = stands_so w k d (and_parts (may_say (raw_role w) k) (may_stand_raw (raw_role w) k) h).1 odd short
 
 -- a list where no parameter stands
 pub no_list_parameter : (w : Role) (k : Kind) → is_odd w k ≡ false → (is_parameter (raw_role w) && is_list k) ≡ false

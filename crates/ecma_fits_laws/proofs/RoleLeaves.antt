@@ -1,8 +1,9 @@
 -- Tokens that are kept are what they have to be where they stand: a name is no reserved word.
-use Rattle.std.proofs.Common.{◌≡◌, ◌∙◌, ℕ, ◌+◌, ◌-◌, Bool, true, false, cond, not, ◌&&◌, ◌||◌, bytes_eq, codes, List, [], ◌∷◌, Option, Some, None, refl, sym, ap, subst}
+use Rattle.std.proofs.Common.{◌≡◌, ◌∙◌, ℕ, ◌+◌, ◌-◌, Bool, true, false, cond, not, ◌&&◌, ◌||◌, bytes_eq, codes, List, [], ◌∷◌, Option, Some, None, refl, sym, ap, subst, inl, inr, is_some, Result, Ok, Err}
 use Rattle.std.proofs.lemmas.Slice.Eq.{bytes_eq-Decides}
 use Rattle.ecma_lex.specs.declared.blanks.Skipped.{Skipped}
 use Rattle.ecma_lex.specs.declared.tokens.Token.{Token}
+use Rattle.ecma_lex.specs.declared.tokens.NoToken.{NoToken}
 use Rattle.ecma_lex.specs.Blanks.{skipped}
 use Rattle.ecma_lex.specs.Keys.{is_reserved, key_end, name_end, reserved_words, word_end}
 use Rattle.ecma_lex.specs.Parts.{if_text}
@@ -10,7 +11,9 @@ use Rattle.ecma_lex.specs.Text.{piece}
 use Rattle.ecma_lex.specs.Tokens as lex
 use Rattle.ecma_lex.specs.Regexes.{regex_body_end}
 use Rattle.ecma_lex.specs.Strings.{str_value}
-use Rattle.ecma_lex.specs.Templates.{template_raw, template_value}
+use Rattle.ecma_lex.specs.Templates.{any_template_text_end, end_length, found_template_text, if_valued, template_raw, template_text, template_text_end, template_value}
+use Rattle.ecma_lex.specs.Values.{literal_value}
+use Rattle.ecma_lex.specs.declared.templates.TemplateText.{TemplateText}
 use Rattle.ecma_number.specs.Numeral.{numeral_of}
 use Rattle.ecma_lex.specs.Tokens.{found, term}
 use Rattle.ecma_kind.specs.declared.kind.Kind.{Kind}
@@ -21,27 +24,31 @@ use Rattle.ecma_grammar.specs.declared.production.Flag.{Flag}
 use Rattle.ecma_grammar.specs.declared.production.Flag.TheVariants as flag
 use Rattle.ecma_grammar.specs.declared.production.Leaf.{Leaf}
 use Rattle.ecma_grammar.specs.declared.production.Leaf.TheVariants as leaf
+use Rattle.ecma_grammar.specs.declared.production.TemplatePart.{TemplatePart}
 use Rattle.ecma_grammar.specs.declared.production.TokenKind.TheVariants as token_kind
 use Rattle.ecma_grammar.specs.Made.{at_token}
+use Rattle.ecma_grammar.specs.trees.Chains.{is_text_kind}
 use Rattle.ecma_grammar.specs.trees.Parts.{flag_node, from_to}
+use Rattle.ecma_grammar_laws.proofs.RawShapes.{kind_is}
 use Rattle.ecma_grammar.specs.Reading.{Outcome, Position, ahead_on, fails, pure, read, terminal_on, then_on, too_deep}
-use Rattle.ecma_grammar.specs.Reads.{any_token, hashbang_token, inside, kept_leaf, leaf_node, part_inside, regex_token, source, template_part, token, without_separators, word_token}
+use Rattle.ecma_grammar.specs.Reads.{any_token, hashbang_token, inside, kept_leaf, leaf_node, part_inside, part_on, regex_token, source, template_part, token, without_separators, word_token}
 use Rattle.ecma_grammar.specs.Grammar.{the_word}
 use Rattle.ecma_fits.specs.declared.role.Role.{Role}
 use Rattle.ecma_fits.specs.declared.role.Role.TheVariants as role
 use Rattle.ecma_fits.specs.Roles.{is_name, may_be}
 use Rattle.ecma_fits_laws.specs.RawRoles.{HasRawRole, may_be_raw}
 use Rattle.ecma_fits_laws.proofs.Placed.{absent_placed, displaced_by, placed}
-use Rattle.ecma_fits_laws.proofs.RoleAsks.{Ask, Meets, any, at, both, is_loose}
-use Rattle.ecma_fits_laws.proofs.RoleNeeds.{flag_meets, leaf_at, leaf_meets}
+use Rattle.ecma_fits_laws.proofs.RoleAsks.{Ask, Meets, any, at, both, is_loose, text_or_free}
+use Rattle.ecma_fits_laws.proofs.RoleNeeds.{flag_meets, leaf_at, leaf_meets, text_at}
 use Rattle.ecma_fits_laws.proofs.RoleGiven.{no, two}
 
 -- what stands in a role by its kind
 
-loose_place : (k : Kind) → is_name k ≡ false → is_private_name k ≡ false → (r : Role) → is_loose r ≡ true → displaced_by r k ≡ false
+loose_place : (k : Kind) → (is_name k || is_text_kind k) ≡ false → is_private_name k ≡ false → (r : Role) → is_loose r ≡ true → displaced_by r k ≡ false
 unfolding may_be may_be_raw
 loose_place (kind.Ident text ctxt optional) n p r l = no (sym n)
 loose_place (kind.PrivateName text) n p r l = no (sym p)
+loose_place (kind.TplElement raw cooked tail) n p r l = no (sym n)
 loose_place k n p role.Free l = refl
 loose_place k n p role.Private l = refl
 loose_place k n p role.Key l = refl
@@ -136,6 +143,87 @@ module _ (text : List ℕ) where
   any_from : {A : Type 0} (P : Node → Type 0) (f : A → Node) → ((x : A) → P (f x)) → (o : Outcome A) (x : Node) (t : Position) → then_on (λ y. pure (f y)) o ≡ read x t → P x
   any_from P f g o x t h = made_from (λ y. Unit {0}) P f (λ y q. g y) o (λ y u e. tt) x t h
 
+  -- a text part that is read without a tag has a value
+  abbrev IsValued : Bool → TemplateText → Type 0
+  IsValued tagged part = (tagged || is_some (template_value (part_inside text part))) ≡ true
+
+  abbrev next_of : Result TemplateText NoToken → ℕ
+  next_of (Ok part) = let token = part.token in token.next
+  next_of (Err none) = 0
+
+  abbrev last_of : Result TemplateText NoToken → Bool
+  last_of (Ok part) = part.last
+  last_of (Err none) = false
+
+  abbrev nowhere : Skipped
+  nowhere = record { to = 0; new_line = false; closed = true }
+
+  valued_end : (tagged : Bool) (i : ℕ) (o : Option _) (n : ℕ) (l : Bool) → if_valued tagged text i o ≡ Some (record { next = n; last = l }) → (tagged || is_some (literal_value true (piece text (i + 1) (n - end_length l)))) ≡ true
+  valued_end tagged i None n l h = cc
+  valued_end tagged i (Some d) n l h = go (tagged || is_some (literal_value true (piece text (i + 1) (d.next - end_length d.last)))) refl h
+    where
+      go : (b : Bool) → (tagged || is_some (literal_value true (piece text (i + 1) (d.next - end_length d.last)))) ≡ b → cond b (Some d) None ≡ Some (record { next = n; last = l }) → (tagged || is_some (literal_value true (piece text (i + 1) (n - end_length l)))) ≡ true
+      go true x k =
+          let m : d.next ≡ n = ap (λ o. next_of (found_template_text nowhere o)) k in
+          let q : d.last ≡ l = ap (λ o. last_of (found_template_text nowhere o)) k in
+          subst (λ y. (tagged || is_some (literal_value true (piece text (i + 1) (y - end_length l)))) ≡ true) m (subst (λ z. (tagged || is_some (literal_value true (piece text (i + 1) (d.next - end_length z)))) ≡ true) q x)
+      go false x k = cc
+
+  of_part : (tagged wanted : Bool) (s : Position) (before : Skipped) (o : Option _) (part : TemplateText) (t : Position) → part_on s wanted (found_template_text before o) ≡ read part t
+      → ((n : ℕ) (l : Bool) → o ≡ Some (record { next = n; last = l }) → (tagged || is_some (literal_value true (piece text (before.to + 1) (n - end_length l)))) ≡ true) → IsValued tagged part
+  unfolding template_value
+  of_part tagged true s before None part t h g = cc
+  of_part tagged false s before None part t h g = cc
+  of_part tagged true s before (Some e) part t h g = go e.last refl h
+    where
+      found : TemplateText
+      found = record { token = record { start = before.to; next = e.next; new_line = before.new_line }; last = e.last }
+
+      go : (b : Bool) → e.last ≡ b → cond b (read found (record { place = e.next; failed = s.failed })) (fails s.failed) ≡ read part t → IsValued tagged part
+      go true x k = let is : found ≡ part = cc in subst (IsValued tagged) is (g e.next e.last refl)
+      go false x k = cc
+  of_part tagged false s before (Some e) part t h g = go e.last refl h
+    where
+      found : TemplateText
+      found = record { token = record { start = before.to; next = e.next; new_line = before.new_line }; last = e.last }
+
+      go : (b : Bool) → e.last ≡ b → cond b (fails s.failed) (read found (record { place = e.next; failed = s.failed })) ≡ read part t → IsValued tagged part
+      go false x k = let is : found ≡ part = cc in subst (IsValued tagged) is (g e.next e.last refl)
+      go true x k = cc
+
+  closed_end : (first tagged b : Bool) (i n : ℕ) (l : Bool) → cond b (template_text_end first tagged text i) None ≡ Some (record { next = n; last = l }) → (tagged || is_some (literal_value true (piece text (i + 1) (n - end_length l)))) ≡ true
+  unfolding template_text_end
+  closed_end first tagged true i n l h = valued_end tagged i (any_template_text_end first tagged text i) n l h
+  closed_end first tagged false i n l h = cc
+
+  is_valued : (wanted : TemplatePart) (s : Position) (part : TemplateText) (t : Position) → template_part text wanted s ≡ read part t → IsValued wanted.tagged part
+  unfolding template_text
+  is_valued wanted s part t h =
+      let before = skipped text s.place in
+      of_part wanted.tagged wanted.last s before (cond before.closed (template_text_end wanted.first wanted.tagged text before.to) None) part t h (λ n l k. closed_end wanted.first wanted.tagged before.closed before.to n l k)
+
+  text_place : (tagged : Bool) (raw : List ℕ) (cooked : Option (List ℕ)) (last : Bool) (r : Role) → text_at tagged r ≡ true → (tagged || is_some cooked) ≡ true → displaced_by r (kind.TplElement raw cooked last) ≡ false
+  unfolding may_be may_be_raw
+  text_place true raw None last role.TaggedText h v = refl
+  text_place true raw (Some c) last role.TaggedText h v = refl
+  text_place true raw cooked last _ h v = no h
+  text_place false raw (Some c) last role.Free h v = refl
+  text_place false raw (Some c) last role.Private h v = refl
+  text_place false raw (Some c) last role.Key h v = refl
+  text_place false raw (Some c) last _ h v = no h
+  text_place false raw None last r h v = no v
+
+  text_meets : (tagged : Bool) (part : TemplateText) → IsValued tagged part → Meets text_or_free (at_token part.token (kind.TplElement (template_raw (part_inside text part)) (template_value (part_inside text part)) part.last))
+  text_meets true part v =
+      let raw = template_raw (part_inside text part) in
+      let cooked = template_value (part_inside text part) in
+      let token = part.token in
+      inr (subst (λ k. is_text_kind k ≡ true) (sym (kind_is (from_to token.start token.next) (kind.TplElement raw cooked part.last) [])) refl, token_placed part.token (kind.TplElement raw cooked part.last) role.TaggedText (text_place true raw cooked part.last role.TaggedText refl refl))
+  text_meets false part v =
+      let raw = template_raw (part_inside text part) in
+      let cooked = template_value (part_inside text part) in
+      inl (token_placed part.token (kind.TplElement raw cooked part.last) role.Free (text_place false raw cooked part.last role.Free refl v))
+
   leaf_at_role : (l : Leaf) (r : Role) → leaf_at l r ≡ true → (s t : Position) (x : Node) → leaf_node text l s ≡ read x t → HasRawRole r x
   leaf_at_role leaf.Ident r h s t x e = made_from (λ k. is_reserved (source text k) ≡ false) (HasRawRole r) _ (λ k q. token_placed k _ r (name_place (source text k) q r h)) (any_token text token_kind.Name s) (is_named s) x t e
   leaf_at_role leaf.KeyIdent r h s t x e = any_from (HasRawRole r) _ (λ k. token_placed k _ r (key_place (source text k) r h)) (any_token text token_kind.Key s) x t e
@@ -147,7 +235,7 @@ module _ (text : List ℕ) where
   leaf_at_role leaf.Number r h s t x e = any_from (HasRawRole r) _ (λ k. token_placed k (kind.Number (numeral_of (source text k)) (Some (source text k))) r (loose_place (kind.Number (numeral_of (source text k)) (Some (source text k))) refl refl r h)) (any_token text token_kind.Number s) x t e
   leaf_at_role leaf.BigInt r h s t x e = any_from (HasRawRole r) _ (λ k. token_placed k (kind.BigInt (without_separators (piece text k.start (k.next - 1))) (Some (source text k))) r (loose_place (kind.BigInt (without_separators (piece text k.start (k.next - 1))) (Some (source text k))) refl refl r h)) (any_token text token_kind.BigInt s) x t e
   leaf_at_role leaf.Regex r h s t x e = any_from (HasRawRole r) _ (λ k. token_placed k (kind.Regex (piece text (k.start + 1) (regex_body_end text k.start)) (piece text (regex_body_end text k.start + 1) k.next)) r (loose_place (kind.Regex (piece text (k.start + 1) (regex_body_end text k.start)) (piece text (regex_body_end text k.start + 1) k.next)) refl refl r h)) (regex_token text s) x t e
-  leaf_at_role (leaf.TplElement wanted) r h s t x e = any_from (HasRawRole r) _ (λ part. token_placed part.token (kind.TplElement (template_raw (part_inside text part)) (template_value (part_inside text part)) part.last) r (loose_place (kind.TplElement (template_raw (part_inside text part)) (template_value (part_inside text part)) part.last) refl refl r h)) (template_part text wanted s) x t e
+  leaf_at_role (leaf.TplElement wanted) r h s t x e = made_from (IsValued wanted.tagged) (HasRawRole r) _ (λ part v. token_placed part.token _ r (text_place wanted.tagged (template_raw (part_inside text part)) (template_value (part_inside text part)) part.last r h v)) (template_part text wanted s) (is_valued wanted s) x t e
   leaf_at_role leaf.This r h s t x e = any_from (HasRawRole r) _ (λ k. token_placed k kind.ThisExpr r (loose_place kind.ThisExpr refl refl r h)) (word_token text (codes "this") s) x t e
   leaf_at_role leaf.Null r h s t x e = any_from (HasRawRole r) _ (λ k. token_placed k kind.Null r (loose_place kind.Null refl refl r h)) (word_token text (codes "null") s) x t e
   leaf_at_role leaf.True r h s t x e = any_from (HasRawRole r) _ (λ k. token_placed k (kind.Bool true) r (loose_place (kind.Bool true) refl refl r h)) (word_token text (codes "true") s) x t e
@@ -159,6 +247,7 @@ module _ (text : List ℕ) where
   leaf_as_asked : (l : Leaf) (q : Ask) → leaf_meets l q ≡ true → (s t : Position) (x : Node) → leaf_node text l s ≡ read x t → Meets q x
   leaf_as_asked l any h s t x e = tt
   leaf_as_asked l (at r) h s t x e = leaf_at_role l r h s t x e
+  leaf_as_asked (leaf.TplElement wanted) text_or_free h s t x e = made_from (IsValued wanted.tagged) (Meets text_or_free) _ (λ part v. text_meets wanted.tagged part v) (template_part text wanted s) (is_valued wanted s) x t e
   leaf_as_asked l _ h s t x e = no h
 
   -- what is kept of a leaf is one node

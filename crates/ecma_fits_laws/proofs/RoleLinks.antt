@@ -15,7 +15,7 @@ use Rattle.ecma_fits.specs.declared.role.Role.TheVariants as role
 use Rattle.ecma_fits.specs.Roles.{may_be, role_in}
 use Rattle.ecma_fits_laws.specs.RawRoles.{HasRawRole, may_be_raw, raw_role_in, usual_role_in}
 use Rattle.ecma_fits_laws.proofs.Placed.{Along, absent_free, placed, placed_parts}
-use Rattle.ecma_fits_laws.proofs.RoleAsks.{Ask, Given, MeetAll, Meets, any, behind, first_and_each, free, link}
+use Rattle.ecma_fits_laws.proofs.RoleAsks.{Ask, Given, MeetAll, Meets, any, at, behind, first_and_each, free, link}
 use Rattle.ecma_fits_laws.proofs.RoleNeeds.{as_free, is_optional, kind_needs, link_needs, node_needs, swapped_asked}
 use Rattle.ecma_fits_laws.proofs.RoleForms.{freely, node_made, steps_free, swapped_made}
 
@@ -75,7 +75,7 @@ module _ (x : Node) (h : HasRawRole role.Free x) where
       (placed span kind.CallExpr (c.0 ∷ args ∷ c.1 ∷ []) role.Free refl (i.0, (m.1.0, (i.1, tt))))
   call_free span c i (y ∷ args ∷ t ∷ z ∷ zs) m = absurd m.1.1.1
 
-  tagged_free : (span : Span) (c : Callee) → IsCallee c → (xs : List Node) → MeetAll (any ∷ free ∷ free ∷ []) xs → HasRawRole role.Free (framed 3 (tagged_of span c) xs)
+  tagged_free : (span : Span) (c : Callee) → IsCallee c → (xs : List Node) → MeetAll (any ∷ free ∷ at role.Tagged ∷ []) xs → HasRawRole role.Free (framed 3 (tagged_of span c) xs)
   unfolding may_be may_be_raw raw_role_in usual_role_in role_in
   tagged_free span c i [] m = absurd m
   tagged_free span c i (y ∷ []) m = absurd m.1

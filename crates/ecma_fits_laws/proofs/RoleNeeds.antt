@@ -18,9 +18,10 @@ use Rattle.ecma_grammar.specs.Grammar as grammar
 use Rattle.ecma_grammar.specs.Grammar.{Grammar}
 use Rattle.ecma_fits.specs.declared.role.Role.{Role}
 use Rattle.ecma_fits.specs.declared.role.Role.TheVariants as role
+use Rattle.ecma_fits.specs.Roles.{is_tagged}
 use Rattle.ecma_fits_laws.specs.RawRoles.{may_be_raw, raw_role_in}
 use Rattle.ecma_fits_laws.proofs.Placed.{displaced_by}
-use Rattle.ecma_fits_laws.proofs.RoleAsks.{Ask, Asked, all_given, any, at, before, behind, both, chain, each, first, first_and_each, first_part, free, head, head_rest, is_annotated, is_loose, is_one, link, never, none_asked, of_many, of_one, second_part, single, takes_defaulted, takes_patterns, these, whatever, wider, with_default}
+use Rattle.ecma_fits_laws.proofs.RoleAsks.{Ask, Asked, all_given, any, at, before, behind, both, chain, each, first, first_and_each, first_part, free, head, head_rest, is_annotated, is_loose, is_one, link, never, none_asked, of_many, of_one, second_part, single, takes_defaulted, takes_patterns, text_or_free, these, whatever, wider, with_default}
 
 -- what forms have to be given
 
@@ -74,6 +75,7 @@ kind_needs k (single r) = if_so (not (displaced_by r k) && is_annotated k) (thes
 kind_needs k (both r s) = if_so (not (displaced_by r k || displaced_by s k)) (these (boths (raw_role_in r k) (raw_role_in s k) (count k)))
 kind_needs k (before r s) = if_so (not (displaced_by s k) && wider r (raw_role_in s k 0)) (these (without_first (ats (raw_role_in s k) (count k))))
 kind_needs k link = link_needs k (is_optional k)
+kind_needs k text_or_free = never
 kind_needs k head = if_so (is_loop k) (each free)
 kind_needs k head_rest = if_so (is_loop k) (each free)
 
@@ -107,7 +109,17 @@ list_needs _ = never
 abbrev pub as_free : Ask → Asked → Asked
 as_free any asked = whatever
 as_free (at r) asked = if_so (wider role.Free r) asked
+as_free text_or_free asked = asked
 as_free _ asked = never
+
+-- behind a tag text parts may have no value
+abbrev pub template_at : Role → Asked
+template_at role.Tagged = each text_or_free
+template_at r = if_so (wider role.Free r) (each free)
+
+abbrev pub template_needs : Ask → Asked
+template_needs (at r) = template_at r
+template_needs q = as_free q (each free)
 
 abbrev pub chain_at : Role → Asked
 chain_at role.DeclaredElement = with_default role.DeclaredElement role.Declared
@@ -183,7 +195,7 @@ needs form.Sequence q = as_free q (each free)
 needs form.Chain q = chain_needs q
 needs form.Links q = as_free q (first_and_each free link)
 needs form.Logical q = as_free q (first_and_each free behind)
-needs form.Template q = as_free q (each free)
+needs form.Template q = template_needs q
 needs form.Arrow q = as_free q (these arrow_parts)
 needs form.Yield q = as_free q (these (free ∷ free ∷ []))
 needs form.New q = as_free q (each free)
@@ -226,6 +238,10 @@ part_keeps _ = these (free ∷ [])
 
 -- leaves: a name may be reserved where others know it, and be `this` where it is a parameter
 
+abbrev pub text_at : Bool → Role → Bool
+text_at true r = is_tagged r
+text_at false r = is_loose r
+
 abbrev pub leaf_at : Leaf → Role → Bool
 leaf_at leaf.ThisIdent role.NameOrThis = true
 leaf_at leaf.ThisIdent r = false
@@ -234,11 +250,13 @@ leaf_at leaf.KeyIdent r = false
 leaf_at leaf.PrivateName role.Private = true
 leaf_at leaf.PrivateName r = false
 leaf_at leaf.Ident role.NameOrThis = true
+leaf_at (leaf.TplElement wanted) r = text_at wanted.tagged r
 leaf_at l r = is_loose r
 
 abbrev pub leaf_meets : Leaf → Ask → Bool
 leaf_meets l any = true
 leaf_meets l (at r) = leaf_at l r
+leaf_meets (leaf.TplElement wanted) text_or_free = true
 leaf_meets l _ = false
 
 abbrev pub flag_meets : Flag → Ask → Bool

@@ -7,3 +7,4 @@ pub mod RawRoles
 pub mod FinishedRoles
 pub mod ReadRoles
 pub mod WhatIsRead
+pub mod TextParts

@@ -11,9 +11,9 @@ use Rattle.ecma_rules.specs.Failing.{failing_here, first_failing}
 use Rattle.ecma_rules.specs.Supers.{is_private_name, is_super_member}
 use Rattle.ecma_fits.specs.declared.role.Role.{Role}
 use Rattle.ecma_fits.specs.declared.role.Role.TheVariants as role
-use Rattle.ecma_fits.specs.Roles.{at_child, is_wrong_name, may_be, role_in}
+use Rattle.ecma_fits.specs.Roles.{at_child, is_tagged, is_wrong_name, may_be, role_in}
 
--- what is assigned to and what stands behind a tag is any expression
+-- what is assigned to is any expression
 abbrev pub raw_role : Role → Role
 raw_role role.Left = role.Free
 raw_role role.Simple = role.Free
@@ -26,9 +26,6 @@ raw_role role.AssignedElements = role.Free
 raw_role role.AssignedProperty = role.Free
 raw_role role.AssignedProperties = role.Free
 raw_role role.AssignedName = role.Free
-raw_role role.Tagged = role.Free
-raw_role role.TaggedTexts = role.Free
-raw_role role.TaggedText = role.Free
 raw_role r = r
 
 abbrev pub is_parameter : Role → Bool
@@ -39,12 +36,25 @@ abbrev pub is_getter : Kind → Bool
 is_getter kind.GetterProp = true
 is_getter _ = false
 
--- the kinds that may stand there; parameter properties stand in each list of parameters, and a setter may have such a list where its parameter stands
+-- a text part without a value
+abbrev pub is_unvalued : Kind → Bool
+is_unvalued (kind.TplElement raw None tail) = true
+is_unvalued _ = false
+
+-- it stands behind a tag alone
+abbrev pub may_say : Role → Kind → Bool
+may_say r k = not (is_unvalued k) || is_tagged r
+
+-- parameter properties stand in each list of parameters, and a setter may have such a list where its parameter stands
+abbrev pub may_stand : Role → Kind → Bool
+may_stand role.Free k = not (is_private_name k)
+may_stand role.Parameter k = may_be role.Parameter k || (is_list k || is_parameter_property k)
+may_stand role.Parameters k = is_list k
+may_stand r k = may_be r k || is_absent k
+
+-- the kinds that may stand there
 unfoldable pub may_be_raw : Role → Kind → Bool
-may_be_raw role.Free k = not (is_private_name k)
-may_be_raw role.Parameter k = may_be role.Parameter k || (is_list k || is_parameter_property k)
-may_be_raw role.Parameters k = is_list k
-may_be_raw r k = may_be r k || is_absent k
+may_be_raw r k = may_say r k && may_stand r k
 
 -- what the child at an index may be; the parameters that a getter may not have stand behind its children
 unfoldable pub usual_role_in : Role → Kind → ℕ → Role

@@ -9,6 +9,7 @@ ghost use Rattle.ecma_fits_laws.specs.Read.{ReadLeavesAreSpelled, ReadTreesKeepR
 ghost use Rattle.ecma_fits_laws.specs.Shapes.{ReadBranchesTakeTheirElse, ReadLinksAreNotLoose, ReadMembersAreNotMisread, ReadNodesAreFull};
 ghost use Rattle.ecma_fits_laws.specs.FinishedRoles.{FinishedTargetsAreNoStrays, FinishedTreesHaveTheirRoles};
 ghost use Rattle.ecma_fits_laws.specs.ReadRoles.{RawModulesHaveTheirRoles, ReadTargetsAreNoStrays, ReadTreesHaveTheirRoles};
+ghost use Rattle.ecma_fits_laws.specs.TextParts.{ReadTextPartsAreValued};
 ghost use Rattle.ecma_fits_laws.specs.WhatIsRead.{SpelledTreesFit};
 ghost use Rattle.ecma_fits_laws.specs.Finished.{FinishedClassesHaveOneConstructor, FinishedTreesHaveNoStrays, FinishedTreesKeepRules};
 
@@ -87,8 +88,8 @@ pub fn members_that_are_read_are_not_misread()
     trees_that_are_read_keep_rules();
 }
 
-/// In the raw module that the grammar gives, names, patterns and parameters stand where something is declared, private names where they may, and
-/// reserved words where they name nothing.
+/// In the raw module that the grammar gives, names, patterns and parameters stand where something is declared, private names where they may, reserved
+/// words where they name nothing, and text parts without a value behind a tag.
 #[tactic(auto, using(crate::proofs::RoleReads::roles_given))]
 pub fn raw_modules_have_their_roles()
     ensures { RawModulesHaveTheirRoles }
@@ -118,6 +119,13 @@ pub fn finished_targets_are_no_strays()
 pub fn targets_that_are_read_are_no_strays()
     ensures { ReadTargetsAreNoStrays }
 {}
+
+/// Each text part of a template in what is read as a module has a value, or stands behind a tag.
+pub fn text_parts_that_are_read_have_values()
+    ensures { ReadTextPartsAreValued }
+{
+    raw_modules_have_their_roles();
+}
 
 /// What is read as a module, in either mode and with any number of levels, fits, where its leaves are spelled as their terminals read them and say what
 /// these say.
