@@ -50,7 +50,7 @@ mutual
   plain_expression (looser e) = plain.looser (plain_expression e)
   plain_expression (name i) = plain.looser (plain.name (plain_ident i))
   plain_expression (string at raw t) = rw (erased_node at _ []) (plain.looser (plain.string at raw t))
-  plain_expression (number at raw t) = rw (erased_node at _ []) (plain.number at raw t)
+  plain_expression (number at raw t) = rw (erased_node at _ []) (plain.looser (plain.number at raw t))
   plain_expression (this_word at) = rw (erased_node at kind.ThisExpr []) (plain.looser (plain.this_word at))
   plain_expression (null_word at) = rw (erased_node at kind.Null []) (plain.looser (plain.null_word at))
   plain_expression (truth_word at true) = rw (erased_node at (kind.Bool true) []) (plain.looser (plain.true_word at))

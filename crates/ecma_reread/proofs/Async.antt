@@ -23,9 +23,9 @@ use Rattle.ecma_grammar.specs.productions.Modules as modules
 use Rattle.ecma_tokens.specs.Items as items
 use Rattle.ecma_tokens.specs.Items.{Gap, Items, it}
 use Rattle.ecma_tokens.specs.Taking.{new_line_in}
-use Rattle.ecma_reread.specs.Machine.{read, fails, with_front, followed_on, or_on, built_on, interp, means}
+use Rattle.ecma_reread.specs.Machine.{read, fails, with_front, followed_on, or_on, built_on, interp, means, without}
 use Rattle.ecma_reread.proofs.Fronts.{Front, exactly, Begins, at_token, front_of, refuses_at, refused_at, refuses_first}
-use Rattle.ecma_reread.proofs.Towers.{Tower, later, sooner, here, climb, without, excluded, Opens, Starts}
+use Rattle.ecma_reread.proofs.Towers.{Tower, later, sooner, here, climb, excluded, Opens, Starts}
 use Rattle.ecma_reread.proofs.Heads.{bare}
 use Rattle.ecma_reread.proofs.Forms.{Reads, Refuses, Form, NewForm, no_item_at}
 use Rattle.ecma_reread.proofs.Expressions.{IsPrimary, head_read, new_head_read, name_as_param, name_with_default, name_no_rest, name_no_label}

@@ -64,8 +64,8 @@ begun (shapes.element at at' i o e) depth us = begun o depth (sign_of (codes "["
 begun (shapes.super_member at at' k) depth us = record { first = items.key (codes "super"); by = NoNeighbor; rest = sign_of (codes ".") (it no_gap (items.key (key_word k)) us); opens = by_key (codes "super"); is = λ g. refl }
 begun (shapes.super_element at at' at'' e) depth us = record { first = items.key (codes "super"); by = NoNeighbor; rest = sign_of (codes "[") (expression_tokens e depth no_gap (sign_of (codes "]") us)); opens = by_key (codes "super"); is = λ g. refl }
 begun (shapes.super_call at at' es none) depth us = record { first = items.key (codes "super"); by = NoNeighbor; rest = sign_of (codes "(") (arguments_tokens es depth (sign_of (codes ")") us)); opens = by_key (codes "super"); is = λ g. refl }
-begun (shapes.new_expression at e es none) depth us = record { first = items.key (codes "new"); by = NoNeighbor; rest = expression_tokens e depth blank (sign_of (codes "(") (arguments_tokens es depth (sign_of (codes ")") us))); opens = by_key (codes "new"); is = λ g. refl }
-begun (shapes.new_alone at e none none') depth us = record { first = items.key (codes "new"); by = NoNeighbor; rest = expression_tokens e depth blank us; opens = by_key (codes "new"); is = λ g. refl }
+begun (shapes.new_expression at i e es none) depth us = record { first = items.key (codes "new"); by = NoNeighbor; rest = expression_tokens e depth blank (sign_of (codes "(") (arguments_tokens es depth (sign_of (codes ")") us))); opens = by_key (codes "new"); is = λ g. refl }
+begun (shapes.new_alone at i e none none') depth us = record { first = items.key (codes "new"); by = NoNeighbor; rest = expression_tokens e depth blank us; opens = by_key (codes "new"); is = λ g. refl }
 begun (shapes.new_target at) depth us = record { first = items.key (codes "new"); by = NoNeighbor; rest = sign_of (codes ".") (it no_gap (items.key (codes "target")) us); opens = by_key (codes "new"); is = λ g. refl }
 begun (shapes.import_meta at) depth us = record { first = items.key (codes "import"); by = NoNeighbor; rest = sign_of (codes ".") (it no_gap (items.key (codes "meta")) us); opens = by_key (codes "import"); is = λ g. refl }
 begun (shapes.import_call at at' es none) depth us = record { first = items.key (codes "import"); by = NoNeighbor; rest = sign_of (codes "(") (arguments_tokens es depth (sign_of (codes ")") us)); opens = by_key (codes "import"); is = λ g. refl }
@@ -304,6 +304,7 @@ slots_soft (shapes.hole a es) depth us = comma
 abbrev pub is_linked : Level → Bool
 is_linked shapes.new_callee = true
 is_linked shapes.object = true
+is_linked shapes.numeral = true
 is_linked shapes.callee = true
 is_linked shapes.chain = true
 is_linked shapes.left_hand_side = true
@@ -349,6 +350,7 @@ chain_linked shapes.goes_on = refl
 
 pub index_linked : {h l : Level} → IsIndexed h l → is_linked h ≡ true
 index_linked shapes.index_of_new = refl
+index_linked shapes.index_of_numeral = refl
 index_linked shapes.index_of_callee = refl
 
 pub plain : {level : Level} {e : Node} (is : IsExpression level e) (depth : ℕ) (us : Items) → is_linked level ≡ true → (let b = begun is depth us in b.by) ≡ NoNeighbor

@@ -37,6 +37,7 @@ use Rattle.ecma_reread.proofs.Params.{Params, params_by}
 abbrev pub grammar_of : Bool → Level → Grammar
 grammar_of no_in shapes.new_callee = chain
 grammar_of no_in shapes.object = chain
+grammar_of no_in shapes.numeral = chain
 grammar_of no_in shapes.callee = chain
 grammar_of no_in shapes.chain = chain
 grammar_of no_in shapes.left_hand_side = chain
@@ -76,6 +77,7 @@ NotOr shapes.assignment k = Unit {0}
 NotOr shapes.sequence k = Unit {0}
 NotOr shapes.new_callee k = is_head k ≡ true
 NotOr shapes.object k = is_head k ≡ true
+NotOr shapes.numeral k = is_head k ≡ true
 NotOr shapes.callee k = is_head k ≡ true
 NotOr shapes.chain k = is_chain k ≡ true
 NotOr l k = is_or k ≡ false
@@ -245,6 +247,7 @@ module _ (assigned : Bool) where
   abbrev pub Reading : Bool → Level → Front → Laid → Kind → List Node → Type 0
   Reading no_in shapes.new_callee c f k ns = NewForm assigned f k ns
   Reading no_in shapes.object c f k ns = Form assigned f k ns
+  Reading no_in shapes.numeral c f k ns = NewForm assigned f k ns
   Reading no_in shapes.callee c f k ns = Form assigned f k ns
   Reading no_in shapes.chain c f k ns = Form assigned f k ns
   Reading no_in shapes.left_hand_side c f k ns = Whole assigned c f (bare k ns)
@@ -371,6 +374,7 @@ module _ (assigned : Bool) where
       unfolding operand operators.shift operators.relation operators.equality operators.bit_and operators.bit_xor operators.bit_or
       direct shapes.new_callee S g us e b z = let N = S.reading in chain_read assigned N.form g us e b z
       direct shapes.object S g us e b z = chain_read assigned S.reading g us e b z
+      direct shapes.numeral S g us e b z = let N = S.reading in chain_read assigned N.form g us e b z
       direct shapes.callee S g us e b z = chain_read assigned S.reading g us e b z
       direct shapes.chain S g us e b z = chain_read assigned S.reading g us e b z
       direct shapes.left_hand_side S g us e b z = let w = S.reading in w.all g us e b z
@@ -427,6 +431,7 @@ module _ (assigned : Bool) where
       pub loosened : (l : Level) → StandsIn no_in l f k ns → StandsIn no_in (looser_than l) f k ns
       loosened shapes.new_callee S = let N = S.reading in from_form S.no_or N.form
       loosened shapes.object S = record { lead = S.lead; tight = S.tight; no_or = S.no_or; no_arrow = S.no_arrow; param = S.param; reading = S.reading }
+      loosened shapes.numeral S = let N = S.reading in record { lead = S.lead; tight = S.tight; no_or = S.no_or; no_arrow = S.no_arrow; param = S.param; reading = N.form }
       loosened shapes.callee S = let F = S.reading in let o = F.opens in record { lead = lead_of assigned F; tight = (o.no_private, o.no_yield); no_or = head_is_no_or k S.no_or; no_arrow = S.no_arrow; param = S.param; reading = record { opens = F.opens; all = chain_read assigned F } }
       loosened shapes.chain S = let F = S.reading in let o = F.opens in record { lead = lead_of assigned F; tight = (o.no_private, o.no_yield); no_or = chain_is_no_or k S.no_or; no_arrow = S.no_arrow; param = S.param; reading = record { opens = F.opens; all = chain_read assigned F } }
       loosened shapes.left_hand_side S = let w = S.reading in let o = w.opens in record { lead = S.lead; tight = S.tight; no_or = S.no_or; no_arrow = S.no_arrow; param = S.param; reading = (o.no_prefix, update_read S.lead w) }

@@ -1,7 +1,8 @@
 -- Arguments, and forms that hold them.
-use Rattle.std.proofs.Common.{◌≡◌, bytes_eq, ℕ, Bool, true, false, List, [], ◌∷◌, codes, refl, ap, sym, subst, ◌∙◌, append-nil}
+use Rattle.std.proofs.Common.{◌≡◌, bytes_eq, ℕ, Bool, true, false, List, [], ◌∷◌, codes, refl, ap, sym, subst, ◌∙◌, append-nil, Some}
 use Rattle.std.proofs.lemmas.Bool.{false≢true}
 use Rattle.std.proofs.lemmas.Slice.Eq.{bytes_eq-Decides}
+use Rattle.ecma_number.specs.Numeral.{numeral_of}
 use Rattle.ecma_lex.specs.Keys.{is_reserved}
 use Rattle.ecma_kind.specs.declared.kind.Kind.{Kind}
 use Rattle.ecma_kind.specs.declared.kind.Kind.TheVariants as kind
@@ -25,19 +26,19 @@ use Rattle.ecma_tokens.specs.Items as items
 use Rattle.ecma_tokens.specs.Items.{Tok, sign, Gap, no_gap, Items, it}
 use Rattle.ecma_reread.specs.Machine.{with_front}
 use Rattle.ecma_reread.specs.Shapes as shapes
-use Rattle.ecma_reread.specs.Shapes.{Level, IsPlainName, IsIdent, ident, IsKey, key, IsExpression, IsElement, AreSlots, IsProperty, AreProperties, IsArguments, AreElements, AreExpressions, IsMemberLevel, IsIndexed, Role, IsPattern, IsDefaulted, IsInitializer, AreParts, IsChainLink}
+use Rattle.ecma_reread.specs.Shapes.{Level, IsPlainName, IsIdent, ident, IsKey, key, IsExpression, IsElement, AreSlots, IsProperty, AreProperties, IsArguments, AreElements, AreExpressions, IsMemberLevel, IsIndexed, IsConstructor, Role, IsPattern, IsDefaulted, IsInitializer, AreParts, IsChainLink}
 use Rattle.ecma_reread.specs.Tokens.{ident_word, element_tokens, arguments_tokens, elements_tokens, part_token, parts_tokens}
 use Rattle.ecma_reread.specs.Signs.{blank, point_of, question_of}
 use Rattle.ecma_reread.specs.Bare.{bare, bare_element, bare_arguments, bare_elements, bare_substitutions, bare_parts}
 use Rattle.ecma_reread.proofs.Levels.{means_is}
 use Rattle.ecma_reread.proofs.Fronts.{Front, exactly, Begins, at_token, IsName, is_known, refuses_at, refuses_all, all_refused}
 use Rattle.ecma_reread.proofs.Heads.{call_made, is_head, chain_call_made}
-use Rattle.ecma_reread.proofs.Forms.{Laid, s, behind_params, Reads, Refuses, Form, NewForm, link_behind}
+use Rattle.ecma_reread.proofs.Forms.{Laid, s, behind_params, Reads, Refuses, begins_no_target, Form, NewForm, link_behind}
 use Rattle.ecma_reread.proofs.Bindings.{Stands, from_form, from_new, from_chain}
 use Rattle.ecma_reread.proofs.Members.{IsLinkKey, member_form, new_member_form}
 use Rattle.ecma_reread.proofs.Elements.{element_form, new_element_form}
 use Rattle.ecma_reread.proofs.Repeats.{Repeats, repeats_end, repeats_more, repeated}
-use Rattle.ecma_reread.proofs.Expressions.{Single, single_new, name_new}
+use Rattle.ecma_reread.proofs.Expressions.{Single, single_new, number_single, name_new}
 use Rattle.ecma_reread.proofs.Params.{Params, params_end, params_more, params_by, parameters_refused, no_body_behind}
 use Rattle.ecma_reread.proofs.Async.{async_new}
 use Rattle.ecma_reread.proofs.Spreads.{element_read, element_param}
@@ -133,15 +134,18 @@ module _ (assigned : Bool) where
   pub element_stands : {h l : Level} → IsIndexed h l → {f f' : Laid} {k k' : Kind} {ns ns' : List Node} → Stands assigned h f k ns → Stands assigned shapes.sequence f' k' ns'
       → Stands assigned l (λ g us. f g (s (codes "[") (f' no_gap (s (codes "]") us)))) kind.MemberExpr (bare k ns ∷ bare kind.ComputedPropName (bare k' ns' ∷ []) ∷ [])
   element_stands shapes.index_of_new S E = from_new assigned refl (new_element_form assigned E S.no_or S.reading)
+  element_stands shapes.index_of_numeral S E = from_new assigned refl (new_element_form assigned E S.no_or S.reading)
   element_stands shapes.index_of_callee S E = from_form assigned refl (element_form assigned E S.no_or S.reading)
 
   pub tagged_stands : {h l : Level} → IsIndexed h l → {f : Laid} {k : Kind} {ns : List Node} → Stands assigned h f k ns → {es ps : List Node} (is : AreParts true true es ps) (depth : ℕ) → PartForms assigned is depth
       → Stands assigned l (λ g us. f g (it no_gap (part_token true is) (parts_tokens is depth us))) kind.TaggedTpl (bare k ns ∷ absent ∷ bare kind.Tpl (list_node (bare_substitutions is) ∷ list_node (bare_parts is) ∷ []) ∷ [])
   tagged_stands shapes.index_of_new S is depth P = from_new assigned refl (new_tagged_form assigned is depth P S.no_or S.reading)
+  tagged_stands shapes.index_of_numeral S is depth P = from_new assigned refl (new_tagged_form assigned is depth P S.no_or S.reading)
   tagged_stands shapes.index_of_callee S is depth P = from_form assigned refl (tagged_form assigned is depth P S.no_or S.reading)
 
-  pub new_callee_form : {f : Laid} {k : Kind} {ns : List Node} → Stands assigned shapes.new_callee f k ns → NewForm assigned f k ns
-  new_callee_form S = S.reading
+  pub constructed_form : {l : Level} → IsConstructor l → {f : Laid} {k : Kind} {ns : List Node} → Stands assigned l f k ns → NewForm assigned f k ns
+  constructed_form shapes.constructor_callee S = S.reading
+  constructed_form shapes.constructor_numeral S = S.reading
 
   -- links of optional chains
 
@@ -172,5 +176,8 @@ module _ (assigned : Bool) where
   pub ident_stands : {n : Node} (i : IsIdent n) → Stands assigned shapes.new_callee (λ g us. it g (items.key (ident_word i)) us) (kind.Ident (ident_word i) 0 false) []
   ident_stands i = from_new assigned refl (ident_form i)
 
-  pub single_stands : (t : Tok) (k : Kind) → is_head k ≡ true → Single t k → refuses_at (exactly t) (punct (codes ".")) ≡ true → Stands assigned shapes.new_callee (λ g us. it g t us) k []
+  pub single_stands : (t : Tok) (k : Kind) → is_head k ≡ true → Single t k → begins_no_target (exactly t) ≡ true → Stands assigned shapes.new_callee (λ g us. it g t us) k []
   single_stands t k h S p = from_new assigned h (single_new assigned t k S p)
+
+  pub numeral_stands : (raw : List ℕ) → Stands assigned shapes.numeral (λ g us. it g (items.number raw) us) (kind.Number (numeral_of raw) (Some raw)) []
+  numeral_stands raw = let S = single_stands (items.number raw) _ refl (number_single raw) refl in record { lead = S.lead; tight = S.tight; no_or = S.no_or; no_arrow = S.no_arrow; param = S.param; reading = S.reading }

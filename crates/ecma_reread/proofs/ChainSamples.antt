@@ -5,7 +5,7 @@ use Rattle.ecma_tree.specs.declared.node.Node.{Node}
 use Rattle.ecma_tree.specs.Nodes.{node_of}
 use Rattle.ecma_print.specs.Layout.{layout}
 use Rattle.ecma_tokens.specs.Items.{render}
-use Rattle.ecma_reread.specs.Shapes.{ident, name, key, plain_key, absent, one, no_elements, arguments, no_expressions, member, member_of_new, new_expression, new_alone, new_target, chain_member, chain_element, chain_call, opens_chain, asks_on, goes_on, super_element, import_call, import_meta, parenthesized, sequence_expression, yield_value, coalesced, first_head, IsRegex, IsPart, part, regex, tagged_template, template, more_parts, last_part, index_of_new}
+use Rattle.ecma_reread.specs.Shapes.{ident, name, key, plain_key, absent, one, no_elements, arguments, no_expressions, member, member_of_new, new_expression, new_alone, new_target, constructor_callee, chain_member, chain_element, chain_call, opens_chain, asks_on, goes_on, super_element, import_call, import_meta, parenthesized, sequence_expression, yield_value, coalesced, first_head, IsRegex, IsPart, part, regex, tagged_template, template, more_parts, last_part, index_of_new}
 use Rattle.ecma_reread.specs.Modules.{statement, no_items, more_items, IsModule, module_of}
 use Rattle.ecma_reread.specs.ModuleTokens.{module_tokens}
 use Rattle.ecma_reread.proofs.ModuleLayouts.{module_laid}
@@ -52,9 +52,9 @@ sample =
     let id = name (ident at (codes "a") a_name) in
     let k = plain_key (key at (codes "a") (whole (codes "a") a_spelled)) in
     let args = arguments at (one (out 18 id)) no_elements in
-    let made = new_expression at (member at member_of_new id k) args (absent at) in
+    let made = new_expression at constructor_callee (member at member_of_new id k) args (absent at) in
     let chain = chain_call at at goes_on (chain_element at at at asks_on (chain_member at at opens_chain (out 2 made) k) id) args (absent at) in
-    let both = sequence_expression at (out 18 id) (yield_value at true (out 2 (coalesced at first_head (out 14 id) (out 14 (parenthesized at (new_alone at (new_target at) (absent at) (absent at))))))) no_expressions in (
+    let both = sequence_expression at (out 18 id) (yield_value at true (out 2 (coalesced at first_head (out 14 id) (out 14 (parenthesized at (new_alone at constructor_callee (new_target at) (absent at) (absent at))))))) no_expressions in (
       _,
       module_of at at
           (more_items (statement (plainly chain refl))

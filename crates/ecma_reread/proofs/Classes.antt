@@ -22,7 +22,7 @@ use Rattle.ecma_grammar.specs.productions.Modules as modules
 use Rattle.ecma_grammar.specs.productions.Modules.{module_item}
 use Rattle.ecma_tokens.specs.Items as items
 use Rattle.ecma_tokens.specs.Items.{sign, Gap, Items, it}
-use Rattle.ecma_reread.specs.Machine.{read, or_on, built_on, interp, means}
+use Rattle.ecma_reread.specs.Machine.{read, or_on, built_on, interp, means, without}
 use Rattle.ecma_reread.specs.Shapes as shapes
 use Rattle.ecma_reread.specs.Shapes.{IsHeritage, IsFunctionName, ident}
 use Rattle.ecma_reread.specs.Tokens.{expression_tokens, heritage_tokens, function_name_tokens}
@@ -31,7 +31,7 @@ use Rattle.ecma_reread.specs.Bare.{expression_kind, expression_parts, bare_herit
 use Rattle.ecma_reread.proofs.Moves.{eats}
 use Rattle.ecma_reread.proofs.Levels.{means_is}
 use Rattle.ecma_reread.proofs.Fronts.{exactly, at_token, refuses_all, all_refused}
-use Rattle.ecma_reread.proofs.Towers.{without, skipped, closes}
+use Rattle.ecma_reread.proofs.Towers.{skipped, closes}
 use Rattle.ecma_reread.proofs.Heads.{bare}
 use Rattle.ecma_reread.proofs.Forms.{Laid, Reads, Refuses}
 use Rattle.ecma_reread.proofs.Repeats.{Repeats, repeats_end, repeats_more, repeated}

@@ -12,7 +12,7 @@ use Rattle.ecma_grammar.specs.declared.production.Link.TheVariants as link
 use Rattle.ecma_grammar.specs.declared.production.Flag.TheVariants.{Absent}
 use Rattle.ecma_grammar.specs.declared.production.Form.TheVariants as form
 use Rattle.ecma_grammar.specs.trees.Chains.{steps, in_front_link}
-use Rattle.ecma_grammar.specs.Grammar.{Grammar, put, ahead, enter, ◌▸◌, build, behind_punct, punct, word, maybe, marked, commas, list}
+use Rattle.ecma_grammar.specs.Grammar.{Grammar, put, ahead, enter, ◌▸◌, ◌//◌, build, behind_punct, punct, word, maybe, marked, commas, list}
 use Rattle.ecma_grammar.specs.productions.Names as names
 use Rattle.ecma_grammar.specs.productions.Types.{param, rest_pattern, default_value, type_param_instantiation, after_type_args}
 use Rattle.ecma_grammar.specs.productions.Patterns.{pattern_body, array_pattern, object_pattern}
@@ -26,15 +26,15 @@ use Rattle.ecma_grammar.specs.productions.Statements.{labeled}
 use Rattle.ecma_grammar.specs.productions.Modules as modules
 use Rattle.ecma_grammar.specs.productions.Operators.{prefixed}
 use Rattle.ecma_grammar.specs.productions.Chains.{arguments, links, new_links, new_body, template_start, super_of_member, super_of_link, import_meta, import_call, construction, chain}
-use Rattle.ecma_tokens.specs.Items.{key, sign, no_gap, Gap, Items, it}
-use Rattle.ecma_reread.specs.Machine.{read, with_front, followed_on, or_on, built_on, interp, means}
+use Rattle.ecma_tokens.specs.Items.{key, sign, number, no_gap, Gap, Items, it}
+use Rattle.ecma_reread.specs.Machine.{read, with_front, followed_on, or_on, built_on, body_at, interp, means}
 use Rattle.ecma_reread.specs.Shapes as shapes
 use Rattle.ecma_reread.specs.Signs.{blank}
 use Rattle.ecma_reread.proofs.Levels.{means_is}
-use Rattle.ecma_reread.proofs.Fronts.{Front, exactly, Begins, at_token, refuses_at, refused_at, refuses_first, first_refuses, passes_at, passed_at}
+use Rattle.ecma_reread.proofs.Fronts.{Front, exactly, a_name, the_end, Begins, at_token, at_name, at_end, refuses_at, refused_at, refuses_first, first_refuses, passes_at, passed_at}
 use Rattle.ecma_reread.proofs.Towers.{Opens, closes, refuses_choices, skipped}
 use Rattle.ecma_reread.proofs.Heads.{bare}
-use Rattle.ecma_reread.proofs.Forms.{Laid, s, heads, new_heads, Reads, NewForm, only_opens, lead_by, param_by, form_by, no_arrow_by}
+use Rattle.ecma_reread.proofs.Forms.{Laid, s, heads, new_heads, begins_no_target, Reads, NewForm, only_opens, lead_by, param_by, form_by, no_arrow_by}
 use Rattle.ecma_reread.proofs.Bindings.{Stands, tight_by}
 
 abbrev new : Front
@@ -101,6 +101,21 @@ module _ (assigned : Bool) where
   pub target_form : NewForm assigned (λ g us. it g (key (codes "new")) (s (codes ".") (it no_gap (key (codes "target")) us))) (kind.MetaPropExpr NewTarget) []
   target_form = by_word (λ us. s (codes ".") (it no_gap (key (codes "target")) us)) target_read
 
+  -- `.target` is tried before a callee, but at no numeral
+  abbrev callee : Grammar
+  callee = build form.Links (new_heads ▸ new_links) ▸ with_arguments
+
+  refused_target : (e : Front) (ts : Items) → Begins e ts → refuses_at e (punct (codes ".")) ≡ true → interp assigned (means assigned) (punct (codes ".") ▸ word (codes "target") // callee) ts ≡ interp assigned (means assigned) callee ts
+  refused_target e ts b z =
+      ap (or_on (interp assigned (means assigned) callee) ts) (refused_at assigned (means assigned) (punct (codes ".") ▸ word (codes "target")) e ts b (refuses_first e (punct (codes ".")) (word (codes "target")) z))
+
+  no_target : (e : Front) (ts : Items) → Begins e ts → begins_no_target e ≡ true → interp assigned (means assigned) (body_at part.New ts) ts ≡ interp assigned (means assigned) callee ts
+  unfolding new_body
+  no_target (exactly (number w)) ts at_token z = refl
+  no_target (exactly t) ts at_token z = refused_target (exactly t) ts at_token z
+  no_target a_name ts (at_name n) z = refused_target a_name ts (at_name n) z
+  no_target the_end ts at_end z = refused_target the_end ts at_end z
+
   module _ {f : Laid} {k : Kind} {ns : List Node} (N : NewForm assigned f k ns) where
     -- the callee, and what may be arguments
     callee_read : (us : Items) (e : Front) → Begins e us → refuses_at e (word (codes "function")) ≡ true → passes_at e new_links ≡ true → (n : Node) (vs : Items) → Reads assigned (maybe arguments) us (n ∷ []) vs
@@ -111,7 +126,7 @@ module _ (assigned : Bool) where
         let F = N.form in
         let ts = f blank us in
         means_is assigned part.New ts
-        ∙ (ap (or_on (I (build form.Links (new_heads ▸ new_links) ▸ with_arguments)) ts) (refused_at assigned (means assigned) (punct (codes ".") ▸ word (codes "target")) F.front ts (F.begins blank us) (refuses_first F.front (punct (codes ".")) (word (codes "target")) N.no_point))
+        ∙ (no_target F.front (f blank us) (F.begins blank us) N.no_point
         ∙ (ap (followed_on (I with_arguments)) (ap (built_on form.Links) (N.own blank us e b z [] us (passed_at assigned (means assigned) new_links e us b p)) ∙ ap (λ o. read (unwrap_or o absent ∷ []) us) (ap (steps in_front_link None) (append-nil F.pieces) ∙ F.whole))
         ∙ ap (with_front (bare k ns ∷ [])) (ap (with_front (absent ∷ [])) h)))
 

@@ -18,7 +18,7 @@ use Rattle.ecma_tokens.specs.Items.{sign, Gap, Items, it}
 use Rattle.ecma_tokens.specs.Taking as taking
 use Rattle.ecma_tokens.specs.Taking.{Took, took, refused, token_in}
 use Rattle.ecma_reread.proofs.Classes.{class_expression_read}
-use Rattle.ecma_reread.specs.Machine.{Out, read, unsure, Turn, taken, behind_on, followed_on, fails, built_on, with_front, or_on, interp, means}
+use Rattle.ecma_reread.specs.Machine.{Out, read, unsure, Turn, taken, behind_on, followed_on, fails, built_on, with_front, or_on, interp, means, without}
 use Rattle.ecma_reread.specs.Shapes as shapes
 use Rattle.ecma_reread.specs.Shapes.{IsExpression, IsFunctionName, IsFunction, IsClass}
 use Rattle.ecma_reread.specs.Tokens.{expression_tokens, is_generator, is_async, function_name_tokens, function_tokens, class_tokens}
@@ -26,7 +26,7 @@ use Rattle.ecma_reread.specs.Signs.{blank, sign_of, function_word, closing_gap}
 use Rattle.ecma_reread.specs.Bare.{bare, bare_expression, bare_function_name, bare_function, bare_class}
 use Rattle.ecma_reread.specs.ModuleTokens.{spaced_word}
 use Rattle.ecma_reread.proofs.Fronts.{exactly, at_token}
-use Rattle.ecma_reread.proofs.Towers.{without, excluded}
+use Rattle.ecma_reread.proofs.Towers.{excluded}
 use Rattle.ecma_reread.proofs.Forms.{Reads, Refuses}
 use Rattle.ecma_reread.proofs.Bindings.{used}
 use Rattle.ecma_reread.proofs.Expressions.{semicolon_ends}

@@ -18,7 +18,7 @@ use Rattle.ecma_print.specs.Statements.{keyword}
 use Rattle.ecma_tokens.specs.Items as items
 use Rattle.ecma_tokens.specs.Items.{sign, Gap, Items, it}
 use Rattle.ecma_reread.proofs.Classes.{class_declaration_read}
-use Rattle.ecma_reread.specs.Machine.{fails, built_on, with_front, or_on, interp, means}
+use Rattle.ecma_reread.specs.Machine.{fails, built_on, with_front, or_on, interp, means, without}
 use Rattle.ecma_reread.specs.Shapes as shapes
 use Rattle.ecma_reread.specs.Shapes.{IsExpression, Ending, IsStatement}
 use Rattle.ecma_reread.specs.Modules as modules
@@ -29,7 +29,7 @@ use Rattle.ecma_reread.specs.Bare.{bare, bare_statement}
 use Rattle.ecma_reread.specs.ModuleTokens.{spaced, spaced_word, spaced_sign, export_name_token, from_tokens, named_export_tokens, more_exports_tokens, export_clause_tokens, bare_string, bare_export_name, bare_with, bare_named_export, bare_named_exports, bare_export_clause}
 use Rattle.ecma_reread.proofs.Moves.{eats}
 use Rattle.ecma_reread.proofs.Fronts.{exactly, at_token}
-use Rattle.ecma_reread.proofs.Towers.{without, skipped}
+use Rattle.ecma_reread.proofs.Towers.{skipped}
 use Rattle.ecma_reread.proofs.Forms.{Reads, Refuses}
 use Rattle.ecma_reread.proofs.Repeats.{Repeats, repeats_end, repeats_more, repeated}
 use Rattle.ecma_reread.proofs.Variables.{declaration_read}

@@ -42,7 +42,7 @@ use Rattle.ecma_reread.proofs.Levels.{means_is}
 use Rattle.ecma_grammar.specs.Made.{made}
 use Rattle.ecma_reread.proofs.Fronts.{is_known, Front, exactly, a_name, Begins, at_token, at_name, IsName, front_of, refuses_at, refused_at, refuses_all, all_refused}
 use Rattle.ecma_reread.proofs.Towers.{Tower, here, later, sooner, climb, excluded, Opens, Starts, Undeclared, Ends, refuses_choices, skipped}
-use Rattle.ecma_reread.proofs.Forms.{Laid, s, heads, Reads, Refuses, ends_no_item, AsParam, item_refused, whole_item, Form, new_heads, NewForm, no_item_at, no_arrow_at}
+use Rattle.ecma_reread.proofs.Forms.{Laid, s, heads, Reads, Refuses, ends_no_item, begins_no_target, AsParam, item_refused, whole_item, Form, new_heads, NewForm, no_item_at, no_arrow_at}
 use Rattle.ecma_reread.proofs.Bindings.{Stands, expression_read}
 use Rattle.ecma_reread.proofs.Params.{params_end, parameters_refused, no_body_behind}
 use Rattle.ecma_reread.proofs.Pieces.{piece_between, piece_behind}
@@ -272,7 +272,7 @@ module _ (assigned : Bool) where
     with_default = λ g ts us n h. no_param_at (exactly t) (it g t (it blank (sign (codes "=")) ts)) us at_token S.no_param S.no_end;
   }
 
-  pub single_new : (t : Tok) (k : Kind) → Single t k → refuses_at (exactly t) (punct (codes ".")) ≡ true → NewForm assigned (λ g us. it g t us) k []
+  pub single_new : (t : Tok) (k : Kind) → Single t k → begins_no_target (exactly t) ≡ true → NewForm assigned (λ g us. it g t us) k []
   unfolding single_form
   single_new t k S p = record { form = single_form t k S; no_point = p; own = λ g us e b z ys vs h. new_head_read (exactly t) (it g t us) us (bare k []) S.apart at_token (single_read t k S g us) ys vs h }
 

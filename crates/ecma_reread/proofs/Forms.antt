@@ -16,13 +16,13 @@ use Rattle.ecma_grammar.specs.productions.Chains.{chain, links, super_of_link, i
 use Rattle.ecma_grammar.specs.productions.Declarations.{declaration}
 use Rattle.ecma_grammar.specs.productions.Statements.{labeled, statement_body}
 use Rattle.ecma_grammar.specs.productions.Modules.{module_item, import, import_equals, export}
-use Rattle.ecma_tokens.specs.Items.{Tok, sign, Gap, no_gap, Items, it}
+use Rattle.ecma_tokens.specs.Items.{Tok, sign, number, Gap, no_gap, Items, it}
 use Rattle.ecma_grammar.specs.declared.production.Part.TheVariants as part
 use Rattle.ecma_reread.specs.Signs.{blank}
-use Rattle.ecma_reread.specs.Machine.{read, fails, built_on, interp, means}
+use Rattle.ecma_reread.specs.Machine.{read, fails, built_on, interp, means, without}
 use Rattle.ecma_reread.specs.Shapes as shapes
 use Rattle.ecma_reread.proofs.Fronts.{Front, exactly, Begins, at_token, refuses_at, refused_at, refuses_all, all_refused, passes_at, passed_at}
-use Rattle.ecma_reread.proofs.Towers.{without, refuses_choices, excluded, private_in, Opens, closes}
+use Rattle.ecma_reread.proofs.Towers.{refuses_choices, excluded, private_in, Opens, closes}
 use Rattle.ecma_reread.proofs.Heads.{bare}
 use Rattle.ecma_grammar.proofs.Steps.{steps-append}
 
@@ -53,6 +53,11 @@ no_rest_at e z no_in = z
 pub no_arrow_at : (e : Front) → refuses_at e (arrow false false) ≡ true → (no_in : Bool) → refuses_at e (arrow no_in false) ≡ true
 unfolding arrow arrow_rest
 no_arrow_at e z no_in = z
+
+-- no `.target`: no point, or that of a numeral
+abbrev pub begins_no_target : Front → Bool
+begins_no_target (exactly (number w)) = true
+begins_no_target e = refuses_at e (punct (codes "."))
 
 -- no token that ends a list, or an item of one
 abbrev pub ends_no_list : Front → Bool
@@ -126,7 +131,7 @@ module _ (assigned : Bool) where
   -- as the callee of `new`
   pub record NewForm (f : Laid) (k : Kind) (ns : List Node) : Type 0 where
     pub form : Form f k ns
-    pub no_point : refuses_at (let F = form in F.front) (punct (codes ".")) ≡ true
+    pub no_point : begins_no_target (let F = form in F.front) ≡ true
     pub own : (g : Gap) (us : Items) (e : Front) → Begins e us → refuses_at e (word (codes "function")) ≡ true → (ys : List Node) (vs : Items) → Reads new_links us ys vs → Reads (new_heads ▸ new_links) (f g us) ((let F = form in F.pieces) ++ ys) vs
 
   -- all of a chain, and what begins none of what may stand before one

@@ -4,6 +4,7 @@ use Rattle.std.proofs.lemmas.Bool.{and_parts, false≢true}
 use Rattle.ecma_lex.specs.Keys.{is_reserved, reserved_words}
 use Rattle.ecma_tree.specs.declared.node.Node.{Node}
 use Rattle.ecma_grammar.specs.declared.production.Part.{Part}
+use Rattle.ecma_grammar.specs.declared.production.Part.TheVariants as part
 use Rattle.ecma_grammar.specs.declared.production.TemplatePart.{TemplatePart}
 use Rattle.ecma_grammar.specs.declared.production.TokenKind.{TokenKind}
 use Rattle.ecma_grammar.specs.declared.production.TokenKind.TheVariants as token_kind
@@ -14,9 +15,10 @@ use Rattle.ecma_grammar.specs.Grammar as grammar
 use Rattle.ecma_grammar.specs.Grammar.{Grammar, Terminal, the_word, the_punct, any, ◌▸◌}
 use Rattle.ecma_tokens.specs.Items.{Tok, key, private_name, sign, string, number, big_int, regex, template, Gap, no_gap, Items, ends, it}
 use Rattle.ecma_tokens.specs.Taking as taking
-use Rattle.ecma_tokens.specs.Taking.{Took, took, refused, took_if, unsure_if, token_in, leaf_in, new_line_in, word_in, punct_in, key_in, name_in, private_name_in, string_in, number_in, big_int_in, regex_in, template_in}
+use Rattle.ecma_tokens.specs.Taking.{Took, took, refused, took_if, unsure_if, begins_by, token_in, leaf_in, new_line_in, word_in, punct_in, key_in, name_in, private_name_in, string_in, number_in, big_int_in, regex_in, template_in}
 use Rattle.ecma_grammar.specs.PartBodies.{part_body}
-use Rattle.ecma_reread.specs.Machine.{Out, read, fails, Turn, count, taken, kept, behind_on, with_front, followed_on, or_on, many_on, many_up_to, ahead_on, unless_on, built_on, interp, means}
+use Rattle.ecma_grammar.specs.productions.Chains.{new_body}
+use Rattle.ecma_reread.specs.Machine.{Out, read, fails, Turn, count, taken, kept, behind_on, with_front, followed_on, or_on, many_on, many_up_to, ahead_on, unless_on, built_on, without, body_at, interp, means}
 use Rattle.ecma_reread.proofs.Levels.{means_is}
 
 -- the token that stands first: this one, or a name that is none of the words that the grammar knows; or none
@@ -439,8 +441,20 @@ abbrev pub refuses_all : Front → Grammar → Bool
 refuses_all f g = is_refuses (verdict known f g)
 
 module _ (assignments : Bool) where
+  -- the point of a numeral may be taken
+  numeral_judged : (b : Bool) (v : Verdict) (ts : Items) (o : Out) → Judged v ts o → Judged (or_verdict (behind_verdict (by_took (unsure_if b)) refuses) v) ts o
+  numeral_judged true v ts o h = tt
+  numeral_judged false v ts o h = h
+
+  body_judged : (u : Part) (f : Front) (ts : Items) → Begins f ts → Judged (known u f) ts (interp assignments (means assignments) (body_at u ts) ts)
+  unfolding new_body
+  body_judged part.New f (it g (number w) ts) at_token =
+      let constructed = without 1 (part_body part.New) in
+      numeral_judged (begins_by 46 w) (verdict unknown (exactly (number w)) constructed) (it g (number w) ts) _ (judged assignments (means assignments) unknown (λ u f ts b. tt) constructed (exactly (number w)) (it g (number w) ts) at_token)
+  body_judged u f ts b = judged assignments (means assignments) unknown (λ u f ts b. tt) (part_body u) f ts b
+
   known_judged : (u : Part) (f : Front) (ts : Items) → Begins f ts → Judged (known u f) ts (means assignments u ts)
-  known_judged u f ts b = subst (Judged (known u f) ts) (sym (means_is assignments u ts)) (judged assignments (means assignments) unknown (λ u f ts b. tt) (part_body u) f ts b)
+  known_judged u f ts b = subst (Judged (known u f) ts) (sym (means_is assignments u ts)) (body_judged u f ts b)
 
   pub all_refused : (g : Grammar) (f : Front) (ts : Items) → Begins f ts → refuses_all f g ≡ true → interp assignments (means assignments) g ts ≡ fails
   all_refused g f ts b e = refused_by assignments (means assignments) (verdict known f g) ts (interp assignments (means assignments) g ts) (judged assignments (means assignments) known known_judged g f ts b) e

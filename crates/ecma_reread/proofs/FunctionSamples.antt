@@ -5,7 +5,7 @@ use Rattle.ecma_tree.specs.declared.node.Node.{Node}
 use Rattle.ecma_grammar.specs.trees.Classes.{is_constructor_key}
 use Rattle.ecma_print.specs.Layout.{layout}
 use Rattle.ecma_tokens.specs.Items.{render}
-use Rattle.ecma_reread.specs.Shapes.{ident, name, key, absent, arguments, no_arguments, bound, no_default, name_pattern, no_elements, no_params, more_params, no_initializer, initializer, block_of, no_statements, more_statements, return_nothing, function_of, function_statement, unnamed, heritage, new_alone, class_of, class_statement, class_constructor, method, field, key_name, string_name, computed_name, property_member, static_block, no_members, more_members}
+use Rattle.ecma_reread.specs.Shapes.{ident, name, key, absent, arguments, no_arguments, bound, no_default, name_pattern, no_elements, no_params, more_params, no_initializer, initializer, block_of, no_statements, more_statements, return_nothing, function_of, function_statement, unnamed, heritage, new_alone, constructor_callee, class_of, class_statement, class_constructor, method, field, key_name, string_name, computed_name, property_member, static_block, no_members, more_members}
 use Rattle.ecma_reread.specs.Modules.{statement, export_declaration, export_default_function, no_items, more_items, IsModule, module_of}
 use Rattle.ecma_reread.specs.ModuleTokens.{module_tokens}
 use Rattle.ecma_reread.proofs.ModuleLayouts.{module_laid}
@@ -31,7 +31,7 @@ sample =
       _,
       module_of at at
           (more_items (statement (function_statement at id (function_of at at false true params (more_params at no_params) body none none)))
-          (more_items (export_declaration at (class_statement at id (class_of at at at (heritage (new_alone at (name id) none none)) members none none)) refl)
+          (more_items (export_declaration at (class_statement at id (class_of at at at (heritage (new_alone at constructor_callee (name id) none none)) members none none)) refl)
           (more_items (export_default_function at at (unnamed none) (function_of at at true false (no_arguments at) no_params nothing none none)) no_items))),
     )
 

@@ -23,7 +23,7 @@ use Rattle.ecma_grammar.specs.productions.Modules as modules
 use Rattle.ecma_grammar.specs.productions.Modules.{module_item}
 use Rattle.ecma_tokens.specs.Items as items
 use Rattle.ecma_tokens.specs.Items.{Gap, Items, it}
-use Rattle.ecma_reread.specs.Machine.{read, or_on, interp, means}
+use Rattle.ecma_reread.specs.Machine.{read, or_on, interp, means, without}
 use Rattle.ecma_reread.specs.Shapes as shapes
 use Rattle.ecma_reread.specs.Shapes.{IsPattern, IsDefaulted, IsElement, AreElements, IsArguments, IsFunctionName, ident}
 use Rattle.ecma_reread.specs.Tokens.{arguments_tokens, function_name_tokens}
@@ -31,7 +31,7 @@ use Rattle.ecma_reread.specs.Signs.{blank, function_word}
 use Rattle.ecma_reread.specs.Bare.{bare_pattern, bare_defaulted, bare_element, bare_elements, bare_arguments, bare_params, bare_function_name}
 use Rattle.ecma_reread.proofs.Levels.{means_is}
 use Rattle.ecma_reread.proofs.Fronts.{Front, exactly, Begins, at_token}
-use Rattle.ecma_reread.proofs.Towers.{without, skipped, refuses_choices}
+use Rattle.ecma_reread.proofs.Towers.{skipped, refuses_choices}
 use Rattle.ecma_reread.proofs.Heads.{bare, nodes}
 use Rattle.ecma_reread.proofs.Forms.{Laid, s, Reads, Refuses, no_item_at}
 use Rattle.ecma_reread.proofs.Arrows.{ArgumentForms, params_read}

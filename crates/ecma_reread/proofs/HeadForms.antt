@@ -34,6 +34,7 @@ member_tight shapes.member_of_object = refl
 
 pub index_tight : {l m : Level} → IsIndexed l m → is_tight m ≡ true
 index_tight shapes.index_of_new = refl
+index_tight shapes.index_of_numeral = refl
 index_tight shapes.index_of_callee = refl
 
 pub no_in_there : (o : BinaryOp) (bs : List Bool) → may_hold_by (kind.BinExpr o) bs ≡ false → stands_there true o ≡ true

@@ -17,10 +17,10 @@ use Rattle.ecma_reread.specs.Shapes as shapes
 use Rattle.ecma_reread.specs.Shapes.{Ending}
 use Rattle.ecma_reread.specs.Signs.{blank}
 use Rattle.ecma_reread.specs.Bare.{bare}
-use Rattle.ecma_reread.specs.Machine.{or_on, interp, means}
+use Rattle.ecma_reread.specs.Machine.{or_on, interp, means, without}
 use Rattle.ecma_reread.proofs.Levels.{means_is}
 use Rattle.ecma_reread.proofs.Fronts.{Front, Begins}
-use Rattle.ecma_reread.proofs.Towers.{without, skipped}
+use Rattle.ecma_reread.proofs.Towers.{skipped}
 use Rattle.ecma_reread.proofs.Forms.{Laid, s, Reads}
 use Rattle.ecma_reread.proofs.Bindings.{Stands}
 use Rattle.ecma_reread.proofs.Statements.{closes_statement, ReadAsStatement, token_form, lead_closes}

@@ -16,6 +16,7 @@ use Rattle.ecma_reread.proofs.ModuleLayouts.{module_laid}
 use Rattle.ecma_reread.proofs.Joins.{good_long}
 use Rattle.ecma_reread.proofs.ModuleJoins.{module_joined}
 use Rattle.ecma_reread.proofs.Words.{layout_words}
+use Rattle.ecma_reread.proofs.Targets.{no_target}
 
 -- the one tree that is read
 the_tree : (o : Outcome (List Node)) (x : Node) (ys : List Node) (t : Position) → o ≡ reading.read ys t → map without_spans ys ≡ x ∷ [] → (again : Node) × (s : Position) × (o ≡ reading.read (again ∷ []) s) × (without_spans again ≡ x)
@@ -27,6 +28,6 @@ pub modules_read : ModulesAreReadAgain
 modules_read assignments tree is = (
   3 * count (module_tokens is) + 2,
   λ bound e.
-      (let g = text_read assignments Good (layout tree) (lexes (layout tree)) good_long bound tree is (module_laid is) (joined_good (module_tokens is) (module_joined layout_words is)) e in
+      (let g = text_read assignments Good (layout tree) (lexes (layout tree)) good_long (no_target (layout tree)) bound tree is (module_laid is) (joined_good (module_tokens is) (module_joined layout_words is)) e in
       the_tree _ (without_spans tree) g.value g.state g.is g.holds),
 )

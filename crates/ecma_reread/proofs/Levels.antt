@@ -4,14 +4,13 @@ use Rattle.std.proofs.lemmas.Bool.{and_parts}
 use Rattle.ecma_grammar.specs.declared.production.Part.{Part}
 use Rattle.ecma_grammar.specs.Grammar as grammar
 use Rattle.ecma_grammar.specs.Grammar.{Grammar}
-use Rattle.ecma_grammar.specs.PartBodies.{part_body}
 use Rattle.ecma_tokens.specs.Items.{Items}
 use Rattle.ecma_tokens.specs.Taking as taking
 use Rattle.ecma_tokens.specs.Taking.{Took, took, refused, token_in}
-use Rattle.ecma_reread.specs.Machine.{Out, read, fails, unsure, Turn, count, behind_on, with_front, followed_on, or_on, many_on, many_up_to, ahead_on, unless_on, built_on, interp, levels, means}
+use Rattle.ecma_reread.specs.Machine.{Out, read, fails, unsure, Turn, count, behind_on, with_front, followed_on, or_on, many_on, many_up_to, ahead_on, unless_on, built_on, body_at, interp, levels, means}
 use Rattle.ecma_reread.proofs.Takes.{Shorter, token_eats, token_taken}
 use Rattle.ecma_reread.proofs.Moves.{eats, Leaves, Moves, leaves}
-use Rattle.ecma_reread.proofs.Ranks.{rank, leads, rank_small, part_ranked}
+use Rattle.ecma_reread.proofs.Ranks.{rank, leads, rank_small, ranked_at}
 
 followed_same : (f f' : Turn) (k : ℕ) (ts : Items) (o : Out) → Leaves k ts o → ((us : Items) → count us + k ≤ count ts → f us ≡ f' us) → followed_on f o ≡ followed_on f' o
 followed_same f f' k ts (read xs us) h same = ap (with_front xs) (same us (h xs us refl))
@@ -69,15 +68,15 @@ module _ (assignments : Bool) where
   pub levels_move : (n : ℕ) → Moves (levels assignments n)
   unfolding levels
   levels_move zero u ts xs us e = cc
-  levels_move (suc n) u ts xs us e = let a = leaves assignments (levels assignments n) (levels_move n) (part_body u) ts xs us e in let b = part_ranked u in let c = b.1 in grind arith
+  levels_move (suc n) u ts xs us e = let a = leaves assignments (levels assignments n) (levels_move n) (body_at u ts) ts xs us e in let b = ranked_at u ts in let c = b.1 in grind arith
 
   levels_same : (n m : ℕ) (u : Part) (ts : Items) → 3 * count ts + rank u < n → 3 * count ts + rank u < m → levels assignments n u ts ≡ levels assignments m u ts
   unfolding levels
   levels_same zero m u ts h k = absurd (omega arith)
   levels_same (suc n) zero u ts h k = absurd (omega arith)
   levels_same (suc n) (suc m) u ts h k =
-      let b = part_ranked u in
-      agrees assignments (levels assignments n) (levels assignments m) (levels_move n) (3 * count ts + rank u) (λ v vs l. levels_same n m v vs (omega arith) (omega arith)) (part_body u) (rank u) ts b.0 (omega arith)
+      let b = ranked_at u ts in
+      agrees assignments (levels assignments n) (levels assignments m) (levels_move n) (3 * count ts + rank u) (λ v vs l. levels_same n m v vs (omega arith) (omega arith)) (body_at u ts) (rank u) ts b.0 (omega arith)
 
   -- with so many levels, or more
   pub levels_mean : (n : ℕ) (u : Part) (ts : Items) → 3 * count ts + rank u < n → levels assignments n u ts ≡ means assignments u ts
@@ -89,10 +88,10 @@ module _ (assignments : Bool) where
   means_move u ts = levels_move (3 * count ts + 3) u ts
 
   -- what a part means is what its production reads
-  pub means_is : (u : Part) (ts : Items) → means assignments u ts ≡ interp assignments (means assignments) (part_body u) ts
+  pub means_is : (u : Part) (ts : Items) → means assignments u ts ≡ interp assignments (means assignments) (body_at u ts) ts
   unfolding levels
   means_is u ts =
       let r = rank_small u in
-      let b = part_ranked u in
+      let b = ranked_at u ts in
       sym (levels_mean (suc (3 * count ts + 2)) u ts (omega arith))
-      ∙ agrees assignments (levels assignments (3 * count ts + 2)) (means assignments) (levels_move (3 * count ts + 2)) (3 * count ts + rank u) (λ v vs l. levels_mean (3 * count ts + 2) v vs (omega arith)) (part_body u) (rank u) ts b.0 (omega arith)
+      ∙ agrees assignments (levels assignments (3 * count ts + 2)) (means assignments) (levels_move (3 * count ts + 2)) (3 * count ts + rank u) (λ v vs l. levels_mean (3 * count ts + 2) v vs (omega arith)) (body_at u ts) (rank u) ts b.0 (omega arith)

@@ -85,6 +85,7 @@ pub mod Joins
 pub mod ModuleJoins
 pub mod Hashbangs
 pub mod Texts
+pub mod Targets
 pub mod JoinParts
 pub mod StatementJoins
 pub mod Words

@@ -2,7 +2,7 @@
 use Rattle.std.proofs.Common.{◌≡◌, Bool, true, false, List, [], ◌∷◌, codes, refl}
 use Rattle.ecma_kind.specs.declared.kind.Kind.{Kind}
 use Rattle.ecma_tree.specs.declared.node.Node.{Node}
-use Rattle.ecma_grammar.specs.Grammar.{Grammar, punct}
+use Rattle.ecma_grammar.specs.Grammar.{Grammar}
 use Rattle.ecma_grammar.specs.productions.Types.{rest_pattern}
 use Rattle.ecma_grammar.specs.productions.Functions.{arrow}
 use Rattle.ecma_grammar.specs.productions.Primary.{primary}
@@ -14,7 +14,7 @@ use Rattle.ecma_reread.specs.Signs.{blank}
 use Rattle.ecma_reread.proofs.Fronts.{Front, exactly, at_token, refuses_at, refused_at}
 use Rattle.ecma_reread.proofs.Towers.{Tower, excluded, Opens, Starts}
 use Rattle.ecma_reread.proofs.Heads.{bare}
-use Rattle.ecma_reread.proofs.Forms.{Laid, Reads, ends_no_item, Form, NewForm, no_item_at, no_arrow_at}
+use Rattle.ecma_reread.proofs.Forms.{Laid, Reads, begins_no_target, ends_no_item, Form, NewForm, no_item_at, no_arrow_at}
 use Rattle.ecma_reread.proofs.Expressions.{IsPrimary, primary_by, head_read, new_head_read}
 use Rattle.ecma_reread.proofs.Tried.{Wholly, wholly_param, no_default, some_default}
 
@@ -22,7 +22,7 @@ use Rattle.ecma_reread.proofs.Tried.{Wholly, wholly_param, no_default, some_defa
 pub record Literal (t : Tok) (base : Grammar) : Type 0 where
   pub tower : (e : Front) → Tower (exactly t) e base primary
   pub apart : IsPrimary (exactly t)
-  pub no_point : refuses_at (exactly t) (punct (codes ".")) ≡ true
+  pub no_point : begins_no_target (exactly t) ≡ true
   pub opens : Opens (exactly t)
   pub starts : Starts (exactly t)
   pub no_arrow : refuses_at (exactly t) (arrow false false) ≡ true

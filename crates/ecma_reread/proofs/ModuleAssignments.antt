@@ -15,7 +15,7 @@ use Rattle.ecma_grammar.specs.productions.Names.{statement, end, ident}
 use Rattle.ecma_grammar.specs.productions.Modules.{import, import_clause, from, require, import_equals, export, module_item}
 use Rattle.ecma_tokens.specs.Items as items
 use Rattle.ecma_tokens.specs.Items.{sign, Gap, Items, it}
-use Rattle.ecma_reread.specs.Machine.{Out, read, fails, with_front, followed_on, or_on, built_on, interp, means}
+use Rattle.ecma_reread.specs.Machine.{Out, read, fails, with_front, followed_on, or_on, built_on, interp, means, without}
 use Rattle.ecma_reread.specs.Shapes.{Level, IsIdent, IsExpression}
 use Rattle.ecma_reread.specs.Modules.{IsString}
 use Rattle.ecma_reread.specs.Tokens.{ident_word, expression_tokens}
@@ -23,7 +23,7 @@ use Rattle.ecma_reread.specs.Signs.{blank, sign_of}
 use Rattle.ecma_reread.specs.Bare.{bare, bare_ident, bare_expression}
 use Rattle.ecma_reread.specs.ModuleTokens.{spaced_word, spaced_sign, require_tokens, import_equals_tokens, bare_string}
 use Rattle.ecma_reread.proofs.Fronts.{exactly, at_token}
-use Rattle.ecma_reread.proofs.Towers.{without, skipped}
+use Rattle.ecma_reread.proofs.Towers.{skipped}
 use Rattle.ecma_reread.proofs.Heads.{nodes}
 use Rattle.ecma_reread.proofs.Forms.{Reads, Refuses}
 use Rattle.ecma_reread.proofs.Bindings.{standing, expression_read}

@@ -26,7 +26,7 @@ use Rattle.ecma_grammar.specs.productions.Modules as modules
 use Rattle.ecma_grammar.specs.productions.Modules.{module_item, module_body}
 use Rattle.ecma_tokens.specs.Items as items
 use Rattle.ecma_tokens.specs.Items.{Gap, no_gap, Items, ends, it}
-use Rattle.ecma_reread.specs.Machine.{read, with_front, followed_on, or_on, unless_on, built_on, interp, means}
+use Rattle.ecma_reread.specs.Machine.{read, with_front, followed_on, or_on, unless_on, built_on, interp, means, without}
 use Rattle.ecma_reread.specs.Modules as shapes
 use Rattle.ecma_reread.specs.Modules.{IsModuleItem, AreModuleItems, IsModule}
 use Rattle.ecma_reread.specs.Signs.{line, sign_of}
@@ -35,7 +35,7 @@ use Rattle.ecma_reread.specs.ModuleTokens.{source_tokens, from_tokens, import_cl
 use Rattle.ecma_reread.proofs.Ranks.{item_eats}
 use Rattle.ecma_reread.proofs.Levels.{means_is}
 use Rattle.ecma_reread.proofs.Fronts.{exactly, the_end, at_token, at_end, refused_at, refuses_all, all_refused}
-use Rattle.ecma_reread.proofs.Towers.{excluded, without, skipped, refuses_choices}
+use Rattle.ecma_reread.proofs.Towers.{excluded, skipped, refuses_choices}
 use Rattle.ecma_reread.proofs.Heads.{kind-node}
 use Rattle.ecma_reread.proofs.Forms.{Reads, Refuses}
 use Rattle.ecma_reread.proofs.Repeats.{Repeats, repeats_end, repeats_more, repeated}

@@ -1,5 +1,6 @@
 -- Which parts a part may begin with: each has a lower rank, and every other part that it reads stands behind a token.
-use Rattle.std.proofs.Common.{◌≡◌, ℕ, ◌+◌, ◌*◌, ◌<◌, Bool, true, false, ◌&&◌, nat_le, nat_lt, refl, arith}
+use Rattle.std.proofs.Common.{◌≡◌, ℕ, ◌+◌, ◌*◌, ◌<◌, Bool, true, false, ◌&&◌, nat_le, nat_lt, codes, refl, arith}
+use Rattle.std.proofs.lemmas.Bool.{and_parts}
 use Rattle.ecma_kind.specs.declared.operators.BinaryOp.{BinaryOp}
 use Rattle.ecma_kind.specs.declared.operators.BinaryOp.TheVariants as binary
 use Rattle.ecma_grammar.specs.declared.production.Part.{Part}
@@ -21,6 +22,8 @@ use Rattle.ecma_grammar.specs.productions.Patterns as patterns
 use Rattle.ecma_grammar.specs.productions.Primary as primaries
 use Rattle.ecma_grammar.specs.productions.Statements as statements
 use Rattle.ecma_grammar.specs.productions.Types as types
+use Rattle.ecma_tokens.specs.Items.{number, Items, it}
+use Rattle.ecma_reread.specs.Machine.{without, body_at}
 use Rattle.ecma_reread.proofs.Takes.{token_eats}
 use Rattle.ecma_reread.proofs.Moves.{part_eats, eats}
 
@@ -188,6 +191,16 @@ part_ranked part.DottedName = (refl, refl)
 part_ranked part.DottedKey = (refl, refl)
 part_ranked (part.Link l) = link_ranked l
 part_ranked (part.NewLink l) = new_link_ranked l
+
+-- where these tokens stand it does, too
+
+constructed_ranked : (leads 0 (without 1 (part_body part.New)) ≡ true) × (nat_le 1 (eats (without 1 (part_body part.New))) ≡ true)
+unfolding chains.new_body
+constructed_ranked = let r = part_ranked part.New in let e = r.1 in ((and_parts (leads 0 (grammar.◌▸◌ (grammar.punct (codes ".")) (grammar.word (codes "target")))) (leads 0 (without 1 (part_body part.New))) r.0).1, grind arith)
+
+pub ranked_at : (u : Part) (ts : Items) → (leads (rank u) (body_at u ts) ≡ true) × (nat_le (part_eats u) (eats (body_at u ts)) ≡ true)
+ranked_at part.New (it g (number w) ts) = constructed_ranked
+ranked_at u ts = part_ranked u
 
 -- items of a module
 

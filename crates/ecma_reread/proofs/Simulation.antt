@@ -1,11 +1,12 @@
 -- What a grammar reads of a list of tokens, it reads of their text, up to spans; and where it fails, it fails.
-use Rattle.std.proofs.Common.{◌≡◌, ℕ, zero, suc, ◌+◌, ◌*◌, ◌<◌, ◌≤◌, Bool, true, false, List, [], ◌∷◌, ◌++◌, map, length, nat_le, refl, ap, sym, ◌∙◌, subst, arith, if◌then◌else◌}
+use Rattle.std.proofs.Common.{◌≡◌, ℕ, zero, suc, ◌+◌, ◌*◌, ◌<◌, ◌≤◌, Bool, true, false, List, [], ◌∷◌, ◌++◌, map, length, nat_le, codes, refl, ap, sym, ◌∙◌, subst, arith, if◌then◌else◌}
 use Rattle.std.proofs.lemmas.Bool.{and_parts}
 use Rattle.std.proofs.lemmas.List.{map-append}
 use Rattle.ecma_lex.specs.declared.tokens.Token.{Token}
 use Rattle.ecma_tree.specs.declared.node.Node.{Node}
 use Rattle.ecma_tree.specs.Spans.{without_spans}
 use Rattle.ecma_grammar.specs.declared.production.Part.{Part}
+use Rattle.ecma_grammar.specs.declared.production.Part.TheVariants as part
 use Rattle.ecma_grammar.specs.declared.production.Mode.{Mode}
 use Rattle.ecma_grammar.specs.declared.production.Leaf.{Leaf}
 use Rattle.ecma_grammar.specs.declared.production.Flag.{Flag}
@@ -14,19 +15,20 @@ use Rattle.ecma_grammar.specs.declared.production.Form.{Form}
 use Rattle.ecma_grammar.specs.trees.Parts.{flag_node}
 use Rattle.ecma_grammar.specs.Made.{made}
 use Rattle.ecma_grammar.specs.Grammar as grammar
-use Rattle.ecma_grammar.specs.Grammar.{Grammar, Terminal}
+use Rattle.ecma_grammar.specs.Grammar.{Grammar, Terminal, the_word, the_punct}
 use Rattle.ecma_grammar.specs.PartBodies.{part_body}
+use Rattle.ecma_grammar.specs.productions.Chains.{new_body}
 use Rattle.ecma_grammar.specs.Reading as reading
 use Rattle.ecma_grammar.specs.Reading.{Position, Outcome, Reading}
 use Rattle.ecma_grammar.specs.Reads as reads
-use Rattle.ecma_tokens.specs.Items.{Items, render}
+use Rattle.ecma_tokens.specs.Items.{number, Gap, Items, it, render}
 use Rattle.ecma_tokens.specs.Taking as taking
 use Rattle.ecma_tokens.specs.Taking.{Took, took, refused, token_in, leaf_in, leaf_kind, new_line_in}
 use Rattle.ecma_tokens.specs.Lexing.{Fails, At, Goes, Agrees, IsLeaf, GoesOn, Lexes}
-use Rattle.ecma_reread.specs.Machine.{Out, read, fails, unsure, Turn, count, taken, kept, behind_on, with_front, followed_on, or_on, many_on, many_up_to, ahead_on, unless_on, built_on, interp, levels, means}
+use Rattle.ecma_reread.specs.Machine.{Out, read, fails, unsure, Turn, count, taken, kept, behind_on, with_front, followed_on, or_on, many_on, many_up_to, ahead_on, unless_on, built_on, without, body_at, interp, levels, means}
 use Rattle.ecma_reread.proofs.Takes.{Shorter, token_eats, token_taken}
 use Rattle.ecma_reread.proofs.Moves.{eats, Leaves, Moves, leaves}
-use Rattle.ecma_reread.proofs.Ranks.{rank, leads, rank_small, part_ranked}
+use Rattle.ecma_reread.proofs.Ranks.{rank, leads, rank_small, part_ranked, ranked_at}
 use Rattle.ecma_reread.proofs.Levels.{levels_move}
 use Rattle.ecma_reread.proofs.Unplaced.{without_spans-node}
 use Rattle.ecma_reread.proofs.UnplacedForms.{made_unplaced}
@@ -50,6 +52,10 @@ module _ (text : List ℕ) (Good : Items → Type 0) where
 
   moved : (ts : Items) (s : Position) (k : ℕ) → At text Good ts s → At text Good ts (record { place = s.place; failed = k })
   moved ts s k a = record { good = a.good; stands = a.stands }
+
+  -- where a numeral stands no `.target` does, also where it begins with a point
+  abbrev pub NoTarget : Type 0
+  NoTarget = (g : Gap) (w : List ℕ) (us : Items) (s : Position) → At text Good (it g (number w) us) s → Fails (reading.followed_on (reads.taken text (the_word (codes "target"))) (reads.taken text (the_punct (codes ".")) s))
 
   sims_taken : (o : Took) (o' : Outcome Token) → Agrees text Good o o' (λ w k. Unit {0}) → Sims (taken o) (reading.then_on (λ k. reading.pure []) o')
   sims_taken (took w us) o' a = record { value = []; state = a.state; is = ap (reading.then_on (λ k. reading.pure [])) a.is; holds = refl; at = a.at }
@@ -160,7 +166,7 @@ module _ (text : List ℕ) (Good : Items → Type 0) where
   sims_line true ts s o' h a = h
   sims_line false ts s o' h a = record { value = []; state = s; is = h; holds = refl; at = a }
 
-  module _ (assignments : Bool) (lexes : Lexes text Good) (long : (ts : Items) → Good ts → count ts ≤ length (render ts)) where
+  module _ (assignments : Bool) (lexes : Lexes text Good) (long : (ts : Items) → Good ts → count ts ≤ length (render ts)) (no_target : NoTarget) where
     module _ (p : Part → Turn) (q : Part → ℕ → Reading (List Node)) (moves : Moves p) (bound : ℕ) (parts : (u : Part) (ts : Items) → 3 * count ts + rank u < bound → (at : ℕ) (s : Position) → At text Good ts s → Sims (p u ts) (q u at s)) where
       simulates : (g : Grammar) (r : ℕ) (ts : Items) → leads r g ≡ true → 3 * count ts + r ≤ bound → (s : Position) → At text Good ts s → Sims (interp assignments p g ts) (reads.reads text (plain assignments) q g s)
       simulates grammar.nothing r ts h l s a = sims_read [] [] ts refl s a
@@ -192,13 +198,21 @@ module _ (text : List ℕ) (Good : Items → Type 0) where
           sims_behind (p u) (q u) (token_eats t) ts (token_in t ts) (reads.token text t s) (token_taken t ts) (lexes.tokens t ts s a) (λ us e at s a. parts u us (grind arith) at s a)
       simulates (grammar.build f x) r ts h l s a = sims_built f (reads.next_start text s) (interp assignments p x ts) (reads.reads text (plain assignments) q x s) (simulates x r ts h l s a)
 
+      -- of a part, also of what stands behind `new`
+      body_simulates : (u : Part) (ts : Items) → 3 * count ts + rank u ≤ bound → (s : Position) → At text Good ts s → Sims (interp assignments p (body_at u ts) ts) (reads.reads text (plain assignments) q (part_body u) s)
+      unfolding new_body
+      body_simulates part.New (it g (number w) us) l s a =
+          let ts = it g (number w) us in
+          let constructed = without 1 (part_body part.New) in
+          sims_or (interp assignments p constructed) (reads.reads text (plain assignments) q constructed) ts s fails _ (no_target g w us s a) a (λ s a. simulates constructed 0 ts (ranked_at part.New ts).0 l s a)
+      body_simulates u ts l s a = simulates (part_body u) (rank u) ts (part_ranked u).0 l s a
+
     sims_levels : (n m : ℕ) (u : Part) (ts : Items) → 3 * count ts + rank u < n → 3 * count ts + rank u < m → (at : ℕ) (s : Position) → At text Good ts s → Sims (levels assignments n u ts) (reads.levels text (plain assignments) m u at s)
     unfolding levels reads.levels
     sims_levels zero m u ts i j at s a = absurd (omega arith)
     sims_levels (suc n) zero u ts i j at s a = absurd (omega arith)
     sims_levels (suc n) (suc m) u ts i j at s a =
-        let b = part_ranked u in
-        simulates (levels assignments n) (reads.levels text (plain assignments) m) (levels_move assignments n) (3 * count ts + rank u) (λ v vs l at s a. sims_levels n m v vs (omega arith) (omega arith) at s a) (part_body u) (rank u) ts b.0 (omega arith) s a
+        body_simulates (levels assignments n) (reads.levels text (plain assignments) m) (levels_move assignments n) (3 * count ts + rank u) (λ v vs l at s a. sims_levels n m v vs (omega arith) (omega arith) at s a) u ts (omega arith) s a
 
     -- a grammar over what parts mean is read of the text with levels enough
     pub means_simulate : (m : ℕ) (g : Grammar) (r : ℕ) (ts : Items) → leads r g ≡ true → 3 * count ts + r ≤ m → (s : Position) → At text Good ts s

@@ -7,7 +7,7 @@ use Rattle.ecma_tokens.specs.Items as items
 use Rattle.ecma_tokens.specs.Items.{Tok, sign, Gap, no_gap, Items, ends, it, render, token_text}
 use Rattle.ecma_tokens.specs.Joins.{joins_next, parted_by}
 use Rattle.ecma_reread.specs.Shapes as shapes
-use Rattle.ecma_reread.specs.Shapes.{Level, looser_than, IsOperator, IsIdent, ident, IsKey, key, IsExpression, IsElement, IsArguments, AreElements, AreExpressions, IsInitializer, IsDeclarator, AreDeclarators, AreSlots, IsMemberLevel, IsIndexed, IsChainKey, AreProperties, IsPropertyName, IsProperty, IsChainLink}
+use Rattle.ecma_reread.specs.Shapes.{Level, looser_than, IsOperator, IsIdent, ident, IsKey, key, IsExpression, IsElement, IsArguments, AreElements, AreExpressions, IsInitializer, IsDeclarator, AreDeclarators, AreSlots, IsMemberLevel, IsIndexed, IsConstructor, IsChainKey, AreProperties, IsPropertyName, IsProperty, IsChainLink}
 use Rattle.ecma_reread.specs.Signs.{blank, sign_of, update_token, point_of, question_of}
 
 -- what may stand directly behind an expression; a point behind an object alone
@@ -118,6 +118,10 @@ pub softer : (l : Level) {us : Items} → Soft (is_object (looser_than l)) us �
 softer shapes.object z = widened z
 softer shapes.chain z = widened z
 softer l z = z
+
+pub constructor_soft : {l : Level} → IsConstructor l → {us : Items} → Soft false us → Soft (is_object l) us
+constructor_soft shapes.constructor_callee z = widened z
+constructor_soft shapes.constructor_numeral z = z
 
 -- behind a text part each token may stand
 blanks_part : (bs : List ℕ) → parted_by bs true ≡ true

@@ -17,13 +17,14 @@ use Rattle.ecma_print.specs.Operators.{unary_sign, update_sign, binary_word, bin
 use Rattle.ecma_print.specs.Expressions.{before_key, object_beside, is_optional, callee_spot}
 use Rattle.ecma_tokens.specs.Items.{token_text}
 use Rattle.ecma_reread.specs.Shapes as shapes
-use Rattle.ecma_reread.specs.Shapes.{Level, looser_than, IsOperator, IsIdent, ident, IsKey, key, IsAbsent, IsExpression, IsElement, IsArguments, AreElements, AreExpressions, IsInitializer, IsDeclarator, AreDeclarators, AreSlots, IsMemberLevel, IsIndexed, IsProperty, IsPropertyName, AreProperties, IsChainLink}
+use Rattle.ecma_reread.specs.Shapes.{Level, looser_than, IsOperator, IsIdent, ident, IsKey, key, IsAbsent, IsExpression, IsElement, IsArguments, AreElements, AreExpressions, IsInitializer, IsDeclarator, AreDeclarators, AreSlots, IsMemberLevel, IsIndexed, IsConstructor, IsProperty, IsPropertyName, AreProperties, IsChainLink}
 use Rattle.ecma_reread.specs.Signs.{binary_token}
 
 -- the level of the printer that is each level
 abbrev pub number_of : Level → ℕ
 number_of shapes.new_callee = 17
 number_of shapes.object = 16
+number_of shapes.numeral = 17
 number_of shapes.callee = 16
 number_of shapes.chain = 16
 number_of shapes.left_hand_side = 16
@@ -54,11 +55,13 @@ is_object l = false
 -- where a call may stand by itself, and what may stand before a link
 abbrev pub holds_calls : Level → Bool
 holds_calls shapes.new_callee = false
+holds_calls shapes.numeral = false
 holds_calls l = true
 
 abbrev pub heads_links : Level → Bool
 heads_links shapes.new_callee = true
 heads_links shapes.object = true
+heads_links shapes.numeral = true
 heads_links shapes.callee = true
 heads_links shapes.chain = true
 heads_links l = false
@@ -67,6 +70,7 @@ heads_links l = false
 abbrev pub holds_chains : Level → Bool
 holds_chains shapes.new_callee = false
 holds_chains shapes.object = false
+holds_chains shapes.numeral = false
 holds_chains shapes.callee = false
 holds_chains l = true
 
@@ -76,6 +80,7 @@ chains_out l h = h
 
 pub calls_out : (l : Level) → holds_calls l ≡ true → holds_calls (looser_than l) ≡ true
 calls_out shapes.new_callee h = refl
+calls_out shapes.numeral h = refl
 calls_out l h = h
 
 pub heads_out : (l : Level) → heads_links l ≡ false → heads_links (looser_than l) ≡ false
@@ -131,6 +136,7 @@ pub record Calm (l : Level) (spot : Spot) : Type 0 where
 pub lowered : (l : Level) → number_of (looser_than l) ≤ number_of l
 lowered shapes.new_callee = omega arith
 lowered shapes.object = omega arith
+lowered shapes.numeral = omega arith
 lowered shapes.callee = omega arith
 lowered shapes.chain = omega arith
 lowered shapes.left_hand_side = omega arith
@@ -292,6 +298,7 @@ chain_calm shapes.goes_on spot h n = in_chain spot refl h n refl
 -- an object before brackets
 pub index_calm : {h l : Level} → IsIndexed h l → (spot : Spot) → spot.without_in ≡ false → (holds_calls l ≡ true → spot.in_callee_of_new ≡ false) → Calm h (left spot 16 BeforeLink)
 index_calm shapes.index_of_new spot h n = before_link refl h (λ z. absurd (false≢true z)) refl refl refl
+index_calm shapes.index_of_numeral spot h n = before_link refl h (λ z. absurd (false≢true z)) refl refl refl
 index_calm shapes.index_of_callee spot h n = before_link refl h (λ z. n refl) refl refl refl
 
 -- where a member stands, no level asks for parentheses
@@ -301,6 +308,7 @@ member_low shapes.member_of_object n h = tightly 17 16 n (omega arith) h
 
 pub index_low : {h l : Level} → IsIndexed h l → (n : ℕ) → ltb (number_of l) n ≡ false → ltb 17 n ≡ false
 index_low shapes.index_of_new n h = h
+index_low shapes.index_of_numeral n h = h
 index_low shapes.index_of_callee n h = tightly 17 16 n (omega arith) h
 
 pub calm_0 : (l : Level) → Calm l (free 0)
@@ -371,5 +379,6 @@ head_calm shapes.first_head spot h n = under_nullish refl h n refl refl
 head_calm shapes.next_head spot h n = under_nullish refl h n refl refl
 
 -- in the callee of `new`
-pub callee_calm : (spot : Spot) → spot.without_in ≡ false → Calm shapes.new_callee (callee_spot spot)
-callee_calm spot h = before_link refl h (λ z. absurd (false≢true z)) refl refl refl
+pub callee_calm : {l : Level} → IsConstructor l → (spot : Spot) → spot.without_in ≡ false → Calm l (callee_spot spot)
+callee_calm shapes.constructor_callee spot h = before_link refl h (λ z. absurd (false≢true z)) refl refl refl
+callee_calm shapes.constructor_numeral spot h = before_link refl h (λ z. absurd (false≢true z)) refl refl refl

@@ -19,7 +19,7 @@ use Rattle.ecma_reread.specs.Signs.{line_at, closing_gap, branch_gap, blank, una
 use Rattle.ecma_reread.specs.Bare.{bare_property_name, bare_statement, bare_block, bare_case, bare_cases, bare_catch, bare_statements, bare_for_left, bare_member_name, bare_member, bare_members, expression_kind, expression_parts, bare_arguments, bare_pattern, bare_defaulted}
 use Rattle.ecma_reread.proofs.Bindings.{standing, Stands, from_form, loosened, from_new, StandsIn}
 use Rattle.ecma_reread.proofs.Beginnings.{no_new_line, no_brace, no_star}
-use Rattle.ecma_reread.proofs.Calls.{arguments_read, call_read, ident_free, member_stands, element_stands, tagged_stands, new_callee_form, chain_member_stands, chain_element_stands, chain_call_stands, call_stands, ident_stands, single_stands}
+use Rattle.ecma_reread.proofs.Calls.{arguments_read, call_read, ident_free, member_stands, element_stands, tagged_stands, constructed_form, numeral_stands, chain_member_stands, chain_element_stands, chain_call_stands, call_stands, ident_stands, single_stands}
 use Rattle.ecma_reread.proofs.Statements.{ReadAsStatement, expression_statement_form}
 use Rattle.ecma_reread.proofs.Variables.{DeclaratorForm, DeclaratorForms, declaration_form, DeclaratorIn, DeclaratorsIn}
 use Rattle.ecma_reread.proofs.Jumps.{empty_form, debugger_form, return_form, break_form, continue_form, throw_form, return_value_form}
@@ -45,7 +45,7 @@ use Rattle.ecma_reread.proofs.Choices.{choice_form}
 use Rattle.ecma_reread.proofs.Logicals.{both_form, either_form}
 use Rattle.ecma_reread.proofs.Coalescing.{coalesced_form}
 use Rattle.ecma_reread.proofs.Assignments.{assignment_form, whole_read}
-use Rattle.ecma_reread.proofs.Expressions.{string_single, number_single, this_single, big_int_single, null_single, true_single, false_single, single_form, parenthesized_new, regex_single}
+use Rattle.ecma_reread.proofs.Expressions.{string_single, this_single, big_int_single, null_single, true_single, false_single, parenthesized_new, regex_single}
 use Rattle.ecma_reread.proofs.Lists.{Forms, FormsIn}
 use Rattle.ecma_reread.proofs.Sequences.{sequence_form}
 use Rattle.ecma_reread.proofs.Arrays.{SlotForms, array_new, array_pattern_read}
@@ -68,7 +68,7 @@ module _ (assigned : Bool) where
     expression_form (shapes.looser {level = l} e) depth = loosened assigned l (expression_form e depth)
     expression_form (shapes.name i) depth = ident_stands assigned i
     expression_form (shapes.string at raw t) depth = single_stands assigned (items.string raw) _ refl (string_single raw) refl
-    expression_form (shapes.number at raw t) depth = loosened assigned shapes.object (from_form assigned refl (single_form assigned (items.number raw) _ (number_single raw)))
+    expression_form (shapes.number at raw t) depth = numeral_stands assigned raw
     expression_form (shapes.this_word at) depth = single_stands assigned (items.key (codes "this")) _ refl this_single refl
     expression_form (shapes.big_int at raw t) depth = single_stands assigned (items.big_int raw) _ refl (big_int_single raw) refl
     expression_form (shapes.regex at b f t) depth = single_stands assigned (items.regex (regex_text b f)) _ refl (regex_single b f t) refl
@@ -83,8 +83,8 @@ module _ (assigned : Bool) where
     expression_form (shapes.super_member at at' k) depth = from_new assigned refl (super_member_form assigned (key_word k))
     expression_form (shapes.super_element at at' at'' e) depth = from_new assigned refl (super_element_form assigned (standing assigned (expression_form e depth)))
     expression_form (shapes.super_call at at' es none) depth = from_form assigned refl (super_call_form assigned (λ us. arguments_tokens es depth (s (codes ")") us)) (list_node (bare_arguments es)) (call_read assigned es depth (argument_forms es depth)))
-    expression_form (shapes.new_expression at e es none) depth = from_new assigned refl (new_form assigned (new_callee_form assigned (expression_form e depth)) (λ us. arguments_tokens es depth (s (codes ")") us)) (list_node (bare_arguments es)) (arguments_read assigned es depth (argument_forms es depth)))
-    expression_form (shapes.new_alone at e none none') depth = alone_form assigned (new_callee_form assigned (expression_form e depth))
+    expression_form (shapes.new_expression at i e es none) depth = from_new assigned refl (new_form assigned (constructed_form assigned i (expression_form e depth)) (λ us. arguments_tokens es depth (s (codes ")") us)) (list_node (bare_arguments es)) (arguments_read assigned es depth (argument_forms es depth)))
+    expression_form (shapes.new_alone at i e none none') depth = alone_form assigned (constructed_form assigned i (expression_form e depth))
     expression_form (shapes.new_target at) depth = from_new assigned refl (target_form assigned)
     expression_form (shapes.import_meta at) depth = from_new assigned refl (meta_form assigned)
     expression_form (shapes.import_call at at' es none) depth = from_form assigned refl (import_call_form assigned (λ us. arguments_tokens es depth (s (codes ")") us)) (list_node (bare_arguments es)) (arguments_read assigned es depth (argument_forms es depth)))

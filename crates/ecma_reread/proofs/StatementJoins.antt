@@ -12,7 +12,7 @@ use Rattle.ecma_reread.specs.Shapes.{IsInitializer, Level, IsExpression, Ending,
 use Rattle.ecma_reread.specs.LiteralTexts.{regex_text, part_text}
 use Rattle.ecma_reread.specs.Tokens.{expression_tokens, ident_word, declarators_tokens, is_braced, test_tokens, statement_tokens, block_tokens, case_tokens, cases_tokens, catch_tokens, lined_tokens, optional_tokens, for_left_tokens, initializer_tokens, for_init_tokens, pattern_tokens, arguments_tokens, is_generator, is_async, function_tokens, heritage_tokens, class_tokens, member_tokens, members_tokens, key_word, member_name_tokens, own_sign, element_tokens, elements_tokens, more_tokens, declarator_tokens, slots_tokens, more_slots_tokens, chain_token, properties_tokens, more_properties_tokens, property_name_tokens, property_tokens, defaulted_tokens, part_raw, part_token, parts_tokens}
 use Rattle.ecma_reread.specs.Signs.{line_at, blank, sign_of, closing_gap, branch_gap, method_tokens, accessor_text, assign_token, update_token, binary_token, unary_gap, point_of, question_of}
-use Rattle.ecma_reread.proofs.Softs.{closing, semicolon, colon, Soft, is_object, parted, key_soft, string_soft, big_int_soft, number_soft, closing_soft, brace_soft, bracket_soft, update_soft, point_behind, softer, opening, comma, opening_bracket, closing_bracket, regex_soft, part, part_joins, chain_point, chain_bracket, chain_opening}
+use Rattle.ecma_reread.proofs.Softs.{closing, semicolon, colon, Soft, is_object, parted, key_soft, string_soft, big_int_soft, number_soft, closing_soft, brace_soft, bracket_soft, update_soft, point_behind, softer, constructor_soft, opening, comma, opening_bracket, closing_bracket, regex_soft, part, part_joins, chain_point, chain_bracket, chain_opening}
 use Rattle.ecma_reread.proofs.Beginnings.{pattern_blank_joins, blank_joins, opening_joins, dots_join, element_opening_joins, update_joins, bracket_joins, element_blank_joins, property_parted, properties_open, properties_soft, slots_open, slots_parted, slots_soft, unary_joins, initializer_soft, pattern_dots_joins, defaulted_blank_joins}
 use Rattle.ecma_reread.proofs.Joins.{Words, BehindName, no_gap_is, blank_is, unary_gap_is, ident_whole, key_whole, chain_fine, point_joins, chain_soft, part_fine, point_fine, mark_joins, question_bracket, question_opening, colon_behind_name, more_soft, elements_soft, update_fine, update_behind, assign_fine, unary_fine, binary_fine, right_soft, value_joined, declarators_soft}
 use Rattle.ecma_reread.proofs.JoinParts.{blank_wide, line_is, Apart, block_apart, statement_apart, lined_apart, cases_apart, cases_empty, catch_apart, lined_empty, branch_is, branch_apart, pattern_opening, name_apart, method_apart, value_behind_name, params_behind_name, function_behind_name, members_apart, members_empty, class_apart, function_opens, declarator_blank_joins, ended, keyword_whole, optional_opens, braces_joined, function_word_joined, method_joined, accessor_joined, static_joined, finally_joined, for_joined, test_joined}
@@ -44,10 +44,10 @@ module _ (words : Words) where
     expression_joined (shapes.super_element at at' at'' e) depth g h us z j =
         (h, words.super_whole, refl, (no_gap_is, refl, bracket_joins e depth (sign_of (codes "]") us), expression_joined e depth no_gap no_gap_is (sign_of (codes "]") us) closing_bracket (no_gap_is, refl, bracket_soft z, j)))
     expression_joined (shapes.super_call at at' es none) depth g h us z j = (h, words.super_whole, refl, arguments_joined es depth us (no_gap_is, refl, closing_soft z, j))
-    expression_joined (shapes.new_expression at e es none) depth g h us z j =
+    expression_joined (shapes.new_expression at i e es none) depth g h us z j =
         let args = sign_of (codes "(") (arguments_tokens es depth (sign_of (codes ")") us)) in
         (h, words.new_whole, blank_joins (items.key (codes "new")) e depth args, expression_joined e depth blank blank_is args opening (arguments_joined es depth us (no_gap_is, refl, closing_soft z, j)))
-    expression_joined (shapes.new_alone at e none none') depth g h us z j = (h, words.new_whole, blank_joins (items.key (codes "new")) e depth us, expression_joined e depth blank blank_is us (softer shapes.object z) j)
+    expression_joined (shapes.new_alone at i e none none') depth g h us z j = (h, words.new_whole, blank_joins (items.key (codes "new")) e depth us, expression_joined e depth blank blank_is us (constructor_soft i z) j)
     expression_joined (shapes.new_target at) depth g h us z j = (h, words.new_whole, refl, (no_gap_is, refl, refl, (no_gap_is, words.target_whole, key_soft (codes "target") z, j)))
     expression_joined (shapes.import_meta at) depth g h us z j = (h, words.import_whole, refl, (no_gap_is, refl, refl, (no_gap_is, words.meta_whole, key_soft (codes "meta") z, j)))
     expression_joined (shapes.import_call at at' es none) depth g h us z j = (h, words.import_whole, refl, arguments_joined es depth us (no_gap_is, refl, closing_soft z, j))

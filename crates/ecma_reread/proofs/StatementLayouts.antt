@@ -41,7 +41,7 @@ mutual
   expression_laid (shapes.looser e) spot c q depth us = expression_laid e spot (calmer c) q depth us
   expression_laid (shapes.name (ident at w i)) spot c q depth us = at_node at (kind.Ident w 0 false) [] (At spot) (margin depth) (render us) ∙ rw (c.low, no_sign spot.beside) refl
   expression_laid (shapes.string at raw t) spot c q depth us = at_node at _ [] (At spot) (margin depth) (render us) ∙ rw (c.low, no_sign spot.beside) refl
-  expression_laid (shapes.number at raw t) spot c q depth us = at_node at _ [] (At spot) (margin depth) (render us) ∙ rw (tightly 17 16 spot.level (omega arith) c.low, c.no_dot refl, no_sign spot.beside) refl
+  expression_laid (shapes.number at raw t) spot c q depth us = at_node at _ [] (At spot) (margin depth) (render us) ∙ rw (c.low, c.no_dot refl, no_sign spot.beside) refl
   expression_laid (shapes.this_word at) spot c q depth us = at_node at _ [] (At spot) (margin depth) (render us) ∙ rw (c.low, no_sign spot.beside) refl
   expression_laid (shapes.big_int at raw t) spot c q depth us = at_node at _ [] (At spot) (margin depth) (render us) ∙ rw (c.low, no_sign spot.beside) refl
   expression_laid (shapes.regex at b f t) spot c q depth us = at_node at (kind.Regex b f) [] (At spot) (margin depth) (render us) ∙ rw (c.low, no_sign spot.beside) (ap (λ z. codes "/" ++ z) (sym (append_assoc b (codes "/" ++ f) (render us))))
@@ -79,15 +79,15 @@ mutual
   expression_laid (shapes.super_call at at' {args = a'} {none = n'} es none) spot c q depth us =
       at_node at kind.CallExpr (node_of at' kind.Super [] ∷ a' ∷ n' ∷ []) (At spot) (margin depth) (render us)
       ∙ rw (c.low, c.no_new refl, laid_node at' kind.Super [], no_sign spot.beside) (ap (λ z. codes "super" ++ z) (arguments_laid es depth us))
-  expression_laid (shapes.new_expression at {constructor = c'} {args = a'} {none = n'} e es none) spot c q depth us =
+  expression_laid (shapes.new_expression at {constructor = c'} {args = a'} {none = n'} i e es none) spot c q depth us =
       let args = sign_of (codes "(") (arguments_tokens es depth (sign_of (codes ")") us)) in
       at_node at kind.NewExpr (c' ∷ a' ∷ n' ∷ []) (At spot) (margin depth) (render us)
       ∙ rw (c.low, arguments_there es, and_false (is_headed spot.beside), no_sign spot.beside)
-      (ap (λ z. codes "new " ++ z) (ap (λ z. (laid c').at (At (callee_spot spot)) (margin depth) z) (arguments_laid es depth us) ∙ expression_laid e (callee_spot spot) (callee_calm spot c.with_in) refl depth args) ∙ ap (λ z. codes "new" ++ z) (sym (gap_out e depth blank args)))
-  expression_laid (shapes.new_alone at {constructor = c'} e (shapes.absent at') (shapes.absent at'')) spot c q depth us =
+      (ap (λ z. codes "new " ++ z) (ap (λ z. (laid c').at (At (callee_spot spot)) (margin depth) z) (arguments_laid es depth us) ∙ expression_laid e (callee_spot spot) (callee_calm i spot c.with_in) refl depth args) ∙ ap (λ z. codes "new" ++ z) (sym (gap_out e depth blank args)))
+  expression_laid (shapes.new_alone at {constructor = c'} i e (shapes.absent at') (shapes.absent at'')) spot c q depth us =
       at_node at kind.NewExpr (c' ∷ node_of at' kind.Absent [] ∷ node_of at'' kind.Absent [] ∷ []) (At spot) (margin depth) (render us)
       ∙ rw (tightly 17 16 spot.level (omega arith) c.low, c.no_head refl, no_sign spot.beside)
-      (ap (λ z. codes "new " ++ z) (ap (λ z. (laid c').at (At (callee_spot spot)) (margin depth) z) (at_node at' kind.Absent [] Arguments (margin depth) (render us)) ∙ expression_laid e (callee_spot spot) (callee_calm spot c.with_in) refl depth us) ∙ ap (λ z. codes "new" ++ z) (sym (gap_out e depth blank us)))
+      (ap (λ z. codes "new " ++ z) (ap (λ z. (laid c').at (At (callee_spot spot)) (margin depth) z) (at_node at' kind.Absent [] Arguments (margin depth) (render us)) ∙ expression_laid e (callee_spot spot) (callee_calm i spot c.with_in) refl depth us) ∙ ap (λ z. codes "new" ++ z) (sym (gap_out e depth blank us)))
   expression_laid (shapes.new_target at) spot c q depth us = at_node at (kind.MetaPropExpr NewTarget) [] (At spot) (margin depth) (render us) ∙ rw (c.low, no_sign spot.beside) refl
   expression_laid (shapes.import_meta at) spot c q depth us = at_node at (kind.MetaPropExpr ImportMeta) [] (At spot) (margin depth) (render us) ∙ rw (c.low, no_sign spot.beside) refl
   expression_laid (shapes.import_call at at' {args = a'} {none = n'} es none) spot c q depth us =

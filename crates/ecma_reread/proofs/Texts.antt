@@ -26,7 +26,7 @@ use Rattle.ecma_reread.specs.Bare.{bare}
 use Rattle.ecma_reread.specs.ModuleTokens.{items_tokens, module_tokens, module_head, bare_items, bare_module}
 use Rattle.ecma_reread.proofs.Ranks.{leads, module_leads}
 use Rattle.ecma_reread.proofs.Unplaced.{without_spans-node}
-use Rattle.ecma_reread.proofs.Simulation.{plain, Sims, sims_front, sims_built, means_simulate}
+use Rattle.ecma_reread.proofs.Simulation.{plain, NoTarget, Sims, sims_front, sims_built, means_simulate}
 use Rattle.ecma_reread.proofs.Modules.{module_rest, hashbang_made, rest_read, module_read}
 use Rattle.ecma_reread.proofs.ModuleTrees.{module_bare}
 use Rattle.ecma_reread.proofs.ModuleLayouts.{items_line}
@@ -56,14 +56,14 @@ hashbang_kept text word rest h e =
     }
 
 -- the text of the tokens, wherever the terminals read them
-module _ (assigned : Bool) (Good : Items → Type 0) (text : List ℕ) (lexes : Lexes text Good) (long : (ts : Items) → Good ts → count ts ≤ length (render ts)) (bound : ℕ) where
+module _ (assigned : Bool) (Good : Items → Type 0) (text : List ℕ) (lexes : Lexes text Good) (long : (ts : Items) → Good ts → count ts ≤ length (render ts)) (no_target : NoTarget text Good) (bound : ℕ) where
   abbrev IsRead : Node → Type 0
   IsRead tree = Goes text Good (reads_module text (plain assigned) bound) (λ trees. map without_spans trees ≡ tree ∷ []) (ends no_gap)
 
   alone_read : {ns : List Node} (is : AreModuleItems assigned ns) → text ≡ render (items_tokens is no_gap) → Good (items_tokens is no_gap) → 3 * count (items_tokens is no_gap) + 2 ≤ bound → IsRead (bare (kind.Module None) (list_node (bare_items is) ∷ []))
   alone_read is t good enough =
       let at : At text Good (items_tokens is no_gap) start = record { good = good; stands = record { rest = t; within = (let y = ap length t in omega arith) } } in
-      subst (λ o. Sims text Good o (reads_module text (plain assigned) bound)) (module_read assigned is no_gap) (means_simulate text Good assigned lexes long bound module_body 2 (items_tokens is no_gap) module_leads enough start at)
+      subst (λ o. Sims text Good o (reads_module text (plain assigned) bound)) (module_read assigned is no_gap) (means_simulate text Good assigned lexes long no_target bound module_body 2 (items_tokens is no_gap) module_leads enough start at)
 
   behind_read : {ns : List Node} (word : List ℕ) → IsHashbangText word → (is : AreModuleItems assigned ns) → text ≡ (codes "#!" ++ word) ++ render (items_tokens is line) → Good (items_tokens is line) → 3 * count (items_tokens is line) + 2 ≤ bound
       → IsRead (bare (kind.Module (Some word)) (list_node (bare_items is) ∷ []))
@@ -76,7 +76,7 @@ module _ (assigned : Bool) (Good : Items → Type 0) (text : List ℕ) (lexes : 
       let K = hashbang_kept text word _ h e in
       let at : At text Good ts after = record { good = good; stands = rw (items_line is) (past text word (stands_2 text word _ h e)) } in
       let lo = reads.next_start text start in
-      let rest : Sims text Good (interp assigned (means assigned) module_rest ts) (F module_rest after) = means_simulate text Good assigned lexes long bound module_rest 2 ts rest_leads enough after at in
+      let rest : Sims text Good (interp assigned (means assigned) module_rest ts) (F module_rest after) = means_simulate text Good assigned lexes long no_target bound module_rest 2 ts rest_leads enough after at in
       let front = sims_front text Good (bare (kind.IdentName word) [] ∷ []) (K.node ∷ []) (ap (λ x. x ∷ []) K.same) (interp assigned (means assigned) module_rest ts) (F module_rest after) rest in
       let whole = sims_built text Good form.Module lo _ _ front in
       subst (λ o. Sims text Good o (reads_module text (plain assigned) bound))

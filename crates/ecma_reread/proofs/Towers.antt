@@ -22,7 +22,7 @@ use Rattle.ecma_grammar.specs.productions.Modules.{module_item}
 use Rattle.ecma_tokens.specs.Items.{Items, sign, template}
 use Rattle.ecma_reread.specs.Shapes as shapes
 use Rattle.ecma_reread.specs.Shapes.{Level}
-use Rattle.ecma_reread.specs.Machine.{read, Turn, followed_on, or_on, with_front, built_on, interp}
+use Rattle.ecma_reread.specs.Machine.{read, Turn, followed_on, or_on, with_front, built_on, without, interp}
 use Rattle.ecma_reread.proofs.Fronts.{Front, Begins, refuses_at, passes_at, refused_at, passed_at, exactly}
 
 -- a grammar around another: the front is f, and k stands behind what is read
@@ -44,12 +44,6 @@ module _ (assigned : Bool) (p : Part → Turn) where
   climb (chained t) ts us x b c h = ap (built_on form.Chain) (climb t ts us x b c h)
   climb (logical t) ts us x b c h = ap (built_on form.Logical) (climb t ts us x b c h)
   climb (sequence t) ts us x b c h = ap (built_on form.Sequence) (climb t ts us x b c h)
-
--- the grammar without its first alternatives
-abbrev pub without : ℕ → Grammar → Grammar
-without zero g = g
-without (suc n) (a // b) = without n b
-without (suc n) g = g
 
 abbrev pub refuses_choices : ℕ → Front → Grammar → Bool
 refuses_choices zero f g = true
@@ -174,6 +168,7 @@ closes_sequence no_in e = refuses_at e (punct (codes ",")) && closes_assignment 
 abbrev pub closes_in : Bool → Level → Front → Bool
 closes_in no_in shapes.new_callee e = closes_chain e
 closes_in no_in shapes.object e = closes_chain e
+closes_in no_in shapes.numeral e = closes_chain e
 closes_in no_in shapes.callee e = closes_chain e
 closes_in no_in shapes.chain e = closes_chain e
 closes_in no_in shapes.left_hand_side e = closes_chain e

@@ -77,9 +77,9 @@ mutual
       without_spans-node at kind.SuperPropExpr _ ∙ ap₂ (λ x y. bare kind.SuperPropExpr (x ∷ y ∷ [])) (without_spans-node at' kind.Super []) (without_spans-node at'' kind.ComputedPropName _ ∙ ap (λ x. bare kind.ComputedPropName (x ∷ [])) (expression_bare e))
   expression_bare (shapes.super_call at at' {none = gone} es none) =
       without_spans-node at kind.CallExpr _ ∙ (ap₂ (λ x y. bare kind.CallExpr (x ∷ y ∷ without_spans gone ∷ [])) (without_spans-node at' kind.Super []) (arguments_bare es) ∙ ap (λ z. bare kind.CallExpr (bare kind.Super [] ∷ list_node (bare_arguments es) ∷ z ∷ [])) (absent_bare none))
-  expression_bare (shapes.new_expression at {none = gone} e es none) =
+  expression_bare (shapes.new_expression at {none = gone} i e es none) =
       without_spans-node at kind.NewExpr _ ∙ (ap₂ (λ x y. bare kind.NewExpr (x ∷ y ∷ without_spans gone ∷ [])) (expression_bare e) (arguments_bare es) ∙ ap (λ z. bare kind.NewExpr (bare_expression e ∷ list_node (bare_arguments es) ∷ z ∷ [])) (absent_bare none))
-  expression_bare (shapes.new_alone at {none' = gone} e none none') =
+  expression_bare (shapes.new_alone at {none' = gone} i e none none') =
       without_spans-node at kind.NewExpr _ ∙ (ap₂ (λ x y. bare kind.NewExpr (x ∷ y ∷ without_spans gone ∷ [])) (expression_bare e) (absent_bare none) ∙ ap (λ z. bare kind.NewExpr (bare_expression e ∷ absent ∷ z ∷ [])) (absent_bare none'))
   expression_bare (shapes.new_target at) = without_spans-node at _ []
   expression_bare (shapes.import_meta at) = without_spans-node at _ []

@@ -4,6 +4,7 @@ use Rattle.ecma_kind.specs.declared.kind.Kind.{Kind}
 use Rattle.ecma_tree.specs.declared.node.Node.{Node}
 use Rattle.ecma_tree.specs.Nodes.{node_of, dummy_span}
 use Rattle.ecma_grammar.specs.declared.production.Part.{Part}
+use Rattle.ecma_grammar.specs.declared.production.Part.TheVariants as part
 use Rattle.ecma_grammar.specs.declared.production.Leaf.{Leaf}
 use Rattle.ecma_grammar.specs.declared.production.Form.{Form}
 use Rattle.ecma_grammar.specs.trees.Parts.{flag_node}
@@ -11,7 +12,7 @@ use Rattle.ecma_grammar.specs.Made.{made}
 use Rattle.ecma_grammar.specs.Grammar as grammar
 use Rattle.ecma_grammar.specs.Grammar.{Grammar}
 use Rattle.ecma_grammar.specs.PartBodies.{part_body}
-use Rattle.ecma_tokens.specs.Items.{Items, ends, it}
+use Rattle.ecma_tokens.specs.Items.{number, Items, ends, it}
 use Rattle.ecma_tokens.specs.Taking as taking
 use Rattle.ecma_tokens.specs.Taking.{Took, took, refused, token_in, leaf_in, leaf_kind, new_line_in}
 
@@ -85,6 +86,17 @@ built_on form (read xs ts) = read (made form 0 0 xs ∷ []) ts
 built_on form fails = fails
 built_on form unsure = unsure
 
+-- a grammar without its first alternatives
+abbrev pub without : ℕ → Grammar → Grammar
+without zero g = g
+without (suc n) (grammar.◌//◌ a b) = without n b
+without (suc n) g = g
+
+-- what a part reads where these tokens stand: at a numeral behind `new`, which may begin with a point, no `.target`
+abbrev pub body_at : Part → Items → Grammar
+body_at part.New (it g (number w) ts) = without 1 (part_body part.New)
+body_at u ts = part_body u
+
 -- what a grammar reads where parts read as they are said to; whether `import a = require("m")` and `export =` are read is given
 module _ (assignments : Bool) where
   abbrev pub interp : (Part → Turn) → Grammar → Turn
@@ -108,7 +120,7 @@ module _ (assignments : Bool) where
   -- with so many levels, at the end of which nothing is read
   unfoldable pub levels : ℕ → Part → Turn
   levels zero u ts = fails
-  levels (suc n) u ts = interp (levels n) (part_body u) ts
+  levels (suc n) u ts = interp (levels n) (body_at u ts) ts
 
   -- what a part reads: a level a token, and some, are enough
   unfoldable pub means : Part → Turn

@@ -57,8 +57,8 @@ pub data IsPart (behind_tag first last : Bool) : Node → Type 0 where
 -- how loosely an expression binds: by its outermost operator, the tightest first (ECMAScript, 13). A conditional expression stands where
 -- an assignment does
 pub data Level : Type 0 where
-  -- the callee of `new`, in which no call stands; what may stand before a point; a call's callee, which may be a numeral too
-  new_callee object callee : Level
+  -- the callee of `new`, in which no call stands; what may stand before a point; a numeral, which may not; a call's callee
+  new_callee object numeral callee : Level
   -- an optional chain; that, and `new` without arguments
   chain left_hand_side : Level
   update unary power product sum shift relation equality bit_and bit_xor bit_or logical_and logical_or coalescing short_circuit assignment sequence : Level
@@ -67,6 +67,7 @@ pub data Level : Type 0 where
 abbrev pub looser_than : Level → Level
 looser_than new_callee = object
 looser_than object = callee
+looser_than numeral = callee
 looser_than callee = left_hand_side
 looser_than chain = left_hand_side
 looser_than left_hand_side = update
@@ -93,10 +94,16 @@ pub data IsMemberLevel : Level → Type 0 where
   member_of_new : IsMemberLevel new_callee
   member_of_object : IsMemberLevel object
 
--- a member by brackets: the level of its object, and its own
+-- a member by brackets, or a template behind a tag: the level of what stands before it, and its own
 pub data IsIndexed : Level → Level → Type 0 where
   index_of_new : IsIndexed new_callee new_callee
+  index_of_numeral : IsIndexed numeral new_callee
   index_of_callee : IsIndexed callee object
+
+-- what `new` constructs
+pub data IsConstructor : Level → Type 0 where
+  constructor_callee : IsConstructor new_callee
+  constructor_numeral : IsConstructor numeral
 
 -- a link of an optional chain: the level of what stands before it, and whether it begins with `?.`
 pub data IsChainLink : Level → Bool → Type 0 where
@@ -157,7 +164,7 @@ mutual
     looser : {level : Level} {e : Node} → IsExpression level e → IsExpression (looser_than level) e
     name : {id : Node} → IsIdent id → IsExpression new_callee id
     string : (at : Span) (raw : List ℕ) → IsToken str_end raw → IsExpression new_callee (node_of at (kind.Str (str_value (piece raw 1 (length raw - 1))) (Some raw)) [])
-    number : (at : Span) (raw : List ℕ) → IsToken num_end raw → IsExpression callee (node_of at (kind.Number (numeral_of raw) (Some raw)) [])
+    number : (at : Span) (raw : List ℕ) → IsToken num_end raw → IsExpression numeral (node_of at (kind.Number (numeral_of raw) (Some raw)) [])
     this_word : (at : Span) → IsExpression new_callee (node_of at kind.ThisExpr [])
     big_int : (at : Span) (raw : List ℕ) → IsToken big_end raw → IsExpression new_callee (node_of at (kind.BigInt (without_separators (piece raw 0 (length raw - 1))) (Some raw)) [])
     regex : (at : Span) (body flags : List ℕ) → IsRegex body flags → IsExpression new_callee (node_of at (kind.Regex body flags) [])
@@ -173,8 +180,8 @@ mutual
     super_element : (at at_super of_key : Span) {level : Level} {e : Node} → IsExpression level e → IsExpression new_callee (node_of at kind.SuperPropExpr (node_of at_super kind.Super [] ∷ node_of of_key kind.ComputedPropName (e ∷ []) ∷ []))
     super_call : (at at_super : Span) {args none : Node} → IsArguments values args → IsAbsent none → IsExpression object (node_of at kind.CallExpr (node_of at_super kind.Super [] ∷ args ∷ none ∷ []))
     -- with arguments, and without
-    new_expression : (at : Span) {constructor args none : Node} → IsExpression new_callee constructor → IsArguments values args → IsAbsent none → IsExpression new_callee (node_of at kind.NewExpr (constructor ∷ args ∷ none ∷ []))
-    new_alone : (at : Span) {constructor none none' : Node} → IsExpression new_callee constructor → IsAbsent none → IsAbsent none' → IsExpression left_hand_side (node_of at kind.NewExpr (constructor ∷ none ∷ none' ∷ []))
+    new_expression : (at : Span) {level : Level} {constructor args none : Node} → IsConstructor level → IsExpression level constructor → IsArguments values args → IsAbsent none → IsExpression new_callee (node_of at kind.NewExpr (constructor ∷ args ∷ none ∷ []))
+    new_alone : (at : Span) {level : Level} {constructor none none' : Node} → IsConstructor level → IsExpression level constructor → IsAbsent none → IsAbsent none' → IsExpression left_hand_side (node_of at kind.NewExpr (constructor ∷ none ∷ none' ∷ []))
     new_target : (at : Span) → IsExpression new_callee (node_of at (kind.MetaPropExpr NewTarget) [])
     import_meta : (at : Span) → IsExpression new_callee (node_of at (kind.MetaPropExpr ImportMeta) [])
     import_call : (at at_import : Span) {args none : Node} → IsArguments values args → IsAbsent none → IsExpression object (node_of at kind.CallExpr (node_of at_import kind.Import [] ∷ args ∷ none ∷ []))
