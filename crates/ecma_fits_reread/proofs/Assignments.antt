@@ -30,14 +30,13 @@ use Rattle.ecma_print.specs.Operators.{update_sign}
 use Rattle.ecma_print.specs.Places.{left, right}
 use Rattle.ecma_reread.specs.Shapes.{AreExpressions, IsExpression, assignment, assignment_expression, callee, more_expressions, no_expressions, postfix_update, prefix_update, sequence, sequence_expression, update, yield_nothing, yield_value}
 use Rattle.ecma_fits_reread.specs.Forms.{is_of_forms}
-use Rattle.ecma_fits_reread.specs.Numerals.{numerals}
 use Rattle.ecma_fits_reread.proofs.Building.{absent_shape, first_there, simple_target, simple_tight, stands_as}
 use Rattle.ecma_fits_reread.proofs.Claims.{AllFormed, Expressed, Formed, Proper, is_of_link, is_simple, seen, value_kind}
 use Rattle.ecma_fits_reread.proofs.Covered.{covered_children}
 use Rattle.ecma_fits_reread.proofs.Ranks.{own_level, to_callee}
 use Rattle.ecma_fits_reread.proofs.Seats.{either_parts}
 use Rattle.ecma_fits_reread.proofs.Sound.{AllSound, Here, Sound, children_made, kind_made}
-use Rattle.ecma_fits_reread.proofs.Spots.{and_false, assigned, child_value, low_outside, proper_left, proper_right}
+use Rattle.ecma_fits_reread.proofs.Spots.{assigned, child_value, low_outside, proper_left, proper_right}
 
 -- what a node has by its counts
 pub full : {r : Role} {spot : Spot} {shape : Shape} (at : Span) (k : Kind) (cs : List Node) → Here r spot shape at k cs → is_full_by k (node_of at k cs) ≡ true
@@ -76,10 +75,10 @@ simple_shape {spot = spot} n e h = to_callee (own_level e.kind e.children spot.i
 target_shape : (spot : Spot) (o : AssignOp) (n : Node) → spot.in_callee_of_new ≡ false → Formed n → Sound (left_of o) (left spot 16 beside.NoNeighbor) (one sort.AssignTarget) n → IsExpression callee (cover_at n (on_left target.Free o))
 target_shape spot Assign n out f s =
     let is = left_there n s in
-    simple_shape n (f.expression role.Left target.Left (left spot 16 beside.NoNeighbor) (one sort.AssignTarget) s (proper_left spot 16 beside.NoNeighbor out refl) (and_false spot.in_callee_of_new (numerals n).first out) refl is) is
+    simple_shape n (f.expression role.Left target.Left (left spot 16 beside.NoNeighbor) (one sort.AssignTarget) s (proper_left spot 16 beside.NoNeighbor out refl) refl is) is
 target_shape spot o n out f s =
     let is = simple_there n s in
-    simple_shape n (f.expression role.Simple target.Simple (left spot 16 beside.NoNeighbor) (one sort.AssignTarget) s (proper_left spot 16 beside.NoNeighbor out refl) (and_false spot.in_callee_of_new (numerals n).first out) refl is) is
+    simple_shape n (f.expression role.Simple target.Simple (left spot 16 beside.NoNeighbor) (one sort.AssignTarget) s (proper_left spot 16 beside.NoNeighbor out refl) refl is) is
 
 signs : (o : UpdateOp) → is_of_link (update_sign o) ≡ false
 signs PlusPlus = refl
@@ -92,7 +91,7 @@ module _ {r : Role} {spot : Spot} {shape : Shape} (at : Span) where
   assignment_formed o (a ∷ []) f h p = absurd h.below.1
   assignment_formed o (a ∷ b ∷ []) f h p =
       let out = low_outside (kind.AssignExpr o) (map laid (a ∷ b ∷ [])) spot p refl h.open_there in
-      assignment_expression at o (target_shape spot o a out f.0 h.below.0) (assigned (child_value f.1.0 h.below.1.0 refl (proper_right spot 1 beside.NoNeighbor refl) refl) refl)
+      assignment_expression at o (target_shape spot o a out f.0 h.below.0) (assigned (child_value f.1.0 h.below.1.0 refl (proper_right spot 1 beside.NoNeighbor refl)) refl)
   assignment_formed o (a ∷ b ∷ c ∷ cs) f h p = absurd h.below.1.1
 
 module _ {r : Role} {spot : Spot} {shape : Shape} (t : Target) (at : Span) where
@@ -103,11 +102,11 @@ module _ {r : Role} {spot : Spot} {shape : Shape} (t : Target) (at : Span) where
   update_formed o false [] f h p = absurd h.below
   update_formed o true (a ∷ []) f h p =
       let is = simple_there a h.below.0 in
-      prefix_update at o (simple_shape a (f.0.expression role.Simple target.Simple (right spot 16 (update_sign o)) (one sort.Expr) h.below.0 (proper_right spot 16 (update_sign o) (signs o)) refl refl is) is)
+      prefix_update at o (simple_shape a (f.0.expression role.Simple target.Simple (right spot 16 (update_sign o)) (one sort.Expr) h.below.0 (proper_right spot 16 (update_sign o) (signs o)) refl is) is)
   update_formed o false (a ∷ []) f h p =
       let out = low_outside (kind.UpdateExpr o false) (map laid (a ∷ [])) spot p refl h.open_there in
       let is = simple_there a h.below.0 in
-      postfix_update at o (simple_shape a (f.0.expression role.Simple target.Simple (left spot 16 beside.NoNeighbor) (one sort.Expr) h.below.0 (proper_left spot 16 beside.NoNeighbor out refl) (and_false spot.in_callee_of_new (numerals a).first out) refl is) is)
+      postfix_update at o (simple_shape a (f.0.expression role.Simple target.Simple (left spot 16 beside.NoNeighbor) (one sort.Expr) h.below.0 (proper_left spot 16 beside.NoNeighbor out refl) refl is) is)
   update_formed o true (a ∷ b ∷ cs) f h p = absurd h.below.1
   update_formed o false (a ∷ b ∷ cs) f h p = absurd h.below.1
 
@@ -129,7 +128,7 @@ yield_by spot at delegate a true e whole f s =
 yield_by spot at delegate a false e whole f s =
     let h = seen a s in
     let is = expression_there (is_absent (kind_of a)) (is_expr (kind_of a)) h.allowed e in
-    yield_value at delegate (assigned (f.expression role.Free target.Free (right spot 1 beside.NoNeighbor) (maybe sort.Expr) s (proper_right spot 1 beside.NoNeighbor refl) refl refl (value_kind (kind_of a) is h.bare.1)) refl)
+    yield_value at delegate (assigned (f.expression role.Free target.Free (right spot 1 beside.NoNeighbor) (maybe sort.Expr) s (proper_right spot 1 beside.NoNeighbor refl) refl (value_kind (kind_of a) is h.bare.1)) refl)
 
 module _ {r : Role} {spot : Spot} {shape : Shape} (t : Target) (at : Span) where
   pub yield_formed : (delegate : Bool) (cs : List Node) → AllFormed cs → Here r spot shape at (kind.YieldExpr delegate) cs → IsExpression assignment (node_of at (kind.YieldExpr delegate) (covered_children t (kind.YieldExpr delegate) cs))
@@ -143,7 +142,7 @@ module _ {r : Role} {spot : Spot} {shape : Shape} (t : Target) (at : Span) where
 
 sequence_rest : (spot : Spot) (cs : List Node) → AllFormed cs → AllSound (λ i. role.Free) [] (right spot 1 beside.NoNeighbor) (replicate (length cs) (one sort.Expr)) cs → AreExpressions (each_in (λ i. target.Free) (map cover_at cs))
 sequence_rest spot [] f h = no_expressions
-sequence_rest spot (c ∷ cs) f h = more_expressions (assigned (child_value f.0 h.0 refl (proper_right spot 1 beside.NoNeighbor refl) refl) refl) (sequence_rest spot cs f.1 h.1)
+sequence_rest spot (c ∷ cs) f h = more_expressions (assigned (child_value f.0 h.0 refl (proper_right spot 1 beside.NoNeighbor refl)) refl) (sequence_rest spot cs f.1 h.1)
 
 module _ {r : Role} {spot : Spot} {shape : Shape} (t : Target) (at : Span) where
   pub sequence_formed : (cs : List Node) → AllFormed cs → Here r spot shape at kind.SeqExpr cs → Proper spot → IsExpression sequence (node_of at kind.SeqExpr (covered_children t kind.SeqExpr cs))
@@ -152,6 +151,6 @@ module _ {r : Role} {spot : Spot} {shape : Shape} (t : Target) (at : Span) where
   sequence_formed (a ∷ []) f h p = let z = sym (ap (λ y. nat_lt 1 (length y)) (children_made at kind.SeqExpr (a ∷ []))) ∙ full at kind.SeqExpr (a ∷ []) h in cc
   sequence_formed (a ∷ b ∷ cs) f h p =
       let out = low_outside kind.SeqExpr (map laid (a ∷ b ∷ cs)) spot p refl h.open_there in
-      let x = child_value f.0 h.below.0 refl (proper_left spot 1 beside.NoNeighbor out refl) (and_false spot.in_callee_of_new (numerals a).first out) in
-      let y = child_value f.1.0 h.below.1.0 refl (proper_right spot 1 beside.NoNeighbor refl) refl in
+      let x = child_value f.0 h.below.0 refl (proper_left spot 1 beside.NoNeighbor out refl) in
+      let y = child_value f.1.0 h.below.1.0 refl (proper_right spot 1 beside.NoNeighbor refl) in
       sequence_expression at (assigned x refl) (assigned y refl) (sequence_rest spot cs f.1.1 h.below.1.1)

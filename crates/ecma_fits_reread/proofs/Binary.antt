@@ -23,7 +23,7 @@ use Rattle.ecma_fits_reread.proofs.Covered.{covered_children}
 use Rattle.ecma_fits_reread.proofs.Ranks.{IsWithin, operator_level, own_level, to_bit_and, to_bit_or, to_bit_xor, to_equality, to_logical_and, to_logical_or, to_power, to_product, to_relation, to_shift, to_sum, to_update}
 use Rattle.ecma_fits_reread.proofs.Seats.{left_of_coalesced, left_of_either, right_of_coalesced}
 use Rattle.ecma_fits_reread.proofs.Sound.{Here}
-use Rattle.ecma_fits_reread.proofs.Spots.{and_false, child_value, low_outside, proper_left, proper_right, tight}
+use Rattle.ecma_fits_reread.proofs.Spots.{child_value, low_outside, proper_left, proper_right, tight}
 
 -- the operands
 
@@ -53,8 +53,8 @@ module _ {r : Role} {spot : Spot} {shape : Shape} (at : Span) (o : BinaryOp) whe
       let out = low_outside (kind.BinExpr o) (map laid (a ∷ b ∷ [])) spot p (operator_low o) h.open_there in
       record {
         outside = out;
-        first = child_value f.0 h.below.0 (operand_reads o) (proper_left spot (left_level o) (under o) out (operands o)) (and_false spot.in_callee_of_new _ out);
-        second = child_value f.1.0 h.below.1.0 refl (proper_right spot (right_level o) (under o) (operands o)) refl;
+        first = child_value f.0 h.below.0 (operand_reads o) (proper_left spot (left_level o) (under o) out (operands o));
+        second = child_value f.1.0 h.below.1.0 refl (proper_right spot (right_level o) (under o) (operands o));
       }
 
 module _ (spot : Spot) (at : Span) (a b : Node) where

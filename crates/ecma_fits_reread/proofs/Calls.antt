@@ -1,5 +1,5 @@
 -- Calls, and what `new` constructs, have their shapes.
-use Rattle.std.proofs.Common.{◌≡◌, ◌∙◌, refl, sym, ap, subst, Bool, true, false, ◌||◌, List, [], ◌∷◌, map}
+use Rattle.std.proofs.Common.{◌≡◌, ◌∙◌, ◌⊎◌, inl, inr, refl, sym, ap, subst, Bool, true, false, ◌||◌, List, [], ◌∷◌, map}
 use Rattle.ecma_kind.specs.Sorts.{is_expr}
 use Rattle.ecma_kind.specs.declared.span.Span.{Span}
 use Rattle.ecma_kind.specs.declared.kind.Kind.{Kind}
@@ -25,18 +25,17 @@ use Rattle.ecma_print.specs.Layout.{laid}
 use Rattle.ecma_print.specs.Levels.{lacks_arguments}
 use Rattle.ecma_print.specs.Places.{free, left}
 use Rattle.ecma_print.proofs.LaidOut.{laid_kind}
-use Rattle.ecma_reread.specs.Shapes.{IsAbsent, IsArguments, IsExpression, call, import_call, new_alone, new_callee, new_expression, object, super_call, super_element, super_member, values}
+use Rattle.ecma_reread.specs.Shapes.{IsAbsent, IsArguments, IsConstructor, IsExpression, Level, call, callee, constructor_callee, constructor_numeral, import_call, looser, new_alone, new_callee, new_expression, numeral, object, super_call, super_element, super_member, values}
 use Rattle.ecma_fits_reread.specs.Forms.{is_of_forms}
-use Rattle.ecma_fits_reread.specs.Numerals.{numerals}
 use Rattle.ecma_fits_reread.proofs.Building.{absent_shape, childless}
 use Rattle.ecma_fits_reread.proofs.Claims.{AllFormed, Formed, SuperKey, bracketed_of_super, named_of_super, seen, value_kind}
 use Rattle.ecma_fits_reread.proofs.Covered.{covered, covered_children}
-use Rattle.ecma_fits_reread.proofs.Members.{before_link_shape, no_numeral, to_new_callee}
-use Rattle.ecma_fits_reread.proofs.ObjectSeats.{at_callee_of_new, before_link}
-use Rattle.ecma_fits_reread.proofs.Ranks.{new_level, own_level}
+use Rattle.ecma_fits_reread.proofs.Members.{to_new_callee}
+use Rattle.ecma_fits_reread.proofs.ObjectSeats.{at_constructor, at_link, before_link}
+use Rattle.ecma_fits_reread.proofs.Ranks.{IsWithin, new_level, own_level, rank, to_callee}
 use Rattle.ecma_fits_reread.proofs.Seats.{either_parts}
 use Rattle.ecma_fits_reread.proofs.Sound.{Here, Sound}
-use Rattle.ecma_fits_reread.proofs.Spots.{and_false, child_value, proper_head}
+use Rattle.ecma_fits_reread.proofs.Spots.{child_value, proper_head}
 
 -- no type arguments are there
 untyped : (k : Kind) → allows (maybe sort.TsTypeParamInstantiation) k ≡ true → is_of_forms k ≡ true → is_absent k ≡ true
@@ -105,14 +104,17 @@ called n s = let h = seen n s in called_by n h (callee_kind (out-Node n).kind h.
 abbrev CallOf : Span → Node → Node → Node → Type 0
 CallOf at args none f = IsExpression object (node_of at kind.CallExpr (f ∷ args ∷ none ∷ []))
 
+called_shape : {e : Node} (a : Level) → (a ≡ numeral) ⊎ IsWithin 2 a → IsExpression a e → IsExpression callee e
+called_shape {e} a (inl is) x = looser (subst (λ l. IsExpression l e) is x)
+called_shape a (inr h) x = to_callee a h x
+
 call_by : (spot : Spot) (at : Span) (a args none : Node) → Formed a → Sound role.Free (left spot 16 beside.BeforeLink) (one sort.Callee) a → spot.in_callee_of_new ≡ false → IsArguments values args → IsAbsent none → Called a
     → CallOf at args none (cover_at a target.Free)
 call_by spot at a args none f s out is_args is_none (called_super at_super is) = subst (CallOf at args none) (sym is) (super_call at at_super is_args is_none)
 call_by spot at a args none f s out is_args is_none (called_import at_import is) = subst (CallOf at args none) (sym is) (import_call at at_import is_args is_none)
 call_by spot at a args none f s out is_args is_none (called_value is) =
-    let first = and_false spot.in_callee_of_new (numerals a).first out in
-    let e = f.expression role.Free target.Free (left spot 16 beside.BeforeLink) (one sort.Callee) s (proper_head spot beside.BeforeLink refl refl) first refl (value_kind (kind_of a) is (seen a s).bare.1) in
-    call at (subst (λ w. IsExpression (before_link w) (cover_at a target.Free)) out (before_link_shape spot e first)) is_args is_none
+    let e = f.expression role.Free target.Free (left spot 16 beside.BeforeLink) (one sort.Callee) s (proper_head spot beside.BeforeLink refl refl) refl (value_kind (kind_of a) is (seen a s).bare.1) in
+    call at (called_shape (own_level e.kind e.children spot.in_callee_of_new) (subst (λ w. (own_level e.kind e.children spot.in_callee_of_new ≡ numeral) ⊎ IsWithin (rank (before_link w)) (own_level e.kind e.children spot.in_callee_of_new)) out (at_link e.children spot e.kind e.open_there)) e.shape) is_args is_none
 
 super_by : (at at_super : Span) (b : Node) → SuperKey b → IsExpression new_callee (node_of at kind.SuperPropExpr (node_of at_super kind.Super [] ∷ cover_at b target.Free ∷ []))
 super_by at at_super b (named_of_super k) = super_member at at_super k
@@ -148,11 +150,15 @@ list_there : (a b : Bool) → (a || b) ≡ true → a ≡ false → b ≡ true
 list_there true b h e = cc
 list_there false b h e = h
 
-new_by : (at : Span) (x b none : Node) (alone : Bool) → is_absent (kind_of b) ≡ alone → IsExpression new_callee x → Formed b → Sound role.Free (free 1) (maybe_many sort.ExprOrSpread) b → IsAbsent none
+constructed : {e : Node} (a : Level) → (a ≡ numeral) ⊎ IsWithin 0 a → IsExpression a e → (level : Level) × IsConstructor level × IsExpression level e
+constructed {e} a (inl is) x = (numeral, constructor_numeral, subst (λ l. IsExpression l e) is x)
+constructed a (inr h) x = (new_callee, constructor_callee, to_new_callee a h x)
+
+new_by : (at : Span) (x b none : Node) (alone : Bool) → is_absent (kind_of b) ≡ alone → (level : Level) × IsConstructor level × IsExpression level x → Formed b → Sound role.Free (free 1) (maybe_many sort.ExprOrSpread) b → IsAbsent none
     → IsExpression (new_level alone) (node_of at kind.NewExpr (x ∷ cover_at b target.Free ∷ none ∷ []))
-new_by at x b none true e is_callee f s is_none = new_alone at is_callee (absent_shape target.Free b s e) is_none
-new_by at x b none false e is_callee f s is_none =
-    new_expression at is_callee (f.arguments (maybe_many sort.ExprOrSpread) refl s (list_there (is_absent (kind_of b)) (is_list (kind_of b)) (seen b s).allowed e)) is_none
+new_by at x b none true e c f s is_none = new_alone at c.1 c.2 (absent_shape target.Free b s e) is_none
+new_by at x b none false e c f s is_none =
+    new_expression at c.1 c.2 (f.arguments (maybe_many sort.ExprOrSpread) refl s (list_there (is_absent (kind_of b)) (is_list (kind_of b)) (seen b s).allowed e)) is_none
 
 module _ {r : Role} {spot : Spot} {shape : Shape} (t : Target) (at : Span) where
   pub new_formed : (cs : List Node) → AllFormed cs → Here r spot shape at kind.NewExpr cs → IsExpression (new_level (lacks_arguments (map laid cs))) (node_of at kind.NewExpr (covered_children t kind.NewExpr cs))
@@ -161,9 +167,8 @@ module _ {r : Role} {spot : Spot} {shape : Shape} (t : Target) (at : Span) where
   new_formed (a ∷ []) f h = absurd h.below.1
   new_formed (a ∷ b ∷ []) f h = absurd h.below.1.1
   new_formed (a ∷ b ∷ c ∷ []) f h =
-      let first = h.unconstructed in
-      let e = child_value f.0 h.below.0 refl (record { unlinked = refl; headed = λ z. (refl, refl) }) first in
-      let is_callee = to_new_callee (own_level e.kind e.children true) (at_callee_of_new e.children spot e.kind (no_numeral true a e.kind e.kind_is first) e.open_there) e.shape in
+      let e = child_value f.0 h.below.0 refl (record { unlinked = refl; headed = λ z. (refl, refl) }) in
+      let constructor = constructed (own_level e.kind e.children true) (at_constructor e.children spot e.kind e.open_there) e.shape in
       subst (λ alone. IsExpression (new_level alone) (node_of at kind.NewExpr (cover_at a target.Free ∷ cover_at b target.Free ∷ cover_at c target.Free ∷ []))) (sym (ap print.is_absent (laid_kind b) ∙ same_absent (kind_of b)))
-      (new_by at (cover_at a target.Free) b (cover_at c target.Free) (is_absent (kind_of b)) refl is_callee f.1.0 h.below.1.0 (no_type_arguments c h.below.1.1.0))
+      (new_by at (cover_at a target.Free) b (cover_at c target.Free) (is_absent (kind_of b)) refl constructor f.1.0 h.below.1.0 (no_type_arguments c h.below.1.1.0))
   new_formed (a ∷ b ∷ c ∷ d ∷ cs) f h = absurd h.below.1.1.1

@@ -29,7 +29,6 @@ use Rattle.ecma_print.specs.Places.{ends_a_chain, left}
 use Rattle.ecma_reread.specs.Shapes.{IsChainLink, IsExpression, Level, asks_on, callee, chain, chain_call, chain_element, chain_member, opens_chain}
 use Rattle.ecma_reread.specs.Shapes as shapes
 use Rattle.ecma_fits_reread.specs.Forms.{is_of_forms}
-use Rattle.ecma_fits_reread.specs.Numerals.{numerals}
 use Rattle.ecma_fits_reread.proofs.Calls.{call_arguments, no_type_arguments}
 use Rattle.ecma_fits_reread.proofs.Claims.{AllFormed, Expressed, Formed, Linked, LinkedBehind, MemberKey, Proper, bracketed_key, linked_call, linked_element, linked_member, named_key, seen}
 use Rattle.ecma_fits_reread.proofs.Covered.{covered, covered_children}
@@ -37,7 +36,7 @@ use Rattle.ecma_fits_reread.proofs.ObjectSeats.{at_base}
 use Rattle.ecma_fits_reread.proofs.Ranks.{IsWithin, own_level, to_callee}
 use Rattle.ecma_fits_reread.proofs.Seats.{either_parts}
 use Rattle.ecma_fits_reread.proofs.Sound.{Here, Sound, children_made, kind_made}
-use Rattle.ecma_fits_reread.proofs.Spots.{and_false, child_value, proper_left}
+use Rattle.ecma_fits_reread.proofs.Spots.{child_value, proper_left}
 
 -- a chain that goes on is one
 
@@ -91,7 +90,7 @@ in_chain false computed = refl
 -- the object or the callee of a link
 based_there : (spot : Spot) (n : Node) → spot.in_callee_of_new ≡ false → Formed n → Sound role.Free (left spot 16 beside.InChain) (one sort.Expr) n → Based n
 based_there spot n out f s =
-    based spot n out (child_value f s refl (proper_left spot 16 beside.InChain out refl) (and_false spot.in_callee_of_new (numerals n).first out)) (seen n s).bare.1
+    based spot n out (child_value f s refl (proper_left spot 16 beside.InChain out refl)) (seen n s).bare.1
 
 first_goes : (at : Span) (k : Kind) (a : Node) (cs : List Node) → child_holds goes_on (node_of at k (a ∷ cs)) 0 ≡ goes_on a
 first_goes at k a cs = ap (λ z. holds_of goes_on (slice_get z 0)) (children_made at k (a ∷ cs))

@@ -29,7 +29,6 @@ use Rattle.ecma_print.specs.Levels.{in_parentheses, level_of}
 use Rattle.ecma_print.specs.Places.{ends_a_chain, free, left}
 use Rattle.ecma_reread.specs.Shapes.{AreProperties, AreSlots, IsAbsent, IsArguments, IsChainKey, IsElement, IsExpression, IsKey, IsProperty, IsPropertyName, Level, callee, chain, values}
 use Rattle.ecma_fits_reread.specs.Forms.{is_of_forms}
-use Rattle.ecma_fits_reread.specs.Numerals.{numerals}
 use Rattle.ecma_fits_reread.proofs.Ranks.{own_level}
 use Rattle.ecma_fits_reread.proofs.Seats.{either_parts}
 use Rattle.ecma_fits_reread.proofs.Sound.{Here, Sound, here}
@@ -119,8 +118,7 @@ pub record LinkedBehind (n : Node) : Type 0 where
   pub linked : Linked before (cover_at n target.Free)
 
 abbrev pub FormedExpression : Node → Type 0
-FormedExpression n = (r : Role) (t : Target) (spot : Spot) (shape : Shape) → Sound r spot shape n → Proper spot → (spot.in_callee_of_new && (numerals n).first) ≡ false → reads_values r ≡ true → is_value t (kind_of n) ≡ true
-    → Expressed t spot n
+FormedExpression n = (r : Role) (t : Target) (spot : Spot) (shape : Shape) → Sound r spot shape n → Proper spot → reads_values r ≡ true → is_value t (kind_of n) ≡ true → Expressed t spot n
 
 -- all that is shown
 pub record Formed (n : Node) : Type 0 where

@@ -24,9 +24,9 @@ module _ (at : Span) (k : Kind) (cs : List Node) (f : AllFormed cs) where
   own = node_of at k cs
 
   its_expression : FormedExpression own
-  its_expression r t spot shape s p first reads is =
+  its_expression r t spot shape s p reads is =
       let v = subst (λ z. is_value t z ≡ true) (kind_made at k cs) is in
-      value_by t at cs f k (here r spot shape at k cs s) p first reads v (is_value_of_forms t k v)
+      value_by t at cs f k (here r spot shape at k cs s) p reads v (is_value_of_forms t k v)
 
   its_children : AllFormed (out-Node own).children
   its_children = subst AllFormed (sym (children_made at k cs)) f
@@ -53,7 +53,7 @@ pub formed : (n : Node) → Formed n
 formed = ind-Node Formed (λ x y is. subst (λ ns. Formed (node_of x.span x.kind ns)) (ap (λ z. z.children) is) (formed_here x.span x.kind (map (λ e. e.0) y.children) (all_formed y.children)))
 
 pub shapes_of_expressions : ExpressionsHaveTheirShapes
-shapes_of_expressions n w role_is shaped fits complete taken constructed =
-    let s : Sound role.Free (free 0) (one sort.Expr) n = record { shaped = shaped; fitting = (w, role_is, fits); complete = complete; bare = taken; unconstructed = constructed } in
-    let e = child_value (formed n) s refl (proper_free 0) refl in
+shapes_of_expressions n w role_is shaped fits complete taken =
+    let s : Sound role.Free (free 0) (one sort.Expr) n = record { shaped = shaped; fitting = (w, role_is, fits); complete = complete; bare = taken } in
+    let e = child_value (formed n) s refl (proper_free 0) in
     (own_level e.kind e.children false, e.shape)

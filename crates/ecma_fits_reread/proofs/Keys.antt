@@ -45,7 +45,7 @@ pub bracketed : {r : Role} {shape : Shape} (at : Span) (level : ℕ) (cs : List 
 unfolding cover_in target_in role_in
 bracketed at level [] f h = absurd h.below
 bracketed at level (a ∷ []) f h =
-    let e = child_value f.0 h.below.0 refl (proper_free level) refl in
+    let e = child_value f.0 h.below.0 refl (proper_free level) in
     record { inside = cover_at a target.Free; level = own_level e.kind e.children false; shape = e.shape; is = covered at kind.ComputedPropName (a ∷ []) target.Free refl }
 bracketed at level (a ∷ b ∷ cs) f h = absurd h.below.1
 

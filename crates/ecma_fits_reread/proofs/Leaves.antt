@@ -6,7 +6,7 @@ use Rattle.ecma_kind.specs.declared.span.Span.{Span}
 use Rattle.ecma_kind.specs.declared.kind.Kind.TheVariants as kind
 use Rattle.ecma_tree.specs.Nodes.{node_of}
 use Rattle.ecma_leaves.specs.Words.{is_spelled}
-use Rattle.ecma_reread.specs.Shapes.{IsExpression, IsIdent, IsKey, IsPropertyName, callee, ident, key, new_callee, number, number_name, string, string_name}
+use Rattle.ecma_reread.specs.Shapes.{IsExpression, IsIdent, IsKey, IsPropertyName, ident, key, new_callee, number, number_name, numeral, string, string_name}
 use Rattle.ecma_reread.specs.Modules.{IsExportName, IsString, string_literal, word_name}
 use Rattle.ecma_fits_reread.specs.Forms.{IsBare}
 use Rattle.ecma_fits_reread.proofs.Tokens.{key_token, number_token, string_token}
@@ -37,9 +37,9 @@ module _ (tagged : Bool) (at : Span) where
   string_name_shape value None s b = absurd b
   string_name_shape value (Some raw) s b = let t = string_token value raw b s in subst (λ v. IsPropertyName (node_of at (kind.Str v (Some raw)) [])) t.1 (string_name at raw t.0)
 
-  pub number_shape : (value : Option JsNumber) (raw : Option (List ℕ)) → is_spelled tagged (kind.Number value raw) ≡ true → IsBare (kind.Number value raw) → IsExpression callee (node_of at (kind.Number value raw) [])
+  pub number_shape : (value : Option JsNumber) (raw : Option (List ℕ)) → is_spelled tagged (kind.Number value raw) ≡ true → IsBare (kind.Number value raw) → IsExpression numeral (node_of at (kind.Number value raw) [])
   number_shape value None s b = absurd b
-  number_shape value (Some raw) s b = let t = number_token value raw b s in subst (λ v. IsExpression callee (node_of at (kind.Number v (Some raw)) [])) t.1 (number at raw t.0)
+  number_shape value (Some raw) s b = let t = number_token value raw b s in subst (λ v. IsExpression numeral (node_of at (kind.Number v (Some raw)) [])) t.1 (number at raw t.0)
 
   pub number_name_shape : (value : Option JsNumber) (raw : Option (List ℕ)) → is_spelled tagged (kind.Number value raw) ≡ true → IsBare (kind.Number value raw) → IsPropertyName (node_of at (kind.Number value raw) [])
   number_name_shape value None s b = absurd b

@@ -34,11 +34,11 @@ spread_formed : {r : Role} {spot : Spot} {shape : Shape} (at : Span) (cs : List 
 unfolding cover_in target_in role_in
 spread_formed at [] f h = absurd h.below
 spread_formed at (a ∷ []) f h =
-    subst (IsElement values) (sym (covered at kind.SpreadElement (a ∷ []) target.Free refl)) (spread at (assigned (child_value f.0 h.below.0 refl (proper_free 1) refl) refl))
+    subst (IsElement values) (sym (covered at kind.SpreadElement (a ∷ []) target.Free refl)) (spread at (assigned (child_value f.0 h.below.0 refl (proper_free 1)) refl))
 spread_formed at (a ∷ b ∷ cs) f h = absurd h.below.1
 
 value_formed : {shape : Shape} (n : Node) → FormedExpression n → Sound role.Free (free 1) shape n → is_expr (kind_of n) ≡ true → IsElement values (cover_at n target.Free)
-value_formed {shape} n f s is = shapes.IsElement.one (assigned (f role.Free target.Free (free 1) shape s (proper_free 1) refl refl (value_kind (kind_of n) is (seen n s).bare.1)) refl)
+value_formed {shape} n f s is = shapes.IsElement.one (assigned (f role.Free target.Free (free 1) shape s (proper_free 1) refl (value_kind (kind_of n) is (seen n s).bare.1)) refl)
 
 data ElementKind (k : Kind) : Type 0 where
   value_element : is_expr k ≡ true → ElementKind k

@@ -11,8 +11,7 @@ use Rattle.ecma_print.specs.Levels.{in_parentheses, lacks_arguments}
 use Rattle.ecma_print.specs.Expressions.{callee_spot}
 use Rattle.ecma_print.specs.Operators.{binary_level}
 use Rattle.ecma_print.specs.Places.{left}
-use Rattle.ecma_reread.specs.Shapes.{Level, chain, callee, new_callee, object}
-use Rattle.ecma_fits_reread.specs.Numerals.{is_numeral}
+use Rattle.ecma_reread.specs.Shapes.{Level, chain, callee, new_callee, numeral, object}
 use Rattle.ecma_fits_reread.proofs.Ranks.{IsWithin, member_level, new_level, own_level, rank}
 
 -- no operator of two operands does
@@ -24,7 +23,7 @@ binary_lower : {A : Type 0} (o : BinaryOp) (n : Bool) → (ltb (binary_level o) 
 binary_lower op.Exp n h = absurd (cc)
 binary_lower o n h = absurd (cc)
 
--- before brackets, arguments or a template
+-- what stands before brackets, arguments or a template, but for a numeral
 abbrev pub before_link : Bool → Level
 before_link in_callee = cond in_callee new_callee callee
 
@@ -80,46 +79,42 @@ module _ (children : List Laid) (spot : Spot) where
   at_object kind.TaggedTpl h = member_here spot.in_callee_of_new
   at_object k h = zero_first spot.in_callee_of_new
 
-  -- before brackets, arguments or a template: in the callee of `new` no numeral
-  pub at_link : (k : Kind) → (spot.in_callee_of_new && is_numeral k) ≡ false → in_parentheses k children (left spot 16 beside.BeforeLink) ≡ false
-      → IsWithin (rank (before_link spot.in_callee_of_new)) (own_level k children spot.in_callee_of_new)
-  at_link kind.SeqExpr n h = absurd (cc)
-  at_link (kind.AssignExpr o) n h = absurd (cc)
-  at_link (kind.ArrowExpr is_async is_generator) n h = absurd (cc)
-  at_link (kind.YieldExpr delegate) n h = absurd (cc)
-  at_link kind.CondExpr n h = absurd (cc)
-  at_link (kind.BinExpr o) n h = binary_low o _ h
-  at_link (kind.UnaryExpr o) n h = absurd (cc)
-  at_link kind.AwaitExpr n h = absurd (cc)
-  at_link (kind.UpdateExpr o prefix) n h = absurd (cc)
-  at_link (kind.OptChainExpr optional) n h = absurd (cc)
-  at_link (kind.Number value raw) n h = numeral spot.in_callee_of_new n
-    where
-      numeral : (c : Bool) → (c && true) ≡ false → IsWithin (rank (before_link c)) callee
-      numeral true e = absurd (cc)
-      numeral false e = refl
-  at_link kind.CallExpr n h = call_linked spot.in_callee_of_new h
-  at_link kind.NewExpr n h = new_here (lacks_arguments children) (rank (before_link spot.in_callee_of_new)) (zero_linked spot.in_callee_of_new) (alone_false (lacks_arguments children) h)
-  at_link kind.MemberExpr n h = member_linked spot.in_callee_of_new
-  at_link kind.TaggedTpl n h = member_linked spot.in_callee_of_new
-  at_link k n h = zero_linked spot.in_callee_of_new
+  -- before brackets, arguments or a template
+  pub at_link : (k : Kind) → in_parentheses k children (left spot 16 beside.BeforeLink) ≡ false
+      → (own_level k children spot.in_callee_of_new ≡ numeral) ⊎ IsWithin (rank (before_link spot.in_callee_of_new)) (own_level k children spot.in_callee_of_new)
+  at_link kind.SeqExpr h = absurd (cc)
+  at_link (kind.AssignExpr o) h = absurd (cc)
+  at_link (kind.ArrowExpr is_async is_generator) h = absurd (cc)
+  at_link (kind.YieldExpr delegate) h = absurd (cc)
+  at_link kind.CondExpr h = absurd (cc)
+  at_link (kind.BinExpr o) h = binary_low o _ h
+  at_link (kind.UnaryExpr o) h = absurd (cc)
+  at_link kind.AwaitExpr h = absurd (cc)
+  at_link (kind.UpdateExpr o prefix) h = absurd (cc)
+  at_link (kind.OptChainExpr optional) h = absurd (cc)
+  at_link (kind.Number value raw) h = inl refl
+  at_link kind.CallExpr h = inr (call_linked spot.in_callee_of_new h)
+  at_link kind.NewExpr h = inr (new_here (lacks_arguments children) (rank (before_link spot.in_callee_of_new)) (zero_linked spot.in_callee_of_new) (alone_false (lacks_arguments children) h))
+  at_link kind.MemberExpr h = inr (member_linked spot.in_callee_of_new)
+  at_link kind.TaggedTpl h = inr (member_linked spot.in_callee_of_new)
+  at_link k h = inr (zero_linked spot.in_callee_of_new)
 
-  -- the callee of `new`
-  pub at_callee_of_new : (k : Kind) → is_numeral k ≡ false → in_parentheses k children (callee_spot spot) ≡ false → IsWithin 0 (own_level k children true)
-  at_callee_of_new kind.SeqExpr n h = absurd (cc)
-  at_callee_of_new (kind.AssignExpr o) n h = absurd (cc)
-  at_callee_of_new (kind.ArrowExpr is_async is_generator) n h = absurd (cc)
-  at_callee_of_new (kind.YieldExpr delegate) n h = absurd (cc)
-  at_callee_of_new kind.CondExpr n h = absurd (cc)
-  at_callee_of_new (kind.BinExpr o) n h = binary_lower o _ h
-  at_callee_of_new (kind.UnaryExpr o) n h = absurd (cc)
-  at_callee_of_new kind.AwaitExpr n h = absurd (cc)
-  at_callee_of_new (kind.UpdateExpr o prefix) n h = absurd (cc)
-  at_callee_of_new (kind.OptChainExpr optional) n h = absurd (cc)
-  at_callee_of_new (kind.Number value raw) n h = absurd (cc)
-  at_callee_of_new kind.CallExpr n h = absurd (cc)
-  at_callee_of_new kind.NewExpr n h = new_here (lacks_arguments children) 0 refl (alone_false (lacks_arguments children) h)
-  at_callee_of_new k n h = refl
+  -- what `new` constructs
+  pub at_constructor : (k : Kind) → in_parentheses k children (callee_spot spot) ≡ false → (own_level k children true ≡ numeral) ⊎ IsWithin 0 (own_level k children true)
+  at_constructor kind.SeqExpr h = absurd (cc)
+  at_constructor (kind.AssignExpr o) h = absurd (cc)
+  at_constructor (kind.ArrowExpr is_async is_generator) h = absurd (cc)
+  at_constructor (kind.YieldExpr delegate) h = absurd (cc)
+  at_constructor kind.CondExpr h = absurd (cc)
+  at_constructor (kind.BinExpr o) h = binary_lower o _ h
+  at_constructor (kind.UnaryExpr o) h = absurd (cc)
+  at_constructor kind.AwaitExpr h = absurd (cc)
+  at_constructor (kind.UpdateExpr o prefix) h = absurd (cc)
+  at_constructor (kind.OptChainExpr optional) h = absurd (cc)
+  at_constructor (kind.Number value raw) h = inl refl
+  at_constructor kind.CallExpr h = absurd (cc)
+  at_constructor kind.NewExpr h = inr (new_here (lacks_arguments children) 0 refl (alone_false (lacks_arguments children) h))
+  at_constructor k h = inr refl
 
   -- the object or the callee of a link of an optional chain
   pub at_base : (k : Kind) → spot.in_callee_of_new ≡ false → in_parentheses k children (left spot 16 beside.InChain) ≡ false → (own_level k children false ≡ chain) ⊎ IsWithin 2 (own_level k children false)

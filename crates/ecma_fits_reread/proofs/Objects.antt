@@ -36,7 +36,7 @@ module _ (at : Span) where
   unfolding cover_in target_in role_in
   computed_formed [] f h = absurd h.below
   computed_formed (a ∷ []) f h =
-      subst IsPropertyName (sym (covered at kind.ComputedPropName (a ∷ []) target.Free refl)) (computed_name at (assigned (child_value f.0 h.below.0 refl (proper_free 1) refl) refl))
+      subst IsPropertyName (sym (covered at kind.ComputedPropName (a ∷ []) target.Free refl)) (computed_name at (assigned (child_value f.0 h.below.0 refl (proper_free 1)) refl))
   computed_formed (a ∷ b ∷ cs) f h = absurd h.below.1
 
   pub property_name_formed : (k : Kind) (cs : List Node) → AllFormed cs → Here role.Free (free 1) (one sort.PropName) at k cs → IsPropertyName (cover_at (node_of at k cs) target.Free)
@@ -55,14 +55,14 @@ module _ (at : Span) where
   key_value_formed (a ∷ []) f h = absurd h.below.1
   key_value_formed (a ∷ b ∷ []) f h =
       subst (IsProperty values) (sym (covered at kind.KeyValueProp (a ∷ b ∷ []) target.Free refl))
-      (key_value at (f.0.property_name h.below.0) (assigned (child_value f.1.0 h.below.1.0 refl (proper_free 1) refl) refl))
+      (key_value at (f.0.property_name h.below.0) (assigned (child_value f.1.0 h.below.1.0 refl (proper_free 1)) refl))
   key_value_formed (a ∷ b ∷ c ∷ cs) f h = absurd h.below.1.1
 
   spread_formed : (cs : List Node) → AllFormed cs → Here role.Free (free 1) (one sort.PropOrSpread) at kind.SpreadElement cs → IsProperty values (cover_at (node_of at kind.SpreadElement cs) target.Free)
   unfolding cover_in target_in role_in
   spread_formed [] f h = absurd h.below
   spread_formed (a ∷ []) f h =
-      subst (IsProperty values) (sym (covered at kind.SpreadElement (a ∷ []) target.Free refl)) (spread_property at (assigned (child_value f.0 h.below.0 refl (proper_free 1) refl) refl))
+      subst (IsProperty values) (sym (covered at kind.SpreadElement (a ∷ []) target.Free refl)) (spread_property at (assigned (child_value f.0 h.below.0 refl (proper_free 1)) refl))
   spread_formed (a ∷ b ∷ cs) f h = absurd h.below.1
 
   -- `name = value` stands in no object

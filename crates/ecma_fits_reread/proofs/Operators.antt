@@ -22,7 +22,7 @@ use Rattle.ecma_fits_reread.proofs.Covered.{covered_children}
 use Rattle.ecma_fits_reread.proofs.Ranks.{own_level, to_short_circuit, to_unary}
 use Rattle.ecma_fits_reread.proofs.Seats.{at_test}
 use Rattle.ecma_fits_reread.proofs.Sound.{Here}
-use Rattle.ecma_fits_reread.proofs.Spots.{and_false, assigned, child_value, low_outside, proper_left, proper_right, tight}
+use Rattle.ecma_fits_reread.proofs.Spots.{assigned, child_value, low_outside, proper_left, proper_right, tight}
 
 signs : (o : UnaryOp) → is_of_link (unary_sign o) ≡ false
 signs Minus = refl
@@ -34,7 +34,7 @@ module _ {r : Role} {spot : Spot} {shape : Shape} (t : Target) (at : Span) where
   unfolding cover_in target_in role_in
   unary_formed o [] f h = absurd h.below
   unary_formed o (a ∷ []) f h =
-      let e = child_value f.0 h.below.0 refl (proper_right spot 14 (unary_sign o) (signs o)) refl in
+      let e = child_value f.0 h.below.0 refl (proper_right spot 14 (unary_sign o) (signs o)) in
       unary_expression at o (to_unary (own_level e.kind e.children false) (tight e (omega arith) (omega arith)) e.shape)
   unary_formed o (a ∷ b ∷ cs) f h = absurd h.below.1
 
@@ -42,7 +42,7 @@ module _ {r : Role} {spot : Spot} {shape : Shape} (t : Target) (at : Span) where
   unfolding cover_in target_in role_in
   await_formed [] f h = absurd h.below
   await_formed (a ∷ []) f h =
-      let e = child_value f.0 h.below.0 refl (proper_right spot 14 beside.NoNeighbor refl) refl in
+      let e = child_value f.0 h.below.0 refl (proper_right spot 14 beside.NoNeighbor refl) in
       await_expression at (to_unary (own_level e.kind e.children false) (tight e (omega arith) (omega arith)) e.shape)
   await_formed (a ∷ b ∷ cs) f h = absurd h.below.1
 
@@ -53,8 +53,8 @@ module _ {r : Role} {spot : Spot} {shape : Shape} (t : Target) (at : Span) where
   conditional_formed (a ∷ b ∷ []) f h p = absurd h.below.1.1
   conditional_formed (a ∷ b ∷ c ∷ []) f h p =
       let out = low_outside kind.CondExpr (map laid (a ∷ b ∷ c ∷ [])) spot p refl h.open_there in
-      let x = child_value f.0 h.below.0 refl (proper_left spot 3 beside.NoNeighbor out refl) (and_false spot.in_callee_of_new _ out) in
-      let y = child_value f.1.0 h.below.1.0 refl (proper_right spot 1 beside.NoNeighbor refl) refl in
-      let z = child_value f.1.1.0 h.below.1.1.0 refl (proper_right spot 1 beside.NoNeighbor refl) refl in
+      let x = child_value f.0 h.below.0 refl (proper_left spot 3 beside.NoNeighbor out refl) in
+      let y = child_value f.1.0 h.below.1.0 refl (proper_right spot 1 beside.NoNeighbor refl) in
+      let z = child_value f.1.1.0 h.below.1.1.0 refl (proper_right spot 1 beside.NoNeighbor refl) in
       conditional_expression at (to_short_circuit (own_level x.kind x.children spot.in_callee_of_new) (at_test x.children spot.in_callee_of_new x.kind (level_open x)) x.shape) (assigned y refl) (assigned z refl)
   conditional_formed (a ∷ b ∷ c ∷ d ∷ cs) f h p = absurd h.below.1.1.1

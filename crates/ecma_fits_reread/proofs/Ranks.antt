@@ -7,7 +7,7 @@ use Rattle.ecma_kind.specs.declared.operators.BinaryOp.TheVariants as op
 use Rattle.ecma_tree.specs.declared.node.Node.{Node}
 use Rattle.ecma_print.specs.Laid.{Laid}
 use Rattle.ecma_print.specs.Levels.{lacks_arguments}
-use Rattle.ecma_reread.specs.Shapes.{Level, new_callee, object, callee, chain, left_hand_side, update, unary, power, product, sum, shift, relation, equality, bit_and, bit_xor, bit_or, logical_and, logical_or, coalescing, short_circuit, assignment, sequence, IsExpression, looser}
+use Rattle.ecma_reread.specs.Shapes.{Level, new_callee, object, numeral, callee, chain, left_hand_side, update, unary, power, product, sum, shift, relation, equality, bit_and, bit_xor, bit_or, logical_and, logical_or, coalescing, short_circuit, assignment, sequence, IsExpression, looser}
 
 -- of an operator
 abbrev pub operator_level : BinaryOp → Level
@@ -58,15 +58,16 @@ own_level (kind.UpdateExpr o prefix) children in_callee = update
 own_level (kind.OptChainExpr optional) children in_callee = chain
 own_level kind.CallExpr children in_callee = object
 own_level kind.NewExpr children in_callee = new_level (lacks_arguments children)
-own_level (kind.Number value raw) children in_callee = callee
+own_level (kind.Number value raw) children in_callee = numeral
 own_level kind.MemberExpr children in_callee = member_level in_callee
 own_level kind.TaggedTpl children in_callee = member_level in_callee
 own_level k children in_callee = new_callee
 
--- the levels one behind the other
+-- the levels one behind the other; a numeral is beside a callee
 abbrev pub rank : Level → ℕ
 rank new_callee = 0
 rank object = 1
+rank numeral = 2
 rank callee = 2
 rank chain = 3
 rank left_hand_side = 4
@@ -99,6 +100,7 @@ module _ {e : Node} where
 
   pub to_callee : (a : Level) → IsWithin 2 a → IsExpression a e → IsExpression callee e
   to_callee callee h x = x
+  to_callee numeral h x = looser x
   to_callee a h x = looser (to_object a h x)
 
   pub to_left_hand_side : (a : Level) → IsWithin 4 a → IsExpression a e → IsExpression left_hand_side e

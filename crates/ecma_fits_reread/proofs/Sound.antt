@@ -3,7 +3,7 @@ use Rattle.std.proofs.Common.{◌≡◌, ◌∙◌, refl, sym, ap, subst, ℕ, s
 use Rattle.ecma_kind.specs.declared.span.Span.{Span}
 use Rattle.ecma_kind.specs.declared.kind.Kind.{Kind}
 use Rattle.ecma_kind.specs.declared.shapes.Shape.{Shape}
-use Rattle.ecma_tree.specs.declared.node.Node.{Node, fold-roll-Node, out-Node}
+use Rattle.ecma_tree.specs.declared.node.Node.{Node, out-Node}
 use Rattle.ecma_tree.specs.declared.node.Node.TheViews.{out-roll-Node}
 use Rattle.ecma_tree.specs.Laws.{HaveShapes}
 use Rattle.ecma_tree.specs.Nodes.{node_of}
@@ -27,7 +27,6 @@ use Rattle.ecma_parentheses.specs.Lacking.{all_complete, complete}
 use Rattle.ecma_parentheses.specs.Spots.{first_spots, further_spot}
 use Rattle.ecma_parentheses.proofs.Lacks.{complete_in}
 use Rattle.ecma_fits_reread.specs.Forms.{IsTaken}
-use Rattle.ecma_fits_reread.specs.Numerals.{Numerals, any_constructed, first_begins, is_new, is_numeral, has_object, numerals, numerals_step}
 
 -- it fits where it has this role, whatever else stands around
 abbrev pub FitsAs : Role → Node → Type 0
@@ -38,7 +37,6 @@ pub record Sound (r : Role) (spot : Spot) (shape : Shape) (n : Node) : Type 0 wh
   pub fitting : FitsAs r n
   pub complete : (complete n).at spot ≡ true
   pub bare : Everywhere IsTaken n
-  pub unconstructed : (numerals n).constructed ≡ false
 
 -- nodes by their roles, spots and shapes: the first ones in these spots, all others in this one
 abbrev pub AllSound : (ℕ → Role) → List Spot → Spot → List Shape → List Node → Type 0
@@ -54,7 +52,6 @@ pub record Here (r : Role) (spot : Spot) (shape : Shape) (at : Span) (k : Kind) 
   pub in_role : is_out_of_role r (node_of at k cs) ≡ false
   pub spelled : is_spelled (is_tagged r) k ≡ true
   pub bare : IsTaken k
-  pub unconstructed : (is_new k && first_begins (map numerals cs)) ≡ false
   pub open_there : in_parentheses k (map laid cs) spot ≡ false
   pub below : AllSound (role_in r k) (first_spots k (map laid cs) spot) (further_spot k spot) (child_shapes k shape (length cs)) cs
 
@@ -63,12 +60,6 @@ kind_made at k cs = ap (λ p. p.kind) (out-roll-Node (record { span = at; kind =
 
 pub children_made : (at : Span) (k : Kind) (cs : List Node) → (out-Node (node_of at k cs)).children ≡ cs
 children_made at k cs = ap (λ p. p.children) (out-roll-Node (record { span = at; kind = k; children = cs }))
-
-pub numerals_made : (at : Span) (k : Kind) (cs : List Node) → numerals (node_of at k cs) ≡ record {
-  first = is_numeral k || (has_object k && first_begins (map numerals cs));
-  constructed = any_constructed (map numerals cs) || (is_new k && first_begins (map numerals cs));
-}
-numerals_made at k cs = fold-roll-Node Numerals numerals_step (record { span = at; kind = k; children = cs })
 
 and_parts : (a b : Bool) → (a && b) ≡ true → (a ≡ true) × (b ≡ true)
 and_parts true b h = (refl, h)
@@ -109,25 +100,23 @@ bare_parts : {n : Node} {ns : List Node} → Each IsTaken (n ∷ ns) → Everywh
 bare_parts (more a h) = (a, h)
 
 all_sound : (roles : ℕ → Role) (spots : List Spot) (further : Spot) (shapes : List Shape) (ns : List Node) (where_of : ℕ → Where) → ((i : ℕ) → (where_of i).role ≡ roles i)
-    → HaveShapes shapes ns → least_from Where where_of 0 (map first_unfit_in ns) ≡ None → all_complete (map complete ns) spots further ≡ true → Each IsTaken ns → any_constructed (map numerals ns) ≡ false → AllSound roles spots further shapes ns
-all_sound roles spots further [] [] where_of e h f c b z = tt
-all_sound roles spots further [] (n ∷ ns) where_of e h f c b z = absurd h
-all_sound roles spots further (shape ∷ shapes) [] where_of e h f c b z = absurd h
-all_sound roles [] further (shape ∷ shapes) (n ∷ ns) where_of e h f c b z =
+    → HaveShapes shapes ns → least_from Where where_of 0 (map first_unfit_in ns) ≡ None → all_complete (map complete ns) spots further ≡ true → Each IsTaken ns → AllSound roles spots further shapes ns
+all_sound roles spots further [] [] where_of e h f c b = tt
+all_sound roles spots further [] (n ∷ ns) where_of e h f c b = absurd h
+all_sound roles spots further (shape ∷ shapes) [] where_of e h f c b = absurd h
+all_sound roles [] further (shape ∷ shapes) (n ∷ ns) where_of e h f c b =
     let v = neither_least (first_unfit_in n (where_of 0)) (least_from Where where_of 1 (map first_unfit_in ns)) f in
     let u = and_parts ((complete n).at further) (all_complete (map complete ns) [] further) c in
-    let p = bare_parts b in
-    let m = neither (numerals n).constructed (any_constructed (map numerals ns)) z in (
-      record { shaped = h.0; fitting = (where_of 0, e 0, v.0); complete = u.0; bare = p.0; unconstructed = m.0 },
-      all_sound (λ i. roles (suc i)) [] further shapes ns (λ i. where_of (suc i)) (λ i. e (suc i)) h.1 (sym (shifted Where where_of 0 (map first_unfit_in ns)) ∙ v.1) u.1 p.1 m.1,
+    let p = bare_parts b in (
+      record { shaped = h.0; fitting = (where_of 0, e 0, v.0); complete = u.0; bare = p.0 },
+      all_sound (λ i. roles (suc i)) [] further shapes ns (λ i. where_of (suc i)) (λ i. e (suc i)) h.1 (sym (shifted Where where_of 0 (map first_unfit_in ns)) ∙ v.1) u.1 p.1,
     )
-all_sound roles (spot ∷ spots) further (shape ∷ shapes) (n ∷ ns) where_of e h f c b z =
+all_sound roles (spot ∷ spots) further (shape ∷ shapes) (n ∷ ns) where_of e h f c b =
     let v = neither_least (first_unfit_in n (where_of 0)) (least_from Where where_of 1 (map first_unfit_in ns)) f in
     let u = and_parts ((complete n).at spot) (all_complete (map complete ns) spots further) c in
-    let p = bare_parts b in
-    let m = neither (numerals n).constructed (any_constructed (map numerals ns)) z in (
-      record { shaped = h.0; fitting = (where_of 0, e 0, v.0); complete = u.0; bare = p.0; unconstructed = m.0 },
-      all_sound (λ i. roles (suc i)) spots further shapes ns (λ i. where_of (suc i)) (λ i. e (suc i)) h.1 (sym (shifted Where where_of 0 (map first_unfit_in ns)) ∙ v.1) u.1 p.1 m.1,
+    let p = bare_parts b in (
+      record { shaped = h.0; fitting = (where_of 0, e 0, v.0); complete = u.0; bare = p.0 },
+      all_sound (λ i. roles (suc i)) spots further shapes ns (λ i. where_of (suc i)) (λ i. e (suc i)) h.1 (sym (shifted Where where_of 0 (map first_unfit_in ns)) ∙ v.1) u.1 p.1,
     )
 
 bare_node : {n : Node} → Everywhere IsTaken n → IsTaken (kind_of n) × Each IsTaken (out-Node n).children
@@ -142,15 +131,13 @@ here r spot shape at k cs s =
     let own_parts = unfit_parts w (node_of at k cs) walk.0 in
     let completed = and_parts (not (in_parentheses k (map laid cs) spot)) (all_complete (map complete cs) (first_spots k (map laid cs) spot) (further_spot k spot)) (sym (complete_in at k cs spot) ∙ s.complete) in
     let said = bare_node s.bare in
-    let counted = neither (any_constructed (map numerals cs)) (is_new k && first_begins (map numerals cs)) (sym (ap (λ m. m.constructed) (numerals_made at k cs)) ∙ s.unconstructed) in
     record {
       allowed = shapes.0;
       whole = own_parts.0;
       in_role = subst (λ z. is_out_of_role z (node_of at k cs) ≡ false) role_is own_parts.1;
       spelled = subst (λ z. is_spelled (is_tagged z) k ≡ true) role_is (subst (λ z. is_spelled (is_tagged w.role) z ≡ true) (kind_made at k cs) own_parts.2);
       bare = subst IsTaken (kind_made at k cs) said.0;
-      unconstructed = counted.1;
       open_there = not_true (in_parentheses k (map laid cs) spot) completed.0;
       below = all_sound (role_in r k) (first_spots k (map laid cs) spot) (further_spot k spot) (child_shapes k shape (length cs)) cs (where_in w (node_of at k cs)) (λ i. role_below at k cs w i ∙ ap (λ z. role_in z k i) role_is)
-          shapes.1 walk.1 completed.1 (subst (Each IsTaken) (children_made at k cs) said.1) counted.0;
+          shapes.1 walk.1 completed.1 (subst (Each IsTaken) (children_made at k cs) said.1);
     }

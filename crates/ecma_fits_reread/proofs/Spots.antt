@@ -1,5 +1,5 @@
 -- The spots in which expressions stand.
-use Rattle.std.proofs.Common.{◌≡◌, refl, subst, ℕ, ◌-◌, ◌≤◌, Bool, true, false, ◌&&◌, List, arith, ltb, nat_le}
+use Rattle.std.proofs.Common.{◌≡◌, refl, subst, ℕ, ◌-◌, ◌≤◌, Bool, true, false, List, arith, ltb, nat_le}
 use Rattle.std.proofs.lemmas.Bool.Decides.{leb_tells, nat_tests}
 use Rattle.ecma_kind.specs.declared.kind.Kind.{Kind}
 use Rattle.ecma_kind.specs.declared.shapes.Sort.TheVariants as sort
@@ -17,7 +17,6 @@ use Rattle.ecma_print.specs.Levels.{in_parentheses, level_of}
 use Rattle.ecma_print.specs.Places.{beginning, ends_a_chain, free, left, right}
 use Rattle.ecma_covers.specs.Covering.{cover_at}
 use Rattle.ecma_reread.specs.Shapes.{IsExpression, assignment}
-use Rattle.ecma_fits_reread.specs.Numerals.{numerals}
 use Rattle.ecma_fits_reread.proofs.Claims.{Expressed, Formed, Proper, is_of_link, reads_values, seen, value_kind, level_open}
 use Rattle.ecma_fits_reread.proofs.Ranks.{IsWithin, own_level, to_assignment}
 use Rattle.ecma_fits_reread.proofs.Seats.{at_assignment, binds, either_parts}
@@ -54,13 +53,9 @@ low_outside k children spot p low h = go spot.in_callee_of_new refl
     go true e = absurd (above (level_of k) spot.level low (p.headed e).0 (either_parts (ltb (level_of k) spot.level) _ h).0)
     go false e = refl
 
-pub and_false : (a b : Bool) → a ≡ false → (a && b) ≡ false
-and_false true b h = cc
-and_false false b h = refl
-
 -- an expression that is a child
-pub child_value : {r : Role} {spot : Spot} {n : Node} → Formed n → Sound r spot (one sort.Expr) n → reads_values r ≡ true → Proper spot → (spot.in_callee_of_new && (numerals n).first) ≡ false → Expressed target.Free spot n
-child_value {r} {spot} {n} f s reads p first = let h = seen n s in f.expression r target.Free spot (one sort.Expr) s p first reads (value_kind (kind_of n) h.allowed h.bare.1)
+pub child_value : {r : Role} {spot : Spot} {n : Node} → Formed n → Sound r spot (one sort.Expr) n → reads_values r ≡ true → Proper spot → Expressed target.Free spot n
+child_value {r} {spot} {n} f s reads p = let h = seen n s in f.expression r target.Free spot (one sort.Expr) s p reads (value_kind (kind_of n) h.allowed h.bare.1)
 
 -- it binds as tightly as its number asks
 pub tight : {t : Target} {spot : Spot} {n : Node} (e : Expressed t spot n) → 4 ≤ spot.level → spot.level ≤ 16 → IsWithin (20 - spot.level) (own_level e.kind e.children spot.in_callee_of_new)

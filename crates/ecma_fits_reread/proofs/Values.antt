@@ -18,7 +18,6 @@ use Rattle.ecma_print.specs.Layout.{laid}
 use Rattle.ecma_print.specs.Places.{free}
 use Rattle.ecma_reread.specs.Shapes.{IsExpression, false_word, import_meta, name, new_target, null_word, this_word, true_word}
 use Rattle.ecma_fits_reread.specs.Forms.{is_of_forms}
-use Rattle.ecma_fits_reread.specs.Numerals.{numerals}
 use Rattle.ecma_fits_reread.proofs.Assignments.{assignment_formed, sequence_formed, update_formed, yield_formed}
 use Rattle.ecma_fits_reread.proofs.Binary.{binary_formed}
 use Rattle.ecma_fits_reread.proofs.Building.{built, childless, only_free, stands_as}
@@ -68,36 +67,36 @@ module _ {r : Role} {spot : Spot} {shape : Shape} (t : Target) (at : Span) where
         let allowed : is_reserved word ≡ false = sym (no_reserved r word reads) ∙ (stands_as r at k cs h).0 in
         leaf_built t at k cs h refl (no_children r cs k h.below) (name (ident_shape (is_tagged r) at word ctxt optional h.spelled h.bare.0 allowed))
 
-    pub value_by : (k : Kind) → Here r spot shape at k cs → Proper spot → (spot.in_callee_of_new && (numerals (node_of at k cs)).first) ≡ false → reads_values r ≡ true → is_value t k ≡ true → (is_expr k && is_of_forms k) ≡ true → Expressed t spot (node_of at k cs)
-    value_by (kind.Ident word ctxt optional) h p first reads is v = ident_formed word ctxt optional h reads
-    value_by (kind.Str value raw) h p first reads is v = leaf_built t at (kind.Str value raw) cs h refl (no_children r cs (kind.Str value raw) h.below) (string_shape (is_tagged r) at value raw h.spelled h.bare.0)
-    value_by (kind.Number value raw) h p first reads is v = leaf_built t at (kind.Number value raw) cs h refl (no_children r cs (kind.Number value raw) h.below) (number_shape (is_tagged r) at value raw h.spelled h.bare.0)
-    value_by (kind.Bool true) h p first reads is v = leaf_built t at (kind.Bool true) cs h refl (no_children r cs (kind.Bool true) h.below) (true_word at)
-    value_by (kind.Bool false) h p first reads is v = leaf_built t at (kind.Bool false) cs h refl (no_children r cs (kind.Bool false) h.below) (false_word at)
-    value_by kind.Null h p first reads is v = leaf_built t at kind.Null cs h refl (no_children r cs kind.Null h.below) (null_word at)
-    value_by kind.ThisExpr h p first reads is v = leaf_built t at kind.ThisExpr cs h refl (no_children r cs kind.ThisExpr h.below) (this_word at)
-    value_by (kind.MetaPropExpr NewTarget) h p first reads is v = leaf_built t at (kind.MetaPropExpr NewTarget) cs h refl (no_children r cs (kind.MetaPropExpr NewTarget) h.below) (new_target at)
-    value_by (kind.MetaPropExpr ImportMeta) h p first reads is v = leaf_built t at (kind.MetaPropExpr ImportMeta) cs h refl (no_children r cs (kind.MetaPropExpr ImportMeta) h.below) (import_meta at)
-    value_by kind.ParenExpr h p first reads is v = built t at kind.ParenExpr cs h refl (parenthesized_formed t at cs f h)
-    value_by (kind.UnaryExpr o) h p first reads is v = built t at (kind.UnaryExpr o) cs h refl (unary_formed t at o cs f h)
-    value_by (kind.UpdateExpr o prefix) h p first reads is v = built t at (kind.UpdateExpr o prefix) cs h refl (update_formed t at o prefix cs f h p)
-    value_by kind.AwaitExpr h p first reads is v = built t at kind.AwaitExpr cs h refl (await_formed t at cs f h)
-    value_by (kind.BinExpr o) h p first reads is v = built t at (kind.BinExpr o) cs h refl (binary_formed t at o cs f h p)
-    value_by kind.CondExpr h p first reads is v = built t at kind.CondExpr cs h refl (conditional_formed t at cs f h p)
-    value_by kind.SeqExpr h p first reads is v = built t at kind.SeqExpr cs h refl (sequence_formed t at cs f h p)
-    value_by (kind.YieldExpr delegate) h p first reads is v = built t at (kind.YieldExpr delegate) cs h refl (yield_formed t at delegate cs f h)
-    value_by (kind.AssignExpr o) h p first reads is v =
+    pub value_by : (k : Kind) → Here r spot shape at k cs → Proper spot → reads_values r ≡ true → is_value t k ≡ true → (is_expr k && is_of_forms k) ≡ true → Expressed t spot (node_of at k cs)
+    value_by (kind.Ident word ctxt optional) h p reads is v = ident_formed word ctxt optional h reads
+    value_by (kind.Str value raw) h p reads is v = leaf_built t at (kind.Str value raw) cs h refl (no_children r cs (kind.Str value raw) h.below) (string_shape (is_tagged r) at value raw h.spelled h.bare.0)
+    value_by (kind.Number value raw) h p reads is v = leaf_built t at (kind.Number value raw) cs h refl (no_children r cs (kind.Number value raw) h.below) (number_shape (is_tagged r) at value raw h.spelled h.bare.0)
+    value_by (kind.Bool true) h p reads is v = leaf_built t at (kind.Bool true) cs h refl (no_children r cs (kind.Bool true) h.below) (true_word at)
+    value_by (kind.Bool false) h p reads is v = leaf_built t at (kind.Bool false) cs h refl (no_children r cs (kind.Bool false) h.below) (false_word at)
+    value_by kind.Null h p reads is v = leaf_built t at kind.Null cs h refl (no_children r cs kind.Null h.below) (null_word at)
+    value_by kind.ThisExpr h p reads is v = leaf_built t at kind.ThisExpr cs h refl (no_children r cs kind.ThisExpr h.below) (this_word at)
+    value_by (kind.MetaPropExpr NewTarget) h p reads is v = leaf_built t at (kind.MetaPropExpr NewTarget) cs h refl (no_children r cs (kind.MetaPropExpr NewTarget) h.below) (new_target at)
+    value_by (kind.MetaPropExpr ImportMeta) h p reads is v = leaf_built t at (kind.MetaPropExpr ImportMeta) cs h refl (no_children r cs (kind.MetaPropExpr ImportMeta) h.below) (import_meta at)
+    value_by kind.ParenExpr h p reads is v = built t at kind.ParenExpr cs h refl (parenthesized_formed t at cs f h)
+    value_by (kind.UnaryExpr o) h p reads is v = built t at (kind.UnaryExpr o) cs h refl (unary_formed t at o cs f h)
+    value_by (kind.UpdateExpr o prefix) h p reads is v = built t at (kind.UpdateExpr o prefix) cs h refl (update_formed t at o prefix cs f h p)
+    value_by kind.AwaitExpr h p reads is v = built t at kind.AwaitExpr cs h refl (await_formed t at cs f h)
+    value_by (kind.BinExpr o) h p reads is v = built t at (kind.BinExpr o) cs h refl (binary_formed t at o cs f h p)
+    value_by kind.CondExpr h p reads is v = built t at kind.CondExpr cs h refl (conditional_formed t at cs f h p)
+    value_by kind.SeqExpr h p reads is v = built t at kind.SeqExpr cs h refl (sequence_formed t at cs f h p)
+    value_by (kind.YieldExpr delegate) h p reads is v = built t at (kind.YieldExpr delegate) cs h refl (yield_formed t at delegate cs f h)
+    value_by (kind.AssignExpr o) h p reads is v =
         subst (λ z. Expressed z spot (node_of at (kind.AssignExpr o) cs)) (sym (only_free t (kind.AssignExpr o) refl is)) (built target.Free at (kind.AssignExpr o) cs h refl (assignment_formed at o cs f h p))
-    value_by kind.ArrayLit h p first reads is v =
+    value_by kind.ArrayLit h p reads is v =
         subst (λ z. Expressed z spot (node_of at kind.ArrayLit cs)) (sym (only_free t kind.ArrayLit refl is)) (built target.Free at kind.ArrayLit cs h refl (array_formed at cs f h))
-    value_by kind.ObjectLit h p first reads is v =
+    value_by kind.ObjectLit h p reads is v =
         subst (λ z. Expressed z spot (node_of at kind.ObjectLit cs)) (sym (only_free t kind.ObjectLit refl is)) (built target.Free at kind.ObjectLit cs h refl (object_formed at cs f h))
-    value_by kind.MemberExpr h p first reads is v = built t at kind.MemberExpr cs h refl (member_formed t at cs f h p first)
-    value_by kind.SuperPropExpr h p first reads is v = built t at kind.SuperPropExpr cs h refl (super_formed t at cs f h)
-    value_by kind.CallExpr h p first reads is v = built t at kind.CallExpr cs h refl (call_formed t at cs f h)
-    value_by kind.NewExpr h p first reads is v = built t at kind.NewExpr cs h refl (new_formed t at cs f h)
-    value_by (kind.OptChainExpr asks) h p first reads is v = built t at (kind.OptChainExpr asks) cs h refl (chain_formed t at asks cs f h p)
-    value_by k h p first reads is v = absurd (no v)
+    value_by kind.MemberExpr h p reads is v = built t at kind.MemberExpr cs h refl (member_formed t at cs f h p)
+    value_by kind.SuperPropExpr h p reads is v = built t at kind.SuperPropExpr cs h refl (super_formed t at cs f h)
+    value_by kind.CallExpr h p reads is v = built t at kind.CallExpr cs h refl (call_formed t at cs f h)
+    value_by kind.NewExpr h p reads is v = built t at kind.NewExpr cs h refl (new_formed t at cs f h)
+    value_by (kind.OptChainExpr asks) h p reads is v = built t at (kind.OptChainExpr asks) cs h refl (chain_formed t at asks cs f h p)
+    value_by k h p reads is v = absurd (no v)
       where
         no : false ≡ true → ⊥
         no z = cc

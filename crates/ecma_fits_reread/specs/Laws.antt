@@ -1,5 +1,5 @@
 -- Laws of the shapes of what fits.
-use Rattle.std.specs.Prelude.{◌≡◌, true, false, None}
+use Rattle.std.specs.Prelude.{◌≡◌, true, None}
 use Rattle.ecma_kind.specs.declared.shapes.Sort.TheVariants as sort
 use Rattle.ecma_tree.specs.declared.node.Node.{Node}
 use Rattle.ecma_tree.specs.Sorted.{HasSort}
@@ -11,10 +11,8 @@ use Rattle.ecma_fits.specs.Fitting.{first_unfit_in}
 use Rattle.ecma_parentheses.specs.Lacking.{lacks_none}
 use Rattle.ecma_reread.specs.Shapes.{IsExpression, Level}
 use Rattle.ecma_fits_reread.specs.Forms.{IsTaken}
-use Rattle.ecma_fits_reread.specs.Numerals.{numerals}
 
--- an expression that fits where nothing is declared or assigned to, lacks no parentheses, is of these forms and constructs no numeral: the raw tree of it has
--- the shape of an expression
+-- an expression that fits where nothing is declared or assigned to, lacks no parentheses and is of these forms: the raw tree of it has the shape of an
+-- expression
 abbrev pub ExpressionsHaveTheirShapes : Type 0
-ExpressionsHaveTheirShapes = (n : Node) (w : Where) → w.role ≡ role.Free → HasSort sort.Expr n → first_unfit_in n w ≡ None → lacks_none n ≡ true → Everywhere IsTaken n → (numerals n).constructed ≡ false
-    → (level : Level) × IsExpression level (cover n)
+ExpressionsHaveTheirShapes = (n : Node) (w : Where) → w.role ≡ role.Free → HasSort sort.Expr n → first_unfit_in n w ≡ None → lacks_none n ≡ true → Everywhere IsTaken n → (level : Level) × IsExpression level (cover n)
