@@ -58,10 +58,10 @@ module _ (p q r : Place) (both : (w : Where) (n : Node) → p w n ≡ None → q
 abbrev by : (Where → Node → Bool) → Place
 by fails w n = failing_here (fails w n) n
 
-abbrev either : (Where → Node → Bool) → (Where → Node → Bool) → Where → Node → Bool
+abbrev pub either : (Where → Node → Bool) → (Where → Node → Bool) → Where → Node → Bool
 either f g w n = f w n || g w n
 
-either_none : (f g : Where → Node → Bool) (tree : Node) → NoneFails f tree → NoneFails g tree → NoneFails (either f g) tree
+pub either_none : (f g : Where → Node → Bool) (tree : Node) → NoneFails f tree → NoneFails g tree → NoneFails (either f g) tree
 either_none f g tree = follows (by f) (by g) (by (either f g)) (λ w n a b. join (f w n) (g w n) n a b) tree at_top
   where
     join : (a b : Bool) (n : Node) → failing_here a n ≡ None → failing_here b n ≡ None → failing_here (a || b) n ≡ None

@@ -55,6 +55,11 @@ pub mod RoleLeaves
 pub mod RoleChecks
 pub mod RoleReads
 pub mod ReadRoles
+pub mod LineFeeds
+pub mod LiteralParts
+pub mod LiteralFeeds
+pub mod TemplateFeeds
+pub mod RawTexts
 pub mod ReadRegexes
 pub mod ReadHashbangs
 pub mod Programs

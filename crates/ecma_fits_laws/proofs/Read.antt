@@ -1,8 +1,8 @@
--- What is read as a module keeps the rules, and its names, keys, literals and regular expressions are spelled.
-use Rattle.std.proofs.Common.{◌≡◌, ◌∙◌, ◌<◌, ℕ, suc, Bool, true, false, not, ◌&&◌, List, [], ◌∷◌, map, length, Option, None, Ok, refl, sym, ap, subst}
+-- What is read as a module keeps the rules, and its leaves are spelled.
+use Rattle.std.proofs.Common.{◌≡◌, ◌∙◌, ◌<◌, ℕ, suc, Bool, true, false, not, ◌&&◌, List, [], ◌∷◌, map, length, Option, Some, None, Ok, refl, sym, ap, subst}
 use Rattle.std.specs.List.{list_all}
 use Rattle.std.specs.Str.{IsUtf8}
-use Rattle.std.proofs.lemmas.Bool.{and_parts}
+use Rattle.std.proofs.lemmas.Bool.{and_parts, not-false}
 use Rattle.ecma_kind.specs.declared.kind.Kind.{Kind}
 use Rattle.ecma_kind.specs.declared.kind.Kind.TheVariants as kind
 use Rattle.ecma_kind.specs.declared.shapes.Shape.{Shape}
@@ -28,23 +28,28 @@ use Rattle.ecma_spelling.specs.Everywhere.{Each, Everywhere, more, none}
 use Rattle.ecma_spelling.proofs.Forms.{is_leaf}
 use Rattle.ecma_spelling.proofs.Trees.{children_good, good_absent, good_framed, kind_good}
 use Rattle.ecma_text_laws.specs.Sorts.{ReadModulesAreSorted}
-use Rattle.ecma_leaves.specs.Words.{is_spelled}
+use Rattle.ecma_leaves.specs.Words.{is_spelled, is_text_part}
 use Rattle.ecma_fits.specs.declared.unfit.Where.{Where}
 use Rattle.ecma_fits.specs.Fitting.{at_top, where_in}
 use Rattle.ecma_fits.specs.Roles.{is_tagged}
-use Rattle.ecma_fits_laws.specs.Clauses.{NoneFails}
-use Rattle.ecma_fits_laws.specs.Read.{KeepsRules, ReadLeavesAreSpelled, ReadTreesKeepRules, is_told, is_told_wrong}
+use Rattle.ecma_fits_laws.specs.Clauses.{NoneFails, is_misspelled}
+use Rattle.ecma_fits_laws.specs.RawRoles.{is_unvalued}
+use Rattle.ecma_fits_laws.specs.Read.{KeepsRules, ReadLeavesAreSpelled, ReadTreesKeepRules}
+use Rattle.ecma_fits_laws.specs.ReadRoles.{RawModulesHaveTheirRoles}
+use Rattle.ecma_fits_laws.proofs.Clauses.{either, either_none, less}
 use Rattle.ecma_fits_laws.proofs.Constructors.{one_constructor}
 use Rattle.ecma_fits_laws.proofs.Everywhere.{finished_good}
+use Rattle.ecma_fits_laws.proofs.RawTexts.{untagged}
 use Rattle.ecma_fits_laws.proofs.Raws.{of_raw}
 use Rattle.ecma_fits_laws.proofs.Programs.{inner_children, inner_kind, is_inner, module_children}
 use Rattle.ecma_fits_laws.proofs.ReadHashbangs.{IsModule, module_told}
-use Rattle.ecma_fits_laws.proofs.ReadLeaves.{Told, is_program, leaf_told}
+use Rattle.ecma_fits_laws.proofs.ReadLeaves.{Told, leaf_told}
 use Rattle.ecma_fits_laws.proofs.ReadingOf.{read_holds}
 use Rattle.ecma_fits_laws.proofs.Rules.{children_made, keeps_rules}
 use Rattle.ecma_fits_laws.proofs.Standing.{kind_made}
 use Rattle.ecma_fits_laws.proofs.Strays.{no_strays}
-use Rattle.ecma_fits_laws.proofs.Walks.{both_none, free_kind, not_true, shifted}
+use Rattle.ecma_fits_laws.proofs.TextParts.{is_silent, parts_valued}
+use Rattle.ecma_fits_laws.proofs.Walks.{both_none, free_kind, neither, not_true, shifted}
 
 pub read_keeps : ReadModulesAreSorted → ReadTreesKeepRules
 read_keeps read_sorted text mode bound tree e =
@@ -57,6 +62,8 @@ read_keeps read_sorted text mode bound tree e =
 -- leaves
 
 told_other : (k : Kind) → is_leaf k ≡ false → Told k
+told_other (kind.Module shebang) h = λ is. not_true (sym is)
+told_other (kind.Script shebang) h = λ is. not_true (sym is)
 told_other (kind.Ident text ctxt optional) h = not_true (sym h)
 told_other (kind.IdentName text) h = not_true (sym h)
 told_other (kind.PrivateName text) h = not_true (sym h)
@@ -64,12 +71,13 @@ told_other (kind.Str value raw) h = not_true (sym h)
 told_other (kind.Number value raw) h = not_true (sym h)
 told_other (kind.BigInt value raw) h = not_true (sym h)
 told_other (kind.Regex exp flags) h = not_true (sym h)
-told_other _ h = λ is. not_true is
+told_other (kind.TplElement raw cooked tail) h = not_true (sym h)
+told_other _ h = λ is. refl
 
 told_question : (optional : Bool) (k : Kind) → Told k → Told (questioned_kind optional k)
 told_question optional (kind.Ident text ctxt before) p = p
-told_question optional (kind.ArrayPat before) p = λ is. not_true is
-told_question optional (kind.ObjectPat before) p = λ is. not_true is
+told_question optional (kind.ArrayPat before) p = λ is. refl
+told_question optional (kind.ObjectPat before) p = λ is. refl
 told_question optional _ p = p
 
 abbrev Good : Node → Type 0
@@ -103,30 +111,12 @@ raw_good text mode bound raw u small e = by_outcome (reads_module text mode boun
     by_outcome (fails at) h f = cc
     by_outcome (too_deep at) h f = cc
 
-tag_same : (k : Kind) (tagged : Bool) → is_told k ≡ true → is_spelled tagged k ≡ is_spelled true k
-tag_same (kind.Module shebang) tagged h = refl
-tag_same (kind.Script shebang) tagged h = refl
-tag_same (kind.Ident text ctxt optional) tagged h = refl
-tag_same (kind.IdentName text) tagged h = refl
-tag_same (kind.PrivateName text) tagged h = refl
-tag_same (kind.Str value raw) tagged h = refl
-tag_same (kind.Number value raw) tagged h = refl
-tag_same (kind.BigInt value raw) tagged h = refl
-tag_same (kind.Regex exp flags) tagged h = refl
-tag_same _ tagged h = not_true h
-
-told_right : (w : Where) (k : Kind) → (is_told k ≡ true → is_spelled true k ≡ true) → (is_told k && not (is_spelled (is_tagged w.role) k)) ≡ false
-told_right w k told = go (is_told k) refl
-  where
-    go : (b : Bool) → is_told k ≡ b → (is_told k && not (is_spelled (is_tagged w.role) k)) ≡ false
-    go true e = let s = tag_same k (is_tagged w.role) e ∙ told e in rw (e, s) refl
-    go false e = rw e refl
-
-within : (k : Kind) → Told k → is_program k ≡ false → is_told k ≡ true → is_spelled true k ≡ true
-within k told inner is = told (rw (is, inner) refl)
+-- a leaf is spelled otherwise, also where a text part may stand behind a tag
+abbrev is_untold : Where → Node → Bool
+is_untold w node = not (is_spelled true (kind_of node))
 
 abbrev walk : Node → Where → Option ℕ
-walk = first_failing Where (λ w node. failing_here (is_told_wrong w node) node) where_in
+walk = first_failing Where (λ w node. failing_here (is_untold w node) node) where_in
 
 abbrev Walks : Node → Type 0
 Walks n = (o : Shape) → is_inner o ≡ true → HasShape o n → Good n → (w : Where) → walk n w ≡ None
@@ -144,19 +134,19 @@ all_walk (e ∷ es) (o ∷ os) i s (more a h) where_of =
     both_none (walk e.0 (where_of 0)) (least_from Where where_of 1 (map walk ns)) (e.1 o p.0 s.0 a (where_of 0)) (shifted Where where_of 0 (map walk ns) ∙ all_walk es os p.1 s.1 h (λ i. where_of (suc i)))
 
 -- a node that is spelled, with such children
-whole_walks : (x : Node-F Node) → AllWalk x.children → (os : List Shape) → list_all is_inner os ≡ true → HaveShapes os x.children → (is_told x.kind ≡ true → is_spelled true x.kind ≡ true) → Good (roll-Node x) → (w : Where) → walk (roll-Node x) w ≡ None
+whole_walks : (x : Node-F Node) → AllWalk x.children → (os : List Shape) → list_all is_inner os ≡ true → HaveShapes os x.children → is_spelled true x.kind ≡ true → Good (roll-Node x) → (w : Where) → walk (roll-Node x) w ≡ None
 whole_walks x below os i s told g w =
     let n = roll-Node x in
-    let here : is_told_wrong w n ≡ false = told_right w (kind_of n) (subst (λ k. is_told k ≡ true → is_spelled true k ≡ true) (sym (kind_made x)) told) in
+    let here : is_untold w n ≡ false = ap not (ap (is_spelled true) (kind_made x) ∙ told) in
     let all : Each Told x.children = subst (Each Told) (children_made x) (children_good Told g) in
-    ap (λ f. f w) (from_leaves-roll (Where → Option ℕ) (failing_step Where (λ w node. failing_here (is_told_wrong w node) node) where_in) x)
-    ∙ both_none (failing_here (is_told_wrong w n) n) (least_from Where (where_in w n) 0 (map walk x.children)) (ap (λ b. failing_here b n) here) (below os i s all (where_in w n))
+    ap (λ f. f w) (from_leaves-roll (Where → Option ℕ) (failing_step Where (λ w node. failing_here (is_untold w node) node) where_in) x)
+    ∙ both_none (failing_here (is_untold w n) n) (least_from Where (where_in w n) 0 (map walk x.children)) (ap (λ b. failing_here b n) here) (below os i s all (where_in w n))
 
 node_walks : (x : Node-F Node) → AllWalk x.children → Walks (roll-Node x)
 node_walks x below o i s g w =
     let h = (node_has_shape x.span x.kind x.children o).0 s in
     let told : Told x.kind = subst Told (kind_made x) (kind_good Told g) in
-    whole_walks x below (child_shapes x.kind o (length x.children)) (inner_children x.kind o (length x.children) i) h.1 (within x.kind told (inner_kind o i x.kind h.0)) g w
+    whole_walks x below (child_shapes x.kind o (length x.children)) (inner_children x.kind o (length x.children) i) h.1 (told (inner_kind o i x.kind h.0)) g w
 
 inner_walks : (n : Node) → Walks n
 inner_walks = ind-Node Walks (λ x y is. node_walks x (subst (λ (z : Node-F Node). AllWalk z.children) is (all_walk y.children)))
@@ -175,14 +165,25 @@ root_walks n s told g w = subst (λ (m : Node). walk m w ≡ None) (roll-out-Nod
     of_parts : (x : Node-F Node) → HasSort sort.Module (roll-Node x) → is_spelled true x.kind ≡ true → Good (roll-Node x) → walk (roll-Node x) w ≡ None
     of_parts x s told g =
         let h = (node_has_shape x.span x.kind x.children (one sort.Module)).0 s in
-        whole_walks x (each_walks x.children) (child_shapes x.kind (one sort.Module) (length x.children)) (module_children x.kind (length x.children) h.0) h.1 (λ is. told) g w
+        whole_walks x (each_walks x.children) (child_shapes x.kind (one sort.Module) (length x.children)) (module_children x.kind (length x.children) h.0) h.1 told g w
 
-pub read_spelled : ReadModulesAreSorted → ReadLeavesAreSpelled
-read_spelled read_sorted text mode bound tree u small e =
+-- behind no tag a text part with a value is spelled too
+tag_aside : (tagged : Bool) (k : Kind) → not (is_spelled true k) ≡ false → (is_unvalued k && not tagged) ≡ false → not (is_spelled tagged k) ≡ false
+tag_aside true k h s = h
+tag_aside false (kind.TplElement raw None tail) h s = not_true (sym s)
+tag_aside false (kind.TplElement raw (Some said) tail) h s = ap not (untagged raw said (not-false (is_text_part true raw (Some said)) h))
+tag_aside false _ h s = h
+
+spelled_by_role : (w : Where) (n : Node) → either is_untold is_silent w n ≡ false → is_misspelled w n ≡ false
+spelled_by_role w n h = let p = neither (is_untold w n) (is_silent w n) h in tag_aside (is_tagged w.role) (kind_of n) p.0 p.1
+
+pub read_spelled : ReadModulesAreSorted → RawModulesHaveTheirRoles → ReadLeavesAreSpelled
+read_spelled read_sorted placed text mode bound tree u small e =
     let sorted : HasSort sort.Module tree = read_sorted text mode bound tree e in
-    of_raw (NoneFails is_told_wrong) text mode bound tree
+    let told : NoneFails is_untold tree = of_raw (NoneFails is_untold) text mode bound tree
     (λ raw h b is.
-    let good = finished_good Told (λ k. not_true k) (λ k. not_true k) (λ k. not_true k) (λ k. not_true k) (λ k. not_true k) (λ k. not_true k) (λ k. not_true k) (λ k. not_true k) raw (raw_good text mode bound raw u small h) target.Free in
+    let good = finished_good Told (λ k. refl) (λ k. refl) (λ k. refl) (λ k. refl) (λ k. refl) (λ k. refl) (λ k. refl) (λ k. refl) raw (raw_good text mode bound raw u small h) target.Free in
     let s : HasSort sort.Module (finished raw) = subst (HasSort sort.Module) (sym is) sorted in
-    let told : is_spelled true (kind_of (finished raw)) ≡ true = ap (is_spelled true) (free_kind raw) ∙ raw_told text mode bound raw u small h in
-    subst (NoneFails is_told_wrong) is (root_walks (finished raw) s told good at_top)) e
+    let head : is_spelled true (kind_of (finished raw)) ≡ true = ap (is_spelled true) (free_kind raw) ∙ raw_told text mode bound raw u small h in
+    subst (NoneFails is_untold) is (root_walks (finished raw) s head good at_top)) e in
+    less (either is_untold is_silent) is_misspelled spelled_by_role tree (either_none is_untold is_silent tree told (parts_valued placed text mode bound tree e))

@@ -1,5 +1,5 @@
 -- The leaves that are read are spelled as their terminals read them, by themselves.
-use Rattle.std.proofs.Common.{◌≡◌, ◌∙◌, ℕ, ◌+◌, ◌-◌, ◌<◌, ◌≤◌, Bool, true, false, not, ◌&&◌, cond, List, [], ◌++◌, codes, length, max, nat_eq, nat_lt, refl, sym, ap, subst, arith, bytes_eq, Option, Some, None, ℤ, pos, negsuc}
+use Rattle.std.proofs.Common.{◌≡◌, ◌∙◌, ℕ, ◌+◌, ◌-◌, ◌<◌, ◌≤◌, Bool, true, false, not, ◌&&◌, cond, List, [], ◌++◌, codes, length, max, nat_eq, nat_lt, refl, sym, ap, subst, arith, bytes_eq, Option, Some, None, Result, Ok, Err, ℤ, pos, negsuc}
 use Rattle.std.specs.Prelude.{option_and_then}
 use Rattle.std.specs.Char.{len_utf8}
 use Rattle.std.specs.Str.{IsUtf8, chars}
@@ -11,6 +11,8 @@ use Rattle.ecma_number.specs.JsNumber.{whole_of}
 use Rattle.ecma_number.specs.SafeInt.{is_safe}
 use Rattle.ecma_number.specs.Numeral.{MathematicalValue, number_of, numeral_of, numeric_literal, signed_number_of, whole_text, whole_value}
 use Rattle.ecma_lex.specs.declared.blanks.Skipped.{Skipped}
+use Rattle.ecma_lex.specs.declared.templates.TemplateText.{TemplateText}
+use Rattle.ecma_lex.specs.declared.tokens.NoToken.{NoToken}
 use Rattle.ecma_lex.specs.declared.tokens.Token.{Token}
 use Rattle.ecma_lex.specs.Blanks.{skipped}
 use Rattle.ecma_lex.specs.Keys.{key_end, name_end, priv_name_end, word_end}
@@ -19,6 +21,7 @@ use Rattle.ecma_lex.specs.Parts.{char_at, passes, then_at}
 use Rattle.ecma_lex.specs.Regexes.{regex_body_end, regex_end}
 use Rattle.ecma_lex.specs.Strings.{str_end, str_value}
 use Rattle.ecma_lex.specs.Strings as strings
+use Rattle.ecma_lex.specs.Templates.{found_template_text, template_raw, template_text, template_text_end, template_value}
 use Rattle.ecma_lex.specs.Text.{piece}
 use Rattle.ecma_lex.specs.Tokens as lex
 use Rattle.ecma_lex.specs.Tokens.{found, term}
@@ -35,19 +38,21 @@ use Rattle.ecma_kind.specs.declared.kind.Kind.TheVariants as kind
 use Rattle.ecma_tree.specs.declared.node.Node.{Node}
 use Rattle.ecma_grammar.specs.declared.production.Leaf.{Leaf}
 use Rattle.ecma_grammar.specs.declared.production.Leaf.TheVariants as leaf
+use Rattle.ecma_grammar.specs.declared.production.TemplatePart.{TemplatePart}
 use Rattle.ecma_grammar.specs.declared.production.TokenKind.TheVariants as token_kind
 use Rattle.ecma_grammar.specs.Made.{at_token}
-use Rattle.ecma_grammar.specs.Reading.{Position, Reading, pure, terminal_on, ◌>>=◌}
-use Rattle.ecma_grammar.specs.Reads.{any_token, leaf_node, regex_token, template_part, without_separators, word_token}
+use Rattle.ecma_grammar.specs.Reading.{Position, Reading, fails, pure, read, terminal_on, ◌>>=◌}
+use Rattle.ecma_grammar.specs.Reads.{any_token, leaf_node, part_inside, part_on, regex_token, template_part, without_separators, word_token}
 use Rattle.ecma_spelling.specs.Everywhere.{Everywhere, none}
 use Rattle.ecma_spelling.proofs.Leaves.{Holds, holds_fails, holds_read, holds_then}
 use Rattle.ecma_spelling.proofs.Trees.{good_node}
-use Rattle.ecma_leaves.specs.Words.{are_flags, digits_of, is_big_int, is_body, is_number, is_one, is_readable, is_regex, is_spelled, is_string, is_value, is_whole}
+use Rattle.ecma_leaves.specs.Words.{are_flags, digits_of, is_big_int, is_body, is_number, is_one, is_readable, is_regex, is_spelled, is_string, is_text_part, is_value, is_whole}
 use Rattle.ecma_leaves.proofs.Characters.{piece_within}
-use Rattle.ecma_fits_laws.specs.Read.{is_told}
 use Rattle.ecma_fits_laws.proofs.ReadDigits.{digits_are, word, word_is, word_token as big_word_token}
 use Rattle.ecma_fits_laws.proofs.ReadingOf.{is_hashbang}
+use Rattle.ecma_fits_laws.proofs.RawTexts.{part_spelled}
 use Rattle.ecma_fits_laws.proofs.ReadRegexes.{regex_body, regex_flags}
+use Rattle.ecma_fits_laws.proofs.Sound.{both_true}
 use Rattle.ecma_fits_laws.proofs.Walks.{not_true}
 
 -- a whole program, which stands nowhere but at the root
@@ -56,17 +61,14 @@ is_program (kind.Module shebang) = true
 is_program (kind.Script shebang) = true
 is_program _ = false
 
--- one of these that is no program is spelled
+-- a kind that is no program is spelled, where a text part may stand behind a tag
 abbrev pub Told : Kind → Type 0
-Told k = (is_told k && not (is_program k)) ≡ true → is_spelled true k ≡ true
+Told k = is_program k ≡ false → is_spelled true k ≡ true
 
 -- a token by itself, before which nothing is skipped
 
 same_number : (n : ℕ) → nat_eq n n ≡ true
 same_number n = (Decides-eqb n n).1 refl
-
-both_true : (a b : Bool) → a ≡ true → b ≡ true → (a && b) ≡ true
-both_true a b h g = rw (h, g) refl
 
 nothing_skipped : (t : Tok) → IsWholeToken t → Stops t [] → skipped (token_text t) 0 ≡ record { to = 0; new_line = false; closed = true }
 nothing_skipped t whole stops = skipped_gap (token_text t) no_gap (token_text t ++ []) 0 (record { blank = refl; told = refl }) (quiet t [] whole stops refl) (alone (token_text t))
@@ -248,6 +250,45 @@ module _ (text : List ℕ) (u : IsUtf8 text) (small : length text < 4294967296) 
   unfolding lex.regex
   holds_regex s = holds_term regex_end IsRegex (λ i j b h. is_expression i j h) s
 
+  -- text parts of templates
+
+  abbrev IsPart : TemplateText → Type 0
+  IsPart part = is_text_part true (template_raw (part_inside text part)) (template_value (part_inside text part)) ≡ true
+
+  holds_wanted : (wanted : Bool) (s : Position) (r : Result TemplateText NoToken) → ((part : TemplateText) → r ≡ Ok part → IsPart part) → Holds (part_on s wanted r) IsPart
+  holds_wanted true s (Err e) g = holds_fails IsPart (max s.failed e.at)
+  holds_wanted false s (Err e) g = holds_fails IsPart (max s.failed e.at)
+  holds_wanted true s (Ok part) g = let token = part.token in go token.next part.last
+    where
+      go : (next : ℕ) (b : Bool) → Holds (cond b (read part (record { place = next; failed = s.failed })) (fails s.failed)) IsPart
+      go next true = holds_read IsPart part (record { place = next; failed = s.failed }) (g part refl)
+      go next false = holds_fails IsPart s.failed
+  holds_wanted false s (Ok part) g = let token = part.token in go token.next part.last
+    where
+      go : (next : ℕ) (b : Bool) → Holds (cond b (fails s.failed) (read part (record { place = next; failed = s.failed }))) IsPart
+      go next true = holds_fails IsPart s.failed
+      go next false = holds_read IsPart part (record { place = next; failed = s.failed }) (g part refl)
+
+  part_found : (before : Skipped) (o : Option _) (part : TemplateText) → found_template_text before o ≡ Ok part
+      → ((n : ℕ) (last : Bool) → o ≡ Some (record { next = n; last = last }) → IsPart (record { token = record { start = before.to; next = n; new_line = before.new_line }; last = last })) → IsPart part
+  part_found before None part h g = cc
+  part_found before (Some e) part h g = let is : there ≡ part = cc in subst IsPart is (g e.next e.last refl)
+    where
+      there : TemplateText
+      there = record { token = record { start = before.to; next = e.next; new_line = before.new_line }; last = e.last }
+
+  closed_part : (first tagged b : Bool) (i n : ℕ) (last : Bool) → cond b (template_text_end first tagged text i) None ≡ Some (record { next = n; last = last }) → template_text_end first tagged text i ≡ Some (record { next = n; last = last })
+  closed_part first tagged true i n last h = h
+  closed_part first tagged false i n last h = cc
+
+  holds_part : (wanted : TemplatePart) (s : Position) → Holds (template_part text wanted s) IsPart
+  unfolding template_text
+  holds_part wanted s =
+      let before = skipped text s.place in
+      let end = cond before.closed (template_text_end wanted.first wanted.tagged text before.to) None in
+      holds_wanted wanted.last s (found_template_text before end)
+      (λ part h. part_found before end part h (λ n last e. part_spelled text u wanted.first wanted.tagged before.to n last small (closed_part wanted.first wanted.tagged before.closed before.to n last e)))
+
   -- leaves
 
   abbrev Good : Node → Type 0
@@ -272,11 +313,11 @@ module _ (text : List ℕ) (u : IsUtf8 text) (small : length text < 4294967296) 
   leaf_told leaf.Number s h = leaf_of (any_token text token_kind.Number) IsNumeral _ s (holds_numeral s) (λ t q. leaf_at t _ (λ is. q))
   leaf_told leaf.BigInt s h = leaf_of (any_token text token_kind.BigInt) IsBigInt _ s (holds_big s) (λ t q. leaf_at t _ (λ is. q))
   leaf_told leaf.Regex s h = leaf_of (regex_token text) IsRegex _ s (holds_regex s) (λ t q. leaf_at t _ (λ is. q))
-  leaf_told (leaf.TplElement wanted) s h = any_leaf (template_part text wanted) _ s (λ part. leaf_at part.token _ (λ is. not_true is))
-  leaf_told leaf.This s h = any_leaf (word_token text (codes "this")) _ s (λ t. leaf_at t kind.ThisExpr (λ is. not_true is))
-  leaf_told leaf.Null s h = any_leaf (word_token text (codes "null")) _ s (λ t. leaf_at t kind.Null (λ is. not_true is))
-  leaf_told leaf.True s h = any_leaf (word_token text (codes "true")) _ s (λ t. leaf_at t (kind.Bool true) (λ is. not_true is))
-  leaf_told leaf.False s h = any_leaf (word_token text (codes "false")) _ s (λ t. leaf_at t (kind.Bool false) (λ is. not_true is))
-  leaf_told leaf.Super s h = any_leaf (word_token text (codes "super")) _ s (λ t. leaf_at t kind.Super (λ is. not_true is))
-  leaf_told leaf.Import s h = any_leaf (word_token text (codes "import")) _ s (λ t. leaf_at t kind.Import (λ is. not_true is))
+  leaf_told (leaf.TplElement wanted) s h = leaf_of (template_part text wanted) IsPart _ s (holds_part wanted s) (λ part q. leaf_at part.token _ (λ is. q))
+  leaf_told leaf.This s h = any_leaf (word_token text (codes "this")) _ s (λ t. leaf_at t kind.ThisExpr (λ is. refl))
+  leaf_told leaf.Null s h = any_leaf (word_token text (codes "null")) _ s (λ t. leaf_at t kind.Null (λ is. refl))
+  leaf_told leaf.True s h = any_leaf (word_token text (codes "true")) _ s (λ t. leaf_at t (kind.Bool true) (λ is. refl))
+  leaf_told leaf.False s h = any_leaf (word_token text (codes "false")) _ s (λ t. leaf_at t (kind.Bool false) (λ is. refl))
+  leaf_told leaf.Super s h = any_leaf (word_token text (codes "super")) _ s (λ t. leaf_at t kind.Super (λ is. refl))
+  leaf_told leaf.Import s h = any_leaf (word_token text (codes "import")) _ s (λ t. leaf_at t kind.Import (λ is. refl))
   leaf_told leaf.Hashbang s h = not_true (sym h)

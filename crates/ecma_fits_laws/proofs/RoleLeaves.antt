@@ -1,9 +1,8 @@
 -- Tokens that are kept are what they have to be where they stand: a name is no reserved word.
-use Rattle.std.proofs.Common.{◌≡◌, ◌∙◌, ℕ, ◌+◌, ◌-◌, Bool, true, false, cond, not, ◌&&◌, ◌||◌, bytes_eq, codes, List, [], ◌∷◌, Option, Some, None, refl, sym, ap, subst, inl, inr, is_some, Result, Ok, Err}
+use Rattle.std.proofs.Common.{◌≡◌, ◌∙◌, ℕ, ◌+◌, ◌-◌, Bool, true, false, cond, not, ◌&&◌, ◌||◌, bytes_eq, codes, List, [], ◌∷◌, Option, Some, None, refl, sym, ap, subst, inl, inr, is_some}
 use Rattle.std.proofs.lemmas.Slice.Eq.{bytes_eq-Decides}
 use Rattle.ecma_lex.specs.declared.blanks.Skipped.{Skipped}
 use Rattle.ecma_lex.specs.declared.tokens.Token.{Token}
-use Rattle.ecma_lex.specs.declared.tokens.NoToken.{NoToken}
 use Rattle.ecma_lex.specs.Blanks.{skipped}
 use Rattle.ecma_lex.specs.Keys.{is_reserved, key_end, name_end, reserved_words, word_end}
 use Rattle.ecma_lex.specs.Parts.{if_text}
@@ -38,6 +37,7 @@ use Rattle.ecma_fits.specs.declared.role.Role.TheVariants as role
 use Rattle.ecma_fits.specs.Roles.{is_name, may_be}
 use Rattle.ecma_fits_laws.specs.RawRoles.{HasRawRole, may_be_raw}
 use Rattle.ecma_fits_laws.proofs.Placed.{absent_placed, displaced_by, placed}
+use Rattle.ecma_fits_laws.proofs.RawTexts.{last_of, next_of, nowhere}
 use Rattle.ecma_fits_laws.proofs.RoleAsks.{Ask, Meets, any, at, both, is_loose, text_or_free}
 use Rattle.ecma_fits_laws.proofs.RoleNeeds.{flag_meets, leaf_at, leaf_meets, text_at}
 use Rattle.ecma_fits_laws.proofs.RoleGiven.{no, two}
@@ -146,17 +146,6 @@ module _ (text : List ℕ) where
   -- a text part that is read without a tag has a value
   abbrev IsValued : Bool → TemplateText → Type 0
   IsValued tagged part = (tagged || is_some (template_value (part_inside text part))) ≡ true
-
-  abbrev next_of : Result TemplateText NoToken → ℕ
-  next_of (Ok part) = let token = part.token in token.next
-  next_of (Err none) = 0
-
-  abbrev last_of : Result TemplateText NoToken → Bool
-  last_of (Ok part) = part.last
-  last_of (Err none) = false
-
-  abbrev nowhere : Skipped
-  nowhere = record { to = 0; new_line = false; closed = true }
 
   valued_end : (tagged : Bool) (i : ℕ) (o : Option _) (n : ℕ) (l : Bool) → if_valued tagged text i o ≡ Some (record { next = n; last = l }) → (tagged || is_some (literal_value true (piece text (i + 1) (n - end_length l)))) ≡ true
   valued_end tagged i None n l h = cc

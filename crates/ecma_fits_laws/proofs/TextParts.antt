@@ -1,5 +1,5 @@
 -- In what is read a text part without a value stands behind a tag.
-use Rattle.std.proofs.Common.{◌≡◌, ◌∙◌, ℕ, suc, Bool, true, false, not, ◌&&◌, ◌||◌, ◌==◌, cond, List, [], ◌∷◌, ◌++◌, map, Option, None, refl, sym, ap, subst}
+use Rattle.std.proofs.Common.{◌≡◌, ◌∙◌, ℕ, suc, Bool, true, false, not, ◌&&◌, ◌||◌, ◌==◌, cond, List, [], ◌∷◌, ◌++◌, map, Option, None, Ok, refl, sym, ap, subst}
 use Rattle.ecma_kind.specs.declared.span.Span.{Span}
 use Rattle.ecma_kind.specs.declared.operators.AssignOp.{AssignOp}
 use Rattle.ecma_kind.specs.declared.operators.AssignOp.TheVariants.{Assign}
@@ -7,25 +7,31 @@ use Rattle.ecma_kind.specs.declared.kind.Kind.{Kind}
 use Rattle.ecma_kind.specs.declared.kind.Kind.TheVariants as kind
 use Rattle.ecma_tree.specs.declared.node.Node.{Node, Node-F, ind-Node, out-Node, roll-Node}
 use Rattle.ecma_tree.specs.Nodes.{absent, dummy_span, node_of}
+use Rattle.ecma_grammar.specs.declared.production.Mode.{Mode}
 use Rattle.ecma_rules.specs.declared.target.Target.{Target}
 use Rattle.ecma_rules.specs.declared.target.Target.TheVariants as target
+use Rattle.ecma_rules.specs.Children.{kind_of}
 use Rattle.ecma_rules.specs.Failing.{failing_here, failing_step, first_failing, least_from}
 use Rattle.ecma_rules.specs.Finishing.{binding, default_by, each_in, element_by, finished_at, finished_by, left_by, name_by, part_by, property_by, with_type}
 use Rattle.ecma_rules.specs.Targets.{is_plain, target_in}
 use Rattle.ecma_rules.proofs.Layers.{from_leaves-roll}
+use Rattle.ecma_text.specs.Modules.{reads_as}
 use Rattle.ecma_fits.specs.declared.role.Role.{Role}
 use Rattle.ecma_fits.specs.declared.role.Role.TheVariants as role
 use Rattle.ecma_fits.specs.declared.unfit.Where.{Where}
 use Rattle.ecma_fits.specs.Fitting.{at_top, where_in}
 use Rattle.ecma_fits.specs.Roles.{at_child, bound_name_of, by, in_default, in_list, in_rest, in_template, is_assigned, is_in, is_tagged, is_wrong_name, role_in}
 use Rattle.ecma_fits_laws.specs.RawRoles.{HasRawRole, is_parameter, is_unvalued, may_be_raw, may_stand, raw_role, raw_role_in, usual_role_in}
-use Rattle.ecma_fits_laws.specs.TextParts.{ReadTextPartsAreValued, is_silent}
 use Rattle.ecma_fits_laws.specs.Clauses.{NoneFails}
 use Rattle.ecma_fits_laws.specs.ReadRoles.{RawModulesHaveTheirRoles}
 use Rattle.ecma_fits_laws.proofs.Placed.{Along, least_along, raw_parts}
 use Rattle.ecma_fits_laws.proofs.Raws.{of_raw}
 use Rattle.ecma_fits_laws.proofs.Standing.{finished_parts, kind_made}
 use Rattle.ecma_fits_laws.proofs.Walks.{both_none, neither, not_true, shifted}
+
+-- a text part has no value, and stands behind no tag
+abbrev pub is_silent : Where → Node → Bool
+is_silent w node = is_unvalued (kind_of node) && not (is_tagged w.role)
 
 -- the roles that stand behind a tag, of all
 abbrev tag : Role → Role
@@ -272,7 +278,7 @@ node_keeps x below r h t =
 keeps_quiet : (n : Node) → Keeps n
 keeps_quiet = ind-Node Keeps (λ x y is. node_keeps x (subst (λ (z : Node-F Node). (f g : ℕ → Role) → ((i : ℕ) → tag (f i) ≡ g i) → Along f z.children → (target_of : ℕ → Target) → AllQuiet g (each_in target_of (map finished_at z.children))) is (all_quiet y.children)))
 
-pub parts_valued : RawModulesHaveTheirRoles → ReadTextPartsAreValued
+pub parts_valued : RawModulesHaveTheirRoles → (text : List ℕ) (mode : Mode) (bound : ℕ) (tree : Node) → reads_as text mode bound ≡ Ok tree → NoneFails is_silent tree
 parts_valued placed text mode bound tree e =
     of_raw (NoneFails is_silent) text mode bound tree
     (λ raw h b is. subst (NoneFails is_silent) is (keeps_quiet raw role.Free (placed text mode bound raw h) target.Free at_top refl)) e

@@ -1,13 +1,13 @@
 -- What is read fits, clause by clause.
 use Rattle.ecma_text_laws.specs.Sorts.{ReadModulesAreSorted}
 use Rattle.ecma_fits_laws.specs.Clauses.{FitsByClauses}
-use Rattle.ecma_fits_laws.specs.Read.{ReadTreesKeepRules}
+use Rattle.ecma_fits_laws.specs.Read.{ReadLeavesAreSpelled, ReadTreesKeepRules}
 use Rattle.ecma_fits_laws.specs.ReadRoles.{ReadTargetsAreNoStrays, ReadTreesHaveTheirRoles}
 use Rattle.ecma_fits_laws.specs.Shapes.{ReadBranchesTakeTheirElse, ReadLinksAreNotLoose, ReadMembersAreNotMisread, ReadNodesAreFull}
-use Rattle.ecma_fits_laws.specs.WhatIsRead.{SpelledTreesFit}
+use Rattle.ecma_fits_laws.specs.WhatIsRead.{WhatIsReadFits}
 
-pub spelled_fit : FitsByClauses → ReadModulesAreSorted → ReadNodesAreFull → ReadBranchesTakeTheirElse → ReadLinksAreNotLoose → ReadMembersAreNotMisread → ReadTreesHaveTheirRoles → ReadTargetsAreNoStrays → ReadTreesKeepRules → SpelledTreesFit
-spelled_fit by_clauses sorted full branches links members roles targets keeps text mode bound tree e leaves =
+pub read_fits : FitsByClauses → ReadModulesAreSorted → ReadNodesAreFull → ReadBranchesTakeTheirElse → ReadLinksAreNotLoose → ReadMembersAreNotMisread → ReadTreesHaveTheirRoles → ReadTargetsAreNoStrays → ReadTreesKeepRules → ReadLeavesAreSpelled → WhatIsReadFits
+read_fits by_clauses sorted full branches links members roles targets keeps spelled text mode bound tree utf8 small e =
     let rules = keeps text mode bound tree e in
     (by_clauses tree).1 (record {
       sorted = sorted text mode bound tree e;
@@ -19,6 +19,6 @@ spelled_fit by_clauses sorted full branches links members roles targets keeps te
       targets = targets text mode bound tree e;
       rules = rules.rules;
       constructors = rules.constructors;
-      leaves = leaves;
+      leaves = spelled text mode bound tree utf8 small e;
       strays = rules.strays;
     })

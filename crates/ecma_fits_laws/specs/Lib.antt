@@ -7,4 +7,3 @@ pub mod RawRoles
 pub mod FinishedRoles
 pub mod ReadRoles
 pub mod WhatIsRead
-pub mod TextParts

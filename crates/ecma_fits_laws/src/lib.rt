@@ -9,8 +9,7 @@ ghost use Rattle.ecma_fits_laws.specs.Read.{ReadLeavesAreSpelled, ReadTreesKeepR
 ghost use Rattle.ecma_fits_laws.specs.Shapes.{ReadBranchesTakeTheirElse, ReadLinksAreNotLoose, ReadMembersAreNotMisread, ReadNodesAreFull};
 ghost use Rattle.ecma_fits_laws.specs.FinishedRoles.{FinishedTargetsAreNoStrays, FinishedTreesHaveTheirRoles};
 ghost use Rattle.ecma_fits_laws.specs.ReadRoles.{RawModulesHaveTheirRoles, ReadTargetsAreNoStrays, ReadTreesHaveTheirRoles};
-ghost use Rattle.ecma_fits_laws.specs.TextParts.{ReadTextPartsAreValued};
-ghost use Rattle.ecma_fits_laws.specs.WhatIsRead.{SpelledTreesFit};
+ghost use Rattle.ecma_fits_laws.specs.WhatIsRead.{WhatIsReadFits};
 ghost use Rattle.ecma_fits_laws.specs.Finished.{FinishedClassesHaveOneConstructor, FinishedTreesHaveNoStrays, FinishedTreesKeepRules};
 
 use ecma_text_laws::modules_that_are_read_are_sorted;
@@ -48,14 +47,6 @@ pub fn finished_classes_have_one_constructor()
 /// What is read as a module, in either mode and with any number of levels, keeps these rules.
 pub fn trees_that_are_read_keep_rules()
     ensures { ReadTreesKeepRules }
-{
-    modules_that_are_read_are_sorted();
-}
-
-/// All leaves of what is read as a module but the text parts of templates are spelled as their terminals read them, and say what these say: names, keys,
-/// private names, texts, numbers, BigInts, regular expressions and hashbangs.
-pub fn leaves_that_are_read_are_spelled()
-    ensures { ReadLeavesAreSpelled }
 {
     modules_that_are_read_are_sorted();
 }
@@ -120,17 +111,18 @@ pub fn targets_that_are_read_are_no_strays()
     ensures { ReadTargetsAreNoStrays }
 {}
 
-/// Each text part of a template in what is read as a module has a value, or stands behind a tag.
-pub fn text_parts_that_are_read_have_values()
-    ensures { ReadTextPartsAreValued }
+/// Each leaf of what is read as a module is spelled as its terminal reads it, and says what that says: names, keys, private names, texts, numbers, BigInts,
+/// regular expressions, text parts of templates and hashbangs.
+pub fn leaves_that_are_read_are_spelled()
+    ensures { ReadLeavesAreSpelled }
 {
+    modules_that_are_read_are_sorted();
     raw_modules_have_their_roles();
 }
 
-/// What is read as a module, in either mode and with any number of levels, fits, where its leaves are spelled as their terminals read them and say what
-/// these say.
-pub fn what_is_read_fits_where_its_leaves_are_spelled()
-    ensures { SpelledTreesFit }
+/// What is read as a module, in either mode and with any number of levels, fits.
+pub fn what_is_read_fits()
+    ensures { WhatIsReadFits }
 {
     trees_fit_by_clauses();
     modules_that_are_read_are_sorted();
@@ -141,4 +133,5 @@ pub fn what_is_read_fits_where_its_leaves_are_spelled()
     trees_that_are_read_have_their_roles();
     targets_that_are_read_are_no_strays();
     trees_that_are_read_keep_rules();
+    leaves_that_are_read_are_spelled();
 }
