@@ -8,7 +8,7 @@ use Rattle.ecma_kind.specs.declared.kind.Kind.TheVariants as kind
 use Rattle.ecma_tree.specs.declared.node.Node.{Node, fold-roll-Node}
 use Rattle.ecma_tree.specs.Nodes.{node_of}
 use Rattle.ecma_runs.specs.Erasure.{without_types, stays}
-use Rattle.ecma_reread.specs.Braces.{starts_by, starts_step, starts_with_brace}
+use Rattle.ecma_reread.specs.Starts.{Start, other_start, start_by, start_step, start_of}
 use Rattle.ecma_reread.specs.Modules as modules
 use Rattle.ecma_reread.specs.Shapes as plain
 use Rattle.ecma_reread.specs.Shapes.{ident, Level}
@@ -16,34 +16,34 @@ use Rattle.ecma_forms.specs.Shapes.{IsLexical, IsExpression, looser, name, strin
 use Rattle.ecma_forms.proofs.Erased.{erased_node, stays_node, kept, typed_erased, plain_ident, plain_key, plain_absent, plain_type_arguments, plain_annotation, goes}
 use Rattle.ecma_forms.proofs.Still.{expression_stays}
 
-starts_node : (at : Span) (k : Kind) (cs : List Node) → starts_with_brace (node_of at k cs) ≡ starts_by k (map starts_with_brace cs)
-starts_node at k cs = fold-roll-Node Bool starts_step (record { span = at; kind = k; children = cs })
+starts_node : (at : Span) (k : Kind) (cs : List Node) → start_of (node_of at k cs) ≡ start_by k (map start_of cs)
+starts_node at k cs = fold-roll-Node Start start_step (record { span = at; kind = k; children = cs })
 
 -- an expression without its types begins with no brace
 
-leaf_braceless : (at : Span) (k : Kind) → without_types (node_of at k []) ≡ node_of at k [] → starts_by k [] ≡ false → starts_with_brace (without_types (node_of at k [])) ≡ false
-leaf_braceless at k is h = ap starts_with_brace is ∙ (starts_node at k [] ∙ h)
+leaf_starts : (at : Span) (k : Kind) → without_types (node_of at k []) ≡ node_of at k [] → start_by k [] ≡ other_start → start_of (without_types (node_of at k [])) ≡ other_start
+leaf_starts at k is h = ap start_of is ∙ (starts_node at k [] ∙ h)
 
-braceless : {level : Level} {n : Node} → IsExpression level n → starts_with_brace (without_types n) ≡ false
-braceless (looser e) = braceless e
-braceless (name (ident at w t)) = leaf_braceless at (kind.Ident w 0 false) (erased_node at (kind.Ident w 0 false) []) refl
-braceless (string at raw t) = leaf_braceless at _ (erased_node at _ []) refl
-braceless (number at raw t) = leaf_braceless at _ (erased_node at _ []) refl
-braceless (this_word at) = leaf_braceless at kind.ThisExpr (erased_node at kind.ThisExpr []) refl
-braceless (null_word at) = leaf_braceless at kind.Null (erased_node at kind.Null []) refl
-braceless (truth_word at value) = leaf_braceless at (kind.Bool value) (erased_node at (kind.Bool value) []) refl
-braceless (member at {holder} {property} o k) = ap starts_with_brace (erased_node at kind.MemberExpr (holder ∷ property ∷ [])) ∙ (starts_node at kind.MemberExpr _ ∙ braceless o)
-braceless (element at of_key {holder = holder} {e = inner} o e) = ap starts_with_brace (erased_node at kind.MemberExpr (holder ∷ node_of of_key kind.ComputedPropName (inner ∷ []) ∷ [])) ∙ (starts_node at kind.MemberExpr _ ∙ braceless o)
-braceless (call at of_list {function} {types} {es} f xs t) = ap starts_with_brace (erased_node at kind.CallExpr (function ∷ node_of of_list kind.List es ∷ types ∷ [])) ∙ (starts_node at kind.CallExpr _ ∙ braceless f)
-braceless (parenthesized at {e = inner} e) = ap starts_with_brace (erased_node at kind.ParenExpr (inner ∷ [])) ∙ starts_node at kind.ParenExpr _
-braceless (await_expression at {e = inner} e) = ap starts_with_brace (erased_node at kind.AwaitExpr (inner ∷ [])) ∙ starts_node at kind.AwaitExpr _
-braceless (unary_expression at operator {e = inner} e) = ap starts_with_brace (erased_node at (kind.UnaryExpr operator) (inner ∷ [])) ∙ starts_node at (kind.UnaryExpr operator) _
-braceless (binary_expression at {operator = operator} {left = l} {right = r} o a b) = ap starts_with_brace (erased_node at (kind.BinExpr operator) (l ∷ r ∷ [])) ∙ (starts_node at (kind.BinExpr operator) _ ∙ braceless a)
-braceless (exponentiation at {left = l} {right = r} a b) = ap starts_with_brace (erased_node at (kind.BinExpr op.Exp) (l ∷ r ∷ [])) ∙ (starts_node at (kind.BinExpr op.Exp) _ ∙ braceless a)
-braceless (both at {left = l} {right = r} a b) = ap starts_with_brace (erased_node at (kind.BinExpr op.LogicalAnd) (l ∷ r ∷ [])) ∙ (starts_node at (kind.BinExpr op.LogicalAnd) _ ∙ braceless a)
-braceless (either at {left = l} {right = r} a b) = ap starts_with_brace (erased_node at (kind.BinExpr op.LogicalOr) (l ∷ r ∷ [])) ∙ (starts_node at (kind.BinExpr op.LogicalOr) _ ∙ braceless a)
-braceless (conditional_expression at {test} {first} {second} a b c) = ap starts_with_brace (erased_node at kind.CondExpr (test ∷ first ∷ second ∷ [])) ∙ (starts_node at kind.CondExpr _ ∙ braceless a)
-braceless (typed at {e = x} e t) = ap starts_with_brace (typed_erased at x t) ∙ braceless e
+starts_otherwise : {level : Level} {n : Node} → IsExpression level n → start_of (without_types n) ≡ other_start
+starts_otherwise (looser e) = starts_otherwise e
+starts_otherwise (name (ident at w t)) = leaf_starts at (kind.Ident w 0 false) (erased_node at (kind.Ident w 0 false) []) refl
+starts_otherwise (string at raw t) = leaf_starts at _ (erased_node at _ []) refl
+starts_otherwise (number at raw t) = leaf_starts at _ (erased_node at _ []) refl
+starts_otherwise (this_word at) = leaf_starts at kind.ThisExpr (erased_node at kind.ThisExpr []) refl
+starts_otherwise (null_word at) = leaf_starts at kind.Null (erased_node at kind.Null []) refl
+starts_otherwise (truth_word at value) = leaf_starts at (kind.Bool value) (erased_node at (kind.Bool value) []) refl
+starts_otherwise (member at {holder} {property} o k) = ap start_of (erased_node at kind.MemberExpr (holder ∷ property ∷ [])) ∙ (starts_node at kind.MemberExpr _ ∙ starts_otherwise o)
+starts_otherwise (element at of_key {holder = holder} {e = inner} o e) = ap start_of (erased_node at kind.MemberExpr (holder ∷ node_of of_key kind.ComputedPropName (inner ∷ []) ∷ [])) ∙ (starts_node at kind.MemberExpr _ ∙ starts_otherwise o)
+starts_otherwise (call at of_list {function} {types} {es} f xs t) = ap start_of (erased_node at kind.CallExpr (function ∷ node_of of_list kind.List es ∷ types ∷ [])) ∙ (starts_node at kind.CallExpr _ ∙ starts_otherwise f)
+starts_otherwise (parenthesized at {e = inner} e) = ap start_of (erased_node at kind.ParenExpr (inner ∷ [])) ∙ starts_node at kind.ParenExpr _
+starts_otherwise (await_expression at {e = inner} e) = ap start_of (erased_node at kind.AwaitExpr (inner ∷ [])) ∙ starts_node at kind.AwaitExpr _
+starts_otherwise (unary_expression at operator {e = inner} e) = ap start_of (erased_node at (kind.UnaryExpr operator) (inner ∷ [])) ∙ starts_node at (kind.UnaryExpr operator) _
+starts_otherwise (binary_expression at {operator = operator} {left = l} {right = r} o a b) = ap start_of (erased_node at (kind.BinExpr operator) (l ∷ r ∷ [])) ∙ (starts_node at (kind.BinExpr operator) _ ∙ starts_otherwise a)
+starts_otherwise (exponentiation at {left = l} {right = r} a b) = ap start_of (erased_node at (kind.BinExpr op.Exp) (l ∷ r ∷ [])) ∙ (starts_node at (kind.BinExpr op.Exp) _ ∙ starts_otherwise a)
+starts_otherwise (both at {left = l} {right = r} a b) = ap start_of (erased_node at (kind.BinExpr op.LogicalAnd) (l ∷ r ∷ [])) ∙ (starts_node at (kind.BinExpr op.LogicalAnd) _ ∙ starts_otherwise a)
+starts_otherwise (either at {left = l} {right = r} a b) = ap start_of (erased_node at (kind.BinExpr op.LogicalOr) (l ∷ r ∷ [])) ∙ (starts_node at (kind.BinExpr op.LogicalOr) _ ∙ starts_otherwise a)
+starts_otherwise (conditional_expression at {test} {first} {second} a b c) = ap start_of (erased_node at kind.CondExpr (test ∷ first ∷ second ∷ [])) ∙ (starts_node at kind.CondExpr _ ∙ starts_otherwise a)
+starts_otherwise (typed at {e = x} e t) = ap start_of (typed_erased at x t) ∙ starts_otherwise e
 
 mutual
   pub plain_expression : {level : Level} {n : Node} → IsExpression level n → plain.IsExpression level (without_types n)
@@ -98,7 +98,7 @@ pub declaration_stays : (at : Span) (v : VarDeclKind) (list : Node) → stays (w
 declaration_stays at v list = ap stays (erased_node at (kind.VarDecl v false) (list ∷ [])) ∙ stays_node at (kind.VarDecl v false) _
 
 plain_expression_statement : (at : Span) {level : Level} {e : Node} → IsExpression level e → plain.IsStatement plain.closed (without_types (node_of at kind.ExprStmt (e ∷ [])))
-plain_expression_statement at e = rw (erased_node at kind.ExprStmt _) (plain.expression at (plain_expression e) (braceless e))
+plain_expression_statement at e = rw (erased_node at kind.ExprStmt _) (plain.expression at (plain_expression e) (starts_otherwise e))
 
 plain_declaration : (at of_list : Span) {v : VarDeclKind} {d : Node} {ds : List Node} → IsLexical v → IsDeclarator d → AreDeclarators ds → plain.IsStatement plain.closed (without_types (node_of at (kind.VarDecl v false) (node_of of_list kind.List (d ∷ ds) ∷ [])))
 plain_declaration at of_list {v} {d} {ds} w h hs =

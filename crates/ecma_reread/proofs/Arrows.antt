@@ -32,7 +32,7 @@ use Rattle.ecma_reread.specs.Bare.{bare_element, bare_arguments, bare_elements}
 use Rattle.ecma_reread.proofs.Moves.{eats}
 use Rattle.ecma_reread.proofs.Levels.{means_is}
 use Rattle.ecma_reread.proofs.Fronts.{Front, exactly, Begins, at_token, refused_at, refuses_all, all_refused}
-use Rattle.ecma_reread.proofs.Towers.{excluded, behind_arrow, closes_in}
+use Rattle.ecma_reread.proofs.Towers.{behind_arrow, closes_in}
 use Rattle.ecma_reread.proofs.Heads.{bare, nodes}
 use Rattle.ecma_reread.proofs.Forms.{linked_param, Laid, s, Reads, Refuses, no_item_at}
 use Rattle.ecma_reread.proofs.Bindings.{StandsIn, Stands, used}
@@ -149,8 +149,6 @@ module _ (assigned : Bool) where
             no_item = λ g us. no_item_at assigned opening (own g us) at_token refl;
             no_spread = refl;
             no_label = λ g us e b z. refused_at assigned p labeled opening (own g us) at_token refl;
-            no_declaration = λ g us e b z. refused_at assigned p declaration opening (own g us) at_token refl;
-            no_word = λ g us e b z. refused_at assigned p excluded opening (own g us) at_token refl;
           };
           tight = tt;
           no_or = tt;
@@ -171,8 +169,6 @@ module _ (assigned : Bool) where
             no_item = λ g us. A.no_item g (own blank us);
             no_spread = (let o = A.opens in o.no_spread);
             no_label = λ g us e b z. A.no_label g (own blank us) opening at_token refl;
-            no_declaration = λ g us e b z. A.no_declaration g (own blank us) opening at_token refl;
-            no_word = λ g us e b z. A.no_word g (own blank us) opening at_token refl;
           };
           tight = tt;
           no_or = tt;

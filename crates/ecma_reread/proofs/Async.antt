@@ -24,7 +24,7 @@ use Rattle.ecma_tokens.specs.Items as items
 use Rattle.ecma_tokens.specs.Items.{Gap, Items, it}
 use Rattle.ecma_tokens.specs.Taking.{new_line_in}
 use Rattle.ecma_reread.specs.Machine.{read, fails, with_front, followed_on, or_on, built_on, interp, means, without}
-use Rattle.ecma_reread.proofs.Fronts.{Front, exactly, Begins, at_token, front_of, refuses_at, refused_at, refuses_first}
+use Rattle.ecma_reread.proofs.Fronts.{Front, exactly, Begins, at_token, front_of, refuses_at, refused_at}
 use Rattle.ecma_reread.proofs.Towers.{Tower, later, sooner, here, climb, excluded, Opens, Starts}
 use Rattle.ecma_reread.proofs.Heads.{bare}
 use Rattle.ecma_reread.proofs.Forms.{Reads, Refuses, Form, NewForm, no_item_at}
@@ -33,7 +33,7 @@ use Rattle.ecma_reread.proofs.Expressions.{IsPrimary, head_read, new_head_read, 
 abbrev async : List ℕ
 async = codes "async"
 
-abbrev front : Front
+abbrev pub front : Front
 front = exactly (items.key async)
 
 async_free : is_reserved async ≡ false
@@ -48,7 +48,7 @@ async_opens : Opens front
 unfolding prefixed
 async_opens = record { no_spread = refl; no_yield = refl; no_private = refl; no_prefix = refl; no_increment = refl; no_decrement = refl }
 
-async_primary : IsPrimary front
+pub async_primary : IsPrimary front
 unfolding super_of_member super_of_link import_meta import_call construction
 async_primary = record { no_head = refl; no_new_head = refl }
 
@@ -66,25 +66,26 @@ module _ (assigned : Bool) where
   async_refused : (x : Grammar) (g : Gap) (us : Items) → Refuses assigned x us → Refuses assigned (word async ▸ same_line ▸ x) (it g (items.key async) us)
   async_refused x g us h = ap (with_front []) (on_line (new_line_in us) x us h)
 
-  module _ (g : Gap) (us : Items) (e : Front) (b : Begins e us) where
+  module _ (g : Gap) (us : Items) where
     abbrev ts : Items
     ts = it g (items.key async) us
 
-    module _ (z : refuses_at e (word (codes "function")) ≡ true) where
+    -- where no `function` follows
+    module _ (h : Refuses assigned (word (codes "function")) us) where
       function_refused : (k : Made) (name : Grammar) → Refuses assigned (build k (function name)) ts
       function_refused k name =
           let I = interp assigned (means assigned) in
-          let none = refused_at assigned (means assigned) (word (codes "function") ▸ put Present) e us b (refuses_first e (word (codes "function")) (put Present) z) in
+          let none = ap (followed_on (I (put Present))) h in
           ap (built_on k) (ap (followed_on (I (whether (punct (codes "*")) ▸ name ▸ signature))) (ap (or_on (I (word (codes "function") ▸ put Absent)) ts) (async_refused (word (codes "function") ▸ put Present) g us none)))
 
-      async_no_declaration : Refuses assigned declaration ts
+      pub async_no_declaration : Refuses assigned declaration ts
       unfolding declaration functions.function_declaration classes.class_declaration
       async_no_declaration =
           ap (or_on (interp assigned (means assigned) (without 2 declaration)) ts) (function_refused (form.Function plain.FnDecl) ident)
           ∙ refused_at assigned (means assigned) (without 2 declaration) front ts at_token refl
 
-      async_no_word : Refuses assigned excluded ts
-      async_no_word = async_refused (word (codes "function")) g us (refused_at assigned (means assigned) (word (codes "function")) e us b z)
+      pub async_no_word : Refuses assigned excluded ts
+      async_no_word = async_refused (word (codes "function")) g us h
 
       async_read : Reads assigned primary ts (bare (kind.Ident async 0 false) [] ∷ []) us
       unfolding primary function_expression is_reserved reserved_words
@@ -92,13 +93,16 @@ module _ (assigned : Bool) where
           let k = front_of us in
           ap (or_on (interp assigned (means assigned) (without 1 primary)) ts) (function_refused (form.Function plain.FnExpr) (maybe ident)) ∙ climb assigned (means assigned) (primary_tower k.0) ts us (bare (kind.Ident async 0 false) []) at_token k.1 refl
 
-    async_no_arrow : (no_in : Bool) → refuses_at e (arrow_body no_in) ≡ true → Refuses assigned (arrow_rest no_in false) us → Refuses assigned (arrow no_in false) ts
+    async_no_arrow : (e : Front) → Begins e us → (no_in : Bool) → refuses_at e (arrow_body no_in) ≡ true → Refuses assigned (arrow_rest no_in false) us → Refuses assigned (arrow no_in false) ts
     unfolding arrow
-    async_no_arrow n z r =
+    async_no_arrow e b n z r =
         let I = interp assigned (means assigned) in
         ap (or_on (I (build form.Arrow (put Absent ▸ arrow_rest n false))) ts)
         (ap (built_on form.Arrow) (async_refused (put Present ▸ arrow_rest n false) g us (ap (with_front (flag_node Present ∷ [])) r)))
         ∙ ap (built_on form.Arrow) (ap (with_front (flag_node Absent ∷ [])) (name_no_rest assigned async async_free n g us e b z))
+
+  no_function : (us : Items) (e : Front) → Begins e us → refuses_at e (word (codes "function")) ≡ true → Refuses assigned (word (codes "function")) us
+  no_function us e b z = refused_at assigned (means assigned) (word (codes "function")) e us b z
 
   pub async_form : Form assigned (λ g us. it g (items.key async) us) (kind.Ident async 0 false) []
   async_form = record {
@@ -108,16 +112,14 @@ module _ (assigned : Bool) where
     no_statement = (let s = async_starts in s.no_statement);
     no_item = λ g us. (let s = async_starts in no_item_at assigned front (it g (items.key async) us) at_token s.no_item);
     pieces = bare (kind.Ident async 0 false) [] ∷ [];
-    own = λ g us e b z ys vs h. head_read assigned front (it g (items.key async) us) us (bare (kind.Ident async 0 false) []) async_primary at_token (async_read g us e b z) ys vs h;
+    own = λ g us e b z ys vs h. head_read assigned front (it g (items.key async) us) us (bare (kind.Ident async 0 false) []) async_primary at_token (async_read g us (no_function us e b z)) ys vs h;
     whole = refl;
     no_arrow = λ n g us e b z r. async_no_arrow g us e b n z r;
     no_label = name_no_label assigned async async_free;
-    no_declaration = async_no_declaration;
-    no_word = async_no_word;
     as_param = name_as_param assigned async async_free;
     with_default = name_with_default assigned async async_free;
   }
 
   pub async_new : NewForm assigned (λ g us. it g (items.key async) us) (kind.Ident async 0 false) []
   unfolding async_form
-  async_new = record { form = async_form; no_point = refl; own = λ g us e b z ys vs h. new_head_read assigned front (it g (items.key async) us) us (bare (kind.Ident async 0 false) []) async_primary at_token (async_read g us e b z) ys vs h }
+  async_new = record { form = async_form; no_point = refl; own = λ g us e b z ys vs h. new_head_read assigned front (it g (items.key async) us) us (bare (kind.Ident async 0 false) []) async_primary at_token (async_read g us (no_function us e b z)) ys vs h }

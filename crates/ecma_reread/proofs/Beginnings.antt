@@ -18,9 +18,10 @@ use Rattle.ecma_print.specs.Operators.{unary_sign, update_sign}
 use Rattle.ecma_reread.specs.Shapes as shapes
 use Rattle.ecma_reread.specs.Shapes.{Level, looser_than, IsOperator, IsIdent, ident, IsKey, key, IsExpression, IsElement, IsArguments, AreElements, AreExpressions, IsInitializer, IsDeclarator, AreDeclarators, AreSlots, IsMemberLevel, IsIndexed, IsChainKey, AreProperties, IsPropertyName, IsProperty, IsDefaulted, IsPattern, Role, IsChainLink}
 use Rattle.ecma_reread.specs.LiteralTexts.{regex_text, part_text}
-use Rattle.ecma_reread.specs.Tokens.{own_sign, ident_word, key_word, expression_tokens, element_tokens, arguments_tokens, more_tokens, slots_tokens, more_slots_tokens, chain_token, properties_tokens, more_properties_tokens, property_tokens, initializer_tokens, defaulted_tokens, pattern_tokens, part_token, parts_tokens, ends_here, first_raw, block_tokens, is_generator, is_async, function_tokens, property_name_tokens}
-use Rattle.ecma_reread.specs.Signs.{blank, sign_of, assign_token, update_token, unary_token, binary_token, unary_gap, star_of, point_of, question_of, method_tokens}
-use Rattle.ecma_reread.proofs.Braces.{begins_with_brace}
+use Rattle.ecma_reread.specs.Tokens.{own_sign, ident_word, key_word, expression_tokens, element_tokens, arguments_tokens, more_tokens, slots_tokens, more_slots_tokens, chain_token, properties_tokens, more_properties_tokens, property_tokens, initializer_tokens, defaulted_tokens, pattern_tokens, part_token, parts_tokens, ends_here, first_raw, block_tokens, is_generator, is_async, function_tokens, function_name_tokens, class_tokens, property_name_tokens}
+use Rattle.ecma_reread.specs.Signs.{blank, sign_of, assign_token, update_token, unary_token, binary_token, unary_gap, star_of, star_word, function_word, point_of, question_of, method_tokens}
+use Rattle.ecma_reread.specs.Starts.{is_brace}
+use Rattle.ecma_reread.proofs.Starts.{start}
 use Rattle.ecma_reread.proofs.Softs.{Soft, comma, closing_bracket, parted}
 
 -- what an expression begins with, and the sign that this is as a unary operator
@@ -44,6 +45,21 @@ pub record Begun (tokens : Gap → Items) : Type 0 where
   pub rest : Items
   pub opens : Opens first by
   pub is : (g : Gap) → tokens g ≡ it g first rest
+
+-- the words before the name of a function
+abbrev first_word : Bool → List ℕ
+first_word true = codes "async"
+first_word false = codes "function"
+
+abbrev behind_word : Bool → Bool → Items → Items
+behind_word x true us = star_word x blank us
+behind_word true false us = sign_of (codes "*") us
+behind_word false false us = us
+
+word_first : (x y : Bool) (g : Gap) (us : Items) → function_word x y g us ≡ it g (items.key (first_word y)) (behind_word x y us)
+word_first x true g us = refl
+word_first true false g us = refl
+word_first false false g us = refl
 
 pub begun : {level : Level} {e : Node} (is : IsExpression level e) (depth : ℕ) (us : Items) → Begun (λ g. expression_tokens is depth g us)
 begun (shapes.looser e) depth us = begun e depth us
@@ -109,6 +125,16 @@ begun (shapes.arrow_block at false ps b n n') depth us =
     record { first = sign (codes "("); by = NoNeighbor; rest = arguments_tokens ps depth (sign_of (codes ")") (it blank (sign (codes "=>")) (block_tokens b depth blank us))); opens = by_parenthesis; is = λ g. refl }
 begun (shapes.array at at' es) depth us = record { first = sign (codes "["); by = NoNeighbor; rest = slots_tokens es depth us; opens = by_bracket; is = λ g. refl }
 begun (shapes.object_literal at at' ps) depth us = record { first = sign (codes "{"); by = NoNeighbor; rest = properties_tokens ps depth us; opens = by_brace; is = λ g. refl }
+begun (shapes.function_expression at i f) depth us =
+    let ts = function_name_tokens i (function_tokens f depth us) in
+    record {
+      first = items.key (first_word (is_async f));
+      by = NoNeighbor;
+      rest = behind_word (is_generator f) (is_async f) ts;
+      opens = by_key (first_word (is_async f));
+      is = λ g. word_first (is_generator f) (is_async f) g ts;
+    }
+begun (shapes.class_expression at i c) depth us = record { first = items.key (codes "class"); by = NoNeighbor; rest = function_name_tokens i (class_tokens c depth us); opens = by_key (codes "class"); is = λ g. refl }
 begun (shapes.sequence_expression at x y es) depth us = begun x depth (sign_of (codes ",") (expression_tokens y depth blank (more_tokens es depth us)))
 
 -- behind `(`, behind a blank, and on a new line
@@ -181,7 +207,6 @@ pub unary_brace : (o : UnaryOp) (g : Gap) (us : Items) → punct_in (codes "{") 
 unary_brace Minus g us = refl
 unary_brace o g us = refl
 
--- it begins with no `{`
 pub star_by : {t : Tok} {b : Beside} → Opens t b → (g : Gap) (us : Items) → punct_in (codes "*") (it g t us) ≡ refused
 star_by (by_update PlusPlus) g us = refl
 star_by (by_operator Minus) g us = refl
@@ -190,7 +215,13 @@ star_by h g us = refl
 pub no_star : {level : Level} {e : Node} (is : IsExpression level e) (depth : ℕ) (g : Gap) (us : Items) → punct_in (codes "*") (expression_tokens is depth g us) ≡ refused
 no_star is depth g us = let b = begun is depth us in rw (b.is g) (star_by b.opens g b.rest)
 
-pub no_brace : {level : Level} {e : Node} (is : IsExpression level e) (depth : ℕ) → begins_with_brace is ≡ false → (g : Gap) (us : Items) → punct_in (codes "{") (expression_tokens is depth g us) ≡ refused
+function_brace : (x y : Bool) (g : Gap) (us : Items) → punct_in (codes "{") (function_word x y g us) ≡ refused
+function_brace x true g us = refl
+function_brace true false g us = refl
+function_brace false false g us = refl
+
+-- it begins with no `{`
+pub no_brace : {level : Level} {e : Node} (is : IsExpression level e) (depth : ℕ) → is_brace (start is) ≡ false → (g : Gap) (us : Items) → punct_in (codes "{") (expression_tokens is depth g us) ≡ refused
 no_brace (shapes.looser e) depth z g us = no_brace e depth z g us
 no_brace (shapes.member at i o k) depth z g us = no_brace o depth z g (sign_of (codes ".") (it no_gap (chain_token k) us))
 no_brace (shapes.call at c es none) depth z g us = no_brace c depth z g (sign_of (codes "(") (arguments_tokens es depth (sign_of (codes ")") us)))
@@ -211,6 +242,7 @@ no_brace (shapes.assignment_expression at o t v) depth z g us = no_brace t depth
 no_brace (shapes.conditional_expression at t x y) depth z g us = no_brace t depth z g (it blank (sign (codes "?")) (expression_tokens x depth blank (it blank (sign (codes ":")) (expression_tokens y depth blank us))))
 no_brace (shapes.sequence_expression at x y es) depth z g us = no_brace x depth z g (sign_of (codes ",") (expression_tokens y depth blank (more_tokens es depth us)))
 no_brace (shapes.object_literal at at' ps) depth z g us = absurd (false≢true (sym z))
+no_brace (shapes.function_expression at i f) depth z g us = function_brace (is_generator f) (is_async f) g (function_name_tokens i (function_tokens f depth us))
 no_brace (shapes.arrow_function at true ps e q a b) depth z g us = refl
 no_brace (shapes.arrow_function at false ps e q a b) depth z g us = refl
 no_brace (shapes.arrow_block at true ps b n n') depth z g us = refl

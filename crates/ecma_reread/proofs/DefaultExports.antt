@@ -1,5 +1,5 @@
 -- An expression that is exported by default is read as it is laid out.
-use Rattle.std.proofs.Common.{◌≡◌, false, Bool, List, [], ◌∷◌, codes, refl, ap, ◌∙◌}
+use Rattle.std.proofs.Common.{◌≡◌, false, Bool, List, [], ◌∷◌, codes, refl, ap, sym, ◌∙◌}
 use Rattle.ecma_kind.specs.declared.kind.Kind.TheVariants as kind
 use Rattle.ecma_tree.specs.declared.node.Node.{Node}
 use Rattle.ecma_grammar.specs.declared.production.Part.TheVariants as part
@@ -30,6 +30,9 @@ use Rattle.ecma_reread.proofs.Towers.{excluded}
 use Rattle.ecma_reread.proofs.Forms.{Reads, Refuses}
 use Rattle.ecma_reread.proofs.Bindings.{used}
 use Rattle.ecma_reread.proofs.Expressions.{semicolon_ends}
+use Rattle.ecma_reread.specs.Starts.{is_declaration_word, start_of}
+use Rattle.ecma_reread.proofs.Starts.{starts_agree}
+use Rattle.ecma_reread.proofs.Undeclared.{undeclared}
 use Rattle.ecma_reread.proofs.StatementForms.{expression_form, argument_forms, block_form, member_forms, heritage_form}
 use Rattle.ecma_reread.proofs.Functions.{function_expression_read}
 use Rattle.ecma_reread.proofs.Exports.{export_item}
@@ -84,19 +87,19 @@ module _ (assigned : Bool) where
       (λ us. further_fails (I function_word) (I (function_word ▸ put Present)) (λ vs k. ap (followed_on (I (put Present))) k) (I same_line us)) (I (word (codes "async")) ts) no_async in
       rw (no_async_behind, no_function, class_refused ts no_class) refl
 
-  pub export_default_read : {e : Node} (is : IsExpression shapes.assignment e) (g : Gap) (us : Items)
+  pub export_default_read : {e : Node} (is : IsExpression shapes.assignment e) → is_declaration_word (start_of e) ≡ false → (g : Gap) (us : Items)
       → Reads assigned module_item (it g (items.key (codes "export")) (spaced_word (codes "default") (expression_tokens is 0 blank (sign_of (codes ";") us)))) (bare kind.ExportDefaultExpr (bare_expression is ∷ []) ∷ []) us
   unfolding export export_default
-  export_default_read is g us =
+  export_default_read is z g us =
       let I = interp assigned (means assigned) in
       let S = expression_form assigned is 0 in
-      let L = S.lead in
+      let U = undeclared assigned is 0 (sym (ap is_declaration_word (starts_agree is)) ∙ z) blank (sign_of (codes ";") us) refl in
       let e = expression_tokens is 0 blank (sign_of (codes ";") us) in
       let ts = it g (items.key (codes "export")) (spaced_word (codes "default") e) in
       export_item assigned g (spaced_word (codes "default") e) _ us refl
       (ap (or_on (I (without 1 export)) ts)
       (ap (or_on (I (without 1 export_default)) ts)
-      (ap (built_on (form.Node plain.ExportDefaultDecl)) (ap (with_front []) (ap (with_front []) (no_default_declaration e (L.no_word blank (sign_of (codes ";") us) (exactly (sign (codes ";"))) at_token refl)))))
+      (ap (built_on (form.Node plain.ExportDefaultDecl)) (ap (with_front []) (ap (with_front []) (no_default_declaration e U.no_word))))
       ∙ ap (built_on (form.Node plain.ExportDefaultExpr)) (ap (with_front []) (ap (with_front []) (ap (followed_on (I end)) (used assigned S blank (sign_of (codes ";") us) (exactly (sign (codes ";"))) at_token semicolon_ends))))))
 
   pub export_default_function_read : {m n : Node} (i : IsFunctionName m) (is : IsFunction n) (g : Gap) (us : Items)

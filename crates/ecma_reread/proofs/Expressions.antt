@@ -41,7 +41,7 @@ use Rattle.ecma_reread.specs.LiteralTexts.{regex_text}
 use Rattle.ecma_reread.proofs.Levels.{means_is}
 use Rattle.ecma_grammar.specs.Made.{made}
 use Rattle.ecma_reread.proofs.Fronts.{is_known, Front, exactly, a_name, Begins, at_token, at_name, IsName, front_of, refuses_at, refused_at, refuses_all, all_refused}
-use Rattle.ecma_reread.proofs.Towers.{Tower, here, later, sooner, climb, excluded, Opens, Starts, Undeclared, Ends, refuses_choices, skipped}
+use Rattle.ecma_reread.proofs.Towers.{Tower, here, later, sooner, climb, Opens, Starts, Ends, refuses_choices, skipped}
 use Rattle.ecma_reread.proofs.Forms.{Laid, s, heads, Reads, Refuses, ends_no_item, begins_no_target, AsParam, item_refused, whole_item, Form, new_heads, NewForm, no_item_at, no_arrow_at}
 use Rattle.ecma_reread.proofs.Bindings.{Stands, expression_read}
 use Rattle.ecma_reread.proofs.Params.{params_end, parameters_refused, no_body_behind}
@@ -59,10 +59,6 @@ name_primary = record { no_head = refl; no_new_head = refl }
 name_starts : Starts a_name
 unfolding statements.statement_body names.block statements.if_ statements.for_await statements.for_ statements.while_ statements.do_while statements.switch statements.try_ statements.jump modules.module_item modules.import modules.import_equals modules.export modules.export_default is_reserved reserved_words
 name_starts = record { no_statement = refl; no_item = refl }
-
-name_undeclared : Undeclared a_name
-unfolding declarations.declaration functions.function_declaration classes.class_declaration is_reserved reserved_words
-name_undeclared = record { no_declaration = refl; no_word = refl }
 
 pub name_opens : Opens a_name
 unfolding prefixed is_reserved reserved_words
@@ -83,7 +79,6 @@ pub record Single (t : Tok) (k : Kind) : Type 0 where
   pub apart : IsPrimary (exactly t)
   pub opens : Opens (exactly t)
   pub starts : Starts (exactly t)
-  pub undeclared : Undeclared (exactly t)
   pub no_arrow : refuses_at (exactly t) (arrow false false) ≡ true
   pub no_label : refuses_at (exactly t) labeled ≡ true
   pub no_param : refuses_all (exactly t) param ≡ true
@@ -98,7 +93,6 @@ string_single raw = record {
   apart = record { no_head = refl; no_new_head = refl };
   opens = record { no_spread = refl; no_yield = refl; no_private = refl; no_prefix = refl; no_increment = refl; no_decrement = refl };
   starts = record { no_statement = refl; no_item = refl };
-  undeclared = record { no_declaration = refl; no_word = refl };
   no_arrow = refl;
   no_label = refl;
   no_param = refl;
@@ -114,7 +108,6 @@ number_single raw = record {
   apart = record { no_head = refl; no_new_head = refl };
   opens = record { no_spread = refl; no_yield = refl; no_private = refl; no_prefix = refl; no_increment = refl; no_decrement = refl };
   starts = record { no_statement = refl; no_item = refl };
-  undeclared = record { no_declaration = refl; no_word = refl };
   no_arrow = refl;
   no_label = refl;
   no_param = refl;
@@ -130,7 +123,6 @@ this_single = record {
   apart = record { no_head = refl; no_new_head = refl };
   opens = record { no_spread = refl; no_yield = refl; no_private = refl; no_prefix = refl; no_increment = refl; no_decrement = refl };
   starts = record { no_statement = refl; no_item = refl };
-  undeclared = record { no_declaration = refl; no_word = refl };
   no_arrow = refl;
   no_label = refl;
   no_param = refl;
@@ -146,7 +138,6 @@ big_int_single raw = record {
   apart = record { no_head = refl; no_new_head = refl };
   opens = record { no_spread = refl; no_yield = refl; no_private = refl; no_prefix = refl; no_increment = refl; no_decrement = refl };
   starts = record { no_statement = refl; no_item = refl };
-  undeclared = record { no_declaration = refl; no_word = refl };
   no_arrow = refl;
   no_label = refl;
   no_param = refl;
@@ -162,7 +153,6 @@ null_single = record {
   apart = record { no_head = refl; no_new_head = refl };
   opens = record { no_spread = refl; no_yield = refl; no_private = refl; no_prefix = refl; no_increment = refl; no_decrement = refl };
   starts = record { no_statement = refl; no_item = refl };
-  undeclared = record { no_declaration = refl; no_word = refl };
   no_arrow = refl;
   no_label = refl;
   no_param = refl;
@@ -178,7 +168,6 @@ true_single = record {
   apart = record { no_head = refl; no_new_head = refl };
   opens = record { no_spread = refl; no_yield = refl; no_private = refl; no_prefix = refl; no_increment = refl; no_decrement = refl };
   starts = record { no_statement = refl; no_item = refl };
-  undeclared = record { no_declaration = refl; no_word = refl };
   no_arrow = refl;
   no_label = refl;
   no_param = refl;
@@ -194,7 +183,6 @@ false_single = record {
   apart = record { no_head = refl; no_new_head = refl };
   opens = record { no_spread = refl; no_yield = refl; no_private = refl; no_prefix = refl; no_increment = refl; no_decrement = refl };
   starts = record { no_statement = refl; no_item = refl };
-  undeclared = record { no_declaration = refl; no_word = refl };
   no_arrow = refl;
   no_label = refl;
   no_param = refl;
@@ -216,7 +204,6 @@ regex_single body flags t = record {
   apart = record { no_head = refl; no_new_head = refl };
   opens = record { no_spread = refl; no_yield = refl; no_private = refl; no_prefix = refl; no_increment = refl; no_decrement = refl };
   starts = record { no_statement = refl; no_item = refl };
-  undeclared = record { no_declaration = refl; no_word = refl };
   no_arrow = refl;
   no_label = refl;
   no_param = refl;
@@ -266,8 +253,6 @@ module _ (assigned : Bool) where
     whole = refl;
     no_arrow = λ n g us e b z r. refused_at assigned (means assigned) (arrow n false) (exactly t) (it g t us) at_token (no_arrow_at (exactly t) S.no_arrow n);
     no_label = λ g us e b z. refused_at assigned (means assigned) labeled (exactly t) (it g t us) at_token S.no_label;
-    no_declaration = λ g us e b z. let u = S.undeclared in refused_at assigned (means assigned) declarations.declaration (exactly t) (it g t us) at_token u.no_declaration;
-    no_word = λ g us e b z. let u = S.undeclared in refused_at assigned (means assigned) excluded (exactly t) (it g t us) at_token u.no_word;
     as_param = λ g us e b z. no_param_at (exactly t) (it g t us) us at_token S.no_param S.no_end;
     with_default = λ g ts us n h. no_param_at (exactly t) (it g t (it blank (sign (codes "=")) ts)) us at_token S.no_param S.no_end;
   }
@@ -326,8 +311,6 @@ module _ (assigned : Bool) where
     whole = refl;
     no_arrow = name_no_arrow w n;
     no_label = name_no_label w n.free;
-    no_declaration = λ g us e b z. let u = name_undeclared in refused_at assigned (means assigned) declarations.declaration a_name (it g (items.key w) us) (at_name n) u.no_declaration;
-    no_word = λ g us e b z. let u = name_undeclared in refused_at assigned (means assigned) excluded a_name (it g (items.key w) us) (at_name n) u.no_word;
     as_param = name_as_param w n.free;
     with_default = name_with_default w n.free;
   }
@@ -377,8 +360,6 @@ module _ (assigned : Bool) where
       whole = refl;
       no_arrow = parenthesized_no_arrow;
       no_label = λ g us e b z. refused_at assigned (means assigned) labeled opening (it g (sign (codes "(")) (f no_gap (s (codes ")") us))) at_token refl;
-      no_declaration = λ g us e b z. refused_at assigned (means assigned) declarations.declaration opening (it g (sign (codes "(")) (f no_gap (s (codes ")") us))) at_token refl;
-      no_word = λ g us e b z. refused_at assigned (means assigned) excluded opening (it g (sign (codes "(")) (f no_gap (s (codes ")") us))) at_token refl;
       as_param = λ g us e b z. no_param_at opening (it g (sign (codes "(")) (f no_gap (s (codes ")") us))) us at_token refl refl;
       with_default = λ g ts us n h. no_param_at opening (it g (sign (codes "(")) (f no_gap (s (codes ")") (it blank (sign (codes "=")) ts)))) us at_token refl refl;
     }

@@ -104,6 +104,11 @@ module _ (assigned : Bool) where
       let p = means assigned in
       record { no_import = refused_at assigned p import f ts b c.0; no_import_equals = refused_at assigned p import_equals f ts b d.0; no_export = refused_at assigned p export f ts b e.0 }
 
+  -- no declaration begins there, and nothing that a statement does not begin with
+  pub record NoDeclaration (ts : Items) : Type 0 where
+    pub no_declaration : Refuses declaration ts
+    pub no_word : Refuses excluded ts
+
   -- no arrow function begins there, where the body of one does not follow
   abbrev pub NoArrow : Laid → Type 0
   NoArrow f = (no_in : Bool) (g : Gap) (us : Items) (e : Front) → Begins e us → refuses_at e (arrow_body no_in) ≡ true → Refuses (arrow_rest no_in false) us → Refuses (arrow no_in false) (f g us)
@@ -122,8 +127,6 @@ module _ (assigned : Bool) where
     -- what is tried before an expression
     pub no_arrow : NoArrow f
     pub no_label : (g : Gap) (us : Items) (e : Front) → Begins e us → refuses_at e (punct (codes ":")) ≡ true → Refuses labeled (f g us)
-    pub no_declaration : (g : Gap) (us : Items) (e : Front) → Begins e us → refuses_at e (word (codes "function")) ≡ true → Refuses declaration (f g us)
-    pub no_word : (g : Gap) (us : Items) (e : Front) → Begins e us → refuses_at e (word (codes "function")) ≡ true → Refuses excluded (f g us)
     pub as_param : (g : Gap) (us : Items) (e : Front) → Begins e us → refuses_at e (punct (codes "=")) ≡ true → AsParam (f g us) us
     -- with a default value
     pub with_default : (g : Gap) (ts vs : Items) (n : Node) → means assigned (part.Assign false false) ts ≡ read (n ∷ []) vs → AsParam (f g (it blank (sign (codes "=")) ts)) vs
@@ -155,8 +158,6 @@ module _ (assigned : Bool) where
     pub no_item : (g : Gap) (us : Items) → NoItem (f g us)
     pub no_spread : refuses_at front (punct (codes "...")) ≡ true
     pub no_label : (g : Gap) (us : Items) (e : Front) → Begins e us → refuses_at e (punct (codes ":")) ≡ true → Refuses labeled (f g us)
-    pub no_declaration : (g : Gap) (us : Items) (e : Front) → Begins e us → refuses_at e (word (codes "function")) ≡ true → Refuses declaration (f g us)
-    pub no_word : (g : Gap) (us : Items) (e : Front) → Begins e us → refuses_at e (word (codes "function")) ≡ true → Refuses excluded (f g us)
 
   abbrev pub lead_of : {f : Laid} {k : Kind} {ns : List Node} → Form f k ns → Lead f
   lead_of F =
@@ -168,8 +169,6 @@ module _ (assigned : Bool) where
         no_item = F.no_item;
         no_spread = o.no_spread;
         no_label = F.no_label;
-        no_declaration = F.no_declaration;
-        no_word = F.no_word;
       }
 
 -- an operator behind an expression: nothing that is tried before an expression goes on with it
@@ -190,7 +189,7 @@ begins_no_param e = refuses_all e param && ends_no_item e
 -- a token with which an expression begins, but nothing that is tried before one, other than by itself
 abbrev pub opens_plainly : Front → Bool
 opens_plainly e =
-    refuses_choices 9 e (without 1 statement_body) && (refuses_at e (punct (codes "...")) && (refuses_at e (arrow false false) && (refuses_at e labeled && (refuses_at e declaration && (refuses_at e excluded && begins_no_param e)))))
+    refuses_choices 9 e (without 1 statement_body) && (refuses_at e (punct (codes "...")) && (refuses_at e (arrow false false) && (refuses_at e labeled && begins_no_param e)))
 
 -- nor what stands in modules alone, `yield`, or a private name
 abbrev pub only_opens : Front → Bool
@@ -210,8 +209,6 @@ module _ (assigned : Bool) where
         no_item = λ g us. L.no_item g (it h t (rest us));
         no_spread = L.no_spread;
         no_label = λ g us k s r. L.no_label g (it h t (rest us)) e at_token c.0;
-        no_declaration = λ g us k s r. L.no_declaration g (it h t (rest us)) e at_token c.1;
-        no_word = λ g us k s r. L.no_word g (it h t (rest us)) e at_token c.1;
       }
 
   pub no_arrow_before : (f : Laid) → NoArrow assigned f → (t : Tok) → apart (exactly t) ≡ true → (h : Gap) (rest : Items → Items) → NoArrow assigned (λ g us. f g (it h t (rest us)))
@@ -237,8 +234,6 @@ module _ (assigned : Bool) where
       let c = and_parts (refuses_at e (punct (codes "..."))) _ a.1 in
       let y = and_parts (refuses_at e (arrow false false)) _ c.1 in
       let l = and_parts (refuses_at e labeled) _ y.1 in
-      let m = and_parts (refuses_at e declaration) _ l.1 in
-      let o = and_parts (refuses_at e excluded) _ m.1 in
       record {
         front = e;
         begins = λ g us. at_token;
@@ -246,8 +241,6 @@ module _ (assigned : Bool) where
         no_item = i;
         no_spread = c.0;
         no_label = λ g us k s r. refused_at assigned p labeled e (it g t (rest us)) at_token l.0;
-        no_declaration = λ g us k s r. refused_at assigned p declaration e (it g t (rest us)) at_token m.0;
-        no_word = λ g us k s r. refused_at assigned p excluded e (it g t (rest us)) at_token o.0;
       }
 
   pub no_item_by : (t : Tok) → only_opens (exactly t) ≡ true → (g : Gap) (us : Items) → NoItem assigned (it g t us)
@@ -281,9 +274,7 @@ module _ (assigned : Bool) where
       let c = and_parts (refuses_at e (punct (codes "..."))) _ a.1 in
       let y = and_parts (refuses_at e (arrow false false)) _ c.1 in
       let l = and_parts (refuses_at e labeled) _ y.1 in
-      let m = and_parts (refuses_at e declaration) _ l.1 in
-      let n = and_parts (refuses_at e excluded) _ m.1 in
-      let o = and_parts (refuses_all e param) _ n.1 in
+      let o = and_parts (refuses_all e param) _ l.1 in
       item_refused (all_refused assigned param e (it g t (rest us)) at_token o.0) e at_token o.1
 
   pub param_by : (t : Tok) → only_opens (exactly t) ≡ true → (rest : Items → Items) (g : Gap) (us : Items) → AsParam assigned (it g t (rest us)) us
@@ -306,8 +297,6 @@ module _ (assigned : Bool) where
         whole = whole;
         no_arrow = no_arrow_from t z rest;
         no_label = L.no_label;
-        no_declaration = L.no_declaration;
-        no_word = L.no_word;
         as_param = λ g us e b c. param_from t z rest g us;
         with_default = λ g ts vs n c. param_from t z (λ us. rest (it blank (sign (codes "=")) ts)) g vs;
       }
@@ -338,8 +327,6 @@ module _ (assigned : Bool) where
         whole = steps-append in_front_link None F.pieces m ∙ (ap (λ o. step_on in_front_link o m) F.whole ∙ ap Some made);
         no_arrow = λ n g us k q r i. F.no_arrow n g (it no_gap t (rest us)) e at_token a.0 (no_rest n us k q r);
         no_label = λ g us k q r. F.no_label g (it no_gap t (rest us)) e at_token c.0;
-        no_declaration = λ g us k q r. F.no_declaration g (it no_gap t (rest us)) e at_token c.1;
-        no_word = λ g us k q r. F.no_word g (it no_gap t (rest us)) e at_token c.1;
         as_param = λ g us k q r. linked_param assigned at_token y.0 y.1 (F.as_param g (it no_gap t (rest us)) e at_token x.0);
         with_default = λ g ts us n i. linked_param assigned at_token y.0 y.1 (F.as_param g (it no_gap t (rest (it blank (sign (codes "=")) ts))) e at_token x.0);
       }

@@ -45,6 +45,8 @@ is_head (kind.Regex body flags) = true
 is_head kind.SuperPropExpr = true
 is_head (kind.MetaPropExpr property) = true
 is_head kind.ObjectLit = true
+is_head kind.FnExpr = true
+is_head kind.ClassExpr = true
 is_head k = false
 
 stays_by : (k : Kind) → is_head k ≡ true → (bs : List Bool) → goes_on_by k bs ≡ false

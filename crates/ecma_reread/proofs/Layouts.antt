@@ -29,8 +29,8 @@ use Rattle.ecma_tokens.specs.Items.{Tok, sign, Gap, no_gap, Items, it, token_tex
 use Rattle.ecma_reread.specs.Shapes as shapes
 use Rattle.ecma_reread.specs.Shapes.{Level, looser_than, IsOperator, IsIdent, ident, IsKey, key, IsAbsent, IsExpression, IsElement, IsArguments, AreElements, AreExpressions, IsInitializer, IsDeclarator, AreDeclarators, AreSlots, IsMemberLevel, IsIndexed, IsProperty, IsPropertyName, AreProperties, Role, IsDefaulted, IsPattern, AreParts, IsChainKey}
 use Rattle.ecma_reread.specs.LiteralTexts.{part_opening, part_closing, part_text}
-use Rattle.ecma_reread.specs.Tokens.{own_sign, expression_tokens, element_tokens, arguments_tokens, more_tokens, more_slots_tokens, chain_token, property_tokens, ident_word, defaulted_tokens, pattern_tokens, part_token, parts_tokens, is_generator, is_async, function_tokens, property_name_tokens}
-use Rattle.ecma_reread.specs.Signs.{margin, blank, sign_of, assign_token, update_token, unary_token, binary_token, unary_gap, point_of, question_of, method_tokens}
+use Rattle.ecma_reread.specs.Tokens.{own_sign, expression_tokens, element_tokens, arguments_tokens, more_tokens, more_slots_tokens, chain_token, property_tokens, ident_word, defaulted_tokens, pattern_tokens, part_token, parts_tokens, is_generator, is_async, function_tokens, function_name_tokens, property_name_tokens}
+use Rattle.ecma_reread.specs.Signs.{margin, blank, sign_of, assign_token, update_token, unary_token, binary_token, unary_gap, function_word, point_of, question_of, method_tokens}
 
 pub laid_node : (at : Span) (k : Kind) (cs : List Node) → laid (node_of at k cs) ≡ record { kind = k; at = in_place k (map laid cs); parts = map by_itself (map laid cs) }
 laid_node at k cs = fold-roll-Node Laid lay_step (record { span = at; kind = k; children = cs })
@@ -152,6 +152,12 @@ within_laid is between spot m rest =
     rw p.is (at_node p.at p.kind p.children (Within between spot) m rest ∙ (within_by p.kind p.plain cs between spot m rest ∙ ap (before between m) (sym (at_node p.at p.kind p.children (At spot) m (after between m rest)))))
 
 -- the gap stands in front
+word_gap_out : (x y : Bool) (g : Gap) (us : Items) → render (function_word x y g us) ≡ g.blanks ++ render (function_word x y no_gap us)
+unfolding render
+word_gap_out x true g us = refl
+word_gap_out true false g us = refl
+word_gap_out false false g us = refl
+
 pub gap_out : {level : Level} {e : Node} (is : IsExpression level e) (depth : ℕ) (g : Gap) (us : Items) → render (expression_tokens is depth g us) ≡ g.blanks ++ render (expression_tokens is depth no_gap us)
 unfolding render
 gap_out (shapes.name i) depth g us = refl
@@ -201,6 +207,8 @@ gap_out (shapes.arrow_block at true ps b n n') depth g us = refl
 gap_out (shapes.arrow_block at false ps b n n') depth g us = refl
 gap_out (shapes.array at at' es) depth g us = refl
 gap_out (shapes.object_literal at at' ps) depth g us = refl
+gap_out (shapes.function_expression at i f) depth g us = word_gap_out (is_generator f) (is_async f) g (function_name_tokens i (function_tokens f depth us))
+gap_out (shapes.class_expression at i c) depth g us = refl
 gap_out (shapes.sequence_expression at x y es) depth g us = gap_out x depth g (sign_of (codes ",") (expression_tokens y depth blank (more_tokens es depth us)))
 
 pub pattern_gap_out : {n : Node} (is : IsPattern n) (depth : ℕ) (g : Gap) (us : Items) → render (pattern_tokens is depth g us) ≡ g.blanks ++ render (pattern_tokens is depth no_gap us)
@@ -279,10 +287,6 @@ pub binding_laid : (at : Span) {id : Node} (i : IsIdent id) (none : Node) (m : L
 unfolding render
 binding_laid at (ident of w i) n' m us =
     at_node at kind.BindingIdent (node_of of (kind.Ident w 0 false) [] ∷ n' ∷ []) (At (free 1)) m (render us) ∙ at_node of (kind.Ident w 0 false) [] (At (free 1)) m (render us)
-
-pub and_true : (b : Bool) → (b && true) ≡ false → b ≡ false
-and_true false h = refl
-and_true true h = absurd (false≢true (sym h))
 
 pub part_split : (f l : Bool) (raw x : List ℕ) → part_opening f ++ (raw ++ (part_closing l ++ x)) ≡ part_text f l raw ++ x
 part_split f l raw x = ap (λ z. part_opening f ++ z) (sym (append_assoc raw (part_closing l) x)) ∙ sym (append_assoc (part_opening f) (raw ++ part_closing l) x)

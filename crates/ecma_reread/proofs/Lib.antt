@@ -6,7 +6,7 @@ pub mod Unplaced
 pub mod UnplacedLinks
 pub mod UnplacedForms
 pub mod Simulation
-pub mod Braces
+pub mod Starts
 pub mod Fronts
 pub mod Towers
 pub mod Heads
@@ -46,6 +46,7 @@ pub mod Patterns
 pub mod Arrows
 pub mod Sequences
 pub mod Calls
+pub mod Undeclared
 pub mod Statements
 pub mod Sources
 pub mod Imports
@@ -54,6 +55,7 @@ pub mod Jumps
 pub mod Blocks
 pub mod Functions
 pub mod Classes
+pub mod FunctionExpressions
 pub mod MemberNames
 pub mod ClassMembers
 pub mod Methods

@@ -6,13 +6,12 @@ use Rattle.ecma_grammar.specs.Grammar.{Grammar}
 use Rattle.ecma_grammar.specs.productions.Types.{rest_pattern}
 use Rattle.ecma_grammar.specs.productions.Functions.{arrow}
 use Rattle.ecma_grammar.specs.productions.Primary.{primary}
-use Rattle.ecma_grammar.specs.productions.Declarations.{declaration}
 use Rattle.ecma_grammar.specs.productions.Statements.{labeled}
 use Rattle.ecma_tokens.specs.Items.{Tok, sign, Gap, Items, it}
 use Rattle.ecma_reread.specs.Machine.{means}
 use Rattle.ecma_reread.specs.Signs.{blank}
 use Rattle.ecma_reread.proofs.Fronts.{Front, exactly, at_token, refuses_at, refused_at}
-use Rattle.ecma_reread.proofs.Towers.{Tower, excluded, Opens, Starts}
+use Rattle.ecma_reread.proofs.Towers.{Tower, Opens, Starts}
 use Rattle.ecma_reread.proofs.Heads.{bare}
 use Rattle.ecma_reread.proofs.Forms.{Laid, Reads, begins_no_target, ends_no_item, Form, NewForm, no_item_at, no_arrow_at}
 use Rattle.ecma_reread.proofs.Expressions.{IsPrimary, primary_by, head_read, new_head_read}
@@ -27,8 +26,6 @@ pub record Literal (t : Tok) (base : Grammar) : Type 0 where
   pub starts : Starts (exactly t)
   pub no_arrow : refuses_at (exactly t) (arrow false false) ≡ true
   pub no_label : refuses_at (exactly t) labeled ≡ true
-  pub no_declaration : refuses_at (exactly t) declaration ≡ true
-  pub no_word : refuses_at (exactly t) excluded ≡ true
   pub no_rest : refuses_at (exactly t) rest_pattern ≡ true
   pub no_end : ends_no_item (exactly t) ≡ true
 
@@ -56,8 +53,6 @@ module _ (assigned : Bool) {t : Tok} {base : Grammar} (L : Literal t base) (rest
           whole = refl;
           no_arrow = λ n g us f b z r. refused_at assigned (means assigned) (arrow n false) e (literal g us) at_token (no_arrow_at e L.no_arrow n);
           no_label = λ g us f b z. refused_at assigned p labeled e (literal g us) at_token L.no_label;
-          no_declaration = λ g us f b z. refused_at assigned p declaration e (literal g us) at_token L.no_declaration;
-          no_word = λ g us f b z. refused_at assigned p excluded e (literal g us) at_token L.no_word;
           as_param = λ g us f b z.
               wholly_param assigned (literal g us) us us (refused_at assigned p rest_pattern e (literal g us) at_token L.no_rest) e at_token L.no_end (tried g us) [] (no_default assigned us f b z);
           with_default = λ g ts us n h.

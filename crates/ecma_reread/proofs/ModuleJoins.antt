@@ -28,7 +28,7 @@ item_apart (modules.export_bindings_from at at' c s w) us t = refl
 item_apart (modules.export_namespace at at' of x s w) us t = refl
 item_apart (modules.export_all at s w) us t = refl
 item_apart (modules.export_declaration at is d) us t = refl
-item_apart (modules.export_default at e) us t = refl
+item_apart (modules.export_default at e z) us t = refl
 item_apart (modules.export_default_function at at' i f) us t = refl
 item_apart (modules.export_default_class at at' i c) us t = refl
 item_apart (modules.import_require z at of true i s) us t = refl
@@ -190,7 +190,7 @@ module _ (words : Words) where
       (h, words.export_whole, refl, (blank_is, refl, refl, (blank_is, words.as_whole, refl, (blank_is, export_name_fine x, export_name_joins x (from_tokens s w (sign_of (codes ";") us)) parted, from_joined s w us (ended words us a j)))))
   item_joined (modules.export_all at s w) g h us a j = (h, words.export_whole, refl, (blank_is, refl, refl, from_joined s w us (ended words us a j)))
   item_joined (modules.export_declaration at is d) g h us a j = (h, words.export_whole, statement_apart is 0 blank blank_wide us (items.key (codes "export")), statement_joined words is 0 blank blank_is us a j)
-  item_joined (modules.export_default at e) g h us a j =
+  item_joined (modules.export_default at e z) g h us a j =
       let after = sign_of (codes ";") us in
       (h, words.export_whole, refl, (blank_is, words.default_whole, blank_joins (items.key (codes "default")) e 0 after, expression_joined words e 0 blank blank_is after semicolon (ended words us a j)))
   item_joined (modules.export_default_function at at' (shapes.unnamed n) f) g h us a j =

@@ -24,6 +24,8 @@ use Rattle.ecma_reread.specs.ModuleTokens.{module_head, spaced, spaced_word, spa
 use Rattle.ecma_reread.proofs.Layouts.{laid_node, at_node, gap_out}
 use Rattle.ecma_reread.proofs.Spots.{calm_default, calm_0}
 use Rattle.ecma_reread.proofs.StatementLayouts.{expression_laid, statement_laid, function_laid, class_laid}
+use Rattle.ecma_reread.specs.Starts.{is_declaration_word}
+use Rattle.ecma_reread.proofs.Starts.{start, starts_agree, default_start}
 use Rattle.ecma_reread.proofs.LayoutParts.{function_head_laid, function_name_laid, function_word_text}
 
 string_laid : {n : Node} (s : IsString n) (m rest : List ℕ) → (laid n).at (At (free 0)) m rest ≡ string_raw s ++ rest
@@ -200,10 +202,10 @@ item_laid (modules.export_all at {source = source} {attributes = attributes} s w
     ap (λ z. g.blanks ++ z) (sym (at_node at (kind.ExportAll false) (source ∷ attributes ∷ []) (At (free 0)) [] (render us) ∙ ap (λ z. codes "export * from" ++ z) (source_laid s w [] us)))
 item_laid (modules.export_declaration at {s = s} is d) g us =
     ap (λ z. g.blanks ++ z) (sym (at_node at kind.ExportDecl (s ∷ []) (At (free 0)) [] (render us) ∙ ap (λ z. codes "export" ++ z) (sym (statement_laid is 0 blank us))))
-item_laid (modules.export_default at {e = e'} e) g us =
+item_laid (modules.export_default at {e = e'} e z) g us =
     ap (λ z. g.blanks ++ z)
     (sym (at_node at kind.ExportDefaultExpr (e' ∷ []) (At (free 0)) [] (render us)
-    ∙ (ap (λ z. codes "export default " ++ z) (expression_laid e (beginning 1 DefaultStart false) calm_default refl 0 (sign_of (codes ";") us))
+    ∙ (ap (λ z. codes "export default " ++ z) (expression_laid e (beginning 1 DefaultStart false) calm_default (default_start (start e) (sym (ap is_declaration_word (starts_agree e)) ∙ z)) 0 (sign_of (codes ";") us))
     ∙ ap (λ z. codes "export default" ++ z) (sym (gap_out e 0 blank (sign_of (codes ";") us))))))
 item_laid (modules.export_default_function at at' {name = i'} {function = f'} i f) g us =
     let fs = function_tokens f 0 us in

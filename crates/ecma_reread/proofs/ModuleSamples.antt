@@ -1,5 +1,5 @@
 -- A module with imports and exports that has the shape, and its text.
-use Rattle.std.proofs.Common.{◌≡◌, ◌-◌, true, false, List, [], ◌∷◌, ◌++◌, length, refl, ◌∙◌, codes, Some}
+use Rattle.std.proofs.Common.{◌≡◌, ◌-◌, true, false, List, [], ◌∷◌, ◌++◌, length, refl, ◌∙◌, codes, Some, ap}
 use Rattle.std.proofs.lemmas.Str.{IsUtf8-from_is_utf8}
 use Rattle.std.specs.Str.{chars, is_utf8}
 use lib.Utf8.{encode}
@@ -16,6 +16,8 @@ use Rattle.ecma_print.specs.Layout.{layout}
 use Rattle.ecma_tokens.specs.Items.{render}
 use Rattle.ecma_tokens.specs.Good.{IsToken}
 use Rattle.ecma_reread.specs.Shapes.{name_pattern, ident, key, absent, name, no_initializer, declarator, no_declarators, declaration}
+use Rattle.ecma_reread.specs.Starts.{is_declaration_word}
+use Rattle.ecma_reread.proofs.Starts.{starts_agree}
 use Rattle.ecma_reread.specs.Modules.{string_literal, word_name, string_name, word_key, attribute, no_attributes, no_with, with_attributes, default_import, same_import, other_import, no_imports, more_imports, import_default_and_names, same_export, other_export, no_exports, more_exports, export_names, import_alone, import_bindings, export_bindings, export_all, export_declaration, export_default, import_require, no_items, more_items, IsHashbangText, IsModule, module_behind_hashbang}
 use Rattle.ecma_reread.specs.ModuleTokens.{module_head, module_tokens}
 use Rattle.ecma_reread.proofs.ModuleLayouts.{module_laid}
@@ -69,7 +71,7 @@ shape =
     (more_items (export_bindings at at (export_names (same_export at exported (absent at)) (more_exports (other_export at (word_name at (codes "async") (whole (codes "async") async_spelled)) (string_name source)) no_exports)) (absent at) (absent at))
     (more_items (export_all at source (no_with (absent at)))
     (more_items (export_declaration at (declaration at at Const (declarator at (name_pattern at id (absent at)) (no_initializer (absent at))) no_declarators) refl)
-    (more_items (export_default at (out 18 (name id)))
+    (more_items (export_default at (out 18 (name id)) (ap is_declaration_word (starts_agree (out 18 (name id)))))
     (more_items (import_require refl at at false id source) no_items)))))))
 
 text : module_head shape ++ render (module_tokens shape) ≡ codes "#!/bin/a\nimport \"m\";\nimport a, { async, default as a } from \"m\" with { a: \"m\" };\nexport { a, async as \"m\" };\nexport * from \"m\";\nexport const a;\nexport default a;\nimport a = require(\"m\");\n"

@@ -89,7 +89,7 @@ item_bare (modules.export_namespace at at' of {name = name} x s w) =
     (ap (λ x. x ∷ []) (without_spans-node of kind.ExportNamespaceSpecifier _ ∙ ap (λ x. bare kind.ExportNamespaceSpecifier (x ∷ [])) (export_name_bare x))) (string_bare s) (with_bare w)
 item_bare (modules.export_all at s w) = without_spans-node at (kind.ExportAll false) _ ∙ ap₂ (λ x y. bare (kind.ExportAll false) (x ∷ y ∷ [])) (string_bare s) (with_bare w)
 item_bare (modules.export_declaration at is d) = without_spans-node at kind.ExportDecl _ ∙ ap (λ x. bare kind.ExportDecl (x ∷ [])) (statement_bare is)
-item_bare (modules.export_default at e) = without_spans-node at kind.ExportDefaultExpr _ ∙ ap (λ x. bare kind.ExportDefaultExpr (x ∷ [])) (expression_bare e)
+item_bare (modules.export_default at e z) = without_spans-node at kind.ExportDefaultExpr _ ∙ ap (λ x. bare kind.ExportDefaultExpr (x ∷ [])) (expression_bare e)
 item_bare (modules.export_default_function at at' i f) =
     without_spans-node at kind.ExportDefaultDecl _ ∙ ap (λ x. bare kind.ExportDefaultDecl (x ∷ [])) (without_spans-node at' kind.FnExpr _ ∙ ap₂ (λ x y. bare kind.FnExpr (x ∷ y ∷ [])) (function_name_bare i) (function_bare f))
 item_bare (modules.export_default_class at at' i c) =

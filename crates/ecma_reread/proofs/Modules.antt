@@ -98,7 +98,7 @@ module _ (assigned : Bool) where
   item_closing (shapes.export_namespace at at' of x s w) us = record { front = exactly (items.key (codes "export")); begins = at_token; closes = refl }
   item_closing (shapes.export_all at s w) us = record { front = exactly (items.key (codes "export")); begins = at_token; closes = refl }
   item_closing (shapes.export_declaration at is d) us = record { front = exactly (items.key (codes "export")); begins = at_token; closes = refl }
-  item_closing (shapes.export_default at e) us = record { front = exactly (items.key (codes "export")); begins = at_token; closes = refl }
+  item_closing (shapes.export_default at e z) us = record { front = exactly (items.key (codes "export")); begins = at_token; closes = refl }
   item_closing (shapes.export_default_function at at' i f) us = record { front = exactly (items.key (codes "export")); begins = at_token; closes = refl }
   item_closing (shapes.export_default_class at at' i c) us = record { front = exactly (items.key (codes "export")); begins = at_token; closes = refl }
   item_closing (shapes.import_require z at of true i s) us = record { front = exactly (items.key (codes "export")); begins = at_token; closes = refl }
@@ -121,7 +121,7 @@ module _ (assigned : Bool) where
   module_item_read (shapes.export_namespace at at' of x s w) g us z = export_namespace_read assigned x s w g us
   module_item_read (shapes.export_all at s w) g us z = export_all_read assigned s w g us
   module_item_read (shapes.export_declaration at is d) g us z = export_declaration_read assigned is d g us
-  module_item_read (shapes.export_default at e) g us z = export_default_read assigned e g us
+  module_item_read (shapes.export_default at e s) g us z = export_default_read assigned e s g us
   module_item_read (shapes.export_default_function at at' i f) g us z = export_default_function_read assigned i f g us
   module_item_read (shapes.export_default_class at at' i c) g us z = export_default_class_read assigned i c g us
   module_item_read (shapes.import_require z at of is_export i s) g us c = import_require_read assigned z is_export i s g us

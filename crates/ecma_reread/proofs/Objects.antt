@@ -97,8 +97,6 @@ brace = record {
   starts = record { no_statement = refl; no_item = refl };
   no_arrow = refl;
   no_label = refl;
-  no_declaration = refl;
-  no_word = refl;
   no_rest = refl;
   no_end = refl;
 }

@@ -1,5 +1,5 @@
 -- A module that has the shape, and its text.
-use Rattle.std.proofs.Common.{◌≡◌, ℕ, zero, suc, false, true, [], ◌∷◌, refl, ◌∙◌, codes, None}
+use Rattle.std.proofs.Common.{◌≡◌, ℕ, zero, suc, false, true, [], ◌∷◌, refl, ◌∙◌, codes, None, ap}
 use Rattle.std.proofs.lemmas.Str.{IsUtf8-from_is_utf8}
 use Rattle.std.specs.Str.{chars, is_utf8}
 use lib.Utf8.{encode}
@@ -26,7 +26,8 @@ use Rattle.ecma_reread.specs.ModuleTokens.{module_tokens}
 use Rattle.ecma_reread.proofs.Bindings.{further_out}
 use Rattle.ecma_reread.proofs.ModuleLayouts.{module_laid}
 use Rattle.ecma_reread.proofs.Words.{whole, async_spelled}
-use Rattle.ecma_reread.proofs.Braces.{begins_with_brace, braces_agree}
+use Rattle.ecma_reread.specs.Starts.{other_start, is_brace}
+use Rattle.ecma_reread.proofs.Starts.{start, starts_agree}
 
 abbrev pub at : Span
 at = record { lo = 3; hi = 5 }
@@ -98,8 +99,8 @@ bound_names =
     ∷ node_of at kind.RestPat (bound_a ∷ gone ∷ []) ∷ [])
     ∷ gone ∷ [])
 
-abbrev pub plainly : {level : Level} {e : Node} (is : IsExpression level e) → begins_with_brace is ≡ false → IsStatement closed (node_of at kind.ExprStmt (e ∷ []))
-plainly is h = expression at is (braces_agree is ∙ h)
+abbrev pub plainly : {level : Level} {e : Node} (is : IsExpression level e) → start is ≡ other_start → IsStatement closed (node_of at kind.ExprStmt (e ∷ []))
+plainly is h = expression at is (starts_agree is ∙ h)
 
 abbrev chooser : Node
 chooser =
@@ -145,7 +146,7 @@ shape =
     (filled (rest at bound_a (absent at)) no_slots)))
     (absent at) in
     let chosen =
-    arrow_function at true (arguments at (bound (with_default at bound_a value)) (more_elements (rest at bound_a (absent at)) no_elements)) value (braces_agree value) (absent at) (absent at) in
+    arrow_function at true (arguments at (bound (with_default at bound_a value)) (more_elements (rest at bound_a (absent at)) no_elements)) value (ap is_brace (starts_agree value)) (absent at) (absent at) in
     module_of at at
     (more_items (statement (declaration at at Const (declarator at (name_pattern at async' (absent at)) (initializer (out 18 (parenthesized at (this_word at))))) (more_declarators (declarator at names (initializer value)) no_declarators)))
     (more_items (statement (plainly (call at (out 2 (member at member_of_new (name id) (plain_key (key at (codes "a") it')))) (arguments at (spread at (out 18 (name id))) (more_elements (one (out 18 slots)) no_elements)) (absent at)) refl))

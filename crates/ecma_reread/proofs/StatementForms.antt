@@ -32,7 +32,10 @@ use Rattle.ecma_reread.proofs.ForLoops.{OptionalForm, for_loop_form, for_in_form
 use Rattle.ecma_reread.proofs.Labels.{labeled_form, break_label_form, continue_label_form}
 use Rattle.ecma_reread.proofs.Functions.{function_form}
 use Rattle.ecma_reread.proofs.HeadForms.{tightly, member_tight, index_tight, no_in_there}
-use Rattle.ecma_reread.proofs.Braces.{braces_agree}
+use Rattle.ecma_reread.specs.Starts.{is_brace, is_declaration_word}
+use Rattle.ecma_reread.proofs.Starts.{starts_agree}
+use Rattle.ecma_reread.proofs.Undeclared.{undeclared}
+use Rattle.ecma_reread.proofs.FunctionExpressions.{function_new, class_new}
 use Rattle.std.proofs.lemmas.Bool.{false≢true}
 use Rattle.ecma_tree.specs.Nodes.{list_node}
 use Rattle.ecma_reread.proofs.Forms.{s}
@@ -106,12 +109,14 @@ module _ (assigned : Bool) where
     expression_form (shapes.yield_value at d e) depth = yield_form assigned (expression_form e depth) d (no_new_line e depth) (λ us. ap taken (no_star e depth blank us))
     expression_form (shapes.assignment_expression at o t v) depth = assignment_form assigned o (expression_form t depth) (expression_form v depth)
     expression_form (shapes.conditional_expression at t x y) depth = choice_form assigned (expression_form t depth) (expression_form x depth) (expression_form y depth)
-    expression_form (shapes.arrow_function at true ps e z a b) depth = async_arrow_form assigned ps depth (argument_forms ps depth) (expression_body assigned (expression_form e depth) (λ g us. ap taken (no_brace e depth (sym (braces_agree e) ∙ z) g us)))
-    expression_form (shapes.arrow_function at false ps e z a b) depth = arrow_form assigned ps depth (argument_forms ps depth) (expression_body assigned (expression_form e depth) (λ g us. ap taken (no_brace e depth (sym (braces_agree e) ∙ z) g us)))
+    expression_form (shapes.arrow_function at true ps e z a b) depth = async_arrow_form assigned ps depth (argument_forms ps depth) (expression_body assigned (expression_form e depth) (λ g us. ap taken (no_brace e depth (sym (ap is_brace (starts_agree e)) ∙ z) g us)))
+    expression_form (shapes.arrow_function at false ps e z a b) depth = arrow_form assigned ps depth (argument_forms ps depth) (expression_body assigned (expression_form e depth) (λ g us. ap taken (no_brace e depth (sym (ap is_brace (starts_agree e)) ∙ z) g us)))
     expression_form (shapes.arrow_block at true ps b n n') depth = async_arrow_form assigned ps depth (argument_forms ps depth) (block_body assigned (block_form b depth))
     expression_form (shapes.arrow_block at false ps b n n') depth = arrow_form assigned ps depth (argument_forms ps depth) (block_body assigned (block_form b depth))
     expression_form (shapes.array at at' es) depth = from_new assigned refl (array_new assigned es depth (slot_forms es depth))
     expression_form (shapes.object_literal at at' ps) depth = from_new assigned refl (object_new assigned ps depth (property_forms ps depth))
+    expression_form (shapes.function_expression at i (shapes.function_of at' at'' x y ps ws b a a')) depth = from_new assigned refl (function_new assigned ps depth (argument_forms ps depth) (block_form b depth) x y i)
+    expression_form (shapes.class_expression at i (shapes.class_of at' at'' at''' {ms = ms'} h ms a a')) depth = from_new assigned refl (class_new assigned (member_forms ms (suc depth)) (closing_gap ms' depth) h depth (heritage_form h depth) i)
     expression_form (shapes.sequence_expression at x y es) depth = sequence_form assigned (expression_form x depth) (expression_form y depth) es depth (expression_forms es depth)
 
     pub argument_forms : {role : Role} {n : Node} (is : IsArguments role n) (depth : ℕ) → ArgumentForms assigned is depth
@@ -214,11 +219,11 @@ module _ (assigned : Bool) where
     head_form (shapes.arrow_function at false {params = ps'} {body = e'} {none = n} {none' = n'} ps e z a b) depth h S =
         let c = neither (may_hold_in ps') _ (sym (may_hold_node at (kind.ArrowExpr false false) (ps' ∷ e' ∷ n ∷ n' ∷ [])) ∙ h) in
         let d = neither (may_hold_in e') _ c.1 in
-        record { lead = S.lead; tight = S.tight; no_or = S.no_or; no_arrow = S.no_arrow; param = S.param; reading = arrow_read assigned ps depth (argument_forms ps depth) (expression_body assigned (head_form e depth d.0 (expression_form e depth)) (λ g us. ap taken (no_brace e depth (sym (braces_agree e) ∙ z) g us))) }
+        record { lead = S.lead; tight = S.tight; no_or = S.no_or; no_arrow = S.no_arrow; param = S.param; reading = arrow_read assigned ps depth (argument_forms ps depth) (expression_body assigned (head_form e depth d.0 (expression_form e depth)) (λ g us. ap taken (no_brace e depth (sym (ap is_brace (starts_agree e)) ∙ z) g us))) }
     head_form (shapes.arrow_function at true {params = ps'} {body = e'} {none = n} {none' = n'} ps e z a b) depth h S =
         let c = neither (may_hold_in ps') _ (sym (may_hold_node at (kind.ArrowExpr true false) (ps' ∷ e' ∷ n ∷ n' ∷ [])) ∙ h) in
         let d = neither (may_hold_in e') _ c.1 in
-        record { lead = S.lead; tight = S.tight; no_or = S.no_or; no_arrow = S.no_arrow; param = S.param; reading = async_arrow_read assigned ps depth (argument_forms ps depth) (expression_body assigned (head_form e depth d.0 (expression_form e depth)) (λ g us. ap taken (no_brace e depth (sym (braces_agree e) ∙ z) g us))) }
+        record { lead = S.lead; tight = S.tight; no_or = S.no_or; no_arrow = S.no_arrow; param = S.param; reading = async_arrow_read assigned ps depth (argument_forms ps depth) (expression_body assigned (head_form e depth d.0 (expression_form e depth)) (λ g us. ap taken (no_brace e depth (sym (ap is_brace (starts_agree e)) ∙ z) g us))) }
     head_form (shapes.arrow_block at false ps b n n') depth h S =
         record { lead = S.lead; tight = S.tight; no_or = S.no_or; no_arrow = S.no_arrow; param = S.param; reading = arrow_read assigned ps depth (argument_forms ps depth) (block_body assigned (block_form b depth)) }
     head_form (shapes.arrow_block at true ps b n n') depth h S =
@@ -290,7 +295,7 @@ module _ (assigned : Bool) where
     statement_form (shapes.return_nothing at a) d = return_form assigned
     statement_form (shapes.break_nothing at a) d = break_form assigned
     statement_form (shapes.continue_nothing at a) d = continue_form assigned
-    statement_form (shapes.expression at e z) d = expression_statement_form assigned (standing assigned (expression_form e d)) (λ g us. ap taken (no_brace e d (sym (braces_agree e) ∙ z) g us))
+    statement_form (shapes.expression at e z) d = expression_statement_form assigned (standing assigned (expression_form e d)) (λ g us. ap taken (no_brace e d (ap is_brace (sym (starts_agree e) ∙ z)) g us)) (λ g us. undeclared assigned e d (ap is_declaration_word (sym (starts_agree e) ∙ z)) g (s (codes ";") us) refl)
     statement_form (shapes.declaration at at' k i is) d = declaration_form assigned k i is d (declarator_form i d) (declarator_forms is d)
     statement_form (shapes.break_label at i) d = break_label_form assigned (ident_word i) (ident_free assigned i)
     statement_form (shapes.continue_label at i) d = continue_label_form assigned (ident_word i) (ident_free assigned i)

@@ -102,6 +102,14 @@ module _ (words : Words) where
         (h, refl, k.2, k.3)
     expression_joined (shapes.array at at' es) depth g h us z j = (h, refl, slots_open es depth us, slots_joined es depth us (no_gap_is, refl, bracket_soft z, j))
     expression_joined (shapes.object_literal at at' ps) depth g h us z j = (h, refl, properties_open ps depth us, properties_joined ps depth us (brace_soft z) j)
+    expression_joined (shapes.function_expression at (shapes.unnamed n) f) depth g h us z j =
+        function_word_joined words (is_generator f) (is_async f) g h (function_tokens f depth us) (function_opens f depth us (items.key (codes "function")) refl) (function_opens f depth us (sign (codes "*")) refl) (function_joined f depth us (brace_soft z) j)
+    expression_joined (shapes.function_expression at (shapes.function_name i) f) depth g h us z j =
+        let fs = function_tokens f depth us in
+        function_word_joined words (is_generator f) (is_async f) g h (it blank (items.key (ident_word i)) fs) refl refl (blank_is, ident_whole i, function_opens f depth us (items.key (ident_word i)) refl, function_joined f depth us (brace_soft z) j)
+    expression_joined (shapes.class_expression at (shapes.unnamed n) c) depth g h us z j = (h, words.class_whole, class_apart c depth us (items.key (codes "class")), class_joined c depth us (brace_soft z) j)
+    expression_joined (shapes.class_expression at (shapes.function_name i) c) depth g h us z j =
+        (h, words.class_whole, refl, (blank_is, ident_whole i, class_apart c depth us (items.key (ident_word i)), class_joined c depth us (brace_soft z) j))
     expression_joined (shapes.sequence_expression at x y es) depth g h us z j =
         let rest = more_tokens es depth us in
         expression_joined x depth g h (sign_of (codes ",") (expression_tokens y depth blank rest)) comma (no_gap_is, refl, blank_joins (sign (codes ",")) y depth rest, expression_joined y depth blank blank_is rest (more_soft words es depth z) (more_joined es depth us z j))

@@ -3,7 +3,7 @@ use Rattle.ecma_kind.specs.declared.operators.BinaryOp.TheVariants as op
 use Rattle.ecma_kind.specs.declared.kind.Kind.TheVariants as kind
 use Rattle.ecma_tokens.specs.Items as items
 use Rattle.ecma_reread.specs.Shapes as shapes
-use Rattle.std.proofs.Common.{◌≡◌, ℕ, suc, Bool, true, false, List, [], ◌∷◌, ◌++◌, map, codes, refl, ap, sym, ◌∙◌, None, ◌&&◌, arith, append_assoc}
+use Rattle.std.proofs.Common.{◌≡◌, ℕ, suc, Bool, true, false, List, [], ◌∷◌, ◌++◌, map, codes, refl, ap, sym, ◌∙◌, None, arith, append_assoc}
 use Rattle.ecma_kind.specs.declared.operators.MethodKind.TheVariants.{Method}
 use Rattle.ecma_tree.specs.declared.node.Node.{Node}
 use Rattle.ecma_tree.specs.Nodes.{node_of}
@@ -22,22 +22,23 @@ use Rattle.ecma_tokens.specs.Items.{sign, Gap, no_gap, Items, it, render, token_
 use Rattle.ecma_reread.specs.Shapes.{Level, IsExpression, IsDeclarator, AreDeclarators, Ending, IsStatement, IsBlock, IsCase, AreCases, IsCatch, AreStatements, IsOptional, IsForLeft, IsInitializer, IsForInit, IsPattern, IsFunction, IsHeritage, IsClass, IsMember, AreMembers, IsMemberName, is_private, ident, IsElement, IsArguments, AreElements, AreExpressions, AreSlots, IsProperty, IsPropertyName, AreProperties, Role, IsDefaulted, AreParts}
 use Rattle.ecma_reread.specs.LiteralTexts.{part_opening}
 use Rattle.ecma_reread.specs.MemberKinds.{accessor_kind}
-use Rattle.ecma_reread.specs.Tokens.{expression_tokens, declarator_tokens, declarators_tokens, is_braced, test_tokens, statement_tokens, block_tokens, case_tokens, cases_tokens, catch_tokens, lined_tokens, optional_tokens, for_left_tokens, initializer_tokens, for_init_tokens, arguments_tokens, is_generator, is_async, function_tokens, ident_word, heritage_tokens, class_tokens, member_tokens, members_tokens, member_name_tokens, own_sign, element_tokens, elements_tokens, more_tokens, slots_tokens, more_slots_tokens, chain_token, property_tokens, property_name_tokens, properties_tokens, more_properties_tokens, defaulted_tokens, pattern_tokens, part_token, parts_tokens}
+use Rattle.ecma_reread.specs.Tokens.{expression_tokens, declarator_tokens, declarators_tokens, is_braced, test_tokens, statement_tokens, block_tokens, case_tokens, cases_tokens, catch_tokens, lined_tokens, optional_tokens, for_left_tokens, initializer_tokens, for_init_tokens, arguments_tokens, is_generator, is_async, function_tokens, ident_word, heritage_tokens, class_tokens, member_tokens, members_tokens, member_name_tokens, own_sign, element_tokens, elements_tokens, more_tokens, slots_tokens, more_slots_tokens, chain_token, property_tokens, property_name_tokens, properties_tokens, more_properties_tokens, defaulted_tokens, pattern_tokens, part_token, parts_tokens, function_name_tokens}
 use Rattle.ecma_reread.specs.Signs.{margin, line_at, blank, sign_of, closing_gap, branch_gap, method_tokens, accessor_text, assign_token, update_token, unary_token, binary_token, unary_gap, point_of, question_of}
-use Rattle.ecma_reread.proofs.Layouts.{laid_node, at_node, no_sign, word_gap, update_text, no_gap_before, and_false, assign_text, arguments_there, within_laid, gap_out, pattern_gap_out, defaulted_gap_out, element_gap_out, property_gap_out, slots_gap_out, element_there, value_laid, binding_laid, and_true, part_split, link_beside, link_asks, question_text, dot_text, key_named, key_laid, no_pattern}
+use Rattle.ecma_reread.proofs.Layouts.{laid_node, at_node, no_sign, word_gap, update_text, no_gap_before, and_false, assign_text, arguments_there, within_laid, gap_out, pattern_gap_out, defaulted_gap_out, element_gap_out, property_gap_out, slots_gap_out, element_there, value_laid, binding_laid, part_split, link_beside, link_asks, question_text, dot_text, key_named, key_laid, no_pattern}
 use Rattle.ecma_reread.proofs.Spots.{calm_start, calm_0, calm_1, quiet, before_dot, number_of, Calm, tightly, calmer, same_low, under_logical, under_nullish, before_link, index_calm, member_low, index_low, further, update_calm, unary_calm, operator_calls, printed, head_calm, callee_calm, chain_calm}
 use Rattle.ecma_reread.proofs.HeadLayouts.{head_laid}
-use Rattle.ecma_reread.proofs.Braces.{braces_agree, begins_with_brace}
+use Rattle.ecma_reread.specs.Starts.{is_brace}
+use Rattle.ecma_reread.proofs.Starts.{start, starts_agree, misread, brace_stands, word_stands, statement_start, body_start}
 use Rattle.ecma_kind.specs.declared.operators.MetaPropKind.TheVariants.{NewTarget, ImportMeta}
 use Rattle.ecma_print.specs.Operators.{assign_word, unary_word, unary_sign, update_sign, binary_word}
 use Rattle.ecma_print.specs.Expressions.{more_of_sequence, callee_spot, template_parts, link_of, question_dot}
 use Rattle.ecma_lex.specs.Templates.{template_value}
-use Rattle.ecma_reread.proofs.LayoutParts.{argument_laid, keyword_laid, head_spot, head_commas, for_laid, for_gap, in_braces, within_there, no_absent, pattern_seen, block_seen, statement_seen, params_laid, function_head_laid, method_head_laid, name_gap_out, method_text, accessor_written, static_text, method_node, field_node, blank_name_laid, function_word_text, block_again, block_behind_arrow, function_body_laid, body_laid, else_laid, finally_laid, branch_text, test_laid}
+use Rattle.ecma_reread.proofs.LayoutParts.{argument_laid, keyword_laid, head_spot, head_commas, for_laid, for_gap, in_braces, within_there, no_absent, pattern_seen, block_seen, statement_seen, params_laid, function_head_laid, method_head_laid, name_gap_out, method_text, accessor_written, static_text, method_node, field_node, blank_name_laid, function_word_text, block_again, block_behind_arrow, function_body_laid, body_laid, else_laid, finally_laid, branch_text, test_laid, function_name_laid}
 
 mutual
   unfolding render
 
-  pub expression_laid : {level : Level} {e : Node} (is : IsExpression level e) (spot : Spot) → Calm level spot → (opens_a_block spot.begins && begins_with_brace is) ≡ false → (depth : ℕ) (us : Items) → (laid e).at (At spot) (margin depth) (render us) ≡ gap spot.beside (own_sign is) ++ render (expression_tokens is depth no_gap us)
+  pub expression_laid : {level : Level} {e : Node} (is : IsExpression level e) (spot : Spot) → Calm level spot → misread spot.begins (start is) ≡ false → (depth : ℕ) (us : Items) → (laid e).at (At spot) (margin depth) (render us) ≡ gap spot.beside (own_sign is) ++ render (expression_tokens is depth no_gap us)
   expression_laid (shapes.looser e) spot c q depth us = expression_laid e spot (calmer c) q depth us
   expression_laid (shapes.name (ident at w i)) spot c q depth us = at_node at (kind.Ident w 0 false) [] (At spot) (margin depth) (render us) ∙ rw (c.low, no_sign spot.beside) refl
   expression_laid (shapes.string at raw t) spot c q depth us = at_node at _ [] (At spot) (margin depth) (render us) ∙ rw (c.low, no_sign spot.beside) refl
@@ -189,14 +190,14 @@ mutual
       at_node at (kind.ArrowExpr true false) (p' ∷ e' ∷ n' ∷ n'' ∷ []) (At spot) (margin depth) (render us)
       ∙ rw (c.low, no_sign spot.beside)
       (ap (λ z. codes "async " ++ z)
-      (ap (λ z. (laid p').at Arguments (margin depth) z) (ap (λ z. codes " => " ++ z) (expression_laid e body (quiet refl c.with_in refl refl) (sym (braces_agree e) ∙ z) depth us) ∙ ap (λ z. codes " =>" ++ z) (sym (gap_out e depth blank us)))
+      (ap (λ z. (laid p').at Arguments (margin depth) z) (ap (λ z. codes " => " ++ z) (expression_laid e body (quiet refl c.with_in refl refl) (body_start (start e) (sym (ap is_brace (starts_agree e)) ∙ z)) depth us) ∙ ap (λ z. codes " =>" ++ z) (sym (gap_out e depth blank us)))
       ∙ arguments_laid ps depth rest))
   expression_laid (shapes.arrow_function at false {params = p'} {body = e'} {none = n'} {none' = n''} ps e z a b) spot c q depth us =
       let body = beginning 1 ArrowBodyStart spot.without_in in
       let rest = it blank (sign (codes "=>")) (expression_tokens e depth blank us) in
       at_node at (kind.ArrowExpr false false) (p' ∷ e' ∷ n' ∷ n'' ∷ []) (At spot) (margin depth) (render us)
       ∙ rw (c.low, no_sign spot.beside)
-      (ap (λ z. (laid p').at Arguments (margin depth) z) (ap (λ z. codes " => " ++ z) (expression_laid e body (quiet refl c.with_in refl refl) (sym (braces_agree e) ∙ z) depth us) ∙ ap (λ z. codes " =>" ++ z) (sym (gap_out e depth blank us)))
+      (ap (λ z. (laid p').at Arguments (margin depth) z) (ap (λ z. codes " => " ++ z) (expression_laid e body (quiet refl c.with_in refl refl) (body_start (start e) (sym (ap is_brace (starts_agree e)) ∙ z)) depth us) ∙ ap (λ z. codes " =>" ++ z) (sym (gap_out e depth blank us)))
       ∙ arguments_laid ps depth rest)
   expression_laid (shapes.arrow_block at true {params = p'} {body = b'} {none = n'} {none' = n''} ps b x y) spot c q depth us =
       let rest = it blank (sign (codes "=>")) (block_tokens b depth blank us) in
@@ -214,7 +215,22 @@ mutual
   expression_laid (shapes.array at at' {slots = ns} es) spot c q depth us =
       at_node at kind.ArrayLit (node_of at' kind.List ns ∷ []) (At spot) (margin depth) (render us) ∙ rw (c.low, no_sign spot.beside) (at_node at' kind.List ns Brackets (margin depth) (render us) ∙ slots_laid es depth us)
   expression_laid (shapes.object_literal at at' {properties = ns} ps) spot c q depth us =
-      at_node at kind.ObjectLit (node_of at' kind.List ns ∷ []) (At spot) (margin depth) (render us) ∙ rw (c.low, and_true (opens_a_block spot.begins) q, no_sign spot.beside) (at_node at' kind.List ns Braces (margin depth) (render us) ∙ properties_laid ps depth us)
+      at_node at kind.ObjectLit (node_of at' kind.List ns ∷ []) (At spot) (margin depth) (render us) ∙ rw (c.low, brace_stands spot.begins q, no_sign spot.beside) (at_node at' kind.List ns Braces (margin depth) (render us) ∙ properties_laid ps depth us)
+  expression_laid (shapes.function_expression at {name = i'} {function = f'} i f) spot c q depth us =
+      let m = margin depth in
+      let fs = function_tokens f depth us in
+      let x = is_generator f in
+      let y = is_async f in
+      at_node at kind.FnExpr (i' ∷ f' ∷ []) (At spot) m (render us)
+      ∙ rw (c.low, word_stands spot.begins q, no_sign spot.beside)
+      (function_head_laid f m ((laid i').at (Within Blank (free 1)) m ((laid f').at (At (free 1)) m (render us)))
+      ∙ (ap (λ z. function_head (kind.Function x y) ++ z) (ap (λ z. (laid i').at (Within Blank (free 1)) m z) (function_laid f depth us) ∙ function_name_laid i m fs)
+      ∙ sym (function_word_text x y no_gap (function_name_tokens i fs))))
+  expression_laid (shapes.class_expression at {name = i'} {class = c'} i d) spot c q depth us =
+      let m = margin depth in
+      at_node at kind.ClassExpr (i' ∷ c' ∷ []) (At spot) m (render us)
+      ∙ rw (c.low, word_stands spot.begins q, no_sign spot.beside)
+      (ap (λ z. codes "class" ++ z) (ap (λ z. (laid i').at (Within Blank (free 1)) m z) (class_laid d depth us) ∙ function_name_laid i m (class_tokens d depth us)))
   expression_laid (shapes.sequence_expression at {first = x'} {second = y'} {more = es'} x y es) spot c q depth us =
       let rest = more_tokens es depth us in
       at_node at kind.SeqExpr (x' ∷ y' ∷ es') (At spot) (margin depth) (render us)
@@ -428,7 +444,7 @@ mutual
       gap_out e d g (sign_of (codes ";") us)
       ∙ ap (λ z. g.blanks ++ z)
       (sym (at_node at kind.ExprStmt (e' ∷ []) (At (free 0)) (margin d) (render us)
-      ∙ expression_laid e (beginning 0 StatementStart false) (calm_start l) (sym (braces_agree e) ∙ z) d (sign_of (codes ";") us)))
+      ∙ expression_laid e (beginning 0 StatementStart false) (calm_start l) (statement_start (start e) (sym (starts_agree e) ∙ z)) d (sign_of (codes ";") us)))
   statement_laid (shapes.declaration at at' k i is) d g us = ap (λ z. g.blanks ++ z) (sym (keyword_laid k i is at at' d us (more_declarators_laid is d us) (declarator_laid i d (declarators_tokens is d (sign_of (codes ";") us)))))
   statement_laid (shapes.break_label at (shapes.ident of w i)) d g us =
       ap (λ z. g.blanks ++ z)

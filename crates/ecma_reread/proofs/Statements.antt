@@ -29,7 +29,7 @@ use Rattle.ecma_reread.specs.Bare.{bare}
 use Rattle.ecma_reread.proofs.Levels.{means_is}
 use Rattle.ecma_reread.proofs.Fronts.{Front, exactly, Begins, at_token, refuses_at, refuses_all, all_refused, a_name, the_end, is_known}
 use Rattle.ecma_reread.proofs.Towers.{skipped, refuses_choices, excluded}
-use Rattle.ecma_reread.proofs.Forms.{Laid, s, Reads, Refuses, NoItem, no_item_at}
+use Rattle.ecma_reread.proofs.Forms.{Laid, s, Reads, Refuses, NoItem, no_item_at, NoDeclaration}
 use Rattle.ecma_reread.proofs.Bindings.{Stands, expression_read}
 use Rattle.ecma_reread.proofs.Expressions.{semicolon_ends}
 
@@ -134,14 +134,15 @@ module _ (assigned : Bool) where
     pub lead_closes : (let L = S.lead in closes_statement shapes.dangling L.front ≡ true)
     lead_closes = rw (no_word_there (codes "else") else_known no_else, no_word_there (codes "finally") finally_known no_finally) refl
 
-  module _ {f : Laid} {k : Kind} {ns : List Node} (S : Stands assigned shapes.sequence f k ns) (no_block : (g : Gap) (us : Items) → Refuses assigned (punct (codes "{")) (f g us)) where
+  module _ {f : Laid} {k : Kind} {ns : List Node} (S : Stands assigned shapes.sequence f k ns) (no_block : (g : Gap) (us : Items) → Refuses assigned (punct (codes "{")) (f g us))
+      (undeclared : (g : Gap) (us : Items) → NoDeclaration assigned (f g (s (codes ";") us))) where
     expression_statement_read : (g : Gap) (us : Items) → Reads assigned expression_statement (f g (s (codes ";") us)) (bare kind.ExprStmt (bare k ns ∷ []) ∷ []) us
     unfolding expression_statement
     expression_statement_read g us =
         let I = interp assigned (means assigned) in
         let ts = f g (s (codes ";") us) in
-        let L = S.lead in
-        ap (built_on (form.Node plain.ExprStmt)) (ap (followed_on (I (expression false ▸ end))) (ap (unless_on ts) (ap (or_on (I excluded) ts) (no_block g (s (codes ";") us)) ∙ L.no_word g (s (codes ";") us) (exactly (sign (codes ";"))) at_token refl))
+        let U = undeclared g us in
+        ap (built_on (form.Node plain.ExprStmt)) (ap (followed_on (I (expression false ▸ end))) (ap (unless_on ts) (ap (or_on (I excluded) ts) (no_block g (s (codes ";") us)) ∙ U.no_word))
         ∙ ap (with_front []) (ap (followed_on (I end)) (expression_read assigned S g (s (codes ";") us) (exactly (sign (codes ";"))) at_token semicolon_ends refl)))
 
     statement_read : (g : Gap) (us : Items) → means assigned part.Statement (f g (s (codes ";") us)) ≡ read (bare kind.ExprStmt (bare k ns ∷ []) ∷ []) us
@@ -150,12 +151,13 @@ module _ (assigned : Bool) where
         let I = interp assigned (means assigned) in
         let ts = f g (s (codes ";") us) in
         let L = S.lead in
+        let U = undeclared g us in
         let b = L.begins g (s (codes ";") us) in
         means_is assigned part.Statement ts
         ∙ (ap (or_on (I (without 1 statement_body)) ts) (ap (built_on (form.Node plain.BlockStmt)) (ap (followed_on (I (grammar.list (grammar.many names.statement) ▸ punct (codes "}")))) (no_block g (s (codes ";") us))))
         ∙ (skipped assigned (means assigned) 9 (without 1 statement_body) L.front ts b L.no_statement
         ∙ (ap (or_on (I (declaration // expression_statement)) ts) (L.no_label g (s (codes ";") us) (exactly (sign (codes ";"))) at_token refl)
-        ∙ (ap (or_on (I expression_statement) ts) (L.no_declaration g (s (codes ";") us) (exactly (sign (codes ";"))) at_token refl) ∙ expression_statement_read g us))))
+        ∙ (ap (or_on (I expression_statement) ts) U.no_declaration ∙ expression_statement_read g us))))
 
     pub expression_statement_form : ReadAsStatement shapes.closed (λ g us. f g (s (codes ";") us)) (bare kind.ExprStmt (bare k ns ∷ []))
     expression_statement_form =

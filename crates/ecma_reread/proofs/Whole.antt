@@ -123,6 +123,8 @@ mutual
       ∙ (ap₂ (λ p q. bare (kind.ArrowExpr w false) (p ∷ q ∷ without_spans n' ∷ without_spans n'' ∷ [])) (arguments_bare ps) (block_bare b) ∙ ap₂ (λ p q. bare (kind.ArrowExpr w false) (list_node (bare_arguments ps) ∷ bare_block b ∷ p ∷ q ∷ [])) (absent_bare x) (absent_bare y))
   expression_bare (shapes.array at at' es) = without_spans-node at kind.ArrayLit _ ∙ ap (λ x. bare kind.ArrayLit (x ∷ [])) (without_spans-node at' kind.List _ ∙ ap list_node (slots_bare es))
   expression_bare (shapes.object_literal at at' ps) = without_spans-node at kind.ObjectLit _ ∙ ap (λ x. bare kind.ObjectLit (x ∷ [])) (without_spans-node at' kind.List _ ∙ ap list_node (properties_bare ps))
+  expression_bare (shapes.function_expression at i f) = without_spans-node at kind.FnExpr _ ∙ ap₂ (λ x y. bare kind.FnExpr (x ∷ y ∷ [])) (function_name_bare i) (function_bare f)
+  expression_bare (shapes.class_expression at i c) = without_spans-node at kind.ClassExpr _ ∙ ap₂ (λ x y. bare kind.ClassExpr (x ∷ y ∷ [])) (function_name_bare i) (class_bare c)
   expression_bare (shapes.sequence_expression at x y es) = without_spans-node at kind.SeqExpr _ ∙ ap₂ (λ z zs. bare kind.SeqExpr (z ∷ zs)) (expression_bare x) (ap₂ (λ b bs. b ∷ bs) (expression_bare y) (expressions_bare es))
 
   arguments_bare : {role : Role} {n : Node} (is : IsArguments role n) → without_spans n ≡ list_node (bare_arguments is)

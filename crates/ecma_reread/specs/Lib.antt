@@ -1,6 +1,6 @@
 pub mod Machine
 pub mod Heads
-pub mod Braces
+pub mod Starts
 pub mod LiteralTexts
 pub mod MemberKinds
 pub mod Shapes

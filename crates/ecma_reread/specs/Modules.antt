@@ -11,6 +11,7 @@ use Rattle.ecma_kind.specs.declared.kind.Kind.TheVariants as kind
 use Rattle.ecma_tree.specs.declared.node.Node.{Node}
 use Rattle.ecma_tree.specs.Nodes.{node_of}
 use Rattle.ecma_tokens.specs.Good.{IsToken}
+use Rattle.ecma_reread.specs.Starts.{is_declaration_word, start_of}
 use Rattle.ecma_reread.specs.Shapes.{IsIdent, IsKey, IsAbsent, Level, assignment, IsExpression, Ending, IsStatement, declaration, function_statement, IsFunctionName, IsFunction, class_statement, IsClass}
 
 pub data IsString : Node → Type 0 where
@@ -100,7 +101,7 @@ pub data IsModuleItem (assignments : Bool) : Node → Type 0 where
       → IsModuleItem assignments (node_of at (kind.NamedExport false) (node_of of_list kind.List (node_of of_name kind.ExportNamespaceSpecifier (name ∷ []) ∷ []) ∷ source ∷ attributes ∷ []))
   export_all : (at : Span) {source attributes : Node} → IsString source → IsWithClause attributes → IsModuleItem assignments (node_of at (kind.ExportAll false) (source ∷ attributes ∷ []))
   export_declaration : (at : Span) {ending : Ending} {s : Node} (is : IsStatement ending s) → is_declaration is ≡ true → IsModuleItem assignments (node_of at kind.ExportDecl (s ∷ []))
-  export_default : (at : Span) {e : Node} → IsExpression assignment e → IsModuleItem assignments (node_of at kind.ExportDefaultExpr (e ∷ []))
+  export_default : (at : Span) {e : Node} → IsExpression assignment e → is_declaration_word (start_of e) ≡ false → IsModuleItem assignments (node_of at kind.ExportDefaultExpr (e ∷ []))
   export_default_function : (at at_function : Span) {name function : Node} → IsFunctionName name → IsFunction function → IsModuleItem assignments (node_of at kind.ExportDefaultDecl (node_of at_function kind.FnExpr (name ∷ function ∷ []) ∷ []))
   export_default_class : (at at_class : Span) {name class : Node} → IsFunctionName name → IsClass class → IsModuleItem assignments (node_of at kind.ExportDefaultDecl (node_of at_class kind.ClassExpr (name ∷ class ∷ []) ∷ []))
   import_require : assignments ≡ true → (at of_source : Span) (is_export : Bool) {id source : Node} → IsIdent id → IsString source

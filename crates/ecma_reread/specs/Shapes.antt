@@ -22,7 +22,7 @@ use Rattle.ecma_tree.specs.Nodes.{node_of}
 use Rattle.ecma_grammar.specs.Reads.{without_separators}
 use Rattle.ecma_tokens.specs.Good.{IsToken, IsTextPart}
 use Rattle.ecma_reread.specs.Heads.{any_of, may_hold_in}
-use Rattle.ecma_reread.specs.Braces.{starts_with_brace}
+use Rattle.ecma_reread.specs.Starts.{other_start, is_brace, start_of}
 use Rattle.ecma_reread.specs.MemberKinds.{names_constructor, method_kind, field_kind, accessor_kind}
 use Rattle.ecma_reread.specs.LiteralTexts.{regex_text, part_text}
 
@@ -215,12 +215,14 @@ mutual
     -- `yield`, or `yield*`
     yield_value : (at : Span) (delegate : Bool) {e : Node} → IsExpression assignment e → IsExpression assignment (node_of at (kind.YieldExpr delegate) (e ∷ []))
     -- with an expression as its body; its parameters stand in parentheses
-    arrow_function : (at : Span) (is_async : Bool) {params body none none' : Node} → IsArguments bindings params → IsExpression assignment body → starts_with_brace body ≡ false → IsAbsent none → IsAbsent none'
+    arrow_function : (at : Span) (is_async : Bool) {params body none none' : Node} → IsArguments bindings params → IsExpression assignment body → is_brace (start_of body) ≡ false → IsAbsent none → IsAbsent none'
         → IsExpression assignment (node_of at (kind.ArrowExpr is_async false) (params ∷ body ∷ none ∷ none' ∷ []))
     -- with a block
     arrow_block : (at : Span) (is_async : Bool) {params body none none' : Node} → IsArguments bindings params → IsBlock body → IsAbsent none → IsAbsent none' → IsExpression assignment (node_of at (kind.ArrowExpr is_async false) (params ∷ body ∷ none ∷ none' ∷ []))
     array : (at of_list : Span) {slots : List Node} → AreSlots values slots → IsExpression new_callee (node_of at kind.ArrayLit (node_of of_list kind.List slots ∷ []))
     object_literal : (at of_list : Span) {properties : List Node} → AreProperties values properties → IsExpression new_callee (node_of at kind.ObjectLit (node_of of_list kind.List properties ∷ []))
+    function_expression : (at : Span) {name function : Node} → IsFunctionName name → IsFunction function → IsExpression new_callee (node_of at kind.FnExpr (name ∷ function ∷ []))
+    class_expression : (at : Span) {name class : Node} → IsFunctionName name → IsClass class → IsExpression new_callee (node_of at kind.ClassExpr (name ∷ class ∷ []))
     sequence_expression : (at : Span) {first second : Node} {more : List Node} → IsExpression assignment first → IsExpression assignment second → AreExpressions more → IsExpression sequence (node_of at kind.SeqExpr (first ∷ second ∷ more))
 
   -- an argument, or an element of an array: an expression, or the values of one; and the same of a pattern
@@ -329,7 +331,7 @@ mutual
     private_member : (at : Span) (name : List ℕ) → IsToken priv_name_end (codes "#" ++ name) → IsMemberName true (node_of at (kind.PrivateName name) [])
 
   pub data IsStatement : Ending → Node → Type 0 where
-    expression : (at : Span) {level : Level} {e : Node} → IsExpression level e → starts_with_brace e ≡ false → IsStatement closed (node_of at kind.ExprStmt (e ∷ []))
+    expression : (at : Span) {level : Level} {e : Node} → IsExpression level e → start_of e ≡ other_start → IsStatement closed (node_of at kind.ExprStmt (e ∷ []))
     declaration : (at of_list : Span) (k : VarDeclKind) {d : Node} {ds : List Node} → IsDeclarator d → AreDeclarators ds → IsStatement closed (node_of at (kind.VarDecl k false) (node_of of_list kind.List (d ∷ ds) ∷ []))
     empty : (at : Span) → IsStatement closed (node_of at kind.EmptyStmt [])
     debugger_word : (at : Span) → IsStatement closed (node_of at kind.DebuggerStmt [])
