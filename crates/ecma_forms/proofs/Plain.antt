@@ -1,5 +1,5 @@
 -- A module without its types is one of the forms whose layout is read again.
-use Rattle.std.proofs.Common.{◌≡◌, List, None, [], ◌∷◌, refl, ap, ◌∙◌, Bool, true, false, map, filter}
+use Rattle.std.proofs.Common.{◌≡◌, List, None, [], ◌∷◌, refl, ap, ◌∙◌, true, false, map, filter}
 use Rattle.ecma_kind.specs.declared.span.Span.{Span}
 use Rattle.ecma_kind.specs.declared.operators.VarDeclKind.{VarDeclKind}
 use Rattle.ecma_kind.specs.declared.operators.BinaryOp.TheVariants as op
