@@ -18,12 +18,12 @@ use Rattle.ecma_rules.specs.Children.{kind_of}
 use Rattle.ecma_rules.specs.Failing.{failing_step, least_from}
 use Rattle.ecma_rules.specs.Targets.{first_is, is_plain, is_plain_target, is_simple_target, is_wrapper}
 use Rattle.ecma_rules.proofs.Layers.{from_leaves_out}
-use Rattle.ecma_strip.specs.Laws.{first_has, has_shape_under_types, shape_under_types_by}
+use Rattle.ecma_strip.specs.Laws.{HasSortUnderTypes, first_has, has_shape_under_types, shape_under_types_by}
 use Rattle.ecma_strip.proofs.Sorting.{sorts_are_kept}
 use Rattle.ecma_fits.specs.declared.role.Role.{Role}
 use Rattle.ecma_fits.specs.declared.role.Role.TheVariants as role
 use Rattle.ecma_fits.specs.declared.unfit.Where.{Where}
-use Rattle.ecma_fits.specs.Fitting.{at_top, first_unfit_in, unfit_here, where_in}
+use Rattle.ecma_fits.specs.Fitting.{Fits, at_top, first_unfit_in, unfit_here, where_in}
 use Rattle.ecma_fits.specs.Roles.{is_out_of_role, is_wrong_name, left_of, may_be, role_in, takes}
 use Rattle.ecma_strip_fits.specs.Kept.{StrippingKeepsSorts}
 use Rattle.ecma_strip_fits.proofs.Classes.{Class, class_of, wrapped_front}
@@ -345,7 +345,9 @@ right : (n : Node) → Right n
 right = ind-Node Right (λ x y is. node_right (roll-Node x) (λ i c at.
     each_right y.children i c (ap (λ (z : Node-F Node). slice_get z.children i) is ∙ (sym (ap (λ (z : Node-F Node). slice_get z.children i) (out-roll-Node x)) ∙ at))))
 
+-- also where the types round its expressions are looked through
+pub fits_under_types : (tree : Node) → Fits tree → HasSortUnderTypes sort.Module tree
+fits_under_types tree f = right tree (one sort.Module) (one sort.Module) at_top f.sorted (shape_parts tree (one sort.Module) f.sorted).0 refl (λ g. absurd (cc)) (neither_least (first_unfit_in tree at_top) _ f.fitting).0
+
 pub sorts_kept : StrippingKeepsSorts
-sorts_kept tree f =
-    sorts_are_kept tree sort.Module refl
-    (right tree (one sort.Module) (one sort.Module) at_top f.sorted (shape_parts tree (one sort.Module) f.sorted).0 refl (λ g. absurd (cc)) (neither_least (first_unfit_in tree at_top) _ f.fitting).0)
+sorts_kept tree f = sorts_are_kept tree sort.Module refl (fits_under_types tree f)

@@ -84,9 +84,11 @@ named-by kind.FnExpr shape (i ∷ []) is have = absurd have.1
 named-by kind.FnExpr shape (i ∷ f ∷ g ∷ others) is have = absurd have.1.1
 named-by _ shape cs is have = absurd (true-false is refl)
 
+pub named-values : (n : Node) (shape : Shape) → HasShape shape n → is_named (out-Node n).kind ≡ true → scope_value n ≡ strip_value n
+named-values n shape h is = naming.is_value-out n ∙ named-by (out-Node n).kind shape (out-Node n).children is (parts-have n shape h).1 ∙ sym (valuing.is_value-out n)
+
 pub named-value : (n : Node) (shape : Shape) → HasShape shape n → is_named (out-Node n).kind ≡ true → strip_value n ≡ false → scope_value n ≡ false
-named-value n shape h is val =
-    naming.is_value-out n ∙ named-by (out-Node n).kind shape (out-Node n).children is (parts-have n shape h).1 ∙ sym (valuing.is_value-out n) ∙ val
+named-value n shape h is val = named-values n shape h is ∙ val
 
 -- ---- what is written `declare`
 

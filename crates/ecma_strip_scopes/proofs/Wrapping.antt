@@ -26,7 +26,7 @@ use Rattle.ecma_strip_scopes.proofs.Going.{parts-have}
 
 -- ---- sorts whose nodes may have types round them
 
-abbrev takes_types : Sort → Bool
+abbrev pub takes_types : Sort → Bool
 takes_types s = belongs s kind.TsAsExpr
 
 assertion-same : (s : Sort) → belongs s kind.TsTypeAssertion ≡ takes_types s
@@ -49,7 +49,7 @@ satisfies-same : (s : Sort) → belongs s kind.TsSatisfiesExpr ≡ takes_types s
 satisfies-same sort.Program = refl
 satisfies-same _ = refl
 
-belongs-same : (s : Sort) (k : Kind) → is_type_wrapper k ≡ true → belongs s k ≡ true → takes_types s ≡ true
+pub belongs-same : (s : Sort) (k : Kind) → is_type_wrapper k ≡ true → belongs s k ≡ true → takes_types s ≡ true
 belongs-same s kind.TsTypeAssertion is h = sym (assertion-same s) ∙ h
 belongs-same s kind.TsConstAssertion is h = sym (const-same s) ∙ h
 belongs-same s kind.TsNonNullExpr is h = sym (non-null-same s) ∙ h

@@ -1,0 +1,12 @@
+pub mod Nodes
+pub mod Remaining
+pub mod Asking
+pub mod Values
+pub mod Expressions
+pub mod Clearing
+pub mod UsualBodies
+pub mod ClearSeats
+pub mod FullParts
+pub mod Full
+pub mod Plainness
+pub mod PlainModules

@@ -1,0 +1,3 @@
+pub mod TypesAlone
+pub mod Clear
+pub mod Plain

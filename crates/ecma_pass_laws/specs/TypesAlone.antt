@@ -1,0 +1,45 @@
+-- Trees in which all that is TypeScript is types.
+use Rattle.std.specs.Prelude.{Bool, true, false, ◌&&◌, not, List, ◌∷◌}
+use Rattle.std.specs.List.{list_any}
+use Rattle.ecma_kind.specs.declared.kind.Kind.{Kind}
+use Rattle.ecma_kind.specs.declared.kind.Kind.TheVariants as kind
+use Rattle.ecma_tree.specs.declared.node.Node.{Node, out-Node}
+use Rattle.ecma_strip.specs.Staying.{is_declared, is_this_ident}
+use Rattle.ecma_strip.specs.Values.{is_value}
+use Rattle.ecma_strip_laws.specs.Usual.{holds_throughout}
+
+-- an enum, a namespace, or `import a =`, which are lowered by other passes; and an identifier `this`, which names a parameter that is a type alone
+abbrev pub is_lowered : Kind → Bool
+is_lowered (kind.TsEnumDecl declare is_const) = true
+is_lowered kind.TsEnumMember = true
+is_lowered (kind.TsModuleDecl declare global) = true
+is_lowered (kind.TsNamespaceDecl declare global) = true
+is_lowered (kind.TsImportEqualsDecl is_export is_type_only) = true
+is_lowered k = is_this_ident k
+
+-- a declaration behind `declare` in the head of a loop, which no text has
+abbrev pub has_ambient_head : Kind → List Node → Bool
+has_ambient_head kind.ForStmt (init ∷ others) = is_declared (out-Node init).kind
+has_ambient_head kind.ForInStmt (left ∷ others) = is_declared (out-Node left).kind
+has_ambient_head (kind.ForOfStmt is_await) (left ∷ others) = is_declared (out-Node left).kind
+has_ambient_head k children = false
+
+abbrev pub lacks_body_by : Kind → Bool → Bool
+lacks_body_by kind.FnExpr value = not value
+lacks_body_by k value = false
+
+-- a function without a body that is no declaration
+abbrev pub lacks_body : Node → Bool
+lacks_body n = lacks_body_by (out-Node n).kind (is_value n)
+
+-- one that is not exported as the default, which no text has
+abbrev pub has_bodiless : Kind → List Node → Bool
+has_bodiless kind.ExportDefaultDecl children = false
+has_bodiless k children = list_any lacks_body children
+
+abbrev pub adds_types_by : Kind → List Node → Bool
+adds_types_by k children = not (is_lowered k) && (not (has_ambient_head k children) && not (has_bodiless k children))
+
+-- a tree of which nothing is left for other passes once its types are gone
+abbrev pub adds_types_alone : Node → Bool
+adds_types_alone = holds_throughout adds_types_by
