@@ -1,0 +1,4 @@
+pub mod Everywhere
+pub mod Becoming
+pub mod Walk
+pub mod Tests

@@ -1,0 +1,11 @@
+use Rattle.ecma_hygiene_fits.proofs.final_texts_keep_clauses_of_what_fits.Goals as goal
+use Rattle.ecma_hygiene_fits.proofs.Tests.{branches_kept, chains_kept, members_kept}
+
+pub returns-clause-branches : goal.returns-clause-branches
+returns-clause-branches c = branches_kept
+
+pub returns-clause-chains : goal.returns-clause-chains
+returns-clause-chains c = chains_kept
+
+pub returns-clause-members : goal.returns-clause-members
+returns-clause-members c = members_kept

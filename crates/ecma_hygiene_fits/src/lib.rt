@@ -1,0 +1,13 @@
+//! Trees with their final texts: which clauses of fitting they keep, over the definitions alone.
+//!
+//! Each function carries one law, and does nothing. The laws are stated in `specs/`.
+#![tactic(auto)]
+
+ghost use Rattle.ecma_hygiene_fits.specs.Kept.{FinalTextsKeepBranches, FinalTextsKeepChains, FinalTextsKeepMembers};
+
+/// Where a module keeps these clauses of fitting, it keeps them with whatever texts for its identifiers.
+pub fn final_texts_keep_clauses_of_what_fits()
+    ensures branches { FinalTextsKeepBranches }
+    ensures chains { FinalTextsKeepChains }
+    ensures members { FinalTextsKeepMembers }
+{}
