@@ -10,3 +10,10 @@ pub mod FullParts
 pub mod Full
 pub mod Plainness
 pub mod PlainModules
+pub mod Contexts
+pub mod Names
+pub mod Renaming
+pub mod Receivers
+pub mod Chain
+pub mod Counting
+pub mod Passes

@@ -1,3 +1,4 @@
 pub mod TypesAlone
 pub mod Clear
 pub mod Plain
+pub mod Passes

@@ -4,7 +4,11 @@
 #![tactic(auto)]
 
 ghost use Rattle.ecma_pass_laws.specs.Clear.{ModulesAreClear};
+ghost use Rattle.ecma_pass_laws.specs.Passes.{PassesKeepRuns};
 ghost use Rattle.ecma_pass_laws.specs.Plain.{StrippedModulesArePlain};
+
+use ecma_hygiene_runs::{plain_modules_are_resolved, reading_again_keeps_runs};
+use ecma_parentheses::it_runs_alike;
 
 /// In a module that fits, and in which all that is TypeScript is types, it is clear what each scope declares without types.
 pub fn modules_are_clear()
@@ -15,3 +19,13 @@ pub fn modules_are_clear()
 pub fn stripped_modules_are_plain()
     ensures { StrippedModulesArePlain }
 {}
+
+/// Such a module, resolved, stripped of its types and given its final texts, is observed to do what the resolved source does, once it is read again from its
+/// layout and resolved: where no name of the source is declared again where it may not be, and there were contexts enough.
+pub fn passes_keep_runs()
+    ensures { PassesKeepRuns }
+{
+    it_runs_alike();
+    reading_again_keeps_runs();
+    plain_modules_are_resolved();
+}

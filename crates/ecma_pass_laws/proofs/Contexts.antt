@@ -1,0 +1,145 @@
+-- Contexts do not matter to whether all that is TypeScript is types; and where it is so, no namespace is ambient.
+use Rattle.std.proofs.Common.{◌≡◌, ℕ, suc, Bool, true, false, ◌&&◌, ◌||◌, not, List, [], ◌∷◌, map, refl, sym, ap, ap₂, ◌∙◌, subst, slice_get, Some}
+use Rattle.std.specs.List.{list_all, list_any}
+use Rattle.ecma_kind.specs.declared.kind.Kind.{Kind}
+use Rattle.ecma_kind.specs.declared.kind.Kind.TheVariants as kind
+use Rattle.ecma_tree.specs.Contexts.{kind_with_context, with_contexts}
+use Rattle.ecma_tree.specs.Finding.{enters_all, finds, finds_from, finds_here}
+use Rattle.ecma_tree.specs.Nodes.{node_of}
+use Rattle.ecma_tree.specs.declared.node.Node.{Node, Node-F, fold_out-Node, ind-Node, out-Node, roll-Node}
+use Rattle.ecma_tree.specs.declared.node.Node.TheViews.{out-roll-Node}
+use Rattle.ecma_tree.proofs.Changing.{changed-parts}
+use Rattle.ecma_scope.specs.Laws.{ResolvedChangesContexts}
+use Rattle.ecma_scope.specs.Resolved.{resolved}
+use Rattle.ecma_strip.specs.Staying.{is_declared}
+use Rattle.ecma_strip.specs.Values.{is_value, value_by}
+use Rattle.ecma_strip.proofs.Valuing.{is_value-out}
+use Rattle.ecma_hygiene.proofs.Telling.{true-false}
+use Rattle.ecma_hygiene_laws.specs.Lasting.{is_ambient_namespace}
+use Rattle.ecma_hygiene_laws.proofs.Parts.{children-of, kind-of}
+use Rattle.ecma_pass_laws.specs.TypesAlone.{adds_types_alone, adds_types_by, has_ambient_head, has_bodiless, is_lowered, lacks_body, lacks_body_by}
+use Rattle.ecma_pass_laws.proofs.Nodes.{alone-below, holds-out, not-lowered}
+
+module _ (context_of : List ℕ → ℕ → ℕ) where
+  abbrev turned : Node → Node
+  turned = with_contexts context_of
+
+  parts-turned : (n : Node) → turned n ≡ node_of (out-Node n).span (kind_with_context context_of (out-Node n).kind) (map turned (out-Node n).children)
+  parts-turned = changed-parts (λ span. span) (kind_with_context context_of)
+
+  kind-turned : (n : Node) → (out-Node (turned n)).kind ≡ kind_with_context context_of (out-Node n).kind
+  kind-turned n = ap (λ (z : Node). (out-Node z).kind) (parts-turned n) ∙ kind-of (out-Node n).span (kind_with_context context_of (out-Node n).kind) (map turned (out-Node n).children)
+
+  children-turned : (n : Node) → (out-Node (turned n)).children ≡ map turned (out-Node n).children
+  children-turned n = ap (λ (z : Node). (out-Node z).children) (parts-turned n) ∙ children-of (out-Node n).span (kind_with_context context_of (out-Node n).kind) (map turned (out-Node n).children)
+
+  -- values
+  value-by : (k : Kind) (vs : List Bool) → value_by (kind_with_context context_of k) vs ≡ value_by k vs
+  unfolding value_by
+  value-by (kind.Ident s c o) vs = refl
+  value-by _ vs = refl
+
+  abbrev Valued : Node → Type 0
+  Valued n = is_value (turned n) ≡ is_value n
+
+  all-valued : (ns : List ((n : Node) × Valued n)) → map is_value (map turned (map (λ e. e.0) ns)) ≡ map is_value (map (λ e. e.0) ns)
+  all-valued [] = refl
+  all-valued (n ∷ ns) = ap₂ (λ (a : Bool) (rest : List Bool). a ∷ rest) n.1 (all-valued ns)
+
+  layer-valued : (n : Node) → map is_value (map turned (out-Node n).children) ≡ map is_value (out-Node n).children → Valued n
+  layer-valued n children =
+      is_value-out (turned n)
+      ∙ ap₂ (λ (k : Kind) (cs : List Node). value_by k (map is_value cs)) (kind-turned n) (children-turned n)
+      ∙ value-by (out-Node n).kind (map is_value (map turned (out-Node n).children)) ∙ ap (value_by (out-Node n).kind) children ∙ sym (is_value-out n)
+
+  valued : (n : Node) → Valued n
+  valued = ind-Node Valued (λ x y is.
+      layer-valued (roll-Node x) (subst (λ (cs : List Node). map is_value (map turned cs) ≡ map is_value cs) (ap (λ (z : Node-F Node). z.children) is ∙ sym (ap (λ (z : Node-F Node). z.children) (out-roll-Node x))) (all-valued y.children)))
+
+  -- the test
+  lowered-by : (k : Kind) → is_lowered (kind_with_context context_of k) ≡ is_lowered k
+  lowered-by (kind.Ident s c o) = refl
+  lowered-by _ = refl
+
+  declared-by : (k : Kind) → is_declared (kind_with_context context_of k) ≡ is_declared k
+  unfolding is_declared
+  declared-by (kind.Ident s c o) = refl
+  declared-by _ = refl
+
+  declared-turned : (n : Node) → is_declared (out-Node (turned n)).kind ≡ is_declared (out-Node n).kind
+  declared-turned n = ap is_declared (kind-turned n) ∙ declared-by (out-Node n).kind
+
+  body-by : (k : Kind) (value : Bool) → lacks_body_by (kind_with_context context_of k) value ≡ lacks_body_by k value
+  body-by (kind.Ident s c o) value = refl
+  body-by _ value = refl
+
+  body-turned : (n : Node) → lacks_body (turned n) ≡ lacks_body n
+  body-turned n = ap₂ lacks_body_by (kind-turned n) (valued n) ∙ body-by (out-Node n).kind (is_value n)
+
+  bodies-turned : (cs : List Node) → list_any lacks_body (map turned cs) ≡ list_any lacks_body cs
+  bodies-turned [] = refl
+  bodies-turned (c ∷ cs) = ap₂ (λ (a b : Bool). a || b) (body-turned c) (bodies-turned cs)
+
+  head-by : (k : Kind) (cs : List Node) → has_ambient_head (kind_with_context context_of k) (map turned cs) ≡ has_ambient_head k cs
+  head-by kind.ForStmt (c ∷ cs) = declared-turned c
+  head-by kind.ForStmt [] = refl
+  head-by kind.ForInStmt (c ∷ cs) = declared-turned c
+  head-by kind.ForInStmt [] = refl
+  head-by (kind.ForOfStmt w) (c ∷ cs) = declared-turned c
+  head-by (kind.ForOfStmt w) [] = refl
+  head-by (kind.Ident s c o) cs = refl
+  head-by _ cs = refl
+
+  bodiless-by : (k : Kind) (cs : List Node) → has_bodiless (kind_with_context context_of k) (map turned cs) ≡ has_bodiless k cs
+  bodiless-by kind.ExportDefaultDecl cs = refl
+  bodiless-by (kind.Ident s c o) cs = bodies-turned cs
+  bodiless-by _ cs = bodies-turned cs
+
+  test-by : (k : Kind) (cs : List Node) → adds_types_by (kind_with_context context_of k) (map turned cs) ≡ adds_types_by k cs
+  test-by k cs = (λ j. not (lowered-by k j) && (not (head-by k cs j) && not (bodiless-by k cs j)))
+
+  abbrev Same : Node → Type 0
+  Same n = adds_types_alone (turned n) ≡ adds_types_alone n
+
+  all-same : (ns : List ((n : Node) × Same n)) → list_all adds_types_alone (map turned (map (λ e. e.0) ns)) ≡ list_all adds_types_alone (map (λ e. e.0) ns)
+  all-same [] = refl
+  all-same (n ∷ ns) = ap₂ (λ (a b : Bool). a && b) n.1 (all-same ns)
+
+  layer-same : (n : Node) → list_all adds_types_alone (map turned (out-Node n).children) ≡ list_all adds_types_alone (out-Node n).children → Same n
+  layer-same n children =
+      holds-out adds_types_by (turned n)
+      ∙ ap₂ (λ (k : Kind) (cs : List Node). adds_types_by k cs && list_all adds_types_alone cs) (kind-turned n) (children-turned n)
+      ∙ ap₂ (λ (a b : Bool). a && b) (test-by (out-Node n).kind (out-Node n).children) children ∙ sym (holds-out adds_types_by n)
+
+  pub contexts-do-not-matter : (n : Node) → Same n
+  contexts-do-not-matter = ind-Node Same (λ x y is.
+      layer-same (roll-Node x) (subst (λ (cs : List Node). list_all adds_types_alone (map turned cs) ≡ list_all adds_types_alone cs) (ap (λ (z : Node-F Node). z.children) is ∙ sym (ap (λ (z : Node-F Node). z.children) (out-roll-Node x))) (all-same y.children)))
+
+-- so it is of a resolved tree where it is of the tree
+pub resolved-adds-types : ResolvedChangesContexts → (unresolved top left : ℕ) (tree : Node) → adds_types_alone tree ≡ true → adds_types_alone (resolved unresolved top left tree) ≡ true
+resolved-adds-types same unresolved top left tree h =
+    sym (contexts-do-not-matter (λ sym ctxt. 0) (resolved unresolved top left tree)) ∙ ap adds_types_alone (same unresolved top left tree) ∙ contexts-do-not-matter (λ sym ctxt. 0) tree ∙ h
+
+-- ---- namespaces
+
+ambient-by : (k : Kind) → is_lowered k ≡ false → is_ambient_namespace k ≡ false
+ambient-by (kind.TsModuleDecl d g) h = absurd (true-false refl h)
+ambient-by (kind.TsNamespaceDecl d g) h = absurd (true-false refl h)
+ambient-by _ h = refl
+
+abbrev Calm : Node → Type 0
+Calm n = adds_types_alone n ≡ true → finds is_ambient_namespace enters_all n ≡ false
+
+all-calm : (k : Kind) (ns : List ((n : Node) × Calm n)) (i : ℕ) → ((j : ℕ) (c : Node) → slice_get (map (λ e. e.0) ns) j ≡ Some c → adds_types_alone c ≡ true) → finds_from (enters_all k) i (map (finds is_ambient_namespace enters_all) (map (λ e. e.0) ns)) ≡ false
+all-calm k [] i each = refl
+all-calm k (n ∷ ns) i each = ap₂ (λ (a b : Bool). a || b) (n.1 (each 0 n.0 refl)) (all-calm k ns (suc i) (λ j c at. each (suc j) c at))
+
+layer-calm : (n : Node)
+    → ((i : ℕ) → ((j : ℕ) (c : Node) → slice_get (out-Node n).children j ≡ Some c → adds_types_alone c ≡ true) → finds_from (enters_all (out-Node n).kind) i (map (finds is_ambient_namespace enters_all) (out-Node n).children) ≡ false) → Calm n
+layer-calm n children alone =
+    fold_out-Node Bool (finds_here is_ambient_namespace enters_all) n ∙ ap₂ (λ (a b : Bool). a || b) (ambient-by (out-Node n).kind (not-lowered n alone)) (children 0 (alone-below n alone))
+
+pub calm : (n : Node) → Calm n
+calm = ind-Node Calm (λ x y is.
+    layer-calm (roll-Node x) (subst (λ (cs : List Node). (i : ℕ) → ((j : ℕ) (c : Node) → slice_get cs j ≡ Some c → adds_types_alone c ≡ true) → finds_from (enters_all (out-Node (roll-Node x)).kind) i (map (finds is_ambient_namespace enters_all) cs) ≡ false)
+    (ap (λ (z : Node-F Node). z.children) is ∙ sym (ap (λ (z : Node-F Node). z.children) (out-roll-Node x))) (all-calm (out-Node (roll-Node x)).kind y.children)))
