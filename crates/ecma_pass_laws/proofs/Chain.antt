@@ -150,9 +150,6 @@ module _ (laws : Laws) (unresolved top left : ℕ) (source : Node) (is : IsSourc
       }
 
       module _ (turns : ℕ) (options : Config) (script : Script) where
-        abbrev seen_of : Node → Type 0
-        seen_of n = observe turns options n script ≡ observe turns options r script
-
         bare-runs : observe turns options (resolved unresolved' top' left' bare) script ≡ observe turns options r script
         bare-runs = laws.again turns options unresolved' top' left' map-of.0 s names script texts map-of.1.right resolved-there keeps ∙ strip-runs turns options script
 

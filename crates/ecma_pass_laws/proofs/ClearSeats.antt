@@ -102,9 +102,6 @@ holder-remains r kind.TsModuleBlock value ambient h = refl
 holder-remains r kind.BlockStmt value ambient h = refl
 holder-remains r _ value ambient h = absurd (true-false h refl)
 
-IsDefaultThere : Role → Node → Type 0
-IsDefaultThere r n = is_default r ≡ true → belongs sort.DefaultDecl (out-Node n).kind ≡ true
-
 unwrapped : (r : Role) (n : Node) (b : Bool) → is_type_wrapper (out-Node n).kind ≡ b → opens r n ≡ true → is_type_wrapper (out-Node n).kind ≡ false
 unwrapped r n true is h = absurd (true-false h (wrapper-opens r (out-Node n).kind (is_there (out-Node n).children 0) is))
 unwrapped r n false is h = is

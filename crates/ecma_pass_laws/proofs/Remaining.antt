@@ -141,11 +141,6 @@ abbrev pub all_calm : List Shape → Bool
 all_calm [] = true
 all_calm (o ∷ os) = is_calm o && all_calm os
 
-calm-at : (os : List Shape) (i : ℕ) (o : Shape) → all_calm os ≡ true → slice_get os i ≡ Some o → is_calm o ≡ true
-calm-at [] i o calm at = none-some at
-calm-at (x ∷ xs) zero o calm at = ap is_calm (sym (some-same at)) ∙ and-left (is_calm x) (all_calm xs) calm
-calm-at (x ∷ xs) (suc i) o calm at = calm-at xs i o (and-right (is_calm x) (all_calm xs) calm) at
-
 -- ---- bodies of statements, heads of loops, and what is exported
 
 body-by : (k : Kind) (value ambient : Bool) → (is_absent k || belongs sort.Stmt k) ≡ true → declares_kind k ≡ false → remains_by k value ambient ≡ true
