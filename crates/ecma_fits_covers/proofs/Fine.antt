@@ -10,7 +10,7 @@ use Rattle.ecma_rules.specs.declared.standing.Standing.{Standing}
 use Rattle.ecma_rules.specs.Children.{child_holds, child_is, items_at, kind_of}
 use Rattle.ecma_rules.specs.Failing.{failing_here, failing_step, least, least_from}
 use Rattle.ecma_rules.specs.Lists.{is_head, is_item, is_one_without_value, is_rest, is_rest_pattern}
-use Rattle.ecma_rules.specs.Members.{is_declaring, is_plain_parameter, is_property_kind, is_special_by, misfits_by, second_by, second_constructor}
+use Rattle.ecma_rules.specs.Members.{is_declaring, is_plain_parameter, is_property_kind, is_special_by, misfits_by, misplaces_this_by, second_by, second_constructor}
 use Rattle.ecma_rules.specs.Rules.{first_misplaced, is_misplaced, misplaced_here}
 use Rattle.ecma_rules.specs.Statements.{is_body, is_declaration, is_exported, is_text}
 use Rattle.ecma_rules.specs.Supers.{is_linked, is_private_name, is_super, is_super_member}
@@ -58,6 +58,7 @@ pub record Fine (a : Around) (k : Kind) (n : Node) : Type 0 where
   pub property : property_by a.standing k n ≡ false
   pub accessor : misfits_by k n ≡ false
   pub constructor : is_special_by k n ≡ false
+  pub receiver : misplaces_this_by k n ≡ false
   pub statement : statement_by a.standing k ≡ false
   pub lone : lone_by a.standing k ≡ false
   pub private : private_by k n ≡ false
@@ -68,7 +69,8 @@ fine_kind a n f =
     let k = kind_of n in
     either_no (not (may_be a.target k || is_simple_target n) || (is_short_default k && not (is_property a.target))) _ (either_no (not (may_be a.target k || is_simple_target n)) _ f.target f.default)
     (either_no (head_by a.target k n || early_by a.target a.is_last k) _ (either_no (head_by a.target k n) _ f.head f.early)
-    (either_no (property_by a.standing k n || (misfits_by k n || is_special_by k n)) _ (either_no (property_by a.standing k n) _ f.property (either_no (misfits_by k n) _ f.accessor f.constructor))
+    (either_no (property_by a.standing k n || (misfits_by k n || (is_special_by k n || misplaces_this_by k n))) _
+    (either_no (property_by a.standing k n) _ f.property (either_no (misfits_by k n) _ f.accessor (either_no (is_special_by k n) _ f.constructor f.receiver)))
     (either_no (statement_by a.standing k) _ f.statement (either_no (lone_by a.standing k) _ f.lone f.private))))
 
 pub fine_node : (a : Around) (x : Node-F Node) → Fine a x.kind (roll-Node x) → is_misplaced a (roll-Node x) ≡ false
@@ -112,6 +114,7 @@ record Quiet (k : Kind) (n : Node) : Type 0 where
   property : is_property_kind k ≡ false
   accessor : misfits_by k n ≡ false
   constructor : is_special_by k n ≡ false
+  receiver : misplaces_this_by k n ≡ false
   text : is_text k ≡ false
   declaration : is_declaration k ≡ false
   super : is_super k ≡ false
@@ -119,14 +122,14 @@ record Quiet (k : Kind) (n : Node) : Type 0 where
   single : second_by k n ≡ None
 
 quiet : (k : Kind) (n : Node) → is_covering k ≡ true → Quiet k n
-unfolding misfits_by is_declaration
-quiet (kind.Ident text ctxt optional) n h = record { variables = refl; rest = refl; property = refl; accessor = refl; constructor = refl; text = refl; declaration = refl; super = refl; member = refl; single = refl }
-quiet kind.ArrayLit n h = record { variables = refl; rest = refl; property = refl; accessor = refl; constructor = refl; text = refl; declaration = refl; super = refl; member = refl; single = refl }
-quiet kind.ObjectLit n h = record { variables = refl; rest = refl; property = refl; accessor = refl; constructor = refl; text = refl; declaration = refl; super = refl; member = refl; single = refl }
-quiet kind.SpreadElement n h = record { variables = refl; rest = refl; property = refl; accessor = refl; constructor = refl; text = refl; declaration = refl; super = refl; member = refl; single = refl }
-quiet (kind.AssignExpr op) n h = record { variables = refl; rest = refl; property = refl; accessor = refl; constructor = refl; text = refl; declaration = refl; super = refl; member = refl; single = refl }
-quiet kind.KeyValueProp n h = record { variables = refl; rest = refl; property = refl; accessor = refl; constructor = refl; text = refl; declaration = refl; super = refl; member = refl; single = refl }
-quiet kind.AssignProp n h = record { variables = refl; rest = refl; property = refl; accessor = refl; constructor = refl; text = refl; declaration = refl; super = refl; member = refl; single = refl }
+unfolding misfits_by misplaces_this_by is_declaration
+quiet (kind.Ident text ctxt optional) n h = record { variables = refl; rest = refl; property = refl; accessor = refl; constructor = refl; receiver = refl; text = refl; declaration = refl; super = refl; member = refl; single = refl }
+quiet kind.ArrayLit n h = record { variables = refl; rest = refl; property = refl; accessor = refl; constructor = refl; receiver = refl; text = refl; declaration = refl; super = refl; member = refl; single = refl }
+quiet kind.ObjectLit n h = record { variables = refl; rest = refl; property = refl; accessor = refl; constructor = refl; receiver = refl; text = refl; declaration = refl; super = refl; member = refl; single = refl }
+quiet kind.SpreadElement n h = record { variables = refl; rest = refl; property = refl; accessor = refl; constructor = refl; receiver = refl; text = refl; declaration = refl; super = refl; member = refl; single = refl }
+quiet (kind.AssignExpr op) n h = record { variables = refl; rest = refl; property = refl; accessor = refl; constructor = refl; receiver = refl; text = refl; declaration = refl; super = refl; member = refl; single = refl }
+quiet kind.KeyValueProp n h = record { variables = refl; rest = refl; property = refl; accessor = refl; constructor = refl; receiver = refl; text = refl; declaration = refl; super = refl; member = refl; single = refl }
+quiet kind.AssignProp n h = record { variables = refl; rest = refl; property = refl; accessor = refl; constructor = refl; receiver = refl; text = refl; declaration = refl; super = refl; member = refl; single = refl }
 quiet _ n h = not_true h
 
 -- such a node, where it may stand
@@ -144,6 +147,7 @@ covering_whole a x covering may default early below =
       property = no_and (is_property_kind k) (not (is_declaring a.standing && child_holds is_plain_parameter n 0)) q.property;
       accessor = q.accessor;
       constructor = q.constructor;
+      receiver = q.receiver;
       statement = either_no (is_exported a.standing && is_text k) (is_body a.standing && is_declaration k) (and_no (is_exported a.standing) (is_text k) q.text) (and_no (is_body a.standing) (is_declaration k) q.declaration);
       lone = no_and (is_super k) (not (is_linked a.standing)) q.super;
       private = no_and (is_super_member k) (child_is is_private_name n 1) q.member;

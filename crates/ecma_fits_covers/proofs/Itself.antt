@@ -13,7 +13,7 @@ use Rattle.ecma_rules.specs.declared.target.Target.{Target}
 use Rattle.ecma_rules.specs.Children.{kind_of}
 use Rattle.ecma_rules.specs.Finishing.{each_in}
 use Rattle.ecma_rules.specs.Lists.{is_early_rest, is_head, is_wrong_head}
-use Rattle.ecma_rules.specs.Members.{is_special_by, is_special_constructor, is_stray_property, is_wrong_accessor, misfits_by}
+use Rattle.ecma_rules.specs.Members.{is_special_by, is_special_constructor, is_stray_property, is_wrong_accessor, misfits_by, misplaces_this, misplaces_this_by}
 use Rattle.ecma_rules.specs.Rules.{fails_list, fails_member, fails_statement}
 use Rattle.ecma_rules.specs.Supers.{is_linked}
 use Rattle.ecma_rules.specs.Targets.{is_simple_target, target_in}
@@ -29,7 +29,7 @@ use Rattle.ecma_fits_covers.proofs.Roles.{property_kind, suits, target_of}
 use Rattle.ecma_fits_covers.proofs.Tests.{simple_stays}
 use Rattle.ecma_fits_covers.proofs.Aimed.{target_may}
 use Rattle.ecma_fits_covers.proofs.Sorted.{default_stays, early_stays, lone_stays, wrapper_asked}
-use Rattle.ecma_fits_covers.proofs.Reading.{accessors_stay, constructors_stay, head_stays, private_stays, property_stays}
+use Rattle.ecma_fits_covers.proofs.Reading.{accessors_stay, constructors_stay, head_stays, private_stays, property_stays, receivers_stay}
 use Rattle.ecma_fits_covers.proofs.Fine.{Fine, early_by, head_by, property_by, statement_by}
 
 -- what is known of the node and of where it stands
@@ -48,6 +48,7 @@ record Kept (w : Where) (k : Kind) (n : Node) : Type 0 where
   property : property_by w.around.standing k n ≡ false
   accessor : misfits_by k n ≡ false
   constructor : is_special_by k n ≡ false
+  receiver : misplaces_this_by k n ≡ false
   statement : statement_by w.around.standing k ≡ false
 
 kept_here : (w : Where) (n : Node) → breaks_rule w n ≡ false → Kept w (kind_of n) n
@@ -55,9 +56,10 @@ kept_here w n rules =
     let rule = neither (fails_list w.around n) (fails_member w.around n || fails_statement w.around n) rules in
     let list = neither (is_wrong_head w.around.target n) (is_early_rest w.around.target w.around.is_last n) rule.0 in
     let more = neither (fails_member w.around n) (fails_statement w.around n) rule.1 in
-    let member = neither (is_stray_property w.around.standing n) (is_wrong_accessor n || is_special_constructor n) more.0 in
-    let both = neither (is_wrong_accessor n) (is_special_constructor n) member.1 in
-    record { head = list.0; early = list.1; property = member.0; accessor = both.0; constructor = both.1; statement = more.1 }
+    let member = neither (is_stray_property w.around.standing n) (is_wrong_accessor n || (is_special_constructor n || misplaces_this n)) more.0 in
+    let accessor = neither (is_wrong_accessor n) (is_special_constructor n || misplaces_this n) member.1 in
+    let both = neither (is_special_constructor n) (misplaces_this n) accessor.1 in
+    record { head = list.0; early = list.1; property = member.0; accessor = accessor.0; constructor = both.0; receiver = both.1; statement = more.1 }
 
 kept_rules : (w : Where) (x : Node-F Node) → breaks_rule w (roll-Node x) ≡ false → Kept w x.kind (roll-Node x)
 kept_rules w x rules = subst (λ k. Kept w k (roll-Node x)) (kind_made x) (kept_here w (roll-Node x) rules)
@@ -88,6 +90,7 @@ module _ (t : Target) (l : Bool) (w : Where) (o : Shape) (at : Span) (k : Kind) 
         property = property_stays t at k cs w.around.standing kept.property;
         accessor = accessors_stay t at k cs o (length cs) have ∙ kept.accessor;
         constructor = constructors_stay t at k cs ∙ kept.constructor;
+        receiver = receivers_stay t at k cs o (length cs) have ∙ kept.receiver;
         statement = kept.statement;
         lone = lone_stays k o w.around.standing allowed there.super;
         private = private_stays t at k cs o (length cs) have;

@@ -1,5 +1,6 @@
 -- What the rules read of the children of a node that is itself there.
 use Rattle.std.proofs.Common.{◌≡◌, ◌∙◌, ℕ, Bool, true, false, not, ◌&&◌, ◌||◌, List, [], ◌∷◌, map, None, refl, sym, ap, ap₂, slice_get}
+use Rattle.std.specs.List.{list_any}
 use Rattle.ecma_kind.specs.Sorts.{belongs}
 use Rattle.ecma_kind.specs.declared.span.Span.{Span}
 use Rattle.ecma_kind.specs.declared.kind.Kind.{Kind}
@@ -17,12 +18,12 @@ use Rattle.ecma_rules.specs.declared.standing.Standing.{Standing}
 use Rattle.ecma_rules.specs.Children.{child_holds, children_of as items_of, holds_of, is_present, items_at, kind_of, of_kind}
 use Rattle.ecma_rules.specs.Finishing.{each_in}
 use Rattle.ecma_rules.specs.Lists.{is_head, is_one_without_value}
-use Rattle.ecma_rules.specs.Members.{fits_kind, is_constructor_key, is_declaring, is_method, is_plain_parameter, is_property_kind, is_special_by, is_special_function, misfits_by, second_by}
+use Rattle.ecma_rules.specs.Members.{behind_first, fits_kind, is_constructor_key, is_declaring, is_method, is_plain_parameter, is_property_kind, is_special_by, is_special_function, is_this_parameter, is_this_pattern, misfits_by, misplaces_this_by, second_by}
 use Rattle.ecma_rules.specs.Supers.{is_private_name}
 use Rattle.ecma_rules.specs.Targets.{is_variables, target_in}
 use Rattle.ecma_covers.specs.Covering.{cover_at}
 use Rattle.ecma_fits_covers.proofs.Parts.{children_made, not_true, shape_allows}
-use Rattle.ecma_fits_covers.proofs.Tests.{kind_at, kind_fits, list_single, plain_parameter, second_in, test_at, without_value}
+use Rattle.ecma_fits_covers.proofs.Tests.{all_stay, further_stay, kind_at, kind_fits, list_single, patterns_stay, plain_parameter, second_in, test_at, this_pattern, without_value}
 use Rattle.ecma_fits_covers.proofs.Fine.{and_no, head_by, no_and, private_by, property_by}
 
 module _ (t : Target) (at : Span) where
@@ -87,6 +88,20 @@ module _ (t : Target) (at : Span) where
       by_children (λ z. not modifiers.is_static && (of_kind is_constructor_key (slice_get z 0) && (not (is_method k) || of_kind is_special_function (slice_get z 1)))) (kind.ClassMethod k modifiers) cs
       (ap₂ (λ a b. not modifiers.is_static && (a && (not (is_method k) || b))) (kind_at is_constructor_key (λ i. target.Free) cs 0 refl) (kind_at is_special_function (λ i. target.Free) cs 1 refl))
   constructors_stay _ cs = refl
+
+  pub receivers_stay : (k : Kind) (cs : List Node) (o : Shape) (n : ℕ) → HaveShapes (child_shapes k o n) cs → misplaces_this_by k (now_node k cs) ≡ misplaces_this_by k (was_node k cs)
+  unfolding misplaces_this_by target_in
+  receivers_stay (kind.Function is_generator is_async) [] o n h = absurd h
+  receivers_stay (kind.Function is_generator is_async) (c ∷ cs) o n h =
+      by_children (λ z. list_any is_this_parameter (behind_first (items_of (slice_get z 0)))) (kind.Function is_generator is_async) (c ∷ cs) (further_stay c h.0)
+  receivers_stay (kind.ArrowExpr is_async is_generator) [] o n h = absurd h
+  receivers_stay (kind.ArrowExpr is_async is_generator) (c ∷ cs) o n h = by_children (λ z. list_any is_this_pattern (items_of (slice_get z 0))) (kind.ArrowExpr is_async is_generator) (c ∷ cs) (patterns_stay c h.0)
+  receivers_stay (kind.Constructor accessibility is_optional) [] o n h = absurd h
+  receivers_stay (kind.Constructor accessibility is_optional) (c ∷ []) o n h = absurd h.1
+  receivers_stay (kind.Constructor accessibility is_optional) (c ∷ d ∷ cs) o n h =
+      by_children (λ z. list_any is_this_parameter (items_of (slice_get z 1))) (kind.Constructor accessibility is_optional) (c ∷ d ∷ cs) (all_stay d h.1.0)
+  receivers_stay kind.SetterProp cs o n h = by_children (λ z. holds_of is_this_pattern (slice_get z 2)) kind.SetterProp cs (test_at is_this_pattern this_pattern (λ i. target.Free) cs 2 refl)
+  receivers_stay _ cs o n h = refl
 
   -- a member of `super` is no private name, by its sort
   no_private : (k : Kind) → belongs sort.SuperProp k ≡ true → is_private_name k ≡ false

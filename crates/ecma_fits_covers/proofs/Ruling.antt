@@ -1,5 +1,6 @@
 -- Explicit parentheses keep the context rules on lists, members and statements.
 use Rattle.std.proofs.Common.{◌≡◌, ◌∙◌, ◌||◌, ◌&&◌, not, codes, ℕ, zero, suc, Bool, true, false, List, [], ◌∷◌, length, replicate, map, refl, sym, ap, ap₂, slice_get}
+use Rattle.std.specs.List.{list_any}
 use Rattle.ecma_kind.specs.Sorts.{belongs}
 use Rattle.ecma_kind.specs.declared.span.Span.{Span}
 use Rattle.ecma_kind.specs.declared.kind.Kind.{Kind}
@@ -7,6 +8,7 @@ use Rattle.ecma_kind.specs.declared.kind.Kind.TheVariants as kind
 use Rattle.ecma_kind.specs.declared.operators.MethodKind.{MethodKind}
 use Rattle.ecma_kind.specs.declared.operators.MethodKind.TheVariants.{Method, Getter, Setter}
 use Rattle.ecma_kind.specs.declared.shapes.Shape.{Shape}
+use Rattle.ecma_kind.specs.declared.shapes.Sort.{Sort}
 use Rattle.ecma_kind.specs.declared.shapes.Sort.TheVariants as sort
 use Rattle.ecma_tree.specs.declared.node.Node.{Node, Node-F, out-Node, roll-Node}
 use Rattle.ecma_tree.specs.declared.node.Node.TheViews.{out-roll-Node}
@@ -18,7 +20,7 @@ use Rattle.ecma_rules.specs.declared.standing.Standing.{Standing}
 use Rattle.ecma_rules.specs.declared.target.Target.{Target}
 use Rattle.ecma_rules.specs.Children.{children_of as items_of, holds_of, is_named, is_present, items_at, kind_of, of_kind}
 use Rattle.ecma_rules.specs.Lists.{is_head, is_item, is_one_without_value, is_rest}
-use Rattle.ecma_rules.specs.Members.{fits_kind, is_binding_name, is_constructor_key, is_declaring, is_empty_list, is_method, is_named_pattern, is_one_parameter, is_plain_parameter, is_property_kind, is_special_by, is_special_constructor, is_special_function, is_this_by, is_this_parameter, is_this_pattern, is_wrong_accessor, misfits_by}
+use Rattle.ecma_rules.specs.Members.{behind_first, fits_kind, is_binding_name, is_constructor_key, is_declaring, is_empty_list, is_method, is_named_pattern, is_one_parameter, is_plain_parameter, is_property_kind, is_special_by, is_special_constructor, is_special_function, is_this_by, is_this_parameter, is_this_pattern, is_wrong_accessor, misfits_by, misplaces_this, misplaces_this_by}
 use Rattle.ecma_rules.specs.Statements.{is_body, is_declaration, is_exported, is_text}
 use Rattle.ecma_rules.specs.Targets.{is_variables}
 use Rattle.ecma_print.specs.declared.place.Beside.TheVariants.{NoNeighbor}
@@ -31,7 +33,7 @@ use Rattle.ecma_parentheses.proofs.Asking.{AllFit, Fits, first_fit, further_fits
 use Rattle.ecma_fits.specs.declared.unfit.Where.{Where}
 use Rattle.ecma_fits.specs.Fitting.{at_top, breaks_rule, where_in}
 use Rattle.ecma_fits_covers.specs.Laws.{ExplicitRulesStay}
-use Rattle.ecma_fits_covers.proofs.Parts.{kind_made, not_true, shape_allows, shape_made}
+use Rattle.ecma_fits_covers.proofs.Parts.{kind_made, neither, not_true, shape_allows, shape_made}
 use Rattle.ecma_fits_covers.proofs.Tests.{items_have, shape_parts}
 use Rattle.ecma_fits_covers.proofs.Explicit.{IsKept, kept_at, kind_at, kind_kept, spotted}
 use Rattle.ecma_fits_covers.proofs.Branching.{function_opens, key_opens, present_kept}
@@ -60,12 +62,19 @@ abbrev special_by : Kind → List Node → Bool
 special_by (kind.ClassMethod k modifiers) ns = not modifiers.is_static && (of_kind is_constructor_key (slice_get ns 0) && (not (is_method k) || of_kind is_special_function (slice_get ns 1)))
 special_by _ ns = false
 
-abbrev rule_of : Around → Kind → Bool → Bool → Bool → Bool → Bool
-rule_of a k head property misfit special =
-    (head || (is_rest a.target k && not a.is_last)) || ((property || (misfit || special)) || ((is_exported a.standing && is_text k) || (is_body a.standing && is_declaration k)))
+abbrev receiver_by : Kind → List Node → Bool
+receiver_by (kind.Function is_generator is_async) ns = list_any is_this_parameter (behind_first (items_of (slice_get ns 0)))
+receiver_by (kind.ArrowExpr is_async is_generator) ns = list_any is_this_pattern (items_of (slice_get ns 0))
+receiver_by (kind.Constructor accessibility is_optional) ns = list_any is_this_parameter (items_of (slice_get ns 1))
+receiver_by kind.SetterProp ns = holds_of is_this_pattern (slice_get ns 2)
+receiver_by _ ns = false
+
+abbrev rule_of : Around → Kind → Bool → Bool → Bool → Bool → Bool → Bool
+rule_of a k head property misfit special receiver =
+    (head || (is_rest a.target k && not a.is_last)) || ((property || (misfit || (special || receiver))) || ((is_exported a.standing && is_text k) || (is_body a.standing && is_declaration k)))
 
 abbrev rule_by : Around → Kind → List Node → Bool
-rule_by a k ns = rule_of a k (head_by a.target k ns) (property_by a.standing k ns) (misfit_by k ns) (special_by k ns)
+rule_by a k ns = rule_of a k (head_by a.target k ns) (property_by a.standing k ns) (misfit_by k ns) (special_by k ns) (receiver_by k ns)
 
 misfit_made : (x : Node-F Node) → is_wrong_accessor (roll-Node x) ≡ misfit_by x.kind x.children
 unfolding misfits_by
@@ -85,10 +94,31 @@ special_made x = ap (λ k. is_special_by k (roll-Node x)) (kind_made x) ∙ by x
     by (kind.ClassMethod k modifiers) = ap (λ (p : Node-F Node). special_by (kind.ClassMethod k modifiers) p.children) (out-roll-Node x)
     by _ = refl
 
+receiver_made : (x : Node-F Node) → misplaces_this (roll-Node x) ≡ receiver_by x.kind x.children
+unfolding misplaces_this_by
+receiver_made x = ap (λ k. misplaces_this_by k (roll-Node x)) (kind_made x) ∙ by x.kind
+  where
+    by : (k : Kind) → misplaces_this_by k (roll-Node x) ≡ receiver_by k x.children
+    by (kind.Function is_generator is_async) = ap (λ (p : Node-F Node). receiver_by (kind.Function is_generator is_async) p.children) (out-roll-Node x)
+    by (kind.ArrowExpr is_async is_generator) = ap (λ (p : Node-F Node). receiver_by (kind.ArrowExpr is_async is_generator) p.children) (out-roll-Node x)
+    by (kind.Constructor accessibility is_optional) = ap (λ (p : Node-F Node). receiver_by (kind.Constructor accessibility is_optional) p.children) (out-roll-Node x)
+    by kind.SetterProp = ap (λ (p : Node-F Node). receiver_by kind.SetterProp p.children) (out-roll-Node x)
+    by _ = refl
+
 rule_made : (w : Where) (x : Node-F Node) → breaks_rule w (roll-Node x) ≡ rule_by w.around x.kind x.children
 rule_made w x =
-    ap (λ (p : Node-F Node). rule_of w.around p.kind (head_by w.around.target p.kind p.children) (property_by w.around.standing p.kind p.children) (is_wrong_accessor (roll-Node x)) (is_special_constructor (roll-Node x))) (out-roll-Node x)
-    ∙ ap₂ (rule_of w.around x.kind (head_by w.around.target x.kind x.children) (property_by w.around.standing x.kind x.children)) (misfit_made x) (special_made x)
+    ap (λ (p : Node-F Node). rule_of w.around p.kind (head_by w.around.target p.kind p.children) (property_by w.around.standing p.kind p.children) (is_wrong_accessor (roll-Node x)) (is_special_constructor (roll-Node x)) (misplaces_this (roll-Node x))) (out-roll-Node x)
+    ∙ (ap₂ (λ misfit special. rule_of w.around x.kind (head_by w.around.target x.kind x.children) (property_by w.around.standing x.kind x.children) misfit special (misplaces_this (roll-Node x))) (misfit_made x) (special_made x)
+    ∙ ap (rule_of w.around x.kind (head_by w.around.target x.kind x.children) (property_by w.around.standing x.kind x.children) (misfit_by x.kind x.children) (special_by x.kind x.children)) (receiver_made x))
+
+-- a node that breaks none has no parameter `this` where it may have none
+no_receiver : (a : Around) (k : Kind) (ns : List Node) → rule_by a k ns ≡ false → receiver_by k ns ≡ false
+no_receiver a k ns h =
+    let member = property_by a.standing k ns || (misfit_by k ns || (special_by k ns || receiver_by k ns)) in
+    let outer = neither (head_by a.target k ns || (is_rest a.target k && not a.is_last)) (member || ((is_exported a.standing && is_text k) || (is_body a.standing && is_declaration k))) h in
+    let inner = neither member ((is_exported a.standing && is_text k) || (is_body a.standing && is_declaration k)) outer.1 in
+    let more = neither (property_by a.standing k ns) (misfit_by k ns || (special_by k ns || receiver_by k ns)) inner.0 in
+    (neither (special_by k ns) (receiver_by k ns) (neither (misfit_by k ns) (special_by k ns || receiver_by k ns) more.1).1).1
 
 -- what may stand in parentheses breaks none of them
 
@@ -100,25 +130,27 @@ parentheses_silent : (a : Around) (ns : List Node) → rule_by a kind.ParenExpr 
 unfolding is_declaration
 parentheses_silent a ns = quiet (is_head a.target) (is_item a.target) (is_exported a.standing) (is_body a.standing) (not (is_one_without_value (items_of (slice_get ns 0)))) (not a.is_last)
 
-silent : (a : Around) (k : Kind) (ns : List Node) → closes k ≡ true → rule_by a k ns ≡ false
+silent : (a : Around) (k : Kind) (ns : List Node) → closes k ≡ true → receiver_by k ns ≡ false → rule_by a k ns ≡ false
 unfolding is_declaration
-silent a kind.SeqExpr ns h = parentheses_silent a ns
-silent a (kind.AssignExpr op) ns h = parentheses_silent a ns
-silent a (kind.ArrowExpr is_async is_generator) ns h = parentheses_silent a ns
-silent a (kind.YieldExpr delegate) ns h = parentheses_silent a ns
-silent a kind.CondExpr ns h = parentheses_silent a ns
-silent a (kind.BinExpr op) ns h = parentheses_silent a ns
-silent a (kind.UnaryExpr op) ns h = parentheses_silent a ns
-silent a kind.AwaitExpr ns h = parentheses_silent a ns
-silent a (kind.UpdateExpr op prefix) ns h = parentheses_silent a ns
-silent a kind.CallExpr ns h = parentheses_silent a ns
-silent a (kind.OptChainExpr optional) ns h = parentheses_silent a ns
-silent a kind.NewExpr ns h = parentheses_silent a ns
-silent a (kind.Number value raw) ns h = parentheses_silent a ns
-silent a kind.ObjectLit ns h = parentheses_silent a ns
-silent a kind.FnExpr ns h = parentheses_silent a ns
-silent a kind.ClassExpr ns h = parentheses_silent a ns
-silent a _ ns h = not_true h
+silent a kind.SeqExpr ns h e = parentheses_silent a ns
+silent a (kind.AssignExpr op) ns h e = parentheses_silent a ns
+silent a (kind.ArrowExpr is_async is_generator) ns h e =
+    let k = kind.ArrowExpr is_async is_generator in
+    ap (rule_of a k (head_by a.target k ns) (property_by a.standing k ns) false false) e ∙ parentheses_silent a ns
+silent a (kind.YieldExpr delegate) ns h e = parentheses_silent a ns
+silent a kind.CondExpr ns h e = parentheses_silent a ns
+silent a (kind.BinExpr op) ns h e = parentheses_silent a ns
+silent a (kind.UnaryExpr op) ns h e = parentheses_silent a ns
+silent a kind.AwaitExpr ns h e = parentheses_silent a ns
+silent a (kind.UpdateExpr op prefix) ns h e = parentheses_silent a ns
+silent a kind.CallExpr ns h e = parentheses_silent a ns
+silent a (kind.OptChainExpr optional) ns h e = parentheses_silent a ns
+silent a kind.NewExpr ns h e = parentheses_silent a ns
+silent a (kind.Number value raw) ns h e = parentheses_silent a ns
+silent a kind.ObjectLit ns h e = parentheses_silent a ns
+silent a kind.FnExpr ns h e = parentheses_silent a ns
+silent a kind.ClassExpr ns h e = parentheses_silent a ns
+silent a _ ns h e = not_true h
 
 -- declarators
 
@@ -214,8 +246,53 @@ one_parameter : (ns : List Node) (k : ℕ) (spot : Spot) → Fits spot → HaveS
 one_parameter [] k spot fits have = refl
 one_parameter (n ∷ ns) zero spot fits have = absurd have
 one_parameter (n ∷ []) (suc k) spot fits have = ap not (this_parameter n spot fits have.0)
-one_parameter (n ∷ m ∷ []) (suc k) spot fits have = this_parameter n spot fits have.0
+one_parameter (n ∷ m ∷ []) (suc zero) spot fits have = absurd have.1
+one_parameter (n ∷ m ∷ []) (suc (suc k)) spot fits have = ap₂ (λ a b. a && not b) (this_parameter n spot fits have.0) (this_parameter m spot fits have.1.0)
 one_parameter (n ∷ m ∷ l ∷ ns) (suc k) spot fits have = refl
+
+-- a node of such a sort is in no parentheses
+abbrev SortOpens : Sort → Type 0
+SortOpens σ = (k : Kind) → belongs σ k ≡ true → closes k ≡ false
+
+constructor_param_opens : SortOpens sort.ParamOrTsParamProp
+constructor_param_opens kind.Param h = refl
+constructor_param_opens (kind.TsParamProp accessibility is_override readonly) h = refl
+constructor_param_opens _ h = not_true h
+
+any_parameter : (σ : Sort) → SortOpens σ → (ns : List Node) (k : ℕ) (spot : Spot) → Fits spot → HaveShapes (replicate k (one σ)) ns → list_any is_this_parameter (spotted ns [] spot) ≡ list_any is_this_parameter ns
+any_parameter σ opens [] k spot fits have = refl
+any_parameter σ opens (n ∷ ns) zero spot fits have = absurd have
+any_parameter σ opens (n ∷ ns) (suc k) spot fits have =
+    ap₂ (λ a b. a || b) (holds_in is_this_pattern this_patterns n spot fits (opens (kind_of n) (shape_allows n (one σ) have.0)) 0) (any_parameter σ opens ns k spot fits have.1)
+
+any_further : (ns : List Node) (k : ℕ) (spot : Spot) → Fits spot → HaveShapes (replicate k (one sort.Param)) ns → list_any is_this_parameter (behind_first (spotted ns [] spot)) ≡ list_any is_this_parameter (behind_first ns)
+any_further [] k spot fits have = refl
+any_further (n ∷ ns) zero spot fits have = absurd have
+any_further (n ∷ ns) (suc k) spot fits have = any_parameter sort.Param param_opens ns k spot fits have.1
+
+any_pattern : (ns : List Node) (spot : Spot) → Fits spot → list_any is_this_pattern (spotted ns [] spot) ≡ list_any is_this_pattern ns
+any_pattern [] spot fits = refl
+any_pattern (n ∷ ns) spot fits = ap₂ (λ a b. a || b) (this_patterns n spot fits) (any_pattern ns spot fits)
+
+-- the parameters in a list, by its shape
+listed_have : (σ : Sort) (p : Node) → HasShape (many σ) p → HaveShapes (replicate (length (out-Node p).children) (one σ)) (out-Node p).children
+listed_have σ p h = items_have p (many σ) (shape_allows p (many σ) h) (shape_parts p (many σ) h).1
+
+receiver_here : (k : Kind) (ns : List Node) (ls : List Laid) (spot : Spot) (o : Shape) (n : ℕ) → HaveShapes (child_shapes k o n) ns → receiver_by k (spotted ns (first_spots k ls spot) (further_spot k spot)) ≡ receiver_by k ns
+receiver_here (kind.Function is_generator is_async) [] ls spot o n have = absurd have
+receiver_here (kind.Function is_generator is_async) (p ∷ ns) ls spot o n have =
+    ap (λ (z : List Node). list_any is_this_parameter (behind_first z)) (items_in p (free 1) refl (shape_allows p (many sort.Param) have.0))
+    ∙ any_further (out-Node p).children (length (out-Node p).children) (free 1) refl (listed_have sort.Param p have.0)
+receiver_here (kind.ArrowExpr is_async is_generator) [] ls spot o n have = absurd have
+receiver_here (kind.ArrowExpr is_async is_generator) (p ∷ ns) ls spot o n have =
+    ap (list_any is_this_pattern) (items_in p (free 1) refl (shape_allows p (many sort.Pat) have.0)) ∙ any_pattern (out-Node p).children (free 1) refl
+receiver_here (kind.Constructor accessibility is_optional) [] ls spot o n have = absurd have
+receiver_here (kind.Constructor accessibility is_optional) (a ∷ []) ls spot o n have = absurd have.1
+receiver_here (kind.Constructor accessibility is_optional) (a ∷ p ∷ ns) ls spot o n have =
+    ap (list_any is_this_parameter) (items_in p (free 1) refl (shape_allows p (many sort.ParamOrTsParamProp) have.1.0))
+    ∙ any_parameter sort.ParamOrTsParamProp constructor_param_opens (out-Node p).children (length (out-Node p).children) (free 1) refl (listed_have sort.ParamOrTsParamProp p have.1.0)
+receiver_here kind.SetterProp ns ls spot o n have = kept_at is_this_pattern this_patterns ns [] (free 1) tt refl 2
+receiver_here _ ns ls spot o n have = refl
 
 empty_here : (ns : List Node) (spot : Spot) → is_empty_list (spotted ns [] spot) ≡ is_empty_list ns
 empty_here [] spot = refl
@@ -280,16 +357,17 @@ rule_here w span k ns ls spot o fits h =
     let there = spotted ns spots further in
     let have = (shape_made (record { span = span; kind = k; children = ns }) o h).1 in
     rule_made w (record { span = span; kind = k; children = there })
-    ∙ (ap₂ (λ head property. rule_of a k head property (misfit_by k there) (special_by k there)) (head_here a.target k ns ls spot o (length ns) have)
+    ∙ (ap₂ (λ head property. rule_of a k head property (misfit_by k there) (special_by k there) (receiver_by k there)) (head_here a.target k ns ls spot o (length ns) have)
     (ap (λ b. is_property_kind k && not (is_declaring a.standing && b)) (kept_at is_plain_parameter plain_parameters ns spots further fit more 0))
-    ∙ (ap₂ (rule_of a k (head_by a.target k ns) (property_by a.standing k ns)) (misfit_here k ns ls spot o (length ns) have) (special_here k ns spots further fit more)
-    ∙ sym (rule_made w (record { span = span; kind = k; children = ns }))))
+    ∙ (ap₂ (λ misfit special. rule_of a k (head_by a.target k ns) (property_by a.standing k ns) misfit special (receiver_by k there)) (misfit_here k ns ls spot o (length ns) have) (special_here k ns spots further fit more)
+    ∙ (ap (rule_of a k (head_by a.target k ns) (property_by a.standing k ns) (misfit_by k ns) (special_by k ns)) (receiver_here k ns ls spot o (length ns) have)
+    ∙ sym (rule_made w (record { span = span; kind = k; children = ns })))))
 
 pub rules_stay : ExplicitRulesStay
 rules_stay tree sorted roles h =
     kept Where Known breaks_rule where_in known_below where_stays (λ w span k ns ls spot fits p e. rule_here w span k ns ls spot p.shape fits p.shaped ∙ e)
     (λ w n. rule_made w (record { span = dummy_span; kind = kind.ParenExpr; children = n ∷ [] }) ∙ parentheses_silent w.around (n ∷ [])) where_around
-    (λ w x n c e. let v = where_in w (parenthesized n) 0 in rule_made v x ∙ silent v.around x.kind x.children c) tree at_top
+    (λ w x n c e. let v = where_in w (parenthesized n) 0 in rule_made v x ∙ silent v.around x.kind x.children c (no_receiver w.around x.kind x.children (sym (rule_made w x) ∙ e))) tree at_top
     (record { shape = one sort.Module; shaped = sorted; role = roles; aim = refl }) h (free 0) refl
 
 pub ruleset rules_kept = (rules_stay)

@@ -1,11 +1,13 @@
 -- What the rules ask of the children of a node stays where it is covered and nothing is assigned to.
-use Rattle.std.proofs.Common.{◌≡◌, ◌∙◌, ℕ, zero, suc, Bool, true, false, not, ◌&&◌, ◌||◌, codes, cond, List, [], ◌∷◌, map, length, filter, replicate, Option, None, refl, sym, ap, subst, slice_get}
+use Rattle.std.proofs.Common.{◌≡◌, ◌∙◌, ℕ, zero, suc, Bool, true, false, not, ◌&&◌, ◌||◌, codes, cond, List, [], ◌∷◌, map, length, filter, replicate, Option, None, refl, sym, ap, ap₂, subst, slice_get}
+use Rattle.std.specs.List.{list_any}
 use Rattle.ecma_kind.specs.Sorts.{belongs}
 use Rattle.ecma_kind.specs.declared.kind.Kind.{Kind}
 use Rattle.ecma_kind.specs.declared.kind.Kind.TheVariants as kind
 use Rattle.ecma_kind.specs.declared.operators.MethodKind.{MethodKind}
 use Rattle.ecma_kind.specs.declared.operators.MethodKind.TheVariants.{Method, Getter, Setter}
 use Rattle.ecma_kind.specs.declared.shapes.Shape.{Shape}
+use Rattle.ecma_kind.specs.declared.shapes.Sort.{Sort}
 use Rattle.ecma_kind.specs.declared.shapes.Sort.TheVariants as sort
 use Rattle.ecma_tree.specs.declared.node.Node.{Node, Node-F, fold-roll-Node, ind-Node, out-Node, roll-Node}
 use Rattle.ecma_tree.specs.declared.node.Node.TheViews.{out-roll-Node, roll-out-Node}
@@ -16,7 +18,7 @@ use Rattle.ecma_rules.specs.declared.target.Target.TheVariants as target
 use Rattle.ecma_rules.specs.Children.{child_is, children_of as items_of, has_child, holds_of, is_named, is_present, items_at, kind_of, of_kind}
 use Rattle.ecma_rules.specs.Finishing.{each_in}
 use Rattle.ecma_rules.specs.Lists.{is_one_without_value}
-use Rattle.ecma_rules.specs.Members.{fits_kind, is_binding_name, is_constructor, is_empty_list, is_full_constructor, is_named_pattern, is_one_parameter, is_plain_parameter, is_this_by, is_this_parameter, is_this_pattern, second_of}
+use Rattle.ecma_rules.specs.Members.{behind_first, fits_kind, is_binding_name, is_constructor, is_empty_list, is_full_constructor, is_named_pattern, is_one_parameter, is_plain_parameter, is_this_by, is_this_parameter, is_this_pattern, second_of}
 use Rattle.ecma_rules.specs.Targets.{first_is, is_plain_target, is_simple_target, is_wrapper, simple_step, target_in}
 use Rattle.ecma_covers.specs.Covering.{cover_at, cover_in}
 use Rattle.ecma_covers.proofs.Uncovering.{cover_node, free_kind}
@@ -104,7 +106,7 @@ plain_parameter n = ap (λ k. is_named_pattern k (free n)) (free_kind n) ∙ by_
 
 -- the parameters of accessors
 
-this_pattern : (n : Node) → is_this_pattern (free n) ≡ is_this_pattern n
+pub this_pattern : (n : Node) → is_this_pattern (free n) ≡ is_this_pattern n
 unfolding cover_in target_in
 this_pattern n = ap (λ k. is_this_by k (free n)) (free_kind n) ∙ by_kind (kind_of n) refl
   where
@@ -112,15 +114,28 @@ this_pattern n = ap (λ k. is_this_by k (free n)) (free_kind n) ∙ by_kind (kin
     by_kind kind.BindingIdent e = child_kind_at (is_named (codes "this")) n 0 (ap (λ k. cover_in target.Free k 0) e)
     by_kind _ e = refl
 
-param_free : (k : Kind) → belongs sort.Param k ≡ true → cover_in target.Free k 0 ≡ target.Free
+-- a sort whose nodes ask nothing of their first child
+abbrev FirstIsFree : Sort → Type 0
+FirstIsFree σ = (k : Kind) → belongs σ k ≡ true → cover_in target.Free k 0 ≡ target.Free
+
+param_free : FirstIsFree sort.Param
 unfolding cover_in target_in
 param_free kind.Param h = refl
 param_free _ h = not_true h
 
-this_parameter : (n : Node) → HasShape (one sort.Param) n → is_this_parameter (free n) ≡ is_this_parameter n
-this_parameter n h =
+constructor_param_free : FirstIsFree sort.ParamOrTsParamProp
+unfolding cover_in target_in
+constructor_param_free kind.Param h = refl
+constructor_param_free (kind.TsParamProp accessibility is_override readonly) h = refl
+constructor_param_free _ h = not_true h
+
+this_of : (σ : Sort) → FirstIsFree σ → (n : Node) → HasShape (one σ) n → is_this_parameter (free n) ≡ is_this_parameter n
+this_of σ is_free n h =
     ap (λ (z : List Node). holds_of is_this_pattern (slice_get z 0)) (free_children n)
-    ∙ test_at is_this_pattern this_pattern (cover_in target.Free (kind_of n)) (children_of n) 0 (param_free (kind_of n) (shape_parts n (one sort.Param) h).0)
+    ∙ test_at is_this_pattern this_pattern (cover_in target.Free (kind_of n)) (children_of n) 0 (is_free (kind_of n) (shape_parts n (one σ) h).0)
+
+this_parameter : (n : Node) → HasShape (one sort.Param) n → is_this_parameter (free n) ≡ is_this_parameter n
+this_parameter = this_of sort.Param param_free
 
 empty_stays : (ns : List Node) → is_empty_list (each_in (λ i. target.Free) (map cover_at ns)) ≡ is_empty_list ns
 empty_stays [] = refl
@@ -130,7 +145,8 @@ one_parameter : (ns : List Node) (k : ℕ) → HaveShapes (replicate k (one sort
 one_parameter [] k h = refl
 one_parameter (n ∷ ns) zero h = absurd h
 one_parameter (n ∷ []) (suc k) h = ap not (this_parameter n h.0)
-one_parameter (n ∷ m ∷ []) (suc k) h = this_parameter n h.0
+one_parameter (n ∷ m ∷ []) (suc zero) h = absurd h.1
+one_parameter (n ∷ m ∷ []) (suc (suc k)) h = ap₂ (λ a b. a && not b) (this_parameter n h.0) (this_parameter m h.1.0)
 one_parameter (n ∷ m ∷ l ∷ ns) (suc k) h = refl
 
 abbrev AreParameters : Node → Type 0
@@ -140,6 +156,35 @@ one_stays : (n : Node) → AreParameters n → is_one_parameter (children_of (fr
 one_stays n h =
     let t = shape_parts n (many sort.Param) h in
     ap is_one_parameter (free_items n t.0) ∙ one_parameter (children_of n) (length (children_of n)) (items_have n (many sort.Param) t.0 t.1)
+
+any_parameter : (σ : Sort) → FirstIsFree σ → (ns : List Node) (k : ℕ) → HaveShapes (replicate k (one σ)) ns → list_any is_this_parameter (each_in (λ i. target.Free) (map cover_at ns)) ≡ list_any is_this_parameter ns
+any_parameter σ is_free [] k h = refl
+any_parameter σ is_free (n ∷ ns) zero h = absurd h
+any_parameter σ is_free (n ∷ ns) (suc k) h = ap₂ (λ a b. a || b) (this_of σ is_free n h.0) (any_parameter σ is_free ns k h.1)
+
+any_further : (ns : List Node) (k : ℕ) → HaveShapes (replicate k (one sort.Param)) ns → list_any is_this_parameter (behind_first (each_in (λ i. target.Free) (map cover_at ns))) ≡ list_any is_this_parameter (behind_first ns)
+any_further [] k h = refl
+any_further (n ∷ ns) zero h = absurd h
+any_further (n ∷ ns) (suc k) h = any_parameter sort.Param param_free ns k h.1
+
+any_pattern : (ns : List Node) → list_any is_this_pattern (each_in (λ i. target.Free) (map cover_at ns)) ≡ list_any is_this_pattern ns
+any_pattern [] = refl
+any_pattern (n ∷ ns) = ap₂ (λ a b. a || b) (this_pattern n) (any_pattern ns)
+
+-- whether a parameter is `this` stays, behind the first of a function, in a constructor and in an arrow function
+pub further_stay : (n : Node) → AreParameters n → list_any is_this_parameter (behind_first (children_of (free n))) ≡ list_any is_this_parameter (behind_first (children_of n))
+further_stay n h =
+    let t = shape_parts n (many sort.Param) h in
+    ap (λ (z : List Node). list_any is_this_parameter (behind_first z)) (free_items n t.0) ∙ any_further (children_of n) (length (children_of n)) (items_have n (many sort.Param) t.0 t.1)
+
+pub all_stay : (n : Node) → HasShape (many sort.ParamOrTsParamProp) n → list_any is_this_parameter (children_of (free n)) ≡ list_any is_this_parameter (children_of n)
+all_stay n h =
+    let t = shape_parts n (many sort.ParamOrTsParamProp) h in
+    ap (list_any is_this_parameter) (free_items n t.0)
+    ∙ any_parameter sort.ParamOrTsParamProp constructor_param_free (children_of n) (length (children_of n)) (items_have n (many sort.ParamOrTsParamProp) t.0 t.1)
+
+pub patterns_stay : (n : Node) → HasShape (many sort.Pat) n → list_any is_this_pattern (children_of (free n)) ≡ list_any is_this_pattern (children_of n)
+patterns_stay n h = ap (list_any is_this_pattern) (free_items n (shape_parts n (many sort.Pat) h).0) ∙ any_pattern (children_of n)
 
 none_stays : (n : Node) → AreParameters n → is_empty_list (children_of (free n)) ≡ is_empty_list (children_of n)
 none_stays n h = ap is_empty_list (free_items n (shape_parts n (many sort.Param) h).0) ∙ empty_stays (children_of n)

@@ -1,5 +1,6 @@
 -- What the rules ask of a node, and where its children stand, looks at no context.
 use Rattle.std.proofs.Common.{◌≡◌, ◌∙◌, ℕ, Bool, true, false, not, ◌&&◌, ◌||◌, codes, cond, List, [], ◌∷◌, map, filter, length, Option, Some, None, refl, ap, ap₂, slice_get}
+use Rattle.std.specs.List.{list_any}
 use Rattle.ecma_kind.specs.declared.kind.Kind.{Kind}
 use Rattle.ecma_kind.specs.declared.kind.Kind.TheVariants as kind
 use Rattle.ecma_kind.specs.declared.operators.MethodKind.{MethodKind}
@@ -13,7 +14,7 @@ use Rattle.ecma_rules.specs.declared.strays.Strays.{Strays}
 use Rattle.ecma_rules.specs.Children.{has_child, is_named, items_at, kind_of}
 use Rattle.ecma_rules.specs.Jumps.{Held, ends_jumps, held_behind, held_in, is_held_stray, is_stray_in, label_of, own_label, stray_here, text_by, text_of}
 use Rattle.ecma_rules.specs.Lists.{is_head, is_one_without_value, is_rest, last_by, last_in}
-use Rattle.ecma_rules.specs.Members.{fits_kind, is_binding_name, is_constructor_key, is_declaring, is_empty_list, is_full_constructor, is_constructor, is_method, is_named_pattern, is_one_parameter, is_plain_parameter, is_property_kind, is_special_by, is_special_function, is_this_by, is_this_parameter, is_this_pattern, misfits_by, second_by, second_constructor, second_of}
+use Rattle.ecma_rules.specs.Members.{behind_first, fits_kind, is_binding_name, is_constructor_key, is_declaring, is_empty_list, is_full_constructor, is_constructor, is_method, is_named_pattern, is_one_parameter, is_plain_parameter, is_property_kind, is_special_by, is_special_function, is_this_by, is_this_parameter, is_this_pattern, misfits_by, misplaces_this_by, second_by, second_constructor, second_of}
 use Rattle.ecma_rules.specs.Rules.{fails_list, fails_member, fails_statement}
 use Rattle.ecma_rules.specs.Statements.{is_body, is_declaration, is_exported, is_text}
 use Rattle.ecma_rules.specs.Strays.{in_named, is_stray, strays_in}
@@ -62,7 +63,7 @@ module _ (context_of : List ℕ → ℕ → ℕ) where
   one_parameter_same : (ns : List Node) → is_one_parameter (map (to context_of) ns) ≡ is_one_parameter ns
   one_parameter_same [] = refl
   one_parameter_same (n ∷ []) = ap not (this_parameter_same n)
-  one_parameter_same (n ∷ m ∷ []) = this_parameter_same n
+  one_parameter_same (n ∷ m ∷ []) = ap₂ (λ x y. x && not y) (this_parameter_same n) (this_parameter_same m)
   one_parameter_same (n ∷ m ∷ l ∷ ns) = refl
 
   none_same : (ns : List Node) → is_empty_list (map (to context_of) ns) ≡ is_empty_list ns
@@ -92,11 +93,34 @@ module _ (context_of : List ℕ → ℕ → ℕ) where
       (child_same context_of is_special_function (λ text x y optional. refl) n 1)
   special_same _ n = refl
 
+  any_same : (test : Node → Bool) → Same context_of test → (ns : List Node) → list_any test (map (to context_of) ns) ≡ list_any test ns
+  any_same test same [] = refl
+  any_same test same (n ∷ ns) = ap₂ (λ x y. x || y) (same n) (any_same test same ns)
+
+  behind_same : (ns : List Node) → behind_first (map (to context_of) ns) ≡ map (to context_of) (behind_first ns)
+  behind_same [] = refl
+  behind_same (n ∷ ns) = refl
+
+  misplaced_same : (k : Kind) (n : Node) → misplaces_this_by k (to context_of n) ≡ misplaces_this_by k n
+  unfolding misplaces_this_by
+  misplaced_same (kind.Function is_generator is_async) n =
+      ap (λ (z : List Node). list_any is_this_parameter (behind_first z)) (items_same context_of n 0) ∙ ap (list_any is_this_parameter) (behind_same (items_at n 0))
+      ∙ any_same is_this_parameter this_parameter_same (behind_first (items_at n 0))
+  misplaced_same (kind.ArrowExpr is_async is_generator) n = ap (list_any is_this_pattern) (items_same context_of n 0) ∙ any_same is_this_pattern this_pattern_same (items_at n 0)
+  misplaced_same (kind.Constructor accessibility is_optional) n = ap (list_any is_this_parameter) (items_same context_of n 1) ∙ any_same is_this_parameter this_parameter_same (items_at n 1)
+  misplaced_same kind.SetterProp n = holds_same context_of is_this_pattern this_pattern_same n 2
+  misplaced_same _ n = refl
+
+  misplaced_blind : (n : Node) → Blind Bool (λ k. misplaces_this_by k n)
+  unfolding misplaces_this_by
+  misplaced_blind n text x y optional = refl
+
   pub members_same : (a : Around) → Same context_of (fails_member a)
   members_same a n =
       ap₂ (λ x y. x || y)
       (ap₂ (λ x y. x && not (is_declaring a.standing && y)) (is_same is_property_kind (λ text x y optional. refl) n) (holds_same context_of is_plain_parameter plain_same n 0))
-      (ap₂ (λ x y. x || y) (by_kind context_of misfits_by misfits_blind misfits_same n) (by_kind context_of is_special_by (λ m text x y optional. refl) special_same n))
+      (ap₂ (λ x y. x || y) (by_kind context_of misfits_by misfits_blind misfits_same n)
+      (ap₂ (λ x y. x || y) (by_kind context_of is_special_by (λ m text x y optional. refl) special_same n) (by_kind context_of misplaces_this_by misplaced_blind misplaced_same n)))
 
   full_same : Same context_of is_full_constructor
   full_same n = ap₂ (λ x y. x && y) (is_same is_constructor (λ text x y optional. refl) n) (has_same context_of n 2)

@@ -1,5 +1,6 @@
 -- The rules that read a finished tree as they read a raw one are kept.
 use Rattle.std.proofs.Common.{◌≡◌, ◌∙◌, ℕ, Bool, true, false, not, ◌&&◌, ◌||◌, List, [], ◌∷◌, map, length, refl, sym, ap, ap₂, subst, slice_get}
+use Rattle.std.specs.List.{list_any}
 use Rattle.ecma_kind.specs.declared.span.Span.{Span}
 use Rattle.ecma_kind.specs.declared.kind.Kind.{Kind}
 use Rattle.ecma_kind.specs.declared.kind.Kind.TheVariants as kind
@@ -20,7 +21,7 @@ use Rattle.ecma_rules.specs.Children.{child_holds, children_of as items_of, hold
 use Rattle.ecma_rules.specs.Finishing.{each_in, finished_at}
 use Rattle.ecma_rules.specs.Jumps.{first_stray}
 use Rattle.ecma_rules.specs.Lists.{is_early_rest, is_head, is_item, is_one_without_value, is_rest, is_rest_pattern, is_wrong_head}
-use Rattle.ecma_rules.specs.Members.{fits_kind, is_constructor_key, is_declaring, is_method, is_plain_parameter, is_property_kind, is_special_by, is_special_constructor, is_special_function, is_stray_property, is_wrong_accessor, misfits_by}
+use Rattle.ecma_rules.specs.Members.{behind_first, fits_kind, is_constructor_key, is_declaring, is_method, is_plain_parameter, is_property_kind, is_special_by, is_special_constructor, is_special_function, is_stray_property, is_this_parameter, is_this_pattern, is_wrong_accessor, misfits_by, misplaces_this, misplaces_this_by}
 use Rattle.ecma_rules.specs.Rules.{first_misplaced, is_misplaced}
 use Rattle.ecma_rules.specs.Statements.{is_body, is_declaration, is_exported, is_text}
 use Rattle.ecma_rules.specs.Surroundings.{at_root}
@@ -30,7 +31,7 @@ use Rattle.ecma_fits.specs.Fitting.{at_top, breaks_rule}
 use Rattle.ecma_fits_laws.specs.Finished.{FinishedTreesKeepRules}
 use Rattle.ecma_fits_laws.proofs.Walks.{neither, neither_least, not_true}
 use Rattle.ecma_fits_laws.proofs.Standing.{Stands, as_last, keeps_last, kept_rules, kind_made, presence, shown}
-use Rattle.ecma_fits_laws.proofs.Tests.{kind_at, kind_fits, plain_parameter, test_at, without_value}
+use Rattle.ecma_fits_laws.proofs.Tests.{all_stay, further_stay, kind_at, kind_fits, patterns_stay, plain_parameter, test_at, this_pattern, without_value}
 use Rattle.ecma_fits_laws.proofs.Ruled.{is_made, ruled}
 
 either_no : (a b : Bool) → a ≡ false → b ≡ false → (a || b) ≡ false
@@ -57,7 +58,7 @@ abbrev statement_by : Standing → Kind → Bool
 statement_by s k = (is_exported s && is_text k) || (is_body s && is_declaration k)
 
 abbrev member_by : Standing → Kind → Node → Bool
-member_by s k n = stray_property_by s k n || (misfits_by k n || is_special_by k n)
+member_by s k n = stray_property_by s k n || (misfits_by k n || (is_special_by k n || misplaces_this_by k n))
 
 abbrev breaks_by : Where → Kind → Node → Bool
 breaks_by w k n = (wrong_head_by w.around.target k n || early_by w.around.target w.around.is_last k) || (member_by w.around.standing k n || statement_by w.around.standing k)
@@ -69,6 +70,7 @@ record Quiet (k : Kind) (n : Node) : Type 0 where
   property : is_property_kind k ≡ false
   accessor : misfits_by k n ≡ false
   constructor : is_special_by k n ≡ false
+  receiver : misplaces_this_by k n ≡ false
   text : is_text k ≡ false
   declaration : is_declaration k ≡ false
 
@@ -76,22 +78,23 @@ quiet_breaks : (w : Where) (k : Kind) (n : Node) → Quiet k n → early_by w.ar
 quiet_breaks w k n q early =
     let head = no_and (is_head w.around.target && is_variables k) (not (is_one_without_value (items_at n 0))) (and_no (is_head w.around.target) (is_variables k) q.variables) in
     let property = no_and (is_property_kind k) (not (is_declaring w.around.standing && child_holds is_plain_parameter n 0)) q.property in
-    let member = either_no (stray_property_by w.around.standing k n) (misfits_by k n || is_special_by k n) property (either_no (misfits_by k n) (is_special_by k n) q.accessor q.constructor) in
+    let member = either_no (stray_property_by w.around.standing k n) (misfits_by k n || (is_special_by k n || misplaces_this_by k n)) property
+    (either_no (misfits_by k n) (is_special_by k n || misplaces_this_by k n) q.accessor (either_no (is_special_by k n) (misplaces_this_by k n) q.constructor q.receiver)) in
     let statement = either_no (is_exported w.around.standing && is_text k) (is_body w.around.standing && is_declaration k) (and_no (is_exported w.around.standing) (is_text k) q.text) (and_no (is_body w.around.standing) (is_declaration k) q.declaration) in
     either_no (wrong_head_by w.around.target k n || early_by w.around.target w.around.is_last k) (member_by w.around.standing k n || statement_by w.around.standing k)
     (either_no (wrong_head_by w.around.target k n) (early_by w.around.target w.around.is_last k) head early)
     (either_no (member_by w.around.standing k n) (statement_by w.around.standing k) member statement)
 
 made_quiet : (k : Kind) (n : Node) → is_made k ≡ true → Quiet k n × (is_rest_pattern k ≡ false)
-unfolding misfits_by is_declaration
-made_quiet kind.Absent n h = (record { variables = refl; spread = refl; property = refl; accessor = refl; constructor = refl; text = refl; declaration = refl }, refl)
-made_quiet kind.BindingIdent n h = (record { variables = refl; spread = refl; property = refl; accessor = refl; constructor = refl; text = refl; declaration = refl }, refl)
-made_quiet (kind.Ident text ctxt optional) n h = (record { variables = refl; spread = refl; property = refl; accessor = refl; constructor = refl; text = refl; declaration = refl }, refl)
-made_quiet (kind.ArrayPat optional) n h = (record { variables = refl; spread = refl; property = refl; accessor = refl; constructor = refl; text = refl; declaration = refl }, refl)
-made_quiet (kind.ObjectPat optional) n h = (record { variables = refl; spread = refl; property = refl; accessor = refl; constructor = refl; text = refl; declaration = refl }, refl)
-made_quiet kind.AssignPat n h = (record { variables = refl; spread = refl; property = refl; accessor = refl; constructor = refl; text = refl; declaration = refl }, refl)
-made_quiet kind.KeyValuePatProp n h = (record { variables = refl; spread = refl; property = refl; accessor = refl; constructor = refl; text = refl; declaration = refl }, refl)
-made_quiet kind.AssignPatProp n h = (record { variables = refl; spread = refl; property = refl; accessor = refl; constructor = refl; text = refl; declaration = refl }, refl)
+unfolding misfits_by misplaces_this_by is_declaration
+made_quiet kind.Absent n h = (record { variables = refl; spread = refl; property = refl; accessor = refl; constructor = refl; receiver = refl; text = refl; declaration = refl }, refl)
+made_quiet kind.BindingIdent n h = (record { variables = refl; spread = refl; property = refl; accessor = refl; constructor = refl; receiver = refl; text = refl; declaration = refl }, refl)
+made_quiet (kind.Ident text ctxt optional) n h = (record { variables = refl; spread = refl; property = refl; accessor = refl; constructor = refl; receiver = refl; text = refl; declaration = refl }, refl)
+made_quiet (kind.ArrayPat optional) n h = (record { variables = refl; spread = refl; property = refl; accessor = refl; constructor = refl; receiver = refl; text = refl; declaration = refl }, refl)
+made_quiet (kind.ObjectPat optional) n h = (record { variables = refl; spread = refl; property = refl; accessor = refl; constructor = refl; receiver = refl; text = refl; declaration = refl }, refl)
+made_quiet kind.AssignPat n h = (record { variables = refl; spread = refl; property = refl; accessor = refl; constructor = refl; receiver = refl; text = refl; declaration = refl }, refl)
+made_quiet kind.KeyValuePatProp n h = (record { variables = refl; spread = refl; property = refl; accessor = refl; constructor = refl; receiver = refl; text = refl; declaration = refl }, refl)
+made_quiet kind.AssignPatProp n h = (record { variables = refl; spread = refl; property = refl; accessor = refl; constructor = refl; receiver = refl; text = refl; declaration = refl }, refl)
 made_quiet _ n h = not_true h
 
 made_keeps : (w : Where) (x : Node-F Node) → is_made x.kind ≡ true → breaks_rule w (roll-Node x) ≡ false
@@ -102,11 +105,11 @@ made_keeps w x h =
     subst (λ k. breaks_by w k n ≡ false) (sym (kind_made x)) (quiet_breaks w x.kind n q.0 early)
 
 rest_keeps : (w : Where) (span : Span) (cs : List Node) → w.around.is_last ≡ true → breaks_rule w (node_of span kind.RestPat cs) ≡ false
-unfolding misfits_by is_declaration
+unfolding misfits_by misplaces_this_by is_declaration
 rest_keeps w span cs last =
     let x : Node-F Node = record { span = span; kind = kind.RestPat; children = cs } in
     let n = roll-Node x in
-    let q : Quiet kind.RestPat n = record { variables = refl; spread = refl; property = refl; accessor = refl; constructor = refl; text = refl; declaration = refl } in
+    let q : Quiet kind.RestPat n = record { variables = refl; spread = refl; property = refl; accessor = refl; constructor = refl; receiver = refl; text = refl; declaration = refl } in
     subst (λ k. breaks_by w k n ≡ false) (sym (kind_made x)) (quiet_breaks w kind.RestPat n q (ap not last))
 
 shown_head : (t : Target) → is_head (shown t) ≡ is_head t
@@ -177,6 +180,20 @@ module _ (t : Target) (span : Span) where
       (ap₂ (λ a b. not modifiers.is_static && (a && (not (is_method k) || b))) (kind_at is_constructor_key (λ i. target.Free) cs 0 refl) (kind_at is_special_function (λ i. target.Free) cs 1 refl))
   constructors_stay _ cs = refl
 
+  receivers_stay : (k : Kind) (cs : List Node) (o : Shape) (n : ℕ) → HaveShapes (child_shapes k o n) (kids k cs) → misplaces_this_by k (now_node k cs) ≡ misplaces_this_by k (was_node k cs)
+  unfolding misplaces_this_by target_in
+  receivers_stay (kind.Function is_generator is_async) [] o n h = refl
+  receivers_stay (kind.Function is_generator is_async) (c ∷ cs) o n h =
+      by_children (λ z. list_any is_this_parameter (behind_first (items_of (slice_get z 0)))) (kind.Function is_generator is_async) (c ∷ cs) (further_stay c h.0)
+  receivers_stay (kind.ArrowExpr is_async is_generator) [] o n h = refl
+  receivers_stay (kind.ArrowExpr is_async is_generator) (c ∷ cs) o n h = by_children (λ z. list_any is_this_pattern (items_of (slice_get z 0))) (kind.ArrowExpr is_async is_generator) (c ∷ cs) (patterns_stay c h.0)
+  receivers_stay (kind.Constructor accessibility is_optional) [] o n h = refl
+  receivers_stay (kind.Constructor accessibility is_optional) (c ∷ []) o n h = absurd h.1
+  receivers_stay (kind.Constructor accessibility is_optional) (c ∷ d ∷ cs) o n h =
+      by_children (λ z. list_any is_this_parameter (items_of (slice_get z 1))) (kind.Constructor accessibility is_optional) (c ∷ d ∷ cs) (all_stay d h.1.0)
+  receivers_stay kind.SetterProp cs o n h = by_children (λ z. holds_of is_this_pattern (slice_get z 2)) kind.SetterProp cs (test_at is_this_pattern this_pattern (λ i. target.Free) cs 2 refl)
+  receivers_stay _ cs o n h = refl
+
 -- a node that is not turned
 module _ (was : Around) (w : Where) (span : Span) (k : Kind) (cs : List Node) (o : Shape) (stands : Stands was k w.around)
     (fine : is_misplaced was (node_of span k cs) ≡ false) (shape : HasShape o (node_of span k (each_in (target_in was.target k) (map finished_at cs)))) where
@@ -226,7 +243,7 @@ module _ (was : Around) (w : Where) (span : Span) (k : Kind) (cs : List Node) (o
     where
       was_property : (is_property_kind k && not (is_declaring was.standing && holds_of is_plain_parameter (slice_get cs 0))) ≡ false
       was_property = subst (λ (p : Node-F Node). (is_property_kind p.kind && not (is_declaring was.standing && holds_of is_plain_parameter (slice_get p.children 0))) ≡ false) (out-roll-Node x)
-          (neither (is_stray_property was.standing (roll-Node x)) (is_wrong_accessor (roll-Node x) || is_special_constructor (roll-Node x)) (kept_rules was (roll-Node x) fine).member).0
+          (neither (is_stray_property was.standing (roll-Node x)) (is_wrong_accessor (roll-Node x) || (is_special_constructor (roll-Node x) || misplaces_this (roll-Node x))) (kept_rules was (roll-Node x) fine).member).0
 
       go : (b : Bool) → is_property_kind k ≡ b → stray_property_by w.around.standing k (roll-Node y) ≡ false
       go false e = no_and (is_property_kind k) (not (is_declaring w.around.standing && child_holds is_plain_parameter (roll-Node y) 0)) e
@@ -235,14 +252,16 @@ module _ (was : Around) (w : Where) (span : Span) (k : Kind) (cs : List Node) (o
           subst (λ z. (is_property_kind k && not (is_declaring z && child_holds is_plain_parameter (roll-Node y) 0)) ≡ false) (sym stands.standing)
           (subst (λ z. (is_property_kind k && not (is_declaring was.standing && z)) ≡ false) (sym plain) was_property)
 
-  members_keep : (misfits_by k (roll-Node y) ≡ false) × (is_special_by k (roll-Node y) ≡ false)
+  members_keep : (misfits_by k (roll-Node y) ≡ false) × (is_special_by k (roll-Node y) ≡ false) × (misplaces_this_by k (roll-Node y) ≡ false)
   members_keep =
       let n = roll-Node x in
-      let m = (neither (is_stray_property was.standing n) (is_wrong_accessor n || is_special_constructor n) (kept_rules was n fine).member).1 in
-      let both = neither (is_wrong_accessor n) (is_special_constructor n) m in
-      let accessor : misfits_by k n ≡ false = subst (λ z. misfits_by z n ≡ false) (kind_made x) both.0 in
-      let constructor : is_special_by k n ≡ false = subst (λ z. is_special_by z n ≡ false) (kind_made x) both.1 in
-      (accessors_stay was.target span k cs o (length children) have ∙ accessor, constructors_stay was.target span k cs ∙ constructor)
+      let m = (neither (is_stray_property was.standing n) (is_wrong_accessor n || (is_special_constructor n || misplaces_this n)) (kept_rules was n fine).member).1 in
+      let more = neither (is_wrong_accessor n) (is_special_constructor n || misplaces_this n) m in
+      let both = neither (is_special_constructor n) (misplaces_this n) more.1 in
+      let accessor : misfits_by k n ≡ false = subst (λ z. misfits_by z n ≡ false) (kind_made x) more.0 in
+      let constructor : is_special_by k n ≡ false = subst (λ z. is_special_by z n ≡ false) (kind_made x) both.0 in
+      let receiver : misplaces_this_by k n ≡ false = subst (λ z. misplaces_this_by z n ≡ false) (kind_made x) both.1 in
+      (accessors_stay was.target span k cs o (length children) have ∙ accessor, constructors_stay was.target span k cs ∙ constructor, receivers_stay was.target span k cs o (length children) have ∙ receiver)
 
   statement_keeps : statement_by w.around.standing k ≡ false
   statement_keeps =
@@ -256,7 +275,8 @@ module _ (was : Around) (w : Where) (span : Span) (k : Kind) (cs : List Node) (o
       (either_no (wrong_head_by w.around.target k n || early_by w.around.target w.around.is_last k) (member_by w.around.standing k n || statement_by w.around.standing k)
       (either_no (wrong_head_by w.around.target k n) (early_by w.around.target w.around.is_last k) head_keeps early_keeps)
       (either_no (member_by w.around.standing k n) (statement_by w.around.standing k)
-      (either_no (stray_property_by w.around.standing k n) (misfits_by k n || is_special_by k n) property_keeps (either_no (misfits_by k n) (is_special_by k n) members_keep.0 members_keep.1)) statement_keeps))
+      (either_no (stray_property_by w.around.standing k n) (misfits_by k n || (is_special_by k n || misplaces_this_by k n)) property_keeps
+      (either_no (misfits_by k n) (is_special_by k n || misplaces_this_by k n) members_keep.0 (either_no (is_special_by k n) (misplaces_this_by k n) members_keep.1 members_keep.2))) statement_keeps))
 
 pub keeps_rules : FinishedTreesKeepRules
 keeps_rules raw kept sorted =

@@ -1,11 +1,13 @@
 -- What the rules ask of the children of a node stays where nothing is assigned to.
-use Rattle.std.proofs.Common.{◌≡◌, ◌∙◌, ℕ, zero, suc, Bool, true, not, codes, List, [], ◌∷◌, map, length, replicate, refl, sym, ap, subst, slice_get}
+use Rattle.std.proofs.Common.{◌≡◌, ◌∙◌, ◌&&◌, ◌||◌, ℕ, zero, suc, Bool, true, not, codes, List, [], ◌∷◌, map, length, replicate, refl, sym, ap, ap₂, subst, slice_get}
+use Rattle.std.specs.List.{list_any}
 use Rattle.ecma_kind.specs.Sorts.{belongs}
 use Rattle.ecma_kind.specs.declared.kind.Kind.{Kind}
 use Rattle.ecma_kind.specs.declared.kind.Kind.TheVariants as kind
 use Rattle.ecma_kind.specs.declared.operators.MethodKind.{MethodKind}
 use Rattle.ecma_kind.specs.declared.operators.MethodKind.TheVariants.{Method, Getter, Setter}
 use Rattle.ecma_kind.specs.declared.shapes.Shape.{Shape}
+use Rattle.ecma_kind.specs.declared.shapes.Sort.{Sort}
 use Rattle.ecma_kind.specs.declared.shapes.Sort.TheVariants as sort
 use Rattle.ecma_tree.specs.declared.node.Node.{Node, Node-F, out-Node, roll-Node}
 use Rattle.ecma_tree.specs.declared.node.Node.TheViews.{out-roll-Node, roll-out-Node}
@@ -17,7 +19,7 @@ use Rattle.ecma_rules.specs.declared.target.Target.TheVariants as target
 use Rattle.ecma_rules.specs.Children.{child_is, children_of as items_of, has_child, holds_of, is_named, is_present, items_at, kind_of, of_kind}
 use Rattle.ecma_rules.specs.Finishing.{each_in, finished_at}
 use Rattle.ecma_rules.specs.Lists.{is_one_without_value}
-use Rattle.ecma_rules.specs.Members.{fits_kind, is_binding_name, is_empty_list, is_named_pattern, is_one_parameter, is_plain_parameter, is_this_by, is_this_parameter, is_this_pattern}
+use Rattle.ecma_rules.specs.Members.{behind_first, fits_kind, is_binding_name, is_empty_list, is_named_pattern, is_one_parameter, is_plain_parameter, is_this_by, is_this_parameter, is_this_pattern}
 use Rattle.ecma_rules.specs.Targets.{target_in}
 use Rattle.ecma_fits_laws.proofs.Walks.{free_kind, not_true}
 use Rattle.ecma_fits_laws.proofs.Standing.{finished_parts, presence}
@@ -95,7 +97,7 @@ plain_parameter n = ap (λ k. is_named_pattern k (finished_at n target.Free)) (f
 
 -- the parameters of accessors
 
-this_pattern : (n : Node) → is_this_pattern (finished_at n target.Free) ≡ is_this_pattern n
+pub this_pattern : (n : Node) → is_this_pattern (finished_at n target.Free) ≡ is_this_pattern n
 unfolding target_in
 this_pattern n = ap (λ k. is_this_by k (finished_at n target.Free)) (free_kind n) ∙ by_kind (kind_of n) refl
   where
@@ -103,56 +105,99 @@ this_pattern n = ap (λ k. is_this_by k (finished_at n target.Free)) (free_kind 
     by_kind kind.BindingIdent e = child_kind_at (is_named (codes "this")) n 0 (ap (λ k. target_in target.Free k 0) e)
     by_kind _ e = refl
 
-param_free : (k : Kind) → belongs sort.Param k ≡ true → target_in target.Free k 0 ≡ target.Free
+-- a sort whose nodes ask nothing of their first child
+abbrev FirstIsFree : Sort → Type 0
+FirstIsFree σ = (k : Kind) → belongs σ k ≡ true → target_in target.Free k 0 ≡ target.Free
+
+param_free : FirstIsFree sort.Param
 unfolding target_in
 param_free kind.Param h = refl
 param_free _ h = not_true h
 
-this_parameter : (n : Node) → HasShape (one sort.Param) (finished_at n target.Free) → is_this_parameter (finished_at n target.Free) ≡ is_this_parameter n
-this_parameter n h =
-    let is_param = subst (λ k. belongs sort.Param k ≡ true) (free_kind n) (shape_parts (finished_at n target.Free) (one sort.Param) h).0 in
+constructor_param_free : FirstIsFree sort.ParamOrTsParamProp
+unfolding target_in
+constructor_param_free kind.Param h = refl
+constructor_param_free (kind.TsParamProp accessibility is_override readonly) h = refl
+constructor_param_free _ h = not_true h
+
+this_of : (σ : Sort) → FirstIsFree σ → (n : Node) → HasShape (one σ) (finished_at n target.Free) → is_this_parameter (finished_at n target.Free) ≡ is_this_parameter n
+this_of σ free n h =
+    let is_of = subst (λ k. belongs σ k ≡ true) (free_kind n) (shape_parts (finished_at n target.Free) (one σ) h).0 in
     ap (λ (z : List Node). holds_of is_this_pattern (slice_get z 0)) (free_children n)
-    ∙ test_at is_this_pattern this_pattern (target_in target.Free (kind_of n)) (children_of n) 0 (param_free (kind_of n) is_param)
+    ∙ test_at is_this_pattern this_pattern (target_in target.Free (kind_of n)) (children_of n) 0 (free (kind_of n) is_of)
+
+this_parameter : (n : Node) → HasShape (one sort.Param) (finished_at n target.Free) → is_this_parameter (finished_at n target.Free) ≡ is_this_parameter n
+this_parameter = this_of sort.Param param_free
 
 empty_stays : (target_of : ℕ → Target) (ns : List Node) → is_empty_list (each_in target_of (map finished_at ns)) ≡ is_empty_list ns
 empty_stays target_of [] = refl
 empty_stays target_of (n ∷ ns) = refl
 
-one_parameter : (ns : List Node) (os : List Shape) → HaveShapes (one sort.Param ∷ os) (each_in (λ i. target.Free) (map finished_at ns)) → is_one_parameter (each_in (λ i. target.Free) (map finished_at ns)) ≡ is_one_parameter ns
-one_parameter [] os h = refl
-one_parameter (n ∷ []) os h = ap not (this_parameter n h.0)
-one_parameter (n ∷ m ∷ []) os h = this_parameter n h.0
-one_parameter (n ∷ m ∷ l ∷ ns) os h = refl
+one_parameter : (ns : List Node) (m : ℕ) → HaveShapes (replicate m (one sort.Param)) (each_in (λ i. target.Free) (map finished_at ns)) → is_one_parameter (each_in (λ i. target.Free) (map finished_at ns)) ≡ is_one_parameter ns
+one_parameter [] m h = refl
+one_parameter (n ∷ []) zero h = absurd h
+one_parameter (n ∷ []) (suc m) h = ap not (this_parameter n h.0)
+one_parameter (n ∷ l ∷ []) zero h = absurd h
+one_parameter (n ∷ l ∷ []) (suc zero) h = absurd h.1
+one_parameter (n ∷ l ∷ []) (suc (suc m)) h = ap₂ (λ a b. a && not b) (this_parameter n h.0) (this_parameter l h.1.0)
+one_parameter (n ∷ l ∷ k ∷ ns) m h = refl
 
-some_parameters : (ns : List Node) → HaveShapes (replicate (length (each_in (λ i. target.Free) (map finished_at ns))) (one sort.Param)) (each_in (λ i. target.Free) (map finished_at ns))
-    → is_one_parameter (each_in (λ i. target.Free) (map finished_at ns)) ≡ is_one_parameter ns
-some_parameters [] h = refl
-some_parameters (n ∷ ns) h = one_parameter (n ∷ ns) _ h
-
--- of a list of parameters
-module _ (p : Node) (h : HasShape (many sort.Param) (finished_at p target.Free)) where
+-- of a list
+module _ (σ : Sort) (p : Node) (h : HasShape (many σ) (finished_at p target.Free)) where
   abbrev p' : Node
   p' = finished_at p target.Free
 
   is_list_there : is_list (kind_of p) ≡ true
-  is_list_there = list_kind p (many sort.Param) h (λ k e. e)
+  is_list_there = list_kind p (many σ) h (λ k e. e)
 
   free_items : children_of p' ≡ each_in (λ i. target.Free) (map finished_at (children_of p))
   unfolding target_in
   free_items = free_children p ∙ ap (λ k. each_in (target_in target.Free k) (map finished_at (children_of p))) (list_only (kind_of p) is_list_there)
 
-  items_have : HaveShapes (replicate (length (children_of p')) (one sort.Param)) (children_of p')
+  items_have : HaveShapes (replicate (length (children_of p')) (one σ)) (children_of p')
   items_have =
-      let t = shape_parts p' (many sort.Param) h in
-      subst (λ k. HaveShapes (child_shapes k (many sort.Param) (length (children_of p'))) (children_of p')) (list_only (kind_of p') t.0) t.1
+      let t = shape_parts p' (many σ) h in
+      subst (λ k. HaveShapes (child_shapes k (many σ) (length (children_of p'))) (children_of p')) (list_only (kind_of p') t.0) t.1
 
-  one_stays : is_one_parameter (children_of p') ≡ is_one_parameter (children_of p)
-  one_stays =
-      ap is_one_parameter free_items
-      ∙ some_parameters (children_of p) (subst (λ (z : List Node). HaveShapes (replicate (length z) (one sort.Param)) z) free_items items_have)
+  free_have : HaveShapes (replicate (length (children_of p')) (one σ)) (each_in (λ i. target.Free) (map finished_at (children_of p)))
+  free_have = subst (HaveShapes (replicate (length (children_of p')) (one σ))) free_items items_have
 
-  none_stays : is_empty_list (children_of p') ≡ is_empty_list (children_of p)
-  none_stays = ap is_empty_list free_items ∙ empty_stays (λ i. target.Free) (children_of p)
+one_stays : (p : Node) → HasShape (many sort.Param) (finished_at p target.Free) → is_one_parameter (children_of (finished_at p target.Free)) ≡ is_one_parameter (children_of p)
+one_stays p h =
+    ap is_one_parameter (free_items sort.Param p h) ∙ one_parameter (children_of p) (length (children_of (finished_at p target.Free))) (free_have sort.Param p h)
+
+none_stays : (p : Node) → HasShape (many sort.Param) (finished_at p target.Free) → is_empty_list (children_of (finished_at p target.Free)) ≡ is_empty_list (children_of p)
+none_stays p h = ap is_empty_list (free_items sort.Param p h) ∙ empty_stays (λ i. target.Free) (children_of p)
+
+any_parameter : (σ : Sort) → FirstIsFree σ → (ns : List Node) (m : ℕ) → HaveShapes (replicate m (one σ)) (each_in (λ i. target.Free) (map finished_at ns))
+    → list_any is_this_parameter (each_in (λ i. target.Free) (map finished_at ns)) ≡ list_any is_this_parameter ns
+any_parameter σ free [] m h = refl
+any_parameter σ free (n ∷ ns) zero h = absurd h
+any_parameter σ free (n ∷ ns) (suc m) h = ap₂ (λ a b. a || b) (this_of σ free n h.0) (any_parameter σ free ns m h.1)
+
+any_further : (ns : List Node) (m : ℕ) → HaveShapes (replicate m (one sort.Param)) (each_in (λ i. target.Free) (map finished_at ns))
+    → list_any is_this_parameter (behind_first (each_in (λ i. target.Free) (map finished_at ns))) ≡ list_any is_this_parameter (behind_first ns)
+any_further [] m h = refl
+any_further (n ∷ ns) zero h = absurd h
+any_further (n ∷ ns) (suc m) h = any_parameter sort.Param param_free ns m h.1
+
+any_pattern : (ns : List Node) → list_any is_this_pattern (each_in (λ i. target.Free) (map finished_at ns)) ≡ list_any is_this_pattern ns
+any_pattern [] = refl
+any_pattern (n ∷ ns) = ap₂ (λ a b. a || b) (this_pattern n) (any_pattern ns)
+
+-- whether a parameter is `this` stays, behind the first of a function, in a constructor and in an arrow function
+pub further_stay : (p : Node) → HasShape (many sort.Param) (finished_at p target.Free)
+    → list_any is_this_parameter (behind_first (children_of (finished_at p target.Free))) ≡ list_any is_this_parameter (behind_first (children_of p))
+further_stay p h =
+    ap (λ (z : List Node). list_any is_this_parameter (behind_first z)) (free_items sort.Param p h) ∙ any_further (children_of p) (length (children_of (finished_at p target.Free))) (free_have sort.Param p h)
+
+pub all_stay : (p : Node) → HasShape (many sort.ParamOrTsParamProp) (finished_at p target.Free) → list_any is_this_parameter (children_of (finished_at p target.Free)) ≡ list_any is_this_parameter (children_of p)
+all_stay p h =
+    ap (list_any is_this_parameter) (free_items sort.ParamOrTsParamProp p h)
+    ∙ any_parameter sort.ParamOrTsParamProp constructor_param_free (children_of p) (length (children_of (finished_at p target.Free))) (free_have sort.ParamOrTsParamProp p h)
+
+pub patterns_stay : (p : Node) → HasShape (many sort.Pat) (finished_at p target.Free) → list_any is_this_pattern (children_of (finished_at p target.Free)) ≡ list_any is_this_pattern (children_of p)
+patterns_stay p h = ap (list_any is_this_pattern) (free_items sort.Pat p h) ∙ any_pattern (children_of p)
 
 function_only : (k : Kind) (o : Shape) (n : ℕ) (cs : List Node) → belongs sort.Function k ≡ true → HaveShapes (child_shapes k o n) cs → (p : Node) × (ps : List Node) × (cs ≡ p ∷ ps) × HasShape (many sort.Param) p
 function_only (kind.Function is_generator is_async) o n [] b h = absurd h

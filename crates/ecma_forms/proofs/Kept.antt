@@ -14,7 +14,7 @@ use Rattle.ecma_rules.specs.declared.standing.Standing.{Standing}
 use Rattle.ecma_rules.specs.declared.standing.Standing.TheVariants as standing
 use Rattle.ecma_rules.specs.Children.{kind_of, has_child}
 use Rattle.ecma_rules.specs.Targets.{target_in}
-use Rattle.ecma_rules.specs.Members.{misfits_by, second_constructor, second_by}
+use Rattle.ecma_rules.specs.Members.{misfits_by, misplaces_this_by, second_constructor, second_by}
 use Rattle.ecma_rules.specs.Lists.{last_in}
 use Rattle.ecma_rules.specs.Surroundings.{standing_by, standing_in, around_in}
 use Rattle.ecma_rules.specs.Strays.{is_stray, nothing_held, strays_in, in_named}
@@ -151,7 +151,7 @@ abbrev around : Standing → Bool → Around
 around s b = record { target = target.Free; standing = s; is_last = b }
 
 placed_by : (s : Standing) (b : Bool) (at : Span) (k : Kind) (cs : List Node) → is_calm s ≡ true → IsQuiet k → is_misplaced (around s b) (node_of at k cs) ≡ false
-unfolding is_misplaced misfits_by
+unfolding is_misplaced misfits_by misplaces_this_by
 placed_by standing.Plain b at kind.Absent cs calm h = rw (kind_made at kind.Absent cs) refl
 placed_by standing.Plain b at kind.List cs calm h = rw (kind_made at kind.List cs) refl
 placed_by standing.Plain b at (kind.Module shebang) cs calm h = rw (kind_made at (kind.Module shebang) cs) refl

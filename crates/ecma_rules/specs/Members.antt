@@ -1,5 +1,6 @@
--- Parameters and members of objects and classes (ECMAScript, 15.4, 15.7.1; TypeScript handbook, "Parameter Properties").
+-- Parameters and members of objects and classes (ECMAScript, 15.4, 15.7.1; TypeScript handbook, "Parameter Properties", "Declaring this in a Function").
 use Rattle.std.specs.Prelude.{ℕ, Bool, true, false, not, ◌&&◌, ◌||◌, List, [], ◌∷◌, codes, bytes_eq, filter, Option, Some, None}
+use Rattle.std.specs.List.{list_any}
 use Rattle.ecma_kind.specs.declared.kind.Kind.{Kind}
 use Rattle.ecma_kind.specs.declared.kind.Kind.TheVariants as kind
 use Rattle.ecma_kind.specs.declared.operators.MethodKind.{MethodKind}
@@ -47,10 +48,10 @@ is_this_pattern node = is_this_by (kind_of node) node
 abbrev pub is_this_parameter : Node → Bool
 is_this_parameter node = child_holds is_this_pattern node 0
 
--- one parameter, perhaps behind `this`
+-- one parameter, perhaps behind one `this`
 abbrev pub is_one_parameter : List Node → Bool
 is_one_parameter (parameter ∷ []) = not (is_this_parameter parameter)
-is_one_parameter (first ∷ parameter ∷ []) = is_this_parameter first
+is_one_parameter (first ∷ parameter ∷ []) = is_this_parameter first && not (is_this_parameter parameter)
 is_one_parameter _ = false
 
 abbrev pub is_empty_list : List Node → Bool
@@ -77,6 +78,22 @@ misfits_by _ node = false
 
 abbrev pub is_wrong_accessor : Node → Bool
 is_wrong_accessor node = misfits_by (kind_of node) node
+
+abbrev pub behind_first : List Node → List Node
+behind_first [] = []
+behind_first (first ∷ others) = others
+
+-- a function with a parameter `this` behind its first one, or one of which no parameter is `this`: an arrow function, a constructor, and a setter of an object
+-- beside its own `this`
+unfoldable pub misplaces_this_by : Kind → Node → Bool
+misplaces_this_by (kind.Function is_generator is_async) node = list_any is_this_parameter (behind_first (items_at node 0))
+misplaces_this_by (kind.ArrowExpr is_async is_generator) node = list_any is_this_pattern (items_at node 0)
+misplaces_this_by (kind.Constructor accessibility is_optional) node = list_any is_this_parameter (items_at node 1)
+misplaces_this_by kind.SetterProp node = child_holds is_this_pattern node 2
+misplaces_this_by _ node = false
+
+abbrev pub misplaces_this : Node → Bool
+misplaces_this node = misplaces_this_by (kind_of node) node
 
 abbrev pub is_constructor : Kind → Bool
 is_constructor (kind.Constructor accessibility is_optional) = true

@@ -6,7 +6,8 @@ use crate::failing::{failing_here, least};
 use crate::jumps::first_stray;
 use crate::lists::{is_early_rest, is_wrong_head};
 use crate::members::{
-    is_special_constructor, is_stray_property, is_wrong_accessor, second_constructor,
+    is_special_constructor, is_stray_property, is_wrong_accessor, misplaces_this,
+    second_constructor,
 };
 use crate::standing::{Around, around_in, at_root};
 use crate::statements::{is_declared_body, is_quoted_local};
@@ -34,6 +35,7 @@ pub fn fails_member(around: Around, node: &Node) -> bool
     is_stray_property(around.standing, node)
         || is_wrong_accessor(node)
         || is_special_constructor(node)
+        || misplaces_this(node)
 }
 
 /// Whether a node is a quoted local name, or a declaration as the body of a statement.

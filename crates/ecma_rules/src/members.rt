@@ -1,9 +1,10 @@
 //! Parameters and members of objects and classes.
 ghost use Rattle.std.specs.Prelude.{◌≡◌, ◌&&◌, ◌||◌, filter};
+ghost use Rattle.std.specs.List.{list_any};
 ghost use Rattle.ecma_tree.specs.Sorted.{is_list};
 ghost use Rattle.ecma_tree.specs.declared.node.Node.{out-Node};
 ghost use Rattle.ecma_rules.specs.Children.{child_holds, child_is};
-ghost use Rattle.ecma_rules.specs.Members.{fits_kind, is_binding_name, is_constructor, is_constructor_key, is_declaring, is_empty_list, is_full_constructor, is_method, is_named_pattern, is_one_parameter, is_plain_parameter, is_property_kind, is_special_by, is_special_constructor, is_special_function, is_stray_property, is_this_by, is_this_parameter, is_this_pattern, is_wrong_accessor, misfits_by, second_constructor, second_of};
+ghost use Rattle.ecma_rules.specs.Members.{behind_first, fits_kind, is_binding_name, is_constructor, is_constructor_key, is_declaring, is_empty_list, is_full_constructor, is_method, is_named_pattern, is_one_parameter, is_plain_parameter, is_property_kind, is_special_by, is_special_constructor, is_special_function, is_stray_property, is_this_by, is_this_parameter, is_this_pattern, is_wrong_accessor, misfits_by, misplaces_this, misplaces_this_by, second_constructor, second_of};
 
 use crate::children::{has_child, is_named, items_at};
 use crate::standing::Standing;
@@ -76,7 +77,7 @@ fn is_one_parameter(parameters: &[Node]) -> bool
 {
     match parameters {
         [parameter] => !is_this_parameter(parameter),
-        [first, _parameter] => is_this_parameter(first),
+        [first, parameter] => is_this_parameter(first) && !is_this_parameter(parameter),
         _ => false,
     }
 }
@@ -128,6 +129,56 @@ pub(crate) fn is_wrong_accessor(node: &Node) -> bool
         Kind::SetterProp => has_list(node, 2),
         Kind::ClassMethod { kind, .. } => !has_fitting(*kind, node),
         Kind::PrivateMethod { kind, .. } => !has_fitting(*kind, node),
+        _ => false,
+    }
+}
+
+fn any_is_this(patterns: &[Node]) -> bool
+    ensures { result ≡ list_any is_this_pattern patterns.now }
+{
+    match patterns {
+        [] => false,
+        [pattern, others @ ..] => is_this_pattern(pattern) || any_is_this(others),
+    }
+}
+
+fn any_is_this_parameter(parameters: &[Node]) -> bool
+    ensures { result ≡ list_any is_this_parameter parameters.now }
+{
+    match parameters {
+        [] => false,
+        [parameter, others @ ..] => is_this_parameter(parameter) || any_is_this_parameter(others),
+    }
+}
+
+fn is_this_behind_first(parameters: &[Node]) -> bool
+    ensures { result ≡ list_any is_this_parameter (behind_first parameters.now) }
+{
+    match parameters {
+        [] => false,
+        [_first, others @ ..] => any_is_this_parameter(others),
+    }
+}
+
+fn has_this_pattern(node: &Node, index: usize) -> bool
+    ensures { result ≡ child_holds is_this_pattern node.now index }
+{
+    match node.children.get(index) {
+        Some(pattern) => is_this_pattern(pattern),
+        None => false,
+    }
+}
+
+/// Whether a node is a function with a parameter `this` where none may stand.
+#[tactic(auto, unfolding(crate::specs::Members::misplaces_this_by))]
+pub(crate) fn misplaces_this(node: &Node) -> bool
+    ensures { result ≡ misplaces_this node.now }
+{
+    match &node.kind {
+        Kind::Function { .. } => is_this_behind_first(items_at(node, 0)),
+        Kind::ArrowExpr { .. } => any_is_this(items_at(node, 0)),
+        Kind::Constructor { .. } => any_is_this_parameter(items_at(node, 1)),
+        Kind::SetterProp => has_this_pattern(node, 2),
         _ => false,
     }
 }

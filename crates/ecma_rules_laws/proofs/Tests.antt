@@ -1,6 +1,7 @@
 -- Each rule holds of a node as it does without spans.
 use Rattle.std.proofs.Common.{◌≡◌, ◌∙◌, Bool, true, false, not, cond, codes, ◌&&◌, ◌||◌, List, [], ◌∷◌, map, refl, sym, ap, ap₂, subst}
 use Rattle.std.specs.Prelude.{filter, is_some}
+use Rattle.std.specs.List.{list_any}
 use Rattle.ecma_kind.specs.declared.kind.Kind.{Kind}
 use Rattle.ecma_kind.specs.declared.kind.Kind.TheVariants as kind
 use Rattle.ecma_kind.specs.declared.operators.MethodKind.{MethodKind}
@@ -14,7 +15,7 @@ use Rattle.ecma_rules.specs.declared.standing.Around.{Around}
 use Rattle.ecma_rules.specs.declared.standing.Standing.{Standing}
 use Rattle.ecma_rules.specs.Children.{is_named, items_at, kind_of}
 use Rattle.ecma_rules.specs.Lists.{is_head, is_one_without_value, is_rest, is_wrong_head}
-use Rattle.ecma_rules.specs.Members.{fits_kind, is_binding_name, is_constructor_key, is_declaring, is_empty_list, is_full_constructor, is_constructor, is_method, is_named_pattern, is_one_parameter, is_plain_parameter, is_property_kind, is_special_by, is_special_constructor, is_special_function, is_stray_property, is_this_by, is_this_parameter, is_this_pattern, is_wrong_accessor, misfits_by, parameters_of, second_by, second_constructor, second_of}
+use Rattle.ecma_rules.specs.Members.{behind_first, fits_kind, is_binding_name, is_constructor_key, is_declaring, is_empty_list, is_full_constructor, is_constructor, is_method, is_named_pattern, is_one_parameter, is_plain_parameter, is_property_kind, is_special_by, is_special_constructor, is_special_function, is_stray_property, is_this_by, is_this_parameter, is_this_pattern, is_wrong_accessor, misfits_by, misplaces_this, misplaces_this_by, parameters_of, second_by, second_constructor, second_of}
 use Rattle.ecma_rules.specs.Rules.{fails_list, fails_member, fails_statement, fails_super, fails_target, is_misplaced}
 use Rattle.ecma_rules.specs.Statements.{is_declaration, is_exported, is_body, is_text}
 use Rattle.ecma_rules.specs.Supers.{is_private_name, is_super, is_linked, is_super_member}
@@ -85,7 +86,7 @@ this-parameter-bare n = bare-child_holds is_this_pattern this-bare n 0
 one-parameter-bare : (ns : List Node) → is_one_parameter (map without_spans ns) ≡ is_one_parameter ns
 one-parameter-bare [] = refl
 one-parameter-bare (n ∷ []) = ap not (this-parameter-bare n)
-one-parameter-bare (n ∷ n' ∷ []) = this-parameter-bare n
+one-parameter-bare (n ∷ n' ∷ []) = ap₂ (λ a b. a && not b) (this-parameter-bare n) (this-parameter-bare n')
 one-parameter-bare (n ∷ n' ∷ n'' ∷ ns) = refl
 
 empty-bare : (ns : List Node) → is_empty_list (map without_spans ns) ≡ is_empty_list ns
@@ -116,8 +117,29 @@ special-by-bare k n = refl
 special-bare : IsBare is_special_constructor
 special-bare n = ap (λ k. is_special_by k (without_spans n)) (bare-kind n) ∙ special-by-bare (kind_of n) n
 
+any-bare : (test : Node → Bool) → IsBare test → (ns : List Node) → list_any test (map without_spans ns) ≡ list_any test ns
+any-bare test same [] = refl
+any-bare test same (n ∷ ns) = ap₂ (λ a b. a || b) (same n) (any-bare test same ns)
+
+behind-bare : (ns : List Node) → behind_first (map without_spans ns) ≡ map without_spans (behind_first ns)
+behind-bare [] = refl
+behind-bare (n ∷ ns) = refl
+
+receiver-bare : (k : Kind) (n : Node) → misplaces_this_by k (without_spans n) ≡ misplaces_this_by k n
+unfolding misplaces_this_by
+receiver-bare (kind.Function is_generator is_async) n =
+    ap (λ (ns : List Node). list_any is_this_parameter (behind_first ns)) (bare-items n 0) ∙ ap (list_any is_this_parameter) (behind-bare (items_at n 0))
+    ∙ any-bare is_this_parameter this-parameter-bare (behind_first (items_at n 0))
+receiver-bare (kind.ArrowExpr is_async is_generator) n = ap (list_any is_this_pattern) (bare-items n 0) ∙ any-bare is_this_pattern this-bare (items_at n 0)
+receiver-bare (kind.Constructor accessibility is_optional) n = ap (list_any is_this_parameter) (bare-items n 1) ∙ any-bare is_this_parameter this-parameter-bare (items_at n 1)
+receiver-bare kind.SetterProp n = bare-child_holds is_this_pattern this-bare n 2
+receiver-bare k n = refl
+
+misplaces-bare : IsBare misplaces_this
+misplaces-bare n = ap (λ k. misplaces_this_by k (without_spans n)) (bare-kind n) ∙ receiver-bare (kind_of n) n
+
 member-bare : (around : Around) (n : Node) → fails_member around (without_spans n) ≡ fails_member around n
-member-bare around n = ap₂ (λ a b. a || b) (property-bare around.standing n) (ap₂ (λ a b. a || b) (accessor-bare n) (special-bare n))
+member-bare around n = ap₂ (λ a b. a || b) (property-bare around.standing n) (ap₂ (λ a b. a || b) (accessor-bare n) (ap₂ (λ a b. a || b) (special-bare n) (misplaces-bare n)))
 
 -- statements, and `super`
 

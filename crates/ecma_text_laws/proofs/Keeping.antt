@@ -7,7 +7,7 @@ use Rattle.ecma_tree.specs.Sorted.{is_list}
 use Rattle.ecma_rules.specs.declared.standing.Around.{Around}
 use Rattle.ecma_rules.specs.Children.{holds_of, is_present, of_kind}
 use Rattle.ecma_rules.specs.Failing.{failing_here, failing_step, least, least_from}
-use Rattle.ecma_rules.specs.Members.{is_declaring, is_plain_parameter, is_property_kind, is_special_constructor, is_stray_property, is_wrong_accessor, misfits_by, second_constructor}
+use Rattle.ecma_rules.specs.Members.{is_declaring, is_plain_parameter, is_property_kind, is_special_constructor, is_stray_property, is_wrong_accessor, misfits_by, misplaces_this, second_constructor}
 use Rattle.ecma_rules.specs.Rules.{fails_list, fails_member, fails_statement, fails_super, fails_target, first_misplaced, is_misplaced, misplaced_here}
 use Rattle.ecma_rules.specs.Supers.{is_linked, is_lone_super, is_private_name, is_private_of_super, is_super, is_super_member}
 use Rattle.ecma_rules.specs.Surroundings.{around_in}
@@ -84,8 +84,8 @@ module _ (around : Around) (x : Node-F Node) where
       let m = neither (fails_member around n) (fails_statement around n || fails_super around n) l.1 in
       let s = neither (fails_statement around n) (fails_super around n) m.1 in
       let target = neither (is_no_target around.target n) (is_stray_default around.target n) t.0 in
-      let member = neither (is_stray_property around.standing n) (is_wrong_accessor n || is_special_constructor n) m.0 in
-      let accessor = neither (is_wrong_accessor n) (is_special_constructor n) member.1 in
+      let member = neither (is_stray_property around.standing n) (is_wrong_accessor n || (is_special_constructor n || misplaces_this n)) m.0 in
+      let accessor = neither (is_wrong_accessor n) (is_special_constructor n || misplaces_this n) member.1 in
       let super = neither (is_lone_super around.standing n) (is_private_of_super n) s.1 in
       record {
         target = target_is target.0;
