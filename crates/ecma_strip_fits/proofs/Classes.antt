@@ -1,5 +1,5 @@
 -- Four classes of kinds, by what becomes of their nodes without types.
-use Rattle.std.proofs.Common.{◌≡◌, ◌∙◌, ◌⊎◌, inl, inr, ℕ, zero, suc, List, [], ◌∷◌, Option, Some, refl, ap, slice_get, arith}
+use Rattle.std.proofs.Common.{◌≡◌, ◌∙◌, ◌⊎◌, ◌==◌, ◌||◌, inl, inr, ℕ, zero, suc, Bool, true, false, List, [], ◌∷◌, Option, Some, refl, ap, slice_get, arith}
 use Rattle.ecma_kind.specs.declared.kind.Kind.{Kind}
 use Rattle.ecma_kind.specs.declared.kind.Kind.TheVariants as kind
 use Rattle.ecma_kind.specs.declared.shapes.Shape.{Shape}
@@ -105,13 +105,29 @@ wrapped_front _ s n cs e h = cc
 
 -- ---- children
 
--- what becomes of a child that has no types any more, and what shape is asked of it
-abbrev pub Turned : Option Shape → Node → Node → Type 0
-Turned o c d = (c ≡ d) ⊎ ((body_of c ≡ d) ⊎ (((σ : Sort) × (o ≡ Some (many σ)) × (without_empty c ≡ d)) ⊎ (without_this c ≡ d)))
+-- whether the child at an index is the body of a statement
+abbrev pub is_body_at : Kind → ℕ → Bool
+is_body_at kind.IfStmt i = (i == 1) || (i == 2)
+is_body_at kind.LabeledStmt i = i == 1
+is_body_at kind.WhileStmt i = i == 1
+is_body_at kind.DoWhileStmt i = i == 1
+is_body_at kind.ForStmt i = i == 3
+is_body_at kind.ForInStmt i = i == 2
+is_body_at (kind.ForOfStmt is_await) i = i == 2
+is_body_at _ i = false
+
+-- or the `this` of a setter
+abbrev pub is_receiver_at : Kind → ℕ → Bool
+is_receiver_at kind.SetterProp i = i == 1
+is_receiver_at _ i = false
+
+-- what becomes of a child that has no types any more, by whether it is a body, whether it is a `this`, and what shape is asked of it
+abbrev pub Turned : Bool → Bool → Option Shape → Node → Node → Type 0
+Turned body this o c d = (c ≡ d) ⊎ (((body ≡ true) × (body_of c ≡ d)) ⊎ (((σ : Sort) × (o ≡ Some (many σ)) × (without_empty c ≡ d)) ⊎ ((this ≡ true) × (without_this c ≡ d))))
 
 -- the child at an index, and what becomes of it
-abbrev pub From : Option Shape → List Node → ℕ → Node → Type 0
-From o cs i d = (c : Node) × (slice_get cs i ≡ Some c) × Turned o c d
+abbrev pub From : Bool → Bool → Option Shape → List Node → ℕ → Node → Type 0
+From body this o cs i d = (c : Node) × (slice_get cs i ≡ Some c) × Turned body this o c d
 
 changed_get : (j : ℕ) (to : Node → Node) (cs : List Node) (i : ℕ) (d : Node) → slice_get (changed_at j to cs) i ≡ Some d → (c : Node) × (slice_get cs i ≡ Some c) × ((c ≡ d) ⊎ ((i ≡ j) × (to c ≡ d)))
 changed_get j to [] i d at = cc
@@ -125,54 +141,57 @@ changed_get (suc j) to (c ∷ cs) (suc i) d at =
     next (inl e) = inl e
     next (inr (e, f)) = inr (ap suc e, f)
 
-body_from : (j : ℕ) (o : Option Shape) (cs : List Node) (i : ℕ) (d : Node) → slice_get (changed_at j body_of cs) i ≡ Some d → From o cs i d
-body_from j o cs i d at = let t = changed_get j body_of cs i d at in (t.0, t.1, by t.2)
+body_from : (body : ℕ → Bool) (this : Bool) (j : ℕ) → body j ≡ true → (o : Option Shape) (cs : List Node) (i : ℕ) (d : Node) → slice_get (changed_at j body_of cs) i ≡ Some d → From (body i) this o cs i d
+body_from body this j there o cs i d at = let t = changed_get j body_of cs i d at in (t.0, t.1, by t.2)
   where
-    by : {c : Node} → (c ≡ d) ⊎ ((i ≡ j) × (body_of c ≡ d)) → Turned o c d
+    by : {c : Node} → (c ≡ d) ⊎ ((i ≡ j) × (body_of c ≡ d)) → Turned (body i) this o c d
     by (inl e) = inl e
-    by (inr (is, e)) = inr (inl e)
+    by (inr (is, e)) = inr (inl (ap body is ∙ there, e))
 
-lone_from : (j : ℕ) (o : Option Shape) (cs : List Node) (i : ℕ) (d : Node) → slice_get (changed_at j without_this cs) i ≡ Some d → From o cs i d
-lone_from j o cs i d at = let t = changed_get j without_this cs i d at in (t.0, t.1, by t.2)
+lone_from : (body : Bool) (this : ℕ → Bool) (j : ℕ) → this j ≡ true → (o : Option Shape) (cs : List Node) (i : ℕ) (d : Node) → slice_get (changed_at j without_this cs) i ≡ Some d → From body (this i) o cs i d
+lone_from body this j there o cs i d at = let t = changed_get j without_this cs i d at in (t.0, t.1, by t.2)
   where
-    by : {c : Node} → (c ≡ d) ⊎ ((i ≡ j) × (without_this c ≡ d)) → Turned o c d
+    by : {c : Node} → (c ≡ d) ⊎ ((i ≡ j) × (without_this c ≡ d)) → Turned body (this i) o c d
     by (inl e) = inl e
-    by (inr (is, e)) = inr (inr (inr e))
+    by (inr (is, e)) = inr (inr (inr (ap this is ∙ there, e)))
 
-tidy_from : (j : ℕ) (os : List Shape) (σ : Sort) → slice_get os j ≡ Some (many σ) → (cs : List Node) (i : ℕ) (d : Node) → slice_get (changed_at j without_empty cs) i ≡ Some d → From (slice_get os i) cs i d
-tidy_from j os σ list cs i d at = let t = changed_get j without_empty cs i d at in (t.0, t.1, by t.2)
+tidy_from : (body this : Bool) (j : ℕ) (os : List Shape) (σ : Sort) → slice_get os j ≡ Some (many σ) → (cs : List Node) (i : ℕ) (d : Node) → slice_get (changed_at j without_empty cs) i ≡ Some d → From body this (slice_get os i) cs i d
+tidy_from body this j os σ list cs i d at = let t = changed_get j without_empty cs i d at in (t.0, t.1, by t.2)
   where
-    by : {c : Node} → (c ≡ d) ⊎ ((i ≡ j) × (without_empty c ≡ d)) → Turned (slice_get os i) c d
+    by : {c : Node} → (c ≡ d) ⊎ ((i ≡ j) × (without_empty c ≡ d)) → Turned body this (slice_get os i) c d
     by (inl e) = inl e
     by (inr (is, e)) = inr (inr (inl (σ, ap (slice_get os) is ∙ list, e)))
 
 not-both : (i : ℕ) → i ≡ 1 → i ≡ 2 → ⊥
 not-both i h g = omega (arith, h, g)
 
-both_from : (o : Option Shape) (cs : List Node) (i : ℕ) (d : Node) → slice_get (changed_at 1 body_of (changed_at 2 body_of cs)) i ≡ Some d → From o cs i d
+abbrev is_branch : ℕ → Bool
+is_branch i = (i == 1) || (i == 2)
+
+both_from : (o : Option Shape) (cs : List Node) (i : ℕ) (d : Node) → slice_get (changed_at 1 body_of (changed_at 2 body_of cs)) i ≡ Some d → From (is_branch i) false o cs i d
 both_from o cs i d at = let t = changed_get 1 body_of (changed_at 2 body_of cs) i d at in by t.0 t.1 t.2
   where
-    by : (c : Node) → slice_get (changed_at 2 body_of cs) i ≡ Some c → (c ≡ d) ⊎ ((i ≡ 1) × (body_of c ≡ d)) → From o cs i d
-    by c there (inl e) = body_from 2 o cs i d (there ∙ ap Some e)
+    by : (c : Node) → slice_get (changed_at 2 body_of cs) i ≡ Some c → (c ≡ d) ⊎ ((i ≡ 1) × (body_of c ≡ d)) → From (is_branch i) false o cs i d
+    by c there (inl e) = body_from is_branch false 2 refl o cs i d (there ∙ ap Some e)
     by c there (inr (is, e)) = let t = changed_get 2 body_of cs i c there in (t.0, t.1, once t.2)
       where
-        once : {x : Node} → (x ≡ c) ⊎ ((i ≡ 2) × (body_of x ≡ c)) → Turned o x d
-        once (inl f) = inr (inl (ap body_of f ∙ e))
+        once : {x : Node} → (x ≡ c) ⊎ ((i ≡ 2) × (body_of x ≡ c)) → Turned (is_branch i) false o x d
+        once (inl f) = inr (inl (ap is_branch is, ap body_of f ∙ e))
         once (inr (other, f)) = absurd (not-both i is other)
 
-pub turned : (k : Kind) (s : Shape) (n : ℕ) (cs : List Node) (i : ℕ) (d : Node) → slice_get (plain_children k cs) i ≡ Some d → From (slice_get (child_shapes k s n) i) cs i d
+pub turned : (k : Kind) (s : Shape) (n : ℕ) (cs : List Node) (i : ℕ) (d : Node) → slice_get (plain_children k cs) i ≡ Some d → From (is_body_at k i) (is_receiver_at k i) (slice_get (child_shapes k s n) i) cs i d
 unfolding plain_children
-turned (kind.Module shebang) s n cs i d at = tidy_from 0 (child_shapes (kind.Module shebang) s n) sort.ModuleItem refl cs i d at
-turned (kind.Script shebang) s n cs i d at = tidy_from 0 (child_shapes (kind.Script shebang) s n) sort.Stmt refl cs i d at
-turned kind.BlockStmt s n cs i d at = tidy_from 0 (child_shapes kind.BlockStmt s n) sort.Stmt refl cs i d at
-turned kind.TsModuleBlock s n cs i d at = tidy_from 0 (child_shapes kind.TsModuleBlock s n) sort.ModuleItem refl cs i d at
-turned kind.SwitchCase s n cs i d at = tidy_from 1 (child_shapes kind.SwitchCase s n) sort.Stmt refl cs i d at
+turned (kind.Module shebang) s n cs i d at = tidy_from false false 0 (child_shapes (kind.Module shebang) s n) sort.ModuleItem refl cs i d at
+turned (kind.Script shebang) s n cs i d at = tidy_from false false 0 (child_shapes (kind.Script shebang) s n) sort.Stmt refl cs i d at
+turned kind.BlockStmt s n cs i d at = tidy_from false false 0 (child_shapes kind.BlockStmt s n) sort.Stmt refl cs i d at
+turned kind.TsModuleBlock s n cs i d at = tidy_from false false 0 (child_shapes kind.TsModuleBlock s n) sort.ModuleItem refl cs i d at
+turned kind.SwitchCase s n cs i d at = tidy_from false false 1 (child_shapes kind.SwitchCase s n) sort.Stmt refl cs i d at
 turned kind.IfStmt s n cs i d at = both_from _ cs i d at
-turned kind.LabeledStmt s n cs i d at = body_from 1 _ cs i d at
-turned kind.WhileStmt s n cs i d at = body_from 1 _ cs i d at
-turned kind.DoWhileStmt s n cs i d at = body_from 1 _ cs i d at
-turned kind.ForStmt s n cs i d at = body_from 3 _ cs i d at
-turned kind.ForInStmt s n cs i d at = body_from 2 _ cs i d at
-turned (kind.ForOfStmt is_await) s n cs i d at = body_from 2 _ cs i d at
-turned kind.SetterProp s n cs i d at = lone_from 1 _ cs i d at
+turned kind.LabeledStmt s n cs i d at = body_from (is_body_at kind.LabeledStmt) false 1 refl _ cs i d at
+turned kind.WhileStmt s n cs i d at = body_from (is_body_at kind.WhileStmt) false 1 refl _ cs i d at
+turned kind.DoWhileStmt s n cs i d at = body_from (is_body_at kind.DoWhileStmt) false 1 refl _ cs i d at
+turned kind.ForStmt s n cs i d at = body_from (is_body_at kind.ForStmt) false 3 refl _ cs i d at
+turned kind.ForInStmt s n cs i d at = body_from (is_body_at kind.ForInStmt) false 2 refl _ cs i d at
+turned (kind.ForOfStmt is_await) s n cs i d at = body_from (is_body_at (kind.ForOfStmt is_await)) false 2 refl _ cs i d at
+turned kind.SetterProp s n cs i d at = lone_from false (is_receiver_at kind.SetterProp) 1 refl _ cs i d at
 turned _ s n cs i d at = (d, at, inl refl)

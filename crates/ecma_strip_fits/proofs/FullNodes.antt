@@ -33,13 +33,9 @@ both : (a b : Bool) → (a && b) ≡ true → (a ≡ true) × (b ≡ true)
 both true b h = (refl, h)
 both false b h = cc
 
--- ---- an expression is there without the types round it
+-- ---- an expression is one without the types round it
 
-expression_there : (k : Kind) → belongs sort.Expr k ≡ true → is_present k ≡ true
-expression_there kind.Absent b = cc
-expression_there _ b = refl
-
-no_type : {A : Type 0} (k : Kind) → class_of k ≡ Typed → belongs sort.Expr k ≡ true → A
+pub no_type : {A : Type 0} (k : Kind) → class_of k ≡ Typed → belongs sort.Expr k ≡ true → A
 unfolding class_of
 no_type kind.TsTypeAnn e b = absurd (cc)
 no_type kind.TsType e b = absurd (cc)
@@ -47,34 +43,43 @@ no_type kind.TsTypeParamDecl e b = absurd (cc)
 no_type kind.TsTypeParamInstantiation e b = absurd (cc)
 no_type _ e b = absurd (cc)
 
+expression_plain : Plain Bool (belongs sort.Expr)
+unfolding plain_kind
+expression_plain kind.Absent = refl
+expression_plain _ = refl
+
 abbrev There : Node → Type 0
-There n = (s : Shape) → HasShape s n → belongs sort.Expr (kind_of n) ≡ true → is_present (kind_of (stripped n)) ≡ true
+There n = (s : Shape) → HasShape s n → belongs sort.Expr (kind_of n) ≡ true → belongs sort.Expr (kind_of (stripped n)) ≡ true
 
 node_there : (n : Node) → ((i : ℕ) (c : Node) → slice_get (children_of n) i ≡ Some c → There c) → There n
 node_there n below s h b = by (class_of (kind_of n)) refl
   where
-    by : (k : Class) → class_of (kind_of n) ≡ k → is_present (kind_of (stripped n)) ≡ true
+    by : (k : Class) → class_of (kind_of n) ≡ k → belongs sort.Expr (kind_of (stripped n)) ≡ true
     by Typed e = no_type (kind_of n) e b
     by Wrapped e =
         let front = wrapped_front (kind_of n) s (length (children_of n)) (children_of n) e (shape_parts n s h).1 in
         let is : children_of n ≡ front.0 ∷ front.1 = front.2 in
-        ap (λ (m : Node). is_present (kind_of m)) (wrapped_is n e front.0 front.1 is)
+        ap (λ (m : Node). belongs sort.Expr (kind_of m)) (wrapped_is n e front.0 front.1 is)
         ∙ below 0 front.0 (ap (λ (z : List Node). slice_get z 0) is) (one sort.Expr) front.3 (shape_parts front.0 (one sort.Expr) front.3).0
     by Listed e = let l = only_list (kind_of n) e in let no : belongs sort.Expr kind.List ≡ true = ap (belongs sort.Expr) (sym l) ∙ b in absurd (cc)
-    by Usual e = ap is_present (usual_kind n e) ∙ (present_plain (kind_of n) ∙ expression_there (kind_of n) b)
+    by Usual e = ap (belongs sort.Expr) (usual_kind n e) ∙ (expression_plain (kind_of n) ∙ b)
 
 each_there : (es : List ((n : Node) × There n)) (i : ℕ) (c : Node) → slice_get (map (λ e. e.0) es) i ≡ Some c → There c
 each_there [] i c at = cc
 each_there (e ∷ es) zero c at = let same : e.0 ≡ c = cc in subst There same e.1
 each_there (e ∷ es) (suc i) c at = each_there es i c at
 
-there : (n : Node) → There n
-there = ind-Node There (λ x y is. node_there (roll-Node x) (λ i c at.
+pub expression_kept : (n : Node) → There n
+expression_kept = ind-Node There (λ x y is. node_there (roll-Node x) (λ i c at.
     each_there y.children i c (ap (λ (z : Node-F Node). slice_get z.children i) is ∙ (sym (ap (λ (z : Node-F Node). slice_get z.children i) (out-roll-Node x)) ∙ at))))
+
+expression_there : (k : Kind) → belongs sort.Expr k ≡ true → is_present k ≡ true
+expression_there kind.Absent b = cc
+expression_there _ b = refl
 
 -- an expression that may be missing
 maybe_there : (c : Node) → HasShape (maybe sort.Expr) c → is_present (kind_of c) ≡ true → is_present (kind_of (stripped c)) ≡ true
-maybe_there c has p = there c (maybe sort.Expr) has (by (kind_of c) p (shape_parts c (maybe sort.Expr) has).0)
+maybe_there c has p = expression_there (kind_of (stripped c)) (expression_kept c (maybe sort.Expr) has (by (kind_of c) p (shape_parts c (maybe sort.Expr) has).0))
   where
     by : (k : Kind) → is_present k ≡ true → allows (maybe sort.Expr) k ≡ true → belongs sort.Expr k ≡ true
     by kind.Absent p a = cc

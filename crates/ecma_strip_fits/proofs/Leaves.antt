@@ -45,13 +45,14 @@ module _ (fails : Where → Kind → Node → Bool) (missing : (w : Where) (n : 
 
   carries : Carries Where where_in unfit_here (λ w n. failing_here (fails w (kind_of n) n) n) Stands
   carries = record {
-    missing = λ a. quiet a absent kind.Absent (kind_node dummy_span kind.Absent []) (missing a absent);
-    empty = λ a span. quiet a (node_of span kind.EmptyStmt []) kind.EmptyStmt (kind_node span kind.EmptyStmt []) (empty a (node_of span kind.EmptyStmt []));
-    lists = λ a span cs. quiet a (node_of span kind.List cs) kind.List (kind_node span kind.List cs) (lists a (node_of span kind.List cs));
+    missing = λ n s z a t h r none. quiet a absent kind.Absent (kind_node dummy_span kind.Absent []) (missing a absent);
+    empty = λ n s z y u h r none i is span. (let a = where_in y (stripped n) i in quiet a (node_of span kind.EmptyStmt []) kind.EmptyStmt (kind_node span kind.EmptyStmt []) (empty a (node_of span kind.EmptyStmt [])));
+    lone = λ n s z y u h r none i is. (let a = where_in y (stripped n) i in quiet a absent kind.Absent (kind_node dummy_span kind.Absent []) (missing a absent));
+    lists = λ n s z a l h r none span cs. quiet a (node_of span kind.List cs) kind.List (kind_node span kind.List cs) (lists a (node_of span kind.List cs));
     under = λ n s a b w h r none e at has. under n s a b w h r e has;
     here = λ n s a b u h r none. none_failing (fails b (kind_of (stripped n)) (stripped n)) (stripped n)
         (ap (λ k. fails b k (stripped n)) (usual_kind n u) ∙ kept_here n s a b u h r none);
-    items = λ n s a b l r m list c i j last. items n s a b l r m list c i j;
+    items = λ n s a b l r m list c i j at last. items n s a b l r m list c i j;
     below = λ n s a b u h r none c o i at shape. below n s a b u r c o i shape;
   }
 

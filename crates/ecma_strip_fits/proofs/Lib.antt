@@ -14,6 +14,10 @@ pub mod Standing
 pub mod Leaves
 pub mod Ruled
 pub mod RuleStanding
+pub mod Parameters
+pub mod MembersKept
 pub mod RulesKept
 pub mod SortsKept
 pub mod NamesKept
+pub mod RolesKept
+pub mod FitsKept

@@ -38,7 +38,7 @@ name_free : (r : Role) (k : Kind) → is_wrong_name role.Free k ≡ false → is
 name_free r (kind.Ident text ctxt optional) h = text_free r text h
 name_free r _ h = refl
 
-name_here : (n : Node) (s : Shape) (w v : Where) → class_of (kind_of n) ≡ Usual → HasShape s n → Stands n s w v → unfit_here w n ≡ None → is_wrong_name v.role (plain_kind (kind_of n)) ≡ false
+pub name_here : (n : Node) (s : Shape) (w v : Where) → class_of (kind_of n) ≡ Usual → HasShape s n → Stands n s w v → unfit_here w n ≡ None → is_wrong_name v.role (plain_kind (kind_of n)) ≡ false
 name_here n s w v u h r none = name_plain v.role (kind_of n) ∙ by r.how
   where
     was : is_wrong_name w.role (kind_of n) ≡ false

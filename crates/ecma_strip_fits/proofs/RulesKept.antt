@@ -1,4 +1,4 @@
--- The rules of lists and statements are kept without types.
+-- The rules of lists, members and statements are kept without types.
 use Rattle.std.proofs.Common.{◌≡◌, ◌∙◌, inl, inr, Bool, true, false, not, ◌&&◌, ◌||◌, List, [], ◌∷◌, map, length, replicate, Some, None, refl, sym, ap, ap₂, slice_get}
 use Rattle.ecma_kind.specs.Sorts.{belongs}
 use Rattle.ecma_kind.specs.declared.kind.Kind.{Kind}
@@ -28,6 +28,7 @@ use Rattle.ecma_strip_fits.proofs.ChildrenKept.{Plain, child_by, one_usual}
 use Rattle.ecma_strip_fits.proofs.Constructors.{present_plain}
 use Rattle.ecma_strip_fits.proofs.FullNodes.{list_by}
 use Rattle.ecma_strip_fits.proofs.Leaves.{unfit_none}
+use Rattle.ecma_strip_fits.proofs.MembersKept.{member_here, membering, never_member}
 use Rattle.ecma_strip_fits.proofs.RuleStanding.{How, Stands, below, items, under}
 use Rattle.ecma_strip_fits.proofs.StaysAll.{all_of_list, declarators_calm, items_have}
 use Rattle.ecma_strip_fits.proofs.Strays.{kind_node, none_failing}
@@ -41,12 +42,13 @@ some_same e = cc
 pub in_role : (w : Where) (n : Node) → unfit_here w n ≡ None → is_out_of_role w.role n ≡ false
 in_role w n h = (neither (is_out_of_role w.role n) (is_stray_target w.role w.arguments n || breaks_rule w n) (unfit_none w n h).0).0
 
-no_rule : (w : Where) (n : Node) → unfit_here w n ≡ None → (fails_list w.around n ≡ false) × (fails_statement w.around n ≡ false)
+no_rule : (w : Where) (n : Node) → unfit_here w n ≡ None → (fails_list w.around n ≡ false) × (fails_member w.around n ≡ false) × (fails_statement w.around n ≡ false)
 no_rule w n h =
     let a = (neither (is_out_of_role w.role n) (is_stray_target w.role w.arguments n || breaks_rule w n) (unfit_none w n h).0).1 in
     let b = (neither (is_stray_target w.role w.arguments n) (breaks_rule w n) a).1 in
     let c = neither (fails_list w.around n) (fails_member w.around n || fails_statement w.around n) b in
-    (c.0, (neither (fails_member w.around n) (fails_statement w.around n) c.1).1)
+    let d = neither (fails_member w.around n) (fails_statement w.around n) c.1 in
+    (c.0, d.0, d.1)
 
 -- ---- a declaration in the head of a loop
 
@@ -167,26 +169,27 @@ statement_here n w v (inr d) none =
     (ap (λ x. x && is_text (plain_kind k)) d.3) (ap (λ x. is_body v.around.standing && x) (declaration_plain k ∙ expression_declaration k d.0) ∙ and_false (is_body v.around.standing))
 
 abbrev pub ruling : Where → Kind → Node → Bool
-ruling w k n = listing w k n || stating w k
+ruling w k n = listing w k n || (membering w k n || stating w k)
 
--- what is neither a declaration nor a rest nor a text breaks none
-quiet_rules : (w : Where) (n : Node) (k : Kind) → is_variables k ≡ false → is_rest w.around.target k ≡ false → is_text k ≡ false → is_declaration k ≡ false → ruling w k n ≡ false
-quiet_rules w n k v r t d =
+-- what is neither a declaration nor a rest nor a member nor a text breaks none
+quiet_rules : (w : Where) (n : Node) (k : Kind) → membering w k n ≡ false → is_variables k ≡ false → is_rest w.around.target k ≡ false → is_text k ≡ false → is_declaration k ≡ false → ruling w k n ≡ false
+quiet_rules w n k m v r t d =
     let single = not (is_one_without_value (items_at n 0)) in
-    both_false (listing w k n) (stating w k)
+    both_false (listing w k n) (membering w k n || stating w k)
     (both_false ((is_head w.around.target && is_variables k) && single) (is_rest w.around.target k && not w.around.is_last)
     (ap (λ y. (is_head w.around.target && y) && single) v ∙ ap (λ y. y && single) (and_false (is_head w.around.target)))
     (ap (λ x. x && not w.around.is_last) r))
+    (both_false (membering w k n) (stating w k) m
     (both_false (is_exported w.around.standing && is_text k) (is_body w.around.standing && is_declaration k)
     (ap (λ x. is_exported w.around.standing && x) t ∙ and_false (is_exported w.around.standing))
-    (ap (λ x. is_body w.around.standing && x) d ∙ and_false (is_body w.around.standing)))
+    (ap (λ x. is_body w.around.standing && x) d ∙ and_false (is_body w.around.standing))))
 
 never_ruled : (w : Where) (n : Node) → (ruling w kind.Absent n ≡ false) × (ruling w kind.EmptyStmt n ≡ false) × (ruling w kind.List n ≡ false)
 unfolding is_declaration
 never_ruled w n = (
-  quiet_rules w n kind.Absent refl (and_false (is_item w.around.target)) refl refl,
-  quiet_rules w n kind.EmptyStmt refl (and_false (is_item w.around.target)) refl refl,
-  quiet_rules w n kind.List refl (and_false (is_item w.around.target)) refl refl,
+  quiet_rules w n kind.Absent (never_member w n).0 refl (and_false (is_item w.around.target)) refl refl,
+  quiet_rules w n kind.EmptyStmt (never_member w n).1 refl (and_false (is_item w.around.target)) refl refl,
+  quiet_rules w n kind.List (never_member w n).2 refl (and_false (is_item w.around.target)) refl refl,
 )
 
 -- ---- the walk
@@ -196,19 +199,22 @@ quiet w n k is none = none_failing (ruling w (kind_of n) n) n (ap (λ z. ruling 
 
 carries : Carries Where where_in unfit_here (λ w n. failing_here (ruling w (kind_of n) n) n) Stands
 carries = record {
-  missing = λ a. quiet a absent kind.Absent (kind_node dummy_span kind.Absent []) (never_ruled a absent).0;
-  empty = λ a span. quiet a (node_of span kind.EmptyStmt []) kind.EmptyStmt (kind_node span kind.EmptyStmt []) (never_ruled a (node_of span kind.EmptyStmt [])).1;
-  lists = λ a span cs. quiet a (node_of span kind.List cs) kind.List (kind_node span kind.List cs) (never_ruled a (node_of span kind.List cs)).2;
+  missing = λ n s z a t h r none. quiet a absent kind.Absent (kind_node dummy_span kind.Absent []) (never_ruled a absent).0;
+  empty = λ n s z y u h r none i is span. (let a = where_in y (stripped n) i in quiet a (node_of span kind.EmptyStmt []) kind.EmptyStmt (kind_node span kind.EmptyStmt []) (never_ruled a (node_of span kind.EmptyStmt [])).1);
+  lone = λ n s z y u h r none i is. (let a = where_in y (stripped n) i in quiet a absent kind.Absent (kind_node dummy_span kind.Absent []) (never_ruled a absent).0);
+  lists = λ n s z a l h r none span cs. quiet a (node_of span kind.List cs) kind.List (kind_node span kind.List cs) (never_ruled a (node_of span kind.List cs)).2;
   under = λ n s a b w h r none e at has. under n s a b w h r (in_role a n none) e at has;
   here = λ n s a b u h r none. none_failing (ruling b (kind_of (stripped n)) (stripped n)) (stripped n)
       (ap (λ k. ruling b k (stripped n)) (usual_kind n u)
-      ∙ both_false (listing b (plain_kind (kind_of n)) (stripped n)) (stating b (plain_kind (kind_of n)))
-      (list_here n s a b u h r.how (no_rule a n none).0) (statement_here n a b r.how (no_rule a n none).1));
-  items = items;
+      ∙ both_false (listing b (plain_kind (kind_of n)) (stripped n)) (membering b (plain_kind (kind_of n)) (stripped n) || stating b (plain_kind (kind_of n)))
+      (list_here n s a b u h r.how (no_rule a n none).0)
+      (both_false (membering b (plain_kind (kind_of n)) (stripped n)) (stating b (plain_kind (kind_of n)))
+      (member_here n s a b u h r.how (no_rule a n none).1) (statement_here n a b r.how (no_rule a n none).2)));
+  items = λ n s a b l r m list c i j at. items n s a b l r m list c i j;
   below = λ n s a b u h r none c o i at shape. below n s a b u h r (in_role a n none) c o i shape;
 }
 
-pub rules_kept : (tree : Node) → Fits tree → NoneFails (λ w n. fails_list w.around n || fails_statement w.around n) (stripped tree)
+pub rules_kept : (tree : Node) → Fits tree → NoneFails breaks_rule (stripped tree)
 rules_kept tree f =
     (kept Where where_in unfit_here (λ w n. failing_here (ruling w (kind_of n) n) n) Stands carries tree (one sort.Module) at_top at_top f.sorted
     (record { named = λ x. absurd (cc); met = refl; how = inl (refl, refl, (λ x. x)) }) (neither_least (first_unfit_in tree at_top) _ f.fitting).0).0

@@ -145,7 +145,7 @@ unfolding role_in
 role_free r t kind.Tpl i b = ap (at_child 1 i) (template_free r t)
 role_free r t _ i b = cc
 
-wrapped_role : (k : Kind) → class_of k ≡ Wrapped → (r : Role) (i : ℕ) → role_in r k i ≡ role.Free
+pub wrapped_role : (k : Kind) → class_of k ≡ Wrapped → (r : Role) (i : ℕ) → role_in r k i ≡ role.Free
 unfolding class_of role_in
 wrapped_role kind.TsTypeAssertion w r i = refl
 wrapped_role kind.TsConstAssertion w r i = refl
@@ -207,6 +207,19 @@ under n s w v c h r e has = record {
     by (inl same) = ap is_tag (sym same) ∙ not_tag (is_tag w.role) (λ t. no_template (kind_of n) c (subst (λ o. allows o (kind_of n) ≡ true) (r.tagged t) (shape_parts n s h).0))
     by (inr (b, free, t)) = t
 
+-- the roles of what stands in a list, and of the children of a node
+pub role_item : (n : Node) (w v : Where) → is_list (kind_of n) ≡ true → How n w v → (m : Node) → is_list (kind_of m) ≡ true → (i j : ℕ) → role_in w.role (kind_of n) i ≡ role_in v.role (kind_of m) j
+unfolding role_in
+role_item n w v l (inl same) m list i j = ap (λ k. role_in w.role k i) (list-kind (kind_of n) l) ∙ (ap in_list same ∙ sym (ap (λ k. role_in v.role k j) (list-kind (kind_of m) list)))
+role_item n w v l (inr (b, free, t)) m list i j = absurd (no_expression_list (ap (belongs sort.Expr) (sym (list-kind (kind_of n) l)) ∙ b))
+
+pub role_below : (n : Node) (w v : Where) → class_of (kind_of n) ≡ Usual → How n w v → (i : ℕ) → role_in w.role (kind_of n) i ≡ role_in v.role (kind_of (stripped n)) i
+role_below n w v u how i = by how ∙ sym (ap (λ k. role_in v.role k i) (usual_kind n u) ∙ role_plain v.role i (kind_of n))
+  where
+    by : How n w v → role_in w.role (kind_of n) i ≡ role_in v.role (kind_of n) i
+    by (inl same) = ap (λ r'. role_in r' (kind_of n) i) same
+    by (inr (b, free, t)) = ap (λ r'. role_in r' (kind_of n) i) free ∙ sym (role_free v.role t (kind_of n) i b)
+
 pub items : (n : Node) (s : Shape) (w v : Where) → is_list (kind_of n) ≡ true → Stands n s w v → (m : Node) → is_list (kind_of m) ≡ true → (c : Node) (i j : ℕ) → Stands c (item_shape s) (where_in w n i) (where_in v m j)
 unfolding role_in
 items n s w v l r m list c i j =
@@ -215,21 +228,13 @@ items n s w v l r m list c i j =
     record {
       arguments = (ap (λ k. arguments_in w.arguments k i) is ∙ list_arguments w.arguments i) ∙ (r.arguments ∙ sym (ap (λ k. arguments_in v.arguments k j) other ∙ list_arguments v.arguments j));
       tagged = λ t. (let no : false ≡ true = sym (list_tag w.role) ∙ (ap (λ k. is_tag (role_in w.role k i)) (sym is) ∙ t) in absurd (cc));
-      how = inl (by r.how);
+      how = inl (role_item n w v l r.how m list i j);
     }
-  where
-    by : How n w v → role_in w.role (kind_of n) i ≡ role_in v.role (kind_of m) j
-    by (inl same) = ap (λ k. role_in w.role k i) (list-kind (kind_of n) l) ∙ (ap in_list same ∙ sym (ap (λ k. role_in v.role k j) (list-kind (kind_of m) list)))
-    by (inr (b, free, t)) = absurd (no_expression_list (ap (belongs sort.Expr) (sym (list-kind (kind_of n) l)) ∙ b))
 
 pub below : (n : Node) (s : Shape) (w v : Where) → class_of (kind_of n) ≡ Usual → Stands n s w v → (c : Node) (o : Shape) (i : ℕ)
     → slice_get (child_shapes (kind_of n) s (length (children_of n))) i ≡ Some o → Stands c o (where_in w n i) (where_in v (stripped n) i)
 below n s w v u r c o i at = record {
   arguments = ap (λ a. arguments_in a (kind_of n) i) r.arguments ∙ sym (ap (λ k. arguments_in v.arguments k i) (usual_kind n u) ∙ arguments_plain v.arguments i (kind_of n));
   tagged = tagged_child w.role (kind_of n) i s (length (children_of n)) o at;
-  how = inl (by r.how ∙ sym (ap (λ k. role_in v.role k i) (usual_kind n u) ∙ role_plain v.role i (kind_of n)));
+  how = inl (role_below n w v u r.how i);
 }
-  where
-    by : How n w v → role_in w.role (kind_of n) i ≡ role_in v.role (kind_of n) i
-    by (inl same) = ap (λ r'. role_in r' (kind_of n) i) same
-    by (inr (b, free, t)) = ap (λ r'. role_in r' (kind_of n) i) free ∙ sym (role_free v.role t (kind_of n) i b)

@@ -152,13 +152,14 @@ quiet a n k is none = none_failing (is_held_stray a n) n (ap (λ z. is_stray_in 
 
 carries : Carries Held held_in stray_here stray_here Alike
 carries = record {
-  missing = λ a. quiet a absent kind.Absent (kind_node dummy_span kind.Absent []) (no_stray a (label_of absent)).0;
-  empty = λ a span. quiet a (node_of span kind.EmptyStmt []) kind.EmptyStmt (kind_node span kind.EmptyStmt []) (no_stray a (label_of (node_of span kind.EmptyStmt []))).1;
-  lists = λ a span cs. quiet a (node_of span kind.List cs) kind.List (kind_node span kind.List cs) (no_stray a (label_of (node_of span kind.List cs))).2;
+  missing = λ n s z a t h r none. quiet a absent kind.Absent (kind_node dummy_span kind.Absent []) (no_stray a (label_of absent)).0;
+  empty = λ n s z y u h r none i is span. (let a = held_in y (stripped n) i in quiet a (node_of span kind.EmptyStmt []) kind.EmptyStmt (kind_node span kind.EmptyStmt []) (no_stray a (label_of (node_of span kind.EmptyStmt []))).1);
+  lone = λ n s z y u h r none i is. (let a = held_in y (stripped n) i in quiet a absent kind.Absent (kind_node dummy_span kind.Absent []) (no_stray a (label_of absent)).0);
+  lists = λ n s z a l h r none span cs. quiet a (node_of span kind.List cs) kind.List (kind_node span kind.List cs) (no_stray a (label_of (node_of span kind.List cs))).2;
   under = λ n s a b w h r none e at has. wrapped_held (kind_of n) w a (label_of n) ∙ r;
   here = λ n s a b u h r none. none_failing (is_held_stray b (stripped n)) (stripped n)
       (stray_same n s h u b ∙ (ap (λ z. is_held_stray z n) (sym r) ∙ not_failing (is_held_stray a n) n none));
-  items = λ n s a b l r m list c i j last. item_held a n i l ∙ (r ∙ sym (item_held b m j list));
+  items = λ n s a b l r m list c i j at last. item_held a n i l ∙ (r ∙ sym (item_held b m j list));
   below = λ n s a b u h r none c o i at shape. ap (λ z. held_in z n i) r ∙ sym (held_same n s h u b i);
 }
 

@@ -9,7 +9,7 @@ use Rattle.ecma_tree.specs.Nodes.{absent, dummy_span, node_of}
 use Rattle.ecma_tree.specs.Sorted.{HasShape, child_shapes, one}
 use Rattle.ecma_rules.specs.Children.{child_is, kind_of}
 use Rattle.ecma_rules.specs.Failing.{failing_here}
-use Rattle.ecma_rules.specs.Members.{is_constructor_key, is_method, is_special_function, second_constructor}
+use Rattle.ecma_rules.specs.Members.{is_constructor_key, is_method, is_special_by, is_special_function, second_constructor}
 use Rattle.ecma_strip.specs.Stripping.{plain_children, plain_kind, stripped}
 use Rattle.ecma_fits.specs.declared.unfit.Where.{Where}
 use Rattle.ecma_fits.specs.Branches.{is_dangling}
@@ -55,13 +55,14 @@ module _ (fails : Kind → Node → Bool) (missing : (n : Node) → fails kind.A
 
   carries : Carries Where where_in unfit_here (λ w n. failing_here (fails (kind_of n) n) n) (λ n s a b. Unit {0})
   carries = record {
-    missing = λ a. quiet a absent kind.Absent (kind_node dummy_span kind.Absent []) (missing absent);
-    empty = λ a span. quiet a (node_of span kind.EmptyStmt []) kind.EmptyStmt (kind_node span kind.EmptyStmt []) (empty (node_of span kind.EmptyStmt []));
-    lists = λ a span cs. quiet a (node_of span kind.List cs) kind.List (kind_node span kind.List cs) (lists (node_of span kind.List cs));
+    missing = λ n s z a t h r none. quiet a absent kind.Absent (kind_node dummy_span kind.Absent []) (missing absent);
+    empty = λ n s z y u h r none i is span. (let a = where_in y (stripped n) i in quiet a (node_of span kind.EmptyStmt []) kind.EmptyStmt (kind_node span kind.EmptyStmt []) (empty (node_of span kind.EmptyStmt [])));
+    lone = λ n s z y u h r none i is. (let a = where_in y (stripped n) i in quiet a absent kind.Absent (kind_node dummy_span kind.Absent []) (missing absent));
+    lists = λ n s z a l h r none span cs. quiet a (node_of span kind.List cs) kind.List (kind_node span kind.List cs) (lists (node_of span kind.List cs));
     under = λ n s a b w h r none e at has. tt;
     here = λ n s a b u h r none. none_failing (fails (kind_of (stripped n)) (stripped n)) (stripped n)
         (ap (λ k. fails k (stripped n)) (usual_kind n u) ∙ kept_here n s a u h none);
-    items = λ n s a b l r m list c i j last. tt;
+    items = λ n s a b l r m list c i j at last. tt;
     below = λ n s a b u h r none c o i at shape. tt;
   }
 
@@ -136,6 +137,16 @@ misread_by (kind.ClassMethod k modifiers) n m key function =
 misread_by (kind.PrivateMethod k modifiers) n m key function = ap (λ b. not (is_method k) && b) (function refl)
 misread_by (kind.Ident sym ctxt optional) n m key function = refl
 misread_by _ n m key function = refl
+
+special_by : (k : Kind) (n m : Node) → (is_member k ≡ true → child_is is_constructor_key m 0 ≡ child_is is_constructor_key n 0) → (has_function k ≡ true → child_is is_special_function m 1 ≡ child_is is_special_function n 1)
+    → is_special_by (plain_kind k) m ≡ is_special_by k n
+unfolding plain_kind is_member has_function
+special_by (kind.ClassMethod k modifiers) n m key function = λ j. not modifiers.is_static && (key refl j && (not (is_method k) || function refl j))
+special_by (kind.Ident sym ctxt optional) n m key function = refl
+special_by _ n m key function = refl
+
+pub special_kept : (n : Node) (s : Shape) → HasShape s n → class_of (kind_of n) ≡ Usual → is_special_by (plain_kind (kind_of n)) (stripped n) ≡ is_special_by (kind_of n) n
+special_kept n s h u = special_by (kind_of n) n (stripped n) (key_kept n s h u) (function_kept n s h u)
 
 never_misread : (n : Node) → (is_misread_by kind.Absent n ≡ false) × (is_misread_by kind.EmptyStmt n ≡ false) × (is_misread_by kind.List n ≡ false)
 unfolding is_misread_by

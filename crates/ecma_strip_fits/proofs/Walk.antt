@@ -18,7 +18,7 @@ use Rattle.ecma_strip.specs.Staying.{is_empty_stmt, item_stays, stays}
 use Rattle.ecma_strip.specs.Stripping.{body_of, operand, plain, plain_children, plain_kind, staying_nodes, stripped, without_empty, without_this}
 use Rattle.ecma_strip.proofs.Sorting.{list-kind}
 use Rattle.ecma_strip.proofs.Stripping.{stripped-out}
-use Rattle.ecma_strip_fits.proofs.Classes.{Class, Turned, class_of, only_list, plain_listed, plain_typed, plain_usual, plain_wrapped, turned, usual_stay, wrapped_front, wrapped_stay}
+use Rattle.ecma_strip_fits.proofs.Classes.{Class, Turned, class_of, is_body_at, is_receiver_at, only_list, plain_listed, plain_typed, plain_usual, plain_wrapped, turned, usual_stay, wrapped_front, wrapped_stay}
 use Rattle.ecma_strip_fits.proofs.Classes.Class.{Listed, Typed, Usual, Wrapped}
 use Rattle.ecma_strip_fits.proofs.Lists.{filter_at, have_at, items_at, map_at}
 
@@ -96,12 +96,14 @@ module _ (A : Type 0) (inside : A → Node → ℕ → A) (p q : A → Node → 
 
   -- how the nodes of a tree stand, and they without types: what carries it down, and that then a node tells nothing
   pub record Carries : Type 0 where
-    pub missing : (a : A) → q a absent ≡ None
-    pub empty : (a : A) (span : Span) → q a (node_of span kind.EmptyStmt []) ≡ None
-    pub lists : (a : A) (span : Span) (cs : List Node) → q a (node_of span kind.List cs) ≡ None
+    pub missing : (n : Node) (s : Shape) (a b : A) → class_of (kind_of n) ≡ Typed → HasShape s n → R n s a b → p a n ≡ None → q b absent ≡ None
+    pub empty : (n : Node) (s : Shape) (a b : A) → class_of (kind_of n) ≡ Usual → HasShape s n → R n s a b → p a n ≡ None → (i : ℕ) → is_body_at (kind_of n) i ≡ true → (span : Span)
+        → q (inside b (stripped n) i) (node_of span kind.EmptyStmt []) ≡ None
+    pub lone : (n : Node) (s : Shape) (a b : A) → class_of (kind_of n) ≡ Usual → HasShape s n → R n s a b → p a n ≡ None → (i : ℕ) → is_receiver_at (kind_of n) i ≡ true → q (inside b (stripped n) i) absent ≡ None
+    pub lists : (n : Node) (s : Shape) (a b : A) → is_list (kind_of n) ≡ true → HasShape s n → R n s a b → p a n ≡ None → (span : Span) (cs : List Node) → q b (node_of span kind.List cs) ≡ None
     pub under : (n : Node) (s : Shape) (a b : A) → class_of (kind_of n) ≡ Wrapped → HasShape s n → R n s a b → p a n ≡ None → (e : Node) → slice_get (children_of n) 0 ≡ Some e → HasShape (one sort.Expr) e → R e (one sort.Expr) (inside a n 0) b
     pub here : (n : Node) (s : Shape) (a b : A) → class_of (kind_of n) ≡ Usual → HasShape s n → R n s a b → p a n ≡ None → q b (stripped n) ≡ None
-    pub items : (n : Node) (s : Shape) (a b : A) → is_list (kind_of n) ≡ true → R n s a b → (m : Node) → is_list (kind_of m) ≡ true → (c : Node) (i j : ℕ)
+    pub items : (n : Node) (s : Shape) (a b : A) → is_list (kind_of n) ≡ true → R n s a b → (m : Node) → is_list (kind_of m) ≡ true → (c : Node) (i j : ℕ) → slice_get (children_of n) i ≡ Some c
         → (suc i ≡ length (children_of n) → suc j ≡ length (children_of m)) → R c (item_shape s) (inside a n i) (inside b m j)
     pub below : (n : Node) (s : Shape) (a b : A) → class_of (kind_of n) ≡ Usual → HasShape s n → R n s a b → p a n ≡ None → (c : Node) (o : Shape) (i : ℕ) → slice_get (children_of n) i ≡ Some c
         → slice_get (child_shapes (kind_of n) s (length (children_of n))) i ≡ Some o → R c o (inside a n i) (inside b (stripped n) i)
@@ -122,25 +124,25 @@ module _ (A : Type 0) (inside : A → Node → ℕ → A) (p q : A → Node → 
     leaf_none : (n : Node) (b : A) → q b n ≡ None → children_of n ≡ [] → first q n b ≡ None
     leaf_none n b here none = first-out q n b ∙ ap₂ least here (ap (λ (z : List Node). least_from A (inside b n) 0 (map (first q) z)) none)
 
-    absent_none : (b : A) → first q absent b ≡ None
-    absent_none b = leaf_none absent b (carries.missing b) (ap (λ (z : Node-F Node). z.children) (out-roll-Node (record { span = dummy_span; kind = kind.Absent; children = [] })))
+    absent_none : (b : A) → q b absent ≡ None → first q absent b ≡ None
+    absent_none b here = leaf_none absent b here (ap (λ (z : Node-F Node). z.children) (out-roll-Node (record { span = dummy_span; kind = kind.Absent; children = [] })))
 
-    empty_none : (span : Span) (b : A) → first q (node_of span kind.EmptyStmt []) b ≡ None
-    empty_none span b = leaf_none (node_of span kind.EmptyStmt []) b (carries.empty b span) (ap (λ (z : Node-F Node). z.children) (out-roll-Node (record { span = span; kind = kind.EmptyStmt; children = [] })))
+    empty_none : (span : Span) (b : A) → q b (node_of span kind.EmptyStmt []) ≡ None → first q (node_of span kind.EmptyStmt []) b ≡ None
+    empty_none span b here = leaf_none (node_of span kind.EmptyStmt []) b here (ap (λ (z : Node-F Node). z.children) (out-roll-Node (record { span = span; kind = kind.EmptyStmt; children = [] })))
 
-    body_none : (d : Node) (b : A) → first q d b ≡ None → first q (body_of d) b ≡ None
-    body_none d b h = by (item_stays d)
+    body_none : (d : Node) (b : A) → ((span : Span) → q b (node_of span kind.EmptyStmt []) ≡ None) → first q d b ≡ None → first q (body_of d) b ≡ None
+    body_none d b here h = by (item_stays d)
       where
         by : (keeps : Bool) → first q (cond keeps d (node_of (out-Node d).span kind.EmptyStmt [])) b ≡ None
         by true = h
-        by false = empty_none (out-Node d).span b
+        by false = empty_none (out-Node d).span b (here (out-Node d).span)
 
-    lone_none : (d : Node) (b : A) → first q d b ≡ None → first q (without_this d) b ≡ None
-    lone_none d b h = by (is_absent (kind_of d))
+    lone_none : (d : Node) (b : A) → q b absent ≡ None → first q d b ≡ None → first q (without_this d) b ≡ None
+    lone_none d b here h = by (is_absent (kind_of d))
       where
         by : (gone : Bool) → first q (cond gone d absent) b ≡ None
         by true = h
-        by false = absent_none b
+        by false = absent_none b here
 
     module _ (n : Node) (below : (i : ℕ) (c : Node) → slice_get (children_of n) i ≡ Some c → Kept c) (s : Shape) (a b : A) (h : HasShape s n) (r : R n s a b) (none : first p n a ≡ None) where
       told : (p a n ≡ None) × (least_from A (inside a n) 0 (map (first p) (children_of n)) ≡ None)
@@ -150,7 +152,7 @@ module _ (A : Type 0) (inside : A → Node → ℕ → A) (p q : A → Node → 
       each = each_none A (first p) (children_of n) (inside a n) told.1
 
       typed_kept : class_of (kind_of n) ≡ Typed → first q (stripped n) b ≡ None
-      typed_kept t = ap (λ (m : Node). first q m b) (typed_is n t) ∙ absent_none b
+      typed_kept t = ap (λ (m : Node). first q m b) (typed_is n t) ∙ absent_none b (carries.missing n s a b t h r told.0)
 
       wrapped_kept : class_of (kind_of n) ≡ Wrapped → first q (stripped n) b ≡ None
       wrapped_kept w =
@@ -161,12 +163,13 @@ module _ (A : Type 0) (inside : A → Node → ℕ → A) (p q : A → Node → 
           ap (λ (m : Node). first q m b) (wrapped_is n w e front.1 is)
           ∙ (below 0 e at (one sort.Expr) (inside a n 0) b front.3 (carries.under n s a b w h r told.0 e at front.3) (each 0 e at)).0
 
-      turned_none : (o : Shape) (c d : Node) (b' : A) → HasShape o c → (first q (stripped c) b' ≡ None) × (is_list (kind_of c) ≡ true → first q (without_empty (stripped c)) b' ≡ None) → Turned (Some o) (stripped c) d → first q d b' ≡ None
-      turned_none o c d b' has k (inl e) = ap (λ (m : Node). first q m b') (sym e) ∙ k.0
-      turned_none o c d b' has k (inr (inl e)) = ap (λ (m : Node). first q m b') (sym e) ∙ body_none (stripped c) b' k.0
-      turned_none o c d b' has k (inr (inr (inl (σ, is, e)))) =
+      turned_none : (body this : Bool) (o : Shape) (c d : Node) (b' : A) → (body ≡ true → (span : Span) → q b' (node_of span kind.EmptyStmt []) ≡ None) → (this ≡ true → q b' absent ≡ None) → HasShape o c
+          → (first q (stripped c) b' ≡ None) × (is_list (kind_of c) ≡ true → first q (without_empty (stripped c)) b' ≡ None) → Turned body this (Some o) (stripped c) d → first q d b' ≡ None
+      turned_none body this o c d b' empty lone has k (inl e) = ap (λ (m : Node). first q m b') (sym e) ∙ k.0
+      turned_none body this o c d b' empty lone has k (inr (inl (is, e))) = ap (λ (m : Node). first q m b') (sym e) ∙ body_none (stripped c) b' (empty is) k.0
+      turned_none body this o c d b' empty lone has k (inr (inr (inl (σ, is, e)))) =
           ap (λ (m : Node). first q m b') (sym e) ∙ k.1 (subst (λ z. allows z (kind_of c) ≡ true) (some_same is) (shape_parts c o has).0)
-      turned_none o c d b' has k (inr (inr (inr e))) = ap (λ (m : Node). first q m b') (sym e) ∙ lone_none (stripped c) b' k.0
+      turned_none body this o c d b' empty lone has k (inr (inr (inr (is, e)))) = ap (λ (m : Node). first q m b') (sym e) ∙ lone_none (stripped c) b' (lone is) k.0
 
       usual_each : class_of (kind_of n) ≡ Usual → NoneTells A (first q) (inside b (stripped n)) (plain_children (kind_of n) (map stripped (children_of n)))
       usual_each u i d at =
@@ -175,8 +178,10 @@ module _ (A : Type 0) (inside : A → Node → ℕ → A) (p q : A → Node → 
           let m = map_at stripped (children_of n) i t.0 t.1 in
           let c = m.0 in
           let w = have_at os (children_of n) (shape_parts n s h).1 i c m.1 in
-          turned_none w.0 c d (inside b (stripped n) i) w.2 (below i c m.1 w.0 (inside a n i) (inside b (stripped n) i) w.2 (carries.below n s a b u h r told.0 c w.0 i m.1 w.1) (each i c m.1))
-          (subst (λ o. Turned o (stripped c) d) w.1 (subst (λ (x : Node). Turned (slice_get os i) x d) (sym m.2) t.2))
+          let body = is_body_at (kind_of n) i in
+          let this = is_receiver_at (kind_of n) i in
+          turned_none body this w.0 c d (inside b (stripped n) i) (carries.empty n s a b u h r told.0 i) (carries.lone n s a b u h r told.0 i) w.2 (below i c m.1 w.0 (inside a n i) (inside b (stripped n) i) w.2 (carries.below n s a b u h r told.0 c w.0 i m.1 w.1) (each i c m.1))
+          (subst (λ o. Turned body this o (stripped c) d) w.1 (subst (λ (x : Node). Turned body this (slice_get os i) x d) (sym m.2) t.2))
 
       usual_kept : class_of (kind_of n) ≡ Usual → first q (stripped n) b ≡ None
       usual_kept u =
@@ -194,14 +199,14 @@ module _ (A : Type 0) (inside : A → Node → ℕ → A) (p q : A → Node → 
           let has = items_at (item_shape s) (children_of n) (subst (λ k. HaveShapes (child_shapes k s (length (children_of n))) (children_of n)) (list-kind (kind_of n) l) parts.1) f.0 c f.1 in
           let last' : suc f.0 ≡ length (children_of n) → suc j ≡ length (children_of m) = λ e. last (f.2 e ∙ sym (length-map (filter stays (children_of n)) stripped)) in
           ap (λ (x : Node). first q x (inside b m j)) (sym t.2)
-          ∙ (below f.0 c f.1 (item_shape s) (inside a n f.0) (inside b m j) has (carries.items n s a b l r m list c f.0 j last') (each f.0 c f.1)).0
+          ∙ (below f.0 c f.1 (item_shape s) (inside a n f.0) (inside b m j) has (carries.items n s a b l r m list c f.0 j f.1 last') (each f.0 c f.1)).0
 
       left_none : (l : is_list (kind_of n) ≡ true) (span : Span) (ds : List Node) → ((m : Node) → is_list (kind_of m) ≡ true → children_of m ≡ ds → NoneTells A (first q) (inside b m) ds) → first q (node_of span kind.List ds) b ≡ None
       left_none l span ds all =
           let m = node_of span kind.List ds in
           let parts : out-Node m ≡ record { span = span; kind = kind.List; children = ds } = out-roll-Node (record { span = span; kind = kind.List; children = ds }) in
           let children : children_of m ≡ ds = ap (λ (z : Node-F Node). z.children) parts in
-          tells_none q m b (carries.lists b span ds) (subst (NoneTells A (first q) (inside b m)) (sym children) (all m (ap (λ (z : Node-F Node). is_list z.kind) parts) children))
+          tells_none q m b (carries.lists n s a b l h r told.0 span ds) (subst (NoneTells A (first q) (inside b m)) (sym children) (all m (ap (λ (z : Node-F Node). is_list z.kind) parts) children))
 
       listed_kept : is_list (kind_of n) ≡ true → first q (stripped n) b ≡ None
       listed_kept l =

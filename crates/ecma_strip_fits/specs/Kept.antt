@@ -1,21 +1,24 @@
 -- What a tree that fits keeps without its types.
-use Rattle.std.specs.Prelude.{◌≡◌, Bool, not, ◌||◌, None, is_some}
+use Rattle.std.specs.Prelude.{◌≡◌, Bool, true, false, ◌&&◌, ◌||◌, not, None, is_some}
+use Rattle.ecma_kind.specs.Sorts.{is_type_wrapper}
 use Rattle.ecma_kind.specs.declared.shapes.Sort.TheVariants as sort
-use Rattle.ecma_tree.specs.declared.node.Node.{Node}
+use Rattle.ecma_tree.specs.declared.node.Node.{Node, Node-F, fold-Node}
 use Rattle.ecma_tree.specs.Sorted.{HasSort}
 use Rattle.ecma_leaves.specs.Words.{is_spelled}
 use Rattle.ecma_rules.specs.Children.{kind_of}
 use Rattle.ecma_rules.specs.Failing.{failing_here, first_failing}
 use Rattle.ecma_rules.specs.Jumps.{first_stray}
 use Rattle.ecma_rules.specs.Members.{second_constructor}
-use Rattle.ecma_rules.specs.Rules.{fails_list, fails_statement}
+use Rattle.ecma_rules.specs.Targets.{first_is}
+use Rattle.ecma_fits.specs.declared.role.Role.{Role}
+use Rattle.ecma_fits.specs.declared.role.Role.TheVariants as role
 use Rattle.ecma_fits.specs.declared.unfit.Where.{Where}
 use Rattle.ecma_fits.specs.Branches.{is_dangling}
 use Rattle.ecma_fits.specs.Chains.{is_loose}
 use Rattle.ecma_fits.specs.Counts.{is_short}
-use Rattle.ecma_fits.specs.Fitting.{Fits, at_top, where_in}
+use Rattle.ecma_fits.specs.Fitting.{Fits, at_top, breaks_rule, where_in}
 use Rattle.ecma_fits.specs.Members.{is_misread}
-use Rattle.ecma_fits.specs.Roles.{is_tagged, is_wrong_name}
+use Rattle.ecma_fits.specs.Roles.{is_name, is_tagged, is_wrong_name}
 use Rattle.ecma_fits.specs.Strays.{is_stray_target}
 use Rattle.ecma_strip.specs.Stripping.{stripped}
 
@@ -59,10 +62,37 @@ StrippingKeepsLeaves = (tree : Node) → Fits tree → NoneFails (λ w node. not
 abbrev pub StrippingKeepsTargets : Type 0
 StrippingKeepsTargets = (tree : Node) → Fits tree → NoneFails (λ w node. is_stray_target w.role w.arguments node) (stripped tree)
 
--- context rules 3, 4, 7 and 9: heads of loops, rests, quoted names and bodies of statements
+-- context rules 3 to 7 and 9, but for second constructors
 abbrev pub StrippingKeepsRules : Type 0
-StrippingKeepsRules = (tree : Node) → Fits tree → NoneFails (λ w node. fails_list w.around node || fails_statement w.around node) (stripped tree)
+StrippingKeepsRules = (tree : Node) → Fits tree → NoneFails breaks_rule (stripped tree)
 
 -- nothing belongs to nothing inside an enum initialiser or a namespace body
 abbrev pub StrippingKeepsStrays : Type 0
 StrippingKeepsStrays = (tree : Node) → Fits tree → first_stray (stripped tree) ≡ None
+
+-- what an expression is without the types round it is a name
+abbrev pub names_step : Node-F Bool → Bool
+names_step parts = is_name parts.kind || (is_type_wrapper parts.kind && first_is parts.children)
+
+abbrev pub is_name_under_types : Node → Bool
+is_name_under_types = fold-Node Bool names_step
+
+-- where a name is bound, in a pattern that is assigned to and before `in` or `of`
+abbrev pub binds : Role → Bool
+binds role.Head = true
+binds role.Assigned = true
+binds role.AssignedValue = true
+binds role.AssignedElement = true
+binds role.AssignedName = true
+binds _ = false
+
+-- a name with a type round it where names are bound
+abbrev pub is_typed_target : Where → Node → Bool
+is_typed_target w node = binds w.role && (is_type_wrapper (kind_of node) && is_name_under_types node)
+
+abbrev pub HasPlainTargets : Node → Type 0
+HasPlainTargets tree = NoneFails is_typed_target tree
+
+-- where no name is bound with a type round it, what fits fits without its types
+abbrev pub StrippingKeepsFits : Type 0
+StrippingKeepsFits = (tree : Node) → Fits tree → HasPlainTargets tree → Fits (stripped tree)
