@@ -9,6 +9,7 @@ use Rattle.ecma_tree.specs.declared.node.Node.TheViews.{out-roll-Node, roll-out-
 use Rattle.ecma_tree.specs.Nodes.{node_of}
 use Rattle.ecma_tree.specs.Sorted.{HasSort}
 use Rattle.ecma_grammar.specs.declared.modules.RawError.{RawError}
+use Rattle.ecma_grammar.specs.declared.production.Mode.{Mode}
 use Rattle.ecma_grammar.specs.Modules as grammar
 use Rattle.ecma_grammar.specs.Modules.{reads_module}
 use Rattle.ecma_rules.specs.declared.standing.Standing.{Standing}
@@ -24,7 +25,7 @@ use Rattle.ecma_fits.specs.declared.unfit.Where.{Where}
 use Rattle.ecma_fits.specs.Fitting.{at_top, breaks_rule, where_in}
 use Rattle.ecma_fits_laws.proofs.Rules.{keeps_rules}
 use Rattle.ecma_fits_laws.proofs.Walks.{neither, neither_least, not_failing}
-use Rattle.ecma_text.specs.Modules.{answer_by, kept_by}
+use Rattle.ecma_text.specs.Modules.{answer_by, kept_by, reads_as}
 use Rattle.ecma_text_laws.proofs.Finished.{read_sorted}
 use Rattle.ecma_strip_laws.specs.Usual.{declares_no_body, has_usual_bodies, is_declaration}
 use Rattle.ecma_strip_laws.proofs.Telling.{holds-roll}
@@ -114,15 +115,19 @@ has_bodies = ind-Node HasBodies (λ x y is. subst (λ ns. HasBodies (node_of x.s
     λ i. ap (λ k. standing_by w.around.standing k (has_child n 1) (has_child n 2) i) (ap (λ p. p.kind) (out-roll-Node parts)) in
     holds-roll declares_no_body parts ∙ rw (bodies_told w.around.standing (has_child n 1) (has_child n 2) x.kind (nodes y.children) (where_in w n) stands t.1, children_have (where_in w n) 0 y.children t.1) refl))
 
-pub read_usual : ReadModulesHaveUsualBodies
-read_usual text mode bound tree e = of_answer (grammar.answer_of (reads_module text mode bound)) e (read_sorted text mode bound tree e)
+-- no node of what is read breaks a rule
+pub read_rules : (text : List ℕ) (mode : Mode) (bound : ℕ) (tree : Node) → reads_as text mode bound ≡ Ok tree → walk tree at_top ≡ None
+read_rules text mode bound tree e = of_answer (grammar.answer_of (reads_module text mode bound)) e (read_sorted text mode bound tree e)
   where
-    kept : (r : Node) (broken : Option ℕ) → first_broken r ≡ broken → kept_by r broken ≡ Ok tree → HasSort sort.Module tree → has_usual_bodies tree ≡ true
+    kept : (r : Node) (broken : Option ℕ) → first_broken r ≡ broken → kept_by r broken ≡ Ok tree → HasSort sort.Module tree → walk tree at_top ≡ None
     kept r None b f s =
         let is : finished r ≡ tree = cc in
-        subst (λ n. has_usual_bodies n ≡ true) is (has_bodies (finished r) at_top (keeps_rules r b (subst (HasSort sort.Module) (sym is) s)))
+        subst (λ n. walk n at_top ≡ None) is (keeps_rules r b (subst (HasSort sort.Module) (sym is) s))
     kept r (Some at) b f s = cc
 
-    of_answer : (a : Result Node RawError) → answer_by a ≡ Ok tree → HasSort sort.Module tree → has_usual_bodies tree ≡ true
+    of_answer : (a : Result Node RawError) → answer_by a ≡ Ok tree → HasSort sort.Module tree → walk tree at_top ≡ None
     of_answer (Ok r) f s = kept r (first_broken r) refl f s
     of_answer (Err reason) f s = cc
+
+pub read_usual : ReadModulesHaveUsualBodies
+read_usual text mode bound tree e = has_bodies tree at_top (read_rules text mode bound tree e)

@@ -4,7 +4,7 @@ use Rattle.ecma_tree.specs.declared.node.Node.{Node}
 use Rattle.ecma_grammar.specs.declared.production.Mode.{Mode}
 use Rattle.ecma_text.specs.Modules.{reads_as}
 use Rattle.ecma_strip.specs.Stripping.{stripped}
-use Rattle.ecma_strip_laws.specs.Usual.{has_usual_bodies, has_no_arrow_receivers}
+use Rattle.ecma_strip_laws.specs.Usual.{has_usual_bodies}
 use Rattle.ecma_runs.specs.declared.config.Config.{Config}
 use Rattle.ecma_runs.specs.declared.script.Script.{Script}
 use Rattle.ecma_runs.specs.Observation.{observe}
@@ -13,8 +13,8 @@ use Rattle.ecma_runs.specs.Observation.{observe}
 abbrev pub ReadModulesHaveUsualBodies : Type 0
 ReadModulesHaveUsualBodies = (text : List ℕ) (mode : Mode) (bound : ℕ) (tree : Node) → reads_as text mode bound ≡ Ok tree → has_usual_bodies tree ≡ true
 
--- for every script of the host and every number of turns, where no arrow function has a parameter `this`
+-- for every script of the host and every number of turns
 abbrev pub ReadModulesRunStripped : Type 0
 ReadModulesRunStripped =
-    (text : List ℕ) (mode : Mode) (bound : ℕ) (tree : Node) → reads_as text mode bound ≡ Ok tree → has_no_arrow_receivers tree ≡ true →
+    (text : List ℕ) (mode : Mode) (bound : ℕ) (tree : Node) → reads_as text mode bound ≡ Ok tree →
     (turns : ℕ) (options : Config) (script : Script) → observe turns options (stripped tree) script ≡ observe turns options tree script

@@ -10,7 +10,7 @@ pub fn read_modules_have_usual_bodies()
     ensures { ReadModulesHaveUsualBodies }
 {}
 
-/// What is read as a module is observed to do without its types what it does with them, where no arrow function has a parameter `this`.
+/// What is read as a module is observed to do without its types what it does with them.
 pub fn read_modules_run_stripped()
     ensures { ReadModulesRunStripped }
 {}
