@@ -24,13 +24,29 @@ is_touched (kind.ImportNamedSpecifier is_type_only) = true
 is_touched (kind.ExportNamedSpecifier is_type_only) = true
 is_touched _ = false
 
-untouched_shared : (k : Kind) (stands : Standing) (n : Node) → is_touched k ≡ false → shared_by stands k n ≡ None
-unfolding is_touched shared_by
-untouched_shared (kind.Ident sym_ ctxt optional) stands n u = cc
-untouched_shared kind.AssignPatProp stands n u = cc
-untouched_shared (kind.ImportNamedSpecifier is_type_only) stands n u = cc
-untouched_shared (kind.ExportNamedSpecifier is_type_only) stands n u = cc
-untouched_shared _ stands n u = refl
+-- what may get another text, or be written out
+unfoldable pub is_changed : Kind → Bool
+is_changed (kind.Ident sym ctxt optional) = true
+is_changed kind.AssignPatProp = true
+is_changed (kind.ImportNamedSpecifier is_type_only) = true
+is_changed (kind.ExportNamedSpecifier is_type_only) = true
+is_changed _ = false
+
+pub untouched_unchanged : (k : Kind) → is_touched k ≡ false → is_changed k ≡ false
+unfolding is_touched is_changed
+untouched_unchanged (kind.Ident sym_ ctxt optional) u = cc
+untouched_unchanged kind.AssignPatProp u = cc
+untouched_unchanged (kind.ImportNamedSpecifier is_type_only) u = cc
+untouched_unchanged (kind.ExportNamedSpecifier is_type_only) u = cc
+untouched_unchanged _ u = refl
+
+unchanged_shared : (k : Kind) (stands : Standing) (n : Node) → is_changed k ≡ false → shared_by stands k n ≡ None
+unfolding is_changed shared_by
+unchanged_shared (kind.Ident sym_ ctxt optional) stands n u = cc
+unchanged_shared kind.AssignPatProp stands n u = cc
+unchanged_shared (kind.ImportNamedSpecifier is_type_only) stands n u = cc
+unchanged_shared (kind.ExportNamedSpecifier is_type_only) stands n u = cc
+unchanged_shared _ stands n u = refl
 
 grown_touched : (o : Option OldName) (span : Span) (k : Kind) (cs : List Node) → is_touched k ≡ true → is_touched (kind_of (grown o span k cs)) ≡ true
 unfolding is_touched
@@ -77,11 +93,11 @@ module _ (texts : Texts) where
       ∙ expanded-of (old_of n stands) (out-Node n).span (own_kind n stands) (written_from (standing_in stands n) 0 (map (renamed_at texts) (children_of n)))
       ∙ ap (λ (zs : List Node). grown (old_of n stands) (out-Node n).span (own_kind n stands) zs) (written_all (standing_in stands n) 0 (children_of n))
 
-  untouched_kind : (named : Bool) (k : Kind) → is_touched k ≡ false → kind_with_text texts named k ≡ k
-  unfolding is_touched
-  untouched_kind true k u = refl
-  untouched_kind false (kind.Ident sym_ ctxt optional) u = cc
-  untouched_kind false _ u = refl
+  unchanged_kind : (named : Bool) (k : Kind) → is_changed k ≡ false → kind_with_text texts named k ≡ k
+  unfolding is_changed
+  unchanged_kind true k u = refl
+  unchanged_kind false (kind.Ident sym_ ctxt optional) u = cc
+  unchanged_kind false _ u = refl
 
   pub text_touched : (named : Bool) (k : Kind) → is_touched k ≡ true → is_touched (kind_with_text texts named k) ≡ true
   unfolding is_touched
@@ -89,17 +105,23 @@ module _ (texts : Texts) where
   text_touched false (kind.Ident sym_ ctxt optional) t = refl
   text_touched false _ t = t
 
-  -- what is not touched stays but for its children
-  untouched : (n : Node) (stands : Standing) → is_touched (kind_of n) ≡ false → become n stands ≡ node_of (out-Node n).span (kind_of n) (children_become n stands)
-  untouched n stands u =
+  -- what is not changed stays but for its children
+  unchanged : (n : Node) (stands : Standing) → is_changed (kind_of n) ≡ false → become n stands ≡ node_of (out-Node n).span (kind_of n) (children_become n stands)
+  unchanged n stands u =
       become-out n stands
-      ∙ ap₂ (λ o k. grown (old_name texts o) (out-Node n).span k (children_become n stands)) (untouched_shared (kind_of n) stands n u) (untouched_kind (is_name stands.role) (kind_of n) u)
+      ∙ ap₂ (λ o k. grown (old_name texts o) (out-Node n).span k (children_become n stands)) (unchanged_shared (kind_of n) stands n u) (unchanged_kind (is_name stands.role) (kind_of n) u)
+
+  pub kind_unchanged : (n : Node) (stands : Standing) → is_changed (kind_of n) ≡ false → kind_of (become n stands) ≡ kind_of n
+  kind_unchanged n stands u = ap kind_of (unchanged n stands u) ∙ kind-of (out-Node n).span (kind_of n) (children_become n stands)
+
+  pub children_unchanged : (n : Node) (stands : Standing) → is_changed (kind_of n) ≡ false → children_of (become n stands) ≡ children_become n stands
+  children_unchanged n stands u = ap children_of (unchanged n stands u) ∙ children-of (out-Node n).span (kind_of n) (children_become n stands)
 
   pub kind_stays : (n : Node) (stands : Standing) → is_touched (kind_of n) ≡ false → kind_of (become n stands) ≡ kind_of n
-  kind_stays n stands u = ap kind_of (untouched n stands u) ∙ kind-of (out-Node n).span (kind_of n) (children_become n stands)
+  kind_stays n stands u = kind_unchanged n stands (untouched_unchanged (kind_of n) u)
 
   pub children_stay : (n : Node) (stands : Standing) → is_touched (kind_of n) ≡ false → children_of (become n stands) ≡ children_become n stands
-  children_stay n stands u = ap children_of (untouched n stands u) ∙ children-of (out-Node n).span (kind_of n) (children_become n stands)
+  children_stay n stands u = children_unchanged n stands (untouched_unchanged (kind_of n) u)
 
   pub stays_touched : (n : Node) (stands : Standing) → is_touched (kind_of n) ≡ true → is_touched (kind_of (become n stands)) ≡ true
   stays_touched n stands t =

@@ -22,10 +22,10 @@ use Rattle.ecma_hygiene_fits.proofs.Everywhere.{children_of}
 use Rattle.ecma_hygiene_fits.proofs.Walk.{shape_parts, test_kept}
 
 -- says nothing of what is touched
-abbrev Quiet : Bool → (Kind → Bool) → Type 0
+abbrev pub Quiet : Bool → (Kind → Bool) → Type 0
 Quiet b is = (k : Kind) → is_touched k ≡ true → is k ≡ b
 
-abbrev Silent : (Kind → Node → Bool) → Type 0
+abbrev pub Silent : (Kind → Node → Bool) → Type 0
 Silent fails = (k : Kind) (n : Node) → is_touched k ≡ true → fails k n ≡ false
 
 -- ---- branches
@@ -33,7 +33,7 @@ Silent fails = (k : Kind) (n : Node) → is_touched k ≡ true → fails k n ≡
 abbrev takes_else_of : Kind → List Bool → Bool
 takes_else_of k bs = is_absent k || holds_at_last bs (last_part k)
 
-present_quiet : Quiet true is_present
+pub present_quiet : Quiet true is_present
 unfolding is_touched
 present_quiet kind.Absent t = cc
 present_quiet _ t = refl
@@ -62,7 +62,7 @@ else_same texts = made_same texts takes_else takes_else_of (fold_out-Node Bool t
 pub branches_kept : FinalTextsKeepBranches
 branches_kept texts =
     test_kept texts dangles dangling_quiet (λ text n. refl) (λ n. refl)
-    (λ n s stands has u. ap₂ (λ a b. is_choice (kind_of n) && (a && b)) (child_same texts is_present true present_quiet n stands u 2) (holds_same texts takes_else (else_same texts) n stands u 1))
+    (λ n s stands has u none. ap₂ (λ a b. is_choice (kind_of n) && (a && b)) (child_same texts is_present true present_quiet n stands u 2) (holds_same texts takes_else (else_same texts) n stands u 1) ∙ none)
 
 -- ---- members
 
@@ -98,8 +98,8 @@ misread_by _ n m key function = refl
 pub members_kept : FinalTextsKeepMembers
 members_kept texts =
     test_kept texts is_misread_by misread_quiet (λ text n. (never_misread text n).0) (λ n. (never_misread [] n).1)
-    (λ n s stands has u.
-    misread_by (kind_of n) n (become texts n stands) (child_same texts is_constructor_key false key_quiet n stands u 0) (child_same texts is_special_function false function_quiet n stands u 1))
+    (λ n s stands has u none.
+    misread_by (kind_of n) n (become texts n stands) (child_same texts is_constructor_key false key_quiet n stands u 0) (child_same texts is_special_function false function_quiet n stands u 1) ∙ none)
 
 -- ---- chains
 
@@ -142,4 +142,4 @@ loose_by texts _ s n m stands has is = refl
 pub chains_kept : FinalTextsKeepChains
 chains_kept texts =
     test_kept texts is_loose_by loose_quiet (λ text n. refl) (λ n. refl)
-    (λ n s stands has u. loose_by texts (kind_of n) s n (become texts n stands) (standing_in stands n) (shape_parts n s has).1 (children_stay texts n stands u))
+    (λ n s stands has u none. loose_by texts (kind_of n) s n (become texts n stands) (standing_in stands n) (shape_parts n s has).1 (children_stay texts n stands u) ∙ none)

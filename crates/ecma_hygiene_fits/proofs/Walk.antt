@@ -39,7 +39,7 @@ not_failing false n h = refl
 
 module _ (texts : Texts) (fails : Kind → Node → Bool) (quiet : (k : Kind) (n : Node) → is_touched k ≡ true → fails k n ≡ false) (keys : (text : List ℕ) (n : Node) → fails (kind.IdentName text) n ≡ false)
     (defaults : (n : Node) → fails kind.AssignPat n ≡ false)
-    (same : (n : Node) (s : Shape) (stands : Standing) → HasShape s n → is_touched (kind_of n) ≡ false → fails (kind_of n) (become texts n stands) ≡ fails (kind_of n) n) where
+    (stays : (n : Node) (s : Shape) (stands : Standing) → HasShape s n → is_touched (kind_of n) ≡ false → fails (kind_of n) n ≡ false → fails (kind_of n) (become texts n stands) ≡ false) where
   abbrev here : Where → Node → Option ℕ
   here w n = failing_here (fails (kind_of n) n) n
 
@@ -137,7 +137,7 @@ module _ (texts : Texts) (fails : Kind → Node → Bool) (quiet : (k : Kind) (n
           subst Passes (sym (become-out texts n stands))
           (grown_passes (old_of texts n stands) (out-Node n).span (own_kind texts n stands) (children_become texts n stands) (text_touched texts (is_name stands.role) (kind_of n) t) each)
       by false u =
-          passes (become texts n stands) (ap (λ z. fails z (become texts n stands)) (kind_stays texts n stands u) ∙ same n s stands has u ∙ not_failing (fails (kind_of n) n) n told.0)
+          passes (become texts n stands) (ap (λ z. fails z (become texts n stands)) (kind_stays texts n stands u) ∙ stays n s stands has u (not_failing (fails (kind_of n) n) n told.0))
           (subst (Each Passes) (sym (children_stay texts n stands u)) each)
 
   pub test_kept : (tree : Node) → HasSort sort.Module tree → NoneFails (λ w n. fails (kind_of n) n) tree → NoneFails (λ w n. fails (kind_of n) n) (renamed texts tree)
