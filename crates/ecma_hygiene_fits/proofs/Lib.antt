@@ -5,3 +5,4 @@ pub mod Tests
 pub mod Listed
 pub mod Constructors
 pub mod Counts
+pub mod Sorts

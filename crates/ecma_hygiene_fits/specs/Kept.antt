@@ -21,6 +21,10 @@ NoneFails fails tree = first_failing Where (λ w node. failing_here (fails w nod
 abbrev pub FinalTextsKeep : (Node → Bool) → Type 0
 FinalTextsKeep fails = (texts : Texts) (tree : Node) → HasSort sort.Module tree → NoneFails (λ w node. fails node) tree → NoneFails (λ w node. fails node) (renamed texts tree)
 
+-- a module by its sorts
+abbrev pub FinalTextsKeepSorts : Type 0
+FinalTextsKeepSorts = (texts : Texts) (tree : Node) → HasSort sort.Module tree → HasSort sort.Module (renamed texts tree)
+
 -- no `if` without `else` stands directly before an outer `else`
 abbrev pub FinalTextsKeepBranches : Type 0
 FinalTextsKeepBranches = FinalTextsKeep is_dangling
