@@ -208,7 +208,7 @@ module _ (first second : List ℕ) (utf8 : IsUtf8 first) (utf8_too : IsUtf8 seco
       unless_stands second (code_point 42) regex_char (b + k) (b + r) (code_refused 42 k (inside regex_char (moves_regex_char first) k r l p.1) p.0) (regex_char_kept k r l p.1)
 
   -- a body, behind which none of its characters stands
-  body_kept : (r : ℕ) → r ≤ n → body first (a + 0) ≡ Some (a + r) → regex_char second (b + r) ≡ None → body second (b + 0) ≡ Some (b + r)
+  pub body_kept : (r : ℕ) → r ≤ n → body first (a + 0) ≡ Some (a + r) → regex_char second (b + r) ≡ None → body second (b + 0) ≡ Some (b + r)
   unfolding Kept body regex_chars
   body_kept r l h z =
       let p = between first (many regex_char) (first_char first (a + 0)) (a + r) h in

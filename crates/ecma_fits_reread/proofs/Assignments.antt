@@ -1,4 +1,4 @@
--- Assignments to simple targets, `++` and `--`, `yield` and sequences have their shapes.
+-- Assignments, `++` and `--`, `yield` and sequences have their shapes.
 use Rattle.std.proofs.Common.{◌≡◌, ◌∙◌, refl, sym, ap, subst, Bool, true, false, not, ◌||◌, List, [], ◌∷◌, map, length, replicate, nat_lt}
 use Rattle.ecma_kind.specs.Sorts.{is_expr}
 use Rattle.ecma_kind.specs.declared.span.Span.{Span}
@@ -28,9 +28,11 @@ use Rattle.ecma_print.specs.declared.place.Spot.{Spot}
 use Rattle.ecma_print.specs.Layout.{laid}
 use Rattle.ecma_print.specs.Operators.{update_sign}
 use Rattle.ecma_print.specs.Places.{left, right}
-use Rattle.ecma_reread.specs.Shapes.{AreExpressions, IsExpression, assignment, assignment_expression, callee, more_expressions, no_expressions, postfix_update, prefix_update, sequence, sequence_expression, update, yield_nothing, yield_value}
+use Rattle.ecma_reread.specs.Shapes.{AreExpressions, IsExpression, assignment, assignment_expression, callee, new_callee, more_expressions, no_expressions, postfix_update, prefix_update, sequence, sequence_expression, update, yield_nothing, yield_value}
 use Rattle.ecma_fits_reread.specs.Forms.{is_of_forms}
+use Rattle.ecma_fits_reread.proofs.Bindings.{or_there}
 use Rattle.ecma_fits_reread.proofs.Building.{absent_shape, first_there, simple_target, simple_tight, stands_as}
+use Rattle.ecma_fits_reread.proofs.Claims as claims
 use Rattle.ecma_fits_reread.proofs.Claims.{AllFormed, Expressed, Formed, Proper, is_of_link, is_simple, seen, value_kind}
 use Rattle.ecma_fits_reread.proofs.Covered.{covered_children}
 use Rattle.ecma_fits_reread.proofs.Ranks.{own_level, to_callee}
@@ -57,25 +59,25 @@ simple_there : {spot : Spot} {shape : Shape} (n : Node) → Sound role.Simple sp
 unfolding may_be takes
 simple_there n s = let h = seen n s in is_target n h.bare.1 (stands_as role.Simple (out-Node n).span (out-Node n).kind (out-Node n).children h).1
 
-left_simple : (k : Kind) (b : Bool) → is_of_forms k ≡ true → (is_pattern k || b) ≡ true → b ≡ true
-left_simple (kind.ArrayPat optional) b f h = cc
-left_simple (kind.ObjectPat optional) b f h = cc
-left_simple k b f h = h
-
-left_there : {spot : Spot} {shape : Shape} (n : Node) → Sound role.Left spot shape n → is_simple (kind_of n) ≡ true
+left_there : {spot : Spot} {shape : Shape} (n : Node) → is_pattern (kind_of n) ≡ false → Sound role.Left spot shape n → is_simple (kind_of n) ≡ true
 unfolding may_be takes
-left_there n s =
+left_there n e s =
     let h = seen n s in
-    is_target n h.bare.1 (left_simple (kind_of n) _ h.bare.1 (stands_as role.Left (out-Node n).span (out-Node n).kind (out-Node n).children h).1)
+    is_target n h.bare.1 (or_there (is_pattern (kind_of n)) _ (stands_as role.Left (out-Node n).span (out-Node n).kind (out-Node n).children h).1 e)
 
 -- it binds as a callee does
-simple_shape : {t : Target} {spot : Spot} (n : Node) (e : Expressed t spot n) → is_simple (kind_of n) ≡ true → IsExpression callee (cover_at n t)
+pub simple_shape : {t : Target} {spot : Spot} (n : Node) (e : Expressed t spot n) → is_simple (kind_of n) ≡ true → IsExpression callee (cover_at n t)
 simple_shape {spot = spot} n e h = to_callee (own_level e.kind e.children spot.in_callee_of_new) (simple_tight e.kind e.children spot.in_callee_of_new (subst (λ k. is_simple k ≡ true) e.kind_is h)) e.shape
 
-target_shape : (spot : Spot) (o : AssignOp) (n : Node) → spot.in_callee_of_new ≡ false → Formed n → Sound (left_of o) (left spot 16 beside.NoNeighbor) (one sort.AssignTarget) n → IsExpression callee (cover_at n (on_left target.Free o))
-target_shape spot Assign n out f s =
-    let is = left_there n s in
+-- on the left of `=` a pattern is a literal
+left_shape : (spot : Spot) (n : Node) (b : Bool) → is_pattern (kind_of n) ≡ b → spot.in_callee_of_new ≡ false → Formed n → Sound role.Left (left spot 16 beside.NoNeighbor) (one sort.AssignTarget) n → IsExpression callee (cover_at n target.Left)
+left_shape spot n true e out f s = to_callee new_callee refl (f.literal role.Left target.Left (left spot 16 beside.NoNeighbor) (one sort.AssignTarget) claims.IsCovered.on_left s e)
+left_shape spot n false e out f s =
+    let is = left_there n e s in
     simple_shape n (f.expression role.Left target.Left (left spot 16 beside.NoNeighbor) (one sort.AssignTarget) s (proper_left spot 16 beside.NoNeighbor out refl) refl is) is
+
+target_shape : (spot : Spot) (o : AssignOp) (n : Node) → spot.in_callee_of_new ≡ false → Formed n → Sound (left_of o) (left spot 16 beside.NoNeighbor) (one sort.AssignTarget) n → IsExpression callee (cover_at n (on_left target.Free o))
+target_shape spot Assign n out f s = left_shape spot n (is_pattern (kind_of n)) refl out f s
 target_shape spot o n out f s =
     let is = simple_there n s in
     simple_shape n (f.expression role.Simple target.Simple (left spot 16 beside.NoNeighbor) (one sort.AssignTarget) s (proper_left spot 16 beside.NoNeighbor out refl) refl is) is
@@ -117,18 +119,14 @@ no_delegate true true h e = cc
 no_delegate true false h e = cc
 no_delegate false there h e = refl
 
-expression_there : (a b : Bool) → (a || b) ≡ true → a ≡ false → b ≡ true
-expression_there true b h e = cc
-expression_there false b h e = h
-
 yield_by : (spot : Spot) (at : Span) (delegate : Bool) (a : Node) (missing : Bool) → is_absent (kind_of a) ≡ missing → (is_present (kind_of a) || not delegate) ≡ true → Formed a → Sound role.Free (right spot 1 beside.NoNeighbor) (maybe sort.Expr) a
     → IsExpression assignment (node_of at (kind.YieldExpr delegate) (cover_at a target.Free ∷ []))
 yield_by spot at delegate a true e whole f s =
     subst (λ d. IsExpression assignment (node_of at (kind.YieldExpr d) (cover_at a target.Free ∷ []))) (sym (no_delegate delegate (is_present (kind_of a)) whole (ap not e))) (yield_nothing at (absent_shape target.Free a s e))
 yield_by spot at delegate a false e whole f s =
     let h = seen a s in
-    let is = expression_there (is_absent (kind_of a)) (is_expr (kind_of a)) h.allowed e in
-    yield_value at delegate (assigned (f.expression role.Free target.Free (right spot 1 beside.NoNeighbor) (maybe sort.Expr) s (proper_right spot 1 beside.NoNeighbor refl) refl (value_kind (kind_of a) is h.bare.1)) refl)
+    let is = or_there (is_absent (kind_of a)) (is_expr (kind_of a)) h.allowed e in
+    yield_value at delegate (assigned (f.expression role.Free target.Free (right spot 1 beside.NoNeighbor) (maybe sort.Expr) s (proper_right spot 1 beside.NoNeighbor refl) refl (value_kind a s is)) refl)
 
 module _ {r : Role} {spot : Spot} {shape : Shape} (t : Target) (at : Span) where
   pub yield_formed : (delegate : Bool) (cs : List Node) → AllFormed cs → Here r spot shape at (kind.YieldExpr delegate) cs → IsExpression assignment (node_of at (kind.YieldExpr delegate) (covered_children t (kind.YieldExpr delegate) cs))

@@ -113,7 +113,7 @@ call_by : (spot : Spot) (at : Span) (a args none : Node) → Formed a → Sound 
 call_by spot at a args none f s out is_args is_none (called_super at_super is) = subst (CallOf at args none) (sym is) (super_call at at_super is_args is_none)
 call_by spot at a args none f s out is_args is_none (called_import at_import is) = subst (CallOf at args none) (sym is) (import_call at at_import is_args is_none)
 call_by spot at a args none f s out is_args is_none (called_value is) =
-    let e = f.expression role.Free target.Free (left spot 16 beside.BeforeLink) (one sort.Callee) s (proper_head spot beside.BeforeLink refl refl) refl (value_kind (kind_of a) is (seen a s).bare.1) in
+    let e = f.expression role.Free target.Free (left spot 16 beside.BeforeLink) (one sort.Callee) s (proper_head spot beside.BeforeLink refl refl) refl (value_kind a s is) in
     call at (called_shape (own_level e.kind e.children spot.in_callee_of_new) (subst (λ w. (own_level e.kind e.children spot.in_callee_of_new ≡ numeral) ⊎ IsWithin (rank (before_link w)) (own_level e.kind e.children spot.in_callee_of_new)) out (at_link e.children spot e.kind e.open_there)) e.shape) is_args is_none
 
 super_by : (at at_super : Span) (b : Node) → SuperKey b → IsExpression new_callee (node_of at kind.SuperPropExpr (node_of at_super kind.Super [] ∷ cover_at b target.Free ∷ []))

@@ -19,11 +19,13 @@ use Rattle.ecma_print.specs.Laid.{is_computed}
 use Rattle.ecma_print.specs.Layout.{laid}
 use Rattle.ecma_print.specs.Places.{free}
 use Rattle.ecma_print.proofs.LaidOut.{laid_kind_of-node}
-use Rattle.ecma_reread.specs.Shapes.{IsExpression, IsKey, Level, plain_key}
+use Rattle.ecma_reread.specs.Shapes.{IsChainKey, IsExpression, IsKey, Level, plain_key, private_key}
 use Rattle.ecma_fits_reread.proofs.Building.{childless}
 use Rattle.ecma_fits_reread.proofs.Claims.{AllFormed, MemberKey, SuperKey, bracketed_key, bracketed_of_super, named_key, named_of_super}
 use Rattle.ecma_fits_reread.proofs.Covered.{covered}
 use Rattle.ecma_fits_reread.proofs.Leaves.{key_shape}
+use Rattle.ecma_fits_reread.proofs.LeafTokens.{private_token}
+use Rattle.ecma_fits_reread.proofs.Names.{leaf_as_is}
 use Rattle.ecma_fits_reread.proofs.Ranks.{own_level}
 use Rattle.ecma_fits_reread.proofs.Sound.{Here}
 use Rattle.ecma_fits_reread.proofs.Spots.{child_value, proper_free}
@@ -56,7 +58,10 @@ module _ (at : Span) where
   pub member_key_formed : (k : Kind) (cs : List Node) → AllFormed cs → Here role.Private (free 0) (one sort.MemberProp) at k cs → MemberKey (node_of at k cs)
   member_key_formed (kind.IdentName word) cs f h = named_key (computed_is (kind.IdentName word) cs false refl) (plain_key (plain_name at word cs h))
   member_key_formed kind.ComputedPropName cs f h = let b = bracketed at 0 cs f h in bracketed_key (computed_is kind.ComputedPropName cs true refl) at b.inside b.is b.level b.shape
-  member_key_formed (kind.PrivateName name) cs f h = let out = h.bare.1 in cc
+  member_key_formed (kind.PrivateName name) cs f h =
+      let k = kind.PrivateName name in
+      let e = leaf_as_is at k cs (childless (role_in role.Private k) [] (free 0) cs h.below) refl in
+      named_key (computed_is k cs false refl) (subst IsChainKey (sym e) (private_key at name (private_token name h.bare.0 h.spelled)))
   member_key_formed k cs f h = let out = h.allowed in cc
 
   pub super_key_formed : (k : Kind) (cs : List Node) → AllFormed cs → Here role.Free (free 0) (one sort.SuperProp) at k cs → SuperKey (node_of at k cs)

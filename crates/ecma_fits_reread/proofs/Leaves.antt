@@ -6,9 +6,10 @@ use Rattle.ecma_kind.specs.declared.span.Span.{Span}
 use Rattle.ecma_kind.specs.declared.kind.Kind.TheVariants as kind
 use Rattle.ecma_tree.specs.Nodes.{node_of}
 use Rattle.ecma_leaves.specs.Words.{is_spelled}
-use Rattle.ecma_reread.specs.Shapes.{IsExpression, IsIdent, IsKey, IsPropertyName, ident, key, new_callee, number, number_name, numeral, string, string_name}
+use Rattle.ecma_reread.specs.Shapes.{IsExpression, IsIdent, IsKey, IsPropertyName, big_int, big_int_name, ident, key, new_callee, number, number_name, numeral, string, string_name}
 use Rattle.ecma_reread.specs.Modules.{IsExportName, IsString, string_literal, word_name}
 use Rattle.ecma_fits_reread.specs.Forms.{IsBare}
+use Rattle.ecma_fits_reread.proofs.LeafTokens.{big_token}
 use Rattle.ecma_fits_reread.proofs.Tokens.{key_token, number_token, string_token}
 
 module _ (tagged : Bool) (at : Span) where
@@ -44,3 +45,11 @@ module _ (tagged : Bool) (at : Span) where
   pub number_name_shape : (value : Option JsNumber) (raw : Option (List ℕ)) → is_spelled tagged (kind.Number value raw) ≡ true → IsBare (kind.Number value raw) → IsPropertyName (node_of at (kind.Number value raw) [])
   number_name_shape value None s b = absurd b
   number_name_shape value (Some raw) s b = let t = number_token value raw b s in subst (λ v. IsPropertyName (node_of at (kind.Number v (Some raw)) [])) t.1 (number_name at raw t.0)
+
+  pub big_int_shape : (value : List ℕ) (raw : Option (List ℕ)) → is_spelled tagged (kind.BigInt value raw) ≡ true → IsBare (kind.BigInt value raw) → IsExpression new_callee (node_of at (kind.BigInt value raw) [])
+  big_int_shape value None s b = absurd b
+  big_int_shape value (Some raw) s b = let t = big_token value raw b s in subst (λ v. IsExpression new_callee (node_of at (kind.BigInt v (Some raw)) [])) t.1 (big_int at raw t.0)
+
+  pub big_int_name_shape : (value : List ℕ) (raw : Option (List ℕ)) → is_spelled tagged (kind.BigInt value raw) ≡ true → IsBare (kind.BigInt value raw) → IsPropertyName (node_of at (kind.BigInt value raw) [])
+  big_int_name_shape value None s b = absurd b
+  big_int_name_shape value (Some raw) s b = let t = big_token value raw b s in subst (λ v. IsPropertyName (node_of at (kind.BigInt v (Some raw)) [])) t.1 (big_int_name at raw t.0)

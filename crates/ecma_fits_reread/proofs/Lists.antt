@@ -38,7 +38,7 @@ spread_formed at (a ∷ []) f h =
 spread_formed at (a ∷ b ∷ cs) f h = absurd h.below.1
 
 value_formed : {shape : Shape} (n : Node) → FormedExpression n → Sound role.Free (free 1) shape n → is_expr (kind_of n) ≡ true → IsElement values (cover_at n target.Free)
-value_formed {shape} n f s is = shapes.IsElement.one (assigned (f role.Free target.Free (free 1) shape s (proper_free 1) refl (value_kind (kind_of n) is (seen n s).bare.1)) refl)
+value_formed {shape} n f s is = shapes.IsElement.one (assigned (f role.Free target.Free (free 1) shape s (proper_free 1) refl (value_kind n s is)) refl)
 
 data ElementKind (k : Kind) : Type 0 where
   value_element : is_expr k ≡ true → ElementKind k

@@ -1,5 +1,5 @@
 -- Properties of objects have their shapes.
-use Rattle.std.proofs.Common.{◌≡◌, ◌∙◌, refl, sym, ap, subst, true, false, List, [], ◌∷◌, map}
+use Rattle.std.proofs.Common.{◌≡◌, refl, sym, subst, true, false, List, [], ◌∷◌, map}
 use Rattle.ecma_kind.specs.declared.span.Span.{Span}
 use Rattle.ecma_kind.specs.declared.kind.Kind.{Kind}
 use Rattle.ecma_kind.specs.declared.kind.Kind.TheVariants as kind
@@ -22,14 +22,12 @@ use Rattle.ecma_fits_reread.proofs.Building.{childless, stands_as}
 use Rattle.ecma_fits_reread.proofs.Claims.{AllFormed, seen}
 use Rattle.ecma_fits_reread.proofs.Covered.{covered, covered_children}
 use Rattle.ecma_fits_reread.proofs.Keys.{plain_name}
-use Rattle.ecma_fits_reread.proofs.Leaves.{ident_shape, number_name_shape, string_name_shape}
+use Rattle.ecma_fits_reread.proofs.Leaves.{big_int_name_shape, ident_shape, number_name_shape, string_name_shape}
+use Rattle.ecma_fits_reread.proofs.Names.{leaf_as_is}
 use Rattle.ecma_fits_reread.proofs.Lists.{Items, cover_of_list, list_items, list_there}
-use Rattle.ecma_fits_reread.proofs.Sound.{AllSound, Here, Sound}
+use Rattle.ecma_fits_reread.proofs.Methods.{getter_formed, method_formed, setter_formed}
+use Rattle.ecma_fits_reread.proofs.Sound.{Here, Sound}
 use Rattle.ecma_fits_reread.proofs.Spots.{assigned, child_value, proper_free}
-
--- a leaf is covered as it is
-leaf_covered : (at : Span) (k : Kind) (cs : List Node) → AllSound (role_in role.Free k) [] (free 0) [] cs → cover_at (node_of at k []) target.Free ≡ node_of at k [] → cover_at (node_of at k cs) target.Free ≡ node_of at k []
-leaf_covered at k cs h e = ap (λ z. cover_at (node_of at k z) target.Free) (childless (role_in role.Free k) [] (free 0) cs h) ∙ e
 
 module _ (at : Span) where
   computed_formed : (cs : List Node) → AllFormed cs → Here role.Free (free 1) (one sort.PropName) at kind.ComputedPropName cs → IsPropertyName (cover_at (node_of at kind.ComputedPropName cs) target.Free)
@@ -42,11 +40,12 @@ module _ (at : Span) where
   pub property_name_formed : (k : Kind) (cs : List Node) → AllFormed cs → Here role.Free (free 1) (one sort.PropName) at k cs → IsPropertyName (cover_at (node_of at k cs) target.Free)
   property_name_formed (kind.IdentName word) cs f h = key_name (plain_name at word cs h)
   property_name_formed (kind.Str value raw) cs f h =
-      subst IsPropertyName (sym (leaf_covered at (kind.Str value raw) cs h.below (covered at (kind.Str value raw) [] target.Free refl))) (string_name_shape false at value raw h.spelled h.bare.0)
+      subst IsPropertyName (sym (leaf_as_is at (kind.Str value raw) cs (childless (role_in role.Free (kind.Str value raw)) [] (free 0) cs h.below) refl)) (string_name_shape false at value raw h.spelled h.bare.0)
   property_name_formed (kind.Number value raw) cs f h =
-      subst IsPropertyName (sym (leaf_covered at (kind.Number value raw) cs h.below (covered at (kind.Number value raw) [] target.Free refl))) (number_name_shape false at value raw h.spelled h.bare.0)
+      subst IsPropertyName (sym (leaf_as_is at (kind.Number value raw) cs (childless (role_in role.Free (kind.Number value raw)) [] (free 0) cs h.below) refl)) (number_name_shape false at value raw h.spelled h.bare.0)
   property_name_formed kind.ComputedPropName cs f h = computed_formed cs f h
-  property_name_formed (kind.BigInt value raw) cs f h = let out = h.bare.1 in cc
+  property_name_formed (kind.BigInt value raw) cs f h =
+      subst IsPropertyName (sym (leaf_as_is at (kind.BigInt value raw) cs (childless (role_in role.Free (kind.BigInt value raw)) [] (free 0) cs h.below) refl)) (big_int_name_shape false at value raw h.spelled h.bare.0)
   property_name_formed k cs f h = let out = h.allowed in cc
 
   key_value_formed : (cs : List Node) → AllFormed cs → Here role.Free (free 1) (one sort.PropOrSpread) at kind.KeyValueProp cs → IsProperty values (cover_at (node_of at kind.KeyValueProp cs) target.Free)
@@ -76,14 +75,14 @@ module _ (at : Span) where
   pub property_formed : (k : Kind) (cs : List Node) → AllFormed cs → Here role.Free (free 1) (one sort.PropOrSpread) at k cs → IsProperty values (cover_at (node_of at k cs) target.Free)
   property_formed (kind.Ident word ctxt optional) cs f h =
       let k = kind.Ident word ctxt optional in
-      subst (IsProperty values) (sym (leaf_covered at k cs h.below (covered at k [] target.Free refl)))
+      subst (IsProperty values) (sym (leaf_as_is at k cs (childless (role_in role.Free k) [] (free 0) cs h.below) refl))
       (shorthand (ident_shape false at word ctxt optional h.spelled h.bare.0 (stands_as role.Free at k cs h).0))
   property_formed kind.KeyValueProp cs f h = key_value_formed cs f h
   property_formed kind.SpreadElement cs f h = spread_formed cs f h
   property_formed kind.AssignProp cs f h = no_default cs h
-  property_formed kind.GetterProp cs f h = let out = h.bare.1 in cc
-  property_formed kind.SetterProp cs f h = let out = h.bare.1 in cc
-  property_formed kind.MethodProp cs f h = let out = h.bare.1 in cc
+  property_formed kind.GetterProp cs f h = getter_formed at cs f h
+  property_formed kind.SetterProp cs f h = setter_formed at cs f h
+  property_formed kind.MethodProp cs f h = method_formed at cs f h
   property_formed k cs f h = let out = h.allowed in cc
 
 -- lists of them

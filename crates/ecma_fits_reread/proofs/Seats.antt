@@ -18,7 +18,7 @@ pub either_parts : (a b : Bool) → (a || b) ≡ false → (a ≡ false) × (b �
 either_parts true b h = cc
 either_parts false b h = (refl, h)
 
-both_false : (a b : Bool) → (a && b) ≡ false → a ≡ true → b ≡ false
+pub both_false : (a b : Bool) → (a && b) ≡ false → a ≡ true → b ≡ false
 both_false true b h e = h
 both_false false b h e = cc
 

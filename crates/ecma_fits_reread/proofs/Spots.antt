@@ -7,8 +7,8 @@ use Rattle.ecma_tree.specs.declared.node.Node.{Node}
 use Rattle.ecma_tree.specs.Sorted.{one}
 use Rattle.ecma_rules.specs.declared.target.Target.{Target}
 use Rattle.ecma_rules.specs.declared.target.Target.TheVariants as target
-use Rattle.ecma_rules.specs.Children.{kind_of}
 use Rattle.ecma_fits.specs.declared.role.Role.{Role}
+use Rattle.ecma_fits.specs.declared.role.Role.TheVariants as role
 use Rattle.ecma_print.specs.declared.place.Begins.{Begins}
 use Rattle.ecma_print.specs.declared.place.Beside.{Beside}
 use Rattle.ecma_print.specs.declared.place.Spot.{Spot}
@@ -17,7 +17,7 @@ use Rattle.ecma_print.specs.Levels.{in_parentheses, level_of}
 use Rattle.ecma_print.specs.Places.{beginning, ends_a_chain, free, left, right}
 use Rattle.ecma_covers.specs.Covering.{cover_at}
 use Rattle.ecma_reread.specs.Shapes.{IsExpression, assignment}
-use Rattle.ecma_fits_reread.proofs.Claims.{Expressed, Formed, Proper, is_of_link, reads_values, seen, value_kind, level_open}
+use Rattle.ecma_fits_reread.proofs.Claims.{Expressed, Formed, Proper, is_of_link, seen, value_kind, level_open}
 use Rattle.ecma_fits_reread.proofs.Ranks.{IsWithin, own_level, to_assignment}
 use Rattle.ecma_fits_reread.proofs.Seats.{at_assignment, binds, either_parts}
 use Rattle.ecma_fits_reread.proofs.Sound.{Sound}
@@ -54,8 +54,10 @@ low_outside k children spot p low h = go spot.in_callee_of_new refl
     go false e = refl
 
 -- an expression that is a child
-pub child_value : {r : Role} {spot : Spot} {n : Node} → Formed n → Sound r spot (one sort.Expr) n → reads_values r ≡ true → Proper spot → Expressed target.Free spot n
-child_value {r} {spot} {n} f s reads p = let h = seen n s in f.expression r target.Free spot (one sort.Expr) s p reads (value_kind (kind_of n) h.allowed h.bare.1)
+pub child_value : {r : Role} {spot : Spot} {n : Node} → Formed n → Sound r spot (one sort.Expr) n → r ≡ role.Free → Proper spot → Expressed target.Free spot n
+child_value {r} {spot} {n} f s is p =
+    let free = subst (λ z. Sound z spot (one sort.Expr) n) is s in
+    f.expression role.Free target.Free spot (one sort.Expr) free p refl (value_kind n free (seen n free).allowed)
 
 -- it binds as tightly as its number asks
 pub tight : {t : Target} {spot : Spot} {n : Node} (e : Expressed t spot n) → 4 ≤ spot.level → spot.level ≤ 16 → IsWithin (20 - spot.level) (own_level e.kind e.children spot.in_callee_of_new)

@@ -16,7 +16,7 @@ use Rattle.ecma_fits.specs.Roles.{is_tagged, role_in}
 use Rattle.ecma_print.specs.declared.place.Spot.{Spot}
 use Rattle.ecma_print.specs.Layout.{laid}
 use Rattle.ecma_print.specs.Places.{free}
-use Rattle.ecma_reread.specs.Shapes.{IsExpression, false_word, import_meta, name, new_target, null_word, this_word, true_word}
+use Rattle.ecma_reread.specs.Shapes.{IsExpression, false_word, import_meta, name, new_target, null_word, regex, this_word, true_word}
 use Rattle.ecma_fits_reread.specs.Forms.{is_of_forms}
 use Rattle.ecma_fits_reread.proofs.Assignments.{assignment_formed, sequence_formed, update_formed, yield_formed}
 use Rattle.ecma_fits_reread.proofs.Binary.{binary_formed}
@@ -25,13 +25,17 @@ use Rattle.ecma_fits_reread.proofs.Calls.{call_formed, new_formed, super_formed}
 use Rattle.ecma_fits_reread.proofs.Chains.{chain_formed}
 use Rattle.ecma_fits_reread.proofs.Claims.{AllFormed, Expressed, Proper, is_simple, is_value, no_reserved, reads_values}
 use Rattle.ecma_fits_reread.proofs.Covered.{covered_children, is_of_pattern}
-use Rattle.ecma_fits_reread.proofs.Leaves.{ident_shape, number_shape, string_shape}
+use Rattle.ecma_fits_reread.proofs.Definitions.{class_expression_formed, function_expression_formed}
+use Rattle.ecma_fits_reread.proofs.Leaves.{big_int_shape, ident_shape, number_shape, string_shape}
 use Rattle.ecma_fits_reread.proofs.Lists.{array_formed}
 use Rattle.ecma_fits_reread.proofs.Members.{member_formed, parenthesized_formed}
 use Rattle.ecma_fits_reread.proofs.Objects.{object_formed}
 use Rattle.ecma_fits_reread.proofs.Operators.{await_formed, conditional_formed, unary_formed}
+use Rattle.ecma_fits_reread.proofs.Parameters.{arrow_formed}
 use Rattle.ecma_fits_reread.proofs.Ranks.{own_level}
+use Rattle.ecma_fits_reread.proofs.Regexes.{regex_token}
 use Rattle.ecma_fits_reread.proofs.Sound.{AllSound, Here}
+use Rattle.ecma_fits_reread.proofs.Templates.{tagged_formed, template_formed}
 
 -- a leaf in its spot
 leaf_built : {r : Role} {spot : Spot} {shape : Shape} (t : Target) (at : Span) (k : Kind) (cs : List Node) → Here r spot shape at k cs → is_of_pattern k ≡ false → cs ≡ [] → IsExpression (own_level k (map laid cs) spot.in_callee_of_new) (node_of at k [])
@@ -58,6 +62,10 @@ is_value_of_forms target.Free k h = regrouped (is_expr k) (is_of_forms k) _ h
 is_value_of_forms target.Left k h = simple_kinds k h
 is_value_of_forms _ k h = simple_kinds k h
 
+no_private : (t : Target) (word : List ℕ) → is_value t (kind.PrivateName word) ≡ true → ⊥
+no_private target.Free word h = cc
+no_private _ word h = cc
+
 module _ {r : Role} {spot : Spot} {shape : Shape} (t : Target) (at : Span) where
   -- what it says and how it stands
   module _ (cs : List Node) (f : AllFormed cs) where
@@ -71,6 +79,9 @@ module _ {r : Role} {spot : Spot} {shape : Shape} (t : Target) (at : Span) where
     value_by (kind.Ident word ctxt optional) h p reads is v = ident_formed word ctxt optional h reads
     value_by (kind.Str value raw) h p reads is v = leaf_built t at (kind.Str value raw) cs h refl (no_children r cs (kind.Str value raw) h.below) (string_shape (is_tagged r) at value raw h.spelled h.bare.0)
     value_by (kind.Number value raw) h p reads is v = leaf_built t at (kind.Number value raw) cs h refl (no_children r cs (kind.Number value raw) h.below) (number_shape (is_tagged r) at value raw h.spelled h.bare.0)
+    value_by (kind.BigInt value raw) h p reads is v = leaf_built t at (kind.BigInt value raw) cs h refl (no_children r cs (kind.BigInt value raw) h.below) (big_int_shape (is_tagged r) at value raw h.spelled h.bare.0)
+    value_by (kind.Regex exp flags) h p reads is v = leaf_built t at (kind.Regex exp flags) cs h refl (no_children r cs (kind.Regex exp flags) h.below) (regex at exp flags (regex_token exp flags h.bare.0.0 h.bare.0.1 h.spelled))
+    value_by (kind.PrivateName word) h p reads is v = absurd (no_private t word is)
     value_by (kind.Bool true) h p reads is v = leaf_built t at (kind.Bool true) cs h refl (no_children r cs (kind.Bool true) h.below) (true_word at)
     value_by (kind.Bool false) h p reads is v = leaf_built t at (kind.Bool false) cs h refl (no_children r cs (kind.Bool false) h.below) (false_word at)
     value_by kind.Null h p reads is v = leaf_built t at kind.Null cs h refl (no_children r cs kind.Null h.below) (null_word at)
@@ -96,6 +107,11 @@ module _ {r : Role} {spot : Spot} {shape : Shape} (t : Target) (at : Span) where
     value_by kind.CallExpr h p reads is v = built t at kind.CallExpr cs h refl (call_formed t at cs f h)
     value_by kind.NewExpr h p reads is v = built t at kind.NewExpr cs h refl (new_formed t at cs f h)
     value_by (kind.OptChainExpr asks) h p reads is v = built t at (kind.OptChainExpr asks) cs h refl (chain_formed t at asks cs f h p)
+    value_by (kind.ArrowExpr is_async is_generator) h p reads is v = built t at (kind.ArrowExpr is_async is_generator) cs h refl (arrow_formed t at is_async is_generator cs f h)
+    value_by kind.FnExpr h p reads is v = built t at kind.FnExpr cs h refl (function_expression_formed t at cs f h)
+    value_by kind.ClassExpr h p reads is v = built t at kind.ClassExpr cs h refl (class_expression_formed t at cs f h)
+    value_by kind.Tpl h p reads is v = built t at kind.Tpl cs h refl (template_formed t at cs f h reads)
+    value_by kind.TaggedTpl h p reads is v = built t at kind.TaggedTpl cs h refl (tagged_formed t at cs f h)
     value_by k h p reads is v = absurd (no v)
       where
         no : false ≡ true → ⊥

@@ -1,8 +1,9 @@
 -- What is asked of the data of each node beside that it fits: that it is what a reader of plain modules gives.
-use Rattle.std.specs.Prelude.{◌≡◌, Bool, true, false, List, ℕ, Option, Some, None}
+use Rattle.std.specs.Prelude.{◌≡◌, Bool, true, false, not, ◌||◌, List, ℕ, Option, Some, None, is_some}
 use Rattle.std.specs.Str.{IsUtf8}
 use Rattle.ecma_kind.specs.declared.kind.Kind.{Kind}
 use Rattle.ecma_kind.specs.declared.kind.Kind.TheVariants as kind
+use Rattle.ecma_kind.specs.declared.operators.MemberModifiers.{MemberModifiers}
 
 -- a literal has its source text
 abbrev pub IsSource : Option (List ℕ) → Type 0
@@ -21,7 +22,11 @@ IsBare (kind.Regex exp flags) = IsUtf8 exp × IsUtf8 flags
 IsBare (kind.TplElement raw cooked tail) = IsUtf8 raw
 IsBare _ = Unit {0}
 
--- no TypeScript, and no form whose shape is not known to be read again
+-- modifiers of a member but `static`
+abbrev pub has_type_modifiers : MemberModifiers → Bool
+has_type_modifiers modifiers = is_some modifiers.accessibility || (modifiers.is_abstract || (modifiers.is_optional || modifiers.is_override))
+
+-- no TypeScript but the assignments of CommonJS modules
 abbrev pub is_of_forms : Kind → Bool
 is_of_forms kind.TsTypeAssertion = false
 is_of_forms kind.TsConstAssertion = false
@@ -31,20 +36,38 @@ is_of_forms kind.TsInstantiation = false
 is_of_forms kind.TsSatisfiesExpr = false
 is_of_forms kind.TsTypeParamInstantiation = false
 is_of_forms kind.TsTypeAnn = false
+is_of_forms kind.TsType = false
 is_of_forms kind.TsTypeParamDecl = false
-is_of_forms kind.FnExpr = false
-is_of_forms kind.ClassExpr = false
-is_of_forms (kind.ArrowExpr is_async is_generator) = false
-is_of_forms kind.GetterProp = false
-is_of_forms kind.SetterProp = false
-is_of_forms kind.MethodProp = false
-is_of_forms (kind.BigInt value raw) = false
-is_of_forms (kind.Regex exp flags) = false
-is_of_forms (kind.PrivateName name) = false
-is_of_forms kind.Tpl = false
-is_of_forms kind.TaggedTpl = false
-is_of_forms (kind.ArrayPat optional) = false
-is_of_forms (kind.ObjectPat optional) = false
+is_of_forms (kind.TsInterfaceDecl declare) = false
+is_of_forms (kind.TsTypeAliasDecl declare) = false
+is_of_forms (kind.TsEnumDecl declare is_const) = false
+is_of_forms kind.TsEnumMember = false
+is_of_forms (kind.TsModuleDecl declare global) = false
+is_of_forms kind.TsModuleBlock = false
+is_of_forms (kind.TsNamespaceDecl declare global) = false
+is_of_forms kind.TsNamespaceExportDecl = false
+is_of_forms kind.TsQualifiedName = false
+is_of_forms (kind.TsIndexSignature readonly is_static) = false
+is_of_forms (kind.TsParamProp accessibility is_override readonly) = false
+is_of_forms kind.ExportDefaultSpecifier = false
+is_of_forms (kind.TsImportEqualsDecl is_export is_type_only) = not is_type_only
+is_of_forms (kind.ImportDecl type_only) = not type_only
+is_of_forms (kind.NamedExport type_only) = not type_only
+is_of_forms (kind.ExportAll type_only) = not type_only
+is_of_forms (kind.ImportNamedSpecifier is_type_only) = not is_type_only
+is_of_forms (kind.ExportNamedSpecifier is_type_only) = not is_type_only
+is_of_forms (kind.FnDecl declare) = not declare
+is_of_forms (kind.ClassDecl declare) = not declare
+is_of_forms (kind.VarDecl k declare) = not declare
+is_of_forms (kind.VarDeclarator definite) = not definite
+is_of_forms (kind.ArrayPat optional) = not optional
+is_of_forms (kind.ObjectPat optional) = not optional
+is_of_forms (kind.Class is_abstract) = not is_abstract
+is_of_forms (kind.Constructor accessibility is_optional) = not (is_some accessibility || is_optional)
+is_of_forms (kind.ClassMethod k modifiers) = not (has_type_modifiers modifiers)
+is_of_forms (kind.PrivateMethod k modifiers) = not (has_type_modifiers modifiers)
+is_of_forms (kind.ClassProp modifiers readonly declare definite) = not (has_type_modifiers modifiers || (readonly || (declare || definite)))
+is_of_forms (kind.PrivateProp modifiers readonly declare definite) = not (has_type_modifiers modifiers || (readonly || (declare || definite)))
 is_of_forms _ = true
 
 -- both

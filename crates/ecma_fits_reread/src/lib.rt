@@ -3,9 +3,14 @@
 //! Each function carries one law over the definitions, and does nothing. The laws are stated in `specs/`.
 #![tactic(auto)]
 
-ghost use Rattle.ecma_fits_reread.specs.Laws.{ExpressionsHaveTheirShapes};
+ghost use Rattle.ecma_fits_reread.specs.Laws.{ExpressionsHaveTheirShapes, ModulesHaveTheirShapes};
 
-/// The raw tree of an expression that fits, lacks no parentheses and is of the forms of `specs/Forms.antt` has the shape of an expression.
+/// The raw tree of a plain expression that fits, lacks no parentheses and is of the forms of `specs/Forms.antt` has the shape of an expression.
 pub fn expressions_have_their_shapes()
     ensures { ExpressionsHaveTheirShapes }
+{}
+
+/// The raw tree of a plain module that fits, lacks no parentheses and is of these forms has the shape of a module.
+pub fn modules_have_their_shapes()
+    ensures { ModulesHaveTheirShapes }
 {}
