@@ -1,0 +1,10 @@
+pub mod PlainKinds
+pub mod Bare
+pub mod PlainForms
+pub mod Given
+pub mod Joins
+pub mod PlainMade
+pub mod StaticWords
+pub mod PlainReads
+pub mod Unfound
+pub mod Plain

@@ -1,0 +1,38 @@
+//! Laws of what is read as a module: its leaves are bare, and what is read as a plain one is plain.
+//!
+//! Each function carries one law over the definitions, and does nothing. The laws are stated in `specs/`.
+#![tactic(auto)]
+
+ghost use Rattle.ecma_plain_laws.specs.Bare.{ReadLeavesAreBare};
+ghost use Rattle.ecma_plain_laws.specs.Plain.{PlainTextsWithoutAssignmentsHavePlainItems, ReadPlainModulesHaveUtf8Hashbangs, ReadPlainTreesAreTaken, ReadPlainTreesKeepAssignmentForms};
+
+/// Each leaf of what is read as a module, in either mode and with any number of levels, has UTF-8 texts and no context, and is a literal with its source
+/// text.
+#[tactic(auto, using(crate::proofs::Bare::leaves_bare))]
+pub fn leaves_that_are_read_are_bare()
+    ensures { ReadLeavesAreBare }
+{}
+
+/// Each node of what is read as a plain module is bare, and is no TypeScript but an import or export assignment.
+#[tactic(auto, using(crate::proofs::Plain::trees_taken))]
+pub fn plain_trees_that_are_read_are_taken()
+    ensures { ReadPlainTreesAreTaken }
+{}
+
+/// Import and export assignments stand in what is read as a plain module only where they may stay.
+#[tactic(auto, using(crate::proofs::Plain::forms_kept))]
+pub fn plain_trees_that_are_read_keep_assignment_forms()
+    ensures { ReadPlainTreesKeepAssignmentForms }
+{}
+
+/// What stands behind `#!` in what is read as a plain module is UTF-8.
+#[tactic(auto, using(crate::proofs::Plain::hashbangs))]
+pub fn plain_modules_that_are_read_have_utf8_hashbangs()
+    ensures { ReadPlainModulesHaveUtf8Hashbangs }
+{}
+
+/// Where import and export assignments may not stay, the items of what is read as a plain module are plain.
+#[tactic(auto, using(crate::proofs::Plain::items))]
+pub fn plain_texts_without_assignments_have_plain_items()
+    ensures { PlainTextsWithoutAssignmentsHavePlainItems }
+{}
