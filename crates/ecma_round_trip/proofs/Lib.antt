@@ -1,0 +1,4 @@
+pub mod Standing
+pub mod Functions
+pub mod Items
+pub mod Whole
