@@ -1,0 +1,11 @@
+pub mod Bound
+pub mod Staying
+pub mod Alike
+pub mod Names
+pub mod Folded
+pub mod Tests
+pub mod Rules
+pub mod Around
+pub mod Idle
+pub mod Suiting
+pub mod Whole
