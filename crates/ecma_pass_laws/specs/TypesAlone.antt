@@ -1,4 +1,4 @@
--- Trees in which all that is TypeScript is types.
+-- Trees in which all that is TypeScript is types, but for parameter properties and `export =`, which stay when types go.
 use Rattle.std.specs.Prelude.{Bool, true, false, ◌&&◌, not, List, ◌∷◌}
 use Rattle.std.specs.List.{list_any}
 use Rattle.ecma_kind.specs.declared.kind.Kind.{Kind}
@@ -40,6 +40,6 @@ has_bodiless k children = list_any lacks_body children
 abbrev pub adds_types_by : Kind → List Node → Bool
 adds_types_by k children = not (is_lowered k) && (not (has_ambient_head k children) && not (has_bodiless k children))
 
--- a tree of which nothing is left for other passes once its types are gone
+-- a tree of which at most these are left for other passes once its types are gone
 abbrev pub adds_types_alone : Node → Bool
 adds_types_alone = holds_throughout adds_types_by

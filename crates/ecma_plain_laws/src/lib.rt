@@ -1,4 +1,4 @@
-//! Laws of what is read as a module: its leaves are bare, and what is read as a plain one is plain.
+//! Laws of what is read as a module: its leaves are bare, and what is read as a plain one is no TypeScript but the two assignment forms.
 //!
 //! Each function carries one law over the definitions, and does nothing. The laws are stated in `specs/`.
 #![tactic(auto)]
