@@ -12,8 +12,7 @@ use Rattle.ecma_rules.specs.Finishing.{binding}
 use Rattle.ecma_fits.specs.declared.role.Role.{Role}
 use Rattle.ecma_fits.specs.declared.role.Role.TheVariants as role
 use Rattle.ecma_fits.specs.Roles.{role_in}
-use Rattle.ecma_strip_fits.specs.Kept.{binds, is_name_under_types}
-use Rattle.ecma_bound_names.specs.Binding.{bound_at, is_typed_name, under_types}
+use Rattle.ecma_bind.specs.Binding.{binds, bound_at, is_name_under_types, is_typed_name, under_types}
 use Rattle.ecma_bound_names.proofs.Bound.{bound_each, children_of, typed_is, usual_is}
 
 -- the same of each type round an expression

@@ -25,9 +25,8 @@ use Rattle.ecma_fits.specs.declared.unfit.Where.{Where}
 use Rattle.ecma_fits.specs.Fitting.{breaks_rule, is_misshapen, is_unfit, unfit_here, where_in}
 use Rattle.ecma_fits.specs.Roles.{is_assigned, is_bound_name, is_out_of_role, is_tagged, is_wrong_name, may_be, role_in, takes}
 use Rattle.ecma_fits.specs.Strays.{arguments_in, is_stray_target}
-use Rattle.ecma_strip_fits.specs.Kept.{binds}
 use Rattle.ecma_strip_fits.proofs.Walk.{shape_parts}
-use Rattle.ecma_bound_names.specs.Binding.{bound_at, is_typed_name}
+use Rattle.ecma_bind.specs.Binding.{binds, bound_at, is_typed_name}
 use Rattle.ecma_bound_names.proofs.Alike.{Same, by_kind, child_same, has_same, items_same, kind_same, length_same, quiet_usual, roles_at, typed_parts, usual_children, usual_kind, usual_span}
 use Rattle.ecma_bound_names.proofs.Bound.{bound_each, children_of}
 use Rattle.ecma_bound_names.proofs.Folded.{simple_same}

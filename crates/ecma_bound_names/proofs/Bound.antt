@@ -9,7 +9,7 @@ use Rattle.ecma_rules.proofs.Layers.{from_leaves_out}
 use Rattle.ecma_fits.specs.declared.role.Role.{Role}
 use Rattle.ecma_fits.specs.Roles.{role_in}
 use Rattle.ecma_strip_fits.proofs.Walk.{NoneTells, each_none, neither_least, none_from}
-use Rattle.ecma_bound_names.specs.Binding.{bound_at, bound_step, each_at, is_typed_name, under_types, with_children}
+use Rattle.ecma_bind.specs.Binding.{bound_at, bound_step, each_at, is_typed_name, under_types, with_children}
 
 abbrev pub children_of : Node → List Node
 children_of n = (out-Node n).children

@@ -13,8 +13,7 @@ use Rattle.ecma_fits.specs.declared.role.Role.TheVariants as role
 use Rattle.ecma_fits.specs.Branches.{holds_at_last, last_part, takes_else, takes_else_step}
 use Rattle.ecma_fits.specs.Chains.{goes_on, goes_on_step, is_link, keeps_chain}
 use Rattle.ecma_fits.specs.Roles.{is_name, role_in}
-use Rattle.ecma_strip_fits.specs.Kept.{binds, is_name_under_types, names_step}
-use Rattle.ecma_bound_names.specs.Binding.{bound_at, is_typed_name, under_types}
+use Rattle.ecma_bind.specs.Binding.{binds, bound_at, is_name_under_types, is_typed_name, names_step, under_types}
 use Rattle.ecma_bound_names.proofs.Alike.{Alike, Same, Six, quiet_usual, six_at, typed_parts}
 use Rattle.ecma_bound_names.proofs.Bound.{bound_each, by_children, children_of, typed_is, usual_is}
 

@@ -17,8 +17,7 @@ use Rattle.ecma_fits.specs.declared.role.Role.TheVariants as role
 use Rattle.ecma_fits.specs.declared.unfit.Where.{Where}
 use Rattle.ecma_fits.specs.Fitting.{first_unfit_in, unfit_here, where_in}
 use Rattle.ecma_fits.specs.Roles.{is_name, role_in}
-use Rattle.ecma_strip_fits.specs.Kept.{is_name_under_types, names_step}
-use Rattle.ecma_bound_names.specs.Binding.{first_or, under_types}
+use Rattle.ecma_bind.specs.Binding.{first_or, is_name_under_types, names_step, under_types}
 use Rattle.ecma_strip_fits.proofs.Lists.{have_at}
 use Rattle.ecma_strip_fits.proofs.Walk.{shape_parts}
 use Rattle.ecma_bound_names.proofs.Alike.{six_at}
@@ -77,7 +76,7 @@ front n w h =
     let t = front_of (children_of n) (names_inside n w h) in
     (t.0, t.1, t.2, under-out n ∙ (ap (λ b. cond b (first_or n (map under_types (children_of n))) n) w ∙ t.3 n))
 
-bare_is : (n : Node) → is_type_wrapper (kind_of n) ≡ false → under_types n ≡ n
+pub bare_is : (n : Node) → is_type_wrapper (kind_of n) ≡ false → under_types n ≡ n
 bare_is n w = under-out n ∙ ap (λ b. cond b (first_or n (map under_types (children_of n))) n) w
 
 bare_name : (k : Kind) (b : Bool) → is_type_wrapper k ≡ false → (is_name k || (is_type_wrapper k && b)) ≡ true → is_name k ≡ true

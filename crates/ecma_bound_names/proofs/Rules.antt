@@ -23,11 +23,10 @@ use Rattle.ecma_fits.specs.declared.role.Role.TheVariants as role
 use Rattle.ecma_fits.specs.declared.unfit.Where.{Where}
 use Rattle.ecma_fits.specs.Fitting.{unfit_here, where_in}
 use Rattle.ecma_fits.specs.Roles.{is_name, is_wrong_name, role_in}
-use Rattle.ecma_strip_fits.specs.Kept.{binds, is_name_under_types, names_step}
 use Rattle.ecma_strip_fits.proofs.RulesKept.{in_role}
 use Rattle.ecma_strip_fits.proofs.Tests.{neither}
 use Rattle.ecma_strip_fits.proofs.Walk.{shape_parts}
-use Rattle.ecma_bound_names.specs.Binding.{bound_at, is_typed_name, under_types}
+use Rattle.ecma_bind.specs.Binding.{binds, bound_at, is_name_under_types, is_typed_name, names_step, under_types}
 use Rattle.ecma_bound_names.proofs.Alike.{any_where, bound_parts, child_same, has_same, holds_where, items_same, quiet_usual, roles_at, typed_parts, usual_children, usual_kind}
 use Rattle.ecma_bound_names.proofs.Bound.{bound_each, children_of, parts_none, typed_is}
 use Rattle.ecma_bound_names.proofs.Names.{Good, Place, front, good_child, inside, name_good, under_name}

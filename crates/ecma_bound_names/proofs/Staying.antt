@@ -10,7 +10,7 @@ use Rattle.ecma_fits.specs.Fitting.{at_top, where_in}
 use Rattle.ecma_fits.specs.Roles.{role_in}
 use Rattle.ecma_strip_fits.specs.Kept.{is_typed_target}
 use Rattle.ecma_strip_fits.proofs.Strays.{not_failing}
-use Rattle.ecma_bound_names.specs.Binding.{bound_at, with_children}
+use Rattle.ecma_bind.specs.Binding.{bound_at, with_children}
 use Rattle.ecma_bound_names.specs.Laws.{BoundNamesStay}
 use Rattle.ecma_bound_names.proofs.Bound.{bound_each, by_children, children_of, parts_none, usual_is}
 

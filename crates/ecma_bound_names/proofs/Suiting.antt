@@ -15,7 +15,7 @@ use Rattle.ecma_rules.specs.Targets.{is_plain}
 use Rattle.ecma_fits.specs.declared.role.Role.{Role}
 use Rattle.ecma_fits.specs.declared.role.Role.TheVariants as role
 use Rattle.ecma_fits.specs.Roles.{at_child, bound_name_of, by, in_default, in_list, in_pattern, in_rest, in_template, is_assigned, is_in, left_of, operand_of, role_in}
-use Rattle.ecma_strip_fits.specs.Kept.{binds}
+use Rattle.ecma_bind.specs.Binding.{binds}
 
 -- the sorts of what is assigned to in patterns and heads
 abbrev pub holds_names : Sort → Bool

@@ -17,8 +17,7 @@ use Rattle.ecma_fits.specs.Chains.{goes_on, is_behind_chain, is_loose, is_loose_
 use Rattle.ecma_fits.specs.Counts.{are, are_exports, are_imports, are_stars_or_names, ends_once, ends_template, has_attributes_at, holds_attributes, is_attribute, is_attribute_key, is_default_import, is_empty, is_full_by, is_named_export, is_named_import, is_short, is_star_export, is_star_import, is_star_of, is_text, is_whole_template}
 use Rattle.ecma_fits.specs.Members.{is_misread, is_misread_by, is_special_accessor}
 use Rattle.ecma_fits.specs.Roles.{is_name, role_in}
-use Rattle.ecma_strip_fits.specs.Kept.{binds, is_name_under_types, names_step}
-use Rattle.ecma_bound_names.specs.Binding.{bound_at, is_typed_name, under_types}
+use Rattle.ecma_bind.specs.Binding.{binds, bound_at, is_name_under_types, is_typed_name, names_step, under_types}
 use Rattle.ecma_bound_names.proofs.Alike.{Alike, Blind, Same, Six, all_same, bound_length, bound_parts, by_kind, child_same, has_same, holds_same, holds_where, is_same, items_same, kind_same, length_same, roles_at, typed_parts, usual_children}
 use Rattle.ecma_bound_names.proofs.Bound.{bound_each, children_of, typed_is}
 use Rattle.ecma_bound_names.proofs.Folded.{else_same, goes_same}

@@ -27,12 +27,12 @@ use Rattle.ecma_fits.specs.Roles.{is_assigned, is_bound_name, is_name, is_out_of
 use Rattle.ecma_fits.specs.declared.strays.Arguments.{Arguments}
 use Rattle.ecma_fits.specs.Strays.{arguments_in, is_stray_target}
 use Rattle.ecma_fits_laws.proofs.Arguments.{AllLinked, Linked, allows_inert, is_inert_kind, linked_in}
-use Rattle.ecma_strip_fits.specs.Kept.{HasPlainTargets, binds, is_name_under_types, is_typed_target}
+use Rattle.ecma_strip_fits.specs.Kept.{HasPlainTargets, is_typed_target}
 use Rattle.ecma_strip_fits.proofs.FitsKept.{fits_kept}
 use Rattle.ecma_strip_fits.proofs.Leaves.{unfit_none}
 use Rattle.ecma_strip_fits.proofs.Strays.{none_failing, not_failing}
 use Rattle.ecma_strip_fits.proofs.Walk.{neither_least, shape_parts}
-use Rattle.ecma_bound_names.specs.Binding.{bound_at, is_typed_name, under_types, with_bound_names}
+use Rattle.ecma_bind.specs.Binding.{binds, bound_at, is_name_under_types, is_typed_name, under_types, with_bound_names}
 use Rattle.ecma_bound_names.specs.Laws.{BoundNamesArePlain, BoundNamesFit, WhatFitsFitsWithoutTypes}
 use Rattle.ecma_bound_names.proofs.Alike.{bound_length, bound_parts, six_at, typed_parts, usual_children, usual_kind}
 use Rattle.ecma_bound_names.proofs.Around.{held_same, place_same, stray_same, where_same}

@@ -9,7 +9,7 @@ mod role;
 mod strays;
 mod unfit;
 
-pub use role::Role;
+pub use role::{Role, role_in};
 pub use strays::Arguments;
 pub use unfit::{Where, first_unfit, fits};
 

@@ -314,7 +314,7 @@ fn operand_of(op: BinaryOp) -> Role
 
 /// What the child at an index of a node of this kind may be.
 #[tactic(auto, unfolding(crate::specs::Roles::role_in))]
-pub(crate) fn role_in(role: Role, kind: &Kind, index: usize) -> Role
+pub fn role_in(role: Role, kind: &Kind, index: usize) -> Role
     ensures { result ≡ role_in role kind.now index }
 {
     match kind {

@@ -1,26 +1,23 @@
 -- What a tree that fits keeps without its types.
-use Rattle.std.specs.Prelude.{◌≡◌, Bool, true, false, ◌&&◌, ◌||◌, not, None, is_some}
-use Rattle.ecma_kind.specs.Sorts.{is_type_wrapper}
+use Rattle.std.specs.Prelude.{◌≡◌, Bool, not, None, is_some}
 use Rattle.ecma_kind.specs.declared.shapes.Sort.TheVariants as sort
-use Rattle.ecma_tree.specs.declared.node.Node.{Node, Node-F, fold-Node}
+use Rattle.ecma_tree.specs.declared.node.Node.{Node}
 use Rattle.ecma_tree.specs.Sorted.{HasSort}
 use Rattle.ecma_leaves.specs.Words.{is_spelled}
 use Rattle.ecma_rules.specs.Children.{kind_of}
 use Rattle.ecma_rules.specs.Failing.{failing_here, first_failing}
 use Rattle.ecma_rules.specs.Jumps.{first_stray}
 use Rattle.ecma_rules.specs.Members.{second_constructor}
-use Rattle.ecma_rules.specs.Targets.{first_is}
-use Rattle.ecma_fits.specs.declared.role.Role.{Role}
-use Rattle.ecma_fits.specs.declared.role.Role.TheVariants as role
 use Rattle.ecma_fits.specs.declared.unfit.Where.{Where}
 use Rattle.ecma_fits.specs.Branches.{is_dangling}
 use Rattle.ecma_fits.specs.Chains.{is_loose}
 use Rattle.ecma_fits.specs.Counts.{is_short}
 use Rattle.ecma_fits.specs.Fitting.{Fits, at_top, breaks_rule, where_in}
 use Rattle.ecma_fits.specs.Members.{is_misread}
-use Rattle.ecma_fits.specs.Roles.{is_name, is_tagged, is_wrong_name}
+use Rattle.ecma_fits.specs.Roles.{is_tagged, is_wrong_name}
 use Rattle.ecma_fits.specs.Strays.{is_stray_target}
 use Rattle.ecma_strip.specs.Stripping.{stripped}
+use Rattle.ecma_bind.specs.Binding.{is_typed_name}
 
 -- no node of a tree fails a test of it and of where it stands
 abbrev pub NoneFails : (Where → Node → Bool) → Node → Type 0
@@ -70,25 +67,9 @@ StrippingKeepsRules = (tree : Node) → Fits tree → NoneFails breaks_rule (str
 abbrev pub StrippingKeepsStrays : Type 0
 StrippingKeepsStrays = (tree : Node) → Fits tree → first_stray (stripped tree) ≡ None
 
--- what an expression is without the types round it is a name
-abbrev pub names_step : Node-F Bool → Bool
-names_step parts = is_name parts.kind || (is_type_wrapper parts.kind && first_is parts.children)
-
-abbrev pub is_name_under_types : Node → Bool
-is_name_under_types = fold-Node Bool names_step
-
--- where a name is bound, in a pattern that is assigned to and before `in` or `of`
-abbrev pub binds : Role → Bool
-binds role.Head = true
-binds role.Assigned = true
-binds role.AssignedValue = true
-binds role.AssignedElement = true
-binds role.AssignedName = true
-binds _ = false
-
 -- a name with a type round it where names are bound
 abbrev pub is_typed_target : Where → Node → Bool
-is_typed_target w node = binds w.role && (is_type_wrapper (kind_of node) && is_name_under_types node)
+is_typed_target w node = is_typed_name w.role node
 
 abbrev pub HasPlainTargets : Node → Type 0
 HasPlainTargets tree = NoneFails is_typed_target tree

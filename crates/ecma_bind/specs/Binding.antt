@@ -1,15 +1,31 @@
 -- Names with types round them, bound where names are bound: in a pattern that is assigned to, and before `in` or `of` (ECMAScript, 13.15.5, 14.7.5.1).
-use Rattle.std.specs.Prelude.{ℕ, suc, Bool, ◌&&◌, cond, List, [], ◌∷◌}
+use Rattle.std.specs.Prelude.{ℕ, suc, Bool, true, false, ◌&&◌, ◌||◌, cond, List, [], ◌∷◌}
 use Rattle.ecma_kind.specs.Sorts.{is_type_wrapper}
-use Rattle.ecma_tree.specs.declared.node.Node.{Node, out-Node}
+use Rattle.ecma_tree.specs.declared.node.Node.{Node, Node-F, fold-Node, out-Node}
 use Rattle.ecma_tree.specs.Nodes.{node_of}
 use Rattle.ecma_rules.specs.Children.{kind_of}
 use Rattle.ecma_rules.specs.Finishing.{binding}
 use Rattle.ecma_rules.specs.Layers.{from_leaves}
+use Rattle.ecma_rules.specs.Targets.{first_is}
 use Rattle.ecma_fits.specs.declared.role.Role.{Role}
 use Rattle.ecma_fits.specs.declared.role.Role.TheVariants as role
-use Rattle.ecma_fits.specs.Roles.{role_in}
-use Rattle.ecma_strip_fits.specs.Kept.{binds, is_name_under_types}
+use Rattle.ecma_fits.specs.Roles.{is_name, role_in}
+
+-- what an expression is without the types round it is a name
+abbrev pub names_step : Node-F Bool → Bool
+names_step parts = is_name parts.kind || (is_type_wrapper parts.kind && first_is parts.children)
+
+abbrev pub is_name_under_types : Node → Bool
+is_name_under_types = fold-Node Bool names_step
+
+-- where a name is bound, in a pattern that is assigned to and before `in` or `of`
+abbrev pub binds : Role → Bool
+binds role.Head = true
+binds role.Assigned = true
+binds role.AssignedValue = true
+binds role.AssignedElement = true
+binds role.AssignedName = true
+binds _ = false
 
 abbrev pub first_or : Node → List Node → Node
 first_or node [] = node
