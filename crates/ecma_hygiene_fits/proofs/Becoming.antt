@@ -5,7 +5,8 @@ use Rattle.ecma_kind.specs.declared.kind.Kind.TheVariants as kind
 use Rattle.ecma_kind.specs.declared.span.Span.{Span}
 use Rattle.ecma_tree.specs.declared.node.Node.{Node, out-Node}
 use Rattle.ecma_tree.specs.Nodes.{node_of}
-use Rattle.ecma_rules.specs.Children.{child_holds, child_is, holds_of, kind_of, of_kind}
+use Rattle.ecma_rules.specs.Children.{child_holds, child_is, holds_of, is_present, kind_of, of_kind}
+use Rattle.ecma_fits.specs.Roles.{is_name as is_identifier}
 use Rattle.ecma_scope.specs.Resolved.{is_name}
 use Rattle.ecma_scope.proofs.Layers.{from_leaves_out}
 use Rattle.ecma_hygiene.specs.declared.spot.Standing.{Standing}
@@ -32,6 +33,18 @@ is_changed (kind.ImportNamedSpecifier is_type_only) = true
 is_changed (kind.ExportNamedSpecifier is_type_only) = true
 is_changed _ = false
 
+-- says nothing of what is touched
+abbrev pub Quiet : Bool → (Kind → Bool) → Type 0
+Quiet b is = (k : Kind) → is_touched k ≡ true → is k ≡ b
+
+abbrev pub Silent : (Kind → Node → Bool) → Type 0
+Silent fails = (k : Kind) (n : Node) → is_touched k ≡ true → fails k n ≡ false
+
+pub present_quiet : Quiet true is_present
+unfolding is_touched
+present_quiet kind.Absent t = cc
+present_quiet _ t = refl
+
 pub untouched_unchanged : (k : Kind) → is_touched k ≡ false → is_changed k ≡ false
 unfolding is_touched is_changed
 untouched_unchanged (kind.Ident sym_ ctxt optional) u = cc
@@ -48,22 +61,25 @@ unchanged_shared (kind.ImportNamedSpecifier is_type_only) stands n u = cc
 unchanged_shared (kind.ExportNamedSpecifier is_type_only) stands n u = cc
 unchanged_shared _ stands n u = refl
 
+-- what says the same of a property of a pattern as of a shorthand one, and of a name as of a property, says the same of what is written out
+pub grown_same : (is : Kind → Bool) → is kind.KeyValuePatProp ≡ is kind.AssignPatProp → (o : Option OldName) (span : Span) (k : Kind) (cs : List Node) → (is_identifier k ≡ true → is kind.KeyValueProp ≡ is k)
+    → is (kind_of (grown o span k cs)) ≡ is k
+grown_same is pattern None span k cs name = ap is (kind-of span k cs)
+grown_same is pattern (Some old) span (kind.Ident text ctxt optional) cs name = ap is (kind-of span kind.KeyValueProp _) ∙ name refl
+grown_same is pattern (Some old) span kind.AssignPatProp cs name = by cs
+  where
+    by : (cs : List Node) → is (kind_of (grown_pattern old span cs)) ≡ is kind.AssignPatProp
+    by [] = ap is (kind-of span kind.AssignPatProp [])
+    by (a ∷ []) = ap is (kind-of span kind.AssignPatProp (a ∷ []))
+    by (a ∷ b ∷ []) = ap is (kind-of span kind.KeyValuePatProp _) ∙ pattern
+    by (a ∷ b ∷ c ∷ cs) = ap is (kind-of span kind.AssignPatProp (a ∷ b ∷ c ∷ cs))
+grown_same is pattern (Some old) span (kind.ImportNamedSpecifier is_type_only) cs name = ap is (kind-of span (kind.ImportNamedSpecifier is_type_only) _)
+grown_same is pattern (Some old) span (kind.ExportNamedSpecifier is_type_only) cs name = ap is (kind-of span (kind.ExportNamedSpecifier is_type_only) _)
+grown_same is pattern (Some old) span k cs name = ap is (kind-of span k cs)
+
 grown_touched : (o : Option OldName) (span : Span) (k : Kind) (cs : List Node) → is_touched k ≡ true → is_touched (kind_of (grown o span k cs)) ≡ true
 unfolding is_touched
-grown_touched None span k cs t = ap is_touched (kind-of span k cs) ∙ t
-grown_touched (Some old) span (kind.Ident sym_ ctxt optional) cs t = ap is_touched (kind-of span kind.KeyValueProp _)
-grown_touched (Some old) span kind.AssignPatProp cs t = by cs
-  where
-    by : (cs : List Node) → is_touched (kind_of (grown_pattern old span cs)) ≡ true
-    by [] = ap is_touched (kind-of span kind.AssignPatProp [])
-    by (a ∷ []) = ap is_touched (kind-of span kind.AssignPatProp (a ∷ []))
-    by (a ∷ b ∷ []) = ap is_touched (kind-of span kind.KeyValuePatProp _)
-    by (a ∷ b ∷ c ∷ cs) = ap is_touched (kind-of span kind.AssignPatProp (a ∷ b ∷ c ∷ cs))
-grown_touched (Some old) span (kind.ImportNamedSpecifier is_type_only) cs t = ap is_touched (kind-of span (kind.ImportNamedSpecifier is_type_only) _)
-grown_touched (Some old) span (kind.ExportNamedSpecifier is_type_only) cs t = ap is_touched (kind-of span (kind.ExportNamedSpecifier is_type_only) _)
-grown_touched (Some old) span kind.KeyValueProp cs t = ap is_touched (kind-of span kind.KeyValueProp cs)
-grown_touched (Some old) span kind.KeyValuePatProp cs t = ap is_touched (kind-of span kind.KeyValuePatProp cs)
-grown_touched (Some old) span _ cs t = cc
+grown_touched o span k cs t = grown_same is_touched refl o span k cs (λ is. sym t) ∙ t
 
 module _ (texts : Texts) where
   abbrev pub become : Node → Standing → Node

@@ -12,11 +12,11 @@ use Rattle.ecma_rules.specs.Members.{is_constructor, is_full_constructor, second
 use Rattle.ecma_hygiene.specs.declared.spot.Standing.{Standing}
 use Rattle.ecma_hygiene.specs.Renamed.{Texts, standing_in}
 use Rattle.ecma_hygiene_fits.specs.Kept.{FinalTextsKeepConstructors}
-use Rattle.ecma_hygiene_fits.proofs.Becoming.{all_become, become, child_same, children_stay, is_touched, kind_same}
+use Rattle.ecma_hygiene_fits.proofs.Becoming.{Quiet, Silent, present_quiet, all_become, become, child_same, children_stay, is_touched, kind_same}
 use Rattle.ecma_hygiene_fits.proofs.Everywhere.{children_of}
 use Rattle.ecma_hygiene_fits.proofs.Listed.{items_same}
-use Rattle.ecma_hygiene_fits.proofs.Tests.{Quiet, Silent, present_quiet}
-use Rattle.ecma_hygiene_fits.proofs.Walk.{shape_parts, test_kept}
+use Rattle.ecma_hygiene_fits.proofs.Surroundings.{test_kept}
+use Rattle.ecma_hygiene_fits.proofs.Walk.{shape_parts}
 
 constructor_quiet : Quiet false is_constructor
 unfolding is_touched

@@ -15,11 +15,11 @@ use Rattle.ecma_fits.specs.Counts.{are_exports, are_imports, are_stars_or_names,
 use Rattle.ecma_hygiene.specs.declared.spot.Standing.{Standing}
 use Rattle.ecma_hygiene.specs.Renamed.{Texts, standing_in}
 use Rattle.ecma_hygiene_fits.specs.Kept.{FinalTextsKeepCounts}
-use Rattle.ecma_hygiene_fits.proofs.Becoming.{all_become, become, child_same, children_stay, is_changed, is_touched, kind_unchanged}
+use Rattle.ecma_hygiene_fits.proofs.Becoming.{Silent, present_quiet, all_become, become, child_same, children_stay, is_changed, is_touched, kind_unchanged}
 use Rattle.ecma_hygiene_fits.proofs.Everywhere.{children_of}
 use Rattle.ecma_hygiene_fits.proofs.Listed.{Nameless, all_like, child_like, items_related, items_same, kind_like, length_same, some_same}
-use Rattle.ecma_hygiene_fits.proofs.Tests.{Silent, present_quiet}
-use Rattle.ecma_hygiene_fits.proofs.Walk.{shape_parts, test_kept}
+use Rattle.ecma_hygiene_fits.proofs.Surroundings.{test_kept}
+use Rattle.ecma_hygiene_fits.proofs.Walk.{shape_parts}
 
 both : (a b : Bool) → (a && b) ≡ true → (a ≡ true) × (b ≡ true)
 both true b h = (refl, h)

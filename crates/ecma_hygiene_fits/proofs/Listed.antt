@@ -1,6 +1,7 @@
 -- What is said of kinds, of children and of the items of lists, and stays with other texts.
-use Rattle.std.proofs.Common.{◌≡◌, ◌∙◌, ℕ, zero, suc, Bool, true, false, ◌&&◌, List, [], ◌∷◌, length, Option, Some, None, refl, sym, ap, ap₂, slice_get, subst}
+use Rattle.std.proofs.Common.{◌≡◌, ◌∙◌, ℕ, zero, suc, Bool, true, false, ◌&&◌, List, [], ◌∷◌, length, Option, Some, refl, sym, ap, ap₂, slice_get, subst}
 use Rattle.std.specs.List.{list_all}
+use Rattle.std.proofs.lemmas.Bool.{false≢true}
 use Rattle.ecma_kind.specs.declared.kind.Kind.{Kind}
 use Rattle.ecma_kind.specs.declared.kind.Kind.TheVariants as kind
 use Rattle.ecma_kind.specs.declared.shapes.Shape.{Shape}
@@ -10,12 +11,12 @@ use Rattle.ecma_tree.specs.declared.node.Node.{Node, out-Node}
 use Rattle.ecma_tree.specs.Laws.{HaveShapes}
 use Rattle.ecma_tree.specs.Sorted.{allows, is_list, many}
 use Rattle.ecma_rules.specs.Children.{child_is, children_of as items_of, kind_of, of_kind}
+use Rattle.ecma_fits.specs.Roles.{is_name as is_identifier}
 use Rattle.ecma_scope.specs.Resolved.{is_name}
 use Rattle.ecma_hygiene.specs.declared.spot.Standing.{Standing}
 use Rattle.ecma_hygiene.specs.Renamed.{Texts, kind_with_text, standing_in}
-use Rattle.ecma_hygiene_laws.proofs.Growing.{OldName, grown, grown_pattern}
-use Rattle.ecma_hygiene_laws.proofs.Parts.{kind-of}
-use Rattle.ecma_hygiene_fits.proofs.Becoming.{all_become, become, become-out, children_become, children_stay, children_unchanged, is_changed, is_touched, old_of, own_kind}
+use Rattle.ecma_hygiene_laws.proofs.Growing.{OldName, grown}
+use Rattle.ecma_hygiene_fits.proofs.Becoming.{all_become, become, become-out, children_become, children_stay, children_unchanged, grown_same, is_changed, is_touched, old_of, own_kind}
 use Rattle.ecma_hygiene_fits.proofs.Everywhere.{children_of}
 use Rattle.ecma_hygiene_fits.proofs.Walk.{shape_parts}
 
@@ -27,19 +28,12 @@ pub record Nameless (is : Kind → Bool) : Type 0 where
   pub pattern : is kind.KeyValuePatProp ≡ false
 
 module _ (is : Kind → Bool) (nameless : Nameless is) where
+  name_like : (k : Kind) → is_identifier k ≡ true → is kind.KeyValueProp ≡ is k
+  name_like (kind.Ident text ctxt optional) e = nameless.property ∙ sym (nameless.names text ctxt optional)
+  name_like _ e = absurd (false≢true e)
+
   grown_like : (o : Option OldName) (span : Span) (k : Kind) (cs : List Node) → is (kind_of (grown o span k cs)) ≡ is k
-  grown_like None span k cs = ap is (kind-of span k cs)
-  grown_like (Some old) span (kind.Ident text ctxt optional) cs = ap is (kind-of span kind.KeyValueProp _) ∙ nameless.property ∙ sym (nameless.names text ctxt optional)
-  grown_like (Some old) span kind.AssignPatProp cs = by cs
-    where
-      by : (cs : List Node) → is (kind_of (grown_pattern old span cs)) ≡ is kind.AssignPatProp
-      by [] = ap is (kind-of span kind.AssignPatProp [])
-      by (a ∷ []) = ap is (kind-of span kind.AssignPatProp (a ∷ []))
-      by (a ∷ b ∷ []) = ap is (kind-of span kind.KeyValuePatProp _) ∙ nameless.pattern ∙ sym nameless.shorthand
-      by (a ∷ b ∷ c ∷ cs) = ap is (kind-of span kind.AssignPatProp (a ∷ b ∷ c ∷ cs))
-  grown_like (Some old) span (kind.ImportNamedSpecifier is_type_only) cs = ap is (kind-of span (kind.ImportNamedSpecifier is_type_only) _)
-  grown_like (Some old) span (kind.ExportNamedSpecifier is_type_only) cs = ap is (kind-of span (kind.ExportNamedSpecifier is_type_only) _)
-  grown_like (Some old) span k cs = ap is (kind-of span k cs)
+  grown_like o span k cs = grown_same is (nameless.pattern ∙ sym nameless.shorthand) o span k cs (name_like k)
 
   text_like : (texts : Texts) (named : Bool) (k : Kind) → is (kind_with_text texts named k) ≡ is k
   text_like texts true k = refl

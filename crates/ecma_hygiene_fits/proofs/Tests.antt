@@ -17,26 +17,15 @@ use Rattle.ecma_fits.specs.Members.{is_misread_by}
 use Rattle.ecma_hygiene.specs.declared.spot.Standing.{Standing}
 use Rattle.ecma_hygiene.specs.Renamed.{Texts, standing_in}
 use Rattle.ecma_hygiene_fits.specs.Kept.{FinalTextsKeepBranches, FinalTextsKeepChains, FinalTextsKeepMembers}
-use Rattle.ecma_hygiene_fits.proofs.Becoming.{all_become, become, child_same, children_stay, holds_same, is_touched, made_same}
+use Rattle.ecma_hygiene_fits.proofs.Becoming.{Quiet, Silent, all_become, become, child_same, children_stay, holds_same, is_touched, made_same, present_quiet}
 use Rattle.ecma_hygiene_fits.proofs.Everywhere.{children_of}
-use Rattle.ecma_hygiene_fits.proofs.Walk.{shape_parts, test_kept}
-
--- says nothing of what is touched
-abbrev pub Quiet : Bool → (Kind → Bool) → Type 0
-Quiet b is = (k : Kind) → is_touched k ≡ true → is k ≡ b
-
-abbrev pub Silent : (Kind → Node → Bool) → Type 0
-Silent fails = (k : Kind) (n : Node) → is_touched k ≡ true → fails k n ≡ false
+use Rattle.ecma_hygiene_fits.proofs.Surroundings.{test_kept}
+use Rattle.ecma_hygiene_fits.proofs.Walk.{shape_parts}
 
 -- ---- branches
 
 abbrev takes_else_of : Kind → List Bool → Bool
 takes_else_of k bs = is_absent k || holds_at_last bs (last_part k)
-
-pub present_quiet : Quiet true is_present
-unfolding is_touched
-present_quiet kind.Absent t = cc
-present_quiet _ t = refl
 
 else_quiet : (k : Kind) (bs : List Bool) → is_touched k ≡ true → takes_else_of k bs ≡ false
 unfolding is_touched
@@ -66,13 +55,13 @@ branches_kept texts =
 
 -- ---- members
 
-key_quiet : Quiet false is_constructor_key
+pub key_quiet : Quiet false is_constructor_key
 unfolding is_touched
 key_quiet (kind.IdentName sym) t = cc
 key_quiet (kind.Str value raw) t = cc
 key_quiet _ t = refl
 
-function_quiet : Quiet false is_special_function
+pub function_quiet : Quiet false is_special_function
 unfolding is_touched
 function_quiet (kind.Function is_generator is_async) t = cc
 function_quiet _ t = refl

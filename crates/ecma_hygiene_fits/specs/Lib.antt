@@ -1,1 +1,4 @@
 pub mod Kept
+pub mod Named
+pub mod Spelled
+pub mod Fitting

@@ -1,0 +1,5 @@
+pub mod Throughout
+pub mod Reading
+pub mod Contexts
+pub mod Stripping
+pub mod Binding
