@@ -1,0 +1,12 @@
+pub mod Fewer
+pub mod Unmerged
+pub mod Counted
+pub mod Scope
+pub mod Meeting
+pub mod Paths
+pub mod Safe
+pub mod HasBody
+pub mod Bodies
+pub mod Contexts
+pub mod Quiet
+pub mod Walk

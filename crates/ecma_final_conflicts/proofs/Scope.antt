@@ -1,0 +1,206 @@
+-- A scope without types: what meets in it is what stays of what meets in the scope.
+use Rattle.std.proofs.Common.{◌≡◌, ◌⊎◌, inl, inr, ℕ, ◌==◌, Bool, true, false, ◌&&◌, ◌||◌, not, cond, filter, map, List, [], ◌∷◌, ◌++◌, Option, Some, None, refl, sym, ap, ap₂, ◌∙◌, subst, bytes_eq}
+use Rattle.std.specs.List.{All}
+use Rattle.std.proofs.lemmas.List.Elements.{All-append, All-head, All-nil, All-tail}
+use Rattle.ecma_kind.specs.Sorts.{is_expr}
+use Rattle.ecma_kind.specs.declared.kind.Kind.{Kind}
+use Rattle.ecma_kind.specs.declared.kind.Kind.TheVariants as kind
+use Rattle.ecma_tree.specs.declared.node.Node.{Node, out-Node}
+use Rattle.ecma_scope.specs.declared.form.Declaration.{Declaration}
+use Rattle.ecma_scope.specs.declared.form.Form.{Form}
+use Rattle.ecma_scope.specs.declared.form.Form.TheVariants as form
+use Rattle.ecma_scope.specs.declared.form.Part.TheVariants as part
+use Rattle.ecma_scope.specs.declared.form.Sought.{Sought}
+use Rattle.ecma_scope.specs.declared.role.Role.{Role}
+use Rattle.ecma_scope.specs.declared.role.Role.TheVariants as role
+use Rattle.ecma_scope.specs.Conflicts.{conflict, is_lexical}
+use Rattle.ecma_scope.specs.Declarations.{holds_vars, in_scope, is_value, own_part, sought_in}
+use Rattle.ecma_scope.specs.Scopes.{is_ambient, is_there, opens, opens_by}
+use Rattle.ecma_hygiene.proofs.Telling.{true-false}
+use Rattle.ecma_hygiene_laws.specs.DeclaredIds.{DeclaredId, id_here, ids_declared, scope_ids, with_text}
+use Rattle.ecma_hygiene_laws.specs.Seats.{all_names}
+use Rattle.ecma_hygiene_laws.proofs.Forms.{Allowed, Formed, forms-by}
+use Rattle.ecma_hygiene_laws.proofs.Sameness.{declares-ids, no_text}
+use Rattle.ecma_strip_scopes.specs.Apart.{is_free}
+use Rattle.ecma_strip_scopes.proofs.Gone.{kept}
+use Rattle.ecma_strip_scopes.proofs.RolesAlike.{Alike, alike-free, alike-same}
+use Rattle.ecma_final_conflicts.proofs.Fewer.{stay}
+
+-- ---- roles
+
+-- a node stands in the same role, or is an expression whose types are gone
+abbrev pub Near : Role → Role → Kind → Type 0
+Near r q k = (q ≡ r) ⊎ ((r ≡ role.Plain) × (is_free q ≡ true) × (is_expr k ≡ true))
+
+pub near-alike : (r q : Role) (k : Kind) → Near r q k → Alike r q k
+near-alike r q k (inl same) = subst (λ (z : Role). Alike r z k) (sym same) (alike-same r k)
+near-alike r q k (inr is) = subst (λ (z : Role). Alike z q k) (sym is.0) (alike-free q k is.1 is.2)
+
+body-less : (f : Form) → is_lexical role.Body f ≡ true → is_lexical role.Plain f ≡ true
+body-less form.Import h = refl
+body-less form.Lexical h = refl
+body-less form.Class h = refl
+body-less form.Enum h = refl
+body-less form.Namespace h = refl
+body-less _ h = absurd (true-false h refl)
+
+free-less : (q : Role) (f : Form) → is_free q ≡ true → is_lexical q f ≡ true → is_lexical role.Plain f ≡ true
+free-less role.Plain f free h = h
+free-less role.Body f free h = body-less f h
+free-less _ f free h = absurd (true-false free refl)
+
+lexical-more : (r q : Role) (k : Kind) → Near r q k → (f : Form) → is_lexical q f ≡ true → is_lexical r f ≡ true
+lexical-more r q k (inl same) f h = ap (λ (z : Role). is_lexical z f) (sym same) ∙ h
+lexical-more r q k (inr is) f h = ap (λ (z : Role). is_lexical z f) is.0 ∙ free-less q f is.1 h
+
+more-by : (x l m l' m' rest : Bool) → (l ≡ true → l' ≡ true) → (m ≡ true → m' ≡ true) → (x && ((l || m) || rest)) ≡ true → (x && ((l' || m') || rest)) ≡ true
+more-by false l m l' m' rest f g h = h
+more-by true true m l' m' rest f g h = ap (λ (b : Bool). (b || m') || rest) (f refl)
+more-by true false true true m' rest f g h = refl
+more-by true false true false m' rest f g h = ap (λ (b : Bool). b || rest) (g refl)
+more-by true false false l' m' true f g h = always (l' || m')
+  where
+    always : (b : Bool) → (b || true) ≡ true
+    always true = refl
+    always false = refl
+more-by true false false l' m' false f g h = absurd (true-false h refl)
+
+pub conflict-more : (r q : Role) (k : Kind) → Near r q k → (e d : Declaration) → conflict q e d ≡ true → conflict r e d ≡ true
+conflict-more r q k near e d h =
+    more-by (bytes_eq e.sym d.sym) (is_lexical q e.form) (is_lexical q d.form) (is_lexical r e.form) (is_lexical r d.form) _ (lexical-more r q k near e.form) (lexical-more r q k near d.form) h
+
+-- ---- an expression declares parameters, or its own name
+
+abbrev pub is_calm : Form → Bool
+is_calm form.Own = true
+is_calm form.Parameter = true
+is_calm _ = false
+
+abbrev Calm : DeclaredId → Type 0
+Calm d = is_calm d.form ≡ true
+
+no-item : (s : Bool) (k : Kind) (f : Form) → All (Formed (part.Name f)) (id_here (record { part = part.Scope; stays = s }) k)
+no-item s (kind.Ident t c o) f = All-nil (Formed (part.Name f))
+no-item s _ f = All-nil (Formed (part.Name f))
+
+name-of : (b s : Bool) (g : Form) (found : Sought) → ◌≡◌ {A = Option Sought} (cond b (Some (record { part = part.Name g; stays = s })) None) (Some found) → (h : Form) → Allowed found.part h → h ≡ g
+name-of true s g found is h a = subst (λ p. Allowed p h) (sym (same is)) a
+  where
+    same : ◌≡◌ {A = Option Sought} (Some (record { part = part.Name g; stays = s })) (Some found) → part.Name g ≡ found.part
+    same is = cc
+name-of false s g found is h a = absurd (never is)
+  where
+    never : ◌≡◌ {A = Option Sought} None (Some found) → ⊥
+    never is = cc
+
+none-held : (b : Bool) (ds : List DeclaredId) → b ≡ false → All Calm (cond b ds [])
+none-held true ds is = absurd (true-false refl is)
+none-held false ds is = All-nil Calm
+
+module _ (n : Node) where
+  named : (g : Form) → is_calm g ≡ true → holds_vars role.Plain (out-Node n).kind ≡ false
+      → ((s v : Bool) (j : ℕ) (found : Sought) → in_scope s v (out-Node n).kind j ≡ Some found → (h : Form) → Allowed found.part h → h ≡ g) → All Calm (scope_ids role.Plain n)
+  unfolding sought_in
+  named g is none step =
+      let scope : Sought = record { part = part.Scope; stays = true } in
+      let formed = forms-by n scope (part.Name g) (no-item true (out-Node n).kind g) (λ j found h k a. step true (is_value n) j found h k a) in
+      All-append Calm (ids_declared n scope) (cond (holds_vars role.Plain (out-Node n).kind) (ids_declared n (record { part = part.Var; stays = true })) [])
+      (λ k d lt. ap is_calm (formed k d lt) ∙ is)
+      (none-held (holds_vars role.Plain (out-Node n).kind) (ids_declared n (record { part = part.Var; stays = true })) none)
+
+  calm-by : (k : Kind) (there : Bool) → (out-Node n).kind ≡ k → is_expr k ≡ true → opens_by role.Plain k there ≡ true → All Calm (scope_ids role.Plain n)
+  unfolding in_scope holds_vars opens_by
+  calm-by kind.FnExpr there at expr opened =
+      named form.Own refl (ap (holds_vars role.Plain) at) (λ s v j found seeks g a. name-of (j == 0) s form.Own found (ap (λ (k : Kind). in_scope s v k j) (sym at) ∙ seeks) g a)
+  calm-by kind.ClassExpr there at expr opened =
+      named form.Own refl (ap (holds_vars role.Plain) at) (λ s v j found seeks g a. name-of (j == 0) s form.Own found (ap (λ (k : Kind). in_scope s v k j) (sym at) ∙ seeks) g a)
+  calm-by (kind.ArrowExpr x y) there at expr opened =
+      named form.Parameter refl (ap (holds_vars role.Plain) at) (λ s v j found seeks g a. name-of (j == 0) s form.Parameter found (ap (λ (k : Kind). in_scope s v k j) (sym at) ∙ seeks) g a)
+  calm-by _ there at expr opened = absurd (both-no)
+    where
+      both-no : ⊥
+      both-no = cc
+
+  pub expr-calm : is_expr (out-Node n).kind ≡ true → opens role.Plain n ≡ true → All Calm (scope_ids role.Plain n)
+  expr-calm expr opened = calm-by (out-Node n).kind (is_there (out-Node n).children 0) refl expr opened
+
+-- ---- lists
+
+pub stays-first : (g : Declaration → Bool) (xs : List Declaration) → filter (λ d. d.stays || g d) (filter stay xs) ≡ filter stay xs
+stays-first g [] = refl
+stays-first g (x ∷ xs) = by x.stays refl (stays-first g xs)
+  where
+    by : (b : Bool) → x.stays ≡ b → filter (λ d. d.stays || g d) (filter stay xs) ≡ filter stay xs → filter (λ d. d.stays || g d) (cond b (x ∷ filter stay xs) (filter stay xs)) ≡ cond b (x ∷ filter stay xs) (filter stay xs)
+    by true is rec = ap (λ (b : Bool). cond (b || g x) (x ∷ filter (λ d. d.stays || g d) (filter stay xs)) (filter (λ d. d.stays || g d) (filter stay xs))) is ∙ ap (λ (ys : List Declaration). x ∷ ys) rec
+    by false is rec = rec
+
+pub stays-last : (g : Declaration → Bool) (xs : List Declaration) → filter stay (filter (λ d. d.stays || g d) xs) ≡ filter stay xs
+stays-last g [] = refl
+stays-last g (x ∷ xs) = by x.stays (g x) refl (stays-last g xs)
+  where
+    tail : List Declaration
+    tail = filter (λ d. d.stays || g d) xs
+
+    by : (b c : Bool) → x.stays ≡ b → filter stay tail ≡ filter stay xs → filter stay (cond (b || c) (x ∷ tail) tail) ≡ cond b (x ∷ filter stay xs) (filter stay xs)
+    by true c is rec = ap (λ (b : Bool). cond b (x ∷ filter stay tail) (filter stay tail)) is ∙ ap (λ (ys : List Declaration). x ∷ ys) rec
+    by false true is rec = ap (λ (b : Bool). cond b (x ∷ filter stay tail) (filter stay tail)) is ∙ rec
+    by false false is rec = rec
+
+pub stays-twice : (xs : List Declaration) → filter stay (filter stay xs) ≡ filter stay xs
+stays-twice [] = refl
+stays-twice (x ∷ xs) = by x.stays refl (stays-twice xs)
+  where
+    by : (b : Bool) → x.stays ≡ b → filter stay (filter stay xs) ≡ filter stay xs → filter stay (cond b (x ∷ filter stay xs) (filter stay xs)) ≡ cond b (x ∷ filter stay xs) (filter stay xs)
+    by true is rec = ap (λ (b : Bool). cond b (x ∷ filter stay (filter stay xs)) (filter stay (filter stay xs))) is ∙ ap (λ (ys : List Declaration). x ∷ ys) rec
+    by false is rec = rec
+
+pub filter-append : (f : Declaration → Bool) (xs ys : List Declaration) → filter f (xs ++ ys) ≡ filter f xs ++ filter f ys
+filter-append f [] ys = refl
+filter-append f (x ∷ xs) ys = by (f x) (filter-append f xs ys)
+  where
+    by : (b : Bool) → filter f (xs ++ ys) ≡ filter f xs ++ filter f ys → cond b (x ∷ filter f (xs ++ ys)) (filter f (xs ++ ys)) ≡ cond b (x ∷ filter f xs) (filter f xs) ++ filter f ys
+    by true rec = ap (λ (zs : List Declaration). x ∷ zs) rec
+    by false rec = rec
+
+-- two tests that agree, one after what stays
+pub agree-stay : (f g : Declaration → Bool) (xs : List Declaration) → All (λ d. f d ≡ g d) xs → filter f (filter stay xs) ≡ filter stay (filter g xs)
+agree-stay f g [] all = refl
+agree-stay f g (x ∷ xs) all = by x.stays (g x) refl (All-head (λ d. f d ≡ g d) x xs all) (agree-stay f g xs (All-tail (λ d. f d ≡ g d) x xs all))
+  where
+    by : (b c : Bool) → x.stays ≡ b → f x ≡ c → filter f (filter stay xs) ≡ filter stay (filter g xs)
+        → filter f (cond b (x ∷ filter stay xs) (filter stay xs)) ≡ filter stay (cond c (x ∷ filter g xs) (filter g xs))
+    by true true is same rec =
+        ap (λ (b : Bool). cond b (x ∷ filter f (filter stay xs)) (filter f (filter stay xs))) same ∙ ap (λ (zs : List Declaration). x ∷ zs) rec
+        ∙ sym (ap (λ (b : Bool). cond b (x ∷ filter stay (filter g xs)) (filter stay (filter g xs))) is)
+    by true false is same rec = ap (λ (b : Bool). cond b (x ∷ filter f (filter stay xs)) (filter f (filter stay xs))) same ∙ rec
+    by false true is same rec = rec ∙ sym (ap (λ (b : Bool). cond b (x ∷ filter stay (filter g xs)) (filter stay (filter g xs))) is)
+    by false false is same rec = rec
+
+abbrev pub plainly : DeclaredId → Declaration
+plainly = with_text no_text
+
+pub map-kept : (ds : List DeclaredId) → map plainly (kept ds) ≡ filter stay (map plainly ds)
+map-kept [] = refl
+map-kept (d ∷ ds) = by d.stays (map-kept ds)
+  where
+    by : (b : Bool) → map plainly (kept ds) ≡ filter stay (map plainly ds) → map plainly (cond b (d ∷ kept ds) (kept ds)) ≡ cond b (plainly d ∷ filter stay (map plainly ds)) (filter stay (map plainly ds))
+    by true rec = ap (λ (zs : List Declaration). plainly d ∷ zs) rec
+    by false rec = rec
+
+map-append : (xs ys : List DeclaredId) → map plainly (xs ++ ys) ≡ map plainly xs ++ map plainly ys
+map-append [] ys = refl
+map-append (x ∷ xs) ys = ap (λ (zs : List Declaration). plainly x ∷ zs) (map-append xs ys)
+
+map-cond : (b : Bool) (xs : List DeclaredId) → cond b (map plainly xs) [] ≡ map plainly (cond b xs [])
+map-cond true xs = refl
+map-cond false xs = refl
+
+-- all that a scope declares, by its ids
+pub names-ids : (r : Role) (n : Node) → all_names r n ≡ map plainly (scope_ids r n)
+names-ids r n =
+    let s : Bool = not (is_ambient r) in
+    let own : List DeclaredId = ids_declared n (record { part = own_part r; stays = s }) in
+    let var : List DeclaredId = ids_declared n (record { part = part.Var; stays = s }) in
+    ap₂ (λ (xs ys : List Declaration). xs ++ cond (holds_vars r (out-Node n).kind) ys []) (declares-ids n (record { part = own_part r; stays = s })) (declares-ids n (record { part = part.Var; stays = s }))
+    ∙ ap (λ (ys : List Declaration). map plainly own ++ ys) (map-cond (holds_vars r (out-Node n).kind) var)
+    ∙ sym (map-append own (cond (holds_vars r (out-Node n).kind) var []))

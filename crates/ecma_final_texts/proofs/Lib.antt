@@ -1,0 +1,4 @@
+pub mod Numbering
+pub mod Existing
+pub mod Determined
+pub mod Leaving
