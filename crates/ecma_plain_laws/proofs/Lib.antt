@@ -1,5 +1,6 @@
 pub mod PlainKinds
 pub mod Bare
+pub mod Hashbangs
 pub mod PlainForms
 pub mod Given
 pub mod Joins
@@ -7,4 +8,14 @@ pub mod PlainMade
 pub mod StaticWords
 pub mod PlainReads
 pub mod Unfound
+pub mod Whole
+pub mod GivenWhole
+pub mod WholeJoins
+pub mod WholeChains
+pub mod WholeForms
+pub mod WholeMade
+pub mod WholeReads
+pub mod WholeFinished
+pub mod Usual
+pub mod WholeModules
 pub mod Plain

@@ -6,19 +6,20 @@ use Rattle.ecma_kind.specs.declared.kind.Kind.{Kind}
 use Rattle.ecma_tree.specs.declared.node.Node.{Node}
 use Rattle.ecma_tree.specs.Nodes.{absent}
 use Rattle.ecma_grammar.specs.trees.Others.{the_one}
-use Rattle.ecma_grammar.specs.trees.Parts.{framed, kind_of}
+use Rattle.ecma_grammar.specs.trees.Parts.{framed}
 use Rattle.ecma_grammar.specs.Modules as grammar
 use Rattle.ecma_grammar.specs.Modules.{reads_module}
 use Rattle.ecma_grammar.specs.Reading.{Position, Outcome, fails, read, too_deep}
 use Rattle.ecma_rules.specs.declared.target.Target.TheVariants as target
 use Rattle.ecma_text.specs.Modules.{plain, reads_as}
 use Rattle.ecma_spelling.specs.Everywhere.{Each, Everywhere, more, none}
-use Rattle.ecma_spelling.proofs.Trees.{good_absent, good_framed, kind_good}
+use Rattle.ecma_spelling.proofs.Trees.{good_absent, good_framed}
 use Rattle.ecma_fits_laws.proofs.Everywhere.{finished_good}
 use Rattle.ecma_fits_laws.proofs.Raws.{of_raw}
 use Rattle.ecma_fits_reread.specs.Forms.{IsTaken, is_of_forms}
 use Rattle.ecma_plain_laws.specs.Plain.{PlainTextsWithoutAssignmentsHavePlainItems, ReadPlainModulesHaveUtf8Hashbangs, ReadPlainTreesAreTaken, ReadPlainTreesKeepAssignmentForms}
-use Rattle.ecma_plain_laws.proofs.PlainKinds.{IsPlain, bare_of, everywhere_also, hashbang_utf8}
+use Rattle.ecma_plain_laws.proofs.Hashbangs.{read_utf8}
+use Rattle.ecma_plain_laws.proofs.PlainKinds.{IsPlain, bare_of, everywhere_also}
 use Rattle.ecma_plain_laws.proofs.PlainReads.{module_reads}
 use Rattle.ecma_plain_laws.proofs.Unfound.{items_unfound, unfound}
 
@@ -60,7 +61,7 @@ assignments_kept text true bound tree u e = inl refl
 assignments_kept text false bound tree u e = inr (unfound (tree_plain false text bound tree u e))
 
 pub hashbangs_utf8 : ReadPlainModulesHaveUtf8Hashbangs
-hashbangs_utf8 text assignments bound tree u e = hashbang_utf8 (kind_of tree) (kind_good (IsPlain assignments) (tree_plain assignments text bound tree u e)).0
+hashbangs_utf8 text assignments bound tree u e = read_utf8 text (plain assignments) bound tree u e
 
 pub plain_items : PlainTextsWithoutAssignmentsHavePlainItems
 plain_items text bound tree u e = items_unfound (tree_plain false text bound tree u e)

@@ -1,2 +1,3 @@
 pub mod Bare
 pub mod Plain
+pub mod Functions

@@ -1,10 +1,13 @@
-//! Laws of what is read as a module: its leaves are bare, and what is read as a plain one is no TypeScript but the two assignment forms.
+//! Laws of what is read as a module: its leaves are bare, and what is read as a plain one is no TypeScript but the two assignment forms, with the functions of one.
 //!
 //! Each function carries one law over the definitions, and does nothing. The laws are stated in `specs/`.
 #![tactic(auto)]
 
 ghost use Rattle.ecma_plain_laws.specs.Bare.{ReadLeavesAreBare};
+ghost use Rattle.ecma_plain_laws.specs.Functions.{FunctionsAreUsualByTests, ReadPlainFunctionsHaveBodies, ReadPlainNamesAreNotThis};
 ghost use Rattle.ecma_plain_laws.specs.Plain.{PlainTextsWithoutAssignmentsHavePlainItems, ReadPlainModulesHaveUtf8Hashbangs, ReadPlainTreesAreTaken, ReadPlainTreesKeepAssignmentForms};
+
+use ecma_text_laws::modules_that_are_read_are_sorted;
 
 /// Each leaf of what is read as a module, in either mode and with any number of levels, has UTF-8 texts and no context, and is a literal with its source
 /// text.
@@ -35,4 +38,24 @@ pub fn plain_modules_that_are_read_have_utf8_hashbangs()
 #[tactic(auto, using(crate::proofs::Plain::items))]
 pub fn plain_texts_without_assignments_have_plain_items()
     ensures { PlainTextsWithoutAssignmentsHavePlainItems }
+{}
+
+/// Each function, constructor, getter and setter of what is read as a plain module has its body.
+pub fn plain_functions_that_are_read_have_bodies()
+    ensures { ReadPlainFunctionsHaveBodies }
+{
+    modules_that_are_read_are_sorted();
+}
+
+/// No name that is bound in what is read as a plain module is `this`.
+pub fn plain_names_that_are_read_are_not_this()
+    ensures { ReadPlainNamesAreNotThis }
+{
+    modules_that_are_read_are_sorted();
+}
+
+/// A tree has the functions of a plain module where each has its body, no bound name is `this`, and no rest is odd.
+#[tactic(auto, using(crate::proofs::Usual::usual))]
+pub fn functions_are_usual_by_tests()
+    ensures { FunctionsAreUsualByTests }
 {}
