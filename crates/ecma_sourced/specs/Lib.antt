@@ -1,0 +1,3 @@
+pub mod Sources
+pub mod Laws
+pub mod Again
