@@ -1,285 +1,97 @@
--- The forms that the program takes today, node by node; and the least place at which a node begins that is of none.
-use Rattle.std.specs.Prelude.{ℕ, nat_lt, Bool, true, false, not, cond, ◌&&◌, ◌||◌, List, [], ◌∷◌, Option, None}
-use Rattle.std.specs.List.{list_all}
-use Rattle.ecma_lex.specs.Keys.{is_reserved}
-use Rattle.ecma_kind.specs.declared.operators.VarDeclKind.{VarDeclKind}
-use Rattle.ecma_kind.specs.declared.operators.VarDeclKind.TheVariants.{Var, Let, Const}
-use Rattle.ecma_kind.specs.declared.operators.BinaryOp.{BinaryOp}
-use Rattle.ecma_kind.specs.declared.operators.BinaryOp.TheVariants as op
+-- The forms that the program does not take yet, node by node, and the least place at which a node of one begins.
+use Rattle.std.specs.Prelude.{ℕ, Bool, true, false, not, ◌||◌, Option, bytes_eq, codes}
 use Rattle.ecma_kind.specs.declared.kind.Kind.{Kind}
 use Rattle.ecma_kind.specs.declared.kind.Kind.TheVariants as kind
-use Rattle.ecma_tree.specs.declared.node.Node.{Node, Node-F, fold-Node, out-Node}
-use Rattle.ecma_rules.specs.Failing.{first_failing, failing_here, least}
+use Rattle.ecma_tree.specs.declared.node.Node.{Node}
+use Rattle.ecma_rules.specs.Children.{child_holds, child_is, has_child, kind_of}
+use Rattle.ecma_rules.specs.Failing.{first_failing, failing_here}
+use Rattle.ecma_forms.specs.declared.places.Sought.{Sought}
+use Rattle.ecma_forms.specs.declared.places.Sought.TheVariants as sought
 
--- expressions
+-- imports and exports (ECMAScript, 16.2.2, 16.2.3; TypeScript handbook, "Modules - Reference"); enums and namespaces; parameter properties; and an
+-- identifier `this`, which names a parameter that is there for its type alone
+abbrev pub is_later : Kind → Bool
+is_later (kind.ImportDecl type_only) = true
+is_later (kind.ImportNamedSpecifier is_type_only) = true
+is_later kind.ImportDefaultSpecifier = true
+is_later kind.ImportStarAsSpecifier = true
+is_later kind.ExportDecl = true
+is_later (kind.NamedExport type_only) = true
+is_later (kind.ExportNamedSpecifier is_type_only) = true
+is_later kind.ExportDefaultSpecifier = true
+is_later kind.ExportNamespaceSpecifier = true
+is_later kind.ExportDefaultDecl = true
+is_later kind.ExportDefaultExpr = true
+is_later (kind.ExportAll type_only) = true
+is_later (kind.TsImportEqualsDecl is_export is_type_only) = true
+is_later kind.TsExternalModuleRef = true
+is_later kind.TsQualifiedName = true
+is_later kind.TsExportAssignment = true
+is_later kind.TsNamespaceExportDecl = true
+is_later (kind.TsEnumDecl declare is_const) = true
+is_later kind.TsEnumMember = true
+is_later (kind.TsModuleDecl declare global) = true
+is_later kind.TsModuleBlock = true
+is_later (kind.TsNamespaceDecl declare global) = true
+is_later (kind.TsParamProp accessibility is_override readonly) = true
+is_later (kind.Ident sym ctxt optional) = bytes_eq sym (codes "this")
+is_later _ = false
 
-abbrev pub is_wrapper : Kind → Bool
-is_wrapper kind.TsAsExpr = true
-is_wrapper kind.TsTypeAssertion = true
-is_wrapper kind.TsSatisfiesExpr = true
-is_wrapper kind.TsInstantiation = true
-is_wrapper kind.TsConstAssertion = true
-is_wrapper kind.TsNonNullExpr = true
-is_wrapper _ = false
+abbrev pub is_rest : Kind → Bool
+is_rest kind.RestPat = true
+is_rest _ = false
 
-abbrev pub is_expression : Kind → Bool
-is_expression (kind.Ident sym ctxt optional) = true
-is_expression (kind.Str value raw) = true
-is_expression (kind.Number value raw) = true
-is_expression (kind.Bool value) = true
-is_expression kind.Null = true
-is_expression kind.ThisExpr = true
-is_expression kind.MemberExpr = true
-is_expression kind.CallExpr = true
-is_expression kind.ParenExpr = true
-is_expression kind.AwaitExpr = true
-is_expression (kind.UnaryExpr operator) = true
-is_expression (kind.BinExpr operator) = true
-is_expression kind.CondExpr = true
-is_expression k = is_wrapper k
+abbrev pub is_ambient_variable : Kind → Bool
+is_ambient_variable (kind.VarDecl k declare) = declare
+is_ambient_variable _ = false
 
--- the left and the right side of an operator bind at most this loosely
-abbrev pub left_side : BinaryOp → ℕ
-left_side op.Exp = 2
-left_side op.Mul = 5
-left_side op.Div = 5
-left_side op.Mod = 5
-left_side op.Add = 6
-left_side op.Sub = 6
-left_side op.LShift = 7
-left_side op.RShift = 7
-left_side op.ZeroFillRShift = 7
-left_side op.Lt = 8
-left_side op.Gt = 8
-left_side op.LtEq = 8
-left_side op.GtEq = 8
-left_side op.InstanceOf = 8
-left_side op.In = 8
-left_side op.EqEq = 9
-left_side op.NotEq = 9
-left_side op.EqEqEq = 9
-left_side op.NotEqEq = 9
-left_side op.BitAnd = 10
-left_side op.BitXor = 11
-left_side op.BitOr = 12
-left_side op.LogicalAnd = 13
-left_side _ = 14
+-- a function with its body
+abbrev pub has_body : Node → Bool
+has_body function = has_child function 1
 
-abbrev pub right_side : BinaryOp → ℕ
-right_side op.Exp = 4
-right_side op.Mul = 4
-right_side op.Div = 4
-right_side op.Mod = 4
-right_side op.Add = 5
-right_side op.Sub = 5
-right_side op.LShift = 6
-right_side op.RShift = 6
-right_side op.ZeroFillRShift = 6
-right_side op.Lt = 7
-right_side op.Gt = 7
-right_side op.LtEq = 7
-right_side op.GtEq = 7
-right_side op.InstanceOf = 7
-right_side op.In = 7
-right_side op.EqEq = 8
-right_side op.NotEq = 8
-right_side op.EqEqEq = 8
-right_side op.NotEqEq = 8
-right_side op.BitAnd = 9
-right_side op.BitXor = 10
-right_side op.BitOr = 11
-right_side op.LogicalAnd = 12
-right_side _ = 13
+-- What the grammar reads and ECMAScript has not: a rest parameter with a default, and in an object a setter that takes the rest, or two parameters. And what no text
+-- has, though no law says so: a variable in the head of a loop behind `declare`, and a function without a body that could be no declaration
+abbrev pub is_odd_by : Kind → Node → Bool
+is_odd_by kind.AssignPat node = child_is is_rest node 0
+is_odd_by kind.SetterProp node = has_child node 1 || (child_is is_rest node 2 || not (has_child node 3))
+is_odd_by kind.GetterProp node = not (has_child node 2)
+is_odd_by kind.MethodProp node = not (child_holds has_body node 1)
+is_odd_by kind.FnExpr node = not (child_holds has_body node 1)
+is_odd_by kind.ForStmt node = child_is is_ambient_variable node 0
+is_odd_by kind.ForInStmt node = child_is is_ambient_variable node 0
+is_odd_by (kind.ForOfStmt is_await) node = child_is is_ambient_variable node 0
+is_odd_by _ node = false
 
--- `??` is not taken
-abbrev pub is_nullish : BinaryOp → Bool
-is_nullish op.NullishCoalescing = true
-is_nullish _ = false
-
-abbrev pub operator_looseness : BinaryOp → ℕ
-operator_looseness op.Exp = 4
-operator_looseness operator = left_side operator
-
--- how loosely an expression binds: 0 before a point, 1 before arguments, 2 an update, 3 a unary operator, 4 `**`, 5 to 14 the other binary ones, 15 a
--- conditional expression
-abbrev pub own_looseness : Kind → ℕ
-own_looseness (kind.Number value raw) = 1
-own_looseness kind.AwaitExpr = 3
-own_looseness (kind.UnaryExpr operator) = 3
-own_looseness (kind.BinExpr operator) = operator_looseness operator
-own_looseness kind.CondExpr = 15
-own_looseness _ = 0
-
-abbrev pub first_looseness : List ℕ → ℕ
-first_looseness [] = 0
-first_looseness (n ∷ ns) = n
-
--- types round it aside
-abbrev pub looseness_by : Kind → List ℕ → ℕ
-looseness_by k children = cond (is_wrapper k) (first_looseness children) (own_looseness k)
-
-abbrev pub looseness_step : Node-F ℕ → ℕ
-looseness_step parts = looseness_by parts.kind parts.children
-
-abbrev pub looseness : Node → ℕ
-looseness = fold-Node ℕ looseness_step
-
--- other kinds by what they may be part of
-
-abbrev pub is_missing : Kind → Bool
-is_missing kind.Absent = true
-is_missing _ = false
-
-abbrev pub is_key : Kind → Bool
-is_key (kind.IdentName sym) = true
-is_key _ = false
-
-abbrev pub is_computed : Kind → Bool
-is_computed kind.ComputedPropName = true
-is_computed _ = false
-
-abbrev pub is_type : Kind → Bool
-is_type kind.TsType = true
-is_type _ = false
-
-abbrev pub is_instantiation : Kind → Bool
-is_instantiation kind.TsTypeParamInstantiation = true
-is_instantiation _ = false
-
--- type arguments, or none
-abbrev pub are_type_arguments : Kind → Bool
-are_type_arguments kind.TsTypeParamInstantiation = true
-are_type_arguments k = is_missing k
-
-abbrev pub is_name : Kind → Bool
-is_name (kind.Ident sym ctxt optional) = true
-is_name _ = false
-
--- an annotation, or none
-abbrev pub is_annotation : Kind → Bool
-is_annotation kind.TsTypeAnn = true
-is_annotation k = is_missing k
-
-abbrev pub is_binding : Kind → Bool
-is_binding kind.BindingIdent = true
-is_binding _ = false
-
--- a value, or none
-abbrev pub is_value : Kind → Bool
-is_value k = is_missing k || is_expression k
-
-abbrev pub is_declarator : Kind → Bool
-is_declarator (kind.VarDeclarator definite) = true
-is_declarator _ = false
-
-abbrev pub is_statement : Kind → Bool
-is_statement kind.ExprStmt = true
-is_statement (kind.VarDecl k declare) = true
-is_statement (kind.TsInterfaceDecl declare) = true
-is_statement (kind.TsTypeAliasDecl declare) = true
-is_statement _ = false
-
-abbrev pub is_list : Kind → Bool
-is_list kind.List = true
-is_list _ = false
-
--- `let` and `const`
-abbrev pub is_lexical : VarDeclKind → Bool
-is_lexical Var = false
-is_lexical Let = true
-is_lexical Const = true
-
--- a node of such a kind; a list of such nodes
-
-abbrev pub is : (Kind → Bool) → Node → Bool
-is test node = test (out-Node node).kind
-
--- an expression that binds at most so loosely
-abbrev pub binds : ℕ → Node → Bool
-binds most node = is is_expression node && not (nat_lt most (looseness node))
-
-abbrev pub is_list_of : (Kind → Bool) → Node → Bool
-is_list_of test node = is is_list node && list_all (is test) (out-Node node).children
-
-abbrev pub is_empty : List Node → Bool
-is_empty [] = true
-is_empty (x ∷ xs) = false
-
--- that is not empty
-abbrev pub is_full_list_of : (Kind → Bool) → Node → Bool
-is_full_list_of test node = is_list_of test node && not (is_empty (out-Node node).children)
-
--- forms, by the number of children
-
-abbrev pub is_leaf_form : Kind → Bool
-is_leaf_form kind.Absent = true
-is_leaf_form (kind.Ident sym ctxt optional) = not optional && not (is_reserved sym)
-is_leaf_form (kind.IdentName sym) = true
-is_leaf_form (kind.Str value raw) = true
-is_leaf_form (kind.Number value raw) = true
-is_leaf_form (kind.Bool value) = true
-is_leaf_form kind.Null = true
-is_leaf_form kind.ThisExpr = true
-is_leaf_form kind.TsType = true
-is_leaf_form kind.TsTypeParamInstantiation = true
-is_leaf_form _ = false
-
-abbrev pub is_form_with_one : Kind → Node → Bool
-is_form_with_one kind.ParenExpr a = is is_expression a
-is_form_with_one kind.TsTypeAnn a = is is_type a
-is_form_with_one kind.ExprStmt a = is is_expression a
-is_form_with_one (kind.VarDecl k false) a = is_lexical k && is_full_list_of is_declarator a
-is_form_with_one kind.ComputedPropName a = is is_expression a
-is_form_with_one kind.AwaitExpr a = binds 3 a
-is_form_with_one (kind.UnaryExpr operator) a = binds 3 a
-is_form_with_one kind.TsNonNullExpr a = is is_expression a
-is_form_with_one kind.TsConstAssertion a = is is_expression a
-is_form_with_one (kind.TsInterfaceDecl declare) a = is is_name a
-is_form_with_one (kind.TsTypeAliasDecl declare) a = is is_name a
-is_form_with_one (kind.Module None) a = is_list_of is_statement a
-is_form_with_one _ a = false
-
-abbrev pub is_form_with_two : Kind → Node → Node → Bool
-is_form_with_two kind.MemberExpr a b = (binds 0 a && is is_key b) || (binds 1 a && is is_computed b)
-is_form_with_two (kind.BinExpr operator) a b = not (is_nullish operator) && (binds (left_side operator) a && binds (right_side operator) b)
-is_form_with_two kind.TsAsExpr a b = is is_expression a && is is_type b
-is_form_with_two kind.TsTypeAssertion a b = is is_expression a && is is_type b
-is_form_with_two kind.TsSatisfiesExpr a b = is is_expression a && is is_type b
-is_form_with_two kind.TsInstantiation a b = is is_expression a && is is_instantiation b
-is_form_with_two kind.BindingIdent a b = is is_name a && is is_annotation b
-is_form_with_two (kind.VarDeclarator false) a b = is is_binding a && is is_value b
-is_form_with_two _ a b = false
-
-abbrev pub is_form_with_three : Kind → Node → Node → Node → Bool
-is_form_with_three kind.CallExpr a b c = binds 1 a && (is_list_of is_expression b && is are_type_arguments c)
-is_form_with_three kind.CondExpr a b c = binds 14 a && (binds 15 b && binds 15 c)
-is_form_with_three _ a b c = false
-
-abbrev pub is_form_by : Kind → List Node → Bool
-is_form_by k [] = is_leaf_form k
-is_form_by k (a ∷ []) = is_form_with_one k a
-is_form_by k (a ∷ b ∷ []) = is_form_with_two k a b
-is_form_by k (a ∷ b ∷ c ∷ []) = is_form_with_three k a b c
-is_form_by k _ = false
-
--- a list is looked at where it stands
-abbrev pub is_form : Node → Bool
-is_form node = is is_list node || is_form_by (out-Node node).kind (out-Node node).children
-
--- a tree is taken where each of its nodes is of a form, and it is a module; else it is refused at the least place of a node that is of none
+abbrev pub is_untaken : Node → Bool
+is_untaken node = is_later (kind_of node) || is_odd_by (kind_of node) node
 
 abbrev pub untaken_here : Unit {0} → Node → Option ℕ
-untaken_here around node = failing_here (not (is_form node)) node
+untaken_here around node = failing_here (is_untaken node) node
 
 abbrev pub inside : Unit {0} → Node → ℕ → Unit {0}
 inside around node i = tt
 
-abbrev pub first_untaken_node : Node → Option ℕ
-first_untaken_node node = first_failing (Unit {0}) untaken_here inside node tt
-
-abbrev pub is_module : Kind → Bool
-is_module (kind.Module shebang) = true
-is_module _ = false
-
+-- the least place at which a node begins that is of a form that is not taken; none where each is of one that is
 abbrev pub first_untaken : Node → Option ℕ
-first_untaken tree = least (failing_here (not (is is_module tree)) tree) (first_untaken_node tree)
+first_untaken node = first_failing (Unit {0}) untaken_here inside node tt
+
+-- of these what the grammar reads and ECMAScript has not, in plain modules too
+abbrev pub is_odd_rest_by : Kind → Node → Bool
+is_odd_rest_by kind.AssignPat node = child_is is_rest node 0
+is_odd_rest_by kind.SetterProp node = has_child node 1 || child_is is_rest node 2
+is_odd_rest_by _ node = false
+
+abbrev pub odd_rest_here : Unit {0} → Node → Option ℕ
+odd_rest_here around node = failing_here (is_odd_rest_by (kind_of node) node) node
+
+-- the least place at which such a node begins; none where there is none
+abbrev pub first_odd_rest : Node → Option ℕ
+first_odd_rest node = first_failing (Unit {0}) odd_rest_here inside node tt
+
+-- the place of a node that is one of those sought
+abbrev pub sought_here : Sought → Unit {0} → Node → Option ℕ
+sought_here sought.Untaken = untaken_here
+sought_here sought.OddRest = odd_rest_here
+
+abbrev pub first_sought : Sought → Node → Option ℕ
+first_sought s node = first_failing (Unit {0}) (sought_here s) inside node tt

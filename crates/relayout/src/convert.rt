@@ -2,9 +2,11 @@ ghost use Rattle.std.specs.Prelude.{◌≡◌, ◌≤◌, false, length, IfOk, I
 ghost use Rattle.ecma_text.specs.Modules.{deepest, plain, reads_as};
 ghost use Rattle.ts_to_js.specs.Answer.{Answers};
 ghost use Rattle.ts_to_js.specs.Refusals.{refusal_of};
-ghost use Rattle.relayout.specs.Relayout.{laid_out, relaid};
+ghost use Rattle.relayout.specs.Relayout.{IsRelaid, laid_out, relaid};
 
+use ecma_forms::first_odd_rest;
 use ecma_print::print_module;
+use ecma_relaid_laws::relaid_modules_are_read_again;
 use ecma_text::{ReadError, read_plain};
 use ecma_tree::Module;
 use std::alloc::Global;
@@ -14,6 +16,15 @@ use ts_to_js::{LIMIT, TsError, decoded};
 pub fn relayout(alloc: Global, src: &[u8]) -> Result<Vec<u8>, TsError>
     // The text is the layout of the tree that was read; else the first refusal that holds is answered.
     // Want of memory alone may come instead, but for `TooLong` and `NotUtf8`, which take none.
+    ensures text { Answers result (relaid src.now) }
+    // It is read again as the tree that was read.
+    ensures again { IfOk result (λ text. IsRelaid src.now text.items) }
+{
+    relaid_modules_are_read_again();
+    relayout_bytes(alloc, src)
+}
+
+fn relayout_bytes(alloc: Global, src: &[u8]) -> Result<Vec<u8>, TsError>
     ensures { Answers result (relaid src.now) }
 {
     if src.len() > LIMIT {
@@ -38,5 +49,8 @@ fn lay_out(alloc: Global, reading: Result<Module, ReadError>) -> Result<Vec<u8>,
     ensures refusal { IfErr reading (λ reason. result ≡ Err (refusal_of reason)) }
 {
     let tree = reading?;
+    if let Some(at) = first_odd_rest(&tree) {
+        return Err(TsError::Syntax { at });
+    }
     Ok(print_module(alloc, &tree)?)
 }

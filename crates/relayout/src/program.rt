@@ -1,11 +1,12 @@
 ghost use Rattle.std.specs.Prelude.{◌≡◌, ◌+◌, ℕ, List, IfSome};
 ghost use Rattle.devices.specs.Counts.{CountedAtMost, CountedExactlyIf};
-ghost use Rattle.ts_to_js.specs.declared.program.TheConstants.{WRITE_FAULT};
+ghost use Rattle.ts_to_js.specs.declared.program.TheConstants.{DONE, WRITE_FAULT};
 ghost use Rattle.ts_to_js.specs.Running.{expected_of, first_read, seen, Ran};
-ghost use Rattle.relayout.specs.Relayout.{relaid};
+ghost use Rattle.relayout.specs.Relayout.{IsRelaid, relaid};
 
 use crate::convert::relayout;
 use devices::{ReadFault, Sink, Source, read_up_to};
+use ecma_relaid_laws::relaid_modules_are_read_again;
 use std::alloc::Global;
 use ts_to_js::{LIMIT, NO_MEMORY, READ_FAULT, tell};
 
@@ -23,11 +24,13 @@ pub fn run<S: Source, O: Sink, E: Sink>(
     ensures read_fault { CountedExactlyIf (result ≡ READ_FAULT) (S.faults source.old) (S.faults source.new) }
     ensures write_fault { CountedExactlyIf (result ≡ WRITE_FAULT) (O.faults out.old) (O.faults out.new) }
 
-    // Status, output and errors are those of the bytes that were read.
+    // Status, output and errors are those of the bytes that were read; what is written is read again as the tree that was read.
     ensures run { (src : List ℕ) × IfSome (S.left source.old) (λ left. src ≡ first_read left)
         × Ran (expected_of (relaid src)) result (seen O.taken O.faults O.calls out.old) (seen O.taken O.faults O.calls out.new)
-        (seen E.taken E.faults E.calls err.old) (seen E.taken E.faults E.calls err.new) }
+        (seen E.taken E.faults E.calls err.old) (seen E.taken E.faults E.calls err.new)
+        × (result ≡ DONE → IsRelaid src (expected_of (relaid src)).text) }
 {
+    relaid_modules_are_read_again();
     match read_up_to(alloc, source, LIMIT + 1) {
         Ok(src) => tell(relayout(alloc, &src), out, err),
         Err(ReadFault::SourceFailed) => READ_FAULT,

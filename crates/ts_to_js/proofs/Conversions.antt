@@ -1,44 +1,49 @@
 -- What is converted is a conversion, and every valid module is converted.
-use Rattle.std.proofs.Common.{◌≡◌, ◌≤◌, ◌⊎◌, ℕ, List, Bool, true, false, Ok, Err, inl, inr, refl, sym, ◌∙◌, ap, subst, arith, length, nat_lt, Vec}
+use Rattle.std.proofs.Common.{◌≡◌, ◌≤◌, ◌<◌, ◌^◌, ◌⊎◌, ℕ, List, Bool, true, false, Some, None, Ok, Err, inl, inr, refl, sym, subst, arith, length, nat_lt, Vec, ◌-◌}
 use Rattle.std.proofs.lemmas.Bool.Decides.{nat_tests}
 use Rattle.std.specs.declared.alloc.Global.{Global}
-use Rattle.std.specs.Prelude.{Result, IfOk, IsOk, if◌then◌else◌}
+use Rattle.std.specs.Prelude.{Option, Result, IfOk, IsOk, cond}
 use Rattle.std.specs.Str.{IsUtf8, is_utf8}
 use Rattle.std.proofs.lemmas.Str.{IsUtf8-from_is_utf8, is_utf8-from_IsUtf8}
 use Rattle.ecma_tree.specs.declared.node.Node.{Node}
-use Rattle.ecma_strip.specs.Stripping.{stripped}
-use Rattle.ecma_runs.specs.Erasure.{without_types}
-use Rattle.ecma_tree.specs.Spans.{without_spans}
 use Rattle.ecma_text.specs.declared.modules.ReadError.{ReadError}
 use Rattle.ecma_text.specs.Modules.{reads_as, typescript, deepest}
 use Rattle.ecma_print.specs.Layout.{layout}
-use Rattle.ts_to_js.specs.Acceptance.{accepted}
-use Rattle.ts_to_js.proofs.Whole.{read_back}
-use Rattle.ecma_runs.specs.declared.config.Config.{Config}
-use Rattle.ecma_runs.specs.declared.script.Script.{Script}
-use Rattle.ecma_runs.specs.Observation.{observe}
-use Rattle.ecma_runs.proofs.Layers.{without_spans_kept}
-use Rattle.ecma_runs.proofs.Types.{types_do_not_matter}
+use Rattle.ecma_final_texts.proofs.Leaving.{leave-sixteen}
+use Rattle.ecma_written_laws.specs.Written.{WrittenModulesDoWhatTheirSourcesDo}
 use Rattle.ts_to_js.specs.declared.error.TsError.{TsError}
 use Rattle.ts_to_js.specs.declared.error.TsError.TheVariants as error
-use Rattle.ts_to_js.specs.Answer.{Answers}
-use Rattle.ts_to_js.specs.Conversion.{byte_limit, printed, converted}
+use Rattle.ts_to_js.specs.Answer.{AnswersBy}
+use Rattle.ts_to_js.specs.Conversion.{ComesOf, ComesOfReading, IsConverted, IsFinal, byte_limit}
 use Rattle.ts_to_js.specs.Headline.{IsValidModule, IsValid, IsPlainModule, IsConversion}
+use Rattle.ts_to_js.specs.Refusals.{refused}
+use Rattle.ts_to_js.proofs.Accepting.{accepted, given}
+
+-- where a text comes of a tree, nothing refuses that, and it is the layout of the tree that is written
+record IsText (left : ℕ) (source : Node) (text : List ℕ) : Type 0 where
+  taken : refused left source ≡ None
+  final : Node
+  is : IsFinal left source final
+  text_is : text ≡ layout final
+
+text_by : (left : ℕ) (source : Node) (refusal : Option TsError) (text : List ℕ) → refused left source ≡ refusal → ComesOf left refusal source (Ok text) → IsText left source text
+text_by left source (Some refusal) text e h = cc
+text_by left source None text e (final, is, same) = record { taken = e; final = final; is = is; text_is = cc }
 
 -- what an answer other than a refusal says of the tests that were made
-record IsConverted (long valid : Bool) (answer : Result Node ReadError) (text : List ℕ) : Type 0 where
+record IsConvertedText (left : ℕ) (long valid : Bool) (read : Result Node ReadError) (text : List ℕ) : Type 0 where
   short : long ≡ false
   utf8 : valid ≡ true
-  tree : Node
-  read : answer ≡ Ok tree
-  text_is : text ≡ layout (stripped tree)
+  source : Node
+  read_as : read ≡ Ok source
+  is : IsText left source text
 
-converted_by : (long valid : Bool) (answer : Result Node ReadError) (text : List ℕ)
-    → (if long then Err error.TooLong else if valid then printed answer else Err error.NotUtf8) ≡ Ok text → IsConverted long valid answer text
-converted_by true valid answer text is = cc
-converted_by false false answer text is = cc
-converted_by false true (Ok tree) text is = record { short = refl; utf8 = refl; tree = tree; read = refl; text_is = cc }
-converted_by false true (Err reason) text is = cc
+converted_by : (left : ℕ) (long valid : Bool) (read : Result Node ReadError) (text : List ℕ)
+    → cond long (Ok text ≡ Err error.TooLong) (cond valid (ComesOfReading left read (Ok text)) (Ok text ≡ Err error.NotUtf8)) → IsConvertedText left long valid read text
+converted_by left true valid read text h = cc
+converted_by left false false read text h = cc
+converted_by left false true (Ok source) text h = record { short = refl; utf8 = refl; source = source; read_as = refl; is = text_by left source (refused left source) text refl h }
+converted_by left false true (Err reason) text h = cc
 
 short_by : (src : List ℕ) → nat_lt byte_limit (length src) ≡ false → length src ≤ byte_limit
 short_by src is = grind (arith, nat_tests)
@@ -46,44 +51,65 @@ short_by src is = grind (arith, nat_tests)
 long_by : (src : List ℕ) → length src ≤ byte_limit → nat_lt byte_limit (length src) ≡ false
 long_by src short = grind (arith, nat_tests)
 
--- trees that are equal up to spans to a source that is stripped run as it does, where what is stripped is what is erased
-runs_kept : (source written : Node) → stripped source ≡ without_types source → without_spans written ≡ without_spans (stripped source) → (options : Config) (turns : ℕ) (script : Script)
-    → observe turns options written script ≡ observe turns options source script
-runs_kept source written erased same options turns script =
-    sym (without_spans_kept turns options written script)
-    ∙ (ap (λ tree. observe turns options tree script) (same ∙ ap without_spans erased)
-    ∙ (without_spans_kept turns options (without_types source) script
-    ∙ types_do_not_matter turns options source script))
+below : (n : ℕ) → n ≤ 4194304 → n < 2 ^ 32 - 64
+below n short = omega arith
 
-pub is_conversion : (src text : List ℕ) → converted src ≡ Ok text → IsConversion src text
-is_conversion src text is =
-    let parts = converted_by (nat_lt byte_limit (length src)) (is_utf8 src) (accepted (reads_as src typescript deepest)) text is in
+pub is_conversion : WrittenModulesDoWhatTheirSourcesDo → (left : ℕ) (src text : List ℕ) → IsConverted left src (Ok text) → IsConversion left src text
+is_conversion law left src text converted =
+    let parts = converted_by left (nat_lt byte_limit (length src)) (is_utf8 src) (reads_as src typescript deepest) text converted in
     let utf8 : IsUtf8 src = IsUtf8-from_is_utf8 src parts.utf8 in
-    let again = read_back src parts.tree utf8 parts.read in
+    let short : length src ≤ byte_limit = short_by src parts.short in
+    let is = parts.is in
+    let tree = accepted left parts.source is.taken in
+    let whole = law left (left - 1) (left - 2) deepest src parts.source is.final utf8 (below (length src) short) parts.read_as (record {
+      taken = tree.taken;
+      distinct = tree.distinct;
+      given = given leave-sixteen left parts.source tree.enough;
+      hygienic = is.is;
+    }) in
     record {
-      source = parts.tree;
-      valid = record { short = short_by src parts.short; utf8 = utf8; reads_as = parts.read };
-      written = again.again;
-      plain = subst (λ t. IsPlainModule t again.again) (sym parts.text_is) again.plain_module;
-      tree = again.same;
+      source = parts.source;
+      valid = record { short = short; utf8 = utf8; reads_as = parts.read_as; taken = is.taken };
+      written = whole.written;
+      plain = subst (λ t. IsPlainModule t whole.written) (sym is.text_is) (record { levels = whole.levels; read_plain = whole.read_plain });
+      final = is.final;
+      is_final = is.is;
+      tree = whole.tree;
       interface = λ options. refl;
-      runs = λ options turns script. inr (runs_kept parts.tree again.again again.erased again.same options turns script);
+      runs = λ options turns script unresolved top contexts given. inr (whole.runs unresolved top contexts given turns options script);
     }
 
-pub converted-valid : (src : List ℕ) (tree : Node) → IsValidModule src tree → converted src ≡ Ok (layout (stripped tree))
-converted-valid src tree valid = rw (long_by src valid.short, is_utf8-from_IsUtf8 src valid.utf8, valid.reads_as) refl
+-- what a valid module is converted to is a text
+valid_by : (left : ℕ) (source : Node) (refusal : Option TsError) (answer : Result (List ℕ) TsError) → refusal ≡ None → ComesOf left refusal source answer → (text : List ℕ) × (answer ≡ Ok text)
+valid_by left source (Some refusal) answer e h = cc
+valid_by left source None answer e (final, is, same) = (layout final, same)
 
-pub answered-conversion : (src : List ℕ) (result : Result (Vec ℕ Global) TsError) → Answers result (converted src) → IfOk result (λ text. IsConversion src text.items)
-answered-conversion src (Ok text) is = is_conversion src text.items is
-answered-conversion src (Err refusal) is = tt
+pub valid_converted : (left : ℕ) (src : List ℕ) (tree : Node) → IsValidModule left src tree → (answer : Result (List ℕ) TsError) → IsConverted left src answer → (text : List ℕ) × (answer ≡ Ok text)
+valid_converted left src tree valid answer converted =
+    let comes : ComesOf left (refused left tree) tree answer =
+    subst (λ read. ComesOfReading left read answer) valid.reads_as
+    (subst (λ utf8. cond utf8 (ComesOfReading left (reads_as src typescript deepest) answer) (answer ≡ Err error.NotUtf8)) (is_utf8-from_IsUtf8 src valid.utf8)
+    (subst (λ long. cond long (answer ≡ Err error.TooLong) (cond (is_utf8 src) (ComesOfReading left (reads_as src typescript deepest) answer) (answer ≡ Err error.NotUtf8)))
+    (long_by src valid.short) converted)) in
+    valid_by left tree (refused left tree) answer valid.taken comes
 
-answered_refusal : (src : List ℕ) (refusal : TsError) → converted src ≡ Err refusal → IsValid src → ⊥
-answered_refusal src refusal is (tree, valid) = let other : converted src ≡ Ok (layout (stripped tree)) = converted-valid src tree valid in cc
+pub answered-conversion : WrittenModulesDoWhatTheirSourcesDo → (left : ℕ) (src : List ℕ) (result : Result (Vec ℕ Global) TsError) → AnswersBy result (IsConverted left src) → IfOk result (λ text. IsConversion left src text.items)
+answered-conversion law left src (Ok text) is = is_conversion law left src text.items is
+answered-conversion law left src (Err refusal) is = tt
 
-pub answered-valid : (src : List ℕ) (result : Result (Vec ℕ Global) TsError) → Answers result (converted src) → IsValid src → (IsOk result) ⊎ (result ≡ Err error.NoMemory)
-answered-valid src (Ok text) is valid = inl refl
-answered-valid src (Err error.NoMemory) is valid = inr refl
-answered-valid src (Err error.TooLong) is valid = absurd (answered_refusal src error.TooLong is valid)
-answered-valid src (Err error.NotUtf8) is valid = absurd (answered_refusal src error.NotUtf8 is valid)
-answered-valid src (Err (error.TooDeep at)) is valid = absurd (answered_refusal src (error.TooDeep at) is valid)
-answered-valid src (Err (error.Syntax at)) is valid = absurd (answered_refusal src (error.Syntax at) is valid)
+no_text : (refusal : TsError) (text : List ℕ) → Err refusal ≡ Ok text → ⊥
+no_text refusal text h = cc
+
+answered_refusal : (left : ℕ) (src : List ℕ) (refusal : TsError) → IsConverted left src (Err refusal) → IsValid left src → ⊥
+answered_refusal left src refusal is (tree, valid) = let other = valid_converted left src tree valid (Err refusal) is in no_text refusal other.0 other.1
+
+pub answered-valid : (left : ℕ) (src : List ℕ) (result : Result (Vec ℕ Global) TsError) → AnswersBy result (IsConverted left src) → IsValid left src
+    → (IsOk result) ⊎ (result ≡ Err error.NoMemory)
+answered-valid left src (Ok text) is valid = inl refl
+answered-valid left src (Err error.NoMemory) is valid = inr refl
+answered-valid left src (Err error.TooLong) is valid = absurd (answered_refusal left src error.TooLong is valid)
+answered-valid left src (Err error.NotUtf8) is valid = absurd (answered_refusal left src error.NotUtf8 is valid)
+answered-valid left src (Err (error.TooDeep at)) is valid = absurd (answered_refusal left src (error.TooDeep at) is valid)
+answered-valid left src (Err (error.Syntax at)) is valid = absurd (answered_refusal left src (error.Syntax at) is valid)
+answered-valid left src (Err error.Spent) is valid = absurd (answered_refusal left src error.Spent is valid)
+answered-valid left src (Err (error.Redeclared name)) is valid = absurd (answered_refusal left src (error.Redeclared name) is valid)

@@ -1,7 +1,7 @@
-pub mod Printed
-pub mod Whole
 pub mod Utf8
 pub mod Pieces
 pub mod Runs
+pub mod Accepting
+pub mod Steps
 pub mod Conversions
 pub mod Outcomes

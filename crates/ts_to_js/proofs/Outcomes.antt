@@ -1,15 +1,14 @@
 -- What the status of a run says of the bytes that were read.
 use Rattle.std.proofs.Common.{◌≡◌, ◌⊎◌, ◌≢◌, ℕ, List, Some, None, Ok, Err, inl, inr, refl, sym, ◌∙◌, subst, arith}
 use Rattle.std.specs.Prelude.{Option, Result, IfSome}
-use Rattle.ecma_print.specs.Layout.{layout}
-use Rattle.ecma_strip.specs.Stripping.{stripped}
+use Rattle.ecma_written_laws.specs.Written.{WrittenModulesDoWhatTheirSourcesDo}
 use Rattle.devices.specs.Counts.{Counted, Rose}
 use Rattle.ts_to_js.specs.declared.error.TsError.{TsError}
 use Rattle.ts_to_js.specs.declared.program.TheConstants.{DONE, REFUSED, BAD_WORD, READ_FAULT, WRITE_FAULT, NO_MEMORY}
-use Rattle.ts_to_js.specs.Conversion.{converted}
+use Rattle.ts_to_js.specs.Conversion.{IsConverted}
 use Rattle.ts_to_js.specs.Headline.{IsValid, IsConversion}
-use Rattle.ts_to_js.specs.Running.{Seen, EndsWith, Ran, IsRun, expected, expected_of, first_read}
-use Rattle.ts_to_js.proofs.Conversions.{is_conversion, converted-valid}
+use Rattle.ts_to_js.specs.Running.{Seen, EndsWith, IsExpectedOf, IsRun, Ran, contexts_of_a_run, expected, expected_of, first_read}
+use Rattle.ts_to_js.proofs.Conversions.{is_conversion, valid_converted}
 
 -- a run that was to end otherwise is not done
 not_done : (expected status : ℕ) → expected ≢ DONE → EndsWith expected status → status ≢ DONE
@@ -26,26 +25,48 @@ not_refused expected status other (inr (inr (inl e))) refused = omega (arith, e.
 not_refused expected status other (inr (inr (inr e))) refused = omega (arith, e, refused)
 
 -- what a run that is done was asked for
-record IsAnswered (answer : Result (List ℕ) TsError) : Type 0 where
-  text : List ℕ
-  is : answer ≡ Ok text
-  same : (expected_of answer).text ≡ text
+pub record IsAnswered (answer : Result (List ℕ) TsError) : Type 0 where
+  pub text : List ℕ
+  pub is : answer ≡ Ok text
+  pub same : (expected_of answer).text ≡ text
 
-answered : (answer : Result (List ℕ) TsError) (status : ℕ) → EndsWith (expected_of answer).status status → status ≡ DONE → IsAnswered answer
+pub answered : (answer : Result (List ℕ) TsError) (status : ℕ) → EndsWith (expected_of answer).status status → status ≡ DONE → IsAnswered answer
 answered (Ok text) status ends done = record { text = text; is = refl; same = refl }
 answered (Err refusal) status ends done = absurd (not_done REFUSED status (λ e. omega (arith, e)) ends done)
 
-converts_by : (bad : Option (List ℕ)) (src : List ℕ) (status : ℕ) → EndsWith (expected bad src).status status → status ≡ DONE → IsConversion src (expected bad src).text
-converts_by None src status ends done =
-    let a = answered (converted src) status ends done in
-    subst (λ text. IsConversion src text) (sym a.same) (is_conversion src a.text a.is)
-converts_by (Some word) src status ends done = absurd (not_done BAD_WORD status (λ e. omega (arith, e)) ends done)
+-- a status is no other
+two_ends : (status one other : ℕ) → one ≢ other → status ≡ one → status ≡ other → ⊥
+two_ends status one other apart is is' = apart (sym is ∙ is')
 
-refuses_by : (bad : Option (List ℕ)) (src : List ℕ) (status : ℕ) → EndsWith (expected bad src).status status → status ≡ REFUSED → IsValid src → ⊥
-refuses_by None src status ends refused (tree, valid) =
-    let is : converted src ≡ Ok (layout (stripped tree)) = converted-valid src tree valid in
-    not_refused DONE status (λ e. omega (arith, e)) (subst (λ answer. EndsWith (expected_of answer).status status) is ends) refused
-refuses_by (Some word) src status ends refused valid = not_refused BAD_WORD status (λ e. omega (arith, e)) ends refused
+-- nor is it done or refused where nothing came of its bytes
+not_expected : (src : List ℕ) (answer : Result (List ℕ) TsError) (status : ℕ) (out out' err err' : Seen) → (status ≡ DONE) ⊎ (status ≡ REFUSED) → IsExpectedOf src answer status out out' err err'
+    → IsConverted contexts_of_a_run src answer
+not_expected src answer status out out' err err' ended (inl converted) = converted
+not_expected src answer status out out' err err' (inl done) (inr (inl fault)) = absurd (two_ends status DONE READ_FAULT (λ e. omega (arith, e)) done fault)
+not_expected src answer status out out' err err' (inr refused) (inr (inl fault)) = absurd (two_ends status REFUSED READ_FAULT (λ e. omega (arith, e)) refused fault)
+not_expected src answer status out out' err err' (inl done) (inr (inr unwritten)) = absurd (two_ends status DONE NO_MEMORY (λ e. omega (arith, e)) done unwritten.0)
+not_expected src answer status out out' err err' (inr refused) (inr (inr unwritten)) = absurd (two_ends status REFUSED NO_MEMORY (λ e. omega (arith, e)) refused unwritten.0)
+
+-- a run without a bad word, whose answer is what its bytes are converted to
+converts_text : WrittenModulesDoWhatTheirSourcesDo → (src : List ℕ) (answer : Result (List ℕ) TsError) (status : ℕ) → EndsWith (expected_of answer).status status → status ≡ DONE → IsConverted contexts_of_a_run src answer
+    → IsConversion contexts_of_a_run src (expected_of answer).text
+converts_text law src answer status ends done converted =
+    let a = answered answer status ends done in
+    subst (λ text. IsConversion contexts_of_a_run src text) (sym a.same) (is_conversion law contexts_of_a_run src a.text (subst (λ x. IsConverted contexts_of_a_run src x) a.is converted))
+
+module _ (law : WrittenModulesDoWhatTheirSourcesDo) (src : List ℕ) (answer : Result (List ℕ) TsError) (status : ℕ) (out out' err err' : Seen) where
+  pub converts_by : (bad : Option (List ℕ)) → (bad ≡ None → IsExpectedOf src answer status out out' err err') → EndsWith (expected bad answer).status status → status ≡ DONE
+      → IsConversion contexts_of_a_run src (expected bad answer).text
+  converts_by None is ends done = converts_text law src answer status ends done (not_expected src answer status out out' err err' (inl done) (is refl))
+  converts_by (Some word) is ends done = absurd (not_done BAD_WORD status (λ e. omega (arith, e)) ends done)
+
+  pub refuses_by : (bad : Option (List ℕ)) → (bad ≡ None → IsExpectedOf src answer status out out' err err') → EndsWith (expected bad answer).status status → status ≡ REFUSED
+      → IsValid contexts_of_a_run src → ⊥
+  refuses_by None is ends refused (tree, valid) =
+      let converted = not_expected src answer status out out' err err' (inr refused) (is refl) in
+      let one = valid_converted contexts_of_a_run src tree valid answer converted in
+      not_refused DONE status (λ e. omega (arith, e)) (subst (λ x. EndsWith (expected_of x).status status) one.1 ends) refused
+  refuses_by (Some word) is ends refused valid = not_refused BAD_WORD status (λ e. omega (arith, e)) ends refused
 
 complete_by : (status : ℕ) (read_fault write_fault : Type 0) → EndsWith DONE status → (status ≡ READ_FAULT → read_fault) → (status ≡ WRITE_FAULT → write_fault)
     → ¬ read_fault → ¬ write_fault → (status ≡ DONE) ⊎ (status ≡ NO_MEMORY)
@@ -54,22 +75,33 @@ complete_by status rf wf (inr (inl e)) read write no_read no_write = absurd (no_
 complete_by status rf wf (inr (inr (inl e))) read write no_read no_write = absurd (no_write (write e.0))
 complete_by status rf wf (inr (inr (inr e))) read write no_read no_write = inr e
 
-done_by_valid : (src : List ℕ) (status : ℕ) → IsValid src → EndsWith (expected None src).status status → EndsWith DONE status
-done_by_valid src status (tree, valid) ends = subst (λ answer. EndsWith (expected_of answer).status status) (converted-valid src tree valid) ends
+-- a valid module is converted, unless reading failed or memory ran out
+complete_none : WrittenModulesDoWhatTheirSourcesDo → (src : List ℕ) (answer : Result (List ℕ) TsError) (status : ℕ) (out out' err err' : Seen) (read_fault write_fault : Type 0) → IsExpectedOf src answer status out out' err err'
+    → EndsWith (expected_of answer).status status → IsValid contexts_of_a_run src → (status ≡ READ_FAULT → read_fault) → (status ≡ WRITE_FAULT → write_fault)
+    → ¬ read_fault → ¬ write_fault → (status ≡ DONE) ⊎ (status ≡ NO_MEMORY)
+complete_none law src answer status out out' err err' rf wf (inl converted) ends (tree, valid) read write no_read no_write =
+    let one = valid_converted contexts_of_a_run src tree valid answer converted in
+    complete_by status rf wf (subst (λ x. EndsWith (expected_of x).status status) one.1 ends) read write no_read no_write
+complete_none law src answer status out out' err err' rf wf (inr (inl fault)) ends valid read write no_read no_write = absurd (no_read (read fault))
+complete_none law src answer status out out' err err' rf wf (inr (inr unwritten)) ends valid read write no_read no_write = inr unwritten.0
 
 -- where one more was counted, the count rose
 pub rose : {before now : ℕ} → Counted before now → Rose before now
 rose counted = omega (arith, counted.one_more)
 
 -- a run, whose faults have their causes
-pub is_run : (bad left : Option (List ℕ)) (status : ℕ) (read_fault write_fault : Type 0) (out out' err err' : Seen) (src : List ℕ) → IfSome left (λ all. src ≡ first_read all)
-    → Ran (expected bad src) status out out' err err' → (status ≡ READ_FAULT → read_fault) → (status ≡ WRITE_FAULT → write_fault)
+pub is_run : WrittenModulesDoWhatTheirSourcesDo → (bad left : Option (List ℕ)) (status : ℕ) (read_fault write_fault : Type 0) (out out' err err' : Seen) (src : List ℕ) → IfSome left (λ all. src ≡ first_read all)
+    → (answer : Result (List ℕ) TsError) → (bad ≡ None → IsExpectedOf src answer status out out' err err')
+    → Ran (expected bad answer) status out out' err err' → (status ≡ READ_FAULT → read_fault) → (status ≡ WRITE_FAULT → write_fault)
     → IsRun bad left status read_fault write_fault out out' err err'
-is_run bad left status read_fault write_fault out out' err err' src is_read ran read write = record {
+is_run law bad left status read_fault write_fault out out' err err' src is_read answer is_expected ran read write = record {
   src = src;
   is_read = is_read;
+  answer = answer;
+  is_expected = is_expected;
   ran = ran;
-  converts = converts_by bad src status ran.ends;
-  refuses = refuses_by bad src status ran.ends;
-  complete = λ none valid. complete_by status read_fault write_fault (done_by_valid src status valid (subst (λ b. EndsWith (expected b src).status status) none ran.ends)) read write;
+  converts = converts_by law src answer status out out' err err' bad is_expected ran.ends;
+  refuses = refuses_by law src answer status out out' err err' bad is_expected ran.ends;
+  complete = λ none valid. complete_none law src answer status out out' err err' read_fault write_fault (is_expected none)
+      (subst (λ b. EndsWith (expected b answer).status status) none ran.ends) valid read write;
 }

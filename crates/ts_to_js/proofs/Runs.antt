@@ -1,6 +1,7 @@
 -- Runs that came to an end, one lemma for each way.
-use Rattle.std.proofs.Common.{◌≡◌, ◌⊎◌, ◌≢◌, ℕ, List, [], length, Some, None, Ok, Err, inl, inr, refl, sym, ◌∙◌, ap, arith, subst}
+use Rattle.std.proofs.Common.{◌≡◌, ◌⊎◌, ◌≢◌, ℕ, List, [], length, Some, None, Ok, Err, inl, inr, refl, sym, ◌∙◌, ap, arith, subst, Vec}
 use Rattle.std.specs.Prelude.{Option, Result, OnOk, OnErr, IfSome}
+use Rattle.std.specs.declared.alloc.Global.{Global}
 use Rattle.std.proofs.lemmas.List.{append-nil, take_all}
 use Rattle.std.specs.Io.KnownBytes.{append_known}
 use Rattle.devices.specs.declared.sink.SinkError.{SinkError}
@@ -9,9 +10,10 @@ use Rattle.devices.specs.Counts.{CountedAtMost, CountedExactlyIf}
 use Rattle.devices.specs.Sink.{TakesPart}
 use Rattle.ts_to_js.specs.declared.program.TheConstants.{DONE, REFUSED, BAD_WORD, READ_FAULT, WRITE_FAULT, NO_MEMORY}
 use Rattle.ts_to_js.specs.declared.error.TsError.{TsError}
-use Rattle.ts_to_js.specs.Running.{Expected, Seen, TakesFront, TakesAll, Ran, Refuses, reported_status, expected_of, first_read}
+use Rattle.ts_to_js.specs.Running.{Expected, IsRunOf, IsUnwritten, Seen, TakesFront, TakesAll, Ran, Refuses, contexts_of_a_run, reported_status, expected_of, first_read}
 use Rattle.ts_to_js.specs.Lines.{fault_line}
-use Rattle.ts_to_js.specs.Answer.{Answers}
+use Rattle.ts_to_js.specs.Answer.{Answers, AnswersBy}
+use Rattle.ts_to_js.specs.Conversion.{IsConverted}
 use Rattle.ts_to_js.specs.declared.error.TsError.TheVariants as error
 
 append_known-nil : (known : Option (List ℕ)) → append_known known [] ≡ known
@@ -129,6 +131,8 @@ refuses-reported error.TooLong err err' writing other whole part faults calls = 
 refuses-reported error.NotUtf8 err err' writing other whole part faults calls = λ out. ran-reported REFUSED (fault_line error.NotUtf8) out err err' writing (inl refl) whole part faults calls
 refuses-reported (error.TooDeep at) err err' writing other whole part faults calls = λ out. ran-reported REFUSED (fault_line (error.TooDeep at)) out err err' writing (inl refl) whole part faults calls
 refuses-reported (error.Syntax at) err err' writing other whole part faults calls = λ out. ran-reported REFUSED (fault_line (error.Syntax at)) out err err' writing (inl refl) whole part faults calls
+refuses-reported error.Spent err err' writing other whole part faults calls = λ out. ran-reported REFUSED (fault_line error.Spent) out err err' writing (inl refl) whole part faults calls
+refuses-reported (error.Redeclared name) err err' writing other whole part faults calls = λ out. ran-reported REFUSED (fault_line (error.Redeclared name)) out err err' writing (inl refl) whole part faults calls
 refuses-reported error.NoMemory err err' writing other whole part faults calls = absurd (other refl)
 
 -- a run that was refused is the one that is expected
@@ -138,6 +142,8 @@ ran-refused error.TooLong answer status out err err' is told = subst (λ a. Ran 
 ran-refused error.NotUtf8 answer status out err err' is told = subst (λ a. Ran (expected_of a) status out out err err') (sym is) (told out)
 ran-refused (error.TooDeep at) answer status out err err' is told = subst (λ a. Ran (expected_of a) status out out err err') (sym is) (told out)
 ran-refused (error.Syntax at) answer status out err err' is told = subst (λ a. Ran (expected_of a) status out out err err') (sym is) (told out)
+ran-refused error.Spent answer status out err err' is told = subst (λ a. Ran (expected_of a) status out out err err') (sym is) (told out)
+ran-refused (error.Redeclared name) answer status out err err' is told = subst (λ a. Ran (expected_of a) status out out err err') (sym is) (told out)
 ran-refused error.NoMemory answer status out err err' is told =
     subst (λ s. Ran (expected_of answer) s out out err err') (sym told.0) (subst (λ e. Ran (expected_of answer) NO_MEMORY out out err e) (sym told.1) (ran-no_memory (expected_of answer) out err))
 
@@ -166,3 +172,34 @@ told-no_write_fault (Ok written) status (inr told) = λ fault. omega (arith, tol
 told-no_write_fault (Err Failed) status (inl told) = λ fault. omega (arith, told, fault)
 told-no_write_fault (Err Failed) status (inr told) = λ fault. omega (arith, told, fault)
 told-no_write_fault (Err NoMemory) status told = λ fault. omega (arith, fault)
+
+-- what an answer comes to is a run of these bytes
+pub run_of : (src : List ℕ) (result : Result (Vec ℕ Global) TsError) (status : ℕ) (out out' err err' : Seen) → AnswersBy result (IsConverted contexts_of_a_run src)
+    → (result ≡ Err error.NoMemory → IsUnwritten status out out' err err')
+    → ((conversion : Result (List ℕ) TsError) → Answers result conversion → Ran (expected_of conversion) status out out' err err') → IsRunOf src status out out' err err'
+run_of src (Ok text) status out out' err err' is unwritten ran = (Ok text.items, inl is, ran (Ok text.items) refl)
+run_of src (Err error.TooLong) status out out' err err' is unwritten ran = (Err error.TooLong, inl is, ran (Err error.TooLong) refl)
+run_of src (Err error.NotUtf8) status out out' err err' is unwritten ran = (Err error.NotUtf8, inl is, ran (Err error.NotUtf8) refl)
+run_of src (Err (error.TooDeep at)) status out out' err err' is unwritten ran = (Err (error.TooDeep at), inl is, ran (Err (error.TooDeep at)) refl)
+run_of src (Err (error.Syntax at)) status out out' err err' is unwritten ran = (Err (error.Syntax at), inl is, ran (Err (error.Syntax at)) refl)
+run_of src (Err error.Spent) status out out' err err' is unwritten ran = (Err error.Spent, inl is, ran (Err error.Spent) refl)
+run_of src (Err (error.Redeclared name)) status out out' err err' is unwritten ran = (Err (error.Redeclared name), inl is, ran (Err (error.Redeclared name)) refl)
+run_of src (Err error.NoMemory) status out out' err err' is unwritten ran = (Err error.NoMemory, inr (inr (unwritten refl)), ran (Err error.NoMemory) tt)
+
+-- a refusal for want of memory touches no sink
+pub refused-unwritten : (refusal : TsError) (status : ℕ) (out err err' : Seen) → refusal ≡ error.NoMemory → Refuses refusal status err err' → IsUnwritten status out out err err'
+refused-unwritten error.NoMemory status out err err' is told = (told.0, refl, told.1)
+refused-unwritten error.TooLong status out err err' is told = cc
+refused-unwritten error.NotUtf8 status out err err' is told = cc
+refused-unwritten (error.TooDeep at) status out err err' is told = cc
+refused-unwritten (error.Syntax at) status out err err' is told = cc
+refused-unwritten error.Spent status out err err' is told = cc
+refused-unwritten (error.Redeclared name) status out err err' is told = cc
+
+-- a word is one
+pub a_word : {word : List ℕ} → Some word ≡ None → ⊥
+a_word h = cc
+
+-- an answer has one refusal
+pub same_refusal : (answer : Result (Vec ℕ Global) TsError) (one other : TsError) → answer ≡ Err one → answer ≡ Err other → one ≡ other
+same_refusal answer one other is is' = cc

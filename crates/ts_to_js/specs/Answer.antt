@@ -14,3 +14,9 @@ abbrev pub Answers : Result (Vec ℕ Global) TsError → Result (List ℕ) TsErr
 Answers (Ok text) answer = answer ≡ Ok text.items
 Answers (Err error.NoMemory) answer = TakesMemory answer
 Answers (Err refusal) answer = answer ≡ Err refusal
+
+-- it answers what meets this; where memory ran out, what meets it takes memory
+abbrev pub AnswersBy : Result (Vec ℕ Global) TsError → (Result (List ℕ) TsError → Type 0) → Type 0
+AnswersBy (Ok text) Is = Is (Ok text.items)
+AnswersBy (Err error.NoMemory) Is = (answer : Result (List ℕ) TsError) → Is answer → TakesMemory answer
+AnswersBy (Err refusal) Is = Is (Err refusal)

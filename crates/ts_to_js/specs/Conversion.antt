@@ -1,13 +1,15 @@
 -- What the bytes of a module are converted to.
-use Rattle.std.specs.Prelude.{ℕ, List, Result, Ok, Err, nat_lt, length, if◌then◌else◌}
+use Rattle.std.specs.Prelude.{◌≡◌, ◌+◌, ◌-◌, ℕ, List, Option, Some, None, Result, Ok, Err, cond, nat_lt, length}
 use Rattle.std.specs.Str.{is_utf8}
 use Rattle.ecma_tree.specs.declared.node.Node.{Node}
 use Rattle.ecma_text.specs.declared.modules.ReadError.{ReadError}
 use Rattle.ecma_text.specs.Modules.{reads_as, typescript, deepest}
+use Rattle.ecma_bind.specs.Binding.{with_bound_names}
+use Rattle.ecma_hygiene.specs.Hygienic.{IsHygienic}
 use Rattle.ecma_print.specs.Layout.{layout}
+use Rattle.ecma_scope.specs.Resolved.{contexts, resolved}
 use Rattle.ecma_strip.specs.Stripping.{stripped}
-use Rattle.ts_to_js.specs.Acceptance.{accepted}
-use Rattle.ts_to_js.specs.Refusals.{refusal_of}
+use Rattle.ts_to_js.specs.Refusals.{refusal_of, refused}
 use Rattle.ts_to_js.specs.declared.error.TsError.{TsError}
 use Rattle.ts_to_js.specs.declared.error.TsError.TheVariants as error
 
@@ -15,14 +17,37 @@ use Rattle.ts_to_js.specs.declared.error.TsError.TheVariants as error
 abbrev pub byte_limit : ℕ
 byte_limit = 4194304
 
--- the layout of the tree without its types, or why there is no tree
-abbrev pub printed : Result Node ReadError → Result (List ℕ) TsError
-printed (Ok tree) = Ok (layout (stripped tree))
-printed (Err reason) = Err (refusal_of reason)
+-- the tree with its bindings, where so many contexts are left: the first is that of free names, the next that of the module, and each scope gets one of
+-- those behind
+abbrev pub with_bindings : ℕ → Node → Node
+with_bindings left tree = resolved left (left - 1) (left - 2) tree
 
--- the text of the module that these bytes are converted to, or the first refusal that holds
-abbrev pub converted : List ℕ → Result (List ℕ) TsError
-converted src =
-    if nat_lt byte_limit (length src) then Err error.TooLong
-    else if is_utf8 src then printed (accepted (reads_as src typescript deepest))
-    else Err error.NotUtf8
+-- the tree that is written: names with types round them are bound where names are bound; with its bindings, without its types, and with the texts that tell
+-- its bindings apart
+abbrev pub IsFinal : ℕ → Node → Node → Type 0
+IsFinal left source final = IsHygienic (stripped (with_bindings left (with_bound_names source))) final
+
+-- what comes of a tree that is refused for this, or for nothing
+abbrev pub ComesOf : ℕ → Option TsError → Node → Result (List ℕ) TsError → Type 0
+ComesOf left (Some refusal) source answer = answer ≡ Err refusal
+ComesOf left None source answer = (final : Node) × IsFinal left source final × (answer ≡ Ok (layout final))
+
+-- what comes of what was read
+abbrev pub ComesOfReading : ℕ → Result Node ReadError → Result (List ℕ) TsError → Type 0
+ComesOfReading left (Ok tree) answer = ComesOf left (refused left tree) tree answer
+ComesOfReading left (Err reason) answer = answer ≡ Err (refusal_of reason)
+
+-- the text of the module that these bytes are converted to, where so many contexts are left, or the first refusal that holds
+abbrev pub IsConverted : ℕ → List ℕ → Result (List ℕ) TsError → Type 0
+IsConverted left src answer =
+    cond (nat_lt byte_limit (length src)) (answer ≡ Err error.TooLong)
+    (cond (is_utf8 src) (ComesOfReading left (reads_as src typescript deepest) answer)
+    (answer ≡ Err error.NotUtf8))
+
+-- two contexts and one for each scope of a tree were drawn
+abbrev pub HasGivenFor : ℕ → ℕ → Node → Type 0
+HasGivenFor before now tree = now + (contexts tree + 2) ≡ before
+
+-- of the tree of a text
+abbrev pub HasDrawn : ℕ → ℕ → List ℕ → Type 0
+HasDrawn before now src = (tree : Node) × (reads_as src typescript deepest ≡ Ok tree) × HasGivenFor before now tree

@@ -1,6 +1,5 @@
-pub mod Acceptance
-pub mod Conversion
 pub mod Refusals
+pub mod Conversion
 pub mod Answer
 pub mod UseRule
 pub mod Headline

@@ -1,10 +1,36 @@
--- How a text that was not read is refused.
+-- Why a module is refused: as it is read, and as its tree is looked at.
+use Rattle.std.specs.Prelude.{ℕ, Bool, List, [], ◌∷◌, Option, Some, None, cond, nat_lt}
+use Rattle.ecma_tree.specs.declared.node.Node.{Node}
 use Rattle.ecma_text.specs.declared.modules.ReadError.{ReadError}
 use Rattle.ecma_text.specs.declared.modules.ReadError.TheVariants as reading
+use Rattle.ecma_scope.specs.declared.error.ScopeError.{ScopeError}
+use Rattle.ecma_scope.specs.declared.error.ScopeError.TheVariants as scopes
+use Rattle.ecma_scope.specs.Conflicts.{redeclared}
+use Rattle.ecma_scope.specs.Needs.{needed}
+use Rattle.ecma_forms.specs.Forms.{first_untaken}
 use Rattle.ts_to_js.specs.declared.error.TsError.{TsError}
 use Rattle.ts_to_js.specs.declared.error.TsError.TheVariants as error
 
+-- a text that was not read
 abbrev pub refusal_of : ReadError → TsError
 refusal_of (reading.TooDeep at) = error.TooDeep at
 refusal_of (reading.Syntax at) = error.Syntax at
 refusal_of reading.NoMemory = error.NoMemory
+
+abbrev pub refusal_of_scopes : ScopeError → TsError
+refusal_of_scopes (scopes.Redeclared name) = error.Redeclared name
+refusal_of_scopes scopes.NoMemory = error.NoMemory
+
+-- names that are declared again: the first is told
+abbrev pub refused_names : List (List ℕ) → Option TsError
+refused_names [] = None
+refused_names (name ∷ names) = Some (error.Redeclared name)
+
+-- a form that is not taken, too few contexts, or a name that is declared again, in this order
+abbrev pub refused_by : Option ℕ → Bool → List (List ℕ) → Option TsError
+refused_by (Some at) short names = Some (error.Syntax at)
+refused_by None short names = cond short (Some error.Spent) (refused_names names)
+
+-- a tree that was read, where so many contexts are left
+abbrev pub refused : ℕ → Node → Option TsError
+refused left tree = refused_by (first_untaken tree) (nat_lt left (needed tree)) (redeclared tree)

@@ -10,7 +10,7 @@ use Rattle.devices.specs.Counts.{Rose, CountedAtMost}
 use Rattle.ts_to_js.specs.declared.error.TsError.{TsError}
 use Rattle.ts_to_js.specs.declared.error.TsError.TheVariants as error
 use Rattle.ts_to_js.specs.declared.program.TheConstants.{DONE, REFUSED, BAD_WORD, READ_FAULT, WRITE_FAULT, NO_MEMORY}
-use Rattle.ts_to_js.specs.Conversion.{byte_limit, converted}
+use Rattle.ts_to_js.specs.Conversion.{IsConverted, byte_limit}
 use Rattle.ts_to_js.specs.Headline.{IsValid, IsConversion}
 use Rattle.ts_to_js.specs.Lines.{fault_line, bad_word_line}
 
@@ -29,10 +29,14 @@ abbrev pub bad_word : List (RcStr Global) → Option (List ℕ)
 bad_word [] = None
 bad_word (word ∷ words) = Some (rc_str_bytes word)
 
--- of a bad word, if there is one, and the bytes that are read
-abbrev pub expected : Option (List ℕ) → List ℕ → Expected
-expected None src = expected_of (converted src)
-expected (Some word) src = record { status = BAD_WORD; text = []; line = bad_word_line word }
+-- of a bad word, if there is one, and what the bytes that are read are converted to
+abbrev pub expected : Option (List ℕ) → Result (List ℕ) TsError → Expected
+expected None answer = expected_of answer
+expected (Some word) answer = record { status = BAD_WORD; text = []; line = bad_word_line word }
+
+-- how many contexts a run has
+abbrev pub contexts_of_a_run : ℕ
+contexts_of_a_run = 4294967295
 
 -- the bytes that a run reads of those that a source has left: one more than a module may have, if there are so many
 abbrev pub first_read : List ℕ → List ℕ
@@ -89,16 +93,32 @@ abbrev pub Refuses : TsError → ℕ → Seen → Seen → Type 0
 Refuses error.NoMemory status err err' = (status ≡ NO_MEMORY) × (err' ≡ err)
 Refuses refusal status err err' = (out : Seen) → Ran (expected_of (Err refusal)) status out out err err'
 
+-- memory ran out before anything was written
+abbrev pub IsUnwritten : ℕ → Seen → Seen → Seen → Seen → Type 0
+IsUnwritten status out out' err err' = (status ≡ NO_MEMORY) × (out' ≡ out) × (err' ≡ err)
+
+-- what is expected of a run is what its bytes are converted to, unless nothing came of them: reading failed, or memory ran out before anything was written
+abbrev pub IsExpectedOf : List ℕ → Result (List ℕ) TsError → ℕ → Seen → Seen → Seen → Seen → Type 0
+IsExpectedOf src answer status out out' err err' =
+    IsConverted contexts_of_a_run src answer ⊎ (status ≡ READ_FAULT) ⊎ IsUnwritten status out out' err err'
+
+-- a run without a bad word on these bytes ended so
+abbrev pub IsRunOf : List ℕ → ℕ → Seen → Seen → Seen → Seen → Type 0
+IsRunOf src status out out' err err' = (answer : Result (List ℕ) TsError) × IsExpectedOf src answer status out out' err err' × Ran (expected_of answer) status out out' err err'
+
 -- A run of the program: of a bad word, if there is one, and a source with these bytes left, where it tells them.
 -- The faults are those that the source and the output counted in the run.
 pub record IsRun (bad : Option (List ℕ)) (left : Option (List ℕ)) (status : ℕ) (read_fault write_fault : Type 0) (out out' err err' : Seen) : Type 0 where
   -- the bytes that are read: all that the source had left, or the first of them
   pub src : List ℕ
   pub is_read : IfSome left (λ all. src ≡ first_read all)
-  -- status, output and errors are those expected of the word and these bytes
-  pub ran : Ran (expected bad src) status out out' err err'
+  -- what they are converted to
+  pub answer : Result (List ℕ) TsError
+  pub is_expected : bad ≡ None → IsExpectedOf src answer status out out' err err'
+  -- status, output and errors are those expected of the word and of that
+  pub ran : Ran (expected bad answer) status out out' err err'
   -- where the run is done, what the output took is a conversion of these bytes
-  pub converts : status ≡ DONE → IsConversion src (expected bad src).text
+  pub converts : status ≡ DONE → IsConversion contexts_of_a_run src (expected bad answer).text
   -- a valid module is not refused, and without a bad word and a fault it is converted, unless memory runs out
-  pub refuses : status ≡ REFUSED → IsValid src → ⊥
-  pub complete : bad ≡ None → IsValid src → ¬ read_fault → ¬ write_fault → (status ≡ DONE) ⊎ (status ≡ NO_MEMORY)
+  pub refuses : status ≡ REFUSED → IsValid contexts_of_a_run src → ⊥
+  pub complete : bad ≡ None → IsValid contexts_of_a_run src → ¬ read_fault → ¬ write_fault → (status ≡ DONE) ⊎ (status ≡ NO_MEMORY)

@@ -24,7 +24,7 @@ pub record Interface : Type 0 where
   pub re_exports : List From
   pub exports : List Export
 
--- no production of the grammar imports or exports yet, so there is nothing to import or to export
+-- no form that is taken imports or exports yet, so there is nothing to import or to export
 abbrev pub interface_of : Node → Interface
 interface_of tree = record { imports = []; re_exports = []; exports = [] }
 

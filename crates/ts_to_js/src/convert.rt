@@ -1,20 +1,25 @@
-ghost use Rattle.std.specs.Prelude.{◌≡◌, ◌≤◌, ◌⊎◌, length, ℕ, true, false, MatchOption, Option, IfOk, IfErr, IsErr, IsOk};
+ghost use Rattle.std.specs.Prelude.{◌≡◌, ◌≤◌, ◌+◌, ◌⊎◌, length, true, false, MatchOption, Option, IfErr, IfOk, IsOk, OnOk};
 ghost use Rattle.std.specs.Str.{is_utf8};
-ghost use Rattle.ecma_text.specs.Modules.{Answers as ReadAnswers, deepest, reads_as, typescript};
-ghost use Rattle.ecma_forms.specs.Forms.{first_untaken};
-ghost use Rattle.ecma_forms.specs.Repeated.{first_repeated};
-ghost use Rattle.ts_to_js.specs.Acceptance.{accepted, accepted_by};
-ghost use Rattle.ts_to_js.specs.Conversion.{converted, printed};
-ghost use Rattle.ts_to_js.specs.Answer.{Answers};
+ghost use Rattle.ecma_kind.specs.declared.shapes.Sort.TheVariants as sort;
+ghost use Rattle.ecma_tree.specs.Sorted.{HasSort};
+ghost use Rattle.ecma_scope.specs.Needs.{needed};
+ghost use Rattle.ecma_scope.specs.Resolved.{contexts};
+ghost use Rattle.ecma_text.specs.Modules.{deepest, reads_as, typescript};
+ghost use Rattle.ts_to_js.specs.Answer.{AnswersBy};
+ghost use Rattle.ts_to_js.specs.Conversion.{ComesOf, ComesOfReading, HasDrawn, HasGivenFor, IsConverted, IsFinal, with_bindings};
 ghost use Rattle.ts_to_js.specs.Headline.{IsConversion, IsValid};
-ghost use Rattle.ts_to_js.specs.Refusals.{refusal_of};
+ghost use Rattle.ts_to_js.specs.Refusals.{refused};
 
 use crate::error::TsError;
-use ecma_forms::{first_repeated, first_untaken};
+use ecma_bind::bind_names;
+use ecma_forms::first_untaken;
+use ecma_hygiene::hygiene;
 use ecma_print::print_module;
+use ecma_scope::{check_scopes, needs, resolve};
 use ecma_strip::strip_type;
-use ecma_text::{ReadError, read_module};
-use ecma_tree::{Module, NoMemory, Session};
+use ecma_text::read_module;
+use ecma_tree::{Module, NoMemory, PassError, Session};
+use ecma_written_laws::written_modules_do_what_their_sources_do;
 use std::alloc::Global;
 
 /// How many bytes a module may have.
@@ -31,27 +36,29 @@ pub fn ts_to_js(
     src: &[u8],
     options: &Options,
 ) -> Result<Vec<u8>, TsError>
-    // The text is the layout of the tree without its types; else the first refusal that holds is answered.
+    // The text is the layout of the tree that is written for the module; else the first refusal that holds is answered.
     // Want of memory alone may come instead, but for `TooLong` and `NotUtf8`, which take none.
-    ensures text { Answers result (converted src.now) }
+    ensures text { AnswersBy result (IsConverted session.old.left src.now) }
     // It is a plain module that does what the source does.
-    ensures conversion { IfOk result (λ text. IsConversion src.now text.items) }
-    ensures valid { IsValid src.now → (IsOk result) ⊎ (result ≡ Err TsError.NoMemory) }
-    // Nothing is drawn.
-    ensures session { session.new ≡ session.old }
+    ensures conversion { IfOk result (λ text. IsConversion session.old.left src.now text.items) }
+    ensures valid { IsValid session.old.left src.now → (IsOk result) ⊎ (result ≡ Err TsError.NoMemory) }
+    // Two contexts are drawn, and one for each scope.
+    ensures session { OnOk result (HasDrawn session.old.left session.new.left src.now) }
 {
-    convert_bytes(alloc, src)
+    written_modules_do_what_their_sources_do();
+    convert_bytes(alloc, session, src)
 }
 
-fn convert_bytes(alloc: Global, src: &[u8]) -> Result<Vec<u8>, TsError>
-    ensures { Answers result (converted src.now) }
+fn convert_bytes(alloc: Global, session: &mut Session, src: &[u8]) -> Result<Vec<u8>, TsError>
+    ensures text { AnswersBy result (IsConverted session.old.left src.now) }
+    ensures session { OnOk result (HasDrawn session.old.left session.new.left src.now) }
 {
     if src.len() > LIMIT {
         return Err(TsError::TooLong);
     }
     match decoded(src) {
         None => Err(TsError::NotUtf8),
-        Some(text) => convert_text(alloc, text),
+        Some(text) => convert_text(alloc, session, text),
     }
 }
 
@@ -66,47 +73,77 @@ pub fn decoded(src: &[u8]) -> Option<&str>
     }
 }
 
-fn convert_text(alloc: Global, text: &str) -> Result<Vec<u8>, TsError>
+fn convert_text(alloc: Global, session: &mut Session, text: &str) -> Result<Vec<u8>, TsError>
     requires { length text.now ≤ LIMIT }
-    ensures { Answers result (printed (accepted (reads_as text.now typescript deepest))) }
+    ensures text { AnswersBy result (ComesOfReading session.old.left (reads_as text.now typescript deepest)) }
+    ensures session { OnOk result (HasDrawn session.old.left session.new.left text.now) }
 {
-    convert_reading(alloc, accept(alloc, read_module(alloc, text)))
+    let tree = read_module(alloc, text)?;
+    convert_tree(alloc, session, tree)
 }
 
-/// The tree that was read, where each of its forms is taken and no name is declared twice.
-fn accept(alloc: Global, reading: Result<Module, ReadError>) -> Result<Module, ReadError>
-    ensures tree { IfOk reading (λ tree. ReadAnswers result (accepted (Ok tree))) }
-    ensures reason { IfErr reading (λ reason. result ≡ Err reason) }
+/// Converts a tree that was read, if nothing refuses it.
+fn convert_tree(alloc: Global, session: &mut Session, tree: Module) -> Result<Vec<u8>, TsError>
+    requires { HasSort sort.Module tree }
+    ensures text { AnswersBy result (ComesOf session.old.left (refused session.old.left tree) tree) }
+    ensures session { OnOk result (HasGivenFor session.old.left session.new.left tree) }
 {
-    let tree = reading?;
-    let untaken = first_untaken(&tree);
-    let repeated = first_repeated(alloc, &tree);
-    accept_by(tree, untaken, repeated)
+    accept(alloc, session, &tree)?;
+    convert_accepted(alloc, session, tree)
 }
 
-/// A tree, or the place for which it is refused: of a form that is not taken, else of a name that is declared again.
-fn accept_by(
-    tree: Module,
-    untaken: Option<u32>,
-    repeated: Result<Option<u32>, NoMemory>,
-) -> Result<Module, ReadError>
-    ensures known { IfOk repeated (λ at. result ≡ accepted_by tree untaken at) }
-    ensures unknown { IsErr repeated → (result ≡ Err ReadError.NoMemory) ⊎ ((at : Option ℕ) → result ≡ accepted_by tree untaken at) }
+/// Whether each form of a tree is taken, contexts enough are left, and no name is declared again; else the first of these that fails.
+fn accept(alloc: Global, session: &Session, tree: &Module) -> Result<(), TsError>
+    ensures accepted { OnOk result (refused session.now.left tree.now ≡ None) }
+    ensures refusal { IfErr result (λ refusal. (refusal ≡ TsError.NoMemory) ⊎ (refused session.now.left tree.now ≡ Some refusal)) }
 {
-    match (untaken, repeated) {
-        (Some(at), _) => Err(ReadError::Syntax { at }),
-        (None, Ok(None)) => Ok(tree),
-        (None, Ok(Some(at))) => Err(ReadError::Syntax { at }),
-        (None, Err(NoMemory)) => Err(ReadError::NoMemory),
+    if let Some(at) = first_untaken(tree) {
+        return Err(TsError::Syntax { at });
     }
+    if needs(tree) > u64::from(session.left()) {
+        return Err(TsError::Spent);
+    }
+    check_scopes(alloc, tree)?;
+    Ok(())
 }
 
-/// Prints a module without its types, or says why there is none.
-fn convert_reading(alloc: Global, reading: Result<Module, ReadError>) -> Result<Vec<u8>, TsError>
-    ensures text { IfOk reading (λ tree. Answers result (printed (Ok tree))) }
-    ensures refusal { IfErr reading (λ reason. result ≡ Err (refusal_of reason)) }
+/// Converts a tree that nothing refuses.
+fn convert_accepted(alloc: Global, session: &mut Session, tree: Module) -> Result<Vec<u8>, TsError>
+    requires sorted { HasSort sort.Module tree }
+    requires accepted { refused session.old.left tree ≡ None }
+    ensures text { AnswersBy result (ComesOf session.old.left None tree) }
+    ensures session { OnOk result (HasGivenFor session.old.left session.new.left tree) }
 {
-    let mut tree = reading?;
-    strip_type().visit_mut_module(alloc, &mut tree)?;
+    let mut tree = tree;
+    finish(alloc, session, &mut tree)?;
     Ok(print_module(alloc, &tree)?)
+}
+
+/// Binds names with types round them, gives the tree its bindings, takes its types out, and gives the bindings their final texts.
+fn finish(alloc: Global, session: &mut Session, tree: &mut Module) -> Result<(), NoMemory>
+    requires sorted { HasSort sort.Module tree.old }
+    requires enough { needed tree.old ≤ session.old.left }
+    ensures tree { OnOk result (IsFinal session.old.left tree.old tree.new) }
+    ensures session { OnOk result (HasGivenFor session.old.left session.new.left tree.old) }
+{
+    bind_names(alloc, tree)?;
+    resolve_names(alloc, session, tree)?;
+    strip_type().visit_mut_module(alloc, tree)?;
+    hygiene(alloc, tree)
+}
+
+/// Gives a tree its bindings.
+fn resolve_names(alloc: Global, session: &mut Session, tree: &mut Module) -> Result<(), NoMemory>
+    requires { contexts tree.old + 2 ≤ session.old.left }
+    ensures tree { OnOk result (tree.new ≡ with_bindings session.old.left tree.old) }
+    ensures session { OnOk result (HasGivenFor session.old.left session.new.left tree.old) }
+{
+    let (Ok(unresolved), Ok(top)) = (session.fresh_mark(), session.fresh_mark()) else {
+        unreachable!()
+    };
+    match resolve(alloc, session, tree, unresolved, top) {
+        Ok(()) => Ok(()),
+        Err(PassError::NoMemory) => Err(NoMemory),
+        Err(PassError::Spent) => unreachable!(),
+    }
 }

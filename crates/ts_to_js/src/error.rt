@@ -1,12 +1,13 @@
 ghost use Rattle.std.specs.Prelude.{◌≡◌};
 ghost use Rattle.ts_to_js.specs.declared.error.TsError.TheVariants as error;
 
+use ecma_scope::ScopeError;
 use ecma_text::ReadError;
-use ecma_tree::NoMemory;
+use ecma_tree::{JsWord, NoMemory};
 use thiserror::Error;
 
 /// Why a module was not converted. The first that holds is answered.
-#[derive(Clone, Copy, Debug, PartialEq, Eq, Error)]
+#[derive(Debug, Drop, PartialEq, Eq, Error)]
 pub enum TsError {
     /// The source has more than 4,194,304 bytes.
     #[error("the source is too long")]
@@ -17,10 +18,16 @@ pub enum TsError {
     /// A use above the deepest level begins at this place.
     #[error("too deep at {at}")]
     TooDeep { at: u32 },
-    /// The grammar reads no module there, and the place is the greatest one at which a terminal failed; or the module declares a name that
-    /// it declared before, and the place is where the first such name stands.
+    /// The grammar reads no module there, and the place is the greatest one at which a terminal failed; or a node that begins there breaks a
+    /// context rule, or is of a form that is not taken, and the place is the least of such a node.
     #[error("syntax error at {at}")]
     Syntax { at: u32 },
+    /// The session has fewer marks left than the module needs (`ecma_scope::needs`).
+    #[error("too few contexts are left")]
+    Spent,
+    /// This name is declared again where it may not be; it is the first such name (`ecma_scope::check_scopes`).
+    #[error("{name:?} is declared again")]
+    Redeclared { name: JsWord },
     /// There was no memory. This alone has no cause in the source.
     #[error("out of memory")]
     NoMemory,
@@ -44,6 +51,19 @@ impl From<ReadError> for TsError {
             ReadError::TooDeep { at } => TsError::TooDeep { at },
             ReadError::Syntax { at } => TsError::Syntax { at },
             ReadError::NoMemory => TsError::NoMemory,
+        }
+    }
+}
+
+impl From<ScopeError> for TsError {
+    ghost use Rattle.ts_to_js.specs.Refusals.{refusal_of_scopes};
+
+    ghost from_gives = { λ reason result. result ≡ refusal_of_scopes reason };
+
+    fn from(reason: ScopeError) -> TsError {
+        match reason {
+            ScopeError::Redeclared { name } => TsError::Redeclared { name },
+            ScopeError::NoMemory => TsError::NoMemory,
         }
     }
 }

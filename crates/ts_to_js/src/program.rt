@@ -2,14 +2,14 @@ ghost use Rattle.std.specs.Prelude.{◌≡◌, ◌≢◌, ◌⊎◌, ◌+◌, �
 ghost use Rattle.std.specs.Option.{option_copied};
 ghost use Rattle.devices.specs.Counts.{CountedAtMost, CountedExactlyIf, Rose};
 ghost use Rattle.ts_to_js.specs.Answer.{Answers};
-ghost use Rattle.ts_to_js.specs.Conversion.{converted};
-ghost use Rattle.ts_to_js.specs.Running.{bad_word, expected_of, first_read, seen, written_status, reported_status, Refuses, Ran, IsRun};
+ghost use Rattle.ts_to_js.specs.Running.{bad_word, expected_of, IsRunOf, IsUnwritten, first_read, seen, written_status, reported_status, Refuses, Ran, IsRun};
 
 use crate::convert::{LIMIT, Options, ts_to_js};
 use crate::error::TsError;
 use crate::report::{write_fault, write_line};
 use devices::{ReadFault, Sink, SinkError, Source, read_up_to, write_all};
 use ecma_tree::Session;
+use ecma_written_laws::written_modules_do_what_their_sources_do;
 use std::alloc::Global;
 use std::rc::RcStr;
 
@@ -52,6 +52,7 @@ pub fn run<S: Source, O: Sink, E: Sink>(
         (seen O.taken O.faults O.calls out.old) (seen O.taken O.faults O.calls out.new)
         (seen E.taken E.faults E.calls err.old) (seen E.taken E.faults E.calls err.new) }
 {
+    written_modules_do_what_their_sources_do();
     match bad_word(words) {
         Some(word) => reported(write_line(err, "error: bad word ", word), BAD_WORD),
         None => run_source(alloc, source, out, err),
@@ -78,7 +79,7 @@ fn run_source<S: Source, O: Sink, E: Sink>(
     ensures read_fault { CountedExactlyIf (result ≡ READ_FAULT) (S.faults source.old) (S.faults source.new) }
     ensures write_fault { CountedExactlyIf (result ≡ WRITE_FAULT) (O.faults out.old) (O.faults out.new) }
     ensures run { (src : List ℕ) × IfSome (S.left source.old) (λ left. src ≡ first_read left)
-        × Ran (expected_of (converted src)) result (seen O.taken O.faults O.calls out.old) (seen O.taken O.faults O.calls out.new)
+        × IsRunOf src result (seen O.taken O.faults O.calls out.old) (seen O.taken O.faults O.calls out.new)
         (seen E.taken E.faults E.calls err.old) (seen E.taken E.faults E.calls err.new) }
 {
     match read_up_to(alloc, source, LIMIT + 1) {
@@ -92,7 +93,7 @@ fn run_source<S: Source, O: Sink, E: Sink>(
 fn convert<O: Sink, E: Sink>(alloc: Global, src: &[u8], out: &mut O, err: &mut E) -> u8
     ensures write_fault { CountedExactlyIf (result ≡ WRITE_FAULT) (O.faults out.old) (O.faults out.new) }
     ensures no_read_fault { result ≢ READ_FAULT }
-    ensures run { Ran (expected_of (converted src.now)) result (seen O.taken O.faults O.calls out.old) (seen O.taken O.faults O.calls out.new)
+    ensures run { IsRunOf src.now result (seen O.taken O.faults O.calls out.old) (seen O.taken O.faults O.calls out.new)
         (seen E.taken E.faults E.calls err.old) (seen E.taken E.faults E.calls err.new) }
 {
     let mut session = Session::new(u32::MAX);
@@ -104,7 +105,9 @@ fn convert<O: Sink, E: Sink>(alloc: Global, src: &[u8], out: &mut O, err: &mut E
 pub fn tell<O: Sink, E: Sink>(answer: Result<Vec<u8>, TsError>, out: &mut O, err: &mut E) -> u8
     ensures write_fault { CountedExactlyIf (result ≡ WRITE_FAULT) (O.faults out.old) (O.faults out.new) }
     ensures no_read_fault { result ≢ READ_FAULT }
-    // Want of memory is that of the answer, or that of a sink.
+    // Want of memory is that of the answer, which touches no sink, or that of a sink.
+    ensures lacking { answer ≡ Err TsError.NoMemory → IsUnwritten result (seen O.taken O.faults O.calls out.old) (seen O.taken O.faults O.calls out.new)
+        (seen E.taken E.faults E.calls err.old) (seen E.taken E.faults E.calls err.new) }
     ensures memory { answer ≢ Err TsError.NoMemory → result ≡ NO_MEMORY
         → (Rose (O.calls out.old) (O.calls out.new)) ⊎ (Rose (E.calls err.old) (E.calls err.new)) }
     ensures run { (conversion : Result (List ℕ) TsError) → Answers answer conversion
@@ -126,7 +129,7 @@ fn refuse<E: Sink>(err: &mut E, refusal: TsError) -> u8
 {
     match refusal {
         TsError::NoMemory => NO_MEMORY,
-        _ => reported(write_fault(err, refusal), REFUSED),
+        _ => reported(write_fault(err, &refusal), REFUSED),
     }
 }
 

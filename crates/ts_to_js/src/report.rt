@@ -3,7 +3,7 @@ ghost use Rattle.std.specs.Prelude.{◌≡◌, ◌++◌, ◌∷◌, [], length, 
 ghost use Rattle.std.specs.Io.KnownBytes.{append_known};
 ghost use Rattle.devices.specs.Counts.{CountedAtMost, CountedExactlyIf, Rose};
 ghost use Rattle.devices.specs.Sink.{TakesPart};
-ghost use Rattle.ts_to_js.specs.Lines.{line, fault_head, fault_place, fault_line};
+ghost use Rattle.ts_to_js.specs.Lines.{line, fault_head, fault_line, fault_tail};
 
 use crate::error::TsError;
 use devices::{Sink, SinkError, write_all};
@@ -45,41 +45,37 @@ pub(crate) fn write_line<K: Sink>(sink: &mut K, head: &str, tail: &str) -> Resul
     write_both(sink, tail, "\n")
 }
 
-/// Writes the line of a refusal: its name, and its place if it has one.
-pub(crate) fn write_fault<K: Sink>(sink: &mut K, refusal: TsError) -> Result<(), SinkError>
-    ensures ok { OnOk result (K.taken sink.new ≡ append_known (K.taken sink.old) (fault_line refusal)) }
-    ensures err { OnErr result (TakesPart (K.taken sink.old) (K.taken sink.new) (fault_line refusal)) }
+/// Writes the line of a refusal: its name, and its place or the name that it tells.
+pub(crate) fn write_fault<K: Sink>(sink: &mut K, refusal: &TsError) -> Result<(), SinkError>
+    ensures ok { OnOk result (K.taken sink.new ≡ append_known (K.taken sink.old) (fault_line refusal.now)) }
+    ensures err { OnErr result (TakesPart (K.taken sink.old) (K.taken sink.new) (fault_line refusal.now)) }
     ensures faults { CountedExactlyIf (result ≡ Err SinkError.Failed) (K.faults sink.old) (K.faults sink.new) }
-    ensures calls { CountedAtMost (K.calls sink.old) (K.calls sink.new) (length (fault_line refusal)) }
+    ensures calls { CountedAtMost (K.calls sink.old) (K.calls sink.new) (length (fault_line refusal.now)) }
     ensures called { OnErr result (Rose (K.calls sink.old) (K.calls sink.new)) }
 {
     let head = fault_head(refusal);
-    match fault_place(refusal) {
-        None => write_line(sink, head, ""),
-        Some(at) => {
+    match refusal {
+        TsError::TooDeep { at } | TsError::Syntax { at } => {
             let mut digits = itoa::Buffer::new();
-            write_line(sink, head, digits.format(at))
+            write_line(sink, head, digits.format(*at))
+        }
+        TsError::Redeclared { name } => write_line(sink, head, name.as_str()),
+        TsError::TooLong | TsError::NotUtf8 | TsError::Spent | TsError::NoMemory => {
+            write_line(sink, head, "")
         }
     }
 }
 
-fn fault_head(refusal: TsError) -> &'static str
-    ensures { result.now ≡ fault_head refusal }
+fn fault_head(refusal: &TsError) -> &'static str
+    ensures { result.now ≡ fault_head refusal.now }
 {
     match refusal {
         TsError::TooLong => "error: TooLong",
         TsError::NotUtf8 => "error: NotUtf8",
         TsError::TooDeep { .. } => "error: TooDeep at ",
         TsError::Syntax { .. } => "error: Syntax at ",
+        TsError::Spent => "error: Spent",
+        TsError::Redeclared { .. } => "error: Redeclared ",
         TsError::NoMemory => "error: NoMemory",
-    }
-}
-
-fn fault_place(refusal: TsError) -> Option<u32>
-    ensures { result ≡ fault_place refusal }
-{
-    match refusal {
-        TsError::TooDeep { at } | TsError::Syntax { at } => Some(at),
-        TsError::TooLong | TsError::NotUtf8 | TsError::NoMemory => None,
     }
 }

@@ -1,3 +1,9 @@
+mod expressions;
+mod names;
+mod refusals;
+mod statements;
+mod texts;
+
 use super::*;
 use devices::VecSink;
 use ecma_print::print_module;
@@ -10,6 +16,7 @@ use std::rc::RcStr;
 use std::test::Fail;
 
 /// A run over devices in memory.
+#[derive(Drop)]
 struct Row {
     word: &'static str,
     src: &'static str,
@@ -87,7 +94,7 @@ const ROWS: [Row; 21] = [
         src: "let a;\nlet b, a;",
         status: REFUSED,
         out: "",
-        err: "error: Syntax at 14\n",
+        err: "error: Redeclared a\n",
     },
     Row {
         word: "-x",
@@ -127,9 +134,9 @@ const ROWS: [Row; 21] = [
     Row {
         word: "",
         src: "f(a); a ?? b",
-        status: REFUSED,
-        out: "",
-        err: "error: Syntax at 6\n",
+        status: DONE,
+        out: "f(a);\na ?? b;\n",
+        err: "",
     },
     Row {
         word: "",
@@ -194,6 +201,54 @@ fn modules_are_converted_or_refused(rt: HostRuntime) -> Result<(), Fail> {
         check(&rt, rt.alloc(), row)?;
     }
     Ok(())
+}
+
+/// A module, and what is written for it; or the line of its refusal.
+struct Case {
+    src: &'static str,
+    want: &'static str,
+}
+
+/// A case as a run.
+fn as_run(case: &Case) -> Row {
+    let refused = case.want.starts_with("error: ");
+    Row {
+        word: "",
+        src: case.src,
+        status: if refused { REFUSED } else { DONE },
+        out: if refused { "" } else { case.want },
+        err: if refused { case.want } else { "" },
+    }
+}
+
+#[test]
+fn modules_of_all_forms_are_converted_or_refused(rt: HostRuntime) -> Result<(), Fail> {
+    let tables = [
+        statements::STATEMENTS.as_slice(),
+        expressions::EXPRESSIONS.as_slice(),
+        refusals::REFUSED.as_slice(),
+        names::NAMES.as_slice(),
+        texts::TEXTS.as_slice(),
+    ];
+    for table in tables {
+        for case in table {
+            check(&rt, rt.alloc(), &as_run(case))?;
+        }
+    }
+    Ok(())
+}
+
+/// A session with so many marks left, and what comes of a module then.
+fn spent(alloc: Global, left: u32) -> bool {
+    let mut session = ecma_tree::Session::new(left);
+    let answer = ts_to_js(alloc, &mut session, b"let x: number = f(1);", &Options {});
+    matches!(answer, Err(TsError::Spent))
+}
+
+#[test]
+fn contexts_are_spent_where_too_few_are_left(rt: HostRuntime) {
+    assert!(rt; spent(rt.alloc(), 16));
+    assert!(rt; !spent(rt.alloc(), 17));
 }
 
 /// A module, and its text without types.
@@ -294,6 +349,16 @@ fn refused(rt: &impl Abort, alloc: Global, src: Vec<u8>, line: &str) {
     assert_eq!(rt; err.taken(), line.as_bytes());
 }
 
+/// What is too deep where it stands 600 times, and where.
+const DEEP: [(&str, &str); 6] = [
+    ("(", "error: TooDeep at 511\n"),
+    ("f(", "error: TooDeep at 511\n"),
+    ("{", "error: TooDeep at 512\n"),
+    ("!", "error: TooDeep at 510\n"),
+    ("if(a)", "error: TooDeep at 2558\n"),
+    ("function f(){", "error: TooDeep at 6654\n"),
+];
+
 #[test]
 fn bytes_past_the_limits_are_refused(rt: HostRuntime) -> Result<(), Fail> {
     let alloc = rt.alloc();
@@ -304,11 +369,13 @@ fn bytes_past_the_limits_are_refused(rt: HostRuntime) -> Result<(), Fail> {
         "error: TooLong\n",
     );
     refused(&rt, alloc, vec![in alloc; 0xFF; 1]?, "error: NotUtf8\n");
-    let mut deep = Vec::new(alloc);
-    for _ in 0..513 {
-        deep.extend_from_slice(b"f(")?;
+    for (opening, line) in DEEP {
+        let mut deep = Vec::new(alloc);
+        for _ in 0..600 {
+            deep.extend_from_slice(opening.as_bytes())?;
+        }
+        refused(&rt, alloc, deep, line);
     }
-    refused(&rt, alloc, deep, "error: TooDeep at 511\n");
     Ok(())
 }
 
@@ -364,6 +431,7 @@ fn errors_say_why(rt: HostRuntime) -> Result<(), Fail> {
         (TsError::NotUtf8, "the source is not UTF-8"),
         (TsError::TooDeep { at: 511 }, "too deep at 511"),
         (TsError::Syntax { at: 12 }, "syntax error at 12"),
+        (TsError::Spent, "too few contexts are left"),
         (TsError::NoMemory, "out of memory"),
     ];
     for (error, want) in rows {

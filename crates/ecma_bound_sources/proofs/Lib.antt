@@ -1,0 +1,4 @@
+pub mod Keeping
+pub mod Everywhere
+pub mod Read
+pub mod Taken

@@ -1,0 +1,80 @@
+-- Where each form of a tree is taken, each is with bound names.
+use Rattle.std.proofs.Common.{◌≡◌, ◌∙◌, ℕ, zero, suc, false, not, ◌||◌, List, [], ◌∷◌, Some, None, refl, sym, ap, subst, slice_get}
+use Rattle.ecma_kind.specs.declared.kind.Kind.{Kind}
+use Rattle.ecma_kind.specs.declared.kind.Kind.TheVariants as kind
+use Rattle.ecma_tree.specs.declared.node.Node.{Node, Node-F, out-Node}
+use Rattle.ecma_tree.specs.declared.node.Node.TheViews.{out-roll-Node}
+use Rattle.ecma_tree.specs.Nodes.{absent, dummy_span}
+use Rattle.ecma_rules.specs.Children.{child_holds, kind_of}
+use Rattle.ecma_rules.specs.Finishing.{binding}
+use Rattle.ecma_fits.specs.declared.role.Role.{Role}
+use Rattle.ecma_fits.specs.declared.role.Role.TheVariants as role
+use Rattle.ecma_fits.specs.Roles.{role_in}
+use Rattle.ecma_forms.specs.Forms.{first_untaken, has_body, inside, is_ambient_variable, is_later, is_odd_by, is_rest, is_untaken, untaken_here}
+use Rattle.ecma_strip_fits.proofs.Strays.{none_failing, not_failing}
+use Rattle.ecma_bind.specs.Binding.{binds, bound_at, is_typed_name}
+use Rattle.ecma_bound_names.proofs.Alike.{bound_parts, child_same, has_same, holds_where, quiet_usual, usual_children, usual_kind}
+use Rattle.ecma_bound_names.proofs.Bound.{bound_each, children_of, parts_none, whole_none}
+use Rattle.ecma_bound_sources.specs.Laws.{BoundTreesAreTaken}
+use Rattle.ecma_bound_sources.proofs.Keeping.{bound_keeps}
+
+abbrev Taken : Node → Type 0
+Taken n = first_untaken n ≡ None
+
+down : (n : Node) → Taken n → (i : ℕ) (c : Node) → slice_get (children_of n) i ≡ Some c → Taken c
+down n h = (parts_none (Unit {0}) untaken_here inside n tt h).1
+
+-- a node of a form that is taken, whose children are of such forms
+taken_of : (n : Node) → is_untaken n ≡ false → ((i : ℕ) (c : Node) → slice_get (children_of n) i ≡ Some c → Taken c) → Taken n
+taken_of n t below = whole_none (Unit {0}) untaken_here inside n tt (none_failing (is_untaken n) n t) below
+
+-- ---- a name that is bound
+
+absent_parts : out-Node absent ≡ record { span = dummy_span; kind = kind.Absent; children = [] }
+absent_parts = out-roll-Node (record { span = dummy_span; kind = kind.Absent; children = [] })
+
+none_below : (i : ℕ) (c : Node) → slice_get [] i ≡ Some c → Taken c
+none_below i c at = cc
+
+absent_taken : Taken absent
+absent_taken =
+    taken_of absent (ap (λ (z : Node-F Node). is_later z.kind || is_odd_by z.kind absent) absent_parts)
+    (λ i c at. none_below i c (ap (λ (z : Node-F Node). slice_get z.children i) (sym absent_parts) ∙ at))
+
+both_taken : (u : Node) → Taken u → (i : ℕ) (c : Node) → slice_get (u ∷ absent ∷ []) i ≡ Some c → Taken c
+both_taken u h zero c at = let same : u ≡ c = cc in subst Taken same h
+both_taken u h (suc zero) c at = let same : absent ≡ c = cc in subst Taken same absent_taken
+both_taken u h (suc (suc i)) c at = cc
+
+named : (u : Node) → Taken u → Taken (binding u)
+named u h =
+    taken_of (binding u) (ap (λ (z : Node-F Node). is_later z.kind || is_odd_by z.kind (binding u)) (bound_parts u))
+    (λ i c at. both_taken u h i c (ap (λ (z : Node-F Node). slice_get z.children i) (sym (bound_parts u)) ∙ at))
+
+-- ---- any other node
+
+body_same : (n : Node) (r : Role) → is_typed_name r n ≡ false → binds (role_in r (kind_of n) 1) ≡ false → child_holds has_body (bound_at n r) 1 ≡ child_holds has_body n 1
+body_same n r t q = holds_where has_body n r t 1 (λ c at. has_same 1 c (role_in r (kind_of n) 1) (quiet_usual c (role_in r (kind_of n) 1) q))
+
+odd_same : (k : Kind) (n : Node) → kind_of n ≡ k → (r : Role) → is_typed_name r n ≡ false → is_odd_by k (bound_at n r) ≡ is_odd_by k n
+unfolding role_in
+odd_same kind.AssignPat n e r t = child_same is_rest (refl, refl, refl, refl, refl, refl) 0 n r t
+odd_same kind.SetterProp n e r t = λ j. has_same 1 n r t j || (child_same is_rest (refl, refl, refl, refl, refl, refl) 2 n r t j || not (has_same 3 n r t j))
+odd_same kind.GetterProp n e r t = ap not (has_same 2 n r t)
+odd_same kind.MethodProp n e r t = ap not (body_same n r t (ap (λ k. binds (role_in r k 1)) e))
+odd_same kind.FnExpr n e r t = ap not (body_same n r t (ap (λ k. binds (role_in r k 1)) e))
+odd_same kind.ForStmt n e r t = child_same is_ambient_variable (refl, refl, refl, refl, refl, refl) 0 n r t
+odd_same kind.ForInStmt n e r t = child_same is_ambient_variable (refl, refl, refl, refl, refl, refl) 0 n r t
+odd_same (kind.ForOfStmt is_await) n e r t = child_same is_ambient_variable (refl, refl, refl, refl, refl, refl) 0 n r t
+odd_same _ n e r t = refl
+
+untaken_same : (n : Node) (r : Role) → is_typed_name r n ≡ false → is_untaken (bound_at n r) ≡ is_untaken n
+untaken_same n r t = ap (λ k. is_later k || is_odd_by k (bound_at n r)) (usual_kind n r t) ∙ ap (λ b. is_later (kind_of n) || b) (odd_same (kind_of n) n refl r t)
+
+usual : (n : Node) (r : Role) → is_typed_name r n ≡ false → Taken n → ((i : ℕ) (d : Node) → slice_get (bound_each (role_in r (kind_of n)) (children_of n)) i ≡ Some d → Taken d) → Taken (bound_at n r)
+usual n r t h each =
+    taken_of (bound_at n r) (untaken_same n r t ∙ not_failing (is_untaken n) n (parts_none (Unit {0}) untaken_here inside n tt h).0)
+    (λ i c at. each i c (ap (λ (z : List Node). slice_get z i) (sym (usual_children n r t)) ∙ at))
+
+pub trees_are_taken : BoundTreesAreTaken
+trees_are_taken tree h = bound_keeps Taken down named usual tree h role.Free

@@ -1,0 +1,14 @@
+pub mod Everywhere
+pub mod Stripping
+pub mod Renaming
+pub mod Texts
+pub mod KindsSaid
+pub mod Items
+pub mod Hashbang
+pub mod Taken
+pub mod Ordinary
+pub mod OrdinaryRenamed
+pub mod OrdinaryParts
+pub mod OrdinaryStripped
+pub mod Untaken
+pub mod Law

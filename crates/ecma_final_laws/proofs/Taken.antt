@@ -1,0 +1,135 @@
+-- No node of the written tree is TypeScript, and its leaves are bare.
+use Rattle.std.proofs.Common.{◌≡◌, ◌∙◌, ◌⊎◌, None, inl, inr, refl, sym, ap, subst, ℕ, Bool, true, false, List, map}
+use Rattle.std.specs.Prelude.{bytes_eq, codes}
+use Rattle.std.proofs.lemmas.Bool.{false≢true}
+use Rattle.std.proofs.lemmas.Slice.Eq.{bytes_eq-Decides}
+use Rattle.ecma_lex.specs.Keys.{is_reserved, reserved_words}
+use Rattle.std.specs.Str.{IsUtf8}
+use Rattle.ecma_kind.specs.declared.kind.Kind.{Kind}
+use Rattle.ecma_kind.specs.declared.kind.Kind.TheVariants as kind
+use Rattle.ecma_kind.specs.declared.shapes.Sort.TheVariants as sort
+use Rattle.ecma_tree.specs.Finding.{enters_all, finds}
+use Rattle.ecma_tree.specs.Sorted.{one}
+use Rattle.ecma_tree.specs.declared.node.Node.{Node}
+use Rattle.ecma_spelling.specs.Everywhere.{Everywhere}
+use Rattle.ecma_rules.specs.Children.{kind_of}
+use Rattle.ecma_fits.specs.Fitting.{Fits}
+use Rattle.ecma_fits_kept.proofs.Contexts.{resolved_fit_alike}
+use Rattle.ecma_plain_laws.specs.Bare.{IsBareUnquestioned}
+use Rattle.ecma_runs.specs.Evaluation.{meaning}
+use Rattle.ecma_runs.specs.Meaning.{Meaning}
+use Rattle.ecma_scope.specs.Resolved.{resolved}
+use Rattle.ecma_scope.proofs.Unchanged.{changes-contexts}
+use Rattle.ecma_strip.specs.Laws.{is_type_part}
+use Rattle.ecma_strip.specs.Stripping.{stripped}
+use Rattle.ecma_strip.proofs.Leaving.{no_types_are_left}
+use Rattle.ecma_strip_fits.proofs.SortsKept.{fits_under_types}
+use Rattle.ecma_hygiene.specs.Hygienic.{IsHygienic}
+use Rattle.ecma_hygiene.specs.Renamed.{Texts, renamed, text_of}
+use Rattle.ecma_hygiene.specs.Sights.{meetings, sights}
+use Rattle.ecma_hygiene.specs.Texts.{text_in}
+use Rattle.ecma_hygiene_fits.proofs.Everywhere.{children_of}
+use Rattle.ecma_hygiene_fits.specs.Named.{IsUnreserved}
+use Rattle.ecma_hygiene_fits.proofs.Numbered.{texts_unreserved}
+use Rattle.ecma_pass_laws.specs.TypesAlone.{adds_types_alone}
+use Rattle.ecma_pass_laws.proofs.Contexts.{resolved-adds-types}
+use Rattle.ecma_pass_laws.proofs.Full.{modules-are-full}
+use Rattle.ecma_pass_laws.proofs.FullParts.{full_by, is_full, lacks}
+use Rattle.ecma_pass_laws.proofs.Nodes.{by-children, test-below}
+use Rattle.ecma_pass_laws.proofs.Plainness.{finds-below, finds-itself, full-lacks}
+use Rattle.ecma_forms.specs.Forms.{first_untaken, is_ambient_variable}
+use Rattle.ecma_source_laws.specs.Sources.{IsRead}
+use Rattle.ecma_source_laws.proofs.Taken.{not_later, taken_below}
+use Rattle.ecma_source_laws.proofs.TypesAlone.{types_alone}
+use Rattle.ecma_final_laws.proofs.Everywhere.{each_at, each_of, everywhere_both, everywhere_made, everywhere_moved, everywhere_returned, parts}
+use Rattle.ecma_final_laws.proofs.KindsSaid.{IsGiven, IsLeft, IsNotLater, IsNotThis, bare_given, empty, given_bare, given_left, given_plain, given_texts, left_old, left_written}
+use Rattle.ecma_final_laws.proofs.Renaming.{everywhere_renamed}
+use Rattle.ecma_final_laws.proofs.Stripping.{everywhere_stripped}
+use Rattle.ecma_final_laws.proofs.Texts.{final_text_utf8}
+
+-- ---- the source
+
+abbrev NoneLater : Node → Type 0
+NoneLater n = first_untaken n ≡ None → Everywhere IsNotLater n
+
+none_later : (n : Node) → NoneLater n
+none_later = by-children NoneLater (λ n below taken. everywhere_made IsNotLater n (not_later n taken) (each_of IsNotLater (children_of n) (λ i c at. below i c at (taken_below n taken i c at))))
+
+together : (k : Kind) → IsBareUnquestioned k → IsNotLater k → IsGiven k
+together k p l = (given_texts k p, l)
+
+-- ---- what is left without types
+
+constant : (k : Kind) (ms : List Meaning) → lacks k ms ≡ false → is_ambient_variable k ≡ false
+constant (kind.VarDecl word declare) ms h = h
+constant _ ms h = refl
+
+abbrev Leaves : Node → Type 0
+Leaves n = Everywhere IsGiven n → finds is_type_part enters_all n ≡ false → is_full n ≡ true → Everywhere IsLeft n
+
+leaves : (n : Node) → Leaves n
+leaves = by-children Leaves (λ n below g free full.
+    (let p = parts IsGiven g in
+    everywhere_made IsLeft n (given_left (kind_of n) p.0 (finds-itself is_type_part n free) (constant (kind_of n) (map meaning (children_of n)) (full-lacks n full)))
+    (each_of IsLeft (children_of n) (λ i c at. below i c at (each_at IsGiven (children_of n) p.1 i c at) (finds-below is_type_part n free i c at) (test-below full_by n full i c at)))))
+
+-- ---- the written tree
+
+this_reserved : is_reserved (codes "this") ≡ true
+unfolding is_reserved reserved_words
+this_reserved = refl
+
+-- what is no reserved word is not `this`
+not_this : (text : List ℕ) → is_reserved text ≡ false → IsNotThis text
+not_this text free = go (bytes_eq text (codes "this")) refl
+  where
+    go : (b : Bool) → bytes_eq text (codes "this") ≡ b → IsNotThis text
+    go false e = e
+    go true e = absurd (false≢true (sym free ∙ ap is_reserved ((bytes_eq-Decides text (codes "this")).0 e) ∙ this_reserved))
+
+module _ (unresolved top left : ℕ) (source : Node) (read : IsRead source) (taken : first_untaken source ≡ None) where
+  abbrev pub r : Node
+  r = resolved unresolved top left source
+
+  abbrev pub s : Node
+  s = stripped r
+
+  pub resolved_fits : Fits r
+  resolved_fits = (resolved_fit_alike unresolved top left source).1 read.fits
+
+  alone : adds_types_alone r ≡ true
+  alone = resolved-adds-types changes-contexts unresolved top left source (types_alone source (one sort.Module) read.fits.sorted taken)
+
+  pub stripped_full : is_full s ≡ true
+  stripped_full = modules-are-full r resolved_fits alone
+
+  free : finds is_type_part enters_all s ≡ false
+  free = no_types_are_left r sort.Module refl (fits_under_types r resolved_fits)
+
+  given_source : Everywhere IsGiven source
+  given_source = everywhere_both IsBareUnquestioned IsNotLater IsGiven together source read.bare (none_later source taken)
+
+  given_resolved : Everywhere IsGiven r
+  given_resolved =
+      everywhere_returned IsGiven IsGiven empty bare_given r
+      (subst (Everywhere IsGiven) (sym (changes-contexts unresolved top left source)) (everywhere_moved IsGiven IsGiven empty given_bare given_source))
+
+  left_stripped : Everywhere IsLeft s
+  left_stripped = leaves s (everywhere_stripped IsGiven IsGiven given_plain (tt, refl) (tt, refl) given_resolved) free stripped_full
+
+  module _ (final : Node) (hygienic : IsHygienic s final) where
+    abbrev pub texts : Texts
+    texts = text_in hygienic.names
+
+    utf8 : (text : List ℕ) (ctxt : ℕ) → IsUtf8 text → IsUtf8 (text_of texts (text, ctxt))
+    utf8 text ctxt h = final_text_utf8 (sights s) (meetings s) hygienic.names hygienic.texts (text, ctxt) h
+
+    other : (text : List ℕ) (ctxt : ℕ) → IsNotThis text → IsNotThis (text_of texts (text, ctxt))
+    other text ctxt h = go (texts_unreserved s hygienic.names hygienic.texts (text, ctxt))
+      where
+        go : (text_of texts (text, ctxt) ≡ text) ⊎ IsUnreserved (text_of texts (text, ctxt)) → IsNotThis (text_of texts (text, ctxt))
+        go (inl same) = subst IsNotThis (sym same) h
+        go (inr free) = not_this (text_of texts (text, ctxt)) free.unreserved
+
+    pub left_renamed : Everywhere IsLeft (renamed texts s)
+    left_renamed = everywhere_renamed IsLeft IsLeft texts (left_written texts utf8 other) left_old ((tt, refl), refl) ((tt, refl), refl) ((tt, refl), refl) s left_stripped

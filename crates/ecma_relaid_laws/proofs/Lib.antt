@@ -1,0 +1,2 @@
+pub mod OddRests
+pub mod Relaid

@@ -1,0 +1,49 @@
+-- What was read as a plain module is plain, so its layout is read again.
+use Rattle.std.proofs.Common.{◌≡◌, ◌∙◌, ℕ, true, false, None, Ok, sym, ap, subst, arith}
+use Rattle.ecma_tree.specs.declared.node.Node.{Node}
+use Rattle.ecma_tree.specs.Spans.{without_spans}
+use Rattle.ecma_parentheses.specs.Explicit.{explicit}
+use Rattle.ecma_spelling.specs.Everywhere.{Everywhere}
+use Rattle.ecma_rules.specs.Children.{kind_of}
+use Rattle.ecma_fits_reread.specs.Forms.{IsTaken}
+use Rattle.ecma_fits_reread.specs.Functions.{functions}
+use Rattle.ecma_fits_reread.specs.Items.{HasUtf8Hashbang, has_plain_items}
+use Rattle.ecma_plain_laws.specs.Functions.{FunctionsAreUsualByTests, ReadPlainFunctionsHaveBodies, ReadPlainNamesAreNotThis}
+use Rattle.ecma_plain_laws.specs.Plain.{PlainTextsWithoutAssignmentsHavePlainItems, ReadPlainTreesAreTaken}
+use Rattle.ecma_round_trip.specs.Laws.{WhatFitsIsReadAgain}
+use Rattle.ecma_round_trip.specs.Plain.{IsPlain}
+use Rattle.ecma_scope.specs.Laws.{without_contexts}
+use Rattle.ecma_source_laws.specs.Sources.{IsRead, ReadTreesAreRead}
+use Rattle.ecma_source_laws.proofs.Sources.{tree_stays}
+use Rattle.ecma_text.specs.Modules.{plain}
+use Rattle.ecma_relaid_laws.specs.Relaid.{RelaidModulesAreReadAgain}
+use Rattle.ecma_relaid_laws.proofs.OddRests.{none_odd}
+
+pub record Laws : Type 0 where
+  pub reads : ReadTreesAreRead
+  pub taken : ReadPlainTreesAreTaken
+  pub items : PlainTextsWithoutAssignmentsHavePlainItems
+  pub bodies : ReadPlainFunctionsHaveBodies
+  pub names : ReadPlainNamesAreNotThis
+  pub usual : FunctionsAreUsualByTests
+  pub again : WhatFitsIsReadAgain
+
+-- a tree without contexts is itself where none has one
+plain_by : (tree : Node) → without_contexts tree ≡ tree → IsRead tree → Everywhere IsTaken tree → (functions tree).has_unusual ≡ false → has_plain_items false tree ≡ true → IsPlain false tree
+plain_by tree bare read taken usual items = record {
+  fits = read.fits;
+  taken = subst (Everywhere IsTaken) (sym bare) taken;
+  usual = ap (λ t. (functions t).has_unusual) bare ∙ usual;
+  items = ap (has_plain_items false) bare ∙ items;
+  hashbang = subst (λ t. HasUtf8Hashbang (kind_of t)) (sym bare) read.hashbang;
+}
+
+pub relaid_modules : Laws → RelaidModulesAreReadAgain
+relaid_modules laws text bound tree utf8 small reads rests =
+    let read : IsRead tree = laws.reads text (plain false) bound tree utf8 small reads in
+    let bare : without_contexts tree ≡ tree = tree_stays read.bare in
+    let usual = laws.usual tree (laws.bodies text false bound tree utf8 reads) (laws.names text false bound tree utf8 reads) (none_odd tree rests) in
+    let is_plain = plain_by tree bare read (laws.taken text false bound tree utf8 reads) usual (laws.items text bound tree utf8 reads) in
+    let enough = laws.again false tree is_plain in
+    let again = enough.1 enough.0 (omega arith) in
+    record { levels = enough.0; again = again.0; read_plain = again.1; same = again.2 ∙ ap (λ t. without_spans (explicit t)) bare }

@@ -1,0 +1,7 @@
+use Rattle.std.proofs.Common.{sym}
+use Rattle.ecma_text.specs.Modules.{deepest, typescript}
+use Rattle.ecma_text_laws.proofs.Finished.{read_sorted}
+use Rattle.ts_to_js.proofs.convert.convert_text.Goals as goal
+
+pub convert_tree-requires : goal.convert_tree-requires
+convert_tree-requires c = read_sorted c.args.text.now typescript deepest c.in_ok-tree.tree (sym c.in_ok-tree.ensures)

@@ -1,0 +1,83 @@
+//! Modules that are refused: forms that are not taken, and what is no module.
+use super::Case;
+
+pub(super) const REFUSED: [Case; 13] = [
+    // import
+    Case {
+        src: r#"f(); import { a } from "m";"#,
+        want: r#"error: Syntax at 5
+"#,
+    },
+    // export
+    Case {
+        src: "let x: T; export const a = 1;",
+        want: r#"error: Syntax at 10
+"#,
+    },
+    // parameter property
+    Case {
+        src: "class A { constructor(private x: T) {} }",
+        want: r#"error: Syntax at 22
+"#,
+    },
+    // namespace
+    Case {
+        src: "a; namespace N { let b = 1 }",
+        want: r#"error: Syntax at 3
+"#,
+    },
+    // enum in a block
+    Case {
+        src: "function f() { enum E { A } }",
+        want: r#"error: Syntax at 15
+"#,
+    },
+    // comment of HTML
+    Case {
+        src: "<!-- a",
+        want: r#"error: Syntax at 1
+"#,
+    },
+    // text part without a tag
+    Case {
+        src: r#"x = `\u{m}`"#,
+        want: r#"error: Syntax at 4
+"#,
+    },
+    // decorator
+    Case {
+        src: "@d class A {}",
+        want: r#"error: Syntax at 0
+"#,
+    },
+    // broken rule before a form
+    Case {
+        src: r#"import "m"; for (let a = 1 of b) ;"#,
+        want: r#"error: Syntax at 17
+"#,
+    },
+    // two getters' parameters
+    Case {
+        src: "class A { get a(b: T) { return b } }",
+        want: r#"error: Syntax at 10
+"#,
+    },
+    // two constructors
+    Case {
+        src: "class A { constructor() {} constructor(a: T) {} }",
+        want: r#"error: Syntax at 27
+"#,
+    },
+    // lexical body
+    Case {
+        src: "if (a) let b: T",
+        want: r#"error: Syntax at 7
+"#,
+    },
+    // function as a body
+    Case {
+        src: "if (a) function f() {}",
+        want: r#"error: Syntax at 7
+"#,
+    },
+];
