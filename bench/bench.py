@@ -21,7 +21,7 @@ PROGRAM = TOP / "crates" / "ts_to_js_cli" / "out" / "ts_to_js_cli"
 
 
 def declaration(number):
-    """Declarations with types, members and calls: the language that is read today."""
+    """Declarations with types, members and calls."""
     return (
         f"type Row{number} = records.Row;\n"
         f"const total{number}: records.Total = source.rows.first(\"row {number}\", {number}, true)"
@@ -34,13 +34,28 @@ def real_shape(number):
     """Statements as programs have them: comments, deep members, calls, arrows, objects, conditions, types."""
     return (
         f"/**\n * Reads the row of a request, and hands it on.\n * @param request what was asked for\n */\n"
-        f"export const handle{number} = (request: server.Request, reply: server.Reply) =>\n"
+        f"const handle{number} = (request: server.Request, reply: server.Reply) =>\n"
         f"  reply.headers.content.set({{ kind: \"row\", index: {number}, cached: request.query.cached ?? false }});\n"
         f"// The last of them wins.\n"
         f"const last{number}: Array<{{ id: number; name?: string }}> = store.tables.rows\n"
         f"  .filter((row) => row.id > {number} && row.name !== undefined)\n"
         f"  .map((row) => ({{ ...row, name: `${{row.name}}:${{row.id}}` }}));\n"
         f"log.debug(last{number}.length === 0 ? \"none\" : last{number}[0]!.name, [{number}, -1, +2]);\n"
+    )
+
+
+def scopes(number):
+    """Scopes inside scopes and beside each other, names that hide others, and one that needs another text once types are gone."""
+    return (
+        f"function visit{number}(list: Item[], next: (item: Item) => void) {{\n"
+        f"  const seen = new Set<string>(); let count = 0;\n"
+        f"  for (const item of list) {{ const name = item.name; if (seen.has(name)) continue; seen.add(name); count++;\n"
+        f"    {{ let list = item.children; const next = (child: Item) => {{ const seen = child.name; log(seen, name, list, count); }};\n"
+        f"      list.forEach((item) => next(item)); }} }}\n"
+        f"  try {{ next(list[count]!); }} catch (count) {{ log(count, seen); }}\n"
+        f"  return function total(rest: number): number {{ return rest > 0 ? total(rest - count) : rest; }};\n"
+        f"}}\n"
+        f"{{ declare const outer{number}_: any; outer{number}_(visit{number}); }}\nlet outer{number}_ = 1;\n"
     )
 
 
@@ -53,7 +68,7 @@ def module(piece, size):
     return "".join(pieces)
 
 
-PIECES = {"declarations": declaration, "real shape": real_shape}
+PIECES = {"declarations": declaration, "real shape": real_shape, "scopes": scopes}
 
 
 def run(words, source):
