@@ -230,9 +230,9 @@ function f() {
         <G>(h: G): I; new (j): K; [l: string]: M; get n(): O; set n(p: O); "q": R; 1?: S; [t]: U },
     J: [K, L?, ...M[]], N: [O: P, Q?: R, ...S: T[]], U: [],
     V: `x${W}y` | "s" | 't' | 1 | -1 | 1n | -2n | true | false | null | void | undefined | this,
-    X: typeof Y.Z<A> | typeof import("m") | import("m").B<C>, D1: E1["f"][G1][], H1: | I1 & J1, K1: & L1,
-    M1: <T,>(a: T) => a is U, N1: O1 extends P1 ? Q1 extends R1 ? 1 : 2 : 3;"#,
-        want: r#"let a, g, l, n, s, w, B, F, I, J, N, U, V, X, D1, H1, K1, M1, N1;
+    X: typeof Y.Z<A> | typeof import("m") | import("m").B<C>, ab: cd["f"][ef][], gh: | ij & kl, mn: & op,
+    qr: <T,>(a: T) => a is U, st: uv extends wx ? yz extends za ? 1 : 2 : 3;"#,
+        want: r#"let a, g, l, n, s, w, B, F, I, J, N, U, V, X, ab, gh, mn, qr, st;
 "#,
     },
     // what methods say of `this`
