@@ -8,12 +8,12 @@
 // blanks first, so that all else of such files is compared. Each run of the program ends after N seconds (60), and so does TypeScript. What was
 // written is converted once more, and is to stay. A run that is ended by a signal tells what it has counted so far.
 import { spawnSync } from "node:child_process";
-import { lstatSync, readdirSync, readFileSync } from "node:fs";
-import { join } from "node:path";
+import { readFileSync } from "node:fs";
 import { isMainThread, parentPort, Worker } from "node:worker_threads";
 import { fileURLToPath } from "node:url";
 import { parseModule } from "./acorn_trees.mjs";
 import { firstDifference } from "./notation.mjs";
+import { filesIn, plain } from "./real_trees.mjs";
 import { ts } from "./typescript_expressions.mjs";
 
 const words = process.argv.slice(2);
@@ -31,12 +31,6 @@ const compilerOptions = {
   useDefineForClassFields: true,
 };
 
-function* filesIn(path) {
-  const stat = lstatSync(path);
-  if (stat.isFile() && isWanted.test(path)) yield path;
-  if (stat.isDirectory()) for (const name of readdirSync(path).sort()) yield* filesIn(join(path, name));
-}
-
 /** What the program makes of a module, or why there is nothing. */
 function converted(bytes) {
   const run = spawnSync("bash", ["-c", 'ulimit -s unlimited; exec "$0"', program], { input: bytes, maxBuffer: 2 ** 30, timeout: seconds * 1000, killSignal: "SIGKILL" });
@@ -52,30 +46,20 @@ function converted(bytes) {
 
 const lists = { Program: "body", BlockStatement: "body", StaticBlock: "body", SwitchCase: "consequent" };
 const isStrictness = (n) => n.type === "ExpressionStatement" && n.directive === "use strict";
-const left = new Set(["start", "end", "directive", "bigint"]);
+const left = new Set(["directive", "bigint"]);
+
+/** What stands behind a key of a node, without empty statements in lists, and without the directive that modules do not need. */
+function inner(node, key) {
+  if (key !== lists[node.type]) return node[key];
+  return node[key].filter((n) => n.type !== "EmptyStatement" && !(node.type === "Program" && isStrictness(n)));
+}
 
 // This part runs in a thread of its own, with a large stack, since trees may be deep; and since TypeScript may take without end.
-
-/** A parsed value as plain data: without places, source texts of literals, parentheses, directives and empty statements in lists. */
-function plain(value) {
-  if (Array.isArray(value)) return value.map(plain);
-  if (typeof value === "bigint") return `${value}n`;
-  if (value instanceof RegExp) return null;
-  if (value === null || typeof value !== "object") return typeof value === "number" ? String(value) : value;
-  if (value.type === "ParenthesizedExpression") return plain(value.expression);
-  const tree = {};
-  for (const [key, inner] of Object.entries(value)) {
-    if (left.has(key) || (key === "raw" && value.type === "Literal")) continue;
-    const items = key === lists[value.type] ? inner.filter((n) => n.type !== "EmptyStatement" && !(value.type === "Program" && isStrictness(n))) : inner;
-    tree[key] = plain(items);
-  }
-  return tree;
-}
 
 /** acorn's tree of a text in one line, or why there is none. */
 function treeOf(text) {
   try {
-    return { tree: JSON.stringify(plain(parseModule(text, true))) };
+    return { tree: JSON.stringify(plain(parseModule(text, true), left, inner)) };
   } catch (error) {
     if (error instanceof SyntaxError) return { refusal: `acorn: ${error.message}` };
     if (error instanceof RangeError) return { failure: `acorn: ${error.message}` };
@@ -233,7 +217,7 @@ function report() {
 }
 
 async function judgeAll() {
-  for (const file of folders.flatMap((folder) => [...filesIn(folder)])) {
+  for (const file of folders.flatMap((folder) => [...filesIn(folder, isWanted)])) {
     const source = readFileSync(file).toString().replace(/^\ufeff/, "");
     const text = blanked && source.length <= most ? (await reader.ask("blank", source)).text ?? source : source;
     const bytes = Buffer.from(text);

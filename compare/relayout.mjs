@@ -5,12 +5,12 @@
 // `export`. One that acorn does not read as a module is passed over, but counted where the program reads it. With --texts the plain texts of
 // compare/tree_texts.mjs are compared too, and each of a list of expressions in each of a list of places.
 import { spawnSync } from "node:child_process";
-import { lstatSync, readdirSync, readFileSync } from "node:fs";
-import { join } from "node:path";
+import { readFileSync } from "node:fs";
 import { fileURLToPath } from "node:url";
 import { parseModule } from "./acorn_trees.mjs";
 import { firstDifference } from "./notation.mjs";
 import { expressions, places } from "./placed_expressions.mjs";
+import { filesIn, plain } from "./real_trees.mjs";
 import { acornAlone, plain as plainTexts } from "./tree_texts.mjs";
 
 const program = process.env.RELAYOUT ?? fileURLToPath(new URL("../crates/relayout/out/relayout", import.meta.url));
@@ -20,29 +20,12 @@ const modules = words.includes("--modules");
 const isModule = (text) => /^\s*(import|export)\b/m.test(text);
 const shown = 25;
 
-function* filesIn(path) {
-  const stat = lstatSync(path);
-  if (stat.isFile() && /\.m?js$/.test(path)) yield path;
-  if (stat.isDirectory()) for (const name of readdirSync(path).sort()) yield* filesIn(join(path, name));
-}
-
 /** The layout of a module, or the line of its refusal. */
 function relaid(bytes) {
   const run = spawnSync(program, { input: bytes, maxBuffer: 2 ** 30 });
   if (run.status === 0) return { text: run.stdout };
   if (run.status === 1) return { refusal: run.stderr.toString().trim() };
   return { refusal: `ended with ${run.status ?? run.signal}` };
-}
-
-/** A parsed value as plain data: without places, source texts and parentheses. */
-function plain(value) {
-  if (Array.isArray(value)) return value.map(plain);
-  if (typeof value === "bigint") return `${value}n`;
-  if (value instanceof RegExp) return null;
-  if (value === null || typeof value !== "object") return typeof value === "number" ? String(value) : value;
-  if (value.type === "ParenthesizedExpression") return plain(value.expression);
-  const kept = Object.entries(value).filter(([key]) => key !== "start" && key !== "end" && !(key === "raw" && value.type === "Literal"));
-  return Object.fromEntries(kept.map(([key, inner]) => [key, plain(inner)]));
 }
 
 /** acorn's tree of a text in one line, if it reads a module. */
@@ -111,7 +94,7 @@ if (words.includes("--texts")) {
 }
 const seen = new Set();
 for (const folder of words.filter((word) => !word.startsWith("--"))) {
-  for (const file of filesIn(folder)) {
+  for (const file of filesIn(folder, /\.m?js$/)) {
     const bytes = readFileSync(file);
     const key = bytes.toString("latin1");
     if (bytes.length > most || (modules && !isModule(key)) || seen.has(key)) continue;
