@@ -13,7 +13,7 @@ import { isMainThread, parentPort, Worker } from "node:worker_threads";
 import { fileURLToPath } from "node:url";
 import { parseModule } from "./acorn_trees.mjs";
 import { firstDifference } from "./notation.mjs";
-import { filesIn, plain } from "./real_trees.mjs";
+import { counting, filesIn, plain } from "./real_trees.mjs";
 import { ts } from "./typescript_expressions.mjs";
 
 const words = process.argv.slice(2);
@@ -125,13 +125,7 @@ function blank(text) {
 
 // counts
 
-const counts = {};
-const examples = new Map();
-function count(what, example) {
-  counts[what] = (counts[what] ?? 0) + 1;
-  if (!examples.has(what)) examples.set(what, []);
-  if (example && examples.get(what).length < shown) examples.get(what).push(example);
-}
+const { counts, examples, count } = counting(shown);
 
 /** The token that begins at a place, or what kind of one it is. */
 function tokenAt(text) {

@@ -1,4 +1,4 @@
-// What the comparisons of real files share: which files there are, and the trees of acorn as plain data.
+// What the comparisons of real files share: which files there are, the trees of acorn as plain data, and counts.
 import { lstatSync, readdirSync } from "node:fs";
 import { join } from "node:path";
 
@@ -21,4 +21,16 @@ export function plain(value, left = new Set(), inner = (node, key) => node[key])
   if (value.type === "ParenthesizedExpression") return plain(value.expression, left, inner);
   const isKept = (key) => key !== "start" && key !== "end" && !left.has(key) && !(key === "raw" && value.type === "Literal");
   return Object.fromEntries(Object.keys(value).filter(isKept).map((key) => [key, plain(inner(value, key), left, inner)]));
+}
+
+/** Counts by name, with the first examples of each, at most so many. */
+export function counting(shown) {
+  const counts = {};
+  const examples = new Map();
+  const count = (what, example) => {
+    counts[what] = (counts[what] ?? 0) + 1;
+    if (!examples.has(what)) examples.set(what, []);
+    if (example && examples.get(what).length < shown) examples.get(what).push(example);
+  };
+  return { counts, examples, count };
 }

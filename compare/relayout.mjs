@@ -10,7 +10,7 @@ import { fileURLToPath } from "node:url";
 import { parseModule } from "./acorn_trees.mjs";
 import { firstDifference } from "./notation.mjs";
 import { expressions, places } from "./placed_expressions.mjs";
-import { filesIn, plain } from "./real_trees.mjs";
+import { counting, filesIn, plain } from "./real_trees.mjs";
 import { acornAlone, plain as plainTexts } from "./tree_texts.mjs";
 
 const program = process.env.RELAYOUT ?? fileURLToPath(new URL("../crates/relayout/out/relayout", import.meta.url));
@@ -38,13 +38,7 @@ function treeOf(text) {
   }
 }
 
-const counts = {};
-const examples = new Map();
-function count(what, example) {
-  counts[what] = (counts[what] ?? 0) + 1;
-  if (!examples.has(what)) examples.set(what, []);
-  if (example && examples.get(what).length < shown) examples.get(what).push(example);
-}
+const { counts, examples, count } = counting(shown);
 
 /** A refusal by its name, with what stands at its place. */
 function tally(bytes, refusal) {
