@@ -11,11 +11,12 @@ use Rattle.ecma_kind.specs.declared.operators.MethodKind.TheVariants.{Method, Ge
 use Rattle.ecma_kind.specs.declared.shapes.Shape.{Shape}
 use Rattle.ecma_kind.specs.declared.shapes.Sort.TheVariants as sort
 use Rattle.ecma_tree.specs.declared.node.Node.{Node, Node-F, fold_out-Node}
-use Rattle.ecma_tree.specs.Sorted.{allows, child_shapes, is_list, one}
+use Rattle.ecma_tree.specs.Sorted.{allows, child_shapes, one}
 use Rattle.ecma_rules.specs.declared.standing.Around.{Around}
-use Rattle.ecma_rules.specs.Children.{child_holds, children_of as items_of, holds_of, is_named, items_at, kind_of, of_kind}
+use Rattle.ecma_rules.specs.Children.{child_holds, child_is, children_of as items_of, holds_of, is_named, items_at, kind_of, of_kind}
 use Rattle.ecma_rules.specs.Finishing.{binding}
-use Rattle.ecma_rules.specs.Members.{behind_first, fits_kind, is_binding_name, is_constructor_key, is_declaring, is_empty_list, is_method, is_named_pattern, is_one_parameter, is_plain_parameter, is_property_kind, is_special_by, is_special_function, is_this_by, is_this_parameter, is_this_pattern, misfits_by, misplaces_this_by}
+use Rattle.ecma_rules.specs.Lists.{is_rest_pattern}
+use Rattle.ecma_rules.specs.Members.{behind_first, fits_kind, is_binding_name, is_constructor_key, is_declaring, is_empty_list, is_method, is_named_pattern, is_one_parameter, is_plain_parameter, is_property_kind, is_special_by, is_special_function, is_this_by, is_this_parameter, is_this_pattern, misfits_by, misplaces_this_by, takes_not_one, takes_one}
 use Rattle.ecma_rules.specs.Rules.{fails_member}
 use Rattle.ecma_rules.specs.Targets.{first_is}
 use Rattle.ecma_fits.specs.declared.role.Role.{Role}
@@ -27,7 +28,7 @@ use Rattle.ecma_strip_fits.proofs.RulesKept.{in_role}
 use Rattle.ecma_strip_fits.proofs.Tests.{neither}
 use Rattle.ecma_strip_fits.proofs.Walk.{shape_parts}
 use Rattle.ecma_bind.specs.Binding.{binds, bound_at, is_name_under_types, is_typed_name, names_step, under_types}
-use Rattle.ecma_bound_names.proofs.Alike.{any_where, bound_parts, child_same, has_same, holds_where, items_same, quiet_usual, roles_at, typed_parts, usual_children, usual_kind}
+use Rattle.ecma_bound_names.proofs.Alike.{Same, any_where, bound_parts, child_same, has_same, holds_where, items_same, quiet_usual, roles_at, typed_parts, usual_children, usual_kind}
 use Rattle.ecma_bound_names.proofs.Bound.{bound_each, children_of, parts_none, typed_is}
 use Rattle.ecma_bound_names.proofs.Names.{Good, Place, front, good_child, inside, name_good, under_name}
 
@@ -102,6 +103,31 @@ this_parameter_same n p g = by (is_typed_name p.where_at.role n) refl
         ∙ sym (ap (holds_of is_this_pattern) f.1 ∙ names_no_this f.0 f.2)
     by false e = holds_where is_this_pattern n p.where_at.role e 0 (λ c at. (let q = good_child n p g 0 c at in this_same c (inside p n 0 q.0) q.2))
 
+-- ---- what takes the rest
+
+no_rest : (k : Kind) (b : Bool) → (is_name k || (is_type_wrapper k && b)) ≡ true → is_rest_pattern k ≡ false
+no_rest kind.RestPat b h = cc
+no_rest _ b h = refl
+
+names_no_rest : (n : Node) → is_name_under_types n ≡ true → is_rest_pattern (kind_of n) ≡ false
+names_no_rest n h = no_rest (kind_of n) (first_is (map is_name_under_types (children_of n))) (sym (fold_out-Node Bool names_step n) ∙ h)
+
+rest_parameter_same : Same (λ n. child_is is_rest_pattern n 0)
+rest_parameter_same n r = by (is_typed_name r n) refl
+  where
+    by : (t : Bool) → is_typed_name r n ≡ t → child_is is_rest_pattern (bound_at n r) 0 ≡ child_is is_rest_pattern n 0
+    by true e =
+        let t = typed_parts n r e in
+        let f = front n t.1 t.2 in
+        ap (λ m. child_is is_rest_pattern m 0) (typed_is n r e)
+        ∙ ap (λ (z : Node-F Node). of_kind is_rest_pattern (slice_get z.children 0)) (bound_parts (under_types n))
+        ∙ no_rest (kind_of (under_types n)) false (ap (λ b. b || (is_type_wrapper (kind_of (under_types n)) && false)) (under_name n t.2))
+        ∙ sym (ap (of_kind is_rest_pattern) f.1 ∙ names_no_rest f.0 f.2)
+    by false e = child_same is_rest_pattern (refl, refl, refl, refl, refl, refl) 0 n r e
+
+takes_one_same : GoodSame takes_one
+takes_one_same n p g = ap₂ (λ x y. not x && not y) (this_parameter_same n p g) (rest_parameter_same n p.where_at.role)
+
 -- ---- items
 
 good_items : (n : Node) (p : Place) → Good n p → (i j : ℕ) (d : Node) → slice_get (items_at n i) j ≡ Some d
@@ -122,11 +148,14 @@ item_same test s n p g i j d at = let t = good_items n p g i j d at in ap (λ z.
 
 -- ---- members
 
-parameter_same : (ns : List Node) (roles : ℕ → Role) → ((i : ℕ) (c : Node) → slice_get ns i ≡ Some c → is_this_parameter (bound_at c (roles i)) ≡ is_this_parameter c) → is_one_parameter (bound_each roles ns) ≡ is_one_parameter ns
-parameter_same [] roles s = refl
-parameter_same (n ∷ []) roles s = ap not (s 0 n refl)
-parameter_same (n ∷ m ∷ []) roles s = ap₂ (λ x y. x && not y) (s 0 n refl) (s 1 m refl)
-parameter_same (n ∷ m ∷ l ∷ ns) roles s = refl
+abbrev SameOfEach : (Node → Bool) → List Node → (ℕ → Role) → Type 0
+SameOfEach test ns roles = (i : ℕ) (c : Node) → slice_get ns i ≡ Some c → test (bound_at c (roles i)) ≡ test c
+
+parameter_same : (ns : List Node) (roles : ℕ → Role) → SameOfEach is_this_parameter ns roles → SameOfEach takes_one ns roles → is_one_parameter (bound_each roles ns) ≡ is_one_parameter ns
+parameter_same [] roles s o = refl
+parameter_same (n ∷ []) roles s o = o 0 n refl
+parameter_same (n ∷ m ∷ []) roles s o = ap₂ (λ x y. x && y) (s 0 n refl) (o 1 m refl)
+parameter_same (n ∷ m ∷ l ∷ ns) roles s o = refl
 
 none_same : (ns : List Node) (roles : ℕ → Role) → is_empty_list (bound_each roles ns) ≡ is_empty_list ns
 none_same [] roles = refl
@@ -143,6 +172,7 @@ accessor_same Getter n p g u q = ap is_empty_list (items_same n p.where_at.role 
 accessor_same Setter n p g u q =
     ap is_one_parameter (items_same n p.where_at.role u 0 q)
     ∙ parameter_same (items_at n 0) (roles_at (slice_get (children_of n) 0) (role_in p.where_at.role (kind_of n) 0)) (λ j d at. item_same is_this_parameter this_parameter_same n p g 0 j d at)
+    (λ j d at. item_same takes_one takes_one_same n p g 0 j d at)
 
 -- the function of a method
 method_same : (k : MethodKind) (n : Node) (p : Place) → Good n p → is_typed_name p.where_at.role n ≡ false → role_in p.where_at.role (kind_of n) 1 ≡ role.Free
@@ -158,8 +188,9 @@ method_same k n p g u free shape = holds_where (fits_kind k) n p.where_at.role u
 
 misfits_same : (k : Kind) (n : Node) (p : Place) → Good n p → kind_of n ≡ k → is_typed_name p.where_at.role n ≡ false → misfits_by k (bound_at n p.where_at.role) ≡ misfits_by k n
 unfolding misfits_by role_in
+misfits_same kind.AssignPat n p g e u = child_same is_rest_pattern (refl, refl, refl, refl, refl, refl) 0 n p.where_at.role u
 misfits_same kind.GetterProp n p g e u = has_same 3 n p.where_at.role u
-misfits_same kind.SetterProp n p g e u = child_same is_list (refl, refl, refl, refl, refl, refl) 2 n p.where_at.role u
+misfits_same kind.SetterProp n p g e u = child_same takes_not_one (refl, refl, refl, refl, refl, refl) 2 n p.where_at.role u
 misfits_same (kind.ClassMethod k modifiers) n p g e u =
     ap not (method_same k n p g u (ap (λ z. role_in p.where_at.role z 1) e) (ap (λ z. slice_get (child_shapes z p.shape (length (children_of n))) 1) e))
 misfits_same (kind.PrivateMethod k modifiers) n p g e u =

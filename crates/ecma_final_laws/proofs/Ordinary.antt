@@ -8,7 +8,7 @@ use Rattle.ecma_tree.specs.Sorted.{is_absent}
 use Rattle.ecma_rules.specs.Children.{is_present, kind_of, of_kind}
 use Rattle.ecma_spelling.specs.Everywhere.{Everywhere}
 use Rattle.ecma_fits_kept.proofs.Moved.{children_moved, kind_moved, to}
-use Rattle.ecma_fits_reread.specs.Functions.{Functions, any_unusual, functions, functions_step, is_missing_at, is_rest, is_this_name, unusual_here}
+use Rattle.ecma_fits_reread.specs.Functions.{Functions, any_unusual, functions, functions_step, is_missing_at, is_this_name, unusual_here}
 use Rattle.ecma_scope.specs.Laws.{without_contexts}
 use Rattle.ecma_strip_laws.specs.Usual.{holds_throughout}
 use Rattle.ecma_hygiene.proofs.Telling.{and-left, and-right}
@@ -17,21 +17,16 @@ use Rattle.ecma_pass_laws.proofs.Nodes.{by-children, not-false, not-true, test-b
 use Rattle.ecma_final_laws.proofs.Everywhere.{each_at, parts}
 use Rattle.ecma_final_laws.proofs.KindsSaid.{bare, empty}
 
--- whether a child stands at an index; whether it is a rest parameter or element
+-- whether a child stands at an index
 abbrev pub is_there : List Node → ℕ → Bool
 is_there cs i = of_kind is_present (slice_get cs i)
 
-abbrev pub is_rest_at : List Node → ℕ → Bool
-is_rest_at cs i = of_kind is_rest (slice_get cs i)
-
--- a body where one may be missing; no `...a = b`, also where a shorthand may become a default, and one parameter of a setter, which is no rest
+-- a body where one may be missing, and nothing before the parameter of a setter
 abbrev pub ordinary_by : Kind → List Node → Bool
 ordinary_by (kind.Function is_generator is_async) cs = is_there cs 1
 ordinary_by (kind.Constructor accessibility is_optional) cs = is_there cs 2
 ordinary_by kind.GetterProp cs = is_there cs 2
-ordinary_by kind.SetterProp cs = is_there cs 3 && (not (is_there cs 1) && not (is_rest_at cs 2))
-ordinary_by kind.AssignPat cs = not (is_rest_at cs 0)
-ordinary_by kind.AssignPatProp cs = not (is_rest_at cs 0)
+ordinary_by kind.SetterProp cs = is_there cs 3 && not (is_there cs 1)
 ordinary_by _ cs = true
 
 abbrev pub is_ordinary : Node → Bool
@@ -48,26 +43,17 @@ functions_out n = fold_out-Node Functions functions_step n
 missing_is : (c : Node) → (functions c).is_missing ≡ is_absent (kind_of c)
 missing_is c = ap (λ (f : Functions). f.is_missing) (functions_out c)
 
-rest_is : (c : Node) → (functions c).is_rest ≡ is_rest (kind_of c)
-rest_is c = ap (λ (f : Functions). f.is_rest) (functions_out c)
-
 missing_at : (cs : List Node) (i : ℕ) → is_there cs i ≡ true → is_missing_at (map functions cs) i ≡ false
 missing_at [] i h = refl
 missing_at (c ∷ cs) zero h = missing_is c ∙ not-true (is_absent (kind_of c)) h
 missing_at (c ∷ cs) (suc i) h = missing_at cs i h
 
 module _ (cs : List Node) (h : ordinary_by kind.SetterProp cs ≡ true) where
-  rests : (not (is_there cs 1) && not (is_rest_at cs 2)) ≡ true
-  rests = and-right (is_there cs 3) (not (is_there cs 1) && not (is_rest_at cs 2)) h
-
   setter_there : is_there cs 3 ≡ true
-  setter_there = and-left (is_there cs 3) (not (is_there cs 1) && not (is_rest_at cs 2)) h
+  setter_there = and-left (is_there cs 3) (not (is_there cs 1)) h
 
   setter_before : is_there cs 1 ≡ false
-  setter_before = not-true (is_there cs 1) (and-left (not (is_there cs 1)) (not (is_rest_at cs 2)) rests)
-
-  setter_rest : is_rest_at cs 2 ≡ false
-  setter_rest = not-true (is_rest_at cs 2) (and-right (not (is_there cs 1)) (not (is_rest_at cs 2)) rests)
+  setter_before = not-true (is_there cs 1) (and-right (is_there cs 3) (not (is_there cs 1)) h)
 
 unusual_none : (k : Kind) (cs : List Node) → ordinary_by k cs ≡ true → ((i : ℕ) (c : Node) → slice_get cs i ≡ Some c → IsOther (kind_of c)) → unusual_here k (map functions cs) ≡ false
 unusual_none (kind.Function is_generator is_async) cs h each = ap (λ b. b || false) (missing_at cs 1 h)
@@ -81,13 +67,8 @@ unusual_none kind.SetterProp (a ∷ b ∷ c ∷ d ∷ []) h each =
     let cs = a ∷ b ∷ c ∷ d ∷ [] in
     let body = missing_at cs 3 (setter_there cs h) in
     let before : (functions b).is_missing ≡ true = missing_is b ∙ not-false (is_absent (kind_of b)) (setter_before cs h) in
-    let rest : (functions c).is_rest ≡ false = rest_is c ∙ setter_rest cs h in
-    (λ j. body j || ((not (before j) || rest j) || false))
+    (λ j. body j || not (before j))
 unusual_none kind.SetterProp (a ∷ b ∷ c ∷ d ∷ e ∷ cs) h each = ap (λ z. z || false) (missing_at (a ∷ b ∷ c ∷ d ∷ e ∷ cs) 3 (setter_there (a ∷ b ∷ c ∷ d ∷ e ∷ cs) h))
-unusual_none kind.AssignPat [] h each = refl
-unusual_none kind.AssignPat (a ∷ []) h each = refl
-unusual_none kind.AssignPat (a ∷ b ∷ []) h each = let rest : (functions a).is_rest ≡ false = rest_is a ∙ not-true (is_rest (kind_of a)) h in ap (λ z. z || false) rest
-unusual_none kind.AssignPat (a ∷ b ∷ c ∷ cs) h each = refl
 unusual_none kind.BindingIdent [] h each = refl
 unusual_none kind.BindingIdent (c ∷ cs) h each = ap (λ (f : Functions). f.is_this) (functions_out c) ∙ each 0 c refl
 unusual_none _ cs h each = refl

@@ -8,7 +8,6 @@ use Rattle.ecma_tree.specs.declared.node.Node.{Node, out-Node}
 use Rattle.ecma_tree.specs.Nodes.{node_of}
 use Rattle.ecma_tree.specs.Sorted.{is_absent}
 use Rattle.ecma_rules.specs.Children.{is_present, kind_of, of_kind}
-use Rattle.ecma_fits_reread.specs.Functions.{is_rest}
 use Rattle.ecma_scope.specs.Resolved.{is_name}
 use Rattle.ecma_strip_laws.proofs.Telling.{holds-roll}
 use Rattle.ecma_hygiene.specs.declared.spot.Standing.{Standing}
@@ -19,13 +18,10 @@ use Rattle.ecma_hygiene_fits.proofs.Becoming.{all_become, become, become-out, ch
 use Rattle.ecma_hygiene_fits.proofs.Everywhere.{Each as EachChild, children_of, everywhere as from_children}
 use Rattle.ecma_hygiene_fits.proofs.Listed.{Nameless, kind_like}
 use Rattle.ecma_pass_laws.proofs.Nodes.{holds-out, test-here}
-use Rattle.ecma_final_laws.proofs.Ordinary.{is_ordinary, is_rest_at, is_there, ordinary_by}
+use Rattle.ecma_final_laws.proofs.Ordinary.{is_ordinary, is_there, ordinary_by}
 
 absent_nameless : Nameless is_absent
 absent_nameless = record { names = λ text ctxt optional. refl; property = refl; shorthand = refl; pattern = refl }
-
-rest_nameless : Nameless is_rest
-rest_nameless = record { names = λ text ctxt optional. refl; property = refl; shorthand = refl; pattern = refl }
 
 -- a node over children
 pub ordinary_made : (span : Span) (k : Kind) (cs : List Node) → ordinary_by k cs ≡ true → list_all is_ordinary cs ≡ true → is_ordinary (node_of span k cs) ≡ true
@@ -48,19 +44,19 @@ module _ (old : OldName) (span : Span) where
   names_ordinary (a ∷ b ∷ []) h = two a (name_of old) (and-left (is_ordinary a) (is_ordinary b && true) h) name_ordinary
   names_ordinary (a ∷ b ∷ c ∷ cs) h = h
 
-  default_ordinary : (a b : Node) → ordinary_by kind.AssignPatProp (a ∷ b ∷ []) ≡ true → list_all is_ordinary (a ∷ b ∷ []) ≡ true → is_ordinary (with_default span a b) ≡ true
-  default_ordinary a b h hs = by (kind_is_absent b)
+  default_ordinary : (a b : Node) → list_all is_ordinary (a ∷ b ∷ []) ≡ true → is_ordinary (with_default span a b) ≡ true
+  default_ordinary a b hs = by (kind_is_absent b)
     where
       by : (gone : Bool) → is_ordinary (cond gone a (node_of span kind.AssignPat (a ∷ b ∷ []))) ≡ true
       by true = and-left (is_ordinary a) (is_ordinary b && true) hs
-      by false = ordinary_made span kind.AssignPat (a ∷ b ∷ []) h hs
+      by false = ordinary_made span kind.AssignPat (a ∷ b ∷ []) refl hs
 
-  pattern_ordinary : (cs : List Node) → ordinary_by kind.AssignPatProp cs ≡ true → list_all is_ordinary cs ≡ true → is_ordinary (grown_pattern old span cs) ≡ true
-  pattern_ordinary [] h hs = ordinary_made span kind.AssignPatProp [] h hs
-  pattern_ordinary (a ∷ []) h hs = ordinary_made span kind.AssignPatProp (a ∷ []) h hs
-  pattern_ordinary (a ∷ b ∷ []) h hs =
-      ordinary_made span kind.KeyValuePatProp (key_of old ∷ with_default span a b ∷ []) refl (two (key_of old) (with_default span a b) key_ordinary (default_ordinary a b h hs))
-  pattern_ordinary (a ∷ b ∷ c ∷ cs) h hs = ordinary_made span kind.AssignPatProp (a ∷ b ∷ c ∷ cs) h hs
+  pattern_ordinary : (cs : List Node) → list_all is_ordinary cs ≡ true → is_ordinary (grown_pattern old span cs) ≡ true
+  pattern_ordinary [] hs = ordinary_made span kind.AssignPatProp [] refl hs
+  pattern_ordinary (a ∷ []) hs = ordinary_made span kind.AssignPatProp (a ∷ []) refl hs
+  pattern_ordinary (a ∷ b ∷ []) hs =
+      ordinary_made span kind.KeyValuePatProp (key_of old ∷ with_default span a b ∷ []) refl (two (key_of old) (with_default span a b) key_ordinary (default_ordinary a b hs))
+  pattern_ordinary (a ∷ b ∷ c ∷ cs) hs = ordinary_made span kind.AssignPatProp (a ∷ b ∷ c ∷ cs) refl hs
 
 grown_ordinary : (o : Option OldName) (span : Span) (k : Kind) (cs : List Node) → ordinary_by k cs ≡ true → list_all is_ordinary cs ≡ true → is_ordinary (grown o span k cs) ≡ true
 grown_ordinary None span k cs h hs = ordinary_made span k cs h hs
@@ -69,7 +65,7 @@ grown_ordinary (Some old) span (kind.Ident text ctxt optional) cs h hs =
     ordinary_made span kind.KeyValueProp (key_of old ∷ named ∷ []) refl (two old span (key_of old) named (key_ordinary old span) (ordinary_made span (kind.Ident text ctxt optional) cs refl hs))
 grown_ordinary (Some old) span (kind.ImportNamedSpecifier is_type_only) cs h hs = ordinary_made span (kind.ImportNamedSpecifier is_type_only) (two_names old cs) refl (names_ordinary old span cs hs)
 grown_ordinary (Some old) span (kind.ExportNamedSpecifier is_type_only) cs h hs = ordinary_made span (kind.ExportNamedSpecifier is_type_only) (two_names old cs) refl (names_ordinary old span cs hs)
-grown_ordinary (Some old) span kind.AssignPatProp cs h hs = pattern_ordinary old span cs h hs
+grown_ordinary (Some old) span kind.AssignPatProp cs h hs = pattern_ordinary old span cs hs
 grown_ordinary (Some old) span k cs h hs = ordinary_made span k cs h hs
 
 module _ (texts : Texts) where
@@ -82,16 +78,11 @@ module _ (texts : Texts) where
   there_like : (stands : ℕ → Standing) (cs : List Node) (i : ℕ) → is_there (all_become texts stands 0 cs) i ≡ is_there cs i
   there_like stands cs i = at_like is_present (λ n s. ap not (kind_like is_absent absent_nameless texts n s)) stands 0 cs i
 
-  rest_like : (stands : ℕ → Standing) (cs : List Node) (i : ℕ) → is_rest_at (all_become texts stands 0 cs) i ≡ is_rest_at cs i
-  rest_like stands cs i = at_like is_rest (kind_like is_rest rest_nameless texts) stands 0 cs i
-
   ordinary_like : (stands : ℕ → Standing) (k : Kind) (cs : List Node) → ordinary_by k (all_become texts stands 0 cs) ≡ ordinary_by k cs
   ordinary_like stands (kind.Function is_generator is_async) cs = there_like stands cs 1
   ordinary_like stands (kind.Constructor accessibility is_optional) cs = there_like stands cs 2
   ordinary_like stands kind.GetterProp cs = there_like stands cs 2
-  ordinary_like stands kind.SetterProp cs = λ j. there_like stands cs 3 j && (not (there_like stands cs 1 j) && not (rest_like stands cs 2 j))
-  ordinary_like stands kind.AssignPat cs = ap not (rest_like stands cs 0)
-  ordinary_like stands kind.AssignPatProp cs = ap not (rest_like stands cs 0)
+  ordinary_like stands kind.SetterProp cs = λ j. there_like stands cs 3 j && not (there_like stands cs 1 j)
   ordinary_like stands _ cs = refl
 
   text_like : (named : Bool) (k : Kind) (cs : List Node) → ordinary_by (kind_with_text texts named k) cs ≡ ordinary_by k cs

@@ -260,8 +260,6 @@ ordinary_here (kind.Constructor x o) s m (a ∷ q ∷ []) have l p h = absurd ha
 ordinary_here (kind.Constructor x o) s m (a ∷ q ∷ b ∷ c ∷ cs) have l p h = absurd have.1.1.1
 ordinary_here kind.GetterProp s m cs have l p h = p
 ordinary_here kind.SetterProp s m cs have l p h = p
-ordinary_here kind.AssignPat s m cs have l p h = p
-ordinary_here kind.AssignPatProp s m cs have l p h = p
 ordinary_here _ s m cs have l p h = refl
 
 abbrev Ordinary : Node → Type 0

@@ -7,15 +7,14 @@ use Rattle.ecma_rules.specs.Children.{kind_of}
 use Rattle.ecma_fits_kept.proofs.Moved.{child_same, has_same, holds_same, kind_moved, kind_same, span_moved, to, walk_same}
 use Rattle.ecma_scope.specs.Resolved.{resolved}
 use Rattle.ecma_scope.proofs.Unchanged.{changes-contexts}
-use Rattle.ecma_forms.specs.Forms.{first_untaken, has_body, inside, is_ambient_variable, is_later, is_odd_by, is_rest, is_untaken, untaken_here}
+use Rattle.ecma_forms.specs.Forms.{first_untaken, has_body, inside, is_ambient_variable, is_later, is_odd_by, is_untaken, untaken_here}
 use Rattle.ecma_final_laws.proofs.KindsSaid.{bare, empty}
 
 abbrev moved : Node → Node
 moved = to empty
 
 odd_by : (k : Kind) (n : Node) → is_odd_by (bare k) (moved n) ≡ is_odd_by k n
-odd_by kind.AssignPat n = child_same empty is_rest (λ text a b optional. refl) n 0
-odd_by kind.SetterProp n = λ j. has_same empty n 1 j || (child_same empty is_rest (λ text a b optional. refl) n 2 j || not (has_same empty n 3 j))
+odd_by kind.SetterProp n = ap not (has_same empty n 3)
 odd_by kind.GetterProp n = ap not (has_same empty n 2)
 odd_by kind.MethodProp n = ap not (holds_same empty has_body (λ m. has_same empty m 1) n 1)
 odd_by kind.FnExpr n = ap not (holds_same empty has_body (λ m. has_same empty m 1) n 1)

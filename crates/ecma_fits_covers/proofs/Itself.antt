@@ -13,7 +13,7 @@ use Rattle.ecma_rules.specs.declared.target.Target.{Target}
 use Rattle.ecma_rules.specs.Children.{kind_of}
 use Rattle.ecma_rules.specs.Finishing.{each_in}
 use Rattle.ecma_rules.specs.Lists.{is_early_rest, is_head, is_wrong_head}
-use Rattle.ecma_rules.specs.Members.{is_special_by, is_special_constructor, is_stray_property, is_wrong_accessor, misfits_by, misplaces_this, misplaces_this_by}
+use Rattle.ecma_rules.specs.Members.{is_misfit, is_special_by, is_special_constructor, is_stray_property, misfits_by, misplaces_this, misplaces_this_by}
 use Rattle.ecma_rules.specs.Rules.{fails_list, fails_member, fails_statement}
 use Rattle.ecma_rules.specs.Supers.{is_linked}
 use Rattle.ecma_rules.specs.Targets.{is_simple_target, target_in}
@@ -56,8 +56,8 @@ kept_here w n rules =
     let rule = neither (fails_list w.around n) (fails_member w.around n || fails_statement w.around n) rules in
     let list = neither (is_wrong_head w.around.target n) (is_early_rest w.around.target w.around.is_last n) rule.0 in
     let more = neither (fails_member w.around n) (fails_statement w.around n) rule.1 in
-    let member = neither (is_stray_property w.around.standing n) (is_wrong_accessor n || (is_special_constructor n || misplaces_this n)) more.0 in
-    let accessor = neither (is_wrong_accessor n) (is_special_constructor n || misplaces_this n) member.1 in
+    let member = neither (is_stray_property w.around.standing n) (is_misfit n || (is_special_constructor n || misplaces_this n)) more.0 in
+    let accessor = neither (is_misfit n) (is_special_constructor n || misplaces_this n) member.1 in
     let both = neither (is_special_constructor n) (misplaces_this n) accessor.1 in
     record { head = list.0; early = list.1; property = member.0; accessor = accessor.0; constructor = both.0; receiver = both.1; statement = more.1 }
 

@@ -11,14 +11,14 @@ use Rattle.ecma_kind.specs.declared.shapes.Sort.TheVariants as sort
 use Rattle.ecma_tree.specs.declared.node.Node.{Node, out-Node}
 use Rattle.ecma_tree.specs.Laws.{HaveShapes}
 use Rattle.ecma_tree.specs.Nodes.{node_of}
-use Rattle.ecma_tree.specs.Sorted.{child_shapes, is_list, many, maybe, one}
+use Rattle.ecma_tree.specs.Sorted.{child_shapes, many, maybe, one}
 use Rattle.ecma_rules.specs.declared.target.Target.{Target}
 use Rattle.ecma_rules.specs.declared.target.Target.TheVariants as target
 use Rattle.ecma_rules.specs.declared.standing.Standing.{Standing}
 use Rattle.ecma_rules.specs.Children.{child_holds, children_of as items_of, holds_of, is_present, items_at, kind_of, of_kind}
 use Rattle.ecma_rules.specs.Finishing.{each_in}
-use Rattle.ecma_rules.specs.Lists.{is_head, is_one_without_value}
-use Rattle.ecma_rules.specs.Members.{behind_first, fits_kind, is_constructor_key, is_declaring, is_method, is_plain_parameter, is_property_kind, is_special_by, is_special_function, is_this_parameter, is_this_pattern, misfits_by, misplaces_this_by, second_by}
+use Rattle.ecma_rules.specs.Lists.{is_head, is_one_without_value, is_rest_pattern}
+use Rattle.ecma_rules.specs.Members.{behind_first, fits_kind, is_constructor_key, is_declaring, is_method, is_plain_parameter, is_property_kind, is_special_by, is_special_function, is_this_parameter, is_this_pattern, misfits_by, misplaces_this_by, second_by, takes_not_one}
 use Rattle.ecma_rules.specs.Supers.{is_private_name}
 use Rattle.ecma_rules.specs.Targets.{is_variables, target_in}
 use Rattle.ecma_covers.specs.Covering.{cover_at}
@@ -76,8 +76,9 @@ module _ (t : Target) (at : Span) where
 
   pub accessors_stay : (k : Kind) (cs : List Node) (o : Shape) (n : ℕ) → HaveShapes (child_shapes k o n) cs → misfits_by k (now_node k cs) ≡ misfits_by k (was_node k cs)
   unfolding misfits_by target_in
+  accessors_stay kind.AssignPat cs o n h = by_children (λ z. of_kind is_rest_pattern (slice_get z 0)) kind.AssignPat cs (kind_at is_rest_pattern (λ i. target.Free) cs 0 refl)
   accessors_stay kind.GetterProp cs o n h = by_children (λ z. of_kind is_present (slice_get z 3)) kind.GetterProp cs (kind_at is_present (λ i. target.Free) cs 3 refl)
-  accessors_stay kind.SetterProp cs o n h = by_children (λ z. of_kind is_list (slice_get z 2)) kind.SetterProp cs (kind_at is_list (λ i. target.Free) cs 2 refl)
+  accessors_stay kind.SetterProp cs o n h = by_children (λ z. of_kind takes_not_one (slice_get z 2)) kind.SetterProp cs (kind_at takes_not_one (λ i. target.Free) cs 2 refl)
   accessors_stay (kind.ClassMethod k modifiers) cs o n h = by_children (λ z. not (holds_of (fits_kind k) (slice_get z 1))) (kind.ClassMethod k modifiers) cs (ap not (function_fits k cs (one sort.PropName) h))
   accessors_stay (kind.PrivateMethod k modifiers) cs o n h = by_children (λ z. not (holds_of (fits_kind k) (slice_get z 1))) (kind.PrivateMethod k modifiers) cs (ap not (function_fits k cs (one sort.PrivateName) h))
   accessors_stay _ cs o n h = refl

@@ -14,13 +14,13 @@ use Rattle.ecma_tree.specs.declared.node.Node.{Node, Node-F, out-Node, roll-Node
 use Rattle.ecma_tree.specs.declared.node.Node.TheViews.{out-roll-Node}
 use Rattle.ecma_tree.specs.Laws.{HaveShapes}
 use Rattle.ecma_tree.specs.Nodes.{dummy_span, node_of}
-use Rattle.ecma_tree.specs.Sorted.{HasShape, child_shapes, is_list, many, one}
+use Rattle.ecma_tree.specs.Sorted.{HasShape, child_shapes, many, one}
 use Rattle.ecma_rules.specs.declared.standing.Around.{Around}
 use Rattle.ecma_rules.specs.declared.standing.Standing.{Standing}
 use Rattle.ecma_rules.specs.declared.target.Target.{Target}
 use Rattle.ecma_rules.specs.Children.{children_of as items_of, holds_of, is_named, is_present, items_at, kind_of, of_kind}
-use Rattle.ecma_rules.specs.Lists.{is_head, is_item, is_one_without_value, is_rest}
-use Rattle.ecma_rules.specs.Members.{behind_first, fits_kind, is_binding_name, is_constructor_key, is_declaring, is_empty_list, is_method, is_named_pattern, is_one_parameter, is_plain_parameter, is_property_kind, is_special_by, is_special_constructor, is_special_function, is_this_by, is_this_parameter, is_this_pattern, is_wrong_accessor, misfits_by, misplaces_this, misplaces_this_by}
+use Rattle.ecma_rules.specs.Lists.{is_head, is_item, is_one_without_value, is_rest, is_rest_pattern}
+use Rattle.ecma_rules.specs.Members.{behind_first, fits_kind, is_binding_name, is_constructor_key, is_declaring, is_empty_list, is_method, is_misfit, is_named_pattern, is_one_parameter, is_plain_parameter, is_property_kind, is_special_by, is_special_constructor, is_special_function, is_this_by, is_this_parameter, is_this_pattern, misfits_by, misplaces_this, misplaces_this_by, takes_not_one, takes_one}
 use Rattle.ecma_rules.specs.Statements.{is_body, is_declaration, is_exported, is_text}
 use Rattle.ecma_rules.specs.Targets.{is_variables}
 use Rattle.ecma_print.specs.declared.place.Beside.TheVariants.{NoNeighbor}
@@ -52,8 +52,9 @@ abbrev property_by : Standing → Kind → List Node → Bool
 property_by s k ns = is_property_kind k && not (is_declaring s && holds_of is_plain_parameter (slice_get ns 0))
 
 abbrev misfit_by : Kind → List Node → Bool
+misfit_by kind.AssignPat ns = of_kind is_rest_pattern (slice_get ns 0)
 misfit_by kind.GetterProp ns = of_kind is_present (slice_get ns 3)
-misfit_by kind.SetterProp ns = of_kind is_list (slice_get ns 2)
+misfit_by kind.SetterProp ns = of_kind takes_not_one (slice_get ns 2)
 misfit_by (kind.ClassMethod k modifiers) ns = not (holds_of (fits_kind k) (slice_get ns 1))
 misfit_by (kind.PrivateMethod k modifiers) ns = not (holds_of (fits_kind k) (slice_get ns 1))
 misfit_by _ ns = false
@@ -76,11 +77,12 @@ rule_of a k head property misfit special receiver =
 abbrev rule_by : Around → Kind → List Node → Bool
 rule_by a k ns = rule_of a k (head_by a.target k ns) (property_by a.standing k ns) (misfit_by k ns) (special_by k ns) (receiver_by k ns)
 
-misfit_made : (x : Node-F Node) → is_wrong_accessor (roll-Node x) ≡ misfit_by x.kind x.children
+misfit_made : (x : Node-F Node) → is_misfit (roll-Node x) ≡ misfit_by x.kind x.children
 unfolding misfits_by
 misfit_made x = ap (λ k. misfits_by k (roll-Node x)) (kind_made x) ∙ by x.kind
   where
     by : (k : Kind) → misfits_by k (roll-Node x) ≡ misfit_by k x.children
+    by kind.AssignPat = ap (λ (p : Node-F Node). misfit_by kind.AssignPat p.children) (out-roll-Node x)
     by kind.GetterProp = ap (λ (p : Node-F Node). misfit_by kind.GetterProp p.children) (out-roll-Node x)
     by kind.SetterProp = ap (λ (p : Node-F Node). misfit_by kind.SetterProp p.children) (out-roll-Node x)
     by (kind.ClassMethod k modifiers) = ap (λ (p : Node-F Node). misfit_by (kind.ClassMethod k modifiers) p.children) (out-roll-Node x)
@@ -107,7 +109,7 @@ receiver_made x = ap (λ k. misplaces_this_by k (roll-Node x)) (kind_made x) ∙
 
 rule_made : (w : Where) (x : Node-F Node) → breaks_rule w (roll-Node x) ≡ rule_by w.around x.kind x.children
 rule_made w x =
-    ap (λ (p : Node-F Node). rule_of w.around p.kind (head_by w.around.target p.kind p.children) (property_by w.around.standing p.kind p.children) (is_wrong_accessor (roll-Node x)) (is_special_constructor (roll-Node x)) (misplaces_this (roll-Node x))) (out-roll-Node x)
+    ap (λ (p : Node-F Node). rule_of w.around p.kind (head_by w.around.target p.kind p.children) (property_by w.around.standing p.kind p.children) (is_misfit (roll-Node x)) (is_special_constructor (roll-Node x)) (misplaces_this (roll-Node x))) (out-roll-Node x)
     ∙ (ap₂ (λ misfit special. rule_of w.around x.kind (head_by w.around.target x.kind x.children) (property_by w.around.standing x.kind x.children) misfit special (misplaces_this (roll-Node x))) (misfit_made x) (special_made x)
     ∙ ap (rule_of w.around x.kind (head_by w.around.target x.kind x.children) (property_by w.around.standing x.kind x.children) (misfit_by x.kind x.children) (special_by x.kind x.children)) (receiver_made x))
 
@@ -242,12 +244,21 @@ param_opens _ h = not_true h
 this_parameter : (n : Node) (spot : Spot) → Fits spot → HasShape (one sort.Param) n → is_this_parameter ((stood n).at spot) ≡ is_this_parameter n
 this_parameter n spot fits h = holds_in is_this_pattern this_patterns n spot fits (param_opens (kind_of n) (shape_allows n (one sort.Param) h)) 0
 
+rests_open : NoneClose is_rest_pattern
+rests_open kind.RestPat h = refl
+rests_open _ h = not_true h
+
+takes_one_stays : (n : Node) (spot : Spot) → Fits spot → HasShape (one sort.Param) n → takes_one ((stood n).at spot) ≡ takes_one n
+takes_one_stays n spot fits h =
+    ap₂ (λ a b. not a && not b) (this_parameter n spot fits h)
+    (is_in is_rest_pattern (kinds_kept is_rest_pattern refl rests_open) n spot fits (param_opens (kind_of n) (shape_allows n (one sort.Param) h)) 0)
+
 one_parameter : (ns : List Node) (k : ℕ) (spot : Spot) → Fits spot → HaveShapes (replicate k (one sort.Param)) ns → is_one_parameter (spotted ns [] spot) ≡ is_one_parameter ns
 one_parameter [] k spot fits have = refl
 one_parameter (n ∷ ns) zero spot fits have = absurd have
-one_parameter (n ∷ []) (suc k) spot fits have = ap not (this_parameter n spot fits have.0)
+one_parameter (n ∷ []) (suc k) spot fits have = takes_one_stays n spot fits have.0
 one_parameter (n ∷ m ∷ []) (suc zero) spot fits have = absurd have.1
-one_parameter (n ∷ m ∷ []) (suc (suc k)) spot fits have = ap₂ (λ a b. a && not b) (this_parameter n spot fits have.0) (this_parameter m spot fits have.1.0)
+one_parameter (n ∷ m ∷ []) (suc (suc k)) spot fits have = ap₂ (λ a b. a && b) (this_parameter n spot fits have.0) (takes_one_stays m spot fits have.1.0)
 one_parameter (n ∷ m ∷ l ∷ ns) (suc k) spot fits have = refl
 
 -- a node of such a sort is in no parentheses
@@ -324,13 +335,15 @@ fits_here Method f spot fits h = refl
 fits_here Getter f spot fits h = parameters_here is_empty_list (λ ns k have. empty_here ns (free 1)) f spot fits h
 fits_here Setter f spot fits h = parameters_here is_one_parameter (λ ns k have. one_parameter ns k (free 1) refl have) f spot fits h
 
-lists_open : NoneClose is_list
-lists_open kind.List h = refl
-lists_open _ h = not_true h
+takers_open : NoneClose takes_not_one
+takers_open kind.List h = refl
+takers_open kind.RestPat h = refl
+takers_open _ h = not_true h
 
 misfit_here : (k : Kind) (ns : List Node) (ls : List Laid) (spot : Spot) (o : Shape) (n : ℕ) → HaveShapes (child_shapes k o n) ns → misfit_by k (spotted ns (first_spots k ls spot) (further_spot k spot)) ≡ misfit_by k ns
+misfit_here kind.AssignPat ns ls spot o n have = kind_at is_rest_pattern (kinds_kept is_rest_pattern refl rests_open) ns [] (free 1) tt refl 0
 misfit_here kind.GetterProp ns ls spot o n have = kind_at is_present present_kept ns [] (free 1) tt refl 3
-misfit_here kind.SetterProp ns ls spot o n have = kind_at is_list (kinds_kept is_list refl lists_open) ns [] (free 1) tt refl 2
+misfit_here kind.SetterProp ns ls spot o n have = kind_at takes_not_one (kinds_kept takes_not_one refl takers_open) ns [] (free 1) tt refl 2
 misfit_here (kind.ClassMethod k modifiers) [] ls spot o n have = absurd have
 misfit_here (kind.ClassMethod k modifiers) (a ∷ []) ls spot o n have = absurd have.1
 misfit_here (kind.ClassMethod k modifiers) (a ∷ f ∷ ns) ls spot o n have = ap not (fits_here k f (free 1) refl have.1.0)

@@ -17,8 +17,8 @@ use Rattle.ecma_rules.specs.declared.target.Target.{Target}
 use Rattle.ecma_rules.specs.declared.target.Target.TheVariants as target
 use Rattle.ecma_rules.specs.Children.{child_is, children_of as items_of, has_child, holds_of, is_named, is_present, items_at, kind_of, of_kind}
 use Rattle.ecma_rules.specs.Finishing.{each_in}
-use Rattle.ecma_rules.specs.Lists.{is_one_without_value}
-use Rattle.ecma_rules.specs.Members.{behind_first, fits_kind, is_binding_name, is_constructor, is_empty_list, is_full_constructor, is_named_pattern, is_one_parameter, is_plain_parameter, is_this_by, is_this_parameter, is_this_pattern, second_of}
+use Rattle.ecma_rules.specs.Lists.{is_one_without_value, is_rest_pattern}
+use Rattle.ecma_rules.specs.Members.{behind_first, fits_kind, is_binding_name, is_constructor, is_empty_list, is_full_constructor, is_named_pattern, is_one_parameter, is_plain_parameter, is_this_by, is_this_parameter, is_this_pattern, second_of, takes_one}
 use Rattle.ecma_rules.specs.Targets.{first_is, is_plain_target, is_simple_target, is_wrapper, simple_step, target_in}
 use Rattle.ecma_covers.specs.Covering.{cover_at, cover_in}
 use Rattle.ecma_covers.proofs.Uncovering.{cover_node, free_kind}
@@ -137,6 +137,9 @@ this_of σ is_free n h =
 this_parameter : (n : Node) → HasShape (one sort.Param) n → is_this_parameter (free n) ≡ is_this_parameter n
 this_parameter = this_of sort.Param param_free
 
+takes_one_stays : (n : Node) → HasShape (one sort.Param) n → takes_one (free n) ≡ takes_one n
+takes_one_stays n h = ap₂ (λ a b. not a && not b) (this_parameter n h) (child_kind_at is_rest_pattern n 0 (param_free (kind_of n) (shape_parts n (one sort.Param) h).0))
+
 empty_stays : (ns : List Node) → is_empty_list (each_in (λ i. target.Free) (map cover_at ns)) ≡ is_empty_list ns
 empty_stays [] = refl
 empty_stays (n ∷ ns) = refl
@@ -144,9 +147,9 @@ empty_stays (n ∷ ns) = refl
 one_parameter : (ns : List Node) (k : ℕ) → HaveShapes (replicate k (one sort.Param)) ns → is_one_parameter (each_in (λ i. target.Free) (map cover_at ns)) ≡ is_one_parameter ns
 one_parameter [] k h = refl
 one_parameter (n ∷ ns) zero h = absurd h
-one_parameter (n ∷ []) (suc k) h = ap not (this_parameter n h.0)
+one_parameter (n ∷ []) (suc k) h = takes_one_stays n h.0
 one_parameter (n ∷ m ∷ []) (suc zero) h = absurd h.1
-one_parameter (n ∷ m ∷ []) (suc (suc k)) h = ap₂ (λ a b. a && not b) (this_parameter n h.0) (this_parameter m h.1.0)
+one_parameter (n ∷ m ∷ []) (suc (suc k)) h = ap₂ (λ a b. a && b) (this_parameter n h.0) (takes_one_stays m h.1.0)
 one_parameter (n ∷ m ∷ l ∷ ns) (suc k) h = refl
 
 abbrev AreParameters : Node → Type 0

@@ -6,15 +6,14 @@ use Rattle.ecma_kind.specs.declared.kind.Kind.TheVariants as kind
 use Rattle.ecma_kind.specs.declared.operators.MethodKind.{MethodKind}
 use Rattle.ecma_kind.specs.declared.operators.MethodKind.TheVariants.{Method, Getter, Setter}
 use Rattle.ecma_tree.specs.declared.node.Node.{Node, out-Node}
-use Rattle.ecma_tree.specs.Sorted.{is_list}
 use Rattle.ecma_rules.specs.declared.standing.Around.{Around}
 use Rattle.ecma_rules.specs.declared.standing.Standing.{Standing}
 use Rattle.ecma_rules.specs.declared.target.Target.{Target}
 use Rattle.ecma_rules.specs.declared.strays.Strays.{Strays}
 use Rattle.ecma_rules.specs.Children.{has_child, is_named, items_at, kind_of}
 use Rattle.ecma_rules.specs.Jumps.{Held, ends_jumps, held_behind, held_in, is_held_stray, is_stray_in, label_of, own_label, stray_here, text_by, text_of}
-use Rattle.ecma_rules.specs.Lists.{is_head, is_one_without_value, is_rest, last_by, last_in}
-use Rattle.ecma_rules.specs.Members.{behind_first, fits_kind, is_binding_name, is_constructor_key, is_declaring, is_empty_list, is_full_constructor, is_constructor, is_method, is_named_pattern, is_one_parameter, is_plain_parameter, is_property_kind, is_special_by, is_special_function, is_this_by, is_this_parameter, is_this_pattern, misfits_by, misplaces_this_by, second_by, second_constructor, second_of}
+use Rattle.ecma_rules.specs.Lists.{is_head, is_one_without_value, is_rest, is_rest_pattern, last_by, last_in}
+use Rattle.ecma_rules.specs.Members.{behind_first, fits_kind, is_binding_name, is_constructor_key, is_declaring, is_empty_list, is_full_constructor, is_constructor, is_method, is_named_pattern, is_one_parameter, is_plain_parameter, is_property_kind, is_special_by, is_special_function, is_this_by, is_this_parameter, is_this_pattern, misfits_by, misplaces_this_by, second_by, second_constructor, second_of, takes_not_one, takes_one}
 use Rattle.ecma_rules.specs.Rules.{fails_list, fails_member, fails_statement}
 use Rattle.ecma_rules.specs.Statements.{is_body, is_declaration, is_exported, is_text}
 use Rattle.ecma_rules.specs.Strays.{in_named, is_stray, strays_in}
@@ -60,10 +59,13 @@ module _ (context_of : List ℕ → ℕ → ℕ) where
   this_parameter_same : Same context_of is_this_parameter
   this_parameter_same n = holds_same context_of is_this_pattern this_pattern_same n 0
 
+  takes_one_same : Same context_of takes_one
+  takes_one_same n = ap₂ (λ x y. not x && not y) (this_parameter_same n) (child_same context_of is_rest_pattern (λ text x y optional. refl) n 0)
+
   one_parameter_same : (ns : List Node) → is_one_parameter (map (to context_of) ns) ≡ is_one_parameter ns
   one_parameter_same [] = refl
-  one_parameter_same (n ∷ []) = ap not (this_parameter_same n)
-  one_parameter_same (n ∷ m ∷ []) = ap₂ (λ x y. x && not y) (this_parameter_same n) (this_parameter_same m)
+  one_parameter_same (n ∷ []) = takes_one_same n
+  one_parameter_same (n ∷ m ∷ []) = ap₂ (λ x y. x && y) (this_parameter_same n) (takes_one_same m)
   one_parameter_same (n ∷ m ∷ l ∷ ns) = refl
 
   none_same : (ns : List Node) → is_empty_list (map (to context_of) ns) ≡ is_empty_list ns
@@ -77,8 +79,9 @@ module _ (context_of : List ℕ → ℕ → ℕ) where
 
   misfits_same : (k : Kind) (n : Node) → misfits_by k (to context_of n) ≡ misfits_by k n
   unfolding misfits_by
+  misfits_same kind.AssignPat n = child_same context_of is_rest_pattern (λ text x y optional. refl) n 0
   misfits_same kind.GetterProp n = has_same context_of n 3
-  misfits_same kind.SetterProp n = child_same context_of is_list (λ text x y optional. refl) n 2
+  misfits_same kind.SetterProp n = child_same context_of takes_not_one (λ text x y optional. refl) n 2
   misfits_same (kind.ClassMethod k modifiers) n = ap not (holds_same context_of (fits_kind k) (accessor_fits k) n 1)
   misfits_same (kind.PrivateMethod k modifiers) n = ap not (holds_same context_of (fits_kind k) (accessor_fits k) n 1)
   misfits_same _ n = refl

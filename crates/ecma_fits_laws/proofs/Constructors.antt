@@ -84,8 +84,8 @@ no_class _ n h = refl
 made_single : (x : Node-F Node) → is_made x.kind ≡ true → has_second_constructor (roll-Node x) ≡ false
 made_single x h = subst (λ k. is_some (second_by k (roll-Node x)) ≡ false) (sym (kind_made x)) (no_class x.kind (roll-Node x) h)
 
-rest_single : (span : Span) (cs : List Node) → has_second_constructor (node_of span kind.RestPat cs) ≡ false
-rest_single span cs = let x : Node-F Node = record { span = span; kind = kind.RestPat; children = cs } in subst (λ k. is_some (second_by k (roll-Node x)) ≡ false) (sym (kind_made x)) refl
+kind_single : (span : Span) (k : Kind) (cs : List Node) → is_some (second_by k (node_of span k cs)) ≡ false → has_second_constructor (node_of span k cs) ≡ false
+kind_single span k cs h = let x : Node-F Node = record { span = span; kind = k; children = cs } in subst (λ k. is_some (second_by k (roll-Node x)) ≡ false) (sym (kind_made x)) h
 
 same_single : (t : Target) (span : Span) (k : Kind) (cs : List Node) (o : Shape) → second_constructor (node_of span k cs) ≡ None → HasShape o (node_of span k (each_in (target_in t k) (map finished_at cs)))
     → has_second_constructor (node_of span k (each_in (target_in t k) (map finished_at cs))) ≡ false
@@ -100,7 +100,7 @@ same_single t span k cs o single shape =
 pub one_constructor : FinishedClassesHaveOneConstructor
 one_constructor raw kept sorted =
     let w = neither_least (first_misplaced raw at_root) (first_stray raw) kept in
-    ruled (λ w node. has_second_constructor node) (λ w x h. made_single x h) (λ w span cs last. rest_single span cs) (λ was w span k cs o stands stays fine single shape. same_single was.target span k cs o single shape)
+    ruled (λ w node. has_second_constructor node) (λ w x h. made_single x h) (λ w span cs last. kind_single span kind.RestPat cs refl) (λ w span cs no_rest. kind_single span kind.AssignPat cs refl) (λ was w span k cs o stands stays fine single shape. same_single was.target span k cs o single shape)
     raw at_root at_top (one sort.Module) (record { standing = refl; target = refl; last = λ p q. refl }) sorted w.0
 
 pub ruleset single = (one_constructor)

@@ -1,5 +1,5 @@
 -- What no node of a raw tree that keeps the rules fails, none of the finished tree fails.
-use Rattle.std.proofs.Common.{◌≡◌, ◌∙◌, ℕ, suc, Bool, true, false, not, ◌&&◌, ◌==◌, List, [], ◌∷◌, ◌++◌, map, length, Option, None, refl, sym, ap, subst}
+use Rattle.std.proofs.Common.{◌≡◌, ◌∙◌, ℕ, suc, Bool, true, false, not, ◌&&◌, ◌||◌, ◌==◌, List, [], ◌∷◌, ◌++◌, map, length, Option, None, refl, sym, ap, subst, slice_get}
 use Rattle.ecma_kind.specs.Sorts.{belongs}
 use Rattle.ecma_kind.specs.declared.span.Span.{Span}
 use Rattle.ecma_kind.specs.declared.operators.AssignOp.{AssignOp}
@@ -9,7 +9,7 @@ use Rattle.ecma_kind.specs.declared.kind.Kind.TheVariants as kind
 use Rattle.ecma_kind.specs.declared.shapes.Shape.{Shape}
 use Rattle.ecma_kind.specs.declared.shapes.Sort.TheVariants as sort
 use Rattle.ecma_tree.specs.declared.node.Node.{Node, Node-F, ind-Node, out-Node, roll-Node}
-use Rattle.ecma_tree.specs.declared.node.Node.TheViews.{out-roll-Node}
+use Rattle.ecma_tree.specs.declared.node.Node.TheViews.{out-roll-Node, roll-out-Node}
 use Rattle.ecma_tree.specs.Laws.{HaveShapes}
 use Rattle.ecma_tree.specs.Nodes.{absent, dummy_span, node_of}
 use Rattle.ecma_tree.specs.Sorted.{HasShape, child_shapes, one}
@@ -18,19 +18,19 @@ use Rattle.ecma_rules.specs.declared.target.Target.{Target}
 use Rattle.ecma_rules.specs.declared.target.Target.TheVariants as target
 use Rattle.ecma_rules.specs.declared.standing.Around.{Around}
 use Rattle.ecma_rules.specs.declared.standing.Standing.{Standing}
-use Rattle.ecma_rules.specs.Children.{kind_of}
+use Rattle.ecma_rules.specs.Children.{child_is, kind_of, of_kind}
 use Rattle.ecma_rules.specs.Failing.{failing_here, failing_step, first_failing, least_from}
 use Rattle.ecma_rules.specs.Finishing.{binding, default_by, each_in, element_by, finished_at, finished_by, left_by, name_by, part_by, property_by, shorthand, with_kind, with_type}
-use Rattle.ecma_rules.specs.Lists.{is_early_rest, is_item, is_rest, is_wrong_head, last_by}
+use Rattle.ecma_rules.specs.Lists.{is_early_rest, is_item, is_rest, is_rest_pattern, is_wrong_head, last_by}
 use Rattle.ecma_rules.specs.Members.{second_constructor}
 use Rattle.ecma_rules.specs.Rules.{fails_list, first_misplaced, is_misplaced, misplaced_here}
 use Rattle.ecma_rules.specs.Surroundings.{around_in, standing_by}
-use Rattle.ecma_rules.specs.Targets.{takes_patterns, target_in}
+use Rattle.ecma_rules.specs.Targets.{first_is, is_literal, is_no_target, is_plain_target, is_simple_target, is_wrapper, takes_patterns, target_in}
 use Rattle.ecma_rules.proofs.Layers.{from_leaves-roll}
 use Rattle.ecma_fits.specs.declared.unfit.Where.{Where}
 use Rattle.ecma_fits.specs.Fitting.{where_in}
 use Rattle.ecma_fits_laws.proofs.Walks.{both_none, free_kind, have_front, neither, neither_least, not_failing, not_true, one_more, shifted}
-use Rattle.ecma_fits_laws.proofs.Standing.{AllStand, Stands, around_by, binds, each_stands, finished_parts, free_child, is_element, is_part, is_property, keeps_last, kept_rules, kind_made, no_rest_expression, same_children, shape_allows, shown, turns}
+use Rattle.ecma_fits_laws.proofs.Standing.{AllStand, Stands, around_by, binds, each_stands, finished_parts, free_child, is_element, is_part, is_property, keeps_last, kept_rules, kind_made, no_rest_expression, no_target_by, same_children, shape_allows, shown, turns}
 
 -- the kinds that finishing makes, and what may stand in them
 abbrev pub is_made : Kind → Bool
@@ -39,7 +39,6 @@ is_made kind.BindingIdent = true
 is_made (kind.Ident text ctxt optional) = true
 is_made (kind.ArrayPat optional) = true
 is_made (kind.ObjectPat optional) = true
-is_made kind.AssignPat = true
 is_made kind.KeyValuePatProp = true
 is_made kind.AssignPatProp = true
 is_made _ = false
@@ -70,6 +69,31 @@ default_children was now target_of (c ∷ d ∷ []) first second free h =
     (first (kind_of c), (second (kind_of d) (is_expression d (subst (λ t. HasShape (one sort.Expr) (finished_at d t)) free h.1.0)), tt))
 default_children was now target_of (c ∷ d ∷ e ∷ cs) first second free h = absurd h.1.1
 
+-- a target in a pattern that is not misplaced is no rest once it is finished
+no_rest_target : (x : Node-F Node) → is_no_target target.Part (roll-Node x) ≡ false → is_rest_pattern (kind_of (finished_at (roll-Node x) target.Part)) ≡ false
+no_rest_target x h =
+    ap (λ n. is_rest_pattern (kind_of n)) (finished_parts x target.Part) ∙ by_kind (each_in (target_in target.Part x.kind) (map finished_at x.children)) x.kind (sym (no_target_by x) ∙ h)
+  where
+    by_kind : (children : List Node) (k : Kind) → not (is_literal k || (is_plain_target k || (is_wrapper k && first_is (map is_simple_target x.children)))) ≡ false
+        → is_rest_pattern (kind_of (part_by k (record { span = x.span; kind = k; children = children }))) ≡ false
+    by_kind children kind.RestPat h = not_true (sym h)
+    by_kind children (kind.Ident text ctxt optional) h = ap is_rest_pattern (kind_made _)
+    by_kind children kind.ArrayLit h = ap is_rest_pattern (kind_made _)
+    by_kind children kind.ObjectLit h = ap is_rest_pattern (kind_made _)
+    by_kind children k h = ap is_rest_pattern (kind_made (record { span = x.span; kind = k; children = children }))
+
+no_rest_part : (n : Node) (a : Around) → a.target ≡ target.Part → first_misplaced n a ≡ None → is_rest_pattern (kind_of (finished_at n target.Part)) ≡ false
+no_rest_part n a part =
+    subst (λ (m : Node). first_misplaced m a ≡ None → is_rest_pattern (kind_of (finished_at m target.Part)) ≡ false) (roll-out-Node n)
+    (λ h. let x = out-Node n in no_rest_target x (subst (λ t. is_no_target t (roll-Node x) ≡ false) part (kept_rules a (roll-Node x) (broken_parts x a h).0).target))
+
+no_rest_first : (was : ℕ → Around) (target_of : ℕ → Target) (cs : List Node) → (was 0).target ≡ target.Part → target_of 0 ≡ target.Part → least_from Around was 0 (map first_misplaced cs) ≡ None
+    → of_kind is_rest_pattern (slice_get (each_in target_of (map finished_at cs)) 0) ≡ false
+no_rest_first was target_of [] was_part part h = refl
+no_rest_first was target_of (c ∷ cs) was_part part h =
+    ap (λ t. is_rest_pattern (kind_of (finished_at c t))) part
+    ∙ no_rest_part c (was 0) was_part (neither_least (first_misplaced c (was 0)) (least_from Around was 1 (map first_misplaced cs)) h).0
+
 -- a spread that is an item of what is assigned to stands last
 stands_last : (a : Around) (span : Span) (cs : List Node) → is_item a.target ≡ true → fails_list a (node_of span kind.SpreadElement cs) ≡ false → a.is_last ≡ true
 stands_last a span cs item h =
@@ -94,11 +118,12 @@ nothing_turns t patterns element property binding (kind.AssignExpr op) = rw elem
 nothing_turns t patterns element property binding (kind.Ident text ctxt optional) = binding
 nothing_turns t patterns element property binding _ = refl
 
--- a test of a node and of where it stands: none that finishing makes fails it, a rest that stands last does not, nor does a node that is not
--- turned where it is not misplaced
+-- a test of a node and of where it stands: none that finishing makes fails it, a rest that stands last does not, nor does a pattern that is no rest with a
+-- default, nor a node that is not turned where it is not misplaced
 module _ (T : Where → Node → Bool)
     (made : (w : Where) (x : Node-F Node) → is_made x.kind ≡ true → T w (roll-Node x) ≡ false)
     (rest : (w : Where) (span : Span) (cs : List Node) → w.around.is_last ≡ true → T w (node_of span kind.RestPat cs) ≡ false)
+    (with_default : (w : Where) (span : Span) (cs : List Node) → child_is is_rest_pattern (node_of span kind.AssignPat cs) 0 ≡ false → T w (node_of span kind.AssignPat cs) ≡ false)
     (same : (was : Around) (w : Where) (span : Span) (k : Kind) (cs : List Node) (o : Shape) → Stands was k w.around → turns was.target k ≡ false → is_misplaced was (node_of span k cs) ≡ false → second_constructor (node_of span k cs) ≡ None
     → HasShape o (node_of span k (each_in (target_in was.target k) (map finished_at cs))) → T w (node_of span k (each_in (target_in was.target k) (map finished_at cs))) ≡ false) where
   abbrev tell : Where → Node → Option ℕ
@@ -238,7 +263,10 @@ module _ (T : Where → Node → Bool)
     default : (op : AssignOp) → Was target.Element (kind.AssignExpr op) → Tells (default_by op (parts target.Element (kind.AssignExpr op)))
     unfolding target_in standing_by last_by
     default Assign was =
-        turned target.Element (kind.AssignExpr Assign) kind.AssignPat (made w _ refl)
+        let assigned = kind.AssignExpr Assign in
+        let x : Node-F Node = record { span = span; kind = kind.AssignPat; children = kids target.Element assigned } in
+        let no_rest = ap (λ (p : Node-F Node). of_kind is_rest_pattern (slice_get p.children 0)) (out-roll-Node x) ∙ no_rest_first (around_by (at target.Element) (raw assigned)) (target_in target.Element assigned) cs refl refl was.inside in
+        turned target.Element assigned kind.AssignPat (with_default w span x.children no_rest)
         (λ have. default_children _ _ (target_in target.Element (kind.AssignExpr Assign)) cs
         (λ k. record { standing = refl; target = refl; last = λ p q. not_true (sym p) })
         (λ k keeps. record { standing = refl; target = refl; last = λ p q. not_true (sym keeps ∙ q) }) refl have) was

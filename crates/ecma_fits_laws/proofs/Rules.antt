@@ -11,17 +11,17 @@ use Rattle.ecma_tree.specs.declared.node.Node.{Node, Node-F, out-Node, roll-Node
 use Rattle.ecma_tree.specs.declared.node.Node.TheViews.{out-roll-Node}
 use Rattle.ecma_tree.specs.Laws.{HaveShapes}
 use Rattle.ecma_tree.specs.Nodes.{node_of}
-use Rattle.ecma_tree.specs.Sorted.{HasShape, child_shapes, is_list, one}
+use Rattle.ecma_tree.specs.Sorted.{HasShape, child_shapes, one}
 use Rattle.ecma_tree.proofs.ShapeLaws.{node_has_shape}
 use Rattle.ecma_rules.specs.declared.target.Target.{Target}
 use Rattle.ecma_rules.specs.declared.target.Target.TheVariants as target
 use Rattle.ecma_rules.specs.declared.standing.Around.{Around}
 use Rattle.ecma_rules.specs.declared.standing.Standing.{Standing}
-use Rattle.ecma_rules.specs.Children.{child_holds, children_of as items_of, holds_of, is_present, items_at, of_kind}
+use Rattle.ecma_rules.specs.Children.{child_holds, child_is, children_of as items_of, holds_of, is_present, items_at, of_kind}
 use Rattle.ecma_rules.specs.Finishing.{each_in, finished_at}
 use Rattle.ecma_rules.specs.Jumps.{first_stray}
 use Rattle.ecma_rules.specs.Lists.{is_early_rest, is_head, is_item, is_one_without_value, is_rest, is_rest_pattern, is_wrong_head}
-use Rattle.ecma_rules.specs.Members.{behind_first, fits_kind, is_constructor_key, is_declaring, is_method, is_plain_parameter, is_property_kind, is_special_by, is_special_constructor, is_special_function, is_stray_property, is_this_parameter, is_this_pattern, is_wrong_accessor, misfits_by, misplaces_this, misplaces_this_by}
+use Rattle.ecma_rules.specs.Members.{behind_first, fits_kind, is_constructor_key, is_declaring, is_method, is_misfit, is_plain_parameter, is_property_kind, is_special_by, is_special_constructor, is_special_function, is_stray_property, is_this_parameter, is_this_pattern, misfits_by, misplaces_this, misplaces_this_by, takes_not_one}
 use Rattle.ecma_rules.specs.Rules.{first_misplaced, is_misplaced}
 use Rattle.ecma_rules.specs.Statements.{is_body, is_declaration, is_exported, is_text}
 use Rattle.ecma_rules.specs.Surroundings.{at_root}
@@ -92,7 +92,6 @@ made_quiet kind.BindingIdent n h = (record { variables = refl; spread = refl; pr
 made_quiet (kind.Ident text ctxt optional) n h = (record { variables = refl; spread = refl; property = refl; accessor = refl; constructor = refl; receiver = refl; text = refl; declaration = refl }, refl)
 made_quiet (kind.ArrayPat optional) n h = (record { variables = refl; spread = refl; property = refl; accessor = refl; constructor = refl; receiver = refl; text = refl; declaration = refl }, refl)
 made_quiet (kind.ObjectPat optional) n h = (record { variables = refl; spread = refl; property = refl; accessor = refl; constructor = refl; receiver = refl; text = refl; declaration = refl }, refl)
-made_quiet kind.AssignPat n h = (record { variables = refl; spread = refl; property = refl; accessor = refl; constructor = refl; receiver = refl; text = refl; declaration = refl }, refl)
 made_quiet kind.KeyValuePatProp n h = (record { variables = refl; spread = refl; property = refl; accessor = refl; constructor = refl; receiver = refl; text = refl; declaration = refl }, refl)
 made_quiet kind.AssignPatProp n h = (record { variables = refl; spread = refl; property = refl; accessor = refl; constructor = refl; receiver = refl; text = refl; declaration = refl }, refl)
 made_quiet _ n h = not_true h
@@ -111,6 +110,15 @@ rest_keeps w span cs last =
     let n = roll-Node x in
     let q : Quiet kind.RestPat n = record { variables = refl; spread = refl; property = refl; accessor = refl; constructor = refl; receiver = refl; text = refl; declaration = refl } in
     subst (λ k. breaks_by w k n ≡ false) (sym (kind_made x)) (quiet_breaks w kind.RestPat n q (ap not last))
+
+default_keeps : (w : Where) (span : Span) (cs : List Node) → child_is is_rest_pattern (node_of span kind.AssignPat cs) 0 ≡ false → breaks_rule w (node_of span kind.AssignPat cs) ≡ false
+unfolding misfits_by misplaces_this_by is_declaration
+default_keeps w span cs no_rest =
+    let x : Node-F Node = record { span = span; kind = kind.AssignPat; children = cs } in
+    let n = roll-Node x in
+    let q : Quiet kind.AssignPat n = record { variables = refl; spread = refl; property = refl; accessor = no_rest; constructor = refl; receiver = refl; text = refl; declaration = refl } in
+    subst (λ k. breaks_by w k n ≡ false) (sym (kind_made x))
+    (quiet_breaks w kind.AssignPat n q (no_and (is_rest w.around.target kind.AssignPat) (not w.around.is_last) (and_no (is_item w.around.target) false refl)))
 
 shown_head : (t : Target) → is_head (shown t) ≡ is_head t
 shown_head target.Left = refl
@@ -167,8 +175,9 @@ module _ (t : Target) (span : Span) where
 
   accessors_stay : (k : Kind) (cs : List Node) (o : Shape) (n : ℕ) → HaveShapes (child_shapes k o n) (kids k cs) → misfits_by k (now_node k cs) ≡ misfits_by k (was_node k cs)
   unfolding misfits_by target_in
+  accessors_stay kind.AssignPat cs o n h = by_children (λ z. of_kind is_rest_pattern (slice_get z 0)) kind.AssignPat cs (kind_at is_rest_pattern (λ i. target.Free) cs 0 refl)
   accessors_stay kind.GetterProp cs o n h = by_children (λ z. of_kind is_present (slice_get z 3)) kind.GetterProp cs (presence (λ i. target.Free) cs 3)
-  accessors_stay kind.SetterProp cs o n h = by_children (λ z. of_kind is_list (slice_get z 2)) kind.SetterProp cs (kind_at is_list (λ i. target.Free) cs 2 refl)
+  accessors_stay kind.SetterProp cs o n h = by_children (λ z. of_kind takes_not_one (slice_get z 2)) kind.SetterProp cs (kind_at takes_not_one (λ i. target.Free) cs 2 refl)
   accessors_stay (kind.ClassMethod k modifiers) cs o n h = by_children (λ z. not (holds_of (fits_kind k) (slice_get z 1))) (kind.ClassMethod k modifiers) cs (ap not (function_fits k cs (one sort.PropName) h))
   accessors_stay (kind.PrivateMethod k modifiers) cs o n h = by_children (λ z. not (holds_of (fits_kind k) (slice_get z 1))) (kind.PrivateMethod k modifiers) cs (ap not (function_fits k cs (one sort.PrivateName) h))
   accessors_stay _ cs o n h = refl
@@ -243,7 +252,7 @@ module _ (was : Around) (w : Where) (span : Span) (k : Kind) (cs : List Node) (o
     where
       was_property : (is_property_kind k && not (is_declaring was.standing && holds_of is_plain_parameter (slice_get cs 0))) ≡ false
       was_property = subst (λ (p : Node-F Node). (is_property_kind p.kind && not (is_declaring was.standing && holds_of is_plain_parameter (slice_get p.children 0))) ≡ false) (out-roll-Node x)
-          (neither (is_stray_property was.standing (roll-Node x)) (is_wrong_accessor (roll-Node x) || (is_special_constructor (roll-Node x) || misplaces_this (roll-Node x))) (kept_rules was (roll-Node x) fine).member).0
+          (neither (is_stray_property was.standing (roll-Node x)) (is_misfit (roll-Node x) || (is_special_constructor (roll-Node x) || misplaces_this (roll-Node x))) (kept_rules was (roll-Node x) fine).member).0
 
       go : (b : Bool) → is_property_kind k ≡ b → stray_property_by w.around.standing k (roll-Node y) ≡ false
       go false e = no_and (is_property_kind k) (not (is_declaring w.around.standing && child_holds is_plain_parameter (roll-Node y) 0)) e
@@ -255,8 +264,8 @@ module _ (was : Around) (w : Where) (span : Span) (k : Kind) (cs : List Node) (o
   members_keep : (misfits_by k (roll-Node y) ≡ false) × (is_special_by k (roll-Node y) ≡ false) × (misplaces_this_by k (roll-Node y) ≡ false)
   members_keep =
       let n = roll-Node x in
-      let m = (neither (is_stray_property was.standing n) (is_wrong_accessor n || (is_special_constructor n || misplaces_this n)) (kept_rules was n fine).member).1 in
-      let more = neither (is_wrong_accessor n) (is_special_constructor n || misplaces_this n) m in
+      let m = (neither (is_stray_property was.standing n) (is_misfit n || (is_special_constructor n || misplaces_this n)) (kept_rules was n fine).member).1 in
+      let more = neither (is_misfit n) (is_special_constructor n || misplaces_this n) m in
       let both = neither (is_special_constructor n) (misplaces_this n) more.1 in
       let accessor : misfits_by k n ≡ false = subst (λ z. misfits_by z n ≡ false) (kind_made x) more.0 in
       let constructor : is_special_by k n ≡ false = subst (λ z. is_special_by z n ≡ false) (kind_made x) both.0 in
@@ -281,7 +290,7 @@ module _ (was : Around) (w : Where) (span : Span) (k : Kind) (cs : List Node) (o
 pub keeps_rules : FinishedTreesKeepRules
 keeps_rules raw kept sorted =
     let w = neither_least (first_misplaced raw at_root) (first_stray raw) kept in
-    ruled breaks_rule made_keeps rest_keeps (λ was w span k cs o stands stays fine single shape. same_keeps was w span k cs o stands fine shape) raw at_root at_top (one sort.Module)
+    ruled breaks_rule made_keeps rest_keeps default_keeps (λ was w span k cs o stands stays fine single shape. same_keeps was w span k cs o stands fine shape) raw at_root at_top (one sort.Module)
     (record { standing = refl; target = refl; last = λ p q. refl }) sorted w.0
 
 pub ruleset rules_kept = (keeps_rules)

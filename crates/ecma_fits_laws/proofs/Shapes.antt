@@ -13,7 +13,7 @@ use Rattle.ecma_grammar.specs.trees.Parts.{children_of, kind_of}
 use Rattle.ecma_rules.specs.declared.target.Target.TheVariants as target
 use Rattle.ecma_rules.specs.Children.{child_holds, has_child, holds_of, is_present, of_kind}
 use Rattle.ecma_rules.specs.Failing.{failing_here, failing_step, first_failing, least_from}
-use Rattle.ecma_rules.specs.Members.{is_constructor_key, is_method, is_special_by, is_special_constructor, is_special_function, is_stray_property, is_wrong_accessor, misplaces_this}
+use Rattle.ecma_rules.specs.Members.{is_constructor_key, is_method, is_misfit, is_special_by, is_special_constructor, is_special_function, is_stray_property, misplaces_this}
 use Rattle.ecma_rules.specs.Rules.{fails_list, fails_member, fails_statement}
 use Rattle.ecma_rules.proofs.Layers.{from_leaves-roll}
 use Rattle.ecma_text.specs.Modules.{reads_as}
@@ -192,7 +192,7 @@ no_special : (w : Where) (n : Node) → breaks_rule w n ≡ false → is_special
 no_special w n h =
     let outer = neither (fails_list w.around n) (fails_member w.around n || fails_statement w.around n) h in
     let member = (neither (fails_member w.around n) (fails_statement w.around n) outer.1).0 in
-    (neither (is_special_constructor n) (misplaces_this n) (neither (is_wrong_accessor n) (is_special_constructor n || misplaces_this n) (neither (is_stray_property w.around.standing n) (is_wrong_accessor n || (is_special_constructor n || misplaces_this n)) member).1).1).0
+    (neither (is_special_constructor n) (misplaces_this n) (neither (is_misfit n) (is_special_constructor n || misplaces_this n) (neither (is_stray_property w.around.standing n) (is_misfit n || (is_special_constructor n || misplaces_this n)) member).1).1).0
 
 -- what is read
 

@@ -267,7 +267,7 @@ presence target_of (n ∷ ns) (suc i) = presence (λ i. target_of (suc i)) ns i
 
 -- a target in a pattern, whose default may stand behind it, is no rest
 
-no_target_by : (x : Node-F Node) → is_no_target target.Part (roll-Node x) ≡ not (is_literal x.kind || (is_plain_target x.kind || (is_wrapper x.kind && first_is (map is_simple_target x.children))))
+pub no_target_by : (x : Node-F Node) → is_no_target target.Part (roll-Node x) ≡ not (is_literal x.kind || (is_plain_target x.kind || (is_wrapper x.kind && first_is (map is_simple_target x.children))))
 no_target_by x =
     ap (λ z. not (is_literal z || is_simple_target (roll-Node x))) (kind_made x)
     ∙ ap (λ z. not (is_literal x.kind || z)) (fold-roll-Node Bool simple_step x)

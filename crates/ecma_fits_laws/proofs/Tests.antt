@@ -18,8 +18,8 @@ use Rattle.ecma_rules.specs.declared.target.Target.{Target}
 use Rattle.ecma_rules.specs.declared.target.Target.TheVariants as target
 use Rattle.ecma_rules.specs.Children.{child_is, children_of as items_of, has_child, holds_of, is_named, is_present, items_at, kind_of, of_kind}
 use Rattle.ecma_rules.specs.Finishing.{each_in, finished_at}
-use Rattle.ecma_rules.specs.Lists.{is_one_without_value}
-use Rattle.ecma_rules.specs.Members.{behind_first, fits_kind, is_binding_name, is_empty_list, is_named_pattern, is_one_parameter, is_plain_parameter, is_this_by, is_this_parameter, is_this_pattern}
+use Rattle.ecma_rules.specs.Lists.{is_one_without_value, is_rest_pattern}
+use Rattle.ecma_rules.specs.Members.{behind_first, fits_kind, is_binding_name, is_empty_list, is_named_pattern, is_one_parameter, is_plain_parameter, is_this_by, is_this_parameter, is_this_pattern, takes_one}
 use Rattle.ecma_rules.specs.Targets.{target_in}
 use Rattle.ecma_fits_laws.proofs.Walks.{free_kind, not_true}
 use Rattle.ecma_fits_laws.proofs.Standing.{finished_parts, presence}
@@ -129,6 +129,11 @@ this_of σ free n h =
 this_parameter : (n : Node) → HasShape (one sort.Param) (finished_at n target.Free) → is_this_parameter (finished_at n target.Free) ≡ is_this_parameter n
 this_parameter = this_of sort.Param param_free
 
+takes_one_stays : (n : Node) → HasShape (one sort.Param) (finished_at n target.Free) → takes_one (finished_at n target.Free) ≡ takes_one n
+takes_one_stays n h =
+    let is_of = subst (λ k. belongs sort.Param k ≡ true) (free_kind n) (shape_parts (finished_at n target.Free) (one sort.Param) h).0 in
+    ap₂ (λ a b. not a && not b) (this_parameter n h) (child_kind_at is_rest_pattern n 0 (param_free (kind_of n) is_of))
+
 empty_stays : (target_of : ℕ → Target) (ns : List Node) → is_empty_list (each_in target_of (map finished_at ns)) ≡ is_empty_list ns
 empty_stays target_of [] = refl
 empty_stays target_of (n ∷ ns) = refl
@@ -136,10 +141,10 @@ empty_stays target_of (n ∷ ns) = refl
 one_parameter : (ns : List Node) (m : ℕ) → HaveShapes (replicate m (one sort.Param)) (each_in (λ i. target.Free) (map finished_at ns)) → is_one_parameter (each_in (λ i. target.Free) (map finished_at ns)) ≡ is_one_parameter ns
 one_parameter [] m h = refl
 one_parameter (n ∷ []) zero h = absurd h
-one_parameter (n ∷ []) (suc m) h = ap not (this_parameter n h.0)
+one_parameter (n ∷ []) (suc m) h = takes_one_stays n h.0
 one_parameter (n ∷ l ∷ []) zero h = absurd h
 one_parameter (n ∷ l ∷ []) (suc zero) h = absurd h.1
-one_parameter (n ∷ l ∷ []) (suc (suc m)) h = ap₂ (λ a b. a && not b) (this_parameter n h.0) (this_parameter l h.1.0)
+one_parameter (n ∷ l ∷ []) (suc (suc m)) h = ap₂ (λ a b. a && b) (this_parameter n h.0) (takes_one_stays l h.1.0)
 one_parameter (n ∷ l ∷ k ∷ ns) m h = refl
 
 -- of a list

@@ -1,5 +1,5 @@
 -- What stands in declared patterns: kinds by their roles, and what is missing.
-use Rattle.std.proofs.Common.{◌≡◌, ◌∙◌, refl, sym, ap, subst, Bool, true, false, not, ◌||◌, List, [], map, length, replicate}
+use Rattle.std.proofs.Common.{◌≡◌, ◌∙◌, refl, sym, ap, subst, Bool, true, false, not, ◌||◌, List, [], ◌∷◌, map, length, replicate, slice_get}
 use Rattle.std.proofs.lemmas.Bool.{false≢true}
 use Rattle.ecma_kind.specs.Sorts.{belongs}
 use Rattle.ecma_kind.specs.declared.span.Span.{Span}
@@ -13,8 +13,10 @@ use Rattle.ecma_tree.specs.Nodes.{node_of}
 use Rattle.ecma_tree.specs.Sorted.{is_absent, is_list, item_shape, maybe, one}
 use Rattle.ecma_rules.specs.declared.target.Target.{Target}
 use Rattle.ecma_rules.specs.declared.target.Target.TheVariants as target
-use Rattle.ecma_rules.specs.Children.{kind_of}
+use Rattle.ecma_rules.specs.Children.{kind_of, of_kind}
 use Rattle.ecma_rules.specs.Finishing.{each_in}
+use Rattle.ecma_rules.specs.Lists.{is_rest_pattern}
+use Rattle.ecma_rules.specs.Members.{misfits_by}
 use Rattle.ecma_rules.specs.Targets as targets
 use Rattle.ecma_rules.specs.Targets.{target_in}
 use Rattle.ecma_covers.specs.Covering.{cover_at, cover_in}
@@ -26,11 +28,10 @@ use Rattle.ecma_print.specs.Places.{free}
 use Rattle.ecma_reread.specs.Shapes.{IsAbsent, IsInitializer, initializer, no_initializer}
 use Rattle.ecma_fits_reread.specs.Forms.{is_of_forms}
 use Rattle.ecma_fits_reread.specs.Functions.{functions}
-use Rattle.ecma_fits_reread.specs.Functions as usual
 use Rattle.ecma_fits_reread.proofs.Building.{absent_shape, stands_as}
 use Rattle.ecma_fits_reread.proofs.Claims.{AllFormed, Formed, IsNaming, is_declared, names_parameter, names_value, seen, takes_rest, value_kind}
 use Rattle.ecma_fits_reread.proofs.Covered.{covered}
-use Rattle.ecma_fits_reread.proofs.Sound.{AllSound, Here, Sound, functions_made}
+use Rattle.ecma_fits_reread.proofs.Sound.{AllSound, Here, Sound, children_made, fitting_here}
 use Rattle.ecma_fits_reread.proofs.Spots.{assigned, proper_free}
 
 pub or_false : (b : Bool) → (b || false) ≡ true → b ≡ true
@@ -130,20 +131,20 @@ pub value_there : {spot : Spot} {shape : Shape} (n : Node) → Sound role.Declar
 unfolding may_be takes
 value_there n s = let h = seen n s in or_false _ (stands_as role.DeclaredValue (out-Node n).span (out-Node n).kind (out-Node n).children h).1
 
-same_rest : (k : Kind) → usual.is_rest k ≡ false → is_rest k ≡ false
+same_rest : (k : Kind) → is_rest_pattern k ≡ false → is_rest k ≡ false
 same_rest kind.RestPat h = h
 same_rest k h = refl
 
-rest_kind : (n : Node) → (functions n).is_rest ≡ false → is_rest (kind_of n) ≡ false
-rest_kind n h =
-    let x = out-Node n in
-    same_rest x.kind (sym (ap (λ m. m.is_rest) (functions_made x.span x.kind x.children)) ∙ ap (λ m. (functions m).is_rest) (roll-out-Node n) ∙ h)
+-- what has a default is no rest
+pub no_rest_before : {r : Role} {spot : Spot} {shape : Shape} (at : Span) (a : Node) (cs : List Node) → Here r spot shape at kind.AssignPat (a ∷ cs) → is_rest (kind_of a) ≡ false
+unfolding misfits_by
+no_rest_before at a cs h = same_rest (kind_of a) (sym (ap (λ ns. of_kind is_rest_pattern (slice_get ns 0)) (children_made at kind.AssignPat (a ∷ cs))) ∙ fitting_here h)
 
-defaulted_there : {spot : Spot} (n : Node) → Sound role.DefaultedParameter spot (one sort.Pat) n → (functions n).is_rest ≡ false → is_binding (kind_of n) ≡ true
+defaulted_there : {spot : Spot} (n : Node) → Sound role.DefaultedParameter spot (one sort.Pat) n → is_rest (kind_of n) ≡ false → is_binding (kind_of n) ≡ true
 unfolding may_be takes
-defaulted_there n s e = let h = seen n s in no_rest (kind_of n) (rest_kind n e) (stands_as role.DefaultedParameter (out-Node n).span (out-Node n).kind (out-Node n).children h).1
+defaulted_there n s e = let h = seen n s in no_rest (kind_of n) e (stands_as role.DefaultedParameter (out-Node n).span (out-Node n).kind (out-Node n).children h).1
 
-pub before_default : (r : Role) {spot : Spot} (n : Node) → is_declared r ≡ true → Sound (in_default r) spot (one sort.Pat) n → (functions n).is_rest ≡ false → is_binding (kind_of n) ≡ true
+pub before_default : (r : Role) {spot : Spot} (n : Node) → is_declared r ≡ true → Sound (in_default r) spot (one sort.Pat) n → is_rest (kind_of n) ≡ false → is_binding (kind_of n) ≡ true
 before_default role.Declared n d s e = binding_there n s
 before_default role.DeclaredValue n d s e = binding_there n s
 before_default role.DeclaredElement n d s e = binding_there n s
@@ -160,9 +161,9 @@ no_rest_parameter (kind.ObjectPat optional) b e h = refl
 no_rest_parameter kind.AssignPat b e h = refl
 no_rest_parameter k b e h = absurd (false≢true h)
 
-pub parameter_there : {spot : Spot} (n : Node) → Sound role.Parameter spot (one sort.Pat) n → (functions n).is_rest ≡ false → (is_binding (kind_of n) || is_default (kind_of n)) ≡ true
+pub parameter_there : {spot : Spot} (n : Node) → Sound role.Parameter spot (one sort.Pat) n → is_rest_pattern (kind_of n) ≡ false → (is_binding (kind_of n) || is_default (kind_of n)) ≡ true
 unfolding may_be takes
-parameter_there n s e = let h = seen n s in no_rest_parameter (kind_of n) h.allowed (rest_kind n e) (stands_as role.Parameter (out-Node n).span (out-Node n).kind (out-Node n).children h).1
+parameter_there n s e = let h = seen n s in no_rest_parameter (kind_of n) h.allowed (same_rest (kind_of n) e) (stands_as role.Parameter (out-Node n).span (out-Node n).kind (out-Node n).children h).1
 
 pub element_there : (r : Role) {spot : Spot} {shape : Shape} (at : Span) (k : Kind) (cs : List Node) → takes_rest r ≡ true → Here r spot shape at k cs → is_absent k ≡ false → (is_binding k || (is_default k || is_rest k)) ≡ true
 unfolding may_be takes

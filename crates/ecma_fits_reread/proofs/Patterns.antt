@@ -21,11 +21,10 @@ use Rattle.ecma_fits.specs.Roles.{in_default, is_binding, is_bound_name, is_defa
 use Rattle.ecma_print.specs.declared.place.Spot.{Spot}
 use Rattle.ecma_print.specs.Places.{free}
 use Rattle.ecma_reread.specs.Shapes.{AreProperties, AreSlots, IsDefaulted, IsElement, IsPattern, IsProperty, array_pattern, bindings, bound, filled, hole, more_properties, name_pattern, named, no_default, no_properties, no_slots, object_pattern, renamed, rest, rest_property, with_default}
-use Rattle.ecma_fits_reread.proofs.Bindings.{before_default, binding_there, declared_parts, default_declared, element_there, initializer_there, items_of, naming, no_type, not_true, or_false, rest_declared, rest_taken, value_there}
+use Rattle.ecma_fits_reread.proofs.Bindings.{before_default, binding_there, declared_parts, default_declared, element_there, initializer_there, items_of, naming, no_rest_before, no_type, not_true, or_false, rest_declared, rest_taken, value_there}
 use Rattle.ecma_fits_reread.proofs.Building.{absent_shape, stands_as}
 use Rattle.ecma_fits_reread.proofs.Claims.{AllFormed, BoundName, Formed, ListOf, covers_name, is_declared, seen, takes_rest}
 use Rattle.ecma_fits_reread.proofs.Covered.{cover_node, covered_children}
-use Rattle.ecma_fits_reread.proofs.Seats.{either_parts}
 use Rattle.ecma_fits_reread.proofs.Sound.{AllSound, Here, Sound}
 use Rattle.ecma_fits_reread.proofs.Spots.{assigned, child_value, proper_free}
 
@@ -101,7 +100,7 @@ module _ {r : Role} {shape : Shape} (at : Span) (d : is_declared r ≡ true) whe
   default_by [] f h = absurd h.below
   default_by (a ∷ []) f h = absurd h.below.1
   default_by (a ∷ b ∷ []) f h =
-      let is = before_default r a d h.below.0 (either_parts _ _ h.usual).0 in
+      let is = before_default r a d h.below.0 (no_rest_before at a (b ∷ []) h) in
       subst IsDefaulted (sym (freely at kind.AssignPat (a ∷ b ∷ [])))
       (with_default at (f.0.pattern (in_default r) (one sort.Pat) (default_declared r d) h.below.0 is) (assigned (child_value f.1.0 h.below.1.0 refl (proper_free 1)) refl))
   default_by (a ∷ b ∷ c ∷ cs) f h = absurd h.below.1.1

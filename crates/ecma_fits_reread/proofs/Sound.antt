@@ -12,7 +12,7 @@ use Rattle.ecma_tree.proofs.ShapeLaws.{node_has_shape}
 use Rattle.ecma_rules.specs.Children.{kind_of}
 use Rattle.ecma_rules.specs.Failing.{failing_here, failing_step, least_from}
 use Rattle.ecma_rules.specs.Lists.{is_early_rest, is_wrong_head}
-use Rattle.ecma_rules.specs.Members.{second_constructor}
+use Rattle.ecma_rules.specs.Members.{is_misfit, is_special_constructor, is_stray_property, misfits_by, misplaces_this, second_constructor}
 use Rattle.ecma_rules.specs.Rules.{fails_list, fails_member, fails_statement}
 use Rattle.ecma_rules.specs.Targets.{target_in}
 use Rattle.ecma_rules.specs.declared.target.Target.{Target}
@@ -32,7 +32,7 @@ use Rattle.ecma_parentheses.specs.Lacking.{all_complete, complete}
 use Rattle.ecma_parentheses.specs.Spots.{first_spots, further_spot}
 use Rattle.ecma_parentheses.proofs.Lacks.{complete_in}
 use Rattle.ecma_fits_reread.specs.Forms.{IsTaken}
-use Rattle.ecma_fits_reread.specs.Functions.{Functions, any_unusual, functions, functions_step, is_rest, is_this_name, unusual_here}
+use Rattle.ecma_fits_reread.specs.Functions.{Functions, any_unusual, functions, functions_step, is_this_name, unusual_here}
 
 -- it fits where it has this role, whatever else stands around
 abbrev pub FitsAs : Role → Node → Type 0
@@ -57,6 +57,14 @@ pub record KeepsRules (r : Role) (n : Node) : Type 0 where
   pub place : Where
   pub role_is : place.role ≡ r
   pub kept : breaks_rule place n ≡ false
+
+-- what breaks no rule is no rest with a default, and no accessor with other parameters than its own
+no_misfit : {r : Role} {n : Node} → KeepsRules r n → is_misfit n ≡ false
+no_misfit {r} {n} h =
+    let a = h.place.around in
+    let told = neither (fails_member a n) (fails_statement a n) (neither (fails_list a n) (fails_member a n || fails_statement a n) h.kept).1 in
+    let misfit = neither (is_stray_property a.standing n) (is_misfit n || (is_special_constructor n || misplaces_this n)) told.0 in
+    (neither (is_misfit n) (is_special_constructor n || misplaces_this n) misfit.1).0
 
 -- the first child declares what the head of a loop may, where it has this target
 abbrev pub HeadKept : Target → List Node → Type 0
@@ -85,7 +93,6 @@ children_made at k cs = ap (λ p. p.children) (out-roll-Node (record { span = at
 pub functions_made : (at : Span) (k : Kind) (cs : List Node) → functions (node_of at k cs) ≡ record {
   is_missing = is_absent k;
   is_this = is_this_name k;
-  is_rest = is_rest k;
   has_unusual = any_unusual (map functions cs) || unusual_here k (map functions cs);
 }
 functions_made at k cs = fold-roll-Node Functions functions_step (record { span = at; kind = k; children = cs })
@@ -93,6 +100,9 @@ functions_made at k cs = fold-roll-Node Functions functions_step (record { span 
 and_parts : (a b : Bool) → (a && b) ≡ true → (a ≡ true) × (b ≡ true)
 and_parts true b h = (refl, h)
 and_parts false b h = cc
+
+pub fitting_here : {r : Role} {spot : Spot} {shape : Shape} {at : Span} {k : Kind} {cs : List Node} → Here r spot shape at k cs → misfits_by k (node_of at k cs) ≡ false
+fitting_here {at = at} {k = k} {cs = cs} h = subst (λ z. misfits_by z (node_of at k cs) ≡ false) (kind_made at k cs) (no_misfit h.keeps_rules)
 
 not_true : (b : Bool) → not b ≡ true → b ≡ false
 not_true true h = cc

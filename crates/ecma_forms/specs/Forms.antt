@@ -5,8 +5,6 @@ use Rattle.ecma_kind.specs.declared.kind.Kind.TheVariants as kind
 use Rattle.ecma_tree.specs.declared.node.Node.{Node}
 use Rattle.ecma_rules.specs.Children.{child_holds, child_is, has_child, kind_of}
 use Rattle.ecma_rules.specs.Failing.{first_failing, failing_here}
-use Rattle.ecma_forms.specs.declared.places.Sought.{Sought}
-use Rattle.ecma_forms.specs.declared.places.Sought.TheVariants as sought
 
 -- imports and exports (ECMAScript, 16.2.2, 16.2.3; TypeScript handbook, "Modules - Reference"); enums and namespaces; parameter properties; and an
 -- identifier `this`, which names a parameter that is there for its type alone
@@ -37,10 +35,6 @@ is_later (kind.TsParamProp accessibility is_override readonly) = true
 is_later (kind.Ident sym ctxt optional) = bytes_eq sym (codes "this")
 is_later _ = false
 
-abbrev pub is_rest : Kind → Bool
-is_rest kind.RestPat = true
-is_rest _ = false
-
 abbrev pub is_ambient_variable : Kind → Bool
 is_ambient_variable (kind.VarDecl k declare) = declare
 is_ambient_variable _ = false
@@ -49,11 +43,9 @@ is_ambient_variable _ = false
 abbrev pub has_body : Node → Bool
 has_body function = has_child function 1
 
--- What the grammar reads and ECMAScript has not: a rest parameter with a default, and in an object a setter that takes the rest, or two parameters. And what no text
--- has, though no law says so: a variable in the head of a loop behind `declare`, and a function without a body that could be no declaration
+-- what no text has, though no law says so: a variable in the head of a loop behind `declare`, and a function without a body that could be no declaration
 abbrev pub is_odd_by : Kind → Node → Bool
-is_odd_by kind.AssignPat node = child_is is_rest node 0
-is_odd_by kind.SetterProp node = has_child node 1 || (child_is is_rest node 2 || not (has_child node 3))
+is_odd_by kind.SetterProp node = not (has_child node 3)
 is_odd_by kind.GetterProp node = not (has_child node 2)
 is_odd_by kind.MethodProp node = not (child_holds has_body node 1)
 is_odd_by kind.FnExpr node = not (child_holds has_body node 1)
@@ -74,24 +66,3 @@ inside around node i = tt
 -- the least place at which a node begins that is of a form that is not taken; none where each is of one that is
 abbrev pub first_untaken : Node → Option ℕ
 first_untaken node = first_failing (Unit {0}) untaken_here inside node tt
-
--- of these what the grammar reads and ECMAScript has not, in plain modules too
-abbrev pub is_odd_rest_by : Kind → Node → Bool
-is_odd_rest_by kind.AssignPat node = child_is is_rest node 0
-is_odd_rest_by kind.SetterProp node = has_child node 1 || child_is is_rest node 2
-is_odd_rest_by _ node = false
-
-abbrev pub odd_rest_here : Unit {0} → Node → Option ℕ
-odd_rest_here around node = failing_here (is_odd_rest_by (kind_of node) node) node
-
--- the least place at which such a node begins; none where there is none
-abbrev pub first_odd_rest : Node → Option ℕ
-first_odd_rest node = first_failing (Unit {0}) odd_rest_here inside node tt
-
--- the place of a node that is one of those sought
-abbrev pub sought_here : Sought → Unit {0} → Node → Option ℕ
-sought_here sought.Untaken = untaken_here
-sought_here sought.OddRest = odd_rest_here
-
-abbrev pub first_sought : Sought → Node → Option ℕ
-first_sought s node = first_failing (Unit {0}) (sought_here s) inside node tt

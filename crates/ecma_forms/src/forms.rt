@@ -1,7 +1,7 @@
 //! The forms that are not taken yet, node by node.
 ghost use Rattle.std.specs.Prelude.{◌≡◌};
 ghost use Rattle.ecma_rules.specs.Children.{child_holds, child_is, kind_of};
-ghost use Rattle.ecma_forms.specs.Forms.{has_body, is_ambient_variable, is_later, is_odd_by, is_odd_rest_by, is_rest, is_untaken};
+ghost use Rattle.ecma_forms.specs.Forms.{has_body, is_ambient_variable, is_later, is_odd_by, is_untaken};
 
 use ecma_rules::has_child;
 use ecma_tree::{Kind, Node};
@@ -39,16 +39,6 @@ fn is_later(kind: &Kind) -> bool
     }
 }
 
-/// Whether the child at an index is a rest element.
-fn has_rest(node: &Node, index: usize) -> bool
-    ensures { result ≡ child_is is_rest node.now index }
-{
-    match node.children.get(index) {
-        Some(child) => matches!(child.kind, Kind::RestPat),
-        None => false,
-    }
-}
-
 fn is_ambient_variable(kind: &Kind) -> bool
     ensures { result ≡ is_ambient_variable kind.now }
 {
@@ -82,22 +72,10 @@ fn is_odd(node: &Node) -> bool
     ensures { result ≡ is_odd_by (kind_of node.now) node.now }
 {
     match &node.kind {
-        Kind::AssignPat => has_rest(node, 0),
-        Kind::SetterProp => has_child(node, 1) || has_rest(node, 2) || !has_child(node, 3),
+        Kind::SetterProp => !has_child(node, 3),
         Kind::GetterProp => !has_child(node, 2),
         Kind::MethodProp | Kind::FnExpr => !has_full_function(node),
         Kind::ForStmt | Kind::ForInStmt | Kind::ForOfStmt { .. } => has_ambient_head(node),
-        _ => false,
-    }
-}
-
-/// A rest parameter with a default, and in an object a setter that takes the rest, or two parameters.
-pub(crate) fn is_odd_rest(node: &Node) -> bool
-    ensures { result ≡ is_odd_rest_by (kind_of node.now) node.now }
-{
-    match &node.kind {
-        Kind::AssignPat => has_rest(node, 0),
-        Kind::SetterProp => has_child(node, 1) || has_rest(node, 2),
         _ => false,
     }
 }

@@ -6,4 +6,4 @@
 mod forms;
 mod places;
 
-pub use places::{first_odd_rest, first_untaken};
+pub use places::first_untaken;

@@ -1,5 +1,5 @@
 -- A test of nodes and of what stands around them, that no node fails, no node fails with other texts.
-use Rattle.std.proofs.Common.{◌≡◌, ◌∙◌, ℕ, suc, Bool, true, false, ◌==◌, cond, List, [], ◌∷◌, map, length, Option, Some, None, refl, sym, ap, ap₂, subst}
+use Rattle.std.proofs.Common.{◌≡◌, ◌∙◌, ℕ, suc, Bool, true, false, ◌==◌, cond, List, [], ◌∷◌, map, length, Option, Some, None, refl, sym, ap, ap₂, slice_get, subst}
 use Rattle.std.proofs.lemmas.Bool.{false≢true}
 use Rattle.ecma_kind.specs.Sorts.{belongs}
 use Rattle.ecma_kind.specs.declared.kind.Kind.{Kind}
@@ -11,8 +11,9 @@ use Rattle.ecma_tree.specs.declared.node.Node.{Node, out-Node}
 use Rattle.ecma_tree.specs.Laws.{HaveShapes}
 use Rattle.ecma_tree.specs.Nodes.{node_of}
 use Rattle.ecma_tree.specs.Sorted.{HasShape, HasSort, child_shapes, one}
-use Rattle.ecma_rules.specs.Children.{kind_of}
+use Rattle.ecma_rules.specs.Children.{child_is, kind_of, of_kind}
 use Rattle.ecma_rules.specs.Failing.{failing_here, failing_step, first_failing, least, least_from}
+use Rattle.ecma_rules.specs.Members.{is_binding_name}
 use Rattle.ecma_rules.proofs.Layers.{from_leaves_out}
 use Rattle.ecma_scope.specs.Resolved.{is_name}
 use Rattle.ecma_hygiene.specs.declared.spot.Spot.{Spot}
@@ -47,6 +48,16 @@ touched_known (kind.ImportNamedSpecifier is_type_only) t = refl
 touched_known (kind.ExportNamedSpecifier is_type_only) t = refl
 touched_known _ t = absurd (false≢true t)
 
+-- a default that is put in stands behind a name
+abbrev pub defaults_name : Kind → Node → Bool
+defaults_name kind.AssignPat n = child_is is_binding_name n 0
+defaults_name _ n = true
+
+touched_defaults : (k : Kind) (n : Node) → is_touched k ≡ true → defaults_name k n ≡ true
+unfolding is_touched
+touched_defaults kind.AssignPat n t = absurd (false≢true t)
+touched_defaults _ n t = refl
+
 only_bound : (k : Kind) → belongs sort.BindingIdent k ≡ true → (k ≡ kind.BindingIdent) × (is_touched k ≡ false)
 unfolding is_touched
 only_bound kind.BindingIdent b = (refl, refl)
@@ -66,7 +77,7 @@ module _ (texts : Texts) (A : Type 0) (inside : A → Node → ℕ → A) (fails
   -- what the test and what stands around have to do
   pub record Carries : Type 0 where
     -- what is known is tested by its kind, which says what stands around its children
-    pub tested : (a : A) (n : Node) → is_known (kind_of n) ≡ true → fails a n ≡ by a (kind_of n)
+    pub tested : (a : A) (n : Node) → is_known (kind_of n) ≡ true → defaults_name (kind_of n) n ≡ true → fails a n ≡ by a (kind_of n)
     pub around : (a : A) (n : Node) → is_known (kind_of n) ≡ true → (i : ℕ) → inside a n i ≡ at a (kind_of n) i
     -- what is not touched passes with other texts, and has the same around its children
     pub stays : (n : Node) (s : Shape) (a : A) (stands : Standing) → HasShape s n → is_touched (kind_of n) ≡ false → first n a ≡ None → fails a (become texts n stands) ≡ false
@@ -142,21 +153,22 @@ module _ (texts : Texts) (A : Type 0) (inside : A → Node → ℕ → A) (fails
   ready_by _ n stands a p = tt
 
   module _ (carries : Carries) where
-    of_known : (span : Span) (k : Kind) (cs : List Node) (a : A) → is_known k ≡ true → by a k ≡ false → AllPass (at a k) 0 cs → first (node_of span k cs) a ≡ None
-    of_known span k cs a known h below =
+    of_known : (span : Span) (k : Kind) (cs : List Node) (a : A) → is_known k ≡ true → defaults_name k (node_of span k cs) ≡ true → by a k ≡ false → AllPass (at a k) 0 cs
+        → first (node_of span k cs) a ≡ None
+    of_known span k cs a known named h below =
         let n = node_of span k cs in
         let is : kind_of n ≡ k = kind-of span k cs in
         let here : is_known (kind_of n) ≡ true = ap is_known is ∙ known in
-        passes n a (carries.tested a n here ∙ (ap (by a) is ∙ h))
+        passes n a (carries.tested a n here (ap (λ z. defaults_name z n) is ∙ named) ∙ (ap (by a) is ∙ h))
         (pass_alike (at a k) (inside a n) (λ i. carries.around a n here i ∙ ap (λ z. at a z i) is) 0 (children_of n) (subst (AllPass (at a k) 0) (sym (children-of span k cs)) below))
 
     key_passes : (old : OldName) (a : A) → by a (kind.IdentName old.text) ≡ false → first (key_of old) a ≡ None
     unfolding is_known
-    key_passes old a h = of_known old.span (kind.IdentName old.text) [] a refl h tt
+    key_passes old a h = of_known old.span (kind.IdentName old.text) [] a refl refl h tt
 
     name_passes : (old : OldName) (a : A) → by a (kind.Ident old.text 0 false) ≡ false → first (name_of old) a ≡ None
     unfolding is_known
-    name_passes old a h = of_known old.span (kind.Ident old.text 0 false) [] a refl h tt
+    name_passes old a h = of_known old.span (kind.Ident old.text 0 false) [] a refl refl h tt
 
     names_pass : (old : OldName) (around : ℕ → A) (cs : List Node) → by (around 1) (kind.Ident old.text 0 false) ≡ false → AllPass around 0 cs → AllPass around 0 (two_names old cs)
     names_pass old around [] h e = e
@@ -177,17 +189,18 @@ module _ (texts : Texts) (A : Type 0) (inside : A → Node → ℕ → A) (fails
         go : (gone : Bool) → first (cond gone p (node_of span kind.AssignPat (p ∷ v ∷ []))) (at a kind.KeyValuePatProp 1) ≡ None
         go true = alike_passes (at a kind.KeyValuePatProp 1) (at a kind.AssignPatProp 0) p (carries.bound a p bound).0 h
         go false =
-            of_known span kind.AssignPat (p ∷ v ∷ []) (at a kind.KeyValuePatProp 1) refl (carries.default a)
+            of_known span kind.AssignPat (p ∷ v ∷ []) (at a kind.KeyValuePatProp 1) refl
+            (ap (λ (z : List Node). of_kind is_binding_name (slice_get z 0)) (children-of span kind.AssignPat (p ∷ v ∷ [])) ∙ ap is_binding_name bound) (carries.default a)
             (alike_passes (at (at a kind.KeyValuePatProp 1) kind.AssignPat 0) (at a kind.AssignPatProp 0) p (carries.bound a p bound).1 h, (ap (first v) (carries.defaulted a) ∙ g, tt))
 
     ident_passes : (o : Option OldName) (span : Span) (a : A) (sym : List ℕ) (ctxt : ℕ) (optional : Bool) → by a (kind.Ident sym ctxt optional) ≡ false → Ready (kind.Ident sym ctxt optional) o a
         → first (grown o span (kind.Ident sym ctxt optional) []) a ≡ None
     unfolding is_known
-    ident_passes None span a text ctxt optional h ready = of_known span (kind.Ident text ctxt optional) [] a refl h tt
+    ident_passes None span a text ctxt optional h ready = of_known span (kind.Ident text ctxt optional) [] a refl refl h tt
     ident_passes (Some old) span a text ctxt optional h ready =
-        of_known span kind.KeyValueProp (key_of old ∷ node_of span (kind.Ident text ctxt optional) [] ∷ []) a refl (carries.written a ready) (
+        of_known span kind.KeyValueProp (key_of old ∷ node_of span (kind.Ident text ctxt optional) [] ∷ []) a refl refl (carries.written a ready) (
           key_passes old (at a kind.KeyValueProp 0) (carries.keys a old.text).0,
-          (of_known span (kind.Ident text ctxt optional) [] (at a kind.KeyValueProp 1) refl (carries.value a text ctxt optional ready h) tt, tt),
+          (of_known span (kind.Ident text ctxt optional) [] (at a kind.KeyValueProp 1) refl refl (carries.value a text ctxt optional ready h) tt, tt),
         )
 
     module _ (stands : ℕ → Standing) (span : Span) (s : Shape) (a : A) where
@@ -201,7 +214,7 @@ module _ (texts : Texts) (A : Type 0) (inside : A → Node → ℕ → A) (fails
       pattern_passes old m (c ∷ []) has h below = absurd has.1
       pattern_passes old m (c ∷ d ∷ []) has h below =
           let t = only_bound (kind_of c) (shape_parts c (one sort.BindingIdent) has.0).0 in
-          of_known span kind.KeyValuePatProp (key_of old ∷ with_default span (become texts c (stands 0)) (become texts d (stands 1)) ∷ []) a refl (carries.pattern a h) (
+          of_known span kind.KeyValuePatProp (key_of old ∷ with_default span (become texts c (stands 0)) (become texts d (stands 1)) ∷ []) a refl refl (carries.pattern a h) (
             key_passes old (at a kind.KeyValuePatProp 0) (carries.keys a old.text).1,
             (default_passes span a (become texts c (stands 0)) (become texts d (stands 1)) (kind_stays texts c (stands 0) t.1 ∙ t.0) below.0 below.1.0, tt),
           )
@@ -212,16 +225,16 @@ module _ (texts : Texts) (A : Type 0) (inside : A → Node → ℕ → A) (fails
       unfolding is_touched is_known
       touched_passes o (kind.Ident text ctxt optional) m [] t has h ready below = ident_passes o span a text ctxt optional h ready
       touched_passes o (kind.Ident text ctxt optional) m (d ∷ ds) t has h ready below = absurd has
-      touched_passes None k m ds t has h ready below = of_known span k (Becomes ds) a (touched_known k t) h below
+      touched_passes None k m ds t has h ready below = of_known span k (Becomes ds) a (touched_known k t) (touched_defaults k (node_of span k (Becomes ds)) t) h below
       touched_passes (Some old) (kind.ImportNamedSpecifier is_type_only) m ds t has h ready below =
-          of_known span (kind.ImportNamedSpecifier is_type_only) (two_names old (Becomes ds)) a refl h
+          of_known span (kind.ImportNamedSpecifier is_type_only) (two_names old (Becomes ds)) a refl refl h
           (names_pass old (at a (kind.ImportNamedSpecifier is_type_only)) (Becomes ds) (carries.names a old.text is_type_only).0 below)
       touched_passes (Some old) (kind.ExportNamedSpecifier is_type_only) m ds t has h ready below =
-          of_known span (kind.ExportNamedSpecifier is_type_only) (two_names old (Becomes ds)) a refl h
+          of_known span (kind.ExportNamedSpecifier is_type_only) (two_names old (Becomes ds)) a refl refl h
           (names_pass old (at a (kind.ExportNamedSpecifier is_type_only)) (Becomes ds) (carries.names a old.text is_type_only).1 below)
       touched_passes (Some old) kind.AssignPatProp m ds t has h ready below = pattern_passes old m ds has h below
-      touched_passes (Some old) kind.KeyValueProp m ds t has h ready below = of_known span kind.KeyValueProp (Becomes ds) a refl h below
-      touched_passes (Some old) kind.KeyValuePatProp m ds t has h ready below = of_known span kind.KeyValuePatProp (Becomes ds) a refl h below
+      touched_passes (Some old) kind.KeyValueProp m ds t has h ready below = of_known span kind.KeyValueProp (Becomes ds) a refl refl h below
+      touched_passes (Some old) kind.KeyValuePatProp m ds t has h ready below = of_known span kind.KeyValuePatProp (Becomes ds) a refl refl h below
       touched_passes (Some old) _ m ds t has h ready below = absurd (false≢true t)
 
       grown_passes : (o : Option OldName) (named : Bool) (k : Kind) (m : ℕ) (ds : List Node) → is_touched k ≡ true → HaveShapes (child_shapes k s m) ds → by a k ≡ false → Ready k o a → AllPass (at a k) 0 (Becomes ds)
@@ -274,7 +287,7 @@ module _ (texts : Texts) (A : Type 0) (inside : A → Node → ℕ → A) (fails
             let known = touched_known (kind_of n) t in
             ap (λ m. first m a) (become-out texts n stands)
             ∙ grown_passes (standing_in stands n) (out-Node n).span s a (old_of texts n stands) (is_name stands.role) (kind_of n) (length (children_of n)) (children_of n) t (shape_parts n s has).1
-            (sym (carries.tested a n known) ∙ told.0) (ready_by (kind_of n) n stands a p)
+            (sym (carries.tested a n known (touched_defaults (kind_of n) n t)) ∙ told.0) (ready_by (kind_of n) n stands a p)
             (pass_alike (inside a n) (at a (kind_of n)) (λ i. sym (carries.around a n known i)) 0 (children_become texts n stands) each)
         go false u =
             passes (become texts n stands) a (carries.stays n s a stands has u h)

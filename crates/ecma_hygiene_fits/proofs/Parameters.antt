@@ -1,5 +1,5 @@
 -- What is said of parameters is said of them with other texts, where none is `this`.
-use Rattle.std.proofs.Common.{◌≡◌, ◌∙◌, ◌⊎◌, inl, inr, ℕ, zero, suc, Bool, true, false, not, ◌&&◌, bytes_eq, codes, List, [], ◌∷◌, length, replicate, Option, Some, None, refl, sym, ap, slice_get, subst}
+use Rattle.std.proofs.Common.{◌≡◌, ◌∙◌, ◌⊎◌, inl, inr, ℕ, zero, suc, Bool, true, false, not, ◌&&◌, bytes_eq, codes, List, [], ◌∷◌, length, replicate, Option, Some, None, refl, sym, ap, ap₂, slice_get, subst}
 use Rattle.std.specs.List.{list_any}
 use Rattle.std.proofs.lemmas.Bool.{false≢true, or_from, or_parts}
 use Rattle.std.proofs.lemmas.Slice.Eq.{bytes_eq-Decides}
@@ -16,7 +16,8 @@ use Rattle.ecma_tree.specs.declared.node.Node.{Node}
 use Rattle.ecma_tree.specs.Laws.{HaveShapes}
 use Rattle.ecma_tree.specs.Sorted.{HasShape, child_shapes, is_list, many, one}
 use Rattle.ecma_rules.specs.Children.{children_of as items_of, holds_of, kind_of}
-use Rattle.ecma_rules.specs.Members.{behind_first, fits_kind, is_binding_name, is_empty_list, is_named_pattern, is_one_parameter, is_plain_parameter, is_this_by, is_this_parameter, is_this_pattern}
+use Rattle.ecma_rules.specs.Lists.{is_rest_pattern}
+use Rattle.ecma_rules.specs.Members.{behind_first, fits_kind, is_binding_name, is_empty_list, is_named_pattern, is_one_parameter, is_plain_parameter, is_this_by, is_this_parameter, is_this_pattern, takes_one}
 use Rattle.ecma_hygiene.specs.declared.spot.Standing.{Standing}
 use Rattle.ecma_hygiene.specs.Renamed.{Texts, standing_in, text_of}
 use Rattle.ecma_hygiene_fits.specs.Named.{AreUnreserved, IsUnreserved}
@@ -32,6 +33,11 @@ binding_quiet : Quiet false is_binding_name
 unfolding is_touched
 binding_quiet kind.BindingIdent t = cc
 binding_quiet _ t = refl
+
+pub rest_quiet : Quiet false is_rest_pattern
+unfolding is_touched
+rest_quiet kind.RestPat t = absurd (false≢true t)
+rest_quiet _ t = refl
 
 plain_quiet : (k : Kind) (n : Node) → is_touched k ≡ true → is_named_pattern k n ≡ false
 unfolding is_touched
@@ -149,11 +155,21 @@ module _ (texts : Texts) (unreserved : AreUnreserved texts) where
     never_any test [] e stands j = refl
     never_any test (c ∷ cs) e stands j = or_from (test (become texts c (stands j))) (list_any test (all_become texts stands (suc j) cs)) (e.0 (stands j)) (never_any test cs e.1 stands (suc j))
 
-    one_same : (cs : List Node) → Each (Never is_this_parameter) cs → Each (λ c. is_this_parameter c ≡ false) cs → (stands : ℕ → Standing) → is_one_parameter (all_become texts stands 0 cs) ≡ is_one_parameter cs
-    one_same [] e f stands = refl
-    one_same (c ∷ []) e f stands = ap not (e.0 (stands 0)) ∙ sym (ap not f.0)
-    one_same (c ∷ d ∷ []) e f stands = ap (λ b. b && not (is_this_parameter (become texts d (stands 1)))) (e.0 (stands 0)) ∙ sym (ap (λ b. b && not (is_this_parameter d)) f.0)
-    one_same (c ∷ d ∷ b ∷ cs) e f stands = refl
+    -- neither is `this`, and both take one argument or neither does
+    abbrev TakesAlike : Node → Type 0
+    TakesAlike c = Never is_this_parameter c × (is_this_parameter c ≡ false) × ((stands : Standing) → takes_one (become texts c stands) ≡ takes_one c)
+
+    takes_alike : (c : Node) → is_touched (kind_of c) ≡ false → Calm c → TakesAlike c
+    takes_alike c u calm =
+        let never = none_becomes c u calm in
+        let free = no_parameter c calm in
+        (never, free, λ stands. ap₂ (λ x y. not x && not y) (never stands ∙ sym free) (child_same texts is_rest_pattern false rest_quiet c stands u 0))
+
+    one_same : (cs : List Node) → Each TakesAlike cs → (stands : ℕ → Standing) → is_one_parameter (all_become texts stands 0 cs) ≡ is_one_parameter cs
+    one_same [] e stands = refl
+    one_same (c ∷ []) e stands = e.0.2 (stands 0)
+    one_same (c ∷ d ∷ []) e stands = ap (λ b. b && takes_one (become texts d (stands 1))) (e.0.0 (stands 0)) ∙ sym (ap (λ b. b && takes_one d) e.0.1)
+    one_same (c ∷ d ∷ b ∷ cs) e stands = refl
 
     empty_same : (cs : List Node) (stands : ℕ → Standing) → is_empty_list (all_become texts stands 0 cs) ≡ is_empty_list cs
     empty_same [] stands = refl
@@ -173,10 +189,12 @@ module _ (texts : Texts) (unreserved : AreUnreserved texts) where
 
     -- the parameters in a list
     module _ (σ : Sort) (untouched : (k : Kind) → belongs σ k ≡ true → is_touched k ≡ false) (l : Node) (has : HasShape (many σ) l) (calm : Calm l) where
+      each_alike : Each TakesAlike (children_of l)
+      each_alike =
+          each_then (HasShape (one σ)) Calm TakesAlike (λ c h q. takes_alike c (untouched (kind_of c) (shape_parts c (one σ) h).0) q) (children_of l) (items_shaped σ l has) (below l calm)
+
       never_each : Each (Never is_this_parameter) (children_of l)
-      never_each =
-          each_then (HasShape (one σ)) Calm (Never is_this_parameter) (λ c h q stands. none_becomes c (untouched (kind_of c) (shape_parts c (one σ) h).0) q stands) (children_of l) (items_shaped σ l has)
-          (below l calm)
+      never_each = each_then TakesAlike TakesAlike (Never is_this_parameter) (λ c p q. p.0) (children_of l) each_alike each_alike
 
       is_list_there : is_touched (kind_of l) ≡ false
       is_list_there = list_untouched (kind_of l) (shape_parts l (many σ) has).0
@@ -189,7 +207,7 @@ module _ (texts : Texts) (unreserved : AreUnreserved texts) where
           (is_one_parameter (children_of (become texts l stands)) ≡ is_one_parameter (children_of l)) × (is_empty_list (children_of (become texts l stands)) ≡ is_empty_list (children_of l))
       counts_in stands = (
         ap is_one_parameter (children_stay texts l stands is_list_there)
-            ∙ one_same (children_of l) never_each (each_then Calm Calm (λ c. is_this_parameter c ≡ false) (λ c p q. no_parameter c p) (children_of l) (below l calm) (below l calm)) (standing_in stands l),
+            ∙ one_same (children_of l) each_alike (standing_in stands l),
         ap is_empty_list (children_stay texts l stands is_list_there) ∙ empty_same (children_of l) (standing_in stands l),
       )
 

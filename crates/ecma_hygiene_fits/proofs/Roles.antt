@@ -192,7 +192,7 @@ module _ (texts : Texts) (unreserved : AreUnreserved texts) where
   carries : Carries texts Where where_in out_of_role within out_by (λ w. w.role ≡ role.Free)
   unfolding role_in target_in standing_by last_by arguments_in may_be takes
   carries = record {
-    tested = λ w n known. ap (λ b. is_wrong_name w.role (kind_of n) || not (may_be w.role (kind_of n) || (takes w.role (kind_of n) && b))) (simple_known n known);
+    tested = λ w n known named. ap (λ b. is_wrong_name w.role (kind_of n) || not (may_be w.role (kind_of n) || (takes w.role (kind_of n) && b))) (simple_known n known);
     around = where_known;
     stays = λ n s w stands has u h. stays n w stands u ∙ (parts_pass texts Where where_in out_of_role within out_by (λ w. w.role ≡ role.Free) n w h).0;
     keeps = λ n s w stands has u i. where_stays texts w n stands u i;

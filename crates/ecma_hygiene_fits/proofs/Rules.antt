@@ -11,9 +11,9 @@ use Rattle.ecma_kind.specs.declared.shapes.Sort.TheVariants as sort
 use Rattle.ecma_tree.specs.declared.node.Node.{Node}
 use Rattle.ecma_tree.specs.Laws.{HaveShapes}
 use Rattle.ecma_tree.specs.Sorted.{HasShape, child_shapes, is_list, many, one}
-use Rattle.ecma_rules.specs.Children.{child_holds, children_of as items_of, holds_of, is_present, items_at, kind_of}
-use Rattle.ecma_rules.specs.Lists.{is_head, is_item, is_one_without_value, is_rest, last_by}
-use Rattle.ecma_rules.specs.Members.{fits_kind, is_constructor_key, is_declaring, is_method, is_plain_parameter, is_property_kind, is_special_by, is_special_function, is_this_by, is_this_parameter, is_this_pattern, misfits_by, misplaces_this_by}
+use Rattle.ecma_rules.specs.Children.{child_holds, children_of as items_of, holds_of, is_present, items_at, kind_of, of_kind}
+use Rattle.ecma_rules.specs.Lists.{is_head, is_item, is_one_without_value, is_rest, is_rest_pattern, last_by}
+use Rattle.ecma_rules.specs.Members.{fits_kind, is_binding_name, is_constructor_key, is_declaring, is_method, is_plain_parameter, is_property_kind, is_special_by, is_special_function, is_this_by, is_this_parameter, is_this_pattern, misfits_by, misplaces_this_by, takes_not_one}
 use Rattle.ecma_rules.specs.Statements.{is_body, is_declaration, is_exported, is_text}
 use Rattle.ecma_rules.specs.Surroundings.{standing_by}
 use Rattle.ecma_rules.specs.Targets.{is_variables, target_in}
@@ -25,11 +25,11 @@ use Rattle.ecma_hygiene.specs.declared.spot.Standing.{Standing}
 use Rattle.ecma_hygiene.specs.Renamed.{Texts, renamed, standing_in}
 use Rattle.ecma_hygiene_fits.specs.Named.{AreUnreserved, FinalTextsKeepRules}
 use Rattle.ecma_hygiene_fits.proofs.Becoming.{Quiet, all_become, become, child_same, children_stay, holds_same, is_touched, kind_stays, present_quiet}
-use Rattle.ecma_hygiene_fits.proofs.Carrying.{AllPass, Carries, carried, first, is_known, parts_pass}
+use Rattle.ecma_hygiene_fits.proofs.Carrying.{AllPass, Carries, carried, defaults_name, first, is_known, parts_pass}
 use Rattle.ecma_hygiene_fits.proofs.Everywhere.{Each, children_of}
 use Rattle.ecma_hygiene_fits.proofs.Joining.{both_kept, weaker_kept}
 use Rattle.ecma_hygiene_fits.proofs.Listed.{list_untouched}
-use Rattle.ecma_hygiene_fits.proofs.Parameters.{behind_none, child_met, fits_same, items_shaped, no_pattern_in, no_this_in, params_untouched, param_untouched, pattern_stays, plain_same}
+use Rattle.ecma_hygiene_fits.proofs.Parameters.{behind_none, child_met, fits_same, items_shaped, no_pattern_in, no_this_in, params_untouched, param_untouched, pattern_stays, plain_same, rest_quiet}
 use Rattle.ecma_hygiene_fits.proofs.Surroundings.{bound_inside, where_known, where_stays, within}
 use Rattle.ecma_hygiene_fits.proofs.Tests.{function_quiet, key_quiet}
 use Rattle.ecma_hygiene_fits.proofs.Walk.{shape_parts}
@@ -62,25 +62,34 @@ ruled_by w k n = is_this_by k n || (list_by w k n || (member_by w k n || stateme
 quiet : (h i e b x l : Bool) → ((((h && false) && x) || ((i && false) && l)) || ((e && false) || (b && false))) ≡ false
 quiet h i e b x l = λ j. (((and-false h j) && x) || ((and-false i j) && l)) || ((and-false e j) || (and-false b j))
 
-ruled_known : (w : Where) (k : Kind) (n : Node) → is_known k ≡ true → ruled_by w k n ≡ false
+name_no_rest : (c : Option Node) → of_kind is_binding_name c ≡ true → of_kind is_rest_pattern c ≡ false
+name_no_rest None h = refl
+name_no_rest (Some c) h = by (kind_of c) h
+  where
+    by : (k : Kind) → is_binding_name k ≡ true → is_rest_pattern k ≡ false
+    by kind.RestPat h = absurd (false≢true h)
+    by _ h = refl
+
+ruled_known : (w : Where) (k : Kind) (n : Node) → is_known k ≡ true → defaults_name k n ≡ true → ruled_by w k n ≡ false
 unfolding is_known misfits_by misplaces_this_by is_declaration
-ruled_known w (kind.Ident text ctxt optional) n t =
+ruled_known w (kind.Ident text ctxt optional) n t named =
     quiet (is_head w.around.target) (is_item w.around.target) (is_exported w.around.standing) (is_body w.around.standing) (not (is_one_without_value (items_at n 0))) (not w.around.is_last)
-ruled_known w kind.KeyValueProp n t =
+ruled_known w kind.KeyValueProp n t named =
     quiet (is_head w.around.target) (is_item w.around.target) (is_exported w.around.standing) (is_body w.around.standing) (not (is_one_without_value (items_at n 0))) (not w.around.is_last)
-ruled_known w kind.AssignPatProp n t =
+ruled_known w kind.AssignPatProp n t named =
     quiet (is_head w.around.target) (is_item w.around.target) (is_exported w.around.standing) (is_body w.around.standing) (not (is_one_without_value (items_at n 0))) (not w.around.is_last)
-ruled_known w kind.KeyValuePatProp n t =
+ruled_known w kind.KeyValuePatProp n t named =
     quiet (is_head w.around.target) (is_item w.around.target) (is_exported w.around.standing) (is_body w.around.standing) (not (is_one_without_value (items_at n 0))) (not w.around.is_last)
-ruled_known w (kind.ImportNamedSpecifier is_type_only) n t =
+ruled_known w (kind.ImportNamedSpecifier is_type_only) n t named =
     quiet (is_head w.around.target) (is_item w.around.target) (is_exported w.around.standing) (is_body w.around.standing) (not (is_one_without_value (items_at n 0))) (not w.around.is_last)
-ruled_known w (kind.ExportNamedSpecifier is_type_only) n t =
+ruled_known w (kind.ExportNamedSpecifier is_type_only) n t named =
     quiet (is_head w.around.target) (is_item w.around.target) (is_exported w.around.standing) (is_body w.around.standing) (not (is_one_without_value (items_at n 0))) (not w.around.is_last)
-ruled_known w (kind.IdentName text) n t =
+ruled_known w (kind.IdentName text) n t named =
     quiet (is_head w.around.target) (is_item w.around.target) (is_exported w.around.standing) (is_body w.around.standing) (not (is_one_without_value (items_at n 0))) (not w.around.is_last)
-ruled_known w kind.AssignPat n t =
-    quiet (is_head w.around.target) (is_item w.around.target) (is_exported w.around.standing) (is_body w.around.standing) (not (is_one_without_value (items_at n 0))) (not w.around.is_last)
-ruled_known w _ n t = absurd (false≢true t)
+ruled_known w kind.AssignPat n t named =
+    ap (λ b. list_by w kind.AssignPat n || ((b || false) || statement_by w kind.AssignPat)) (name_no_rest (slice_get (children_of n) 0) named)
+    ∙ quiet (is_head w.around.target) (is_item w.around.target) (is_exported w.around.standing) (is_body w.around.standing) (not (is_one_without_value (items_at n 0))) (not w.around.is_last)
+ruled_known w _ n t named = absurd (false≢true t)
 
 -- ---- what is not touched breaks none that it did not break
 
@@ -88,6 +97,9 @@ list_quiet : Quiet false is_list
 unfolding is_touched
 list_quiet kind.List t = absurd (false≢true t)
 list_quiet _ t = refl
+
+not_one_quiet : Quiet false takes_not_one
+not_one_quiet k t = ap₂ (λ x y. x || y) (list_quiet k t) (rest_quiet k t)
 
 declarator_untouched : (k : Kind) → belongs sort.VarDeclarator k ≡ true → is_touched k ≡ false
 unfolding is_touched
@@ -152,8 +164,9 @@ module _ (texts : Texts) (unreserved : AreUnreserved texts) where
 
     misfits_same : (k : Kind) → Have k → misfits_by k m ≡ misfits_by k n
     unfolding misfits_by
+    misfits_same kind.AssignPat has = child_same texts is_rest_pattern false rest_quiet n stands u 0
     misfits_same kind.GetterProp has = child_same texts is_present true present_quiet n stands u 3
-    misfits_same kind.SetterProp has = child_same texts is_list false list_quiet n stands u 2
+    misfits_same kind.SetterProp has = child_same texts takes_not_one false not_one_quiet n stands u 2
     misfits_same (kind.ClassMethod k modifiers) has =
         ap not
         (met (λ d c. holds_of (fits_kind k) d ≡ holds_of (fits_kind k) c) (one sort.Function) refl (λ f h q st. fits_same texts unreserved Calm here below k f h q st)
@@ -208,7 +221,7 @@ module _ (texts : Texts) (unreserved : AreUnreserved texts) where
   carries : Carries texts Where where_in is_ruled_out within (λ w k. false) (λ w. Unit {0})
   unfolding role_in target_in standing_by last_by arguments_in
   carries = record {
-    tested = λ w n known. ruled_known w (kind_of n) n known;
+    tested = λ w n known named. ruled_known w (kind_of n) n known named;
     around = where_known;
     stays = λ n s w stands has u h. rules_pass n stands u s (w, h) w has (parts n w h).0;
     keeps = λ n s w stands has u i. where_stays texts w n stands u i;

@@ -137,7 +137,7 @@ module _ (texts : Texts) (unreserved : AreUnreserved texts) where
   carries : Carries texts Held held_in is_held_stray behind (λ held k. is_stray held.strays k) (λ held. Unit {0})
   unfolding strays_in in_named is_stray ends_jumps
   carries = record {
-    tested = λ a n known. stray_known a (kind_of n) (label_of n) known;
+    tested = λ a n known named. stray_known a (kind_of n) (label_of n) known;
     around = λ a n known i. ap (λ l. held_behind (strays_in a.strays (kind_of n) i) (ends_jumps (kind_of n)) l a.labels) (label_known (kind_of n) (label_of n) known);
     stays = λ n s a stands has u h. stray_stays a n s stands has u ∙ (parts_pass texts Held held_in is_held_stray behind (λ held k. is_stray held.strays k) (λ held. Unit {0}) n a h).0;
     keeps = λ n s a stands has u i. held_stays a n s stands has u i;

@@ -127,7 +127,7 @@ module _ (texts : Texts) (fails : Kind → Node → Bool) (quiet : (k : Kind) (n
   carries : Carries texts Where where_in by_kind within (λ w k. false) (λ w. Unit {0})
   unfolding role_in target_in standing_by last_by arguments_in
   carries = record {
-    tested = λ w n known. fails_known (kind_of n) n known;
+    tested = λ w n known named. fails_known (kind_of n) n known;
     around = where_known;
     stays = λ n s w stands has u h.
         ap (λ k. fails k (become texts n stands)) (kind_stays texts n stands u)

@@ -50,7 +50,7 @@ module _ (texts : Texts) (unreserved : AreUnreserved texts) where
   carries : Carries texts Where where_in stray_target within (λ w k. false) (λ w. Unit {0})
   unfolding role_in target_in standing_by last_by arguments_in
   carries = record {
-    tested = λ w n known. ap (λ b. w.arguments.stray && (is_assigned w.role && (b && child_is (is_named (codes "arguments")) n 0))) (bound_known (kind_of n) known)
+    tested = λ w n known named. ap (λ b. w.arguments.stray && (is_assigned w.role && (b && child_is (is_named (codes "arguments")) n 0))) (bound_known (kind_of n) known)
         ∙ unbound w.arguments.stray (is_assigned w.role) (child_is (is_named (codes "arguments")) n 0);
     around = where_known;
     stays = λ n s w stands has u h. stays n w stands u (parts_pass texts Where where_in stray_target within (λ w k. false) (λ w. Unit {0}) n w h).0;

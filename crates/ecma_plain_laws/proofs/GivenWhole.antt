@@ -21,7 +21,7 @@ use Rattle.ecma_grammar.specs.Grammar.{Grammar}
 use Rattle.ecma_fits_laws.proofs.Walks.{not_true}
 use Rattle.ecma_fits_reread.specs.Functions.{is_this_name}
 use Rattle.ecma_plain_laws.proofs.Given.{is_plain_part}
-use Rattle.ecma_plain_laws.proofs.Whole.{A, G, is_specifier, lacks, more, none}
+use Rattle.ecma_plain_laws.proofs.Whole.{A, G, is_specifier, is_unusual, more, none}
 
 -- it is there, no function that may lack its body, and no specifier
 abbrev pub is_calm : Kind → Bool
@@ -35,7 +35,7 @@ is_calm (kind.ExportNamedSpecifier is_type_only) = false
 is_calm kind.ExportNamespaceSpecifier = false
 is_calm _ = true
 
-pub calm_full : (k : Kind) (cs : List Node) → is_calm k ≡ true → lacks k cs ≡ false
+pub calm_full : (k : Kind) (cs : List Node) → is_calm k ≡ true → is_unusual k cs ≡ false
 calm_full (kind.Function is_generator is_async) cs h = not_true h
 calm_full (kind.Constructor accessibility is_optional) cs h = not_true h
 calm_full kind.GetterProp cs h = not_true h
@@ -54,20 +54,20 @@ calm_open _ h = refl
 
 -- with fewer than three children none is lacking
 
-pub bare_full : (k : Kind) → lacks k [] ≡ false
+pub bare_full : (k : Kind) → is_unusual k [] ≡ false
 bare_full kind.Absent = refl
 bare_full _ = refl
 
-pub one_full : (k : Kind) (a : Node) → lacks k (a ∷ []) ≡ false
+pub one_full : (k : Kind) (a : Node) → is_unusual k (a ∷ []) ≡ false
 one_full kind.Absent a = refl
 one_full _ a = refl
 
-pub two_full : (k : Kind) (a b : Node) → lacks k (a ∷ b ∷ []) ≡ false
+pub two_full : (k : Kind) (a b : Node) → is_unusual k (a ∷ b ∷ []) ≡ false
 two_full kind.Absent a b = refl
 two_full _ a b = refl
 
 -- the first child does not matter
-pub first_aside : (k : Kind) (cs : List Node) (x : Node) → lacks k (slice_set cs 0 x) ≡ lacks k cs
+pub first_aside : (k : Kind) (cs : List Node) (x : Node) → is_unusual k (slice_set cs 0 x) ≡ is_unusual k cs
 first_aside k [] x = refl
 first_aside k (a ∷ []) x = one_full k x ∙ sym (one_full k a)
 first_aside k (a ∷ b ∷ []) x = two_full k x b ∙ sym (two_full k a b)
@@ -78,7 +78,7 @@ first_aside _ (a ∷ b ∷ c ∷ d ∷ []) x = refl
 first_aside kind.Absent (a ∷ b ∷ c ∷ d ∷ e ∷ cs) x = refl
 first_aside _ (a ∷ b ∷ c ∷ d ∷ e ∷ cs) x = refl
 
-pub question_aside : (optional : Bool) (k : Kind) (cs : List Node) → lacks (questioned_kind optional k) cs ≡ lacks k cs
+pub question_aside : (optional : Bool) (k : Kind) (cs : List Node) → is_unusual (questioned_kind optional k) cs ≡ is_unusual k cs
 question_aside optional (kind.Ident text ctxt before) cs = refl
 question_aside optional (kind.ArrayPat before) cs = refl
 question_aside optional (kind.ObjectPat before) cs = refl

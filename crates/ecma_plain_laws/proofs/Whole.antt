@@ -1,5 +1,5 @@
--- Trees in which each function has its body and no identifier is `this`, but for the names that specifiers of imports and exports hold.
-use Rattle.std.proofs.Common.{◌≡◌, ◌∙◌, ◌⊎◌, ℕ, zero, suc, Bool, true, false, cond, List, [], ◌∷◌, ◌++◌, filter, inl, inr, map, subst, sym, take}
+-- Trees in which each function has its body, no setter a parameter `this`, and no identifier is `this`, but for the names that specifiers of imports and exports hold.
+use Rattle.std.proofs.Common.{◌≡◌, ◌∙◌, ◌⊎◌, ℕ, zero, suc, Bool, true, false, ◌||◌, cond, not, List, [], ◌∷◌, ◌++◌, filter, inl, inr, map, refl, subst, sym, take}
 use Rattle.std.specs.Prelude.{slice_index_or, slice_set}
 use Rattle.std.specs.List.{swap}
 use Rattle.ecma_kind.specs.declared.span.Span.{Span}
@@ -13,13 +13,13 @@ use Rattle.ecma_spelling.proofs.Trees.{children_made, kind_made}
 use Rattle.ecma_fits_laws.proofs.Walks.{not_true}
 use Rattle.ecma_fits_reread.specs.Functions.{is_this_name}
 
--- a function whose body is missing
-abbrev pub lacks : Kind → List Node → Bool
-lacks (kind.Function is_generator is_async) (params ∷ body ∷ type_params ∷ return_type ∷ []) = is_absent (kind_of body)
-lacks (kind.Constructor accessibility is_optional) (key ∷ params ∷ body ∷ []) = is_absent (kind_of body)
-lacks kind.GetterProp (key ∷ return_type ∷ body ∷ []) = is_absent (kind_of body)
-lacks kind.SetterProp (key ∷ this_param ∷ param ∷ body ∷ []) = is_absent (kind_of body)
-lacks _ children = false
+-- a function whose body is missing, or a setter with a parameter `this`
+abbrev pub is_unusual : Kind → List Node → Bool
+is_unusual (kind.Function is_generator is_async) (params ∷ body ∷ type_params ∷ return_type ∷ []) = is_absent (kind_of body)
+is_unusual (kind.Constructor accessibility is_optional) (key ∷ params ∷ body ∷ []) = is_absent (kind_of body)
+is_unusual kind.GetterProp (key ∷ return_type ∷ body ∷ []) = is_absent (kind_of body)
+is_unusual kind.SetterProp (key ∷ this_param ∷ param ∷ body ∷ []) = not (is_absent (kind_of this_param)) || is_absent (kind_of body)
+is_unusual _ children = false
 
 -- what holds names of modules, which may be any words
 abbrev pub is_specifier : Kind → Bool
@@ -30,7 +30,7 @@ is_specifier _ = false
 
 mutual
   pub data Whole : Node → Type 0 where
-    whole : (at : Span) (k : Kind) {cs : List Node} → lacks k cs ≡ false → is_this_name k ≡ false → EachWhole cs → Whole (node_of at k cs)
+    whole : (at : Span) (k : Kind) {cs : List Node} → is_unusual k cs ≡ false → is_this_name k ≡ false → EachWhole cs → Whole (node_of at k cs)
     shut : (at : Span) (k : Kind) (cs : List Node) → is_specifier k ≡ true → Whole (node_of at k cs)
 
   pub data EachWhole : List Node → Type 0 where
@@ -45,7 +45,7 @@ A = EachWhole
 
 -- what is known of the parts of such a node
 abbrev pub View : Kind → List Node → Type 0
-View k cs = ((lacks k cs ≡ false) × (is_this_name k ≡ false) × A cs) ⊎ (is_specifier k ≡ true)
+View k cs = ((is_unusual k cs ≡ false) × (is_this_name k ≡ false) × A cs) ⊎ (is_specifier k ≡ true)
 
 viewed : (at : Span) (k : Kind) (cs : List Node) → View k cs → View (kind_of (node_of at k cs)) (children_of (node_of at k cs))
 viewed at k cs v = subst (λ (j : Kind). View j (children_of (node_of at k cs))) (sym (kind_made at k cs)) (subst (λ (ds : List Node). View k ds) (sym (children_made at k cs)) v)
@@ -65,6 +65,17 @@ inner {n} g e = go (view g)
     go : View (kind_of n) (children_of n) → A (children_of n)
     go (inl t) = t.2
     go (inr s) = not_true (sym e ∙ s)
+
+specifier_named : (k : Kind) → is_specifier k ≡ true → is_this_name k ≡ false
+specifier_named (kind.Ident text ctxt optional) i = not_true i
+specifier_named _ i = refl
+
+pub no_this : {n : Node} → G n → is_this_name (kind_of n) ≡ false
+no_this {n} g = go (view g)
+  where
+    go : View (kind_of n) (children_of n) → is_this_name (kind_of n) ≡ false
+    go (inl t) = t.1
+    go (inr i) = specifier_named (kind_of n) i
 
 pub append_all : {xs ys : List Node} → A xs → A ys → A (xs ++ ys)
 append_all none k = k

@@ -1,5 +1,5 @@
 -- The finished tree of a whole raw one is whole.
-use Rattle.std.proofs.Common.{◌≡◌, ◌∙◌, ℕ, suc, true, false, List, [], ◌∷◌, ◌++◌, inl, inr, map, refl, sym, ap, subst}
+use Rattle.std.proofs.Common.{◌≡◌, ◌∙◌, ℕ, suc, true, false, not, ◌||◌, List, [], ◌∷◌, ◌++◌, inl, inr, map, refl, sym, ap, ap₂, subst}
 use Rattle.ecma_kind.specs.declared.span.Span.{Span}
 use Rattle.ecma_kind.specs.declared.operators.AssignOp.{AssignOp}
 use Rattle.ecma_kind.specs.declared.operators.AssignOp.TheVariants.{Assign}
@@ -19,7 +19,7 @@ use Rattle.ecma_fits_laws.proofs.Standing.{finished_parts, kind_made}
 use Rattle.ecma_fits_laws.proofs.Walks.{not_true}
 use Rattle.ecma_fits_reread.specs.Functions.{is_this_name}
 use Rattle.ecma_plain_laws.proofs.GivenWhole.{one_full, two_full}
-use Rattle.ecma_plain_laws.proofs.Whole.{A, G, View, append_all, is_specifier, lacks, more, none, shut, view, whole}
+use Rattle.ecma_plain_laws.proofs.Whole.{A, G, View, append_all, is_specifier, is_unusual, more, none, shut, view, whole}
 
 -- the same of them are missing
 abbrev AreAlike : List Node → List Node → Type 0
@@ -27,7 +27,7 @@ AreAlike [] [] = Unit {0}
 AreAlike (x ∷ xs) (y ∷ ys) = (is_absent (kind_of y) ≡ is_absent (kind_of x)) × AreAlike xs ys
 AreAlike xs ys = ⊥
 
-alike_lack : (k : Kind) (xs ys : List Node) → AreAlike xs ys → lacks k ys ≡ lacks k xs
+alike_lack : (k : Kind) (xs ys : List Node) → AreAlike xs ys → is_unusual k ys ≡ is_unusual k xs
 alike_lack k [] [] h = refl
 alike_lack k [] (y ∷ ys) h = absurd h
 alike_lack k (x ∷ xs) [] h = absurd h
@@ -39,14 +39,14 @@ alike_lack k (x ∷ a ∷ []) (y ∷ b ∷ d ∷ ys) h = let t = h.1 in absurd t
 alike_lack k (x ∷ a ∷ c ∷ xs) (y ∷ b ∷ []) h = let t = h.1 in absurd t.1
 alike_lack k (x ∷ a ∷ c ∷ xs) (y ∷ b ∷ d ∷ ys) h = longer k xs ys h.1.1.1
   where
-    longer : (k : Kind) (xs ys : List Node) → AreAlike xs ys → lacks k (y ∷ b ∷ d ∷ ys) ≡ lacks k (x ∷ a ∷ c ∷ xs)
+    longer : (k : Kind) (xs ys : List Node) → AreAlike xs ys → is_unusual k (y ∷ b ∷ d ∷ ys) ≡ is_unusual k (x ∷ a ∷ c ∷ xs)
     longer (kind.Constructor accessibility is_optional) [] [] g = h.1.1.0
     longer kind.GetterProp [] [] g = h.1.1.0
     longer k [] [] g = refl
     longer k [] (z ∷ zs) g = absurd g
     longer k (z ∷ zs) [] g = absurd g
     longer (kind.Function is_generator is_async) (z ∷ []) (w ∷ []) g = h.1.0
-    longer kind.SetterProp (z ∷ []) (w ∷ []) g = g.0
+    longer kind.SetterProp (z ∷ []) (w ∷ []) g = ap₂ (λ p q. not p || q) h.1.0 g.0
     longer k (z ∷ []) (w ∷ []) g = refl
     longer k (z ∷ []) (w ∷ v ∷ ws) g = absurd g.1
     longer k (z ∷ v ∷ zs) (w ∷ []) g = absurd g.1
@@ -58,7 +58,7 @@ record Stands (k : Kind) (n : Node) : Type 0 where
   holds : G n
   alike : is_absent (kind_of n) ≡ is_absent k
 
-stands : (at : Span) (k to : Kind) {xs : List Node} → lacks to xs ≡ false → is_this_name to ≡ false → A xs → is_absent to ≡ is_absent k → Stands k (node_of at to xs)
+stands : (at : Span) (k to : Kind) {xs : List Node} → is_unusual to xs ≡ false → is_this_name to ≡ false → A xs → is_absent to ≡ is_absent k → Stands k (node_of at to xs)
 stands at k to {xs} e q h same = record { holds = whole at to e q h; alike = ap is_absent (trees.kind_made at to xs) ∙ same }
 
 absent_holds : G absent
@@ -74,22 +74,22 @@ module _ (span : Span) (children : List Node) (all : A children) where
   typed : A (children ++ absent ∷ [])
   typed = append_all all (more absent_holds none)
 
-  same : (k : Kind) → lacks k children ≡ false → is_this_name k ≡ false → Stands k (roll-Node (parts k))
+  same : (k : Kind) → is_unusual k children ≡ false → is_this_name k ≡ false → Stands k (roll-Node (parts k))
   same k e q = stands span k k e q all refl
 
-  named : (k : Kind) → lacks k children ≡ false → is_this_name k ≡ false → is_absent k ≡ false → Stands k (binding (roll-Node (parts k)))
+  named : (k : Kind) → is_unusual k children ≡ false → is_this_name k ≡ false → is_absent k ≡ false → Stands k (binding (roll-Node (parts k)))
   named k e q there = stands _ k kind.BindingIdent refl refl (more (whole span k e q all) (more absent_holds none)) (sym there)
 
-  left_stands : (k : Kind) → lacks k children ≡ false → is_this_name k ≡ false → Stands k (left_by k (parts k))
+  left_stands : (k : Kind) → is_unusual k children ≡ false → is_this_name k ≡ false → Stands k (left_by k (parts k))
   left_stands kind.ArrayLit e q = stands span kind.ArrayLit (kind.ArrayPat false) refl refl typed refl
   left_stands kind.ObjectLit e q = stands span kind.ObjectLit (kind.ObjectPat false) refl refl typed refl
   left_stands k e q = same k e q
 
-  name_stands : (k : Kind) → lacks k children ≡ false → is_this_name k ≡ false → Stands k (name_by k (parts k))
+  name_stands : (k : Kind) → is_unusual k children ≡ false → is_this_name k ≡ false → Stands k (name_by k (parts k))
   name_stands (kind.Ident text ctxt optional) e q = named (kind.Ident text ctxt optional) e q refl
   name_stands k e q = same k e q
 
-  part_stands : (k : Kind) → lacks k children ≡ false → is_this_name k ≡ false → Stands k (part_by k (parts k))
+  part_stands : (k : Kind) → is_unusual k children ≡ false → is_this_name k ≡ false → Stands k (part_by k (parts k))
   part_stands (kind.Ident text ctxt optional) e q = named (kind.Ident text ctxt optional) e q refl
   part_stands kind.ArrayLit e q = left_stands kind.ArrayLit e q
   part_stands kind.ObjectLit e q = left_stands kind.ObjectLit e q
@@ -99,7 +99,7 @@ module _ (span : Span) (children : List Node) (all : A children) where
   default_stands Assign = stands span (kind.AssignExpr Assign) kind.AssignPat refl refl all refl
   default_stands op = same (kind.AssignExpr op) refl refl
 
-  element_stands : (k : Kind) → lacks k children ≡ false → is_this_name k ≡ false → Stands k (element_by k (parts k))
+  element_stands : (k : Kind) → is_unusual k children ≡ false → is_this_name k ≡ false → Stands k (element_by k (parts k))
   element_stands kind.SpreadElement e q = stands span kind.SpreadElement kind.RestPat refl refl typed refl
   element_stands (kind.AssignExpr op) e q = default_stands op
   element_stands (kind.Ident text ctxt optional) e q = part_stands (kind.Ident text ctxt optional) e q
@@ -107,7 +107,7 @@ module _ (span : Span) (children : List Node) (all : A children) where
   element_stands kind.ObjectLit e q = left_stands kind.ObjectLit e q
   element_stands k e q = same k e q
 
-  property_stands : (k : Kind) → lacks k children ≡ false → is_this_name k ≡ false → Stands k (property_by k (parts k))
+  property_stands : (k : Kind) → is_unusual k children ≡ false → is_this_name k ≡ false → Stands k (property_by k (parts k))
   property_stands kind.KeyValueProp e q = stands span kind.KeyValueProp kind.KeyValuePatProp refl refl all refl
   property_stands kind.AssignProp e q = stands span kind.AssignProp kind.AssignPatProp refl refl all refl
   property_stands kind.SpreadElement e q = stands span kind.SpreadElement kind.RestPat refl refl typed refl
@@ -115,7 +115,7 @@ module _ (span : Span) (children : List Node) (all : A children) where
       stands _ (kind.Ident text ctxt optional) kind.AssignPatProp refl refl (more (binding_holds _ (whole span (kind.Ident text ctxt optional) e q all)) (more absent_holds none)) refl
   property_stands k e q = same k e q
 
-  finished_stands : (t : Target) (k : Kind) → lacks k children ≡ false → is_this_name k ≡ false → Stands k (finished_by t (parts k))
+  finished_stands : (t : Target) (k : Kind) → is_unusual k children ≡ false → is_this_name k ≡ false → Stands k (finished_by t (parts k))
   finished_stands target.Left k e q = left_stands k e q
   finished_stands target.Head k e q = part_stands k e q
   finished_stands target.Part k e q = part_stands k e q

@@ -1,5 +1,5 @@
 -- What a form of plain modules makes of whole nodes is whole, where the body that it is given is there.
-use Rattle.std.proofs.Common.{◌≡◌, ◌∙◌, ◌-◌, Bool, true, false, not, List, [], ◌∷◌, ◌++◌, codes, inl, inr, length, nat_le, refl}
+use Rattle.std.proofs.Common.{◌≡◌, ◌∙◌, ◌-◌, Bool, true, false, not, ◌||◌, List, [], ◌∷◌, ◌++◌, codes, inl, inr, length, nat_le, refl, sym, ap, subst}
 use Rattle.std.specs.Prelude.{slice_get, if◌then◌else◌, ◌==◌}
 use Rattle.std.proofs.lemmas.Bool.{and_parts}
 use Rattle.ecma_kind.specs.declared.span.Span.{Span}
@@ -9,21 +9,22 @@ use Rattle.ecma_kind.specs.declared.operators.MethodKind.{MethodKind}
 use Rattle.ecma_kind.specs.declared.operators.MethodKind.TheVariants.{Method, Getter, Setter}
 use Rattle.ecma_kind.specs.declared.operators.MemberModifiers.{MemberModifiers}
 use Rattle.ecma_tree.specs.declared.node.Node.{Node}
-use Rattle.ecma_tree.specs.Nodes.{node_of}
+use Rattle.ecma_tree.specs.Nodes.{absent, dummy_span, node_of}
 use Rattle.ecma_tree.specs.Sorted.{is_absent as is_missing}
 use Rattle.ecma_grammar.specs.trees.Parts.{kind_of, span_of, children_of, from_to, is_absent, is_present, framed}
-use Rattle.ecma_grammar.specs.trees.Functions.{questioned_kind, questioned, questioned_part, annotated_of, annotated_pattern, annotated, end_of, declarator, accessibility_of, has_word, parameter, wrapped_by, wrapped, parameters, function_of, function, arrow, yield_, getter, is_this, setter_of, setter_by, setter}
+use Rattle.ecma_grammar.specs.trees.Functions.{questioned_kind, questioned, questioned_part, annotated_of, annotated_pattern, annotated, end_of, declarator, accessibility_of, has_word, parameter, wrapped_by, wrapped, parameters, function_of, function, arrow, yield_, getter, is_this, is_this_by, is_this_ident, is_this_name as is_first_this, setter_of, setter_by, setter}
 use Rattle.ecma_grammar.specs.trees.Classes.{class, is_constructor_key, is_plain_function, is_private_name, no_modifiers, method_kind, method, field_kind, field, modified, is_constructor, constructor_of, method_by, member_by, member}
 use Rattle.ecma_grammar.specs.trees.Others.{swapped, missing, elements, the_one, sequence, headed, import_equals, text_of, module_of}
+use Rattle.ecma_spelling.proofs.Trees.{kind_made}
 use Rattle.ecma_fits_laws.proofs.Walks.{not_true}
 use Rattle.ecma_fits_reread.specs.Functions.{is_this_name}
 use Rattle.ecma_plain_laws.proofs.GivenWhole.{CalmAt, calm_full, calm_open, calm_there, is_calm, question_aside, question_named, question_shut, two_full}
-use Rattle.ecma_plain_laws.proofs.Whole.{A, G, View, append_all, inner, is_specifier, lacks, made_of, map_all, more, none, swap_all, take_all, view, whole}
+use Rattle.ecma_plain_laws.proofs.Whole.{A, G, View, append_all, inner, is_specifier, is_unusual, made_of, map_all, more, no_this, none, swap_all, take_all, view, whole}
 use Rattle.ecma_plain_laws.proofs.WholeChains.{framed_good, frames, list_of, missing_node, one_of}
 
 -- functions
 
-question_view : (optional : Bool) (k : Kind) {cs ds : List Node} → (lacks k cs ≡ false → lacks k ds ≡ false) → (A cs → A ds) → View k cs → View (questioned_kind optional k) ds
+question_view : (optional : Bool) (k : Kind) {cs ds : List Node} → (is_unusual k cs ≡ false → is_unusual k ds ≡ false) → (A cs → A ds) → View k cs → View (questioned_kind optional k) ds
 question_view optional k {ds = ds} p f (inl t) = inl (question_aside optional k ds ∙ p t.0, question_named optional k ∙ t.1, f t.2)
 question_view optional k p f (inr s) = inr (question_shut optional k ∙ s)
 
@@ -112,7 +113,7 @@ chosen : (b : Bool) {xs ys : List Node} → A xs → A ys → A (if b then xs el
 chosen true g h = g
 chosen false g h = h
 
-getter_lists : (t : Bool) (a d e c : Node) → is_calm (kind_of e) ≡ true → lacks kind.GetterProp (if t then a ∷ d ∷ e ∷ [] else a ∷ d ∷ e ∷ c ∷ []) ≡ false
+getter_lists : (t : Bool) (a d e c : Node) → is_calm (kind_of e) ≡ true → is_unusual kind.GetterProp (if t then a ∷ d ∷ e ∷ [] else a ∷ d ∷ e ∷ c ∷ []) ≡ false
 getter_lists true a d e c there = calm_there (kind_of e) there
 getter_lists false a d e c there = refl
 
@@ -126,14 +127,31 @@ getter_good at (more {n = key} a (more b (more {n = params} c (more {n = result}
     whole at kind.GetterProp (getter_lists (length (children_of params) == 0) key result body params t) refl (chosen (length (children_of params) == 0) (more a (more d (more e none))) (more a (more d (more e (more c none)))))
 getter_good at (more a (more b (more c (more d (more e (more f h)))))) t = missing_node
 
-setter_of_good : (at : Span) {key this_param param body : Node} → G key → G this_param → G param → G body → is_calm (kind_of body) ≡ true → G (setter_of at key this_param param body)
-setter_of_good at {body = body} a b c d t = whole at kind.SetterProp (calm_there (kind_of body) t) refl (more a (more b (more c (more d none))))
+setter_of_good : (at : Span) {key param body : Node} → G key → G param → G body → is_calm (kind_of body) ≡ true → G (setter_of at key absent param body)
+setter_of_good at {body = body} a c d t =
+    let without = ap is_missing (kind_made dummy_span kind.Absent []) in
+    let there = calm_there (kind_of body) t in
+    whole at kind.SetterProp (λ j. not (without j) || there j) refl (more a (more missing_node (more c (more d none))))
+
+ident_told : (k : Kind) → is_this_ident k ≡ is_this_name k
+ident_told (kind.Ident text ctxt optional) = refl
+ident_told _ = refl
+
+first_unnamed : {xs : List Node} → A xs → is_first_this (slice_get xs 0) ≡ false
+first_unnamed none = refl
+first_unnamed (more {n = n} g h) = ident_told (kind_of n) ∙ no_this g
+
+-- no pattern is `this`
+no_this_by : {n : Node} → G n → (k : Kind) → kind_of n ≡ k → is_this_by n k ≡ false
+no_this_by g kind.BindingIdent e = first_unnamed (inner g (ap is_specifier e))
+no_this_by g _ e = refl
 
 setter_by_good : (at : Span) {key params body : Node} → G key → G params → G body → is_calm (kind_of body) ≡ true → {xs : List Node} → A xs → G (setter_by at key params body xs)
-setter_by_good at a b c t none = setter_of_good at a missing_node b c t
-setter_by_good at a b c t (more {n = x} d none) = one_of (is_this x) _ _ (setter_of_good at a missing_node b c t) (setter_of_good at a missing_node d c t)
-setter_by_good at a b c t (more {n = x} d (more e none)) = one_of (is_this x) _ _ (setter_of_good at a d e c t) (setter_of_good at a missing_node b c t)
-setter_by_good at a b c t (more d (more e (more f h))) = setter_of_good at a missing_node b c t
+setter_by_good at a b c t none = setter_of_good at a b c t
+setter_by_good at a b c t (more {n = x} d none) = one_of (is_this x) _ _ (setter_of_good at a b c t) (setter_of_good at a d c t)
+setter_by_good at {key} {params} {body} a b c t (more {n = x} d (more {n = y} e none)) =
+    subst (λ z. G (if z then setter_of at key x y body else setter_of at key absent params body)) (sym (no_this_by d (kind_of x) refl)) (setter_of_good at a b c t)
+setter_by_good at a b c t (more d (more e (more f h))) = setter_of_good at a b c t
 
 pub setter_good : (at : Span) {xs : List Node} → A xs → CalmAt 2 xs → CalmAt 4 xs → G (setter at xs)
 setter_good at none s t = missing_node
@@ -174,7 +192,7 @@ method_good at m (more a (more b (more {n = key} c (more {n = question} d (more 
     whole at (method_kind key m (no_modifiers (is_present question))) (two_full (method_kind key m (no_modifiers (is_present question))) _ _) (method_named (is_private_name (kind_of key)) m (no_modifiers (is_present question))) (more c (more (function_of_good at _ _ f g i j s t) none))
 method_good at m (more a (more b (more c (more d (more e (more f (more g (more i (more j (more k h)))))))))) s t = missing_node
 
-either_field : (b : Bool) (modifiers : MemberModifiers) (readonly declare definite : Bool) (cs : List Node) → lacks (if b then kind.PrivateProp modifiers readonly declare definite else kind.ClassProp modifiers readonly declare definite) cs ≡ false
+either_field : (b : Bool) (modifiers : MemberModifiers) (readonly declare definite : Bool) (cs : List Node) → is_unusual (if b then kind.PrivateProp modifiers readonly declare definite else kind.ClassProp modifiers readonly declare definite) cs ≡ false
 either_field true modifiers readonly declare definite cs = refl
 either_field false modifiers readonly declare definite cs = refl
 
@@ -195,11 +213,11 @@ field_good at (more {n = key} a (more {n = question} b (more {n = exclamation} c
 field_good at (more a (more b (more c (more d (more e (more f h)))))) = missing_node
 
 -- the body of a constructor is that of the method it is made of
-its_body : (k : Kind) (params body type_params return_type : Node) → is_plain_function k ≡ true → lacks k (params ∷ body ∷ type_params ∷ return_type ∷ []) ≡ false → is_missing (kind_of body) ≡ false
+its_body : (k : Kind) (params body type_params return_type : Node) → is_plain_function k ≡ true → is_unusual k (params ∷ body ∷ type_params ∷ return_type ∷ []) ≡ false → is_missing (kind_of body) ≡ false
 its_body (kind.Function is_generator is_async) a b c d h e = e
 its_body _ a b c d h e = not_true h
 
-constructor_good : (at : Span) (modifiers key : Node) (before : MemberModifiers) (k : Kind) → is_plain_function k ≡ true → G key → {xs : List Node} → lacks k xs ≡ false → A xs → G (constructor_of at modifiers before key xs)
+constructor_good : (at : Span) (modifiers key : Node) (before : MemberModifiers) (k : Kind) → is_plain_function k ≡ true → G key → {xs : List Node} → is_unusual k xs ≡ false → A xs → G (constructor_of at modifiers before key xs)
 constructor_good at m key before k p g e none = missing_node
 constructor_good at m key before k p g e (more a none) = missing_node
 constructor_good at m key before k p g e (more a (more b none)) = missing_node

@@ -21,9 +21,9 @@ use Rattle.ecma_plain_laws.proofs.WholeForms.{annotated_good, arrow_good, class_
 use Rattle.ecma_plain_laws.proofs.WholeChains.{all_steps_good, construction_good, frames, in_front_good, link_good, list_of, logical_good, template_good}
 use Rattle.ecma_fits_reread.specs.Functions.{is_this_name}
 use Rattle.ecma_plain_laws.proofs.GivenWhole.{Given, Has, Meets, anything, bare_full, calm, calm_full, calm_there_at, exactly, fact_if, forget, is_calm, is_calm_at, is_tight_list, loose, makes_calm, never, one_full, some, sound, takes}
-use Rattle.ecma_plain_laws.proofs.Whole.{A, G, is_specifier, lacks, none, shut, take_all, whole}
+use Rattle.ecma_plain_laws.proofs.Whole.{A, G, is_specifier, is_unusual, none, shut, take_all, whole}
 
-first_full : (k : Kind) (xs : List Node) → lacks k (take 1 xs) ≡ false
+first_full : (k : Kind) (xs : List Node) → is_unusual k (take 1 xs) ≡ false
 first_full k [] = bare_full k
 first_full k (x ∷ xs) = one_full k x
 

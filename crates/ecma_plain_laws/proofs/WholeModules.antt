@@ -1,5 +1,5 @@
--- Each function of what is read as a plain module has its body, and no bound name is `this`.
-use Rattle.std.proofs.Common.{◌≡◌, ◌∙◌, ◌&&◌, ℕ, Bool, true, false, List, [], ◌∷◌, inl, inr, map, length, Ok, refl, sym, ap, subst}
+-- Each function of what is read as a plain module has its body, and no parameter is `this`.
+use Rattle.std.proofs.Common.{◌≡◌, ◌∙◌, ℕ, Bool, true, false, not, List, [], ◌∷◌, inl, inr, map, length, Ok, refl, sym, ap, subst}
 use Rattle.std.specs.Str.{IsUtf8}
 use Rattle.std.specs.List.{list_any}
 use Rattle.ecma_kind.specs.declared.kind.Kind.{Kind}
@@ -15,19 +15,19 @@ use Rattle.ecma_grammar.specs.Modules as grammar
 use Rattle.ecma_grammar.specs.Modules.{reads_module}
 use Rattle.ecma_grammar.specs.Reading.{Outcome, Position, fails, read, too_deep}
 use Rattle.ecma_grammar.specs.trees.Others.{the_one}
-use Rattle.ecma_grammar.specs.trees.Parts.{children_of, framed}
+use Rattle.ecma_grammar.specs.trees.Parts.{framed}
 use Rattle.ecma_rules.specs.declared.target.Target.TheVariants as target
 use Rattle.ecma_rules.specs.Children.{kind_of}
 use Rattle.ecma_text.specs.Modules.{plain, reads_as}
 use Rattle.ecma_text_laws.specs.Sorts.{ReadModulesAreSorted}
-use Rattle.ecma_fits_reread.specs.Functions.{Functions, body_of, first_is_this, functions, functions_step, is_bound_name, is_this_name, lacks_body}
+use Rattle.ecma_fits_reread.specs.Functions.{Functions, body_of, functions, functions_step, is_this_name, lacks_body, takes_this}
 use Rattle.ecma_fits_laws.proofs.Raws.{of_raw}
-use Rattle.ecma_fits_laws.proofs.Walks.{not_true}
-use Rattle.ecma_plain_laws.specs.Functions.{ReadPlainFunctionsHaveBodies, ReadPlainNamesAreNotThis, children_told, holds_somewhere, is_bodiless, is_bound_this}
+use Rattle.ecma_fits_laws.proofs.Walks.{neither, not_true}
+use Rattle.ecma_plain_laws.specs.Functions.{ReadPlainFunctionsHaveBodies, ReadPlainNamesAreNotThis, children_told, has_this_parameter, holds_somewhere, is_bodiless}
 use Rattle.ecma_plain_laws.proofs.WholeFinished.{finished_whole}
 use Rattle.ecma_plain_laws.proofs.WholeChains.{frames, missing_node}
 use Rattle.ecma_plain_laws.proofs.WholeReads.{module_reads}
-use Rattle.ecma_plain_laws.proofs.Whole.{A, G, View, is_specifier, lacks, more, none, view}
+use Rattle.ecma_plain_laws.proofs.Whole.{A, G, View, is_specifier, is_unusual, more, no_this, none, view}
 use Rattle.ecma_plain_laws.proofs.Usual.{somewhere_out}
 
 -- a node is missing where its kind says so
@@ -35,7 +35,7 @@ missing_told : (n : Node) → (functions n).is_missing ≡ is_absent (kind_of n)
 missing_told n = ap (λ (f : Functions). f.is_missing) (fold_out-Node Functions functions_step n)
 
 -- with the children that its kind asks for
-told_full : (k : Kind) (cs : List Node) (o : Shape) → HaveShapes (child_shapes k o (length cs)) cs → lacks k cs ≡ false → lacks_body (map functions cs) (body_of k) ≡ false
+told_full : (k : Kind) (cs : List Node) (o : Shape) → HaveShapes (child_shapes k o (length cs)) cs → is_unusual k cs ≡ false → lacks_body (map functions cs) (body_of k) ≡ false
 told_full (kind.Function is_generator is_async) [] o h e = refl
 told_full (kind.Function is_generator is_async) (a ∷ []) o h e = refl
 told_full (kind.Function is_generator is_async) (a ∷ b ∷ []) o h e = absurd h.1.1
@@ -56,7 +56,7 @@ told_full kind.SetterProp [] o h e = refl
 told_full kind.SetterProp (a ∷ []) o h e = refl
 told_full kind.SetterProp (a ∷ b ∷ []) o h e = refl
 told_full kind.SetterProp (a ∷ b ∷ c ∷ []) o h e = refl
-told_full kind.SetterProp (a ∷ b ∷ c ∷ d ∷ []) o h e = missing_told d ∙ e
+told_full kind.SetterProp (a ∷ b ∷ c ∷ d ∷ []) o h e = missing_told d ∙ (neither (not (is_absent (kind_of b))) (is_absent (kind_of d)) e).1
 told_full kind.SetterProp (a ∷ b ∷ c ∷ d ∷ f ∷ cs) o h e = absurd h.1.1.1.1
 told_full _ cs o h e = refl
 
@@ -96,7 +96,7 @@ no_children _ (c ∷ cs) o i h = not_true i
 
 -- a test that holds of no whole node and of no specifier and its names holds nowhere in a whole tree
 module _ (test : Node → Bool) (names : (n : Node) → is_name (kind_of n) ≡ true → test n ≡ false) (specifiers : (n : Node) → is_specifier (kind_of n) ≡ true → test n ≡ false)
-    (wholes : (n : Node) (o : Shape) → HasShape o n → lacks (kind_of n) (out-Node n).children ≡ false → A (out-Node n).children → test n ≡ false) where
+    (wholes : (n : Node) (o : Shape) → HasShape o n → is_unusual (kind_of n) (out-Node n).children ≡ false → A (out-Node n).children → test n ≡ false) where
   abbrev Somewhere : List Node → Bool
   Somewhere ns = list_any (λ b. b) (map (holds_somewhere test) ns)
 
@@ -175,42 +175,33 @@ whole_bodies =
 this_told : (n : Node) → (functions n).is_this ≡ is_this_name (kind_of n)
 this_told n = ap (λ (f : Functions). f.is_this) (fold_out-Node Functions functions_step n)
 
-specifier_named : (k : Kind) → is_specifier k ≡ true → is_this_name k ≡ false
-specifier_named (kind.Ident text ctxt optional) i = not_true i
-specifier_named _ i = refl
+name_without : (k : Kind) (fs : List Functions) → is_name k ≡ true → takes_this k fs ≡ false
+name_without kind.Absent fs i = refl
+name_without (kind.Ident text ctxt optional) fs i = refl
+name_without (kind.Str value raw) fs i = refl
+name_without _ fs i = not_true i
 
-no_this : {n : Node} → G n → is_this_name (kind_of n) ≡ false
-no_this {n} g = go (view g)
-  where
-    go : View (kind_of n) (children_of n) → is_this_name (kind_of n) ≡ false
-    go (inl t) = t.1
-    go (inr i) = specifier_named (kind_of n) i
+specifier_without : (k : Kind) (fs : List Functions) → is_specifier k ≡ true → takes_this k fs ≡ false
+specifier_without (kind.ImportNamedSpecifier is_type_only) fs i = refl
+specifier_without (kind.ExportNamedSpecifier is_type_only) fs i = refl
+specifier_without kind.ExportNamespaceSpecifier fs i = refl
+specifier_without _ fs i = not_true i
 
-and_false : (a b : Bool) → b ≡ false → (a && b) ≡ false
-and_false true b h = h
-and_false false b h = refl
+told_without : (k : Kind) (cs : List Node) → is_unusual k cs ≡ false → A cs → takes_this k (map functions cs) ≡ false
+told_without kind.BindingIdent [] e h = refl
+told_without kind.BindingIdent (c ∷ cs) e (more g h) = this_told c ∙ no_this g
+told_without kind.SetterProp [] e h = refl
+told_without kind.SetterProp (a ∷ []) e h = refl
+told_without kind.SetterProp (a ∷ b ∷ []) e h = refl
+told_without kind.SetterProp (a ∷ b ∷ c ∷ []) e h = refl
+told_without kind.SetterProp (a ∷ b ∷ c ∷ d ∷ []) e h = ap not (missing_told b) ∙ (neither (not (is_absent (kind_of b))) (is_absent (kind_of d)) e).0
+told_without kind.SetterProp (a ∷ b ∷ c ∷ d ∷ f ∷ cs) e h = refl
+told_without _ cs e h = refl
 
-first_told : (cs : List Node) → A cs → first_is_this (map functions cs) ≡ false
-first_told [] h = refl
-first_told (c ∷ cs) (more g h) = this_told c ∙ no_this g
-
-name_unbound : (k : Kind) → is_name k ≡ true → is_bound_name k ≡ false
-name_unbound kind.BindingIdent i = not_true i
-name_unbound _ i = refl
-
-specifier_unbound : (k : Kind) → is_specifier k ≡ true → is_bound_name k ≡ false
-specifier_unbound kind.BindingIdent i = not_true i
-specifier_unbound _ i = refl
-
-unbound : (b x : Bool) → b ≡ false → (b && x) ≡ false
-unbound true x h = not_true (sym h)
-unbound false x h = refl
-
-whole_names : (n : Node) (o : Shape) → HasShape o n → G n → holds_somewhere is_bound_this n ≡ false
+whole_names : (n : Node) (o : Shape) → HasShape o n → G n → holds_somewhere has_this_parameter n ≡ false
 whole_names =
-    nowhere_whole is_bound_this (λ n i. unbound (is_bound_name (kind_of n)) (first_is_this (children_told n)) (name_unbound (kind_of n) i))
-    (λ n i. unbound (is_bound_name (kind_of n)) (first_is_this (children_told n)) (specifier_unbound (kind_of n) i))
-    (λ n o s e h. and_false (is_bound_name (kind_of n)) (first_is_this (children_told n)) (first_told (out-Node n).children h))
+    nowhere_whole has_this_parameter (λ n i. name_without (kind_of n) (children_told n) i) (λ n i. specifier_without (kind_of n) (children_told n) i)
+    (λ n o s e h. told_without (kind_of n) (out-Node n).children e h)
 
 the_one_full : {xs : List Node} → A xs → G (the_one xs)
 the_one_full none = missing_node

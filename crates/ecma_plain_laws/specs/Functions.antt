@@ -1,12 +1,12 @@
 -- The functions of what is read of a text as a plain module, and what is asked of functions test by test.
-use Rattle.std.specs.Prelude.{◌≡◌, ◌&&◌, ◌||◌, ℕ, Bool, false, List, map, Ok}
+use Rattle.std.specs.Prelude.{◌≡◌, ◌||◌, ℕ, Bool, false, List, map, Ok}
 use Rattle.std.specs.List.{list_any}
 use Rattle.std.specs.Str.{IsUtf8}
 use Rattle.ecma_tree.specs.declared.node.Node.{Node, out-Node}
 use Rattle.ecma_rules.specs.Children.{kind_of}
 use Rattle.ecma_rules.specs.Layers.{from_leaves}
 use Rattle.ecma_text.specs.Modules.{plain, reads_as}
-use Rattle.ecma_fits_reread.specs.Functions.{Functions, body_of, first_is_this, functions, has_odd_rest, is_bound_name, lacks_body}
+use Rattle.ecma_fits_reread.specs.Functions.{Functions, body_of, functions, lacks_body, takes_this}
 
 -- whether a test holds of a node, or of one below it
 abbrev pub holds_somewhere : (Node → Bool) → Node → Bool
@@ -20,25 +20,18 @@ children_told node = map functions (out-Node node).children
 abbrev pub is_bodiless : Node → Bool
 is_bodiless node = lacks_body (children_told node) (body_of (kind_of node))
 
--- a bound name `this`
-abbrev pub is_bound_this : Node → Bool
-is_bound_this node = is_bound_name (kind_of node) && first_is_this (children_told node)
-
--- a rest parameter with a default, or a setter that takes another parameter than one that is no rest
-abbrev pub is_odd_rest : Node → Bool
-is_odd_rest node = has_odd_rest (kind_of node) (children_told node)
-
-abbrev pub has_odd_rests : Node → Bool
-has_odd_rests = holds_somewhere is_odd_rest
+-- a bound name `this`, or a setter with a parameter `this` before its own
+abbrev pub has_this_parameter : Node → Bool
+has_this_parameter node = takes_this (kind_of node) (children_told node)
 
 -- each function of what is read has its body
 abbrev pub ReadPlainFunctionsHaveBodies : Type 0
 ReadPlainFunctionsHaveBodies = (text : List ℕ) (assignments : Bool) (bound : ℕ) (tree : Node) → IsUtf8 text → reads_as text (plain assignments) bound ≡ Ok tree → holds_somewhere is_bodiless tree ≡ false
 
--- no bound name is `this`
+-- no bound name is `this`, and no setter has such a parameter
 abbrev pub ReadPlainNamesAreNotThis : Type 0
-ReadPlainNamesAreNotThis = (text : List ℕ) (assignments : Bool) (bound : ℕ) (tree : Node) → IsUtf8 text → reads_as text (plain assignments) bound ≡ Ok tree → holds_somewhere is_bound_this tree ≡ false
+ReadPlainNamesAreNotThis = (text : List ℕ) (assignments : Bool) (bound : ℕ) (tree : Node) → IsUtf8 text → reads_as text (plain assignments) bound ≡ Ok tree → holds_somewhere has_this_parameter tree ≡ false
 
--- a tree has the functions of a plain module where none of the three tests holds anywhere
+-- a tree has the functions of a plain module where neither test holds anywhere
 abbrev pub FunctionsAreUsualByTests : Type 0
-FunctionsAreUsualByTests = (tree : Node) → holds_somewhere is_bodiless tree ≡ false → holds_somewhere is_bound_this tree ≡ false → has_odd_rests tree ≡ false → (functions tree).has_unusual ≡ false
+FunctionsAreUsualByTests = (tree : Node) → holds_somewhere is_bodiless tree ≡ false → holds_somewhere has_this_parameter tree ≡ false → (functions tree).has_unusual ≡ false

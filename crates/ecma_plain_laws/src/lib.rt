@@ -47,14 +47,14 @@ pub fn plain_functions_that_are_read_have_bodies()
     modules_that_are_read_are_sorted();
 }
 
-/// No name that is bound in what is read as a plain module is `this`.
+/// No name that is bound in what is read as a plain module is `this`, and no setter has such a parameter before its own.
 pub fn plain_names_that_are_read_are_not_this()
     ensures { ReadPlainNamesAreNotThis }
 {
     modules_that_are_read_are_sorted();
 }
 
-/// A tree has the functions of a plain module where each has its body, no bound name is `this`, and no rest is odd.
+/// A tree has the functions of a plain module where each has its body, and none a parameter `this`.
 #[tactic(auto, using(crate::proofs::Usual::usual))]
 pub fn functions_are_usual_by_tests()
     ensures { FunctionsAreUsualByTests }

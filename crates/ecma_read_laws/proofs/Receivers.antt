@@ -13,7 +13,7 @@ use Rattle.ecma_tree.specs.declared.node.Node.TheViews.{out-roll-Node}
 use Rattle.ecma_tree.specs.Nodes.{node_of}
 use Rattle.ecma_rules.specs.Children.{is_named, items_at, kind_of, of_kind}
 use Rattle.ecma_rules.specs.Failing.{failing_here, failing_step, first_failing, least_from}
-use Rattle.ecma_rules.specs.Members.{is_special_constructor, is_stray_property, is_this_by, is_this_pattern, is_wrong_accessor, misplaces_this, misplaces_this_by}
+use Rattle.ecma_rules.specs.Members.{is_misfit, is_special_constructor, is_stray_property, is_this_by, is_this_pattern, misplaces_this, misplaces_this_by}
 use Rattle.ecma_rules.specs.Rules.{fails_list, fails_member, fails_statement}
 use Rattle.ecma_rules.proofs.Layers.{from_leaves_out}
 use Rattle.ecma_fits.specs.declared.role.Role.{Role}
@@ -277,8 +277,8 @@ no_receiver : (w : Where) (n : Node) → breaks_rule w n ≡ false → misplaces
 no_receiver w n h =
     let a = (neither (fails_list w.around n) (fails_member w.around n || fails_statement w.around n) h).1 in
     let b = (neither (fails_member w.around n) (fails_statement w.around n) a).0 in
-    let c = (neither (is_stray_property w.around.standing n) (is_wrong_accessor n || (is_special_constructor n || misplaces_this n)) b).1 in
-    (neither (is_special_constructor n) (misplaces_this n) (neither (is_wrong_accessor n) (is_special_constructor n || misplaces_this n) c).1).1
+    let c = (neither (is_stray_property w.around.standing n) (is_misfit n || (is_special_constructor n || misplaces_this n)) b).1 in
+    (neither (is_special_constructor n) (misplaces_this n) (neither (is_misfit n) (is_special_constructor n || misplaces_this n) c).1).1
 
 -- ---- over the tree
 

@@ -1,2 +1,1 @@
-pub mod OddRests
 pub mod Relaid

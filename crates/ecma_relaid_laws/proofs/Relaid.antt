@@ -1,5 +1,5 @@
 -- What was read as a plain module is plain, so its layout is read again.
-use Rattle.std.proofs.Common.{◌≡◌, ◌∙◌, ℕ, true, false, None, Ok, sym, ap, subst, arith}
+use Rattle.std.proofs.Common.{◌≡◌, ◌∙◌, ℕ, true, false, Ok, sym, ap, subst, arith}
 use Rattle.ecma_tree.specs.declared.node.Node.{Node}
 use Rattle.ecma_tree.specs.Spans.{without_spans}
 use Rattle.ecma_parentheses.specs.Explicit.{explicit}
@@ -17,7 +17,6 @@ use Rattle.ecma_source_laws.specs.Sources.{IsRead, ReadTreesAreRead}
 use Rattle.ecma_source_laws.proofs.Sources.{tree_stays}
 use Rattle.ecma_text.specs.Modules.{plain}
 use Rattle.ecma_relaid_laws.specs.Relaid.{RelaidModulesAreReadAgain}
-use Rattle.ecma_relaid_laws.proofs.OddRests.{none_odd}
 
 pub record Laws : Type 0 where
   pub reads : ReadTreesAreRead
@@ -39,10 +38,10 @@ plain_by tree bare read taken usual items = record {
 }
 
 pub relaid_modules : Laws → RelaidModulesAreReadAgain
-relaid_modules laws text bound tree utf8 small reads rests =
+relaid_modules laws text bound tree utf8 small reads =
     let read : IsRead tree = laws.reads text (plain false) bound tree utf8 small reads in
     let bare : without_contexts tree ≡ tree = tree_stays read.bare in
-    let usual = laws.usual tree (laws.bodies text false bound tree utf8 reads) (laws.names text false bound tree utf8 reads) (none_odd tree rests) in
+    let usual = laws.usual tree (laws.bodies text false bound tree utf8 reads) (laws.names text false bound tree utf8 reads) in
     let is_plain = plain_by tree bare read (laws.taken text false bound tree utf8 reads) usual (laws.items text bound tree utf8 reads) in
     let enough = laws.again false tree is_plain in
     let again = enough.1 enough.0 (omega arith) in

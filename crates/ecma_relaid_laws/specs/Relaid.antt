@@ -1,10 +1,9 @@
 -- A plain module that is laid out anew is read again.
-use Rattle.std.specs.Prelude.{◌≡◌, ◌<◌, ◌^◌, ℕ, false, List, None, Ok, length}
+use Rattle.std.specs.Prelude.{◌≡◌, ◌<◌, ◌^◌, ℕ, false, List, Ok, length}
 use Rattle.std.specs.Str.{IsUtf8}
 use Rattle.ecma_tree.specs.declared.node.Node.{Node}
 use Rattle.ecma_tree.specs.Spans.{without_spans}
 use Rattle.ecma_text.specs.Modules.{plain, reads_as}
-use Rattle.ecma_forms.specs.Forms.{first_odd_rest}
 use Rattle.ecma_parentheses.specs.Explicit.{explicit}
 use Rattle.ecma_print.specs.Layout.{layout}
 
@@ -15,7 +14,7 @@ pub record IsReadAsTree (tree : Node) (text : List ℕ) : Type 0 where
   pub read_plain : reads_as text (plain false) levels ≡ Ok again
   pub same : without_spans again ≡ without_spans (explicit tree)
 
--- the layout of what was read as a plain module, in which no rest has a default and no setter takes the rest, or two parameters
+-- the layout of what was read as a plain module
 abbrev pub RelaidModulesAreReadAgain : Type 0
 RelaidModulesAreReadAgain =
-    (text : List ℕ) (bound : ℕ) (tree : Node) → IsUtf8 text → length text < 2 ^ 32 → reads_as text (plain false) bound ≡ Ok tree → first_odd_rest tree ≡ None → IsReadAsTree tree (layout tree)
+    (text : List ℕ) (bound : ℕ) (tree : Node) → IsUtf8 text → length text < 2 ^ 32 → reads_as text (plain false) bound ≡ Ok tree → IsReadAsTree tree (layout tree)

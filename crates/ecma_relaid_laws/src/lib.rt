@@ -13,7 +13,7 @@ use ecma_plain_laws::{
 use ecma_round_trip::what_fits_is_read_again;
 use ecma_source_laws::trees_that_are_read_are_read;
 
-/// The layout of what was read as a plain module, in which no rest has a default and no setter takes the rest, is read again as that tree.
+/// The layout of what was read as a plain module is read again as that tree.
 pub fn relaid_modules_are_read_again()
     ensures { RelaidModulesAreReadAgain }
 {

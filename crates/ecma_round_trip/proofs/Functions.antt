@@ -13,9 +13,9 @@ use Rattle.ecma_parentheses.specs.Spots.{first_spots, further_spot}
 use Rattle.ecma_parentheses.proofs.Asking.{AllFit, Fits, first_fit, further_fits}
 use Rattle.ecma_parentheses.proofs.Sorting.{closed_is_misreadable, is_misreadable}
 use Rattle.ecma_parentheses.proofs.Standing.{stands}
-use Rattle.ecma_fits_reread.specs.Functions.{Functions, any_unusual, functions, functions_step, is_rest, is_this_name, unusual_here}
+use Rattle.ecma_fits_reread.specs.Functions.{Functions, any_unusual, functions, functions_step, is_this_name, unusual_here}
 
--- what stands in parentheses is something, no name, and no rest
+-- what stands in parentheses is something, and no name
 something : (k : Kind) → is_misreadable k ≡ true → is_absent k ≡ false
 something kind.Absent h = cc
 something k h = refl
@@ -23,10 +23,6 @@ something k h = refl
 no_name : (k : Kind) → is_misreadable k ≡ true → is_this_name k ≡ false
 no_name (kind.Ident sym ctxt optional) h = cc
 no_name k h = refl
-
-no_rest : (k : Kind) → is_misreadable k ≡ true → is_rest k ≡ false
-no_rest kind.RestPat h = cc
-no_rest k h = refl
 
 or_false : (b : Bool) → (b || false) ≡ b
 or_false true = refl
@@ -61,18 +57,17 @@ module _ (x : Node-F Node) (below : AllKept x.children) where
       let f : Functions = functions (roll-Node x) in
       let missing : f.is_missing ≡ false = ap (λ m. m.is_missing) (made x) ∙ something x.kind h in
       let named : f.is_this ≡ false = ap (λ m. m.is_this) (made x) ∙ no_name x.kind h in
-      let rests : f.is_rest ≡ false = ap (λ m. m.is_rest) (made x) ∙ no_rest x.kind h in
       made (record { span = dummy_span; kind = kind.ParenExpr; children = inner ∷ [] })
-      ∙ ap (λ m. record { is_missing = false; is_this = false; is_rest = false; has_unusual = (m.has_unusual || false) || false }) (bare_kept (free 0) refl)
-      ∙ same f missing named rests
+      ∙ ap (λ m. record { is_missing = false; is_this = false; has_unusual = (m.has_unusual || false) || false }) (bare_kept (free 0) refl)
+      ∙ same f missing named
     where
-      told : Bool → Bool → Bool → Bool → Functions
-      told missing this rest unusual = record { is_missing = missing; is_this = this; is_rest = rest; has_unusual = unusual }
+      told : Bool → Bool → Bool → Functions
+      told missing this unusual = record { is_missing = missing; is_this = this; has_unusual = unusual }
 
-      same : (f : Functions) → f.is_missing ≡ false → f.is_this ≡ false → f.is_rest ≡ false → told false false false ((f.has_unusual || false) || false) ≡ f
-      same f m t r =
-          ap (told false false false) (or_false (f.has_unusual || false) ∙ or_false f.has_unusual)
-          ∙ (ap (λ z. told z false false f.has_unusual) (sym m) ∙ (ap (λ z. told f.is_missing z false f.has_unusual) (sym t) ∙ ap (λ z. told f.is_missing f.is_this z f.has_unusual) (sym r)))
+      same : (f : Functions) → f.is_missing ≡ false → f.is_this ≡ false → told false false ((f.has_unusual || false) || false) ≡ f
+      same f m t =
+          ap (told false false) (or_false (f.has_unusual || false) ∙ or_false f.has_unusual)
+          ∙ (ap (λ z. told z false f.has_unusual) (sym m) ∙ ap (λ z. told f.is_missing z f.has_unusual) (sym t))
 
   either_kept : (b : Bool) (spot : Spot) → Fits spot → (b ≡ true → is_misreadable x.kind ≡ true)
       → functions (if b then parenthesized (bare x.span x.kind (map stood x.children) (free 0)) else bare x.span x.kind (map stood x.children) spot) ≡ functions (roll-Node x)

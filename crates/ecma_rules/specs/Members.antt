@@ -10,6 +10,7 @@ use Rattle.ecma_tree.specs.Sorted.{is_list}
 use Rattle.ecma_rules.specs.declared.standing.Standing.{Standing}
 use Rattle.ecma_rules.specs.declared.standing.Standing.TheVariants as standing
 use Rattle.ecma_rules.specs.Children.{kind_of, has_child, child_is, child_holds, items_at, is_named}
+use Rattle.ecma_rules.specs.Lists.{is_rest_pattern}
 
 abbrev pub is_binding_name : Kind → Bool
 is_binding_name kind.BindingIdent = true
@@ -48,10 +49,14 @@ is_this_pattern node = is_this_by (kind_of node) node
 abbrev pub is_this_parameter : Node → Bool
 is_this_parameter node = child_holds is_this_pattern node 0
 
+-- a parameter that takes one argument: neither `this` nor the rest
+abbrev pub takes_one : Node → Bool
+takes_one parameter = not (is_this_parameter parameter) && not (child_is is_rest_pattern parameter 0)
+
 -- one parameter, perhaps behind one `this`
 abbrev pub is_one_parameter : List Node → Bool
-is_one_parameter (parameter ∷ []) = not (is_this_parameter parameter)
-is_one_parameter (first ∷ parameter ∷ []) = is_this_parameter first && not (is_this_parameter parameter)
+is_one_parameter (parameter ∷ []) = takes_one parameter
+is_one_parameter (first ∷ parameter ∷ []) = is_this_parameter first && takes_one parameter
 is_one_parameter _ = false
 
 abbrev pub is_empty_list : List Node → Bool
@@ -68,16 +73,22 @@ fits_kind Method function = true
 fits_kind Getter function = is_empty_list (parameters_of function)
 fits_kind Setter function = is_one_parameter (parameters_of function)
 
--- a getter with a parameter, or a setter that has not one; those of objects keep the parameters that they may not have as a list
+-- what an object's setter has in the place of its parameter where it may have none such: the rest, or the list of its parameters
+abbrev pub takes_not_one : Kind → Bool
+takes_not_one k = is_list k || is_rest_pattern k
+
+-- a rest with a default; a getter with a parameter, or a setter that does not take one argument; those of objects keep the parameters that they may not have
+-- as a list
 unfoldable pub misfits_by : Kind → Node → Bool
+misfits_by kind.AssignPat node = child_is is_rest_pattern node 0
 misfits_by kind.GetterProp node = has_child node 3
-misfits_by kind.SetterProp node = child_is is_list node 2
+misfits_by kind.SetterProp node = child_is takes_not_one node 2
 misfits_by (kind.ClassMethod k modifiers) node = not (child_holds (fits_kind k) node 1)
 misfits_by (kind.PrivateMethod k modifiers) node = not (child_holds (fits_kind k) node 1)
 misfits_by _ node = false
 
-abbrev pub is_wrong_accessor : Node → Bool
-is_wrong_accessor node = misfits_by (kind_of node) node
+abbrev pub is_misfit : Node → Bool
+is_misfit node = misfits_by (kind_of node) node
 
 abbrev pub behind_first : List Node → List Node
 behind_first [] = []

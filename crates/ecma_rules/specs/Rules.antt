@@ -5,7 +5,7 @@ use Rattle.ecma_rules.specs.declared.standing.Around.{Around}
 use Rattle.ecma_rules.specs.Failing.{failing_here, first_failing, least}
 use Rattle.ecma_rules.specs.Targets.{is_no_target, is_stray_default}
 use Rattle.ecma_rules.specs.Lists.{is_early_rest, is_wrong_head}
-use Rattle.ecma_rules.specs.Members.{is_stray_property, is_wrong_accessor, is_special_constructor, misplaces_this, second_constructor}
+use Rattle.ecma_rules.specs.Members.{is_stray_property, is_misfit, is_special_constructor, misplaces_this, second_constructor}
 use Rattle.ecma_rules.specs.Statements.{is_quoted_local, is_declared_body}
 use Rattle.ecma_rules.specs.Supers.{is_lone_super, is_private_of_super}
 use Rattle.ecma_rules.specs.Surroundings.{around_in, at_root}
@@ -18,7 +18,7 @@ abbrev pub fails_list : Around → Node → Bool
 fails_list around node = is_wrong_head around.target node || is_early_rest around.target around.is_last node
 
 abbrev pub fails_member : Around → Node → Bool
-fails_member around node = is_stray_property around.standing node || (is_wrong_accessor node || (is_special_constructor node || misplaces_this node))
+fails_member around node = is_stray_property around.standing node || (is_misfit node || (is_special_constructor node || misplaces_this node))
 
 abbrev pub fails_statement : Around → Node → Bool
 fails_statement around node = is_quoted_local around.standing node || is_declared_body around.standing node

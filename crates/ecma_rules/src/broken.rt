@@ -6,8 +6,7 @@ use crate::failing::{failing_here, least};
 use crate::jumps::first_stray;
 use crate::lists::{is_early_rest, is_wrong_head};
 use crate::members::{
-    is_special_constructor, is_stray_property, is_wrong_accessor, misplaces_this,
-    second_constructor,
+    is_misfit, is_special_constructor, is_stray_property, misplaces_this, second_constructor,
 };
 use crate::standing::{Around, around_in, at_root};
 use crate::statements::{is_declared_body, is_quoted_local};
@@ -33,7 +32,7 @@ pub fn fails_member(around: Around, node: &Node) -> bool
     ensures { result ≡ fails_member around node.now }
 {
     is_stray_property(around.standing, node)
-        || is_wrong_accessor(node)
+        || is_misfit(node)
         || is_special_constructor(node)
         || misplaces_this(node)
 }

@@ -7,7 +7,8 @@ use crate::children::{has_child, items_at};
 use crate::target::{Target, is_spread, is_variables};
 use ecma_tree::{Kind, Node};
 
-fn is_rest_pattern(kind: &Kind) -> bool
+/// Whether a node of this kind is a rest parameter, element or property.
+pub(crate) fn is_rest_pattern(kind: &Kind) -> bool
     ensures { result ≡ is_rest_pattern kind.now }
 {
     matches!(kind, Kind::RestPat)

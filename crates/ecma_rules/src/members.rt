@@ -4,9 +4,11 @@ ghost use Rattle.std.specs.List.{list_any};
 ghost use Rattle.ecma_tree.specs.Sorted.{is_list};
 ghost use Rattle.ecma_tree.specs.declared.node.Node.{out-Node};
 ghost use Rattle.ecma_rules.specs.Children.{child_holds, child_is};
-ghost use Rattle.ecma_rules.specs.Members.{behind_first, fits_kind, is_binding_name, is_constructor, is_constructor_key, is_declaring, is_empty_list, is_full_constructor, is_method, is_named_pattern, is_one_parameter, is_plain_parameter, is_property_kind, is_special_by, is_special_constructor, is_special_function, is_stray_property, is_this_by, is_this_parameter, is_this_pattern, is_wrong_accessor, misfits_by, misplaces_this, misplaces_this_by, second_constructor, second_of};
+ghost use Rattle.ecma_rules.specs.Members.{behind_first, fits_kind, is_binding_name, is_constructor, is_constructor_key, is_declaring, is_empty_list, is_full_constructor, is_method, is_named_pattern, is_one_parameter, is_plain_parameter, is_property_kind, is_special_by, is_special_constructor, is_special_function, is_stray_property, is_this_by, is_misfit, is_this_parameter, is_this_pattern, misfits_by, misplaces_this, misplaces_this_by, second_constructor, second_of, takes_not_one, takes_one};
+ghost use Rattle.ecma_rules.specs.Lists.{is_rest_pattern};
 
 use crate::children::{has_child, is_named, items_at};
+use crate::lists::is_rest_pattern;
 use crate::standing::Standing;
 use ecma_tree::{Kind, MethodKind, Node};
 
@@ -72,12 +74,27 @@ fn is_this_parameter(node: &Node) -> bool
     }
 }
 
+fn has_rest_pattern(node: &Node) -> bool
+    ensures { result ≡ child_is is_rest_pattern node.now 0 }
+{
+    match node.children.get(0) {
+        Some(pattern) => is_rest_pattern(&pattern.kind),
+        None => false,
+    }
+}
+
+fn takes_one(parameter: &Node) -> bool
+    ensures { result ≡ takes_one parameter.now }
+{
+    !is_this_parameter(parameter) && !has_rest_pattern(parameter)
+}
+
 fn is_one_parameter(parameters: &[Node]) -> bool
     ensures { result ≡ is_one_parameter parameters.now }
 {
     match parameters {
-        [parameter] => !is_this_parameter(parameter),
-        [first, parameter] => is_this_parameter(first) && !is_this_parameter(parameter),
+        [parameter] => takes_one(parameter),
+        [first, parameter] => is_this_parameter(first) && takes_one(parameter),
         _ => false,
     }
 }
@@ -110,23 +127,24 @@ fn has_fitting(kind: MethodKind, node: &Node) -> bool
     }
 }
 
-fn has_list(node: &Node, index: usize) -> bool
-    ensures { result ≡ child_is is_list node.now index }
+fn has_not_one(node: &Node, index: usize) -> bool
+    ensures { result ≡ child_is takes_not_one node.now index }
 {
     match node.children.get(index) {
-        Some(child) => matches!(child.kind, Kind::List),
+        Some(child) => matches!(child.kind, Kind::List) || is_rest_pattern(&child.kind),
         None => false,
     }
 }
 
-/// Whether a node is a getter with a parameter, or a setter that has not one.
+/// Whether a node is a rest with a default, a getter with a parameter, or a setter that does not take one argument.
 #[tactic(auto, unfolding(crate::specs::Members::misfits_by))]
-pub(crate) fn is_wrong_accessor(node: &Node) -> bool
-    ensures { result ≡ is_wrong_accessor node.now }
+pub(crate) fn is_misfit(node: &Node) -> bool
+    ensures { result ≡ is_misfit node.now }
 {
     match &node.kind {
+        Kind::AssignPat => has_rest_pattern(node),
         Kind::GetterProp => has_child(node, 3),
-        Kind::SetterProp => has_list(node, 2),
+        Kind::SetterProp => has_not_one(node, 2),
         Kind::ClassMethod { kind, .. } => !has_fitting(*kind, node),
         Kind::PrivateMethod { kind, .. } => !has_fitting(*kind, node),
         _ => false,

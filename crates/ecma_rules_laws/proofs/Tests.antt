@@ -9,13 +9,12 @@ use Rattle.ecma_kind.specs.declared.operators.MethodKind.TheVariants.{Method, Ge
 use Rattle.ecma_tree.specs.declared.node.Node.{Node, Node-F, fold_out-Node, ind-Node, out-Node, roll-Node}
 use Rattle.ecma_tree.specs.declared.node.Node.TheViews.{out-roll-Node}
 use Rattle.ecma_tree.specs.Spans.{without_spans}
-use Rattle.ecma_tree.specs.Sorted.{is_list}
 use Rattle.ecma_rules.specs.declared.target.Target.{Target}
 use Rattle.ecma_rules.specs.declared.standing.Around.{Around}
 use Rattle.ecma_rules.specs.declared.standing.Standing.{Standing}
 use Rattle.ecma_rules.specs.Children.{is_named, items_at, kind_of}
-use Rattle.ecma_rules.specs.Lists.{is_head, is_one_without_value, is_rest, is_wrong_head}
-use Rattle.ecma_rules.specs.Members.{behind_first, fits_kind, is_binding_name, is_constructor_key, is_declaring, is_empty_list, is_full_constructor, is_constructor, is_method, is_named_pattern, is_one_parameter, is_plain_parameter, is_property_kind, is_special_by, is_special_constructor, is_special_function, is_stray_property, is_this_by, is_this_parameter, is_this_pattern, is_wrong_accessor, misfits_by, misplaces_this, misplaces_this_by, parameters_of, second_by, second_constructor, second_of}
+use Rattle.ecma_rules.specs.Lists.{is_head, is_one_without_value, is_rest, is_rest_pattern, is_wrong_head}
+use Rattle.ecma_rules.specs.Members.{behind_first, fits_kind, is_binding_name, is_constructor_key, is_declaring, is_empty_list, is_full_constructor, is_constructor, is_method, is_misfit, is_named_pattern, is_one_parameter, is_plain_parameter, is_property_kind, is_special_by, is_special_constructor, is_special_function, is_stray_property, is_this_by, is_this_parameter, is_this_pattern, misfits_by, misplaces_this, misplaces_this_by, parameters_of, second_by, second_constructor, second_of, takes_not_one, takes_one}
 use Rattle.ecma_rules.specs.Rules.{fails_list, fails_member, fails_statement, fails_super, fails_target, is_misplaced}
 use Rattle.ecma_rules.specs.Statements.{is_declaration, is_exported, is_body, is_text}
 use Rattle.ecma_rules.specs.Supers.{is_private_name, is_super, is_linked, is_super_member}
@@ -83,10 +82,13 @@ this-bare n = ap (λ k. is_this_by k (without_spans n)) (bare-kind n) ∙ this-b
 this-parameter-bare : IsBare is_this_parameter
 this-parameter-bare n = bare-child_holds is_this_pattern this-bare n 0
 
+takes-one-bare : IsBare takes_one
+takes-one-bare n = ap₂ (λ a b. not a && not b) (this-parameter-bare n) (bare-child_is is_rest_pattern n 0)
+
 one-parameter-bare : (ns : List Node) → is_one_parameter (map without_spans ns) ≡ is_one_parameter ns
 one-parameter-bare [] = refl
-one-parameter-bare (n ∷ []) = ap not (this-parameter-bare n)
-one-parameter-bare (n ∷ n' ∷ []) = ap₂ (λ a b. a && not b) (this-parameter-bare n) (this-parameter-bare n')
+one-parameter-bare (n ∷ []) = takes-one-bare n
+one-parameter-bare (n ∷ n' ∷ []) = ap₂ (λ a b. a && b) (this-parameter-bare n) (takes-one-bare n')
 one-parameter-bare (n ∷ n' ∷ n'' ∷ ns) = refl
 
 empty-bare : (ns : List Node) → is_empty_list (map without_spans ns) ≡ is_empty_list ns
@@ -100,14 +102,15 @@ fits-bare Setter n = ap is_one_parameter (bare-items n 0) ∙ one-parameter-bare
 
 misfits-bare : (k : Kind) (n : Node) → misfits_by k (without_spans n) ≡ misfits_by k n
 unfolding misfits_by
+misfits-bare kind.AssignPat n = bare-child_is is_rest_pattern n 0
 misfits-bare kind.GetterProp n = bare-has_child n 3
-misfits-bare kind.SetterProp n = bare-child_is is_list n 2
+misfits-bare kind.SetterProp n = bare-child_is takes_not_one n 2
 misfits-bare (kind.ClassMethod k modifiers) n = ap not (bare-child_holds (fits_kind k) (fits-bare k) n 1)
 misfits-bare (kind.PrivateMethod k modifiers) n = ap not (bare-child_holds (fits_kind k) (fits-bare k) n 1)
 misfits-bare k n = refl
 
-accessor-bare : IsBare is_wrong_accessor
-accessor-bare n = ap (λ k. misfits_by k (without_spans n)) (bare-kind n) ∙ misfits-bare (kind_of n) n
+misfit-bare : IsBare is_misfit
+misfit-bare n = ap (λ k. misfits_by k (without_spans n)) (bare-kind n) ∙ misfits-bare (kind_of n) n
 
 special-by-bare : (k : Kind) (n : Node) → is_special_by k (without_spans n) ≡ is_special_by k n
 special-by-bare (kind.ClassMethod k modifiers) n =
@@ -139,7 +142,7 @@ misplaces-bare : IsBare misplaces_this
 misplaces-bare n = ap (λ k. misplaces_this_by k (without_spans n)) (bare-kind n) ∙ receiver-bare (kind_of n) n
 
 member-bare : (around : Around) (n : Node) → fails_member around (without_spans n) ≡ fails_member around n
-member-bare around n = ap₂ (λ a b. a || b) (property-bare around.standing n) (ap₂ (λ a b. a || b) (accessor-bare n) (ap₂ (λ a b. a || b) (special-bare n) (misplaces-bare n)))
+member-bare around n = ap₂ (λ a b. a || b) (property-bare around.standing n) (ap₂ (λ a b. a || b) (misfit-bare n) (ap₂ (λ a b. a || b) (special-bare n) (misplaces-bare n)))
 
 -- statements, and `super`
 

@@ -1,5 +1,5 @@
 -- The rules of parameters and members are kept without types.
-use Rattle.std.proofs.Common.{◌≡◌, ◌∙◌, inl, inr, Bool, true, false, not, ◌&&◌, ◌||◌, List, [], ◌∷◌, length, Some, None, refl, sym, ap, ap₂, subst, slice_get}
+use Rattle.std.proofs.Common.{◌≡◌, ◌∙◌, inl, inr, ℕ, Bool, true, false, not, ◌&&◌, ◌||◌, List, [], ◌∷◌, length, Some, None, refl, sym, ap, ap₂, subst, slice_get}
 use Rattle.std.specs.List.{list_any}
 use Rattle.ecma_kind.specs.Sorts.{belongs}
 use Rattle.ecma_kind.specs.declared.kind.Kind.{Kind}
@@ -9,17 +9,18 @@ use Rattle.ecma_kind.specs.declared.operators.MethodKind.TheVariants.{Method, Ge
 use Rattle.ecma_kind.specs.declared.shapes.Shape.{Shape}
 use Rattle.ecma_kind.specs.declared.shapes.Sort.TheVariants as sort
 use Rattle.ecma_tree.specs.declared.node.Node.{Node}
-use Rattle.ecma_tree.specs.Sorted.{HasShape, allows, child_shapes, is_list, one}
+use Rattle.ecma_tree.specs.Sorted.{HasShape, allows, child_shapes, one}
 use Rattle.ecma_rules.specs.declared.standing.Standing.{Standing}
 use Rattle.ecma_rules.specs.Children.{child_holds, holds_of, is_present, items_at, kind_of, of_kind}
-use Rattle.ecma_rules.specs.Members.{behind_first, fits_kind, is_declaring, is_empty_list, is_one_parameter, is_plain_parameter, is_property_kind, is_special_by, is_this_parameter, is_this_pattern, misfits_by, misplaces_this_by}
+use Rattle.ecma_rules.specs.Lists.{is_rest_pattern}
+use Rattle.ecma_rules.specs.Members.{behind_first, fits_kind, is_declaring, is_empty_list, is_one_parameter, is_plain_parameter, is_property_kind, is_special_by, is_this_parameter, is_this_pattern, misfits_by, misplaces_this_by, takes_not_one}
 use Rattle.ecma_strip.specs.Stripping.{changed_at, plain_children, plain_kind, stripped, without_this}
 use Rattle.ecma_fits.specs.declared.unfit.Where.{Where}
 use Rattle.ecma_strip_fits.proofs.Classes.{class_of}
 use Rattle.ecma_strip_fits.proofs.Classes.Class.{Usual}
 use Rattle.ecma_strip_fits.proofs.ChildrenKept.{Plain, child_by, child_kept, one_usual}
 use Rattle.ecma_strip_fits.proofs.FullNodes.{list_by}
-use Rattle.ecma_strip_fits.proofs.Parameters.{no_further, no_list_kept, no_others, no_patterns, none_empty, one_left, plain_kept, this_kept}
+use Rattle.ecma_strip_fits.proofs.Parameters.{no_further, no_others, no_patterns, none_empty, not_one_kept, one_left, plain_kept, rest_kept, this_kept}
 use Rattle.ecma_strip_fits.proofs.RuleStanding.{How}
 use Rattle.ecma_strip_fits.proofs.StaysAll.{items_have, left_of_list}
 use Rattle.ecma_strip_fits.proofs.Tests.{special_kept}
@@ -73,7 +74,7 @@ property_here n s w v u h (inl d) none =
 property_here n s w v u h (inr d) none =
     ap (λ k. k && not (is_declaring v.around.standing && child_holds is_plain_parameter (stripped n) 0)) (property_plain (kind_of n) ∙ expression_property (kind_of n) d.0)
 
--- ---- accessors
+-- ---- accessors, and patterns with defaults
 
 third_untouched : (cs : List Node) → slice_get (changed_at 1 without_this cs) 2 ≡ slice_get cs 2
 third_untouched [] = refl
@@ -84,10 +85,14 @@ setter_untouched : (n : Node) → kind_of n ≡ kind.SetterProp → (cs : List N
 unfolding plain_children
 setter_untouched n e cs = ap (λ k. slice_get (plain_children k cs) 2) e ∙ third_untouched cs
 
-setter_pattern : (n : Node) (s : Shape) → kind_of n ≡ kind.SetterProp → (c : Node) (o : Shape) → slice_get (child_shapes (kind_of n) s (length (children_of n))) 2 ≡ Some o → HasShape o c → belongs sort.Pat (kind_of c) ≡ true
-setter_pattern n s e c o at has =
-    let is : one sort.Pat ≡ o = some_same (ap (λ k. slice_get (child_shapes k s (length (children_of n))) 2) (sym e) ∙ at) in
+pattern_at : (n : Node) (s : Shape) (k : Kind) (i : ℕ) → kind_of n ≡ k → slice_get (child_shapes k s (length (children_of n))) i ≡ Some (one sort.Pat)
+    → (c : Node) (o : Shape) → slice_get (child_shapes (kind_of n) s (length (children_of n))) i ≡ Some o → HasShape o c → belongs sort.Pat (kind_of c) ≡ true
+pattern_at n s k i e pattern c o at has =
+    let is : one sort.Pat ≡ o = some_same (sym pattern ∙ ap (λ k. slice_get (child_shapes k s (length (children_of n))) i) (sym e) ∙ at) in
     subst (λ z. allows z (kind_of c) ≡ true → belongs sort.Pat (kind_of c) ≡ true) is (λ x. x) (shape_parts c o has).0
+
+setter_pattern : (n : Node) (s : Shape) → kind_of n ≡ kind.SetterProp → (c : Node) (o : Shape) → slice_get (child_shapes (kind_of n) s (length (children_of n))) 2 ≡ Some o → HasShape o c → belongs sort.Pat (kind_of c) ≡ true
+setter_pattern n s e = pattern_at n s kind.SetterProp 2 e refl
 
 function_left : (m : MethodKind) (f : Node) → HasShape (one sort.Function) f → fits_kind m f ≡ true → fits_kind m (stripped f) ≡ true
 unfolding plain_children
@@ -114,15 +119,17 @@ module _ (n : Node) (s : Shape) (h : HasShape s n) (u : class_of (kind_of n) ≡
       ap not (child_by n s h u 1 (λ cs. ap (λ z. slice_get (plain_children z cs) 1) e ∙ same cs) (λ x y. holds_of (fits_kind m) x ≡ true → holds_of (fits_kind m) y ≡ true) (λ g. g)
       (λ f o at has. function_left m f (subst (λ z. HasShape z f) (some_same (sym at ∙ (ap (λ z. slice_get (child_shapes z s (length (children_of n))) 1) e ∙ is))) has)) (not_false (child_holds (fits_kind m) n 1) none))
 
-  accessor_here : (k : Kind) → kind_of n ≡ k → misfits_by k n ≡ false → misfits_by (plain_kind k) (stripped n) ≡ false
+  misfit_here : (k : Kind) → kind_of n ≡ k → misfits_by k n ≡ false → misfits_by (plain_kind k) (stripped n) ≡ false
   unfolding misfits_by plain_kind plain_children
-  accessor_here kind.GetterProp e none =
+  misfit_here kind.AssignPat e none =
+      child_kept n s h u 0 (λ cs. ap (λ k. slice_get (plain_children k cs) 0) e) Bool (of_kind is_rest_pattern) (λ c o at has. rest_kept c o has (pattern_at n s kind.AssignPat 0 e refl c o at has)) ∙ none
+  misfit_here kind.GetterProp e none =
       child_kept n s h u 3 (λ cs. ap (λ k. slice_get (plain_children k cs) 3) e) Bool (of_kind is_present)
       (λ c o at has. (let no : None ≡ Some o = ap (λ k. slice_get (child_shapes k s (length (children_of n))) 3) (sym e) ∙ at in cc)) ∙ none
-  accessor_here kind.SetterProp e none = child_kept n s h u 2 (setter_untouched n e) Bool (of_kind is_list) (λ c o at has. no_list_kept c o has (setter_pattern n s e c o at has)) ∙ none
-  accessor_here (kind.ClassMethod m modifiers) e none = method_left (kind.ClassMethod m modifiers) e m (λ cs. refl) refl none
-  accessor_here (kind.PrivateMethod m modifiers) e none = method_left (kind.PrivateMethod m modifiers) e m (λ cs. refl) refl none
-  accessor_here _ e none = refl
+  misfit_here kind.SetterProp e none = child_kept n s h u 2 (setter_untouched n e) Bool (of_kind takes_not_one) (λ c o at has. not_one_kept c o has (setter_pattern n s e c o at has)) ∙ none
+  misfit_here (kind.ClassMethod m modifiers) e none = method_left (kind.ClassMethod m modifiers) e m (λ cs. refl) refl none
+  misfit_here (kind.PrivateMethod m modifiers) e none = method_left (kind.PrivateMethod m modifiers) e m (λ cs. refl) refl none
+  misfit_here _ e none = refl
 
   -- ---- the parameter `this`
 
@@ -162,7 +169,7 @@ member_here n s w v u h how none =
     let a = neither (property_by w.around.standing k n) (misfits_by k n || (is_special_by k n || misplaces_this_by k n)) none in
     let b = neither (misfits_by k n) (is_special_by k n || misplaces_this_by k n) a.1 in
     let c = neither (is_special_by k n) (misplaces_this_by k n) b.1 in
-    λ j. property_here n s w v u h how a.0 j || (accessor_here n s h u k refl b.0 j || ((special_kept n s h u ∙ c.0) j || receiver_here n s h u k refl c.1 j))
+    λ j. property_here n s w v u h how a.0 j || (misfit_here n s h u k refl b.0 j || ((special_kept n s h u ∙ c.0) j || receiver_here n s h u k refl c.1 j))
 
 pub never_member : (w : Where) (n : Node) → (membering w kind.Absent n ≡ false) × (membering w kind.EmptyStmt n ≡ false) × (membering w kind.List n ≡ false)
 unfolding misfits_by misplaces_this_by

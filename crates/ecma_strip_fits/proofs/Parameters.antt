@@ -11,7 +11,8 @@ use Rattle.ecma_tree.specs.declared.node.Node.{Node, out-Node}
 use Rattle.ecma_tree.specs.Laws.{HaveShapes}
 use Rattle.ecma_tree.specs.Sorted.{HasShape, allows, child_shapes, is_list, one}
 use Rattle.ecma_rules.specs.Children.{child_is, holds_of, is_named, kind_of, of_kind}
-use Rattle.ecma_rules.specs.Members.{behind_first, is_binding_name, is_empty_list, is_named_pattern, is_one_parameter, is_plain_parameter, is_this_by, is_this_parameter, is_this_pattern}
+use Rattle.ecma_rules.specs.Lists.{is_rest_pattern}
+use Rattle.ecma_rules.specs.Members.{behind_first, is_binding_name, is_empty_list, is_named_pattern, is_one_parameter, is_plain_parameter, is_this_by, is_this_parameter, is_this_pattern, takes_not_one, takes_one}
 use Rattle.ecma_strip.specs.Staying.{if_there, is_ambient, is_empty_stmt, is_this, is_this_by as goes_by, is_this_ident, is_this_param, is_this_param_by, item_stays, member_stays, member_stays_by, specifier_stays, stays}
 use Rattle.ecma_strip.specs.Stripping.{plain_children, plain_kind, stripped}
 use Rattle.ecma_strip.specs.Values.{is_value}
@@ -66,8 +67,20 @@ list_plain _ = refl
 binding_kept : (c : Node) (s : Shape) → HasShape s c → belongs sort.Pat (kind_of c) ≡ true → is_binding_name (kind_of (stripped c)) ≡ is_binding_name (kind_of c)
 binding_kept = pattern_kept is_binding_name no_bound_expression binding_plain
 
-pub no_list_kept : (c : Node) (s : Shape) → HasShape s c → belongs sort.Pat (kind_of c) ≡ true → is_list (kind_of (stripped c)) ≡ is_list (kind_of c)
-no_list_kept = pattern_kept is_list no_listed_expression list_plain
+no_rest_expression : (k : Kind) → belongs sort.Expr k ≡ true → is_rest_pattern k ≡ false
+no_rest_expression kind.RestPat b = cc
+no_rest_expression _ b = refl
+
+rest_plain : Plain Bool is_rest_pattern
+unfolding plain_kind
+rest_plain kind.Absent = refl
+rest_plain _ = refl
+
+pub rest_kept : (c : Node) (s : Shape) → HasShape s c → belongs sort.Pat (kind_of c) ≡ true → is_rest_pattern (kind_of (stripped c)) ≡ is_rest_pattern (kind_of c)
+rest_kept = pattern_kept is_rest_pattern no_rest_expression rest_plain
+
+pub not_one_kept : (c : Node) (s : Shape) → HasShape s c → belongs sort.Pat (kind_of c) ≡ true → takes_not_one (kind_of (stripped c)) ≡ takes_not_one (kind_of c)
+not_one_kept c s h b = ap₂ (λ x y. x || y) (pattern_kept is_list no_listed_expression list_plain c s h b) (rest_kept c s h b)
 
 -- ---- the name `this`
 
@@ -128,10 +141,19 @@ parameter_pattern kind.Param b s m o at c a = subst (λ z. allows z c ≡ true �
 parameter_pattern (kind.TsParamProp accessibility is_override readonly) b s m o at c a = subst (λ z. allows z c ≡ true → belongs sort.Pat c ≡ true) (some_same at) (property_pattern c) a
 parameter_pattern _ b s m o at c a = cc
 
+-- what is said of the pattern of a parameter
+module _ (p : Node) (s : Shape) (h : HasShape s p) (b : belongs sort.ParamOrTsParamProp (kind_of p) ≡ true) (of : Option Node → Bool)
+    (kept : (c : Node) (o : Shape) → HasShape o c → belongs sort.Pat (kind_of c) ≡ true → of (Some (stripped c)) ≡ of (Some c)) where
+  of_pattern_kept : of (slice_get (children_of (stripped p)) 0) ≡ of (slice_get (children_of p) 0)
+  of_pattern_kept =
+      child_kept p s h (parameter_class (kind_of p) b) 0 (parameter_first (kind_of p) b) Bool of
+      (λ c o at has. kept c o has (parameter_pattern (kind_of p) b s (length (children_of p)) o at (kind_of c) (shape_parts c o has).0))
+
 pub this_parameter_kept : (p : Node) (s : Shape) → HasShape s p → belongs sort.ParamOrTsParamProp (kind_of p) ≡ true → is_this_parameter (stripped p) ≡ is_this_parameter p
-this_parameter_kept p s h b =
-    child_kept p s h (parameter_class (kind_of p) b) 0 (parameter_first (kind_of p) b) Bool (holds_of is_this_pattern)
-    (λ c o at has. this_kept c o has (parameter_pattern (kind_of p) b s (length (children_of p)) o at (kind_of c) (shape_parts c o has).0))
+this_parameter_kept p s h b = of_pattern_kept p s h b (holds_of is_this_pattern) this_kept
+
+takes_one_kept : (p : Node) (s : Shape) → HasShape s p → belongs sort.ParamOrTsParamProp (kind_of p) ≡ true → takes_one (stripped p) ≡ takes_one p
+takes_one_kept p s h b = ap₂ (λ x y. not x && not y) (this_parameter_kept p s h b) (of_pattern_kept p s h b (of_kind is_rest_pattern) rest_kept)
 
 -- ---- what goes
 
@@ -224,6 +246,12 @@ is_parameter _ b = cc
 param_kept : (p : Node) → HasShape (one sort.Param) p → is_this_parameter (stripped p) ≡ is_this_parameter p
 param_kept p has = this_parameter_kept p (one sort.Param) has (is_parameter (kind_of p) (one_param p has))
 
+one_kept : (p : Node) → HasShape (one sort.Param) p → takes_one p ≡ true → takes_one (stripped p) ≡ true
+one_kept p has h = takes_one_kept p (one sort.Param) has (is_parameter (kind_of p) (one_param p has)) ∙ h
+
+one_stays : (p : Node) → HasShape (one sort.Param) p → takes_one p ≡ true → stays p ≡ true
+one_stays p has h = param_stays p (one_param p has) ∙ (both (not (is_this_parameter p)) (not (child_is is_rest_pattern p 0)) h).0
+
 pub no_patterns : (cs : List Node) → HaveShapes (replicate (length cs) (one sort.Pat)) cs → list_any is_this_pattern (map stripped (filter stays cs)) ≡ false
 no_patterns = none_stays sort.Pat is_this_pattern (λ c has. this_kept c (one sort.Pat) has (one_pattern c has)) (λ c has. pattern_unnamed c (one_pattern c has))
 
@@ -243,14 +271,11 @@ none_empty (c ∷ cs) h = cc
 
 pub one_left : (cs : List Node) → HaveShapes (replicate (length cs) (one sort.Param)) cs → is_one_parameter cs ≡ true → is_one_parameter (map stripped (filter stays cs)) ≡ true
 one_left [] has h = h
-one_left (p ∷ []) has h =
-    let here : stays p ≡ true = param_stays p (one_param p has.0) ∙ h in
-    ap (λ b. is_one_parameter (map stripped (cond b (p ∷ []) []))) here ∙ (ap not (param_kept p has.0) ∙ h)
+one_left (p ∷ []) has h = ap (λ b. is_one_parameter (map stripped (cond b (p ∷ []) []))) (one_stays p has.0 h) ∙ one_kept p has.0 h
 one_left (p ∷ q ∷ []) has h =
-    let t = both (is_this_parameter p) (not (is_this_parameter q)) h in
+    let t = both (is_this_parameter p) (takes_one q) h in
     let gone : stays p ≡ false = param_stays p (one_param p has.0) ∙ ap not t.0 in
-    let here : stays q ≡ true = param_stays q (one_param q has.1.0) ∙ t.1 in
-    ap₂ (λ a b. is_one_parameter (map stripped (cond a (p ∷ cond b (q ∷ []) []) (cond b (q ∷ []) [])))) gone here ∙ (ap not (param_kept q has.1.0) ∙ t.1)
+    ap₂ (λ a b. is_one_parameter (map stripped (cond a (p ∷ cond b (q ∷ []) []) (cond b (q ∷ []) [])))) gone (one_stays q has.1.0 t.1) ∙ one_kept q has.1.0 t.1
 one_left (p ∷ q ∷ r ∷ cs) has h = cc
 
 -- ---- a plain name, perhaps with a default

@@ -7,7 +7,8 @@ use Rattle.ecma_tree.specs.Sorted.{is_list}
 use Rattle.ecma_rules.specs.declared.standing.Around.{Around}
 use Rattle.ecma_rules.specs.Children.{holds_of, is_present, of_kind}
 use Rattle.ecma_rules.specs.Failing.{failing_here, failing_step, least, least_from}
-use Rattle.ecma_rules.specs.Members.{is_declaring, is_plain_parameter, is_property_kind, is_special_constructor, is_stray_property, is_wrong_accessor, misfits_by, misplaces_this, second_constructor}
+use Rattle.ecma_rules.specs.Lists.{is_rest_pattern}
+use Rattle.ecma_rules.specs.Members.{is_declaring, is_misfit, is_plain_parameter, is_property_kind, is_special_constructor, is_stray_property, misfits_by, misplaces_this, second_constructor, takes_not_one}
 use Rattle.ecma_rules.specs.Rules.{fails_list, fails_member, fails_statement, fails_super, fails_target, first_misplaced, is_misplaced, misplaced_here}
 use Rattle.ecma_rules.specs.Supers.{is_linked, is_lone_super, is_private_name, is_private_of_super, is_super, is_super_member}
 use Rattle.ecma_rules.specs.Surroundings.{around_in}
@@ -38,6 +39,10 @@ pub record Fine (around : Around) (parts : Node-F Node) : Type 0 where
   pub lone : (is_super parts.kind && not (is_linked around.standing)) ≡ false
   pub private : (is_super_member parts.kind && of_kind is_private_name (slice_get parts.children 1)) ≡ false
 
+no_list : (o : Option Node) → of_kind takes_not_one o ≡ false → of_kind is_list o ≡ false
+no_list None h = refl
+no_list (Some m) h = (neither (is_list (out-Node m).kind) (is_rest_pattern (out-Node m).kind) h).0
+
 unnot : (b : Bool) → not b ≡ false → b ≡ true
 unnot true h = refl
 unnot false h = cc
@@ -64,17 +69,17 @@ module _ (around : Around) (x : Node-F Node) where
       a_target (may_be around.target x.kind) (is_plain_target x.kind) (is_wrapper x.kind) (first_is (map is_simple_target x.children))
       (ap (λ z. may_be around.target x.kind || z) (sym (fold-roll-Node Bool simple_step x)) ∙ t)
 
-  getter_is : is_wrong_accessor n ≡ false → x.kind ≡ kind.GetterProp → of_kind is_present (slice_get x.children 3) ≡ false
+  getter_is : is_misfit n ≡ false → x.kind ≡ kind.GetterProp → of_kind is_present (slice_get x.children 3) ≡ false
   unfolding misfits_by
   getter_is h e =
       let k : (out-Node n).kind ≡ kind.GetterProp = ap (λ p. p.kind) is ∙ e in
       subst (λ (p : Node-F Node). of_kind is_present (slice_get p.children 3) ≡ false) is (subst (λ z. misfits_by z n ≡ false) k h)
 
-  setter_is : is_wrong_accessor n ≡ false → x.kind ≡ kind.SetterProp → of_kind is_list (slice_get x.children 2) ≡ false
+  setter_is : is_misfit n ≡ false → x.kind ≡ kind.SetterProp → of_kind is_list (slice_get x.children 2) ≡ false
   unfolding misfits_by
   setter_is h e =
       let k : (out-Node n).kind ≡ kind.SetterProp = ap (λ p. p.kind) is ∙ e in
-      subst (λ (p : Node-F Node). of_kind is_list (slice_get p.children 2) ≡ false) is (subst (λ z. misfits_by z n ≡ false) k h)
+      no_list (slice_get x.children 2) (subst (λ (p : Node-F Node). of_kind takes_not_one (slice_get p.children 2) ≡ false) is (subst (λ z. misfits_by z n ≡ false) k h))
 
   fine_where : is_misplaced around n ≡ false → Fine around x
   unfolding is_misplaced
@@ -84,8 +89,8 @@ module _ (around : Around) (x : Node-F Node) where
       let m = neither (fails_member around n) (fails_statement around n || fails_super around n) l.1 in
       let s = neither (fails_statement around n) (fails_super around n) m.1 in
       let target = neither (is_no_target around.target n) (is_stray_default around.target n) t.0 in
-      let member = neither (is_stray_property around.standing n) (is_wrong_accessor n || (is_special_constructor n || misplaces_this n)) m.0 in
-      let accessor = neither (is_wrong_accessor n) (is_special_constructor n || misplaces_this n) member.1 in
+      let member = neither (is_stray_property around.standing n) (is_misfit n || (is_special_constructor n || misplaces_this n)) m.0 in
+      let accessor = neither (is_misfit n) (is_special_constructor n || misplaces_this n) member.1 in
       let super = neither (is_lone_super around.standing n) (is_private_of_super n) s.1 in
       record {
         target = target_is target.0;

@@ -1,14 +1,13 @@
 -- What is written is read again as the tree that was read.
-use Rattle.std.proofs.Common.{◌≡◌, ◌≤◌, ◌<◌, ◌^◌, ℕ, List, Bool, true, false, Some, None, Ok, Err, refl, sym, subst, arith, length, nat_lt, Vec}
+use Rattle.std.proofs.Common.{◌≡◌, ◌≤◌, ◌<◌, ◌^◌, ℕ, List, Bool, true, false, Ok, Err, refl, sym, subst, arith, length, nat_lt, Vec}
 use Rattle.std.proofs.lemmas.Bool.Decides.{nat_tests}
 use Rattle.std.specs.declared.alloc.Global.{Global}
-use Rattle.std.specs.Prelude.{Option, Result, IfOk, if◌then◌else◌}
+use Rattle.std.specs.Prelude.{Result, IfOk, if◌then◌else◌}
 use Rattle.std.specs.Str.{is_utf8}
 use Rattle.std.proofs.lemmas.Str.{IsUtf8-from_is_utf8}
 use Rattle.ecma_tree.specs.declared.node.Node.{Node}
 use Rattle.ecma_text.specs.declared.modules.ReadError.{ReadError}
 use Rattle.ecma_text.specs.Modules.{reads_as, plain, deepest}
-use Rattle.ecma_forms.specs.Forms.{first_odd_rest}
 use Rattle.ecma_print.specs.Layout.{layout}
 use Rattle.ecma_relaid_laws.specs.Relaid.{IsReadAsTree, RelaidModulesAreReadAgain}
 use Rattle.ts_to_js.specs.declared.error.TsError.{TsError}
@@ -18,7 +17,7 @@ use Rattle.ts_to_js.specs.Answer.{Answers}
 use Rattle.ts_to_js.specs.Conversion.{byte_limit}
 use Rattle.ts_to_js.specs.Running.{EndsWith, expected_of}
 use Rattle.ts_to_js.proofs.Outcomes.{answered}
-use Rattle.relayout.specs.Relayout.{IsRelaid, laid_out, laid_out_by, relaid}
+use Rattle.relayout.specs.Relayout.{IsRelaid, laid_out, relaid}
 
 -- what a text says of the tests that were made
 record IsLaidOut (long valid : Bool) (read : Result Node ReadError) (text : List ℕ) : Type 0 where
@@ -26,20 +25,14 @@ record IsLaidOut (long valid : Bool) (read : Result Node ReadError) (text : List
   utf8 : valid ≡ true
   tree : Node
   read_as : read ≡ Ok tree
-  usual : first_odd_rest tree ≡ None
   text_is : text ≡ layout tree
-
-usual_by : (odd : Option ℕ) (tree : Node) (text : List ℕ) → laid_out_by odd tree ≡ Ok text → (odd ≡ None) × (text ≡ layout tree)
-usual_by None tree text h = (refl, cc)
-usual_by (Some at) tree text h = cc
 
 laid_out_parts : (long valid : Bool) (read : Result Node ReadError) (text : List ℕ)
     → (if long then Err error.TooLong else if valid then laid_out read else Err error.NotUtf8) ≡ Ok text → IsLaidOut long valid read text
 laid_out_parts true valid read text h = cc
 laid_out_parts false false read text h = cc
 laid_out_parts false true (Ok tree) text h =
-    let parts = usual_by (first_odd_rest tree) tree text h in
-    record { short = refl; utf8 = refl; tree = tree; read_as = refl; usual = parts.0; text_is = parts.1 }
+    record { short = refl; utf8 = refl; tree = tree; read_as = refl; text_is = cc }
 laid_out_parts false true (Err reason) text h = cc
 
 short_by : (src : List ℕ) → nat_lt byte_limit (length src) ≡ false → length src ≤ byte_limit
@@ -51,7 +44,7 @@ below n short = omega arith
 pub is_relaid : RelaidModulesAreReadAgain → (src text : List ℕ) → relaid src ≡ Ok text → IsRelaid src text
 is_relaid law src text h =
     let parts = laid_out_parts (nat_lt byte_limit (length src)) (is_utf8 src) (reads_as src (plain false) deepest) text h in
-    let again = law src deepest parts.tree (IsUtf8-from_is_utf8 src parts.utf8) (below (length src) (short_by src parts.short)) parts.read_as parts.usual in
+    let again = law src deepest parts.tree (IsUtf8-from_is_utf8 src parts.utf8) (below (length src) (short_by src parts.short)) parts.read_as in
     record { tree = parts.tree; read_plain = parts.read_as; again = subst (IsReadAsTree parts.tree) (sym parts.text_is) again }
 
 pub answered-relaid : RelaidModulesAreReadAgain → (src : List ℕ) (result : Result (Vec ℕ Global) TsError) → Answers result (relaid src) → IfOk result (λ text. IsRelaid src text.items)

@@ -1,10 +1,9 @@
 -- The layout of a plain module.
-use Rattle.std.specs.Prelude.{◌≡◌, ℕ, List, Option, Some, None, Result, Ok, Err, false, nat_lt, length, if◌then◌else◌}
+use Rattle.std.specs.Prelude.{◌≡◌, ℕ, List, Result, Ok, Err, false, nat_lt, length, if◌then◌else◌}
 use Rattle.std.specs.Str.{is_utf8}
 use Rattle.ecma_tree.specs.declared.node.Node.{Node}
 use Rattle.ecma_text.specs.declared.modules.ReadError.{ReadError}
 use Rattle.ecma_text.specs.Modules.{reads_as, plain, deepest}
-use Rattle.ecma_forms.specs.Forms.{first_odd_rest}
 use Rattle.ecma_print.specs.Layout.{layout}
 use Rattle.ecma_relaid_laws.specs.Relaid.{IsReadAsTree}
 use Rattle.ts_to_js.specs.Conversion.{byte_limit}
@@ -12,14 +11,9 @@ use Rattle.ts_to_js.specs.Refusals.{refusal_of}
 use Rattle.ts_to_js.specs.declared.error.TsError.{TsError}
 use Rattle.ts_to_js.specs.declared.error.TsError.TheVariants as error
 
--- the layout of a tree, where no rest in it is one that ECMAScript has not
-abbrev pub laid_out_by : Option ℕ → Node → Result (List ℕ) TsError
-laid_out_by None tree = Ok (layout tree)
-laid_out_by (Some at) tree = Err (error.Syntax at)
-
--- that of the tree that was read, or why there is none
+-- the layout of the tree that was read, or why there is none
 abbrev pub laid_out : Result Node ReadError → Result (List ℕ) TsError
-laid_out (Ok tree) = laid_out_by (first_odd_rest tree) tree
+laid_out (Ok tree) = Ok (layout tree)
 laid_out (Err reason) = Err (refusal_of reason)
 
 -- the layout of the plain module of these bytes, or the first refusal that holds

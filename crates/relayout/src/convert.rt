@@ -4,7 +4,6 @@ ghost use Rattle.ts_to_js.specs.Answer.{Answers};
 ghost use Rattle.ts_to_js.specs.Refusals.{refusal_of};
 ghost use Rattle.relayout.specs.Relayout.{IsRelaid, laid_out, relaid};
 
-use ecma_forms::first_odd_rest;
 use ecma_print::print_module;
 use ecma_relaid_laws::relaid_modules_are_read_again;
 use ecma_text::{ReadError, read_plain};
@@ -49,8 +48,5 @@ fn lay_out(alloc: Global, reading: Result<Module, ReadError>) -> Result<Vec<u8>,
     ensures refusal { IfErr reading (λ reason. result ≡ Err (refusal_of reason)) }
 {
     let tree = reading?;
-    if let Some(at) = first_odd_rest(&tree) {
-        return Err(TsError::Syntax { at });
-    }
     Ok(print_module(alloc, &tree)?)
 }

@@ -1,7 +1,7 @@
 //! Modules that are refused: forms that are not taken, and what is no module.
 use super::Case;
 
-pub(super) const REFUSED: [Case; 13] = [
+pub(super) const REFUSED: [Case; 16] = [
     // import
     Case {
         src: r#"f(); import { a } from "m";"#,
@@ -59,6 +59,23 @@ pub(super) const REFUSED: [Case; 13] = [
     // two getters' parameters
     Case {
         src: "class A { get a(b: T) { return b } }",
+        want: r#"error: Syntax at 10
+"#,
+    },
+    // rest with a default
+    Case {
+        src: "(...a = b) => c",
+        want: r#"error: Syntax at 1
+"#,
+    },
+    // setters that take the rest
+    Case {
+        src: "({ set a(...b) {} })",
+        want: r#"error: Syntax at 3
+"#,
+    },
+    Case {
+        src: "class A { set a(...b) {} }",
         want: r#"error: Syntax at 10
 "#,
     },

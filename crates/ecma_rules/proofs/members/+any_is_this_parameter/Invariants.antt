@@ -1,4 +1,4 @@
-use Rattle.std.proofs.Common.{ℕ, length}
+use Rattle.std.proofs.Common.{length}
 use Rattle.ecma_rules.proofs.members.+any_is_this_parameter.Given as goal
 
 abbrev pub decreases-any_is_this_parameter : goal.decreases-any_is_this_parameter
