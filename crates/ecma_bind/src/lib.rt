@@ -7,6 +7,3 @@
 mod binding;
 
 pub use binding::bind_names;
-
-#[cfg(test)]
-mod tests;

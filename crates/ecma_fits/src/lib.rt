@@ -12,6 +12,3 @@ mod unfit;
 pub use role::{Role, role_in};
 pub use strays::Arguments;
 pub use unfit::{Where, first_unfit, fits};
-
-#[cfg(test)]
-mod tests;

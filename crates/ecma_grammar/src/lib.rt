@@ -20,6 +20,3 @@ pub use productions::{
     ChainRule, ClassRule, DeclarationRule, ExpressionRule, FunctionRule, ModuleRule, NameRule,
     OperatorRule, PatternRule, PrimaryRule, StatementRule, TypeRule,
 };
-
-#[cfg(test)]
-mod tests;

@@ -20,6 +20,3 @@ pub use naming::Named;
 pub use pass::hygiene;
 pub use sight::{Meeting, Sight};
 pub use spot::{Spot, Standing};
-
-#[cfg(test)]
-mod tests;

@@ -46,6 +46,3 @@ fn show(out: &mut Out, node: &Node, place: Place, margin: &[u8]) -> Result<(), N
         _ => inside.placed(out, place),
     }
 }
-
-#[cfg(test)]
-mod tests;

@@ -29,6 +29,3 @@ pub use patterns::finish;
 pub use standing::{Around, Standing, around_in, at_root};
 pub use strays::Strays;
 pub use target::{Target, is_simple_target};
-
-#[cfg(test)]
-mod tests;

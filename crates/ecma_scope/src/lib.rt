@@ -25,6 +25,3 @@ pub use resolver::resolve;
 pub use role::{Role, covers, is_ambient, is_there, opens, role_by, role_in};
 pub use stated::{holds_vars, own_part};
 pub use uses::{Use, used_ids};
-
-#[cfg(test)]
-mod tests;

@@ -9,6 +9,3 @@ mod values;
 
 pub use laws::{no_types_are_left, sorts_are_kept, trees_without_types_stay};
 pub use stripper::{TypeStripper, strip_type};
-
-#[cfg(test)]
-mod tests;

@@ -1,4 +1,4 @@
-use super::*;
+use ecma_grammar::{Mode, RawError, read_raw};
 use ecma_tree::Node;
 use std::alloc::Global;
 use std::test::Fail;

@@ -1,4 +1,4 @@
-use super::*;
+use ecma_scope::{ScopeError, check_scopes, needs, resolve, used_ids};
 use ecma_tree::{
     DUMMY_SP, JsWord, Kind, NoMemory, Node, Nodes, PassError, Session, SyntaxContext, VarDeclKind,
 };

@@ -1,4 +1,4 @@
-use super::*;
+use ecma_hygiene::hygiene;
 use ecma_tree::{
     JsWord, Kind, NoMemory, Node, Nodes, Session, Span, SyntaxContext, VarDeclKind, symbols,
 };

@@ -1,4 +1,4 @@
-use super::*;
+use ecma_fits::{first_unfit, fits};
 use ecma_number::{JsNumber, SafeInt};
 use ecma_tree::{AssignOp, JsWord, Kind, NoMemory, Node, Nodes, Span, SyntaxContext};
 use std::alloc::Global;

@@ -1,4 +1,4 @@
-use super::*;
+use ecma_bind::bind_names;
 use ecma_tree::{
     AssignOp, JsWord, Kind, NoMemory, Node, Nodes, Span, SyntaxContext, same_but_for_spans,
 };

@@ -1,5 +1,6 @@
-use super::*;
-use ecma_tree::{DUMMY_SP, Expr, JsWord, Nodes, Stmt, SyntaxContext, UnaryOp};
+use ecma_print::print_module;
+use ecma_tree::{DUMMY_SP, Expr, JsWord, Kind, Module, Node, Nodes, Stmt, SyntaxContext, UnaryOp};
+use std::alloc::Global;
 use std::test::Fail;
 
 fn ident(alloc: Global, name: &str) -> Result<Expr, Fail> {

@@ -1,4 +1,4 @@
-use super::*;
+use ecma_rules::{finish, first_broken};
 use ecma_tree::{
     AssignOp, JsWord, Kind, NoMemory, Node, Nodes, Sort, Span, SyntaxContext, has_sort,
 };

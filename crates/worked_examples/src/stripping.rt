@@ -1,4 +1,4 @@
-use super::*;
+use ecma_strip::strip_type;
 use ecma_tree::{
     JsWord, Kind, NoMemory, Node, NodeRef, Nodes, Span, SyntaxContext, VarDeclKind, eq_ignore_span,
 };
