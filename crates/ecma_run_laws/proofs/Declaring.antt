@@ -1,0 +1,54 @@
+-- Declarations that do nothing may come to the head of a module.
+use Rattle.std.proofs.Common.{◌≡◌, ◌++◌, refl, sym, ap, ap₂, ◌∙◌, subst, ℕ, List, [], ◌∷◌, map, filter, Option, Bool, true, not}
+use Rattle.std.specs.List.{list_all}
+use Rattle.ecma_kind.specs.declared.kind.Kind.TheVariants as kind
+use Rattle.ecma_kind.specs.declared.span.Span.{Span}
+use Rattle.ecma_tree.specs.declared.node.Node.{Node}
+use Rattle.ecma_tree.specs.declared.node.Node.TheViews.{out-roll-Node}
+use Rattle.ecma_tree.specs.Nodes.{node_of}
+use Rattle.ecma_runs.specs.State.{Id}
+use Rattle.ecma_runs.specs.Observation.{observe}
+use Rattle.ecma_runs.proofs.Kept.{AllNodes}
+use Rattle.ecma_runs.proofs.Standing.{Passes, passes_parts}
+use Rattle.ecma_run_laws.specs.Lessened.{statement_goes, lessened, without, module_of, WhatIsUsedStays, NewNamesMayBeDeclared}
+use Rattle.ecma_run_laws.proofs.Both.{both_true}
+use Rattle.ecma_run_laws.proofs.Dropping.{stands}
+use Rattle.ecma_run_laws.proofs.Lessening.{image, list_left}
+use Rattle.ecma_run_laws.proofs.Standing.{Layer}
+use Rattle.ecma_run_laws.proofs.Staying.{statement_stays, all_stays}
+use Rattle.ecma_run_laws.proofs.Unused as unused
+
+pub what_is_used_stays : WhatIsUsedStays
+what_is_used_stays gone m stay = all_stays gone m stay
+
+module _ (gone : Id → Bool) where
+  abbrev stay : Node → Bool
+  stay n = not (statement_goes gone n)
+
+  items_stay : (items : List Node) → AllNodes (Passes (stands gone)) items → map (without gone) (filter stay items) ≡ items
+  items_stay [] h = refl
+  items_stay (n ∷ items) h = rw (statement_stays gone n h.0) (ap₂ (λ a rest. a ∷ rest) (all_stays gone n h.0) (items_stay items h.1))
+
+  added_go : (added items : List Node) → list_all (statement_goes gone) added ≡ true → AllNodes (Passes (stands gone)) items → map (without gone) (filter stay (added ++ items)) ≡ items
+  added_go [] items go h = items_stay items h
+  added_go (n ∷ added) items go h = let t = both_true (statement_goes gone n) (list_all (statement_goes gone) added) go in rw t.0 (added_go added items t.1 h)
+
+  module _ (span place : Span) (shebang : Option (List ℕ)) (added items : List Node) (go : list_all (statement_goes gone) added ≡ true) (pass : Passes (stands gone) (module_of span shebang place items)) where
+    items_pass : AllNodes (Passes (stands gone)) items
+    items_pass = (passes_parts (stands gone) (Layer place kind.List items) (passes_parts (stands gone) (Layer span (kind.Module shebang) (node_of place kind.List items ∷ [])) pass).1.0).1
+
+    list_is : (lessened gone (node_of place kind.List (added ++ items))).statements ≡ node_of place kind.List items
+    list_is =
+        let list : Node = node_of place kind.List (added ++ items) in
+        let is = out-roll-Node (Layer place kind.List (added ++ items)) in
+        list_left gone (statement_goes gone) (λ l. l.statements) (λ parts. refl) list (ap (λ z. z.kind) is)
+        ∙ ap (λ z. node_of z.span kind.List (map (without gone) (filter stay z.children))) is ∙ ap (node_of place kind.List) (added_go added items go items_pass)
+
+    pub without_added : without gone (module_of span shebang place (added ++ items)) ≡ module_of span shebang place items
+    without_added = image gone (Layer span (kind.Module shebang) (node_of place kind.List (added ++ items) ∷ [])) ∙ ap (λ l. node_of span (kind.Module shebang) (l ∷ [])) list_is
+
+pub new_names_may_be_declared : NewNamesMayBeDeclared
+new_names_may_be_declared gone turns options script span place shebang added items go pass =
+    let e = without_added gone span place shebang added items go pass in
+    sym (unused.unused_names_do_not_matter gone turns options (module_of span shebang place (added ++ items)) script (subst (Passes (stands gone)) (sym e) pass))
+    ∙ ap (λ m. observe turns options m script) e

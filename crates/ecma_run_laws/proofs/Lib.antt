@@ -1,0 +1,12 @@
+mod Both
+pub mod Seats
+pub mod References
+pub mod Exchanging
+pub mod Lessening
+pub mod Dropping
+pub mod Going
+pub mod Standing
+pub mod Unused
+pub mod Staying
+pub mod Declaring
+mod Instances

@@ -1,0 +1,245 @@
+-- Declarations of names that nothing uses may go.
+use Rattle.std.proofs.Common.{◌≡◌, ◌++◌, refl, sym, ap, ap₂, ◌∙◌, subst, ℕ, List, [], ◌∷◌, map, Option, Some, None, Bool, true, false, add-zero}
+use Rattle.ecma_kind.specs.declared.kind.Kind.{Kind}
+use Rattle.ecma_kind.specs.declared.kind.Kind.TheVariants as kind
+use Rattle.ecma_kind.specs.declared.operators.VarDeclKind.{VarDeclKind}
+use Rattle.ecma_kind.specs.declared.operators.VarDeclKind.TheVariants.{Var, Let, Const}
+use Rattle.ecma_kind.specs.declared.span.Span.{Span}
+use Rattle.ecma_tree.specs.declared.node.Node.{Node, Node-F, ind-Node, roll-Node, out-Node}
+use Rattle.ecma_tree.specs.declared.node.Node.TheViews.{out-roll-Node}
+use Rattle.ecma_tree.specs.Nodes.{node_of}
+use Rattle.ecma_runs.specs.State.{Id}
+use Rattle.ecma_runs.specs.Run.{◌>>=◌}
+use Rattle.ecma_runs.specs.Meaning.{Evaluation, Meaning}
+use Rattle.ecma_runs.specs.Statements.{all_completions, all_varied, all_hoisted}
+use Rattle.ecma_runs.specs.Declarations.{all_names, all_declared, all_vars, all_lexicals, all_imported, imported_from}
+use Rattle.ecma_runs.specs.Evaluation.{meaning_by, meaning}
+use Rattle.ecma_runs.specs.Observation.{observe}
+use Rattle.ecma_runs.specs.Names.{passes_by}
+use Rattle.ecma_runs.proofs.Layer.{meaning-roll}
+use Rattle.ecma_runs.proofs.Alike.{Change}
+use Rattle.ecma_runs.proofs.Meanings.{Same, Both, firsts, seconds}
+use Rattle.ecma_runs.proofs.Premises.{renamed_kind, StillClash, KeptLayer}
+use Rattle.ecma_runs.proofs.Steps.{step_same}
+use Rattle.ecma_runs.proofs.Kept.{AllNodes, Kept, StepsAlike, layer_same, observe_unless}
+use Rattle.ecma_runs.proofs.Layers.{texts_stay, none_excused}
+use Rattle.ecma_runs.proofs.Standing.{Passes}
+use Rattle.ecma_run_laws.specs.Lessened.{declarator_goes, specifier_goes, statement_goes, left_of, lessened, without, UnusedNamesDoNotMatter}
+use Rattle.ecma_run_laws.proofs.Lessening.{less_all, image}
+use Rattle.ecma_run_laws.proofs.Dropping.{stands, dropping, seen, seen_alike, role_seen}
+use Rattle.ecma_run_laws.proofs.Going.{silent_statement, silent_declarator, silent_specifier, statement_silent, declarator_silent, specifier_silent}
+use Rattle.ecma_run_laws.proofs.Standing.{Layer, each_of, IsFine, parts_left, parts_fine, names_stand, still_clash}
+
+abbrev both_evaluations : Evaluation (Unit {0}) → Evaluation (Unit {0}) → Evaluation (Unit {0})
+both_evaluations e rest x = e x >>= λ _. rest x
+
+module _ (gone : Id → Bool) (declared : List Id) where
+  abbrev c : Change
+  c = dropping gone declared
+
+  -- layers of which nothing goes
+
+  same_kind : (k : Kind) → renamed_kind c k ≡ k
+  same_kind (kind.Ident text ctxt optional) = refl
+  same_kind _ = refl
+
+  still : (parameters body : Node) → IsFine gone parameters → StillClash c (meaning parameters) (meaning body)
+  still parameters body fine = still_clash gone (meaning parameters).names (names_stand gone parameters fine) (meaning body).locals
+
+  layer_kept : (k : Kind) (cs : List Node) → passes_by (stands gone) k ≡ true → AllNodes (IsFine gone) cs → KeptLayer c k (map meaning cs)
+  layer_kept (kind.Ident text ctxt optional) cs h all = (h, refl)
+  layer_kept kind.MemberExpr cs h all = refl
+  layer_kept kind.SuperPropExpr cs h all = refl
+  layer_kept kind.CallExpr cs h all = refl
+  layer_kept kind.OptCall cs h all = refl
+  layer_kept kind.NewExpr cs h all = refl
+  layer_kept kind.KeyValuePatProp cs h all = refl
+  layer_kept kind.AssignPatProp (name ∷ default ∷ []) h all = (refl, texts_stay (meaning name).shorthands)
+  layer_kept kind.ObjectLit (properties ∷ []) h all = texts_stay (meaning properties).shorthands
+  layer_kept (kind.Class is_abstract) (super ∷ body ∷ types ∷ super_types ∷ implements ∷ []) h all = texts_stay (meaning body).shorthands
+  layer_kept (kind.ImportDecl type_only) (specifiers ∷ source ∷ attributes ∷ []) h all = texts_stay (meaning source).shorthands
+  layer_kept (kind.ImportNamedSpecifier is_type_only) (local ∷ name ∷ []) h all = (texts_stay (meaning local).shorthands, texts_stay (meaning name).shorthands)
+  layer_kept (kind.Function false false) (parameters ∷ body ∷ types ∷ return_type ∷ []) h all = still parameters body all.0
+  layer_kept (kind.ArrowExpr false false) (parameters ∷ body ∷ types ∷ return_type ∷ []) h all = still parameters body all.0
+  layer_kept kind.SetterProp (key ∷ this_parameter ∷ parameter ∷ body ∷ []) h all = still parameter body all.1.1.0
+  layer_kept (kind.Constructor accessibility is_optional) (key ∷ parameters ∷ body ∷ []) h all = still parameters body all.1.0
+  layer_kept _ cs h all = tt
+
+  with_kept : (cs : List Node) → AllNodes (Kept c) cs → List ((n : Node) × Kept c n)
+  with_kept [] kept = []
+  with_kept (n ∷ cs) kept = (n, kept.0) ∷ with_kept cs kept.1
+
+  with_kept_are : (cs : List Node) (kept : AllNodes (Kept c) cs) → map (λ e. e.0) (with_kept cs kept) ≡ cs
+  unfolding with_kept
+  with_kept_are [] kept = refl
+  with_kept_are (n ∷ cs) kept = ap (λ rest. n ∷ rest) (with_kept_are cs kept.1)
+
+  Step : Span → Kind → List Node → Type 0
+  Step span k cs = Same c (meaning (roll-Node (Layer span k cs))) (meaning (without gone (roll-Node (Layer span k cs))))
+
+  other_step : (span : Span) (k : Kind) (cs : List Node) → AllNodes (Kept c) cs → IsFine gone (roll-Node (Layer span k cs)) → left_of k (map (lessened gone) cs) ≡ map (λ l. l.less) (map (lessened gone) cs) → Step span k cs
+  unfolding Step
+  other_step span k cs kept fine e =
+      let x : Node-F Node = Layer span k cs in
+      let is : without gone (roll-Node x) ≡ roll-Node (Layer span k (map (without gone) cs)) = image gone x ∙ ap (node_of span k) (e ∙ less_all gone cs) in
+      let t = parts_fine gone x e fine in
+      layer_same c x (with_kept cs kept) (with_kept_are cs kept) fine t.1 (layer_kept k cs t.0 t.1)
+      (ap meaning is ∙ meaning-roll (Layer span k (map (without gone) cs)) ∙ ap₂ (λ n z. meaning_by n z (map meaning (map (without gone) cs))) (sym is) (sym (same_kind k)))
+
+  -- layers of which something may go
+
+  -- children that mean alike with those that are left
+  parent_step : (span : Span) (k : Kind) (cs : List Node) (ps : List (Both c)) → IsFine gone (roll-Node (Layer span k cs)) → KeptLayer c k (firsts c ps)
+      → meaning_by (roll-Node (Layer span k cs)) k (firsts c ps) ≡ meaning_by (roll-Node (Layer span k cs)) k (map meaning cs) → map meaning (left_of k (map (lessened gone) cs)) ≡ seconds c ps → Step span k cs
+  unfolding Step
+  parent_step span k cs ps fine kept before behind =
+      let x : Node-F Node = Layer span k cs in
+      let n' : Node = without gone (roll-Node x) in
+      let left : List Node = left_of k (map (lessened gone) cs) in
+      let a : meaning (roll-Node x) ≡ meaning_by (roll-Node x) k (firsts c ps) = meaning-roll x ∙ sym before in
+      let b : meaning n' ≡ meaning_by n' (renamed_kind c k) (seconds c ps) =
+      ap meaning (image gone x) ∙ meaning-roll (Layer span k left) ∙ ap (λ n. meaning_by n k (map meaning left)) (sym (image gone x)) ∙ ap₂ (λ z ms. meaning_by n' z ms) (sym (same_kind k)) behind in
+      rw (a, b) (step_same c (roll-Node x) fine k ps kept)
+
+  -- what is left of lists of statements, of declarators and of specifiers
+
+  abbrev statements_seen : Node → Meaning
+  statements_seen n = seen gone declared (statement_goes gone) (λ l. l.statements) (λ parts. refl) silent_statement (statement_silent gone declared) n
+
+  abbrev declarators_seen : Node → Meaning
+  declarators_seen n = seen gone declared (declarator_goes gone) (λ l. l.declarators) (λ parts. refl) silent_declarator (declarator_silent gone declared) n
+
+  abbrev specifiers_seen : Node → Meaning
+  specifiers_seen n = seen gone declared (specifier_goes gone) (λ l. l.specifiers) (λ parts. refl) silent_specifier (specifier_silent gone declared) n
+
+  module _ {A : Type 0} (role : Meaning → A) (all : List Meaning → A) (is_all : (n : Node) (ms : List Meaning) → role (meaning_by n kind.List ms) ≡ all ms)
+      (join : A → A → A) (joined : (m : Meaning) (ms : List Meaning) → all (m ∷ ms) ≡ join (role m) (all ms)) where
+    statements_role : ((m : Meaning) → role (silent_statement m) ≡ role m) → (n : Node) → role (statements_seen n) ≡ role (meaning n)
+    statements_role alone n =
+        role_seen gone declared (statement_goes gone) (λ l. l.statements) (λ parts. refl) silent_statement (statement_silent gone declared) role all is_all join joined (λ n e. alone (meaning n)) n
+
+    declarators_role : ((m : Meaning) → role (silent_declarator m) ≡ role m) → (n : Node) → role (declarators_seen n) ≡ role (meaning n)
+    declarators_role alone n =
+        role_seen gone declared (declarator_goes gone) (λ l. l.declarators) (λ parts. refl) silent_declarator (declarator_silent gone declared) role all is_all join joined (λ n e. alone (meaning n)) n
+
+    specifiers_role : ((m : Meaning) → role (silent_specifier m) ≡ role m) → (n : Node) → role (specifiers_seen n) ≡ role (meaning n)
+    specifiers_role alone n =
+        role_seen gone declared (specifier_goes gone) (λ l. l.specifiers) (λ parts. refl) silent_specifier (specifier_silent gone declared) role all is_all join joined (λ n e. alone (meaning n)) n
+
+  -- in the roles in which the list is used it means what it means
+
+  abbrev LikeStatements : Meaning → Meaning → Meaning
+  LikeStatements m m' = record m { vars = m'.vars; lexicals = m'.lexicals; hoisted = m'.hoisted; completion = m'.completion; declared = m'.declared }
+
+  like_statements : (n : Node) → LikeStatements (meaning n) (statements_seen n) ≡ meaning n
+  like_statements n = λ i. record (meaning n) {
+    vars = statements_role (λ m. m.vars) all_vars (λ n ms. refl) (λ a b. a ++ b) (λ m ms. refl) (λ m. refl) n i;
+    lexicals = statements_role (λ m. m.lexicals) all_lexicals (λ n ms. refl) (λ a b. a ++ b) (λ m ms. refl) (λ m. refl) n i;
+    hoisted = statements_role (λ m. m.hoisted) all_hoisted (λ n ms. refl) both_evaluations (λ m ms. refl) (λ m. refl) n i;
+    completion = statements_role (λ m. m.completion) all_completions (λ n ms. refl) both_evaluations (λ m ms. refl) (λ m. refl) n i;
+    declared = statements_role (λ m. m.declared) all_declared (λ n ms. refl) (λ a b. a ++ b) (λ m ms. refl) (λ m. refl) n i;
+  }
+
+  abbrev LikeDeclarators : Meaning → Meaning → Meaning
+  LikeDeclarators m m' = record m { names = m'.names; completion = m'.completion; varied = m'.varied; declared = m'.declared }
+
+  like_declarators : (n : Node) → LikeDeclarators (meaning n) (declarators_seen n) ≡ meaning n
+  like_declarators n = λ i. record (meaning n) {
+    names = declarators_role (λ m. m.names) all_names (λ n ms. refl) (λ a b. a ++ b) (λ m ms. refl) (λ m. refl) n i;
+    completion = declarators_role (λ m. m.completion) all_completions (λ n ms. refl) both_evaluations (λ m ms. refl) (λ m. refl) n i;
+    varied = declarators_role (λ m. m.varied) all_varied (λ n ms. refl) both_evaluations (λ m ms. refl) (λ m. refl) n i;
+    declared = declarators_role (λ m. m.declared) all_declared (λ n ms. refl) (λ a b. a ++ b) (λ m ms. refl) (λ m. refl) n i;
+  }
+
+  abbrev LikeSpecifiers : Meaning → Meaning → Meaning
+  LikeSpecifiers m m' = record m { imported = m'.imported; declared = m'.declared }
+
+  like_specifiers : (n : Node) → LikeSpecifiers (meaning n) (specifiers_seen n) ≡ meaning n
+  like_specifiers n = λ i. record (meaning n) {
+    imported = specifiers_role (λ m. m.imported) all_imported (λ n ms. refl) (λ a b source. a source ++ b source) (λ m ms. refl) (λ m. refl) n i;
+    declared = specifiers_role (λ m. m.declared) all_declared (λ n ms. refl) (λ a b. a ++ b) (λ m ms. refl) (λ m. refl) n i;
+  }
+
+  module_like : (n : Node) (shebang : Option (List ℕ)) (body : Node) → meaning_by n (kind.Module shebang) (statements_seen body ∷ []) ≡ meaning_by n (kind.Module shebang) (meaning body ∷ [])
+  module_like n shebang body = ap (λ m. meaning_by n (kind.Module shebang) (m ∷ [])) (like_statements body)
+
+  block_like : (n body : Node) → meaning_by n kind.BlockStmt (statements_seen body ∷ []) ≡ meaning_by n kind.BlockStmt (meaning body ∷ [])
+  block_like n body = ap (λ m. meaning_by n kind.BlockStmt (m ∷ [])) (like_statements body)
+
+  declaration_like : (n : Node) (word : VarDeclKind) (ds : Node) → meaning_by n (kind.VarDecl word false) (declarators_seen ds ∷ []) ≡ meaning_by n (kind.VarDecl word false) (meaning ds ∷ [])
+  declaration_like n Var ds = ap (λ m. meaning_by n (kind.VarDecl Var false) (m ∷ [])) (like_declarators ds)
+  declaration_like n Let ds = ap (λ m. meaning_by n (kind.VarDecl Let false) (m ∷ [])) (like_declarators ds)
+  declaration_like n Const ds = ap (λ m. meaning_by n (kind.VarDecl Const false) (m ∷ [])) (like_declarators ds)
+
+  lexicals_like : (o : Option (List ℕ)) (ss : Node) → imported_from o (specifiers_seen ss) ≡ imported_from o (meaning ss)
+  lexicals_like None ss = refl
+  lexicals_like (Some source) ss = ap (λ m. m.imported source) (like_specifiers ss)
+
+  import_like : (n ss source attributes : Node)
+      → meaning_by n (kind.ImportDecl false) (specifiers_seen ss ∷ meaning source ∷ meaning attributes ∷ []) ≡ meaning_by n (kind.ImportDecl false) (meaning ss ∷ meaning source ∷ meaning attributes ∷ [])
+  import_like n ss source attributes = λ i. record (meaning_by n (kind.ImportDecl false) (meaning ss ∷ meaning source ∷ meaning attributes ∷ [])) {
+    lexicals = lexicals_like (meaning source).text ss i;
+    declared = ap (λ m. m.declared) (like_specifiers ss) i ++ ((meaning source).declared ++ ((meaning attributes).declared ++ []));
+  }
+
+  -- each node, and the items of lists
+
+  abbrev Deep : Node → Type 0
+  Deep n = Kept c n × AllNodes (Kept c) (out-Node n).children
+
+  deep_kept : (cs : List Node) → AllNodes Deep cs → AllNodes (Kept c) cs
+  deep_kept [] deep = tt
+  deep_kept (n ∷ cs) deep = (deep.0.0, deep_kept cs deep.1)
+
+  abbrev statements_both : (body : Node) → Deep body → Passes (stands gone) (lessened gone body).statements → Both c
+  statements_both body deep fine = (
+    statements_seen body,
+    meaning (lessened gone body).statements,
+    seen_alike gone declared (statement_goes gone) (λ l. l.statements) (λ parts. refl) silent_statement (statement_silent gone declared) body deep.0 deep.1 fine,
+  )
+
+  abbrev declarators_both : (ds : Node) → Deep ds → Passes (stands gone) (lessened gone ds).declarators → Both c
+  declarators_both ds deep fine = (
+    declarators_seen ds,
+    meaning (lessened gone ds).declarators,
+    seen_alike gone declared (declarator_goes gone) (λ l. l.declarators) (λ parts. refl) silent_declarator (declarator_silent gone declared) ds deep.0 deep.1 fine,
+  )
+
+  abbrev specifiers_both : (ss : Node) → Deep ss → Passes (stands gone) (lessened gone ss).specifiers → Both c
+  specifiers_both ss deep fine = (
+    specifiers_seen ss,
+    meaning (lessened gone ss).specifiers,
+    seen_alike gone declared (specifier_goes gone) (λ l. l.specifiers) (λ parts. refl) silent_specifier (specifier_silent gone declared) ss deep.0 deep.1 fine,
+  )
+
+  layer_step : (span : Span) (k : Kind) (cs : List Node) → AllNodes Deep cs → IsFine gone (roll-Node (Layer span k cs)) → Step span k cs
+  layer_step span (kind.Module shebang) (body ∷ []) deep fine =
+      let p = statements_both body deep.0 (parts_left gone (Layer span (kind.Module shebang) (body ∷ [])) fine).1.0 in
+      parent_step span (kind.Module shebang) (body ∷ []) (p ∷ []) fine tt (module_like (roll-Node (Layer span (kind.Module shebang) (body ∷ []))) shebang body) refl
+  layer_step span kind.BlockStmt (body ∷ []) deep fine =
+      let p = statements_both body deep.0 (parts_left gone (Layer span kind.BlockStmt (body ∷ [])) fine).1.0 in
+      parent_step span kind.BlockStmt (body ∷ []) (p ∷ []) fine tt (block_like (roll-Node (Layer span kind.BlockStmt (body ∷ []))) body) refl
+  layer_step span (kind.VarDecl word false) (ds ∷ []) deep fine =
+      let p = declarators_both ds deep.0 (parts_left gone (Layer span (kind.VarDecl word false) (ds ∷ [])) fine).1.0 in
+      parent_step span (kind.VarDecl word false) (ds ∷ []) (p ∷ []) fine tt (declaration_like (roll-Node (Layer span (kind.VarDecl word false) (ds ∷ []))) word ds) refl
+  layer_step span (kind.ImportDecl false) (ss ∷ source ∷ attributes ∷ []) deep fine =
+      let t = (parts_left gone (Layer span (kind.ImportDecl false) (ss ∷ source ∷ attributes ∷ [])) fine).1 in
+      let p = specifiers_both ss deep.0 t.0 in
+      let q : Both c = (meaning source, meaning (without gone source), deep.1.0.0 t.1.0) in
+      let r : Both c = (meaning attributes, meaning (without gone attributes), deep.1.1.0.0 t.1.1.0) in
+      parent_step span (kind.ImportDecl false) (ss ∷ source ∷ attributes ∷ []) (p ∷ q ∷ r ∷ []) fine (texts_stay (meaning source).shorthands) (import_like (roll-Node (Layer span (kind.ImportDecl false) (ss ∷ source ∷ attributes ∷ []))) ss source attributes) refl
+  layer_step span k cs deep fine = other_step span k cs (deep_kept cs deep) fine refl
+
+  deep : (n : Node) → Deep n
+  unfolding Step
+  deep = ind-Node Deep (λ x y is.
+      let all : AllNodes Deep x.children = subst (AllNodes Deep) (ap (λ z. z.children) is) (each_of y.children) in
+      (λ fine. layer_step x.span x.kind x.children all fine, subst (AllNodes (Kept c)) (ap (λ z. z.children) (sym (out-roll-Node x))) (deep_kept x.children all)))
+
+  steps : StepsAlike c
+  steps x ns is fine fine' = (deep (roll-Node x)).0 fine'
+
+pub unused_names_do_not_matter : UnusedNamesDoNotMatter
+unused_names_do_not_matter gone turns options m script unused =
+    ap (λ n. observe n options (without gone m) script) (sym (add-zero turns))
+    ∙ observe_unless (dropping gone (meaning m).declared) refl (steps gone (meaning m).declared) refl turns options m script unused refl tt tt (none_excused _)
