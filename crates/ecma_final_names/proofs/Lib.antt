@@ -1,0 +1,7 @@
+pub mod Marks
+pub mod Lists
+pub mod Seen
+pub mod Staying
+pub mod Written
+pub mod Scope
+pub mod Walk
