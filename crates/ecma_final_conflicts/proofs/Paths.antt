@@ -161,10 +161,10 @@ still-count Holes s k other a h = absurd (true-false a other)
 
 -- a node in this role and of this shape: what does not hold `var` names itself is clear, if `var` is looked for there; and so is a list, but of what has none
 pub record Path (r : Role) (shape : Shape) (n : Node) : Type 0 where
-  pub node : is_list (out-Node n).kind ≡ false → is_way (out-Node n).kind ≡ true → holds_vars r (out-Node n).kind ≡ false → is_clear n var ≡ true
-  pub items : is_list (out-Node n).kind ≡ true → (is_clear n var ≡ true) ⊎ (is_still shape.sort ≡ true)
+  pub node : is_list (out-Node n).kind ≡ false → is_way (out-Node n).kind ≡ true → holds_vars r (out-Node n).kind ≡ false → is_clear false n var ≡ true
+  pub items : is_list (out-Node n).kind ≡ true → (is_clear false n var ≡ true) ⊎ (is_still shape.sort ≡ true)
 
-pub path-clear : (r : Role) (shape : Shape) (n : Node) → is_clear n var ≡ true → Path r shape n
+pub path-clear : (r : Role) (shape : Shape) (n : Node) → is_clear false n var ≡ true → Path r shape n
 path-clear r shape n h = record { node = λ other way none. h; items = λ is. inl h }
 
 pub path-still : (r : Role) (shape : Shape) (n : Node) → allows shape (out-Node n).kind ≡ true → is_still shape.sort ≡ true → Path r shape n
@@ -278,13 +278,13 @@ ends-path roles i (s ∷ shapes) (n ∷ ns) have all = (
   ends-path roles (suc i) shapes ns have.1 all.1,
 )
 
-pub clear-path : (roles : ℕ → Role) (i : ℕ) (shapes : List Shape) (ns : List Node) (into : ℕ → Option Sought) → ((j : ℕ) → into j ≡ Some var) → clear_in false into i ns (map is_clear ns) ≡ true → AllPath roles i shapes ns
+pub clear-path : (roles : ℕ → Role) (i : ℕ) (shapes : List Shape) (ns : List Node) (into : ℕ → Option Sought) → ((j : ℕ) → into j ≡ Some var) → clear_in false false into i ns (map (is_clear false) ns) ≡ true → AllPath roles i shapes ns
 clear-path roles i [] ns into is h = tt
 clear-path roles i (s ∷ shapes) [] into is h = tt
 clear-path roles i (s ∷ shapes) (n ∷ ns) into is h =
-    let here : Bool = clear_at (into i) (is_clear n) in
-    let rest : Bool = clear_in false into (suc i) ns (map is_clear ns) in
-    (path-clear (roles i) s n (ap (λ (o : Option Sought). clear_at o (is_clear n)) (sym (is i)) ∙ and-left here rest h), clear-path roles (suc i) shapes ns into is (and-right here rest h))
+    let here : Bool = clear_at (into i) (is_clear false n) in
+    let rest : Bool = clear_in false false into (suc i) ns (map (is_clear false) ns) in
+    (path-clear (roles i) s n (ap (λ (o : Option Sought). clear_at o (is_clear false n)) (sym (is i)) ∙ and-left here rest h), clear-path roles (suc i) shapes ns into is (and-right here rest h))
 
 -- of the items of a list those that stay
 abbrev pub AllItems : (ℕ → Role) → ℕ → Shape → List Node → Type 0
@@ -295,22 +295,22 @@ pub still-items : (roles : ℕ → Role) (i : ℕ) (shape : Shape) (ns : List No
 still-items roles i shape [] have h = tt
 still-items roles i shape (n ∷ ns) have h = ((λ st. path-still (roles i) shape n (parts-have n shape have.0).0 h), still-items roles (suc i) shape ns have.1 h)
 
-pub clear-items : (roles : ℕ → Role) (i : ℕ) (shape : Shape) (ns : List Node) (into : ℕ → Option Sought) → ((j : ℕ) → into j ≡ Some var) → clear_in true into i ns (map is_clear ns) ≡ true → AllItems roles i shape ns
+pub clear-items : (roles : ℕ → Role) (i : ℕ) (shape : Shape) (ns : List Node) (into : ℕ → Option Sought) → ((j : ℕ) → into j ≡ Some var) → clear_in false true into i ns (map (is_clear false) ns) ≡ true → AllItems roles i shape ns
 clear-items roles i shape [] into is h = tt
 clear-items roles i shape (n ∷ ns) into is h =
-    let here : Bool = cond (not (stays n)) (not (is_this_param n || is_namespace n)) (clear_at (into i) (is_clear n)) in
-    let rest : Bool = clear_in true into (suc i) ns (map is_clear ns) in (
+    let here : Bool = cond (not (stays n)) (not (is_this_param n || is_namespace n)) (clear_at (into i) (is_clear false n)) in
+    let rest : Bool = clear_in false true into (suc i) ns (map (is_clear false) ns) in (
       λ st. path-clear (roles i) shape n
-          (ap (λ (o : Option Sought). clear_at o (is_clear n)) (sym (is i)) ∙ ap (λ (b : Bool). cond (not b) (not (is_this_param n || is_namespace n)) (clear_at (into i) (is_clear n))) (sym st) ∙ and-left here rest h),
+          (ap (λ (o : Option Sought). clear_at o (is_clear false n)) (sym (is i)) ∙ ap (λ (b : Bool). cond (not b) (not (is_this_param n || is_namespace n)) (clear_at (into i) (is_clear false n))) (sym st) ∙ and-left here rest h),
       clear-items roles (suc i) shape ns into is (and-right here rest h),
     )
 
 -- ---- a node
 
-pub clear-inside : (n : Node) → is_clear n var ≡ true → clear_in (is_list (out-Node n).kind) (sought_in var n) 0 (out-Node n).children (map is_clear (out-Node n).children) ≡ true
+pub clear-inside : (n : Node) → is_clear false n var ≡ true → clear_in false (is_list (out-Node n).kind) (sought_in var n) 0 (out-Node n).children (map (is_clear false) (out-Node n).children) ≡ true
 clear-inside n h =
-    and-right (clear_here n var) (clear_in (is_list (out-Node n).kind) (sought_in var n) 0 (out-Node n).children (map is_clear (out-Node n).children))
-    (sym (ap (λ f. f var) (from_leaves_out (Sought → Bool) clear_step n)) ∙ h)
+    and-right (clear_here false n var) (clear_in false (is_list (out-Node n).kind) (sought_in var n) 0 (out-Node n).children (map (is_clear false) (out-Node n).children))
+    (sym (ap (λ f. f var) (from_leaves_out (Sought → Bool) (clear_step false) n)) ∙ h)
 
 pub further-in : (n : Node) → in_var true (out-Node n).kind ≡ Some var → (j : ℕ) → sought_in var n j ≡ Some var
 unfolding sought_in

@@ -57,7 +57,7 @@ use Rattle.ecma_final_conflicts.proofs.Scope.{Near, near-alike}
 -- ---- what is known of a node, in its surrounding
 
 abbrev IsSeat : Seat → Type 0
-IsSeat seat = IsCalmSeat seat × IsClearSeat seat × IsWrapped seat
+IsSeat seat = IsCalmSeat seat × IsClearSeat false seat × IsWrapped seat
 
 record Sound (n : Node) (s : Surrounding) : Type 0 where
   pub clear : redeclared_at n s ≡ []
@@ -254,25 +254,25 @@ module _ (n : Node) (ns : List ((n : Node) × Walks n)) (are : (out-Node n).chil
 
   -- the `var` names in it are clear, if there are any
   vars-by : (out-Node (stripped n)).kind ≡ plain_kind k → is_list k ≡ false → holds_vars s.role k ≡ false → (b : Bool) → is_way k ≡ b → ids_declared (stripped n) var ≡ kept (ids_declared n var)
-  vars-by kind_st no_list none true way = what-stays-is-declared shape n var has refl (path.node no_list way none)
+  vars-by kind_st no_list none true way = what-stays-is-declared false shape n var has refl (path.node no_list way none)
   vars-by kind_st no_list none false way = no-way (stripped n) (ap is_way kind_st ∙ way-plain k ∙ way) ∙ sym (ap kept (no-way n way))
 
-  way-clear : is_list k ≡ false → is_way k ≡ true → (b : Bool) → holds_vars s.role k ≡ b → is_clear n var ≡ true
+  way-clear : is_list k ≡ false → is_way k ≡ true → (b : Bool) → holds_vars s.role k ≡ b → is_clear false n var ≡ true
   way-clear no_list way true h = (here.1 (holds-opens s.role k (is_there (out-Node n).children 0) h)).vars h
   way-clear no_list way false h = path.node no_list way h
 
   paths : is_list k ≡ false → Next s.role k (is_there (out-Node n).children 1) (child_shapes k shape (length (nodes ns))) → AllPath (role_in s.role n) 0 (child_shapes k shape (length (nodes ns))) (nodes ns)
   paths no_list (further is other) =
       clear-path (role_in s.role n) 0 (child_shapes k shape (length (nodes ns))) (nodes ns) (sought_in var n) (further-in n is)
-      (subst (λ (b : Bool). clear_in b (sought_in var n) 0 (nodes ns) (map is_clear (nodes ns)) ≡ true) no_list
-      (subst (λ (cs : List Node). clear_in (is_list k) (sought_in var n) 0 cs (map is_clear cs) ≡ true) are (clear-inside n (way-clear no_list (ap is_some is) (holds_vars s.role k) refl))))
+      (subst (λ (b : Bool). clear_in false b (sought_in var n) 0 (nodes ns) (map (is_clear false) (nodes ns)) ≡ true) no_list
+      (subst (λ (cs : List Node). clear_in false (is_list k) (sought_in var n) 0 cs (map (is_clear false) cs) ≡ true) are (clear-inside n (way-clear no_list (ap is_some is) (holds_vars s.role k) refl))))
   paths no_list (ends all) = ends-path (role_in s.role n) 0 (child_shapes k shape (length (nodes ns))) (nodes ns) parts all
 
   items : k ≡ kind.List → AllItems (role_in s.role n) 0 (item_shape shape) (nodes ns)
   items is = elim (path.items (ap is_list is)) [
     | inl clear ↦ clear-items (role_in s.role n) 0 (item_shape shape) (nodes ns) (sought_in var n) (further-in n (list-way k is))
-        (subst (λ (b : Bool). clear_in b (sought_in var n) 0 (nodes ns) (map is_clear (nodes ns)) ≡ true) (ap is_list is)
-        (subst (λ (cs : List Node). clear_in (is_list k) (sought_in var n) 0 cs (map is_clear cs) ≡ true) are (clear-inside n clear)))
+        (subst (λ (b : Bool). clear_in false b (sought_in var n) 0 (nodes ns) (map (is_clear false) (nodes ns)) ≡ true) (ap is_list is)
+        (subst (λ (cs : List Node). clear_in false (is_list k) (sought_in var n) 0 cs (map (is_clear false) cs) ≡ true) are (clear-inside n clear)))
     | inr still ↦ still-items (role_in s.role n) 0 (item_shape shape) (nodes ns) (subst (λ (z : Kind). HaveShapes (child_shapes z shape (length (nodes ns))) (nodes ns)) is parts) still
   ]
 
@@ -290,7 +290,7 @@ module _ (n : Node) (ns : List ((n : Node) × Walks n)) (are : (out-Node n).chil
       let covered : (i : ℕ) → covers t.role (out-Node m).kind i ≡ covers s.role k i = (λ i. ap (λ (z : Kind). covers t.role z i) kind_st ∙ covers-plain t.role k i ∙ alike.covered i) in
       let roles : (i : ℕ) → role_in t.role m i ≡ role_in s.role n i = (λ i. (λ j. role_by t.role (kind_st j) (is_there (children_st j) 1) i) ∙ role-plain t.role k (is_there cs 1) i ∙ role-kept t.role k shape count (nodes ns) parts i
       ∙ alike.inner (is_there (nodes ns) 1) i ∙ sym (ap (λ (z : List Node). role_by s.role k (is_there z 1) i) are)) in
-      let ids : opens s.role n ≡ true → scope_ids t.role m ≡ kept (scope_ids s.role n) = (λ is. role-ids s.role t.role k alike m kind_st ∙ scopes-declare shape s.role n has is (here.0 is) (here.1 is)) in
+      let ids : opens s.role n ≡ true → scope_ids t.role m ≡ kept (scope_ids s.role n) = (λ is. role-ids s.role t.role k alike m kind_st ∙ scopes-declare false shape s.role n has is (here.0 is) (here.1 is)) in
       let vars : opens s.role n ≡ true → holds_vars s.role k ≡ false → ids_declared m (record { part = part.Var; stays = true }) ≡ kept (ids_declared n (record { part = part.Var; stays = true })) =
       (λ is none. vars-by kind_st no_list none (is_way k) refl) in
       whole m (own-none m kind_st opened ids vars)

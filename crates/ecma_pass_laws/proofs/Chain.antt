@@ -1,5 +1,5 @@
 -- What a module does, from the source to what is read again, by the laws of each step.
-use Rattle.std.proofs.Common.{◌≡◌, ◌≢◌, ℕ, ◌+◌, ◌<◌, ◌≤◌, arith, true, List, refl, sym, ap, ◌∙◌, subst}
+use Rattle.std.proofs.Common.{◌≡◌, ◌≢◌, ℕ, ◌+◌, ◌<◌, ◌≤◌, arith, true, false, List, refl, sym, ap, ◌∙◌, subst}
 use Rattle.std.specs.List.{All}
 use Rattle.ecma_kind.specs.declared.shapes.Sort.TheVariants as sort
 use Rattle.ecma_tree.specs.Sorted.{HasSort, one}
@@ -99,7 +99,7 @@ module _ (laws : Laws) (unresolved top left : ℕ) (source : Node) (is : IsSourc
   checked = record { sorted = is.fits.sorted; bare = is.bare; clear = is.distinct; calm = λ k d lt opens_it. laws.ambient source (calm source is.types) k d lt }
 
   apart : (less : ℕ) → TellsScopesApart unresolved less s
-  apart less = laws.tells unresolved top left less source checked given.unresolved_above given.top_above given.apart given.enough (laws.clear r fits alone)
+  apart less = laws.tells false unresolved top left less source checked given.unresolved_above given.top_above given.apart given.enough (laws.clear r fits alone) (λ k d lt. refl)
 
   sorted : HasSort sort.Module s
   sorted = laws.strip_sorts r fits

@@ -123,12 +123,12 @@ stands-below n s w is i c at =
 -- ---- the children
 
 abbrev pub Clears : Node → Type 0
-Clears n = (s : Shape) (w : Where) (q : Sought) → Stands n s w → q.stays ≡ true → Asked q.part n s w.role → is_clear n q ≡ true
+Clears n = (s : Shape) (w : Where) (q : Sought) → Stands n s w → q.stays ≡ true → Asked q.part n s w.role → is_clear false n q ≡ true
 
 -- of what is no list
-clear-each : (into : ℕ → Option Sought) (i : ℕ) (cs : List Node) → ((j : ℕ) (c : Node) (q : Sought) → slice_get cs j ≡ Some c → into (i + j) ≡ Some q → (q.stays ≡ true) × (is_clear c q ≡ true)) → clear_in false into i cs (map is_clear cs) ≡ true
+clear-each : (into : ℕ → Option Sought) (i : ℕ) (cs : List Node) → ((j : ℕ) (c : Node) (q : Sought) → slice_get cs j ≡ Some c → into (i + j) ≡ Some q → (q.stays ≡ true) × (is_clear false c q ≡ true)) → clear_in false false into i cs (map (is_clear false) cs) ≡ true
 clear-each into i [] each = refl
-clear-each into i (c ∷ cs) each = and-both (clear_at (into i) (is_clear c)) (clear_in false into (suc i) cs (map is_clear cs)) (by (into i) refl) (clear-each into (suc i) cs (λ j d q at h. each (suc j) d q at (ap into (shift i j) ∙ h)))
+clear-each into i (c ∷ cs) each = and-both (clear_at (into i) (is_clear false c)) (clear_in false false into (suc i) cs (map (is_clear false) cs)) (by (into i) refl) (clear-each into (suc i) cs (λ j d q at h. each (suc j) d q at (ap into (shift i j) ∙ h)))
   where
     shift : (i j : ℕ) → i + suc j ≡ suc i + j
     shift i j = omega arith
@@ -136,26 +136,26 @@ clear-each into i (c ∷ cs) each = and-both (clear_at (into i) (is_clear c)) (c
     none : (i : ℕ) → i + 0 ≡ i
     none i = omega arith
 
-    by : (o : Option Sought) → into i ≡ o → clear_at o (is_clear c) ≡ true
+    by : (o : Option Sought) → into i ≡ o → clear_at o (is_clear false c) ≡ true
     by None is = refl
-    by (Some q) is = let h = each 0 c q refl (ap into (none i) ∙ is) in and-both q.stays (is_clear c q) h.0 h.1
+    by (Some q) is = let h = each 0 c q refl (ap into (none i) ∙ is) in and-both q.stays (is_clear false c q) h.0 h.1
 
 -- of a list
 clear-items : (into : ℕ → Option Sought) (i : ℕ) (cs : List Node)
-    → ((j : ℕ) (c : Node) → slice_get cs j ≡ Some c → (is_this_param c ≡ false) × (is_namespace c ≡ false) × ((l : ℕ) (q : Sought) → stays c ≡ true → into l ≡ Some q → (q.stays ≡ true) × (is_clear c q ≡ true))) → clear_in true into i cs (map is_clear cs) ≡ true
+    → ((j : ℕ) (c : Node) → slice_get cs j ≡ Some c → (is_this_param c ≡ false) × (is_namespace c ≡ false) × ((l : ℕ) (q : Sought) → stays c ≡ true → into l ≡ Some q → (q.stays ≡ true) × (is_clear false c q ≡ true))) → clear_in false true into i cs (map (is_clear false) cs) ≡ true
 clear-items into i [] each = refl
 clear-items into i (c ∷ cs) each =
-    and-both (cond (not (stays c)) (not (is_this_param c || is_namespace c)) (clear_at (into i) (is_clear c))) (clear_in true into (suc i) cs (map is_clear cs)) (by (stays c) refl) (clear-items into (suc i) cs (λ j d at. each (suc j) d at))
+    and-both (cond (not (stays c)) (not (is_this_param c || is_namespace c)) (clear_at (into i) (is_clear false c))) (clear_in false true into (suc i) cs (map (is_clear false) cs)) (by (stays c) refl) (clear-items into (suc i) cs (λ j d at. each (suc j) d at))
   where
-    at : (o : Option Sought) → stays c ≡ true → into i ≡ o → clear_at o (is_clear c) ≡ true
+    at : (o : Option Sought) → stays c ≡ true → into i ≡ o → clear_at o (is_clear false c) ≡ true
     at None st is = refl
-    at (Some q) st is = let h = (each 0 c refl).2 i q st is in and-both q.stays (is_clear c q) h.0 h.1
+    at (Some q) st is = let h = (each 0 c refl).2 i q st is in and-both q.stays (is_clear false c q) h.0 h.1
 
     gone : (a b : Bool) → a ≡ false → b ≡ false → not (a || b) ≡ true
     gone true b h g = absurd (true-false refl h)
     gone false b h g = ap not g
 
-    by : (b : Bool) → stays c ≡ b → cond (not b) (not (is_this_param c || is_namespace c)) (clear_at (into i) (is_clear c)) ≡ true
+    by : (b : Bool) → stays c ≡ b → cond (not b) (not (is_this_param c || is_namespace c)) (clear_at (into i) (is_clear false c)) ≡ true
     by true st = at (into i) st refl
     by false st = let h = each 0 c refl in gone (is_this_param c) (is_namespace c) h.0 h.1
 
@@ -254,7 +254,7 @@ module _ (n : Node) (s : Shape) (w : Where) (is : Stands n s w) where
   wrapped-by part.Scope st stay asked wrap = absurd (true-false wrap asked)
   wrapped-by part.Member st stay asked wrap = absurd asked
 
-  here : (q : Sought) → q.stays ≡ true → Asked q.part n s w.role → clear_here n q ≡ true
+  here : (q : Sought) → q.stays ≡ true → Asked q.part n s w.role → clear_here false n q ≡ true
   here q stay asked =
       chosen (is_type_wrapper k) (is_none (ids_declared (stripped n) q)) ((not (has_value k) || same (scope_value (stripped n)) (scope_value n)) && bodies_stay k (map stripped cs)) (wrapped-by q.part q.stays stay asked)
       (λ other. and-both (not (has_value k) || same (scope_value (stripped n)) (scope_value n)) (bodies_stay k (map stripped cs))
@@ -267,13 +267,13 @@ front j = omega arith
 layer-clears : (n : Node) → ((i : ℕ) (c : Node) → slice_get (out-Node n).children i ≡ Some c → Clears c) → Clears n
 unfolding sought_in role_in
 layer-clears n below s w q is stay asked =
-    ap (λ f. f q) (layers.from_leaves_out (Sought → Bool) clear_step n)
-    ∙ and-both (clear_here n q) (clear_in (is_list (out-Node n).kind) (sought_in q n) 0 (out-Node n).children (map is_clear (out-Node n).children)) (here n s w is q stay asked) (by (is_list (out-Node n).kind) refl)
+    ap (λ f. f q) (layers.from_leaves_out (Sought → Bool) (clear_step false) n)
+    ∙ and-both (clear_here false n q) (clear_in false (is_list (out-Node n).kind) (sought_in q n) 0 (out-Node n).children (map (is_clear false) (out-Node n).children)) (here n s w is q stay asked) (by (is_list (out-Node n).kind) refl)
   where
     true-stays : (i : ℕ) (o : Option Sought) → sought_in q n i ≡ o → sought_by q.part true (scope_value n) (out-Node n).kind i ≡ o
     true-stays i o h = ap (λ (b : Bool). sought_by q.part b (scope_value n) (out-Node n).kind i) (sym stay) ∙ h
 
-    by : (b : Bool) → is_list (out-Node n).kind ≡ b → clear_in b (sought_in q n) 0 (out-Node n).children (map is_clear (out-Node n).children) ≡ true
+    by : (b : Bool) → is_list (out-Node n).kind ≡ b → clear_in false b (sought_in q n) 0 (out-Node n).children (map (is_clear false) (out-Node n).children) ≡ true
     by false l =
         clear-each (sought_in q n) 0 (out-Node n).children (λ j c p at h. (
         let t = stands-below n s w is j c at in

@@ -3,6 +3,7 @@ pub mod Going
 pub mod Exporting
 pub mod Seeking
 pub mod Standing
+pub mod Lasting
 pub mod Declared
 pub mod Thinning
 pub mod RolesAlike
@@ -10,6 +11,7 @@ pub mod ScopesDeclare
 pub mod ScopesSame
 pub mod StopsKept
 pub mod KindsKept
+pub mod AtStops
 pub mod Walking
 pub mod Wrapping
 pub mod StrippedModules

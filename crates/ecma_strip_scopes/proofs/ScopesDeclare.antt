@@ -18,8 +18,7 @@ use Rattle.ecma_hygiene_laws.proofs.Parts.{kind-of}
 use Rattle.ecma_strip_scopes.specs.Apart.{ScopesDeclareWhatStays}
 use Rattle.ecma_strip_scopes.specs.Standing.{is_clear}
 use Rattle.ecma_strip_scopes.proofs.Declared.{what-stays-is-declared}
-use Rattle.ecma_strip_scopes.proofs.Gone.{kept}
-use Rattle.ecma_strip_scopes.proofs.Standing.{kept-append}
+use Rattle.ecma_strip_scopes.proofs.Lasting.{lasting, lasting-append}
 
 pub opened-plain : (r : Role) (k : Kind) (named : Bool) → opens_by r k named ≡ true → (span : Span) (cs : List Node) → plain span k cs ≡ node_of span (plain_kind k) (plain_children k cs)
 unfolding opens_by plain
@@ -40,12 +39,12 @@ unfolding plain_kind holds_vars
 vars-plain r kind.BlockStmt = refl
 vars-plain r _ = refl
 
-cond-kept : (b : Bool) (xs ys : List DeclaredId) → (b ≡ true → xs ≡ kept ys) → cond b xs [] ≡ kept (cond b ys [])
-cond-kept true xs ys h = h refl
-cond-kept false xs ys h = refl
+cond-lasting : (t b : Bool) (xs ys : List DeclaredId) → (b ≡ true → xs ≡ lasting t ys) → cond b xs [] ≡ lasting t (cond b ys [])
+cond-lasting t true xs ys h = h refl
+cond-lasting t false xs ys h = refl
 
 pub scopes-declare : ScopesDeclareWhatStays
-scopes-declare shape r n has opened calm clear =
+scopes-declare t shape r n has opened calm clear =
     let m : Node = stripped n in
     let stays : Bool = not (is_ambient r) in
     let own : Sought = record { part = own_part r; stays = stays } in
@@ -55,8 +54,8 @@ scopes-declare shape r n has opened calm clear =
     let kind_st : (out-Node m).kind ≡ plain_kind (out-Node n).kind = ap (λ (z : Node). (out-Node z).kind) (stripped-out n ∙ opened-plain r (out-Node n).kind (is_there (out-Node n).children 0) opened (out-Node n).span cs)
     ∙ kind-of (out-Node n).span (plain_kind (out-Node n).kind) (plain_children (out-Node n).kind cs) in
     ap₂ (λ (a b : List DeclaredId). a ++ b)
-    (what-stays-is-declared shape n own has is (ap (λ (b : Bool). is_clear n (record { part = own_part r; stays = b })) is ∙ clear.own))
+    (what-stays-is-declared t shape n own has is (ap (λ (b : Bool). is_clear t n (record { part = own_part r; stays = b })) is ∙ clear.own))
     (ap (λ (b : Bool). cond b (ids_declared m var) []) (ap (holds_vars r) kind_st ∙ vars-plain r (out-Node n).kind)
-    ∙ cond-kept (holds_vars r (out-Node n).kind) (ids_declared m var) (ids_declared n var)
-    (λ holds. what-stays-is-declared shape n var has is (ap (λ (b : Bool). is_clear n (record { part = part.Var; stays = b })) is ∙ clear.vars holds)))
-    ∙ sym (kept-append (ids_declared n own) (cond (holds_vars r (out-Node n).kind) (ids_declared n var) []))
+    ∙ cond-lasting t (holds_vars r (out-Node n).kind) (ids_declared m var) (ids_declared n var)
+    (λ holds. what-stays-is-declared t shape n var has is (ap (λ (b : Bool). is_clear t n (record { part = part.Var; stays = b })) is ∙ clear.vars holds)))
+    ∙ sym (lasting-append t (ids_declared n own) (cond (holds_vars r (out-Node n).kind) (ids_declared n var) []))

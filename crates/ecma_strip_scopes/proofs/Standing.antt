@@ -1,5 +1,5 @@
 -- What stays of a tree declares, without its types, what the tree declares as values that stay.
-use Rattle.std.proofs.Common.{◌≡◌, ℕ, zero, suc, Bool, true, false, not, cond, filter, List, [], ◌∷◌, ◌++◌, map, Option, Some, None, refl, sym, ap, ap₂, ◌∙◌, subst, slice_get}
+use Rattle.std.proofs.Common.{◌≡◌, ℕ, zero, suc, Bool, true, false, not, cond, filter, List, [], ◌∷◌, ◌++◌, map, Option, Some, None, refl, sym, ap, ap₂, ◌∙◌, slice_get}
 use Rattle.ecma_kind.specs.declared.kind.Kind.{Kind}
 use Rattle.ecma_kind.specs.declared.kind.Kind.TheVariants as kind
 use Rattle.ecma_tree.specs.Nodes.{node_of}
@@ -17,28 +17,11 @@ use Rattle.ecma_hygiene_laws.specs.DeclaredIds.{DeclaredId, id_here, ids_at, ids
 use Rattle.ecma_hygiene_laws.proofs.Directly.{ids-out}
 use Rattle.ecma_hygiene_laws.proofs.Parts.{children-of, kind-of}
 use Rattle.ecma_strip_scopes.specs.Standing.{is_none, same}
-use Rattle.ecma_strip_scopes.proofs.Gone.{kept}
 use Rattle.ecma_strip_scopes.proofs.Seeking.{list-seeks}
 
 -- ---- lists of ids
 
-pub kept-append : (xs ys : List DeclaredId) → kept (xs ++ ys) ≡ kept xs ++ kept ys
-kept-append [] ys = refl
-kept-append (d ∷ ds) ys = ap (λ (zs : List DeclaredId). cond d.stays (d ∷ zs) zs) (kept-append ds ys) ∙ by d.stays
-  where
-    by : (b : Bool) → cond b (d ∷ (kept ds ++ kept ys)) (kept ds ++ kept ys) ≡ cond b (d ∷ kept ds) (kept ds) ++ kept ys
-    by true = refl
-    by false = refl
-
-here-by : (p : Part) (k : Kind) → kept (id_here (record { part = p; stays = true }) k) ≡ id_here (record { part = p; stays = true }) k
-here-by (part.Name f) (kind.Ident s c o) = refl
-here-by _ (kind.Ident s c o) = refl
-here-by p _ = refl
-
-pub here-kept : (q : Sought) (k : Kind) → q.stays ≡ true → kept (id_here q k) ≡ id_here q k
-here-kept q k stay = subst (λ (s : Bool). kept (id_here (record { part = q.part; stays = s }) k) ≡ id_here (record { part = q.part; stays = s }) k) (sym stay) (here-by q.part k)
-
-none-all : (into : ℕ → Option Sought) (i : ℕ) (ns : List Node) → ((j : ℕ) → into j ≡ None) → ids_in into i (map ids_declared ns) ≡ []
+pub none-all : (into : ℕ → Option Sought) (i : ℕ) (ns : List Node) → ((j : ℕ) → into j ≡ None) → ids_in into i (map ids_declared ns) ≡ []
 none-all into i [] none = refl
 none-all into i (n ∷ ns) none = ap (λ (o : Option Sought). ids_at o (ids_declared n) ++ ids_in into (suc i) (map ids_declared ns)) (none i) ∙ none-all into (suc i) ns none
 

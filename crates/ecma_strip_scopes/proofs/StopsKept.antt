@@ -15,19 +15,20 @@ use Rattle.ecma_scope.specs.declared.role.Role.{Role}
 use Rattle.ecma_scope.specs.declared.role.Role.TheVariants as role
 use Rattle.ecma_scope.specs.Declarations.{holds_vars, in_scope, is_hoisted, is_value, sought_in}
 use Rattle.ecma_scope.specs.Scopes.{covers, is_there, opens, opens_by}
+use Rattle.ecma_strip.specs.Staying.{is_this_ident}
 use Rattle.ecma_strip.specs.Stripping.{plain_kind}
 use Rattle.ecma_hygiene.specs.Ids.{Id, has_context, innermost, is_block, is_body_block, own_ids}
 use Rattle.ecma_hygiene.specs.Sights.{Around, own_scope}
-use Rattle.ecma_hygiene.proofs.Telling.{true-false}
+use Rattle.ecma_hygiene.proofs.Telling.{and-left, has-id, true-false}
 use Rattle.ecma_hygiene_laws.specs.Apart.{DeclaresCleanly, IsScoped, own_contexts}
 use Rattle.ecma_hygiene_laws.specs.DeclaredIds.{DeclaredId, id_here, ids_declared, scope_ids}
 use Rattle.ecma_hygiene_laws.specs.Lasting.{KeepsScope}
 use Rattle.ecma_hygiene_laws.specs.Stops.{Stop}
 use Rattle.ecma_hygiene_laws.proofs.Forms.{Allowed, Formed, forms-by}
 use Rattle.ecma_hygiene_laws.proofs.Membership.{contexts-agree, is_kept, own-agrees}
-use Rattle.ecma_strip_scopes.proofs.Gone.{kept}
+use Rattle.ecma_strip_scopes.proofs.Lasting.{lasting}
 use Rattle.ecma_strip_scopes.proofs.RolesAlike.{Alike}
-use Rattle.ecma_strip_scopes.proofs.ScopesSame.{AreSame, IsSame, all-kept, any-kept, context-id, id-context, kept-stays, same-innermost, same-last, same-none}
+use Rattle.ecma_strip_scopes.proofs.ScopesSame.{AreSame, IsSame, Stay, all-kept, any-kept, context-id, goes, id-context, kept-other, kept-stays, none-kept, same-innermost, same-last, same-none}
 
 -- ---- an expression declares no `var` and no function in its own scope
 
@@ -109,21 +110,38 @@ plain-ident k s c o h = absurd (never h)
 abbrev pub stop_of : Node → Around → ℕ → Stop
 stop_of n a left = record { node = n; around = a; left = left }
 
-module _ (free : ℕ) (n m : Node) (a b : Around) (left less : ℕ) (kind_st : (out-Node m).kind ≡ plain_kind (out-Node n).kind) (absent : is_absent (out-Node n).kind ≡ true → (out-Node m).children ≡ [])
-    (alike : Alike a.role b.role (out-Node n).kind) (same : AreSame a.scopes b.scopes) (opened : opens b.role m ≡ opens a.role n)
-    (ids : opens a.role n ≡ true → scope_ids b.role m ≡ kept (scope_ids a.role n)) (keep : KeepsScope free (stop_of n a left)) where
+-- a node is scoped, if with `t` it is no identifier `this`
+abbrev pub IsScopedIn : Bool → ℕ → Stop → Type 0
+IsScopedIn t free stop = (t && is_this_ident (out-Node stop.node).kind) ≡ false → IsScoped free stop
+
+module _ (t : Bool) (free : ℕ) (n m : Node) (a b : Around) (left less : ℕ) (kind_st : (out-Node m).kind ≡ plain_kind (out-Node n).kind) (absent : is_absent (out-Node n).kind ≡ true → (out-Node m).children ≡ [])
+    (alike : Alike a.role b.role (out-Node n).kind) (same : AreSame t a.scopes b.scopes) (opened : opens b.role m ≡ opens a.role n)
+    (ids : opens a.role n ≡ true → scope_ids b.role m ≡ lasting t (scope_ids a.role n)) (keep : KeepsScope free (stop_of n a left)) where
   abbrev body_same : is_body_block b.role (out-Node m).kind ≡ is_body_block a.role (out-Node n).kind
   body_same = ap (is_body_block b.role) kind_st ∙ plain-body b.role (out-Node n).kind ∙ alike.body
 
   block-same : is_block (out-Node m).kind ≡ is_block (out-Node n).kind
   block-same = ap is_block kind_st ∙ plain-block (out-Node n).kind
 
-  pub own-same : opens a.role n ≡ true → IsSame (own_scope a.role a.scopes n) (own_scope b.role b.scopes m)
-  own-same is id =
+  pub own-same : opens a.role n ≡ true → IsSame t (own_scope a.role a.scopes n) (own_scope b.role b.scopes m)
+  own-same is id other =
       own-agrees id b.role b.scopes m
       ∙ (λ j. list_any (is_kept id) (ids is j) && not (body_same j && has_context id.1 (innermost b.scopes id.0)))
-      ∙ ap₂ (λ (x y : Bool). x && not (is_body_block a.role (out-Node n).kind && y)) (any-kept id (scope_ids a.role n)) (same-innermost a.scopes b.scopes same id)
+      ∙ ap₂ (λ (x y : Bool). x && not (is_body_block a.role (out-Node n).kind && y)) (any-kept t id (scope_ids a.role n) other) (same-innermost t a.scopes b.scopes same id other)
       ∙ sym (own-agrees id a.role a.scopes n)
+
+  -- no text that goes is declared without types
+  stays-there : opens a.role n ≡ true → (id : Id) → has-id id (own_ids b.role (innermost b.scopes) m) ≡ true → goes t id.0 ≡ false
+  stays-there is id has = by (goes t id.0) refl
+    where
+      named : list_any (is_kept id) (scope_ids b.role m) ≡ true
+      named =
+          and-left (list_any (is_kept id) (scope_ids b.role m)) (not (is_body_block b.role (out-Node m).kind && has_context id.1 (innermost b.scopes id.0)))
+          (sym (own-agrees id b.role b.scopes m) ∙ contexts-agree id (own_ids b.role (innermost b.scopes) m) ∙ has)
+
+      by : (b : Bool) → goes t id.0 ≡ b → b ≡ false
+      by false gone = refl
+      by true gone = absurd (true-false (sym (ap (list_any (is_kept id)) (ids is)) ∙ named) (none-kept t id (lasting t (scope_ids a.role n)) gone (kept-other t (scope_ids a.role n))))
 
   contexts-by : (x : Bool) → opens a.role n ≡ x → (c : ℕ) → has_context c (cond x (map (λ id. id.1) (own_ids b.role (innermost b.scopes) m)) []) ≡ true
       → has_context c (cond x (map (λ id. id.1) (own_ids a.role (innermost a.scopes) n)) []) ≡ true
@@ -132,7 +150,7 @@ module _ (free : ℕ) (n m : Node) (a b : Around) (left less : ℕ) (kind_st : (
       let id : Id = one.0 in
       subst (λ (z : ℕ). has_context z (map (λ id. id.1) (own_ids a.role (innermost a.scopes) n)) ≡ true) one.1
       (id-context id (own_ids a.role (innermost a.scopes) n)
-      (sym (contexts-agree id (own_ids a.role (innermost a.scopes) n)) ∙ sym (own-same is id) ∙ contexts-agree id (own_ids b.role (innermost b.scopes) m) ∙ one.2))
+      (sym (contexts-agree id (own_ids a.role (innermost a.scopes) n)) ∙ sym (own-same is id (stays-there is id one.2)) ∙ contexts-agree id (own_ids b.role (innermost b.scopes) m) ∙ one.2))
   contexts-by false is c h = absurd (true-false h refl)
 
   -- it declares in contexts in which the other does
@@ -153,23 +171,23 @@ module _ (free : ℕ) (n m : Node) (a b : Around) (left less : ℕ) (kind_st : (
 
   cleanly : opens a.role n ≡ true → DeclaresCleanly (stop_of m b less)
   cleanly is = record {
-    stay = subst (All (λ (d : DeclaredId). d.stays ≡ true)) (sym (ids is)) (kept-stays (scope_ids a.role n));
-    blocks = λ body. (λ k d lt hoisted. block-same ∙ subst (All (Blocks n)) (sym (ids is)) (all-kept (Blocks n) (scope_ids a.role n) (blocks-by is (alike.blocks body))) k d lt hoisted);
+    stay = subst (All (λ (d : DeclaredId). d.stays ≡ true)) (sym (ids is)) (kept-stays t (scope_ids a.role n));
+    blocks = λ body. (λ k d lt hoisted. block-same ∙ subst (All (Blocks n)) (sym (ids is)) (all-kept t (Blocks n) (scope_ids a.role n) (blocks-by is (alike.blocks body))) k d lt hoisted);
     parameters = λ body.
         (λ k d lt has. subst (All (λ (d : DeclaredId). has_context d.id.1 (innermost a.scopes d.id.0) ≡ true → is_hoisted d.form ≡ true)) (sym (ids is))
-        (all-kept (λ (d : DeclaredId). has_context d.id.1 (innermost a.scopes d.id.0) ≡ true → is_hoisted d.form ≡ true) (scope_ids a.role n) (keep.parameters is (sym body_same ∙ body))) k d lt
-        (sym (same-innermost a.scopes b.scopes same (get_or (scope_ids b.role m) k d).id) ∙ has));
+        (all-kept t (λ (d : DeclaredId). has_context d.id.1 (innermost a.scopes d.id.0) ≡ true → is_hoisted d.form ≡ true) (scope_ids a.role n) (keep.parameters is (sym body_same ∙ body))) k d lt
+        (sym (same-innermost t a.scopes b.scopes same (get_or (scope_ids b.role m) k d).id (subst (All (Stay t)) (sym (ids is)) (kept-other t (scope_ids a.role n)) k d lt)) ∙ has));
   }
 
   by-test : (x : Bool) → (x ≡ true → ⊥) → x ≡ false
   by-test true never = absurd (never refl)
   by-test false never = refl
 
-  pub is-scoped : IsScoped free (stop_of m b less)
-  is-scoped = record {
+  pub is-scoped : IsScopedIn t free (stop_of m b less)
+  is-scoped other = record {
     absent = λ gone. absent (sym (plain-absent (out-Node n).kind) ∙ sym (ap is_absent kind_st) ∙ gone);
     names = λ s c o is name. (let was = plain-ident (out-Node n).kind s c o (sym kind_st ∙ is) in keep.names s c was.0 was.1 (sym alike.name ∙ name));
-    free_names = λ s c o is name none. (let was = plain-ident (out-Node n).kind s c o (sym kind_st ∙ is) in keep.free_names s c was.0 was.1 (sym alike.name ∙ name) (same-none a.scopes b.scopes (s, c) same none));
+    free_names = λ s c o is name none. (let was = plain-ident (out-Node n).kind s c o (sym kind_st ∙ is) in keep.free_names s c was.0 was.1 (sym alike.name ∙ name) (same-none t a.scopes b.scopes (s, c) (sym (ap (λ (k : Kind). t && is_this_ident k) is) ∙ other) same none));
     declares = λ is. cleanly (sym opened ∙ is);
     one = λ c d h k. keep.one c d (contexts-within c h) (contexts-within d k);
     not_free = by-test (has_context free (own_contexts (stop_of m b less))) (λ h. true-false (contexts-within free h) keep.not_free);
@@ -178,12 +196,12 @@ module _ (free : ℕ) (n m : Node) (a b : Around) (left less : ℕ) (kind_st : (
 
   -- and what stands in it stands in scopes that declare the same
   pub scopes-inside : (i j : ℕ) → covers b.role (out-Node m).kind j ≡ covers a.role (out-Node n).kind i
-      → AreSame (cond (opens a.role n && covers a.role (out-Node n).kind i) (a.scopes ++ own_scope a.role a.scopes n ∷ []) a.scopes) (cond (opens b.role m && covers b.role (out-Node m).kind j) (b.scopes ++ own_scope b.role b.scopes m ∷ []) b.scopes)
+      → AreSame t (cond (opens a.role n && covers a.role (out-Node n).kind i) (a.scopes ++ own_scope a.role a.scopes n ∷ []) a.scopes) (cond (opens b.role m && covers b.role (out-Node m).kind j) (b.scopes ++ own_scope b.role b.scopes m ∷ []) b.scopes)
   scopes-inside i j covered =
-      subst (λ (x : Bool). AreSame (cond (opens a.role n && covers a.role (out-Node n).kind i) (a.scopes ++ own_scope a.role a.scopes n ∷ []) a.scopes) (cond x (b.scopes ++ own_scope b.role b.scopes m ∷ []) b.scopes))
+      subst (λ (x : Bool). AreSame t (cond (opens a.role n && covers a.role (out-Node n).kind i) (a.scopes ++ own_scope a.role a.scopes n ∷ []) a.scopes) (cond x (b.scopes ++ own_scope b.role b.scopes m ∷ []) b.scopes))
       (sym (λ j. opened j && covered j)) (by (opens a.role n) (covers a.role (out-Node n).kind i) refl)
     where
-      by : (x y : Bool) → opens a.role n ≡ x → AreSame (cond (x && y) (a.scopes ++ own_scope a.role a.scopes n ∷ []) a.scopes) (cond (x && y) (b.scopes ++ own_scope b.role b.scopes m ∷ []) b.scopes)
-      by true true is = same-last a.scopes b.scopes (own_scope a.role a.scopes n) (own_scope b.role b.scopes m) same (own-same is)
+      by : (x y : Bool) → opens a.role n ≡ x → AreSame t (cond (x && y) (a.scopes ++ own_scope a.role a.scopes n ∷ []) a.scopes) (cond (x && y) (b.scopes ++ own_scope b.role b.scopes m ∷ []) b.scopes)
+      by true true is = same-last t a.scopes b.scopes (own_scope a.role a.scopes n) (own_scope b.role b.scopes m) same (own-same is)
       by true false is = same
       by false y is = same

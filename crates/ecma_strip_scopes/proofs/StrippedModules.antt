@@ -1,5 +1,5 @@
 -- A module that is resolved, and stripped of its types then, tells its scopes apart.
-use Rattle.std.proofs.Common.{◌≡◌, ℕ, suc, ◌-◌, Bool, true, false, ◌&&◌, not, cond, List, [], ◌∷◌, map, refl, sym, ap, ◌∙◌, subst}
+use Rattle.std.proofs.Common.{◌≡◌, ℕ, suc, ◌-◌, Bool, true, false, ◌&&◌, not, cond, List, [], ◌∷◌, map, sym, ap, ◌∙◌, subst}
 use Rattle.std.specs.List.{All}
 use Rattle.std.proofs.lemmas.List.Elements.{All-append, All-cons, All-head, All-nil, All-tail}
 use Rattle.ecma_kind.specs.declared.shapes.Sort.TheVariants as sort
@@ -21,42 +21,9 @@ use Rattle.ecma_hygiene_laws.proofs.Sameness.{children-here, children_resolved, 
 use Rattle.ecma_hygiene_laws.proofs.ResolvedApart.{resolved-keeps-apart}
 use Rattle.ecma_hygiene_laws.proofs.Stopping.{All-first, All-second, stops-out}
 use Rattle.ecma_strip_scopes.specs.Apart.{IsClearSeat, StrippedModulesTellScopesApart}
+use Rattle.ecma_strip_scopes.proofs.AtStops.{at-stops}
 use Rattle.ecma_strip_scopes.proofs.Walking.{stripped-tells-apart}
 use Rattle.ecma_strip_scopes.proofs.Wrapping.{IsWrapped, module-wraps}
-
--- what holds of the nodes of a tree in their roles holds of its stops
-module _ (P : Seat → Type 0) where
-  abbrev Holds : Stop → Type 0
-  Holds stop = P (record { role = stop.around.role; node = stop.node })
-
-  abbrev AtStops : Node → Type 0
-  AtStops n = (a : Around) (left : ℕ) → All P (seats_at n a.role) → All Holds (stops_at n a left)
-
-  abbrev AllAtStops : List Node → Type 0
-  AllAtStops ns = (arounds : ℕ → Around) (roles : ℕ → Role) (i left : ℕ) → ((j : ℕ) → roles j ≡ (arounds j).role) → All P (gathered_from Role Seat roles i (map seats_at ns)) → All Holds (stops_from arounds i ns (map stops_at ns) left)
-
-  all-at-stops : (ns : List ((n : Node) × AtStops n)) → AllAtStops (map (λ e. e.0) ns)
-  all-at-stops [] arounds roles i left same h = All-nil Holds
-  all-at-stops (n ∷ ns) arounds roles i left same h =
-      let others : List Node = map (λ e. e.0) ns in
-      let less : ℕ = left - context_count n.0 (arounds i).role in
-      let rest : List Seat = gathered_from Role Seat roles (suc i) (map seats_at others) in
-      All-append Holds (stops_at n.0 (arounds i) left) (stops_from arounds (suc i) others (map stops_at others) less)
-      (n.1 (arounds i) left (subst (λ (r : Role). All P (seats_at n.0 r)) (same i) (All-first P (seats_at n.0 (roles i)) rest h)))
-      (all-at-stops ns arounds roles (suc i) less same (All-second P (seats_at n.0 (roles i)) rest h))
-
-  layer-at-stops : (n : Node) → AllAtStops (out-Node n).children → AtStops n
-  layer-at-stops n children a left h =
-      let seat : Seat = record { role = a.role; node = n } in
-      let seats : List Seat = gathered_from Role Seat (role_in a.role n) 0 (map seats_at (out-Node n).children) in
-      let parts : All P (seat ∷ seats) = subst (All P) (gathered-out Role Seat seat_here role_in n a.role) h in
-      subst (All Holds) (sym (stops-out n a left))
-      (All-cons Holds (record { node = n; around = a; left = left }) (stops_from (around_child a n) 0 (out-Node n).children (map stops_at (out-Node n).children) (left - taken a.role n)) (All-head P seat seats parts)
-      (children (around_child a n) (role_in a.role n) 0 (left - taken a.role n) (λ j. refl) (All-tail P seat seats parts)))
-
-  at-stops : (n : Node) → AtStops n
-  at-stops = ind-Node AtStops (λ x y is.
-      layer-at-stops (roll-Node x) (subst AllAtStops (ap (λ (z : Node-F Node). z.children) is ∙ sym (ap (λ (z : Node-F Node). z.children) (out-roll-Node x))) (all-at-stops y.children)))
 
 -- no scope of the resolved tree is ambient where none of the tree is
 abbrev IsCalm : Seat → Type 0
@@ -115,11 +82,11 @@ module _ (unresolved top : ℕ) where
       layer-calm (roll-Node x) (subst EachCalm (ap (λ (z : Node-F Node). z.children) is ∙ sym (ap (λ (z : Node-F Node). z.children) (out-roll-Node x))) (each-calm y.children)))
 
 pub stripped-modules-tell-apart : StrippedModulesTellScopesApart
-stripped-modules-tell-apart unresolved top left less source checked unresolved_above top_above apart enough clear =
+stripped-modules-tell-apart t unresolved top left less source checked unresolved_above top_above apart enough clear others =
     let tree : Node = resolved unresolved top left source in
     let sorted : HasSort sort.Module tree = (keeps-sorts unresolved top left source sort.Module).1 checked.sorted in
-    let clear_stops = at-stops IsClearSeat tree nowhere left clear in
+    let clear_stops = at-stops (IsClearSeat t) tree nowhere left clear in
     let calm_stops = all-calm unresolved top source nowhere [] left checked.calm in
     let wrapped_stops = at-stops IsWrapped tree nowhere left (module-wraps tree sorted) in
-    stripped-tells-apart unresolved left less (one sort.Module) tree sorted (resolved-keeps-apart unresolved top left source checked unresolved_above top_above apart enough)
-    (λ k d lt. record { calm = calm_stops k d lt; clear = clear_stops k d lt; wrapped = wrapped_stops k d lt })
+    stripped-tells-apart t unresolved left less (one sort.Module) tree sorted (resolved-keeps-apart unresolved top left source checked unresolved_above top_above apart enough)
+    (λ k d lt. record { calm = calm_stops k d lt; clear = clear_stops k d lt; wrapped = wrapped_stops k d lt }) others

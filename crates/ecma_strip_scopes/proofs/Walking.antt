@@ -32,17 +32,18 @@ use Rattle.ecma_hygiene_laws.specs.Lasting.{KeepsScope}
 use Rattle.ecma_hygiene_laws.specs.Stops.{Stop, stops, stops_at, stops_from}
 use Rattle.ecma_hygiene_laws.proofs.Parts.{children-of, kind-of, parts_of}
 use Rattle.ecma_hygiene_laws.proofs.Stopping.{All-first, All-second, stops-out}
-use Rattle.ecma_strip_scopes.specs.Apart.{IsClearStop, StrippedTellsScopesApart}
+use Rattle.ecma_strip_scopes.specs.Apart.{IsClearStop, IsOther, StrippedTellsScopesApart}
+use Rattle.ecma_strip_scopes.proofs.AtStops.{at-stops}
 use Rattle.ecma_strip_scopes.proofs.Declared.{not-list}
 use Rattle.ecma_strip_scopes.proofs.Going.{parts-have}
-use Rattle.ecma_strip_scopes.proofs.Gone.{kept}
+use Rattle.ecma_strip_scopes.proofs.Lasting.{lasting}
 use Rattle.ecma_strip_scopes.proofs.KindsKept.{covers-plain, opens-kept, opens-plain, role-kept, role-plain, wrapper-first, wrapper-opens, wrapper-plain, wrapper-role, wrapper-some}
 use Rattle.ecma_strip_scopes.proofs.RolesAlike.{Alike, alike-free, alike-same}
 use Rattle.ecma_strip_scopes.proofs.ScopesDeclare.{scopes-declare, vars-plain}
 use Rattle.ecma_strip_scopes.proofs.ScopesSame.{AreSame}
 use Rattle.ecma_strip_scopes.proofs.Seeking.{Becomes, becomes, itself, list, typed, wrapper}
 use Rattle.ecma_strip_scopes.proofs.Standing.{list-kind}
-use Rattle.ecma_strip_scopes.proofs.StopsKept.{contexts-within, is-scoped, scopes-inside, stop_of}
+use Rattle.ecma_strip_scopes.proofs.StopsKept.{IsScopedIn, contexts-within, is-scoped, scopes-inside, stop_of}
 use Rattle.ecma_strip_scopes.proofs.Thinning.{Thins, thins-again, thins-append, thins-cons, thins-empty, thins-front, thins-none, thins-same, thins-skip}
 
 map-append : {X Y : Type 0} (f : X → Y) (xs ys : List X) → map f (xs ++ ys) ≡ map f xs ++ map f ys
@@ -77,23 +78,23 @@ role-ids r r' k alike m kind_st =
     (λ j. ids_declared m (record { part = alike.own j; stays = not (alike.ambient j) }) ++ cond (vars j) (ids_declared m (record { part = part.Var; stays = not (alike.ambient j) })) [])
 
 -- a stop that keeps its scope, and where all is clear
-abbrev IsSound : ℕ → Stop → Type 0
-IsSound free stop = KeepsScope free stop × IsClearStop stop
+abbrev IsSound : Bool → ℕ → Stop → Type 0
+IsSound t free stop = KeepsScope free stop × IsClearStop t stop
 
-module _ (free : ℕ) where
+module _ (t : Bool) (free : ℕ) where
   abbrev contexts_at : List Stop → List (List ℕ)
   contexts_at stops = map own_contexts stops
 
   -- stops at which all is scoped, and which declare in a part of these contexts
   abbrev Part : List Stop → List (List ℕ) → Type 0
-  Part stops lists = All (IsScoped free) stops × Thins (contexts_at stops) lists
+  Part stops lists = All (IsScopedIn t free) stops × Thins (contexts_at stops) lists
 
   abbrev below : (ℕ → Around) → ℕ → List Node → ℕ → List Stop
   below around i ns left = stops_from around i ns (map stops_at ns) left
 
   part-append : (xs ys : List Stop) (us vs : List (List ℕ)) → Part xs us → Part ys vs → Part (xs ++ ys) (us ++ vs)
   part-append xs ys us vs one two = (
-    All-append (IsScoped free) xs ys one.0 two.0,
+    All-append (IsScopedIn t free) xs ys one.0 two.0,
     subst (λ (z : List (List ℕ)). Thins z (us ++ vs)) (sym (map-append own_contexts xs ys)) (thins-append (contexts_at xs) (contexts_at ys) us vs one.1 two.1),
   )
 
@@ -106,7 +107,7 @@ module _ (free : ℕ) where
   silent-part m b less lists none shut no_name =
       subst (λ (z : List Stop). Part z lists)
       (sym (stops-out m b less ∙ ap (λ (cs : List Node). stop_of m b less ∷ below (around_child b m) 0 cs (less - taken b.role m)) none))
-      (All-cons (IsScoped free) (stop_of m b less) [] scoped (All-nil (IsScoped free)), subst (λ (z : List ℕ). Thins (z ∷ []) lists) (sym nothing) (thins-empty lists))
+      (All-cons (IsScopedIn t free) (stop_of m b less) [] (λ other. scoped) (All-nil (IsScopedIn t free)), subst (λ (z : List ℕ). Thins (z ∷ []) lists) (sym nothing) (thins-empty lists))
     where
       nothing : own_contexts (stop_of m b less) ≡ []
       nothing = (λ j. cond (shut j) (map (λ id. id.1) (own_ids b.role (innermost b.scopes) m)) [])
@@ -145,7 +146,7 @@ module _ (free : ℕ) where
 
   -- a node is walked over olds this one is without its types
   abbrev Becoming : Node → Node → Type 0
-  Becoming n m = (shape : Shape) (a b : Around) (left less : ℕ) → HasShape shape n → Alike a.role b.role (out-Node n).kind → AreSame a.scopes b.scopes → All (IsSound free) (stops_at n a left)
+  Becoming n m = (shape : Shape) (a b : Around) (left less : ℕ) → HasShape shape n → Alike a.role b.role (out-Node n).kind → AreSame t a.scopes b.scopes → All (IsSound t free) (stops_at n a left)
       → Part (stops_at m b less) (contexts_at (stops_at n a left))
 
   abbrev Walks : Node → Type 0
@@ -173,14 +174,14 @@ module _ (free : ℕ) where
   body-becomes : (n m : Node) → Becoming n m → Becoming n (body_of m)
   body-becomes n m h shape a b left less has alike same sound = by (item_stays m)
     where
-      by : (t : Bool) → Part (stops_at (cond t m (node_of (out-Node m).span kind.EmptyStmt [])) b less) (contexts_at (stops_at n a left))
+      by : (last : Bool) → Part (stops_at (cond last m (node_of (out-Node m).span kind.EmptyStmt [])) b less) (contexts_at (stops_at n a left))
       by true = h shape a b left less has alike same sound
       by false = empty-part (out-Node m).span b less (contexts_at (stops_at n a left))
 
   this-becomes : (n m : Node) → Becoming n m → Becoming n (without_this m)
   this-becomes n m h shape a b left less has alike same sound = by (is_absent (out-Node m).kind)
     where
-      by : (t : Bool) → Part (stops_at (cond t m absent) b less) (contexts_at (stops_at n a left))
+      by : (last : Bool) → Part (stops_at (cond last m absent) b less) (contexts_at (stops_at n a left))
       by true = h shape a b left less has alike same sound
       by false = absent-part b less (contexts_at (stops_at n a left))
 
@@ -231,54 +232,54 @@ module _ (free : ℕ) where
     skipped i left n ns xs rest =
         let later : List Stop = below olds (suc i) ns (left - context_count n (olds i).role) in
         subst (Part xs) (sym (map-append own_contexts (stops_at n (olds i) left) later))
-        (part-append [] xs (contexts_at (stops_at n (olds i) left)) (contexts_at later) (All-nil (IsScoped free), thins-none (contexts_at (stops_at n (olds i) left))) rest)
+        (part-append [] xs (contexts_at (stops_at n (olds i) left)) (contexts_at later) (All-nil (IsScopedIn t free), thins-none (contexts_at (stops_at n (olds i) left))) rest)
 
     alike-at : (i j : ℕ) (k : Kind) → (news j).role ≡ (olds i).role → Alike (olds i).role (news j).role k
     alike-at i j k roles = subst (λ (r : Role). Alike (olds i).role r k) (sym roles) (alike-same (olds i).role k)
 
-    walk-all : (ns ms : List Node) (shapes : List Shape) → ((i : ℕ) → (news i).role ≡ (olds i).role) → ((i : ℕ) → AreSame (olds i).scopes (news i).scopes) → AllBecome ns ms → HaveShapes shapes ns → (i left less : ℕ) → All (IsSound free) (below olds i ns left) → Part (below news i ms less) (contexts_at (below olds i ns left))
-    walk-all [] [] shapes roles scopes become have i left less sound = (All-nil (IsScoped free), thins-none [])
+    walk-all : (ns ms : List Node) (shapes : List Shape) → ((i : ℕ) → (news i).role ≡ (olds i).role) → ((i : ℕ) → AreSame t (olds i).scopes (news i).scopes) → AllBecome ns ms → HaveShapes shapes ns → (i left less : ℕ) → All (IsSound t free) (below olds i ns left) → Part (below news i ms less) (contexts_at (below olds i ns left))
+    walk-all [] [] shapes roles scopes become have i left less sound = (All-nil (IsScopedIn t free), thins-none [])
     walk-all (n ∷ ns) (m ∷ ms) (s ∷ shapes) roles scopes become have i left less sound =
         let here : List Stop = stops_at n (olds i) left in
         let later : List Stop = below olds (suc i) ns (left - context_count n (olds i).role) in
         joined i left i less n m ns ms
-        (become.0 s (olds i) (news i) left less have.0 (alike-at i i (out-Node n).kind (roles i)) (scopes i) (All-first (IsSound free) here later sound))
-        (walk-all ns ms shapes roles scopes become.1 have.1 (suc i) (left - context_count n (olds i).role) (less - context_count m (news i).role) (All-second (IsSound free) here later sound))
+        (become.0 s (olds i) (news i) left less have.0 (alike-at i i (out-Node n).kind (roles i)) (scopes i) (All-first (IsSound t free) here later sound))
+        (walk-all ns ms shapes roles scopes become.1 have.1 (suc i) (left - context_count n (olds i).role) (less - context_count m (news i).role) (All-second (IsSound t free) here later sound))
     walk-all [] (m ∷ ms) shapes roles scopes become have i left less sound = absurd become
     walk-all (n ∷ ns) [] shapes roles scopes become have i left less sound = absurd become
     walk-all (n ∷ ns) (m ∷ ms) [] roles scopes become have i left less sound = absurd have
 
     -- of the items of a list those that stay, and of these, without types, those that a test lets stay
-    module _ (test : Node → Bool) (shape : Shape) (roles : (i j : ℕ) → (news j).role ≡ (olds i).role) (scopes : (i j : ℕ) → AreSame (olds i).scopes (news j).scopes) where
+    module _ (test : Node → Bool) (shape : Shape) (roles : (i j : ℕ) → (news j).role ≡ (olds i).role) (scopes : (i j : ℕ) → AreSame t (olds i).scopes (news j).scopes) where
       abbrev left_of : List Node → List Node
       left_of ns = filter test (map stripped (filter stays ns))
 
-      item-by : (n : (n : Node) × Walks n) (ns : List Node) → HasShape shape n.0 → (s t : Bool) → (i j left less : ℕ) → All (IsSound free) (stops_at n.0 (olds i) left)
+      item-by : (n : (n : Node) × Walks n) (ns : List Node) → HasShape shape n.0 → (s : Bool) → (i j left less : ℕ) → All (IsSound t free) (stops_at n.0 (olds i) left)
           → ((j less : ℕ) → Part (below news j (left_of ns) less) (contexts_at (below olds (suc i) ns (left - context_count n.0 (olds i).role))))
           → Part (below news j (filter test (map stripped (cond s (n.0 ∷ filter stays ns) (filter stays ns)))) less) (contexts_at (below olds i (n.0 ∷ ns) left))
-      item-by n ns has false t i j left less sound rest = skipped i left n.0 ns (below news j (left_of ns) less) (rest j less)
-      item-by n ns has true t i j left less sound rest = by (test (stripped n.0))
+      item-by n ns has false i j left less sound rest = skipped i left n.0 ns (below news j (left_of ns) less) (rest j less)
+      item-by n ns has true i j left less sound rest = by (test (stripped n.0))
         where
-          by : (t : Bool) → Part (below news j (cond t (stripped n.0 ∷ left_of ns) (left_of ns)) less) (contexts_at (below olds i (n.0 ∷ ns) left))
+          by : (last : Bool) → Part (below news j (cond last (stripped n.0 ∷ left_of ns) (left_of ns)) less) (contexts_at (below olds i (n.0 ∷ ns) left))
           by true =
               joined i left j less n.0 (stripped n.0) ns (left_of ns) (n.1.0 shape (olds i) (news j) left less has (alike-at i j (out-Node n.0).kind (roles i j)) (scopes i j) sound)
               (rest (suc j) (less - context_count (stripped n.0) (news j).role))
           by false = skipped i left n.0 ns (below news j (left_of ns) less) (rest j less)
 
-      walk-items : (ns : List ((n : Node) × Walks n)) → HaveShapes (replicate (length (nodes ns)) shape) (nodes ns) → (i j left less : ℕ) → All (IsSound free) (below olds i (nodes ns) left)
+      walk-items : (ns : List ((n : Node) × Walks n)) → HaveShapes (replicate (length (nodes ns)) shape) (nodes ns) → (i j left less : ℕ) → All (IsSound t free) (below olds i (nodes ns) left)
           → Part (below news j (left_of (nodes ns)) less) (contexts_at (below olds i (nodes ns) left))
-      walk-items [] have i j left less sound = (All-nil (IsScoped free), thins-none [])
+      walk-items [] have i j left less sound = (All-nil (IsScopedIn t free), thins-none [])
       walk-items (n ∷ ns) have i j left less sound =
           let here : List Stop = stops_at n.0 (olds i) left in
           let fewer : ℕ = left - context_count n.0 (olds i).role in
           let later : List Stop = below olds (suc i) (nodes ns) fewer in
-          item-by n (nodes ns) have.0 (stays n.0) true i j left less (All-first (IsSound free) here later sound)
-          (λ j less. walk-items ns have.1 (suc i) j fewer less (All-second (IsSound free) here later sound))
+          item-by n (nodes ns) have.0 (stays n.0) i j left less (All-first (IsSound t free) here later sound)
+          (λ j less. walk-items ns have.1 (suc i) j fewer less (All-second (IsSound t free) here later sound))
 
   -- ---- a node
 
   module _ (n : Node) (ns : List ((n : Node) × Walks n)) (are : (out-Node n).children ≡ nodes ns) (shape : Shape) (a b : Around) (left less : ℕ) (has : HasShape shape n) (alike : Alike a.role b.role (out-Node n).kind)
-      (same : AreSame a.scopes b.scopes) (sound : All (IsSound free) (stops_at n a left)) where
+      (same : AreSame t a.scopes b.scopes) (sound : All (IsSound t free) (stops_at n a left)) where
     abbrev k : Kind
     k = (out-Node n).kind
 
@@ -291,26 +292,26 @@ module _ (free : ℕ) where
     stops-are : stops_at n a left ≡ stop_of n a left ∷ inner
     stops-are = stops-out n a left ∙ ap (λ (cs : List Node). stop_of n a left ∷ below (around_child a n) 0 cs fewer) are
 
-    sound-parts : All (IsSound free) (stop_of n a left ∷ inner)
-    sound-parts = subst (All (IsSound free)) stops-are sound
+    sound-parts : All (IsSound t free) (stop_of n a left ∷ inner)
+    sound-parts = subst (All (IsSound t free)) stops-are sound
 
-    here : IsSound free (stop_of n a left)
-    here = All-head (IsSound free) (stop_of n a left) inner sound-parts
+    here : IsSound t free (stop_of n a left)
+    here = All-head (IsSound t free) (stop_of n a left) inner sound-parts
 
-    sound-inner : All (IsSound free) inner
-    sound-inner = All-tail (IsSound free) (stop_of n a left) inner sound-parts
+    sound-inner : All (IsSound t free) inner
+    sound-inner = All-tail (IsSound t free) (stop_of n a left) inner sound-parts
 
     have : HaveShapes (child_shapes k shape (length (nodes ns))) (nodes ns)
     have = subst (λ (cs : List Node). HaveShapes (child_shapes k shape (length cs)) cs) are (parts-have n shape has).1
 
     -- a node with this one's kind and with children that become of its own
-    node-part : (m : Node) → IsScoped free (stop_of m b less) → ((c : ℕ) → has_context c (own_contexts (stop_of m b less)) ≡ true → has_context c (own_contexts (stop_of n a left)) ≡ true)
+    node-part : (m : Node) → IsScopedIn t free (stop_of m b less) → ((c : ℕ) → has_context c (own_contexts (stop_of m b less)) ≡ true → has_context c (own_contexts (stop_of n a left)) ≡ true)
         → Part (below (around_child b m) 0 (out-Node m).children (less - taken b.role m)) (contexts_at inner) → Part (stops_at m b less) (contexts_at (stops_at n a left))
     node-part m scoped within children =
         let inside : List Stop = below (around_child b m) 0 (out-Node m).children (less - taken b.role m) in
         subst (λ (z : List Stop). Part z (contexts_at (stops_at n a left))) (sym (stops-out m b less))
         (subst (λ (z : List Stop). Part (stop_of m b less ∷ inside) (contexts_at z)) (sym stops-are) (
-          All-cons (IsScoped free) (stop_of m b less) inside scoped children.0,
+          All-cons (IsScopedIn t free) (stop_of m b less) inside scoped children.0,
           thins-cons (own_contexts (stop_of m b less)) (own_contexts (stop_of n a left)) (contexts_at inside) (contexts_at inner) within children.1,
         ))
 
@@ -328,11 +329,11 @@ module _ (free : ℕ) where
         let covered : (i : ℕ) → covers b.role (out-Node m).kind i ≡ covers a.role k i = (λ i. ap (λ (z : Kind). covers b.role z i) kind_st ∙ covers-plain b.role k i ∙ alike.covered i) in
         let roles : (i : ℕ) → role_in b.role m i ≡ role_in a.role n i = (λ i. (λ j. role_by b.role (kind_st j) (is_there (children_st j) 1) i) ∙ role-plain b.role k (is_there cs 1) i ∙ role-kept b.role k shape count (nodes ns) have i
         ∙ alike.inner (is_there (nodes ns) 1) i ∙ sym (ap (λ (z : List Node). role_by a.role k (is_there z 1) i) are)) in
-        let ids : opens a.role n ≡ true → scope_ids b.role m ≡ kept (scope_ids a.role n) = (λ is. role-ids a.role b.role k alike m kind_st ∙ scopes-declare shape a.role n has is (here.1.calm is) (here.1.clear is)) in
+        let ids : opens a.role n ≡ true → scope_ids b.role m ≡ lasting t (scope_ids a.role n) = (λ is. role-ids a.role b.role k alike m kind_st ∙ scopes-declare t shape a.role n has is (here.1.calm is) (here.1.clear is)) in
         let gone : is_absent k ≡ true → (out-Node m).children ≡ [] = (λ is. children_st ∙ absent-children k is (nodes ns) (sym are ∙ here.0.absent is)) in
-        node-part m (is-scoped free n m a b left less kind_st gone alike same opened ids here.0) (contexts-within free n m a b left less kind_st gone alike same opened ids here.0)
+        node-part m (is-scoped t free n m a b left less kind_st gone alike same opened ids here.0) (contexts-within t free n m a b left less kind_st gone alike same opened ids here.0)
         (subst (λ (z : List Node). Part (below (around_child b m) 0 z (less - taken b.role m)) (contexts_at inner)) (sym children_st)
-        (walk-all (around_child a n) (around_child b m) (nodes ns) cs (child_shapes k shape count) roles (λ i. scopes-inside free n m a b left less kind_st gone alike same opened ids here.0 i i (covered i))
+        (walk-all (around_child a n) (around_child b m) (nodes ns) cs (child_shapes k shape count) roles (λ i. scopes-inside t free n m a b left less kind_st gone alike same opened ids here.0 i i (covered i))
         (plain-become k ns shape count have) have 0 fewer (less - taken b.role m) sound-inner))
 
     list-part : k ≡ kind.List → (test : Node → Bool) (m : Node) → m ≡ node_of (out-Node n).span kind.List (filter test (map stripped (filter stays (nodes ns)))) → Part (stops_at m b less) (contexts_at (stops_at n a left))
@@ -346,12 +347,12 @@ module _ (free : ℕ) where
         let opened : opens b.role m ≡ opens a.role n = list-opens b.role (out-Node m).kind (is_there (out-Node m).children 0) kind_m ∙ sym shut in
         let roles : (i j : ℕ) → role_in b.role m j ≡ role_in a.role n i = (λ i j. ap (λ (z : Kind). role_by b.role z (is_there (out-Node m).children 1) j) (kind_m ∙ sym is)
         ∙ list-role b.role k (is_there (out-Node m).children 1) (is_there (out-Node n).children 1) j i is ∙ alike.inner (is_there (out-Node n).children 1) i) in
-        let ids : opens a.role n ≡ true → scope_ids b.role m ≡ kept (scope_ids a.role n) = (λ open_it. absurd (true-false open_it shut)) in
+        let ids : opens a.role n ≡ true → scope_ids b.role m ≡ lasting t (scope_ids a.role n) = (λ open_it. absurd (true-false open_it shut)) in
         let gone : is_absent k ≡ true → (out-Node m).children ≡ [] = (λ h. absurd (true-false h (ap is_absent is))) in
-        node-part m (is-scoped free n m a b left less kind_st gone alike same opened ids here.0) (contexts-within free n m a b left less kind_st gone alike same opened ids here.0)
+        node-part m (is-scoped t free n m a b left less kind_st gone alike same opened ids here.0) (contexts-within t free n m a b left less kind_st gone alike same opened ids here.0)
         (subst (λ (z : List Node). Part (below (around_child b m) 0 z (less - taken b.role m)) (contexts_at inner)) (sym children_st)
         (walk-items (around_child a n) (around_child b m) test (item_shape shape) roles
-        (λ i j. scopes-inside free n m a b left less kind_st gone alike same opened ids here.0 i j (list-covers b.role (out-Node m).kind j kind_m ∙ sym (list-covers a.role k i is)))
+        (λ i j. scopes-inside t free n m a b left less kind_st gone alike same opened ids here.0 i j (list-covers b.role (out-Node m).kind j kind_m ∙ sym (list-covers a.role k i is)))
         ns (subst (λ (z : Kind). HaveShapes (child_shapes z shape (length (nodes ns))) (nodes ns)) is have) 0 0 fewer (less - taken b.role m) sound-inner))
 
     list-stripped : k ≡ kind.List → stripped n ≡ node_of (out-Node n).span kind.List (map stripped (filter stays (nodes ns)))
@@ -359,7 +360,7 @@ module _ (free : ℕ) where
     list-stripped is = stripped-out n ∙ (λ j. plain (out-Node n).span (is j) (map stripped (staying_nodes (is j) (are j))))
 
     -- an expression with a type round it
-    wrapper-by : (ms : List ((n : Node) × Walks n)) → (out-Node n).children ≡ nodes ms → HaveShapes (child_shapes k shape (length (nodes ns))) (nodes ms) → All (IsSound free) (below (around_child a n) 0 (nodes ms) fewer)
+    wrapper-by : (ms : List ((n : Node) × Walks n)) → (out-Node n).children ≡ nodes ms → HaveShapes (child_shapes k shape (length (nodes ns))) (nodes ms) → All (IsSound t free) (below (around_child a n) 0 (nodes ms) fewer)
         → is_type_wrapper k ≡ true → Part (stops_at (stripped n) b less) (contexts_at (below (around_child a n) 0 (nodes ms) fewer))
     wrapper-by [] children have_some all_sound is = absurd (wrapper-some k shape (length (nodes ns)) is have_some)
     wrapper-by (e ∷ es) children have_some all_sound is =
@@ -374,7 +375,7 @@ module _ (free : ℕ) where
         let later : List Stop = below (around_child a n) 1 (nodes es) (fewer - context_count e.0 first.role) in
         subst (λ (z : Node). Part (stops_at z b less) (contexts_at (here_e ++ later))) (sym st)
         (part-of (stops_at (stripped e.0) b less) (contexts_at here_e) (contexts_at (here_e ++ later))
-        (e.1.0 (one sort.Expr) first b fewer less has_e alike_e (subst (λ (z : List Scope). AreSame z b.scopes) (sym scopes_e) same) (All-first (IsSound free) here_e later all_sound))
+        (e.1.0 (one sort.Expr) first b fewer less has_e alike_e (subst (λ (z : List Scope). AreSame t z b.scopes) (sym scopes_e) same) (All-first (IsSound t free) here_e later all_sound))
         (subst (Thins (contexts_at here_e)) (sym (map-append own_contexts here_e later)) (thins-front (contexts_at here_e) (contexts_at later))))
 
     node-walks : Becomes k → Part (stops_at (stripped n) b less) (contexts_at (stops_at n a left))
@@ -405,6 +406,7 @@ module _ (free : ℕ) where
   all-become n = (walks n).0
 
 pub stripped-tells-apart : StrippedTellsScopesApart
-stripped-tells-apart free left less shape tree has keeps clear =
-    let part = all-become free tree shape nowhere nowhere left less has (alike-same nowhere.role (out-Node tree).kind) tt (λ k d lt. (keeps.scoped k d lt, clear k d lt)) in
-    record { scoped = part.0; apart = part.1.apart keeps.apart; there = keeps.there }
+stripped-tells-apart t free left less shape tree has keeps clear others =
+    let part = all-become t free tree shape nowhere nowhere left less has (alike-same nowhere.role (out-Node tree).kind) tt (λ k d lt. (keeps.scoped k d lt, clear k d lt)) in
+    let other_stops = at-stops (IsOther t) (stripped tree) nowhere less others in
+    record { scoped = λ k d lt. part.0 k d lt (other_stops k d lt); apart = part.1.apart keeps.apart; there = keeps.there }

@@ -1,5 +1,5 @@
 -- Trees whose scopes are told apart without their types.
-use Rattle.std.specs.Prelude.{◌≡◌, ◌≢◌, ◌<◌, ◌≤◌, ℕ, Bool, true, false, filter}
+use Rattle.std.specs.Prelude.{◌≡◌, ◌≢◌, ◌<◌, ◌≤◌, ℕ, Bool, true, false, ◌&&◌, filter}
 use Rattle.std.specs.List.{All}
 use Rattle.ecma_kind.specs.Sorts.{is_type_wrapper}
 use Rattle.ecma_kind.specs.declared.shapes.Shape.{Shape}
@@ -11,13 +11,14 @@ use Rattle.ecma_scope.specs.declared.role.Role.TheVariants as role
 use Rattle.ecma_scope.specs.Declarations.{holds_vars, own_part}
 use Rattle.ecma_scope.specs.Resolved.{contexts, resolved}
 use Rattle.ecma_scope.specs.Scopes.{is_ambient, opens}
+use Rattle.ecma_strip.specs.Staying.{is_this_ident}
 use Rattle.ecma_strip.specs.Stripping.{stripped}
 use Rattle.ecma_hygiene_laws.specs.Apart.{TellsScopesApart}
 use Rattle.ecma_hygiene_laws.specs.DeclaredIds.{scope_ids}
 use Rattle.ecma_hygiene_laws.specs.Lasting.{IsCheckedModule, KeepsScopesApart}
 use Rattle.ecma_hygiene_laws.specs.Seats.{Seat, seats_at}
 use Rattle.ecma_hygiene_laws.specs.Stops.{Stop, stops}
-use Rattle.ecma_strip_scopes.specs.Standing.{is_clear}
+use Rattle.ecma_strip_scopes.specs.Standing.{is_clear, lasts}
 
 -- a role in which every expression is the same to its scopes
 abbrev pub is_free : Role → Bool
@@ -25,29 +26,37 @@ is_free role.Plain = true
 is_free role.Body = true
 is_free _ = false
 
--- where the names of a scope are looked for is clear
-pub record IsClearScope (r : Role) (n : Node) : Type 0 where
-  pub own : is_clear n (record { part = own_part r; stays = true }) ≡ true
-  pub vars : holds_vars r (out-Node n).kind ≡ true → is_clear n (record { part = part.Var; stays = true }) ≡ true
+-- where the names of a scope are looked for is clear; with `receivers` parameters `this` may go
+pub record IsClearScope (receivers : Bool) (r : Role) (n : Node) : Type 0 where
+  pub own : is_clear receivers n (record { part = own_part r; stays = true }) ≡ true
+  pub vars : holds_vars r (out-Node n).kind ≡ true → is_clear receivers n (record { part = part.Var; stays = true }) ≡ true
 
 -- so it declares without types what it declares as values that stay, if it is not ambient
 abbrev pub ScopesDeclareWhatStays : Type 0
-ScopesDeclareWhatStays = (shape : Shape) (r : Role) (n : Node) → HasShape shape n → opens r n ≡ true → is_ambient r ≡ false → IsClearScope r n → scope_ids r (stripped n) ≡ filter (λ d. d.stays) (scope_ids r n)
+ScopesDeclareWhatStays = (receivers : Bool) (shape : Shape) (r : Role) (n : Node) → HasShape shape n → opens r n ≡ true → is_ambient r ≡ false → IsClearScope receivers r n
+    → scope_ids r (stripped n) ≡ filter (lasts receivers) (scope_ids r n)
 
 -- a node of a walk: a scope is clear and not ambient, and types stand round expressions that are the same to their scopes without them
-pub record IsClearStop (stop : Stop) : Type 0 where
+pub record IsClearStop (receivers : Bool) (stop : Stop) : Type 0 where
   pub calm : opens stop.around.role stop.node ≡ true → is_ambient stop.around.role ≡ false
-  pub clear : opens stop.around.role stop.node ≡ true → IsClearScope stop.around.role stop.node
+  pub clear : opens stop.around.role stop.node ≡ true → IsClearScope receivers stop.around.role stop.node
   pub wrapped : is_type_wrapper (out-Node stop.node).kind ≡ true → is_free stop.around.role ≡ true
 
--- a tree that keeps its scopes apart, and in which all is clear, tells them apart without its types, however its contexts are counted
-abbrev pub StrippedTellsScopesApart : Type 0
-StrippedTellsScopesApart = (free left less : ℕ) (shape : Shape) (tree : Node) → HasShape shape tree → KeepsScopesApart free left tree → All IsClearStop (stops left tree) → TellsScopesApart free less (stripped tree)
+-- with `receivers` no identifier `this`
+abbrev pub IsOther : Bool → Seat → Type 0
+IsOther receivers seat = (receivers && is_this_ident (out-Node seat.node).kind) ≡ false
 
-abbrev pub IsClearSeat : Seat → Type 0
-IsClearSeat seat = opens seat.role seat.node ≡ true → IsClearScope seat.role seat.node
+-- a tree that keeps its scopes apart, and in which all is clear, tells them apart without its types, however its contexts are counted; where parameters `this` may
+-- go, no other `this` is left
+abbrev pub StrippedTellsScopesApart : Type 0
+StrippedTellsScopesApart = (receivers : Bool) (free left less : ℕ) (shape : Shape) (tree : Node) → HasShape shape tree → KeepsScopesApart free left tree → All (IsClearStop receivers) (stops left tree)
+    → All (IsOther receivers) (seats_at (stripped tree) role.Root) → TellsScopesApart free less (stripped tree)
+
+abbrev pub IsClearSeat : Bool → Seat → Type 0
+IsClearSeat receivers seat = opens seat.role seat.node ≡ true → IsClearScope receivers seat.role seat.node
 
 -- so does a module that is resolved, and stripped of its types then, where there were contexts enough
 abbrev pub StrippedModulesTellScopesApart : Type 0
-StrippedModulesTellScopesApart = (unresolved top left less : ℕ) (source : Node) → IsCheckedModule source → left < unresolved → left < top → unresolved ≢ top → contexts source ≤ left
-    → All IsClearSeat (seats_at (resolved unresolved top left source) role.Root) → TellsScopesApart unresolved less (stripped (resolved unresolved top left source))
+StrippedModulesTellScopesApart = (receivers : Bool) (unresolved top left less : ℕ) (source : Node) → IsCheckedModule source → left < unresolved → left < top → unresolved ≢ top → contexts source ≤ left
+    → All (IsClearSeat receivers) (seats_at (resolved unresolved top left source) role.Root) → All (IsOther receivers) (seats_at (stripped (resolved unresolved top left source)) role.Root)
+    → TellsScopesApart unresolved less (stripped (resolved unresolved top left source))

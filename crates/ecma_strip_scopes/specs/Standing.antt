@@ -1,5 +1,5 @@
 -- What stays of a tree declares, without its types, what the tree declares as values that stay.
-use Rattle.std.specs.Prelude.{◌≡◌, ℕ, suc, Bool, true, false, ◌&&◌, ◌||◌, not, cond, filter, List, [], ◌∷◌, map, Option, Some, None, slice_get}
+use Rattle.std.specs.Prelude.{◌≡◌, ℕ, suc, Bool, true, false, ◌&&◌, ◌||◌, not, cond, filter, List, [], ◌∷◌, map, Option, Some, None, bytes_eq, codes, slice_get}
 use Rattle.ecma_kind.specs.Sorts.{is_type_wrapper}
 use Rattle.ecma_kind.specs.declared.kind.Kind.{Kind}
 use Rattle.ecma_kind.specs.declared.kind.Kind.TheVariants as kind
@@ -10,7 +10,7 @@ use Rattle.ecma_scope.specs.declared.form.Sought.{Sought}
 use Rattle.ecma_scope.specs.Declarations.{is_value, sought_in}
 use Rattle.ecma_scope.specs.Layers.{from_leaves}
 use Rattle.ecma_strip.specs.Plain.{unless_missing}
-use Rattle.ecma_strip.specs.Staying.{is_this_param, item_stays, stays}
+use Rattle.ecma_strip.specs.Staying.{is_this_ident, is_this_param, item_stays, stays}
 use Rattle.ecma_strip.specs.Stripping.{stripped}
 use Rattle.ecma_hygiene_laws.specs.DeclaredIds.{DeclaredId, ids_declared}
 use Rattle.ecma_strip_scopes.specs.Going.{is_namespace}
@@ -42,30 +42,38 @@ bodies_stay kind.ForInStmt children = unless_missing (slice_get children 2) item
 bodies_stay (kind.ForOfStmt is_await) children = unless_missing (slice_get children 2) item_stays
 bodies_stay k children = true
 
--- a node in which something is looked for: an expression with a type round it declares nothing without it, what is a value is one without its types, and
--- the bodies of a statement stay
-abbrev pub clear_here : Node → Sought → Bool
-clear_here node sought =
-    cond (is_type_wrapper (out-Node node).kind) (is_none (ids_declared (stripped node) sought))
+-- an id that is declared as a value that stays; with `receivers` none `this`, which is a parameter that is there for its type alone
+abbrev pub lasts : Bool → DeclaredId → Bool
+lasts receivers d = not (receivers && bytes_eq d.id.0 (codes "this")) && d.stays
+
+-- a node in which something is looked for: with `receivers` no name `this`; an expression with a type round it declares nothing without it, what is a value is
+-- one without its types, and the bodies of a statement stay
+abbrev pub clear_here : Bool → Node → Sought → Bool
+clear_here receivers node sought =
+    not (receivers && is_this_ident (out-Node node).kind)
+    && cond (is_type_wrapper (out-Node node).kind) (is_none (ids_declared (stripped node) sought))
     ((not (has_value (out-Node node).kind) || same (is_value (stripped node)) (is_value node)) && bodies_stay (out-Node node).kind (map stripped (out-Node node).children))
 
 abbrev pub clear_at : Option Sought → (Sought → Bool) → Bool
 clear_at (Some sought) child = sought.stays && child sought
 clear_at None child = true
 
--- the children, of which the first is the one at i: what goes from a list is no parameter `this` and no namespace, and in what stays only values that stay are looked for
-abbrev pub clear_in : Bool → (ℕ → Option Sought) → ℕ → List Node → List (Sought → Bool) → Bool
-clear_in list into i (node ∷ nodes) (child ∷ children) =
-    cond (list && not (stays node)) (not (is_this_param node || is_namespace node)) (clear_at (into i) child) && clear_in list into (suc i) nodes children
-clear_in list into i _ _ = true
+-- the children, of which the first is the one at i: what goes from a list is no namespace, and without `receivers` no parameter `this`, and in what stays only
+-- values that stay are looked for
+abbrev pub clear_in : Bool → Bool → (ℕ → Option Sought) → ℕ → List Node → List (Sought → Bool) → Bool
+clear_in receivers list into i (node ∷ nodes) (child ∷ children) =
+    cond (list && not (stays node)) (not ((not receivers && is_this_param node) || is_namespace node)) (clear_at (into i) child)
+    && clear_in receivers list into (suc i) nodes children
+clear_in receivers list into i _ _ = true
 
-abbrev pub clear_step : Node → List (Sought → Bool) → Sought → Bool
-clear_step node children sought = clear_here node sought && clear_in (is_list (out-Node node).kind) (sought_in sought node) 0 (out-Node node).children children
+abbrev pub clear_step : Bool → Node → List (Sought → Bool) → Sought → Bool
+clear_step receivers node children sought =
+    clear_here receivers node sought && clear_in receivers (is_list (out-Node node).kind) (sought_in sought node) 0 (out-Node node).children children
 
 -- so it is all the way down, where something is looked for
-abbrev pub is_clear : Node → Sought → Bool
-is_clear = from_leaves (Sought → Bool) clear_step
+abbrev pub is_clear : Bool → Node → Sought → Bool
+is_clear receivers = from_leaves (Sought → Bool) (clear_step receivers)
 
 abbrev pub WhatStaysIsDeclared : Type 0
-WhatStaysIsDeclared = (shape : Shape) (tree : Node) (sought : Sought) → HasShape shape tree → sought.stays ≡ true → is_clear tree sought ≡ true
-    → ids_declared (stripped tree) sought ≡ filter (λ d. d.stays) (ids_declared tree sought)
+WhatStaysIsDeclared = (receivers : Bool) (shape : Shape) (tree : Node) (sought : Sought) → HasShape shape tree → sought.stays ≡ true → is_clear receivers tree sought ≡ true
+    → ids_declared (stripped tree) sought ≡ filter (lasts receivers) (ids_declared tree sought)
