@@ -4,4 +4,5 @@ pub mod Runs
 pub mod Accepting
 pub mod Steps
 pub mod Conversions
+pub mod Enough
 pub mod Outcomes

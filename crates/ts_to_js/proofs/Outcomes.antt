@@ -7,8 +7,11 @@ use Rattle.ts_to_js.specs.declared.error.TsError.{TsError}
 use Rattle.ts_to_js.specs.declared.program.TheConstants.{DONE, REFUSED, BAD_WORD, READ_FAULT, WRITE_FAULT, NO_MEMORY}
 use Rattle.ts_to_js.specs.Conversion.{IsConverted}
 use Rattle.ts_to_js.specs.Headline.{IsValid, IsConversion}
-use Rattle.ts_to_js.specs.Running.{Seen, EndsWith, IsExpectedOf, IsRun, Ran, contexts_of_a_run, expected, expected_of, first_read}
+use Rattle.ts_to_js.specs.declared.error.TsError.TheVariants as error
+use Rattle.ts_to_js.specs.Lines.{fault_line}
+use Rattle.ts_to_js.specs.Running.{Seen, EndsWith, IsExpectedOf, IsRun, NoRunIsSpent, Ran, contexts_of_a_run, expected, expected_of, first_read}
 use Rattle.ts_to_js.proofs.Conversions.{is_conversion, valid_converted}
+use Rattle.ts_to_js.proofs.Enough.{other_line}
 
 -- a run that was to end otherwise is not done
 not_done : (expected status : ℕ) → expected ≢ DONE → EndsWith expected status → status ≢ DONE
@@ -68,6 +71,12 @@ module _ (law : WrittenModulesDoWhatTheirSourcesDo) (src : List ℕ) (answer : R
       not_refused DONE status (λ e. omega (arith, e)) (subst (λ x. EndsWith (expected_of x).status status) one.1 ends) refused
   refuses_by (Some word) is ends refused valid = not_refused BAD_WORD status (λ e. omega (arith, e)) ends refused
 
+-- a run that was refused told a line, and not that of a session without contexts
+enough_by : NoRunIsSpent → (src : List ℕ) (answer : Result (List ℕ) TsError) (status : ℕ) (out out' err err' : Seen) (bad : Option (List ℕ)) → (bad ≡ None → IsExpectedOf src answer status out out' err err')
+    → EndsWith (expected bad answer).status status → status ≡ REFUSED → (expected bad answer).line ≢ fault_line error.Spent
+enough_by law src answer status out out' err err' None is ends refused = other_line answer (law src answer (not_expected src answer status out out' err err' (inr refused) (is refl)))
+enough_by law src answer status out out' err err' (Some word) is ends refused = absurd (not_refused BAD_WORD status (λ e. omega (arith, e)) ends refused)
+
 complete_by : (status : ℕ) (read_fault write_fault : Type 0) → EndsWith DONE status → (status ≡ READ_FAULT → read_fault) → (status ≡ WRITE_FAULT → write_fault)
     → ¬ read_fault → ¬ write_fault → (status ≡ DONE) ⊎ (status ≡ NO_MEMORY)
 complete_by status rf wf (inl e) read write no_read no_write = inl e
@@ -90,17 +99,18 @@ pub rose : {before now : ℕ} → Counted before now → Rose before now
 rose counted = omega (arith, counted.one_more)
 
 -- a run, whose faults have their causes
-pub is_run : WrittenModulesDoWhatTheirSourcesDo → (bad left : Option (List ℕ)) (status : ℕ) (read_fault write_fault : Type 0) (out out' err err' : Seen) (src : List ℕ) → IfSome left (λ all. src ≡ first_read all)
+pub is_run : WrittenModulesDoWhatTheirSourcesDo → NoRunIsSpent → (bad left : Option (List ℕ)) (status : ℕ) (read_fault write_fault : Type 0) (out out' err err' : Seen) (src : List ℕ) → IfSome left (λ all. src ≡ first_read all)
     → (answer : Result (List ℕ) TsError) → (bad ≡ None → IsExpectedOf src answer status out out' err err')
     → Ran (expected bad answer) status out out' err err' → (status ≡ READ_FAULT → read_fault) → (status ≡ WRITE_FAULT → write_fault)
     → IsRun bad left status read_fault write_fault out out' err err'
-is_run law bad left status read_fault write_fault out out' err err' src is_read answer is_expected ran read write = record {
+is_run law spent bad left status read_fault write_fault out out' err err' src is_read answer is_expected ran read write = record {
   src = src;
   is_read = is_read;
   answer = answer;
   is_expected = is_expected;
   ran = ran;
   converts = converts_by law src answer status out out' err err' bad is_expected ran.ends;
+  enough = enough_by spent src answer status out out' err err' bad is_expected ran.ends;
   refuses = refuses_by law src answer status out out' err err' bad is_expected ran.ends;
   complete = λ none valid. complete_none law src answer status out out' err err' read_fault write_fault (is_expected none)
       (subst (λ b. EndsWith (expected b answer).status status) none ran.ends) valid read write;

@@ -38,6 +38,10 @@ expected (Some word) answer = record { status = BAD_WORD; text = []; line = bad_
 abbrev pub contexts_of_a_run : ℕ
 contexts_of_a_run = 4294967295
 
+-- these are enough: no bytes are refused for want of them
+abbrev pub NoRunIsSpent : Type 0
+NoRunIsSpent = (src : List ℕ) (answer : Result (List ℕ) TsError) → IsConverted contexts_of_a_run src answer → answer ≢ Err error.Spent
+
 -- the bytes that a run reads of those that a source has left: one more than a module may have, if there are so many
 abbrev pub first_read : List ℕ → List ℕ
 first_read left = take (byte_limit + 1) left
@@ -119,6 +123,8 @@ pub record IsRun (bad : Option (List ℕ)) (left : Option (List ℕ)) (status : 
   pub ran : Ran (expected bad answer) status out out' err err'
   -- where the run is done, what the output took is a conversion of these bytes
   pub converts : status ≡ DONE → IsConversion contexts_of_a_run src (expected bad answer).text
+  -- no module is refused for want of contexts: the line of a refusal is another
+  pub enough : status ≡ REFUSED → (expected bad answer).line ≢ fault_line error.Spent
   -- a valid module is not refused, and without a bad word and a fault it is converted, unless memory runs out
   pub refuses : status ≡ REFUSED → IsValid contexts_of_a_run src → ⊥
   pub complete : bad ≡ None → IsValid contexts_of_a_run src → ¬ read_fault → ¬ write_fault → (status ≡ DONE) ⊎ (status ≡ NO_MEMORY)

@@ -14,7 +14,9 @@ pub use devices::{
 };
 pub use error::TsError;
 pub use host::command;
-pub use program::{BAD_WORD, DONE, NO_MEMORY, READ_FAULT, REFUSED, WRITE_FAULT, run, tell};
+pub use program::{
+    BAD_WORD, DONE, NO_MEMORY, READ_FAULT, REFUSED, WRITE_FAULT, no_run_is_spent, run, tell,
+};
 
 #[cfg(test)]
 mod tests;

@@ -2,12 +2,13 @@ ghost use Rattle.std.specs.Prelude.{◌≡◌, ◌≢◌, ◌⊎◌, ◌+◌, �
 ghost use Rattle.std.specs.Option.{option_copied};
 ghost use Rattle.devices.specs.Counts.{CountedAtMost, CountedExactlyIf, Rose};
 ghost use Rattle.ts_to_js.specs.Answer.{Answers};
-ghost use Rattle.ts_to_js.specs.Running.{bad_word, expected_of, IsRunOf, IsUnwritten, first_read, seen, written_status, reported_status, Refuses, Ran, IsRun};
+ghost use Rattle.ts_to_js.specs.Running.{bad_word, expected_of, IsRunOf, IsUnwritten, first_read, seen, written_status, reported_status, Refuses, NoRunIsSpent, Ran, IsRun};
 
 use crate::convert::{LIMIT, Options, ts_to_js};
 use crate::error::TsError;
 use crate::report::{write_fault, write_line};
 use devices::{ReadFault, Sink, SinkError, Source, read_up_to, write_all};
+use ecma_few_scopes::needed_is_bounded_by_the_text;
 use ecma_tree::Session;
 use ecma_written_laws::written_modules_do_what_their_sources_do;
 use std::alloc::Global;
@@ -46,17 +47,25 @@ pub fn run<S: Source, O: Sink, E: Sink>(
     ensures write_fault { CountedExactlyIf (result ≡ WRITE_FAULT) (O.faults out.old) (O.faults out.new) }
 
     // Status, output and errors are those of the words and the bytes that were read; what is written is
-    // a conversion of them.
+    // a conversion of them, and no refusal is want of contexts.
     ensures run { IsRun (bad_word words.now) (S.left source.old) result
         (Rose (S.faults source.old) (S.faults source.new)) (Rose (O.faults out.old) (O.faults out.new))
         (seen O.taken O.faults O.calls out.old) (seen O.taken O.faults O.calls out.new)
         (seen E.taken E.faults E.calls err.old) (seen E.taken E.faults E.calls err.new) }
 {
     written_modules_do_what_their_sources_do();
+    no_run_is_spent();
     match bad_word(words) {
         Some(word) => reported(write_line(err, "error: bad word ", word), BAD_WORD),
         None => run_source(alloc, source, out, err),
     }
+}
+
+/// A run has contexts enough: no bytes are refused for want of them.
+pub fn no_run_is_spent()
+    ensures { NoRunIsSpent }
+{
+    needed_is_bounded_by_the_text();
 }
 
 fn bad_word(words: &[RcStr]) -> Option<&str>
