@@ -1,0 +1,43 @@
+-- Stripping twice is stripping once.
+use Rattle.std.specs.Prelude.{◌≡◌, Bool, true, ◌&&◌, not, List, map}
+use Rattle.std.specs.List.{list_all}
+use Rattle.ecma_kind.specs.declared.kind.Kind.{Kind}
+use Rattle.ecma_kind.specs.declared.kind.Kind.TheVariants as kind
+use Rattle.ecma_kind.specs.declared.shapes.Sort.{Sort}
+use Rattle.ecma_tree.specs.declared.node.Node.{Node, out-Node}
+use Rattle.ecma_tree.specs.Sorted.{HasSort}
+use Rattle.ecma_rules.specs.Layers.{from_leaves}
+use Rattle.ecma_strip.specs.Laws.{HasSortUnderTypes}
+use Rattle.ecma_strip.specs.Staying.{is_this_param}
+use Rattle.ecma_strip.specs.Stripping.{stripped}
+use Rattle.ecma_strip.specs.Values.{is_value, value_by}
+
+-- whether a test holds of a node, and of all below it
+abbrev pub holds_everywhere : (Node → Bool) → Node → Bool
+holds_everywhere test = from_leaves Bool (λ node held. test node && list_all (λ b. b) held)
+
+-- a namespace has a value, and no item of a list is the name `this`
+unfoldable pub lasts_by : Kind → List Node → Bool
+lasts_by (kind.TsModuleDecl declare global) children = value_by (kind.TsModuleDecl declare global) (map is_value children)
+lasts_by kind.List children = list_all (λ n. not (is_this_param n)) children
+lasts_by _ children = true
+
+abbrev pub lasts : Node → Bool
+lasts node = lasts_by (out-Node node).kind (out-Node node).children
+
+-- a tree without its types stays when it is stripped again, where no namespace without values is left in it, as of `namespace N { declare let a }`, and no `this` in
+-- a list, as of a bound name `this` with a type round it, which no reader gives
+abbrev pub StrippingTwiceIsStrippingOnce : Type 0
+StrippingTwiceIsStrippingOnce = (tree : Node) (sort : Sort) → HasSortUnderTypes sort tree → holds_everywhere lasts (stripped tree) ≡ true → stripped (stripped tree) ≡ stripped tree
+
+-- a namespace has a value
+unfoldable pub is_full_by : Kind → List Node → Bool
+is_full_by (kind.TsModuleDecl declare global) children = value_by (kind.TsModuleDecl declare global) (map is_value children)
+is_full_by _ children = true
+
+abbrev pub is_full : Node → Bool
+is_full node = is_full_by (out-Node node).kind (out-Node node).children
+
+-- of a tree that has its sort with the types round its expressions too, no `this` is left in a list
+abbrev pub SortedTreesStripOnce : Type 0
+SortedTreesStripOnce = (tree : Node) (sort : Sort) → HasSort sort tree → HasSortUnderTypes sort tree → holds_everywhere is_full (stripped tree) ≡ true → stripped (stripped tree) ≡ stripped tree
