@@ -1,5 +1,5 @@
 -- What a module does, from the source to what is read again, by the laws of each step.
-use Rattle.std.proofs.Common.{◌≡◌, ◌≢◌, ℕ, ◌+◌, ◌<◌, ◌≤◌, arith, true, false, List, refl, sym, ap, ◌∙◌, subst}
+use Rattle.std.proofs.Common.{◌≡◌, ◌≢◌, ℕ, ◌+◌, ◌<◌, ◌≤◌, arith, true, List, refl, sym, ap, ◌∙◌, subst}
 use Rattle.std.specs.List.{All}
 use Rattle.ecma_kind.specs.declared.shapes.Sort.TheVariants as sort
 use Rattle.ecma_tree.specs.Sorted.{HasSort, one}
@@ -12,6 +12,7 @@ use Rattle.ecma_parentheses.specs.Laws.{RunsAlike}
 use Rattle.ecma_runs.specs.declared.config.Config.{Config}
 use Rattle.ecma_runs.specs.declared.script.Script.{Script}
 use Rattle.ecma_runs.specs.Observation.{observe}
+use Rattle.ecma_scope.specs.declared.role.Role.TheVariants as role
 use Rattle.ecma_scope.specs.Laws.{ResolvedChangesContexts, ResolvedKeepsSorts, without_contexts}
 use Rattle.ecma_scope.specs.Resolved.{contexts, resolved}
 use Rattle.ecma_scope_laws.specs.Parentheses.{HasBodies, ParenthesesDoNotMatterToContexts}
@@ -38,7 +39,7 @@ use Rattle.ecma_pass_laws.specs.TypesAlone.{adds_types_alone}
 use Rattle.ecma_pass_laws.proofs.ClearSeats.{module-stands}
 use Rattle.ecma_pass_laws.proofs.Contexts.{calm, resolved-adds-types}
 use Rattle.ecma_pass_laws.proofs.Full.{modules-are-full}
-use Rattle.ecma_pass_laws.proofs.Names.{bound-other, bound-seen, outer}
+use Rattle.ecma_pass_laws.proofs.Names.{bound-other, bound-seen, outer, seats-other}
 use Rattle.ecma_pass_laws.proofs.Receivers.{no-receivers}
 use Rattle.ecma_pass_laws.proofs.Renaming.{kept}
 
@@ -99,7 +100,7 @@ module _ (laws : Laws) (unresolved top left : ℕ) (source : Node) (is : IsSourc
   checked = record { sorted = is.fits.sorted; bare = is.bare; clear = is.distinct; calm = λ k d lt opens_it. laws.ambient source (calm source is.types) k d lt }
 
   apart : (less : ℕ) → TellsScopesApart unresolved less s
-  apart less = laws.tells false unresolved top left less source checked given.unresolved_above given.top_above given.apart given.enough (laws.clear r fits alone) (λ k d lt. refl)
+  apart less = laws.tells true unresolved top left less source checked given.unresolved_above given.top_above given.apart given.enough (laws.clear r fits alone) (seats-other s role.Root (modules-are-full r fits alone))
 
   sorted : HasSort sort.Module s
   sorted = laws.strip_sorts r fits

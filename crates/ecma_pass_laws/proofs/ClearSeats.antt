@@ -30,6 +30,7 @@ use Rattle.ecma_strip_fits.proofs.Walk.{neither_least}
 use Rattle.ecma_pass_laws.specs.Clear.{ModulesAreClear}
 use Rattle.ecma_pass_laws.specs.TypesAlone.{adds_types_alone}
 use Rattle.ecma_pass_laws.proofs.Asking.{Asked, is_default_export}
+use Rattle.ecma_pass_laws.proofs.Strays.{opener-other}
 use Rattle.ecma_pass_laws.proofs.Clearing.{Stands, clears, stands-below}
 use Rattle.ecma_pass_laws.proofs.Nodes.{none-some, some-same}
 use Rattle.ecma_pass_laws.proofs.Remaining.{first_declared, remains_by}
@@ -110,16 +111,16 @@ own-asked : (r : Role) (n : Node) (s : Shape) (w : Where) → (is_default r ≡ 
 own-asked role.Default n s w default h = default-remains (out-Node n).kind (is_value n) (first_declared (out-Node n).children) (default refl)
 own-asked _ n s w default h = unwrapped _ n (is_type_wrapper (out-Node n).kind) refl h
 
-seat-clear : (r : Role) (n : Node) (s : Shape) (w : Where) → Stands n s w → (is_default r ≡ true → belongs sort.DefaultDecl (out-Node n).kind ≡ true) → IsClearSeat false (record { role = r; node = n })
+seat-clear : (r : Role) (n : Node) (s : Shape) (w : Where) → Stands n s w → (is_default r ≡ true → belongs sort.DefaultDecl (out-Node n).kind ≡ true) → IsClearSeat true (record { role = r; node = n })
 seat-clear r n s w is default h = record {
-  own = clears n s w (record { part = own_part r; stays = true }) is refl (own-asked r n s w default h);
-  vars = λ v. clears n s w (record { part = part.Var; stays = true }) is refl (holder-remains r (out-Node n).kind (is_value n) (first_declared (out-Node n).children) v);
+  own = clears n s w (record { part = own_part r; stays = true }) is (opener-other r n h) refl (own-asked r n s w default h);
+  vars = λ v. clears n s w (record { part = part.Var; stays = true }) is (opener-other r n h) refl (holder-remains r (out-Node n).kind (is_value n) (first_declared (out-Node n).children) v);
 }
 
 -- ---- all of them
 
 abbrev SeatsClear : Node → Type 0
-SeatsClear n = (s : Shape) (w : Where) (r : Role) → Stands n s w → (is_default r ≡ true → belongs sort.DefaultDecl (out-Node n).kind ≡ true) → All (IsClearSeat false) (seats_at n r)
+SeatsClear n = (s : Shape) (w : Where) (r : Role) → Stands n s w → (is_default r ≡ true → belongs sort.DefaultDecl (out-Node n).kind ≡ true) → All (IsClearSeat true) (seats_at n r)
 
 -- a child, which stands so, and which is a default where its role says so
 record Child (c : Node) (r : Role) : Type 0 where
@@ -129,7 +130,7 @@ record Child (c : Node) (r : Role) : Type 0 where
   default : is_default r ≡ true → belongs sort.DefaultDecl (out-Node c).kind ≡ true
 
 abbrev AllClear : List Node → Type 0
-AllClear cs = (roles : ℕ → Role) (i : ℕ) → ((j : ℕ) (c : Node) → slice_get cs j ≡ Some c → Child c (roles (i + j))) → All (IsClearSeat false) (gathered_from Role Seat roles i (map seats_at cs))
+AllClear cs = (roles : ℕ → Role) (i : ℕ) → ((j : ℕ) (c : Node) → slice_get cs j ≡ Some c → Child c (roles (i + j))) → All (IsClearSeat true) (gathered_from Role Seat roles i (map seats_at cs))
 
 none-more : (i : ℕ) → i + 0 ≡ i
 none-more i = omega arith
@@ -141,16 +142,16 @@ front : (j : ℕ) → 0 + j ≡ j
 front j = omega arith
 
 all-clear : (ns : List ((n : Node) × SeatsClear n)) → AllClear (map (λ e. e.0) ns)
-all-clear [] roles i each = All-nil (IsClearSeat false)
+all-clear [] roles i each = All-nil (IsClearSeat true)
 all-clear (n ∷ ns) roles i each =
     let first : Child n.0 (roles i) = subst (λ (l : ℕ). Child n.0 (roles l)) (none-more i) (each 0 n.0 refl) in
-    All-append (IsClearSeat false) (seats_at n.0 (roles i)) (gathered_from Role Seat roles (suc i) (map seats_at (map (λ e. e.0) ns))) (n.1 first.shape first.place (roles i) first.stands first.default)
+    All-append (IsClearSeat true) (seats_at n.0 (roles i)) (gathered_from Role Seat roles (suc i) (map seats_at (map (λ e. e.0) ns))) (n.1 first.shape first.place (roles i) first.stands first.default)
     (all-clear ns roles (suc i) (λ j c at. subst (λ (l : ℕ). Child c (roles l)) (one-more i j) (each (suc j) c at)))
 
 layer-seats : (n : Node) → AllClear (out-Node n).children → SeatsClear n
 layer-seats n children s w r is default =
-    subst (All (IsClearSeat false)) (sym (gathered-out Role Seat seat_here role_in n r))
-    (All-cons (IsClearSeat false) (record { role = r; node = n }) (gathered_from Role Seat (role_in r n) 0 (map seats_at (out-Node n).children)) (seat-clear r n s w is default)
+    subst (All (IsClearSeat true)) (sym (gathered-out Role Seat seat_here role_in n r))
+    (All-cons (IsClearSeat true) (record { role = r; node = n }) (gathered_from Role Seat (role_in r n) 0 (map seats_at (out-Node n).children)) (seat-clear r n s w is default)
     (children (role_in r n) 0 (λ j c at. subst (λ (l : ℕ). Child c (role_in r n l)) (sym (front j)) (child j c at))))
   where
     child : (j : ℕ) (c : Node) → slice_get (out-Node n).children j ≡ Some c → Child c (role_in r n j)

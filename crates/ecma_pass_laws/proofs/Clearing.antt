@@ -1,5 +1,6 @@
 -- In a tree that fits, and in which all that is TypeScript is types, it is clear what is declared, wherever names are looked for.
-use Rattle.std.proofs.Common.{◌≡◌, ℕ, zero, suc, ◌+◌, arith, Bool, true, false, ◌&&◌, ◌||◌, not, cond, List, [], ◌∷◌, map, length, replicate, Option, Some, None, refl, sym, ap, ◌∙◌, subst, slice_get}
+use Rattle.std.proofs.Common.{◌≡◌, ℕ, zero, suc, ◌+◌, ◌==◌, arith, Bool, true, false, ◌&&◌, ◌||◌, not, cond, List, [], ◌∷◌, map, length, replicate, Option, Some, None, refl, sym, ap, ◌∙◌, subst, slice_get}
+use Rattle.std.proofs.lemmas.Bool.{eqb-true}
 use Rattle.ecma_kind.specs.Sorts.{belongs, is_type_wrapper}
 use Rattle.ecma_kind.specs.declared.kind.Kind.{Kind}
 use Rattle.ecma_kind.specs.declared.kind.Kind.TheVariants as kind
@@ -22,7 +23,7 @@ use Rattle.ecma_scope.specs.declared.form.Part.TheVariants as part
 use Rattle.ecma_scope.specs.declared.form.Sought.{Sought}
 use Rattle.ecma_scope.specs.Declarations.{in_default, in_item, in_member, in_name, in_scope, in_var, is_value as scope_value, sought_by, sought_in}
 use Rattle.ecma_scope.proofs.Layers as layers
-use Rattle.ecma_strip.specs.Staying.{if_there, is_export, is_this, is_this_by, is_this_ident, is_this_param, is_this_param_by, stays}
+use Rattle.ecma_strip.specs.Staying.{if_there, is_export, is_this_ident, is_this_param, stays}
 use Rattle.ecma_strip.specs.Stripping.{stripped}
 use Rattle.ecma_strip.specs.Values.{is_value, value_by}
 use Rattle.ecma_strip.proofs.Valuing.{is_value-out}
@@ -32,25 +33,23 @@ use Rattle.ecma_hygiene_laws.specs.DeclaredIds.{DeclaredId, ids_declared}
 use Rattle.ecma_strip_scopes.specs.Going.{is_namespace, is_namespace_kind}
 use Rattle.ecma_strip_scopes.specs.Standing.{bodies_stay, clear_at, clear_here, clear_in, clear_step, has_value, is_clear, is_none, same}
 use Rattle.ecma_strip_scopes.proofs.Going.{is_named, named-values, parts-have}
+use Rattle.ecma_strip_scopes.proofs.Seeking.{setter-seeks}
 use Rattle.ecma_strip_scopes.proofs.Standing.{list-kind}
 use Rattle.ecma_strip_fits.proofs.Walk.{each_none, neither_least}
-use Rattle.ecma_pass_laws.specs.TypesAlone.{adds_types_alone, is_lowered}
+use Rattle.ecma_pass_laws.specs.TypesAlone.{adds_types_alone, is_lowered, is_receiver}
 use Rattle.ecma_pass_laws.proofs.Expressions.{expression-item, expression-var, expressive, wrapper-expression}
 use Rattle.ecma_pass_laws.proofs.Nodes.{alone-below, by-children, child-shape, neither, no-ambient-head, none-some, not-lowered, some-same, test-below, test-here}
 use Rattle.ecma_strip_scopes.proofs.Wrapping.{takes_types}
 use Rattle.ecma_pass_laws.proofs.Remaining.{children-remain, first_declared, holds_items, is_many, remains, remains_by, stays-remains}
 use Rattle.ecma_pass_laws.proofs.Asking.{Asked, Got, Valued, declares-no-wrapper, default-got, got-some, is_default_export, item-got, list-declaring, name-got, scope-got, unassigned, var-got}
+use Rattle.ecma_pass_laws.proofs.Strays.{child-other, is_spared, item-other}
 use Rattle.ecma_pass_laws.proofs.Values.{bodies-stay, named-kept}
 
--- ---- what goes from a list is no parameter `this`, and no namespace
+-- ---- what goes from a list is no namespace
 
 lowered-namespace : (k : Kind) → is_lowered k ≡ false → is_namespace_kind k ≡ false
 lowered-namespace (kind.TsModuleDecl d g) h = absurd (true-false refl h)
 lowered-namespace _ h = refl
-
-lowered-this : (k : Kind) → is_lowered k ≡ false → is_this_ident k ≡ false
-lowered-this (kind.Ident s c o) h = h
-lowered-this _ h = refl
 
 none-there : (cs : List Node) (f : Node → Bool) → ((c : Node) → slice_get cs 0 ≡ Some c → f c ≡ false) → if_there (slice_get cs 0) f ≡ false
 none-there [] f h = refl
@@ -65,20 +64,6 @@ no-namespace n alone =
     cond-false (is_export (out-Node n).kind) _ _
     (none-there (out-Node n).children (λ x. is_namespace_kind (out-Node x).kind) (λ c at. lowered-namespace (out-Node c).kind (not-lowered c (alone-below n alone 0 c at))))
     (lowered-namespace (out-Node n).kind (not-lowered n alone))
-
-pub no-this : (n : Node) → adds_types_alone n ≡ true → is_this n ≡ false
-no-this n alone = by (out-Node n).kind
-  where
-    by : (k : Kind) → is_this_by k n ≡ false
-    by kind.BindingIdent = none-there (out-Node n).children (λ x. is_this_ident (out-Node x).kind) (λ c at. lowered-this (out-Node c).kind (not-lowered c (alone-below n alone 0 c at)))
-    by _ = refl
-
-no-this-param : (n : Node) → adds_types_alone n ≡ true → is_this_param n ≡ false
-no-this-param n alone = by (out-Node n).kind
-  where
-    by : (k : Kind) → is_this_param_by k n ≡ false
-    by kind.Param = none-there (out-Node n).children is_this (λ c at. no-this c (alone-below n alone 0 c at))
-    by _ = no-this n alone
 
 -- ---- a node that fits
 
@@ -123,12 +108,12 @@ stands-below n s w is i c at =
 -- ---- the children
 
 abbrev pub Clears : Node → Type 0
-Clears n = (s : Shape) (w : Where) (q : Sought) → Stands n s w → q.stays ≡ true → Asked q.part n s w.role → is_clear false n q ≡ true
+Clears n = (s : Shape) (w : Where) (q : Sought) → Stands n s w → is_receiver n ≡ false → q.stays ≡ true → Asked q.part n s w.role → is_clear true n q ≡ true
 
 -- of what is no list
-clear-each : (into : ℕ → Option Sought) (i : ℕ) (cs : List Node) → ((j : ℕ) (c : Node) (q : Sought) → slice_get cs j ≡ Some c → into (i + j) ≡ Some q → (q.stays ≡ true) × (is_clear false c q ≡ true)) → clear_in false false into i cs (map (is_clear false) cs) ≡ true
+clear-each : (into : ℕ → Option Sought) (i : ℕ) (cs : List Node) → ((j : ℕ) (c : Node) (q : Sought) → slice_get cs j ≡ Some c → into (i + j) ≡ Some q → (q.stays ≡ true) × (is_clear true c q ≡ true)) → clear_in true false into i cs (map (is_clear true) cs) ≡ true
 clear-each into i [] each = refl
-clear-each into i (c ∷ cs) each = and-both (clear_at (into i) (is_clear false c)) (clear_in false false into (suc i) cs (map (is_clear false) cs)) (by (into i) refl) (clear-each into (suc i) cs (λ j d q at h. each (suc j) d q at (ap into (shift i j) ∙ h)))
+clear-each into i (c ∷ cs) each = and-both (clear_at (into i) (is_clear true c)) (clear_in true false into (suc i) cs (map (is_clear true) cs)) (by (into i) refl) (clear-each into (suc i) cs (λ j d q at h. each (suc j) d q at (ap into (shift i j) ∙ h)))
   where
     shift : (i j : ℕ) → i + suc j ≡ suc i + j
     shift i j = omega arith
@@ -136,28 +121,24 @@ clear-each into i (c ∷ cs) each = and-both (clear_at (into i) (is_clear false 
     none : (i : ℕ) → i + 0 ≡ i
     none i = omega arith
 
-    by : (o : Option Sought) → into i ≡ o → clear_at o (is_clear false c) ≡ true
+    by : (o : Option Sought) → into i ≡ o → clear_at o (is_clear true c) ≡ true
     by None is = refl
-    by (Some q) is = let h = each 0 c q refl (ap into (none i) ∙ is) in and-both q.stays (is_clear false c q) h.0 h.1
+    by (Some q) is = let h = each 0 c q refl (ap into (none i) ∙ is) in and-both q.stays (is_clear true c q) h.0 h.1
 
 -- of a list
 clear-items : (into : ℕ → Option Sought) (i : ℕ) (cs : List Node)
-    → ((j : ℕ) (c : Node) → slice_get cs j ≡ Some c → (is_this_param c ≡ false) × (is_namespace c ≡ false) × ((l : ℕ) (q : Sought) → stays c ≡ true → into l ≡ Some q → (q.stays ≡ true) × (is_clear false c q ≡ true))) → clear_in false true into i cs (map (is_clear false) cs) ≡ true
+    → ((j : ℕ) (c : Node) → slice_get cs j ≡ Some c → (is_namespace c ≡ false) × ((l : ℕ) (q : Sought) → stays c ≡ true → into l ≡ Some q → (q.stays ≡ true) × (is_clear true c q ≡ true))) → clear_in true true into i cs (map (is_clear true) cs) ≡ true
 clear-items into i [] each = refl
 clear-items into i (c ∷ cs) each =
-    and-both (cond (not (stays c)) (not (is_this_param c || is_namespace c)) (clear_at (into i) (is_clear false c))) (clear_in false true into (suc i) cs (map (is_clear false) cs)) (by (stays c) refl) (clear-items into (suc i) cs (λ j d at. each (suc j) d at))
+    and-both (cond (not (stays c)) (not (is_namespace c)) (clear_at (into i) (is_clear true c))) (clear_in true true into (suc i) cs (map (is_clear true) cs)) (by (stays c) refl) (clear-items into (suc i) cs (λ j d at. each (suc j) d at))
   where
-    at : (o : Option Sought) → stays c ≡ true → into i ≡ o → clear_at o (is_clear false c) ≡ true
+    at : (o : Option Sought) → stays c ≡ true → into i ≡ o → clear_at o (is_clear true c) ≡ true
     at None st is = refl
-    at (Some q) st is = let h = (each 0 c refl).2 i q st is in and-both q.stays (is_clear false c q) h.0 h.1
+    at (Some q) st is = let h = (each 0 c refl).1 i q st is in and-both q.stays (is_clear true c q) h.0 h.1
 
-    gone : (a b : Bool) → a ≡ false → b ≡ false → not (a || b) ≡ true
-    gone true b h g = absurd (true-false refl h)
-    gone false b h g = ap not g
-
-    by : (b : Bool) → stays c ≡ b → cond (not b) (not (is_this_param c || is_namespace c)) (clear_at (into i) (is_clear false c)) ≡ true
+    by : (b : Bool) → stays c ≡ b → cond (not b) (not (is_namespace c)) (clear_at (into i) (is_clear true c)) ≡ true
     by true st = at (into i) st refl
-    by false st = let h = each 0 c refl in gone (is_this_param c) (is_namespace c) h.0 h.1
+    by false st = ap not (each 0 c refl).0
 
 -- ---- a node
 
@@ -254,40 +235,56 @@ module _ (n : Node) (s : Shape) (w : Where) (is : Stands n s w) where
   wrapped-by part.Scope st stay asked wrap = absurd (true-false wrap asked)
   wrapped-by part.Member st stay asked wrap = absurd asked
 
-  here : (q : Sought) → q.stays ≡ true → Asked q.part n s w.role → clear_here false n q ≡ true
-  here q stay asked =
+  clear-kind : (q : Sought) → q.stays ≡ true → Asked q.part n s w.role
+      → cond (is_type_wrapper k) (is_none (ids_declared (stripped n) q)) ((not (has_value k) || same (scope_value (stripped n)) (scope_value n)) && bodies_stay k (map stripped cs)) ≡ true
+  clear-kind q stay asked =
       chosen (is_type_wrapper k) (is_none (ids_declared (stripped n) q)) ((not (has_value k) || same (scope_value (stripped n)) (scope_value n)) && bodies_stay k (map stripped cs)) (wrapped-by q.part q.stays stay asked)
       (λ other. and-both (not (has_value k) || same (scope_value (stripped n)) (scope_value n)) (bodies_stay k (map stripped cs))
       (implied (has_value k) (same (scope_value (stripped n)) (scope_value n)) (λ v. same-of (scope_value (stripped n)) (scope_value n) (named-kept n s is.has (valued-named k (not-lowered n is.alone) v))))
       (bodies-stay k cs s have (test-here declares_no_body n is.usual)))
+
+  here : (q : Sought) → is_receiver n ≡ false → q.stays ≡ true → Asked q.part n s w.role → clear_here true n q ≡ true
+  here q free stay asked =
+      and-both (not (is_this_ident k)) (cond (is_type_wrapper k) (is_none (ids_declared (stripped n) q)) ((not (has_value k) || same (scope_value (stripped n)) (scope_value n)) && bodies_stay k (map stripped cs)))
+      (ap not (neither (is_this_ident k) (is_this_param n) free).0) (clear-kind q stay asked)
 
 front : (j : ℕ) → j ≡ 0 + j
 front j = omega arith
 
 layer-clears : (n : Node) → ((i : ℕ) (c : Node) → slice_get (out-Node n).children i ≡ Some c → Clears c) → Clears n
 unfolding sought_in role_in
-layer-clears n below s w q is stay asked =
-    ap (λ f. f q) (layers.from_leaves_out (Sought → Bool) (clear_step false) n)
-    ∙ and-both (clear_here false n q) (clear_in false (is_list (out-Node n).kind) (sought_in q n) 0 (out-Node n).children (map (is_clear false) (out-Node n).children)) (here n s w is q stay asked) (by (is_list (out-Node n).kind) refl)
+layer-clears n below s w q is free stay asked =
+    ap (λ f. f q) (layers.from_leaves_out (Sought → Bool) (clear_step true) n)
+    ∙ and-both (clear_here true n q) (clear_in true (is_list (out-Node n).kind) (sought_in q n) 0 (out-Node n).children (map (is_clear true) (out-Node n).children)) (here n s w is q free stay asked) (by (is_list (out-Node n).kind) refl)
   where
+    -- nothing is looked for in the `this` of a setter
+    unspared : (j : ℕ) (p : Sought) → sought_in q n j ≡ Some p → is_spared (out-Node n).kind j ≡ false
+    unspared j p h = by (out-Node n).kind refl (j == 1) refl
+      where
+        by : (k : Kind) → (out-Node n).kind ≡ k → (b : Bool) → (j == 1) ≡ b → is_spared k j ≡ false
+        by kind.SetterProp e false is = is
+        by kind.SetterProp e true is =
+            none-some (sym (ap (λ (z : Kind). sought_by q.part q.stays (scope_value n) z 1) e ∙ setter-seeks q.part q.stays (scope_value n)) ∙ sym (ap (sought_in q n) (eqb-true j 1 is)) ∙ h)
+        by k e b is = refl
+
     true-stays : (i : ℕ) (o : Option Sought) → sought_in q n i ≡ o → sought_by q.part true (scope_value n) (out-Node n).kind i ≡ o
     true-stays i o h = ap (λ (b : Bool). sought_by q.part b (scope_value n) (out-Node n).kind i) (sym stay) ∙ h
 
-    by : (b : Bool) → is_list (out-Node n).kind ≡ b → clear_in false b (sought_in q n) 0 (out-Node n).children (map (is_clear false) (out-Node n).children) ≡ true
+    by : (b : Bool) → is_list (out-Node n).kind ≡ b → clear_in true b (sought_in q n) 0 (out-Node n).children (map (is_clear true) (out-Node n).children) ≡ true
     by false l =
         clear-each (sought_in q n) 0 (out-Node n).children (λ j c p at h. (
         let t = stands-below n s w is j c at in
-        let g = got-by n s w is q.part l asked j c t.0 p at t.2.has t.1 (true-stays j (Some p) (ap (sought_in q n) (front j) ∙ h)) in
-        (g.0, below j c at t.0 (where_in w n j) p t.2 g.0 g.1)))
+        let found = ap (sought_in q n) (front j) ∙ h in
+        let g = got-by n s w is q.part l asked j c t.0 p at t.2.has t.1 (true-stays j (Some p) found) in
+        (g.0, below j c at t.0 (where_in w n j) p t.2 (child-other n s is.has is.alone free l j c at (unspared j p found)) g.0 g.1)))
     by true l =
         let e : (out-Node n).kind ≡ kind.List = list-kind (out-Node n).kind l in
         clear-items (sought_in q n) 0 (out-Node n).children (λ j c at. (
-          no-this-param c (alone-below n is.alone j c at),
           no-namespace c (alone-below n is.alone j c at),
           (λ i p st h. (
               let t = stands-below n s w is j c at in
               let g = list-got n s w is q.part (ap (allows s) (sym e) ∙ (parts-have n s is.has).0) asked i c p st (ap (λ (z : Kind). sought_by q.part true (scope_value n) z i) (sym e) ∙ true-stays i (Some p) h) in
-              (g.0, below j c at (item_shape s) (where_in w n j) p (item-stands e j c at) g.0 (subst (λ (r : Role). Asked p.part c (item_shape s) r) (ap (λ (z : Kind). role_in w.role z j) (sym e)) g.1)))),
+              (g.0, below j c at (item_shape s) (where_in w n j) p (item-stands e j c at) (item-other n is.alone l j c at st) g.0 (subst (λ (r : Role). Asked p.part c (item_shape s) r) (ap (λ (z : Kind). role_in w.role z j) (sym e)) g.1)))),
         ))
       where
         item-at : (count i : ℕ) (o : Shape) → slice_get (replicate count (item_shape s)) i ≡ Some o → o ≡ item_shape s

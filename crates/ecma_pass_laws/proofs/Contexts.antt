@@ -11,13 +11,13 @@ use Rattle.ecma_tree.specs.declared.node.Node.TheViews.{out-roll-Node}
 use Rattle.ecma_tree.proofs.Changing.{changed-parts}
 use Rattle.ecma_scope.specs.Laws.{ResolvedChangesContexts}
 use Rattle.ecma_scope.specs.Resolved.{resolved}
-use Rattle.ecma_strip.specs.Staying.{is_declared}
+use Rattle.ecma_strip.specs.Staying.{if_there, is_declared, is_this, is_this_by, is_this_ident, is_this_param, is_this_param_by}
 use Rattle.ecma_strip.specs.Values.{is_value, value_by}
 use Rattle.ecma_strip.proofs.Valuing.{is_value-out}
 use Rattle.ecma_hygiene.proofs.Telling.{true-false}
 use Rattle.ecma_hygiene_laws.specs.Lasting.{is_ambient_namespace}
 use Rattle.ecma_hygiene_laws.proofs.Parts.{children-of, kind-of}
-use Rattle.ecma_pass_laws.specs.TypesAlone.{adds_types_alone, adds_types_by, has_ambient_head, has_bodiless, is_lowered, lacks_body, lacks_body_by}
+use Rattle.ecma_pass_laws.specs.TypesAlone.{adds_types_alone, adds_types_by, has_ambient_head, has_bodiless, has_stray_receiver, is_lone_receiver, is_lowered, is_receiver, lacks_body, lacks_body_by}
 use Rattle.ecma_pass_laws.proofs.Nodes.{alone-below, holds-out, not-lowered}
 
 module _ (context_of : List ℕ → ℕ → ℕ) where
@@ -95,8 +95,57 @@ module _ (context_of : List ℕ → ℕ → ℕ) where
   bodiless-by (kind.Ident s c o) cs = bodies-turned cs
   bodiless-by _ cs = bodies-turned cs
 
+  -- names `this`
+  ident-by : (k : Kind) → is_this_ident (kind_with_context context_of k) ≡ is_this_ident k
+  ident-by (kind.Ident s c o) = refl
+  ident-by _ = refl
+
+  ident-turned : (n : Node) → is_this_ident (out-Node (turned n)).kind ≡ is_this_ident (out-Node n).kind
+  ident-turned n = ap is_this_ident (kind-turned n) ∙ ident-by (out-Node n).kind
+
+  first-turned : (f : Node → Bool) → ((c : Node) → f (turned c) ≡ f c) → (n : Node) → if_there (slice_get (out-Node (turned n)).children 0) f ≡ if_there (slice_get (out-Node n).children 0) f
+  first-turned f same n = ap (λ (cs : List Node). if_there (slice_get cs 0) f) (children-turned n) ∙ by (out-Node n).children
+    where
+      by : (cs : List Node) → if_there (slice_get (map turned cs) 0) f ≡ if_there (slice_get cs 0) f
+      by [] = refl
+      by (c ∷ cs) = same c
+
+  this-by : (k : Kind) (n : Node) → is_this_by (kind_with_context context_of k) (turned n) ≡ is_this_by k n
+  this-by kind.BindingIdent n = first-turned (λ c. is_this_ident (out-Node c).kind) ident-turned n
+  this-by (kind.Ident s c o) n = refl
+  this-by _ n = refl
+
+  this-turned : (n : Node) → is_this (turned n) ≡ is_this n
+  this-turned n = ap (λ (k : Kind). is_this_by k (turned n)) (kind-turned n) ∙ this-by (out-Node n).kind n
+
+  param-by : (k : Kind) (n : Node) → is_this_param_by (kind_with_context context_of k) (turned n) ≡ is_this_param_by k n
+  param-by kind.Param n = first-turned is_this this-turned n
+  param-by (kind.Ident s c o) n = this-turned n
+  param-by _ n = this-turned n
+
+  param-turned : (n : Node) → is_this_param (turned n) ≡ is_this_param n
+  param-turned n = ap (λ (k : Kind). is_this_param_by k (turned n)) (kind-turned n) ∙ param-by (out-Node n).kind n
+
+  receiver-turned : (n : Node) → is_receiver (turned n) ≡ is_receiver n
+  receiver-turned n = ap₂ (λ (a b : Bool). a || b) (ident-turned n) (param-turned n)
+
+  any-turned : (f : Node → Bool) → ((c : Node) → f (turned c) ≡ f c) → (cs : List Node) → list_any f (map turned cs) ≡ list_any f cs
+  any-turned f same [] = refl
+  any-turned f same (c ∷ cs) = ap₂ (λ (a b : Bool). a || b) (same c) (any-turned f same cs)
+
+  stray-by : (k : Kind) (cs : List Node) → has_stray_receiver (kind_with_context context_of k) (map turned cs) ≡ has_stray_receiver k cs
+  stray-by kind.List cs = any-turned is_lone_receiver (λ c. ap₂ (λ (a b : Bool). a || b) (ident-turned c) (this-turned c)) cs
+  stray-by kind.Param cs = any-turned (λ c. is_this_ident (out-Node c).kind) ident-turned cs
+  stray-by kind.BindingIdent [] = refl
+  stray-by kind.BindingIdent (c ∷ cs) = any-turned is_receiver receiver-turned cs
+  stray-by kind.SetterProp [] = refl
+  stray-by kind.SetterProp (c ∷ []) = any-turned is_receiver receiver-turned (c ∷ [])
+  stray-by kind.SetterProp (c ∷ d ∷ cs) = ap₂ (λ (a b : Bool). a || b) (receiver-turned c) (any-turned is_receiver receiver-turned cs)
+  stray-by (kind.Ident s c o) cs = any-turned is_receiver receiver-turned cs
+  stray-by _ cs = any-turned is_receiver receiver-turned cs
+
   test-by : (k : Kind) (cs : List Node) → adds_types_by (kind_with_context context_of k) (map turned cs) ≡ adds_types_by k cs
-  test-by k cs = (λ j. not (lowered-by k j) && (not (head-by k cs j) && not (bodiless-by k cs j)))
+  test-by k cs = (λ j. not (lowered-by k j) && (not (head-by k cs j) && (not (bodiless-by k cs j) && not (stray-by k cs j))))
 
   abbrev Same : Node → Type 0
   Same n = adds_types_alone (turned n) ≡ adds_types_alone n

@@ -1,5 +1,6 @@
 -- What is there with its body, and what is made of it without types.
-use Rattle.std.proofs.Common.{◌≡◌, ℕ, zero, suc, Bool, true, false, ◌&&◌, ◌||◌, not, cond, filter, List, [], ◌∷◌, map, length, replicate, get_or, Some, refl, sym, ap, ◌∙◌, slice_get}
+use Rattle.std.proofs.Common.{◌≡◌, ℕ, zero, suc, ◌==◌, arith, Bool, true, false, ◌&&◌, ◌||◌, not, cond, filter, List, [], ◌∷◌, map, length, replicate, get_or, Some, refl, sym, ap, ap₂, ◌∙◌, slice_get}
+use Rattle.std.proofs.lemmas.Bool.{eqb-true}
 use Rattle.std.specs.List.{list_all}
 use Rattle.ecma_kind.specs.Sorts.{belongs}
 use Rattle.ecma_kind.specs.declared.kind.Kind.{Kind}
@@ -16,7 +17,7 @@ use Rattle.ecma_tree.specs.Sorted.{HasShape, allows, allows_by, child_shapes, is
 use Rattle.ecma_runs.specs.Evaluation.{meaning}
 use Rattle.ecma_runs.specs.Meaning.{Meaning}
 use Rattle.ecma_runs.proofs.Layer.{meaning-roll}
-use Rattle.ecma_strip.specs.Staying.{is_empty_stmt, item_stays, member_stays, member_stays_by}
+use Rattle.ecma_strip.specs.Staying.{is_empty_stmt, is_this, is_this_by, is_this_ident, is_this_param, is_this_param_by, item_stays, member_stays, member_stays_by}
 use Rattle.ecma_strip.specs.Stripping.{body_of, plain, plain_children, plain_kind, staying_nodes, stripped, without_empty, without_this}
 use Rattle.ecma_strip.specs.Values.{is_value, value_by}
 use Rattle.ecma_strip.proofs.Stripping.{stripped-out}
@@ -28,7 +29,8 @@ use Rattle.ecma_hygiene.specs.Renamed.{kind_is_absent}
 use Rattle.ecma_hygiene_laws.proofs.Parts.{kind-of}
 use Rattle.ecma_hygiene_runs.specs.Plain.{has_no_receiver}
 use Rattle.ecma_strip_scopes.proofs.Going.{parts-have}
-use Rattle.ecma_pass_laws.specs.TypesAlone.{is_lowered, lacks_body, lacks_body_by}
+use Rattle.ecma_pass_laws.specs.TypesAlone.{is_lowered, is_receiver, lacks_body, lacks_body_by}
+use Rattle.ecma_pass_laws.proofs.Strays.{is_spared}
 use Rattle.ecma_pass_laws.proofs.Nodes.{holds-out, none-some, not-false, not-true, some-same}
 use Rattle.ecma_pass_laws.proofs.Remaining.{all_calm, first_declared, holds_items, is_many, remains, remains_by, restless}
 
@@ -42,8 +44,25 @@ lacks (kind.Constructor accessibility is_optional) (key ∷ parameters ∷ body 
 lacks (kind.VarDecl word declare) children = declare
 lacks k children = false
 
+-- what is lowered, or a name `this`
+abbrev pub is_foreign : Kind → Bool
+is_foreign (kind.TsEnumDecl declare is_const) = true
+is_foreign kind.TsEnumMember = true
+is_foreign (kind.TsModuleDecl declare global) = true
+is_foreign (kind.TsNamespaceDecl declare global) = true
+is_foreign (kind.TsImportEqualsDecl is_export is_type_only) = true
+is_foreign k = is_this_ident k
+
+pub native : (k : Kind) → is_lowered k ≡ false → is_this_ident k ≡ false → is_foreign k ≡ false
+native (kind.TsEnumDecl declare is_const) low other = low
+native kind.TsEnumMember low other = low
+native (kind.TsModuleDecl declare global) low other = low
+native (kind.TsNamespaceDecl declare global) low other = low
+native (kind.TsImportEqualsDecl is_export is_type_only) low other = low
+native _ low other = other
+
 abbrev pub full_by : Kind → List Node → Bool
-full_by k cs = not (is_lowered k) && (not (lacks k (map meaning cs)) && has_no_receiver k cs)
+full_by k cs = not (is_foreign k) && (not (lacks k (map meaning cs)) && has_no_receiver k cs)
 
 abbrev pub is_full : Node → Bool
 is_full = holds_throughout full_by
@@ -214,12 +233,12 @@ body-full x h = by (item_stays x)
     by true = h
     by false = full-of (out-Node x).span kind.EmptyStmt [] refl refl
 
-lone-full : (x : Node) → is_full x ≡ true → is_full (without_this x) ≡ true
-lone-full x h = by (is_absent (out-Node x).kind)
+lone-full : (x : Node) → (is_absent (out-Node x).kind ≡ true → is_full x ≡ true) → is_full (without_this x) ≡ true
+lone-full x h = by (is_absent (out-Node x).kind) refl
   where
-    by : (b : Bool) → is_full (cond b x absent) ≡ true
-    by true = h
-    by false = absent-full
+    by : (b : Bool) → is_absent (out-Node x).kind ≡ b → is_full (cond b x absent) ≡ true
+    by true is = h is
+    by false is = absent-full
 
 list-full : (x : Node) → is_list (out-Node x).kind ≡ true → is_full x ≡ true → is_full (without_empty x) ≡ true
 list-full x l h =
@@ -295,10 +314,67 @@ plain-full (kind.ForOfStmt w) s m (a ∷ b ∷ c ∷ cs) have h = third-full bod
 plain-full (kind.ForOfStmt w) s m [] have h = refl
 plain-full (kind.ForOfStmt w) s m (a ∷ []) have h = h
 plain-full (kind.ForOfStmt w) s m (a ∷ b ∷ []) have h = h
-plain-full kind.SetterProp s m (a ∷ b ∷ cs) have h = second-full without_this (stripped a) (stripped b) (map stripped cs) (lone-full (stripped b)) h
+plain-full kind.SetterProp s m (a ∷ b ∷ cs) have h = second-full without_this (stripped a) (stripped b) (map stripped cs) (λ full. lone-full (stripped b) (λ is. full)) h
 plain-full kind.SetterProp s m [] have h = refl
 plain-full kind.SetterProp s m (a ∷ []) have h = h
 plain-full _ s m cs have h = h
+
+all-full : (cs : List Node) → ((j : ℕ) (c : Node) → slice_get cs j ≡ Some c → is_full (stripped c) ≡ true) → list_all is_full (map stripped cs) ≡ true
+all-full [] each = refl
+all-full (c ∷ cs) each = and-both (is_full (stripped c)) (list_all is_full (map stripped cs)) (each 0 c refl) (all-full cs (λ j d at. each (suc j) d at))
+
+-- where nothing is asked of the `this` of a setter, which goes, if it is one
+pub spared-full : (k : Kind) (s : Shape) (m : ℕ) (cs : List Node) → HaveShapes (child_shapes k s m) cs
+    → ((j : ℕ) (c : Node) → slice_get cs j ≡ Some c → is_spared k j ≡ false → is_full (stripped c) ≡ true)
+    → ((c : Node) → is_absent (out-Node (stripped c)).kind ≡ true → slice_get cs 1 ≡ Some c → is_full (stripped c) ≡ true)
+    → list_all is_full (plain_children k (map stripped cs)) ≡ true
+unfolding plain_children
+spared-full kind.SetterProp s m [] have each lone = refl
+spared-full kind.SetterProp s m (a ∷ []) have each lone = all-full (a ∷ []) (λ j c at. first j c at)
+  where
+    first : (j : ℕ) (c : Node) → slice_get (a ∷ []) j ≡ Some c → is_full (stripped c) ≡ true
+    first zero c at = each 0 c at refl
+    first (suc j) c at = none-some at
+spared-full kind.SetterProp s m (a ∷ b ∷ cs) have each lone =
+    and-both (is_full (stripped a)) (list_all is_full (without_this (stripped b) ∷ map stripped cs)) (each 0 a refl refl)
+    (and-both (is_full (without_this (stripped b))) (list_all is_full (map stripped cs)) (lone-full (stripped b) (λ is. lone b is refl))
+    (all-full cs (λ j c at. each (suc (suc j)) c at (behind j))))
+  where
+    never : (j : ℕ) → suc (suc j) ≡ 1 → ⊥
+    never j h = omega arith
+
+    behind : (j : ℕ) → (suc (suc j) == 1) ≡ false
+    behind j = by (suc (suc j) == 1) refl
+      where
+        by : (b : Bool) → (suc (suc j) == 1) ≡ b → b ≡ false
+        by false h = refl
+        by true h = absurd (never j (eqb-true (suc (suc j)) 1 h))
+spared-full k s m cs have each lone = plain-full k s m cs have (all-full cs (λ j c at. each j c at refl))
+
+-- what is left of a parameter `this` is there
+receiver-there : (x : Node) → is_receiver x ≡ true → is_absent (out-Node (stripped x)).kind ≡ true → ⊥
+unfolding plain plain_kind plain_children
+receiver-there x is gone = by (out-Node x).kind refl
+  where
+    named : (k : Kind) → (out-Node x).kind ≡ k → is_absent (out-Node (plain (out-Node x).span k (map stripped (staying_nodes k (out-Node x).children)))).kind ≡ true
+    named k e = ap (λ (z : Kind). is_absent (out-Node (plain (out-Node x).span z (map stripped (staying_nodes z (out-Node x).children)))).kind) (sym e) ∙ sym (ap (λ (z : Node). is_absent (out-Node z).kind) (stripped-out x)) ∙ gone
+
+    other : (k : Kind) → (out-Node x).kind ≡ k → is_this_ident k ≡ false → is_this_param_by k x ≡ is_this x → is_this_by k x ≡ false → ⊥
+    other k e ident param bound =
+        true-false is (ap₂ (λ (p q : Bool). p || q) (ap is_this_ident e ∙ ident) (ap (λ (z : Kind). is_this_param_by z x) e ∙ param ∙ ap (λ (z : Kind). is_this_by z x) e ∙ bound))
+
+    by : (k : Kind) → (out-Node x).kind ≡ k → ⊥
+    by (kind.Ident s c o) e = true-false (named (kind.Ident s c o) e) (ap is_absent (kind-of (out-Node x).span (kind.Ident s c false) _))
+    by kind.BindingIdent e = true-false (named kind.BindingIdent e) (ap is_absent (kind-of (out-Node x).span kind.BindingIdent _))
+    by kind.Param e = true-false (named kind.Param e) (ap is_absent (kind-of (out-Node x).span kind.Param _))
+    by k e = other k e refl refl refl
+
+pub absent-other : (x : Node) → is_absent (out-Node (stripped x)).kind ≡ true → is_receiver x ≡ false
+absent-other x gone = by (is_receiver x) refl
+  where
+    by : (b : Bool) → is_receiver x ≡ b → b ≡ false
+    by false is = refl
+    by true is = absurd (receiver-there x is gone)
 
 lone-absent : (x : Node) → kind_is_absent (without_this x) ≡ true
 lone-absent x = by (is_absent (out-Node x).kind) refl
@@ -308,7 +384,7 @@ lone-absent x = by (is_absent (out-Node x).kind) refl
     by false e = ap is_absent (kind-of dummy_span kind.Absent [])
 
 -- the node itself
-pub full-here : (k : Kind) (s : Shape) (m : ℕ) (cs : List Node) → HaveShapes (child_shapes k s m) cs → is_lowered k ≡ false → alive_by k cs ≡ true → full_by (plain_kind k) (plain_children k (map stripped cs)) ≡ true
+pub full-here : (k : Kind) (s : Shape) (m : ℕ) (cs : List Node) → HaveShapes (child_shapes k s m) cs → is_foreign k ≡ false → alive_by k cs ≡ true → full_by (plain_kind k) (plain_children k (map stripped cs)) ≡ true
 unfolding plain_children plain_kind
 full-here (kind.FnDecl d) s m (a ∷ f ∷ []) have low live = rw (function-there f have.1.0 live) refl
 full-here (kind.FnDecl d) s m [] have low live = absurd have

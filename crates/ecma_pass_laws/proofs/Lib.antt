@@ -3,6 +3,7 @@ pub mod Remaining
 pub mod Asking
 pub mod Values
 pub mod Expressions
+pub mod Strays
 pub mod Clearing
 pub mod UsualBodies
 pub mod ClearSeats

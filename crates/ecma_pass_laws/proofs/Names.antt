@@ -24,8 +24,10 @@ use Rattle.ecma_hygiene_laws.proofs.Membership.{id-same}
 use Rattle.ecma_hygiene_laws.proofs.Stopping.{All-first, All-second, stop-here, stops-below}
 use Rattle.ecma_hygiene_runs.specs.FinalTexts.{all_named, is_outer}
 use Rattle.ecma_hygiene_runs.specs.Sorted.{has_outer_names_at, outer_step}
-use Rattle.ecma_pass_laws.specs.TypesAlone.{is_lowered}
-use Rattle.ecma_pass_laws.proofs.FullParts.{full_by, is_full}
+use Rattle.ecma_strip.specs.Staying.{is_this_ident}
+use Rattle.ecma_hygiene_laws.specs.Seats.{Seat, seat_here, seats_at}
+use Rattle.ecma_strip_scopes.specs.Apart.{IsOther as IsOtherSeat}
+use Rattle.ecma_pass_laws.proofs.FullParts.{is_foreign, full_by, is_full}
 use Rattle.ecma_pass_laws.proofs.Nodes.{test-below}
 use Rattle.ecma_pass_laws.proofs.Plainness.{full-lowered}
 
@@ -71,7 +73,7 @@ outer = ind-Node Outer (λ x y is.
 abbrev IsOther : Sight → Type 0
 IsOther x = bytes_eq x.id.0 (codes "this") ≡ false
 
-sight-other : (named declared : Bool) (span : Span) (k : Kind) → is_lowered k ≡ false → All IsOther (sight_by named declared span k)
+sight-other : (named declared : Bool) (span : Span) (k : Kind) → is_foreign k ≡ false → All IsOther (sight_by named declared span k)
 sight-other false declared span (kind.Ident s c o) low = All-cons IsOther _ [] low (All-nil IsOther)
 sight-other true declared span (kind.Ident s c o) low = All-nil IsOther
 sight-other false declared span _ low = All-nil IsOther
@@ -117,3 +119,31 @@ bound-seen-by (x ∷ xs) id h = by (same_id x.id id && x.declares) refl h (bound
 
 pub bound-seen : (tree : Node) (id : Id) → is_bound (sights tree) id ≡ true → is_seen (sights tree) id ≡ true
 bound-seen tree id h = bound-seen-by (sights tree) id h
+
+-- ---- seats
+
+abbrev SeatsOther : Node → Type 0
+SeatsOther n = (r : Role) → is_full n ≡ true → All (IsOtherSeat true) (seats_at n r)
+
+foreign-ident : (k : Kind) → is_foreign k ≡ false → is_this_ident k ≡ false
+foreign-ident (kind.Ident s c o) low = low
+foreign-ident _ low = refl
+
+seats-others : (ns : List ((n : Node) × SeatsOther n)) (roles : ℕ → Role) (i : ℕ) → ((j : ℕ) (c : Node) → slice_get (map (λ e. e.0) ns) j ≡ Some c → is_full c ≡ true)
+    → All (IsOtherSeat true) (gathered_from Role Seat roles i (map seats_at (map (λ e. e.0) ns)))
+seats-others [] roles i each = All-nil (IsOtherSeat true)
+seats-others (n ∷ ns) roles i each =
+    All-append (IsOtherSeat true) (seats_at n.0 (roles i)) (gathered_from Role Seat roles (suc i) (map seats_at (map (λ e. e.0) ns))) (n.1 (roles i) (each 0 n.0 refl)) (seats-others ns roles (suc i) (λ j c at. each (suc j) c at))
+
+layer-seats : (n : Node)
+    → ((roles : ℕ → Role) (i : ℕ) → ((j : ℕ) (c : Node) → slice_get (out-Node n).children j ≡ Some c → is_full c ≡ true) → All (IsOtherSeat true) (gathered_from Role Seat roles i (map seats_at (out-Node n).children))) → SeatsOther n
+layer-seats n children r full =
+    subst (All (IsOtherSeat true)) (sym (gathered-out Role Seat seat_here role_in n r))
+    (All-cons (IsOtherSeat true) (record { role = r; node = n }) (gathered_from Role Seat (role_in r n) 0 (map seats_at (out-Node n).children)) (foreign-ident (out-Node n).kind (full-lowered n full))
+    (children (role_in r n) 0 (test-below full_by n full)))
+
+-- no identifier is `this`
+pub seats-other : (n : Node) → SeatsOther n
+seats-other = ind-Node SeatsOther (λ x y is.
+    layer-seats (roll-Node x) (subst (λ (cs : List Node). (roles : ℕ → Role) (i : ℕ) → ((j : ℕ) (c : Node) → slice_get cs j ≡ Some c → is_full c ≡ true) → All (IsOtherSeat true) (gathered_from Role Seat roles i (map seats_at cs)))
+    (ap (λ (z : Node-F Node). z.children) is ∙ sym (ap (λ (z : Node-F Node). z.children) (out-roll-Node x))) (seats-others y.children)))

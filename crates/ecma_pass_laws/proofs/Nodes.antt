@@ -10,7 +10,7 @@ use Rattle.ecma_tree.specs.Sorted.{HasShape, has_shape}
 use Rattle.ecma_hygiene.proofs.Telling.{and-left, and-right, true-false}
 use Rattle.ecma_strip_laws.specs.Usual.{holds_throughout}
 use Rattle.ecma_strip_laws.proofs.Telling.{holds-roll}
-use Rattle.ecma_pass_laws.specs.TypesAlone.{adds_types_alone, adds_types_by, has_ambient_head, has_bodiless, is_lowered}
+use Rattle.ecma_pass_laws.specs.TypesAlone.{adds_types_alone, adds_types_by, has_ambient_head, has_bodiless, has_stray_receiver, is_lowered}
 
 pub some-same : {X : Type 0} {x y : X} → Some x ≡ Some y → x ≡ y
 some-same e = cc
@@ -56,8 +56,11 @@ module _ (test : Kind → List Node → Bool) where
       all-at (holds_throughout test) (out-Node n).children i c (and-right (test (out-Node n).kind (out-Node n).children) (list_all (holds_throughout test) (out-Node n).children) (sym (holds-out n) ∙ h)) at
 
 module _ (n : Node) (alone : adds_types_alone n ≡ true) where
+  abbrev last : Bool
+  last = not (has_bodiless (out-Node n).kind (out-Node n).children) && not (has_stray_receiver (out-Node n).kind (out-Node n).children)
+
   abbrev rest : Bool
-  rest = not (has_ambient_head (out-Node n).kind (out-Node n).children) && not (has_bodiless (out-Node n).kind (out-Node n).children)
+  rest = not (has_ambient_head (out-Node n).kind (out-Node n).children) && last
 
   parts : (not (is_lowered (out-Node n).kind) && rest) ≡ true
   parts = test-here adds_types_by n alone
@@ -66,10 +69,16 @@ module _ (n : Node) (alone : adds_types_alone n ≡ true) where
   not-lowered = not-true (is_lowered (out-Node n).kind) (and-left (not (is_lowered (out-Node n).kind)) rest parts)
 
   pub no-ambient-head : has_ambient_head (out-Node n).kind (out-Node n).children ≡ false
-  no-ambient-head = not-true _ (and-left (not (has_ambient_head (out-Node n).kind (out-Node n).children)) (not (has_bodiless (out-Node n).kind (out-Node n).children)) (and-right (not (is_lowered (out-Node n).kind)) rest parts))
+  no-ambient-head = not-true _ (and-left (not (has_ambient_head (out-Node n).kind (out-Node n).children)) last (and-right (not (is_lowered (out-Node n).kind)) rest parts))
+
+  last-holds : last ≡ true
+  last-holds = and-right (not (has_ambient_head (out-Node n).kind (out-Node n).children)) last (and-right (not (is_lowered (out-Node n).kind)) rest parts)
 
   pub no-bodiless : has_bodiless (out-Node n).kind (out-Node n).children ≡ false
-  no-bodiless = not-true _ (and-right (not (has_ambient_head (out-Node n).kind (out-Node n).children)) (not (has_bodiless (out-Node n).kind (out-Node n).children)) (and-right (not (is_lowered (out-Node n).kind)) rest parts))
+  no-bodiless = not-true _ (and-left (not (has_bodiless (out-Node n).kind (out-Node n).children)) (not (has_stray_receiver (out-Node n).kind (out-Node n).children)) last-holds)
+
+  pub no-stray : has_stray_receiver (out-Node n).kind (out-Node n).children ≡ false
+  no-stray = not-true _ (and-right (not (has_bodiless (out-Node n).kind (out-Node n).children)) (not (has_stray_receiver (out-Node n).kind (out-Node n).children)) last-holds)
 
   pub alone-below : (i : ℕ) (c : Node) → slice_get (out-Node n).children i ≡ Some c → adds_types_alone c ≡ true
   alone-below = test-below adds_types_by n alone

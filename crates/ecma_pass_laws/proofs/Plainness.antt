@@ -21,8 +21,7 @@ use Rattle.ecma_strip.specs.Laws.{has_type_modifiers, is_type_part}
 use Rattle.ecma_hygiene.proofs.Telling.{and-both, and-left, and-right, or-first, or-second, true-false}
 use Rattle.ecma_hygiene_runs.specs.Plain.{has_no_receiver, is_none, is_plain, is_plain_kind, plain_by, plain_step}
 use Rattle.ecma_strip_scopes.proofs.Going.{parts-have}
-use Rattle.ecma_pass_laws.specs.TypesAlone.{is_lowered}
-use Rattle.ecma_pass_laws.proofs.FullParts.{full_by, is_full, lacks}
+use Rattle.ecma_pass_laws.proofs.FullParts.{full_by, is_foreign, is_full, lacks}
 use Rattle.ecma_pass_laws.proofs.Nodes.{by-children, child-shape, neither, none-some, not-true, some-same, test-below, test-here}
 
 -- ---- the parts of what is full, and of what has no types
@@ -31,17 +30,17 @@ module _ (n : Node) (full : is_full n ≡ true) where
   abbrev others : Bool
   others = not (lacks (out-Node n).kind (map meaning (out-Node n).children)) && has_no_receiver (out-Node n).kind (out-Node n).children
 
-  here : (not (is_lowered (out-Node n).kind) && others) ≡ true
+  here : (not (is_foreign (out-Node n).kind) && others) ≡ true
   here = test-here full_by n full
 
-  pub full-lowered : is_lowered (out-Node n).kind ≡ false
-  full-lowered = not-true _ (and-left (not (is_lowered (out-Node n).kind)) others here)
+  pub full-lowered : is_foreign (out-Node n).kind ≡ false
+  full-lowered = not-true _ (and-left (not (is_foreign (out-Node n).kind)) others here)
 
   pub full-lacks : lacks (out-Node n).kind (map meaning (out-Node n).children) ≡ false
-  full-lacks = not-true _ (and-left (not (lacks (out-Node n).kind (map meaning (out-Node n).children))) (has_no_receiver (out-Node n).kind (out-Node n).children) (and-right (not (is_lowered (out-Node n).kind)) others here))
+  full-lacks = not-true _ (and-left (not (lacks (out-Node n).kind (map meaning (out-Node n).children))) (has_no_receiver (out-Node n).kind (out-Node n).children) (and-right (not (is_foreign (out-Node n).kind)) others here))
 
   pub full-receiver : has_no_receiver (out-Node n).kind (out-Node n).children ≡ true
-  full-receiver = and-right (not (lacks (out-Node n).kind (map meaning (out-Node n).children))) (has_no_receiver (out-Node n).kind (out-Node n).children) (and-right (not (is_lowered (out-Node n).kind)) others here)
+  full-receiver = and-right (not (lacks (out-Node n).kind (map meaning (out-Node n).children))) (has_no_receiver (out-Node n).kind (out-Node n).children) (and-right (not (is_foreign (out-Node n).kind)) others here)
 
 module _ (f : Kind → Bool) where
   finds-parts : (n : Node) → finds f enters_all n ≡ false → (f (out-Node n).kind ≡ false) × (finds_from (enters_all (out-Node n).kind) 0 (map (finds f enters_all) (out-Node n).children) ≡ false)
@@ -67,7 +66,7 @@ chosen-this : (n : Node) (k : Kind) (ms : List Meaning) (b : Bool) → (role_by 
 chosen-this n k ms true h = refl
 chosen-this n k ms false h = h
 
-this-by : (n : Node) (k : Kind) (cs : List Node) → is_lowered k ≡ false → ((i : ℕ) (c : Node) → slice_get cs i ≡ Some c → (meaning c).is_this ≡ false) → (meaning_by n k (map meaning cs)).is_this ≡ false
+this-by : (n : Node) (k : Kind) (cs : List Node) → is_foreign k ≡ false → ((i : ℕ) (c : Node) → slice_get cs i ≡ Some c → (meaning c).is_this ≡ false) → (meaning_by n k (map meaning cs)).is_this ≡ false
 this-by n kind.ParenExpr (e ∷ []) low each = each 0 e refl
 this-by n kind.TsAsExpr (e ∷ t ∷ []) low each = each 0 e refl
 this-by n kind.TsTypeAssertion (e ∷ t ∷ []) low each = each 0 e refl
@@ -113,7 +112,7 @@ not-this = by-children NotThis layer-this
 
 -- ---- what is exported is no type
 
-exported-by : (n : Node) (k : Kind) (s : Shape) (m : ℕ) (cs : List Node) → (belongs sort.Decl k || belongs sort.DefaultDecl k) ≡ true → HaveShapes (child_shapes k s m) cs → is_type_part k ≡ false → is_lowered k ≡ false → lacks k (map meaning cs) ≡ false
+exported-by : (n : Node) (k : Kind) (s : Shape) (m : ℕ) (cs : List Node) → (belongs sort.Decl k || belongs sort.DefaultDecl k) ≡ true → HaveShapes (child_shapes k s m) cs → is_type_part k ≡ false → is_foreign k ≡ false → lacks k (map meaning cs) ≡ false
     → (meaning_by n k (map meaning cs)).is_type ≡ false
 unfolding is_type_part
 exported-by n (kind.VarDecl w false) s m cs b have t low l = refl
@@ -143,7 +142,7 @@ exported d s has b full free =
 
 -- ---- each kind
 
-plain-kind : (k : Kind) → is_type_part k ≡ false → is_lowered k ≡ false → is_plain_kind k ≡ true
+plain-kind : (k : Kind) → is_type_part k ≡ false → is_foreign k ≡ false → is_plain_kind k ≡ true
 unfolding is_type_part
 plain-kind kind.TsAsExpr t low = absurd (true-false refl t)
 plain-kind kind.TsTypeAssertion t low = absurd (true-false refl t)
@@ -179,7 +178,7 @@ property-none m r d e h =
 abbrev Told : Kind → List Node → Type 0
 Told k cs = (is_none cs || not (has_no_effect k (map meaning cs))) ≡ true
 
-effect-by : (k : Kind) (s : Shape) (m : ℕ) (cs : List Node) → HaveShapes (child_shapes k s m) cs → is_type_part k ≡ false → is_lowered k ≡ false → lacks k (map meaning cs) ≡ false
+effect-by : (k : Kind) (s : Shape) (m : ℕ) (cs : List Node) → HaveShapes (child_shapes k s m) cs → is_type_part k ≡ false → is_foreign k ≡ false → lacks k (map meaning cs) ≡ false
     → ((i : ℕ) (c : Node) → slice_get cs i ≡ Some c → (is_full c ≡ true) × (finds is_type_part enters_all c ≡ false)) → Told k cs
 unfolding is_type_part
 effect-by kind.EmptyStmt s m [] have t low l each = refl
