@@ -1,7 +1,7 @@
 -- Where nothing clashes in a scope, nothing clashes in it without types.
 use Rattle.std.proofs.Common.{◌≡◌, inl, inr, ℕ, Bool, true, false, ◌&&◌, ◌||◌, not, cond, filter, map, List, [], ◌∷◌, ◌++◌, Option, None, refl, sym, ap, ap₂, ◌∙◌, subst, get_or}
 use Rattle.std.specs.List.{All}
-use Rattle.std.proofs.lemmas.List.Elements.{All-append, All-cons, All-head, All-nil, All-tail}
+use Rattle.std.proofs.lemmas.List.Elements.{All-append, filter-append, All-cons, All-head, All-nil, All-tail}
 use Rattle.ecma_kind.specs.Sorts.{is_expr}
 use Rattle.ecma_kind.specs.declared.kind.Kind.{Kind}
 use Rattle.ecma_kind.specs.declared.kind.Kind.TheVariants as kind
@@ -17,19 +17,20 @@ use Rattle.ecma_scope.specs.Conflicts.{clashing, is_function_body, is_further_ou
 use Rattle.ecma_scope.specs.Declarations.{declarations, holds_vars, in_var, is_body, is_hoisted, is_own, is_stated, names, own_part, sought_in}
 use Rattle.ecma_scope.specs.Scopes.{is_ambient, is_root, opens}
 use Rattle.ecma_strip.specs.Stripping.{plain_kind}
-use Rattle.ecma_hygiene.proofs.Telling.{and-left, true-false}
+use Rattle.ecma_hygiene.proofs.Telling.{and-left, and-right, or-first, true-false}
 use Rattle.ecma_hygiene_laws.specs.DeclaredIds.{DeclaredId, id_here, ids_declared, scope_ids}
 use Rattle.ecma_hygiene_laws.proofs.Forms.{forms}
 use Rattle.ecma_hygiene_laws.proofs.Passing.{map-all}
 use Rattle.ecma_hygiene_laws.proofs.Sameness.{declares-ids}
 use Rattle.ecma_strip_scopes.specs.Apart.{is_free}
-use Rattle.ecma_strip_scopes.proofs.Gone.{kept}
+use Rattle.ecma_strip_scopes.proofs.Lasting.{lasting}
 use Rattle.ecma_strip_scopes.proofs.RolesAlike.{Alike}
 use Rattle.ecma_strip_scopes.proofs.ScopesDeclare.{vars-plain}
+use Rattle.ecma_strip_scopes.proofs.ScopesSame.{goes}
 use Rattle.ecma_strip_scopes.proofs.Standing.{silent}
 use Rattle.ecma_final_conflicts.proofs.Counted.{all-passed, counted, loose, passes-all}
-use Rattle.ecma_final_conflicts.proofs.Fewer.{Loose, clash-stay, marked-stay, meets_around, stay}
-use Rattle.ecma_final_conflicts.proofs.Scope.{Near, agree-stay, conflict-more, expr-calm, filter-append, is_calm, map-kept, names-ids, near-alike, plainly, stays-first, stays-last, stays-twice}
+use Rattle.ecma_final_conflicts.proofs.Fewer.{Loose, clash-last, last, last-other, marked-last, meets_around}
+use Rattle.ecma_final_conflicts.proofs.Scope.{Near, agree-passed, conflict-more, expr-calm, is_calm, map-lasting, names-ids, near-alike, plainly, wider-after, wider-before}
 use Rattle.ecma_final_conflicts.proofs.Unmerged.{Raw, is_raw, raw, raw_part}
 
 -- ---- an expression declares no `var`
@@ -112,9 +113,10 @@ own-raw _ = refl
 
 -- ---- a scope
 
-module _ (n m : Node) (r q : Role) (around around' : List ℕ → Option Bool) (near : Near r q (out-Node n).kind) (kind_st : (out-Node m).kind ≡ plain_kind (out-Node n).kind)
-    (agrees : is_function_body q ≡ true → (text : List ℕ) → is_stated (around' text) ≡ is_stated (around text)) (opened : opens r n ≡ true) (calm : is_ambient r ≡ false)
-    (ids : scope_ids q m ≡ kept (scope_ids r n)) where
+-- with `t` of the texts that are no `this`
+module _ (t : Bool) (n m : Node) (r q : Role) (around around' : List ℕ → Option Bool) (near : Near r q (out-Node n).kind) (kind_st : (out-Node m).kind ≡ plain_kind (out-Node n).kind)
+    (agrees : is_function_body q ≡ true → (text : List ℕ) → goes t text ≡ false → is_stated (around' text) ≡ is_stated (around text)) (opened : opens r n ≡ true) (calm : is_ambient r ≡ false)
+    (ids : scope_ids q m ≡ lasting t (scope_ids r n)) where
   abbrev k : Kind
   k = (out-Node n).kind
 
@@ -132,51 +134,53 @@ module _ (n m : Node) (r q : Role) (around around' : List ℕ → Option Bool) (
       map-all (λ d. is_calm d.form ≡ true) plainly all_ids
       (subst (λ (z : Role). All (λ (d : DeclaredId). is_calm d.form ≡ true) (scope_ids z n)) (sym plain) (expr-calm n expr (subst (λ (z : Role). opens z n ≡ true) plain opened)))
 
-  own-agree : All (λ d. is_own q around' d ≡ is_own r around d) all
+  own-agree : All (λ d. last t d ≡ true → is_own q around' d ≡ is_own r around d) all
   own-agree = elim near [
-    | inl same ↦ λ i e lt. ap (λ (z : Role). is_own z around' (get_or all i e)) same ∙ own-same r around around' (get_or all i e) (λ body. agrees (ap is_function_body same ∙ body) (get_or all i e).sym)
-    | inr is ↦ λ i e lt. calm-own q is.1 around' (get_or all i e) (calm-all is.0 is.2 i e lt) ∙ sym (ap (λ (z : Role). is_own z around (get_or all i e)) is.0)
+    | inl same ↦ λ i e lt stays. ap (λ (z : Role). is_own z around' (get_or all i e)) same
+        ∙ own-same r around around' (get_or all i e) (λ body. agrees (ap is_function_body same ∙ body) (get_or all i e).sym (last-other t (get_or all i e) stays))
+    | inr is ↦ λ i e lt stays. calm-own q is.1 around' (get_or all i e) (calm-all is.0 is.2 i e lt) ∙ sym (ap (λ (z : Role). is_own z around (get_or all i e)) is.0)
   ]
 
   own-names : names r around n ≡ own
   own-names = ap (filter (is_own r around)) (names-ids r n)
 
-  -- it declares what stays
-  own-stay : names q around' m ≡ filter stay own
-  own-stay =
-      ap (filter (is_own q around')) (names-ids q m ∙ ap (map plainly) ids ∙ map-kept all_ids) ∙ agree-stay (is_own q around') (is_own r around) all own-agree
+  -- it declares what lasts
+  own-last : names q around' m ≡ filter (last t) own
+  own-last =
+      ap (filter (is_own q around')) (names-ids q m ∙ ap (map plainly) ids ∙ map-lasting t all_ids) ∙ agree-passed (is_own q around') (is_own r around) (last t) all own-agree
 
-  pub names-stay : names q around' m ≡ filter stay (names r around n)
-  names-stay = own-stay ∙ sym (ap (filter stay) own-names)
+  pub names-last : names q around' m ≡ filter (last t) (names r around n)
+  names-last = own-last ∙ sym (ap (filter (last t)) own-names)
 
   abbrev var : Bool → Sought
   var s = record { part = part.Var; stays = s }
 
-  module _ (vars : holds_vars r k ≡ false → ids_declared m (var true) ≡ kept (ids_declared n (var true))) (safe : (is_root r || is_body r) ≡ true → holds_vars r k ≡ false → is_expr k ≡ true) where
+  module _ (vars : holds_vars r k ≡ false → ids_declared m (var true) ≡ lasting t (ids_declared n (var true))) (safe : (is_root r || is_body r) ≡ true → holds_vars r k ≡ false → is_expr k ≡ true) where
     abbrev alike : Alike r q k
     alike = near-alike r q k near
+
+    abbrev stay : Declaration → Bool
+    stay d = d.stays
 
     abbrev passed : List Declaration
     passed = passing r n
 
-    passing-by : (b : Bool) → holds_vars r k ≡ b → cond b [] (filter stay (declarations m (var true))) ≡ cond b [] (filter stay (declarations n (var true)))
+    stays : (d : Declaration) → last t d ≡ true → d.stays ≡ true
+    stays d = and-right (not (goes t d.sym)) d.stays
+
+    passing-by : (b : Bool) → holds_vars r k ≡ b → cond b [] (filter stay (declarations m (var true))) ≡ filter (last t) (cond b [] (filter stay (declarations n (var true))))
     passing-by true is = refl
     passing-by false is =
-        ap (filter stay) (declares-ids m (var true) ∙ ap (map plainly) (vars is) ∙ map-kept (ids_declared n (var true)) ∙ ap (filter stay) (sym (declares-ids n (var true))))
-        ∙ stays-twice (declarations n (var true))
+        ap (filter stay) (declares-ids m (var true) ∙ ap (map plainly) (vars is) ∙ map-lasting t (ids_declared n (var true)) ∙ ap (filter (last t)) (sym (declares-ids n (var true))))
+        ∙ wider-after stay (last t) stays (declarations n (var true))
+        ∙ sym (wider-before stay (last t) stays (declarations n (var true)))
 
-    passing-same : passing q m ≡ passed
-    passing-same =
+    -- what passes through it is what lasts of what passes
+    passing-last : passing q m ≡ filter (last t) passed
+    passing-last =
         (λ j. cond ((ap (holds_vars q) kind_st ∙ vars-plain q k ∙ alike.vars) j) [] (filter stay (declarations m (var (not ((alike.ambient ∙ calm) j))))))
         ∙ passing-by (holds_vars r k) refl
-        ∙ sym (λ j. cond (holds_vars r k) [] (filter stay (declarations n (var (not (calm j))))))
-
-    passing-stays : filter stay passed ≡ passed
-    passing-stays = by (holds_vars r k)
-      where
-        by : (b : Bool) → filter stay (cond b [] (filter stay (declarations n (var (not (is_ambient r)))))) ≡ cond b [] (filter stay (declarations n (var (not (is_ambient r)))))
-        by true = refl
-        by false = stays-twice (declarations n (var (not (is_ambient r))))
+        ∙ sym (λ j. filter (last t) (cond (holds_vars r k) [] (filter stay (declarations n (var (not (calm j)))))))
 
     abbrev IsVar : Declaration → Type 0
     IsVar d = d.form ≡ form.Var
@@ -219,22 +223,30 @@ module _ (n m : Node) (r q : Role) (around around' : List ℕ → Option Bool) (
           loose r around own passed clear-own (all-passed (λ d. is_raw d.form ≡ true) (is_own r around) all (map-all (λ d. is_raw d.form ≡ true) plainly all_ids raw-ids)) (passes-all (is_own r around) all) passing-vars
           (λ h. passing-none (safe h))
 
-      meeting-same : meeting q around' m ≡ filter stay (marked [] among ++ passed)
-      meeting-same =
-          ap (λ (xs : List Declaration). marked [] (filter (λ d. d.stays || is_further_out q around' (passing q m) d.sym) xs) ++ passing q m) own-stay
-          ∙ ap (λ (xs : List Declaration). marked [] xs ++ passing q m) (stays-first (λ d. is_further_out q around' (passing q m) d.sym) own ∙ sym (stays-last (λ d. is_further_out r around passed d.sym) own))
-          ∙ ap₂ (λ (xs ys : List Declaration). xs ++ ys) (marked-stay [] [] among (λ text. refl) all-loose) (passing-same ∙ sym passing-stays)
-          ∙ sym (filter-append stay (marked [] among) passed)
+      abbrev counts : Role → (List ℕ → Option Bool) → List Declaration → Declaration → Bool
+      counts role around passed d = d.stays || is_further_out role around passed d.sym
+
+      wider : (role : Role) (around : List ℕ → Option Bool) (passed : List Declaration) (d : Declaration) → last t d ≡ true → counts role around passed d ≡ true
+      wider role around passed d lasts = or-first d.stays (is_further_out role around passed d.sym) (stays d lasts)
+
+      meeting-last : meeting q around' m ≡ filter (last t) (marked [] among ++ passed)
+      meeting-last =
+          ap (λ (xs : List Declaration). marked [] (filter (counts q around' (passing q m)) xs) ++ passing q m) own-last
+          ∙ ap (λ (xs : List Declaration). marked [] xs ++ passing q m)
+          (wider-after (counts q around' (passing q m)) (last t) (wider q around' (passing q m)) own ∙ sym (wider-before (counts r around passed) (last t) (wider r around passed) own))
+          ∙ ap₂ (λ (xs ys : List Declaration). xs ++ ys) (marked-last t [] [] among (λ text other. refl) all-loose) passing-last
+          ∙ sym (filter-append (last t) (marked [] among) passed)
 
       abbrev Less : Declaration → Type 0
-      Less d = meets_around q around' d ≡ true → meets_around r around d ≡ true
+      Less d = last t d ≡ true → meets_around q around' d ≡ true → meets_around r around d ≡ true
 
       less : All Less (marked [] among ++ passed)
       less = elim near [
-        | inl same ↦ λ i e lt h. sym (meets-same r around around' (get_or (marked [] among ++ passed) i e) (λ body. agrees (ap is_function_body same ∙ body) (get_or (marked [] among ++ passed) i e).sym))
+        | inl same ↦ λ i e lt lasts h. sym (meets-same r around around' (get_or (marked [] among ++ passed) i e)
+            (λ body. agrees (ap is_function_body same ∙ body) (get_or (marked [] among ++ passed) i e).sym (last-other t (get_or (marked [] among ++ passed) i e) lasts)))
             ∙ ap (λ (z : Role). meets_around z around' (get_or (marked [] among ++ passed) i e)) (sym same) ∙ h
         | inr is ↦ All-append Less (marked [] among) passed
-            (λ i e lt h. absurd (none-meets q is.1 around' (get_or (marked [] among) i e) (marked-all [] among (unlexical is.0 is.2) i e lt) h))
+            (λ i e lt lasts h. absurd (none-meets q is.1 around' (get_or (marked [] among) i e) (marked-all [] among (unlexical is.0 is.2) i e lt) h))
             (subst (All Less) (sym (passing-none (λ h. is.2))) (All-nil Less))
       ]
         where
@@ -244,4 +256,4 @@ module _ (n m : Node) (r q : Role) (around around' : List ℕ → Option Bool) (
 
       -- so it clashes nowhere
       pub scope-clear : clashing q around' [] (meeting q around' m) ≡ []
-      scope-clear = ap (clashing q around' []) meeting-same ∙ clash-stay r q around around' (conflict-more r q k near) [] [] (marked [] among ++ passed) (λ d h. h) less clear-own
+      scope-clear = ap (clashing q around' []) meeting-last ∙ clash-last t r q around around' (conflict-more r q k near) [] [] (marked [] among ++ passed) (λ d h. h) less clear-own

@@ -160,22 +160,22 @@ still-count Holes s k other a h = absurd (true-false a other)
 -- ---- the way of a `var`
 
 -- a node in this role and of this shape: what does not hold `var` names itself is clear, if `var` is looked for there; and so is a list, but of what has none
-pub record Path (r : Role) (shape : Shape) (n : Node) : Type 0 where
-  pub node : is_list (out-Node n).kind ≡ false → is_way (out-Node n).kind ≡ true → holds_vars r (out-Node n).kind ≡ false → is_clear false n var ≡ true
-  pub items : is_list (out-Node n).kind ≡ true → (is_clear false n var ≡ true) ⊎ (is_still shape.sort ≡ true)
+pub record Path (t : Bool) (r : Role) (shape : Shape) (n : Node) : Type 0 where
+  pub node : is_list (out-Node n).kind ≡ false → is_way (out-Node n).kind ≡ true → holds_vars r (out-Node n).kind ≡ false → is_clear t n var ≡ true
+  pub items : is_list (out-Node n).kind ≡ true → (is_clear t n var ≡ true) ⊎ (is_still shape.sort ≡ true)
 
-pub path-clear : (r : Role) (shape : Shape) (n : Node) → is_clear false n var ≡ true → Path r shape n
-path-clear r shape n h = record { node = λ other way none. h; items = λ is. inl h }
+pub path-clear : (t : Bool) (r : Role) (shape : Shape) (n : Node) → is_clear t n var ≡ true → Path t r shape n
+path-clear t r shape n h = record { node = λ other way none. h; items = λ is. inl h }
 
-pub path-still : (r : Role) (shape : Shape) (n : Node) → allows shape (out-Node n).kind ≡ true → is_still shape.sort ≡ true → Path r shape n
-path-still r shape n a h = record { node = λ other way none. absurd (true-false way (still-count shape.count shape.sort (out-Node n).kind other a h)); items = λ is. inr h }
+pub path-still : (t : Bool) (r : Role) (shape : Shape) (n : Node) → allows shape (out-Node n).kind ≡ true → is_still shape.sort ≡ true → Path t r shape n
+path-still t r shape n a h = record { node = λ other way none. absurd (true-false way (still-count shape.count shape.sort (out-Node n).kind other a h)); items = λ is. inr h }
 
 -- a shape in a role of which all that is on the way holds `var` names
 abbrev Fine : Role → Shape → Type 0
 Fine r s = (k : Kind) → allows s k ≡ true → (is_list k ≡ false) × (is_way k ≡ true → holds_vars r k ≡ true)
 
-path-fine : (r : Role) (shape : Shape) (n : Node) → allows shape (out-Node n).kind ≡ true → Fine r shape → Path r shape n
-path-fine r shape n a fine = record {
+path-fine : (t : Bool) (r : Role) (shape : Shape) (n : Node) → allows shape (out-Node n).kind ≡ true → Fine r shape → Path t r shape n
+path-fine t r shape n a fine = record {
   node = λ other way none. absurd (true-false ((fine (out-Node n).kind a).1 way) none);
   items = λ is. absurd (true-false is (fine (out-Node n).kind a).0);
 }
@@ -266,51 +266,51 @@ nexts r k sourced shape n other = ends (all-still (λ i. role_by r k sourced i) 
 
 -- ---- the children of a node
 
-abbrev pub AllPath : (ℕ → Role) → ℕ → List Shape → List Node → Type 0
-AllPath roles i (s ∷ shapes) (n ∷ ns) = Path (roles i) s n × AllPath roles (suc i) shapes ns
-AllPath roles i _ _ = Unit {0}
+abbrev pub AllPath : Bool → (ℕ → Role) → ℕ → List Shape → List Node → Type 0
+AllPath t roles i (s ∷ shapes) (n ∷ ns) = Path t (roles i) s n × AllPath t roles (suc i) shapes ns
+AllPath t roles i _ _ = Unit {0}
 
-pub ends-path : (roles : ℕ → Role) (i : ℕ) (shapes : List Shape) (ns : List Node) → HaveShapes shapes ns → AllEnd roles i shapes → AllPath roles i shapes ns
-ends-path roles i [] ns have all = tt
-ends-path roles i (s ∷ shapes) [] have all = tt
-ends-path roles i (s ∷ shapes) (n ∷ ns) have all = (
-  elim all.0 [ inl still ↦ path-still (roles i) s n (parts-have n s have.0).0 still | inr fine ↦ path-fine (roles i) s n (parts-have n s have.0).0 fine ],
-  ends-path roles (suc i) shapes ns have.1 all.1,
+pub ends-path : (t : Bool) (roles : ℕ → Role) (i : ℕ) (shapes : List Shape) (ns : List Node) → HaveShapes shapes ns → AllEnd roles i shapes → AllPath t roles i shapes ns
+ends-path t roles i [] ns have all = tt
+ends-path t roles i (s ∷ shapes) [] have all = tt
+ends-path t roles i (s ∷ shapes) (n ∷ ns) have all = (
+  elim all.0 [ inl still ↦ path-still t (roles i) s n (parts-have n s have.0).0 still | inr fine ↦ path-fine t (roles i) s n (parts-have n s have.0).0 fine ],
+  ends-path t roles (suc i) shapes ns have.1 all.1,
 )
 
-pub clear-path : (roles : ℕ → Role) (i : ℕ) (shapes : List Shape) (ns : List Node) (into : ℕ → Option Sought) → ((j : ℕ) → into j ≡ Some var) → clear_in false false into i ns (map (is_clear false) ns) ≡ true → AllPath roles i shapes ns
-clear-path roles i [] ns into is h = tt
-clear-path roles i (s ∷ shapes) [] into is h = tt
-clear-path roles i (s ∷ shapes) (n ∷ ns) into is h =
-    let here : Bool = clear_at (into i) (is_clear false n) in
-    let rest : Bool = clear_in false false into (suc i) ns (map (is_clear false) ns) in
-    (path-clear (roles i) s n (ap (λ (o : Option Sought). clear_at o (is_clear false n)) (sym (is i)) ∙ and-left here rest h), clear-path roles (suc i) shapes ns into is (and-right here rest h))
+pub clear-path : (t : Bool) (roles : ℕ → Role) (i : ℕ) (shapes : List Shape) (ns : List Node) (into : ℕ → Option Sought) → ((j : ℕ) → into j ≡ Some var) → clear_in t false into i ns (map (is_clear t) ns) ≡ true → AllPath t roles i shapes ns
+clear-path t roles i [] ns into is h = tt
+clear-path t roles i (s ∷ shapes) [] into is h = tt
+clear-path t roles i (s ∷ shapes) (n ∷ ns) into is h =
+    let here : Bool = clear_at (into i) (is_clear t n) in
+    let rest : Bool = clear_in t false into (suc i) ns (map (is_clear t) ns) in
+    (path-clear t (roles i) s n (ap (λ (o : Option Sought). clear_at o (is_clear t n)) (sym (is i)) ∙ and-left here rest h), clear-path t roles (suc i) shapes ns into is (and-right here rest h))
 
 -- of the items of a list those that stay
-abbrev pub AllItems : (ℕ → Role) → ℕ → Shape → List Node → Type 0
-AllItems roles i shape [] = Unit {0}
-AllItems roles i shape (n ∷ ns) = (stays n ≡ true → Path (roles i) shape n) × AllItems roles (suc i) shape ns
+abbrev pub AllItems : Bool → (ℕ → Role) → ℕ → Shape → List Node → Type 0
+AllItems t roles i shape [] = Unit {0}
+AllItems t roles i shape (n ∷ ns) = (stays n ≡ true → Path t (roles i) shape n) × AllItems t roles (suc i) shape ns
 
-pub still-items : (roles : ℕ → Role) (i : ℕ) (shape : Shape) (ns : List Node) → HaveShapes (replicate (length ns) shape) ns → is_still shape.sort ≡ true → AllItems roles i shape ns
-still-items roles i shape [] have h = tt
-still-items roles i shape (n ∷ ns) have h = ((λ st. path-still (roles i) shape n (parts-have n shape have.0).0 h), still-items roles (suc i) shape ns have.1 h)
+pub still-items : (t : Bool) (roles : ℕ → Role) (i : ℕ) (shape : Shape) (ns : List Node) → HaveShapes (replicate (length ns) shape) ns → is_still shape.sort ≡ true → AllItems t roles i shape ns
+still-items t roles i shape [] have h = tt
+still-items t roles i shape (n ∷ ns) have h = ((λ st. path-still t (roles i) shape n (parts-have n shape have.0).0 h), still-items t roles (suc i) shape ns have.1 h)
 
-pub clear-items : (roles : ℕ → Role) (i : ℕ) (shape : Shape) (ns : List Node) (into : ℕ → Option Sought) → ((j : ℕ) → into j ≡ Some var) → clear_in false true into i ns (map (is_clear false) ns) ≡ true → AllItems roles i shape ns
-clear-items roles i shape [] into is h = tt
-clear-items roles i shape (n ∷ ns) into is h =
-    let here : Bool = cond (not (stays n)) (not (is_this_param n || is_namespace n)) (clear_at (into i) (is_clear false n)) in
-    let rest : Bool = clear_in false true into (suc i) ns (map (is_clear false) ns) in (
-      λ st. path-clear (roles i) shape n
-          (ap (λ (o : Option Sought). clear_at o (is_clear false n)) (sym (is i)) ∙ ap (λ (b : Bool). cond (not b) (not (is_this_param n || is_namespace n)) (clear_at (into i) (is_clear false n))) (sym st) ∙ and-left here rest h),
-      clear-items roles (suc i) shape ns into is (and-right here rest h),
+pub clear-items : (t : Bool) (roles : ℕ → Role) (i : ℕ) (shape : Shape) (ns : List Node) (into : ℕ → Option Sought) → ((j : ℕ) → into j ≡ Some var) → clear_in t true into i ns (map (is_clear t) ns) ≡ true → AllItems t roles i shape ns
+clear-items t roles i shape [] into is h = tt
+clear-items t roles i shape (n ∷ ns) into is h =
+    let here : Bool = cond (not (stays n)) (not ((not t && is_this_param n) || is_namespace n)) (clear_at (into i) (is_clear t n)) in
+    let rest : Bool = clear_in t true into (suc i) ns (map (is_clear t) ns) in (
+      λ st. path-clear t (roles i) shape n
+          (ap (λ (o : Option Sought). clear_at o (is_clear t n)) (sym (is i)) ∙ ap (λ (b : Bool). cond (not b) (not ((not t && is_this_param n) || is_namespace n)) (clear_at (into i) (is_clear t n))) (sym st) ∙ and-left here rest h),
+      clear-items t roles (suc i) shape ns into is (and-right here rest h),
     )
 
 -- ---- a node
 
-pub clear-inside : (n : Node) → is_clear false n var ≡ true → clear_in false (is_list (out-Node n).kind) (sought_in var n) 0 (out-Node n).children (map (is_clear false) (out-Node n).children) ≡ true
-clear-inside n h =
-    and-right (clear_here false n var) (clear_in false (is_list (out-Node n).kind) (sought_in var n) 0 (out-Node n).children (map (is_clear false) (out-Node n).children))
-    (sym (ap (λ f. f var) (from_leaves_out (Sought → Bool) (clear_step false) n)) ∙ h)
+pub clear-inside : (t : Bool) (n : Node) → is_clear t n var ≡ true → clear_in t (is_list (out-Node n).kind) (sought_in var n) 0 (out-Node n).children (map (is_clear t) (out-Node n).children) ≡ true
+clear-inside t n h =
+    and-right (clear_here t n var) (clear_in t (is_list (out-Node n).kind) (sought_in var n) 0 (out-Node n).children (map (is_clear t) (out-Node n).children))
+    (sym (ap (λ f. f var) (from_leaves_out (Sought → Bool) (clear_step t) n)) ∙ h)
 
 pub further-in : (n : Node) → in_var true (out-Node n).kind ≡ Some var → (j : ℕ) → sought_in var n j ≡ Some var
 unfolding sought_in
@@ -354,5 +354,5 @@ unfolding holds_vars in_var
 root-fine (kind.Module s) a = (refl, λ h. refl)
 root-fine _ a = absurd (true-false a refl)
 
-pub root-path : (n : Node) → HasShape (one sort.Module) n → Path role.Root (one sort.Module) n
-root-path n has = path-fine role.Root (one sort.Module) n (parts-have n (one sort.Module) has).0 root-fine
+pub root-path : (t : Bool) (n : Node) → HasShape (one sort.Module) n → Path t role.Root (one sort.Module) n
+root-path t n has = path-fine t role.Root (one sort.Module) n (parts-have n (one sort.Module) has).0 root-fine

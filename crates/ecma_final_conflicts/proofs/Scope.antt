@@ -1,4 +1,4 @@
--- A scope without types: what meets in it is what stays of what meets in the scope.
+-- A scope without types: what meets in it is what lasts of what meets in the scope.
 use Rattle.std.proofs.Common.{◌≡◌, ◌⊎◌, inl, inr, ℕ, ◌==◌, Bool, true, false, ◌&&◌, ◌||◌, not, cond, filter, map, List, [], ◌∷◌, ◌++◌, Option, Some, None, refl, sym, ap, ap₂, ◌∙◌, subst, bytes_eq}
 use Rattle.std.specs.List.{All}
 use Rattle.std.proofs.lemmas.List.Elements.{All-append, All-head, All-nil, All-tail}
@@ -22,9 +22,10 @@ use Rattle.ecma_hygiene_laws.specs.Seats.{all_names}
 use Rattle.ecma_hygiene_laws.proofs.Forms.{Allowed, Formed, forms-by}
 use Rattle.ecma_hygiene_laws.proofs.Sameness.{declares-ids, no_text}
 use Rattle.ecma_strip_scopes.specs.Apart.{is_free}
-use Rattle.ecma_strip_scopes.proofs.Gone.{kept}
+use Rattle.ecma_strip_scopes.specs.Standing.{lasts}
+use Rattle.ecma_strip_scopes.proofs.Lasting.{lasting}
 use Rattle.ecma_strip_scopes.proofs.RolesAlike.{Alike, alike-free, alike-same}
-use Rattle.ecma_final_conflicts.proofs.Fewer.{stay}
+use Rattle.ecma_final_conflicts.proofs.Fewer.{last}
 
 -- ---- roles
 
@@ -126,64 +127,48 @@ module _ (n : Node) where
 
 -- ---- lists
 
-pub stays-first : (g : Declaration → Bool) (xs : List Declaration) → filter (λ d. d.stays || g d) (filter stay xs) ≡ filter stay xs
-stays-first g [] = refl
-stays-first g (x ∷ xs) = by x.stays refl (stays-first g xs)
-  where
-    by : (b : Bool) → x.stays ≡ b → filter (λ d. d.stays || g d) (filter stay xs) ≡ filter stay xs → filter (λ d. d.stays || g d) (cond b (x ∷ filter stay xs) (filter stay xs)) ≡ cond b (x ∷ filter stay xs) (filter stay xs)
-    by true is rec = ap (λ (b : Bool). cond (b || g x) (x ∷ filter (λ d. d.stays || g d) (filter stay xs)) (filter (λ d. d.stays || g d) (filter stay xs))) is ∙ ap (λ (ys : List Declaration). x ∷ ys) rec
-    by false is rec = rec
+-- a test that lets pass what another does, before it and after it
+module _ (f g : Declaration → Bool) (wider : (d : Declaration) → g d ≡ true → f d ≡ true) where
+  pub wider-after : (xs : List Declaration) → filter f (filter g xs) ≡ filter g xs
+  wider-after [] = refl
+  wider-after (x ∷ xs) = by (g x) refl (wider-after xs)
+    where
+      by : (b : Bool) → g x ≡ b → filter f (filter g xs) ≡ filter g xs → filter f (cond b (x ∷ filter g xs) (filter g xs)) ≡ cond b (x ∷ filter g xs) (filter g xs)
+      by true is rec = ap (λ (b : Bool). cond b (x ∷ filter f (filter g xs)) (filter f (filter g xs))) (wider x is) ∙ ap (λ (ys : List Declaration). x ∷ ys) rec
+      by false is rec = rec
 
-pub stays-last : (g : Declaration → Bool) (xs : List Declaration) → filter stay (filter (λ d. d.stays || g d) xs) ≡ filter stay xs
-stays-last g [] = refl
-stays-last g (x ∷ xs) = by x.stays (g x) refl (stays-last g xs)
-  where
-    tail : List Declaration
-    tail = filter (λ d. d.stays || g d) xs
+  pub wider-before : (xs : List Declaration) → filter g (filter f xs) ≡ filter g xs
+  wider-before [] = refl
+  wider-before (x ∷ xs) = by (f x) (g x) refl refl (wider-before xs)
+    where
+      by : (b c : Bool) → f x ≡ b → g x ≡ c → filter g (filter f xs) ≡ filter g xs → filter g (cond b (x ∷ filter f xs) (filter f xs)) ≡ cond c (x ∷ filter g xs) (filter g xs)
+      by true c is also rec = ap (λ (b : Bool). cond b (x ∷ filter g (filter f xs)) (filter g (filter f xs))) also ∙ ap (λ (ys : List Declaration). cond c (x ∷ ys) ys) rec
+      by false true is also rec = absurd (true-false (wider x also) is)
+      by false false is also rec = rec
 
-    by : (b c : Bool) → x.stays ≡ b → filter stay tail ≡ filter stay xs → filter stay (cond (b || c) (x ∷ tail) tail) ≡ cond b (x ∷ filter stay xs) (filter stay xs)
-    by true c is rec = ap (λ (b : Bool). cond b (x ∷ filter stay tail) (filter stay tail)) is ∙ ap (λ (ys : List Declaration). x ∷ ys) rec
-    by false true is rec = ap (λ (b : Bool). cond b (x ∷ filter stay tail) (filter stay tail)) is ∙ rec
-    by false false is rec = rec
-
-pub stays-twice : (xs : List Declaration) → filter stay (filter stay xs) ≡ filter stay xs
-stays-twice [] = refl
-stays-twice (x ∷ xs) = by x.stays refl (stays-twice xs)
-  where
-    by : (b : Bool) → x.stays ≡ b → filter stay (filter stay xs) ≡ filter stay xs → filter stay (cond b (x ∷ filter stay xs) (filter stay xs)) ≡ cond b (x ∷ filter stay xs) (filter stay xs)
-    by true is rec = ap (λ (b : Bool). cond b (x ∷ filter stay (filter stay xs)) (filter stay (filter stay xs))) is ∙ ap (λ (ys : List Declaration). x ∷ ys) rec
-    by false is rec = rec
-
-pub filter-append : (f : Declaration → Bool) (xs ys : List Declaration) → filter f (xs ++ ys) ≡ filter f xs ++ filter f ys
-filter-append f [] ys = refl
-filter-append f (x ∷ xs) ys = by (f x) (filter-append f xs ys)
-  where
-    by : (b : Bool) → filter f (xs ++ ys) ≡ filter f xs ++ filter f ys → cond b (x ∷ filter f (xs ++ ys)) (filter f (xs ++ ys)) ≡ cond b (x ∷ filter f xs) (filter f xs) ++ filter f ys
-    by true rec = ap (λ (zs : List Declaration). x ∷ zs) rec
-    by false rec = rec
-
--- two tests that agree, one after what stays
-pub agree-stay : (f g : Declaration → Bool) (xs : List Declaration) → All (λ d. f d ≡ g d) xs → filter f (filter stay xs) ≡ filter stay (filter g xs)
-agree-stay f g [] all = refl
-agree-stay f g (x ∷ xs) all = by x.stays (g x) refl (All-head (λ d. f d ≡ g d) x xs all) (agree-stay f g xs (All-tail (λ d. f d ≡ g d) x xs all))
-  where
-    by : (b c : Bool) → x.stays ≡ b → f x ≡ c → filter f (filter stay xs) ≡ filter stay (filter g xs)
-        → filter f (cond b (x ∷ filter stay xs) (filter stay xs)) ≡ filter stay (cond c (x ∷ filter g xs) (filter g xs))
-    by true true is same rec =
-        ap (λ (b : Bool). cond b (x ∷ filter f (filter stay xs)) (filter f (filter stay xs))) same ∙ ap (λ (zs : List Declaration). x ∷ zs) rec
-        ∙ sym (ap (λ (b : Bool). cond b (x ∷ filter stay (filter g xs)) (filter stay (filter g xs))) is)
-    by true false is same rec = ap (λ (b : Bool). cond b (x ∷ filter f (filter stay xs)) (filter f (filter stay xs))) same ∙ rec
-    by false true is same rec = rec ∙ sym (ap (λ (b : Bool). cond b (x ∷ filter stay (filter g xs)) (filter stay (filter g xs))) is)
-    by false false is same rec = rec
+-- two tests that agree on what a third lets pass, after it and before it
+module _ (f g pass : Declaration → Bool) where
+  pub agree-passed : (xs : List Declaration) → All (λ d. pass d ≡ true → f d ≡ g d) xs → filter f (filter pass xs) ≡ filter pass (filter g xs)
+  agree-passed [] all = refl
+  agree-passed (x ∷ xs) all = by (pass x) (g x) refl refl (All-head (λ d. pass d ≡ true → f d ≡ g d) x xs all) (agree-passed xs (All-tail (λ d. pass d ≡ true → f d ≡ g d) x xs all))
+    where
+      by : (b c : Bool) → pass x ≡ b → g x ≡ c → (pass x ≡ true → f x ≡ g x) → filter f (filter pass xs) ≡ filter pass (filter g xs)
+          → filter f (cond b (x ∷ filter pass xs) (filter pass xs)) ≡ filter pass (cond c (x ∷ filter g xs) (filter g xs))
+      by true true is also same rec =
+          ap (λ (b : Bool). cond b (x ∷ filter f (filter pass xs)) (filter f (filter pass xs))) (same is ∙ also) ∙ ap (λ (zs : List Declaration). x ∷ zs) rec
+          ∙ sym (ap (λ (b : Bool). cond b (x ∷ filter pass (filter g xs)) (filter pass (filter g xs))) is)
+      by true false is also same rec = ap (λ (b : Bool). cond b (x ∷ filter f (filter pass xs)) (filter f (filter pass xs))) (same is ∙ also) ∙ rec
+      by false true is also same rec = rec ∙ sym (ap (λ (b : Bool). cond b (x ∷ filter pass (filter g xs)) (filter pass (filter g xs))) is)
+      by false false is also same rec = rec
 
 abbrev pub plainly : DeclaredId → Declaration
 plainly = with_text no_text
 
-pub map-kept : (ds : List DeclaredId) → map plainly (kept ds) ≡ filter stay (map plainly ds)
-map-kept [] = refl
-map-kept (d ∷ ds) = by d.stays (map-kept ds)
+pub map-lasting : (t : Bool) (ds : List DeclaredId) → map plainly (lasting t ds) ≡ filter (last t) (map plainly ds)
+map-lasting t [] = refl
+map-lasting t (d ∷ ds) = by (lasts t d) (map-lasting t ds)
   where
-    by : (b : Bool) → map plainly (kept ds) ≡ filter stay (map plainly ds) → map plainly (cond b (d ∷ kept ds) (kept ds)) ≡ cond b (plainly d ∷ filter stay (map plainly ds)) (filter stay (map plainly ds))
+    by : (b : Bool) → map plainly (lasting t ds) ≡ filter (last t) (map plainly ds) → map plainly (cond b (d ∷ lasting t ds) (lasting t ds)) ≡ cond b (plainly d ∷ filter (last t) (map plainly ds)) (filter (last t) (map plainly ds))
     by true rec = ap (λ (zs : List Declaration). plainly d ∷ zs) rec
     by false rec = rec
 
