@@ -13,12 +13,14 @@ use Rattle.ecma_bind.specs.Binding.{with_bound_names}
 use Rattle.ecma_source_laws.specs.Sources.{IsRead}
 use Rattle.ecma_bound_names.specs.Laws.{WhatFitsFitsWithoutTypes}
 use Rattle.ecma_bound_scopes.specs.Laws.{BoundNamesResolveAlike}
-use Rattle.ecma_bound_sources.specs.Laws.{BoundTreesAreTaken}
+use Rattle.ecma_bound_sources.specs.Laws.{BoundTreesAreRead, BoundTreesAreTaken}
 use Rattle.ecma_short_names.specs.Short.{BindingKeepsNamesShort, ContextsKeepNamesShort, NoneLong, StrippingKeepsNamesShort}
 use Rattle.ecma_final_fits.specs.Laws.{FinalTreesFit}
-use Rattle.ecma_final_fits.proofs.Others.{left_without_this}
+use Rattle.ecma_final_laws.proofs.Taken.{stripped_full}
+use Rattle.ecma_final_fits.proofs.Others.{full_without_this}
 
 pub record Laws : Type 0 where
+  pub reads : BoundTreesAreRead
   pub takes : BoundTreesAreTaken
   pub alike : BoundNamesResolveAlike
   pub contexts : ResolvedTreesFitAlike
@@ -45,7 +47,7 @@ module _ (laws : Laws) (unresolved top left : ℕ) (source final : Node) (read :
   short_left = laws.short_types (resolved unresolved top left bound) (laws.short_contexts unresolved top left bound (laws.short_bound source short))
 
   no_this : NoThis left_of
-  no_this = left_without_this unresolved top left bound (laws.takes source taken)
+  no_this = full_without_this left_of (stripped_full unresolved top left bound (laws.reads source read) (laws.takes source taken))
 
   fits_final : Fits final
   fits_final = laws.texts left_of final hygienic no_this short_left fits_left

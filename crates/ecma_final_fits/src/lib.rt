@@ -7,7 +7,7 @@ ghost use Rattle.ecma_final_fits.specs.Laws.{FinalTreesFit};
 
 use ecma_bound_names::what_fits_fits_without_types;
 use ecma_bound_scopes::bound_names_do_not_matter_to_scopes;
-use ecma_bound_sources::bound_trees_are_taken;
+use ecma_bound_sources::{bound_trees_are_read, bound_trees_are_taken};
 use ecma_fits_kept::contexts_do_not_matter_to_fits;
 use ecma_hygiene_fits::final_texts_keep_what_fits;
 use ecma_short_names::{
@@ -19,6 +19,7 @@ use ecma_short_names::{
 pub fn final_trees_fit()
     ensures { FinalTreesFit }
 {
+    bound_trees_are_read();
     bound_trees_are_taken();
     bound_names_do_not_matter_to_scopes();
     contexts_do_not_matter_to_fits();

@@ -28,9 +28,14 @@ HasTexts k = IsBare k
 abbrev pub IsGiven : Kind → Type 0
 IsGiven k = HasTexts k × (is_later k ≡ false)
 
+-- a form that is not taken, or the name `this`
+abbrev pub is_barred : Kind → Bool
+is_barred (kind.Ident text ctxt optional) = bytes_eq text (codes "this")
+is_barred k = is_later k
+
 -- of what is left of it without types
 abbrev pub IsLeft : Kind → Type 0
-IsLeft k = IsTaken (bare k) × (is_later k ≡ false)
+IsLeft k = IsTaken (bare k) × (is_barred k ≡ false)
 
 abbrev pub IsNotLater : Kind → Type 0
 IsNotLater k = is_later k ≡ false
@@ -67,57 +72,57 @@ given_plain _ p = p
 
 -- ---- what is left
 
-pub given_left : (k : Kind) → IsGiven k → is_type_part k ≡ false → is_ambient_variable k ≡ false → IsLeft k
+pub given_left : (k : Kind) → IsGiven k → is_type_part k ≡ false → is_ambient_variable k ≡ false → is_this_name k ≡ false → IsLeft k
 unfolding is_type_part
-given_left (kind.Ident text ctxt optional) p t v = (((p.0, refl, t), refl), p.1)
-given_left (kind.IdentName text) p t v = ((p.0, refl), refl)
-given_left (kind.PrivateName text) p t v = ((p.0, refl), refl)
-given_left (kind.Str value raw) p t v = ((p.0, refl), refl)
-given_left (kind.Number value raw) p t v = ((p.0, refl), refl)
-given_left (kind.BigInt value raw) p t v = ((p.0, refl), refl)
-given_left (kind.Regex exp flags) p t v = ((p.0, refl), refl)
-given_left (kind.TplElement raw cooked tail) p t v = ((p.0, refl), refl)
-given_left kind.TsTypeAssertion p t v = absurd (true-false refl t)
-given_left kind.TsConstAssertion p t v = absurd (true-false refl t)
-given_left kind.TsNonNullExpr p t v = absurd (true-false refl t)
-given_left kind.TsAsExpr p t v = absurd (true-false refl t)
-given_left kind.TsInstantiation p t v = absurd (true-false refl t)
-given_left kind.TsSatisfiesExpr p t v = absurd (true-false refl t)
-given_left kind.TsTypeParamInstantiation p t v = absurd (true-false refl t)
-given_left kind.TsTypeAnn p t v = absurd (true-false refl t)
-given_left kind.TsType p t v = absurd (true-false refl t)
-given_left kind.TsTypeParamDecl p t v = absurd (true-false refl t)
-given_left (kind.TsInterfaceDecl declare) p t v = absurd (true-false refl t)
-given_left (kind.TsTypeAliasDecl declare) p t v = absurd (true-false refl t)
-given_left (kind.TsIndexSignature readonly is_static) p t v = absurd (true-false refl t)
-given_left kind.TsNamespaceExportDecl p t v = absurd (true-false refl t)
-given_left (kind.TsEnumDecl declare is_const) p t v = absurd (true-false refl p.1)
-given_left kind.TsEnumMember p t v = absurd (true-false refl p.1)
-given_left (kind.TsModuleDecl declare global) p t v = absurd (true-false refl p.1)
-given_left kind.TsModuleBlock p t v = absurd (true-false refl p.1)
-given_left (kind.TsNamespaceDecl declare global) p t v = absurd (true-false refl p.1)
-given_left kind.TsQualifiedName p t v = absurd (true-false refl p.1)
-given_left (kind.TsParamProp accessibility is_override readonly) p t v = absurd (true-false refl p.1)
-given_left kind.ExportDefaultSpecifier p t v = absurd (true-false refl p.1)
-given_left (kind.TsImportEqualsDecl is_export is_type_only) p t v = absurd (true-false refl p.1)
-given_left (kind.ImportDecl type_only) p t v = absurd (true-false refl p.1)
-given_left (kind.NamedExport type_only) p t v = absurd (true-false refl p.1)
-given_left (kind.ExportAll type_only) p t v = absurd (true-false refl p.1)
-given_left (kind.ImportNamedSpecifier is_type_only) p t v = absurd (true-false refl p.1)
-given_left (kind.ExportNamedSpecifier is_type_only) p t v = absurd (true-false refl p.1)
-given_left (kind.FnDecl declare) p t v = ((tt, ap not t), refl)
-given_left (kind.ClassDecl declare) p t v = ((tt, ap not t), refl)
-given_left (kind.VarDecl k declare) p t v = ((tt, ap not v), refl)
-given_left (kind.VarDeclarator definite) p t v = ((tt, ap not t), refl)
-given_left (kind.ArrayPat optional) p t v = ((tt, ap not t), refl)
-given_left (kind.ObjectPat optional) p t v = ((tt, ap not t), refl)
-given_left (kind.Class is_abstract) p t v = ((tt, ap not t), refl)
-given_left (kind.Constructor accessibility is_optional) p t v = ((tt, ap not t), refl)
-given_left (kind.ClassMethod k modifiers) p t v = ((tt, ap not t), refl)
-given_left (kind.PrivateMethod k modifiers) p t v = ((tt, ap not t), refl)
-given_left (kind.ClassProp modifiers readonly declare definite) p t v = ((tt, ap not t), refl)
-given_left (kind.PrivateProp modifiers readonly declare definite) p t v = ((tt, ap not t), refl)
-given_left _ p t v = ((tt, refl), p.1)
+given_left (kind.Ident text ctxt optional) p t v o = (((p.0, refl, t), refl), o)
+given_left (kind.IdentName text) p t v o = ((p.0, refl), refl)
+given_left (kind.PrivateName text) p t v o = ((p.0, refl), refl)
+given_left (kind.Str value raw) p t v o = ((p.0, refl), refl)
+given_left (kind.Number value raw) p t v o = ((p.0, refl), refl)
+given_left (kind.BigInt value raw) p t v o = ((p.0, refl), refl)
+given_left (kind.Regex exp flags) p t v o = ((p.0, refl), refl)
+given_left (kind.TplElement raw cooked tail) p t v o = ((p.0, refl), refl)
+given_left kind.TsTypeAssertion p t v o = absurd (true-false refl t)
+given_left kind.TsConstAssertion p t v o = absurd (true-false refl t)
+given_left kind.TsNonNullExpr p t v o = absurd (true-false refl t)
+given_left kind.TsAsExpr p t v o = absurd (true-false refl t)
+given_left kind.TsInstantiation p t v o = absurd (true-false refl t)
+given_left kind.TsSatisfiesExpr p t v o = absurd (true-false refl t)
+given_left kind.TsTypeParamInstantiation p t v o = absurd (true-false refl t)
+given_left kind.TsTypeAnn p t v o = absurd (true-false refl t)
+given_left kind.TsType p t v o = absurd (true-false refl t)
+given_left kind.TsTypeParamDecl p t v o = absurd (true-false refl t)
+given_left (kind.TsInterfaceDecl declare) p t v o = absurd (true-false refl t)
+given_left (kind.TsTypeAliasDecl declare) p t v o = absurd (true-false refl t)
+given_left (kind.TsIndexSignature readonly is_static) p t v o = absurd (true-false refl t)
+given_left kind.TsNamespaceExportDecl p t v o = absurd (true-false refl t)
+given_left (kind.TsEnumDecl declare is_const) p t v o = absurd (true-false refl p.1)
+given_left kind.TsEnumMember p t v o = absurd (true-false refl p.1)
+given_left (kind.TsModuleDecl declare global) p t v o = absurd (true-false refl p.1)
+given_left kind.TsModuleBlock p t v o = absurd (true-false refl p.1)
+given_left (kind.TsNamespaceDecl declare global) p t v o = absurd (true-false refl p.1)
+given_left kind.TsQualifiedName p t v o = absurd (true-false refl p.1)
+given_left (kind.TsParamProp accessibility is_override readonly) p t v o = absurd (true-false refl p.1)
+given_left kind.ExportDefaultSpecifier p t v o = absurd (true-false refl p.1)
+given_left (kind.TsImportEqualsDecl is_export is_type_only) p t v o = absurd (true-false refl p.1)
+given_left (kind.ImportDecl type_only) p t v o = absurd (true-false refl p.1)
+given_left (kind.NamedExport type_only) p t v o = absurd (true-false refl p.1)
+given_left (kind.ExportAll type_only) p t v o = absurd (true-false refl p.1)
+given_left (kind.ImportNamedSpecifier is_type_only) p t v o = absurd (true-false refl p.1)
+given_left (kind.ExportNamedSpecifier is_type_only) p t v o = absurd (true-false refl p.1)
+given_left (kind.FnDecl declare) p t v o = ((tt, ap not t), refl)
+given_left (kind.ClassDecl declare) p t v o = ((tt, ap not t), refl)
+given_left (kind.VarDecl k declare) p t v o = ((tt, ap not v), refl)
+given_left (kind.VarDeclarator definite) p t v o = ((tt, ap not t), refl)
+given_left (kind.ArrayPat optional) p t v o = ((tt, ap not t), refl)
+given_left (kind.ObjectPat optional) p t v o = ((tt, ap not t), refl)
+given_left (kind.Class is_abstract) p t v o = ((tt, ap not t), refl)
+given_left (kind.Constructor accessibility is_optional) p t v o = ((tt, ap not t), refl)
+given_left (kind.ClassMethod k modifiers) p t v o = ((tt, ap not t), refl)
+given_left (kind.PrivateMethod k modifiers) p t v o = ((tt, ap not t), refl)
+given_left (kind.ClassProp modifiers readonly declare definite) p t v o = ((tt, ap not t), refl)
+given_left (kind.PrivateProp modifiers readonly declare definite) p t v o = ((tt, ap not t), refl)
+given_left _ p t v o = ((tt, refl), p.1)
 
 -- ---- final texts
 
@@ -136,7 +141,7 @@ left_old text ctxt optional p = (((p.0.0.0, refl), refl), (((p.0.0.0, refl, refl
 -- ---- contexts, and names
 
 pub later_bare : (k : Kind) → IsLeft k → IsNotLater (bare k)
-later_bare (kind.Ident text ctxt optional) p = p.1
+later_bare (kind.Ident text ctxt optional) p = refl
 later_bare _ p = p.1
 
 pub left_other : (k : Kind) → IsLeft k → is_this_name k ≡ false

@@ -1,20 +1,16 @@
 -- No node of the written tree is TypeScript, and its leaves are bare.
-use Rattle.std.proofs.Common.{◌≡◌, ◌∙◌, ◌⊎◌, None, inl, inr, refl, sym, ap, subst, ℕ, Bool, true, false, List, map}
-use Rattle.std.specs.Prelude.{bytes_eq, codes}
-use Rattle.std.proofs.lemmas.Bool.{false≢true}
-use Rattle.std.proofs.lemmas.Slice.Eq.{bytes_eq-Decides}
-use Rattle.ecma_lex.specs.Keys.{is_reserved, reserved_words}
+use Rattle.std.proofs.Common.{◌≡◌, ◌⊎◌, None, inl, inr, refl, sym, subst, ℕ, true, false, not, List, map}
 use Rattle.std.specs.Str.{IsUtf8}
 use Rattle.ecma_kind.specs.declared.kind.Kind.{Kind}
 use Rattle.ecma_kind.specs.declared.kind.Kind.TheVariants as kind
 use Rattle.ecma_kind.specs.declared.shapes.Sort.TheVariants as sort
 use Rattle.ecma_tree.specs.Finding.{enters_all, finds}
-use Rattle.ecma_tree.specs.Sorted.{one}
 use Rattle.ecma_tree.specs.declared.node.Node.{Node}
 use Rattle.ecma_spelling.specs.Everywhere.{Everywhere}
 use Rattle.ecma_rules.specs.Children.{kind_of}
 use Rattle.ecma_fits.specs.Fitting.{Fits}
 use Rattle.ecma_fits_kept.proofs.Contexts.{resolved_fit_alike}
+use Rattle.ecma_fits_reread.specs.Functions.{is_this_name}
 use Rattle.ecma_plain_laws.specs.Bare.{IsBareUnquestioned}
 use Rattle.ecma_runs.specs.Evaluation.{meaning}
 use Rattle.ecma_runs.specs.Meaning.{Meaning}
@@ -24,6 +20,7 @@ use Rattle.ecma_strip.specs.Laws.{is_type_part}
 use Rattle.ecma_strip.specs.Stripping.{stripped}
 use Rattle.ecma_strip.proofs.Leaving.{no_types_are_left}
 use Rattle.ecma_strip_fits.proofs.SortsKept.{fits_under_types}
+use Rattle.ecma_hygiene.proofs.Telling.{and-left}
 use Rattle.ecma_hygiene.specs.Hygienic.{IsHygienic}
 use Rattle.ecma_hygiene.specs.Renamed.{Texts, renamed, text_of}
 use Rattle.ecma_hygiene.specs.Sights.{meetings, sights}
@@ -34,11 +31,12 @@ use Rattle.ecma_hygiene_fits.proofs.Numbered.{texts_unreserved}
 use Rattle.ecma_pass_laws.specs.TypesAlone.{adds_types_alone}
 use Rattle.ecma_pass_laws.proofs.Contexts.{resolved-adds-types}
 use Rattle.ecma_pass_laws.proofs.Full.{modules-are-full}
-use Rattle.ecma_pass_laws.proofs.FullParts.{full_by, is_full, lacks}
-use Rattle.ecma_pass_laws.proofs.Nodes.{by-children, test-below}
+use Rattle.ecma_pass_laws.proofs.FullParts.{full_by, is_foreign, is_full, lacks}
+use Rattle.ecma_pass_laws.proofs.Nodes.{by-children, not-true, test-below, test-here}
 use Rattle.ecma_pass_laws.proofs.Plainness.{finds-below, finds-itself, full-lacks}
 use Rattle.ecma_forms.specs.Forms.{first_untaken, is_ambient_variable}
 use Rattle.ecma_source_laws.specs.Sources.{IsRead}
+use Rattle.ecma_source_laws.proofs.Quiet.{not_this}
 use Rattle.ecma_source_laws.proofs.Taken.{not_later, taken_below}
 use Rattle.ecma_source_laws.proofs.TypesAlone.{types_alone}
 use Rattle.ecma_final_laws.proofs.Everywhere.{each_at, each_of, everywhere_both, everywhere_made, everywhere_moved, everywhere_returned, parts}
@@ -64,28 +62,23 @@ constant : (k : Kind) (ms : List Meaning) → lacks k ms ≡ false → is_ambien
 constant (kind.VarDecl word declare) ms h = h
 constant _ ms h = refl
 
+pub full_native : (n : Node) → is_full n ≡ true → is_foreign (kind_of n) ≡ false
+full_native n full = not-true (is_foreign (kind_of n)) (and-left (not (is_foreign (kind_of n))) _ (test-here full_by n full))
+
+native_other : (k : Kind) → is_foreign k ≡ false → is_this_name k ≡ false
+native_other (kind.Ident text ctxt optional) h = h
+native_other _ h = refl
+
 abbrev Leaves : Node → Type 0
 Leaves n = Everywhere IsGiven n → finds is_type_part enters_all n ≡ false → is_full n ≡ true → Everywhere IsLeft n
 
 leaves : (n : Node) → Leaves n
 leaves = by-children Leaves (λ n below g free full.
     (let p = parts IsGiven g in
-    everywhere_made IsLeft n (given_left (kind_of n) p.0 (finds-itself is_type_part n free) (constant (kind_of n) (map meaning (children_of n)) (full-lacks n full)))
+    everywhere_made IsLeft n (given_left (kind_of n) p.0 (finds-itself is_type_part n free) (constant (kind_of n) (map meaning (children_of n)) (full-lacks n full)) (native_other (kind_of n) (full_native n full)))
     (each_of IsLeft (children_of n) (λ i c at. below i c at (each_at IsGiven (children_of n) p.1 i c at) (finds-below is_type_part n free i c at) (test-below full_by n full i c at)))))
 
 -- ---- the written tree
-
-this_reserved : is_reserved (codes "this") ≡ true
-unfolding is_reserved reserved_words
-this_reserved = refl
-
--- what is no reserved word is not `this`
-not_this : (text : List ℕ) → is_reserved text ≡ false → IsNotThis text
-not_this text free = go (bytes_eq text (codes "this")) refl
-  where
-    go : (b : Bool) → bytes_eq text (codes "this") ≡ b → IsNotThis text
-    go false e = e
-    go true e = absurd (false≢true (sym free ∙ ap is_reserved ((bytes_eq-Decides text (codes "this")).0 e) ∙ this_reserved))
 
 module _ (unresolved top left : ℕ) (source : Node) (read : IsRead source) (taken : first_untaken source ≡ None) where
   abbrev pub r : Node
@@ -98,7 +91,7 @@ module _ (unresolved top left : ℕ) (source : Node) (read : IsRead source) (tak
   resolved_fits = (resolved_fit_alike unresolved top left source).1 read.fits
 
   alone : adds_types_alone r ≡ true
-  alone = resolved-adds-types changes-contexts unresolved top left source (types_alone source (one sort.Module) read.fits.sorted taken)
+  alone = resolved-adds-types changes-contexts unresolved top left source (types_alone source read.fits taken)
 
   pub stripped_full : is_full s ≡ true
   stripped_full = modules-are-full r resolved_fits alone

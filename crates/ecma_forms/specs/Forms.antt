@@ -1,13 +1,12 @@
 -- The forms that the program does not take yet, node by node, and the least place at which a node of one begins.
-use Rattle.std.specs.Prelude.{ℕ, Bool, true, false, not, ◌||◌, Option, bytes_eq, codes}
+use Rattle.std.specs.Prelude.{ℕ, Bool, true, false, not, ◌||◌, Option}
 use Rattle.ecma_kind.specs.declared.kind.Kind.{Kind}
 use Rattle.ecma_kind.specs.declared.kind.Kind.TheVariants as kind
 use Rattle.ecma_tree.specs.declared.node.Node.{Node}
 use Rattle.ecma_rules.specs.Children.{child_holds, child_is, has_child, kind_of}
 use Rattle.ecma_rules.specs.Failing.{first_failing, failing_here}
 
--- imports and exports (ECMAScript, 16.2.2, 16.2.3; TypeScript handbook, "Modules - Reference"); enums and namespaces; parameter properties; and an
--- identifier `this`, which names a parameter that is there for its type alone
+-- imports and exports (ECMAScript, 16.2.2, 16.2.3; TypeScript handbook, "Modules - Reference"); enums and namespaces; and parameter properties
 abbrev pub is_later : Kind → Bool
 is_later (kind.ImportDecl type_only) = true
 is_later (kind.ImportNamedSpecifier is_type_only) = true
@@ -32,7 +31,6 @@ is_later (kind.TsModuleDecl declare global) = true
 is_later kind.TsModuleBlock = true
 is_later (kind.TsNamespaceDecl declare global) = true
 is_later (kind.TsParamProp accessibility is_override readonly) = true
-is_later (kind.Ident sym ctxt optional) = bytes_eq sym (codes "this")
 is_later _ = false
 
 abbrev pub is_ambient_variable : Kind → Bool

@@ -6,12 +6,11 @@ ghost use Rattle.ecma_forms.specs.Forms.{has_body, is_ambient_variable, is_later
 use ecma_rules::has_child;
 use ecma_tree::{Kind, Node};
 
-/// Imports and exports, enums and namespaces, parameter properties, and names of parameters `this`.
+/// Imports and exports, enums and namespaces, and parameter properties.
 fn is_later(kind: &Kind) -> bool
     ensures { result ≡ is_later kind.now }
 {
     match kind {
-        Kind::Ident { sym, .. } => sym.as_str() == "this",
         Kind::ImportDecl { .. }
         | Kind::ImportNamedSpecifier { .. }
         | Kind::ImportDefaultSpecifier

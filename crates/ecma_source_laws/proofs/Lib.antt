@@ -1,3 +1,5 @@
 pub mod Taken
+pub mod Quiet
+pub mod Receivers
 pub mod TypesAlone
 pub mod Sources

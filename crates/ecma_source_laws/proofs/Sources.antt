@@ -1,13 +1,11 @@
 -- What is read as a module is a source where each of its forms is taken and no name is declared again where it may not be.
-use Rattle.std.proofs.Common.{◌≡◌, ◌∙◌, List, [], ◌∷◌, map, refl, sym, ap, ap₂}
+use Rattle.std.proofs.Common.{◌≡◌, ◌∙◌, List, ◌∷◌, map, refl, sym, ap, ap₂}
 use Rattle.ecma_kind.specs.declared.kind.Kind.{Kind}
 use Rattle.ecma_kind.specs.declared.kind.Kind.TheVariants as kind
-use Rattle.ecma_kind.specs.declared.shapes.Sort.TheVariants as sort
 use Rattle.ecma_tree.specs.declared.node.Node.{Node, fold-roll-Node}
 use Rattle.ecma_tree.specs.Changing.{changed_here}
 use Rattle.ecma_tree.specs.Contexts.{kind_with_context}
 use Rattle.ecma_tree.specs.Nodes.{node_of}
-use Rattle.ecma_tree.specs.Sorted.{one}
 use Rattle.ecma_spelling.specs.Everywhere.{Each, Everywhere, everywhere, more, none}
 use Rattle.ecma_fits_laws.specs.WhatIsRead.{WhatIsReadFits}
 use Rattle.ecma_plain_laws.specs.Bare.{IsBareUnquestioned, ReadLeavesAreBare}
@@ -37,6 +35,6 @@ mutual
   each_stays (more a h) = ap₂ (λ n ns. n ∷ ns) (tree_stays a) (each_stays h)
 
 pub taken_sources : TakenTreesAreSources
-taken_sources tree is taken distinct = record { fits = is.fits; bare = tree_stays is.bare; distinct = distinct; types = types_alone tree (one sort.Module) is.fits.sorted taken }
+taken_sources tree is taken distinct = record { fits = is.fits; bare = tree_stays is.bare; distinct = distinct; types = types_alone tree is.fits taken }
 
 pub ruleset sources = (taken_sources)

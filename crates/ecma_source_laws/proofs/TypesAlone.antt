@@ -1,4 +1,4 @@
--- In a sorted tree of which each form is taken, all that is TypeScript is types.
+-- In a tree that fits, and of which each form is taken, all that is TypeScript is types.
 use Rattle.std.proofs.Common.{◌≡◌, ◌∙◌, ℕ, suc, Bool, true, false, ◌&&◌, not, List, [], ◌∷◌, Some, None, map, length, refl, sym, ap, slice_get}
 use Rattle.std.specs.List.{list_all, list_any}
 use Rattle.ecma_kind.specs.declared.kind.Kind.{Kind}
@@ -9,14 +9,20 @@ use Rattle.ecma_tree.specs.declared.node.Node.{Node, out-Node}
 use Rattle.ecma_tree.specs.Laws.{HaveShapes}
 use Rattle.ecma_tree.specs.Sorted.{HasShape, allows, child_shapes, maybe, one}
 use Rattle.ecma_rules.specs.Children.{holds_of, is_present, kind_of, of_kind}
-use Rattle.ecma_strip.specs.Staying.{if_there, is_declared, is_this, is_this_by, is_this_ident, is_this_param, is_this_param_by}
+use Rattle.ecma_rules.specs.Jumps.{first_stray}
+use Rattle.ecma_fits.specs.declared.unfit.Where.{Where}
+use Rattle.ecma_fits.specs.Fitting.{Fits, at_top, first_unfit_in, where_in}
+use Rattle.ecma_fits_laws.proofs.Walks.{neither_least}
+use Rattle.ecma_strip.specs.Staying.{is_declared}
 use Rattle.ecma_strip.specs.Values.{is_value, value_by}
 use Rattle.ecma_strip.proofs.Valuing.{is_value-out}
 use Rattle.ecma_hygiene.proofs.Telling.{and-both, true-false}
 use Rattle.ecma_strip_scopes.proofs.Going.{parts-have}
-use Rattle.ecma_pass_laws.specs.TypesAlone.{adds_types_alone, adds_types_by, has_ambient_head, has_bodiless, has_stray_receiver, is_lone_receiver, is_lowered, is_receiver, lacks_body, lacks_body_by}
+use Rattle.ecma_pass_laws.specs.TypesAlone.{adds_types_alone, adds_types_by, has_ambient_head, has_bodiless, has_stray_receiver, is_lowered, lacks_body, lacks_body_by}
+use Rattle.ecma_pass_laws.proofs.Clearing.{fits-below}
 use Rattle.ecma_pass_laws.proofs.Nodes.{by-children, child-shape, holds-out, not-false}
 use Rattle.ecma_forms.specs.Forms.{first_untaken, has_body, is_ambient_variable, is_later, is_odd_by}
+use Rattle.ecma_source_laws.proofs.Receivers.{IsFree, child_free, no_stray}
 use Rattle.ecma_source_laws.proofs.Taken.{not_later, not_odd, taken_below}
 
 unlowered : (k : Kind) → is_later k ≡ false → is_lowered k ≡ false
@@ -26,59 +32,6 @@ unlowered (kind.TsModuleDecl declare global) h = absurd (true-false refl h)
 unlowered (kind.TsNamespaceDecl declare global) h = absurd (true-false refl h)
 unlowered (kind.TsImportEqualsDecl is_export is_type_only) h = absurd (true-false refl h)
 unlowered _ h = refl
-
--- no name is `this`
-
-later_other : (k : Kind) → is_later k ≡ false → is_this_ident k ≡ false
-later_other (kind.Ident text ctxt optional) h = h
-later_other _ h = refl
-
-name_other : (n : Node) → first_untaken n ≡ None → is_this_ident (kind_of n) ≡ false
-name_other n taken = later_other (kind_of n) (not_later n taken)
-
-first_other : (f : Node → Bool) (cs : List Node) → ((c : Node) → slice_get cs 0 ≡ Some c → f c ≡ false) → if_there (slice_get cs 0) f ≡ false
-first_other f [] h = refl
-first_other f (c ∷ cs) h = h c refl
-
-this_other : (n : Node) → first_untaken n ≡ None → is_this n ≡ false
-this_other n taken = by (kind_of n)
-  where
-    by : (k : Kind) → is_this_by k n ≡ false
-    by kind.BindingIdent = first_other (λ x. is_this_ident (kind_of x)) (out-Node n).children (λ c at. name_other c (taken_below n taken 0 c at))
-    by _ = refl
-
-param_other : (n : Node) → first_untaken n ≡ None → is_this_param n ≡ false
-param_other n taken = by (kind_of n)
-  where
-    by : (k : Kind) → is_this_param_by k n ≡ false
-    by kind.Param = first_other is_this (out-Node n).children (λ c at. this_other c (taken_below n taken 0 c at))
-    by _ = this_other n taken
-
-receiver_other : (n : Node) → first_untaken n ≡ None → is_receiver n ≡ false
-receiver_other n taken = let a = name_other n taken in let b = param_other n taken in rw (a, b) refl
-
-lone_other : (n : Node) → first_untaken n ≡ None → is_lone_receiver n ≡ false
-lone_other n taken = let a = name_other n taken in let b = this_other n taken in rw (a, b) refl
-
-none_of : (f : Node → Bool) (cs : List Node) → ((i : ℕ) (c : Node) → slice_get cs i ≡ Some c → f c ≡ false) → list_any f cs ≡ false
-none_of f [] each = refl
-none_of f (c ∷ cs) each = let here = each 0 c refl in let behind = none_of f cs (λ i d at. each (suc i) d at) in rw (here, behind) refl
-
-abbrev AllTaken : List Node → Type 0
-AllTaken cs = (i : ℕ) (c : Node) → slice_get cs i ≡ Some c → first_untaken c ≡ None
-
-no_receiver : (cs : List Node) → AllTaken cs → list_any is_receiver cs ≡ false
-no_receiver cs taken = none_of is_receiver cs (λ i c at. receiver_other c (taken i c at))
-
-no_stray : (k : Kind) (cs : List Node) → AllTaken cs → has_stray_receiver k cs ≡ false
-no_stray kind.List cs taken = none_of is_lone_receiver cs (λ i c at. lone_other c (taken i c at))
-no_stray kind.Param cs taken = none_of (λ c. is_this_ident (kind_of c)) cs (λ i c at. name_other c (taken i c at))
-no_stray kind.BindingIdent [] taken = refl
-no_stray kind.BindingIdent (c ∷ cs) taken = no_receiver cs (λ i d at. taken (suc i) d at)
-no_stray kind.SetterProp [] taken = refl
-no_stray kind.SetterProp (c ∷ []) taken = no_receiver (c ∷ []) taken
-no_stray kind.SetterProp (c ∷ d ∷ cs) taken = let here = receiver_other c (taken 0 c refl) in let behind = no_receiver cs (λ i e at. taken (suc (suc i)) e at) in rw (here, behind) refl
-no_stray _ cs taken = no_receiver cs taken
 
 -- the heads of loops
 
@@ -158,20 +111,21 @@ all_alone [] each = refl
 all_alone (c ∷ cs) each = and-both (adds_types_alone c) (list_all adds_types_alone cs) (each 0 c refl) (all_alone cs (λ i d at. each (suc i) d at))
 
 abbrev IsAlone : Node → Type 0
-IsAlone n = (s : Shape) → HasShape s n → first_untaken n ≡ None → (adds_types_alone n ≡ true) × (lacks_body n ≡ false)
+IsAlone n = (s : Shape) (w : Where) → HasShape s n → first_unfit_in n w ≡ None → IsFree n w.role → first_untaken n ≡ None → (adds_types_alone n ≡ true) × (lacks_body n ≡ false)
 
 layer_alone : (n : Node) → ((i : ℕ) (c : Node) → slice_get (out-Node n).children i ≡ Some c → IsAlone c) → IsAlone n
-layer_alone n below s has taken =
+layer_alone n below s w has fits free taken =
     let k = kind_of n in
     let cs = (out-Node n).children in
     let shaped = (parts-have n s has).1 in
     let odd = not_odd n taken in
     let each : (i : ℕ) (c : Node) → slice_get cs i ≡ Some c → (adds_types_alone c ≡ true) × (lacks_body c ≡ false) =
-    λ i c at. let shape = child-shape (child_shapes k s (length cs)) cs shaped i c at in below i c at shape.0 shape.2 (taken_below n taken i c at) in
+    λ i c at. (let shape = child-shape (child_shapes k s (length cs)) cs shaped i c at in
+    below i c at shape.0 (where_in w n i) shape.2 (fits-below w n fits i c at) (child_free n s w shaped fits (not_later n taken) free i c at) (taken_below n taken i c at)) in
     let lowered : not (is_lowered k) ≡ true = ap not (unlowered k (not_later n taken)) in
     let head : not (has_ambient_head k cs) ≡ true = ap not (no_ambient_head n s k cs refl shaped odd) in
     let bodies : not (has_bodiless k cs) ≡ true = ap not (no_bodiless k cs (none_lacks cs (λ i c at. (each i c at).1))) in
-    let strays : not (has_stray_receiver k cs) ≡ true = ap not (no_stray k cs (taken_below n taken)) in
+    let strays : not (has_stray_receiver k cs) ≡ true = ap not (no_stray n s w shaped fits (not_later n taken) free) in
     let last : Bool = not (has_bodiless k cs) && not (has_stray_receiver k cs) in (
       holds-out adds_types_by n
           ∙ and-both (adds_types_by k cs) (list_all adds_types_alone cs)
@@ -181,5 +135,7 @@ layer_alone n below s has taken =
       full_by n s k cs refl shaped odd (is_value-out n),
     )
 
-pub types_alone : (n : Node) (s : Shape) → HasShape s n → first_untaken n ≡ None → adds_types_alone n ≡ true
-types_alone n s has taken = (by-children IsAlone layer_alone n s has taken).0
+pub types_alone : (tree : Node) → Fits tree → first_untaken tree ≡ None → adds_types_alone tree ≡ true
+types_alone tree fits taken =
+    let unfit = (neither_least (first_unfit_in tree at_top) (first_stray tree) fits.fitting).0 in
+    (by-children IsAlone layer_alone tree (one sort.Module) at_top fits.sorted unfit (λ p. absurd (true-false p refl)) taken).0

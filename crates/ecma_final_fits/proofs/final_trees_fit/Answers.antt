@@ -3,6 +3,7 @@ use Rattle.ecma_final_fits.proofs.final_trees_fit.Goals as goal
 
 pub returns : goal.returns
 returns c = trees_fit (record {
+  reads = c.bound_trees_are_read.ensures;
   takes = c.bound_trees_are_taken.ensures;
   alike = c.bound_names_do_not_matter_to_scopes.ensures.contexts;
   contexts = c.contexts_do_not_matter_to_fits.ensures.resolved;

@@ -1,7 +1,7 @@
 //! Statements, functions and classes, and what is written for them: the trees are those that TypeScript makes of them, the bytes are by hand.
 use super::Case;
 
-pub(super) const STATEMENTS: [Case; 34] = [
+pub(super) const STATEMENTS: [Case; 35] = [
     Case {
         src: "let x: number = f(1);",
         want: r#"let x = f(1);
@@ -418,6 +418,21 @@ w = async function(c = d) {};
     }
     static {}
 }
+"#,
+    },
+    // parameters `this`
+    Case {
+        src: "function f(this: A, b) { return this.c + b; } class D { m(this: D) { return 1; } set v(this: D, x) {} } let o = { set s(this: any, x) {} };",
+        want: r#"function f(b) {
+    return this.c + b;
+}
+class D {
+    m() {
+        return 1;
+    }
+    set v(x) {}
+}
+let o = { set s(x) {} };
 "#,
     },
     // fields whose names are modifiers
