@@ -12,6 +12,7 @@ use Rattle.ecma_bound_sources.specs.Laws.{BoundTreesAreRead, BoundTreesAreTaken}
 use Rattle.ecma_final_fits.specs.Laws.{FinalTreesFit}
 use Rattle.ecma_final_laws.specs.Final.{FinalTreesArePlain}
 use Rattle.ecma_text.specs.Modules.{typescript}
+use Rattle.ecma_written_names.specs.Laws.{BoundModulesAreNotRedeclared}
 use Rattle.ecma_written_laws.specs.Written.{WrittenModulesDoWhatTheirSourcesDo}
 
 pub record Laws : Type 0 where
@@ -23,6 +24,7 @@ pub record Laws : Type 0 where
   pub fit : FinalTreesFit
   pub plain : FinalTreesArePlain
   pub again : WhatFitsIsReadAgain
+  pub distinct : BoundModulesAreNotRedeclared
   pub runs : BoundPassesKeepRuns
 
 shorter : (n : ℕ) → n < 2 ^ 32 - 64 → n < 2 ^ 32
@@ -46,5 +48,6 @@ written_modules laws unresolved top left bound text source final utf8 short read
       written = again.0;
       read_plain = again.1;
       tree = again.2;
+      distinct = laws.distinct unresolved top left source final again.0 of is.given is.hygienic again.2;
       runs = λ unresolved' top' left' given' turns options script. laws.runs unresolved top left source final again.0 of is.given is.hygienic again.2 unresolved' top' left' given' turns options script;
     }

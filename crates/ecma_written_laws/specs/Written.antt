@@ -22,12 +22,13 @@ pub record IsWrittenFor (unresolved top left : ℕ) (source final : Node) : Type
   pub given : AreGiven unresolved top left source
   pub hygienic : IsHygienic (stripped (resolved unresolved top left (with_bound_names source))) final
 
--- a text is read as a plain module, of the tree that was written, and does what the source does, with whatever contexts it is resolved
+-- a text is read as a plain module, of the tree that was written, declares no name again where it may not be, and does what the source does, with whatever contexts it is resolved
 pub record DoesWhatItsSourceDoes (unresolved top left : ℕ) (source final : Node) : Type 0 where
   pub levels : ℕ
   pub written : Node
   pub read_plain : reads_as (layout final) (plain false) levels ≡ Ok written
   pub tree : IsReading final written
+  pub distinct : redeclared written ≡ []
   pub runs : (unresolved' top' left' : ℕ) → AreGiven unresolved' top' left' written
       → (turns : ℕ) (options : Config) (script : Script) → observe turns options (resolved unresolved' top' left' written) script ≡ observe turns options (resolved unresolved top left source) script
 

@@ -1,4 +1,5 @@
-//! The law of the whole way: what is written for a module is a plain module, of the tree that was made of it, and does what it does.
+//! The law of the whole way: what is written for a module is a plain module, of the tree that was made of it, declares no name again where it may not, and does
+//! what it does.
 //!
 //! The function carries the law over the definitions, and does nothing. The law is stated in `specs/`.
 #![tactic(auto)]
@@ -12,9 +13,10 @@ use ecma_final_laws::final_trees_are_plain;
 use ecma_round_trip::what_fits_is_read_again;
 use ecma_short_names::names_that_are_read_are_short;
 use ecma_source_laws::{taken_trees_are_sources, trees_that_are_read_are_read};
+use ecma_written_names::bound_modules_are_not_redeclared;
 
 /// What is written for a module of which each form is taken, and which declares no name again where it may not, is read again as a plain module, of the tree
-/// that was written, and is observed to do what its source does.
+/// that was written, declares none again either, and is observed to do what its source does.
 pub fn written_modules_do_what_their_sources_do()
     ensures { WrittenModulesDoWhatTheirSourcesDo }
 {
@@ -26,5 +28,6 @@ pub fn written_modules_do_what_their_sources_do()
     final_trees_fit();
     final_trees_are_plain();
     what_fits_is_read_again();
+    bound_modules_are_not_redeclared();
     passes_keep_runs_of_bound_sources();
 }

@@ -75,6 +75,7 @@ is_conversion law left src text converted =
       final = is.final;
       is_final = is.is;
       tree = whole.tree;
+      distinct = whole.distinct;
       interface = λ options. refl;
       runs = λ options turns script unresolved top contexts given. inr (whole.runs unresolved top contexts given turns options script);
     }

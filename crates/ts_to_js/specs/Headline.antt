@@ -1,9 +1,10 @@
 -- What a converted module is to its source.
-use Rattle.std.specs.Prelude.{◌≡◌, ◌⊎◌, ◌≤◌, ℕ, false, List, None, Ok, length}
+use Rattle.std.specs.Prelude.{◌≡◌, ◌⊎◌, ◌≤◌, ℕ, false, List, [], None, Ok, length}
 use Rattle.std.specs.Str.{IsUtf8}
 use Rattle.ecma_tree.specs.declared.node.Node.{Node}
 use Rattle.ecma_tree.specs.Spans.{without_spans}
 use Rattle.ecma_text.specs.Modules.{reads_as, typescript, plain, deepest}
+use Rattle.ecma_scope.specs.Conflicts.{redeclared}
 use Rattle.ecma_scope.specs.Laws.{without_contexts}
 use Rattle.ecma_scope.specs.Resolved.{resolved}
 use Rattle.ecma_parentheses.specs.Explicit.{explicit}
@@ -45,6 +46,8 @@ pub record IsConversion (left : ℕ) (src text : List ℕ) : Type 0 where
   pub final : Node
   pub is_final : IsFinal left source final
   pub tree : without_spans written ≡ without_spans (explicit (without_contexts final))
+  -- no name is declared again where it may not be
+  pub distinct : redeclared written ≡ []
   -- the imports and exports that the use rule keeps
   pub interface : (options : Config) → interface_of written ≡ kept_interface options source
   -- for every script of host answers, every number of turns, and with whatever contexts the written module gets its bindings

@@ -11,5 +11,6 @@ returns c = written_modules (record {
   fit = c.final_trees_fit.ensures;
   plain = c.final_trees_are_plain.ensures;
   again = c.what_fits_is_read_again.ensures;
+  distinct = c.bound_modules_are_not_redeclared.ensures;
   runs = c.passes_keep_runs_of_bound_sources.ensures;
 })
