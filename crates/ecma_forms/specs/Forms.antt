@@ -41,7 +41,8 @@ is_ambient_variable _ = false
 abbrev pub has_body : Node → Bool
 has_body function = has_child function 1
 
--- what no text has, though no law says so: a variable in the head of a loop behind `declare`, and a function without a body that could be no declaration
+-- a function without a body that could be no declaration, as in `({ get a() })`: the grammar reads it, and TypeScript does not; and what no text has, though no law
+-- says so: a variable in the head of a loop behind `declare`
 abbrev pub is_odd_by : Kind → Node → Bool
 is_odd_by kind.SetterProp node = not (has_child node 3)
 is_odd_by kind.GetterProp node = not (has_child node 2)

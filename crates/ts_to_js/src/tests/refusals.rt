@@ -1,7 +1,7 @@
 //! Modules that are refused: forms that are not taken, and what is no module.
 use super::Case;
 
-pub(super) const REFUSED: [Case; 16] = [
+pub(super) const REFUSED: [Case; 18] = [
     // import
     Case {
         src: r#"f(); import { a } from "m";"#,
@@ -77,6 +77,17 @@ pub(super) const REFUSED: [Case; 16] = [
     Case {
         src: "class A { set a(...b) {} }",
         want: r#"error: Syntax at 10
+"#,
+    },
+    // functions without a body
+    Case {
+        src: "x = { get a() };",
+        want: r#"error: Syntax at 6
+"#,
+    },
+    Case {
+        src: "f(function()\n)",
+        want: r#"error: Syntax at 2
 "#,
     },
     // two constructors
