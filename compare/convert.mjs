@@ -4,7 +4,7 @@
 // PROGRAM reads a module from standard input, writes one to standard output, and ends with 1 and a line `error: ..` where it refuses. Files are
 // those that end in .ts, .mts and .cts, and with --plain in .js and .mjs too, with --most up to that size. TypeScript is Debian's
 // node-typescript, or the one that the variable TYPESCRIPT names. What TypeScript or acorn does not read is passed over, but counted where
-// the program reads it. With --blanked imports, exports, enums, namespaces, the modifiers of parameters, parameters `this` and decorators are
+// the program reads it. With --blanked imports, exports, enums, namespaces, the modifiers of parameters and decorators are
 // blanks first, so that all else of such files is compared. Each run of the program ends after N seconds (60), and so does TypeScript. What was
 // written is converted once more, and is to stay. A run that is ended by a signal tells what it has counted so far.
 import { spawnSync } from "node:child_process";
@@ -97,8 +97,6 @@ function blank(text) {
   const put = (from, to, what = "") => void spans.push([from, to, what]);
   const putWhole = (n, what) => put(n.getStart(file), n.end, what);
   function visitParameter(n) {
-    const others = n.parent.parameters;
-    if (n.name.kind === K.Identifier && n.name.text === "this") put(n.getStart(file), others[others.indexOf(n) + 1]?.getStart(file) ?? others.end);
     for (const word of n.modifiers ?? []) if (isWordOfParameter.has(word.kind)) putWhole(word);
   }
   function visit(n) {
