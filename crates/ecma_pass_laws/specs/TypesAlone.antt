@@ -32,7 +32,7 @@ lacks_body_by k value = false
 abbrev pub lacks_body : Node → Bool
 lacks_body n = lacks_body_by (out-Node n).kind (is_value n)
 
--- one that is not exported as the default, which no text has
+-- one that is not exported as the default: the grammar reads some, and TypeScript refuses them
 abbrev pub has_bodiless : Kind → List Node → Bool
 has_bodiless kind.ExportDefaultDecl children = false
 has_bodiless k children = list_any lacks_body children
