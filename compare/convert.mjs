@@ -4,8 +4,8 @@
 // PROGRAM reads a module from standard input, writes one to standard output, and ends with 1 and a line `error: ..` where it refuses. Files are
 // those that end in .ts, .mts and .cts, and with --plain in .js and .mjs too, with --most up to that size. TypeScript is Debian's
 // node-typescript, or the one that the variable TYPESCRIPT names. What TypeScript or acorn does not read is passed over, but counted where
-// the program reads it. With --blanked imports, exports, enums, namespaces, the modifiers of parameters and decorators are
-// blanks first, so that all else of such files is compared. Each run of the program ends after N seconds (60), and so does TypeScript. What was
+// the program reads it. With --blanked imports, exports, enums and namespaces that do not go with the types, the modifiers of parameters and
+// decorators are blanks first, so that all else of such files is compared. Each run of the program ends after N seconds (60), and so does TypeScript. What was
 // written is converted once more, and is to stay. A run that is ended by a signal tells what it has counted so far.
 import { spawnSync } from "node:child_process";
 import { readFileSync } from "node:fs";
@@ -84,11 +84,14 @@ function theirs(text) {
 
 // what is blanked
 
-const isItem = new Set([
-  K.ImportDeclaration, K.ImportEqualsDeclaration, K.ExportDeclaration, K.NamespaceExportDeclaration, K.EnumDeclaration, K.ModuleDeclaration,
-]);
+const isItem = new Set([K.ImportDeclaration, K.ImportEqualsDeclaration, K.ExportDeclaration, K.NamespaceExportDeclaration]);
 const isWordOfItem = new Set([K.ExportKeyword, K.DefaultKeyword, K.Decorator]);
 const isWordOfParameter = new Set([K.PublicKeyword, K.PrivateKeyword, K.ProtectedKeyword, K.ReadonlyKeyword, K.OverrideKeyword]);
+
+const isAmbient = (n) => (n.modifiers ?? []).some((word) => word.kind === K.DeclareKeyword);
+
+/** Whether an enum or a namespace goes with the types. */
+const goes = (n) => isAmbient(n) || (n.kind === K.ModuleDeclaration && ts.getModuleInstanceState(n) === 0);
 
 /** A module with blanks for what the program may not take yet. */
 function blank(text) {
@@ -100,7 +103,8 @@ function blank(text) {
     for (const word of n.modifiers ?? []) if (isWordOfParameter.has(word.kind)) putWhole(word);
   }
   function visit(n) {
-    if (isItem.has(n.kind)) return putWhole(n);
+    const isPart = n.kind === K.EnumDeclaration || n.kind === K.ModuleDeclaration;
+    if (isItem.has(n.kind) || (isPart && !goes(n))) return putWhole(n);
     if (n.kind === K.ExportAssignment) put(n.getStart(file), n.expression.getStart(file), "0,");
     if (n.kind === K.Parameter) visitParameter(n);
     const isNameless = (n.kind === K.FunctionDeclaration || n.kind === K.ClassDeclaration) && !n.name;
@@ -108,7 +112,7 @@ function blank(text) {
       if (word.kind === K.DefaultKeyword && isNameless) putWhole(word, "0,");
       else if (isWordOfItem.has(word.kind) || (word.kind === K.AbstractKeyword && isNameless)) putWhole(word);
     }
-    ts.forEachChild(n, visit);
+    if (!isPart) ts.forEachChild(n, visit);
   }
   ts.forEachChild(file, visit);
   let result = "";

@@ -9,3 +9,4 @@ pub mod Around
 pub mod Idle
 pub mod Suiting
 pub mod Whole
+pub mod StayingItems

@@ -12,6 +12,7 @@ use Rattle.ecma_fits.specs.declared.role.Role.{Role}
 use Rattle.ecma_fits.specs.Roles.{role_in}
 use Rattle.ecma_bind.specs.Binding.{bound_at, is_typed_name}
 use Rattle.ecma_bound_names.proofs.Bound.{bound_each, children_of, usual_is}
+use Rattle.ecma_bound_names.proofs.StayingItems.{bound_child}
 use Rattle.ecma_bound_sources.proofs.Keeping.{bound_keeps}
 
 module _ (P : Kind → Type 0) (bound : P kind.BindingIdent) (missing : P kind.Absent) where
@@ -30,10 +31,13 @@ module _ (P : Kind → Type 0) (bound : P kind.BindingIdent) (missing : P kind.A
   named : (u : Node) → Everywhere P u → Everywhere P (binding u)
   named u h = good_node P (out-Node u).span kind.BindingIdent (u ∷ absent ∷ []) bound (more h (more (good_absent P missing) none))
 
-  usual : (n : Node) (r : Role) → is_typed_name r n ≡ false → Everywhere P n → ((i : ℕ) (d : Node) → slice_get (bound_each (role_in r (kind_of n)) (children_of n)) i ≡ Some d → Everywhere P d) → Everywhere P (bound_at n r)
-  usual n r t h each =
+  usual : (n : Node) (r : Role) → is_typed_name r n ≡ false → Everywhere P n → ((i : ℕ) (c : Node) → slice_get (children_of n) i ≡ Some c → Everywhere P c → (q : Role) → Everywhere P (bound_at c q)) → Everywhere P (bound_at n r)
+  usual n r t h below =
+      let roles = role_in r (kind_of n) in
+      let each : (i : ℕ) (d : Node) → slice_get (bound_each roles (children_of n)) i ≡ Some d → Everywhere P d =
+      λ i d at. (let f = bound_child (children_of n) roles i d at in subst (Everywhere P) f.2 (below i f.0 f.1 (down n h i f.0 f.1) (roles i))) in
       subst (Everywhere P) (sym (usual_is n r t))
-      (good_node P (out-Node n).span (kind_of n) (bound_each (role_in r (kind_of n)) (children_of n)) (kind_good P h) (each_of (bound_each (role_in r (kind_of n)) (children_of n)) each))
+      (good_node P (out-Node n).span (kind_of n) (bound_each roles (children_of n)) (kind_good P h) (each_of (bound_each roles (children_of n)) each))
 
   pub everywhere_bound : (n : Node) → Everywhere P n → (r : Role) → Everywhere P (bound_at n r)
-  everywhere_bound = bound_keeps (Everywhere P) down named usual
+  everywhere_bound = bound_keeps (Everywhere P) (λ n h wrapper. down n h) named usual

@@ -1,4 +1,5 @@
 pub mod Keeping
 pub mod Everywhere
 pub mod Read
+pub mod Staying
 pub mod Taken

@@ -1,7 +1,5 @@
--- In a resolved tree the same names are declared again, and its scopes are ambient where those of the tree are.
-use Rattle.std.proofs.Common.{◌≡◌, ℕ, suc, ◌-◌, Bool, true, false, ◌&&◌, ◌||◌, not, cond, filter, List, [], ◌∷◌, ◌++◌, map, Option, refl, sym, ap, ap₂, ◌∙◌, subst}
-use Rattle.std.specs.List.{All}
-use Rattle.std.proofs.lemmas.List.Elements.{All-append, All-cons, All-head, All-nil, All-tail}
+-- In a resolved tree the same names are declared again.
+use Rattle.std.proofs.Common.{◌≡◌, ℕ, suc, ◌-◌, Bool, ◌&&◌, ◌||◌, not, cond, filter, List, [], ◌∷◌, ◌++◌, map, Option, refl, sym, ap, ap₂, ◌∙◌, subst}
 use Rattle.ecma_kind.specs.declared.kind.Kind.{Kind}
 use Rattle.ecma_kind.specs.declared.kind.Kind.TheVariants as kind
 use Rattle.ecma_tree.specs.declared.node.Node.{Node, Node-F, ind-Node, out-Node, roll-Node}
@@ -13,13 +11,9 @@ use Rattle.ecma_scope.specs.declared.role.Role.{Role}
 use Rattle.ecma_scope.specs.Conflicts.{Surrounding, clashes_in, clashing, is_further_out, marked, own_clashes, passing, redeclared_at, surrounds}
 use Rattle.ecma_scope.specs.Declarations.{declarations, holds_vars, is_own, names, own_part, stated}
 use Rattle.ecma_scope.specs.Resolved.{Place, context_count, inside, placed, resolved_at, taken}
-use Rattle.ecma_scope.specs.Scopes.{covers, is_ambient, opens, role_in}
+use Rattle.ecma_scope.specs.Scopes.{covers, is_ambient}
 use Rattle.ecma_scope.proofs.Clashing.{redeclared_at-out}
-use Rattle.ecma_hygiene.specs.Walks.{gathered_from}
-use Rattle.ecma_hygiene.proofs.Walking.{gathered-out}
-use Rattle.ecma_hygiene_laws.specs.Seats.{Seat, seat_here, seats_at}
 use Rattle.ecma_hygiene_laws.proofs.Sameness.{children-here, declares-ids, declares-resolved, kind-resolved, opens-resolved, role-resolved}
-use Rattle.ecma_hygiene_laws.proofs.Stopping.{All-first, All-second}
 
 -- those that meet, of the names of a scope and those that pass through it
 abbrev met : Role → (List ℕ → Option Bool) → List Declaration → List Declaration → List Declaration
@@ -87,39 +81,3 @@ module _ (unresolved top : ℕ) where
   pub told : (m : Node) → Told m
   told = ind-Node Told (λ x y is.
       layer-told (roll-Node x) (subst AllTold (ap (λ (z : Node-F Node). z.children) is ∙ sym (ap (λ (z : Node-F Node). z.children) (out-roll-Node x))) (all-told y.children)))
-
-  -- ---- scopes that are not ambient
-
-  abbrev pub IsCalm : Seat → Type 0
-  IsCalm seat = opens seat.role seat.node ≡ true → is_ambient seat.role ≡ false
-
-  abbrev Calm : Node → Type 0
-  Calm m = (place : Place) (left : ℕ) (r : Role) → All IsCalm (seats_at m r) → All IsCalm (seats_at (res m place left) r)
-
-  abbrev AllCalm : List Node → Type 0
-  AllCalm ms = (places : ℕ → Place) (f g : ℕ → Role) → ((i : ℕ) → f i ≡ g i) → (i left : ℕ) → All IsCalm (gathered_from Role Seat g i (map seats_at ms)) → All IsCalm (gathered_from Role Seat f i (map seats_at (placed places i ms (map res ms) left)))
-
-  all-calm : (ms : List ((m : Node) × Calm m)) → AllCalm (map (λ e. e.0) ms)
-  all-calm [] places f g same i left h = All-nil IsCalm
-  all-calm (m ∷ ms) places f g same i left h =
-      let others : List Node = map (λ e. e.0) ms in
-      let less : ℕ = left - context_count m.0 (places i).role in
-      All-append IsCalm (seats_at (res m.0 (places i) left) (f i)) (gathered_from Role Seat f (suc i) (map seats_at (placed places (suc i) others (map res others) less)))
-      (m.1 (places i) left (f i) (subst (λ (r : Role). All IsCalm (seats_at m.0 r)) (sym (same i)) (All-first IsCalm (seats_at m.0 (g i)) (gathered_from Role Seat g (suc i) (map seats_at others)) h)))
-      (all-calm ms places f g same (suc i) less (All-second IsCalm (seats_at m.0 (g i)) (gathered_from Role Seat g (suc i) (map seats_at others)) h))
-
-  layer-calm : (m : Node) → AllCalm (out-Node m).children → Calm m
-  layer-calm m children place left r h =
-      let node : Node = res m place left in
-      let seat : Seat = record { role = r; node = m } in
-      let below : List Seat = gathered_from Role Seat (role_in r m) 0 (map seats_at (out-Node m).children) in
-      let parts : All IsCalm (seat ∷ below) = subst (All IsCalm) (gathered-out Role Seat seat_here role_in m r) h in
-      subst (All IsCalm) (sym (gathered-out Role Seat seat_here role_in node r))
-      (All-cons IsCalm (record { role = r; node = node }) (gathered_from Role Seat (role_in r node) 0 (map seats_at (out-Node node).children))
-      (λ opened. All-head IsCalm seat below parts (sym (opens-resolved unresolved top m place left r) ∙ opened))
-      (subst (λ (cs : List Node). All IsCalm (gathered_from Role Seat (role_in r node) 0 (map seats_at cs))) (sym (children-here unresolved top m place left))
-      (children (inside top place m left) (role_in r node) (role_in r m) (role-resolved unresolved top m place left r) 0 (left - taken place.role m) (All-tail IsCalm seat below parts))))
-
-  pub calm : (m : Node) → Calm m
-  calm = ind-Node Calm (λ x y is.
-      layer-calm (roll-Node x) (subst AllCalm (ap (λ (z : Node-F Node). z.children) is ∙ sym (ap (λ (z : Node-F Node). z.children) (out-roll-Node x))) (all-calm y.children)))

@@ -24,7 +24,6 @@ use Rattle.ecma_strip.specs.Staying.{is_this_param, stays}
 use Rattle.ecma_strip.specs.Stripping.{plain_kind}
 use Rattle.ecma_hygiene.proofs.Telling.{and-both, and-left, and-right, true-false}
 use Rattle.ecma_hygiene_laws.specs.DeclaredIds.{id_here, ids_declared}
-use Rattle.ecma_strip_scopes.specs.Going.{is_namespace}
 use Rattle.ecma_strip_scopes.specs.Standing.{clear_at, clear_here, clear_in, clear_step, is_clear}
 use Rattle.ecma_strip_scopes.proofs.Going.{parts-have}
 use Rattle.ecma_strip_scopes.proofs.Seeking.{seeks-plain}
@@ -298,10 +297,11 @@ still-items t roles i shape (n ∷ ns) have h = ((λ st. path-still t (roles i) 
 pub clear-items : (t : Bool) (roles : ℕ → Role) (i : ℕ) (shape : Shape) (ns : List Node) (into : ℕ → Option Sought) → ((j : ℕ) → into j ≡ Some var) → clear_in t true into i ns (map (is_clear t) ns) ≡ true → AllItems t roles i shape ns
 clear-items t roles i shape [] into is h = tt
 clear-items t roles i shape (n ∷ ns) into is h =
-    let here : Bool = cond (not (stays n)) (not ((not t && is_this_param n) || is_namespace n)) (clear_at (into i) (is_clear t n)) in
+    let gone : Bool = t || not (is_this_param n) in
+    let here : Bool = cond (not (stays n)) gone (clear_at (into i) (is_clear t n)) in
     let rest : Bool = clear_in t true into (suc i) ns (map (is_clear t) ns) in (
       λ st. path-clear t (roles i) shape n
-          (ap (λ (o : Option Sought). clear_at o (is_clear t n)) (sym (is i)) ∙ ap (λ (b : Bool). cond (not b) (not ((not t && is_this_param n) || is_namespace n)) (clear_at (into i) (is_clear t n))) (sym st) ∙ and-left here rest h),
+          (ap (λ (o : Option Sought). clear_at o (is_clear t n)) (sym (is i)) ∙ ap (λ (b : Bool). cond (not b) gone (clear_at (into i) (is_clear t n))) (sym st) ∙ and-left here rest h),
       clear-items t roles (suc i) shape ns into is (and-right here rest h),
     )
 

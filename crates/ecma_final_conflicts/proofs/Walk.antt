@@ -25,32 +25,31 @@ use Rattle.ecma_scope.proofs.Unchanged.{keeps-sorts}
 use Rattle.ecma_strip.specs.Staying.{is_empty_stmt, item_stays, stays}
 use Rattle.ecma_strip.specs.Stripping.{body_of, changed_at, plain, plain_children, plain_kind, staying_nodes, stripped, without_empty, without_this}
 use Rattle.ecma_strip.proofs.Stripping.{stripped-out}
-use Rattle.ecma_hygiene.specs.Walks.{gathered_from}
 use Rattle.ecma_hygiene.proofs.Telling.{true-false}
-use Rattle.ecma_hygiene.proofs.Walking.{gathered-out}
 use Rattle.ecma_hygiene_laws.specs.DeclaredIds.{ids_declared, scope_ids}
-use Rattle.ecma_hygiene_laws.specs.Seats.{Seat, seat_here, seats_at}
+use Rattle.ecma_hygiene_laws.specs.Seats.{Seat}
 use Rattle.ecma_hygiene_laws.proofs.Parts.{children-of, kind-of, parts_of}
 use Rattle.ecma_hygiene_laws.proofs.Settling.{HasBody}
-use Rattle.ecma_hygiene_laws.proofs.Stopping.{All-first, All-second}
-use Rattle.ecma_strip_scopes.specs.Apart.{IsClearSeat}
+use Rattle.ecma_strip_scopes.specs.Apart.{IsClearSeat, IsWrapped}
 use Rattle.ecma_strip_scopes.specs.Standing.{clear_in, is_clear}
+use Rattle.ecma_strip_scopes.specs.Staying.{staying_seats}
 use Rattle.ecma_strip_scopes.proofs.Declared.{not-list, what-stays-is-declared}
 use Rattle.ecma_strip_scopes.proofs.Going.{parts-have}
-use Rattle.ecma_strip_scopes.proofs.KindsKept.{covers-plain, opens-kept, opens-plain, role-kept, role-plain, wrapper-first, wrapper-opens, wrapper-plain, wrapper-role, wrapper-some}
+use Rattle.ecma_strip_scopes.proofs.KindsKept.{covers-plain, opens-kept, opens-plain, role-kept, role-plain, wrapper-first, wrapper-no-list, wrapper-opens, wrapper-plain, wrapper-role, wrapper-some}
 use Rattle.ecma_strip_scopes.proofs.RolesAlike.{Alike}
 use Rattle.ecma_strip_scopes.proofs.ScopesDeclare.{scopes-declare}
 use Rattle.ecma_strip_scopes.proofs.Lasting.{lasting}
 use Rattle.ecma_strip_scopes.proofs.ScopesSame.{goes}
 use Rattle.ecma_strip_scopes.proofs.Seeking.{Becomes, becomes, itself, list, typed, wrapper}
 use Rattle.ecma_strip_scopes.proofs.Standing.{list-kind}
-use Rattle.ecma_strip_scopes.proofs.Wrapping.{IsWrapped, module-wraps}
-use Rattle.ecma_final_conflicts.specs.Laws.{IsCalmSeat, StrippedIsNotRedeclared, StrippedModulesAreNotRedeclared}
+use Rattle.ecma_strip_scopes.proofs.StayingSeats.{staying-among, staying-first, staying-out, staying-rest, staying_below}
+use Rattle.ecma_strip_scopes.proofs.Wrapping.{module-wraps}
+use Rattle.ecma_final_conflicts.specs.Laws.{StrippedIsNotRedeclared, StrippedModulesAreNotRedeclared}
 use Rattle.ecma_final_conflicts.proofs.Bodies.{body-stays, is-body, states-last}
 use Rattle.ecma_final_conflicts.proofs.Fewer.{last}
 use Rattle.ecma_final_conflicts.proofs.HasBody.{has-body}
 use Rattle.ecma_final_conflicts.proofs.Meeting.{names-last, scope-clear}
-use Rattle.ecma_final_conflicts.proofs.Contexts.{calm, told}
+use Rattle.ecma_final_conflicts.proofs.Contexts.{told}
 use Rattle.ecma_final_conflicts.proofs.Paths.{AllItems, AllPath, Next, Path, clear-inside, clear-items, clear-path, ends, ends-path, further, further-in, holds-opens, is_way, list-way, nexts, no-way, path-still, root-path, still-items, var, way-plain}
 use Rattle.ecma_final_conflicts.proofs.Quiet.{absent-quiet, both-none, empty-quiet, filter-all, first-none, list-opens, list-role, role-ids, second-none}
 use Rattle.ecma_final_conflicts.proofs.Safe.{AllHold, Holds, free, held, holds, module-root}
@@ -60,11 +59,11 @@ module _ (receivers : Bool) where
   -- ---- what is known of a node, in its surrounding
 
   abbrev IsSeat : Seat → Type 0
-  IsSeat seat = IsCalmSeat seat × IsClearSeat receivers seat × IsWrapped seat
+  IsSeat seat = IsClearSeat receivers seat × IsWrapped seat
 
   record Sound (n : Node) (s : Surrounding) : Type 0 where
     pub clear : redeclared_at n s ≡ []
-    pub seats : All IsSeat (seats_at n s.role)
+    pub seats : All IsSeat (staying_seats n s.role)
 
   -- in the body of a function the parameters are the same, but for those that go
   abbrev Agrees : Surrounding → Surrounding → Type 0
@@ -150,18 +149,18 @@ module _ (receivers : Bool) where
     abbrev old_role : ℕ → Role
     old_role i = (olds i).role
 
-    abbrev seats_from : ℕ → List Node → List Seat
-    seats_from i ns = gathered_from Role Seat old_role i (map seats_at ns)
+    abbrev seats_from : Bool → ℕ → List Node → List Seat
+    seats_from listed i ns = staying_below listed old_role i ns
 
     walk-all : (ns ms : List Node) (shapes : List Shape) → ((i : ℕ) → (news i).role ≡ (olds i).role) → ((i : ℕ) → Agrees (olds i) (news i)) → AllBecome ns ms → HaveShapes shapes ns → (i : ℕ) → AllHold old_role i shapes → AllPath receivers old_role i shapes ns
-        → clashes_in olds i (map redeclared_at ns) ≡ [] → All IsSeat (seats_from i ns) → clashes_in news i (map redeclared_at ms) ≡ []
+        → clashes_in olds i (map redeclared_at ns) ≡ [] → All IsSeat (seats_from false i ns) → clashes_in news i (map redeclared_at ms) ≡ []
     walk-all [] [] shapes roles agrees become have i hold paths clear seats = refl
     walk-all (n ∷ ns) (m ∷ ms) (x ∷ shapes) roles agrees become have i hold paths clear seats =
         both-none (redeclared_at m (news i)) (clashes_in news (suc i) (map redeclared_at ms))
         (become.0 x (olds i) (news i) have.0 hold.0 paths.0 (inl (roles i)) (agrees i)
-        (record { clear = first-none (redeclared_at n (olds i)) (clashes_in olds (suc i) (map redeclared_at ns)) clear; seats = All-first IsSeat (seats_at n (old_role i)) (seats_from (suc i) ns) seats }))
+        (record { clear = first-none (redeclared_at n (olds i)) (clashes_in olds (suc i) (map redeclared_at ns)) clear; seats = staying-first IsSeat false old_role i n ns refl seats }))
         (walk-all ns ms shapes roles agrees become.1 have.1 (suc i) hold.1 paths.1 (second-none (redeclared_at n (olds i)) (clashes_in olds (suc i) (map redeclared_at ns)) clear)
-        (All-second IsSeat (seats_at n (old_role i)) (seats_from (suc i) ns) seats))
+        (staying-rest IsSeat false old_role i n ns seats))
     walk-all [] (m ∷ ms) shapes roles agrees become have i hold paths clear seats = absurd become
     walk-all (n ∷ ns) [] shapes roles agrees become have i hold paths clear seats = absurd become
     walk-all (n ∷ ns) (m ∷ ms) [] roles agrees become have i hold paths clear seats = absurd have
@@ -171,24 +170,24 @@ module _ (receivers : Bool) where
       abbrev left_of : List Node → List Node
       left_of ns = filter test (map stripped (filter stays ns))
 
-      item-by : (n : (n : Node) × Walks n) (ns : List Node) → HasShape shape n.0 → (b : Bool) → (i j : ℕ) → (b ≡ true → Path receivers (old_role i) shape n.0) → Sound n.0 (olds i) → ((j : ℕ) → clashes_in news j (map redeclared_at (left_of ns)) ≡ [])
+      item-by : (n : (n : Node) × Walks n) (ns : List Node) → HasShape shape n.0 → (b : Bool) → (i j : ℕ) → (b ≡ true → Path receivers (old_role i) shape n.0) → (b ≡ true → Sound n.0 (olds i)) → ((j : ℕ) → clashes_in news j (map redeclared_at (left_of ns)) ≡ [])
           → clashes_in news j (map redeclared_at (filter test (map stripped (cond b (n.0 ∷ filter stays ns) (filter stays ns))))) ≡ []
       item-by n ns has false i j path sound rest = rest j
       item-by n ns has true i j path sound rest = by (test (stripped n.0))
         where
           by : (b : Bool) → clashes_in news j (map redeclared_at (cond b (stripped n.0 ∷ left_of ns) (left_of ns))) ≡ []
           by true =
-              both-none (redeclared_at (stripped n.0) (news j)) (clashes_in news (suc j) (map redeclared_at (left_of ns))) (n.1.0 shape (olds i) (news j) has (hold i) (path refl) (inl (roles i j)) (agrees i j) sound) (rest (suc j))
+              both-none (redeclared_at (stripped n.0) (news j)) (clashes_in news (suc j) (map redeclared_at (left_of ns))) (n.1.0 shape (olds i) (news j) has (hold i) (path refl) (inl (roles i j)) (agrees i j) (sound refl)) (rest (suc j))
           by false = rest j
 
-      walk-items : (ns : List ((n : Node) × Walks n)) → HaveShapes (replicate (length (nodes ns)) shape) (nodes ns) → (i j : ℕ) → AllItems receivers old_role i shape (nodes ns) → clashes_in olds i (map redeclared_at (nodes ns)) ≡ [] → All IsSeat (seats_from i (nodes ns))
+      walk-items : (ns : List ((n : Node) × Walks n)) → HaveShapes (replicate (length (nodes ns)) shape) (nodes ns) → (i j : ℕ) → AllItems receivers old_role i shape (nodes ns) → clashes_in olds i (map redeclared_at (nodes ns)) ≡ [] → All IsSeat (seats_from true i (nodes ns))
           → clashes_in news j (map redeclared_at (left_of (nodes ns))) ≡ []
       walk-items [] have i j paths clear seats = refl
       walk-items (n ∷ ns) have i j paths clear seats =
           item-by n (nodes ns) have.0 (stays n.0) i j paths.0
-          (record { clear = first-none (redeclared_at n.0 (olds i)) (clashes_in olds (suc i) (map redeclared_at (nodes ns))) clear; seats = All-first IsSeat (seats_at n.0 (old_role i)) (seats_from (suc i) (nodes ns)) seats })
+          (λ st. record { clear = first-none (redeclared_at n.0 (olds i)) (clashes_in olds (suc i) (map redeclared_at (nodes ns))) clear; seats = staying-first IsSeat true old_role i n.0 (nodes ns) (ap not st) seats })
           (λ l. walk-items ns have.1 (suc i) l paths.1 (second-none (redeclared_at n.0 (olds i)) (clashes_in olds (suc i) (map redeclared_at (nodes ns))) clear)
-          (All-second IsSeat (seats_at n.0 (old_role i)) (seats_from (suc i) (nodes ns)) seats))
+          (staying-rest IsSeat true old_role i n.0 (nodes ns) seats))
 
   -- ---- a node
 
@@ -203,23 +202,23 @@ module _ (receivers : Bool) where
     abbrev seat : Seat
     seat = record { role = s.role; node = n }
 
-    abbrev seats_below : List Node → List Seat
-    seats_below cs = gathered_from Role Seat (role_in s.role n) 0 (map seats_at cs)
+    abbrev seats_below : Bool → List Node → List Seat
+    seats_below listed cs = staying_below listed (role_in s.role n) 0 cs
 
     clear-parts : own_clashes s n ++ clashes_in (surrounds s n) 0 (map redeclared_at (nodes ns)) ≡ []
     clear-parts = sym (redeclared_at-out n s ∙ ap (λ (cs : List Node). own_clashes s n ++ clashes_in (surrounds s n) 0 (map redeclared_at cs)) are) ∙ sound.clear
 
-    seats-parts : All IsSeat (seat ∷ seats_below (nodes ns))
-    seats-parts = subst (All IsSeat) (gathered-out Role Seat seat_here role_in n s.role ∙ ap (λ (cs : List Node). seat ∷ seats_below cs) are) sound.seats
+    seats-parts : All IsSeat (seat ∷ seats_below (is_list k) (nodes ns))
+    seats-parts = subst (All IsSeat) (staying-out n s.role ∙ ap (λ (cs : List Node). seat ∷ seats_below (is_list k) cs) are) sound.seats
 
     here : IsSeat seat
-    here = All-head IsSeat seat (seats_below (nodes ns)) seats-parts
+    here = All-head IsSeat seat (seats_below (is_list k) (nodes ns)) seats-parts
 
     clear-inner : clashes_in (surrounds s n) 0 (map redeclared_at (nodes ns)) ≡ []
     clear-inner = second-none (own_clashes s n) (clashes_in (surrounds s n) 0 (map redeclared_at (nodes ns))) clear-parts
 
-    seats-inner : All IsSeat (seats_below (nodes ns))
-    seats-inner = All-tail IsSeat seat (seats_below (nodes ns)) seats-parts
+    seats-inner : (listed : Bool) → is_list k ≡ listed → All IsSeat (seats_below listed (nodes ns))
+    seats-inner listed is = subst (λ (b : Bool). All IsSeat (seats_below b (nodes ns))) is (All-tail IsSeat seat (seats_below (is_list k) (nodes ns)) seats-parts)
 
     parts : HaveShapes (child_shapes k shape (length (nodes ns))) (nodes ns)
     parts = subst (λ (cs : List Node). HaveShapes (child_shapes k shape (length cs)) cs) are (parts-have n shape has).1
@@ -239,7 +238,7 @@ module _ (receivers : Bool) where
         (vars : opens s.role n ≡ true → holds_vars s.role k ≡ false → ids_declared m (record { part = part.Var; stays = true }) ≡ lasting receivers (ids_declared n (record { part = part.Var; stays = true }))) where
       own-by : (b : Bool) → opens s.role n ≡ b → cond b (clashing t.role t.around [] (meeting t.role t.around m)) [] ≡ []
       own-by true is =
-          scope-clear receivers n m s.role t.role s.around t.around near kind_st agrees is (here.0 is) (ids is) (vars is) (λ h none. held s.role shape k (is_there (out-Node n).children 0) hold (parts-have n shape has).0 is h none) (own-clear is)
+          scope-clear receivers n m s.role t.role s.around t.around near kind_st agrees is (here.0 is).0 (ids is) (vars is) (λ h none. held s.role shape k (is_there (out-Node n).children 0) hold (parts-have n shape has).0 is h none) (own-clear is)
       own-by false is = refl
 
       own-none : own_clashes t m ≡ []
@@ -250,10 +249,10 @@ module _ (receivers : Bool) where
       body-agrees i same covered body text other =
           let body_role : HasBody s.role k i = has-body s.role k (is_there (out-Node n).children 1) i (sym same ∙ is-body (role_in t.role m i) body) in
           let is : opens s.role n ≡ true = body_role.opens (is_there (out-Node n).children 0) in
-          let names_st : names t.role t.around m ≡ filter (last receivers) (names s.role s.around n) = names-last receivers n m s.role t.role s.around t.around near kind_st agrees is (here.0 is) (ids is) in
+          let names_st : names t.role t.around m ≡ filter (last receivers) (names s.role s.around n) = names-last receivers n m s.role t.role s.around t.around near kind_st agrees is (here.0 is).0 (ids is) in
           (λ j. is_stated (cond (opened j && covered j) (stated (names_st j)) t.around text))
           ∙ (λ j. is_stated (cond (is j && body_role.covers j) (stated (filter (last receivers) (names s.role s.around n))) t.around text))
-          ∙ states-last receivers text other (names s.role s.around n) (body-stays n s.role i body_role (here.0 is) s.around)
+          ∙ states-last receivers text other (names s.role s.around n) (body-stays n s.role i body_role (here.0 is).0 s.around)
           ∙ sym (λ j. is_stated (cond (is j && body_role.covers j) (stated (names s.role s.around n)) s.around text))
 
     -- the `var` names in it are clear, if there are any
@@ -262,7 +261,7 @@ module _ (receivers : Bool) where
     vars-by kind_st no_list none false way = no-way (stripped n) (ap is_way kind_st ∙ way-plain k ∙ way) ∙ sym (ap (lasting receivers) (no-way n way))
 
     way-clear : is_list k ≡ false → is_way k ≡ true → (b : Bool) → holds_vars s.role k ≡ b → is_clear receivers n var ≡ true
-    way-clear no_list way true h = (here.1 (holds-opens s.role k (is_there (out-Node n).children 0) h)).vars h
+    way-clear no_list way true h = (here.0 (holds-opens s.role k (is_there (out-Node n).children 0) h)).1.vars h
     way-clear no_list way false h = path.node no_list way h
 
     paths : is_list k ≡ false → Next s.role k (is_there (out-Node n).children 1) (child_shapes k shape (length (nodes ns))) → AllPath receivers (role_in s.role n) 0 (child_shapes k shape (length (nodes ns))) (nodes ns)
@@ -294,13 +293,13 @@ module _ (receivers : Bool) where
         let covered : (i : ℕ) → covers t.role (out-Node m).kind i ≡ covers s.role k i = (λ i. ap (λ (z : Kind). covers t.role z i) kind_st ∙ covers-plain t.role k i ∙ alike.covered i) in
         let roles : (i : ℕ) → role_in t.role m i ≡ role_in s.role n i = (λ i. (λ j. role_by t.role (kind_st j) (is_there (children_st j) 1) i) ∙ role-plain t.role k (is_there cs 1) i ∙ role-kept t.role k shape count (nodes ns) parts i
         ∙ alike.inner (is_there (nodes ns) 1) i ∙ sym (ap (λ (z : List Node). role_by s.role k (is_there z 1) i) are)) in
-        let ids : opens s.role n ≡ true → scope_ids t.role m ≡ lasting receivers (scope_ids s.role n) = (λ is. role-ids s.role t.role k alike m kind_st ∙ scopes-declare receivers shape s.role n has is (here.0 is) (here.1 is)) in
+        let ids : opens s.role n ≡ true → scope_ids t.role m ≡ lasting receivers (scope_ids s.role n) = (λ is. role-ids s.role t.role k alike m kind_st ∙ scopes-declare receivers shape s.role n has is (here.0 is).0 (here.0 is).1) in
         let vars : opens s.role n ≡ true → holds_vars s.role k ≡ false → ids_declared m (record { part = part.Var; stays = true }) ≡ lasting receivers (ids_declared n (record { part = part.Var; stays = true })) =
         (λ is none. vars-by kind_st no_list none (is_way k) refl) in
         whole m (own-none m kind_st opened ids vars)
         (subst (λ (z : List Node). clashes_in (surrounds t m) 0 (map redeclared_at z) ≡ []) (sym children_st)
         (walk-all (surrounds s n) (surrounds t m) (nodes ns) cs (child_shapes k shape count) roles (λ i. body-agrees m kind_st opened ids vars i (roles i) (covered i)) (plain-become k ns shape count parts) parts 0
-        (holds s.role k (is_there (out-Node n).children 1) shape count) (paths no_list (nexts s.role k (is_there (out-Node n).children 1) shape count no_list)) clear-inner seats-inner))
+        (holds s.role k (is_there (out-Node n).children 1) shape count) (paths no_list (nexts s.role k (is_there (out-Node n).children 1) shape count no_list)) clear-inner (seats-inner false no_list)))
 
     shut : k ≡ kind.List → opens s.role n ≡ false
     shut is = list-opens s.role k (is_there (out-Node n).children 0) is
@@ -316,7 +315,7 @@ module _ (receivers : Bool) where
         let never : (i j : ℕ) → Agrees (surrounds s n i) (surrounds t m j) = (λ i j body text other. absurd (no-body i (sym (roles i j) ∙ is-body (role_in t.role m j) body))) in
         whole m (ap (λ (b : Bool). cond b (clashing t.role t.around [] (meeting t.role t.around m)) []) closed)
         (subst (λ (z : List Node). clashes_in (surrounds t m) 0 (map redeclared_at z) ≡ []) (sym children_st)
-        (walk-items (surrounds s n) (surrounds t m) test (item_shape shape) (λ i. item-holds i) roles never ns (subst (λ (z : Kind). HaveShapes (child_shapes z shape (length (nodes ns))) (nodes ns)) is parts) 0 0 (items is) clear-inner seats-inner))
+        (walk-items (surrounds s n) (surrounds t m) test (item_shape shape) (λ i. item-holds i) roles never ns (subst (λ (z : Kind). HaveShapes (child_shapes z shape (length (nodes ns))) (nodes ns)) is parts) 0 0 (items is) clear-inner (seats-inner true (ap is_list is))))
       where
         no-body : (i : ℕ) → role_in s.role n i ≡ role.Body → ⊥
         no-body i h = (let body : HasBody s.role k i = has-body s.role k (is_there (out-Node n).children 1) i h in true-false (body.opens (is_there (out-Node n).children 0)) (shut is))
@@ -331,27 +330,27 @@ module _ (receivers : Bool) where
 
     -- an expression with a type round it
     wrapper-by : (ms : List ((n : Node) × Walks n)) → (out-Node n).children ≡ nodes ms → HaveShapes (child_shapes k shape (length (nodes ns))) (nodes ms) → clashes_in (surrounds s n) 0 (map redeclared_at (nodes ms)) ≡ []
-        → All IsSeat (seats_below (nodes ms)) → is_type_wrapper k ≡ true → redeclared_at (stripped n) t ≡ []
+        → All IsSeat (seats_below false (nodes ms)) → is_type_wrapper k ≡ true → redeclared_at (stripped n) t ≡ []
     wrapper-by [] children have_some clear all_seats is = absurd (wrapper-some k shape (length (nodes ns)) is have_some)
     wrapper-by (e ∷ es) children have_some clear all_seats is =
         let first : Surrounding = surrounds s n 0 in
         let st : stripped n ≡ stripped e.0 = stripped-out n ∙ ap (λ (cs : List Node). plain (out-Node n).span k (map stripped (staying_nodes k cs))) children ∙ wrapper-plain k (out-Node n).span e.0 (nodes es) is in
         let has_e : HasShape (one sort.Expr) e.0 = wrapper-first k shape (length (nodes ns)) e.0 (nodes es) is have_some in
         let role_e : first.role ≡ role.Plain = wrapper-role s.role k (is_there (out-Node n).children 1) 0 is in
-        let near_e : Near first.role t.role (out-Node e.0).kind = inr (role_e, alike.free (here.2 is), (parts-have e.0 (one sort.Expr) has_e).0) in
+        let near_e : Near first.role t.role (out-Node e.0).kind = inr (role_e, alike.free (here.1 is), (parts-have e.0 (one sort.Expr) has_e).0) in
         let around_e : first.around ≡ s.around = (λ j. cond (wrapper-opens s.role k (is_there (out-Node n).children 0) is j && covers s.role k 0) (stated (names s.role s.around n)) s.around) in
         ap (λ (z : Node). redeclared_at z t) st
         ∙ e.1.0 (one sort.Expr) first t has_e (subst (λ (r : Role). Holds r (one sort.Expr)) (sym role_e) (free role.Plain (one sort.Expr) refl)) (path-still receivers first.role (one sort.Expr) e.0 (parts-have e.0 (one sort.Expr) has_e).0 refl) near_e
         (λ body text other. agrees body text other ∙ sym (ap (λ (a : List ℕ → Option Bool). is_stated (a text)) around_e))
         (record {
           clear = first-none (redeclared_at e.0 first) (clashes_in (surrounds s n) 1 (map redeclared_at (nodes es))) clear;
-          seats = All-first IsSeat (seats_at e.0 first.role) (gathered_from Role Seat (role_in s.role n) 1 (map seats_at (nodes es))) all_seats;
+          seats = staying-first IsSeat false (role_in s.role n) 0 e.0 (nodes es) refl all_seats;
         })
 
     node-walks : Becomes k → redeclared_at (stripped n) t ≡ []
     node-walks (typed eq no_list other none no_id) =
         ap (λ (z : Node). redeclared_at z t) (stripped-out n ∙ eq (out-Node n).span (map stripped (staying_nodes k (out-Node n).children))) ∙ absent-quiet t
-    node-walks (wrapper is none no_id) = wrapper-by ns are parts clear-inner seats-inner is
+    node-walks (wrapper is none no_id) = wrapper-by ns are parts clear-inner (seats-inner false (wrapper-no-list k is)) is
     node-walks (list is) = list-clear is (λ x. true) (stripped n) (list-stripped is ∙ sym (ap (node_of (out-Node n).span kind.List) (filter-all (map stripped (filter stays (nodes ns))))))
     node-walks (itself eq no_list other) = itself-clear (eq (out-Node n).span) no_list
 
@@ -372,14 +371,14 @@ abbrev at_root : Surrounding
 at_root = record { role = role.Root; around = λ text. None }
 
 pub stripped-not-redeclared : StrippedIsNotRedeclared
-stripped-not-redeclared receivers tree sorted clear calm seats =
-    let wrapped = module-wraps tree sorted in
+stripped-not-redeclared receivers tree sorted clear seats =
+    let wrapped = staying-among IsWrapped tree role.Root (module-wraps tree sorted) in
     (walks receivers tree).0 (one sort.Module) at_root at_root sorted module-root (root-path receivers tree sorted) (inl refl) (λ body text other. refl)
-    (record { clear = clear; seats = λ k d lt. (calm k d lt, seats k d lt, wrapped k d lt) })
+    (record { clear = clear; seats = λ k d lt. (seats k d lt, wrapped k d lt) })
 
 -- so it is of a resolved module
 pub resolved-not-redeclared : StrippedModulesAreNotRedeclared
 resolved-not-redeclared receivers unresolved top left source checked clear =
     let tree : Node = resolved unresolved top left source in
     let place : Place = record { role = role.Root; scopes = [] } in
-    stripped-not-redeclared receivers tree ((keeps-sorts unresolved top left source sort.Module).1 checked.sorted) (told unresolved top source place left at_root ∙ checked.clear) (calm unresolved top source place left role.Root checked.calm) clear
+    stripped-not-redeclared receivers tree ((keeps-sorts unresolved top left source sort.Module).1 checked.sorted) (told unresolved top source place left at_root ∙ checked.clear) clear

@@ -5,8 +5,8 @@
 
 ghost use Rattle.ecma_final_conflicts.specs.Laws.{StrippedIsNotRedeclared, StrippedModulesAreNotRedeclared};
 
-/// In a module in which no name is declared again where it may not be, and no scope is ambient, none is without its types, where it is clear what its
-/// scopes declare, also where parameters `this` go.
+/// In a module in which no name is declared again where it may not be, none is without its types, where each scope that stays is not ambient, and it is clear
+/// what it declares, also where parameters `this` go.
 pub fn stripped_trees_are_not_redeclared()
     ensures { StrippedIsNotRedeclared }
 {}

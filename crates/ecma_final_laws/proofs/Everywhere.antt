@@ -30,20 +30,6 @@ each_at P [] none i c at = none-some at
 each_at P (x ∷ xs) (more a h) zero c at = subst (Everywhere P) (some-same at) a
 each_at P (x ∷ xs) (more a h) (suc i) c at = each_at P xs h i c at
 
--- ---- what two things that hold everywhere say together
-
-module _ (P Q R : Kind → Type 0) (together : (k : Kind) → P k → Q k → R k) where
-  abbrev pub Both : Node → Type 0
-  Both n = Everywhere P n → Everywhere Q n → Everywhere R n
-
-  each_both : (cs : List Node) → EachChild Both cs → Each P cs → Each Q cs → Each R cs
-  each_both [] e none none = none
-  each_both (c ∷ cs) e (more a h) (more b g) = more (e.0 a b) (each_both cs e.1 h g)
-
-  pub everywhere_both : (n : Node) → Both n
-  everywhere_both = from_children Both (λ n below h g.
-      (let p = parts P h in let q = parts Q g in everywhere_made R n (together (kind_of n) p.0 q.0) (each_both (children_of n) below p.1 q.1)))
-
 -- ---- contexts
 
 module _ (P Q : Kind → Type 0) (context_of : List ℕ → ℕ → ℕ) where

@@ -24,7 +24,7 @@ abbrev pub HasTexts : Kind → Type 0
 HasTexts (kind.Ident text ctxt optional) = IsUtf8 text
 HasTexts k = IsBare k
 
--- of a source
+-- of what stays of a source
 abbrev pub IsGiven : Kind → Type 0
 IsGiven k = HasTexts k × (is_later k ≡ false)
 
@@ -42,19 +42,22 @@ IsNotLater k = is_later k ≡ false
 
 -- ---- a source
 
-pub given_texts : (k : Kind) → IsBareUnquestioned k → HasTexts k
+given_texts : (k : Kind) → IsBareUnquestioned k → HasTexts k
 given_texts (kind.Ident text ctxt optional) p = p.0
 given_texts (kind.ArrayPat optional) p = tt
 given_texts (kind.ObjectPat optional) p = tt
 given_texts _ p = p
 
-pub given_bare : (k : Kind) → IsGiven k → IsGiven (bare k)
-given_bare (kind.Ident text ctxt optional) p = p
-given_bare _ p = p
+to_bare : (k : Kind) → HasTexts k → HasTexts (bare k)
+to_bare (kind.Ident text ctxt optional) p = p
+to_bare _ p = p
 
-pub bare_given : (k : Kind) → IsGiven (bare k) → IsGiven k
-bare_given (kind.Ident text ctxt optional) p = p
-bare_given _ p = p
+pub texts_bare : (k : Kind) → IsBareUnquestioned k → HasTexts (bare k)
+texts_bare k p = to_bare k (given_texts k p)
+
+pub bare_texts : (k : Kind) → HasTexts (bare k) → HasTexts k
+bare_texts (kind.Ident text ctxt optional) p = p
+bare_texts _ p = p
 
 pub given_plain : (k : Kind) → IsGiven k → IsGiven (plain_kind k)
 unfolding plain_kind

@@ -1,5 +1,5 @@
 -- Without its types a source has ordinary functions.
-use Rattle.std.proofs.Common.{◌≡◌, ◌∙◌, refl, sym, ap, ap₂, subst, ℕ, zero, suc, Bool, true, false, ◌&&◌, ◌||◌, not, List, [], ◌∷◌, map, length, replicate, Option, Some, None, slice_get}
+use Rattle.std.proofs.Common.{◌≡◌, ◌∙◌, refl, sym, ap, subst, ℕ, zero, suc, Bool, true, false, ◌&&◌, ◌||◌, not, List, [], ◌∷◌, map, length, replicate, Some, None, slice_get}
 use Rattle.std.specs.List.{list_all}
 use Rattle.ecma_kind.specs.Sorts.{belongs}
 use Rattle.ecma_kind.specs.declared.kind.Kind.{Kind}
@@ -9,88 +9,61 @@ use Rattle.ecma_kind.specs.declared.shapes.Count.TheVariants.{One, Maybe, Many, 
 use Rattle.ecma_kind.specs.declared.shapes.Shape.{Shape}
 use Rattle.ecma_kind.specs.declared.shapes.Sort.{Sort}
 use Rattle.ecma_kind.specs.declared.shapes.Sort.TheVariants as sort
-use Rattle.ecma_tree.specs.declared.node.Node.{Node}
+use Rattle.ecma_kind.specs.declared.span.Span.{Span}
+use Rattle.ecma_tree.specs.declared.node.Node.{Node, out-Node}
 use Rattle.ecma_tree.specs.Laws.{HaveShapes}
-use Rattle.ecma_tree.specs.Nodes.{absent, dummy_span, node_of}
+use Rattle.ecma_tree.specs.Nodes.{dummy_span, node_of}
 use Rattle.ecma_tree.specs.Sorted.{HasShape, allows, child_shapes, is_list, item_shape, maybe, one}
 use Rattle.ecma_rules.specs.Children.{is_present, kind_of}
-use Rattle.ecma_rules.specs.Failing.{failing_here, first_failing, failing_step, least_from}
-use Rattle.ecma_rules.proofs.Layers.{from_leaves_out}
 use Rattle.ecma_runs.specs.Evaluation.{meaning, meaning_by}
 use Rattle.ecma_runs.specs.Meaning.{Meaning}
 use Rattle.ecma_runs.proofs.Layer.{meaning_out}
-use Rattle.ecma_forms.specs.Forms.{first_untaken, has_body, inside, is_later, is_odd_by, is_untaken, untaken_here}
-use Rattle.ecma_strip.specs.Stripping.{stripped}
-use Rattle.ecma_strip_fits.proofs.Classes.{class_of}
-use Rattle.ecma_strip_fits.proofs.Classes.Class.{Usual}
-use Rattle.ecma_strip_fits.proofs.Walk.{Carries, each_none, kept, neither_least, usual_children, usual_kind}
+use Rattle.ecma_forms.specs.Forms.{first_untaken, has_body}
+use Rattle.ecma_source_laws.proofs.Taken.{not_odd, taken_below}
+use Rattle.ecma_strip.specs.Stripping.{plain_children, plain_kind, stripped}
+use Rattle.ecma_strip_laws.specs.Usual.{holds_throughout}
+use Rattle.ecma_strip_laws.proofs.Telling.{holds-roll}
 use Rattle.ecma_strip_scopes.proofs.Going.{parts-have}
 use Rattle.ecma_hygiene.proofs.Telling.{and-both, and-left, and-right, true-false}
 use Rattle.ecma_hygiene_fits.proofs.Everywhere.{children_of}
-use Rattle.ecma_hygiene_laws.proofs.Parts.{kind-of}
 use Rattle.ecma_pass_laws.proofs.FullParts.{full_by, is_full, lacks}
-use Rattle.ecma_pass_laws.proofs.Nodes.{by-children, child-shape, holds-out, neither, none-some, not-false, not-true, some-same, test-below}
+use Rattle.ecma_pass_laws.proofs.Nodes.{by-children, child-shape, holds-out, none-some, not-false, not-true, some-same, test-below, test-here}
 use Rattle.ecma_pass_laws.proofs.Plainness.{full-lacks}
 use Rattle.ecma_pass_laws.proofs.Remaining.{is_many, restless}
 use Rattle.ecma_final_laws.proofs.Ordinary.{is_ordinary, is_there, ordinary_by}
 use Rattle.ecma_final_laws.proofs.OrdinaryParts.{partly, partly_by}
+use Rattle.ecma_final_laws.proofs.Stripping.{Says, kept}
 
 -- ---- what is left of nodes of which nothing is odd
 
-not_failing : (b : Bool) (n : Node) → failing_here b n ≡ None → b ≡ false
-not_failing true n h = cc
-not_failing false n h = refl
+abbrev pub is_partly : Node → Bool
+is_partly = holds_throughout partly_by
 
-none_failing : (b : Bool) (n : Node) → b ≡ false → failing_here b n ≡ None
-none_failing b n h = ap (λ z. failing_here z n) h
+all_hold : (f : Node → Bool) (cs : List Node) → ((i : ℕ) (c : Node) → slice_get cs i ≡ Some c → f c ≡ true) → list_all f cs ≡ true
+all_hold f [] each = refl
+all_hold f (c ∷ cs) each = and-both (f c) (list_all f cs) (each 0 c refl) (all_hold f cs (λ i d at. each (suc i) d at))
 
-abbrev pub lacking : Node → Bool
-lacking n = not (partly_by (kind_of n) (children_of n))
+abbrev IsPartly : Node → Type 0
+IsPartly n = is_partly n ≡ true
 
-abbrev pub lacking_here : Unit {0} → Node → Option ℕ
-lacking_here around n = failing_here (lacking n) n
+partly_made : (span : Span) (k : Kind) (cs : List Node) → partly_by k cs ≡ true → ((i : ℕ) (c : Node) → slice_get cs i ≡ Some c → IsPartly c) → IsPartly (node_of span k cs)
+partly_made span k cs h each = holds-roll partly_by (record { span = span; kind = k; children = cs }) ∙ and-both (partly_by k cs) (list_all is_partly cs) h (all_hold is_partly cs each)
 
-quiet : (n : Node) (k : Kind) → kind_of n ≡ k → ((cs : List Node) → partly_by k cs ≡ true) → lacking_here tt n ≡ None
-quiet n k is h = none_failing (lacking n) n (ap not (ap (λ z. partly_by z (children_of n)) is ∙ h (children_of n)))
+abbrev IsTaken : Node → Type 0
+IsTaken n = first_untaken n ≡ None
 
-abbrev Related : Node → Shape → Unit {0} → Unit {0} → Type 0
-Related n s a b = Unit {0}
-
-here : (n : Node) (s : Shape) → class_of (kind_of n) ≡ Usual → HasShape s n → untaken_here tt n ≡ None → lacking_here tt (stripped n) ≡ None
-here n s u has none =
-    let odd = (neither (is_later (kind_of n)) (is_odd_by (kind_of n) n) (not_failing (is_untaken n) n none)).1 in
-    none_failing (lacking (stripped n)) (stripped n)
-    (ap not (ap₂ partly_by (usual_kind n u) (usual_children n u) ∙ partly n (kind_of n) s (children_of n) refl (parts-have n s has).1 odd))
-
-carries : Carries (Unit {0}) inside untaken_here lacking_here Related
-carries = record {
-  missing = λ n s a b t h r none. quiet absent kind.Absent (kind-of dummy_span kind.Absent []) (λ cs. refl);
-  empty = λ n s a b u h r none i is span. quiet (node_of span kind.EmptyStmt []) kind.EmptyStmt (kind-of span kind.EmptyStmt []) (λ cs. refl);
-  lone = λ n s a b u h r none i is. quiet absent kind.Absent (kind-of dummy_span kind.Absent []) (λ cs. refl);
-  lists = λ n s a b l h r none span cs. quiet (node_of span kind.List cs) kind.List (kind-of span kind.List cs) (λ ds. refl);
-  under = λ n s a b w h r none e at has. tt;
-  here = λ n s a b u h r none. here n s u h none;
-  items = λ n s a b l r m list c i j at last. tt;
-  below = λ n s a b u h r none c o i at shape. tt;
+taken_says : Says IsTaken IsPartly
+taken_says = record {
+  below = λ n taken i c at stay. taken_below n taken i c at stay;
+  missing = partly_made dummy_span kind.Absent [] refl (λ i c at. none-some at);
+  empty = λ span. partly_made span kind.EmptyStmt [] refl (λ i c at. none-some at);
+  lists = λ span cs each. partly_made span kind.List cs refl each;
+  usual = λ n s u has taken each.
+      partly_made (out-Node n).span (plain_kind (kind_of n)) (plain_children (kind_of n) (map stripped (children_of n))) (partly n (kind_of n) s (children_of n) refl (parts-have n s has).1 (not_odd n taken)) each;
 }
 
-abbrev pub first_lacking : Node → Option ℕ
-first_lacking n = first_failing (Unit {0}) lacking_here inside n tt
-
-pub stripped_parts : (tree : Node) (s : Shape) → HasShape s tree → first_untaken tree ≡ None → first_lacking (stripped tree) ≡ None
-stripped_parts tree s has taken = (kept (Unit {0}) inside untaken_here lacking_here Related carries tree s tt tt has tt taken).0
-
-module _ (n : Node) (h : first_lacking n ≡ None) where
-  told : (lacking_here tt n ≡ None) × (least_from (Unit {0}) (inside tt n) 0 (map (first_failing (Unit {0}) lacking_here inside) (children_of n)) ≡ None)
-  told =
-      neither_least (lacking_here tt n) (least_from (Unit {0}) (inside tt n) 0 (map (first_failing (Unit {0}) lacking_here inside) (children_of n)))
-      (sym (ap (λ f. f tt) (from_leaves_out (Unit {0} → Option ℕ) (failing_step (Unit {0}) lacking_here inside) n)) ∙ h)
-
-  parts_here : partly_by (kind_of n) (children_of n) ≡ true
-  parts_here = not-false (partly_by (kind_of n) (children_of n)) (not_failing (lacking n) n told.0)
-
-  parts_below : (i : ℕ) (c : Node) → slice_get (children_of n) i ≡ Some c → first_lacking c ≡ None
-  parts_below = each_none (Unit {0}) (first_failing (Unit {0}) lacking_here inside) (children_of n) (inside tt n) told.1
+pub stripped_parts : (tree : Node) (s : Shape) → HasShape s tree → first_untaken tree ≡ None → is_partly (stripped tree) ≡ true
+stripped_parts tree s has taken = (kept IsTaken IsPartly taken_says tree s has taken).0
 
 -- ---- bodies, as runs have them
 
@@ -263,13 +236,9 @@ ordinary_here kind.SetterProp s m cs have l p h = p
 ordinary_here _ s m cs have l p h = refl
 
 abbrev Ordinary : Node → Type 0
-Ordinary n = (s : Shape) → HasShape s n → is_sound s ≡ true → is_full n ≡ true → first_lacking n ≡ None → (is_function (kind_of n) ≡ true → has_body n ≡ true) → is_ordinary n ≡ true
+Ordinary n = (s : Shape) → HasShape s n → is_sound s ≡ true → is_full n ≡ true → is_partly n ≡ true → (is_function (kind_of n) ≡ true → has_body n ≡ true) → is_ordinary n ≡ true
 
-all_ordinary : (cs : List Node) → ((i : ℕ) (c : Node) → slice_get cs i ≡ Some c → is_ordinary c ≡ true) → list_all is_ordinary cs ≡ true
-all_ordinary [] each = refl
-all_ordinary (c ∷ cs) each = and-both (is_ordinary c) (list_all is_ordinary cs) (each 0 c refl) (all_ordinary cs (λ i d at. each (suc i) d at))
-
-module _ (n : Node) (below : (i : ℕ) (c : Node) → slice_get (children_of n) i ≡ Some c → Ordinary c) (s : Shape) (has : HasShape s n) (sound : is_sound s ≡ true) (full : is_full n ≡ true) (whole : first_lacking n ≡ None)
+module _ (n : Node) (below : (i : ℕ) (c : Node) → slice_get (children_of n) i ≡ Some c → Ordinary c) (s : Shape) (has : HasShape s n) (sound : is_sound s ≡ true) (full : is_full n ≡ true) (whole : is_partly n ≡ true)
     (bodied : is_function (kind_of n) ≡ true → has_body n ≡ true) where
   abbrev k : Kind
   k = kind_of n
@@ -285,7 +254,7 @@ module _ (n : Node) (below : (i : ℕ) (c : Node) → slice_get (children_of n) 
 
   -- a child of a shape in which no function stands, or whose body is known
   child_ordinary : (i : ℕ) (c : Node) → slice_get cs i ≡ Some c → (o : Shape) → HasShape o c → is_sound o ≡ true → (is_function (kind_of c) ≡ true → has_body c ≡ true) → is_ordinary c ≡ true
-  child_ordinary i c at o h g b = below i c at o h g (test-below full_by n full i c at) (parts_below n whole i c at) b
+  child_ordinary i c at o h g b = below i c at o h g (test-below full_by n full i c at) (test-below partly_by n whole i c at) b
 
   calm_ordinary : (i : ℕ) (c : Node) → slice_get cs i ≡ Some c → (o : Shape) → HasShape o c → is_sound o ≡ true → is_functionless o ≡ true → is_ordinary c ≡ true
   calm_ordinary i c at o h g calm = child_ordinary i c at o h g (λ is. absurd (functionless_by (kind_of c) o calm (parts-have c o h).0 is))
@@ -297,7 +266,7 @@ module _ (n : Node) (below : (i : ℕ) (c : Node) → slice_get (children_of n) 
       calm_ordinary i c at shape.0 shape.2 sounds.0 sounds.1
   each_ordinary false l true e i c at =
       let shape = child-shape os cs have i c at in
-      child_ordinary i c at shape.0 shape.2 (sound_at os i shape.0 (children_sound k s (length cs) l) shape.1) (held_have k s (length cs) cs e have (full-lacks n full) (parts_here n whole) i c at)
+      child_ordinary i c at shape.0 shape.2 (sound_at os i shape.0 (children_sound k s (length cs) l) shape.1) (held_have k s (length cs) cs e have (full-lacks n full) (test-here partly_by n whole) i c at)
   each_ordinary false l false e i c at =
       let shape = child-shape os cs have i c at in
       calm_ordinary i c at shape.0 shape.2 (sound_at os i shape.0 (children_sound k s (length cs) l) shape.1) (functionless_at os i shape.0 (others_functionless k s (length cs) l e) shape.1)
@@ -305,7 +274,7 @@ module _ (n : Node) (below : (i : ℕ) (c : Node) → slice_get (children_of n) 
   layer_ordinary : is_ordinary n ≡ true
   layer_ordinary =
       holds-out ordinary_by n
-      ∙ and-both (ordinary_by k cs) (list_all is_ordinary cs) (ordinary_here k s (length cs) cs have (full-lacks n full) (parts_here n whole) bodied) (all_ordinary cs (each_ordinary (is_list k) refl (holds_function k) refl))
+      ∙ and-both (ordinary_by k cs) (list_all is_ordinary cs) (ordinary_here k s (length cs) cs have (full-lacks n full) (test-here partly_by n whole) bodied) (all_hold is_ordinary cs (each_ordinary (is_list k) refl (holds_function k) refl))
 
 ordinary : (n : Node) → Ordinary n
 ordinary = by-children Ordinary layer_ordinary
@@ -314,5 +283,5 @@ no_function : (k : Kind) → belongs sort.Module k ≡ true → is_function k �
 no_function (kind.Function g a) b is = true-false b refl
 no_function _ b is = true-false is refl
 
-pub stripped_ordinary : (tree : Node) → HasShape (one sort.Module) tree → is_full tree ≡ true → first_lacking tree ≡ None → is_ordinary tree ≡ true
+pub stripped_ordinary : (tree : Node) → HasShape (one sort.Module) tree → is_full tree ≡ true → is_partly tree ≡ true → is_ordinary tree ≡ true
 stripped_ordinary tree has full whole = ordinary tree (one sort.Module) has refl full whole (λ is. absurd (no_function (kind_of tree) (parts-have tree (one sort.Module) has).0 is))

@@ -1,112 +1,135 @@
--- What holds of the kinds of all nodes of a tree holds of them without types, where it does of plain kinds and of what is put in.
-use Rattle.std.proofs.Common.{◌≡◌, refl, sym, subst, ℕ, zero, suc, Bool, true, false, not, cond, filter, List, [], ◌∷◌, map}
+-- What is said of the nodes of a tree, but for what goes from lists, and what is then so of the tree without its types.
+use Rattle.std.proofs.Common.{◌≡◌, inl, inr, ℕ, Bool, true, false, not, cond, List, [], map, filter, length, Some, refl, sym, ap, subst, slice_get}
 use Rattle.ecma_kind.specs.declared.kind.Kind.{Kind}
 use Rattle.ecma_kind.specs.declared.kind.Kind.TheVariants as kind
+use Rattle.ecma_kind.specs.declared.shapes.Shape.{Shape}
+use Rattle.ecma_kind.specs.declared.shapes.Sort.TheVariants as sort
 use Rattle.ecma_kind.specs.declared.span.Span.{Span}
-use Rattle.ecma_tree.specs.declared.node.Node.{Node, out-Node}
-use Rattle.ecma_tree.specs.Nodes.{absent, dummy_span, node_of}
-use Rattle.ecma_tree.specs.Sorted.{is_absent}
-use Rattle.ecma_spelling.specs.Everywhere.{Each, Everywhere, everywhere, more, none}
+use Rattle.ecma_tree.specs.declared.node.Node.{Node, Node-F, out-Node}
+use Rattle.ecma_tree.specs.Laws.{HaveShapes}
+use Rattle.ecma_tree.specs.Nodes.{absent, node_of}
+use Rattle.ecma_tree.specs.Sorted.{HasShape, allows, child_shapes, is_absent, is_list, item_shape, one}
+use Rattle.ecma_rules.specs.Children.{kind_of}
 use Rattle.ecma_strip.specs.Staying.{is_empty_stmt, item_stays, stays}
-use Rattle.ecma_strip.specs.Stripping.{body_of, changed_at, operand, plain, plain_children, plain_kind, staying_nodes, stripped, without_empty, without_this}
-use Rattle.ecma_strip.proofs.Stripping.{stripped-roll}
-use Rattle.ecma_strip_fits.proofs.Classes.{Class, class_of, plain_typed, plain_usual, plain_wrapped}
+use Rattle.ecma_strip.specs.Stripping.{body_of, plain_children, plain_kind, stripped, without_empty, without_this}
+use Rattle.ecma_strip.proofs.Sorting.{list-kind}
+use Rattle.ecma_strip_fits.proofs.Classes.{Class, Turned, class_of, is_body_at, is_receiver_at, only_list, turned, wrapped_front}
 use Rattle.ecma_strip_fits.proofs.Classes.Class.{Listed, Typed, Usual, Wrapped}
-use Rattle.ecma_final_laws.proofs.Everywhere.{parts}
+use Rattle.ecma_strip_fits.proofs.Lists.{filter_at, filter_passes, have_at, items_at, map_at}
+use Rattle.ecma_strip_fits.proofs.Walk.{listed_is, listed_parts, shape_parts, typed_is, usual_is, wrapped_is}
+use Rattle.ecma_hygiene_fits.proofs.Everywhere.{children_of}
+use Rattle.ecma_pass_laws.proofs.Nodes.{StaysIn, by-children, in-no-list, some-same}
 
-wrapped_kind : (k : Kind) → class_of k ≡ Wrapped → plain_kind k ≡ k
-unfolding class_of plain_kind
-wrapped_kind kind.TsTypeAssertion e = refl
-wrapped_kind kind.TsConstAssertion e = refl
-wrapped_kind kind.TsNonNullExpr e = refl
-wrapped_kind kind.TsAsExpr e = refl
-wrapped_kind kind.TsInstantiation e = refl
-wrapped_kind kind.TsSatisfiesExpr e = refl
-wrapped_kind _ e = cc
+usual_unlisted : (k : Kind) → class_of k ≡ Usual → is_list k ≡ false
+unfolding class_of
+usual_unlisted kind.List e = cc
+usual_unlisted _ e = refl
 
-plain_list : (span : Span) (cs : List Node) (k : Kind) → class_of k ≡ Listed → plain span k cs ≡ node_of span (plain_kind k) (plain_children k cs)
-unfolding class_of plain
-plain_list span cs kind.List e = refl
-plain_list span cs _ e = cc
+wrapped_unlisted : (k : Kind) → class_of k ≡ Wrapped → is_list k ≡ false
+unfolding class_of
+wrapped_unlisted kind.List e = cc
+wrapped_unlisted _ e = refl
 
-module _ (P Q : Kind → Type 0) (plainly : (k : Kind) → P k → Q (plain_kind k)) (missing : Q kind.Absent) (empty : Q kind.EmptyStmt) where
-  filter_good : (f : Node → Bool) {cs : List Node} → Each Q cs → Each Q (filter f cs)
-  filter_good f none = none
-  filter_good f (more {n} {ns} a h) = by (f n) (filter_good f h)
-    where
-      by : (b : Bool) → Each Q (filter f ns) → Each Q (cond b (n ∷ filter f ns) (filter f ns))
-      by true rest = more a rest
-      by false rest = rest
+module _ (T E : Node → Type 0) where
+  abbrev pub AllAre : List Node → Type 0
+  AllAre cs = (i : ℕ) (c : Node) → slice_get cs i ≡ Some c → E c
 
-  absent_good : Everywhere Q absent
-  absent_good = everywhere dummy_span kind.Absent missing none
+  -- what is said of a node is said of its children that stay, and is enough for what is left of it
+  pub record Says : Type 0 where
+    pub below : (n : Node) → T n → (i : ℕ) (c : Node) → slice_get (children_of n) i ≡ Some c → StaysIn (kind_of n) c → T c
+    pub missing : E absent
+    pub empty : (span : Span) → E (node_of span kind.EmptyStmt [])
+    pub lists : (span : Span) (cs : List Node) → AllAre cs → E (node_of span kind.List cs)
+    pub usual : (n : Node) (s : Shape) → class_of (kind_of n) ≡ Usual → HasShape s n → T n → AllAre (plain_children (kind_of n) (map stripped (children_of n)))
+        → E (node_of (out-Node n).span (plain_kind (kind_of n)) (plain_children (kind_of n) (map stripped (children_of n))))
 
-  body_good : (n : Node) → Everywhere Q n → Everywhere Q (body_of n)
-  body_good n h = by (item_stays n)
-    where
-      by : (b : Bool) → Everywhere Q (cond b n (node_of (out-Node n).span kind.EmptyStmt []))
-      by true = h
-      by false = everywhere (out-Node n).span kind.EmptyStmt empty none
+  module _ (says : Says) where
+    -- a node without types, and a list that has lost its empty statements too
+    abbrev pub IsLeft : Node → Type 0
+    IsLeft c = E (stripped c) × (is_list (kind_of c) ≡ true → E (without_empty (stripped c)))
 
-  this_good : (n : Node) → Everywhere Q n → Everywhere Q (without_this n)
-  this_good n h = by (is_absent (out-Node n).kind)
-    where
-      by : (b : Bool) → Everywhere Q (cond b n absent)
-      by true = h
-      by false = absent_good
+    abbrev Kept : Node → Type 0
+    Kept n = (s : Shape) → HasShape s n → T n → IsLeft n
 
-  tidy_good : (n : Node) → Everywhere Q n → Everywhere Q (without_empty n)
-  tidy_good n h = let p = parts Q h in everywhere (out-Node n).span (out-Node n).kind p.0 (filter_good (λ m. not (is_empty_stmt (out-Node m).kind)) p.1)
-
-  changed_good : (i : ℕ) (to : Node → Node) → ((n : Node) → Everywhere Q n → Everywhere Q (to n)) → {cs : List Node} → Each Q cs → Each Q (changed_at i to cs)
-  changed_good i to keeps none = none
-  changed_good zero to keeps (more {n} a h) = more (keeps n a) h
-  changed_good (suc i) to keeps (more a h) = more a (changed_good i to keeps h)
-
-  children_good : (k : Kind) {cs : List Node} → Each Q cs → Each Q (plain_children k cs)
-  unfolding plain_children
-  children_good (kind.Module shebang) h = changed_good 0 without_empty tidy_good h
-  children_good (kind.Script shebang) h = changed_good 0 without_empty tidy_good h
-  children_good kind.BlockStmt h = changed_good 0 without_empty tidy_good h
-  children_good kind.TsModuleBlock h = changed_good 0 without_empty tidy_good h
-  children_good kind.SwitchCase h = changed_good 1 without_empty tidy_good h
-  children_good kind.IfStmt h = changed_good 1 body_of body_good (changed_good 2 body_of body_good h)
-  children_good kind.LabeledStmt h = changed_good 1 body_of body_good h
-  children_good kind.WhileStmt h = changed_good 1 body_of body_good h
-  children_good kind.DoWhileStmt h = changed_good 1 body_of body_good h
-  children_good kind.ForStmt h = changed_good 3 body_of body_good h
-  children_good kind.ForInStmt h = changed_good 2 body_of body_good h
-  children_good (kind.ForOfStmt is_await) h = changed_good 2 body_of body_good h
-  children_good kind.SetterProp h = changed_good 1 without_this this_good h
-  children_good _ h = h
-
-  operand_good : (span : Span) (k : Kind) → Q k → {cs : List Node} → Each Q cs → Everywhere Q (operand span k cs)
-  operand_good span k q none = everywhere span k q none
-  operand_good span k q (more a h) = a
-
-  made_good : (span : Span) (k : Kind) → P k → {cs : List Node} → Each Q cs → (c : Class) → class_of k ≡ c → Everywhere Q (plain span k cs)
-  made_good span k p {cs} h Typed e = subst (Everywhere Q) (sym (plain_typed span cs k e)) absent_good
-  made_good span k p {cs} h Wrapped e = subst (Everywhere Q) (sym (plain_wrapped span cs k e)) (operand_good span k (subst Q (wrapped_kind k e) (plainly k p)) h)
-  made_good span k p {cs} h Listed e = subst (Everywhere Q) (sym (plain_list span cs k e)) (everywhere span (plain_kind k) (plainly k p) (children_good k h))
-  made_good span k p {cs} h Usual e = subst (Everywhere Q) (sym (plain_usual span cs k e)) (everywhere span (plain_kind k) (plainly k p) (children_good k h))
-
-  staying_good : (k : Kind) (cs : List Node) → Each Q (map stripped (filter stays cs)) → Each Q (map stripped cs) → Each Q (map stripped (staying_nodes k cs))
-  staying_good kind.List cs left all = left
-  staying_good _ cs left all = all
-
-  mutual
-    pub everywhere_stripped : {n : Node} → Everywhere P n → Everywhere Q (stripped n)
-    everywhere_stripped (everywhere span k {children = cs} p h) =
-        subst (Everywhere Q) (sym (stripped-roll (record { span = span; kind = k; children = cs }))) (made_good span k p (staying_good k cs (each_left h) (each_stripped h)) (class_of k) refl)
-
-    each_left : {ns : List Node} → Each P ns → Each Q (map stripped (filter stays ns))
-    each_left none = none
-    each_left (more {n} {ns} a h) = by (stays n) (everywhere_stripped a) (each_left h)
+    body_good : (d : Node) → E d → E (body_of d)
+    body_good d h = by (item_stays d)
       where
-        by : (b : Bool) → Everywhere Q (stripped n) → Each Q (map stripped (filter stays ns)) → Each Q (map stripped (cond b (n ∷ filter stays ns) (filter stays ns)))
-        by true first rest = more first rest
-        by false first rest = rest
+        by : (keeps : Bool) → E (cond keeps d (node_of (out-Node d).span kind.EmptyStmt []))
+        by true = h
+        by false = says.empty (out-Node d).span
 
-    each_stripped : {ns : List Node} → Each P ns → Each Q (map stripped ns)
-    each_stripped none = none
-    each_stripped (more a h) = more (everywhere_stripped a) (each_stripped h)
+    this_good : (d : Node) → E d → E (without_this d)
+    this_good d h = by (is_absent (kind_of d))
+      where
+        by : (gone : Bool) → E (cond gone d absent)
+        by true = h
+        by false = says.missing
+
+    turned_good : (body this : Bool) (o : Shape) (c d : Node) → HasShape o c → IsLeft c → Turned body this (Some o) (stripped c) d → E d
+    turned_good body this o c d has k (inl e) = subst E e k.0
+    turned_good body this o c d has k (inr (inl (is, e))) = subst E e (body_good (stripped c) k.0)
+    turned_good body this o c d has k (inr (inr (inl (σ, is, e)))) = subst E e (k.1 (subst (λ z. allows z (kind_of c) ≡ true) (some-same is) (shape_parts c o has).0))
+    turned_good body this o c d has k (inr (inr (inr (is, e)))) = subst E e (this_good (stripped c) k.0)
+
+    module _ (n : Node) (below : (i : ℕ) (c : Node) → slice_get (children_of n) i ≡ Some c → Kept c) (s : Shape) (h : HasShape s n) (t : T n) where
+      -- a child that stands in no list
+      child_kept : is_list (kind_of n) ≡ false → (i : ℕ) (c : Node) → slice_get (children_of n) i ≡ Some c → (o : Shape) → HasShape o c → IsLeft c
+      child_kept free i c at o has = below i c at o has (says.below n t i c at (in-no-list (kind_of n) c free))
+
+      typed_kept : class_of (kind_of n) ≡ Typed → E (stripped n)
+      typed_kept e = subst E (sym (typed_is n e)) says.missing
+
+      wrapped_kept : class_of (kind_of n) ≡ Wrapped → E (stripped n)
+      wrapped_kept w =
+          let front = wrapped_front (kind_of n) s (length (children_of n)) (children_of n) w (shape_parts n s h).1 in
+          let at : slice_get (children_of n) 0 ≡ Some front.0 = ap (λ (z : List Node). slice_get z 0) front.2 in
+          subst E (sym (wrapped_is n w front.0 front.1 front.2)) (child_kept (wrapped_unlisted (kind_of n) w) 0 front.0 at (one sort.Expr) front.3).0
+
+      usual_each : class_of (kind_of n) ≡ Usual → AllAre (plain_children (kind_of n) (map stripped (children_of n)))
+      usual_each u i d at =
+          let os = child_shapes (kind_of n) s (length (children_of n)) in
+          let t = turned (kind_of n) s (length (children_of n)) (map stripped (children_of n)) i d at in
+          let m = map_at stripped (children_of n) i t.0 t.1 in
+          let c = m.0 in
+          let w = have_at os (children_of n) (shape_parts n s h).1 i c m.1 in
+          let body = is_body_at (kind_of n) i in
+          let this = is_receiver_at (kind_of n) i in
+          turned_good body this w.0 c d w.2 (child_kept (usual_unlisted (kind_of n) u) i c m.1 w.0 w.2)
+          (subst (λ o. Turned body this o (stripped c) d) w.1 (subst (λ (x : Node). Turned body this (slice_get os i) x d) (sym m.2) t.2))
+
+      usual_kept : class_of (kind_of n) ≡ Usual → E (stripped n)
+      usual_kept u = subst E (sym (usual_is n u)) (says.usual n s u h t (usual_each u))
+
+      abbrev rest : List Node
+      rest = map stripped (filter stays (children_of n))
+
+      item_kept : is_list (kind_of n) ≡ true → AllAre rest
+      item_kept l k d at =
+          let m = map_at stripped (filter stays (children_of n)) k d at in
+          let c = m.0 in
+          let f = filter_at stays (children_of n) k c m.1 in
+          let has = items_at (item_shape s) (children_of n) (subst (λ k. HaveShapes (child_shapes k s (length (children_of n))) (children_of n)) (list-kind (kind_of n) l) (shape_parts n s h).1) f.0 c f.1 in
+          subst E m.2 (below f.0 c f.1 (item_shape s) has (says.below n t f.0 c f.1 (λ list. filter_passes stays (children_of n) k c m.1))).0
+
+      listed_kept : is_list (kind_of n) ≡ true → E (stripped n)
+      listed_kept l = subst E (sym (listed_is n l)) (says.lists (out-Node n).span rest (item_kept l))
+
+      abbrev is_something : Node → Bool
+      is_something m = not (is_empty_stmt (out-Node m).kind)
+
+      tidied_kept : is_list (kind_of n) ≡ true → E (without_empty (stripped n))
+      tidied_kept l =
+          subst (λ (z : Node-F Node). E (node_of z.span z.kind (filter is_something z.children))) (sym (listed_parts n l))
+          (says.lists (out-Node n).span (filter is_something rest) (λ j d at. let f = filter_at is_something rest j d at in item_kept l f.0 d f.1))
+
+      by_class : (k : Class) → class_of (kind_of n) ≡ k → E (stripped n)
+      by_class Typed e = typed_kept e
+      by_class Wrapped e = wrapped_kept e
+      by_class Listed e = listed_kept (ap is_list (only_list (kind_of n) e))
+      by_class Usual e = usual_kept e
+
+      node_kept : IsLeft n
+      node_kept = (by_class (class_of (kind_of n)) refl, tidied_kept)
+
+    pub kept : (n : Node) → Kept n
+    kept = by-children Kept node_kept

@@ -5,8 +5,10 @@ use Rattle.ecma_kind.specs.declared.kind.Kind.{Kind}
 use Rattle.ecma_kind.specs.declared.kind.Kind.TheVariants as kind
 use Rattle.ecma_kind.specs.declared.shapes.Sort.TheVariants as sort
 use Rattle.ecma_tree.specs.Finding.{enters_all, finds}
-use Rattle.ecma_tree.specs.declared.node.Node.{Node}
-use Rattle.ecma_spelling.specs.Everywhere.{Everywhere}
+use Rattle.ecma_tree.specs.Nodes.{dummy_span}
+use Rattle.ecma_tree.specs.Sorted.{one}
+use Rattle.ecma_tree.specs.declared.node.Node.{Node, out-Node}
+use Rattle.ecma_spelling.specs.Everywhere.{Everywhere, everywhere, none}
 use Rattle.ecma_rules.specs.Children.{kind_of}
 use Rattle.ecma_fits.specs.Fitting.{Fits}
 use Rattle.ecma_fits_kept.proofs.Contexts.{resolved_fit_alike}
@@ -17,7 +19,7 @@ use Rattle.ecma_runs.specs.Meaning.{Meaning}
 use Rattle.ecma_scope.specs.Resolved.{resolved}
 use Rattle.ecma_scope.proofs.Unchanged.{changes-contexts}
 use Rattle.ecma_strip.specs.Laws.{is_type_part}
-use Rattle.ecma_strip.specs.Stripping.{stripped}
+use Rattle.ecma_strip.specs.Stripping.{plain_children, plain_kind, stripped}
 use Rattle.ecma_strip.proofs.Leaving.{no_types_are_left}
 use Rattle.ecma_strip_fits.proofs.SortsKept.{fits_under_types}
 use Rattle.ecma_hygiene.proofs.Telling.{and-left}
@@ -39,22 +41,28 @@ use Rattle.ecma_source_laws.specs.Sources.{IsRead}
 use Rattle.ecma_source_laws.proofs.Quiet.{not_this}
 use Rattle.ecma_source_laws.proofs.Taken.{not_later, taken_below}
 use Rattle.ecma_source_laws.proofs.TypesAlone.{types_alone}
-use Rattle.ecma_final_laws.proofs.Everywhere.{each_at, each_of, everywhere_both, everywhere_made, everywhere_moved, everywhere_returned, parts}
-use Rattle.ecma_final_laws.proofs.KindsSaid.{IsGiven, IsLeft, IsNotLater, IsNotThis, bare_given, empty, given_bare, given_left, given_plain, given_texts, left_old, left_written}
+use Rattle.ecma_final_laws.proofs.Everywhere.{each_at, each_of, everywhere_made, everywhere_moved, everywhere_returned, parts}
+use Rattle.ecma_final_laws.proofs.KindsSaid.{HasTexts, IsGiven, IsLeft, IsNotThis, bare_texts, empty, given_left, given_plain, left_old, left_written, texts_bare}
 use Rattle.ecma_final_laws.proofs.Renaming.{everywhere_renamed}
-use Rattle.ecma_final_laws.proofs.Stripping.{everywhere_stripped}
+use Rattle.ecma_final_laws.proofs.Stripping.{Says, kept}
 use Rattle.ecma_final_laws.proofs.Texts.{final_text_utf8}
+use Rattle.ecma_final_laws.proofs.Untaken.{resolved_taken}
 
 -- ---- the source
 
-abbrev NoneLater : Node → Type 0
-NoneLater n = first_untaken n ≡ None → Everywhere IsNotLater n
+-- what is said of a node that stays
+abbrev Asked : Node → Type 0
+Asked n = Everywhere HasTexts n × (first_untaken n ≡ None)
 
-none_later : (n : Node) → NoneLater n
-none_later = by-children NoneLater (λ n below taken. everywhere_made IsNotLater n (not_later n taken) (each_of IsNotLater (children_of n) (λ i c at. below i c at (taken_below n taken i c at))))
-
-together : (k : Kind) → IsBareUnquestioned k → IsNotLater k → IsGiven k
-together k p l = (given_texts k p, l)
+asked_says : Says Asked (Everywhere IsGiven)
+asked_says = record {
+  below = λ n t i c at stay. (each_at HasTexts (children_of n) (parts HasTexts t.0).1 i c at, taken_below n t.1 i c at stay);
+  missing = everywhere dummy_span kind.Absent (tt, refl) none;
+  empty = λ span. everywhere span kind.EmptyStmt (tt, refl) none;
+  lists = λ span cs each. everywhere span kind.List (tt, refl) (each_of IsGiven cs each);
+  usual = λ n s u has t each.
+      everywhere (out-Node n).span (plain_kind (kind_of n)) (given_plain (kind_of n) ((parts HasTexts t.0).0, not_later n t.1)) (each_of IsGiven (plain_children (kind_of n) (map stripped (children_of n))) each);
+}
 
 -- ---- what is left without types
 
@@ -99,16 +107,16 @@ module _ (unresolved top left : ℕ) (source : Node) (read : IsRead source) (tak
   free : finds is_type_part enters_all s ≡ false
   free = no_types_are_left r sort.Module refl (fits_under_types r resolved_fits)
 
-  given_source : Everywhere IsGiven source
-  given_source = everywhere_both IsBareUnquestioned IsNotLater IsGiven together source read.bare (none_later source taken)
+  texts_resolved : Everywhere HasTexts r
+  texts_resolved =
+      everywhere_returned HasTexts HasTexts empty bare_texts r
+      (subst (Everywhere HasTexts) (sym (changes-contexts unresolved top left source)) (everywhere_moved IsBareUnquestioned HasTexts empty texts_bare read.bare))
 
-  given_resolved : Everywhere IsGiven r
-  given_resolved =
-      everywhere_returned IsGiven IsGiven empty bare_given r
-      (subst (Everywhere IsGiven) (sym (changes-contexts unresolved top left source)) (everywhere_moved IsGiven IsGiven empty given_bare given_source))
+  given_stripped : Everywhere IsGiven s
+  given_stripped = (kept Asked (Everywhere IsGiven) asked_says r (one sort.Module) resolved_fits.sorted (texts_resolved, resolved_taken unresolved top left source taken)).0
 
   left_stripped : Everywhere IsLeft s
-  left_stripped = leaves s (everywhere_stripped IsGiven IsGiven given_plain (tt, refl) (tt, refl) given_resolved) free stripped_full
+  left_stripped = leaves s given_stripped free stripped_full
 
   module _ (final : Node) (hygienic : IsHygienic s final) where
     abbrev pub texts : Texts

@@ -1,8 +1,12 @@
 -- The forms that the program does not take yet, node by node, and the least place at which a node of one begins.
-use Rattle.std.specs.Prelude.{ℕ, Bool, true, false, not, ◌||◌, Option}
+use Rattle.std.specs.Prelude.{ℕ, Bool, true, false, not, ◌&&◌, ◌||◌, Option}
+use Rattle.ecma_kind.specs.Sorts.{belongs}
 use Rattle.ecma_kind.specs.declared.kind.Kind.{Kind}
 use Rattle.ecma_kind.specs.declared.kind.Kind.TheVariants as kind
+use Rattle.ecma_kind.specs.declared.shapes.Sort.TheVariants as sort
+use Rattle.ecma_tree.specs.Sorted.{is_list}
 use Rattle.ecma_tree.specs.declared.node.Node.{Node}
+use Rattle.ecma_strip.specs.Staying.{stays}
 use Rattle.ecma_rules.specs.Children.{child_holds, child_is, has_child, kind_of}
 use Rattle.ecma_rules.specs.Failing.{first_failing, failing_here}
 
@@ -56,12 +60,20 @@ is_odd_by _ node = false
 abbrev pub is_untaken : Node → Bool
 is_untaken node = is_later (kind_of node) || is_odd_by (kind_of node) node
 
-abbrev pub untaken_here : Unit {0} → Node → Option ℕ
-untaken_here around node = failing_here (is_untaken node) node
+-- an item that goes from a list when the types go, but for an import or an export, which leaves its trace in what is written
+abbrev pub goes : Node → Bool
+goes item = not (stays item) && not (belongs sort.ModuleDecl (kind_of item))
 
-abbrev pub inside : Unit {0} → Node → ℕ → Unit {0}
-inside around node i = tt
+abbrev pub goes_at : Node → ℕ → Bool
+goes_at node i = is_list (kind_of node) && child_holds goes node i
 
--- the least place at which a node begins that is of a form that is not taken; none where each is of one that is
+-- what goes, with all that it holds, is not asked
+abbrev pub untaken_here : Bool → Node → Option ℕ
+untaken_here gone node = failing_here (not gone && is_untaken node) node
+
+abbrev pub inside : Bool → Node → ℕ → Bool
+inside gone node i = gone || goes_at node i
+
+-- the least place at which a node begins that is of a form that is not taken, and does not go with the types; none where each is of one that is taken, or goes
 abbrev pub first_untaken : Node → Option ℕ
-first_untaken node = first_failing (Unit {0}) untaken_here inside node tt
+first_untaken node = first_failing Bool untaken_here inside node false

@@ -1,4 +1,4 @@
--- Trees whose nodes stand where they may, in which no scope is ambient, and nothing clashes.
+-- Trees whose nodes stand where they may, and in which nothing clashes.
 use Rattle.std.proofs.Common.{◌≡◌, ℕ, suc, Bool, true, false, ◌&&◌, cond, List, [], ◌∷◌, ◌++◌, map, Option, is_some, refl, sym, ap, ◌∙◌, subst}
 use Rattle.std.specs.List.{All}
 use Rattle.std.proofs.lemmas.List.Elements.{All-head, All-tail}
@@ -54,7 +54,7 @@ pub record Fits (seat : Seat) : Type 0 where
   pub body : seat.role ≡ role.Body → opens seat.role seat.node ≡ true → is_body_kind (out-Node seat.node).kind ≡ true
   pub nested : is_some (next_var (out-Node seat.node).kind) ≡ true → Nested (out-Node seat.node).children
   pub empty : (s : List ℕ) (c : ℕ) (o : Bool) → (out-Node seat.node).kind ≡ kind.Ident s c o → is_name seat.role ≡ true → c ≡ 0
-  pub calm : opens seat.role seat.node ≡ true → is_ambient seat.role ≡ false
+  pub holder : (i : ℕ) → role_in seat.role seat.node i ≡ role.Body → is_ambient seat.role ≡ false
 
 pub record Good (m : Node) (r : Role) (around : List ℕ → Option Bool) : Type 0 where
   pub all : All Fits (seats_at m r)

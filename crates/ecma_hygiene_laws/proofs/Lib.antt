@@ -17,6 +17,7 @@ pub mod StayingApart
 pub mod Sameness
 pub mod Ways
 pub mod Directly
+pub mod Gone
 pub mod Clashes
 pub mod Forms
 pub mod Goodness
@@ -35,4 +36,3 @@ pub mod Mapping
 pub mod Seeing
 pub mod NamingAgain
 pub mod ResolvedApart
-pub mod Calming

@@ -21,6 +21,7 @@ use Rattle.ecma_hygiene.proofs.Telling.{true-false}
 use Rattle.ecma_hygiene_laws.specs.DeclaredIds.{DeclaredId, id_here, ids_declared, ids_in, scope_ids}
 use Rattle.ecma_hygiene_laws.proofs.Crossing.{Around, each-passes, named-child, none-in, some-next, var-here}
 use Rattle.ecma_hygiene_laws.proofs.Directly.{Given, Step, each-find, finds, ids-resolved, place_in}
+use Rattle.ecma_hygiene_laws.proofs.Gone.{gone, kept-none}
 use Rattle.ecma_hygiene_laws.proofs.Goodness.{Caught, Fits, Good, fits-here, frame_of, frames_in, good-inside, is_class_expr}
 use Rattle.ecma_hygiene_laws.proofs.Passing.{VarNext, further, nothing, pattern, var-nexts, var-role}
 use Rattle.ecma_hygiene_laws.proofs.Sameness.{children_resolved, kind-resolved}
@@ -274,6 +275,13 @@ module _ (unresolved top : ℕ) (m : Node) (r : Role) (frames : List Frame) (lef
       subst (All G) (sym (ids-resolved unresolved top m place left (record { part = part.Var; stays = true })))
       (All-append G (id_here (record { part = part.Var; stays = true }) (kind_at unresolved place (out-Node m).kind)) below (var-here unresolved top (kind_at unresolved place (out-Node m).kind) more) (below-by calm holds (var-nexts (out-Node m).kind)))
 
+  -- in an ambient scope none of them stays
+  vars-by : (b : Bool) → is_ambient r ≡ b → holds_vars r (out-Node m).kind ≡ true → All G (ids_declared n (record { part = part.Var; stays = not b }))
+  vars-by false calm holds = vars-given calm holds
+  vars-by true ambient holds =
+      let none = kept-none (ids_declared n (record { part = part.Var; stays = false })) (gone n (record { part = part.Var; stays = false }) refl) in
+      λ k d lt stays. absurd (true-false stays (none k d lt))
+
   cond-given : (b : Bool) (xs : List DeclaredId) → (b ≡ true → All G xs) → All G (cond b xs [])
   cond-given true xs h = h refl
   cond-given false xs h = All-nil G
@@ -285,8 +293,7 @@ module _ (unresolved top : ℕ) (m : Node) (r : Role) (frames : List Frame) (lef
   -- all that it declares
   pub own-given : All (Given unresolved top more) (scope_ids r (resolved_at unresolved top m place left))
   own-given =
-      let calm : is_ambient r ≡ false = fits.calm opened in
       All-append G (ids_declared n (record { part = own_part r; stays = not (is_ambient r) })) (cond (holds_vars r (out-Node n).kind) (ids_declared n (record { part = part.Var; stays = not (is_ambient r) })) [])
       (own-by r refl (not (is_ambient r)))
       (cond-given (holds_vars r (out-Node n).kind) (ids_declared n (record { part = part.Var; stays = not (is_ambient r) }))
-      (λ holds. subst (λ (b : Bool). All G (ids_declared n (record { part = part.Var; stays = not b }))) (sym calm) (vars-given calm (sym holds-resolved ∙ holds))))
+      (λ holds. vars-by (is_ambient r) refl (sym holds-resolved ∙ holds)))

@@ -98,7 +98,7 @@ fit source checked =
       body = (shaped k d lt).body;
       nested = (shaped k d lt).nested;
       empty = empty k d lt;
-      calm = checked.calm k d lt;
+      holder = (shaped k d lt).holder;
     }
 
 pub resolved-is-placed : (unresolved top left : ℕ) (source : Node) → IsCheckedModule source → All (IsPlaced unresolved top) (stops left (resolved unresolved top left source))
@@ -106,7 +106,7 @@ resolved-is-placed unresolved top left source checked = rights unresolved top so
 
 -- a module in which nothing goes is one of these
 pub checked : (source : Node) → IsPlainModule source → IsCheckedModule source
-checked source plain = record { sorted = plain.sorted; bare = plain.bare; clear = plain.clear; calm = λ k d lt opened. (plain.kept k d lt opened).0 }
+checked source plain = record { sorted = plain.sorted; bare = plain.bare; clear = plain.clear }
 
 pub resolved-is-right : ResolvedIsRight
 resolved-is-right unresolved top left source plain =

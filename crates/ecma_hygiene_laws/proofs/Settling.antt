@@ -209,5 +209,5 @@ settled-inside top m r frames left good i is text h =
     let opened : opens r m ≡ true = has.opens (is_there (out-Node m).children 0) in
     let f : Frame = frame_of top m r frames left in
     let last : frames_in top m r frames left i ≡ frames ++ f ∷ [] = (λ j. cond (opened j && has.covers j) (frames ++ f ∷ []) frames) in
-    all-kept (names r (innermost frames) m) (all-filter Stays (is_own r (innermost frames)) (all_names r m) (λ k d lt kept. all-stays m r i has ((fits-here m r (innermost frames) good).calm opened) k d lt)) text
+    all-kept (names r (innermost frames) m) (all-filter Stays (is_own r (innermost frames)) (all_names r m) (λ k d lt kept. all-stays m r i has ((fits-here m r (innermost frames) good).holder i is) k d lt)) text
     (sym (ap (λ (g : List ℕ → Option Bool). g text) (inner-last frames f)) ∙ sym (ap (λ (fs : List Frame). innermost fs text) last) ∙ h)

@@ -5,6 +5,7 @@ use Rattle.std.proofs.lemmas.List.Elements.{All-append, All-cons, All-nil}
 use Rattle.ecma_kind.specs.Sorts.{belongs}
 use Rattle.ecma_kind.specs.declared.kind.Kind.{Kind}
 use Rattle.ecma_kind.specs.declared.kind.Kind.TheVariants as kind
+use Rattle.ecma_kind.specs.declared.operators.Accessibility.{Accessibility}
 use Rattle.ecma_kind.specs.declared.shapes.Count.{Count}
 use Rattle.ecma_kind.specs.declared.shapes.Count.TheVariants.{One, Maybe, Many, MaybeMany, Holes}
 use Rattle.ecma_kind.specs.declared.shapes.Shape.{Shape}
@@ -13,11 +14,11 @@ use Rattle.ecma_kind.specs.declared.shapes.Sort.TheVariants as sort
 use Rattle.ecma_tree.specs.declared.node.Node.{Node, Node-F, ind-Node, out-Node, roll-Node}
 use Rattle.ecma_tree.specs.declared.node.Node.TheViews.{out-roll-Node, roll-out-Node}
 use Rattle.ecma_tree.specs.Laws.{HaveShapes}
-use Rattle.ecma_tree.specs.Sorted.{HasShape, HasSort, allows, allows_by, child_shapes, is_absent, is_list, item_shape, one}
+use Rattle.ecma_tree.specs.Sorted.{HasShape, HasSort, allows, allows_by, child_shapes, is_absent, is_list, item_shape, many, maybe, one}
 use Rattle.ecma_tree.proofs.ShapeLaws.{node_has_shape}
 use Rattle.ecma_scope.specs.declared.role.Role.{Role}
 use Rattle.ecma_scope.specs.declared.role.Role.TheVariants as role
-use Rattle.ecma_scope.specs.Scopes.{at_child, is_there, of_exports, of_specifier, opens, opens_by, passes_ambient, passes_in_list, role_by, role_in}
+use Rattle.ecma_scope.specs.Scopes.{at_child, is_ambient, is_there, of_exports, of_specifier, opens, opens_by, passes_ambient, passes_in_list, role_by, role_in}
 use Rattle.ecma_hygiene.specs.Ids.{is_block}
 use Rattle.ecma_hygiene.specs.Renamed.{kind_is_absent}
 use Rattle.ecma_hygiene.specs.Walks.{gathered_from}
@@ -131,7 +132,7 @@ var-tame kind.SwitchStmt shape n var list = refl
 var-tame kind.SwitchCase shape n var list = refl
 var-tame _ shape n var list = absurd (true-false var refl)
 
--- ---- the shapes of default exports, and of bodies
+-- ---- the shapes of default exports, of bodies, and of what is ambient
 
 abbrev default_by : Count → Sort → Bool
 default_by One sort.DefaultDecl = true
@@ -142,9 +143,19 @@ body_by Maybe sort.BlockStmt = true
 body_by One sort.BlockStmtOrExpr = true
 body_by _ _ = false
 
+-- the sorts of what stands directly in a namespace
+abbrev bodiless : Sort → Bool
+bodiless sort.ModuleItem = true
+bodiless sort.Decl = true
+bodiless sort.Ident = true
+bodiless sort.TsModuleName = true
+bodiless sort.TsNamespaceBody = true
+bodiless _ = false
+
 abbrev RoleShape : Role → Shape → Type 0
 RoleShape role.Default shape = default_by shape.count shape.sort ≡ true
 RoleShape role.Body shape = body_by shape.count shape.sort ≡ true
+RoleShape role.Ambient shape = bodiless shape.sort ≡ true
 RoleShape _ shape = Unit {0}
 
 default-allows : (c : Count) (s : Sort) (k : Kind) → default_by c s ≡ true → allows_by c s k ≡ true → belongs sort.DefaultDecl k ≡ true
@@ -215,18 +226,38 @@ RolesFit roles i (s ∷ shapes) = RoleShape (roles i) s × RolesFit roles (suc i
 abbrev is_special : Role → Bool
 is_special role.Default = true
 is_special role.Body = true
+is_special role.Ambient = true
 is_special _ = false
 
 plain-role : (r : Role) (s : Shape) → is_special r ≡ false → RoleShape r s
 plain-role role.Default s h = absurd (true-false refl h)
 plain-role role.Body s h = absurd (true-false refl h)
+plain-role role.Ambient s h = absurd (true-false refl h)
 plain-role _ s h = tt
 
 plain-fit : (roles : ℕ → Role) (i : ℕ) (shapes : List Shape) → ((j : ℕ) → is_special (roles j) ≡ false) → RolesFit roles i shapes
 plain-fit roles i [] plain = tt
 plain-fit roles i (s ∷ shapes) plain = (plain-role (roles i) s (plain i), plain-fit roles (suc i) shapes plain)
 
+replicate-fit : (roles : ℕ → Role) (i : ℕ) (s : Shape) (n : ℕ) → ((j : ℕ) → RoleShape (roles j) s) → RolesFit roles i (replicate n s)
+replicate-fit roles i s zero fit = tt
+replicate-fit roles i s (suc n) fit = (fit i, replicate-fit roles (suc i) s n fit)
+
+list-role : (r : Role) (s : Shape) → RoleShape r s → RoleShape (passes_in_list r) (item_shape s)
+list-role role.Sourced s fits = tt
+list-role role.Ambient s fits = fits
+list-role _ s fits = tt
+
+ambient-role : (b : Bool) (s : Shape) → bodiless s.sort ≡ true → RoleShape (passes_ambient b) s
+ambient-role true s h = h
+ambient-role false s h = tt
+
 abbrev has_special : Kind → Bool
+has_special kind.List = true
+has_special kind.ExportDecl = true
+has_special (kind.TsModuleDecl d g) = true
+has_special (kind.TsNamespaceDecl d g) = true
+has_special kind.TsModuleBlock = true
 has_special kind.ExportDefaultDecl = true
 has_special (kind.Function g a) = true
 has_special (kind.ArrowExpr a g) = true
@@ -234,15 +265,6 @@ has_special (kind.Constructor a o) = true
 has_special kind.GetterProp = true
 has_special kind.SetterProp = true
 has_special _ = false
-
-in-list : (r : Role) → is_special (passes_in_list r) ≡ false
-in-list role.Sourced = refl
-in-list role.Ambient = refl
-in-list _ = refl
-
-in-ambient : (b : Bool) → is_special (passes_ambient b) ≡ false
-in-ambient true = refl
-in-ambient false = refl
 
 at-role : (r : Role) (wanted i : ℕ) → is_special r ≡ false → is_special (at_child r wanted i) ≡ false
 at-role r wanted i h = elim (i == wanted) as (λ b. is_special (cond b r role.Plain) ≡ false) [ true ↦ h | false ↦ refl ]
@@ -257,16 +279,16 @@ in-exports false i = refl
 
 not-special : (r : Role) (k : Kind) (sourced : Bool) (i : ℕ) → has_special k ≡ false → is_special (role_by r k sourced i) ≡ false
 unfolding role_by
-not-special r kind.List sourced i h = in-list r
+not-special r kind.List sourced i h = absurd (true-false refl h)
 not-special r kind.LabeledStmt sourced i h = at-role role.Name 0 i refl
 not-special r (kind.ImportNamedSpecifier t) sourced i h = at-role role.Name 1 i refl
 not-special r (kind.ExportNamedSpecifier t) sourced i h = in-specifier r i
 not-special r (kind.NamedExport t) sourced i h = in-exports sourced i
 not-special r kind.CatchClause sourced i h = at-role role.CatchBody 1 i refl
-not-special r kind.ExportDecl sourced i h = in-ambient _
-not-special r (kind.TsModuleDecl d g) sourced i h = in-ambient _
-not-special r (kind.TsNamespaceDecl d g) sourced i h = in-ambient _
-not-special r kind.TsModuleBlock sourced i h = in-ambient _
+not-special r kind.ExportDecl sourced i h = absurd (true-false refl h)
+not-special r (kind.TsModuleDecl d g) sourced i h = absurd (true-false refl h)
+not-special r (kind.TsNamespaceDecl d g) sourced i h = absurd (true-false refl h)
+not-special r kind.TsModuleBlock sourced i h = absurd (true-false refl h)
 not-special r kind.ExportDefaultDecl sourced i h = absurd (true-false refl h)
 not-special r (kind.Function g a) sourced i h = absurd (true-false refl h)
 not-special r (kind.ArrowExpr a g) sourced i h = absurd (true-false refl h)
@@ -275,15 +297,71 @@ not-special r kind.GetterProp sourced i h = absurd (true-false refl h)
 not-special r kind.SetterProp sourced i h = absurd (true-false refl h)
 not-special r _ sourced i h = refl
 
-roles-fit : (r : Role) (k : Kind) (sourced : Bool) (shape : Shape) (n : ℕ) → RolesFit (λ i. role_by r k sourced i) 0 (child_shapes k shape n)
+roles-fit : (r : Role) (k : Kind) (sourced : Bool) (shape : Shape) (n : ℕ) → RoleShape r shape → RolesFit (λ i. role_by r k sourced i) 0 (child_shapes k shape n)
 unfolding role_by
-roles-fit r kind.ExportDefaultDecl sourced shape n = (refl, tt)
-roles-fit r (kind.Function g a) sourced shape n = (tt, (refl, (tt, (tt, tt))))
-roles-fit r (kind.ArrowExpr a g) sourced shape n = (tt, (refl, (tt, (tt, tt))))
-roles-fit r (kind.Constructor a o) sourced shape n = (tt, (tt, (refl, tt)))
-roles-fit r kind.GetterProp sourced shape n = (tt, (tt, (refl, tt)))
-roles-fit r kind.SetterProp sourced shape n = (tt, (tt, (tt, (refl, tt))))
-roles-fit r k sourced shape n = plain-fit (λ i. role_by r k sourced i) 0 (child_shapes k shape n) (λ i. not-special r k sourced i refl)
+roles-fit r kind.List sourced shape n fits = replicate-fit (λ i. passes_in_list r) 0 (item_shape shape) n (λ j. list-role r shape fits)
+roles-fit r kind.ExportDecl sourced shape n fits = (ambient-role (is_ambient r) (one sort.Decl) refl, tt)
+roles-fit r (kind.TsModuleDecl d g) sourced shape n fits = (ambient-role (d || is_ambient r) (one sort.TsModuleName) refl, (ambient-role (d || is_ambient r) (maybe sort.TsNamespaceBody) refl, tt))
+roles-fit r (kind.TsNamespaceDecl d g) sourced shape n fits = (ambient-role (d || is_ambient r) (one sort.Ident) refl, (ambient-role (d || is_ambient r) (one sort.TsNamespaceBody) refl, tt))
+roles-fit r kind.TsModuleBlock sourced shape n fits = (ambient-role (is_ambient r) (many sort.ModuleItem) refl, tt)
+roles-fit r kind.ExportDefaultDecl sourced shape n fits = (refl, tt)
+roles-fit r (kind.Function g a) sourced shape n fits = (tt, (refl, (tt, (tt, tt))))
+roles-fit r (kind.ArrowExpr a g) sourced shape n fits = (tt, (refl, (tt, (tt, tt))))
+roles-fit r (kind.Constructor a o) sourced shape n fits = (tt, (tt, (refl, tt)))
+roles-fit r kind.GetterProp sourced shape n fits = (tt, (tt, (refl, tt)))
+roles-fit r kind.SetterProp sourced shape n fits = (tt, (tt, (tt, (refl, tt))))
+roles-fit r k sourced shape n fits = plain-fit (λ i. role_by r k sourced i) 0 (child_shapes k shape n) (λ i. not-special r k sourced i refl)
+
+-- ---- what has a body is not ambient itself
+
+no-function : (s : Sort) (g a : Bool) → bodiless s ≡ true → belongs s (kind.Function g a) ≡ false
+no-function sort.Function g a h = absurd (true-false h refl)
+no-function _ g a h = refl
+
+no-arrow : (s : Sort) (a g : Bool) → bodiless s ≡ true → belongs s (kind.ArrowExpr a g) ≡ false
+no-arrow sort.ModuleItem a g h = refl
+no-arrow sort.Decl a g h = refl
+no-arrow sort.Ident a g h = refl
+no-arrow sort.TsModuleName a g h = refl
+no-arrow sort.TsNamespaceBody a g h = refl
+no-arrow _ a g h = absurd (true-false h refl)
+
+no-constructor : (s : Sort) (a : Option Accessibility) (o : Bool) → bodiless s ≡ true → belongs s (kind.Constructor a o) ≡ false
+no-constructor sort.ClassMember a o h = absurd (true-false h refl)
+no-constructor _ a o h = refl
+
+no-getter : (s : Sort) → bodiless s ≡ true → belongs s kind.GetterProp ≡ false
+no-getter sort.PropOrSpread h = absurd (true-false h refl)
+no-getter sort.Prop h = absurd (true-false h refl)
+no-getter _ h = refl
+
+no-setter : (s : Sort) → bodiless s ≡ true → belongs s kind.SetterProp ≡ false
+no-setter sort.PropOrSpread h = absurd (true-false h refl)
+no-setter sort.Prop h = absurd (true-false h refl)
+no-setter _ h = refl
+
+no-body : (b : Bool) → passes_ambient b ≡ role.Body → ⊥
+no-body true h = cc
+no-body false h = cc
+
+ambient-none : (c : Count) (s : Sort) (k : Kind) (sourced : Bool) (i : ℕ) → bodiless s ≡ true → allows_by c s k ≡ true → role_by role.Ambient k sourced i ≡ role.Body → ⊥
+unfolding role_by
+ambient-none c s (kind.Function g a) sourced i b h is = true-false h (count-by c s (kind.Function g a) refl refl (no-function s g a b))
+ambient-none c s (kind.ArrowExpr a g) sourced i b h is = true-false h (count-by c s (kind.ArrowExpr a g) refl refl (no-arrow s a g b))
+ambient-none c s (kind.Constructor a o) sourced i b h is = true-false h (count-by c s (kind.Constructor a o) refl refl (no-constructor s a o b))
+ambient-none c s kind.GetterProp sourced i b h is = true-false h (count-by c s kind.GetterProp refl refl (no-getter s b))
+ambient-none c s kind.SetterProp sourced i b h is = true-false h (count-by c s kind.SetterProp refl refl (no-setter s b))
+ambient-none c s kind.List sourced i b h is = cc
+ambient-none c s kind.ExportDecl sourced i b h is = cc
+ambient-none c s (kind.TsModuleDecl d g) sourced i b h is = no-body (d || true) is
+ambient-none c s (kind.TsNamespaceDecl d g) sourced i b h is = no-body (d || true) is
+ambient-none c s kind.TsModuleBlock sourced i b h is = cc
+ambient-none c s kind.ExportDefaultDecl sourced i b h is = cc
+ambient-none c s k sourced i b h is = true-false (ap is_special is) (not-special role.Ambient k sourced i refl)
+
+not-ambient : (r : Role) (shape : Shape) (k : Kind) (sourced : Bool) (i : ℕ) → RoleShape r shape → allows shape k ≡ true → role_by r k sourced i ≡ role.Body → is_ambient r ≡ false
+not-ambient role.Ambient shape k sourced i fits h is = absurd (ambient-none shape.count shape.sort k sourced i fits h is)
+not-ambient _ shape k sourced i fits h is = refl
 
 -- ---- a node, by its shape
 
@@ -293,6 +371,7 @@ pub record Shaped (seat : Seat) : Type 0 where
   pub default : seat.role ≡ role.Default → opens seat.role seat.node ≡ true → is_class_expr (out-Node seat.node).kind ≡ true
   pub body : seat.role ≡ role.Body → opens seat.role seat.node ≡ true → is_body_kind (out-Node seat.node).kind ≡ true
   pub nested : is_some (next_var (out-Node seat.node).kind) ≡ true → Nested (out-Node seat.node).children
+  pub holder : (i : ℕ) → role_in seat.role seat.node i ≡ role.Body → is_ambient seat.role ≡ false
 
 parts-have : (m : Node) (shape : Shape) → HasShape shape m → (allows shape (out-Node m).kind ≡ true) × HaveShapes (child_shapes (out-Node m).kind shape (length (out-Node m).children)) (out-Node m).children
 parts-have m shape has = (node_has_shape (out-Node m).span (out-Node m).kind (out-Node m).children shape).0 (subst (HasShape shape) (sym (roll-out-Node m)) has)
@@ -333,6 +412,7 @@ shaped-here m r shape has list fits =
       default = λ is opened. default-kind k (is_there (out-Node m).children 0) (default-allows shape.count shape.sort k (subst (λ (q : Role). RoleShape q shape) is fits) parts.0) (subst (λ (q : Role). opens q m ≡ true) is opened);
       body = λ is opened. body-kind k (is_there (out-Node m).children 0) (body-allows shape.count shape.sort k (subst (λ (q : Role). RoleShape q shape) is fits) parts.0) (subst (λ (q : Role). opens q m ≡ true) is opened);
       nested = λ var. nested-by (child_shapes k shape n) (out-Node m).children (var-tame k shape n var list) parts.1;
+      holder = λ i is. not-ambient r shape k (is_there (out-Node m).children 1) i fits parts.0 is;
     }
 
 abbrev Sorts : Node → Type 0
@@ -355,7 +435,7 @@ layer-sorts m children r shape has list fits =
     let n : ℕ = length (out-Node m).children in
     subst (All Shaped) (sym (gathered-out Role Seat seat_here role_in m r))
     (All-cons Shaped (record { role = r; node = m }) (gathered_from Role Seat (role_in r m) 0 (map seats_at (out-Node m).children)) (shaped-here m r shape has list fits)
-    (children (role_in r m) 0 (child_shapes k shape n) (parts-have m shape has).1 (kinds-many k shape n) (roles-fit r k (is_there (out-Node m).children 1) shape n)))
+    (children (role_in r m) 0 (child_shapes k shape n) (parts-have m shape has).1 (kinds-many k shape n) (roles-fit r k (is_there (out-Node m).children 1) shape n fits)))
 
 sorts : (m : Node) → Sorts m
 sorts = ind-Node Sorts (λ x y is.

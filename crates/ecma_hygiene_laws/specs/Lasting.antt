@@ -1,10 +1,8 @@
 -- Resolved modules in which declarations may go: what scopes declare as values that stay, they declare in contexts of their own.
 use Rattle.std.specs.Prelude.{◌≡◌, ◌≢◌, ◌<◌, ◌≤◌, ℕ, Bool, true, false, List, [], map}
 use Rattle.std.specs.List.{All}
-use Rattle.ecma_kind.specs.declared.kind.Kind.{Kind}
 use Rattle.ecma_kind.specs.declared.kind.Kind.TheVariants as kind
 use Rattle.ecma_kind.specs.declared.shapes.Sort.TheVariants as sort
-use Rattle.ecma_tree.specs.Finding.{enters_all, finds}
 use Rattle.ecma_tree.specs.Sorted.{HasSort}
 use Rattle.ecma_tree.specs.declared.node.Node.{Node, out-Node}
 use Rattle.ecma_scope.specs.declared.role.Role.TheVariants as role
@@ -12,13 +10,12 @@ use Rattle.ecma_scope.specs.Conflicts.{redeclared}
 use Rattle.ecma_scope.specs.Declarations.{is_hoisted}
 use Rattle.ecma_scope.specs.Laws.{without_contexts}
 use Rattle.ecma_scope.specs.Resolved.{contexts, is_name, resolved}
-use Rattle.ecma_scope.specs.Scopes.{is_ambient, opens}
+use Rattle.ecma_scope.specs.Scopes.{opens}
 use Rattle.ecma_hygiene.specs.Capture.{NoneDeclares}
 use Rattle.ecma_hygiene.specs.Ids.{has_context, innermost, is_block, is_body_block}
 use Rattle.ecma_hygiene.specs.Renamed.{kind_is_absent}
 use Rattle.ecma_hygiene_laws.specs.Apart.{AreApart, own_contexts}
 use Rattle.ecma_hygiene_laws.specs.DeclaredIds.{DeclaredId, scope_ids}
-use Rattle.ecma_hygiene_laws.specs.Seats.{Seat, seats_at}
 use Rattle.ecma_hygiene_laws.specs.Stops.{Stop, stops}
 
 -- a node of such a module, in which free names have this context: `IsScoped`, but that what a scope declares may go
@@ -39,24 +36,13 @@ pub record KeepsScopesApart (free left : ℕ) (tree : Node) : Type 0 where
   pub apart : AreApart (map own_contexts (stops left tree))
   pub there : free ≢ 0
 
--- a module as it is read, with the empty context for each identifier, in which no name is declared again where it may not be, and no scope is ambient
+-- a module as it is read, with the empty context for each identifier, in which no name is declared again where it may not be
 pub record IsCheckedModule (source : Node) : Type 0 where
   pub sorted : HasSort sort.Module source
   pub bare : without_contexts source ≡ source
   pub clear : redeclared source ≡ []
-  pub calm : All (λ (seat : Seat). opens seat.role seat.node ≡ true → is_ambient seat.role ≡ false) (seats_at source role.Root)
 
 -- once it is resolved its scopes are kept apart, where there were contexts enough
 abbrev pub ResolvedKeepsScopesApart : Type 0
 ResolvedKeepsScopesApart = (unresolved top left : ℕ) (source : Node) → IsCheckedModule source → left < unresolved → left < top → unresolved ≢ top → contexts source ≤ left
     → KeepsScopesApart unresolved left (resolved unresolved top left source)
-
--- a namespace that is written `declare`
-abbrev pub is_ambient_namespace : Kind → Bool
-is_ambient_namespace (kind.TsModuleDecl declare global) = declare
-is_ambient_namespace (kind.TsNamespaceDecl declare global) = declare
-is_ambient_namespace _ = false
-
--- where there is none, nothing stands in an ambient namespace, so no scope is ambient
-abbrev pub NothingIsAmbient : Type 0
-NothingIsAmbient = (tree : Node) → finds is_ambient_namespace enters_all tree ≡ false → All (λ (seat : Seat). is_ambient seat.role ≡ false) (seats_at tree role.Root)

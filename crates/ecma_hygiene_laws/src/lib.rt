@@ -5,7 +5,7 @@
 #![tactic(auto)]
 
 ghost use Rattle.ecma_hygiene_laws.specs.Apart.{ContextsAreMapped, ResolvedTellsScopesApart, TextsNameWhatIdsDo};
-ghost use Rattle.ecma_hygiene_laws.specs.Lasting.{NothingIsAmbient, ResolvedKeepsScopesApart};
+ghost use Rattle.ecma_hygiene_laws.specs.Lasting.{ResolvedKeepsScopesApart};
 ghost use Rattle.ecma_hygiene_laws.specs.ReadAgain.{FollowsItsTexts, IdsStayApart, IsReadAgain};
 ghost use Rattle.ecma_hygiene_laws.specs.Resolving.{ResolvedFollowsItsTexts, ResolvedIsReadAgain, ResolvedIsRight};
 ghost use Rattle.ecma_hygiene_laws.specs.Scopes.{ScopesDeclareFinalTexts};
@@ -69,9 +69,4 @@ pub fn resolved_contexts_tell_scopes_apart()
 /// each, no two in the same, and a name that none of them declares so is free.
 pub fn resolved_modules_keep_their_scopes_apart()
     ensures { ResolvedKeepsScopesApart }
-{}
-
-/// In a tree without a namespace that is written `declare`, nothing stands in an ambient one.
-pub fn nothing_is_ambient()
-    ensures { NothingIsAmbient }
 {}

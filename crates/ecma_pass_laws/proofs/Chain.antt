@@ -28,7 +28,7 @@ use Rattle.ecma_hygiene.specs.Renamed.{at_root, renamed}
 use Rattle.ecma_hygiene.specs.Sights.{nowhere, sights}
 use Rattle.ecma_hygiene.specs.Texts.{HygienicTexts, is_bound, text_in}
 use Rattle.ecma_hygiene_laws.specs.Apart.{ContextsAreMapped, IsMap, TellsScopesApart}
-use Rattle.ecma_hygiene_laws.specs.Lasting.{IsCheckedModule, NothingIsAmbient}
+use Rattle.ecma_hygiene_laws.specs.Lasting.{IsCheckedModule}
 use Rattle.ecma_hygiene_laws.specs.Stops.{IsRight, stops}
 use Rattle.ecma_hygiene_runs.specs.Laws.{IsResolved, KeepsApart, ReadingAgainKeepsRuns}
 use Rattle.ecma_hygiene_runs.specs.Plain.{PlainModulesAreResolved}
@@ -37,7 +37,7 @@ use Rattle.ecma_pass_laws.specs.Passes.{AreGiven, IsReading, IsSource, PassesKee
 use Rattle.ecma_pass_laws.specs.Plain.{StrippedModulesArePlain}
 use Rattle.ecma_pass_laws.specs.TypesAlone.{adds_types_alone}
 use Rattle.ecma_pass_laws.proofs.ClearSeats.{module-stands}
-use Rattle.ecma_pass_laws.proofs.Contexts.{calm, resolved-adds-types}
+use Rattle.ecma_pass_laws.proofs.Contexts.{resolved-adds-types}
 use Rattle.ecma_pass_laws.proofs.Full.{modules-are-full}
 use Rattle.ecma_pass_laws.proofs.Names.{bound-other, bound-seen, outer, seats-other}
 use Rattle.ecma_pass_laws.proofs.Receivers.{no-receivers}
@@ -62,7 +62,6 @@ pub record Laws : Type 0 where
   pub clear : ModulesAreClear
   pub plain : StrippedModulesArePlain
   pub tells : StrippedModulesTellScopesApart
-  pub ambient : NothingIsAmbient
   pub maps : ContextsAreMapped
   pub counts : ReadingAgainCounts
   pub again : ReadingAgainKeepsRuns
@@ -97,7 +96,7 @@ module _ (laws : Laws) (unresolved top left : ℕ) (source : Node) (is : IsSourc
   alone = resolved-adds-types laws.changes unresolved top left source is.types
 
   checked : IsCheckedModule source
-  checked = record { sorted = is.fits.sorted; bare = is.bare; clear = is.distinct; calm = λ k d lt opens_it. laws.ambient source (calm source is.types) k d lt }
+  checked = record { sorted = is.fits.sorted; bare = is.bare; clear = is.distinct }
 
   apart : (less : ℕ) → TellsScopesApart unresolved less s
   apart less = laws.tells true unresolved top left less source checked given.unresolved_above given.top_above given.apart given.enough (laws.clear r fits alone) (seats-other s role.Root (modules-are-full r fits alone))
@@ -107,7 +106,7 @@ module _ (laws : Laws) (unresolved top left : ℕ) (source : Node) (is : IsSourc
 
   -- what the source does, it does without types
   strip-runs : (turns : ℕ) (options : Config) (script : Script) → observe turns options s script ≡ observe turns options r script
-  strip-runs turns options script = laws.strips turns options r script (laws.types r fits.sorted (module-stands r fits alone).usual (no-receivers r alone))
+  strip-runs turns options script = laws.strips turns options r script (laws.types r fits.sorted (module-stands r fits alone).usual (no-receivers r (module-stands r fits alone).fits))
 
   module _ (names : List Named) (texts : HygienicTexts s names) where
     abbrev h : Node

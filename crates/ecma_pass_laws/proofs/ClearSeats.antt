@@ -1,5 +1,5 @@
--- It is clear what each scope declares without types.
-use Rattle.std.proofs.Common.{◌≡◌, ℕ, zero, suc, ◌+◌, ◌==◌, arith, Bool, true, false, List, [], ◌∷◌, map, length, Some, refl, sym, ap, ◌∙◌, subst, if◌then◌else◌, slice_get}
+-- It is clear what each scope that stays declares without types, and none is ambient.
+use Rattle.std.proofs.Common.{◌≡◌, ℕ, zero, suc, ◌+◌, ◌==◌, arith, Bool, true, false, ◌&&◌, not, cond, List, [], ◌∷◌, map, length, Some, refl, sym, ap, ◌∙◌, subst, if◌then◌else◌, slice_get}
 use Rattle.std.specs.List.{All}
 use Rattle.std.proofs.lemmas.List.Elements.{All-append, All-cons, All-nil}
 use Rattle.ecma_kind.specs.Sorts.{belongs, is_type_wrapper}
@@ -9,7 +9,7 @@ use Rattle.ecma_kind.specs.declared.shapes.Shape.{Shape}
 use Rattle.ecma_kind.specs.declared.shapes.Sort.TheVariants as sort
 use Rattle.ecma_tree.specs.declared.node.Node.{Node, Node-F, ind-Node, out-Node, roll-Node}
 use Rattle.ecma_tree.specs.declared.node.Node.TheViews.{out-roll-Node}
-use Rattle.ecma_tree.specs.Sorted.{HasShape, child_shapes, one}
+use Rattle.ecma_tree.specs.Sorted.{HasShape, child_shapes, is_list, one}
 use Rattle.ecma_rules.specs.Jumps.{first_stray}
 use Rattle.ecma_fits.specs.declared.unfit.Where.{Where}
 use Rattle.ecma_fits.specs.Fitting.{Fits, at_top, first_unfit_in, where_in}
@@ -18,21 +18,22 @@ use Rattle.ecma_scope.specs.declared.role.Role.{Role}
 use Rattle.ecma_scope.specs.declared.role.Role.TheVariants as role
 use Rattle.ecma_scope.specs.Declarations.{holds_vars, own_part}
 use Rattle.ecma_scope.specs.Scopes.{at_child, is_ambient, is_default, is_there, of_exports, of_specifier, opens, passes_ambient, passes_in_list, role_by, role_in}
+use Rattle.ecma_strip.specs.Staying.{stays}
 use Rattle.ecma_strip.specs.Values.{is_value}
-use Rattle.ecma_hygiene.specs.Walks.{gathered_from}
 use Rattle.ecma_hygiene.proofs.Telling.{true-false}
-use Rattle.ecma_hygiene.proofs.Walking.{gathered-out}
-use Rattle.ecma_hygiene_laws.specs.Seats.{Seat, seat_here, seats_at}
 use Rattle.ecma_strip_scopes.specs.Apart.{IsClearSeat}
+use Rattle.ecma_strip_scopes.specs.Staying.{staying_from, staying_seats}
 use Rattle.ecma_strip_scopes.proofs.Going.{parts-have}
 use Rattle.ecma_strip_scopes.proofs.KindsKept.{wrapper-opens}
+use Rattle.ecma_strip_scopes.proofs.StayingSeats.{staying-out}
 use Rattle.ecma_strip_fits.proofs.Walk.{neither_least}
 use Rattle.ecma_pass_laws.specs.Clear.{ModulesAreClear}
 use Rattle.ecma_pass_laws.specs.TypesAlone.{adds_types_alone}
 use Rattle.ecma_pass_laws.proofs.Asking.{Asked, is_default_export}
 use Rattle.ecma_pass_laws.proofs.Strays.{opener-other}
+use Rattle.ecma_pass_laws.proofs.CalmRoles.{calm-role}
 use Rattle.ecma_pass_laws.proofs.Clearing.{Stands, clears, stands-below}
-use Rattle.ecma_pass_laws.proofs.Nodes.{none-some, some-same}
+use Rattle.ecma_pass_laws.proofs.Nodes.{StaysIn, none-some, not-lowered, some-same}
 use Rattle.ecma_pass_laws.proofs.Remaining.{first_declared, remains_by}
 use Rattle.ecma_pass_laws.proofs.UsualBodies.{fitting-bodies}
 
@@ -111,16 +112,19 @@ own-asked : (r : Role) (n : Node) (s : Shape) (w : Where) → (is_default r ≡ 
 own-asked role.Default n s w default h = default-remains (out-Node n).kind (is_value n) (first_declared (out-Node n).children) (default refl)
 own-asked _ n s w default h = unwrapped _ n (is_type_wrapper (out-Node n).kind) refl h
 
-seat-clear : (r : Role) (n : Node) (s : Shape) (w : Where) → Stands n s w → (is_default r ≡ true → belongs sort.DefaultDecl (out-Node n).kind ≡ true) → IsClearSeat true (record { role = r; node = n })
-seat-clear r n s w is default h = record {
-  own = clears n s w (record { part = own_part r; stays = true }) is (opener-other r n h) refl (own-asked r n s w default h);
-  vars = λ v. clears n s w (record { part = part.Var; stays = true }) is (opener-other r n h) refl (holder-remains r (out-Node n).kind (is_value n) (first_declared (out-Node n).children) v);
-}
+seat-clear : (r : Role) (n : Node) (s : Shape) (w : Where) → Stands n s w → (is_default r ≡ true → belongs sort.DefaultDecl (out-Node n).kind ≡ true) → is_ambient r ≡ false → IsClearSeat true (record { role = r; node = n })
+seat-clear r n s w is default calm h = (
+  calm,
+  record {
+    own = clears n s w (record { part = own_part r; stays = true }) is (opener-other r n h) refl (own-asked r n s w default h);
+    vars = λ v. clears n s w (record { part = part.Var; stays = true }) is (opener-other r n h) refl (holder-remains r (out-Node n).kind (is_value n) (first_declared (out-Node n).children) v);
+  },
+)
 
 -- ---- all of them
 
 abbrev SeatsClear : Node → Type 0
-SeatsClear n = (s : Shape) (w : Where) (r : Role) → Stands n s w → (is_default r ≡ true → belongs sort.DefaultDecl (out-Node n).kind ≡ true) → All (IsClearSeat true) (seats_at n r)
+SeatsClear n = (s : Shape) (w : Where) (r : Role) → Stands n s w → (is_default r ≡ true → belongs sort.DefaultDecl (out-Node n).kind ≡ true) → is_ambient r ≡ false → All (IsClearSeat true) (staying_seats n r)
 
 -- a child, which stands so, and which is a default where its role says so
 record Child (c : Node) (r : Role) : Type 0 where
@@ -128,9 +132,10 @@ record Child (c : Node) (r : Role) : Type 0 where
   place : Where
   stands : Stands c shape place
   default : is_default r ≡ true → belongs sort.DefaultDecl (out-Node c).kind ≡ true
+  calm : is_ambient r ≡ false
 
 abbrev AllClear : List Node → Type 0
-AllClear cs = (roles : ℕ → Role) (i : ℕ) → ((j : ℕ) (c : Node) → slice_get cs j ≡ Some c → Child c (roles (i + j))) → All (IsClearSeat true) (gathered_from Role Seat roles i (map seats_at cs))
+AllClear cs = (list : Bool) (roles : ℕ → Role) (i : ℕ) → ((j : ℕ) (c : Node) → slice_get cs j ≡ Some c → (list ≡ true → stays c ≡ true) → Child c (roles (i + j))) → All (IsClearSeat true) (staying_from list roles i cs (map staying_seats cs))
 
 none-more : (i : ℕ) → i + 0 ≡ i
 none-more i = omega arith
@@ -141,26 +146,40 @@ one-more i j = omega arith
 front : (j : ℕ) → 0 + j ≡ j
 front j = omega arith
 
+there : (list st : Bool) → (list && not st) ≡ false → list ≡ true → st ≡ true
+there true true h is = refl
+there true false h is = absurd (true-false refl h)
+there false st h is = absurd (true-false is refl)
+
+-- what goes is passed over
+unless-gone : (list : Bool) (n : Node) (r : Role) → ((list ≡ true → stays n ≡ true) → All (IsClearSeat true) (staying_seats n r)) → All (IsClearSeat true) (cond (list && not (stays n)) [] (staying_seats n r))
+unless-gone list n r clear = by (list && not (stays n)) refl
+  where
+    by : (b : Bool) → (list && not (stays n)) ≡ b → All (IsClearSeat true) (cond b [] (staying_seats n r))
+    by true gone = All-nil (IsClearSeat true)
+    by false h = clear (there list (stays n) h)
+
 all-clear : (ns : List ((n : Node) × SeatsClear n)) → AllClear (map (λ e. e.0) ns)
-all-clear [] roles i each = All-nil (IsClearSeat true)
-all-clear (n ∷ ns) roles i each =
-    let first : Child n.0 (roles i) = subst (λ (l : ℕ). Child n.0 (roles l)) (none-more i) (each 0 n.0 refl) in
-    All-append (IsClearSeat true) (seats_at n.0 (roles i)) (gathered_from Role Seat roles (suc i) (map seats_at (map (λ e. e.0) ns))) (n.1 first.shape first.place (roles i) first.stands first.default)
-    (all-clear ns roles (suc i) (λ j c at. subst (λ (l : ℕ). Child c (roles l)) (one-more i j) (each (suc j) c at)))
+all-clear [] list roles i each = All-nil (IsClearSeat true)
+all-clear (n ∷ ns) list roles i each =
+    All-append (IsClearSeat true) (cond (list && not (stays n.0)) [] (staying_seats n.0 (roles i))) (staying_from list roles (suc i) (map (λ e. e.0) ns) (map staying_seats (map (λ e. e.0) ns)))
+    (unless-gone list n.0 (roles i) (λ st. (let first : Child n.0 (roles i) = subst (λ (l : ℕ). Child n.0 (roles l)) (none-more i) (each 0 n.0 refl st) in n.1 first.shape first.place (roles i) first.stands first.default first.calm)))
+    (all-clear ns list roles (suc i) (λ j c at st. subst (λ (l : ℕ). Child c (roles l)) (one-more i j) (each (suc j) c at st)))
 
 layer-seats : (n : Node) → AllClear (out-Node n).children → SeatsClear n
-layer-seats n children s w r is default =
-    subst (All (IsClearSeat true)) (sym (gathered-out Role Seat seat_here role_in n r))
-    (All-cons (IsClearSeat true) (record { role = r; node = n }) (gathered_from Role Seat (role_in r n) 0 (map seats_at (out-Node n).children)) (seat-clear r n s w is default)
-    (children (role_in r n) 0 (λ j c at. subst (λ (l : ℕ). Child c (role_in r n l)) (sym (front j)) (child j c at))))
+layer-seats n children s w r is default calm =
+    subst (All (IsClearSeat true)) (sym (staying-out n r))
+    (All-cons (IsClearSeat true) (record { role = r; node = n }) (staying_from (is_list (out-Node n).kind) (role_in r n) 0 (out-Node n).children (map staying_seats (out-Node n).children)) (seat-clear r n s w is default calm)
+    (children (is_list (out-Node n).kind) (role_in r n) 0 (λ j c at st. subst (λ (l : ℕ). Child c (role_in r n l)) (sym (front j)) (child j c at st))))
   where
-    child : (j : ℕ) (c : Node) → slice_get (out-Node n).children j ≡ Some c → Child c (role_in r n j)
-    child j c at = let t = stands-below n s w is j c at in record {
+    child : (j : ℕ) (c : Node) → slice_get (out-Node n).children j ≡ Some c → StaysIn (out-Node n).kind c → Child c (role_in r n j)
+    child j c at st = let t = stands-below n s w is j c at st in record {
       shape = t.0;
       place = where_in w n j;
       stands = t.2;
       default = λ h. (let o : one sort.DefaultDecl ≡ t.0 = default-shape (out-Node n).kind s (length (out-Node n).children) j t.0 (default-role r (out-Node n).kind (is_there (out-Node n).children 1) j h) t.1 in
           (parts-have c (one sort.DefaultDecl) (subst (λ (z : Shape). HasShape z c) (sym o) t.2.has)).0);
+      calm = calm-role r (out-Node n).kind (is_there (out-Node n).children 1) j calm (not-lowered n is.alone);
     }
 
 seats-clear : (n : Node) → SeatsClear n
@@ -173,4 +192,4 @@ module-stands tree fits alone =
     record { has = fits.sorted; fits = here; usual = fitting-bodies tree at_top here; alone = alone }
 
 pub modules-are-clear : ModulesAreClear
-modules-are-clear tree fits alone = seats-clear tree (one sort.Module) at_top role.Root (module-stands tree fits alone) (λ h. absurd (true-false h refl))
+modules-are-clear tree fits alone = seats-clear tree (one sort.Module) at_top role.Root (module-stands tree fits alone) (λ h. absurd (true-false h refl)) refl

@@ -23,47 +23,27 @@ use Rattle.ecma_scope.specs.declared.form.Part.TheVariants as part
 use Rattle.ecma_scope.specs.declared.form.Sought.{Sought}
 use Rattle.ecma_scope.specs.Declarations.{in_default, in_item, in_member, in_name, in_scope, in_var, is_value as scope_value, sought_by, sought_in}
 use Rattle.ecma_scope.proofs.Layers as layers
-use Rattle.ecma_strip.specs.Staying.{if_there, is_export, is_this_ident, is_this_param, stays}
+use Rattle.ecma_strip.specs.Staying.{is_this_ident, is_this_param, stays}
 use Rattle.ecma_strip.specs.Stripping.{stripped}
 use Rattle.ecma_strip.specs.Values.{is_value, value_by}
 use Rattle.ecma_strip.proofs.Valuing.{is_value-out}
 use Rattle.ecma_strip_laws.specs.Usual.{declares_no_body, has_usual_bodies}
 use Rattle.ecma_hygiene.proofs.Telling.{and-both, true-false}
 use Rattle.ecma_hygiene_laws.specs.DeclaredIds.{DeclaredId, ids_declared}
-use Rattle.ecma_strip_scopes.specs.Going.{is_namespace, is_namespace_kind}
 use Rattle.ecma_strip_scopes.specs.Standing.{bodies_stay, clear_at, clear_here, clear_in, clear_step, has_value, is_clear, is_none, same}
-use Rattle.ecma_strip_scopes.proofs.Going.{is_named, named-values, parts-have}
+use Rattle.ecma_strip_scopes.proofs.Going.{is_named, parts-have}
 use Rattle.ecma_strip_scopes.proofs.Seeking.{setter-seeks}
 use Rattle.ecma_strip_scopes.proofs.Standing.{list-kind}
+use Rattle.ecma_strip_scopes.proofs.Values.{values-agree}
 use Rattle.ecma_strip_fits.proofs.Walk.{each_none, neither_least}
 use Rattle.ecma_pass_laws.specs.TypesAlone.{adds_types_alone, is_lowered, is_receiver}
 use Rattle.ecma_pass_laws.proofs.Expressions.{expression-item, expression-var, expressive, wrapper-expression}
-use Rattle.ecma_pass_laws.proofs.Nodes.{alone-below, by-children, child-shape, neither, no-ambient-head, none-some, not-lowered, some-same, test-below, test-here}
+use Rattle.ecma_pass_laws.proofs.Nodes.{StaysIn, alone-below, by-children, child-shape, in-no-list, neither, no-ambient-head, none-some, not-lowered, some-same, test-below, test-here}
 use Rattle.ecma_strip_scopes.proofs.Wrapping.{takes_types}
 use Rattle.ecma_pass_laws.proofs.Remaining.{children-remain, first_declared, holds_items, is_many, remains, remains_by, stays-remains}
 use Rattle.ecma_pass_laws.proofs.Asking.{Asked, Got, Valued, declares-no-wrapper, default-got, got-some, is_default_export, item-got, list-declaring, name-got, scope-got, unassigned, var-got}
 use Rattle.ecma_pass_laws.proofs.Strays.{child-other, is_spared, item-other}
 use Rattle.ecma_pass_laws.proofs.Values.{bodies-stay, named-kept}
-
--- ---- what goes from a list is no namespace
-
-lowered-namespace : (k : Kind) → is_lowered k ≡ false → is_namespace_kind k ≡ false
-lowered-namespace (kind.TsModuleDecl d g) h = absurd (true-false refl h)
-lowered-namespace _ h = refl
-
-none-there : (cs : List Node) (f : Node → Bool) → ((c : Node) → slice_get cs 0 ≡ Some c → f c ≡ false) → if_there (slice_get cs 0) f ≡ false
-none-there [] f h = refl
-none-there (c ∷ cs) f h = h c refl
-
-cond-false : (b x y : Bool) → x ≡ false → y ≡ false → cond b x y ≡ false
-cond-false true x y h g = h
-cond-false false x y h g = g
-
-no-namespace : (n : Node) → adds_types_alone n ≡ true → is_namespace n ≡ false
-no-namespace n alone =
-    cond-false (is_export (out-Node n).kind) _ _
-    (none-there (out-Node n).children (λ x. is_namespace_kind (out-Node x).kind) (λ c at. lowered-namespace (out-Node c).kind (not-lowered c (alone-below n alone 0 c at))))
-    (lowered-namespace (out-Node n).kind (not-lowered n alone))
 
 -- ---- a node that fits
 
@@ -99,11 +79,11 @@ pub record Stands (n : Node) (s : Shape) (w : Where) : Type 0 where
   pub usual : has_usual_bodies n ≡ true
   pub alone : adds_types_alone n ≡ true
 
-pub stands-below : (n : Node) (s : Shape) (w : Where) → Stands n s w → (i : ℕ) (c : Node) → slice_get (out-Node n).children i ≡ Some c
+pub stands-below : (n : Node) (s : Shape) (w : Where) → Stands n s w → (i : ℕ) (c : Node) → slice_get (out-Node n).children i ≡ Some c → StaysIn (out-Node n).kind c
     → (o : Shape) × (slice_get (child_shapes (out-Node n).kind s (length (out-Node n).children)) i ≡ Some o) × Stands c o (where_in w n i)
-stands-below n s w is i c at =
+stands-below n s w is i c at st =
     let shape = child-shape (child_shapes (out-Node n).kind s (length (out-Node n).children)) (out-Node n).children (parts-have n s is.has).1 i c at in
-    (shape.0, shape.1, record { has = shape.2; fits = fits-below w n is.fits i c at; usual = test-below declares_no_body n is.usual i c at; alone = alone-below n is.alone i c at })
+    (shape.0, shape.1, record { has = shape.2; fits = fits-below w n is.fits i c at; usual = test-below declares_no_body n is.usual i c at; alone = alone-below n is.alone i c at st })
 
 -- ---- the children
 
@@ -127,18 +107,18 @@ clear-each into i (c ∷ cs) each = and-both (clear_at (into i) (is_clear true c
 
 -- of a list
 clear-items : (into : ℕ → Option Sought) (i : ℕ) (cs : List Node)
-    → ((j : ℕ) (c : Node) → slice_get cs j ≡ Some c → (is_namespace c ≡ false) × ((l : ℕ) (q : Sought) → stays c ≡ true → into l ≡ Some q → (q.stays ≡ true) × (is_clear true c q ≡ true))) → clear_in true true into i cs (map (is_clear true) cs) ≡ true
+    → ((j : ℕ) (c : Node) → slice_get cs j ≡ Some c → (l : ℕ) (q : Sought) → stays c ≡ true → into l ≡ Some q → (q.stays ≡ true) × (is_clear true c q ≡ true)) → clear_in true true into i cs (map (is_clear true) cs) ≡ true
 clear-items into i [] each = refl
 clear-items into i (c ∷ cs) each =
-    and-both (cond (not (stays c)) (not (is_namespace c)) (clear_at (into i) (is_clear true c))) (clear_in true true into (suc i) cs (map (is_clear true) cs)) (by (stays c) refl) (clear-items into (suc i) cs (λ j d at. each (suc j) d at))
+    and-both (cond (not (stays c)) true (clear_at (into i) (is_clear true c))) (clear_in true true into (suc i) cs (map (is_clear true) cs)) (by (stays c) refl) (clear-items into (suc i) cs (λ j d at. each (suc j) d at))
   where
     at : (o : Option Sought) → stays c ≡ true → into i ≡ o → clear_at o (is_clear true c) ≡ true
     at None st is = refl
-    at (Some q) st is = let h = (each 0 c refl).1 i q st is in and-both q.stays (is_clear true c q) h.0 h.1
+    at (Some q) st is = let h = each 0 c refl i q st is in and-both q.stays (is_clear true c q) h.0 h.1
 
-    by : (b : Bool) → stays c ≡ b → cond (not b) (not (is_namespace c)) (clear_at (into i) (is_clear true c)) ≡ true
+    by : (b : Bool) → stays c ≡ b → cond (not b) true (clear_at (into i) (is_clear true c)) ≡ true
     by true st = at (into i) st refl
-    by false st = ap not (each 0 c refl).0
+    by false st = refl
 
 -- ---- a node
 
@@ -195,7 +175,7 @@ module _ (n : Node) (s : Shape) (w : Where) (is : Stands n s w) where
   have = (parts-have n s is.has).1
 
   valued : Valued k (scope_value n) (is_value n)
-  valued = named-values n s is.has
+  valued = λ named. values-agree n
 
   by-parts : remains n ≡ true → remains_by k (value_by k (map is_value cs)) (first_declared cs) ≡ true
   by-parts h = ap (λ (v : Bool). remains_by k v (first_declared cs)) (sym (is_value-out n)) ∙ h
@@ -273,28 +253,24 @@ layer-clears n below s w q is free stay asked =
     by : (b : Bool) → is_list (out-Node n).kind ≡ b → clear_in true b (sought_in q n) 0 (out-Node n).children (map (is_clear true) (out-Node n).children) ≡ true
     by false l =
         clear-each (sought_in q n) 0 (out-Node n).children (λ j c p at h. (
-        let t = stands-below n s w is j c at in
+        let t = stands-below n s w is j c at (in-no-list (out-Node n).kind c l) in
         let found = ap (sought_in q n) (front j) ∙ h in
         let g = got-by n s w is q.part l asked j c t.0 p at t.2.has t.1 (true-stays j (Some p) found) in
         (g.0, below j c at t.0 (where_in w n j) p t.2 (child-other n s is.has is.alone free l j c at (unspared j p found)) g.0 g.1)))
     by true l =
         let e : (out-Node n).kind ≡ kind.List = list-kind (out-Node n).kind l in
-        clear-items (sought_in q n) 0 (out-Node n).children (λ j c at. (
-          no-namespace c (alone-below n is.alone j c at),
-          (λ i p st h. (
-              let t = stands-below n s w is j c at in
-              let g = list-got n s w is q.part (ap (allows s) (sym e) ∙ (parts-have n s is.has).0) asked i c p st (ap (λ (z : Kind). sought_by q.part true (scope_value n) z i) (sym e) ∙ true-stays i (Some p) h) in
-              (g.0, below j c at (item_shape s) (where_in w n j) p (item-stands e j c at) (item-other n is.alone l j c at st) g.0 (subst (λ (r : Role). Asked p.part c (item_shape s) r) (ap (λ (z : Kind). role_in w.role z j) (sym e)) g.1)))),
-        ))
+        clear-items (sought_in q n) 0 (out-Node n).children (λ j c at i p st h. (
+        let g = list-got n s w is q.part (ap (allows s) (sym e) ∙ (parts-have n s is.has).0) asked i c p st (ap (λ (z : Kind). sought_by q.part true (scope_value n) z i) (sym e) ∙ true-stays i (Some p) h) in
+        (g.0, below j c at (item_shape s) (where_in w n j) p (item-stands e j c at st) (item-other n is.alone l j c at st) g.0 (subst (λ (r : Role). Asked p.part c (item_shape s) r) (ap (λ (z : Kind). role_in w.role z j) (sym e)) g.1))))
       where
         item-at : (count i : ℕ) (o : Shape) → slice_get (replicate count (item_shape s)) i ≡ Some o → o ≡ item_shape s
         item-at zero i o at = none-some at
         item-at (suc count) zero o at = sym (some-same at)
         item-at (suc count) (suc i) o at = item-at count i o at
 
-        item-stands : (out-Node n).kind ≡ kind.List → (j : ℕ) (c : Node) → slice_get (out-Node n).children j ≡ Some c → Stands c (item_shape s) (where_in w n j)
-        item-stands e j c at =
-            let t = stands-below n s w is j c at in
+        item-stands : (out-Node n).kind ≡ kind.List → (j : ℕ) (c : Node) → slice_get (out-Node n).children j ≡ Some c → stays c ≡ true → Stands c (item_shape s) (where_in w n j)
+        item-stands e j c at st =
+            let t = stands-below n s w is j c at (λ listed. st) in
             subst (λ (o : Shape). Stands c o (where_in w n j)) (item-at (length (out-Node n).children) j t.0 (ap (λ (z : Kind). slice_get (child_shapes z s (length (out-Node n).children)) j) (sym e) ∙ t.1)) t.2
 
 pub clears : (n : Node) → Clears n

@@ -1,24 +1,24 @@
--- Contexts do not matter to whether all that is TypeScript is types; and where it is so, no namespace is ambient.
-use Rattle.std.proofs.Common.{◌≡◌, ℕ, suc, Bool, true, false, ◌&&◌, ◌||◌, not, List, [], ◌∷◌, map, refl, sym, ap, ap₂, ◌∙◌, subst, slice_get, Some}
-use Rattle.std.specs.List.{list_all, list_any}
+-- Contexts do not matter to what stays in a list, nor to whether all that is TypeScript is types.
+use Rattle.std.proofs.Common.{◌≡◌, ℕ, Bool, true, false, ◌&&◌, ◌||◌, not, cond, List, [], ◌∷◌, map, get_or, refl, sym, ap, ap₂, ◌∙◌, subst, slice_get}
+use Rattle.std.specs.List.{list_any}
+use Rattle.ecma_kind.specs.Sorts.{belongs}
 use Rattle.ecma_kind.specs.declared.kind.Kind.{Kind}
 use Rattle.ecma_kind.specs.declared.kind.Kind.TheVariants as kind
+use Rattle.ecma_kind.specs.declared.shapes.Sort.TheVariants as sort
 use Rattle.ecma_tree.specs.Contexts.{kind_with_context, with_contexts}
-use Rattle.ecma_tree.specs.Finding.{enters_all, finds, finds_from, finds_here}
 use Rattle.ecma_tree.specs.Nodes.{node_of}
-use Rattle.ecma_tree.specs.declared.node.Node.{Node, Node-F, fold_out-Node, ind-Node, out-Node, roll-Node}
+use Rattle.ecma_tree.specs.Sorted.{is_list}
+use Rattle.ecma_tree.specs.declared.node.Node.{Node, Node-F, ind-Node, out-Node, roll-Node}
 use Rattle.ecma_tree.specs.declared.node.Node.TheViews.{out-roll-Node}
 use Rattle.ecma_tree.proofs.Changing.{changed-parts}
 use Rattle.ecma_scope.specs.Laws.{ResolvedChangesContexts}
 use Rattle.ecma_scope.specs.Resolved.{resolved}
-use Rattle.ecma_strip.specs.Staying.{if_there, is_declared, is_this, is_this_by, is_this_ident, is_this_param, is_this_param_by}
-use Rattle.ecma_strip.specs.Values.{is_value, value_by}
+use Rattle.ecma_strip.specs.Staying.{if_there, is_ambient, is_declared, is_empty_stmt, is_export, is_this, is_this_by, is_this_ident, is_this_param, is_this_param_by, item_stays, member_stays, member_stays_by, specifier_stays, stays}
+use Rattle.ecma_strip.specs.Values.{is_value, value_at, value_by}
 use Rattle.ecma_strip.proofs.Valuing.{is_value-out}
-use Rattle.ecma_hygiene.proofs.Telling.{true-false}
-use Rattle.ecma_hygiene_laws.specs.Lasting.{is_ambient_namespace}
 use Rattle.ecma_hygiene_laws.proofs.Parts.{children-of, kind-of}
-use Rattle.ecma_pass_laws.specs.TypesAlone.{adds_types_alone, adds_types_by, has_ambient_head, has_bodiless, has_stray_receiver, is_lone_receiver, is_lowered, is_receiver, lacks_body, lacks_body_by}
-use Rattle.ecma_pass_laws.proofs.Nodes.{alone-below, holds-out, not-lowered}
+use Rattle.ecma_pass_laws.specs.TypesAlone.{adds_types_alone, adds_types_by, has_ambient_head, has_bodiless, has_stray_receiver, is_lone_receiver, is_lowered, is_receiver, lacks_body, lacks_body_by, staying_hold}
+use Rattle.ecma_pass_laws.proofs.Nodes.{alone-out}
 
 module _ (context_of : List ℕ → ℕ → ℕ) where
   abbrev turned : Node → Node
@@ -147,48 +147,80 @@ module _ (context_of : List ℕ → ℕ → ℕ) where
   test-by : (k : Kind) (cs : List Node) → adds_types_by (kind_with_context context_of k) (map turned cs) ≡ adds_types_by k cs
   test-by k cs = (λ j. not (lowered-by k j) && (not (head-by k cs j) && (not (bodiless-by k cs j) && not (stray-by k cs j))))
 
+  -- what stays
+  item-by : (k : Kind) (value ambient : Bool)
+      → cond (is_empty_stmt (kind_with_context context_of k)) true (cond (belongs sort.ModuleItem (kind_with_context context_of k)) (value && not ambient) true) ≡ cond (is_empty_stmt k) true (cond (belongs sort.ModuleItem k) (value && not ambient) true)
+  item-by (kind.Ident s c o) value ambient = refl
+  item-by _ value ambient = refl
+
+  export-by : (k : Kind) → is_export (kind_with_context context_of k) ≡ is_export k
+  export-by (kind.Ident s c o) = refl
+  export-by _ = refl
+
+  ambient-turned : (n : Node) → is_ambient (turned n) ≡ is_ambient n
+  ambient-turned n =
+      ap₂ (λ (e f : Bool). cond e f (is_declared (out-Node (turned n)).kind)) (ap is_export (kind-turned n) ∙ export-by (out-Node n).kind) (first-turned (λ x. is_declared (out-Node x).kind) declared-turned n)
+      ∙ ap (cond (is_export (out-Node n).kind) (if_there (slice_get (out-Node n).children 0) (λ x. is_declared (out-Node x).kind))) (declared-turned n)
+
+  item-turned : (n : Node) → item_stays (turned n) ≡ item_stays n
+  item-turned n =
+      ap₂ (λ (v a : Bool). cond (is_empty_stmt (out-Node (turned n)).kind) true (cond (belongs sort.ModuleItem (out-Node (turned n)).kind) (v && not a) true)) (valued n) (ambient-turned n)
+      ∙ ap (λ (k : Kind). cond (is_empty_stmt k) true (cond (belongs sort.ModuleItem k) (is_value n && not (is_ambient n)) true)) (kind-turned n) ∙ item-by (out-Node n).kind (is_value n) (is_ambient n)
+
+  values-turned : (cs : List Node) → map is_value (map turned cs) ≡ map is_value cs
+  values-turned [] = refl
+  values-turned (c ∷ cs) = ap₂ (λ (a : Bool) (rest : List Bool). a ∷ rest) (valued c) (values-turned cs)
+
+  value-at-turned : (i : ℕ) (n : Node) → value_at i (turned n) ≡ value_at i n
+  value-at-turned i n = ap (λ (vs : List Bool). get_or vs i false) (ap (map is_value) (children-turned n) ∙ values-turned (out-Node n).children)
+
+  member-by : (k : Kind) (n : Node) → member_stays_by (kind_with_context context_of k) (turned n) ≡ member_stays_by k n
+  unfolding member_stays_by
+  member-by (kind.Ident s c o) n = refl
+  member-by (kind.Constructor a o) n = value-at-turned 2 n
+  member-by (kind.ClassMethod m o) n = ap (λ (b : Bool). not o.is_abstract && b) (value-at-turned 1 n)
+  member-by (kind.PrivateMethod m o) n = ap (λ (b : Bool). not o.is_abstract && b) (value-at-turned 1 n)
+  member-by _ n = refl
+
+  member-turned : (n : Node) → member_stays (turned n) ≡ member_stays n
+  member-turned n = ap (λ (k : Kind). member_stays_by k (turned n)) (kind-turned n) ∙ member-by (out-Node n).kind n
+
+  specifier-by : (k : Kind) → specifier_stays (kind_with_context context_of k) ≡ specifier_stays k
+  unfolding specifier_stays
+  specifier-by (kind.Ident s c o) = refl
+  specifier-by _ = refl
+
+  pub stays-turned : (n : Node) → stays (turned n) ≡ stays n
+  unfolding stays
+  stays-turned n =
+      ap₂ (λ (a b : Bool). a && b) (ap₂ (λ (a b : Bool). a && b) (ap₂ (λ (a b : Bool). a && b) (item-turned n) (member-turned n)) (ap specifier_stays (kind-turned n) ∙ specifier-by (out-Node n).kind)) (ap not (param-turned n))
+
+  list-by : (k : Kind) → is_list (kind_with_context context_of k) ≡ is_list k
+  list-by (kind.Ident s c o) = refl
+  list-by _ = refl
+
   abbrev Same : Node → Type 0
   Same n = adds_types_alone (turned n) ≡ adds_types_alone n
 
-  all-same : (ns : List ((n : Node) × Same n)) → list_all adds_types_alone (map turned (map (λ e. e.0) ns)) ≡ list_all adds_types_alone (map (λ e. e.0) ns)
-  all-same [] = refl
-  all-same (n ∷ ns) = ap₂ (λ (a b : Bool). a && b) n.1 (all-same ns)
+  abbrev AllSame : List Node → Type 0
+  AllSame cs = (list : Bool) → staying_hold list (map turned cs) (map adds_types_alone (map turned cs)) ≡ staying_hold list cs (map adds_types_alone cs)
 
-  layer-same : (n : Node) → list_all adds_types_alone (map turned (out-Node n).children) ≡ list_all adds_types_alone (out-Node n).children → Same n
+  all-same : (ns : List ((n : Node) × Same n)) → AllSame (map (λ e. e.0) ns)
+  all-same [] list = refl
+  all-same (n ∷ ns) list = ap₂ (λ (a b : Bool). a && b) (ap₂ (λ (a b : Bool). (list && not a) || b) (stays-turned n.0) n.1) (all-same ns list)
+
+  layer-same : (n : Node) → AllSame (out-Node n).children → Same n
   layer-same n children =
-      holds-out adds_types_by (turned n)
-      ∙ ap₂ (λ (k : Kind) (cs : List Node). adds_types_by k cs && list_all adds_types_alone cs) (kind-turned n) (children-turned n)
-      ∙ ap₂ (λ (a b : Bool). a && b) (test-by (out-Node n).kind (out-Node n).children) children ∙ sym (holds-out adds_types_by n)
+      alone-out (turned n)
+      ∙ ap₂ (λ (k : Kind) (cs : List Node). adds_types_by k cs && staying_hold (is_list k) cs (map adds_types_alone cs)) (kind-turned n) (children-turned n)
+      ∙ ap₂ (λ (a b : Bool). a && b) (test-by (out-Node n).kind (out-Node n).children)
+      (ap (λ (l : Bool). staying_hold l (map turned (out-Node n).children) (map adds_types_alone (map turned (out-Node n).children))) (list-by (out-Node n).kind) ∙ children (is_list (out-Node n).kind)) ∙ sym (alone-out n)
 
   pub contexts-do-not-matter : (n : Node) → Same n
   contexts-do-not-matter = ind-Node Same (λ x y is.
-      layer-same (roll-Node x) (subst (λ (cs : List Node). list_all adds_types_alone (map turned cs) ≡ list_all adds_types_alone cs) (ap (λ (z : Node-F Node). z.children) is ∙ sym (ap (λ (z : Node-F Node). z.children) (out-roll-Node x))) (all-same y.children)))
+      layer-same (roll-Node x) (subst AllSame (ap (λ (z : Node-F Node). z.children) is ∙ sym (ap (λ (z : Node-F Node). z.children) (out-roll-Node x))) (all-same y.children)))
 
 -- so it is of a resolved tree where it is of the tree
 pub resolved-adds-types : ResolvedChangesContexts → (unresolved top left : ℕ) (tree : Node) → adds_types_alone tree ≡ true → adds_types_alone (resolved unresolved top left tree) ≡ true
 resolved-adds-types same unresolved top left tree h =
     sym (contexts-do-not-matter (λ sym ctxt. 0) (resolved unresolved top left tree)) ∙ ap adds_types_alone (same unresolved top left tree) ∙ contexts-do-not-matter (λ sym ctxt. 0) tree ∙ h
-
--- ---- namespaces
-
-ambient-by : (k : Kind) → is_lowered k ≡ false → is_ambient_namespace k ≡ false
-ambient-by (kind.TsModuleDecl d g) h = absurd (true-false refl h)
-ambient-by (kind.TsNamespaceDecl d g) h = absurd (true-false refl h)
-ambient-by _ h = refl
-
-abbrev Calm : Node → Type 0
-Calm n = adds_types_alone n ≡ true → finds is_ambient_namespace enters_all n ≡ false
-
-all-calm : (k : Kind) (ns : List ((n : Node) × Calm n)) (i : ℕ) → ((j : ℕ) (c : Node) → slice_get (map (λ e. e.0) ns) j ≡ Some c → adds_types_alone c ≡ true) → finds_from (enters_all k) i (map (finds is_ambient_namespace enters_all) (map (λ e. e.0) ns)) ≡ false
-all-calm k [] i each = refl
-all-calm k (n ∷ ns) i each = ap₂ (λ (a b : Bool). a || b) (n.1 (each 0 n.0 refl)) (all-calm k ns (suc i) (λ j c at. each (suc j) c at))
-
-layer-calm : (n : Node)
-    → ((i : ℕ) → ((j : ℕ) (c : Node) → slice_get (out-Node n).children j ≡ Some c → adds_types_alone c ≡ true) → finds_from (enters_all (out-Node n).kind) i (map (finds is_ambient_namespace enters_all) (out-Node n).children) ≡ false) → Calm n
-layer-calm n children alone =
-    fold_out-Node Bool (finds_here is_ambient_namespace enters_all) n ∙ ap₂ (λ (a b : Bool). a || b) (ambient-by (out-Node n).kind (not-lowered n alone)) (children 0 (alone-below n alone))
-
-pub calm : (n : Node) → Calm n
-calm = ind-Node Calm (λ x y is.
-    layer-calm (roll-Node x) (subst (λ (cs : List Node). (i : ℕ) → ((j : ℕ) (c : Node) → slice_get cs j ≡ Some c → adds_types_alone c ≡ true) → finds_from (enters_all (out-Node (roll-Node x)).kind) i (map (finds is_ambient_namespace enters_all) cs) ≡ false)
-    (ap (λ (z : Node-F Node). z.children) is ∙ sym (ap (λ (z : Node-F Node). z.children) (out-roll-Node x))) (all-calm (out-Node (roll-Node x)).kind y.children)))

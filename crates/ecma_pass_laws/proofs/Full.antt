@@ -28,7 +28,7 @@ use Rattle.ecma_pass_laws.specs.TypesAlone.{adds_types_alone, has_bodiless, is_r
 use Rattle.ecma_pass_laws.proofs.Asking.{is_default_export}
 use Rattle.ecma_pass_laws.proofs.ClearSeats.{module-stands}
 use Rattle.ecma_pass_laws.proofs.Clearing.{Stands, default-child, stands-below}
-use Rattle.ecma_pass_laws.proofs.Nodes.{any-at, by-children, neither, no-ambient-head, no-bodiless, not-lowered, test-here}
+use Rattle.ecma_pass_laws.proofs.Nodes.{any-at, by-children, in-no-list, neither, no-ambient-head, no-bodiless, not-lowered, test-here}
 use Rattle.ecma_pass_laws.proofs.Strays.{child-other, is_spared, item-other, module-other}
 use Rattle.ecma_pass_laws.proofs.Remaining.{all-calm-remain, children-remain, first_declared, holds_items, remains, remains_by, stays-remains}
 use Rattle.ecma_pass_laws.proofs.FullParts.{absent-full, absent-other, alive, alive-from, alive_by, children-memberless, full-here, full-of, is_full, member-by, memberless-at, native, others-calm, spared-full}
@@ -86,7 +86,7 @@ module _ (n : Node) (below : (i : ℕ) (c : Node) → slice_get (out-Node n).chi
 
   other-full : is_list k ≡ false → (i : ℕ) (c : Node) → slice_get cs i ≡ Some c → is_receiver c ≡ false → is_full (stripped c) ≡ true
   other-full l i c at other =
-      let t = stands-below n s w is i c at in
+      let t = stands-below n s w is i c at (in-no-list k c l) in
       let r = child-remains l (holds_items k) refl i c at in
       let member = member-by c (out-Node c).kind t.0.count t.0.sort (memberless-at (child_shapes k s m) i t.0 (children-memberless k s m l) t.1) (parts-have c t.0 t.2.has).0 in
       below i c at t.0 (where_in w n i) t.2 other r (alive-from c r member (child-bodied (is_default_export k) refl i c at))
@@ -102,7 +102,7 @@ module _ (n : Node) (below : (i : ℕ) (c : Node) → slice_get (out-Node n).chi
 
   item-full : is_list k ≡ true → (j : ℕ) (c : Node) → slice_get cs j ≡ Some c → stays c ≡ true → is_full (stripped c) ≡ true
   item-full l j c at st =
-      let t = stands-below n s w is j c at in
+      let t = stands-below n s w is j c at (λ listed. st) in
       let r = stays-remains c st in
       below j c at t.0 (where_in w n j) t.2 (item-other n is.alone l j c at st) r (alive-from c r (member-of c st) (child-bodied (is_default_export k) refl j c at))
 

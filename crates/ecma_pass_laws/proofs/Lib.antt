@@ -5,6 +5,7 @@ pub mod Values
 pub mod Expressions
 pub mod Strays
 pub mod Clearing
+pub mod CalmRoles
 pub mod UsualBodies
 pub mod ClearSeats
 pub mod FullParts
@@ -14,6 +15,7 @@ pub mod PlainModules
 pub mod Contexts
 pub mod Names
 pub mod Renaming
+pub mod Keeping
 pub mod Receivers
 pub mod Chain
 pub mod Counting

@@ -9,7 +9,6 @@ use Rattle.ecma_strip_fits.proofs.SortsKept.{sorts_kept}
 use Rattle.ecma_strip_laws.proofs.Sorted.{only_types_go_from_modules}
 use Rattle.ecma_strip_laws.proofs.Steps.{stripping_keeps_runs}
 use Rattle.ecma_strip_scopes.proofs.StrippedModules.{stripped-modules-tell-apart}
-use Rattle.ecma_hygiene_laws.proofs.Calming.{nothing-is-ambient}
 use Rattle.ecma_hygiene_laws.proofs.Seeing.{contexts-are-mapped}
 use Rattle.ecma_hygiene_runs.specs.Laws.{ReadingAgainKeepsRuns}
 use Rattle.ecma_hygiene_runs.specs.Plain.{PlainModulesAreResolved}
@@ -28,7 +27,6 @@ laws alike again resolves = record {
   clear = modules-are-clear;
   plain = modules-are-plain;
   tells = stripped-modules-tell-apart;
-  ambient = nothing-is-ambient;
   maps = contexts-are-mapped;
   counts = counts;
   again = again;

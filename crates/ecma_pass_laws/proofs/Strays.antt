@@ -1,5 +1,5 @@
 -- Where all that is TypeScript is types, a name `this` stands in a parameter alone, and goes with it.
-use Rattle.std.proofs.Common.{◌≡◌, ℕ, zero, suc, ◌==◌, Bool, true, false, ◌&&◌, ◌||◌, not, List, [], ◌∷◌, length, Option, Some, refl, sym, ap, ap₂, ◌∙◌, subst, slice_get}
+use Rattle.std.proofs.Common.{◌≡◌, ℕ, zero, suc, ◌==◌, Bool, true, false, ◌&&◌, ◌||◌, not, List, [], ◌∷◌, length, Some, refl, sym, ap, ap₂, ◌∙◌, subst, slice_get}
 use Rattle.std.specs.List.{list_any}
 use Rattle.ecma_kind.specs.declared.kind.Kind.{Kind}
 use Rattle.ecma_kind.specs.declared.kind.Kind.TheVariants as kind

@@ -3,10 +3,11 @@ use Rattle.std.specs.Prelude.{Bool, true, false, ◌&&◌, ◌||◌, not, List, 
 use Rattle.std.specs.List.{list_any}
 use Rattle.ecma_kind.specs.declared.kind.Kind.{Kind}
 use Rattle.ecma_kind.specs.declared.kind.Kind.TheVariants as kind
+use Rattle.ecma_tree.specs.Sorted.{is_list}
 use Rattle.ecma_tree.specs.declared.node.Node.{Node, out-Node}
-use Rattle.ecma_strip.specs.Staying.{is_declared, is_this, is_this_ident, is_this_param}
+use Rattle.ecma_strip.specs.Staying.{is_declared, is_this, is_this_ident, is_this_param, stays}
 use Rattle.ecma_strip.specs.Values.{is_value}
-use Rattle.ecma_strip_laws.specs.Usual.{holds_throughout}
+use Rattle.ecma_scope.specs.Layers.{from_leaves}
 
 -- an enum, a namespace, or `import a =`, which are lowered by other passes
 abbrev pub is_lowered : Kind → Bool
@@ -55,6 +56,14 @@ has_stray_receiver k children = list_any is_receiver children
 abbrev pub adds_types_by : Kind → List Node → Bool
 adds_types_by k children = not (is_lowered k) && (not (has_ambient_head k children) && (not (has_bodiless k children) && not (has_stray_receiver k children)))
 
--- a tree of which at most these are left for other passes once its types are gone
+-- the children, one after the other: what goes from a list is not asked
+abbrev pub staying_hold : Bool → List Node → List Bool → Bool
+staying_hold list (node ∷ nodes) (holds ∷ others) = ((list && not (stays node)) || holds) && staying_hold list nodes others
+staying_hold list _ _ = true
+
+abbrev pub alone_step : Node → List Bool → Bool
+alone_step node children = adds_types_by (out-Node node).kind (out-Node node).children && staying_hold (is_list (out-Node node).kind) (out-Node node).children children
+
+-- a tree of which at most these are left for other passes once its types are gone: each node is asked but what goes from a list, with all that it holds
 abbrev pub adds_types_alone : Node → Bool
-adds_types_alone = holds_throughout adds_types_by
+adds_types_alone = from_leaves Bool alone_step

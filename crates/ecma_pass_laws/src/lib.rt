@@ -10,7 +10,7 @@ ghost use Rattle.ecma_pass_laws.specs.Plain.{StrippedModulesArePlain};
 use ecma_hygiene_runs::{plain_modules_are_resolved, reading_again_keeps_runs};
 use ecma_parentheses::it_runs_alike;
 
-/// In a module that fits, and in which all that is TypeScript is types, it is clear what each scope declares without types.
+/// In a module that fits, and in which all that is TypeScript is types, it is clear what each scope that stays declares without types.
 pub fn modules_are_clear()
     ensures { ModulesAreClear }
 {}

@@ -1,3 +1,4 @@
+mod Walks
 mod Bodies
 mod Receivers
 mod Stripped

@@ -16,7 +16,7 @@ use Rattle.ecma_scope.specs.declared.form.Sought.{Sought}
 use Rattle.ecma_scope.specs.Layers.{from_leaves}
 use Rattle.ecma_scope.specs.Scopes.{is_ambient}
 
--- whether an item is a value: not what is a type, a function without a body, or a namespace without values
+-- whether an item is a value: not what is a type, a function without a body, a namespace without values, or an export of one of these
 unfoldable pub value_by : Kind → List Bool → Bool
 value_by kind.Absent children = false
 value_by kind.EmptyStmt children = false
@@ -34,6 +34,7 @@ value_by (kind.TsModuleDecl declare global) children = get_or children 1 false
 value_by (kind.TsNamespaceDecl declare global) children = get_or children 1 false
 value_by kind.TsModuleBlock children = get_or children 0 false
 value_by kind.ExportDecl children = get_or children 0 false
+value_by kind.ExportDefaultDecl children = get_or children 0 false
 value_by kind.List children = list_any (λ b. b) children
 value_by _ children = true
 

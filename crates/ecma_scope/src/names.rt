@@ -34,7 +34,7 @@ fn is_any_value(node: &Node) -> bool
     false
 }
 
-/// Whether an item is a value: not a type, a function without a body, or a namespace without values.
+/// Whether an item is a value: not a type, a function without a body, a namespace without values, or an export of one of these.
 #[cycle(values)]
 #[tactic(auto, using(crate::proofs::Naming::values), unfolding(crate::specs::Declarations::value_by))]
 fn is_value(node: &Node) -> bool
@@ -57,6 +57,7 @@ fn is_value(node: &Node) -> bool
         Kind::TsNamespaceDecl { .. } => is_value_at(node, 1),
         Kind::TsModuleBlock => is_value_at(node, 0),
         Kind::ExportDecl => is_value_at(node, 0),
+        Kind::ExportDefaultDecl => is_value_at(node, 0),
         Kind::List => is_any_value(node),
         _ => true,
     }

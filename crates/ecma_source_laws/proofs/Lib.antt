@@ -1,3 +1,4 @@
+pub mod Staying
 pub mod Taken
 pub mod Quiet
 pub mod Receivers

@@ -1,6 +1,6 @@
 -- In a tree that fits, and of which each form is taken, all that is TypeScript is types.
 use Rattle.std.proofs.Common.{◌≡◌, ◌∙◌, ℕ, suc, Bool, true, false, ◌&&◌, not, List, [], ◌∷◌, Some, None, map, length, refl, sym, ap, slice_get}
-use Rattle.std.specs.List.{list_all, list_any}
+use Rattle.std.specs.List.{list_any}
 use Rattle.ecma_kind.specs.declared.kind.Kind.{Kind}
 use Rattle.ecma_kind.specs.declared.kind.Kind.TheVariants as kind
 use Rattle.ecma_kind.specs.declared.shapes.Shape.{Shape}
@@ -13,16 +13,17 @@ use Rattle.ecma_rules.specs.Jumps.{first_stray}
 use Rattle.ecma_fits.specs.declared.unfit.Where.{Where}
 use Rattle.ecma_fits.specs.Fitting.{Fits, at_top, first_unfit_in, where_in}
 use Rattle.ecma_fits_laws.proofs.Walks.{neither_least}
-use Rattle.ecma_strip.specs.Staying.{is_declared}
+use Rattle.ecma_strip.specs.Staying.{is_declared, is_this_by, member_stays_by, specifier_stays, stays}
 use Rattle.ecma_strip.specs.Values.{is_value, value_by}
 use Rattle.ecma_strip.proofs.Valuing.{is_value-out}
 use Rattle.ecma_hygiene.proofs.Telling.{and-both, true-false}
 use Rattle.ecma_strip_scopes.proofs.Going.{parts-have}
-use Rattle.ecma_pass_laws.specs.TypesAlone.{adds_types_alone, adds_types_by, has_ambient_head, has_bodiless, has_stray_receiver, is_lowered, lacks_body, lacks_body_by}
+use Rattle.ecma_pass_laws.specs.TypesAlone.{adds_types_alone, has_ambient_head, has_bodiless, has_stray_receiver, is_lowered, lacks_body, lacks_body_by}
 use Rattle.ecma_pass_laws.proofs.Clearing.{fits-below}
-use Rattle.ecma_pass_laws.proofs.Nodes.{by-children, child-shape, holds-out, not-false}
+use Rattle.ecma_pass_laws.proofs.Nodes.{StaysIn, alone-made, by-children, child-shape, not-false}
 use Rattle.ecma_forms.specs.Forms.{first_untaken, has_body, is_ambient_variable, is_later, is_odd_by}
 use Rattle.ecma_source_laws.proofs.Receivers.{IsFree, child_free, no_stray}
+use Rattle.ecma_source_laws.proofs.Staying.{stays_by, stays_is}
 use Rattle.ecma_source_laws.proofs.Taken.{not_later, not_odd, taken_below}
 
 unlowered : (k : Kind) → is_later k ≡ false → is_lowered k ≡ false
@@ -106,9 +107,26 @@ no_bodiless : (k : Kind) (cs : List Node) → list_any lacks_body cs ≡ false �
 no_bodiless kind.ExportDefaultDecl cs h = refl
 no_bodiless _ cs h = h
 
-all_alone : (cs : List Node) → ((i : ℕ) (c : Node) → slice_get cs i ≡ Some c → adds_types_alone c ≡ true) → list_all adds_types_alone cs ≡ true
-all_alone [] each = refl
-all_alone (c ∷ cs) each = and-both (adds_types_alone c) (list_all adds_types_alone cs) (each 0 c refl) (all_alone cs (λ i d at. each (suc i) d at))
+-- what goes from a list is no function expression, so it lacks no body
+
+expression_stays : (c : Node) → kind_of c ≡ kind.FnExpr → stays c ≡ true
+unfolding member_stays_by specifier_stays
+expression_stays c e = stays_is c ∙ ap (λ k. stays_by k c) e ∙ ap (λ k. not (is_this_by k c)) e
+
+gone_full : (c : Node) → stays c ≡ false → lacks_body c ≡ false
+gone_full c goes = by (kind_of c) refl
+  where
+    by : (k : Kind) → kind_of c ≡ k → lacks_body_by k (is_value c) ≡ false
+    by kind.FnExpr e = absurd (true-false (expression_stays c e) goes)
+    by _ e = refl
+
+-- a child, where it has its body if it stays
+child_full : (k : Kind) (c : Node) → (StaysIn k c → lacks_body c ≡ false) → lacks_body c ≡ false
+child_full k c full = by (stays c) refl
+  where
+    by : (b : Bool) → stays c ≡ b → lacks_body c ≡ false
+    by true e = full (λ list. e)
+    by false e = gone_full c e
 
 abbrev IsAlone : Node → Type 0
 IsAlone n = (s : Shape) (w : Where) → HasShape s n → first_unfit_in n w ≡ None → IsFree n w.role → first_untaken n ≡ None → (adds_types_alone n ≡ true) × (lacks_body n ≡ false)
@@ -119,19 +137,18 @@ layer_alone n below s w has fits free taken =
     let cs = (out-Node n).children in
     let shaped = (parts-have n s has).1 in
     let odd = not_odd n taken in
-    let each : (i : ℕ) (c : Node) → slice_get cs i ≡ Some c → (adds_types_alone c ≡ true) × (lacks_body c ≡ false) =
-    λ i c at. (let shape = child-shape (child_shapes k s (length cs)) cs shaped i c at in
-    below i c at shape.0 (where_in w n i) shape.2 (fits-below w n fits i c at) (child_free n s w shaped fits (not_later n taken) free i c at) (taken_below n taken i c at)) in
+    let each : (i : ℕ) (c : Node) → slice_get cs i ≡ Some c → StaysIn k c → (adds_types_alone c ≡ true) × (lacks_body c ≡ false) =
+    λ i c at stay. (let shape = child-shape (child_shapes k s (length cs)) cs shaped i c at in
+    below i c at shape.0 (where_in w n i) shape.2 (fits-below w n fits i c at) (child_free n s w shaped fits (not_later n taken) free i c at) (taken_below n taken i c at stay)) in
     let lowered : not (is_lowered k) ≡ true = ap not (unlowered k (not_later n taken)) in
     let head : not (has_ambient_head k cs) ≡ true = ap not (no_ambient_head n s k cs refl shaped odd) in
-    let bodies : not (has_bodiless k cs) ≡ true = ap not (no_bodiless k cs (none_lacks cs (λ i c at. (each i c at).1))) in
+    let bodies : not (has_bodiless k cs) ≡ true = ap not (no_bodiless k cs (none_lacks cs (λ i c at. child_full k c (λ stay. (each i c at stay).1)))) in
     let strays : not (has_stray_receiver k cs) ≡ true = ap not (no_stray n s w shaped fits (not_later n taken) free) in
     let last : Bool = not (has_bodiless k cs) && not (has_stray_receiver k cs) in (
-      holds-out adds_types_by n
-          ∙ and-both (adds_types_by k cs) (list_all adds_types_alone cs)
+      alone-made n
           (and-both (not (is_lowered k)) (not (has_ambient_head k cs) && last) lowered
           (and-both (not (has_ambient_head k cs)) last head (and-both (not (has_bodiless k cs)) (not (has_stray_receiver k cs)) bodies strays)))
-          (all_alone cs (λ i c at. (each i c at).0)),
+          (λ i c at stay. (each i c at stay).0),
       full_by n s k cs refl shaped odd (is_value-out n),
     )
 

@@ -8,4 +8,5 @@ mod stripper;
 mod values;
 
 pub use laws::{no_types_are_left, sorts_are_kept, trees_without_types_stay};
+pub use staying::stays;
 pub use stripper::{TypeStripper, strip_type};

@@ -129,9 +129,9 @@ fn specifier_stays(kind: &Kind) -> bool
     }
 }
 
-/// Whether a node stays in a list in which it stands.
+/// Whether a node stays in a list in which it stands, when the types of the list are taken out.
 #[tactic(auto, unfolding(crate::specs::Staying::stays))]
-pub(crate) fn stays(node: &Node) -> bool
+pub fn stays(node: &Node) -> bool
     ensures { result ≡ stays node.now }
 {
     item_stays(node) && member_stays(node) && specifier_stays(&node.kind) && !is_this_param(node)

@@ -22,7 +22,7 @@ use Rattle.ecma_hygiene.proofs.Telling.{and-left, and-right, true-false}
 use Rattle.ecma_hygiene_laws.specs.DeclaredIds.{DeclaredId, id_here, ids_at, ids_declared, ids_in}
 use Rattle.ecma_hygiene_laws.proofs.Directly.{ids-out}
 use Rattle.ecma_hygiene_laws.proofs.Parts.{children-of, kind-of}
-use Rattle.ecma_strip_scopes.specs.Going.{is_list_part, is_namespace}
+use Rattle.ecma_strip_scopes.specs.Going.{is_list_part}
 use Rattle.ecma_strip_scopes.specs.Standing.{WhatStaysIsDeclared, bodies_stay, clear_at, clear_here, clear_in, clear_step, has_value, is_clear, is_none, same}
 use Rattle.ecma_strip_scopes.proofs.Exporting.{what-goes-declares-nothing}
 use Rattle.ecma_strip_scopes.proofs.Going.{parts-have}
@@ -84,15 +84,6 @@ plain-declares k ns shape have stay into none = refl
 
 -- ---- children
 
-nor-left : (a b : Bool) → not (a || b) ≡ true → a ≡ false
-nor-left true b h = absurd (true-false h refl)
-nor-left false b h = refl
-
-nor-right : (a b : Bool) → not (a || b) ≡ true → b ≡ false
-nor-right true b h = absurd (true-false h refl)
-nor-right false true h = absurd (true-false h refl)
-nor-right false false h = refl
-
 list-part : (p : Part) (s v : Bool) (q : Sought) → sought_by p s v kind.List 0 ≡ Some q → is_list_part q.part ≡ true
 unfolding in_scope in_item in_default in_member in_var in_name
 list-part p s v q h = by p h
@@ -145,9 +136,9 @@ same-by true true false h is = absurd (true-false h refl)
 same-by true false true h is = absurd (true-false h refl)
 same-by true false false h is = refl
 
-receivers-go : (b : Bool) (ds : List DeclaredId) → lasting true ds ≡ [] → (not b && true) ≡ false → lasting b ds ≡ []
+receivers-go : (b : Bool) (ds : List DeclaredId) → lasting true ds ≡ [] → (b || false) ≡ true → lasting b ds ≡ []
 receivers-go true ds none may = none
-receivers-go false ds none may = absurd (true-false refl may)
+receivers-go false ds none may = absurd (true-false may refl)
 
 -- ---- with `t` parameters `this` may go
 
@@ -172,18 +163,18 @@ module _ (t : Bool) where
       ap₂ (λ (a b : List DeclaredId). a ++ b) (at-declares n s have.0 (into i) (and-left here rest clear)) (below ns shapes have.1 into (suc i) (and-right here rest clear))
       ∙ sym (lasting-append t (ids_at (into i) (ids_declared n.0)) (ids_in into (suc i) (map ids_declared (nodes ns))))
 
-  gone-at : (n : Node) (shape : Shape) → HasShape shape n → stays n ≡ false → not ((not t && is_this_param n) || is_namespace n) ≡ true → (o : Option Sought) → ((q : Sought) → o ≡ Some q → is_list_part q.part ≡ true) → lasting t (ids_at o (ids_declared n)) ≡ []
+  gone-at : (n : Node) (shape : Shape) → HasShape shape n → stays n ≡ false → (t || not (is_this_param n)) ≡ true → (o : Option Sought) → ((q : Sought) → o ≡ Some q → is_list_part q.part ≡ true) → lasting t (ids_at o (ids_declared n)) ≡ []
   gone-at n shape has goes clear (Some q) part_of =
-      gone-by (is_this_param n) refl (nor-left (not t && is_this_param n) (is_namespace n) clear)
+      gone-by (is_this_param n) refl clear
     where
-      gone-by : (b : Bool) → is_this_param n ≡ b → (not t && is_this_param n) ≡ false → lasting t (ids_declared n q) ≡ []
-      gone-by true this may = receivers-go t (ids_declared n q) (param-goes n this q) (sym (ap (λ (b : Bool). not t && b) this) ∙ may)
-      gone-by false this may = none-lasts t (ids_declared n q) (what-goes-declares-nothing shape n q has goes this (nor-right (not t && is_this_param n) (is_namespace n) clear) (part_of q refl))
+      gone-by : (b : Bool) → is_this_param n ≡ b → (t || not b) ≡ true → lasting t (ids_declared n q) ≡ []
+      gone-by true this may = receivers-go t (ids_declared n q) (param-goes n this q) may
+      gone-by false this may = none-lasts t (ids_declared n q) (what-goes-declares-nothing shape n q has goes this (part_of q refl))
   gone-at n shape has goes clear None part_of = refl
 
   module _ (shape : Shape) (into to : ℕ → Option Sought) (o : Option Sought) (is : (j : ℕ) → into j ≡ o) (is_to : (j : ℕ) → to j ≡ o) (part_of : (q : Sought) → o ≡ Some q → is_list_part q.part ≡ true) where
     item-by : (n : (n : Node) × Declares n) → HasShape shape n.0 → (b : Bool) → stays n.0 ≡ b → (others : List Node) (rest : List DeclaredId) (i j : ℕ)
-        → cond (not b) (not ((not t && is_this_param n.0) || is_namespace n.0)) (clear_at (into i) (is_clear t n.0)) ≡ true
+        → cond (not b) (t || not (is_this_param n.0)) (clear_at (into i) (is_clear t n.0)) ≡ true
         → ((l : ℕ) → ids_in to l (map ids_declared (map stripped others)) ≡ lasting t rest)
         → ids_in to j (map ids_declared (map stripped (cond b (n.0 ∷ others) others))) ≡ lasting t (ids_at (into i) (ids_declared n.0) ++ rest)
     item-by n has true st others rest i j clear rec =
@@ -198,7 +189,7 @@ module _ (t : Bool) where
         → ids_in to j (map ids_declared (map stripped (filter stays (nodes ns)))) ≡ lasting t (ids_in into i (map ids_declared (nodes ns)))
     items [] have i j clear = refl
     items (n ∷ ns) have i j clear =
-        let here : Bool = cond (not (stays n.0)) (not ((not t && is_this_param n.0) || is_namespace n.0)) (clear_at (into i) (is_clear t n.0)) in
+        let here : Bool = cond (not (stays n.0)) (t || not (is_this_param n.0)) (clear_at (into i) (is_clear t n.0)) in
         let rest : Bool = clear_in t true into (suc i) (nodes ns) (map (is_clear t) (nodes ns)) in
         item-by n have.0 (stays n.0) refl (filter stays (nodes ns)) (ids_in into (suc i) (map ids_declared (nodes ns))) i j (and-left here rest clear) (λ l. items ns have.1 (suc i) l (and-right here rest clear))
 

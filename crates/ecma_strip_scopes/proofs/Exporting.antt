@@ -18,9 +18,10 @@ use Rattle.ecma_strip.proofs.Valuing as valuing
 use Rattle.ecma_hygiene.proofs.Telling.{true-false}
 use Rattle.ecma_hygiene_laws.specs.DeclaredIds.{DeclaredId, id_here, ids_at, ids_declared, ids_in}
 use Rattle.ecma_hygiene_laws.proofs.Directly.{ids-out}
-use Rattle.ecma_strip_scopes.specs.Going.{WhatGoesDeclaresNothing, is_list_part, is_namespace, is_namespace_kind}
-use Rattle.ecma_strip_scopes.proofs.Gone.{below-gone, gone-at, kept, none-append, none-some}
-use Rattle.ecma_strip_scopes.proofs.Going.{and-none, apart, decl-gone, decl-item, is_exporting, is_ident, is_named, is_silent, member-silent, named-value, no-id, no-scope, only, parts-have, silent-by, specifier-by}
+use Rattle.ecma_strip_scopes.specs.Going.{WhatGoesDeclaresNothing, is_list_part}
+use Rattle.ecma_hygiene_laws.proofs.Gone.{below-gone, gone-at, kept, none-append, none-some}
+use Rattle.ecma_strip_scopes.proofs.Going.{and-none, apart, decl-gone, decl-item, is_exporting, is_ident, is_silent, member-silent, no-id, no-scope, only, parts-have, silent-by, specifier-by}
+use Rattle.ecma_strip_scopes.proofs.Values.{values-agree}
 
 -- ---- the default export
 
@@ -28,20 +29,17 @@ default-here : (s : Bool) (k : Kind) → id_here (record { part = part.Default; 
 default-here s (kind.Ident t c o) = refl
 default-here s _ = refl
 
-default-by : (s v : Bool) (k : Kind) (vs : List Bool) (i : ℕ) (q : Sought) → strip_by k vs ≡ false → (k ≡ kind.FnExpr → v ≡ false) → in_default s v k i ≡ Some q → q.stays ≡ false
+default-by : (s v : Bool) (k : Kind) (vs : List Bool) (i : ℕ) (q : Sought) → strip_by k vs ≡ false → v ≡ false → in_default s v k i ≡ Some q → q.stays ≡ false
 unfolding strip_by in_default
-default-by s v kind.FnExpr vs i q val named h = gone-at (i == 0) _ _ q (and-none s v (named refl)) h
-default-by s v kind.ClassExpr vs i q val named h = absurd (true-false refl val)
-default-by s v _ vs i q val named h = none-some q h
+default-by s v kind.FnExpr vs i q val not_v h = gone-at (i == 0) _ _ q (and-none s v not_v) h
+default-by s v kind.ClassExpr vs i q val not_v h = absurd (true-false refl val)
+default-by s v _ vs i q val not_v h = none-some q h
 
-default-gone : (d : Node) (shape : Shape) (s : Bool) → HasShape shape d → strip_value d ≡ false → kept (ids_declared d (record { part = part.Default; stays = s })) ≡ []
+default-gone : (d : Node) (s : Bool) → strip_value d ≡ false → kept (ids_declared d (record { part = part.Default; stays = s })) ≡ []
 unfolding sought_in
-default-gone d shape s has val =
+default-gone d s val =
     below-gone d (record { part = part.Default; stays = s }) (default-here s (out-Node d).kind)
-    (λ j next h. default-by s (scope_value d) (out-Node d).kind (map strip_value (out-Node d).children) j next (sym (valuing.is_value-out d) ∙ val) (λ is. named-value d shape has (named (out-Node d).kind is) val) h)
-  where
-    named : (k : Kind) → k ≡ kind.FnExpr → is_named k ≡ true
-    named k is = ap is_named is
+    (λ j next h. default-by s (scope_value d) (out-Node d).kind (map strip_value (out-Node d).children) j next (sym (valuing.is_value-out d) ∙ val) (values-agree d ∙ val) h)
 
 -- ---- what an export declares, its declaration does
 
@@ -81,29 +79,23 @@ Goes n = (strip_value n ≡ false) ⊎ (is_ambient n ≡ true)
 ambient-kind : (n : Node) → is_export (out-Node n).kind ≡ false → is_ambient n ≡ true → is_declared (out-Node n).kind ≡ true
 ambient-kind n other h = sym (ap (λ (b : Bool). cond b (if_there (slice_get (out-Node n).children 0) (λ x. is_declared (out-Node x).kind)) (is_declared (out-Node n).kind)) other) ∙ h
 
-namespace-kind : (n : Node) → is_export (out-Node n).kind ≡ false → is_namespace n ≡ false → is_namespace_kind (out-Node n).kind ≡ false
-namespace-kind n other h = sym (ap (λ (b : Bool). cond b (if_there (slice_get (out-Node n).children 0) (λ x. is_namespace_kind (out-Node x).kind)) (is_namespace_kind (out-Node n).kind)) other) ∙ h
-
-export-gone : (n d : Node) (q : Sought) → (out-Node n).kind ≡ kind.ExportDecl → (out-Node n).children ≡ d ∷ [] → HasShape (one sort.Decl) d → is_list_part q.part ≡ true → is_namespace n ≡ false → Goes n → kept (ids_declared n q) ≡ []
+export-gone : (n d : Node) (q : Sought) → (out-Node n).kind ≡ kind.ExportDecl → (out-Node n).children ≡ d ∷ [] → HasShape (one sort.Decl) d → is_list_part q.part ≡ true → Goes n → kept (ids_declared n q) ≡ []
 unfolding strip_by
-export-gone n d q is are has list space goes =
+export-gone n d q is are has list goes =
     ap kept (one-child n d kind.ExportDecl q is refl are)
-    ∙ export-at q.part q.stays (scope_value n) d list (λ next part_list. decl-gone d (one sort.Decl) next has part_list item.0 item.1 here (reason goes))
+    ∙ export-at q.part q.stays (scope_value n) d list (λ next part_list. decl-gone d next part_list item.0 item.1 (reason goes))
   where
     item : (belongs sort.ModuleItem (out-Node d).kind ≡ true) × (is_exporting (out-Node d).kind ≡ false)
     item = decl-item (out-Node d).kind (parts-have d (one sort.Decl) has).0
-
-    here : is_namespace_kind (out-Node d).kind ≡ false
-    here = sym (λ j. cond (is_export (is j)) (if_there (slice_get (are j) 0) (λ x. is_namespace_kind (out-Node x).kind)) (is_namespace_kind (is j))) ∙ space
 
     reason : Goes n → (strip_value d ≡ false) ⊎ (is_declared (out-Node d).kind ≡ true)
     reason (inl val) = inl (sym (valuing.is_value-out n ∙ (λ j. strip_by (is j) (map strip_value (are j)))) ∙ val)
     reason (inr ambient) = inr (sym (λ j. cond (is_export (is j)) (if_there (slice_get (are j) 0) (λ x. is_declared (out-Node x).kind)) (is_declared (is j))) ∙ ambient)
 
-default-export-gone : (n d : Node) (q : Sought) → (out-Node n).kind ≡ kind.ExportDefaultDecl → (out-Node n).children ≡ d ∷ [] → HasShape (one sort.DefaultDecl) d → is_list_part q.part ≡ true → Goes n → kept (ids_declared n q) ≡ []
+default-export-gone : (n d : Node) (q : Sought) → (out-Node n).kind ≡ kind.ExportDefaultDecl → (out-Node n).children ≡ d ∷ [] → is_list_part q.part ≡ true → Goes n → kept (ids_declared n q) ≡ []
 unfolding strip_by is_declared
-default-export-gone n d q is are has list goes =
-    ap kept (one-child n d kind.ExportDefaultDecl q is refl are) ∙ default-at q.part q.stays (scope_value n) d list (default-gone d (one sort.DefaultDecl) q.stays has (reason goes))
+default-export-gone n d q is are list goes =
+    ap kept (one-child n d kind.ExportDefaultDecl q is refl are) ∙ default-at q.part q.stays (scope_value n) d list (default-gone d q.stays (reason goes))
   where
     reason : Goes n → strip_value d ≡ false
     reason (inl val) = sym (valuing.is_value-out n ∙ (λ j. strip_by (is j) (map strip_value (are j)))) ∙ val
@@ -121,15 +113,15 @@ exports kind.ExportDecl = declaration refl
 exports kind.ExportDefaultDecl = default refl
 exports _ = other refl refl
 
-item-gone : (n : Node) (shape : Shape) (q : Sought) → HasShape shape n → is_list_part q.part ≡ true → is_namespace n ≡ false → belongs sort.ModuleItem (out-Node n).kind ≡ true → Goes n → Exports (out-Node n).kind → kept (ids_declared n q) ≡ []
-item-gone n shape q has list space item goes (declaration is) =
+item-gone : (n : Node) (shape : Shape) (q : Sought) → HasShape shape n → is_list_part q.part ≡ true → belongs sort.ModuleItem (out-Node n).kind ≡ true → Goes n → Exports (out-Node n).kind → kept (ids_declared n q) ≡ []
+item-gone n shape q has list item goes (declaration is) =
     let x = only (one sort.Decl) (out-Node n).children (subst (λ (k : Kind). HaveShapes (child_shapes k shape (length (out-Node n).children)) (out-Node n).children) is (parts-have n shape has).1) in
-    export-gone n x.0 q is x.1 x.2 list space goes
-item-gone n shape q has list space item goes (default is) =
+    export-gone n x.0 q is x.1 x.2 list goes
+item-gone n shape q has list item goes (default is) =
     let x = only (one sort.DefaultDecl) (out-Node n).children (subst (λ (k : Kind). HaveShapes (child_shapes k shape (length (out-Node n).children)) (out-Node n).children) is (parts-have n shape has).1) in
-    default-export-gone n x.0 q is x.1 x.2 list goes
-item-gone n shape q has list space item goes (other exporting export) =
-    decl-gone n shape q has list item exporting (namespace-kind n export space) (reason goes)
+    default-export-gone n x.0 q is x.1 list goes
+item-gone n shape q has list item goes (other exporting export) =
+    decl-gone n q list item exporting (reason goes)
   where
     reason : Goes n → (strip_value n ≡ false) ⊎ (is_declared (out-Node n).kind ≡ true)
     reason (inl val) = inl val
@@ -159,9 +151,9 @@ specifier-ident s c o = refl
 
 pub what-goes-declares-nothing : WhatGoesDeclaresNothing
 unfolding stays sought_in
-what-goes-declares-nothing shape n q has goes this space list =
+what-goes-declares-nothing shape n q has goes this list =
     elim (reasons (item_stays n) (member_stays n) (specifier_stays (out-Node n).kind) (not (is_this_param n)) (ap not this) goes) [
-      | inl item ↦ (let why = item-reasons (is_empty_stmt (out-Node n).kind) (belongs sort.ModuleItem (out-Node n).kind) (strip_value n) (is_ambient n) item in item-gone n shape q has list space why.0 why.1 (exports (out-Node n).kind))
+      | inl item ↦ (let why = item-reasons (is_empty_stmt (out-Node n).kind) (belongs sort.ModuleItem (out-Node n).kind) (strip_value n) (is_ambient n) item in item-gone n shape q has list why.0 why.1 (exports (out-Node n).kind))
       | inr rest ↦ elim rest [
         | inl member ↦ (let silent = member-silent (out-Node n).kind n member in below-gone n q (no-id q (out-Node n).kind (silent-ident (out-Node n).kind silent)) (λ j next h. silent-by q.part q.stays (scope_value n) (out-Node n).kind j next list silent h))
         | inr specifier ↦ below-gone n q (no-id q (out-Node n).kind (apart (λ (z : Kind). not (specifier_stays z)) (out-Node n).kind specifier-ident (ap not specifier)))

@@ -1,5 +1,5 @@
 -- What goes with the types of a tree declares no value that stays.
-use Rattle.std.proofs.Common.{◌≡◌, ◌⊎◌, inl, inr, ℕ, ◌==◌, Bool, true, false, ◌&&◌, not, List, [], ◌∷◌, map, length, Some, None, refl, sym, ap, ◌∙◌, subst}
+use Rattle.std.proofs.Common.{◌≡◌, ◌⊎◌, inl, inr, ℕ, ◌==◌, Bool, true, false, ◌&&◌, not, cond, List, [], ◌∷◌, map, length, Option, Some, None, refl, sym, ap, ◌∙◌, subst}
 use Rattle.ecma_kind.specs.Sorts.{belongs}
 use Rattle.ecma_kind.specs.declared.kind.Kind.{Kind}
 use Rattle.ecma_kind.specs.declared.kind.Kind.TheVariants as kind
@@ -7,7 +7,7 @@ use Rattle.ecma_kind.specs.declared.operators.VarDeclKind.TheVariants as var_kin
 use Rattle.ecma_kind.specs.declared.shapes.Shape.{Shape}
 use Rattle.ecma_kind.specs.declared.shapes.Sort.TheVariants as sort
 use Rattle.ecma_tree.specs.Laws.{HaveShapes}
-use Rattle.ecma_tree.specs.Sorted.{HasShape, allows, child_shapes, maybe, one}
+use Rattle.ecma_tree.specs.Sorted.{HasShape, allows, child_shapes}
 use Rattle.ecma_tree.specs.declared.node.Node.{Node, out-Node}
 use Rattle.ecma_tree.specs.declared.node.Node.TheViews.{roll-out-Node}
 use Rattle.ecma_tree.proofs.ShapeLaws.{node_has_shape}
@@ -15,15 +15,15 @@ use Rattle.ecma_scope.specs.declared.form.Form.{Form}
 use Rattle.ecma_scope.specs.declared.form.Part.{Part}
 use Rattle.ecma_scope.specs.declared.form.Part.TheVariants as part
 use Rattle.ecma_scope.specs.declared.form.Sought.{Sought}
-use Rattle.ecma_scope.specs.Declarations.{in_default, in_item, in_member, in_name, in_var, is_value as scope_value, sought_by, sought_in, value_by as scope_by}
-use Rattle.ecma_scope.proofs.Naming as naming
+use Rattle.ecma_scope.specs.Declarations.{in_default, in_item, in_member, in_name, in_var, is_value as scope_value, sought_by, sought_in}
 use Rattle.ecma_strip.specs.Staying.{is_declared, member_stays_by, specifier_stays}
 use Rattle.ecma_strip.specs.Values.{is_value as strip_value, value_by as strip_by}
 use Rattle.ecma_strip.proofs.Valuing as valuing
 use Rattle.ecma_hygiene.proofs.Telling.{true-false}
 use Rattle.ecma_hygiene_laws.specs.DeclaredIds.{id_here, ids_declared}
-use Rattle.ecma_strip_scopes.specs.Going.{is_list_part, is_namespace_kind}
-use Rattle.ecma_strip_scopes.proofs.Gone.{below-gone, gone-at, gone-both, gone-some, kept, none-some}
+use Rattle.ecma_strip_scopes.specs.Going.{is_list_part}
+use Rattle.ecma_hygiene_laws.proofs.Gone.{below-gone, gone-at, gone-both, gone-some, kept, none-some}
+use Rattle.ecma_strip_scopes.proofs.Values.{values-agree}
 
 pub and-none : (s x : Bool) → x ≡ false → (s && x) ≡ false
 and-none true x h = h
@@ -39,56 +39,11 @@ only shape (c ∷ []) h = (c, refl, h.0)
 only shape [] h = absurd h
 only shape (c ∷ d ∷ cs) h = absurd h.1
 
--- ---- values, as scopes and as stripping have them
-
-body-by : (k : Kind) (vs ws : List Bool) → allows (maybe sort.BlockStmt) k ≡ true → scope_by k vs ≡ strip_by k ws
-unfolding scope_by strip_by
-body-by kind.Absent vs ws a = refl
-body-by kind.BlockStmt vs ws a = refl
-body-by _ vs ws a = absurd (true-false a refl)
-
-body-values : (b : Node) → HasShape (maybe sort.BlockStmt) b → scope_value b ≡ strip_value b
-body-values b h =
-    naming.is_value-out b ∙ body-by (out-Node b).kind (map scope_value (out-Node b).children) (map strip_value (out-Node b).children) (parts-have b (maybe sort.BlockStmt) h).0 ∙ sym (valuing.is_value-out b)
-
-function-by : (k : Kind) (cs : List Node) → allows (one sort.Function) k ≡ true → HaveShapes (child_shapes k (one sort.Function) (length cs)) cs → scope_by k (map scope_value cs) ≡ strip_by k (map strip_value cs)
-unfolding scope_by strip_by
-function-by (kind.Function g a) (p ∷ b ∷ t ∷ r ∷ []) is have = body-values b have.1.0
-function-by (kind.Function g a) [] is have = absurd have
-function-by (kind.Function g a) (p ∷ []) is have = absurd have.1
-function-by (kind.Function g a) (p ∷ b ∷ []) is have = absurd have.1.1
-function-by (kind.Function g a) (p ∷ b ∷ t ∷ []) is have = absurd have.1.1.1
-function-by (kind.Function g a) (p ∷ b ∷ t ∷ r ∷ u ∷ others) is have = absurd have.1.1.1.1
-function-by _ cs is have = absurd (true-false is refl)
-
-function-values : (f : Node) → HasShape (one sort.Function) f → scope_value f ≡ strip_value f
-function-values f h =
-    let parts = parts-have f (one sort.Function) h in
-    naming.is_value-out f ∙ function-by (out-Node f).kind (out-Node f).children parts.0 parts.1 ∙ sym (valuing.is_value-out f)
-
 -- a function with a name
 abbrev pub is_named : Kind → Bool
 is_named (kind.FnDecl declare) = true
 is_named kind.FnExpr = true
 is_named _ = false
-
-named-by : (k : Kind) (shape : Shape) (cs : List Node) → is_named k ≡ true → HaveShapes (child_shapes k shape (length cs)) cs → scope_by k (map scope_value cs) ≡ strip_by k (map strip_value cs)
-unfolding scope_by strip_by
-named-by (kind.FnDecl d) shape (i ∷ f ∷ []) is have = function-values f have.1.0
-named-by (kind.FnDecl d) shape [] is have = absurd have
-named-by (kind.FnDecl d) shape (i ∷ []) is have = absurd have.1
-named-by (kind.FnDecl d) shape (i ∷ f ∷ g ∷ others) is have = absurd have.1.1
-named-by kind.FnExpr shape (i ∷ f ∷ []) is have = function-values f have.1.0
-named-by kind.FnExpr shape [] is have = absurd have
-named-by kind.FnExpr shape (i ∷ []) is have = absurd have.1
-named-by kind.FnExpr shape (i ∷ f ∷ g ∷ others) is have = absurd have.1.1
-named-by _ shape cs is have = absurd (true-false is refl)
-
-pub named-values : (n : Node) (shape : Shape) → HasShape shape n → is_named (out-Node n).kind ≡ true → scope_value n ≡ strip_value n
-named-values n shape h is = naming.is_value-out n ∙ named-by (out-Node n).kind shape (out-Node n).children is (parts-have n shape h).1 ∙ sym (valuing.is_value-out n)
-
-pub named-value : (n : Node) (shape : Shape) → HasShape shape n → is_named (out-Node n).kind ≡ true → strip_value n ≡ false → scope_value n ≡ false
-named-value n shape h is val = named-values n shape h is ∙ val
 
 -- ---- what is written `declare`
 
@@ -121,29 +76,33 @@ is_exporting kind.ExportDecl = true
 is_exporting kind.ExportDefaultDecl = true
 is_exporting _ = false
 
-valueless-item : (s v : Bool) (k : Kind) (vs : List Bool) (i : ℕ) (q : Sought) → belongs sort.ModuleItem k ≡ true → strip_by k vs ≡ false → (is_named k ≡ true → v ≡ false) → is_namespace_kind k ≡ false → is_exporting k ≡ false
+none-unless : {A : Type 0} (v : Bool) (o : Option Sought) (q : Sought) → v ≡ false → cond v o None ≡ Some q → A
+none-unless true o q is h = absurd (true-false refl is)
+none-unless false o q is h = none-some q h
+
+valueless-item : (s v : Bool) (k : Kind) (vs : List Bool) (i : ℕ) (q : Sought) → belongs sort.ModuleItem k ≡ true → strip_by k vs ≡ false → v ≡ false → is_exporting k ≡ false
     → in_item s v k i ≡ Some q → q.stays ≡ false
 unfolding strip_by in_item
-valueless-item s v (kind.ImportDecl t) vs i q item val named space other h = gone-at (i == 0) _ _ q (and-none s (not t) val) h
-valueless-item s v (kind.TsImportEqualsDecl e t) vs i q item val named space other h = gone-at (i == 0) _ _ q (and-none s (not t) val) h
-valueless-item s v (kind.FnDecl d) vs i q item val named space other h = gone-at (i == 0) _ _ q (and-none s (not d && v) (and-none (not d) v (named refl))) h
-valueless-item s v (kind.TsModuleDecl d false) vs i q item val named space other h = gone-both v (i == 0) _ _ q (and-none s (not d) space) h
-valueless-item s v (kind.TsModuleDecl d true) vs i q item val named space other h = none-some q h
-valueless-item s v kind.ExportDecl vs i q item val named space other h = absurd (true-false refl other)
-valueless-item s v kind.ExportDefaultDecl vs i q item val named space other h = absurd (true-false refl other)
-valueless-item s v (kind.TsInterfaceDecl d) vs i q item val named space other h = none-some q h
-valueless-item s v (kind.TsTypeAliasDecl d) vs i q item val named space other h = none-some q h
-valueless-item s v kind.TsNamespaceExportDecl vs i q item val named space other h = none-some q h
-valueless-item s v (kind.NamedExport t) vs i q item val named space other h = none-some q h
-valueless-item s v (kind.ExportAll t) vs i q item val named space other h = none-some q h
-valueless-item s v kind.EmptyStmt vs i q item val named space other h = none-some q h
-valueless-item s v kind.Absent vs i q item val named space other h = none-some q h
-valueless-item s v kind.FnExpr vs i q item val named space other h = none-some q h
-valueless-item s v (kind.Function g a) vs i q item val named space other h = none-some q h
-valueless-item s v (kind.TsNamespaceDecl d g) vs i q item val named space other h = none-some q h
-valueless-item s v kind.TsModuleBlock vs i q item val named space other h = none-some q h
-valueless-item s v kind.List vs i q item val named space other h = absurd (true-false item refl)
-valueless-item s v _ vs i q item val named space other h = absurd (true-false refl val)
+valueless-item s v (kind.ImportDecl t) vs i q item val not_v other h = gone-at (i == 0) _ _ q (and-none s (not t) val) h
+valueless-item s v (kind.TsImportEqualsDecl e t) vs i q item val not_v other h = gone-at (i == 0) _ _ q (and-none s (not t) val) h
+valueless-item s v (kind.FnDecl d) vs i q item val not_v other h = gone-at (i == 0) _ _ q (and-none s (not d && v) (and-none (not d) v not_v)) h
+valueless-item s v (kind.TsModuleDecl d false) vs i q item val not_v other h = none-unless v _ q not_v h
+valueless-item s v (kind.TsModuleDecl d true) vs i q item val not_v other h = none-some q h
+valueless-item s v kind.ExportDecl vs i q item val not_v other h = absurd (true-false refl other)
+valueless-item s v kind.ExportDefaultDecl vs i q item val not_v other h = absurd (true-false refl other)
+valueless-item s v (kind.TsInterfaceDecl d) vs i q item val not_v other h = none-some q h
+valueless-item s v (kind.TsTypeAliasDecl d) vs i q item val not_v other h = none-some q h
+valueless-item s v kind.TsNamespaceExportDecl vs i q item val not_v other h = none-some q h
+valueless-item s v (kind.NamedExport t) vs i q item val not_v other h = none-some q h
+valueless-item s v (kind.ExportAll t) vs i q item val not_v other h = none-some q h
+valueless-item s v kind.EmptyStmt vs i q item val not_v other h = none-some q h
+valueless-item s v kind.Absent vs i q item val not_v other h = none-some q h
+valueless-item s v kind.FnExpr vs i q item val not_v other h = none-some q h
+valueless-item s v (kind.Function g a) vs i q item val not_v other h = none-some q h
+valueless-item s v (kind.TsNamespaceDecl d g) vs i q item val not_v other h = none-some q h
+valueless-item s v kind.TsModuleBlock vs i q item val not_v other h = none-some q h
+valueless-item s v kind.List vs i q item val not_v other h = absurd (true-false item refl)
+valueless-item s v _ vs i q item val not_v other h = absurd (true-false refl val)
 
 valueless-var : (s : Bool) (k : Kind) (vs : List Bool) (q : Sought) → belongs sort.ModuleItem k ≡ true → strip_by k vs ≡ false → is_exporting k ≡ false → in_var s k ≡ Some q → q.stays ≡ false
 unfolding strip_by in_var
@@ -201,14 +160,14 @@ declared-by (part.Name f) s v k i q list item is h = item-name f s k i q item h
 declared-by part.Scope s v k i q list item is h = no-scope list
 declared-by part.Default s v k i q list item is h = no-scope list
 
-valueless-by : (p : Part) (s v : Bool) (k : Kind) (vs : List Bool) (i : ℕ) (q : Sought) → is_list_part p ≡ true → belongs sort.ModuleItem k ≡ true → strip_by k vs ≡ false → (is_named k ≡ true → v ≡ false) → is_namespace_kind k ≡ false
-    → is_exporting k ≡ false → sought_by p s v k i ≡ Some q → q.stays ≡ false
-valueless-by part.Item s v k vs i q list item val named space other h = valueless-item s v k vs i q item val named space other h
-valueless-by part.Var s v k vs i q list item val named space other h = valueless-var s k vs q item val other h
-valueless-by part.Member s v k vs i q list item val named space other h = item-member s k i q item h
-valueless-by (part.Name f) s v k vs i q list item val named space other h = item-name f s k i q item h
-valueless-by part.Scope s v k vs i q list item val named space other h = no-scope list
-valueless-by part.Default s v k vs i q list item val named space other h = no-scope list
+valueless-by : (p : Part) (s v : Bool) (k : Kind) (vs : List Bool) (i : ℕ) (q : Sought) → is_list_part p ≡ true → belongs sort.ModuleItem k ≡ true → strip_by k vs ≡ false → v ≡ false → is_exporting k ≡ false
+    → sought_by p s v k i ≡ Some q → q.stays ≡ false
+valueless-by part.Item s v k vs i q list item val not_v other h = valueless-item s v k vs i q item val not_v other h
+valueless-by part.Var s v k vs i q list item val not_v other h = valueless-var s k vs q item val other h
+valueless-by part.Member s v k vs i q list item val not_v other h = item-member s k i q item h
+valueless-by (part.Name f) s v k vs i q list item val not_v other h = item-name f s k i q item h
+valueless-by part.Scope s v k vs i q list item val not_v other h = no-scope list
+valueless-by part.Default s v k vs i q list item val not_v other h = no-scope list
 
 -- ---- members of classes and specifiers
 
@@ -282,13 +241,13 @@ apart test _ other h is = true-false is refl
 
 -- ---- declarations
 
-pub decl-gone : (n : Node) (shape : Shape) (q : Sought) → HasShape shape n → is_list_part q.part ≡ true → belongs sort.ModuleItem (out-Node n).kind ≡ true → is_exporting (out-Node n).kind ≡ false → is_namespace_kind (out-Node n).kind ≡ false
-    → (strip_value n ≡ false) ⊎ (is_declared (out-Node n).kind ≡ true) → kept (ids_declared n q) ≡ []
+pub decl-gone : (n : Node) (q : Sought) → is_list_part q.part ≡ true → belongs sort.ModuleItem (out-Node n).kind ≡ true → is_exporting (out-Node n).kind ≡ false → (strip_value n ≡ false) ⊎ (is_declared (out-Node n).kind ≡ true)
+    → kept (ids_declared n q) ≡ []
 unfolding sought_in
-decl-gone n shape q has list item other space (inl val) =
+decl-gone n q list item other (inl val) =
     below-gone n q (no-id q (out-Node n).kind (apart (belongs sort.ModuleItem) (out-Node n).kind (λ s c o. refl) item))
-    (λ j next h. valueless-by q.part q.stays (scope_value n) (out-Node n).kind (map strip_value (out-Node n).children) j next list item (sym (valuing.is_value-out n) ∙ val) (λ named. named-value n shape has named val) space other h)
-decl-gone n shape q has list item other space (inr is) =
+    (λ j next h. valueless-by q.part q.stays (scope_value n) (out-Node n).kind (map strip_value (out-Node n).children) j next list item (sym (valuing.is_value-out n) ∙ val) (values-agree n ∙ val) other h)
+decl-gone n q list item other (inr is) =
     below-gone n q (no-id q (out-Node n).kind (apart (belongs sort.ModuleItem) (out-Node n).kind (λ s c o. refl) item))
     (λ j next h. declared-by q.part q.stays (scope_value n) (out-Node n).kind j next list item is h)
 

@@ -7,7 +7,7 @@ use Rattle.ecma_kind.specs.declared.shapes.Shape.{Shape}
 use Rattle.ecma_kind.specs.declared.shapes.Sort.TheVariants as sort
 use Rattle.ecma_kind.specs.declared.span.Span.{Span}
 use Rattle.ecma_tree.specs.Laws.{HaveShapes}
-use Rattle.ecma_tree.specs.Sorted.{HasShape, allows, child_shapes, is_absent, maybe, one}
+use Rattle.ecma_tree.specs.Sorted.{HasShape, allows, child_shapes, is_absent, is_list, maybe, one}
 use Rattle.ecma_tree.specs.declared.node.Node.{Node, out-Node}
 use Rattle.ecma_scope.specs.declared.role.Role.{Role}
 use Rattle.ecma_scope.specs.declared.role.Role.TheVariants as role
@@ -105,6 +105,10 @@ wrapper-plain kind.TsAsExpr span x xs is = refl
 wrapper-plain kind.TsInstantiation span x xs is = refl
 wrapper-plain kind.TsSatisfiesExpr span x xs is = refl
 wrapper-plain _ span x xs is = absurd (true-false is refl)
+
+pub wrapper-no-list : (k : Kind) → is_type_wrapper k ≡ true → is_list k ≡ false
+wrapper-no-list kind.List is = absurd (true-false is refl)
+wrapper-no-list _ is = refl
 
 pub wrapper-opens : (r : Role) (k : Kind) (named : Bool) → is_type_wrapper k ≡ true → opens_by r k named ≡ false
 unfolding opens_by

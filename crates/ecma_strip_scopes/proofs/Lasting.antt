@@ -13,7 +13,7 @@ use Rattle.ecma_hygiene.proofs.Telling.{true-false}
 use Rattle.ecma_hygiene_laws.specs.DeclaredIds.{DeclaredId, id_here, ids_at, ids_declared, ids_in}
 use Rattle.ecma_hygiene_laws.proofs.Directly.{ids-out}
 use Rattle.ecma_strip_scopes.specs.Standing.{lasts}
-use Rattle.ecma_strip_scopes.proofs.Gone.{kept}
+use Rattle.ecma_hygiene_laws.proofs.Gone.{kept}
 use Rattle.ecma_strip_scopes.proofs.Standing.{none-all}
 
 abbrev pub lasting : Bool → List DeclaredId → List DeclaredId

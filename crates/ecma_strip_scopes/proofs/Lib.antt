@@ -1,4 +1,4 @@
-pub mod Gone
+pub mod Values
 pub mod Going
 pub mod Exporting
 pub mod Seeking
@@ -11,6 +11,7 @@ pub mod ScopesDeclare
 pub mod ScopesSame
 pub mod StopsKept
 pub mod KindsKept
+pub mod StayingSeats
 pub mod AtStops
 pub mod Walking
 pub mod Wrapping

@@ -29,20 +29,23 @@ use Rattle.ecma_hygiene.proofs.Telling.{true-false}
 use Rattle.ecma_hygiene_laws.specs.Apart.{IsScoped, own_contexts}
 use Rattle.ecma_hygiene_laws.specs.DeclaredIds.{ids_declared, scope_ids}
 use Rattle.ecma_hygiene_laws.specs.Lasting.{KeepsScope}
+use Rattle.ecma_hygiene_laws.specs.Seats.{Seat}
 use Rattle.ecma_hygiene_laws.specs.Stops.{Stop, stops, stops_at, stops_from}
 use Rattle.ecma_hygiene_laws.proofs.Parts.{children-of, kind-of, parts_of}
 use Rattle.ecma_hygiene_laws.proofs.Stopping.{All-first, All-second, stops-out}
-use Rattle.ecma_strip_scopes.specs.Apart.{IsClearStop, IsOther, StrippedTellsScopesApart}
+use Rattle.ecma_strip_scopes.specs.Apart.{IsClearSeat, IsOther, IsWrapped, StrippedTellsScopesApart}
+use Rattle.ecma_strip_scopes.specs.Staying.{staying_seats}
 use Rattle.ecma_strip_scopes.proofs.AtStops.{at-stops}
 use Rattle.ecma_strip_scopes.proofs.Declared.{not-list}
 use Rattle.ecma_strip_scopes.proofs.Going.{parts-have}
 use Rattle.ecma_strip_scopes.proofs.Lasting.{lasting}
-use Rattle.ecma_strip_scopes.proofs.KindsKept.{covers-plain, opens-kept, opens-plain, role-kept, role-plain, wrapper-first, wrapper-opens, wrapper-plain, wrapper-role, wrapper-some}
+use Rattle.ecma_strip_scopes.proofs.KindsKept.{covers-plain, opens-kept, opens-plain, role-kept, role-plain, wrapper-first, wrapper-no-list, wrapper-opens, wrapper-plain, wrapper-role, wrapper-some}
 use Rattle.ecma_strip_scopes.proofs.RolesAlike.{Alike, alike-free, alike-same}
 use Rattle.ecma_strip_scopes.proofs.ScopesDeclare.{scopes-declare, vars-plain}
 use Rattle.ecma_strip_scopes.proofs.ScopesSame.{AreSame}
 use Rattle.ecma_strip_scopes.proofs.Seeking.{Becomes, becomes, itself, list, typed, wrapper}
 use Rattle.ecma_strip_scopes.proofs.Standing.{list-kind}
+use Rattle.ecma_strip_scopes.proofs.StayingSeats.{staying-first, staying-out, staying-rest, staying_below}
 use Rattle.ecma_strip_scopes.proofs.StopsKept.{IsScopedIn, contexts-within, is-scoped, scopes-inside, stop_of}
 use Rattle.ecma_strip_scopes.proofs.Thinning.{Thins, thins-again, thins-append, thins-cons, thins-empty, thins-front, thins-none, thins-same, thins-skip}
 
@@ -77,9 +80,9 @@ role-ids r r' k alike m kind_st =
     let vars : holds_vars r' (out-Node m).kind ≡ holds_vars r (out-Node m).kind = ap (holds_vars r') kind_st ∙ vars-plain r' k ∙ alike.vars ∙ sym (vars-plain r k) ∙ sym (ap (holds_vars r) kind_st) in
     (λ j. ids_declared m (record { part = alike.own j; stays = not (alike.ambient j) }) ++ cond (vars j) (ids_declared m (record { part = part.Var; stays = not (alike.ambient j) })) [])
 
--- a stop that keeps its scope, and where all is clear
-abbrev IsSound : Bool → ℕ → Stop → Type 0
-IsSound t free stop = KeepsScope free stop × IsClearStop t stop
+-- a node that stays: its scope is clear and not ambient, and types stand round expressions that are the same to their scopes without them
+abbrev IsFine : Bool → Seat → Type 0
+IsFine t seat = IsClearSeat t seat × IsWrapped seat
 
 module _ (t : Bool) (free : ℕ) where
   abbrev contexts_at : List Stop → List (List ℕ)
@@ -146,8 +149,8 @@ module _ (t : Bool) (free : ℕ) where
 
   -- a node is walked over olds this one is without its types
   abbrev Becoming : Node → Node → Type 0
-  Becoming n m = (shape : Shape) (a b : Around) (left less : ℕ) → HasShape shape n → Alike a.role b.role (out-Node n).kind → AreSame t a.scopes b.scopes → All (IsSound t free) (stops_at n a left)
-      → Part (stops_at m b less) (contexts_at (stops_at n a left))
+  Becoming n m = (shape : Shape) (a b : Around) (left less : ℕ) → HasShape shape n → Alike a.role b.role (out-Node n).kind → AreSame t a.scopes b.scopes → All (KeepsScope free) (stops_at n a left)
+      → All (IsFine t) (staying_seats n a.role) → Part (stops_at m b less) (contexts_at (stops_at n a left))
 
   abbrev Walks : Node → Type 0
   Walks n = Becoming n (stripped n) × (is_list (out-Node n).kind ≡ true → Becoming n (without_empty (stripped n)))
@@ -172,17 +175,17 @@ module _ (t : Bool) (free : ℕ) where
   changed-become i to (n ∷ ns) [] h all = absurd all
 
   body-becomes : (n m : Node) → Becoming n m → Becoming n (body_of m)
-  body-becomes n m h shape a b left less has alike same sound = by (item_stays m)
+  body-becomes n m h shape a b left less has alike same keeps fine = by (item_stays m)
     where
       by : (last : Bool) → Part (stops_at (cond last m (node_of (out-Node m).span kind.EmptyStmt [])) b less) (contexts_at (stops_at n a left))
-      by true = h shape a b left less has alike same sound
+      by true = h shape a b left less has alike same keeps fine
       by false = empty-part (out-Node m).span b less (contexts_at (stops_at n a left))
 
   this-becomes : (n m : Node) → Becoming n m → Becoming n (without_this m)
-  this-becomes n m h shape a b left less has alike same sound = by (is_absent (out-Node m).kind)
+  this-becomes n m h shape a b left less has alike same keeps fine = by (is_absent (out-Node m).kind)
     where
       by : (last : Bool) → Part (stops_at (cond last m absent) b less) (contexts_at (stops_at n a left))
-      by true = h shape a b left less has alike same sound
+      by true = h shape a b left less has alike same keeps fine
       by false = absent-part b less (contexts_at (stops_at n a left))
 
   full : (n : (n : Node) × Walks n) (s : Sort) → HasShape (many s) n.0 → Becoming n.0 (without_empty (stripped n.0))
@@ -237,49 +240,56 @@ module _ (t : Bool) (free : ℕ) where
     alike-at : (i j : ℕ) (k : Kind) → (news j).role ≡ (olds i).role → Alike (olds i).role (news j).role k
     alike-at i j k roles = subst (λ (r : Role). Alike (olds i).role r k) (sym roles) (alike-same (olds i).role k)
 
-    walk-all : (ns ms : List Node) (shapes : List Shape) → ((i : ℕ) → (news i).role ≡ (olds i).role) → ((i : ℕ) → AreSame t (olds i).scopes (news i).scopes) → AllBecome ns ms → HaveShapes shapes ns → (i left less : ℕ) → All (IsSound t free) (below olds i ns left) → Part (below news i ms less) (contexts_at (below olds i ns left))
-    walk-all [] [] shapes roles scopes become have i left less sound = (All-nil (IsScopedIn t free), thins-none [])
-    walk-all (n ∷ ns) (m ∷ ms) (s ∷ shapes) roles scopes become have i left less sound =
+    -- of children with these roles, those that stay are fine
+    abbrev fine_below : Bool → ℕ → List Node → Type 0
+    fine_below listed i ns = All (IsFine t) (staying_below listed (λ j. (olds j).role) i ns)
+
+    walk-all : (ns ms : List Node) (shapes : List Shape) → ((i : ℕ) → (news i).role ≡ (olds i).role) → ((i : ℕ) → AreSame t (olds i).scopes (news i).scopes) → AllBecome ns ms → HaveShapes shapes ns → (i left less : ℕ) → All (KeepsScope free) (below olds i ns left)
+        → fine_below false i ns → Part (below news i ms less) (contexts_at (below olds i ns left))
+    walk-all [] [] shapes roles scopes become have i left less keeps fine = (All-nil (IsScopedIn t free), thins-none [])
+    walk-all (n ∷ ns) (m ∷ ms) (s ∷ shapes) roles scopes become have i left less keeps fine =
         let here : List Stop = stops_at n (olds i) left in
         let later : List Stop = below olds (suc i) ns (left - context_count n (olds i).role) in
         joined i left i less n m ns ms
-        (become.0 s (olds i) (news i) left less have.0 (alike-at i i (out-Node n).kind (roles i)) (scopes i) (All-first (IsSound t free) here later sound))
-        (walk-all ns ms shapes roles scopes become.1 have.1 (suc i) (left - context_count n (olds i).role) (less - context_count m (news i).role) (All-second (IsSound t free) here later sound))
-    walk-all [] (m ∷ ms) shapes roles scopes become have i left less sound = absurd become
-    walk-all (n ∷ ns) [] shapes roles scopes become have i left less sound = absurd become
-    walk-all (n ∷ ns) (m ∷ ms) [] roles scopes become have i left less sound = absurd have
+        (become.0 s (olds i) (news i) left less have.0 (alike-at i i (out-Node n).kind (roles i)) (scopes i) (All-first (KeepsScope free) here later keeps) (staying-first (IsFine t) false (λ j. (olds j).role) i n ns refl fine))
+        (walk-all ns ms shapes roles scopes become.1 have.1 (suc i) (left - context_count n (olds i).role) (less - context_count m (news i).role) (All-second (KeepsScope free) here later keeps)
+        (staying-rest (IsFine t) false (λ j. (olds j).role) i n ns fine))
+    walk-all [] (m ∷ ms) shapes roles scopes become have i left less keeps fine = absurd become
+    walk-all (n ∷ ns) [] shapes roles scopes become have i left less keeps fine = absurd become
+    walk-all (n ∷ ns) (m ∷ ms) [] roles scopes become have i left less keeps fine = absurd have
 
     -- of the items of a list those that stay, and of these, without types, those that a test lets stay
     module _ (test : Node → Bool) (shape : Shape) (roles : (i j : ℕ) → (news j).role ≡ (olds i).role) (scopes : (i j : ℕ) → AreSame t (olds i).scopes (news j).scopes) where
       abbrev left_of : List Node → List Node
       left_of ns = filter test (map stripped (filter stays ns))
 
-      item-by : (n : (n : Node) × Walks n) (ns : List Node) → HasShape shape n.0 → (s : Bool) → (i j left less : ℕ) → All (IsSound t free) (stops_at n.0 (olds i) left)
+      item-by : (n : (n : Node) × Walks n) (ns : List Node) → HasShape shape n.0 → (s : Bool) → (i j left less : ℕ) → All (KeepsScope free) (stops_at n.0 (olds i) left) → (s ≡ true → All (IsFine t) (staying_seats n.0 (olds i).role))
           → ((j less : ℕ) → Part (below news j (left_of ns) less) (contexts_at (below olds (suc i) ns (left - context_count n.0 (olds i).role))))
           → Part (below news j (filter test (map stripped (cond s (n.0 ∷ filter stays ns) (filter stays ns)))) less) (contexts_at (below olds i (n.0 ∷ ns) left))
-      item-by n ns has false i j left less sound rest = skipped i left n.0 ns (below news j (left_of ns) less) (rest j less)
-      item-by n ns has true i j left less sound rest = by (test (stripped n.0))
+      item-by n ns has false i j left less keeps fine rest = skipped i left n.0 ns (below news j (left_of ns) less) (rest j less)
+      item-by n ns has true i j left less keeps fine rest = by (test (stripped n.0))
         where
           by : (last : Bool) → Part (below news j (cond last (stripped n.0 ∷ left_of ns) (left_of ns)) less) (contexts_at (below olds i (n.0 ∷ ns) left))
           by true =
-              joined i left j less n.0 (stripped n.0) ns (left_of ns) (n.1.0 shape (olds i) (news j) left less has (alike-at i j (out-Node n.0).kind (roles i j)) (scopes i j) sound)
+              joined i left j less n.0 (stripped n.0) ns (left_of ns) (n.1.0 shape (olds i) (news j) left less has (alike-at i j (out-Node n.0).kind (roles i j)) (scopes i j) keeps (fine refl))
               (rest (suc j) (less - context_count (stripped n.0) (news j).role))
           by false = skipped i left n.0 ns (below news j (left_of ns) less) (rest j less)
 
-      walk-items : (ns : List ((n : Node) × Walks n)) → HaveShapes (replicate (length (nodes ns)) shape) (nodes ns) → (i j left less : ℕ) → All (IsSound t free) (below olds i (nodes ns) left)
+      walk-items : (ns : List ((n : Node) × Walks n)) → HaveShapes (replicate (length (nodes ns)) shape) (nodes ns) → (i j left less : ℕ) → All (KeepsScope free) (below olds i (nodes ns) left) → fine_below true i (nodes ns)
           → Part (below news j (left_of (nodes ns)) less) (contexts_at (below olds i (nodes ns) left))
-      walk-items [] have i j left less sound = (All-nil (IsScopedIn t free), thins-none [])
-      walk-items (n ∷ ns) have i j left less sound =
+      walk-items [] have i j left less keeps fine = (All-nil (IsScopedIn t free), thins-none [])
+      walk-items (n ∷ ns) have i j left less keeps fine =
           let here : List Stop = stops_at n.0 (olds i) left in
           let fewer : ℕ = left - context_count n.0 (olds i).role in
           let later : List Stop = below olds (suc i) (nodes ns) fewer in
-          item-by n (nodes ns) have.0 (stays n.0) i j left less (All-first (IsSound t free) here later sound)
-          (λ j less. walk-items ns have.1 (suc i) j fewer less (All-second (IsSound t free) here later sound))
+          let roles_of : ℕ → Role = (λ j. (olds j).role) in
+          item-by n (nodes ns) have.0 (stays n.0) i j left less (All-first (KeepsScope free) here later keeps) (λ is. staying-first (IsFine t) true roles_of i n.0 (nodes ns) (ap not is) fine)
+          (λ j less. walk-items ns have.1 (suc i) j fewer less (All-second (KeepsScope free) here later keeps) (staying-rest (IsFine t) true roles_of i n.0 (nodes ns) fine))
 
   -- ---- a node
 
   module _ (n : Node) (ns : List ((n : Node) × Walks n)) (are : (out-Node n).children ≡ nodes ns) (shape : Shape) (a b : Around) (left less : ℕ) (has : HasShape shape n) (alike : Alike a.role b.role (out-Node n).kind)
-      (same : AreSame t a.scopes b.scopes) (sound : All (IsSound t free) (stops_at n a left)) where
+      (same : AreSame t a.scopes b.scopes) (keeps : All (KeepsScope free) (stops_at n a left)) (fine : All (IsFine t) (staying_seats n a.role)) where
     abbrev k : Kind
     k = (out-Node n).kind
 
@@ -292,14 +302,28 @@ module _ (t : Bool) (free : ℕ) where
     stops-are : stops_at n a left ≡ stop_of n a left ∷ inner
     stops-are = stops-out n a left ∙ ap (λ (cs : List Node). stop_of n a left ∷ below (around_child a n) 0 cs fewer) are
 
-    sound-parts : All (IsSound t free) (stop_of n a left ∷ inner)
-    sound-parts = subst (All (IsSound t free)) stops-are sound
+    keeps-parts : All (KeepsScope free) (stop_of n a left ∷ inner)
+    keeps-parts = subst (All (KeepsScope free)) stops-are keeps
 
-    here : IsSound t free (stop_of n a left)
-    here = All-head (IsSound t free) (stop_of n a left) inner sound-parts
+    keep : KeepsScope free (stop_of n a left)
+    keep = All-head (KeepsScope free) (stop_of n a left) inner keeps-parts
 
-    sound-inner : All (IsSound t free) inner
-    sound-inner = All-tail (IsSound t free) (stop_of n a left) inner sound-parts
+    keeps-inner : All (KeepsScope free) inner
+    keeps-inner = All-tail (KeepsScope free) (stop_of n a left) inner keeps-parts
+
+    abbrev inner_seats : List Seat
+    inner_seats = staying_below (is_list k) (role_in a.role n) 0 (nodes ns)
+
+    fine-parts : All (IsFine t) (record { role = a.role; node = n } ∷ inner_seats)
+    fine-parts = subst (All (IsFine t)) (staying-out n a.role ∙ ap (λ (cs : List Node). record { role = a.role; node = n } ∷ staying_below (is_list k) (role_in a.role n) 0 cs) are) fine
+
+    here : IsFine t (record { role = a.role; node = n })
+    here = All-head (IsFine t) (record { role = a.role; node = n }) inner_seats fine-parts
+
+    -- of those below
+    fine-inner : (listed : Bool) → is_list k ≡ listed → All (IsFine t) (staying_below listed (role_in a.role n) 0 (nodes ns))
+    fine-inner listed is =
+        subst (λ (l : Bool). All (IsFine t) (staying_below l (role_in a.role n) 0 (nodes ns))) is (All-tail (IsFine t) (record { role = a.role; node = n }) inner_seats fine-parts)
 
     have : HaveShapes (child_shapes k shape (length (nodes ns))) (nodes ns)
     have = subst (λ (cs : List Node). HaveShapes (child_shapes k shape (length cs)) cs) are (parts-have n shape has).1
@@ -329,12 +353,12 @@ module _ (t : Bool) (free : ℕ) where
         let covered : (i : ℕ) → covers b.role (out-Node m).kind i ≡ covers a.role k i = (λ i. ap (λ (z : Kind). covers b.role z i) kind_st ∙ covers-plain b.role k i ∙ alike.covered i) in
         let roles : (i : ℕ) → role_in b.role m i ≡ role_in a.role n i = (λ i. (λ j. role_by b.role (kind_st j) (is_there (children_st j) 1) i) ∙ role-plain b.role k (is_there cs 1) i ∙ role-kept b.role k shape count (nodes ns) have i
         ∙ alike.inner (is_there (nodes ns) 1) i ∙ sym (ap (λ (z : List Node). role_by a.role k (is_there z 1) i) are)) in
-        let ids : opens a.role n ≡ true → scope_ids b.role m ≡ lasting t (scope_ids a.role n) = (λ is. role-ids a.role b.role k alike m kind_st ∙ scopes-declare t shape a.role n has is (here.1.calm is) (here.1.clear is)) in
-        let gone : is_absent k ≡ true → (out-Node m).children ≡ [] = (λ is. children_st ∙ absent-children k is (nodes ns) (sym are ∙ here.0.absent is)) in
-        node-part m (is-scoped t free n m a b left less kind_st gone alike same opened ids here.0) (contexts-within t free n m a b left less kind_st gone alike same opened ids here.0)
+        let ids : opens a.role n ≡ true → scope_ids b.role m ≡ lasting t (scope_ids a.role n) = (λ is. role-ids a.role b.role k alike m kind_st ∙ scopes-declare t shape a.role n has is (here.0 is).0 (here.0 is).1) in
+        let gone : is_absent k ≡ true → (out-Node m).children ≡ [] = (λ is. children_st ∙ absent-children k is (nodes ns) (sym are ∙ keep.absent is)) in
+        node-part m (is-scoped t free n m a b left less kind_st gone alike same opened ids keep) (contexts-within t free n m a b left less kind_st gone alike same opened ids keep)
         (subst (λ (z : List Node). Part (below (around_child b m) 0 z (less - taken b.role m)) (contexts_at inner)) (sym children_st)
-        (walk-all (around_child a n) (around_child b m) (nodes ns) cs (child_shapes k shape count) roles (λ i. scopes-inside t free n m a b left less kind_st gone alike same opened ids here.0 i i (covered i))
-        (plain-become k ns shape count have) have 0 fewer (less - taken b.role m) sound-inner))
+        (walk-all (around_child a n) (around_child b m) (nodes ns) cs (child_shapes k shape count) roles (λ i. scopes-inside t free n m a b left less kind_st gone alike same opened ids keep i i (covered i))
+        (plain-become k ns shape count have) have 0 fewer (less - taken b.role m) keeps-inner (fine-inner false no_list)))
 
     list-part : k ≡ kind.List → (test : Node → Bool) (m : Node) → m ≡ node_of (out-Node n).span kind.List (filter test (map stripped (filter stays (nodes ns)))) → Part (stops_at m b less) (contexts_at (stops_at n a left))
     unfolding plain_kind
@@ -349,33 +373,35 @@ module _ (t : Bool) (free : ℕ) where
         ∙ list-role b.role k (is_there (out-Node m).children 1) (is_there (out-Node n).children 1) j i is ∙ alike.inner (is_there (out-Node n).children 1) i) in
         let ids : opens a.role n ≡ true → scope_ids b.role m ≡ lasting t (scope_ids a.role n) = (λ open_it. absurd (true-false open_it shut)) in
         let gone : is_absent k ≡ true → (out-Node m).children ≡ [] = (λ h. absurd (true-false h (ap is_absent is))) in
-        node-part m (is-scoped t free n m a b left less kind_st gone alike same opened ids here.0) (contexts-within t free n m a b left less kind_st gone alike same opened ids here.0)
+        node-part m (is-scoped t free n m a b left less kind_st gone alike same opened ids keep) (contexts-within t free n m a b left less kind_st gone alike same opened ids keep)
         (subst (λ (z : List Node). Part (below (around_child b m) 0 z (less - taken b.role m)) (contexts_at inner)) (sym children_st)
         (walk-items (around_child a n) (around_child b m) test (item_shape shape) roles
-        (λ i j. scopes-inside t free n m a b left less kind_st gone alike same opened ids here.0 i j (list-covers b.role (out-Node m).kind j kind_m ∙ sym (list-covers a.role k i is)))
-        ns (subst (λ (z : Kind). HaveShapes (child_shapes z shape (length (nodes ns))) (nodes ns)) is have) 0 0 fewer (less - taken b.role m) sound-inner))
+        (λ i j. scopes-inside t free n m a b left less kind_st gone alike same opened ids keep i j (list-covers b.role (out-Node m).kind j kind_m ∙ sym (list-covers a.role k i is)))
+        ns (subst (λ (z : Kind). HaveShapes (child_shapes z shape (length (nodes ns))) (nodes ns)) is have) 0 0 fewer (less - taken b.role m) keeps-inner (fine-inner true (ap is_list is))))
 
     list-stripped : k ≡ kind.List → stripped n ≡ node_of (out-Node n).span kind.List (map stripped (filter stays (nodes ns)))
     unfolding plain plain_kind plain_children
     list-stripped is = stripped-out n ∙ (λ j. plain (out-Node n).span (is j) (map stripped (staying_nodes (is j) (are j))))
 
     -- an expression with a type round it
-    wrapper-by : (ms : List ((n : Node) × Walks n)) → (out-Node n).children ≡ nodes ms → HaveShapes (child_shapes k shape (length (nodes ns))) (nodes ms) → All (IsSound t free) (below (around_child a n) 0 (nodes ms) fewer)
+    wrapper-by : (ms : List ((n : Node) × Walks n)) → (out-Node n).children ≡ nodes ms → HaveShapes (child_shapes k shape (length (nodes ns))) (nodes ms) → All (KeepsScope free) (below (around_child a n) 0 (nodes ms) fewer)
+        → All (IsFine t) (staying_below false (role_in a.role n) 0 (nodes ms))
         → is_type_wrapper k ≡ true → Part (stops_at (stripped n) b less) (contexts_at (below (around_child a n) 0 (nodes ms) fewer))
-    wrapper-by [] children have_some all_sound is = absurd (wrapper-some k shape (length (nodes ns)) is have_some)
-    wrapper-by (e ∷ es) children have_some all_sound is =
+    wrapper-by [] children have_some all_keep all_fine is = absurd (wrapper-some k shape (length (nodes ns)) is have_some)
+    wrapper-by (e ∷ es) children have_some all_keep all_fine is =
         let first : Around = around_child a n 0 in
         let st : stripped n ≡ stripped e.0 = stripped-out n ∙ ap (λ (cs : List Node). plain (out-Node n).span k (map stripped (staying_nodes k cs))) children ∙ wrapper-plain k (out-Node n).span e.0 (nodes es) is in
         let has_e : HasShape (one sort.Expr) e.0 = wrapper-first k shape (length (nodes ns)) e.0 (nodes es) is have_some in
         let role_e : first.role ≡ role.Plain = wrapper-role a.role k (is_there (out-Node n).children 1) 0 is in
         let alike_e : Alike first.role b.role (out-Node e.0).kind = subst (λ (r : Role). Alike r b.role (out-Node e.0).kind) (sym role_e)
-        (alike-free b.role (out-Node e.0).kind (alike.free (here.1.wrapped is)) (parts-have e.0 (one sort.Expr) has_e).0) in
+        (alike-free b.role (out-Node e.0).kind (alike.free (here.1 is)) (parts-have e.0 (one sort.Expr) has_e).0) in
         let scopes_e : first.scopes ≡ a.scopes = (λ j. cond (wrapper-opens a.role k (is_there (out-Node n).children 0) is j && covers a.role k 0) (a.scopes ++ own_scope a.role a.scopes n ∷ []) a.scopes) in
         let here_e : List Stop = stops_at e.0 first fewer in
         let later : List Stop = below (around_child a n) 1 (nodes es) (fewer - context_count e.0 first.role) in
         subst (λ (z : Node). Part (stops_at z b less) (contexts_at (here_e ++ later))) (sym st)
         (part-of (stops_at (stripped e.0) b less) (contexts_at here_e) (contexts_at (here_e ++ later))
-        (e.1.0 (one sort.Expr) first b fewer less has_e alike_e (subst (λ (z : List Scope). AreSame t z b.scopes) (sym scopes_e) same) (All-first (IsSound t free) here_e later all_sound))
+        (e.1.0 (one sort.Expr) first b fewer less has_e alike_e (subst (λ (z : List Scope). AreSame t z b.scopes) (sym scopes_e) same) (All-first (KeepsScope free) here_e later all_keep)
+        (staying-first (IsFine t) false (role_in a.role n) 0 e.0 (nodes es) refl all_fine))
         (subst (Thins (contexts_at here_e)) (sym (map-append own_contexts here_e later)) (thins-front (contexts_at here_e) (contexts_at later))))
 
     node-walks : Becomes k → Part (stops_at (stripped n) b less) (contexts_at (stops_at n a left))
@@ -384,18 +410,18 @@ module _ (t : Bool) (free : ℕ) where
         (absent-part b less (contexts_at (stops_at n a left)))
     node-walks (wrapper is none no_id) =
         subst (λ (z : List Stop). Part (stops_at (stripped n) b less) (contexts_at z)) (sym stops-are)
-        (part-of (stops_at (stripped n) b less) (contexts_at inner) (own_contexts (stop_of n a left) ∷ contexts_at inner) (wrapper-by ns are have sound-inner is)
+        (part-of (stops_at (stripped n) b less) (contexts_at inner) (own_contexts (stop_of n a left) ∷ contexts_at inner) (wrapper-by ns are have keeps-inner (fine-inner false (wrapper-no-list k is)) is)
         (thins-skip (own_contexts (stop_of n a left)) (contexts_at inner) (contexts_at inner) (thins-same (contexts_at inner))))
     node-walks (list is) = list-part is (λ x. true) (stripped n) (list-stripped is ∙ sym (ap (node_of (out-Node n).span kind.List) (filter-all (map stripped (filter stays (nodes ns))))))
     node-walks (itself eq no_list other) = itself-part (eq (out-Node n).span) no_list
 
   layer-walks : (n : Node) (ns : List ((n : Node) × Walks n)) → (out-Node n).children ≡ nodes ns → Walks n
   layer-walks n ns are = (
-    λ shape a b left less has alike same sound. node-walks n ns are shape a b left less has alike same sound (becomes (out-Node n).kind),
-    λ is shape a b left less has alike same sound. (let listed : (out-Node n).kind ≡ kind.List = list-kind (out-Node n).kind is in
+    λ shape a b left less has alike same keeps fine. node-walks n ns are shape a b left less has alike same keeps fine (becomes (out-Node n).kind),
+    λ is shape a b left less has alike same keeps fine. (let listed : (out-Node n).kind ≡ kind.List = list-kind (out-Node n).kind is in
         let cs : List Node = map stripped (filter stays (nodes ns)) in
-        list-part n ns are shape a b left less has alike same sound listed (λ x. not (is_empty_stmt (out-Node x).kind)) (without_empty (stripped n))
-        (ap without_empty (list-stripped n ns are shape a b left less has alike same sound listed)
+        list-part n ns are shape a b left less has alike same keeps fine listed (λ x. not (is_empty_stmt (out-Node x).kind)) (without_empty (stripped n))
+        (ap without_empty (list-stripped n ns are shape a b left less has alike same keeps fine listed)
         ∙ ap (λ (z : Node-F Node). node_of z.span z.kind (filter (λ x. not (is_empty_stmt (out-Node x).kind)) z.children)) (out-roll-Node (parts_of (out-Node n).span kind.List cs)))),
   )
 
@@ -406,7 +432,7 @@ module _ (t : Bool) (free : ℕ) where
   all-become n = (walks n).0
 
 pub stripped-tells-apart : StrippedTellsScopesApart
-stripped-tells-apart t free left less shape tree has keeps clear others =
-    let part = all-become t free tree shape nowhere nowhere left less has (alike-same nowhere.role (out-Node tree).kind) tt (λ k d lt. (keeps.scoped k d lt, clear k d lt)) in
+stripped-tells-apart t free left less shape tree has keeps clear wrapped others =
+    let part = all-become t free tree shape nowhere nowhere left less has (alike-same nowhere.role (out-Node tree).kind) tt keeps.scoped (λ k d lt. (clear k d lt, wrapped k d lt)) in
     let other_stops = at-stops (IsOther t) (stripped tree) nowhere less others in
     record { scoped = λ k d lt. part.0 k d lt (other_stops k d lt); apart = part.1.apart keeps.apart; there = keeps.there }

@@ -21,7 +21,7 @@ use Rattle.ecma_hygiene.specs.Walks.{gathered_from}
 use Rattle.ecma_hygiene.proofs.Telling.{true-false}
 use Rattle.ecma_hygiene.proofs.Walking.{gathered-out}
 use Rattle.ecma_hygiene_laws.specs.Seats.{Seat, seat_here, seats_at}
-use Rattle.ecma_strip_scopes.specs.Apart.{is_free}
+use Rattle.ecma_strip_scopes.specs.Apart.{IsWrapped, is_free}
 use Rattle.ecma_strip_scopes.proofs.Going.{parts-have}
 
 -- ---- sorts whose nodes may have types round them
@@ -123,9 +123,6 @@ roles-fit r kind.TsModuleBlock sourced shape n h = (or-true (is_free (role_by r 
 roles-fit r k sourced shape n h = plain-fit 0 (child_shapes k shape n)
 
 -- ---- a tree
-
-abbrev pub IsWrapped : Seat → Type 0
-IsWrapped seat = is_type_wrapper (out-Node seat.node).kind ≡ true → is_free seat.role ≡ true
 
 free-by : (a b : Bool) → (a || not b) ≡ true → b ≡ true → a ≡ true
 free-by true b h is = refl

@@ -17,7 +17,7 @@ use Rattle.ecma_hygiene_laws.specs.Apart.{TellsScopesApart}
 use Rattle.ecma_hygiene_laws.specs.DeclaredIds.{scope_ids}
 use Rattle.ecma_hygiene_laws.specs.Lasting.{IsCheckedModule, KeepsScopesApart}
 use Rattle.ecma_hygiene_laws.specs.Seats.{Seat, seats_at}
-use Rattle.ecma_hygiene_laws.specs.Stops.{Stop, stops}
+use Rattle.ecma_strip_scopes.specs.Staying.{staying_seats}
 use Rattle.ecma_strip_scopes.specs.Standing.{is_clear, lasts}
 
 -- a role in which every expression is the same to its scopes
@@ -36,27 +36,27 @@ abbrev pub ScopesDeclareWhatStays : Type 0
 ScopesDeclareWhatStays = (receivers : Bool) (shape : Shape) (r : Role) (n : Node) → HasShape shape n → opens r n ≡ true → is_ambient r ≡ false → IsClearScope receivers r n
     → scope_ids r (stripped n) ≡ filter (lasts receivers) (scope_ids r n)
 
--- a node of a walk: a scope is clear and not ambient, and types stand round expressions that are the same to their scopes without them
-pub record IsClearStop (receivers : Bool) (stop : Stop) : Type 0 where
-  pub calm : opens stop.around.role stop.node ≡ true → is_ambient stop.around.role ≡ false
-  pub clear : opens stop.around.role stop.node ≡ true → IsClearScope receivers stop.around.role stop.node
-  pub wrapped : is_type_wrapper (out-Node stop.node).kind ≡ true → is_free stop.around.role ≡ true
+-- a scope is clear, and not ambient
+abbrev pub IsClearSeat : Bool → Seat → Type 0
+IsClearSeat receivers seat = opens seat.role seat.node ≡ true → (is_ambient seat.role ≡ false) × IsClearScope receivers seat.role seat.node
+
+-- types stand round an expression that is the same to its scopes without them
+abbrev pub IsWrapped : Seat → Type 0
+IsWrapped seat = is_type_wrapper (out-Node seat.node).kind ≡ true → is_free seat.role ≡ true
 
 -- with `receivers` no identifier `this`
 abbrev pub IsOther : Bool → Seat → Type 0
 IsOther receivers seat = (receivers && is_this_ident (out-Node seat.node).kind) ≡ false
 
--- a tree that keeps its scopes apart, and in which all is clear, tells them apart without its types, however its contexts are counted; where parameters `this` may
--- go, no other `this` is left
+-- a tree that keeps its scopes apart, and of which all that stays is clear, tells them apart without its types, however its contexts are counted; where parameters
+-- `this` may go, no other `this` is left
 abbrev pub StrippedTellsScopesApart : Type 0
-StrippedTellsScopesApart = (receivers : Bool) (free left less : ℕ) (shape : Shape) (tree : Node) → HasShape shape tree → KeepsScopesApart free left tree → All (IsClearStop receivers) (stops left tree)
+StrippedTellsScopesApart = (receivers : Bool) (free left less : ℕ) (shape : Shape) (tree : Node) → HasShape shape tree → KeepsScopesApart free left tree
+    → All (IsClearSeat receivers) (staying_seats tree role.Root) → All IsWrapped (staying_seats tree role.Root)
     → All (IsOther receivers) (seats_at (stripped tree) role.Root) → TellsScopesApart free less (stripped tree)
-
-abbrev pub IsClearSeat : Bool → Seat → Type 0
-IsClearSeat receivers seat = opens seat.role seat.node ≡ true → IsClearScope receivers seat.role seat.node
 
 -- so does a module that is resolved, and stripped of its types then, where there were contexts enough
 abbrev pub StrippedModulesTellScopesApart : Type 0
 StrippedModulesTellScopesApart = (receivers : Bool) (unresolved top left less : ℕ) (source : Node) → IsCheckedModule source → left < unresolved → left < top → unresolved ≢ top → contexts source ≤ left
-    → All (IsClearSeat receivers) (seats_at (resolved unresolved top left source) role.Root) → All (IsOther receivers) (seats_at (stripped (resolved unresolved top left source)) role.Root)
+    → All (IsClearSeat receivers) (staying_seats (resolved unresolved top left source) role.Root) → All (IsOther receivers) (seats_at (stripped (resolved unresolved top left source)) role.Root)
     → TellsScopesApart unresolved less (stripped (resolved unresolved top left source))

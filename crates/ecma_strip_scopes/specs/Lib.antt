@@ -1,3 +1,4 @@
 pub mod Going
 pub mod Standing
+pub mod Staying
 pub mod Apart

@@ -13,7 +13,6 @@ use Rattle.ecma_strip.specs.Plain.{unless_missing}
 use Rattle.ecma_strip.specs.Staying.{is_this_ident, is_this_param, item_stays, stays}
 use Rattle.ecma_strip.specs.Stripping.{stripped}
 use Rattle.ecma_hygiene_laws.specs.DeclaredIds.{DeclaredId, ids_declared}
-use Rattle.ecma_strip_scopes.specs.Going.{is_namespace}
 
 abbrev pub is_none : List DeclaredId → Bool
 is_none [] = true
@@ -58,11 +57,11 @@ abbrev pub clear_at : Option Sought → (Sought → Bool) → Bool
 clear_at (Some sought) child = sought.stays && child sought
 clear_at None child = true
 
--- the children, of which the first is the one at i: what goes from a list is no namespace, and without `receivers` no parameter `this`, and in what stays only
--- values that stay are looked for
+-- the children, of which the first is the one at i: what goes from a list is without `receivers` no parameter `this`, and in what stays only values that stay are
+-- looked for
 abbrev pub clear_in : Bool → Bool → (ℕ → Option Sought) → ℕ → List Node → List (Sought → Bool) → Bool
 clear_in receivers list into i (node ∷ nodes) (child ∷ children) =
-    cond (list && not (stays node)) (not ((not receivers && is_this_param node) || is_namespace node)) (clear_at (into i) child)
+    cond (list && not (stays node)) (receivers || not (is_this_param node)) (clear_at (into i) child)
     && clear_in receivers list into (suc i) nodes children
 clear_in receivers list into i _ _ = true
 

@@ -22,13 +22,13 @@ pub fn scopes_declare_what_stays()
     ensures { ScopesDeclareWhatStays }
 {}
 
-/// A tree that keeps its scopes apart tells them apart without its types, where it is clear what its scopes declare.
+/// A tree that keeps its scopes apart tells them apart without its types, where of the scopes that stay none is ambient and it is clear what they declare.
 pub fn stripped_trees_tell_scopes_apart()
     ensures { StrippedTellsScopesApart }
 {}
 
-/// A module that is resolved, and stripped of its types then, tells its scopes apart, where it is clear what its scopes declare: each name is declared
-/// where it may be, no scope is ambient, and there were contexts enough.
+/// A module that is resolved, and stripped of its types then, tells its scopes apart, where of the scopes that stay none is ambient and it is clear what
+/// they declare: each name is declared where it may be, and there were contexts enough.
 pub fn stripped_modules_tell_scopes_apart()
     ensures { StrippedModulesTellScopesApart }
 {}

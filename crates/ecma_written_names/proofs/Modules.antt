@@ -21,14 +21,13 @@ use Rattle.ecma_hygiene.specs.Renamed.{at_root}
 use Rattle.ecma_hygiene.specs.Texts.{text_in}
 use Rattle.ecma_hygiene_laws.specs.Apart.{TellsScopesApart}
 use Rattle.ecma_hygiene_laws.specs.Lasting.{IsCheckedModule}
-use Rattle.ecma_hygiene_laws.proofs.Calming.{nothing-is-ambient}
 use Rattle.ecma_bind.specs.Binding.{with_bound_names}
 use Rattle.ecma_bound_scopes.proofs.Placed.{resolve_alike}
 use Rattle.ecma_bound_passes.proofs.Sources.{sources_are_sources}
 use Rattle.ecma_pass_laws.specs.Passes.{AreGiven, IsSource}
 use Rattle.ecma_pass_laws.specs.TypesAlone.{adds_types_alone}
 use Rattle.ecma_pass_laws.proofs.ClearSeats.{modules-are-clear}
-use Rattle.ecma_pass_laws.proofs.Contexts.{calm, resolved-adds-types}
+use Rattle.ecma_pass_laws.proofs.Contexts.{resolved-adds-types}
 use Rattle.ecma_pass_laws.proofs.Full.{modules-are-full}
 use Rattle.ecma_pass_laws.proofs.Names.{seats-other}
 use Rattle.ecma_pass_laws.proofs.Renaming.{kept}
@@ -50,7 +49,7 @@ module _ (unresolved top left : ℕ) (source : Node) (is : IsSource source) (giv
   alone = resolved-adds-types changes-contexts unresolved top left source is.types
 
   checked : IsCheckedModule source
-  checked = record { sorted = is.fits.sorted; bare = is.bare; clear = is.distinct; calm = λ k d lt opens_it. nothing-is-ambient source (calm source is.types) k d lt }
+  checked = record { sorted = is.fits.sorted; bare = is.bare; clear = is.distinct }
 
   tells : TellsScopesApart unresolved left s
   tells =

@@ -1,7 +1,7 @@
 //! Names that are declared more than once: what a JavaScript engine says of plain ones, and TypeScript of others.
 use super::Case;
 
-pub(super) const NAMES: [Case; 41] = [
+pub(super) const NAMES: [Case; 42] = [
     // two let
     Case {
         src: "let a; let a;",
@@ -334,6 +334,15 @@ const b = 1;
     Case {
         src: "let a; let a; enum E {}",
         want: r#"error: Syntax at 14
+"#,
+    },
+    // an ambient namespace hides a name, and binds none
+    Case {
+        src: "{ declare namespace a { let b } a; } let a = 1;",
+        want: r#"{
+    a;
+}
+let a1 = 1;
 "#,
     },
 ];

@@ -1,7 +1,7 @@
 //! Modules that are refused: forms that are not taken, and what is no module.
 use super::Case;
 
-pub(super) const REFUSED: [Case; 18] = [
+pub(super) const REFUSED: [Case; 21] = [
     // import
     Case {
         src: r#"f(); import { a } from "m";"#,
@@ -24,6 +24,23 @@ pub(super) const REFUSED: [Case; 18] = [
     Case {
         src: "a; namespace N { let b = 1 }",
         want: r#"error: Syntax at 3
+"#,
+    },
+    // a namespace with an ambient value
+    Case {
+        src: "declare namespace N { let a } namespace N { declare let b }",
+        want: r#"error: Syntax at 30
+"#,
+    },
+    // import and export of types
+    Case {
+        src: r#"f(); import type { a } from "m";"#,
+        want: r#"error: Syntax at 5
+"#,
+    },
+    Case {
+        src: "declare namespace N { export { a } } export interface I {}",
+        want: r#"error: Syntax at 37
 "#,
     },
     // enum in a block

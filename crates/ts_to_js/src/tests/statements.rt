@@ -1,7 +1,7 @@
 //! Statements, functions and classes, and what is written for them: the trees are those that TypeScript makes of them, the bytes are by hand.
 use super::Case;
 
-pub(super) const STATEMENTS: [Case; 35] = [
+pub(super) const STATEMENTS: [Case; 36] = [
     Case {
         src: "let x: number = f(1);",
         want: r#"let x = f(1);
@@ -481,6 +481,22 @@ new (class {
 x = class {
     y;
 };
+"#,
+    },
+    // enums and namespaces that go with the types
+    Case {
+        src: r#"declare enum E { A = 1 }
+declare const enum F { B = f() }
+declare module "m" { import { a } from "n"; export default function g(): void; export = a; }
+declare module "o";
+declare global { interface Window { a: T } let h: T; }
+declare namespace N.M { class C { constructor(a: T); } export { C } }
+namespace P { export interface I {} export type T = 1; namespace Q { type U = I } }
+namespace R.S { type T = 1; }
+class A {} namespace A { export interface B {} }
+let R = k(N.a, E.A, h);"#,
+        want: r#"class A {}
+let R = k(N.a, E.A, h);
 "#,
     },
 ];

@@ -1,5 +1,7 @@
 -- Where what is looked for does not stay, nothing that is found does.
 use Rattle.std.proofs.Common.{◌≡◌, ℕ, suc, ◌==◌, Bool, true, false, cond, filter, List, [], ◌∷◌, ◌++◌, map, Option, Some, None, refl, sym, ap, ◌∙◌, subst}
+use Rattle.std.specs.List.{All}
+use Rattle.std.proofs.lemmas.List.Elements.{All-cons, All-nil}
 use Rattle.ecma_kind.specs.declared.kind.Kind.{Kind}
 use Rattle.ecma_kind.specs.declared.kind.Kind.TheVariants as kind
 use Rattle.ecma_kind.specs.declared.operators.VarDeclKind.TheVariants as var_kind
@@ -148,6 +150,17 @@ none-append (d ∷ ds) ys first rest = by d.stays first (λ none. none-append ds
     by : (b : Bool) → cond b (d ∷ kept ds) (kept ds) ≡ [] → (kept ds ≡ [] → kept (ds ++ ys) ≡ []) → cond b (d ∷ kept (ds ++ ys)) (kept (ds ++ ys)) ≡ []
     by true h rec = cc
     by false h rec = rec h
+
+pub kept-none : (ds : List DeclaredId) → kept ds ≡ [] → All (λ d. d.stays ≡ false) ds
+kept-none [] h = All-nil (λ d. d.stays ≡ false)
+kept-none (d ∷ ds) h = by d.stays refl h (kept-none ds)
+  where
+    no : (xs : List DeclaredId) → ◌≡◌ {A = List DeclaredId} (d ∷ xs) [] → ⊥
+    no xs h = cc
+
+    by : (b : Bool) → d.stays ≡ b → cond b (d ∷ kept ds) (kept ds) ≡ [] → (kept ds ≡ [] → All (λ d. d.stays ≡ false) ds) → All (λ d. d.stays ≡ false) (d ∷ ds)
+    by true is h rec = absurd (no (kept ds) h)
+    by false is h rec = All-cons (λ d. d.stays ≡ false) d ds is (rec h)
 
 abbrev Gone : Node → Type 0
 Gone n = (q : Sought) → q.stays ≡ false → kept (ids_declared n q) ≡ []
