@@ -19,7 +19,7 @@ pub enum TsError {
     #[error("too deep at {at}")]
     TooDeep { at: u32 },
     /// The grammar reads no module there, and the place is the greatest one at which a terminal failed; or a node that begins there breaks a
-    /// context rule, or is of a form that is not taken, and the place is the least of such a node.
+    /// context rule, or is of a form that is not taken and does not go with the types, and the place is the least of such a node.
     #[error("syntax error at {at}")]
     Syntax { at: u32 },
     /// The session has fewer marks left than the module needs (`ecma_scope::needs`).
