@@ -187,6 +187,9 @@ export const topics = [
       ["declares_nothing_by_ambient_declarations", `f(typeof x, typeof h, typeof A);`, { tree: `$ambient.x; $ambient_function.h; $ambient_class.A; f(typeof x, typeof h, typeof A);` }],
       ["has_no_parameter_this", `function h(a) { f(this, a); } h.call(1, 2);`, { tree: `$overload.h; function h($this, $typed_a) { f(this, a); } h.call(1, 2);` }],
       ["has_no_members_without_body", `class A { constructor() { f("x" in this); } } new A();`, { tree: `class A { $index; $abstract; $declared; $overload; $overloaded; constructor() { f("x" in this); } } new A();` }],
+      ["calls_blocks_of_namespaces", `(function () { f(h(), typeof c); var c = 1; let b = 2; f(b, c); if (b) return; f(3); function h() { return this; } })(); f(4);`, { tree: `$block: { f(h(), typeof c); var c = 1; let b = 2; f(b, c); if (b) return; f(3); function h() { return this; } } f(4);` }],
+      ["spends_a_turn_at_a_block", `(function () { f(1); })();`, { tree: `$block: { f(1); } f(2);`, turns: 0, before: ``, ending: "TurnsSpent" }],
+      ["has_no_effect_of_blocks_of_types", `f(1);`, { tree: `$block: { $interface.I; } f(1);`, turns: 0 }],
     ],
   },
   {

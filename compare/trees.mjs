@@ -264,7 +264,10 @@ function statement(n) {
     case "ForInStatement": return tree("kind.ForInStmt", head(n.left), expression(n.right), statement(n.body));
     case "SwitchStatement":
       return tree("kind.SwitchStmt", expression(n.discriminant), list(n.cases.map((c) => tree("kind.SwitchCase", c.test ? expression(c.test) : "absent", list(c.consequent.map(statement))))));
-    case "LabeledStatement": return tree("kind.LabeledStmt", `ident ${bytes(n.label.name)}`, statement(n.body));
+    // what stands for the block of a namespace as a statement
+    case "LabeledStatement":
+      if (n.label.name === "$block") return tree("kind.TsModuleBlock", list(n.body.body.map(statement)));
+      return tree("kind.LabeledStmt", `ident ${bytes(n.label.name)}`, statement(n.body));
     case "BreakStatement": return tree("kind.BreakStmt", label(n.label));
     case "ContinueStatement": return tree("kind.ContinueStmt", label(n.label));
     case "ReturnStatement": return `returns ${n.argument ? inner(expression(n.argument)) : "absent"}`;

@@ -58,7 +58,7 @@ steps m x ns is shaped shaped' =
 pub observed_alike : (m : Node) → Shaped m → (turns : ℕ) (options : Config) (script : Script) → observe turns options (with_bound_names m) script ≡ observe turns options m script
 observed_alike m shaped turns options script =
     ap (λ n. observe n options (with_bound_names m) script) (sym (add-zero turns))
-    ∙ observe_unless (images_where Shaped with_bound_names (meaning m).declared the_same) refl (steps m) refl turns options m script shaped refl tt tt (none_excused _)
+    ∙ observe_unless (images_where Shaped with_bound_names (meaning m).declared the_same) refl (steps m) refl refl turns options m script shaped refl tt tt (none_excused _)
 
 pub runs_alike : BoundNamesRunAlike
 runs_alike tree sorted = observed_alike tree (one sort.Module, sorted)

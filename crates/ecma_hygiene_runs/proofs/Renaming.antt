@@ -21,7 +21,7 @@ use Rattle.ecma_runs.proofs.Meanings.{Same}
 use Rattle.ecma_runs.proofs.Premises.{renamed_kind, StillClash, KeptLayer}
 use Rattle.ecma_runs.proofs.Steps.{step_same}
 use Rattle.ecma_runs.proofs.Kept.{AllNodes, Kept, StepsAlike, layer_same, observe_unless}
-use Rattle.ecma_runs.proofs.Layers.{always, nothing_excused, none_excused}
+use Rattle.ecma_runs.proofs.Layers.{the_same, images_named, none_excused}
 use Rattle.ecma_runs.proofs.Standing.{Passes, passes_parts, BindingsPass, declares}
 use Rattle.ecma_hygiene_runs.specs.KeyNames.{KeyNames, is_name_by, at_names, key_names_by, key_names, key_names_in}
 
@@ -173,22 +173,7 @@ module _ (to : Id → Id) (m : Node) (renaming : Renames to m) where
   new_names = record { to = to; kept = renaming.stands; injective = renaming.one_to_one }
 
   abbrev change : Change
-  change = record {
-    node = renamed to;
-    fine = λ n. Passes renaming.stands n × TextsStay to (key_names_in n);
-    names = new_names;
-    declared = (meaning m).declared;
-    texts = renaming.free_texts;
-    more = 0;
-    before = [];
-    excused = nothing_excused;
-    turns_excused = inl refl;
-    holds = always;
-    falls = λ n h. tt;
-    uses = true;
-    said = λ events. Unit {0};
-    adds = λ u events event h. tt;
-  }
+  change = images_named (λ n. Passes renaming.stands n × TextsStay to (key_names_in n)) (renamed to) new_names (meaning m).declared renaming.free_texts the_same
 
   both_all : (cs : List Node) → AllNodes (Passes renaming.stands) cs → AllNodes (λ n. TextsStay to (key_names_in n)) cs → AllNodes change.fine cs
   both_all [] p q = tt
@@ -286,4 +271,4 @@ module _ (to : Id → Id) (m : Node) (renaming : Renames to m) where
   pub renamed_kept : (turns : ℕ) (options : Config) (script : Script) → observe turns options (renamed to m) script ≡ observe turns options m script
   renamed_kept turns options script =
       ap (λ n. observe n options (renamed to m) script) (sym (add-zero turns))
-      ∙ observe_unless change refl renaming_steps refl turns options m script (renaming.all_stand, renaming.key_texts) refl tt tt (none_excused _)
+      ∙ observe_unless change refl renaming_steps refl refl turns options m script (renaming.all_stand, renaming.key_texts) refl tt tt (none_excused _)

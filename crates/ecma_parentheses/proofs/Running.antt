@@ -385,7 +385,7 @@ ended_runs turns options m script h =
     let x = out-Node m in
     let of_module : belongs sort.Module x.kind ≡ true = ((node_has_shape x.span x.kind x.children (one sort.Module)).0 (subst (HasShape (one sort.Module)) (sym (roll-out-Node m)) h)).0 in
     ap (λ n. observe n options (ended m) script) (sym (add-zero turns))
-    ∙ observe_unless (c (meaning m).declared) refl (steps (meaning m).declared) refl turns options m script ((one sort.Module, h), module_gives_none x.kind of_module) refl tt tt (none_excused _)
+    ∙ observe_unless (c (meaning m).declared) refl (steps (meaning m).declared) refl refl turns options m script ((one sort.Module, h), module_gives_none x.kind of_module) refl tt tt (none_excused _)
 
 pub runs_alike : ParenthesesDoNotMatter → RunsAlike
 runs_alike parentheses_do_not_matter turns options m script h =

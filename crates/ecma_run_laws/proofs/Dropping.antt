@@ -1,5 +1,5 @@
 -- Lists of which items go do alike, where what goes does nothing in the roles in which the list is used.
-use Rattle.std.proofs.Common.{◌≡◌, inl, refl, sym, ap, ◌∙◌, subst, List, [], ◌∷◌, map, filter, Bool, true, false, not, cond}
+use Rattle.std.proofs.Common.{◌≡◌, refl, sym, ap, ◌∙◌, subst, List, [], ◌∷◌, map, filter, Bool, true, false, not, cond}
 use Rattle.ecma_kind.specs.declared.kind.Kind.{Kind}
 use Rattle.ecma_kind.specs.declared.kind.Kind.TheVariants as kind
 use Rattle.ecma_tree.specs.declared.node.Node.{Node, Node-F, out-Node}
@@ -14,7 +14,7 @@ use Rattle.ecma_runs.proofs.Meanings.{Same}
 use Rattle.ecma_runs.proofs.Lists.{Silent, Item, Stays, Goes, before, behind}
 use Rattle.ecma_runs.proofs.Steps.{list_same}
 use Rattle.ecma_runs.proofs.Kept.{AllNodes, Kept}
-use Rattle.ecma_runs.proofs.Layers.{always, nothing_excused}
+use Rattle.ecma_runs.proofs.Layers.{the_same, images_named}
 use Rattle.ecma_runs.proofs.Standing.{Passes, passes_parts}
 use Rattle.ecma_run_laws.specs.Lessened.{Lessened, fewer, left_of, lessened_step, lessened, without}
 use Rattle.ecma_run_laws.proofs.Lessening.{IsOther, list_left, other_left}
@@ -28,22 +28,7 @@ module _ (gone : Id → Bool) where
 
   -- functions keep what is left of their nodes, in which no name stands that goes
   abbrev pub dropping : List Id → Change
-  dropping declared = record {
-    node = without gone;
-    fine = λ n. Passes stands (without gone n);
-    names = names_left;
-    declared = declared;
-    texts = λ id kept free. refl;
-    more = 0;
-    before = [];
-    excused = nothing_excused;
-    turns_excused = inl refl;
-    holds = always;
-    falls = λ n h. tt;
-    uses = true;
-    said = λ events. Unit {0};
-    adds = λ u events event h. tt;
-  }
+  dropping declared = images_named (λ n. Passes stands (without gone n)) (without gone) names_left declared (λ id kept free. refl) the_same
 
   module _ (declared : List Id) (goes : Node → Bool) (left : Lessened → Node)
       (fewer_left : (parts : Node-F Lessened) → left (lessened_step gone parts) ≡ fewer goes parts.span parts.kind parts.children (left_of parts.kind parts.children))

@@ -33,7 +33,7 @@ module _ (test : Node → Bool) (f : Node → Node) (keeps : KeepsMeanings test 
 pub equal_parts_may_stand_for_each_other : EqualPartsMayStandForEachOther
 equal_parts_may_stand_for_each_other test f keeps turns options m script passes =
     ap (λ n. observe n options (f m) script) (sym (add-zero turns))
-    ∙ observe_unless (exchange test f keeps (meaning m).declared) refl (steps test f keeps (meaning m).declared) refl turns options m script passes refl tt tt (none_excused _)
+    ∙ observe_unless (exchange test f keeps (meaning m).declared) refl (steps test f keeps (meaning m).declared) refl refl turns options m script passes refl tt tt (none_excused _)
 
 pub equal_expressions_may_stand_for_each_other : EqualExpressionsMayStandForEachOther
 equal_expressions_may_stand_for_each_other swap same =

@@ -9,4 +9,5 @@ pub mod Standing
 pub mod Unused
 pub mod Staying
 pub mod Declaring
+pub mod Lowering
 mod Instances

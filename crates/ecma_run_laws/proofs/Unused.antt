@@ -242,4 +242,4 @@ module _ (gone : Id → Bool) (declared : List Id) where
 pub unused_names_do_not_matter : UnusedNamesDoNotMatter
 unused_names_do_not_matter gone turns options m script unused =
     ap (λ n. observe n options (without gone m) script) (sym (add-zero turns))
-    ∙ observe_unless (dropping gone (meaning m).declared) refl (steps gone (meaning m).declared) refl turns options m script unused refl tt tt (none_excused _)
+    ∙ observe_unless (dropping gone (meaning m).declared) refl (steps gone (meaning m).declared) refl refl turns options m script unused refl tt tt (none_excused _)

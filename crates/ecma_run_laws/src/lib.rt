@@ -5,6 +5,7 @@
 
 ghost use Rattle.ecma_run_laws.specs.Exchanged.{EqualPartsMayStandForEachOther, EqualExpressionsMayStandForEachOther, EqualReferencesMayStandForEachOther};
 ghost use Rattle.ecma_run_laws.specs.Lessened.{UnusedNamesDoNotMatter, WhatIsUsedStays, NewNamesMayBeDeclared};
+ghost use Rattle.ecma_run_laws.specs.Lowered.{BlocksMayBeCalledAsFunctions};
 
 /// A module is observed to do what its image under a map of trees does, where what the map makes of a node means, in each role, what the node's kind makes
 /// of what the images of its children mean.
@@ -35,4 +36,10 @@ pub fn what_is_used_stays()
 /// Imports, and `var` and `let` without a value, may come to the head of a module in which no identifier has their names.
 pub fn new_names_may_be_declared()
     ensures { NewNamesMayBeDeclared }
+{}
+
+/// The block of a namespace that has more than types may be written as a function that is called where it stands: the run is the same, turns and places too, unless it
+/// meets something open.
+pub fn blocks_may_be_called_as_functions()
+    ensures { BlocksMayBeCalledAsFunctions }
 {}

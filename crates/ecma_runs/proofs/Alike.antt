@@ -1,9 +1,9 @@
 -- Runs that do alike: what a run does from a state, the other does from the changed state. One lemma a combinator.
-use Rattle.std.proofs.Common.{◌≡◌, ℕ, zero, suc, ◌+◌, ◌++◌, ◌⊎◌, inl, inr, refl, List, [], ◌∷◌, map, Option, Some, None, Bool, true, false, option_map, suc-add}
+use Rattle.std.proofs.Common.{◌≡◌, ℕ, zero, suc, ◌+◌, ◌++◌, ◌⊎◌, inl, inr, refl, sym, subst, List, [], ◌∷◌, map, Option, Some, None, Bool, true, false, option_map, suc-add}
 use Rattle.ecma_tree.specs.declared.node.Node.{Node}
 use Rattle.ecma_runs.specs.declared.observation.Event.{Event}
 use Rattle.ecma_runs.specs.Values.{Value}
-use Rattle.ecma_runs.specs.State.{Id, Callable, Code, Bound, Object, State}
+use Rattle.ecma_runs.specs.State.{Id, Closure, Callable, Code, Bound, Passed, Object, State}
 use Rattle.ecma_runs.specs.Run.{Stop, TurnsSpent, Outside, Outcome, Done, Thrown, Returned, Broken, Continued, Ended, Run, then_outcome, ◌>>=◌, give, throw, return, break, continue, stop, outside, when, given_or, given, each, catch_outcome, catching, finally_outcome, finally, round_outcome, round, loop_outcome, loop, body_outcome, returned_by, spend_of, spend}
 use Rattle.ecma_runs.specs.Environment.{is_among}
 use Rattle.ecma_runs.proofs.Names.{Naming, changed_environment}
@@ -13,6 +13,8 @@ pub record Change : Type 1 where
   -- each function keeps another node, and these are the nodes that functions keep
   pub node : Node → Node
   pub fine : Node → Type 0
+  -- a function that is passed over is so in the other run too, where this is none, or it is one there that keeps this node
+  pub passed : Option (Node → Node)
   -- names are others, or gone
   pub names : Naming
   -- the ids that the module declares; free names keep their text
@@ -25,6 +27,8 @@ pub record Change : Type 1 where
   pub excused : Stop → Bool
   -- with more turns, nothing is said where turns were spent
   pub turns_excused : (more ≡ 0) ⊎ (excused TurnsSpent ≡ true)
+  -- with functions for what is passed over, nothing is said of what is open
+  pub passed_excused : (passed ≡ None) ⊎ (excused Outside ≡ true)
   -- what is said of the number of turns, which only falls
   pub holds : ℕ → Type 0
   pub falls : (n : ℕ) → holds (suc n) → holds n
@@ -51,10 +55,15 @@ spends_none more true e s = tt
 spends_none more false (inl none) s = rw none refl
 spends_none more false (inr e) s = absurd (cc)
 
+abbrev pub passed_to : (Node → Node) → Option (Node → Node) → Closure → Callable
+passed_to node None closure = Passed (record closure { node = node closure.node })
+passed_to node (Some function) closure = Code (record closure { node = function closure.node })
+
 module _ (c : Change) where
   abbrev pub changed_callable : Callable → Callable
   changed_callable (Code closure) = Code (record closure { node = c.node closure.node })
   changed_callable (Bound target this given) = Bound target this given
+  changed_callable (Passed closure) = passed_to c.node c.passed closure
 
   abbrev pub changed_object : Object → Object
   changed_object o = record o { callable = option_map changed_callable o.callable }
@@ -75,6 +84,7 @@ module _ (c : Change) where
   FineCallable None = Unit {0}
   FineCallable (Some (Code closure)) = c.fine closure.node
   FineCallable (Some (Bound target this given)) = Unit {0}
+  FineCallable (Some (Passed closure)) = Unit {0}
 
   abbrev pub AllFine : List Object → Type 0
   AllFine [] = Unit {0}
@@ -142,6 +152,20 @@ module _ (c : Change) where
 
   pub outside_alike : {A : Type 0} {to : A → A} {P : A → Type 0} → AlikeBy to P outside outside
   outside_alike = stop_alike Outside
+
+  -- behind a stop that is excused, nothing is said
+  pub excused_alike : {A : Type 0} {to : A → A} {P : A → Type 0} (why : Stop) {m' : Run A} → c.excused why ≡ true → AlikeBy to P (stop why) m'
+  excused_alike why {m' = m'} e = record { at = λ s g. (subst (λ b. Unless b (m' (changed s) ≡ Ended why (changed s))) (sym e) tt, g.2) }
+
+  passed_by : {A : Type 0} (k : Callable → Run A) (closure : Closure) (o : Option (Node → Node)) → (o ≡ None) ⊎ (c.excused Outside ≡ true)
+      → k (Passed (record closure { node = c.node closure.node })) ≡ outside → Alike outside (k (passed_to c.node o closure))
+  passed_by k closure None e open' = rw open' outside_alike
+  passed_by k closure (Some function) (inl e) open' = absurd (cc)
+  passed_by k closure (Some function) (inr e) open' = excused_alike Outside e
+
+  -- what is open at a function that is passed over
+  pub passed_alike : {A : Type 0} (k : Callable → Run A) (closure : Closure) → k (Passed (record closure { node = c.node closure.node })) ≡ outside → Alike outside (k (changed_callable (Passed closure)))
+  passed_alike k closure open' = passed_by k closure c.passed c.passed_excused open'
 
   pub when_alike : {A : Type 0} {to : A → A} {P : A → Type 0} (b : Bool) {m m' k k' : Run A} → AlikeBy to P m m' → AlikeBy to P k k' → AlikeBy to P (when b m k) (when b m' k')
   when_alike true hm hk = hm

@@ -1,7 +1,7 @@
 -- Calls may be defined as deep as one likes: a call is `apply` of calls.
 use Rattle.std.proofs.Common.{add-zero, ◌≡◌, ℕ, zero, suc, ◌≤◌, inl, refl, sym, ap, ap₂, ◌∙◌, subst, List, [], ◌∷◌, map, Option, Some, None, option_map, arith}
 use Rattle.ecma_runs.specs.Values.{Value}
-use Rattle.ecma_runs.specs.State.{Id, Environment, Callable, Code, Bound, Object, State}
+use Rattle.ecma_runs.specs.State.{Id, Environment, Callable, Code, Bound, Passed, Object, State}
 use Rattle.ecma_runs.specs.Run.{Outcome, Done, Thrown, Returned, Broken, Continued, Ended, TurnsSpent, Run}
 use Rattle.ecma_runs.specs.Host.{Provided}
 use Rattle.ecma_runs.specs.Meaning.{Invocation}
@@ -28,6 +28,7 @@ module _ (k : ℕ) (declared : List Id) where
   fine_callable None = tt
   fine_callable (Some (Code closure)) = tt
   fine_callable (Some (Bound target this given)) = tt
+  fine_callable (Some (Passed closure)) = tt
 
   pub fine_all : (os : List Object) → AllFine (below k declared) os
   fine_all [] = tt
@@ -37,6 +38,7 @@ module _ (k : ℕ) (declared : List Id) where
   same_callable None = refl
   same_callable (Some (Code closure)) = refl
   same_callable (Some (Bound target this given)) = refl
+  same_callable (Some (Passed closure)) = refl
 
   same_objects : (os : List Object) → map (changed_object (below k declared)) os ≡ os
   same_objects [] = refl
@@ -85,14 +87,14 @@ module _ (provided : Provided) where
     calls_as place how arguments = record {
       at = λ s g. subst (λ r. Follows (below k declared) (λ a. a) (λ a. Unit {0}) (calls provided declared n place how arguments s) r)
           (ap (λ z. calls provided also z place how arguments (changed (below k declared) s)) (add-zero n) ∙ agrees also place how arguments (changed (below k declared) s) (let h : s.turns ≤ k = g.1 in omega arith))
-          ((calls_alike (below k declared) (steps k declared) provided refl n place how arguments).at s g);
+          ((calls_alike (below k declared) (steps k declared) provided refl refl n place how arguments).at s g);
     }
 
     -- what is applied agrees as well
     applied_as : (place : ℕ) (how : Invocation) (arguments : List Value) (s : State) → s.turns ≤ k
         → apply_at (calls provided declared n) provided declared place how arguments s ≡ apply_at (other declared) provided declared place how arguments s
     applied_as place how arguments s h =
-        sym (same_outcome k declared _ _ ((apply_at_alike (below k declared) (steps k declared) provided refl (calls provided declared n) (other also) calls_as place how arguments).at s (fine_all k declared s.objects, h, tt)))
+        sym (same_outcome k declared _ _ ((apply_at_alike (below k declared) (steps k declared) provided refl (calls provided declared n) (other also) calls_as (λ some. absurd (cc)) place how arguments).at s (fine_all k declared s.objects, h, tt)))
         ∙ ap₂ (λ ids t. apply_at (other ids) provided ids place how arguments t) (same_ids declared) (same_state k declared s)
 
   deep_turns : (k : ℕ) → Deep k → (n m : ℕ) → k ≤ n → k ≤ m → (declared : List Id) (place : ℕ) (how : Invocation) (arguments : List Value) (s : State) (t : ℕ) → s.turns ≡ t → t ≤ suc k

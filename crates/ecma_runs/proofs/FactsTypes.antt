@@ -7,7 +7,7 @@ use Rattle.ecma_kind.specs.declared.operators.BinaryOp.TheVariants as binary
 use Rattle.ecma_kind.specs.declared.operators.MethodKind.TheVariants as method
 use Rattle.ecma_kind.specs.declared.operators.UnaryOp.TheVariants as unary
 use Rattle.ecma_kind.specs.declared.operators.UpdateOp.TheVariants as update
-use Rattle.ecma_kind.specs.declared.operators.VarDeclKind.TheVariants.{Let}
+use Rattle.ecma_kind.specs.declared.operators.VarDeclKind.TheVariants.{Var, Let}
 use Rattle.ecma_runs.specs.declared.observation.Event.TheVariants.{HostCall}
 use Rattle.ecma_runs.specs.declared.observation.Ending.TheVariants as ending
 use Rattle.ecma_runs.specs.declared.shown.Shown.TheVariants as shown
@@ -82,3 +82,30 @@ has_no_members_without_body :
     ▸ End)
     (HostCall 7 shown.Undefined (shown.Bool false ∷ []) ∷ []) (ending.Done [])
 has_no_members_without_body = simp meaning_node refl
+
+-- (function () { f(h(), typeof c); var c = 1; let b = 2; f(b, c); if (b) return; f(3); function h() { return this; } })(); f(4);
+calls_blocks_of_namespaces :
+    Does 9 nulls []
+    (tree kind.TsModuleBlock (list (statement (call (ident (codes "f")) (call (ident (codes "h")) End ▸ unary unary.TypeOf (ident (codes "c")) ▸ End)) ▸ declare Var (codes "c") (whole 1) ▸ declare Let (codes "b") (whole 2) ▸ statement (call (ident (codes "f")) (ident (codes "b") ▸ ident (codes "c") ▸ End)) ▸ tree kind.IfStmt (ident (codes "b") ▸ returns absent ▸ absent ▸ End) ▸ statement (call (ident (codes "f")) (whole 3 ▸ End)) ▸ declare_function (codes "h") End (returns this' ▸ End) ▸ End) ▸ End)
+    ▸ statement (call (ident (codes "f")) (whole 4 ▸ End))
+    ▸ End)
+    (HostCall 7 shown.Undefined (shown.Undefined ∷ shown.Text (codes "undefined") ∷ []) ∷ HostCall 7 shown.Undefined (shown.Num (js_number.Whole (pos 2)) ∷ shown.Num (js_number.Whole (pos 1)) ∷ []) ∷ HostCall 7 shown.Undefined (shown.Num (js_number.Whole (pos 4)) ∷ []) ∷ []) (ending.Done [])
+calls_blocks_of_namespaces = simp meaning_node refl
+
+-- (function () { f(1); })();
+spends_a_turn_at_a_block :
+    Does 0 nulls []
+    (tree kind.TsModuleBlock (list (statement (call (ident (codes "f")) (whole 1 ▸ End)) ▸ End) ▸ End)
+    ▸ statement (call (ident (codes "f")) (whole 2 ▸ End))
+    ▸ End)
+    [] (ending.TurnsSpent)
+spends_a_turn_at_a_block = simp meaning_node refl
+
+-- f(1);
+has_no_effect_of_blocks_of_types :
+    Does 0 nulls []
+    (tree kind.TsModuleBlock (list (tree (kind.TsInterfaceDecl false) (ident (codes "I") ▸ End) ▸ End) ▸ End)
+    ▸ statement (call (ident (codes "f")) (whole 1 ▸ End))
+    ▸ End)
+    (HostCall 7 shown.Undefined (shown.Num (js_number.Whole (pos 1)) ∷ []) ∷ []) (ending.Done [])
+has_no_effect_of_blocks_of_types = simp meaning_node refl

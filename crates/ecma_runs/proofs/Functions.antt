@@ -9,7 +9,7 @@ use Rattle.ecma_runs.specs.Host.{show, is_open_object, is_open_callee}
 use Rattle.ecma_runs.specs.Environment.{Reference, ToVariable, ToFree, ToMember, ToSuper, ToImportMeta, ToValue, with_arguments}
 use Rattle.ecma_runs.specs.Meaning.{AsCall, AsConstruct}
 use Rattle.ecma_runs.specs.Objects.{new_object, Calling, Function, BoundFunction}
-use Rattle.ecma_runs.specs.Functions.{made_arguments, arguments_by, read_name, read, write, read_object, read_typed, delete, Borrowing, Apply, Bind, Call, Callee, Called, CalledSuper, Borrowed, borrowing_of, own_callee, member_callee, callee_by, call_host, call_function, call_target, call_calling, call_own, call_value, call_super_calling, call_super_value, first_or_undefined, all_but_first, list_from, bound_to, bound_object, bind_function, call_borrowed, call, constructed, construct_function, construct_target, construct_calling, construct_own, construct, own, super_call, new_prototype, new_function, function_entries, prototype_entries, make_function, parent_from, prototype_for}
+use Rattle.ecma_runs.specs.Functions.{made_arguments, arguments_by, read_name, read, write, read_object, read_typed, delete, Borrowing, Apply, Bind, Call, Callee, Called, CalledSuper, Borrowed, borrowing_of, own_callee, member_callee, callee_by, call_host, call_function, call_target, call_calling, call_own, call_value, call_super_calling, call_super_value, first_or_undefined, all_but_first, list_from, bound_to, function_object, bind_function, call_borrowed, call, constructed, construct_function, construct_target, construct_calling, construct_own, construct, own, super_call, new_prototype, new_function, function_entries, prototype_entries, make_function, parent_from, prototype_for}
 use Rattle.ecma_runs.proofs.Alike.{Change, changed_callable, FineCallable, Alike, bind_alike, give_alike, throw_alike, outside_alike, when_alike, given_alike, each_alike}
 use Rattle.ecma_runs.proofs.Environments.{read_variable_alike, write_variable_alike, activation_alike, set_activation_alike, bind_this_alike, changed_reference, KeptReference, show_alike, use_host_alike, read_free_alike, read_free_typed_alike}
 use Rattle.ecma_runs.proofs.Objects.{new_object_alike, calling_at_alike, prototype_at_alike, found_from_alike, elements_at_alike, new_arguments_alike}
@@ -89,7 +89,7 @@ module _ (c : Change) where
   bind_function_alike : (place : ℕ) (this : Value) (given : List Value) → Alike c (bind_function place this given) (bind_function place this given)
   bind_function_alike place this given =
       bind_alike c (calling_at_alike c place) (λ o. bind_alike c (prototype_at_alike c place) (λ p.
-      bind_alike c (subst (λ z. Alike c (new_object (bound_object p (bound_to place this given o))) (new_object (bound_object p z))) (bound-changed place this given o) (new_object_alike c _ (fine_bound place this given o)))
+      bind_alike c (subst (λ z. Alike c (new_object (function_object function_entries p (bound_to place this given o))) (new_object (function_object function_entries p z))) (bound-changed place this given o) (new_object_alike c _ (fine_bound place this given o)))
       (λ f. give_alike c (Own f))))
 
   module _ (w : World c) (u : c.uses ≡ true) where

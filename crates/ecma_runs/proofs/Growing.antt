@@ -16,7 +16,8 @@ use Rattle.ecma_runs.specs.Evaluation.{meaning}
 use Rattle.ecma_runs.specs.Observation.{module_context, run_body, act, run_actions, module_activation, run_module, start, observed}
 use Rattle.ecma_runs.specs.Laws.{state_behind, Extends, EventsOnlyGrow}
 use Rattle.ecma_runs.proofs.Alike.{Change, changed, Follows, Alike, each_alike}
-use Rattle.ecma_runs.proofs.Kept.{StepsAlike, module_world, act_alike, run_body_alike}
+use Rattle.ecma_runs.proofs.Meanings.{World}
+use Rattle.ecma_runs.proofs.Kept.{StepsAlike, invoke_alike, module_world, act_alike, run_body_alike}
 use Rattle.ecma_runs.proofs.Layers.{same_ids, Telling, always, nothing_excused, images, itself_layers, layers_alike}
 use Rattle.ecma_runs.proofs.Depth.{same_state, fine_all}
 
@@ -48,15 +49,18 @@ grows declared m h s =
     (subst (λ t. Follows (behind declared s.events) (λ a. a) (λ a. Unit {0}) (m (record s { events = [] })) (m t)) (changed_back declared s) ((h s.events).at (record s { events = [] }) (fine_all 0 declared s.objects, tt, tt)))
 
 module _ (provided : Provided) (declared : List Id) (place : ℕ) where
+  abbrev behind_world : (before : List Event) → World (behind declared before)
+  behind_world before = module_world (behind declared before) (behind_steps declared before) provided (λ u. invoke_alike (behind declared before) (behind_steps declared before) provided u refl) place
+
   act_behind : (a : Action) (before : List Event) → Alike (behind declared before) (act (module_context provided declared place) a) (act (module_context provided declared place) a)
   act_behind a before =
       subst (λ ids. Alike (behind declared before) (act (module_context provided declared place) a) (act (module_context provided ids place) a)) (same_ids declared)
-      (act_alike (behind declared before) (behind_steps declared before) (module_world (behind declared before) (behind_steps declared before) provided place) refl a)
+      (act_alike (behind declared before) (behind_steps declared before) (behind_world before) refl a)
 
   body_behind : (m : Node) (before : List Event) → Alike (behind declared before) (run_body (module_context provided declared place) m) (run_body (module_context provided declared place) m)
   body_behind m before =
       subst (λ ids. Alike (behind declared before) (run_body (module_context provided declared place) m) (run_body (module_context provided ids place) m)) (same_ids declared)
-      (run_body_alike (behind declared before) (behind_steps declared before) (module_world (behind declared before) (behind_steps declared before) provided place) m tt)
+      (run_body_alike (behind declared before) (behind_steps declared before) (behind_world before) m tt)
 
 -- a run and another that has the same events, and maybe more
 record HasMore {A B : Type 0} (m : Run A) (m' : Run B) : Type 0 where

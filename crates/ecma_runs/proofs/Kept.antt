@@ -1,5 +1,5 @@
 -- A map of trees by which a node and its image mean alike where their children do keeps whole runs: the meaning of each node, calls, and what is observed.
-use Rattle.std.proofs.Common.{◌≡◌, ◌≢◌, ℕ, zero, suc, ◌+◌, ◌++◌, ◌⊎◌, inl, inr, refl, sym, ap, ◌∙◌, subst, List, [], ◌∷◌, map, Option, Some, None, Bool, true, false, option_map, suc-add}
+use Rattle.std.proofs.Common.{◌≡◌, ◌≢◌, ℕ, zero, suc, ◌+◌, ◌++◌, ◌⊎◌, inl, inr, refl, sym, ap, ◌∙◌, subst, List, [], ◌∷◌, map, Option, Some, None, Bool, true, false, is_some, suc-add}
 use Rattle.ecma_tree.specs.declared.node.Node.{Node, Node-F, roll-Node, ind-Node}
 use Rattle.ecma_runs.specs.declared.config.Config.{Config}
 use Rattle.ecma_runs.specs.declared.observation.Ending.{Ending}
@@ -13,7 +13,6 @@ use Rattle.ecma_runs.specs.Values.{Value, Undefined, Own, Host, Error}
 use Rattle.ecma_runs.specs.State.{Id, Activation, Sort, Plain, Method, Arrow, BaseClass, DerivedClass, Closure, State}
 use Rattle.ecma_runs.specs.Run.{each, Stop, TurnsSpent, Outside, Outcome, Done, Thrown, Returned, Broken, Continued, Ended, Run}
 use Rattle.ecma_runs.specs.Environment.{empty}
-use Rattle.ecma_runs.specs.Objects.{closure_at}
 use Rattle.ecma_runs.specs.Host.{Provided, provided_by, taken}
 use Rattle.ecma_runs.specs.Meaning.{Invocation, AsCall, AsConstruct, Functions}
 use Rattle.ecma_runs.specs.Classes.{field_activation}
@@ -21,13 +20,14 @@ use Rattle.ecma_runs.specs.Evaluation.{meaning_by, meaning, entered, as_it_is, c
 use Rattle.ecma_runs.specs.Observation.{outcome_shown, shown_to_host, done_by, act, run_body, run_actions, module_activation, run_module, start, ending_of, observed, observe}
 use Rattle.ecma_runs.proofs.Layer.{meaning-roll}
 use Rattle.ecma_runs.proofs.Names.{changed_ids}
-use Rattle.ecma_runs.proofs.Alike.{Change, changed, Unless, unless_is, unless_map, Follows, Alike, bind_alike, give_alike, throw_alike, outside_alike, given_or_alike, each_alike, returned_by_alike, spend_alike}
+use Rattle.ecma_runs.proofs.Alike.{Change, changed, Unless, unless_is, unless_map, Follows, Alike, bind_alike, give_alike, throw_alike, outside_alike, excused_alike, given_or_alike, each_alike, spend_alike}
 use Rattle.ecma_runs.proofs.Environments.{new_environment_alike, activation_at_alike, handled_alike, taken_alike, show_alike}
-use Rattle.ecma_runs.proofs.Objects.{changed_closure, FineClosure, fine_closure, closure_at-changed, new_object_alike}
-use Rattle.ecma_runs.proofs.Meanings.{FunctionsAlike, World, first, second, within, Same, Both, firsts, seconds, empties}
+use Rattle.ecma_runs.proofs.Objects.{changed_closure, closure_at_alike, new_object_alike}
+use Rattle.ecma_runs.proofs.Meanings.{IsInvoke, FunctionsAlike, World, first, second, within, Same, Both, firsts, seconds, empties}
 use Rattle.ecma_runs.proofs.Members.{member_alike, set_member_alike}
 use Rattle.ecma_runs.proofs.Functions.{call_value_alike, construct_alike, prototype_for_alike}
 use Rattle.ecma_runs.proofs.Premises.{renamed_kind, KeptLayer}
+use Rattle.ecma_runs.proofs.Blocks.{in_record_alike}
 use Rattle.ecma_runs.proofs.Steps.{step_same}
 
 -- each of these nodes is one
@@ -76,6 +76,20 @@ no_call more true e provided declared place how arguments s = tt
 no_call more false (inl none) provided declared place how arguments s = rw none refl
 no_call more false (inr e) provided declared place how arguments s = absurd (cc)
 
+-- functions for what is passed over
+
+not_some : (o : Option (Node → Node)) → o ≡ None → is_some o ≡ true → ⊥
+not_some None none some = cc
+not_some (Some function) none some = cc
+
+some_excused : (o : Option (Node → Node)) (b : Bool) → (o ≡ None) ⊎ (b ≡ true) → is_some o ≡ true → b ≡ true
+some_excused o b (inl none) some = absurd (not_some o none some)
+some_excused o b (inr e) some = e
+
+module _ (c : Change) where
+  abbrev pub InvokesAlike : (ℕ → Invocation → List Value → Run Value) → (ℕ → Invocation → List Value → Run Value) → Type 0
+  InvokesAlike invoke invoke' = (place : ℕ) (how : Invocation) (arguments : List Value) → Alike c (invoke place how arguments) (invoke' place how arguments)
+
 module _ (c : Change) (steps : StepsAlike c) where
   -- each node and its image mean alike
   pub kept : (n : Node) → Kept c n
@@ -107,9 +121,7 @@ module _ (c : Change) (steps : StepsAlike c) where
     entered_alike : (a : Option Activation) (arguments : List Value) (finish : ℕ → Value → Run Value) → ((place : ℕ) (v : Value) → Alike c (finish place v) (finish place v))
         → Alike c (entered p.0 a arguments finish (first c w)) (entered p.1 a arguments finish (second c w))
     entered_alike a arguments finish h =
-        rw (p.2.parameter_names, empties c false p.0.parameter_names)
-        (bind_alike c (new_environment_alike c (map (empty false) p.0.parameter_names) a) (λ place.
-        bind_alike c (returned_by_alike c (λ _. Undefined) (p.2.code u arguments (within c w place))) (λ v. h place v)))
+        in_record_alike c w _ _ (ap (map (empty false)) p.2.parameter_names ∙ empties c false p.0.parameter_names) a (p.0.code arguments) (p.1.code arguments) (p.2.code u arguments) finish h
 
     construct_base_alike : (function : ℕ) (home : Option ℕ) (target : ℕ) (arguments : List Value) → Alike c (construct_base p.0 function home target arguments (first c w)) (construct_base p.1 function home target arguments (second c w))
     construct_base_alike function home target arguments =
@@ -138,53 +150,51 @@ module _ (c : Change) (steps : StepsAlike c) where
   module _ (provided : Provided) where
     -- closures that do alike
 
-    abbrev pub world : (f f' : Functions) → (c.uses ≡ true → FunctionsAlike c f f') → List ℕ → World c
-    world f f' h scope = record { functions = f; functions' = f'; alike = h; scope = scope; provided = provided }
-
-    abbrev pub InvokesAlike : (ℕ → Invocation → List Value → Run Value) → (ℕ → Invocation → List Value → Run Value) → Type 0
-    InvokesAlike invoke invoke' = (place : ℕ) (how : Invocation) (arguments : List Value) → Alike c (invoke place how arguments) (invoke' place how arguments)
+    abbrev pub world : (f f' : Functions) → (c.uses ≡ true → FunctionsAlike c provided f f') → List ℕ → World c
+    world f f' h scope = record { functions = f; functions' = f'; provided = provided; alike = h; scope = scope }
 
     abbrev pub declared' : List Id
     declared' = changed_ids c.names c.declared
 
     module _ (u : c.uses ≡ true) where
-      invoke_closure_alike : (f f' : Functions) → FunctionsAlike c f f' → (function : ℕ) (how : Invocation) (arguments : List Value) (o : Option Closure) → FineClosure c o
-          → Alike c (invoke_closure f provided c.declared function how arguments o) (invoke_closure f' provided declared' function how arguments (option_map (changed_closure c) o))
-      invoke_closure_alike f f' h function how arguments None fine = outside_alike c
-      invoke_closure_alike f f' h function how arguments (Some closure) fine = invoked_alike (world f f' (λ _. h) closure.scope) u (image closure.node fine) function closure.home closure.sort how arguments
+      invoke_closure_alike : (f f' : Functions) → FunctionsAlike c provided f f' → (function : ℕ) (how : Invocation) (arguments : List Value) (closure : Closure) → c.fine closure.node
+          → Alike c (invoke_closure f provided c.declared function how arguments (Some closure)) (invoke_closure f' provided declared' function how arguments (Some (changed_closure c closure)))
+      invoke_closure_alike f f' h function how arguments closure fine = invoked_alike (world f f' (λ _. h) closure.scope) u (image closure.node fine) function closure.home closure.sort how arguments
 
-      fields_of_closure_alike : (f f' : Functions) → FunctionsAlike c f f' → (object : Value) (o : Option Closure) → FineClosure c o
-          → Alike c (fields_of_closure f provided c.declared object o) (fields_of_closure f' provided declared' object (option_map (changed_closure c) o))
-      fields_of_closure_alike f f' h object None fine = outside_alike c
-      fields_of_closure_alike f f' h object (Some closure) fine = fields_by_alike (world f f' (λ _. h) closure.scope) u (image closure.node fine) closure.sort closure object
+      fields_of_closure_alike : (f f' : Functions) → FunctionsAlike c provided f f' → (object : Value) (closure : Closure) → c.fine closure.node
+          → Alike c (fields_of_closure f provided c.declared object (Some closure)) (fields_of_closure f' provided declared' object (Some (changed_closure c closure)))
+      fields_of_closure_alike f f' h object closure fine = fields_by_alike (world f f' (λ _. h) closure.scope) u (image closure.node fine) closure.sort closure object
 
-      fields_with_alike : (invoke₁ invoke₂ : ℕ → Invocation → List Value → Run Value) → InvokesAlike invoke₁ invoke₂ → (function : ℕ) (object : Value)
-          → Alike c (fields_with invoke₁ provided c.declared function object) (fields_with invoke₂ provided declared' function object)
-      fields_with_alike invoke₁ invoke₂ h function object = record {
-        at = λ s g. rw (closure_at-changed c function s)
-            ((fields_of_closure_alike (record { invoke = invoke₁; fields = no_fields }) (record { invoke = invoke₂; fields = no_fields })
-            (record { invoke = h; fields = λ place object. outside_alike c }) object (closure_at function s) (fine_closure c function s g.0)).at s g);
-      }
+      module _ (invoke₁ invoke₂ : ℕ → Invocation → List Value → Run Value) (h : InvokesAlike c invoke₁ invoke₂) (is : IsInvoke c provided invoke₂) where
+        fields_with_alike : (function : ℕ) (object : Value) → Alike c (fields_with invoke₁ provided c.declared function object) (fields_with invoke₂ provided declared' function object)
+        fields_with_alike function object =
+            closure_at_alike c (fields_of_closure (record { invoke = invoke₁; fields = no_fields }) provided c.declared object) (fields_of_closure (record { invoke = invoke₂; fields = no_fields }) provided declared' object) refl refl
+            (fields_of_closure_alike (record { invoke = invoke₁; fields = no_fields }) (record { invoke = invoke₂; fields = no_fields }) (record {
+              invoke = h;
+              fields = λ place object. outside_alike c;
+              is_invoke = is;
+              fields_as = λ some place object. excused_alike c Outside (some_excused c.passed (c.excused Outside) c.passed_excused some);
+            }) object) function
 
-      pub functions_with_alike : (invoke₁ invoke₂ : ℕ → Invocation → List Value → Run Value) → InvokesAlike invoke₁ invoke₂ → FunctionsAlike c (functions_with invoke₁ provided c.declared) (functions_with invoke₂ provided declared')
-      functions_with_alike invoke₁ invoke₂ h = record { invoke = h; fields = fields_with_alike invoke₁ invoke₂ h }
+        pub functions_with_alike : FunctionsAlike c provided (functions_with invoke₁ provided c.declared) (functions_with invoke₂ provided declared')
+        functions_with_alike = record { invoke = h; fields = fields_with_alike; is_invoke = is; fields_as = λ some. fields_with_alike }
 
-      pub apply_at_alike : (invoke₁ invoke₂ : ℕ → Invocation → List Value → Run Value) → InvokesAlike invoke₁ invoke₂ → InvokesAlike (apply_at invoke₁ provided c.declared) (apply_at invoke₂ provided declared')
-      apply_at_alike invoke₁ invoke₂ h function how arguments = record {
-        at = λ s g. rw (closure_at-changed c function s)
-            ((invoke_closure_alike (functions_with invoke₁ provided c.declared) (functions_with invoke₂ provided declared') (functions_with_alike invoke₁ invoke₂ h)
-            function how arguments (closure_at function s) (fine_closure c function s g.0)).at s g);
-      }
+        pub apply_at_alike : InvokesAlike c (apply_at invoke₁ provided c.declared) (apply_at invoke₂ provided declared')
+        apply_at_alike function how arguments =
+            closure_at_alike c (invoke_closure (functions_with invoke₁ provided c.declared) provided c.declared function how arguments) (invoke_closure (functions_with invoke₂ provided declared') provided declared' function how arguments) refl refl
+            (invoke_closure_alike (functions_with invoke₁ provided c.declared) (functions_with invoke₂ provided declared') functions_with_alike function how arguments) function
 
-      pub calls_alike : (n : ℕ) → InvokesAlike (calls provided c.declared n) (calls provided declared' (n + c.more))
-      calls_alike zero place how arguments = record { at = λ s g. (no_call c.more (c.excused TurnsSpent) c.turns_excused provided declared' place how arguments (changed c s), g.2) }
-      calls_alike (suc n) place how arguments = record {
-        at = λ s g. rw (suc-add n c.more)
-            ((bind_alike c (spend_alike c) (λ _. apply_at_alike (calls provided c.declared n) (calls provided declared' (n + c.more)) (calls_alike n) place how arguments)).at s g);
-      }
+      -- where the other run has no functions for what is passed over
+      module _ (none : c.passed ≡ None) where
+        pub calls_alike : (n : ℕ) → InvokesAlike c (calls provided c.declared n) (calls provided declared' (n + c.more))
+        calls_alike zero place how arguments = record { at = λ s g. (no_call c.more (c.excused TurnsSpent) c.turns_excused provided declared' place how arguments (changed c s), g.2) }
+        calls_alike (suc n) place how arguments = record {
+          at = λ s g. rw (suc-add n c.more)
+              ((bind_alike c (spend_alike c) (λ _. apply_at_alike (calls provided c.declared n) (calls provided declared' (n + c.more)) (calls_alike n) (λ some. absurd (not_some c.passed none some)) place how arguments)).at s g);
+        }
 
-      pub invoke_alike : InvokesAlike (invoke provided c.declared) (invoke provided declared')
-      invoke_alike place how arguments = record { at = λ s g. (calls_alike s.turns place how arguments).at s g }
+        pub invoke_alike : InvokesAlike c (invoke provided c.declared) (invoke provided declared')
+        invoke_alike place how arguments = record { at = λ s g. (calls_alike s.turns place how arguments).at s g }
 
   -- the body, and the actions behind it
 
@@ -230,19 +240,22 @@ module _ (c : Change) (steps : StepsAlike c) where
     run_actions_alike actions may (answer.Return v) = bind_alike c (each_act_alike actions may) (λ answers. give_alike c (ending.Done answers))
     run_actions_alike actions may (answer.Throw v) = give_alike c (ending.Thrown v)
 
-  -- a module's run
+  -- a module's run, where calls do alike
 
-  module _ (provided : Provided) where
+  abbrev pub CallsDoAlike : Provided → Type 0
+  CallsDoAlike provided = c.uses ≡ true → InvokesAlike c (invoke provided c.declared) (invoke provided (declared' provided))
+
+  module _ (provided : Provided) (calls_do : CallsDoAlike provided) where
     abbrev pub module_world : ℕ → World c
     module_world place = world provided (functions_with (invoke provided c.declared) provided c.declared) (functions_with (invoke provided (declared' provided)) provided (declared' provided))
-        (λ u. functions_with_alike provided u (invoke provided c.declared) (invoke provided (declared' provided)) (invoke_alike provided u)) (place ∷ [])
+        (λ u. functions_with_alike provided u (invoke provided c.declared) (invoke provided (declared' provided)) (calls_do u) (λ some. refl)) (place ∷ [])
 
-  module _ (script : Script) where
+  module _ (script : Script) (calls_do : CallsDoAlike (provided_by script)) where
     pub run_module_alike : (n : Node) → c.fine n → (meaning n).declared ≡ c.declared → (c.uses ≡ true) ⊎ (script.actions ≡ []) → Alike c (run_module n script) (run_module (c.node n) script)
     run_module_alike n fine is may =
         rw ((kept n fine).locals, (kept n fine).declared, is)
         (bind_alike c (new_environment_alike c (meaning n).locals (Some module_activation)) (λ place.
-        bind_alike c (run_body_alike (module_world (provided_by script) place) n fine) (λ outcome. run_actions_alike (module_world (provided_by script) place) script.actions may outcome)))
+        bind_alike c (run_body_alike (module_world (provided_by script) calls_do place) n fine) (λ outcome. run_actions_alike (module_world (provided_by script) calls_do place) script.actions may outcome)))
 
 unless_not : {P : Type 0} (b : Bool) → b ≢ true → Unless b P → P
 unless_not true h p = absurd (h refl)
@@ -266,8 +279,12 @@ module _ (c : Change) (none_before : c.before ≡ []) where
   starts : (turns : ℕ) (script : Script) → changed c (start turns script) ≡ start (turns + c.more) script
   starts turns script = ap (λ b. record { environments = []; objects = []; handles = []; answers = script.answers; events = b ++ []; turns = turns + c.more }) none_before
 
-  pub observe_unless : StepsAlike c → c.uses ≡ true → (turns : ℕ) (options : Config) (m : Node) (script : Script) → c.fine m → (meaning m).declared ≡ c.declared → c.holds turns → c.said []
+  pub observe_while : (steps : StepsAlike c) → c.uses ≡ true → (script : Script) → CallsDoAlike c steps (provided_by script) → (turns : ℕ) (options : Config) (m : Node) → c.fine m → (meaning m).declared ≡ c.declared → c.holds turns → c.said []
       → IsNotExcused c.excused (observe turns options m script).ending → observe (turns + c.more) options (c.node m) script ≡ observe turns options m script
-  observe_unless steps u turns options m script fine is holds said h =
+  observe_while steps u script calls_do turns options m fine is holds said h =
       ap (λ s. observed (run_module (c.node m) script s)) (sym (starts turns script))
-      ∙ observed_follows _ _ ((run_module_alike c steps script m fine is (inl u)).at (start turns script) (tt, holds, said)) h
+      ∙ observed_follows _ _ ((run_module_alike c steps script calls_do m fine is (inl u)).at (start turns script) (tt, holds, said)) h
+
+  pub observe_unless : StepsAlike c → c.uses ≡ true → c.passed ≡ None → (turns : ℕ) (options : Config) (m : Node) (script : Script) → c.fine m → (meaning m).declared ≡ c.declared → c.holds turns → c.said []
+      → IsNotExcused c.excused (observe turns options m script).ending → observe (turns + c.more) options (c.node m) script ≡ observe turns options m script
+  observe_unless steps u none turns options m script = observe_while steps u script (λ u. invoke_alike c steps (provided_by script) u none) turns options m

@@ -1,5 +1,5 @@
 -- Laws that hold since a map of trees keeps the meaning of each layer: spans, sources of literals, type wrappers and parentheses do not matter, nor do spare turns.
-use Rattle.std.proofs.Common.{◌≡◌, ◌≢◌, ◌⊎◌, ℕ, suc, inl, inr, refl, sym, ap, ap₂, ◌∙◌, List, [], ◌∷◌, map, map-id, Bool, true, false, add-zero}
+use Rattle.std.proofs.Common.{◌≡◌, ◌≢◌, ◌⊎◌, ℕ, suc, inl, inr, refl, sym, ap, ap₂, ◌∙◌, List, [], ◌∷◌, map, map-id, None, Bool, true, false, add-zero}
 use Rattle.ecma_kind.specs.declared.kind.Kind.{Kind}
 use Rattle.ecma_kind.specs.declared.kind.Kind.TheVariants as kind
 use Rattle.ecma_tree.specs.declared.node.Node.{Node, Node-F, fold-roll-Node, roll-Node}
@@ -12,7 +12,7 @@ use Rattle.ecma_runs.specs.declared.observation.Ending.TheVariants as ending
 use Rattle.ecma_runs.specs.declared.script.Script.{Script}
 use Rattle.ecma_runs.specs.State.{Id, Binding}
 use Rattle.ecma_runs.specs.Run.{Stop, TurnsSpent, AnswersSpent, Outside}
-use Rattle.ecma_runs.specs.Environment.{have_one_of}
+use Rattle.ecma_runs.specs.Environment.{have_one_of, is_among}
 use Rattle.ecma_runs.specs.Meaning.{Meaning}
 use Rattle.ecma_runs.specs.Evaluation.{meaning_by, meaning}
 use Rattle.ecma_runs.specs.Observation.{observe}
@@ -62,24 +62,29 @@ nothing_excused why = false
 abbrev pub the_same : Telling
 the_same = record { more = 0; before = []; excused = nothing_excused; turns_excused = inl refl; holds = always; falls = λ n h. tt }
 
--- functions keep the images of their nodes, and of these something is true
-abbrev pub images_where : (Node → Type 0) → (Node → Node) → List Id → Telling → Change
-images_where fine f declared t = record {
+-- functions keep the images of their nodes, of these something is true, and names are mapped
+abbrev pub images_named : (Node → Type 0) → (Node → Node) → (names : Naming) (declared : List Id) → ((id : Id) → names.kept id ≡ true → is_among id declared ≡ false → (names.to id).sym ≡ id.sym) → Telling → Change
+images_named fine f names declared texts t = record {
   node = f;
   fine = fine;
-  names = same_names;
+  passed = None;
+  names = names;
   declared = declared;
-  texts = λ id kept free. refl;
+  texts = texts;
   more = t.more;
   before = t.before;
   excused = t.excused;
   turns_excused = t.turns_excused;
+  passed_excused = inl refl;
   holds = t.holds;
   falls = t.falls;
   uses = true;
   said = λ events. Unit {0};
   adds = λ u events event h. tt;
 }
+
+abbrev pub images_where : (Node → Type 0) → (Node → Node) → List Id → Telling → Change
+images_where fine f declared t = images_named fine f same_names declared (λ id kept free. refl) t
 
 abbrev pub images : (Node → Node) → List Id → Telling → Change
 images = images_where (λ n. Unit {0})
@@ -135,7 +140,7 @@ module _ (f : Node → Node) (declared : List Id) (t : Telling) where
 pub observe_kept : (f : Node → Node) → KeepsLayers f → (turns : ℕ) (options : Config) (m : Node) (script : Script) → observe turns options (f m) script ≡ observe turns options m script
 observe_kept f layers turns options m script =
     ap (λ n. observe n options (f m) script) (sym (add-zero turns))
-    ∙ observe_unless (images f (meaning m).declared the_same) refl (layers_alike f (meaning m).declared the_same layers) refl turns options m script tt refl tt tt (none_excused _)
+    ∙ observe_unless (images f (meaning m).declared the_same) refl (layers_alike f (meaning m).declared the_same layers) refl refl turns options m script tt refl tt tt (none_excused _)
 
 -- what a rule makes of a layer means what the layer does: then so does what rewriting by the rule makes of a tree
 pub rewritten_layers : (rule : Node-F Node → Node) → ((x : Node-F Node) → meaning (rule x) ≡ meaning_by (rule x) x.kind (map meaning x.children)) → KeepsLayers (rewritten rule)
@@ -203,5 +208,5 @@ with_turns more = record { more = more; before = []; excused = turns_only; turns
 
 pub spare_turns_do_not_matter : SpareTurnsDoNotMatter
 spare_turns_do_not_matter turns more options m script h =
-    observe_unless (images (λ n. n) (meaning m).declared (with_turns more)) refl (layers_alike (λ n. n) (meaning m).declared (with_turns more) itself_layers) refl turns options m script tt refl tt tt
+    observe_unless (images (λ n. n) (meaning m).declared (with_turns more)) refl (layers_alike (λ n. n) (meaning m).declared (with_turns more) itself_layers) refl refl turns options m script tt refl tt tt
     (only_turns_excused (observe turns options m script).ending h)

@@ -12,6 +12,7 @@ pub mod Patterns
 pub mod Classes
 pub mod Statements
 pub mod Declarations
+pub mod Blocks
 pub mod Steps
 pub mod Layer
 pub mod Kept
@@ -21,6 +22,7 @@ pub mod Types
 pub mod Standing
 mod Renaming
 pub mod Depth
+pub mod Turns
 mod Growing
 mod Silence
 mod Trees

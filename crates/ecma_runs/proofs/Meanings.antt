@@ -1,28 +1,35 @@
 -- Meanings that do alike in each role.
-use Rattle.std.proofs.Common.{◌≡◌, ℕ, List, ◌∷◌, map, Option, Some, None, Bool, true, option_map, refl}
+use Rattle.std.proofs.Common.{◌≡◌, ℕ, List, ◌∷◌, map, Option, Some, None, Bool, true, is_some, option_map, refl}
 use Rattle.ecma_runs.specs.Host.{Provided}
 use Rattle.ecma_runs.specs.Values.{Value}
 use Rattle.ecma_runs.specs.State.{Id, Sort}
 use Rattle.ecma_runs.specs.Run.{Run}
 use Rattle.ecma_runs.specs.Environment.{Reference, empty, undefined, import_of}
 use Rattle.ecma_runs.specs.Meaning.{Invocation, Functions, ExecutionContext, Meaning}
+use Rattle.ecma_runs.specs.Evaluation.{fields_with, invoke}
 use Rattle.ecma_runs.proofs.Names.{changed_ids, changed_bindings, changed_bindings-map}
 use Rattle.ecma_runs.proofs.Alike.{Change, AlikeBy, Alike}
 use Rattle.ecma_runs.proofs.Environments.{KeepTexts, changed_reference, KeptReference, AlikeReference}
 
 module _ (c : Change) where
-  -- functions that do alike
-  pub record FunctionsAlike (f f' : Functions) : Type 0 where
+  -- calls of the other run that are known to be those of its module
+  abbrev pub IsInvoke : Provided → (ℕ → Invocation → List Value → Run Value) → Type 0
+  IsInvoke provided invoke' = is_some c.passed ≡ true → invoke' ≡ invoke provided (changed_ids c.names c.declared)
+
+  -- functions that do alike; where the other run has functions for what is passed over, its calls are known, and fields may be defined
+  pub record FunctionsAlike (provided : Provided) (f f' : Functions) : Type 0 where
     pub invoke : (place : ℕ) (how : Invocation) (arguments : List Value) → Alike c (f.invoke place how arguments) (f'.invoke place how arguments)
     pub fields : (place : ℕ) (object : Value) → Alike c (f.fields place object) (f'.fields place object)
+    pub is_invoke : IsInvoke provided f'.invoke
+    pub fields_as : is_some c.passed ≡ true → (place : ℕ) (object : Value) → Alike c (f.fields place object) (fields_with f'.invoke provided (changed_ids c.names c.declared) place object)
 
   -- the contexts in which the two runs stand: with functions of their own, and the names that the module declares
   pub record World : Type 0 where
     pub functions : Functions
     pub functions' : Functions
-    pub alike : c.uses ≡ true → FunctionsAlike functions functions'
-    pub scope : List ℕ
     pub provided : Provided
+    pub alike : c.uses ≡ true → FunctionsAlike provided functions functions'
+    pub scope : List ℕ
 
   abbrev pub first : World → ExecutionContext
   first w = record { functions = w.functions; scope = w.scope; provided = w.provided; declared = c.declared }

@@ -1,14 +1,15 @@
 -- What reads and changes objects does alike.
-use Rattle.std.proofs.Common.{◌≡◌, ℕ, zero, suc, ◌++◌, ◌||◌, refl, ap, List, [], ◌∷◌, map, Option, Some, None, option_map, is_some, slice_get, length}
+use Rattle.std.proofs.Common.{◌≡◌, ℕ, zero, suc, ◌++◌, ◌||◌, refl, ap, sym, subst₂, List, [], ◌∷◌, map, Option, Some, None, option_map, is_some, slice_get, length}
 use Rattle.std.proofs.lemmas.Option.{slice_get-map}
 use Rattle.ecma_runs.specs.declared.shown.ErrorKind.TheVariants as error
 use Rattle.ecma_runs.specs.Values.{Value, Error}
-use Rattle.ecma_runs.specs.State.{Closure, Callable, Code, Bound, Property, Data, Entry, Extent, Ordinary, Array, ArgumentList, Object, State}
-use Rattle.ecma_runs.specs.Run.{Run, changed_at}
+use Rattle.ecma_runs.specs.State.{Closure, Callable, Code, Bound, Passed, Property, Data, Entry, Extent, Ordinary, Array, ArgumentList, Object, State}
+use Rattle.ecma_tree.specs.declared.node.Node.{Node}
+use Rattle.ecma_runs.specs.Run.{Run, outside, changed_at}
 use Rattle.ecma_runs.specs.Objects.{new_object, object_at, callable_in, code_in, closure_at, calling_of, calling_at, prototype_in, prototype_at, extent_in, extent_at, Ancestry, with_object, is_index_below, or_else, own_property, own_in, own_property_at, property_above, no_ancestry, found_from, above, found_above, with_entries, change_entries, put_entry, is_fixed, if_element, define, define_data, elements_by, elements_at, new_array, new_arguments}
 use Rattle.ecma_runs.specs.Classes.{with_field_keys, keeping_keys, keep_field_keys}
 use Rattle.ecma_runs.proofs.Names.{map-changed_at, map-push, length-map}
-use Rattle.ecma_runs.proofs.Alike.{Change, changed, changed_callable, changed_object, FineCallable, AllFine, Alike, bind_alike, give_alike, throw_alike, outside_alike, when_alike}
+use Rattle.ecma_runs.proofs.Alike.{Change, passed_to, changed, changed_callable, changed_object, FineCallable, AllFine, Alike, bind_alike, give_alike, throw_alike, outside_alike, passed_alike, when_alike}
 
 module _ (c : Change) where
   all_fine-push : (os : List Object) (o : Object) → AllFine c os → FineCallable c o.callable → AllFine c (os ++ o ∷ [])
@@ -39,36 +40,30 @@ module _ (c : Change) where
   abbrev pub changed_closure : Closure → Closure
   changed_closure closure = record closure { node = c.node closure.node }
 
-  code_in-changed : (o : Option Callable) → code_in (option_map (changed_callable c) o) ≡ option_map changed_closure (code_in o)
-  code_in-changed None = refl
-  code_in-changed (Some (Code closure)) = refl
-  code_in-changed (Some (Bound target this given)) = refl
-
   callable_at-changed : (place : ℕ) (s : State) → callable_in (slice_get (changed c s).objects place) ≡ option_map (changed_callable c) (callable_in (slice_get s.objects place))
   callable_at-changed place s = rw (slice_get-map (changed_object c) s.objects place) (callable_in-changed (slice_get s.objects place))
 
-  pub closure_at-changed : (place : ℕ) (s : State) → closure_at place (changed c s) ≡ option_map changed_closure (closure_at place s)
-  closure_at-changed place s = rw (callable_at-changed place s) (code_in-changed (callable_in (slice_get s.objects place)))
+  -- what is done with the closure of a function, and is open without one
+  module _ {A : Type 0} (k k' : Option Closure → Run A) (none : k None ≡ outside) (none' : k' None ≡ outside) (some : (closure : Closure) → c.fine closure.node → Alike c (k (Some closure)) (k' (Some (changed_closure closure)))) where
+    closure_in_alike : (o : Option Callable) → FineCallable c o → Alike c (k (code_in o)) (k' (code_in (option_map (changed_callable c) o)))
+    closure_in_alike None fine = subst₂ (Alike c) (sym none) (sym none') (outside_alike c)
+    closure_in_alike (Some (Code closure)) fine = some closure fine
+    closure_in_alike (Some (Bound target this given)) fine = subst₂ (Alike c) (sym none) (sym none') (outside_alike c)
+    closure_in_alike (Some (Passed closure)) fine = rw none (passed_alike c (λ z. k' (code_in (Some z))) closure none')
 
-  abbrev pub FineClosure : Option Closure → Type 0
-  FineClosure None = Unit {0}
-  FineClosure (Some closure) = c.fine closure.node
+    pub closure_at_alike : (place : ℕ) → Alike c (λ s. k (closure_at place s) s) (λ s. k' (closure_at place s) s)
+    closure_at_alike place = record {
+      at = λ s g. rw (callable_at-changed place s) ((closure_in_alike (callable_in (slice_get s.objects place)) (all_fine-at s.objects place g.0)).at s g);
+    }
 
-  fine_code : (o : Option Callable) → FineCallable c o → FineClosure (code_in o)
-  fine_code None fine = tt
-  fine_code (Some (Code closure)) fine = fine
-  fine_code (Some (Bound target this given)) fine = tt
-
-  pub fine_closure : (place : ℕ) (s : State) → AllFine c s.objects → FineClosure (closure_at place s)
-  fine_closure place s all = fine_code (callable_in (slice_get s.objects place)) (all_fine-at s.objects place all)
-
-  calling_of-changed : (o : Option Callable) → calling_of (option_map (changed_callable c) o) ≡ calling_of o
-  calling_of-changed None = refl
-  calling_of-changed (Some (Code closure)) = refl
-  calling_of-changed (Some (Bound target this given)) = refl
+  calling_of_alike : (o : Option Callable) → Alike c (calling_of o) (calling_of (option_map (changed_callable c) o))
+  calling_of_alike None = give_alike c None
+  calling_of_alike (Some (Code closure)) = give_alike c _
+  calling_of_alike (Some (Bound target this given)) = give_alike c _
+  calling_of_alike (Some (Passed closure)) = passed_alike c (λ z. calling_of (Some z)) closure refl
 
   pub calling_at_alike : (place : ℕ) → Alike c (calling_at place) (calling_at place)
-  calling_at_alike place = record { at = λ s g. (rw (callable_at-changed place s, calling_of-changed (callable_in (slice_get s.objects place))) refl, g, tt) }
+  calling_at_alike place = record { at = λ s g. rw (callable_at-changed place s) ((calling_of_alike (callable_in (slice_get s.objects place))).at s g) }
 
   -- what else is known of an object
 
@@ -163,15 +158,21 @@ module _ (c : Change) where
   pub define_data_alike : (place : ℕ) (key : List ℕ) (v : Value) → Alike c (define_data place key v) (define_data place key v)
   define_data_alike place key v = define_alike place key (λ old. Data v)
 
+  passed_keys : (keys : List (List ℕ)) (closure : Closure) (o : Option (Node → Node)) → Some (passed_to c.node o (record closure { field_keys = keys })) ≡ with_field_keys keys (Some (passed_to c.node o closure))
+  passed_keys keys closure None = refl
+  passed_keys keys closure (Some function) = refl
+
   with_field_keys-changed : (keys : List (List ℕ)) (o : Option Callable) → option_map (changed_callable c) (with_field_keys keys o) ≡ with_field_keys keys (option_map (changed_callable c) o)
   with_field_keys-changed keys None = refl
   with_field_keys-changed keys (Some (Code closure)) = refl
   with_field_keys-changed keys (Some (Bound target this given)) = refl
+  with_field_keys-changed keys (Some (Passed closure)) = passed_keys keys closure c.passed
 
   fine_keys : (keys : List (List ℕ)) (o : Option Callable) → FineCallable c o → FineCallable c (with_field_keys keys o)
   fine_keys keys None fine = tt
   fine_keys keys (Some (Code closure)) fine = fine
   fine_keys keys (Some (Bound target this given)) fine = tt
+  fine_keys keys (Some (Passed closure)) fine = tt
 
   pub keep_field_keys_alike : (place : ℕ) (keys : List (List ℕ)) → Alike c (keep_field_keys place keys) (keep_field_keys place keys)
   keep_field_keys_alike place keys = record {

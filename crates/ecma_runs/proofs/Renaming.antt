@@ -1,5 +1,5 @@
 -- Names do not matter: a map of names that is one to one keeps runs.
-use Rattle.std.proofs.Common.{◌≡◌, ℕ, ◌++◌, inl, refl, sym, ap, ap₂, ◌∙◌, subst, List, [], ◌∷◌, map, Bool, true, false, cond, add-zero}
+use Rattle.std.proofs.Common.{◌≡◌, ℕ, ◌++◌, refl, sym, ap, ap₂, ◌∙◌, subst, List, [], ◌∷◌, map, Bool, true, false, cond, add-zero}
 use Rattle.ecma_kind.specs.declared.kind.Kind.{Kind}
 use Rattle.ecma_kind.specs.declared.kind.Kind.TheVariants as kind
 use Rattle.ecma_tree.specs.declared.node.Node.{Node, Node-F, fold-roll-Node, ind-Node, roll-Node}
@@ -18,7 +18,7 @@ use Rattle.ecma_runs.proofs.Names.{Naming, changed_ids, changed_bindings, is_amo
 use Rattle.ecma_runs.proofs.Alike.{Change}
 use Rattle.ecma_runs.proofs.Premises.{renamed_kind, StillClash, KeptLayer}
 use Rattle.ecma_runs.proofs.Kept.{AllNodes, StepsAlike, layer_same, observe_unless}
-use Rattle.ecma_runs.proofs.Layers.{always, nothing_excused, none_excused}
+use Rattle.ecma_runs.proofs.Layers.{the_same, images_named, none_excused}
 use Rattle.ecma_runs.proofs.Standing.{Passes, passes_parts, BindingsPass, declares}
 
 -- the identifiers that a meaning lists are those of the node
@@ -76,22 +76,7 @@ module _ (to : Id → Id) (m : Node) (renaming : IsRenaming to m) where
   new_names = record { to = to; kept = renaming.stands; injective = renaming.one_to_one }
 
   abbrev renaming_change : Change
-  renaming_change = record {
-    node = renamed to;
-    fine = λ n. Passes renaming.stands n × TextsStay to (keys_in n);
-    names = new_names;
-    declared = (meaning m).declared;
-    texts = renaming.free_texts;
-    more = 0;
-    before = [];
-    excused = nothing_excused;
-    turns_excused = inl refl;
-    holds = always;
-    falls = λ n h. tt;
-    uses = true;
-    said = λ events. Unit {0};
-    adds = λ u events event h. tt;
-  }
+  renaming_change = images_named (λ n. Passes renaming.stands n × TextsStay to (keys_in n)) (renamed to) new_names (meaning m).declared renaming.free_texts the_same
 
   both_all : (cs : List Node) → AllNodes (Passes renaming.stands) cs → AllNodes (λ n. TextsStay to (keys_in n)) cs → AllNodes (λ n. Passes renaming.stands n × TextsStay to (keys_in n)) cs
   both_all [] p q = tt
@@ -149,7 +134,7 @@ module _ (to : Id → Id) (m : Node) (renaming : IsRenaming to m) where
 
   pub renamed_kept : (turns : ℕ) (options : Config) (script : Script) → observe turns options (renamed to m) script ≡ observe turns options m script
   renamed_kept turns options script =
-      ap (λ n. observe n options (renamed to m) script) (sym (add-zero turns)) ∙ observe_unless renaming_change refl renaming_steps refl turns options m script (renaming.all_stand, renaming.key_texts) refl tt tt (none_excused _)
+      ap (λ n. observe n options (renamed to m) script) (sym (add-zero turns)) ∙ observe_unless renaming_change refl renaming_steps refl refl turns options m script (renaming.all_stand, renaming.key_texts) refl tt tt (none_excused _)
 
 pub names_do_not_matter : NamesDoNotMatter
 names_do_not_matter turns options m script to renaming = renamed_kept to m renaming turns options script

@@ -1,5 +1,5 @@
 -- A module without members and calls has no events: no host value is used, and no function is called.
-use Rattle.std.proofs.Common.{◌≡◌, ◌&&◌, inl, inr, refl, sym, ap, ◌∙◌, List, [], ◌∷◌, map, Bool, true, false}
+use Rattle.std.proofs.Common.{◌≡◌, ◌&&◌, inl, inr, refl, sym, ap, ◌∙◌, List, [], ◌∷◌, map, None, Bool, true, false}
 use Rattle.std.specs.List.{list_all}
 use Rattle.ecma_kind.specs.declared.kind.Kind.{Kind}
 use Rattle.ecma_kind.specs.declared.kind.Kind.TheVariants as kind
@@ -26,6 +26,7 @@ abbrev quiet : List Id → Change
 quiet declared = record {
   node = λ n. n;
   fine = λ n. uses_nothing n ≡ true;
+  passed = None;
   names = same_names;
   declared = declared;
   texts = λ id kept free. refl;
@@ -33,6 +34,7 @@ quiet declared = record {
   before = [];
   excused = nothing_excused;
   turns_excused = inl refl;
+  passed_excused = inl refl;
   holds = always;
   falls = λ n h. tt;
   uses = false;
@@ -81,4 +83,4 @@ declarations_alone_have_no_events turns options m script h =
     let quiet_script : Script = record script { actions = [] } in
     let c : Change = quiet (meaning m).declared in
     observed_events (run_module m quiet_script (start turns quiet_script))
-    ∙ no_events (meaning m).declared _ _ ((run_module_alike c (quiet_steps (meaning m).declared) quiet_script m h refl (inr refl)).at (start turns quiet_script) (tt, tt, refl))
+    ∙ no_events (meaning m).declared _ _ ((run_module_alike c (quiet_steps (meaning m).declared) quiet_script (λ u. absurd (none_used u)) m h refl (inr refl)).at (start turns quiet_script) (tt, tt, refl))

@@ -6,10 +6,10 @@ use Rattle.ecma_kind.specs.declared.operators.VarDeclKind.TheVariants.{Var, Let,
 use Rattle.ecma_tree.specs.declared.node.Node.{Node}
 use Rattle.ecma_runs.specs.Values.{Value, Own, truth_of}
 use Rattle.ecma_runs.specs.State.{Plain}
-use Rattle.ecma_runs.specs.Run.{TurnsSpent, Ended, Run, stop}
+use Rattle.ecma_runs.specs.Run.{TurnsSpent, Run}
 use Rattle.ecma_runs.specs.Environment.{empty}
 use Rattle.ecma_runs.specs.Statements.{rounds, while, do_while, for_rounds, for_loop, block, all_completions, completion_of, effect_of, all_varied, varied_of, all_hoisted, hoisted_of, caught_of}
-use Rattle.ecma_runs.proofs.Alike.{Change, changed, Unless, Alike, bind_alike, give_alike, throw_alike, return_alike, break_alike, continue_alike, stop_alike, outside_alike, when_alike, catching_alike, finally_alike, round_alike, loop_alike, spend_alike}
+use Rattle.ecma_runs.proofs.Alike.{Change, Alike, excused_alike, bind_alike, give_alike, throw_alike, return_alike, break_alike, continue_alike, stop_alike, outside_alike, when_alike, catching_alike, finally_alike, round_alike, loop_alike, spend_alike}
 use Rattle.ecma_runs.proofs.Environments.{new_environment_alike, copy_environment_alike, initialize_alike}
 use Rattle.ecma_runs.proofs.Meanings.{World, first, second, within, Both, firsts, seconds, empties}
 use Rattle.ecma_runs.proofs.Premises.{renamed_kind, KeptLayer}
@@ -17,14 +17,10 @@ use Rattle.ecma_runs.proofs.Lists.{all_stay, all_completions_alike, all_varied_a
 use Rattle.ecma_runs.proofs.Expressions.{value_alike}
 
 module _ (c : Change) where
-  -- without turns, a run stops where it spends one
-  stop_excused : {m' : Run (Unit {0})} → c.excused TurnsSpent ≡ true → Alike c (stop TurnsSpent) m'
-  stop_excused {m' = m'} e = record { at = λ s g. (subst (λ b. Unless b (m' (changed c s) ≡ Ended TurnsSpent (changed c s))) (sym e) tt, g.2) }
-
   module _ {test test' : Run Value} {body body' : Run (Unit {0})} (tests : Alike c test test') (bodies : Alike c body body') where
     last_excused : (n : ℕ) → c.excused TurnsSpent ≡ true → Alike c (rounds zero test body) (rounds n test' body')
     last_excused zero e = bind_alike c tests (λ v. when_alike c (truth_of v) (stop_alike c TurnsSpent) (give_alike c tt))
-    last_excused (suc n) e = bind_alike c tests (λ v. when_alike c (truth_of v) (stop_excused e) (give_alike c tt))
+    last_excused (suc n) e = bind_alike c tests (λ v. when_alike c (truth_of v) (excused_alike c TurnsSpent e) (give_alike c tt))
 
     last_round : (c.more ≡ 0) ⊎ (c.excused TurnsSpent ≡ true) → Alike c (rounds zero test body) (rounds (0 + c.more) test' body')
     last_round (inl none) =
@@ -46,7 +42,7 @@ module _ (c : Change) where
   module _ (w : World c) (test update body : Both c) where
     last_for_excused : (n place : ℕ) → c.excused TurnsSpent ≡ true → Alike c (for_rounds zero test.0 update.0 body.0 place (first c w)) (for_rounds n test.1 update.1 body.1 place (second c w))
     last_for_excused zero place e = bind_alike c (test.2.test (within c w place)) (λ v. when_alike c (truth_of v) (stop_alike c TurnsSpent) (give_alike c tt))
-    last_for_excused (suc n) place e = bind_alike c (test.2.test (within c w place)) (λ v. when_alike c (truth_of v) (stop_excused e) (give_alike c tt))
+    last_for_excused (suc n) place e = bind_alike c (test.2.test (within c w place)) (λ v. when_alike c (truth_of v) (excused_alike c TurnsSpent e) (give_alike c tt))
 
     last_for : (place : ℕ) → (c.more ≡ 0) ⊎ (c.excused TurnsSpent ≡ true) → Alike c (for_rounds zero test.0 update.0 body.0 place (first c w)) (for_rounds (0 + c.more) test.1 update.1 body.1 place (second c w))
     last_for place (inl none) =

@@ -17,7 +17,8 @@ use Rattle.ecma_runs.proofs.Lists.{Item, before, behind, all_arguments_alike, al
 use Rattle.ecma_runs.proofs.Expressions.{link_alike, value_alike, reference_alike, chain_alike, test_alike, initial_alike, arguments_alike, elements_alike, texts_alike, key_alike}
 use Rattle.ecma_runs.proofs.Patterns.{assigned_alike, targets_alike, matched_alike, bound_alike, parameters_alike}
 use Rattle.ecma_runs.proofs.Classes.{made_alike, body_alike, code_alike, class_made_alike, defined_alike, fields_alike, statics_alike}
-use Rattle.ecma_runs.proofs.Statements.{completion_alike, varied_alike, hoisted_alike, caught_alike, effect_alike}
+use Rattle.ecma_runs.proofs.Blocks.{completed_alike}
+use Rattle.ecma_runs.proofs.Statements.{varied_alike, hoisted_alike, caught_alike, effect_alike}
 use Rattle.ecma_runs.proofs.Declarations.{names_same, imported_same, text_same, lexicals_same, vars_same, locals_same, parameter_names_same, declared_same, cooked_same, is_plain_same, is_super_same, is_absent_same, is_this_same, is_type_same, has_body_same, is_constructor_same, has_no_effect_same}
 
 module _ (c : Change) where
@@ -37,7 +38,7 @@ module _ (c : Change) where
     matched = λ v w. matched_alike c w k ps kept v;
     targets = λ v w. targets_alike c w k ps kept v;
     parameters = λ arguments w. parameters_alike c w k ps arguments;
-    completion = λ w. completion_alike c w k ps;
+    completion = λ w. completed_alike c w n fine k ps kept;
     varied = λ w. varied_alike c w k ps;
     hoisted = λ w. hoisted_alike c w k ps;
     effect = λ w. effect_alike c w n fine k ps kept;

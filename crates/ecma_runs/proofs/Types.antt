@@ -165,4 +165,4 @@ module _ (declared : List Id) where
 pub types_do_not_matter : TypesDoNotMatter
 types_do_not_matter turns options m script =
     ap (λ n. observe n options (without_types m) script) (sym (add-zero turns))
-    ∙ observe_unless (untyped (meaning m).declared) refl (types_steps (meaning m).declared) refl turns options m script tt refl tt tt (none_excused _)
+    ∙ observe_unless (untyped (meaning m).declared) refl (types_steps (meaning m).declared) refl refl turns options m script tt refl tt tt (none_excused _)

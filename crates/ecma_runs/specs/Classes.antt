@@ -6,7 +6,7 @@ use Rattle.ecma_kind.specs.declared.operators.MethodKind.{MethodKind}
 use Rattle.ecma_kind.specs.declared.operators.MethodKind.TheVariants as method
 use Rattle.ecma_tree.specs.declared.node.Node.{Node}
 use Rattle.ecma_runs.specs.Values.{Value, Undefined, Null, Own, Host, Error}
-use Rattle.ecma_runs.specs.State.{Id, Forbidden, Activation, Callable, Code, Object, Sort, Plain, Method, BaseClass, DerivedClass}
+use Rattle.ecma_runs.specs.State.{Id, Forbidden, Activation, Callable, Code, Passed, Object, Sort, Plain, Method, BaseClass, DerivedClass}
 use Rattle.ecma_runs.specs.Run.{Done, Run, ◌>>=◌, give, return, outside, type_error, when, changed_at}
 use Rattle.ecma_runs.specs.Environment.{new_environment, set_all, empty, except, have_one_of}
 use Rattle.ecma_runs.specs.Meaning.{inside, Evaluation, Meaning}
@@ -94,6 +94,7 @@ field_activation object home = record { this = Some object; function = None; hom
 
 abbrev pub with_field_keys : List (List ℕ) → Option Callable → Option Callable
 with_field_keys keys (Some (Code closure)) = Some (Code (record closure { field_keys = keys }))
+with_field_keys keys (Some (Passed closure)) = Some (Passed (record closure { field_keys = keys }))
 with_field_keys keys o = o
 
 abbrev pub keeping_keys : List (List ℕ) → Object → Object

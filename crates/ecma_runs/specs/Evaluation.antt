@@ -5,18 +5,41 @@ use Rattle.ecma_kind.specs.declared.kind.Kind.TheVariants as kind
 use Rattle.ecma_tree.specs.declared.node.Node.{Node, Node-F, fold-Node}
 use Rattle.ecma_tree.specs.Nodes.{node_of}
 use Rattle.ecma_runs.specs.Values.{Value, Undefined, Own, Host, Error}
-use Rattle.ecma_runs.specs.State.{Id, Given, Activation, Sort, Plain, Method, Arrow, BaseClass, DerivedClass, Closure, Object, Ordinary}
-use Rattle.ecma_runs.specs.Run.{Ended, TurnsSpent, Run, ◌>>=◌, give, outside, reference_error, type_error, given_or, returned_by, spend}
+use Rattle.ecma_runs.specs.State.{Id, Binding, Given, Activation, Sort, Plain, Method, Arrow, BaseClass, DerivedClass, Closure, Object, Ordinary}
+use Rattle.ecma_runs.specs.Run.{Ended, TurnsSpent, Run, ◌>>=◌, give, outside, reference_error, type_error, when, given_or, returned_by, spend}
 use Rattle.ecma_runs.specs.Host.{Provided}
 use Rattle.ecma_runs.specs.Environment.{empty, new_environment, activation_at}
-use Rattle.ecma_runs.specs.Meaning.{Invocation, AsCall, AsConstruct, Functions, ExecutionContext, inside, Meaning}
+use Rattle.ecma_runs.specs.Meaning.{Invocation, AsCall, AsConstruct, Functions, ExecutionContext, inside, Evaluation, Meaning}
 use Rattle.ecma_runs.specs.Objects.{new_object, closure_at}
-use Rattle.ecma_runs.specs.Functions.{prototype_for}
+use Rattle.ecma_runs.specs.Functions.{pass_function, prototype_for}
 use Rattle.ecma_runs.specs.Expressions.{value_of, reference_of, initial_of, arguments_of, elements_of, texts_of, key_of, chain_of, link_of, test_of}
 use Rattle.ecma_runs.specs.Patterns.{assigned_of, bound_of, matched_of, targets_of, parameters_of}
 use Rattle.ecma_runs.specs.Classes.{made_of, class_made_of, defined_of, fields_of, statics_of, code_of, body_of, field_activation}
 use Rattle.ecma_runs.specs.Statements.{completion_of, varied_of, hoisted_of, effect_of, caught_of}
 use Rattle.ecma_runs.specs.Declarations.{names_of, lexicals_of, vars_of, locals_of, parameter_names_of, declared_of, shorthands_of, imported_of, text_of, cooked_of, is_plain_of, is_super_of, is_absent_of, is_this_of, is_type_of, has_body_of, is_constructor_of, has_no_effect}
+
+-- code runs in a record of its own
+abbrev pub in_record : List Binding → Option Activation → Evaluation (Unit {0}) → (ℕ → Value → Run Value) → ExecutionContext → Run Value
+in_record bindings activation code finish x =
+    new_environment bindings activation >>= λ place. returned_by (λ _. Undefined) (code (inside x place)) >>= λ v. finish place v
+
+abbrev pub as_it_is : ℕ → Value → Run Value
+as_it_is place v = give v
+
+abbrev pub called_with : Value → ℕ → Option ℕ → List Value → Activation
+called_with this function home arguments = record { this = Some this; function = Some function; home = home; new_target = Some Undefined; arguments = Given arguments }
+
+-- the block of a namespace: its items are the body of a function expression without name and parameters that is called where it stands
+abbrev pub called_block : Node → Meaning → Evaluation (Unit {0})
+called_block node items x =
+    new_environment [] None >>= λ place. pass_function node (inside x place) >>= λ function. spend >>= λ _.
+    in_record [] (Some (called_with Undefined function None [])) (body_of node kind.BlockStmt (items ∷ []) []) as_it_is (inside x place) >>= λ _. give tt
+
+-- as a statement; the block of a namespace is written as such a call, and not at all if its items are types alone (TypeScript handbook, "Namespaces").
+-- No module that is taken has such a statement: it is the part of namespaces, and of enums, of which their runs will be made.
+abbrev pub completed_of : Node → Kind → List Meaning → Evaluation (Unit {0})
+completed_of node kind.TsModuleBlock (items ∷ []) x = when items.is_type (give tt) (called_block node items x)
+completed_of node k children x = completion_of k children x
 
 -- what a node means in each role; the node itself is for the functions that keep it
 abbrev pub role_by : Node → Kind → List Meaning → Meaning
@@ -35,7 +58,7 @@ role_by node k children = record {
   matched = matched_of k children;
   targets = targets_of k children;
   parameters = parameters_of k children;
-  completion = completion_of k children;
+  completion = completed_of node k children;
   varied = varied_of k children;
   hoisted = hoisted_of k children;
   effect = effect_of node k children;
@@ -103,16 +126,9 @@ meant_step parts = meant_by (node_of parts.span parts.kind (map (λ child. child
 abbrev pub meaning : Node → Meaning
 meaning n = (fold-Node Meant meant_step n).meaning
 
--- code runs in a record of its own, with the parameters
+-- and so does that of a function, with the parameters
 abbrev pub entered : Meaning → Option Activation → List Value → (ℕ → Value → Run Value) → ExecutionContext → Run Value
-entered m activation arguments finish x =
-    new_environment (map (empty false) m.parameter_names) activation >>= λ place. returned_by (λ _. Undefined) (m.code arguments (inside x place)) >>= λ v. finish place v
-
-abbrev pub as_it_is : ℕ → Value → Run Value
-as_it_is place v = give v
-
-abbrev pub called_with : Value → ℕ → Option ℕ → List Value → Activation
-called_with this function home arguments = record { this = Some this; function = Some function; home = home; new_target = Some Undefined; arguments = Given arguments }
+entered m activation arguments finish x = in_record (map (empty false) m.parameter_names) activation (m.code arguments) finish x
 
 abbrev pub constructed_with : Option Value → ℕ → Option ℕ → ℕ → List Value → Activation
 constructed_with this function home new_target arguments = record { this = this; function = Some function; home = home; new_target = Some (Own new_target); arguments = Given arguments }

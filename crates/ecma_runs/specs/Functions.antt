@@ -3,7 +3,7 @@ use Rattle.std.specs.Prelude.{ℕ, List, [], ◌∷◌, ◌++◌, Option, Some, 
 use Rattle.ecma_tree.specs.declared.node.Node.{Node}
 use Rattle.ecma_runs.specs.declared.observation.Event.TheVariants as event
 use Rattle.ecma_runs.specs.Values.{Value, Undefined, Null, Truth, Own, Host, Error}
-use Rattle.ecma_runs.specs.State.{Arguments, Unbound, Forbidden, Given, Made, Activation, Sort, Plain, Method, Arrow, BaseClass, DerivedClass, Callable, Code, Bound, Property, Fixed, Open, Entry, Ordinary, Object}
+use Rattle.ecma_runs.specs.State.{Arguments, Unbound, Forbidden, Given, Made, Activation, Sort, Plain, Method, Arrow, BaseClass, DerivedClass, Closure, Callable, Code, Bound, Passed, Property, Fixed, Open, Entry, Ordinary, Object}
 use Rattle.ecma_runs.specs.Run.{Run, ◌>>=◌, give, outside, type_error, when, given, each}
 use Rattle.ecma_runs.specs.Host.{show, use_host, read_free, read_free_typed, is_open_object, is_open_callee}
 use Rattle.ecma_runs.specs.Environment.{Reference, ToVariable, ToFree, ToMember, ToSuper, ToImportMeta, ToValue, read_variable, write_variable, activation, set_activation, with_arguments, bind_this}
@@ -164,12 +164,12 @@ bound_to place this given o = Bound place this given
 abbrev pub function_entries : List Entry
 function_entries = record { key = codes "name"; property = Open } ∷ record { key = codes "length"; property = Open } ∷ []
 
-abbrev pub bound_object : Option ℕ → Callable → Object
-bound_object parent callable = record { entries = function_entries; prototype = parent; callable = Some callable; extent = Ordinary }
+abbrev pub function_object : List Entry → Option ℕ → Callable → Object
+function_object entries parent callable = record { entries = entries; prototype = parent; callable = Some callable; extent = Ordinary }
 
 -- 10.4.1.3 BoundFunctionCreate
 abbrev pub bind_function : ℕ → Value → List Value → Run Value
-bind_function place this given = calling_at place >>= λ o. prototype_at place >>= λ p. new_object (bound_object p (bound_to place this given o)) >>= λ f. give (Own f)
+bind_function place this given = calling_at place >>= λ o. prototype_at place >>= λ p. new_object (function_object function_entries p (bound_to place this given o)) >>= λ f. give (Own f)
 
 -- 20.2.3.1 apply, 20.2.3.2 bind, 20.2.3.3 call
 abbrev pub call_borrowed : ExecutionContext → Borrowing → ℕ → List Value → Run Value
@@ -236,15 +236,12 @@ super_call x arguments =
 abbrev pub new_prototype : Option ℕ → Run ℕ
 new_prototype parent = new_object (record { entries = record { key = codes "constructor"; property = Open } ∷ []; prototype = parent; callable = None; extent = Ordinary })
 
+abbrev pub closure_of : Node → Sort → Option ℕ → ExecutionContext → Closure
+closure_of node sort home x = record { node = node; scope = x.scope; sort = sort; home = home; field_keys = [] }
+
 -- a function object (10.2.3 OrdinaryFunctionCreate)
 abbrev pub new_function : List Entry → Option ℕ → Node → Sort → Option ℕ → ExecutionContext → Run ℕ
-new_function entries parent node sort home x =
-    new_object (record {
-      entries = entries;
-      prototype = parent;
-      callable = Some (Code (record { node = node; scope = x.scope; sort = sort; home = home; field_keys = [] }));
-      extent = Ordinary;
-    })
+new_function entries parent node sort home x = new_object (function_object entries parent (Code (closure_of node sort home x)))
 
 -- the property `prototype`, which can be written but of a class
 abbrev pub prototype_entries : Bool → ℕ → List Entry
@@ -254,6 +251,10 @@ prototype_entries writable place = record { key = codes "prototype"; property = 
 abbrev pub make_function : Node → Sort → Option ℕ → ExecutionContext → Run ℕ
 make_function node Plain home x = new_prototype None >>= λ place. new_function (prototype_entries true place) None node Plain home x
 make_function node sort home x = new_function function_entries None node sort home x
+
+-- the two places of a function expression without a name that is called where it stands, so that nobody holds it
+abbrev pub pass_function : Node → ExecutionContext → Run ℕ
+pass_function node x = new_prototype None >>= λ place. new_object (function_object (prototype_entries true place) None (Passed (closure_of node Plain None x)))
 
 abbrev pub parent_from : Value → Run (Option ℕ)
 parent_from (Own place) = give (Some place)

@@ -4,7 +4,7 @@ use Rattle.std.specs.List.{list_any}
 use Rattle.std.specs.Fmt.{decimal}
 use Rattle.ecma_number.specs.declared.js_number.JsNumber.TheVariants.{Whole}
 use Rattle.ecma_runs.specs.Values.{Value, Undefined, Number}
-use Rattle.ecma_runs.specs.State.{Sort, Closure, Callable, Code, Bound, Property, Data, Fixed, Accessor, Open, Entry, Extent, Ordinary, Array, ArgumentList, Object, State}
+use Rattle.ecma_runs.specs.State.{Sort, Closure, Callable, Code, Bound, Passed, Property, Data, Fixed, Accessor, Open, Entry, Extent, Ordinary, Array, ArgumentList, Object, State}
 use Rattle.ecma_runs.specs.Run.{Done, Run, ◌>>=◌, give, outside, type_error, when, changed_at}
 
 -- places
@@ -33,13 +33,14 @@ pub data Calling : Type 0 where
   Function : Sort → Calling
   BoundFunction : ℕ → Value → List Value → Calling
 
-abbrev pub calling_of : Option Callable → Option Calling
-calling_of None = None
-calling_of (Some (Code closure)) = Some (Function closure.sort)
-calling_of (Some (Bound target this given)) = Some (BoundFunction target this given)
+abbrev pub calling_of : Option Callable → Run (Option Calling)
+calling_of None = give None
+calling_of (Some (Code closure)) = give (Some (Function closure.sort))
+calling_of (Some (Bound target this given)) = give (Some (BoundFunction target this given))
+calling_of (Some (Passed closure)) = outside
 
 abbrev pub calling_at : ℕ → Run (Option Calling)
-calling_at place s = Done (calling_of (callable_in (slice_get s.objects place))) s
+calling_at place s = calling_of (callable_in (slice_get s.objects place)) s
 
 abbrev pub prototype_in : Option Object → Option ℕ
 prototype_in None = None

@@ -71,10 +71,11 @@ pub record Closure : Type 0 where
   pub field_keys : List (List ℕ)
 
 -- what can be called of an object: a closure, or a function that is bound to `this` and first arguments (10.4.1 Bound Function Exotic Objects).
--- What is bound is no bound function itself.
+-- What is bound is no bound function itself. A function that nobody holds, since it is called where it stands, is passed over: to ask what it is, is open.
 pub data Callable : Type 0 where
   Code : Closure → Callable
   Bound : ℕ → Value → List Value → Callable
+  Passed : Closure → Callable
 
 -- a property (6.1.7.1 Property Attributes)
 pub data Property : Type 0 where

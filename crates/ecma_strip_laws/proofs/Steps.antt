@@ -374,4 +374,4 @@ module _ (declared : List Id) where
 pub stripping_keeps_runs : StrippingKeepsRuns
 stripping_keeps_runs turns options m script h =
     ap (λ n. observe n options (stripped m) script) (sym (add-zero turns))
-    ∙ observe_unless (stripping (meaning m).declared) refl (steps (meaning m).declared) refl turns options m script h refl tt tt (none_excused _)
+    ∙ observe_unless (stripping (meaning m).declared) refl (steps (meaning m).declared) refl refl turns options m script h refl tt tt (none_excused _)

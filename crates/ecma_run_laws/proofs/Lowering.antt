@@ -1,0 +1,373 @@
+-- A block that is written as a function that is called where it stands: the one run passes the function over that the other makes and calls.
+use Rattle.std.proofs.Common.{◌≡◌, ◌≢◌, ℕ, zero, suc, ◌+◌, ◌≤◌, inl, inr, refl, sym, ap, ap₂, ◌∙◌, subst, subst₂, List, [], ◌∷◌, ◌++◌, map, Option, Some, None, Bool, true, false, cond, option_map, slice_get, length, append-nil, add-zero, suc-add, arith}
+use Rattle.std.proofs.lemmas.Option.{slice_get-map}
+use Rattle.ecma_kind.specs.declared.kind.Kind.{Kind}
+use Rattle.ecma_kind.specs.declared.kind.Kind.TheVariants as kind
+use Rattle.ecma_kind.specs.declared.span.Span.{Span}
+use Rattle.ecma_tree.specs.declared.node.Node.{Node, Node-F, fold-roll-Node, roll-Node, out-Node}
+use Rattle.ecma_tree.specs.declared.node.Node.TheViews.{out-roll-Node}
+use Rattle.ecma_tree.specs.Nodes.{node_of, dummy_span, absent, list_node}
+use Rattle.ecma_runs.specs.declared.observation.Ending.{Ending}
+use Rattle.ecma_runs.specs.declared.observation.Ending.TheVariants as ending
+use Rattle.ecma_runs.specs.Values.{Value, Undefined, Own}
+use Rattle.ecma_runs.specs.State.{Id, Activation, Plain, Code, Passed, Object, State}
+use Rattle.ecma_runs.specs.Host.{provided_by}
+use Rattle.ecma_runs.specs.Run.{Stop, TurnsSpent, AnswersSpent, Outside, Done, Run, then_outcome, ◌>>=◌, give, spend, spend_of}
+use Rattle.ecma_runs.specs.Environment.{new_environment}
+use Rattle.ecma_runs.specs.Objects.{callable_in, code_in, calling_of, new_object}
+use Rattle.ecma_runs.specs.Meaning.{Invocation, AsCall, Functions, ExecutionContext, inside, Evaluation, Meaning}
+use Rattle.ecma_runs.specs.Functions.{function_object, closure_of, prototype_entries, new_prototype, new_function, call_calling, call_value}
+use Rattle.ecma_runs.specs.Classes.{body_of}
+use Rattle.ecma_runs.specs.Evaluation.{in_record, as_it_is, called_with, called_block, role_by, meaning_by, meaning, entered, invoke_closure, fields_with, functions_with, apply_at, apply, invoke}
+use Rattle.ecma_runs.specs.Observation.{observe}
+use Rattle.ecma_runs.proofs.Layer.{meaning-roll}
+use Rattle.ecma_runs.proofs.Names.{changed_ids}
+use Rattle.ecma_runs.proofs.Alike.{Change, changed, changed_object, AllFine, Good, Follows, Alike, bind_alike, give_alike, return_alike, outside_alike}
+use Rattle.ecma_runs.proofs.Environments.{new_environment_alike}
+use Rattle.ecma_runs.proofs.Objects.{new_object_alike}
+use Rattle.ecma_runs.proofs.Meanings.{FunctionsAlike, World, first, second, Same}
+use Rattle.ecma_runs.proofs.Functions.{new_prototype_alike}
+use Rattle.ecma_runs.proofs.Premises.{renamed_kind, KeptLayer}
+use Rattle.ecma_runs.proofs.Classes.{body_alike}
+use Rattle.ecma_runs.proofs.Blocks.{in_record_alike}
+use Rattle.ecma_runs.proofs.Kept.{Kept, StepsAlike, layer_same, IsNotExcused, observe_while}
+use Rattle.ecma_runs.proofs.Layers.{same_names, always, the_same, all_units, same_kind, kept_layer}
+use Rattle.ecma_runs.proofs.Depth.{invoke-apply}
+use Rattle.ecma_runs.proofs.Turns.{in_turns, calls_in}
+use Rattle.ecma_run_laws.specs.Lowered.{function_of, expression_of, call_of, called_function, lowered_by, lowered_node, lowered, BlocksMayBeCalledAsFunctions}
+
+abbrev Layer : Span → Kind → List Node → Node-F Node
+Layer span k ns = record { span = span; kind = k; children = ns }
+
+-- what the written parts mean
+
+module _ (items : Node) where
+  abbrev absent_meaning : Meaning
+  absent_meaning = role_by absent kind.Absent []
+
+  abbrev list_meaning : Meaning
+  list_meaning = role_by (list_node []) kind.List []
+
+  abbrev body_meaning : Meaning
+  body_meaning = role_by (node_of dummy_span kind.BlockStmt (items ∷ [])) kind.BlockStmt (meaning items ∷ [])
+
+  abbrev function_meaning : Meaning
+  function_meaning = role_by (function_of items) (kind.Function false false) (list_meaning ∷ body_meaning ∷ absent_meaning ∷ absent_meaning ∷ [])
+
+  abbrev expression_meaning : Meaning
+  expression_meaning = role_by (expression_of items) kind.FnExpr (absent_meaning ∷ function_meaning ∷ [])
+
+  abbrev call_meaning : Meaning
+  call_meaning = role_by (call_of items) kind.CallExpr (expression_meaning ∷ list_meaning ∷ absent_meaning ∷ [])
+
+  abbrev written_meaning : Meaning
+  written_meaning = role_by (called_function items) kind.ExprStmt (call_meaning ∷ [])
+
+  absent_is : meaning absent ≡ absent_meaning
+  absent_is = meaning-roll (Layer dummy_span kind.Absent [])
+
+  list_is : meaning (list_node []) ≡ list_meaning
+  list_is = meaning-roll (Layer dummy_span kind.List [])
+
+  body_is : meaning (node_of dummy_span kind.BlockStmt (items ∷ [])) ≡ body_meaning
+  body_is = meaning-roll (Layer dummy_span kind.BlockStmt (items ∷ []))
+
+  function_is : meaning (function_of items) ≡ function_meaning
+  function_is =
+      meaning-roll (Layer dummy_span (kind.Function false false) (list_node [] ∷ node_of dummy_span kind.BlockStmt (items ∷ []) ∷ absent ∷ absent ∷ []))
+      ∙ (λ i. role_by (function_of items) (kind.Function false false) (list_is i ∷ body_is i ∷ absent_is i ∷ absent_is i ∷ []))
+
+  expression_is : meaning (expression_of items) ≡ expression_meaning
+  expression_is =
+      meaning-roll (Layer dummy_span kind.FnExpr (absent ∷ function_of items ∷ []))
+      ∙ (λ i. meaning_by (expression_of items) kind.FnExpr (absent_is i ∷ function_is i ∷ []))
+
+  call_is : meaning (call_of items) ≡ call_meaning
+  call_is =
+      meaning-roll (Layer dummy_span kind.CallExpr (expression_of items ∷ list_node [] ∷ absent ∷ []))
+      ∙ (λ i. role_by (call_of items) kind.CallExpr (expression_is i ∷ list_is i ∷ absent_is i ∷ []))
+
+  written_is : meaning (called_function items) ≡ written_meaning
+  written_is = meaning-roll (Layer dummy_span kind.ExprStmt (call_of items ∷ [])) ∙ (λ i. role_by (called_function items) kind.ExprStmt (call_is i ∷ []))
+
+  -- the function is made, and then called
+
+  abbrev called : ExecutionContext → ℕ → Run (Unit {0})
+  called x function = call_value x (Own function) Undefined [] >>= λ _. give tt
+
+  abbrev made_and_called : ExecutionContext → ℕ → ℕ → Run (Unit {0})
+  made_and_called x outer prototype = new_function (prototype_entries true prototype) None (function_of items) Plain None (inside x outer) >>= λ function. called x function
+
+  written_runs : (x : ExecutionContext) → written_meaning.completion x ≡ (new_environment [] None >>= λ outer. new_prototype None >>= λ prototype. made_and_called x outer prototype)
+  written_runs x = refl
+
+-- the object that was pushed last
+
+get-push : {A : Type 0} (xs : List A) (x : A) → slice_get (xs ++ x ∷ []) (length xs) ≡ Some x
+get-push [] x = refl
+get-push (y ∷ ys) x = get-push ys x
+
+abbrev first_of : List Node → Node
+first_of [] = absent
+first_of (n ∷ ns) = n
+
+-- the node of the function that is written for a block
+abbrev function_for : Node → Node
+function_for n = function_of (first_of (map lowered (out-Node n).children))
+
+abbrev outside_only : Stop → Bool
+outside_only TurnsSpent = false
+outside_only AnswersSpent = false
+outside_only Outside = true
+
+only_outside_excused : (end : Ending) → end ≢ ending.Outside → IsNotExcused outside_only end
+only_outside_excused end h TurnsSpent excuse = absurd (cc)
+only_outside_excused end h AnswersSpent excuse = absurd (cc)
+only_outside_excused end h Outside excuse = h
+
+module _ (declared : List Id) where
+  -- functions keep the images of their nodes, and what is passed over is a function
+  abbrev lowering : Change
+  lowering = record {
+    node = lowered;
+    fine = λ n. Unit {0};
+    passed = Some function_for;
+    names = same_names;
+    declared = declared;
+    texts = λ id kept free. refl;
+    more = 0;
+    before = [];
+    excused = outside_only;
+    turns_excused = inl refl;
+    passed_excused = inr refl;
+    holds = always;
+    falls = λ n h. tt;
+    uses = true;
+    said = λ events. Unit {0};
+    adds = λ u events event h. tt;
+  }
+
+  module _ (k : ℕ) where
+    abbrev c : Change
+    c = in_turns lowering k
+
+    abbrev also : List Id
+    also = changed_ids same_names declared
+
+    -- a block, its items, and their image
+    module _ (span : Span) (items : Node) (same : Same c (meaning items) (meaning (lowered items))) where
+      abbrev n : Node
+      n = roll-Node (Layer span kind.TsModuleBlock (items ∷ []))
+
+      abbrev m : Meaning
+      m = meaning items
+
+      abbrev m' : Meaning
+      m' = meaning (lowered items)
+
+      node_is : function_for n ≡ function_of (lowered items)
+      node_is = ap (λ z. function_of (first_of (map lowered z.children))) (out-roll-Node (Layer span kind.TsModuleBlock (items ∷ [])))
+
+      -- what the items do
+      abbrev code : Evaluation (Unit {0})
+      code = body_of n kind.BlockStmt (m ∷ []) []
+
+      abbrev code' : Evaluation (Unit {0})
+      code' = body_of (node_of dummy_span kind.BlockStmt (lowered items ∷ [])) kind.BlockStmt (m' ∷ []) []
+
+      code_alike : (w : World c) → Alike c (code (first c w)) (code' (second c w))
+      code_alike w = body_alike c w n tt kind.BlockStmt ((m, m', same) ∷ []) tt []
+
+      module _ (w : World c) (outer prototype : ℕ) where
+        abbrev passed_object : Object
+        passed_object = function_object (prototype_entries true prototype) None (Passed (closure_of n Plain None (inside (first c w) outer)))
+
+        abbrev written_object : Object
+        written_object = function_object (prototype_entries true prototype) None (Code (closure_of (function_of (lowered items)) Plain None (inside (second c w) outer)))
+
+        abbrev known : FunctionsAlike c w.provided w.functions w.functions'
+        known = w.alike refl
+
+        -- the world in which the items run
+        abbrev functions' : Functions
+        functions' = functions_with (invoke w.provided also) w.provided also
+
+        fields_do : (place : ℕ) (o : Value) → Alike c (w.functions.fields place o) (functions'.fields place o)
+        fields_do place o = subst (λ i. Alike c (w.functions.fields place o) (fields_with i w.provided also place o)) (known.is_invoke refl) (known.fields_as refl place o)
+
+        abbrev body_world : World c
+        body_world = record {
+          functions = w.functions;
+          functions' = functions';
+          provided = w.provided;
+          alike = λ u. record {
+            invoke = λ place how arguments. subst (λ i. Alike c (w.functions.invoke place how arguments) (i place how arguments)) (known.is_invoke refl) (known.invoke place how arguments);
+            fields = fields_do;
+            is_invoke = λ some. refl;
+            fields_as = λ some. fields_do;
+          };
+          scope = outer ∷ w.scope;
+        }
+
+        written_is_changed : changed_object c passed_object ≡ written_object
+        written_is_changed = ap (λ z. function_object (prototype_entries true prototype) None (Code (closure_of z Plain None (inside (second c w) outer)))) node_is
+
+        module _ (s : State) (g : Good c s) where
+          abbrev f : ℕ
+          f = length s.objects
+
+          abbrev s1 : State
+          s1 = record s { objects = s.objects ++ passed_object ∷ [] }
+
+          abbrev how : Invocation
+          how = AsCall Undefined
+
+          abbrev entry : Option Activation
+          entry = Some (called_with Undefined f None [])
+
+          abbrev rest : Run (Unit {0})
+          rest = in_record [] entry code as_it_is (inside (first c w) outer) >>= λ _. give tt
+
+          found : slice_get (changed c s1).objects f ≡ Some written_object
+          found = slice_get-map (changed_object c) (s.objects ++ passed_object ∷ []) f ∙ (ap (option_map (changed_object c)) (get-push s.objects passed_object) ∙ ap Some written_is_changed)
+
+          -- the call's code is what the items do
+          code_is : (t : State) → slice_get t.objects f ≡ Some written_object
+              → apply_at (invoke w.provided also) w.provided also f how [] t ≡ in_record [] entry code' as_it_is (second c body_world) t
+          code_is t is =
+              ap (λ z. invoke_closure functions' w.provided also f how [] (code_in (callable_in z)) t) is
+              ∙ ap (λ z. entered z entry [] as_it_is (second c body_world) t) (function_is (lowered items))
+
+          follows : (left : ℕ) → left ≤ k → AllFine c s1.objects
+              → Follows c (λ a. a) (λ a. Unit {0}) (then_outcome (spend_of left s1) (λ _. rest))
+              (then_outcome (then_outcome (spend_of (left + 0) (changed c s1)) (λ _. apply_at (invoke w.provided also) w.provided also f how [])) (λ _. give tt))
+          follows zero h fine = (refl, tt)
+          follows (suc left) h fine =
+              let s2 : State = record s1 { turns = left } in
+              rw (suc-add left 0)
+              (subst (λ r. Follows c (λ a. a) (λ a. Unit {0}) (rest s2) (then_outcome r (λ _. give tt))) (sym (code_is (changed c s2) found))
+              ((bind_alike c (in_record_alike c body_world [] [] refl entry code code' code_alike as_it_is (λ place v. give_alike c v)) (λ _. give_alike c tt)).at s2 (fine, omega arith, tt)))
+
+          call_is_apply : w.functions'.invoke f how [] ≡ apply (invoke w.provided also) w.provided also f how []
+          call_is_apply = ap (λ i. i f how []) (known.is_invoke refl) ∙ invoke-apply w.provided also f how []
+
+          pushed : Follows c (λ a. a) (λ a. Unit {0}) (new_object passed_object s) (new_object (changed_object c passed_object) (changed c s))
+          pushed = (new_object_alike c passed_object tt).at s g
+
+          made : new_object written_object (changed c s) ≡ Done f (changed c s1)
+          made = ap (λ z. new_object z (changed c s)) (sym written_is_changed) ∙ pushed.0
+
+          whole : Follows c (λ a. a) (λ a. Unit {0}) (then_outcome (spend_of s.turns s1) (λ _. rest)) (made_and_called (lowered items) (second c w) outer prototype (changed c s))
+          whole =
+              subst (λ r. Follows c (λ a. a) (λ a. Unit {0}) (then_outcome (spend_of s.turns s1) (λ _. rest)) (then_outcome r (λ function. called (lowered items) (second c w) function))) (sym made)
+              (subst (λ z. Follows c (λ a. a) (λ a. Unit {0}) (then_outcome (spend_of s.turns s1) (λ _. rest))
+              (then_outcome (then_outcome (calling_of (callable_in z) (changed c s1)) (λ o. call_calling (second c w) f Undefined [] o)) (λ _. give tt))) (sym found)
+              (subst (λ i. Follows c (λ a. a) (λ a. Unit {0}) (then_outcome (spend_of s.turns s1) (λ _. rest)) (then_outcome (i (changed c s1)) (λ _. give tt))) (sym call_is_apply)
+              (follows s.turns g.1 pushed.1.0)))
+
+        made_alike : Alike c (new_object passed_object >>= λ function. spend >>= λ _. in_record [] (Some (called_with Undefined function None [])) code as_it_is (inside (first c w) outer) >>= λ _. give tt)
+            (made_and_called (lowered items) (second c w) outer prototype)
+        made_alike = record { at = λ s g. whole s g }
+
+      block_alike : (w : World c) → Alike c (called_block n m (first c w)) ((written_meaning (lowered items)).completion (second c w))
+      block_alike w =
+          subst (λ r. Alike c (called_block n m (first c w)) r) (sym (written_runs (lowered items) (second c w)))
+          (bind_alike c (new_environment_alike c [] None) (λ outer. bind_alike c (new_prototype_alike c None) (λ prototype. made_alike w outer prototype)))
+
+      written_declares : (call_meaning (lowered items)).declared ++ [] ≡ m'.declared
+      written_declares = simp append-nil refl
+
+      module _ (values : m.is_type ≡ false) where
+        written_completes : (w : World c) → Alike c ((role_by n kind.TsModuleBlock (m ∷ [])).completion (first c w)) ((written_meaning (lowered items)).completion (second c w))
+        written_completes w = rw values (block_alike w)
+
+        parts_same : Same c (role_by n kind.TsModuleBlock (m ∷ [])) (written_meaning (lowered items))
+        parts_same = record {
+          value = λ w. outside_alike c;
+          reference = λ w. bind_alike c {A = Value} (outside_alike c) (λ v. outside_alike c);
+          assigned = λ get get' h w. outside_alike c;
+          initial = λ w. outside_alike c;
+          arguments = λ w. bind_alike c (outside_alike c) (λ v. give_alike c (v ∷ []));
+          elements = λ w. bind_alike c (outside_alike c) (λ v. give_alike c (Some v ∷ []));
+          texts = λ w. bind_alike c {A = Value} (outside_alike c) (λ v. outside_alike c);
+          key = λ w. outside_alike c;
+          chain = λ w. outside_alike c;
+          link = λ optional w. outside_alike c;
+          bound = λ v w. outside_alike c;
+          matched = λ v w. outside_alike c;
+          targets = λ v w. outside_alike c;
+          parameters = λ arguments w. outside_alike c;
+          completion = written_completes;
+          varied = λ w. outside_alike c;
+          hoisted = λ w. give_alike c tt;
+          effect = λ w. bind_alike c {A = Value} (outside_alike c) (λ _. give_alike c tt);
+          test = λ w. outside_alike c;
+          caught = λ v w. outside_alike c;
+          made = λ sort home w. outside_alike c;
+          class_made = λ ids w. outside_alike c;
+          defined = λ texts class object w. outside_alike c;
+          fields = λ keys object w. outside_alike c;
+          statics = λ keys class w. outside_alike c;
+          code = λ u arguments w. outside_alike c;
+          body = λ names w. bind_alike c {A = Value} (outside_alike c) (λ v. return_alike c v);
+          names = refl;
+          lexicals = refl;
+          vars = refl;
+          locals = refl;
+          parameter_names = refl;
+          declared = written_declares ∙ same.declared ∙ ap (changed_ids same_names) (sym (append-nil m.declared));
+          imported = λ source. refl;
+          text = λ texts. refl;
+          cooked = refl;
+          is_plain = refl;
+          is_super = refl;
+          is_absent = refl;
+          is_this = refl;
+          is_type = sym values;
+          has_body = refl;
+          is_constructor = refl;
+        }
+
+        lowered_is : lowered n ≡ called_function (lowered items)
+        lowered_is =
+            fold-roll-Node Node lowered_node (Layer span kind.TsModuleBlock (items ∷ []))
+            ∙ ap (λ b. cond b (roll-Node (Layer span kind.TsModuleBlock (lowered items ∷ []))) (called_function (lowered items))) (same.is_type ∙ values)
+
+        block_same : Same c (meaning n) (meaning (lowered n))
+        block_same = subst₂ (Same c) (sym (meaning-roll (Layer span kind.TsModuleBlock (items ∷ [])))) (sym (ap meaning lowered_is ∙ written_is (lowered items))) parts_same
+
+    kind_is : (k' : Kind) → renamed_kind c k' ≡ k'
+    kind_is k' = same_kind (λ n. Unit {0}) lowered declared the_same k'
+
+    other_step : (span : Span) (k' : Kind) (cs : List Node) (ns : List ((n : Node) × Kept c n)) → map (λ e. e.0) ns ≡ cs → KeptLayer c k' (map meaning cs)
+        → lowered_by k' (map lowered cs) (Layer span k' (map lowered cs)) ≡ roll-Node (Layer span k' (map lowered cs))
+        → Same c (meaning (roll-Node (Layer span k' cs))) (meaning (lowered (roll-Node (Layer span k' cs))))
+    other_step span k' cs ns is kept e =
+        let image : lowered (roll-Node (Layer span k' cs)) ≡ roll-Node (Layer span k' (map lowered cs)) = fold-roll-Node Node lowered_node (Layer span k' cs) ∙ e in
+        layer_same c (Layer span k' cs) ns is tt (all_units cs) kept
+        (ap meaning image ∙ meaning-roll (Layer span k' (map lowered cs)) ∙ ap₂ (λ n z. meaning_by n z (map meaning (map lowered cs))) (sym image) (sym (kind_is k')))
+
+    block_step : (span : Span) (items : Node) (ns : List ((n : Node) × Kept c n)) → map (λ e. e.0) ns ≡ items ∷ [] → Same c (meaning items) (meaning (lowered items))
+        → (b : Bool) → (meaning items).is_type ≡ b → Same c (meaning (roll-Node (Layer span kind.TsModuleBlock (items ∷ [])))) (meaning (lowered (roll-Node (Layer span kind.TsModuleBlock (items ∷ [])))))
+    block_step span items ns is same true types =
+        other_step span kind.TsModuleBlock (items ∷ []) ns is types
+        (ap (λ b. cond b (roll-Node (Layer span kind.TsModuleBlock (lowered items ∷ []))) (called_function (lowered items))) (same.is_type ∙ types))
+    block_step span items ns is same false values = block_same span items same values
+
+    first_same : (items : Node) (ns : List ((n : Node) × Kept c n)) → map (λ e. e.0) ns ≡ items ∷ [] → Same c (meaning items) (meaning (lowered items))
+    first_same items [] is = absurd (cc)
+    first_same items (n ∷ ns) is = subst (λ z. Same c (meaning z) (meaning (lowered z))) (ap first_of is) (n.1 tt)
+
+    layer_step : (span : Span) (k' : Kind) (cs : List Node) (ns : List ((n : Node) × Kept c n)) → map (λ e. e.0) ns ≡ cs → Same c (meaning (roll-Node (Layer span k' cs))) (meaning (lowered (roll-Node (Layer span k' cs))))
+    layer_step span kind.TsModuleBlock (items ∷ []) ns is = block_step span items ns is (first_same items ns is) (meaning items).is_type refl
+    layer_step span k' cs ns is = other_step span k' cs ns is (kept_layer (λ n. Unit {0}) lowered declared the_same k' (map meaning cs)) refl
+
+    lowering_steps : StepsAlike c
+    lowering_steps x ns is fine fine' = layer_step x.span x.kind x.children ns is
+
+pub blocks_may_be_called_as_functions : BlocksMayBeCalledAsFunctions
+blocks_may_be_called_as_functions turns options m script h =
+    let declared : List Id = (meaning m).declared in
+    ap (λ n. observe n options (lowered m) script) (sym (add-zero turns))
+    ∙ observe_while (c declared turns) refl (lowering_steps declared turns) refl script (λ u. calls_in (lowering declared) (lowering_steps declared) refl (provided_by script) turns) turns options m tt refl (omega arith) tt
+    (only_outside_excused (observe turns options m script).ending h)
