@@ -1,20 +1,18 @@
 -- What the first byte of the token ahead says of a reading is so.
-use Rattle.std.proofs.Common.{◌≡◌, ℕ, zero, suc, ◌-◌, ◌<◌, ◌≤◌, max, Bool, true, false, nat_eq, nat_le, ◌&&◌, List, [], ◌∷◌, length, get_or, drop, take, if◌then◌else◌, Option, Some, None, refl, ap, sym, ◌∙◌, subst, arith}
-use Rattle.std.specs.List.{slice_get, starts_with}
+use Rattle.std.proofs.Common.{◌≡◌, ℕ, zero, suc, ◌-◌, ◌<◌, Bool, true, false, nat_eq, nat_le, ◌&&◌, List, [], ◌∷◌, length, get_or, drop, take, if◌then◌else◌, Option, Some, None, refl, arith}
+use Rattle.std.specs.List.{starts_with}
 use Rattle.std.specs.Str.{bytes_eq}
 use Rattle.ecma_lex.specs.declared.blanks.Skipped.{Skipped}
 use Rattle.ecma_lex.specs.Blanks.{skipped}
-use Rattle.ecma_lex.specs.Text.{after, cuts, piece}
-use Rattle.ecma_lex.specs.Parts.{Part, char_at, passes, code_point, then_at, if_text}
+use Rattle.ecma_lex.specs.Text.{cuts, piece}
+use Rattle.ecma_lex.specs.Parts.{code_point, if_text}
 use Rattle.ecma_lex.specs.Keys.{key_end, word_end}
 use Rattle.ecma_lex.specs.Punctuators.{begins_with, is_longest, punct_end, angle_end}
 use Rattle.ecma_lex.specs.Templates.{template_text, template_text_end, any_template_text_end, template_characters, found_template_text}
-use Rattle.ecma_lex.specs.Tokens as lex
 use Rattle.ecma_lex.specs.Tokens.{word, punct, angle, found}
 use Rattle.ecma_lex.proofs.Steps.{ascii_here}
 use Rattle.ecma_grammar.specs.Outlook.{found_outlook}
-use Rattle.ecma_grammar.specs.declared.reader.outlook.Outlook.{Outlook}
-use Rattle.ecma_grammar.specs.declared.reader.outlook.Outlook.TheVariants.{Open, Fails, Stays, Passes}
+use Rattle.ecma_grammar.specs.declared.reader.outlook.Outlook.TheVariants.{Fails}
 
 -- a token that ends nowhere
 none-found : (before : Skipped) (end : Option ℕ) → end ≡ None → found_outlook (found before (if before.closed then end else None)) ≡ Fails before.to

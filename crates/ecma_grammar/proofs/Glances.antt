@@ -1,5 +1,5 @@
 -- What the first byte of the token ahead says of a reading.
-use Rattle.std.proofs.Common.{◌≡◌, ◌≢◌, ℕ, Bool, true, false, nat_eq, refl, arith}
+use Rattle.std.proofs.Common.{◌≡◌, ◌≢◌, ℕ, Bool, false, nat_eq, refl, arith}
 use Rattle.ecma_grammar.specs.Glance.{sight, passes, fails}
 use Rattle.ecma_grammar.specs.productions.Expressions.{assignments}
 use Rattle.ecma_grammar.specs.productions.Chains.{links, template_start}

@@ -3,8 +3,10 @@ pub mod Frames
 pub mod Glances
 pub mod Levels
 pub mod Namespaces
+pub mod Operands
 pub mod Outlooks
 pub mod Readings
 pub mod Sights
 pub mod Sizes
 pub mod Steps
+pub mod Tails

@@ -1,8 +1,7 @@
 -- What the first byte of the token ahead says of a reading is what the tokens that stand ahead say of it.
-use Rattle.std.proofs.Common.{◌≡◌, ℕ, ◌<◌, ◌≤◌, max, Bool, true, false, nat_eq, List, [], ◌∷◌, get_or, if◌then◌else◌, Result, codes, refl, ap, sym, ◌∙◌, subst, arith}
+use Rattle.std.proofs.Common.{◌≡◌, ℕ, ◌<◌, ◌≤◌, max, Bool, true, false, nat_eq, List, [], ◌∷◌, get_or, if◌then◌else◌, codes, refl, ap, sym, subst, arith}
 use Rattle.ecma_lex.specs.declared.blanks.Skipped.{Skipped}
 use Rattle.ecma_lex.specs.Blanks.{skipped}
-use Rattle.ecma_lex.specs.Templates.{template_text}
 use Rattle.ecma_lex.specs.Tokens as lex
 use Rattle.ecma_grammar.specs.declared.production.Mode.{Mode}
 use Rattle.ecma_grammar.specs.declared.production.TemplatePart.{TemplatePart}

@@ -12,4 +12,5 @@ pub mod FirstByte
 pub mod Outlook
 pub mod Glance
 pub mod Agreement
+pub mod Operands
 pub mod Modules

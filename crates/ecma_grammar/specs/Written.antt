@@ -4,6 +4,8 @@ use Rattle.ecma_grammar.specs.declared.production.Terminal as declared
 use Rattle.ecma_grammar.specs.declared.production.Terminal.TheVariants as terminal
 use Rattle.ecma_grammar.specs.declared.production.Production.{Production}
 use Rattle.ecma_grammar.specs.declared.production.Production.TheVariants as production
+use Rattle.ecma_grammar.specs.declared.productions.tails.Tail as declared_tail
+use Rattle.ecma_grammar.specs.productions.Tails.{Tail, tail}
 use Rattle.ecma_grammar.specs.Rules.{rule_grammar}
 use Rattle.ecma_grammar.specs.Grammar.{Terminal, the_word, the_punct, any, Grammar, nothing, same_line, take, keep, put, ◌▸◌, ◌//◌, many, ahead, unless, marked, assigned, up, enter, behind, build}
 
@@ -30,6 +32,10 @@ written (production.Enter u) = enter u
 written (production.Behind t u) = behind (written_token t) u
 written (production.Build' f p a) = build f (written a)
 written (production.The r) = rule_grammar r
+
+-- what stands behind what was read
+abbrev pub written_tail : declared_tail.Tail → Tail
+written_tail t = tail t.form (written t.production)
 
 -- a production that is a name
 abbrev pub is_name : Production → Bool

@@ -5,6 +5,7 @@ pub mod Primary
 pub mod Chains
 pub mod Operators
 pub mod Expressions
+pub mod Tails
 pub mod Functions
 pub mod Classes
 pub mod Statements

@@ -4,10 +4,11 @@ ghost use Rattle.ecma_grammar.specs.productions.Modules.{module_body};
 
 use crate::failure::Failure;
 use crate::production::{Form, Part, Production};
-use crate::productions::{module_body, part_body, rule_body};
-use crate::reader::{Known, Reader};
+use crate::productions::{Tail, links_tail, module_body, part_body, rule_body, tails};
+use crate::reader::{Known, Opened, Operand, Reader};
 
-/// Reads a part, where so many levels more are allowed; a use that is too deep is told at a place.
+/// Reads a part, where so many levels more are allowed; a use that is too deep is told at a place. An assignment expression that is seen to begin with a
+/// leaf is read from there on: none of what may stand before a first operand is tried, and its levels of operators are read one behind the other.
 #[tactic(auto, using(crate::proofs::Levels::entering))]
 #[cycle(levels)]
 pub(crate) fn read_part(
@@ -29,6 +30,11 @@ pub(crate) fn read_part(
         part: &inside,
         left,
     };
+    if let Part::Assign { no_in, .. } = part {
+        if let Some(operand) = reader.keep_operand()? {
+            return machine.read_behind(reader, operand, no_in);
+        }
+    }
     machine.read(reader, part_body(part))
 }
 
@@ -54,10 +60,13 @@ pub(crate) struct Machine<'f, F> {
 }
 
 impl<'f, F: Fn(&mut Reader, Part, u32) -> Result<(), Failure>> Machine<'f, F> {
-    ghost use Rattle.std.specs.Prelude.{◌≡◌, false};
-    ghost use Rattle.ecma_grammar.specs.Written.{goes_on, written};
+    ghost use Rattle.std.specs.Prelude.{◌≡◌, ◌≤◌, ◌∷◌, false, length, map};
+    ghost use Rattle.ecma_grammar.specs.Written.{goes_on, written, written_tail};
     ghost use Rattle.ecma_grammar.specs.Grammar.{ahead, build, many, unless};
-    ghost use Rattle.ecma_grammar.specs.Agreement.{Keeps, ReadsParts, reads_in};
+    ghost use Rattle.ecma_grammar.specs.Agreement.{Keeps, ReadsParts, kept, parts_in, position, reads_in};
+    ghost use Rattle.ecma_grammar.specs.Operands.{StandsAs, tail_on, tails_on};
+    ghost use Rattle.ecma_grammar.specs.Reading.{read};
+    ghost use Rattle.ecma_grammar.specs.productions.Tails.{links_tail, tails};
 
     /// Reads by a production. The last part of one is read in this loop, and so is one node that is made of all that is read:
     /// so a call is taken only by the first of two, by each of a choice but the last, and by what is repeated or looked at.
@@ -243,5 +252,58 @@ impl<'f, F: Fn(&mut Reader, Part, u32) -> Result<(), Failure>> Machine<'f, F> {
             }
         }
         Ok(())
+    }
+
+    /// Reads what may stand behind an operand, and makes the two into one node.
+    #[tactic(auto, using(crate::proofs::Tails::tailing))]
+    fn read_tail(
+        &self,
+        reader: &mut Reader,
+        operand: Operand,
+        tail: &'static Tail,
+    ) -> Result<(), Failure>
+        requires parts { ReadsParts F.Fn self.now }
+        requires count { operand.count ≤ length (kept reader.old) }
+        ensures { StandsAs operand reader.old reader.new result (tail_on reader.old.text.now reader.old.mode (parts_in reader.old self.now.left) operand (written_tail tail.now) (read (kept reader.old) (position reader.old))) }
+    {
+        self.read(reader, &tail.production)?;
+        reader.build(Opened {
+            form: &tail.form,
+            lo: operand.lo,
+            count: operand.count,
+        })?;
+        Ok(())
+    }
+
+    /// Reads tails, one behind the other.
+    #[tactic(auto, using(crate::proofs::Tails::tailing))]
+    fn read_tails(
+        &self,
+        reader: &mut Reader,
+        operand: Operand,
+        tails: &'static [Tail],
+    ) -> Result<(), Failure>
+        requires parts { ReadsParts F.Fn self.now }
+        requires count { operand.count ≤ length (kept reader.old) }
+        ensures { StandsAs operand reader.old reader.new result (tails_on reader.old.text.now reader.old.mode (parts_in reader.old self.now.left) operand (map written_tail tails.now) (read (kept reader.old) (position reader.old))) }
+    {
+        for i in 0..tails.len() {
+            self.read_tail(reader, operand, &tails[i])?;
+        }
+        Ok(())
+    }
+
+    /// Reads what stands behind the first operand of an assignment expression, up to its end.
+    #[tactic(auto, using(crate::proofs::Tails::tailing))]
+    fn read_behind(&self, reader: &mut Reader, operand: Operand, no_in: bool) -> Result<(), Failure>
+        requires parts { ReadsParts F.Fn self.now }
+        requires count { operand.count ≤ length (kept reader.old) }
+        ensures { StandsAs operand reader.old reader.new result (tails_on reader.old.text.now reader.old.mode (parts_in reader.old self.now.left) operand (links_tail ∷ tails no_in) (read (kept reader.old) (position reader.old))) }
+    {
+        self.read_tail(reader, operand, links_tail())?;
+        if reader.is_quiet(operand, no_in) {
+            return Ok(());
+        }
+        self.read_tails(reader, operand, tails(no_in))
     }
 }

@@ -16,6 +16,7 @@ mod parts;
 mod patterns;
 mod primary;
 mod statements;
+mod tails;
 mod types;
 mod words;
 
@@ -51,6 +52,7 @@ pub use primary::PrimaryRule;
 use primary::*;
 pub use statements::StatementRule;
 use statements::*;
+pub(crate) use tails::{Tail, links_tail, tails};
 pub use types::TypeRule;
 use types::*;
 use words::*;

@@ -5,6 +5,7 @@ ghost use Rattle.ecma_grammar.specs.FirstByte.{first_byte};
 
 mod keeping;
 mod leaves;
+mod operands;
 mod outlook;
 mod recent;
 mod terminals;
@@ -13,6 +14,7 @@ use crate::production::Mode;
 use ecma_lex::Upcoming;
 use ecma_tree::{Node, Nodes};
 pub(crate) use keeping::Opened;
+pub(crate) use operands::Operand;
 pub(crate) use outlook::Known;
 use std::alloc::Global;
 

@@ -11,12 +11,13 @@ use Rattle.ecma_grammar.specs.productions.Names.{assign_in}
 use Rattle.ecma_grammar.specs.productions.Operators.{short_circuit}
 use Rattle.ecma_grammar.specs.productions.Functions.{arrow}
 
+-- ('?' Assign ':' Assign)?
+abbrev pub choice : Bool → Grammar
+choice no_in = optional (item plain.CondExpr (punct (codes "?") ▸ up (part.Assign no_in true) ▸ punct (codes ":") ▸ assign_in no_in))
+
 -- Cond = Short ('?' Assign ':' Assign)?
 unfoldable pub conditional : Bool → Grammar
-conditional no_in =
-    build form.Chain
-    (short_circuit no_in
-    ▸ optional (item plain.CondExpr (punct (codes "?") ▸ up (part.Assign no_in true) ▸ punct (codes ":") ▸ assign_in no_in)))
+conditional no_in = build form.Chain (short_circuit no_in ▸ choice no_in)
 
 -- 'yield' (~'*' Assign / ~Assign)?
 abbrev pub yield_ : Bool → Grammar

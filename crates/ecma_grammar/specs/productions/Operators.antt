@@ -14,16 +14,20 @@ use Rattle.ecma_kind.specs.declared.operators.BinaryOp.TheVariants as binary
 use Rattle.ecma_grammar.specs.productions.Names.{type_, right_angle}
 use Rattle.ecma_grammar.specs.productions.Chains.{chain}
 
+-- (~('++' / '--'))?
+abbrev pub updates : Grammar
+updates =
+    same_line ▸ item (plain.UpdateExpr update_op.PlusPlus false) (punct (codes "++"))
+    // same_line ▸ item (plain.UpdateExpr update_op.MinusMinus false) (punct (codes "--"))
+    // nothing
+
 -- Update = ('++' / '--') Operand / Chain (~('++' / '--'))?
 unfoldable pub update : Grammar
 update =
     node (plain.UpdateExpr update_op.PlusPlus true) (behind_punct (codes "++") part.Operand)
     // node (plain.UpdateExpr update_op.MinusMinus true) (behind_punct (codes "--") part.Operand)
     // build form.Chain
-    (chain
-    ▸ (same_line ▸ item (plain.UpdateExpr update_op.PlusPlus false) (punct (codes "++"))
-    // same_line ▸ item (plain.UpdateExpr update_op.MinusMinus false) (punct (codes "--"))
-    // nothing))
+    (chain ▸ updates)
 
 -- Pre Operand
 unfoldable pub prefixed : Grammar

@@ -26,6 +26,13 @@ pub(super) fn expression_rule(rule: ExpressionRule) -> &'static Production
     }
 }
 
+// ('?' Assign ':' Assign)?
+macro_rules! choice {
+    ($no_in:tt) => { optional!(item!(Plain::CondExpr, all!(punct!("?"), Up(Part::Assign { no_in: $no_in, middle: true }), punct!(":"), assign_in!($no_in)))) };
+}
+
+pub(super) use choice;
+
 // Cond = Short ('?' Assign ':' Assign)?
 macro_rules! conditional {
     ($no_in:tt) => { The(Rule::Expression(ExpressionRule::Conditional { no_in: $no_in })) };
@@ -34,7 +41,7 @@ macro_rules! conditional {
 pub(super) use conditional;
 
 macro_rules! conditional_body {
-    ($no_in:tt) => { Build(Form::Chain, &all!(short_circuit!($no_in), optional!(item!(Plain::CondExpr, all!(punct!("?"), Up(Part::Assign { no_in: $no_in, middle: true }), punct!(":"), assign_in!($no_in)))))) };
+    ($no_in:tt) => { Build(Form::Chain, &all!(short_circuit!($no_in), choice!($no_in))) };
 }
 
 static CONDITIONAL_BODY: Production = conditional_body!(false);

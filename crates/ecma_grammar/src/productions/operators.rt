@@ -76,6 +76,31 @@ pub(super) const SHIFTS: Production = The(Rule::Operator(OperatorRule::Shifts));
 
 pub(super) const SHIFT: Production = The(Rule::Operator(OperatorRule::Shift));
 
+// (~('++' / '--'))?
+pub(super) const UPDATES: Production = first_of!(
+    all!(
+        SameLine,
+        item!(
+            Plain::UpdateExpr {
+                op: UpdateOp::PlusPlus,
+                prefix: false
+            },
+            punct!("++")
+        )
+    ),
+    all!(
+        SameLine,
+        item!(
+            Plain::UpdateExpr {
+                op: UpdateOp::MinusMinus,
+                prefix: false
+            },
+            punct!("--")
+        )
+    ),
+    Nothing
+);
+
 // Update = ('++' / '--') Operand / Chain (~('++' / '--'))?
 static UPDATE_BODY: Production = first_of!(
     node!(
@@ -92,35 +117,7 @@ static UPDATE_BODY: Production = first_of!(
         },
         Behind(Terminal::Punct("--"), Part::Operand)
     ),
-    Build(
-        Form::Chain,
-        &all!(
-            CHAIN,
-            first_of!(
-                all!(
-                    SameLine,
-                    item!(
-                        Plain::UpdateExpr {
-                            op: UpdateOp::PlusPlus,
-                            prefix: false
-                        },
-                        punct!("++")
-                    )
-                ),
-                all!(
-                    SameLine,
-                    item!(
-                        Plain::UpdateExpr {
-                            op: UpdateOp::MinusMinus,
-                            prefix: false
-                        },
-                        punct!("--")
-                    )
-                ),
-                Nothing
-            )
-        )
-    )
+    Build(Form::Chain, &all!(CHAIN, UPDATES))
 );
 
 // Pre Operand

@@ -131,7 +131,7 @@ impl Reader<'_> {
         of_token(self.ahead.template_text(self.text, part.first, part.tagged))
     }
 
-    fn kind_outlook(&self, kind: TokenKind) -> Outlook
+    pub(super) fn kind_outlook(&self, kind: TokenKind) -> Outlook
         requires { self.now.ahead.place ≡ self.now.place }
         ensures { result ≡ kind_outlook self.now.text.now self.now.place kind }
     {
@@ -162,7 +162,7 @@ impl Reader<'_> {
     }
 
     #[tactic(auto, using(crate::proofs::Firsts::wording))]
-    fn word_outlook(&self, word: &str) -> Outlook
+    pub(super) fn word_outlook(&self, word: &str) -> Outlook
         requires { self.now.ahead.place ≡ self.now.place }
         ensures { result ≡ word_outlook self.now.text.now self.now.place word.now }
     {
@@ -174,7 +174,7 @@ impl Reader<'_> {
     }
 
     #[tactic(auto, using(crate::proofs::Firsts::wording))]
-    fn punct_outlook(&self, punctuator: &str) -> Outlook
+    pub(super) fn punct_outlook(&self, punctuator: &str) -> Outlook
         requires { self.now.ahead.place ≡ self.now.place }
         ensures { result ≡ found_outlook (punct self.now.text.now self.now.place punctuator.now) }
     {
