@@ -7,6 +7,7 @@ ghost use Rattle.std.specs.Hash as fed;
 ghost use Rattle.std.proofs.Common.{rules};
 
 use ecma_number::NoMemory;
+use short_texts::is_same;
 use std::alloc::{AllocError, Global};
 use std::hash::{Hash, Hasher};
 use std::marker::Model;
@@ -58,7 +59,7 @@ impl PartialEq for JsWord {
     ghost laws = { Cmp.partial_equiv_from_equiv nat_list_eq_equiv };
 
     fn eq(&self, other: &JsWord) -> bool {
-        self.text.as_str() == other.text.as_str()
+        is_same(self.text.as_str(), other.text.as_str())
     }
 }
 
