@@ -1,18 +1,60 @@
 -- Blanks and comments, one step of a loop after the other.
-use Rattle.std.proofs.Common.{◌≡◌, ℕ, ◌+◌, ◌-◌, ◌<◌, ◌≤◌, Bool, true, false, cond, ◌&&◌, ◌||◌, List, [], ◌∷◌, length, get_or, take, drop, refl, ap, sym, ◌∙◌, subst, arith, Some, None, nat_eq, nat_le}
+use Rattle.std.proofs.Common.{◌≡◌, ℕ, ◌+◌, ◌-◌, ◌<◌, ◌≤◌, Bool, true, false, cond, ◌&&◌, ◌||◌, List, [], ◌∷◌, length, get_or, take, drop, refl, ap, sym, ◌∙◌, subst, arith, Some, None, nat_eq, nat_le, nat_lt, suc, drop-cons}
 use Rattle.std.specs.Char.{len_utf8}
-use Rattle.std.specs.Str.{IsUtf8}
+use Rattle.std.specs.List.{list_any}
+use Rattle.std.specs.Str.{IsUtf8, chars}
+use Rattle.std.proofs.lemmas.List.{drop_all}
 use Rattle.std.proofs.lemmas.Str.{IsCharBoundary-after_ascii, chars-nil}
 use Rattle.ecma_number.specs.Blanks.{is_white_space, is_line_terminator, is_blank}
 use Rattle.ecma_lex.specs.Text.{cuts, after}
 use Rattle.ecma_lex.specs.Parts.{passing, code_point, ◌//◌, then_at}
 use Rattle.ecma_lex.specs.Blanks.{line, comment_close, comment_chars, comment_rest, comment, blank, blanks, has_line_terminator, skipped}
 use Rattle.ecma_lex.specs.declared.blanks.Skipped.{Skipped}
+use Rattle.std.specs.Int.{is_in_range}
+use Rattle.ecma_lex.proofs.Words.{beyond}
 use Rattle.ecma_lex.proofs.Steps.{ascii_here, after_step, after_not, may_cut}
 use Rattle.ecma_lex.proofs.Repeats.{Moves, moves_passing, moves_then, moves_or, moves_forward, forward_then, forward_many, moves_unless, moves_any, many_stands, many_none, many_some, up_to_none, up_to_some, up_to_end, then_some, then_none, passing_stands, passing_fails, passing_end, any_stands, code_point_end}
 
 pub ascii_width : (c : ℕ) → c < 128 → len_utf8 c ≡ 1
 ascii_width c h = grind arith
+
+-- a character of ASCII that is a blank by itself
+pub ascii_blank : (c : ℕ) → c < 128 → is_blank c ≡ (nat_eq c 32 || (nat_le 9 c && nat_le c 13))
+ascii_blank c h =
+    let within : is_in_range 0x2000 0x200A c ≡ false = grind arith in
+    rw (beyond c 0xFEFF h (grind arith), beyond c 0xA0 h (grind arith), beyond c 0x1680 h (grind arith), within, beyond c 0x202F h (grind arith), beyond c 0x205F h (grind arith), beyond c 0x3000 h (grind arith), beyond c 0x2028 h (grind arith), beyond c 0x2029 h (grind arith))
+    (among_six c)
+  where
+    among_six : (c : ℕ) → ((nat_eq c 9 || nat_eq c 11 || nat_eq c 12 || false || (nat_eq c 32 || false || false || false || false || false || false)) || (nat_eq c 10 || nat_eq c 13 || false || false)) ≡ (nat_eq c 32 || (nat_le 9 c && nat_le c 13))
+    among_six c = grind arith
+
+chars_ascii : (b : ℕ) (bs : List ℕ) → b < 128 → chars (b ∷ bs) ≡ b ∷ chars bs
+unfolding chars
+chars_ascii b [] h = let e : nat_lt b 128 ≡ true = grind arith in rw e refl
+chars_ascii b (x ∷ xs) h = let e : nat_lt b 128 ≡ true = grind arith in rw e refl
+
+first_terminator : (bs : List ℕ) (i : ℕ) → i < length bs → get_or bs i 0 < 128
+    → list_any is_line_terminator (chars (drop i bs)) ≡ (is_line_terminator (get_or bs i 0) || list_any is_line_terminator (chars (drop (i + 1) bs)))
+first_terminator bs i l a =
+    let e : suc i ≡ i + 1 = omega arith in
+    rw (drop-cons bs i 0 l) (rw (chars_ascii (get_or bs i 0) (drop (suc i) bs) a) (ap (λ n. is_line_terminator (get_or bs i 0) || list_any is_line_terminator (chars (drop n bs))) e))
+
+pub terminator_more : (bs : List ℕ) (i : ℕ) → i < length bs → get_or bs i 0 < 128 → (get_or bs i 0 ≡ 10 → ⊥) → (get_or bs i 0 ≡ 13 → ⊥)
+    → list_any is_line_terminator (chars (drop (i + 1) bs)) ≡ list_any is_line_terminator (chars (drop i bs))
+terminator_more bs i l a n m =
+    let e : is_line_terminator (get_or bs i 0) ≡ false = grind arith in
+    sym (first_terminator bs i l a ∙ ap (λ b. b || list_any is_line_terminator (chars (drop (i + 1) bs))) e)
+
+pub feed_stops : (bs : List ℕ) (i : ℕ) → i < length bs → get_or bs i 0 ≡ 10 → list_any is_line_terminator (chars (drop i bs)) ≡ true
+feed_stops bs i l h = first_terminator bs i l (grind arith) ∙ rw h refl
+
+pub return_stops : (bs : List ℕ) (i : ℕ) → i < length bs → get_or bs i 0 ≡ 13 → list_any is_line_terminator (chars (drop i bs)) ≡ true
+return_stops bs i l h = first_terminator bs i l (grind arith) ∙ rw h refl
+
+pub terminator_ends : (bs : List ℕ) (i : ℕ) → length bs ≤ i → list_any is_line_terminator (chars (drop i bs)) ≡ false
+terminator_ends bs i h = rw (drop_all i bs h, chars-nil) refl
+
+pub ruleset terminator_steps = (terminator_more, feed_stops, return_stops, terminator_ends)
 
 module _ (text : List ℕ) where
   -- a line
