@@ -139,18 +139,20 @@ fn is_further_out(role: Role, around: &Index, passed: &Index, sym: &JsWord) -> b
     is_stated(states(passed, sym)) || (is_function_body(role) && is_stated(states(around, sym)))
 }
 
-/// The declarations that meet in the scope of a node.
+/// The declarations that meet in the scope of a node, which declares these names.
 fn meeting(
     alloc: Global,
     role: Role,
     around: &Index,
     node: &Node,
+    own: ItemList<Declaration>,
 ) -> Result<ItemList<Declaration>, NoMemory>
+    requires { own ≡ names role (states_of around.now) node.now }
     ensures { IfOk result (λ names. names ≡ meeting role (states_of around.now) node.now) }
 {
     let passed = passing(alloc, role, node)?;
     let index = index_of(alloc, &passed)?;
-    let mut names = own_names(alloc, role, around, node)?;
+    let mut names = own;
     names.retain(|name| name.stays || is_further_out(role, around, &index, &name.sym));
     mark_merged(&mut names);
     names.append(passed)?;
@@ -209,7 +211,7 @@ fn check_in(alloc: Global, role: Role, around: &Index, node: &Node) -> Result<()
     let Ok(index) = index_of(alloc, &own) else {
         return Err(ScopeError::NoMemory);
     };
-    let Ok(names) = meeting(alloc, role, around, node) else {
+    let Ok(names) = meeting(alloc, role, around, node, own) else {
         return Err(ScopeError::NoMemory);
     };
     if let Err(error) = check_meeting(alloc, role, around, &names) {

@@ -28,6 +28,9 @@ pub(crate) fn empty_index(alloc: Global) -> Index
 pub(crate) fn states(index: &Index, sym: &JsWord) -> Option<bool>
     ensures { result ≡ states_of index.now sym.now }
 {
+    if index.stays.is_empty() {
+        return None;
+    }
     index.stays.get(sym).copied()
 }
 

@@ -15,18 +15,6 @@ fn has_computed_key(node: &Node) -> bool
     }
 }
 
-#[tactic(auto, unfolding(crate::specs::Needs::helpers_by))]
-fn helpers_by(kind: &Kind, computed: bool) -> u64
-    ensures value { result ≡ helpers_by kind.now computed }
-    ensures small { result ≤ 1 }
-{
-    match kind {
-        Kind::Class { .. } => 1,
-        Kind::ClassProp { .. } => { if computed { 1 } else { 0 } }
-        _ => 0,
-    }
-}
-
 fn count_of(is: bool) -> u64
     ensures value { result ≡ cond is 1 0 }
     ensures small { result ≤ 1 }
@@ -34,12 +22,23 @@ fn count_of(is: bool) -> u64
     if is { 1 } else { 0 }
 }
 
+#[tactic(auto, unfolding(crate::specs::Needs::helpers_by))]
+fn helpers(node: &Node) -> u64
+    ensures value { result ≡ helpers_by (out-Node node.now).kind (has_computed_key (out-Node node.now).children) }
+    ensures small { result ≤ 1 }
+{
+    match &node.kind {
+        Kind::Class { .. } => 1,
+        Kind::ClassProp { .. } => count_of(has_computed_key(node)),
+        _ => 0,
+    }
+}
+
 fn needed_here(role: Role, node: &Node) -> u64
     ensures { result ≡ needed_here role node.now }
 {
-    let helpers = helpers_by(&node.kind, has_computed_key(node));
     let scope = count_of(opens(role, node));
-    scope + helpers
+    scope + helpers(node)
 }
 
 fn needed_at(role: Role, node: &Node) -> u64

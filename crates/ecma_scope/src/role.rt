@@ -1,7 +1,7 @@
 //! What stands around a node, as far as its parent says.
 ghost use Rattle.std.specs.Prelude.{◌≡◌};
 ghost use Rattle.ecma_tree.specs.declared.node.Node.{out-Node};
-ghost use Rattle.ecma_scope.specs.Scopes.{at_child, covers, is_ambient, is_default, is_root, is_there, of_exports, of_specifier, opens, opens_by, passes_ambient, passes_in_list, role_by, role_in};
+ghost use Rattle.ecma_scope.specs.Scopes.{at_child, covers, is_ambient, is_default, is_root, is_there, of_exports, of_specifier, opens, passes_ambient, passes_in_list, role_by, role_in};
 
 use ecma_tree::{Kind, Node};
 
@@ -130,17 +130,22 @@ pub fn role_by(role: Role, kind: &Kind, sourced: bool, index: usize) -> Role
 }
 
 /// What the child at an index is to this node.
+#[tactic(auto, unfolding(crate::specs::Scopes::role_by))]
 pub fn role_in(role: Role, node: &Node, index: usize) -> Role
     ensures { result ≡ role_in role node.now index }
 {
-    role_by(role, &node.kind, is_there(node, 1), index)
+    match &node.kind {
+        Kind::NamedExport { .. } => of_exports(is_there(node, 1), index),
+        _ => role_by(role, &node.kind, false, index),
+    }
 }
 
+/// Whether a node in this role opens a scope.
 #[tactic(auto, unfolding(crate::specs::Scopes::opens_by))]
-fn opens_by(role: Role, kind: &Kind, named: bool) -> bool
-    ensures { result ≡ opens_by role kind.now named }
+pub fn opens(role: Role, node: &Node) -> bool
+    ensures { result ≡ opens role node.now }
 {
-    match kind {
+    match &node.kind {
         Kind::Module { .. } => true,
         Kind::Script { .. } => true,
         Kind::TsModuleBlock => true,
@@ -150,7 +155,7 @@ fn opens_by(role: Role, kind: &Kind, named: bool) -> bool
         Kind::Constructor { .. } => true,
         Kind::GetterProp => true,
         Kind::SetterProp => true,
-        Kind::FnExpr => named && !is_default(role),
+        Kind::FnExpr => is_there(node, 0) && !is_default(role),
         Kind::ClassExpr => true,
         Kind::ClassDecl { .. } => true,
         Kind::TsEnumDecl { .. } => true,
@@ -162,13 +167,6 @@ fn opens_by(role: Role, kind: &Kind, named: bool) -> bool
         Kind::CatchClause => true,
         _ => false,
     }
-}
-
-/// Whether a node in this role opens a scope.
-pub fn opens(role: Role, node: &Node) -> bool
-    ensures { result ≡ opens role node.now }
-{
-    opens_by(role, &node.kind, is_there(node, 0))
 }
 
 /// Whether the child at an index stands in the scope that its parent opens.

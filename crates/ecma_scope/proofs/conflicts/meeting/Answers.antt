@@ -11,11 +11,11 @@ pub returns : goal.returns
 returns c =
     let around : List ℕ → _ = states_of c.args.around.now in
     let passed : c.in_ok-passed.passed ≡ passing c.args.role c.args.node.now = c.in_ok-passed.ensures {u = tt} in
-    let own : c.in_ok-names.names ≡ names c.args.role around c.args.node.now = c.in_ok-names.ensures {u = tt} in
+    let own : c.args.own ≡ names c.args.role around c.args.node.now = c.requires in
     let passes : (text : List ℕ) → is_stated (states_of c.in_ok-index.index text) ≡ declares (passing c.args.role c.args.node.now) text =
     (λ text. ap is_stated (c.in_ok-index.ensures {u = tt} text) ∙ stated-declares c.in_ok-passed.passed text ∙ ap (λ (ds : List Declaration). declares ds text) passed) in
     let kept : c.retain.new.self
-    ≡ filter (λ (d : Declaration). d.stays || (is_stated (states_of c.in_ok-index.index d.sym) || (is_function_body c.args.role && is_stated (around d.sym)))) c.in_ok-names.names =
+    ≡ filter (λ (d : Declaration). d.stays || (is_stated (states_of c.in_ok-index.index d.sym) || (is_function_body c.args.role && is_stated (around d.sym)))) c.args.own =
     filter_same _ _ _ (λ x b f' k. search rules) _ _ c.retain.ensures in
     let meeting_own : c.retain.new.self ≡ filter (λ (d : Declaration). d.stays || is_further_out c.args.role around (passing c.args.role c.args.node.now) d.sym) (names c.args.role around c.args.node.now) =
     kept ∙ (λ j. filter (λ (d : Declaration). d.stays || (passes d.sym j || (is_function_body c.args.role && is_stated (around d.sym)))) (own j)) in
