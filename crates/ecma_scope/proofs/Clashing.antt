@@ -75,22 +75,21 @@ module _ (surroundings : ℕ → Surrounding) (nodes : List Node) where
 pub redeclared_at-out : (n : Node) (s : Surrounding) → redeclared_at n s ≡ own_clashes s n ++ clashes_in (surrounds s n) 0 (map redeclared_at (out-Node n).children)
 redeclared_at-out n s = ap (λ f. f s) (from_leaves_out (Surrounding → List (List ℕ)) clash_step n)
 
-same-either : (b : Bool) (X : Type 0) (x : X) → cond b x x ≡ x
-same-either true X x = refl
-same-either false X x = refl
-
 states_of-chosen : (b : Bool) (own around : Index) (states : List ℕ → Option Bool) → ((text : List ℕ) → states_of own text ≡ states text) → states_of (cond b own around) ≡ cond b states (states_of around)
 states_of-chosen true own around states is = (λ j text. is text j)
 states_of-chosen false own around states is = (λ j text. states_of around text)
 
+-- what stands around the children of a node that opens no scope
+abbrev pub plain_surrounding : Role → Index → Node → ℕ → Surrounding
+plain_surrounding r around n i = surrounding (role_in r n i) around
+
 -- what is declared again in a node that opens no scope, and in one that does
 pub redeclared-plain : (n : Node) (r : Role) (around : Index) → opens r n ≡ false
-    → redeclared_at n (surrounding r around) ≡ clashes_in (child_surrounding r around around n) 0 (map redeclared_at (out-Node n).children)
+    → redeclared_at n (surrounding r around) ≡ clashes_in (plain_surrounding r around n) 0 (map redeclared_at (out-Node n).children)
 redeclared-plain n r around closed =
     redeclared_at-out n (surrounding r around)
     ∙ (λ j. cond (closed j) (clashing r (states_of around) [] (meeting r (states_of around) n)) []
     ++ clashes_in (λ i. record { role = role_in r n i; around = cond (closed j && covers r (out-Node n).kind i) (stated (names r (states_of around) n)) (states_of around) }) 0 (map redeclared_at (out-Node n).children))
-    ∙ (λ j. clashes_in (λ i. record { role = role_in r n i; around = states_of (sym (same-either (covers r (out-Node n).kind i) Index around) j) }) 0 (map redeclared_at (out-Node n).children))
 
 pub redeclared-opens : (n : Node) (r : Role) (own around : Index) → opens r n ≡ true → ((text : List ℕ) → states_of own text ≡ stated (names r (states_of around) n) text)
     → redeclared_at n (surrounding r around) ≡ clashing r (states_of around) [] (meeting r (states_of around) n) ++ clashes_in (child_surrounding r own around n) 0 (map redeclared_at (out-Node n).children)

@@ -111,5 +111,10 @@ pub same-role : (n m : Node) (role inner : Role) (sourced : Bool) (i : ℕ) → 
     → inner ≡ role_by role (out-Node m).kind sourced i → inner ≡ role_in role n i
 same-role n m role inner sourced i kinds is found = found ∙ (λ j. role_by role (kinds j) (is j) i)
 
+-- and where the source is asked for only if it makes a difference
+pub same-role-sourced : (n m : Node) (role inner : Role) (sourced : Bool) (i : ℕ) → (out-Node m).kind ≡ (out-Node n).kind → ((r : Role) (k : ℕ) → role_by r (out-Node n).kind sourced k ≡ role_in r n k)
+    → inner ≡ role_by role (out-Node m).kind sourced i → inner ≡ role_in role n i
+same-role-sourced n m role inner sourced i kinds is found = found ∙ (λ j. role_by role (kinds j) sourced i) ∙ is role i
+
 pub same-cover : (n m : Node) (role : Role) (covered : Bool) (i : ℕ) → (out-Node m).kind ≡ (out-Node n).kind → covered ≡ covers role (out-Node m).kind i → covered ≡ covers role (out-Node n).kind i
 same-cover n m role covered i kinds found = found ∙ (λ j. covers role (kinds j) i)

@@ -1,10 +1,11 @@
 //! Declarations that may not stand beside each other.
-ghost use Rattle.std.specs.Prelude.{◌≡◌, ◌&&◌, ◌||◌, [], ◌∷◌, List, ℕ, IfOk, bytes_eq, cond, map};
+ghost use Rattle.std.specs.Prelude.{◌≡◌, ◌&&◌, ◌||◌, [], ◌∷◌, List, ℕ, IfOk, bytes_eq, cond, map, true, false};
 ghost use Rattle.std.specs.List.{list_any};
 ghost use Rattle.ecma_tree.specs.declared.node.Node.{out-Node};
 ghost use Rattle.ecma_scope.specs.declared.form.Form.TheVariants as form;
 ghost use Rattle.ecma_scope.specs.Declarations.{is_body, is_stated, names};
 ghost use Rattle.ecma_scope.specs.Indexed.{states_of};
+ghost use Rattle.ecma_scope.specs.Scopes.{opens};
 ghost use Rattle.ecma_scope.specs.Meetings.{clashes_with};
 ghost use Rattle.ecma_scope.specs.Conflicts.{Answers, clashing, is_catch, is_function_body, is_lexical, is_parameter, child_surrounding, chosen, clashes_in, is_var, mark, marked, may_be_merged, may_merge, meeting, merges, passing, redeclared, redeclared_at, surrounding};
 
@@ -202,9 +203,19 @@ fn chosen<'a>(covered: bool, own: &'a Index, around: &'a Index) -> &'a Index
 fn check_in(alloc: Global, role: Role, around: &Index, node: &Node) -> Result<(), ScopeError>
     ensures { Answers result (redeclared_at node.now (surrounding role around.now)) }
 {
-    if !opens(role, node) {
-        return check_children(alloc, role, around, around, node);
+    if opens(role, node) {
+        check_scope(alloc, role, around, node)
+    } else {
+        check_plain(alloc, role, around, node)
     }
+}
+
+/// The same for a node that opens a scope.
+#[cycle(checking)]
+fn check_scope(alloc: Global, role: Role, around: &Index, node: &Node) -> Result<(), ScopeError>
+    requires { opens role node.now ≡ true }
+    ensures { Answers result (redeclared_at node.now (surrounding role around.now)) }
+{
     let Ok(own) = own_names(alloc, role, around, node) else {
         return Err(ScopeError::NoMemory);
     };
@@ -220,6 +231,22 @@ fn check_in(alloc: Global, role: Role, around: &Index, node: &Node) -> Result<()
     check_children(alloc, role, &index, around, node)
 }
 
+/// The same for a node that opens no scope.
+#[cycle(checking)]
+fn check_plain(alloc: Global, role: Role, around: &Index, node: &Node) -> Result<(), ScopeError>
+    requires { opens role node.now ≡ false }
+    ensures { Answers result (redeclared_at node.now (surrounding role around.now)) }
+{
+    for i in 0..node.children.len() {
+        let child = node.children.at(i);
+        if let Err(error) = check_in(alloc, role_in(role, node, i), around, child) {
+            return Err(error);
+        }
+    }
+    Ok(())
+}
+
+/// The same for the children of a node whose scope declares what an index of its own says.
 #[cycle(checking)]
 fn check_children(
     alloc: Global,

@@ -1,5 +1,5 @@
 //! Contexts for identifiers, one a scope.
-ghost use Rattle.std.specs.Prelude.{◌≡◌, ◌≢◌, ◌+◌, ◌<◌, ◌++◌, [], ◌∷◌, IfOk, OnOk, OnErr, cond};
+ghost use Rattle.std.specs.Prelude.{◌≡◌, ◌≢◌, ◌+◌, ◌<◌, ◌++◌, [], ◌∷◌, IfOk, OnOk, OnErr, cond, true};
 ghost use Rattle.ecma_kind.specs.Sessions.{HasGiven};
 ghost use Rattle.ecma_scope.specs.Bindings.{FollowBindings};
 ghost use Rattle.ecma_tree.specs.Nodes.{node_of};
@@ -10,7 +10,7 @@ ghost use Rattle.ecma_scope.specs.Frames.{children_at, children_below, children_
 
 use crate::frame::{Frame, context_in, names_inside};
 use crate::index::index_of;
-use crate::role::{Role, covers, is_root, is_there, opens, role_by};
+use crate::role::{Role, covers, is_root, is_sourced, opens, role_by};
 use ecma_tree::{Kind, Mark, Module, NoMemory, Node, PassError, Session, SyntaxContext};
 use item_list::ItemList;
 use std::alloc::Global;
@@ -80,10 +80,28 @@ fn resolve_below(
     ensures frames { OnOk result (frames.new ≡ frames.old) }
     ensures spent { result ≡ Err PassError.Spent → session.old.left < context_count node.old role }
 {
-    if !opens(role, node) {
-        resolve_children(given, session, frames, role, node)?;
-        return Ok(());
+    if opens(role, node) {
+        resolve_opening(given, session, frames, role, node)
+    } else {
+        resolve_children(given, session, frames, role, node)
     }
+}
+
+/// Resolves what stands below a node that opens a scope.
+#[cycle(resolving)]
+fn resolve_opening(
+    given: &Given,
+    session: &mut Session,
+    frames: &mut ItemList<Frame>,
+    role: Role,
+    node: &mut Node,
+) -> Result<(), PassError>
+    requires { opens role node.old ≡ true }
+    ensures node { OnOk result (node.new ≡ with_children node.old (children_below given.now.unresolved given.now.top (place_of role frames.old) node.old session.old.left)) }
+    ensures left { OnOk result (session.new.left + context_count node.old role ≡ session.old.left) }
+    ensures frames { OnOk result (frames.new ≡ frames.old) }
+    ensures spent { result ≡ Err PassError.Spent → session.old.left < context_count node.old role }
+{
     let ctxt = draw(given, session, role)?;
     let names = names_inside(given.alloc, role, frames, node)?;
     let index = index_of(given.alloc, &names)?;
@@ -105,7 +123,7 @@ fn resolve_children(
     ensures frames { OnOk result (frames.new ≡ frames.old) }
     ensures spent { result ≡ Err PassError.Spent → session.old.left < children_count node.old role }
 {
-    let sourced = is_there(node, 1);
+    let sourced = is_sourced(node);
     let count = node.children.len();
     for i in 0..count {
         let inner = role_by(role, &node.kind, sourced, i);
@@ -129,7 +147,7 @@ fn resolve_scope(
     ensures frames { OnOk result (frames.new ≡ frames.old) }
     ensures spent { result ≡ Err PassError.Spent → session.old.left < children_count node.old role }
 {
-    let sourced = is_there(node, 1);
+    let sourced = is_sourced(node);
     let count = node.children.len();
     let mut scope = scope;
     for i in 0..count {

@@ -1,5 +1,5 @@
 //! What stands around a node, as far as its parent says.
-ghost use Rattle.std.specs.Prelude.{◌≡◌};
+ghost use Rattle.std.specs.Prelude.{◌≡◌, ℕ};
 ghost use Rattle.ecma_tree.specs.declared.node.Node.{out-Node};
 ghost use Rattle.ecma_scope.specs.Scopes.{at_child, covers, is_ambient, is_default, is_root, is_there, of_exports, of_specifier, opens, passes_ambient, passes_in_list, role_by, role_in};
 
@@ -126,6 +126,16 @@ pub fn role_by(role: Role, kind: &Kind, sourced: bool, index: usize) -> Role
         Kind::TsNamespaceDecl { declare, .. } => passes_ambient(*declare || is_ambient(role)),
         Kind::TsModuleBlock => passes_ambient(is_ambient(role)),
         _ => Role::Plain,
+    }
+}
+
+/// Whether the source that a node of this kind may have is there, where it makes a difference to a role.
+pub(crate) fn is_sourced(node: &Node) -> bool
+    ensures { (role : Role) (index : ℕ) → role_by role (out-Node node.now).kind result index ≡ role_in role node.now index }
+{
+    match &node.kind {
+        Kind::NamedExport { .. } => is_there(node, 1),
+        _ => false,
     }
 }
 

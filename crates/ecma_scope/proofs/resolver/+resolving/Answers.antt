@@ -1,4 +1,4 @@
-use Rattle.std.proofs.Common.{rules, ◌≡◌, ◌∙◌, ◌+◌, ◌<◌, sym, ap, ap₂, subst, List, ℕ, Some, Err, length, slice_get, arith}
+use Rattle.std.proofs.Common.{rules, ◌≡◌, ◌∙◌, ◌+◌, ◌<◌, OnOk, sym, ap, ap₂, subst, List, ℕ, Some, Err, length, slice_get, arith}
 use Rattle.ecma_kind.specs.declared.error.PassError.TheVariants.{Spent}
 use Rattle.ecma_tree.specs.declared.node.Node.{Node, out-Node}
 use Rattle.ecma_scope.specs.declared.frame.Frame.{Frame}
@@ -9,7 +9,7 @@ use Rattle.ecma_scope.specs.Declarations.{stated}
 use Rattle.ecma_scope.specs.Resolved.{Place, context_count, kind_at, resolved_at}
 use Rattle.ecma_scope.specs.Frames.{place_inside, place_of, plain_places, scope_places, with_children}
 use Rattle.ecma_scope.proofs.Resolving.{child_at, done-all, done-next, done-spent}
-use Rattle.ecma_scope.proofs.Opening.{below-opens, context_count-plain, count-opens, resolved_at-below, same-cover, same-role, spent-below, spent-here}
+use Rattle.ecma_scope.proofs.Opening.{below-opens, below-plain, context_count-plain, count-opens, resolved_at-below, same-cover, same-role-sourced, spent-below, spent-here}
 use Rattle.ecma_scope.proofs.Weights.{weight-child}
 use Rattle.ecma_scope.proofs.resolver.+resolving.Goals as goal
 
@@ -30,7 +30,7 @@ pub resolve_children-returns-in_err-resolve_in-clause-spent : goal.resolve_child
 resolve_children-returns-in_err-resolve_in-clause-spent t c = λ h.
     (let spent : c.resolve_in.result ≡ Err Spent = search rules in
     let inner : c.role_by-inner.result ≡ role_in c.args.role c.args.node.now c.loop-i.i =
-    same-role c.args.node.now c.loop-i.node c.args.role c.role_by-inner.result c.is_there-sourced.result c.loop-i.i c.loop-i.invariant.done.kind c.is_there-sourced.ensures c.role_by-inner.ensures in
+    same-role-sourced c.args.node.now c.loop-i.node c.args.role c.role_by-inner.result c.is_sourced-sourced.result c.loop-i.i c.loop-i.invariant.done.kind c.is_sourced-sourced.ensures c.role_by-inner.ensures in
     done-spent c.args.given.now.unresolved c.args.given.now.top (plain_places c.args.role c.args.frames.now c.args.node.now) c.args.node.now c.loop-i.node c.args.session.now.left c.loop-i.i c.loop-i.session.left
     c.get_mut.result.now c.loop-i.invariant.done c.get_mut.ensures.value
     (subst (λ (r : Role). c.loop-i.session.left < context_count c.get_mut.result.now r) inner (c.resolve_in.ensures.spent spent)))
@@ -38,7 +38,7 @@ resolve_children-returns-in_err-resolve_in-clause-spent t c = λ h.
 pub resolve_children-loop-i-preserved : goal.resolve_children-loop-i-preserved
 resolve_children-loop-i-preserved t c =
     let inner : c.role_by-inner.result ≡ role_in c.args.role c.args.node.now c.loop-i.i =
-    same-role c.args.node.now c.loop-i.node c.args.role c.role_by-inner.result c.is_there-sourced.result c.loop-i.i c.loop-i.invariant.done.kind c.is_there-sourced.ensures c.role_by-inner.ensures in
+    same-role-sourced c.args.node.now c.loop-i.node c.args.role c.role_by-inner.result c.is_sourced-sourced.result c.loop-i.i c.loop-i.invariant.done.kind c.is_sourced-sourced.ensures c.role_by-inner.ensures in
     let places : ℕ → Place = plain_places c.args.role c.args.frames.now c.args.node.now in
     record {
       done = done-next c.args.given.now.unresolved c.args.given.now.top places c.args.node.now c.loop-i.node c.args.session.now.left c.loop-i.i c.loop-i.session.left c.resolve_in.new.session.left
@@ -70,7 +70,7 @@ resolve_scope-returns-clause-node t c =
 pub resolve_scope-loop-i-preserved : goal.resolve_scope-loop-i-preserved
 resolve_scope-loop-i-preserved t c =
     let inner : c.role_by-inner.result ≡ role_in c.args.role c.args.node.now c.loop-i.i =
-    same-role c.args.node.now c.loop-i.node c.args.role c.role_by-inner.result c.is_there-sourced.result c.loop-i.i c.loop-i.invariant.done.kind c.is_there-sourced.ensures c.role_by-inner.ensures in
+    same-role-sourced c.args.node.now c.loop-i.node c.args.role c.role_by-inner.result c.is_sourced-sourced.result c.loop-i.i c.loop-i.invariant.done.kind c.is_sourced-sourced.ensures c.role_by-inner.ensures in
     let covered : c.covers-covered.result ≡ covers c.args.role (out-Node c.args.node.now).kind c.loop-i.i =
     same-cover c.args.node.now c.loop-i.node c.args.role c.covers-covered.result c.loop-i.i c.loop-i.invariant.done.kind c.covers-covered.ensures in
     let place : place_inside c.role_by-inner.result c.loop-i.frames c.loop-i.scope c.covers-covered.result ≡ scope_places c.args.role c.args.frames.now c.args.scope c.args.node.now c.loop-i.i =
@@ -89,38 +89,43 @@ pub resolve_scope-returns-in_err-scope-clause-spent : goal.resolve_scope-returns
 resolve_scope-returns-in_err-scope-clause-spent t c = λ h.
     (let spent : c.resolve_inside.result ≡ Err Spent = search rules in
     let inner : c.role_by-inner.result ≡ role_in c.args.role c.args.node.now c.loop-i.i =
-    same-role c.args.node.now c.loop-i.node c.args.role c.role_by-inner.result c.is_there-sourced.result c.loop-i.i c.loop-i.invariant.done.kind c.is_there-sourced.ensures c.role_by-inner.ensures in
+    same-role-sourced c.args.node.now c.loop-i.node c.args.role c.role_by-inner.result c.is_sourced-sourced.result c.loop-i.i c.loop-i.invariant.done.kind c.is_sourced-sourced.ensures c.role_by-inner.ensures in
     done-spent c.args.given.now.unresolved c.args.given.now.top (scope_places c.args.role c.args.frames.now c.args.scope c.args.node.now) c.args.node.now c.loop-i.node c.args.session.now.left c.loop-i.i c.loop-i.session.left
     c.get_mut.result.now c.loop-i.invariant.done c.get_mut.ensures.value
     (subst (λ (r : Role). c.loop-i.session.left < context_count c.get_mut.result.now r) inner (c.resolve_inside.ensures.spent spent)))
 
-pub resolve_below-returns-in_err-resolve_children-clause-spent : goal.resolve_below-returns-in_err-resolve_children-clause-spent
-resolve_below-returns-in_err-resolve_children-clause-spent t c = λ h.
-    (let spent : c.resolve_children.result ≡ Err Spent = search rules in
-    let plain = context_count-plain c.args.node.now c.args.role (sym c.opens.ensures ∙ c.if-not-opens.true) in
-    subst (λ (k : ℕ). c.args.session.now.left < k) (sym plain) (c.resolve_children.ensures.spent spent))
+pub resolve_below-returns-else-opens-clause-spent : goal.resolve_below-returns-else-opens-clause-spent
+resolve_below-returns-else-opens-clause-spent t c = λ h.
+    (let plain = context_count-plain c.args.node.now c.args.role (sym c.opens.ensures ∙ c.if-opens.false) in
+    subst (λ (k : ℕ). c.args.session.now.left < k) (sym plain) (c.resolve_children.ensures.spent h))
 
-pub resolve_below-returns-then-not-opens-clause-left : goal.resolve_below-returns-then-not-opens-clause-left
-resolve_below-returns-then-not-opens-clause-left t c =
-    ap (λ (k : ℕ). c.resolve_children.new.session.left + k) (context_count-plain c.args.node.now c.args.role (sym c.opens.ensures ∙ c.if-not-opens.true)) ∙ c.in_ok-resolve_children.ensures.left
+pub resolve_below-returns-else-opens-clause-left : goal.resolve_below-returns-else-opens-clause-left
+resolve_below-returns-else-opens-clause-left t c =
+    let plain = context_count-plain c.args.node.now c.args.role (sym c.opens.ensures ∙ c.if-opens.false) in
+    subst (λ (k : ℕ). OnOk c.resolve_children.result (c.resolve_children.new.session.left + k ≡ c.args.session.now.left)) (sym plain) c.resolve_children.ensures.left
 
-pub resolve_below-returns-in_err-ctxt-clause-spent : goal.resolve_below-returns-in_err-ctxt-clause-spent
-resolve_below-returns-in_err-ctxt-clause-spent t c = λ h.
-    spent-here c.args.node.now c.args.role c.args.session.now.left (sym c.opens.ensures ∙ c.if-not-opens.false) c.in_err-ctxt.ensures.spent
+pub resolve_below-returns-else-opens-clause-node : goal.resolve_below-returns-else-opens-clause-node
+resolve_below-returns-else-opens-clause-node t c =
+    let plain = below-plain c.args.given.now.unresolved c.args.given.now.top c.args.node.now c.args.role c.args.frames.now c.args.session.now.left (sym c.opens.ensures ∙ c.if-opens.false) in
+    subst (λ (children : List Node). OnOk c.resolve_children.result (c.resolve_children.new.node ≡ with_children c.args.node.now children)) (sym plain) c.resolve_children.ensures.node
 
-pub resolve_below-returns-in_err-resolve_scope-clause-spent : goal.resolve_below-returns-in_err-resolve_scope-clause-spent
-resolve_below-returns-in_err-resolve_scope-clause-spent t c = λ h.
+pub resolve_opening-returns-in_err-ctxt-clause-spent : goal.resolve_opening-returns-in_err-ctxt-clause-spent
+resolve_opening-returns-in_err-ctxt-clause-spent t c = λ h.
+    spent-here c.args.node.now c.args.role c.args.session.now.left c.requires c.in_err-ctxt.ensures.spent
+
+pub resolve_opening-returns-in_err-resolve_scope-clause-spent : goal.resolve_opening-returns-in_err-resolve_scope-clause-spent
+resolve_opening-returns-in_err-resolve_scope-clause-spent t c = λ h.
     (let spent : c.resolve_scope.result ≡ Err Spent = search rules in
-    spent-below c.args.node.now c.args.role c.args.session.now.left c.draw.new.session.left (sym c.opens.ensures ∙ c.if-not-opens.false) c.in_ok-ctxt.ensures.left (c.resolve_scope.ensures.spent spent))
+    spent-below c.args.node.now c.args.role c.args.session.now.left c.draw.new.session.left c.requires c.in_ok-ctxt.ensures.left (c.resolve_scope.ensures.spent spent))
 
-pub resolve_below-returns-clause-left : goal.resolve_below-returns-clause-left
-resolve_below-returns-clause-left t c =
-    count-opens c.args.node.now c.args.role c.args.session.now.left c.draw.new.session.left c.resolve_scope.new.session.left (sym c.opens.ensures ∙ c.if-not-opens.false) c.in_ok-ctxt.ensures.left c.in_ok-resolve_scope.ensures.left
+pub resolve_opening-returns-clause-left : goal.resolve_opening-returns-clause-left
+resolve_opening-returns-clause-left t c =
+    count-opens c.args.node.now c.args.role c.args.session.now.left c.draw.new.session.left c.resolve_scope.new.session.left c.requires c.in_ok-ctxt.ensures.left c.in_ok-resolve_scope.ensures.left
 
-pub resolve_below-returns-clause-node : goal.resolve_below-returns-clause-node
-resolve_below-returns-clause-node t c =
+pub resolve_opening-returns-clause-node : goal.resolve_opening-returns-clause-node
+resolve_opening-returns-clause-node t c =
     c.in_ok-resolve_scope.ensures.node
     ∙ ap (λ (children : List Node). with_children c.args.node.now children)
     (sym (below-opens c.args.given.now.unresolved c.args.given.now.top c.args.node.now c.args.role c.args.frames.now (record { ctxt = c.in_ok-ctxt.ctxt; index = c.in_ok-index.index })
-    c.args.session.now.left c.draw.new.session.left (sym c.opens.ensures ∙ c.if-not-opens.false) c.in_ok-ctxt.ensures.ctxt
+    c.args.session.now.left c.draw.new.session.left c.requires c.in_ok-ctxt.ensures.ctxt
     (λ text. c.in_ok-index.ensures {u = tt} text ∙ ap (λ (ds : List Declaration). stated ds text) (c.in_ok-names.ensures {u = tt})) c.in_ok-ctxt.ensures.left))

@@ -19,16 +19,19 @@ invariant-resolve_scope-loop-i l = record {
 }
 
 abbrev pub decreases-resolve_in : goal.decreases-resolve_in
-decreases-resolve_in l = 4 * weight l.node.now + 2
+decreases-resolve_in l = 5 * weight l.node.now + 3
 
 abbrev pub decreases-resolve_below : goal.decreases-resolve_below
-decreases-resolve_below l = 4 * weight l.node.now + 1
+decreases-resolve_below l = 5 * weight l.node.now + 2
+
+abbrev pub decreases-resolve_opening : goal.decreases-resolve_opening
+decreases-resolve_opening l = 5 * weight l.node.now + 1
 
 abbrev pub decreases-resolve_children : goal.decreases-resolve_children
-decreases-resolve_children l = 4 * weight l.node.now
+decreases-resolve_children l = 5 * weight l.node.now
 
 abbrev pub decreases-resolve_scope : goal.decreases-resolve_scope
-decreases-resolve_scope l = 4 * weight l.node.now
+decreases-resolve_scope l = 5 * weight l.node.now
 
 abbrev pub decreases-resolve_inside : goal.decreases-resolve_inside
-decreases-resolve_inside l = 4 * weight l.node.now + 3
+decreases-resolve_inside l = 5 * weight l.node.now + 4
