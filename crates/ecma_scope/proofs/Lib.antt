@@ -10,6 +10,7 @@ pub mod Counting
 pub mod Following
 pub mod Meeting
 pub mod Clashing
+pub mod Around
 pub mod Needing
 pub mod Unchanged
 pub mod Using

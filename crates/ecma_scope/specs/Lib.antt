@@ -6,6 +6,7 @@ pub mod Indexed
 pub mod Frames
 pub mod Bindings
 pub mod Conflicts
+pub mod Bodies
 pub mod Meetings
 pub mod Needs
 pub mod Laws

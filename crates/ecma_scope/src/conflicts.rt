@@ -3,7 +3,8 @@ ghost use Rattle.std.specs.Prelude.{◌≡◌, ◌&&◌, ◌||◌, [], ◌∷◌
 ghost use Rattle.std.specs.List.{list_any};
 ghost use Rattle.ecma_tree.specs.declared.node.Node.{out-Node};
 ghost use Rattle.ecma_scope.specs.declared.form.Form.TheVariants as form;
-ghost use Rattle.ecma_scope.specs.Declarations.{is_body, is_stated, names};
+ghost use Rattle.ecma_scope.specs.Declarations.{is_body, is_stated, names, stated};
+ghost use Rattle.ecma_scope.specs.Bodies.{may_hold_body};
 ghost use Rattle.ecma_scope.specs.Indexed.{states_of};
 ghost use Rattle.ecma_scope.specs.Scopes.{opens};
 ghost use Rattle.ecma_scope.specs.Meetings.{clashes_with};
@@ -16,7 +17,7 @@ use crate::meetings::{Met, hits, meet, met_in, no_meetings};
 use crate::names::push_declarations;
 use crate::role::{Role, covers, is_ambient, is_root, opens, role_in};
 use crate::stated::{holds_vars, is_body, is_stated, own_names};
-use ecma_tree::{JsWord, Module, NoMemory, Node};
+use ecma_tree::{JsWord, Kind, Module, NoMemory, Node};
 use item_list::ItemList;
 use std::alloc::Global;
 
@@ -198,6 +199,35 @@ fn chosen<'a>(covered: bool, own: &'a Index, around: &'a Index) -> &'a Index
     if covered { own } else { around }
 }
 
+/// Whether a node of this kind may have the body of a function as its child.
+fn may_hold_body(kind: &Kind) -> bool
+    ensures { result ≡ may_hold_body kind.now }
+{
+    match kind {
+        Kind::Function { .. } => true,
+        Kind::ArrowExpr { .. } => true,
+        Kind::Constructor { .. } => true,
+        Kind::GetterProp => true,
+        Kind::SetterProp => true,
+        _ => false,
+    }
+}
+
+/// An index of these declarations where the node may hold the body of a function, and else of none.
+fn index_for_bodies(
+    alloc: Global,
+    kind: &Kind,
+    own: &ItemList<Declaration>,
+) -> Result<Index, NoMemory>
+    ensures { IfOk result (λ index. may_hold_body kind.now ≡ true → (text : List ℕ) → states_of index text ≡ stated own.now text) }
+{
+    if may_hold_body(kind) {
+        index_of(alloc, own)
+    } else {
+        Ok(empty_index(alloc))
+    }
+}
+
 /// Refuses the first declaration in a node that conflicts with one before it.
 #[cycle(checking)]
 fn check_in(alloc: Global, role: Role, around: &Index, node: &Node) -> Result<(), ScopeError>
@@ -219,7 +249,7 @@ fn check_scope(alloc: Global, role: Role, around: &Index, node: &Node) -> Result
     let Ok(own) = own_names(alloc, role, around, node) else {
         return Err(ScopeError::NoMemory);
     };
-    let Ok(index) = index_of(alloc, &own) else {
+    let Ok(index) = index_for_bodies(alloc, &node.kind, &own) else {
         return Err(ScopeError::NoMemory);
     };
     let Ok(names) = meeting(alloc, role, around, node, own) else {

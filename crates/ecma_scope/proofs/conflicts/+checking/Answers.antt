@@ -5,7 +5,8 @@ use Rattle.ecma_scope.specs.declared.role.Role.{Role}
 use Rattle.ecma_scope.specs.Declarations.{stated}
 use Rattle.ecma_scope.specs.Indexed.{states_of}
 use Rattle.ecma_scope.specs.Conflicts.{Answers, Surrounding, child_surrounding, chosen, clashes_in, clashing, meeting, redeclared_at, surrounding}
-use Rattle.ecma_scope.proofs.Clashing.{answers-more, answers-none, clashes_from, clashes_from-all, clashes_from-next, plain_surrounding, redeclared-opens, redeclared-plain}
+use Rattle.ecma_scope.proofs.Clashing.{answers-more, answers-none, clashes_from, clashes_from-all, clashes_from-next, plain_surrounding, redeclared-plain}
+use Rattle.ecma_scope.proofs.Around.{redeclared-opens-bodies}
 use Rattle.ecma_scope.proofs.Weights.{weight-child}
 use Rattle.ecma_scope.proofs.conflicts.+checking.Goals as goal
 
@@ -68,19 +69,19 @@ check_plain-returns t c =
 
 pub check_scope-returns-in-Err : goal.check_scope-returns-in-Err
 check_scope-returns-in-Err t c =
-    let rest : List (List ℕ) = clashes_in (child_surrounding c.args.role c.in-Ok-index_of.index c.args.around.now c.args.node.now) 0 (map redeclared_at (out-Node c.args.node.now).children) in
+    let rest : List (List ℕ) = clashes_in (child_surrounding c.args.role c.in-Ok-index_for_bodies.index c.args.around.now c.args.node.now) 0 (map redeclared_at (out-Node c.args.node.now).children) in
     let meet : c.in-Ok-meeting.names ≡ meeting c.args.role (states_of c.args.around.now) c.args.node.now = c.in-Ok-meeting.ensures {u = tt} in
     subst (λ (texts : List (List ℕ)). Answers (Err c.in-Err.error) texts)
     (ap (λ (ds : List Declaration). clashing c.args.role (states_of c.args.around.now) [] ds ++ rest) meet
-    ∙ sym (redeclared-opens c.args.node.now c.args.role c.in-Ok-index_of.index c.args.around.now c.requires (λ text. c.in-Ok-index_of.ensures {u = tt} text ∙ ap (λ (ds : List Declaration). stated ds text) (c.in-Ok.ensures {u = tt}))))
+    ∙ sym (redeclared-opens-bodies c.args.node.now c.args.role c.in-Ok-index_for_bodies.index c.args.around.now c.requires (λ may text. c.in-Ok-index_for_bodies.ensures {u = tt} may text ∙ ap (λ (ds : List Declaration). stated ds text) (c.in-Ok.ensures {u = tt}))))
     (answers-more c.check_meeting.result c.in-Err.error (clashing c.args.role (states_of c.args.around.now) [] c.in-Ok-meeting.names) rest c.in-Err.is c.check_meeting.ensures)
 
 pub check_scope-returns : goal.check_scope-returns
 check_scope-returns t c =
-    let rest : List (List ℕ) = clashes_in (child_surrounding c.args.role c.in-Ok-index_of.index c.args.around.now c.args.node.now) 0 (map redeclared_at (out-Node c.args.node.now).children) in
+    let rest : List (List ℕ) = clashes_in (child_surrounding c.args.role c.in-Ok-index_for_bodies.index c.args.around.now c.args.node.now) 0 (map redeclared_at (out-Node c.args.node.now).children) in
     let meet : c.in-Ok-meeting.names ≡ meeting c.args.role (states_of c.args.around.now) c.args.node.now = c.in-Ok-meeting.ensures {u = tt} in
     let none : clashing c.args.role (states_of c.args.around.now) [] c.in-Ok-meeting.names ≡ [] = answers-none c.check_meeting.result c.in_default-check_meeting.field-0 _ c.in_default-check_meeting.is c.check_meeting.ensures in
     subst (λ (texts : List (List ℕ)). Answers c.check_children.result texts)
     (ap (λ (texts : List (List ℕ)). texts ++ rest) (sym none) ∙ ap (λ (ds : List Declaration). clashing c.args.role (states_of c.args.around.now) [] ds ++ rest) meet
-    ∙ sym (redeclared-opens c.args.node.now c.args.role c.in-Ok-index_of.index c.args.around.now c.requires (λ text. c.in-Ok-index_of.ensures {u = tt} text ∙ ap (λ (ds : List Declaration). stated ds text) (c.in-Ok.ensures {u = tt}))))
+    ∙ sym (redeclared-opens-bodies c.args.node.now c.args.role c.in-Ok-index_for_bodies.index c.args.around.now c.requires (λ may text. c.in-Ok-index_for_bodies.ensures {u = tt} may text ∙ ap (λ (ds : List Declaration). stated ds text) (c.in-Ok.ensures {u = tt}))))
     c.check_children.ensures
