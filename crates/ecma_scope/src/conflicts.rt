@@ -1,5 +1,5 @@
 //! Declarations that may not stand beside each other.
-ghost use Rattle.std.specs.Prelude.{◌≡◌, ◌&&◌, ◌||◌, [], ◌∷◌, List, ℕ, IfOk, bytes_eq, cond, map, true, false};
+ghost use Rattle.std.specs.Prelude.{◌≡◌, ◌<◌, ◌&&◌, ◌||◌, [], ◌∷◌, List, ℕ, IfOk, OnOk, bytes_eq, cond, map, true, false};
 ghost use Rattle.std.specs.List.{list_any};
 ghost use Rattle.ecma_tree.specs.declared.node.Node.{out-Node};
 ghost use Rattle.ecma_scope.specs.declared.form.Form.TheVariants as form;
@@ -7,13 +7,13 @@ ghost use Rattle.ecma_scope.specs.Declarations.{is_body, is_stated, names, state
 ghost use Rattle.ecma_scope.specs.Bodies.{may_hold_body};
 ghost use Rattle.ecma_scope.specs.Indexed.{states_of};
 ghost use Rattle.ecma_scope.specs.Scopes.{opens};
-ghost use Rattle.ecma_scope.specs.Meetings.{clashes_with};
+ghost use Rattle.ecma_scope.specs.Meetings.{clashes_with, meets, met_in};
 ghost use Rattle.ecma_scope.specs.Conflicts.{Answers, clashing, is_catch, is_function_body, is_lexical, is_parameter, child_surrounding, chosen, clashes_in, is_var, mark, marked, may_be_merged, may_merge, meeting, merges, passing, redeclared, redeclared_at, surrounding};
 
 use crate::error::ScopeError;
 use crate::form::{Declaration, Form, Part, Sought};
 use crate::index::{Index, empty_index, index_of, states};
-use crate::meetings::{Met, hits, meet, met_in, no_meetings};
+use crate::meetings::{Meetings, Met, hits, meet, met_in, no_meetings};
 use crate::names::push_declarations;
 use crate::role::{Role, covers, is_ambient, is_root, opens, role_in};
 use crate::stated::{holds_vars, is_body, is_stated, own_names};
@@ -171,6 +171,21 @@ fn refusal(name: &Declaration) -> ScopeError
     }
 }
 
+/// Adds a declaration that so many others are still to meet.
+fn meet_before(
+    role: Role,
+    meetings: &mut Meetings,
+    name: &Declaration,
+    others: usize,
+) -> Result<(), NoMemory>
+    ensures { OnOk result (0 < others → (text : List ℕ) → met_in meetings.new text ≡ meets role (met_in meetings.old) name.now text) }
+{
+    if others == 0 {
+        return Ok(());
+    }
+    meet(role, meetings, name)
+}
+
 /// Refuses the first declaration that conflicts with one before it.
 fn check_meeting(
     alloc: Global,
@@ -181,12 +196,13 @@ fn check_meeting(
     ensures { Answers result (clashing role (states_of around.now) [] names.now) }
 {
     let mut meetings = no_meetings(alloc);
-    for i in 0..names.len() {
+    let count = names.len();
+    for i in 0..count {
         let name = names.at(i);
         if clashes(role, around, met_in(&meetings, &name.sym), name) {
             return Err(refusal(name));
         }
-        let Ok(_added) = meet(role, &mut meetings, name) else {
+        let Ok(_added) = meet_before(role, &mut meetings, name, count - i - 1) else {
             return Err(ScopeError::NoMemory);
         };
     }

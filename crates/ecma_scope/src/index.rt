@@ -24,6 +24,14 @@ pub(crate) fn empty_index(alloc: Global) -> Index
     }
 }
 
+/// Of no declarations, with memory for so many.
+fn index_for(alloc: Global, count: usize) -> Result<Index, NoMemory>
+    ensures { IfOk result (λ index. (sym : List ℕ) → states_of index sym ≡ None) }
+{
+    let stays = HashMap::with_capacity(alloc, count)?;
+    Ok(Index { stays })
+}
+
 /// What is stated of a text: nothing, or whether one of its declarations is a value that stays.
 pub(crate) fn states(index: &Index, sym: &JsWord) -> Option<bool>
     ensures { result ≡ states_of index.now sym.now }
@@ -54,7 +62,7 @@ fn add(index: &mut Index, name: &Declaration) -> Result<(), NoMemory>
 pub(crate) fn index_of(alloc: Global, names: &ItemList<Declaration>) -> Result<Index, NoMemory>
     ensures { IfOk result (λ index. (sym : List ℕ) → states_of index sym ≡ stated names.now sym) }
 {
-    let mut index = empty_index(alloc);
+    let mut index = index_for(alloc, names.len())?;
     for i in 0..names.len() {
         add(&mut index, names.at(i))?;
     }

@@ -9,7 +9,7 @@ use Rattle.ecma_scope.proofs.conflicts.check_meeting.Goals as goal
 pub returns-then-clashes : goal.returns-then-clashes
 returns-then-clashes c =
     let here : clashes c.args.role (states_of c.args.around.now) (take c.loop-i.i c.args.names.now) c.at-name.result.now ≡ true =
-    clashes-met c.args.role (states_of c.args.around.now) (take c.loop-i.i c.args.names.now) c.at-name.result.now c.met_in.result (c.met_in.ensures ∙ c.loop-i.invariant.met c.at-name.result.now.sym)
+    clashes-met c.args.role (states_of c.args.around.now) (take c.loop-i.i c.args.names.now) c.at-name.result.now c.met_in.result (c.met_in.ensures ∙ c.loop-i.invariant.met (omega arith) c.at-name.result.now.sym)
     ∙ sym c.clashes.ensures ∙ c.if-clashes.true in
     subst (λ (texts : List (List ℕ)). Answers (Err c.refusal.result) texts)
     (sym (c.loop-i.invariant.same ∙ clashing_from-here c.args.role (states_of c.args.around.now) c.args.names.now c.loop-i.i c.at-name.result.now c.at-name.ensures here))
@@ -18,11 +18,11 @@ returns-then-clashes c =
 pub loop-i-preserved : goal.loop-i-preserved
 loop-i-preserved c =
     let here : clashes c.args.role (states_of c.args.around.now) (take c.loop-i.i c.args.names.now) c.at-name.result.now ≡ false =
-    clashes-met c.args.role (states_of c.args.around.now) (take c.loop-i.i c.args.names.now) c.at-name.result.now c.met_in.result (c.met_in.ensures ∙ c.loop-i.invariant.met c.at-name.result.now.sym)
+    clashes-met c.args.role (states_of c.args.around.now) (take c.loop-i.i c.args.names.now) c.at-name.result.now c.met_in.result (c.met_in.ensures ∙ c.loop-i.invariant.met (omega arith) c.at-name.result.now.sym)
     ∙ sym c.clashes.ensures ∙ c.if-clashes.false in
     record {
       same = c.loop-i.invariant.same ∙ clashing_from-passed c.args.role (states_of c.args.around.now) c.args.names.now c.loop-i.i c.at-name.result.now c.at-name.ensures here;
-      met = met-next c.args.role (met_in c.loop-i.meetings) (met_in c.meet.new.meetings) c.args.names.now c.loop-i.i c.at-name.result.now c.at-name.ensures c.loop-i.invariant.met (c.in-Ok.ensures {u = tt});
+      met = λ more. met-next c.args.role (met_in c.loop-i.meetings) (met_in c.meet_before.new.meetings) c.args.names.now c.loop-i.i c.at-name.result.now c.at-name.ensures (c.loop-i.invariant.met (omega arith)) (c.in-Ok.ensures {u = tt} (omega (arith, more)));
     }
 
 pub returns : goal.returns
