@@ -6,5 +6,6 @@ pub mod Writing
 pub mod Staying
 pub mod Telling
 pub mod Roles
+pub mod Choosing
 pub mod Bound
 pub mod Capturing

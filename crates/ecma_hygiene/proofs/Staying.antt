@@ -16,7 +16,7 @@ use Rattle.ecma_hygiene.specs.Laws.{NothingChanges}
 use Rattle.ecma_hygiene.specs.Renamed.{Texts, at_root, expanded, kind_with_text, old_name, old_name_by, renamed, renamed_at, renamed_step, shared_name, standing_in, written_from, written_of}
 use Rattle.ecma_hygiene.specs.Texts.{GetTexts, Had, text_in}
 
-abbrev no_text : Texts
+abbrev pub no_text : Texts
 no_text id = None
 
 none-by : (span : Span) (k : Kind) → old_name_by no_text span k ≡ None
@@ -32,7 +32,7 @@ same-kind false (kind.Ident sym ctxt optional) = refl
 same-kind false _ = refl
 same-kind true k = refl
 
-abbrev Stays : Node → Type 0
+abbrev pub Stays : Node → Type 0
 Stays n = (stands : Standing) → renamed_at no_text n stands ≡ n
 
 abbrev AllStay : List Node → Type 0
@@ -49,7 +49,7 @@ layer-stays n children stands =
     ∙ (λ j. node_of (out-Node n).span (same-kind (is_name stands.role) (out-Node n).kind j) (children (standing_in stands n) 0 j))
     ∙ roll-out-Node n
 
-stays : (n : Node) → Stays n
+pub stays : (n : Node) → Stays n
 stays = ind-Node Stays (λ x y is.
     layer-stays (roll-Node x) (subst AllStay (ap (λ (z : Node-F Node). z.children) is ∙ sym (ap (λ (z : Node-F Node). z.children) (out-roll-Node x))) (all-stay y.children)))
 

@@ -28,11 +28,11 @@ pub and-both : (a b : Bool) → a ≡ true → b ≡ true → (a && b) ≡ true
 and-both true b h k = k
 and-both false b h k = h
 
-or-left : (a b : Bool) → (a || b) ≡ false → a ≡ false
+pub or-left : (a b : Bool) → (a || b) ≡ false → a ≡ false
 or-left true b h = h
 or-left false b h = refl
 
-or-right : (a b : Bool) → (a || b) ≡ false → b ≡ false
+pub or-right : (a b : Bool) → (a || b) ≡ false → b ≡ false
 or-right true b h = cc
 or-right false b h = h
 
@@ -53,7 +53,7 @@ any-from f g (x ∷ xs) each h = go (any-from f g xs each) (f x) refl
     go rec true e = or-first (g x) (list_any g xs) (each x e)
     go rec false e = or-second (g x) (list_any g xs) (rec (ap (λ b. b || list_any f xs) (sym e) ∙ h))
 
-id-same : (a b : Id) → same_id a b ≡ true → a ≡ b
+pub id-same : (a b : Id) → same_id a b ≡ true → a ≡ b
 id-same a b h =
     let texts : a.0 ≡ b.0 = (bytes_eq-Decides a.0 b.0).0 (and-left (bytes_eq a.0 b.0) (nat_eq a.1 b.1) h) in
     let ctxts : a.1 ≡ b.1 = eqb-true a.1 b.1 (and-right (bytes_eq a.0 b.0) (nat_eq a.1 b.1) h) in

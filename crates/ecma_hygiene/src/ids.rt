@@ -1,5 +1,5 @@
 //! Sets of ids and of texts, and contexts.
-ghost use Rattle.std.specs.Prelude.{◌≡◌, ◌||◌, IfOk, OnOk, List, ℕ, false};
+ghost use Rattle.std.specs.Prelude.{◌≡◌, ◌||◌, IfOk, OnOk, IsTrue, List, ℕ, false};
 ghost use Rattle.ecma_hygiene.specs.Ids.{Id, has_context, same_id};
 ghost use Rattle.ecma_hygiene.specs.Sets.{has_id, has_text};
 ghost use Rattle.ecma_hygiene.specs.Texts.{with_text};
@@ -36,10 +36,17 @@ pub(crate) fn no_ids(alloc: Global) -> IdSet
     }
 }
 
+/// Whether a set has no ids.
+pub(crate) fn is_empty(ids: &IdSet) -> bool
+    ensures { IsTrue result → (id : Id) → has_id ids.now id ≡ false }
+{
+    ids.ids.is_empty()
+}
+
 pub(crate) fn has_id(ids: &IdSet, id: &Id) -> bool
     ensures { result ≡ has_id ids.now id.now }
 {
-    ids.ids.contains_key(id)
+    !is_empty(ids) && ids.ids.contains_key(id)
 }
 
 /// A pair of the same text and context.

@@ -4,10 +4,12 @@ ghost use Rattle.std.specs.Fmt.{decimal};
 ghost use Rattle.std.specs.List.{list_any};
 ghost use Rattle.ecma_hygiene.specs.declared.sight.Sight.{Sight};
 ghost use Rattle.ecma_hygiene.specs.Ids.{Id, same_id};
-ghost use Rattle.ecma_hygiene.specs.Sets.{has_id, has_new, has_text};
-ghost use Rattle.ecma_hygiene.specs.Texts.{AreTexts, GetTexts, IsBaseOrNumbered, IsNumbered, bindings, declared_in, distinct, had_with, is_bound, is_in_source, is_new, rule};
+ghost use Rattle.ecma_hygiene.specs.Sets.{has_id, has_new, has_text, is_declared_outside};
+ghost use Rattle.ecma_hygiene.specs.Texts.{AreTexts, GetTexts, IsBaseOrNumbered, IsNumbered, bindings, declared_in, distinct, had_with, is_in_source, is_new, none, rule};
 
-use crate::ids::{IdSet, TextSet, add_id, add_text, copy_id, has_id, has_text, no_ids, no_texts};
+use crate::ids::{
+    IdSet, TextSet, add_id, add_text, copy_id, has_id, has_text, is_empty, no_ids, no_texts,
+};
 use crate::naming::Named;
 use crate::sight::{Meeting, Sight};
 use crate::walk::Found;
@@ -18,8 +20,21 @@ use std::alloc::Global;
 /// What tells new bindings.
 #[derive(Drop)]
 struct NewIds {
+    outside: IdSet,
     source: IdSet,
-    bound: IdSet,
+}
+
+/// The ids that an identifier outside the source declares.
+fn outside_ids(alloc: Global, seen: &ItemList<Sight>) -> Result<IdSet, NoMemory>
+    ensures { IfOk result (λ ids. (id : Id) → has_id ids id ≡ is_declared_outside seen.now id) }
+{
+    let mut ids = no_ids(alloc);
+    for sight in seen.as_slice() {
+        if sight.declares && !sight.in_source {
+            add_id(&mut ids, &sight.id)?;
+        }
+    }
+    Ok(ids)
 }
 
 /// The ids of which an identifier stands in the source.
@@ -35,59 +50,48 @@ fn source_ids(alloc: Global, seen: &ItemList<Sight>) -> Result<IdSet, NoMemory>
     Ok(ids)
 }
 
-/// The ids of which an identifier is declared.
-fn bound_ids(alloc: Global, seen: &ItemList<Sight>) -> Result<IdSet, NoMemory>
-    ensures { IfOk result (λ ids. (id : Id) → has_id ids id ≡ is_bound seen.now id) }
-{
-    let mut ids = no_ids(alloc);
-    for sight in seen.as_slice() {
-        if sight.declares {
-            add_id(&mut ids, &sight.id)?;
-        }
-    }
-    Ok(ids)
-}
-
+/// Only an id that is declared outside the source can be new, so where there is none the source is not looked at.
 fn new_ids(alloc: Global, seen: &ItemList<Sight>) -> Result<NewIds, NoMemory>
     ensures { IfOk result (λ ids. (id : Id) → has_new ids id ≡ is_new seen.now id) }
 {
+    let outside = outside_ids(alloc, seen)?;
+    if is_empty(&outside) {
+        let source = no_ids(alloc);
+        return Ok(NewIds { outside, source });
+    }
     let source = source_ids(alloc, seen)?;
-    let bound = bound_ids(alloc, seen)?;
-    Ok(NewIds { source, bound })
+    Ok(NewIds { outside, source })
 }
 
 /// Whether a binding is new.
 fn is_new(ids: &NewIds, id: &Id) -> bool
     ensures { result ≡ has_new ids.now id.now }
 {
-    has_id(&ids.bound, id) && !has_id(&ids.source, id)
+    has_id(&ids.outside, id) && !has_id(&ids.source, id)
 }
 
-/// Puts the id of a declared identifier behind those that are there, if it was not met.
-fn push_distinct(sight: &Sight, met: &mut IdSet, ids: &mut ItemList<Id>) -> Result<(), NoMemory>
-    ensures { OnOk result ((rest : List Sight) → ids.new ++ distinct (has_id met.new) (declared_in rest) ≡ ids.old ++ distinct (has_id met.old) (declared_in (sight.now ∷ rest))) }
+/// Puts an id behind those that are there, if it was not met.
+fn push_distinct(id: &Id, met: &mut IdSet, ids: &mut ItemList<Id>) -> Result<(), NoMemory>
+    ensures { OnOk result ((rest : List Id) → ids.new ++ distinct (has_id met.new) rest ≡ ids.old ++ distinct (has_id met.old) (id.now ∷ rest)) }
 {
-    if !sight.declares {
+    if has_id(met, id) {
         return Ok(());
     }
-    if has_id(met, &sight.id) {
-        return Ok(());
-    }
-    add_id(met, &sight.id)?;
-    ids.push(copy_id(&sight.id)?)?;
+    add_id(met, id)?;
+    ids.push(copy_id(id)?)?;
     Ok(())
 }
 
-/// The bindings, in the order of their first declarations.
-fn bindings(alloc: Global, seen: &ItemList<Sight>) -> Result<ItemList<Id>, NoMemory>
-    ensures { IfOk result (λ ids. ids ≡ bindings seen.now) }
+/// These ids, each where it stands first.
+fn distinct(alloc: Global, ids: &ItemList<Id>) -> Result<ItemList<Id>, NoMemory>
+    ensures { IfOk result (λ found. found ≡ distinct none ids.now) }
 {
     let mut met = no_ids(alloc);
-    let mut ids = ItemList::new(alloc);
-    for sight in seen.as_slice() {
-        push_distinct(sight, &mut met, &mut ids)?;
+    let mut found = ItemList::new(alloc);
+    for id in ids.as_slice() {
+        push_distinct(id, &mut met, &mut found)?;
     }
-    Ok(ids)
+    Ok(found)
 }
 
 /// The texts of the identifiers that are not new.
@@ -116,34 +120,65 @@ fn met_ids(alloc: Global, met: &ItemList<Meeting>, new: &NewIds) -> Result<IdSet
     Ok(ids)
 }
 
-/// Those of these bindings that are new.
-fn new_bindings(alloc: Global, ids: &ItemList<Id>, new: &NewIds) -> Result<ItemList<Id>, NoMemory>
-    ensures { IfOk result (λ found. found ≡ filter (has_new new.now) ids.now) }
+/// The ids of the identifiers that declare a new binding.
+fn new_declarations(
+    alloc: Global,
+    seen: &ItemList<Sight>,
+    new: &NewIds,
+) -> Result<ItemList<Id>, NoMemory>
+    ensures { IfOk result (λ found. found ≡ filter (has_new new.now) (declared_in seen.now)) }
 {
     let mut found = ItemList::new(alloc);
-    for id in ids.as_slice() {
-        if is_new(new, id) {
-            found.push(copy_id(id)?)?;
+    for sight in seen.as_slice() {
+        if sight.declares && is_new(new, &sight.id) {
+            found.push(copy_id(&sight.id)?)?;
         }
     }
     Ok(found)
 }
 
-/// Those of these bindings that are of the source, and meet a name.
-fn changing_bindings(
+/// The new bindings, in the order of their first declarations.
+fn new_bindings(
     alloc: Global,
-    ids: &ItemList<Id>,
+    seen: &ItemList<Sight>,
+    new: &NewIds,
+) -> Result<ItemList<Id>, NoMemory>
+    ensures { IfOk result (λ found. found ≡ filter (has_new new.now) (bindings seen.now)) }
+{
+    let ids = new_declarations(alloc, seen, new)?;
+    let found = distinct(alloc, &ids)?;
+    Ok(found)
+}
+
+/// The ids of the identifiers that declare a binding of the source which meets a name.
+fn changing_declarations(
+    alloc: Global,
+    seen: &ItemList<Sight>,
     new: &NewIds,
     met: &IdSet,
 ) -> Result<ItemList<Id>, NoMemory>
-    ensures { IfOk result (λ found. found ≡ filter (λ id. not (has_new new.now id) && has_id met.now id) ids.now) }
+    ensures { IfOk result (λ found. found ≡ filter (λ id. not (has_new new.now id) && has_id met.now id) (declared_in seen.now)) }
 {
     let mut found = ItemList::new(alloc);
-    for id in ids.as_slice() {
-        if !is_new(new, id) && has_id(met, id) {
-            found.push(copy_id(id)?)?;
+    for sight in seen.as_slice() {
+        if sight.declares && has_id(met, &sight.id) && !is_new(new, &sight.id) {
+            found.push(copy_id(&sight.id)?)?;
         }
     }
+    Ok(found)
+}
+
+/// The bindings of the source that meet a name, in the order of their first declarations.
+fn changing_bindings(
+    alloc: Global,
+    seen: &ItemList<Sight>,
+    new: &NewIds,
+    met: &IdSet,
+) -> Result<ItemList<Id>, NoMemory>
+    ensures { IfOk result (λ found. found ≡ filter (λ id. not (has_new new.now id) && has_id met.now id) (bindings seen.now)) }
+{
+    let ids = changing_declarations(alloc, seen, new, met)?;
+    let found = distinct(alloc, &ids)?;
     Ok(found)
 }
 
@@ -218,11 +253,13 @@ pub(crate) fn texts_of(alloc: Global, found: &Found) -> Result<ItemList<Named>, 
     ensures { IfOk result (λ names. AreTexts found.now.sights found.now.meetings names) }
 {
     let new = new_ids(alloc, &found.sights)?;
-    let ids = bindings(alloc, &found.sights)?;
     let met = met_ids(alloc, &found.meetings, &new)?;
+    let fresh = new_bindings(alloc, &found.sights, &new)?;
+    let changing = changing_bindings(alloc, &found.sights, &new, &met)?;
+    if fresh.is_empty() && changing.is_empty() {
+        return Ok(ItemList::new(alloc));
+    }
     let mut had = kept_texts(alloc, &found.sights, &new)?;
-    let fresh = new_bindings(alloc, &ids, &new)?;
-    let changing = changing_bindings(alloc, &ids, &new, &met)?;
     let mut names = get_texts(alloc, true, &fresh, &mut had)?;
     let changed = get_texts(alloc, false, &changing, &mut had)?;
     names.append(changed)?;

@@ -1,7 +1,6 @@
-use Rattle.std.proofs.Common.{◌∙◌, List, ap, subst}
+use Rattle.std.proofs.Common.{List, subst}
 use Rattle.ecma_hygiene.specs.declared.sight.Meeting.{Meeting}
 use Rattle.ecma_hygiene.specs.declared.sight.Sight.{Sight}
-use Rattle.ecma_hygiene.specs.Renamed.{Texts, renamed}
 use Rattle.ecma_hygiene.specs.Sights.{meetings}
 use Rattle.ecma_hygiene.specs.Texts.{AreTexts}
 use Rattle.ecma_hygiene.proofs.pass.hygiene.Goals as goal
@@ -11,5 +10,5 @@ returns c = record {
   names = c.in_ok-names.names;
   texts = subst (λ (xs : List Sight). AreTexts xs (meetings c.args.tree.now) c.in_ok-names.names) c.in_ok-found.ensures.sights
       (subst (λ (ms : List Meeting). AreTexts c.in_ok-found.found.sights ms c.in_ok-names.names) c.in_ok-found.ensures.meetings (c.in_ok-names.ensures {u = tt}));
-  is = c.in_ok-rename.ensures {u = tt} ∙ ap (λ (t : Texts). renamed t c.args.tree.now) (λ j id. c.in_ok-texts.ensures {u = tt} id j);
+  is = c.in_ok-write_texts.ensures {u = tt};
 }
