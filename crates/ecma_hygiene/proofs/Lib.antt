@@ -7,5 +7,6 @@ pub mod Staying
 pub mod Telling
 pub mod Roles
 pub mod Choosing
+pub mod Hiding
 pub mod Bound
 pub mod Capturing

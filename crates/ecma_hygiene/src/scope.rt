@@ -1,6 +1,6 @@
 //! Scopes by the texts that they declare.
-ghost use Rattle.std.specs.Prelude.{◌≡◌, ◌++◌, [], ◌∷◌, List, ℕ, IfSome, IsNone, IfOk, OnOk, bytes_eq, cond, filter, not};
-ghost use Rattle.ecma_hygiene.specs.Frames.{contexts_in, scopes_of};
+ghost use Rattle.std.specs.Prelude.{◌≡◌, ◌++◌, [], ◌∷◌, List, ℕ, IfSome, IsNone, IfOk, OnOk, bytes_eq, cond, false, filter, not};
+ghost use Rattle.ecma_hygiene.specs.Frames.{contexts_by, contexts_in, scopes_of};
 ghost use Rattle.ecma_hygiene.specs.Ids.{contexts_of, has_context, innermost, is_block, is_body_block, is_function_body, is_own, own_ids};
 
 use crate::declared::push_declared;
@@ -12,52 +12,185 @@ use item_list::ItemList;
 use std::alloc::Global;
 use std::collections::HashMap;
 
-/// The contexts in which a scope declares each text.
+/// Up to how many ids one after the other are looked through.
+const FEW: usize = 12;
+
+/// What a scope declares.
 #[derive(Drop)]
-pub(crate) struct Declared {
-    contexts: HashMap<JsWord, ItemList<SyntaxContext>>,
+pub(crate) enum Declared {
+    /// These ids.
+    Few(ItemList<Id>),
+    /// By their texts: ids in these contexts.
+    Many(HashMap<JsWord, ItemList<SyntaxContext>>),
 }
 
-fn no_declared(alloc: Global) -> Declared
-    ensures { (text : List ℕ) → contexts_in result text ≡ [] }
+/// What a scope declares of an id: its text in any context, and in its own.
+#[derive(Clone, Copy, Debug)]
+pub(crate) struct Match {
+    pub(crate) text: bool,
+    pub(crate) id: bool,
+}
+
+fn match_among(ids: &ItemList<Id>, id: &Id) -> Match
+    ensures text { result.text ≡ false → contexts_of ids.now id.now.0 ≡ [] }
+    ensures id { result.id ≡ has_context id.now.1 (contexts_of ids.now id.now.0) }
 {
-    Declared {
-        contexts: HashMap::new(alloc),
+    let mut text = false;
+    for other in ids.as_slice() {
+        if other.0 == id.0 {
+            if other.1 == id.1 {
+                return Match {
+                    text: true,
+                    id: true,
+                };
+            }
+            text = true;
+        }
+    }
+    Match { text, id: false }
+}
+
+fn match_by(contexts: &HashMap<JsWord, ItemList<SyntaxContext>>, id: &Id) -> Match
+    ensures text { result.text ≡ false → contexts_by contexts.now id.now.0 ≡ [] }
+    ensures id { result.id ≡ has_context id.now.1 (contexts_by contexts.now id.now.0) }
+{
+    match contexts.get(&id.0) {
+        Some(ctxts) => Match {
+            text: true,
+            id: has_context(id.1, ctxts),
+        },
+        None => Match {
+            text: false,
+            id: false,
+        },
     }
 }
 
-/// The contexts in which a scope declares a text, if it declares it.
-pub(crate) fn contexts_in<'a>(
-    scope: &'a Declared,
-    text: &JsWord,
-) -> Option<&'a ItemList<SyntaxContext>>
-    ensures some { IfSome result (λ ctxts. ctxts.now ≡ contexts_in scope.now text.now) }
-    ensures none { IsNone result → contexts_in scope.now text.now ≡ [] }
+/// What a scope declares of an id.
+pub(crate) fn match_in(scope: &Declared, id: &Id) -> Match
+    ensures text { result.text ≡ false → contexts_in scope.now id.now.0 ≡ [] }
+    ensures id { result.id ≡ has_context id.now.1 (contexts_in scope.now id.now.0) }
 {
-    scope.contexts.get(text)
+    match scope {
+        Declared::Few(ids) => match_among(ids, id),
+        Declared::Many(contexts) => match_by(contexts, id),
+    }
 }
 
-fn add_context(alloc: Global, scope: &mut Declared, id: &Id) -> Result<(), NoMemory>
-    ensures { OnOk result ((text : List ℕ) → contexts_in scope.new text ≡ contexts_in scope.old text ++ cond (bytes_eq id.now.0 text) (id.now.1 ∷ []) []) }
+/// Whether a scope declares an id.
+pub(crate) fn declares_id(scope: &Declared, id: &Id) -> bool
+    ensures { result ≡ has_context id.now.1 (contexts_in scope.now id.now.0) }
 {
-    let mut ctxts = match scope.contexts.remove(&id.0) {
+    match_in(scope, id).id
+}
+
+fn push_contexts_of(
+    ids: &ItemList<Id>,
+    text: &JsWord,
+    so_far: &mut ItemList<SyntaxContext>,
+) -> Result<(), NoMemory>
+    ensures { OnOk result (so_far.new ≡ so_far.old ++ contexts_of ids.now text.now) }
+{
+    for id in ids.as_slice() {
+        if id.0 == *text {
+            so_far.push(id.1)?;
+        }
+    }
+    Ok(())
+}
+
+fn push_contexts_by(
+    contexts: &HashMap<JsWord, ItemList<SyntaxContext>>,
+    text: &JsWord,
+    so_far: &mut ItemList<SyntaxContext>,
+) -> Result<(), NoMemory>
+    ensures { OnOk result (so_far.new ≡ so_far.old ++ contexts_by contexts.now text.now) }
+{
+    match contexts.get(text) {
+        Some(ctxts) => push_contexts(ctxts, so_far),
+        None => Ok(()),
+    }
+}
+
+/// Puts contexts behind those that are there.
+fn push_contexts(
+    ctxts: &ItemList<SyntaxContext>,
+    so_far: &mut ItemList<SyntaxContext>,
+) -> Result<(), NoMemory>
+    ensures { OnOk result (so_far.new ≡ so_far.old ++ ctxts.now) }
+{
+    for ctxt in ctxts.as_slice() {
+        so_far.push(*ctxt)?;
+    }
+    Ok(())
+}
+
+/// Puts the contexts in which a scope declares a text behind those that are there.
+pub(crate) fn push_contexts_in(
+    scope: &Declared,
+    text: &JsWord,
+    so_far: &mut ItemList<SyntaxContext>,
+) -> Result<(), NoMemory>
+    ensures { OnOk result (so_far.new ≡ so_far.old ++ contexts_in scope.now text.now) }
+{
+    match scope {
+        Declared::Few(ids) => push_contexts_of(ids, text, so_far),
+        Declared::Many(contexts) => push_contexts_by(contexts, text, so_far),
+    }
+}
+
+/// The contexts in which a scope declares a text.
+pub(crate) fn contexts_in(
+    alloc: Global,
+    scope: &Declared,
+    text: &JsWord,
+) -> Result<ItemList<SyntaxContext>, NoMemory>
+    ensures { IfOk result (λ ctxts. ctxts ≡ contexts_in scope.now text.now) }
+{
+    let mut ctxts = ItemList::new(alloc);
+    push_contexts_in(scope, text, &mut ctxts)?;
+    Ok(ctxts)
+}
+
+fn add_context(
+    alloc: Global,
+    contexts: &mut HashMap<JsWord, ItemList<SyntaxContext>>,
+    id: &Id,
+) -> Result<(), NoMemory>
+    ensures { OnOk result ((text : List ℕ) → contexts_by contexts.new text ≡ contexts_by contexts.old text ++ cond (bytes_eq id.now.0 text) (id.now.1 ∷ []) []) }
+{
+    let mut ctxts = match contexts.remove(&id.0) {
         Some(ctxts) => ctxts,
         None => ItemList::new(alloc),
     };
     ctxts.push(id.1)?;
-    scope.contexts.insert(id.0.clone()?, ctxts)?;
+    contexts.insert(id.0.clone()?, ctxts)?;
     Ok(())
 }
 
-/// The scope that declares these ids.
-pub(crate) fn scope_of(alloc: Global, ids: &ItemList<Id>) -> Result<Declared, NoMemory>
-    ensures { IfOk result (λ scope. (text : List ℕ) → contexts_in scope text ≡ contexts_of ids.now text) }
+/// The contexts of these ids by their texts.
+fn contexts_by_text(
+    alloc: Global,
+    ids: &ItemList<Id>,
+) -> Result<HashMap<JsWord, ItemList<SyntaxContext>>, NoMemory>
+    ensures { IfOk result (λ contexts. (text : List ℕ) → contexts_by contexts text ≡ contexts_of ids.now text) }
 {
-    let mut scope = no_declared(alloc);
+    let mut contexts = HashMap::new(alloc);
     for id in ids.as_slice() {
-        add_context(alloc, &mut scope, id)?;
+        add_context(alloc, &mut contexts, id)?;
     }
-    Ok(scope)
+    Ok(contexts)
+}
+
+/// The scope that declares these ids.
+pub(crate) fn scope_of(alloc: Global, ids: ItemList<Id>) -> Result<Declared, NoMemory>
+    ensures { IfOk result (λ scope. (text : List ℕ) → contexts_in scope text ≡ contexts_of ids text) }
+{
+    if ids.len() <= FEW {
+        return Ok(Declared::Few(ids));
+    }
+    let contexts = contexts_by_text(alloc, &ids)?;
+    Ok(Declared::Many(contexts))
 }
 
 fn is_function_body(role: Role) -> bool
@@ -83,10 +216,7 @@ pub(crate) fn is_body_block(role: Role, kind: &Kind) -> bool
 fn is_apart(parameters: &Declared, id: &Id) -> bool
     ensures { result ≡ not (has_context id.now.1 (contexts_in parameters.now id.now.0)) }
 {
-    match contexts_in(parameters, &id.0) {
-        Some(ctxts) => !has_context(id.1, ctxts),
-        None => true,
-    }
+    !declares_id(parameters, id)
 }
 
 /// Takes the ids that the parameters declare out of those of the body of a function.

@@ -1,19 +1,22 @@
 //! The identifiers of a tree, and the bindings that meet a name of their text.
-ghost use Rattle.std.specs.Prelude.{◌≡◌, ◌++◌, [], ◌∷◌, ◌&&◌, IfOk, OnOk, ℕ, List, map, cond};
+ghost use Rattle.std.specs.Prelude.{◌≡◌, ◌++◌, [], ◌∷◌, IfOk, OnOk, None, Some, ℕ, List, cond, false, map, true};
 ghost use Rattle.std.specs.List.{list_any};
 ghost use Rattle.ecma_tree.specs.declared.node.Node.{out-Node};
 ghost use Rattle.ecma_scope.specs.Resolved.{is_name};
 ghost use Rattle.ecma_scope.specs.Scopes.{opens};
-ghost use Rattle.ecma_hygiene.specs.Frames.{IsOwnScope, around_children, around_of, around_within, contexts_in, scopes_of};
-ghost use Rattle.ecma_hygiene.specs.Ids.{declares, has_context, innermost, is_body_block, own_ids, scope_soughts};
-ghost use Rattle.ecma_hygiene.specs.Sights.{Around, beside, beside_parameters, hidden, hides, inner_soughts, meet, meetings, meetings_at, meets, nowhere, own_scope, sight_by, sight_here, sights, sights_at, stands_in_source};
+ghost use Rattle.ecma_hygiene.specs.Frames.{around_children, around_of, around_within, contexts_in, scopes_of};
+ghost use Rattle.ecma_hygiene.specs.Ids.{declares, has_context, innermost, is_body_block, own_ids, scope_soughts, soughts_in};
+ghost use Rattle.ecma_hygiene.specs.Sights.{Around, beside, around_child, beside_parameters, hidden, hides, meet, meetings, meetings_at, own_scope, sight_by, sights, sights_at, stands_in_source};
 ghost use Rattle.ecma_hygiene.specs.Walks.{gathered_from};
 
-use crate::ids::{copy_id, has_context};
-use crate::scope::{Declared, contexts_in, is_body_block, own_ids, scope_of};
+use crate::ids::copy_id;
+use crate::scope::{
+    Declared, contexts_in, declares_id, is_body_block, match_in, own_ids, push_contexts_in,
+    scope_of,
+};
 use crate::sight::{Meeting, Sight};
 use crate::soughts::{is_declared, push_scope_soughts, soughts_in};
-use ecma_scope::{Role, Sought, covers, opens, role_in};
+use ecma_scope::{Role, Sought, covers, is_there, opens, role_by};
 use ecma_tree::{Id, Kind, Module, NoMemory, Node, Span, SyntaxContext};
 use item_list::ItemList;
 use std::alloc::Global;
@@ -39,11 +42,11 @@ fn stands_in_source(span: Span) -> bool
 
 fn push_sight(
     role: Role,
-    declares: bool,
+    soughts: &ItemList<Sought>,
     node: &Node,
     sights: &mut ItemList<Sight>,
 ) -> Result<(), NoMemory>
-    ensures { OnOk result (sights.new ≡ sights.old ++ sight_by (is_name role) declares (out-Node node.now).span (out-Node node.now).kind) }
+    ensures { OnOk result (sights.new ≡ sights.old ++ sight_by (is_name role) (list_any declares soughts.now) (out-Node node.now).span (out-Node node.now).kind) }
 {
     if is_name(role) {
         return Ok(());
@@ -52,21 +55,8 @@ fn push_sight(
         sights.push(Sight {
             id: (sym.clone()?, *ctxt),
             in_source: stands_in_source(node.span),
-            declares,
+            declares: is_declared(soughts),
         })?;
-    }
-    Ok(())
-}
-
-/// Puts contexts behind those that are there.
-fn push_contexts(
-    ctxts: &ItemList<SyntaxContext>,
-    so_far: &mut ItemList<SyntaxContext>,
-) -> Result<(), NoMemory>
-    ensures { OnOk result (so_far.new ≡ so_far.old ++ ctxts.now) }
-{
-    for ctxt in ctxts.as_slice() {
-        so_far.push(*ctxt)?;
     }
     Ok(())
 }
@@ -74,18 +64,33 @@ fn push_contexts(
 /// What is hidden with one scope more further in.
 fn pass_scope(
     alloc: Global,
-    ctxts: &ItemList<SyntaxContext>,
-    ctxt: SyntaxContext,
+    frame: &Declared,
+    id: &Id,
     so_far: &mut ItemList<SyntaxContext>,
 ) -> Result<(), NoMemory>
-    ensures { OnOk result (so_far.new ≡ cond (has_context ctxt ctxts.now) [] (so_far.old ++ ctxts.now)) }
+    ensures { OnOk result (so_far.new ≡ cond (has_context id.now.1 (contexts_in frame.now id.now.0)) [] (so_far.old ++ contexts_in frame.now id.now.0)) }
 {
-    if has_context(ctxt, ctxts) {
+    if declares_id(frame, id) {
         *so_far = ItemList::new(alloc);
         Ok(())
     } else {
-        push_contexts(ctxts, so_far)
+        push_contexts_in(frame, &id.0, so_far)
     }
+}
+
+/// Whether a scope may declare the text of this id further in than the one that declares the id.
+fn may_hide(frames: &ItemList<Declared>, id: &Id) -> bool
+    ensures { result ≡ false → hidden (scopes_of frames.now) id.now [] ≡ [] }
+{
+    let mut count = frames.len();
+    while count > 0 {
+        count -= 1;
+        let found = match_in(frames.at(count), id);
+        if found.text {
+            return !found.id;
+        }
+    }
+    false
 }
 
 /// The contexts in which scopes declare a text that are further in than the one that declares this id.
@@ -97,10 +102,11 @@ fn hidden(
     ensures { IfOk result (λ ctxts. ctxts ≡ hidden (scopes_of frames.now) id.now []) }
 {
     let mut so_far = ItemList::new(alloc);
+    if !may_hide(frames, id) {
+        return Ok(so_far);
+    }
     for frame in frames.as_slice() {
-        if let Some(ctxts) = contexts_in(frame, &id.0) {
-            pass_scope(alloc, ctxts, id.1, &mut so_far)?;
-        }
+        pass_scope(alloc, frame, id, &mut so_far)?;
     }
     Ok(so_far)
 }
@@ -158,6 +164,7 @@ fn push_beside(
 }
 
 fn push_beside_parameters(
+    alloc: Global,
     parameters: &Declared,
     ids: &ItemList<Id>,
     meetings: &mut ItemList<Meeting>,
@@ -165,14 +172,14 @@ fn push_beside_parameters(
     ensures { OnOk result (meetings.new ≡ meetings.old ++ beside_parameters (contexts_in parameters.now) ids.now) }
 {
     for id in ids.as_slice() {
-        if let Some(ctxts) = contexts_in(parameters, &id.0) {
-            push_beside(id, ctxts, meetings)?;
-        }
+        let ctxts = contexts_in(alloc, parameters, &id.0)?;
+        push_beside(id, &ctxts, meetings)?;
     }
     Ok(())
 }
 
 fn push_beside_innermost(
+    alloc: Global,
     frames: &ItemList<Declared>,
     ids: &ItemList<Id>,
     meetings: &mut ItemList<Meeting>,
@@ -184,7 +191,7 @@ fn push_beside_innermost(
         return Ok(());
     }
     let last = count - 1;
-    push_beside_parameters(frames.at(last), ids, meetings)?;
+    push_beside_parameters(alloc, frames.at(last), ids, meetings)?;
     Ok(())
 }
 
@@ -201,27 +208,9 @@ fn opened_scope(
 {
     let ids = own_ids(alloc, role, frames, node)?;
     if is_body_block(role, &node.kind) {
-        push_beside_innermost(frames, &ids, meetings)?;
+        push_beside_innermost(alloc, frames, &ids, meetings)?;
     }
-    scope_of(alloc, &ids)
-}
-
-/// The scope of a node, if it opens one; what meets there is put behind the meetings that are there.
-fn met_scope(
-    alloc: Global,
-    role: Role,
-    frames: &ItemList<Declared>,
-    node: &Node,
-    meetings: &mut ItemList<Meeting>,
-) -> Result<Option<Declared>, NoMemory>
-    ensures scope { IfOk result (λ scope. IsOwnScope (opens role node.now) (own_scope role (scopes_of frames.now) node.now) scope) }
-    ensures meetings { OnOk result (meetings.new ≡ meetings.old ++ cond (opens role node.now && is_body_block role (out-Node node.now).kind) (beside_parameters (innermost (scopes_of frames.now)) (own_ids role (innermost (scopes_of frames.now)) node.now)) []) }
-{
-    if !opens(role, node) {
-        return Ok(None);
-    }
-    let scope = opened_scope(alloc, role, frames, node, meetings)?;
-    Ok(Some(scope))
+    scope_of(alloc, ids)
 }
 
 /// Puts what is looked for behind what is there.
@@ -234,20 +223,18 @@ fn push_soughts(soughts: &ItemList<Sought>, inner: &mut ItemList<Sought>) -> Res
     Ok(())
 }
 
-/// What is looked for in the children of a node.
+/// What is looked for in the children of a node that opens a scope.
 fn inner_soughts(
     alloc: Global,
     role: Role,
     soughts: &ItemList<Sought>,
     node: &Node,
 ) -> Result<ItemList<Sought>, NoMemory>
-    ensures { IfOk result (λ inner. inner ≡ inner_soughts (opens role node.now) soughts.now (scope_soughts role (out-Node node.now).kind)) }
+    ensures { IfOk result (λ inner. inner ≡ soughts.now ++ scope_soughts role (out-Node node.now).kind) }
 {
     let mut inner = ItemList::new(alloc);
     push_soughts(soughts, &mut inner)?;
-    if opens(role, node) {
-        push_scope_soughts(role, &node.kind, &mut inner)?;
-    }
+    push_scope_soughts(role, &node.kind, &mut inner)?;
     Ok(inner)
 }
 
@@ -265,38 +252,119 @@ fn walk(
     ensures meetings { OnOk result (found.new.meetings ≡ found.old.meetings ++ meetings_at node.now (around_of role soughts.now frames.old)) }
     ensures frames { OnOk result (frames.new ≡ frames.old) }
 {
-    push_sight(role, is_declared(soughts), node, &mut found.sights)?;
-    let scope = met_scope(alloc, role, frames, node, &mut found.meetings)?;
+    push_sight(role, soughts, node, &mut found.sights)?;
+    if opens(role, node) {
+        walk_opened(alloc, role, soughts, frames, node, found)?;
+        return Ok(());
+    }
     push_hides(alloc, role, frames, &node.kind, &mut found.meetings)?;
-    let inner = inner_soughts(alloc, role, soughts, node)?;
-    walk_children(alloc, role, &inner, frames, scope, node, found)?;
+    walk_children(alloc, role, soughts, frames, node, found)?;
     Ok(())
 }
 
-/// The same of the children of a node that opens this scope, if it opens one.
+/// The same of a node that opens a scope, but for itself as an identifier.
+#[cycle(walking)]
+fn walk_opened(
+    alloc: Global,
+    role: Role,
+    soughts: &ItemList<Sought>,
+    frames: &mut ItemList<Declared>,
+    node: &Node,
+    found: &mut Found,
+) -> Result<(), NoMemory>
+    requires { opens role node.now ≡ true }
+    ensures sights { OnOk result (found.new.sights ≡ found.old.sights ++ gathered_from Around Sight (around_child (around_of role soughts.now frames.old) node.now) 0 (map sights_at (out-Node node.now).children)) }
+    ensures meetings { OnOk result (found.new.meetings ≡ found.old.meetings ++ meetings_at node.now (around_of role soughts.now frames.old)) }
+    ensures frames { OnOk result (frames.new ≡ frames.old) }
+{
+    let scope = opened_scope(alloc, role, frames, node, &mut found.meetings)?;
+    push_hides(alloc, role, frames, &node.kind, &mut found.meetings)?;
+    let inner = inner_soughts(alloc, role, soughts, node)?;
+    walk_scope(alloc, role, &inner, frames, scope, node, found)?;
+    Ok(())
+}
+
+/// The same of the children of a node that opens no scope.
 #[cycle(walking)]
 fn walk_children(
     alloc: Global,
     role: Role,
     soughts: &ItemList<Sought>,
     frames: &mut ItemList<Declared>,
-    scope: Option<Declared>,
     node: &Node,
     found: &mut Found,
 ) -> Result<(), NoMemory>
-    ensures sights { OnOk result (found.new.sights ≡ found.old.sights ++ gathered_from Around Sight (around_children role soughts.now frames.old scope node.now) 0 (map sights_at (out-Node node.now).children)) }
-    ensures meetings { OnOk result (found.new.meetings ≡ found.old.meetings ++ gathered_from Around Meeting (around_children role soughts.now frames.old scope node.now) 0 (map meetings_at (out-Node node.now).children)) }
+    ensures sights { OnOk result (found.new.sights ≡ found.old.sights ++ gathered_from Around Sight (around_children role soughts.now frames.old None node.now) 0 (map sights_at (out-Node node.now).children)) }
+    ensures meetings { OnOk result (found.new.meetings ≡ found.old.meetings ++ gathered_from Around Meeting (around_children role soughts.now frames.old None node.now) 0 (map meetings_at (out-Node node.now).children)) }
     ensures frames { OnOk result (frames.new ≡ frames.old) }
 {
+    let sourced = is_there(node, 1);
+    for i in 0..node.children.len() {
+        let inner = role_by(role, &node.kind, sourced, i);
+        walk_within(
+            alloc,
+            inner,
+            soughts,
+            frames,
+            node,
+            i,
+            node.children.at(i),
+            found,
+        )?;
+    }
+    Ok(())
+}
+
+/// The same of the child at an index of a node in which this is looked for.
+#[cycle(walking)]
+fn walk_within(
+    alloc: Global,
+    role: Role,
+    soughts: &ItemList<Sought>,
+    frames: &mut ItemList<Declared>,
+    node: &Node,
+    index: usize,
+    child: &Node,
+    found: &mut Found,
+) -> Result<(), NoMemory>
+    ensures sights { OnOk result (found.new.sights ≡ found.old.sights ++ sights_at child.now (around_of role (soughts_in soughts.now node.now index) frames.old)) }
+    ensures meetings { OnOk result (found.new.meetings ≡ found.old.meetings ++ meetings_at child.now (around_of role (soughts_in soughts.now node.now index) frames.old)) }
+    ensures frames { OnOk result (frames.new ≡ frames.old) }
+{
+    if soughts.is_empty() {
+        walk(alloc, role, soughts, frames, child, found)?;
+        return Ok(());
+    }
+    let within = soughts_in(alloc, soughts, node, index)?;
+    walk(alloc, role, &within, frames, child, found)?;
+    Ok(())
+}
+
+/// The same of the children of a node that opens this scope.
+#[cycle(walking)]
+fn walk_scope(
+    alloc: Global,
+    role: Role,
+    soughts: &ItemList<Sought>,
+    frames: &mut ItemList<Declared>,
+    scope: Declared,
+    node: &Node,
+    found: &mut Found,
+) -> Result<(), NoMemory>
+    ensures sights { OnOk result (found.new.sights ≡ found.old.sights ++ gathered_from Around Sight (around_children role soughts.now frames.old (Some scope) node.now) 0 (map sights_at (out-Node node.now).children)) }
+    ensures meetings { OnOk result (found.new.meetings ≡ found.old.meetings ++ gathered_from Around Meeting (around_children role soughts.now frames.old (Some scope) node.now) 0 (map meetings_at (out-Node node.now).children)) }
+    ensures frames { OnOk result (frames.new ≡ frames.old) }
+{
+    let sourced = is_there(node, 1);
     let mut scope = scope;
     for i in 0..node.children.len() {
-        let inner = soughts_in(alloc, soughts, node, i)?;
+        let within = soughts_in(alloc, soughts, node, i)?;
         let covered = covers(role, &node.kind, i);
         let child = node.children.at(i);
-        scope = walk_within(
+        scope = walk_covered(
             alloc,
-            role_in(role, node, i),
-            &inner,
+            role_by(role, &node.kind, sourced, i),
+            &within,
             frames,
             scope,
             covered,
@@ -305,35 +373,6 @@ fn walk_children(
         )?;
     }
     Ok(())
-}
-
-/// The same of a node in one scope more, if there is one and it covers the node; gives that scope back.
-#[cycle(walking)]
-fn walk_within(
-    alloc: Global,
-    role: Role,
-    soughts: &ItemList<Sought>,
-    frames: &mut ItemList<Declared>,
-    scope: Option<Declared>,
-    covered: bool,
-    node: &Node,
-    found: &mut Found,
-) -> Result<Option<Declared>, NoMemory>
-    ensures sights { OnOk result (found.new.sights ≡ found.old.sights ++ sights_at node.now (around_within role soughts.now frames.old scope covered)) }
-    ensures meetings { OnOk result (found.new.meetings ≡ found.old.meetings ++ meetings_at node.now (around_within role soughts.now frames.old scope covered)) }
-    ensures frames { OnOk result (frames.new ≡ frames.old) }
-    ensures scope { IfOk result (λ back. back ≡ scope) }
-{
-    match scope {
-        Some(scope) => {
-            let scope = walk_covered(alloc, role, soughts, frames, scope, covered, node, found)?;
-            Ok(Some(scope))
-        }
-        None => {
-            walk(alloc, role, soughts, frames, node, found)?;
-            Ok(None)
-        }
-    }
 }
 
 /// The same of a node in one scope more, if that covers the node; gives that scope back.

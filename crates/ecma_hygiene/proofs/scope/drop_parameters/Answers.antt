@@ -1,4 +1,4 @@
-use Rattle.std.proofs.Common.{◌≡◌, ◌∙◌, ◌&&◌, Bool, sym, ap, filter, not}
+use Rattle.std.proofs.Common.{◌∙◌, ◌&&◌, Bool, sym, ap, filter, not}
 use Rattle.ecma_hygiene.specs.Frames.{scopes_of}
 use Rattle.ecma_hygiene.specs.Ids.{Id, has_context, innermost}
 use Rattle.ecma_hygiene.proofs.Arounds.{filter-all}

@@ -1,5 +1,5 @@
 use Rattle.std.proofs.Common.{◌≡◌, ◌++◌, drop}
-use Rattle.ecma_hygiene.proofs.walk.push_contexts.Given as goal
+use Rattle.ecma_hygiene.proofs.scope.push_contexts.Given as goal
 
 -- what is there, and the others
 abbrev pub invariant-loop-ctxt : goal.invariant-loop-ctxt
