@@ -12,7 +12,7 @@ use item_list::ItemList;
 use std::alloc::Global;
 use std::collections::HashMap;
 
-/// Up to how many ids one after the other are looked through.
+/// The most ids that a scope keeps as a list; with more it keeps them by their texts.
 const FEW: usize = 12;
 
 /// What a scope declares.

@@ -1,5 +1,4 @@
-use Rattle.std.proofs.Common.{rules, ◌≡◌, ◌∙◌, ◌&&◌, Bool, false, not, ap, sym}
-use Rattle.ecma_hygiene.specs.Ids.{Id}
+use Rattle.std.proofs.Common.{rules, ◌≡◌, ◌∙◌, ◌&&◌, false, not, sym}
 use Rattle.ecma_hygiene.specs.Sets.{has_id}
 use Rattle.ecma_hygiene.specs.Texts.{is_in_source}
 use Rattle.ecma_hygiene.proofs.Choosing.{outside-new}
