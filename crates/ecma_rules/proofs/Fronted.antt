@@ -50,6 +50,9 @@ module _ (t : Target) where
   pub finished-count : (n m : Node) (i : ℕ) → m ≡ front_finished n i → length (out-Node m).children ≡ length (out-Node n).children
   finished-count n m i is = ap (λ z. length z.children) (front-out n m i is) ∙ front_in-length (target_in t (out-Node n).kind) (out-Node n).children i
 
+  pub finished-kind : (n m : Node) (i : ℕ) → m ≡ front_finished n i → (out-Node m).kind ≡ (out-Node n).kind
+  finished-kind n m i is = ap (λ z. z.kind) (front-out n m i is)
+
   -- the child at i is the old one
   pub finished-at : (n m : Node) (i : ℕ) (x : Node) → m ≡ front_finished n i → slice_get (out-Node m).children i ≡ Some x → slice_get (out-Node n).children i ≡ Some x
   finished-at n m i x is at = front_in-at (target_in t (out-Node n).kind) (out-Node n).children i x (sym (ap (λ z. slice_get z.children i) (front-out n m i is)) ∙ at)

@@ -6,3 +6,5 @@ pub mod Fronted
 pub mod Keeping
 pub mod Seconds
 pub mod Leasts
+pub mod Unheld
+pub mod Unasked

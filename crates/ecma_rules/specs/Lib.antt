@@ -14,3 +14,4 @@ pub mod Rules
 pub mod Finishing
 pub mod Breaking
 pub mod Laws
+pub mod Walks

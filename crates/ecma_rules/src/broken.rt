@@ -1,18 +1,19 @@
 //! The least place at which a rule is broken.
 ghost use Rattle.std.specs.Prelude.{◌≡◌};
 ghost use Rattle.ecma_rules.specs.Rules.{fails_list, fails_member, fails_statement, fails_super, fails_target, first_broken, first_misplaced, is_misplaced, misplaced_here};
+ghost use Rattle.ecma_rules.specs.Walks.{is_watched, unasked};
 
 use crate::failing::{failing_here, least};
 use crate::jumps::first_stray;
-use crate::lists::{is_early_rest, is_wrong_head};
+use crate::lists::{is_early_rest, is_wrong_head, last_in};
 use crate::members::{
     is_misfit, is_special_constructor, is_stray_property, misplaces_this, second_constructor,
 };
-use crate::standing::{Around, around_in, at_root};
+use crate::standing::{Around, Standing, around_in, unasked};
 use crate::statements::{is_declared_body, is_quoted_local};
 use crate::supers::{is_lone_super, is_private_of_super};
-use crate::target::{is_no_target, is_stray_default};
-use ecma_tree::Node;
+use crate::target::{Target, is_no_target, is_stray_default};
+use ecma_tree::{Kind, Node};
 
 fn fails_target(around: Around, node: &Node) -> bool
     ensures { result ≡ fails_target around node.now }
@@ -70,13 +71,80 @@ fn misplaced_here(around: Around, node: &Node) -> Option<u32>
     least(place, second_constructor(node))
 }
 
+/// Whether a node of this kind may break a rule where nothing is asked of it, or asks something of its children.
+#[tactic(auto, unfolding(crate::specs::Walks::is_watched))]
+fn is_watched(kind: &Kind) -> bool
+    ensures { result ≡ is_watched kind.now }
+{
+    matches!(
+        kind,
+        Kind::AssignProp
+            | Kind::RestPat
+            | Kind::TsParamProp { .. }
+            | Kind::AssignPat
+            | Kind::GetterProp
+            | Kind::SetterProp
+            | Kind::ClassMethod { .. }
+            | Kind::PrivateMethod { .. }
+            | Kind::Function { .. }
+            | Kind::ArrowExpr { .. }
+            | Kind::Constructor { .. }
+            | Kind::Super
+            | Kind::SuperPropExpr
+            | Kind::Class { .. }
+            | Kind::AssignExpr { .. }
+            | Kind::UpdateExpr { .. }
+            | Kind::CallExpr
+            | Kind::NamedExport { .. }
+            | Kind::IfStmt
+            | Kind::LabeledStmt
+            | Kind::WhileStmt
+            | Kind::DoWhileStmt
+            | Kind::ForStmt
+            | Kind::ForInStmt
+            | Kind::ForOfStmt { .. }
+    )
+}
+
 /// The least place at which a node in a tree begins that is not what it has to be where it stands.
+#[cycle(misplacing)]
 fn first_misplaced(node: &Node, around: Around) -> Option<u32>
     ensures { result ≡ first_misplaced node.now around }
 {
     let mut found = misplaced_here(around, node);
     for i in 0..node.children.len() {
-        let below = first_misplaced(node.children.at(i), around_in(around, node, i));
+        let below = first_misplaced_around(node.children.at(i), around_in(around, node, i));
+        found = least(found, below);
+    }
+    found
+}
+
+/// The same, found faster where nothing is asked of the tree.
+#[cycle(misplacing)]
+fn first_misplaced_around(node: &Node, around: Around) -> Option<u32>
+    ensures { result ≡ first_misplaced node.now around }
+{
+    match around {
+        Around {
+            target: Target::Free,
+            standing: Standing::Plain,
+            is_last,
+        } => first_misplaced_freely(node, is_last),
+        _ => first_misplaced(node, around),
+    }
+}
+
+/// The same in a tree of which nothing is asked.
+#[cycle(misplacing)]
+fn first_misplaced_freely(node: &Node, is_last: bool) -> Option<u32>
+    ensures { result ≡ first_misplaced node.now (unasked is_last) }
+{
+    if is_watched(&node.kind) {
+        return first_misplaced(node, unasked(is_last));
+    }
+    let mut found = None;
+    for i in 0..node.children.len() {
+        let below = first_misplaced_freely(node.children.at(i), last_in(is_last, node, i));
         found = least(found, below);
     }
     found
@@ -87,7 +155,7 @@ fn first_misplaced(node: &Node, around: Around) -> Option<u32>
 pub fn first_broken(tree: &Node) -> Option<u32>
     ensures { result ≡ first_broken tree.now }
 {
-    let misplaced = first_misplaced(tree, at_root());
+    let misplaced = first_misplaced_freely(tree, true);
     let stray = first_stray(tree);
     least(misplaced, stray)
 }

@@ -3,6 +3,7 @@ ghost use Rattle.std.specs.Prelude.{◌≡◌};
 ghost use Rattle.std.specs.Option.{option_copied};
 ghost use Rattle.ecma_tree.specs.declared.node.Node.{out-Node};
 ghost use Rattle.ecma_rules.specs.Frames.{held_of, labels_of};
+ghost use Rattle.ecma_rules.specs.Walks.{holds_strays};
 ghost use Rattle.ecma_rules.specs.Jumps.{ends_jumps, first_held_stray, first_stray, held_behind, is_held_stray, is_stray_jump, label_of, own_label, text_by};
 
 use crate::failing::{failing_here, least};
@@ -127,9 +128,23 @@ fn first_stray_behind(
     }
 }
 
+/// Whether something may belong to nothing inside a node of this kind, where nothing may outside of it.
+fn holds_strays(kind: &Kind) -> bool
+    ensures { result ≡ holds_strays kind.now }
+{
+    matches!(kind, Kind::TsEnumMember | Kind::TsModuleBlock)
+}
+
 /// The least place of what belongs to nothing inside the enum initialiser or namespace body around it.
 pub fn first_stray(tree: &Node) -> Option<u32>
     ensures { result ≡ first_stray tree.now }
 {
-    first_held_stray(tree, nothing_held(), &Labels::Nothing)
+    if holds_strays(&tree.kind) {
+        return first_held_stray(tree, nothing_held(), &Labels::Nothing);
+    }
+    let mut found = None;
+    for i in 0..tree.children.len() {
+        found = least(found, first_stray(tree.children.at(i)));
+    }
+    found
 }

@@ -2,6 +2,7 @@
 ghost use Rattle.std.specs.Prelude.{◌≡◌, OnOk};
 ghost use Rattle.ecma_tree.specs.declared.node.Node.{out-Node};
 ghost use Rattle.ecma_rules.specs.Finishing.{binding, default_by, element_by, finished, finished_at, finished_by, left_by, name_by, part_by, property_by, shorthand, with_kind, with_type};
+ghost use Rattle.ecma_rules.specs.Walks.{asks_targets};
 
 use crate::target::{Target, target_in};
 use ecma_tree::{AssignOp, Kind, NoMemory, Node};
@@ -126,15 +127,52 @@ fn finish_here(alloc: Global, target: Target, node: &mut Node) -> Result<(), NoM
     }
 }
 
+/// Whether something is asked of a child of a node of this kind, of which nothing is asked.
+fn asks_targets(kind: &Kind) -> bool
+    ensures { result ≡ asks_targets kind.now }
+{
+    matches!(
+        kind,
+        Kind::AssignExpr { .. } | Kind::UpdateExpr { .. } | Kind::ForInStmt | Kind::ForOfStmt { .. }
+    )
+}
+
+#[cycle(finishing)]
 fn finish_at(alloc: Global, target: Target, node: &mut Node) -> Result<(), NoMemory>
     ensures { OnOk result (node.new ≡ finished_at node.old target) }
 {
     let count = node.children.len();
     for i in 0..count {
         let inside = target_in(target, &node.kind, i);
-        finish_at(alloc, inside, node.children.get_mut(i))?;
+        finish_as(alloc, inside, node.children.get_mut(i))?;
     }
     finish_here(alloc, target, node)
+}
+
+/// The same, done faster where nothing is asked of the tree.
+#[cycle(finishing)]
+fn finish_as(alloc: Global, target: Target, node: &mut Node) -> Result<(), NoMemory>
+    ensures { OnOk result (node.new ≡ finished_at node.old target) }
+{
+    match target {
+        Target::Free => finish_freely(alloc, node),
+        _ => finish_at(alloc, target, node),
+    }
+}
+
+/// The same in a tree of which nothing is asked.
+#[cycle(finishing)]
+fn finish_freely(alloc: Global, node: &mut Node) -> Result<(), NoMemory>
+    ensures { OnOk result (node.new ≡ finished node.old) }
+{
+    if asks_targets(&node.kind) {
+        return finish_at(alloc, Target::Free, node);
+    }
+    let count = node.children.len();
+    for i in 0..count {
+        finish_freely(alloc, node.children.get_mut(i))?;
+    }
+    Ok(())
 }
 
 /// Makes patterns of the literals of a raw tree that are assigned to. Its only refusal is want of memory, which leaves the tree
@@ -142,5 +180,5 @@ fn finish_at(alloc: Global, target: Target, node: &mut Node) -> Result<(), NoMem
 pub fn finish(alloc: Global, tree: &mut Node) -> Result<(), NoMemory>
     ensures { OnOk result (tree.new ≡ finished tree.old) }
 {
-    finish_at(alloc, Target::Free, tree)
+    finish_freely(alloc, tree)
 }

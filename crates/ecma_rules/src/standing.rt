@@ -2,6 +2,7 @@
 ghost use Rattle.std.specs.Prelude.{◌≡◌, ◌<◌, length};
 ghost use Rattle.ecma_tree.specs.declared.node.Node.{out-Node};
 ghost use Rattle.ecma_rules.specs.Surroundings.{around_in, at_child, at_root, if_there, in_branch, standing_by, standing_in};
+ghost use Rattle.ecma_rules.specs.Walks.{unasked};
 
 use crate::children::has_child;
 use crate::lists::last_in;
@@ -92,6 +93,17 @@ pub fn around_in(around: Around, node: &Node, index: usize) -> Around
         target: target_in(around.target, &node.kind, index),
         standing: standing_in(around.standing, node, index),
         is_last: last_in(around.is_last, node, index),
+    }
+}
+
+/// Around a node of which nothing is asked.
+pub(crate) fn unasked(is_last: bool) -> Around
+    ensures { result ≡ unasked is_last }
+{
+    Around {
+        target: Target::Free,
+        standing: Standing::Plain,
+        is_last,
     }
 }
 
