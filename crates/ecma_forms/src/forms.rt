@@ -1,42 +1,10 @@
 //! The forms that are not taken yet, node by node.
 ghost use Rattle.std.specs.Prelude.{◌≡◌};
-ghost use Rattle.ecma_rules.specs.Children.{child_holds, child_is, kind_of};
-ghost use Rattle.ecma_forms.specs.Forms.{has_body, is_ambient_variable, is_later, is_odd_by, is_untaken};
+ghost use Rattle.ecma_rules.specs.Children.{child_holds, child_is};
+ghost use Rattle.ecma_forms.specs.Forms.{has_body, is_ambient_variable, is_untaken};
 
 use ecma_rules::has_child;
 use ecma_tree::{Kind, Node};
-
-/// Imports and exports, enums and namespaces, and parameter properties.
-fn is_later(kind: &Kind) -> bool
-    ensures { result ≡ is_later kind.now }
-{
-    match kind {
-        Kind::ImportDecl { .. }
-        | Kind::ImportNamedSpecifier { .. }
-        | Kind::ImportDefaultSpecifier
-        | Kind::ImportStarAsSpecifier
-        | Kind::ExportDecl
-        | Kind::NamedExport { .. }
-        | Kind::ExportNamedSpecifier { .. }
-        | Kind::ExportDefaultSpecifier
-        | Kind::ExportNamespaceSpecifier
-        | Kind::ExportDefaultDecl
-        | Kind::ExportDefaultExpr
-        | Kind::ExportAll { .. }
-        | Kind::TsImportEqualsDecl { .. }
-        | Kind::TsExternalModuleRef
-        | Kind::TsQualifiedName
-        | Kind::TsExportAssignment
-        | Kind::TsNamespaceExportDecl
-        | Kind::TsEnumDecl { .. }
-        | Kind::TsEnumMember
-        | Kind::TsModuleDecl { .. }
-        | Kind::TsModuleBlock
-        | Kind::TsNamespaceDecl { .. }
-        | Kind::TsParamProp { .. } => true,
-        _ => false,
-    }
-}
 
 fn is_ambient_variable(kind: &Kind) -> bool
     ensures { result ≡ is_ambient_variable kind.now }
@@ -67,21 +35,39 @@ fn has_full_function(node: &Node) -> bool
     }
 }
 
-fn is_odd(node: &Node) -> bool
-    ensures { result ≡ is_odd_by (kind_of node.now) node.now }
+/// Whether a node is of a form that is not taken, as far as its kind and what stands directly in it say: imports and exports, enums and namespaces,
+/// parameter properties, and what no text of TypeScript has.
+pub(crate) fn is_untaken(node: &Node) -> bool
+    ensures { result ≡ is_untaken node.now }
 {
     match &node.kind {
+        Kind::ImportDecl { .. }
+        | Kind::ImportNamedSpecifier { .. }
+        | Kind::ImportDefaultSpecifier
+        | Kind::ImportStarAsSpecifier
+        | Kind::ExportDecl
+        | Kind::NamedExport { .. }
+        | Kind::ExportNamedSpecifier { .. }
+        | Kind::ExportDefaultSpecifier
+        | Kind::ExportNamespaceSpecifier
+        | Kind::ExportDefaultDecl
+        | Kind::ExportDefaultExpr
+        | Kind::ExportAll { .. }
+        | Kind::TsImportEqualsDecl { .. }
+        | Kind::TsExternalModuleRef
+        | Kind::TsQualifiedName
+        | Kind::TsExportAssignment
+        | Kind::TsNamespaceExportDecl
+        | Kind::TsEnumDecl { .. }
+        | Kind::TsEnumMember
+        | Kind::TsModuleDecl { .. }
+        | Kind::TsModuleBlock
+        | Kind::TsNamespaceDecl { .. }
+        | Kind::TsParamProp { .. } => true,
         Kind::SetterProp => !has_child(node, 3),
         Kind::GetterProp => !has_child(node, 2),
         Kind::MethodProp | Kind::FnExpr => !has_full_function(node),
         Kind::ForStmt | Kind::ForInStmt | Kind::ForOfStmt { .. } => has_ambient_head(node),
         _ => false,
     }
-}
-
-/// Whether a node is of a form that is not taken, as far as its kind and what stands directly in it say.
-pub(crate) fn is_untaken(node: &Node) -> bool
-    ensures { result ≡ is_untaken node.now }
-{
-    is_later(&node.kind) || is_odd(node)
 }
