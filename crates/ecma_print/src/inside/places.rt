@@ -67,6 +67,7 @@ fn method_head(kind: &Kind) -> &'static str
 impl<'f, 'n, F: Fn(&mut Out, &Node, Place, &[u8]) -> Result<(), NoMemory>> Inside<'f, 'n, F> {
     ghost use Rattle.std.specs.Prelude.{OnOk};
     ghost use Rattle.ecma_tree.specs.declared.node.Node.{out-Node};
+    ghost use Rattle.ecma_print.specs.Pieces.{nothing};
     ghost use Rattle.ecma_print.specs.Places.{before, after};
     ghost use Rattle.ecma_print.specs.Layout.{children_of, whole, standing, placed};
     ghost use Rattle.ecma_print.specs.Writing.{Puts, ShowsChildren};
@@ -104,23 +105,142 @@ impl<'f, 'n, F: Fn(&mut Out, &Node, Place, &[u8]) -> Result<(), NoMemory>> Insid
         }
     }
 
-    /// A node that is no list, by itself: it has a text in one of these.
+    /// Nothing, for a node that has no text of its own.
+    fn no_text(&self, _out: &mut Out) -> Result<(), NoMemory>
+        ensures { OnOk result (Puts _out.old _out.new self.now.margin.now nothing) }
+    {
+        Ok(())
+    }
+
+    /// A node that is no list, by itself.
     fn whole(&self, out: &mut Out, spot: Spot) -> Result<(), NoMemory>
         requires { ShowsChildren F.Fn self.now }
         ensures { OnOk result (Puts out.old out.new self.now.margin.now (whole (out-Node self.now.node.now).kind (children_of self.now) spot)) }
     {
-        self.literal(out)?;
-        self.operation(out, spot)?;
-        self.link(out, spot)?;
-        self.primary(out)?;
-        self.function_text(out, spot)?;
-        self.class_member(out)?;
-        self.property(out, spot)?;
-        self.pattern(out)?;
-        self.statement(out, spot)?;
-        self.control(out)?;
-        self.importing(out)?;
-        self.exporting(out)
+        match &self.node.kind {
+            Kind::Ident { .. }
+            | Kind::IdentName { .. }
+            | Kind::PrivateName { .. }
+            | Kind::Str { .. }
+            | Kind::Bool { .. }
+            | Kind::Null
+            | Kind::Number { .. }
+            | Kind::BigInt { .. }
+            | Kind::Regex { .. }
+            | Kind::TplElement { .. } => self.literal(out),
+            Kind::UnaryExpr { .. }
+            | Kind::UpdateExpr { .. }
+            | Kind::BinExpr { .. }
+            | Kind::AssignExpr { .. }
+            | Kind::CondExpr
+            | Kind::SeqExpr
+            | Kind::YieldExpr { .. }
+            | Kind::AwaitExpr => self.operation(out, spot),
+            Kind::MemberExpr
+            | Kind::SuperPropExpr
+            | Kind::CallExpr
+            | Kind::NewExpr
+            | Kind::OptChainExpr { .. }
+            | Kind::OptCall
+            | Kind::Tpl
+            | Kind::TaggedTpl => self.link(out, spot),
+            Kind::ThisExpr
+            | Kind::Super
+            | Kind::Import
+            | Kind::MetaPropExpr { .. }
+            | Kind::ParenExpr
+            | Kind::SpreadElement
+            | Kind::ArrayLit
+            | Kind::ObjectLit => self.primary(out),
+            Kind::FnExpr
+            | Kind::FnDecl { .. }
+            | Kind::Function { .. }
+            | Kind::ArrowExpr { .. }
+            | Kind::ClassExpr
+            | Kind::ClassDecl { .. }
+            | Kind::Class { .. } => self.function_text(out, spot),
+            Kind::Constructor { .. }
+            | Kind::ClassMethod { .. }
+            | Kind::PrivateMethod { .. }
+            | Kind::ClassProp { .. }
+            | Kind::PrivateProp { .. }
+            | Kind::StaticBlock => self.class_member(out),
+            Kind::KeyValueProp
+            | Kind::AssignProp
+            | Kind::GetterProp
+            | Kind::SetterProp
+            | Kind::MethodProp
+            | Kind::ComputedPropName => self.property(out, spot),
+            Kind::BindingIdent
+            | Kind::Param
+            | Kind::TsParamProp { .. }
+            | Kind::ArrayPat { .. }
+            | Kind::ObjectPat { .. }
+            | Kind::RestPat
+            | Kind::AssignPat
+            | Kind::KeyValuePatProp
+            | Kind::AssignPatProp => self.pattern(out),
+            Kind::ExprStmt
+            | Kind::BlockStmt
+            | Kind::EmptyStmt
+            | Kind::DebuggerStmt
+            | Kind::ReturnStmt
+            | Kind::ThrowStmt
+            | Kind::BreakStmt
+            | Kind::ContinueStmt
+            | Kind::LabeledStmt
+            | Kind::VarDecl { .. }
+            | Kind::VarDeclarator { .. } => self.statement(out, spot),
+            Kind::IfStmt
+            | Kind::SwitchStmt
+            | Kind::SwitchCase
+            | Kind::TryStmt
+            | Kind::CatchClause
+            | Kind::WhileStmt
+            | Kind::DoWhileStmt
+            | Kind::ForStmt
+            | Kind::ForInStmt
+            | Kind::ForOfStmt { .. } => self.control(out),
+            Kind::Module { .. }
+            | Kind::Script { .. }
+            | Kind::ImportDecl { .. }
+            | Kind::ImportNamedSpecifier { .. }
+            | Kind::ImportDefaultSpecifier
+            | Kind::ImportStarAsSpecifier
+            | Kind::TsImportEqualsDecl { .. }
+            | Kind::TsExternalModuleRef
+            | Kind::TsQualifiedName => self.importing(out),
+            Kind::ExportDecl
+            | Kind::NamedExport { .. }
+            | Kind::ExportNamedSpecifier { .. }
+            | Kind::ExportDefaultSpecifier
+            | Kind::ExportNamespaceSpecifier
+            | Kind::ExportDefaultDecl
+            | Kind::ExportDefaultExpr
+            | Kind::ExportAll { .. }
+            | Kind::TsExportAssignment => self.exporting(out),
+            Kind::Absent
+            | Kind::List
+            | Kind::TsTypeAssertion
+            | Kind::TsConstAssertion
+            | Kind::TsNonNullExpr
+            | Kind::TsAsExpr
+            | Kind::TsInstantiation
+            | Kind::TsSatisfiesExpr
+            | Kind::TsIndexSignature { .. }
+            | Kind::TsInterfaceDecl { .. }
+            | Kind::TsTypeAliasDecl { .. }
+            | Kind::TsEnumDecl { .. }
+            | Kind::TsEnumMember
+            | Kind::TsModuleDecl { .. }
+            | Kind::TsModuleBlock
+            | Kind::TsNamespaceDecl { .. }
+            | Kind::TsNamespaceExportDecl
+            | Kind::TsTypeAnn
+            | Kind::TsType
+            | Kind::TsTypeParamDecl
+            | Kind::TsTypeParamInstantiation => self.no_text(out),
+        }
     }
 
     /// In parentheses where its spot asks for them.
