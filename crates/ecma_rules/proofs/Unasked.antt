@@ -1,13 +1,12 @@
--- Of most kinds a node breaks h rule where nothing is asked of it, and asks nothing of its children.
-use Rattle.std.proofs.Common.{◌≡◌, ◌∙◌, ℕ, ◌==◌, Bool, true, false, not, ◌&&◌, ◌||◌, cond, Option, Some, None, refl, sym, ap, ap₂}
+-- Of most kinds a node breaks no rule where nothing is asked of it, and asks nothing of its children.
+use Rattle.std.proofs.Common.{◌≡◌, ℕ, ◌==◌, Bool, true, false, not, ◌&&◌, ◌||◌, cond, None, refl, sym, ap, ap₂}
 use Rattle.ecma_kind.specs.declared.kind.Kind.{Kind}
 use Rattle.ecma_kind.specs.declared.kind.Kind.TheVariants as kind
-use Rattle.ecma_tree.specs.declared.node.Node.{Node, out-Node}
+use Rattle.ecma_tree.specs.declared.node.Node.{Node}
 use Rattle.ecma_rules.specs.declared.target.Target.{Target}
 use Rattle.ecma_rules.specs.declared.target.Target.TheVariants as target
 use Rattle.ecma_rules.specs.declared.standing.Standing.{Standing}
 use Rattle.ecma_rules.specs.declared.standing.Standing.TheVariants as standing
-use Rattle.ecma_rules.specs.declared.standing.Around.{Around}
 use Rattle.ecma_rules.specs.Children.{child_is, has_child, kind_of}
 use Rattle.ecma_rules.specs.Failing.{failing_here, least}
 use Rattle.ecma_rules.specs.Lists.{is_rest_pattern, last_in}

@@ -1,12 +1,12 @@
 -- Outside of enum initialisers and namespace bodies nothing is a stray, whatever the labels are.
-use Rattle.std.proofs.Common.{◌≡◌, ◌∙◌, ℕ, suc, ◌==◌, Bool, true, false, cond, List, [], ◌∷◌, map, Option, Some, None, refl, sym, ap, ap₂, subst, slice_get}
+use Rattle.std.proofs.Common.{◌≡◌, ◌∙◌, ℕ, suc, ◌==◌, Bool, true, false, cond, List, [], ◌∷◌, map, Option, Some, None, refl, sym, ap, ap₂, subst}
 use Rattle.ecma_kind.specs.declared.kind.Kind.{Kind}
 use Rattle.ecma_kind.specs.declared.kind.Kind.TheVariants as kind
-use Rattle.ecma_tree.specs.declared.node.Node.{Node, Node-F, ind-Node, out-Node, roll-Node}
+use Rattle.ecma_tree.specs.declared.node.Node.{Node, Node-F, ind-Node, roll-Node}
 use Rattle.ecma_rules.specs.declared.strays.Strays.{Strays}
 use Rattle.ecma_rules.specs.Children.{kind_of}
 use Rattle.ecma_rules.specs.Failing.{failing_here, failing_step, least, least_from}
-use Rattle.ecma_rules.specs.Jumps.{Held, ends_jumps, first_held_stray, first_stray, held_behind, held_in, is_stray_in, label_of, labels_behind, not_held, own_label, stray_here, with_label}
+use Rattle.ecma_rules.specs.Jumps.{Held, ends_jumps, first_held_stray, first_stray, held_behind, held_in, is_stray_in, label_of, labels_behind, not_held, own_label, stray_here}
 use Rattle.ecma_rules.specs.Strays.{in_named, is_stray, nothing_held, strays_in}
 use Rattle.ecma_rules.specs.Walks.{holds_strays}
 use Rattle.ecma_rules.proofs.Layers.{from_leaves-roll}
