@@ -13,7 +13,6 @@ use Rattle.ecma_grammar.specs.declared.production.Form.TheVariants as form
 use Rattle.ecma_grammar.specs.declared.production.Leaf.{Leaf}
 use Rattle.ecma_grammar.specs.declared.production.Leaf.TheVariants as leaf
 use Rattle.ecma_grammar.specs.declared.production.TokenKind.TheVariants as token_kind
-use Rattle.ecma_grammar.specs.declared.reader.outlook.Outlook.TheVariants.{Fails, Stays}
 use Rattle.ecma_grammar.specs.declared.reader.Reader.{Reader}
 use Rattle.ecma_grammar.specs.declared.reader.operands.Operand.{Operand}
 use Rattle.ecma_grammar.specs.Reading as reading
@@ -27,7 +26,7 @@ use Rattle.ecma_grammar.specs.declared.production.Flag.TheVariants.{Absent, Pres
 use Rattle.ecma_grammar.specs.declared.production.Plain.TheVariants as plain
 use Rattle.ecma_kind.specs.declared.operators.BinaryOp.TheVariants as binary
 use Rattle.ecma_grammar.specs.FirstByte.{first_byte}
-use Rattle.ecma_grammar.specs.Outlook.{outlook, found_outlook, leaf_outlook}
+use Rattle.ecma_grammar.specs.Outlook.{Fails, Stays, outlook, found_outlook, leaf_outlook}
 use Rattle.ecma_grammar.specs.Agreement.{position, kept, SameText}
 use Rattle.ecma_grammar.specs.Operands.{OperandOr, IsClear, Leads, MissesBefore, MissesWord, Misses, KeptOr, Begins, HasOperand, made_on, tails_on}
 use Rattle.ecma_grammar.specs.productions.Tails.{Tail, links_tail, tails}
@@ -84,9 +83,6 @@ module _ (text : List ℕ) (mode : Mode) (i : ℕ) (clear : IsClear text i) wher
 
   keep-fails : {l : Leaf} → leaf_outlook text i l ≡ Fails (skipped text i).to → FailsThere (keep l)
   keep-fails h = record { is = h }
-
-  punct-fails : {c : ℕ} {cs : List ℕ} → nat_eq (first_byte text i) c ≡ false → FailsThere (punct (c ∷ cs))
-  punct-fails {c = c} {cs = cs} h = record { is = punct-off text i c cs h }
 
   behind_punct-fails : {c : ℕ} {cs : List ℕ} {u : Part} → nat_eq (first_byte text i) c ≡ false → FailsThere (behind_punct (c ∷ cs) u)
   behind_punct-fails {c = c} {cs = cs} h = record { is = punct-off text i c cs h }

@@ -11,8 +11,6 @@ use Rattle.ecma_grammar.specs.declared.production.Form.{Form}
 use Rattle.ecma_grammar.specs.declared.production.TokenKind.TheVariants as token_kind
 use Rattle.ecma_grammar.specs.declared.production.Leaf.{Leaf}
 use Rattle.ecma_grammar.specs.declared.production.Leaf.TheVariants as leaf
-use Rattle.ecma_grammar.specs.declared.reader.outlook.Outlook.{Outlook}
-use Rattle.ecma_grammar.specs.declared.reader.outlook.Outlook.TheVariants.{Open, Fails, Stays, Passes}
 use Rattle.ecma_grammar.specs.Grammar as grammar
 use Rattle.ecma_grammar.specs.Grammar.{Terminal, the_word, the_punct, any, Grammar}
 use Rattle.ecma_grammar.specs.Reading as reading
@@ -20,7 +18,7 @@ use Rattle.ecma_grammar.specs.Reading.{Position, Outcome, Reading, read, fails, 
 use Rattle.ecma_grammar.specs.Reads.{Parts, reads, token, kept_leaf, part_on, same_line_on, built_on}
 use Rattle.ecma_grammar.specs.trees.Parts.{flag_node}
 use Rattle.ecma_grammar.specs.Made.{made}
-use Rattle.ecma_grammar.specs.Outlook.{then_outlook, or_outlook, many_outlook, ahead_outlook, unless_outlook, build_outlook, found_outlook, unless_begun, line_outlook, token_outlook, leaf_outlook, outlook}
+use Rattle.ecma_grammar.specs.Outlook.{Outlook, Open, Fails, Stays, Passes, then_outlook, or_outlook, many_outlook, ahead_outlook, unless_outlook, build_outlook, found_outlook, unless_begun, line_outlook, token_outlook, leaf_outlook, outlook}
 
 -- where the reading stays, while terminals fail up to a place
 abbrev pub raised : ℕ → Position → Position
@@ -189,16 +187,16 @@ module _ (text : List ℕ) where
   foreseen mode parts (grammar.build f a) s = build-foresees (outlook text s.place mode a) s f _ (reads text mode parts a s) (foreseen mode parts a s)
 
 -- what fails by the tokens ahead, which were looked at there
-pub fails-known : (text seen : List ℕ) (mode seen_mode : Mode) (i : ℕ) (g : Grammar) (s : Position) (x : Outlook) (at failed k : ℕ) (parts : Parts text)
-    → x ≡ outlook seen i seen_mode g → x ≡ Fails at → seen ≡ text → seen_mode ≡ mode → i ≡ s.place → failed ≡ s.failed → k ≡ max failed at → reads text mode parts g s ≡ fails k
-fails-known text seen mode seen_mode i g s x at failed k parts known is same same_mode here before after =
-    let fails_there : outlook text s.place mode g ≡ Fails at = rw (same, same_mode, here) at (sym known ∙ is) in
+pub fails-known : (text seen : List ℕ) (mode seen_mode : Mode) (i : ℕ) (g : Grammar) (s : Position) (at failed k : ℕ) (parts : Parts text)
+    → outlook seen i seen_mode g ≡ Fails at → seen ≡ text → seen_mode ≡ mode → i ≡ s.place → failed ≡ s.failed → k ≡ max failed at → reads text mode parts g s ≡ fails k
+fails-known text seen mode seen_mode i g s at failed k parts known same same_mode here before after =
+    let fails_there : outlook text s.place mode g ≡ Fails at = rw (same, same_mode, here) at known in
     rw (after, before) (rw fails_there at (foreseen text mode parts g s))
 
 -- what reads nothing by the tokens ahead, which were looked at there
-pub passes-known : (text seen : List ℕ) (mode seen_mode : Mode) (i : ℕ) (g : Grammar) (s t : Position) (x : Outlook) (at failed : ℕ) (parts : Parts text)
-    → x ≡ outlook seen i seen_mode g → x ≡ Passes at → seen ≡ text → seen_mode ≡ mode → i ≡ s.place → failed ≡ s.failed → t.place ≡ i → t.failed ≡ max failed at → reads text mode parts g s ≡ read [] t
-passes-known text seen mode seen_mode i g s t x at failed parts known is same same_mode here before there after =
-    let passes_there : outlook text s.place mode g ≡ Passes at = rw (same, same_mode, here) at (sym known ∙ is) in
+pub passes-known : (text seen : List ℕ) (mode seen_mode : Mode) (i : ℕ) (g : Grammar) (s t : Position) (at failed : ℕ) (parts : Parts text)
+    → outlook seen i seen_mode g ≡ Passes at → seen ≡ text → seen_mode ≡ mode → i ≡ s.place → failed ≡ s.failed → t.place ≡ i → t.failed ≡ max failed at → reads text mode parts g s ≡ read [] t
+passes-known text seen mode seen_mode i g s t at failed parts known same same_mode here before there after =
+    let passes_there : outlook text s.place mode g ≡ Passes at = rw (same, same_mode, here) at known in
     let where_it_stands : raised at s ≡ t = rw (← here, ← before, ← there, ← after) refl in
     rw passes_there at (foreseen text mode parts g s) ∙ ap (λ p. read [] p) where_it_stands

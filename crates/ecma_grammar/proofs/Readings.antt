@@ -1,16 +1,17 @@
 -- What is read behind what was kept.
-use Rattle.std.proofs.Common.{◌≡◌, ℕ, zero, suc, ◌+◌, ◌-◌, ◌<◌, ◌≤◌, List, [], ◌∷◌, ◌++◌, length, take, drop, Option, Some, None, Ok, refl, ap, sym, ◌∙◌, arith, append_assoc}
+use Rattle.std.proofs.Common.{◌≡◌, ℕ, zero, suc, ◌+◌, ◌-◌, ◌<◌, ◌≤◌, List, [], ◌∷◌, ◌++◌, length, take, drop, Option, Some, None, Ok, refl, ap, sym, ◌∙◌, subst, arith, append_assoc}
 use Rattle.std.proofs.lemmas.List.{append-nil, length-append, length-drop, take-append-drop}
 use Rattle.std.proofs.Math.Seq.{take-append_seam, drop-append_seam, take-length}
 use Rattle.ecma_tree.specs.declared.node.Node.{Node}
 use Rattle.ecma_grammar.specs.declared.reader.Reader.{Reader}
 use Rattle.ecma_grammar.specs.declared.production.Form.{Form}
 use Rattle.ecma_grammar.specs.declared.reader.keeping.Opened.{Opened}
-use Rattle.ecma_grammar.specs.Agreement.{position, kept, SameText, Keeps, reads_in}
+use Rattle.ecma_grammar.specs.declared.production.Mode.{Mode}
+use Rattle.ecma_grammar.specs.Agreement.{position, kept, SameText, Keeps, parts_in, reads_in}
 use Rattle.ecma_grammar.specs.Opening.{built, closed, Within}
 use Rattle.ecma_grammar.specs.Reading.{Position, Outcome, read, fails, too_deep, Reading, with_front, followed_on, or_on, many_up_to, many_on, ahead_on, unless_on}
 use Rattle.ecma_grammar.specs.Made.{made}
-use Rattle.ecma_grammar.specs.Reads.{built_on}
+use Rattle.ecma_grammar.specs.Reads.{Parts, reads, built_on}
 use Rattle.ecma_grammar.specs.Grammar.{Grammar, ◌▸◌}
 
 -- what is read behind what was read stands behind all that was kept
@@ -139,6 +140,21 @@ then-goes-on initial now next opened all left g a b is h k =
     within-more : (n m : ℕ) (opened : Option Opened) → n ≤ m → Within n opened → Within m opened
     within-more n m None more h = tt
     within-more n m (Some o) more h = omega arith
+
+-- a choice of which a remainder is read in its place
+pub remains-goes-on : (initial now next : Reader) (opened : Option Opened) (all : Reading (List Node)) (left : ℕ) (g rest : Grammar)
+    → GoesOn initial now opened all (reads_in initial left g) → SameText now next → kept next ≡ kept now
+    → ((parts : Parts now.text.now) → reads now.text.now now.mode parts g (position now) ≡ reads now.text.now now.mode parts rest (position next))
+    → GoesOn initial next opened all (reads_in initial left rest)
+remains-goes-on initial now next opened all left g rest h same alike known =
+    let there : (text : List ℕ) (mode : Mode) → now.text.now ≡ text → now.mode ≡ mode → (parts : Parts text) → reads text mode parts g (position now) ≡ reads text mode parts rest (position next)
+    = λ text mode t m. subst (λ x. (parts : Parts x) → reads x mode parts g (position now) ≡ reads x mode parts rest (position next)) t (subst (λ y. (parts : Parts now.text.now) → reads now.text.now y parts g (position now) ≡ reads now.text.now y parts rest (position next)) m known) in
+    record {
+      same = (same.0 ∙ h.same.0, same.1 ∙ h.same.1);
+      front = rw alike h.front;
+      within = rw alike h.within;
+      whole = rw (alike, ← there initial.text.now initial.mode h.same.0 h.same.1 (parts_in initial left)) h.whole;
+    }
 
 pub ahead-read : (xs m : List Node) (s t : Position) (o : Outcome (List Node)) → with_front xs o ≡ read m t → ahead_on s o ≡ read [] (record { place = s.place; failed = t.failed })
 ahead-read xs m s t (read ys u) e = let same : u ≡ t = cc in rw same refl

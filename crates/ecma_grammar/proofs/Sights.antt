@@ -1,5 +1,6 @@
 -- What the first byte of the token ahead says of a reading is what the tokens that stand ahead say of it.
-use Rattle.std.proofs.Common.{◌≡◌, ℕ, ◌<◌, ◌≤◌, max, Bool, true, false, nat_eq, List, [], ◌∷◌, get_or, if◌then◌else◌, codes, refl, ap, sym, subst, arith}
+use Rattle.std.proofs.Common.{◌≡◌, ℕ, ◌<◌, ◌≤◌, max, Bool, true, false, ◌||◌, nat_eq, List, [], ◌∷◌, get_or, if◌then◌else◌, codes, refl, ap, sym, subst, arith}
+use Rattle.std.specs.Char.{is_ascii_digit}
 use Rattle.ecma_lex.specs.declared.blanks.Skipped.{Skipped}
 use Rattle.ecma_lex.specs.Blanks.{skipped}
 use Rattle.ecma_lex.specs.Tokens as lex
@@ -8,13 +9,11 @@ use Rattle.ecma_grammar.specs.declared.production.TemplatePart.{TemplatePart}
 use Rattle.ecma_grammar.specs.declared.production.TokenKind.TheVariants as token_kind
 use Rattle.ecma_grammar.specs.declared.production.Leaf.{Leaf}
 use Rattle.ecma_grammar.specs.declared.production.Leaf.TheVariants as leaf
-use Rattle.ecma_grammar.specs.declared.reader.outlook.Outlook.{Outlook}
-use Rattle.ecma_grammar.specs.declared.reader.outlook.Outlook.TheVariants.{Open, Fails, Stays, Passes}
 use Rattle.ecma_grammar.specs.Grammar as grammar
 use Rattle.ecma_grammar.specs.Grammar.{Terminal, the_word, the_punct, any, Grammar}
-use Rattle.ecma_grammar.specs.Outlook.{then_outlook, or_outlook, ahead_outlook, build_outlook, found_outlook, line_outlook, template_outlook, token_outlook, leaf_outlook, outlook}
-use Rattle.ecma_grammar.specs.Glance.{Sight, unknown, fails, passes, rests, stays, begun, only_fails, then_sight, or_sight, template_sight, token_sight, leaf_sight, sight}
-use Rattle.ecma_grammar.proofs.Firsts.{word-off, punct-off, angle-off, template-off}
+use Rattle.ecma_grammar.specs.Outlook.{Outlook, Open, Fails, Stays, Passes, then_outlook, or_outlook, ahead_outlook, build_outlook, found_outlook, line_outlook, template_outlook, kind_outlook, token_outlook, leaf_outlook, outlook}
+use Rattle.ecma_grammar.specs.Glance.{Sight, unknown, fails, passes, rests, stays, begun, only_fails, then_sight, or_sight, template_sight, kind_sight, token_sight, leaf_sight, sight}
+use Rattle.ecma_grammar.proofs.Firsts.{word-off, punct-off, angle-off, template-off, str-off, num-off, big-off}
 
 -- nothing is taken, while terminals fail up to a place, or it fails there
 abbrev pub Light : ℕ → Outlook → Type 0
@@ -98,6 +97,10 @@ if-sees : (to : ℕ) (b : Bool) (o : Outlook) → (b ≡ false → o ≡ Fails t
 if-sees to true o h = tt
 if-sees to false o h = h refl
 
+both-false : (a b : Bool) → (a || b) ≡ false → (a ≡ false) × (b ≡ false)
+both-false true b h = cc
+both-false false b h = (refl, h)
+
 module _ (text : List ℕ) (i byte : ℕ) (is : get_or text (skipped text i).to 0 ≡ byte) (some : 0 < byte) (small : byte < 128) where
   off : (c : ℕ) → nat_eq byte c ≡ false → nat_eq (get_or text (skipped text i).to 0) c ≡ false
   off c h = rw is h
@@ -122,15 +125,34 @@ module _ (text : List ℕ) (i byte : ℕ) (is : get_or text (skipped text i).to 
   template-sees : (part : TemplatePart) → Sees (skipped text i).to (template_sight byte part) (template_outlook text i part)
   template-sees part = if-sees (skipped text i).to (nat_eq byte (if part.first then 96 else 125)) (template_outlook text i part) (λ h. rw (off (if part.first then 96 else 125) h) (template-off text i part.first part.tagged some_byte small_byte (off (if part.first then 96 else 125) h)))
 
+  str-sees : Sees (skipped text i).to (kind_sight byte token_kind.Str) (kind_outlook text i token_kind.Str)
+  str-sees = if-sees (skipped text i).to (nat_eq byte 34 || nat_eq byte 39) (kind_outlook text i token_kind.Str)
+      (λ h. let no34 : nat_eq byte 34 ≡ false = (both-false (nat_eq byte 34) (nat_eq byte 39) h).0 in
+      let no39 : nat_eq byte 39 ≡ false = (both-false (nat_eq byte 34) (nat_eq byte 39) h).1 in
+      rw (off 34 no34, off 39 no39) (str-off text i some_byte small_byte (off 34 no34) (off 39 no39)))
+
+  no_digit : is_ascii_digit byte ≡ false → is_ascii_digit (get_or text (skipped text i).to 0) ≡ false
+  no_digit h = rw is h
+
+  num-sees : Sees (skipped text i).to (kind_sight byte token_kind.Number) (kind_outlook text i token_kind.Number)
+  num-sees = if-sees (skipped text i).to (nat_eq byte 46 || is_ascii_digit byte) (kind_outlook text i token_kind.Number)
+      (λ h. let point : nat_eq byte 46 ≡ false = (both-false (nat_eq byte 46) (is_ascii_digit byte) h).0 in
+      let digit : is_ascii_digit byte ≡ false = (both-false (nat_eq byte 46) (is_ascii_digit byte) h).1 in
+      rw (off 46 point, no_digit digit) (num-off text i some_byte small_byte (off 46 point) (no_digit digit)))
+
+  big-sees : Sees (skipped text i).to (kind_sight byte token_kind.BigInt) (kind_outlook text i token_kind.BigInt)
+  big-sees = if-sees (skipped text i).to (is_ascii_digit byte) (kind_outlook text i token_kind.BigInt)
+      (λ digit. rw (no_digit digit) (big-off text i some_byte (no_digit digit)))
+
   token-sees : (t : Terminal) → Sees (skipped text i).to (token_sight byte t) (token_outlook text i t)
   token-sees (the_word w) = word-sees w
   token-sees (the_punct w) = punct-sees w
   token-sees (any token_kind.Name) = tt
   token-sees (any token_kind.Key) = tt
   token-sees (any token_kind.PrivateName) = tt
-  token-sees (any token_kind.Str) = tt
-  token-sees (any token_kind.Number) = tt
-  token-sees (any token_kind.BigInt) = tt
+  token-sees (any token_kind.Str) = str-sees
+  token-sees (any token_kind.Number) = num-sees
+  token-sees (any token_kind.BigInt) = big-sees
   token-sees (any (token_kind.Template part)) = template-sees part
   token-sees (any token_kind.LeftAngle) = angle-sees 60
   token-sees (any token_kind.RightAngle) = angle-sees 62
@@ -143,9 +165,9 @@ module _ (text : List ℕ) (i byte : ℕ) (is : get_or text (skipped text i).to 
   leaf-sees leaf.ThisIdent = word-sees (codes "this")
   leaf-sees leaf.IdentName = tt
   leaf-sees leaf.PrivateName = tt
-  leaf-sees leaf.Str = tt
-  leaf-sees leaf.Number = tt
-  leaf-sees leaf.BigInt = tt
+  leaf-sees leaf.Str = str-sees
+  leaf-sees leaf.Number = num-sees
+  leaf-sees leaf.BigInt = big-sees
   leaf-sees leaf.Regex = tt
   leaf-sees (leaf.TplElement part) = template-sees part
   leaf-sees leaf.This = word-sees (codes "this")

@@ -25,5 +25,8 @@ name_counts true = omega arith
 name_counts false = omega arith
 
 -- what says less leaves less to read
+pub less-left : (p q : Production) → size (written q) < size (written p) → left_to_read q < left_to_read p
+less-left p q less = omega (arith, less, name_counts (is_name q))
+
 pub says-less : (p q : Production) → size (written q) < size (written p) → left_to_read q ≤ left_to_read p
 says-less p q less = omega (arith, name_counts (is_name q))

@@ -12,6 +12,9 @@ use Rattle.ecma_grammar.specs.declared.machine.Machine.{Machine}
 use Rattle.ecma_grammar.specs.declared.production.Part.{Part}
 use Rattle.ecma_grammar.specs.Reading.{Position, Outcome, read, fails, too_deep, Reading, with_front}
 use Rattle.ecma_grammar.specs.Grammar.{Grammar}
+use Rattle.ecma_grammar.specs.FirstByte.{first_byte}
+use Rattle.ecma_grammar.specs.Glance.{Remains}
+use Rattle.ecma_grammar.specs.Written.{written}
 use Rattle.ecma_grammar.specs.Reads.{Parts, reads, levels}
 
 abbrev pub position : Reader → Position
@@ -63,6 +66,7 @@ abbrev pub Knows : Reader → Reader → Grammar → Known → Type 0
 Knows old new g known.Open = new.failed ≡ old.failed
 Knows old new g known.Fails = (parts : Parts old.text.now) → reads old.text.now old.mode parts g (position old) ≡ fails new.failed
 Knows old new g known.Passes = (parts : Parts old.text.now) → reads old.text.now old.mode parts g (position old) ≡ read [] (position new)
+Knows old new g (known.Remains rest) = Remains (first_byte old.text.now old.place) g (written rest.now) × ((parts : Parts old.text.now) → reads old.text.now old.mode parts g (position old) ≡ reads old.text.now old.mode parts (written rest.now) (position new))
 
 -- what a call that reads a part takes, and what it gives
 abbrev pub PartArgs : Type 0

@@ -1,5 +1,6 @@
 -- What the first byte of the token ahead says of a reading: where none of the tokens that it may begin with begins with that byte, it fails.
-use Rattle.std.specs.Prelude.{◌≡◌, ℕ, List, [], ◌∷◌, if◌then◌else◌, ◌==◌, codes}
+use Rattle.std.specs.Prelude.{◌≡◌, ℕ, Bool, true, false, List, [], ◌∷◌, if◌then◌else◌, ◌==◌, ◌||◌, codes}
+use Rattle.std.specs.Char.{is_ascii_digit}
 use Rattle.ecma_grammar.specs.declared.production.TemplatePart.{TemplatePart}
 use Rattle.ecma_grammar.specs.declared.production.TokenKind.{TokenKind}
 use Rattle.ecma_grammar.specs.declared.production.TokenKind.TheVariants as token_kind
@@ -7,6 +8,7 @@ use Rattle.ecma_grammar.specs.declared.production.Leaf.{Leaf}
 use Rattle.ecma_grammar.specs.declared.production.Leaf.TheVariants as leaf
 use Rattle.ecma_grammar.specs.declared.productions.glances.Glance.{Glance}
 use Rattle.ecma_grammar.specs.declared.productions.glances.Glance.TheVariants as glance
+use Rattle.ecma_grammar.specs.Written.{written}
 use Rattle.ecma_grammar.specs.Grammar as grammar
 use Rattle.ecma_grammar.specs.Grammar.{Terminal, the_word, the_punct, any, Grammar}
 
@@ -59,6 +61,9 @@ module _ (byte : ℕ) where
   kind_sight (token_kind.Template part) = template_sight part
   kind_sight token_kind.LeftAngle = begun byte (60 ∷ [])
   kind_sight token_kind.RightAngle = begun byte (62 ∷ [])
+  kind_sight token_kind.Str = if byte == 34 || byte == 39 then unknown else fails
+  kind_sight token_kind.Number = if byte == 46 || is_ascii_digit byte then unknown else fails
+  kind_sight token_kind.BigInt = if is_ascii_digit byte then unknown else fails
   kind_sight k = unknown
 
   abbrev pub token_sight : Terminal → Sight
@@ -68,6 +73,9 @@ module _ (byte : ℕ) where
 
   abbrev pub leaf_sight : Leaf → Sight
   leaf_sight (leaf.TplElement part) = template_sight part
+  leaf_sight leaf.Str = kind_sight token_kind.Str
+  leaf_sight leaf.Number = kind_sight token_kind.Number
+  leaf_sight leaf.BigInt = kind_sight token_kind.BigInt
   leaf_sight leaf.ThisIdent = begun byte (codes "this")
   leaf_sight leaf.This = begun byte (codes "this")
   leaf_sight leaf.Null = begun byte (codes "null")
@@ -96,8 +104,28 @@ module _ (byte : ℕ) where
   sight (grammar.behind t u) = token_sight t
   sight (grammar.build f a) = only_fails (sight a)
 
+-- a first alternative that fails
+abbrev pub is_failing : Sight → Bool
+is_failing fails = true
+is_failing x = false
+
+module _ (byte : ℕ) where
+  -- a choice whose first alternative fails
+  abbrev pub leads_nowhere : Grammar → Bool
+  leads_nowhere (grammar.◌//◌ a b) = is_failing (sight byte a)
+  leads_nowhere g = false
+
+  -- what remains of a choice behind the first of its alternatives, as far as they fail
+  abbrev pub remainder : Grammar → Grammar
+  remainder (grammar.◌//◌ a b) = if is_failing (sight byte a) then remainder b else grammar.◌//◌ a b
+  remainder g = g
+
+  abbrev pub Remains : Grammar → Grammar → Type 0
+  Remains g rest = (leads_nowhere g ≡ true) × (remainder g ≡ rest)
+
 -- what the code knows is so
-abbrev pub Says : Glance → Sight → Type 0
-Says glance.Open s = Unit {0}
-Says glance.Fails s = s ≡ fails
-Says glance.Passes s = s ≡ passes
+abbrev pub Says : Glance → ℕ → Grammar → Type 0
+Says glance.Open byte g = Unit {0}
+Says glance.Fails byte g = sight byte g ≡ fails
+Says glance.Passes byte g = sight byte g ≡ passes
+Says (glance.Remains rest) byte g = Remains byte g (written rest.now)

@@ -13,11 +13,10 @@ use Rattle.ecma_grammar.specs.declared.failure.Failure.{Failure}
 use Rattle.ecma_grammar.specs.declared.failure.Failure.TheVariants.{NoMatch, TooDeep, NoMemory}
 use Rattle.ecma_grammar.specs.declared.reader.Reader.{Reader}
 use Rattle.ecma_grammar.specs.declared.reader.operands.Operand.{Operand}
-use Rattle.ecma_grammar.specs.declared.reader.outlook.Outlook.TheVariants.{Fails}
 use Rattle.ecma_grammar.specs.Reading.{Position, Outcome, read, fails, too_deep, with_front, followed_on}
 use Rattle.ecma_grammar.specs.Made.{made}
 use Rattle.ecma_grammar.specs.Reads.{Parts, reads, kept_leaf, next_start}
-use Rattle.ecma_grammar.specs.Outlook.{found_outlook, kind_outlook, word_outlook}
+use Rattle.ecma_grammar.specs.Outlook.{Fails, found_outlook, kind_outlook, word_outlook}
 use Rattle.ecma_grammar.specs.FirstByte.{first_byte}
 use Rattle.ecma_grammar.specs.Agreement.{position, kept, SameText}
 use Rattle.ecma_grammar.specs.productions.Tails.{Tail, links_tail, tails}

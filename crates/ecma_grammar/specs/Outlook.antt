@@ -1,5 +1,5 @@
 -- What is known of a reading before it is tried, by the tokens that stand ahead: where these are not what a grammar begins with, it fails.
-use Rattle.std.specs.Prelude.{◌≡◌, ℕ, max, Bool, ◌||◌, List, if◌then◌else◌, ◌==◌, Result, Ok, Err, codes}
+use Rattle.std.specs.Prelude.{◌≡◌, ◌<◌, ℕ, max, Bool, true, ◌||◌, List, if◌then◌else◌, ◌==◌, Result, Ok, Err, Option, Some, None, codes}
 use Rattle.std.specs.Char.{is_ascii_digit}
 use Rattle.ecma_lex.specs.declared.tokens.NoToken.{NoToken}
 use Rattle.ecma_lex.specs.declared.blanks.Skipped.{Skipped}
@@ -13,13 +13,28 @@ use Rattle.ecma_grammar.specs.declared.production.TokenKind.{TokenKind}
 use Rattle.ecma_grammar.specs.declared.production.TokenKind.TheVariants as token_kind
 use Rattle.ecma_grammar.specs.declared.production.Leaf.{Leaf}
 use Rattle.ecma_grammar.specs.declared.production.Leaf.TheVariants as leaf
-use Rattle.ecma_grammar.specs.declared.reader.outlook.Outlook.{Outlook}
-use Rattle.ecma_grammar.specs.declared.reader.outlook.Outlook.TheVariants.{Open, Fails, Stays, Passes}
 use Rattle.ecma_grammar.specs.declared.productions.glances.Glance.{Glance}
 use Rattle.ecma_grammar.specs.declared.productions.glances.Glance.TheVariants as glance
 use Rattle.ecma_grammar.specs.FirstByte.{first_byte}
+use Rattle.ecma_grammar.specs.Glance.{Remains}
+use Rattle.ecma_grammar.specs.Written.{written}
 use Rattle.ecma_grammar.specs.Grammar as grammar
 use Rattle.ecma_grammar.specs.Grammar.{Terminal, the_word, the_punct, any, Grammar}
+
+pub data Outlook : Type 0 where
+  -- nothing is known
+  Open : Outlook
+  -- it fails, as terminals do up to this place
+  Fails : ℕ → Outlook
+  -- something is read and nothing taken, while terminals fail up to this place
+  Stays : ℕ → Outlook
+  -- nothing is read, while terminals fail up to this place
+  Passes : ℕ → Outlook
+
+-- where the code knows that it fails, if it does
+abbrev pub outlook_of : Option ℕ → Outlook
+outlook_of None = Open
+outlook_of (Some at) = Fails at
 
 -- one behind the other
 abbrev pub then_outlook : Outlook → Outlook → Outlook
@@ -141,8 +156,16 @@ module _ (text : List ℕ) (i : ℕ) where
     outlook (grammar.behind t u) = token_outlook t
     outlook (grammar.build f a) = build_outlook (outlook a)
 
--- what is known by the first byte of the token ahead is so, where that token begins at a place
-abbrev pub Tells : Outlook → ℕ → Glance → Type 0
-Tells o to glance.Open = Unit {0}
-Tells o to glance.Fails = o ≡ Fails to
-Tells o to glance.Passes = o ≡ Passes to
+-- where what the first byte says of a grammar is asked for: all TypeScript is read, and that byte is of ASCII
+pub record IsSeen (text : List ℕ) (i : ℕ) (mode : Mode) : Type 0 where
+  pub typescript : mode.typescript ≡ true
+  pub assignments : mode.assignments ≡ true
+  pub some : 0 < first_byte text i
+  pub small : first_byte text i < 128
+
+-- what is known of a grammar by the first byte of the token ahead is so
+abbrev pub Tells : List ℕ → ℕ → Mode → Grammar → Glance → Type 0
+Tells text i mode g glance.Open = Unit {0}
+Tells text i mode g glance.Fails = outlook text i mode g ≡ Fails (skipped text i).to
+Tells text i mode g glance.Passes = outlook text i mode g ≡ Passes (skipped text i).to
+Tells text i mode g (glance.Remains rest) = IsSeen text i mode × Remains (first_byte text i) g (written rest.now)

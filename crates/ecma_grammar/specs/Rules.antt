@@ -7,7 +7,7 @@ use Rattle.ecma_grammar.specs.declared.productions.names.NameRule.TheVariants as
 use Rattle.ecma_grammar.specs.productions.Names.{binding_ident, computed_prop_name, prop_name, class_element_name, prop_start, member_start, module_export_name, block, expression}
 use Rattle.ecma_grammar.specs.declared.productions.types.TypeRule.{TypeRule}
 use Rattle.ecma_grammar.specs.declared.productions.types.TypeRule.TheVariants as type_name
-use Rattle.ecma_grammar.specs.productions.Types.{type_param, type_params, type_args, entity, type_list, return_type, some_annotation, some_return_annotation, parameter_modifier, rest_pattern, default_value, param, params, parenthesized_params, function_type, intersection_type, union_type, array_suffixes, import_type, tuple_element, mapped_type, signature_type, type_member, object_type, template_type, primary_type, after_type_args}
+use Rattle.ecma_grammar.specs.productions.Types.{type_param, type_params, type_args, entity, type_list, return_type, some_annotation, some_return_annotation, parameter_modifier, rest_pattern, default_value, param, params, parenthesized_params, function_type, intersection_type, union_type, array_suffixes, import_type, tuple_element, mapped_type, signature_type, type_member, object_type, template_type, primary_type, type_operator_body, after_type_args}
 use Rattle.ecma_grammar.specs.declared.productions.patterns.PatternRule.{PatternRule}
 use Rattle.ecma_grammar.specs.declared.productions.patterns.PatternRule.TheVariants as pattern_name
 use Rattle.ecma_grammar.specs.productions.Patterns.{pattern_element, array_pattern, pattern_property, object_pattern}
@@ -34,7 +34,7 @@ use Rattle.ecma_grammar.specs.declared.productions.declarations.DeclarationRule.
 use Rattle.ecma_grammar.specs.productions.Declarations.{type_alias, interface, enum_member, enum_rest, enum_, dotted_names, namespace, declaration}
 use Rattle.ecma_grammar.specs.declared.productions.statements.StatementRule.{StatementRule}
 use Rattle.ecma_grammar.specs.declared.productions.statements.StatementRule.TheVariants as statement_name
-use Rattle.ecma_grammar.specs.productions.Statements.{in_parentheses, if_, for_left, for_await, for_rest, for_head, for_, while_, do_while, switch_case, switch, catch_clause, try_, jump, labeled, expression_statement}
+use Rattle.ecma_grammar.specs.productions.Statements.{in_parentheses, if_, for_left, for_await, for_rest, for_head, for_, while_, do_while, switch_case, switch, catch_clause, try_, jump, labeled, expression_statement, statement_body}
 use Rattle.ecma_grammar.specs.declared.productions.modules.ModuleRule.{ModuleRule}
 use Rattle.ecma_grammar.specs.declared.productions.modules.ModuleRule.TheVariants as module_name
 use Rattle.ecma_grammar.specs.productions.Modules.{attributes, from, star, import_specifier, import_specifiers, import_clause, import, require, dotted_keys, import_equals, export_specifier, export_names, export_star_as, export_star, export_default, export, module_item}
@@ -77,6 +77,7 @@ type_rule type_name.TypeMember = type_member
 type_rule type_name.ObjectType = object_type
 type_rule type_name.TemplateType = template_type
 type_rule type_name.PrimaryType = primary_type
+type_rule type_name.TypeOperator = type_operator_body
 type_rule type_name.AfterTypeArgs = after_type_args
 
 abbrev pub pattern_rule : PatternRule → Grammar
@@ -185,6 +186,7 @@ statement_rule statement_name.Try = try_
 statement_rule statement_name.Jump = jump
 statement_rule statement_name.Labeled = labeled
 statement_rule statement_name.ExpressionStatement = expression_statement
+statement_rule statement_name.Statement = statement_body
 
 abbrev pub module_rule : ModuleRule → Grammar
 module_rule module_name.Attributes = attributes

@@ -85,7 +85,7 @@ impl<'f, F: Fn(&mut Reader, Part, u32) -> Result<(), Failure>> Machine<'f, F> {
         'going: loop {
             match rest {
                 Production::Then(first, second) => {
-                    self.read(reader, first)?;
+                    self.read_first(reader, first)?;
                     rest = *second;
                 }
                 Production::Or(first, second) => {
@@ -105,6 +105,7 @@ impl<'f, F: Fn(&mut Reader, Part, u32) -> Result<(), Failure>> Machine<'f, F> {
                 }
                 Production::The(rule) => match reader.known(*rule) {
                     Known::Open => rest = rule_body(*rule),
+                    Known::Remains(remainder) => rest = remainder,
                     Known::Fails => return Err(Failure::NoMatch),
                     Known::Passes => return Ok(reader.close(opened)?),
                 },
@@ -143,6 +144,26 @@ impl<'f, F: Fn(&mut Reader, Part, u32) -> Result<(), Failure>> Machine<'f, F> {
                     return Ok(reader.close(opened)?);
                 }
             }
+        }
+    }
+
+    /// Reads the first of two: what most often is one, a token or a part, is read without the loop.
+    #[tactic(auto, using(crate::proofs::Readings::looking))]
+    #[cycle(reading)]
+    fn read_first(
+        &self,
+        reader: &mut Reader,
+        production: &'static Production,
+    ) -> Result<(), Failure>
+        requires { ReadsParts F.Fn self.now }
+        ensures { Keeps reader.old reader.new result (reads_in reader.old self.now.left (written production.now)) }
+    {
+        match production {
+            Production::Take(terminal) => reader.take_token(*terminal),
+            Production::Keep(leaf) => reader.keep_leaf(*leaf),
+            Production::Put(flag) => Ok(reader.put(*flag)?),
+            Production::Up(part) => (self.part)(reader, *part, reader.place()),
+            _ => self.read(reader, production),
         }
     }
 

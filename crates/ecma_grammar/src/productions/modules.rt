@@ -357,7 +357,13 @@ static EXPORT_BODY: Production = first_of!(
 );
 
 // Item = Import / T ImportEq / Export / Stmt
-static MODULE_ITEM_BODY: Production = first_of!(IMPORT, IMPORT_EQUALS, EXPORT, STATEMENT);
+static MODULE_ITEM_BODY: Production = first_of!(IMPORT, FROM_IMPORT_EQUALS);
+
+const FROM_IMPORT_EQUALS: Production = first_of!(IMPORT_EQUALS, EXPORT, STATEMENT);
+
+pub(super) static FROM_IMPORT_EQUALS_BODY: Production = FROM_IMPORT_EQUALS;
+
+pub(super) static STATEMENT_ITEM_BODY: Production = STATEMENT;
 
 // NsBody = '{' Item* '}'
 pub(super) static NAMESPACE_BLOCK: Production = node!(

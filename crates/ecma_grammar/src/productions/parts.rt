@@ -138,13 +138,13 @@ pub(crate) fn part_body(part: Part) -> &'static Production
     ensures { written result.now ≡ part_body part }
 {
     match part {
-        Part::Statement => &STATEMENT_BODY,
+        Part::Statement => &STATEMENT_PART,
         Part::NamespaceBody => &NAMESPACE_BLOCK,
         Part::Declared => &DECLARED_BODY,
         Part::Assign { no_in, middle } => assign_part(no_in, middle),
         Part::Pattern => &PATTERN_BODY,
         Part::Type => &TYPE_BODY,
-        Part::TypeOperator => &TYPE_OPERATOR_BODY,
+        Part::TypeOperator => &TYPE_OPERATOR_PART,
         Part::ArraySuffix => &ARRAY_SUFFIX_BODY,
         Part::Operand => operator_rule(OperatorRule::Operand),
         Part::Assertion => &ASSERTION_BODY,

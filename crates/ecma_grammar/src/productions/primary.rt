@@ -121,14 +121,8 @@ static CLASS_EXPRESSION_BODY: Production = Build(
     &Behind(Terminal::Word("class"), Part::Class { named: false }),
 );
 
-// Primary
-static PRIMARY_BODY: Production = first_of!(
-    FUNCTION_EXPRESSION,
-    CLASS_EXPRESSION,
-    Keep(Leaf::This),
-    Keep(Leaf::Null),
-    Keep(Leaf::True),
-    Keep(Leaf::False),
+// Primary, from each of its alternatives on with which it may begin
+const FROM_NAME: Production = first_of!(
     IDENT,
     Keep(Leaf::Number),
     Keep(Leaf::BigInt),
@@ -139,3 +133,22 @@ static PRIMARY_BODY: Production = first_of!(
     OBJECT,
     PARENTHESIZED
 );
+
+const FROM_TRUE: Production = first_of!(Keep(Leaf::True), Keep(Leaf::False), FROM_NAME);
+
+const FROM_NULL: Production = first_of!(Keep(Leaf::Null), FROM_TRUE);
+
+const FROM_THIS: Production = first_of!(Keep(Leaf::This), FROM_NULL);
+
+const FROM_CLASS: Production = first_of!(CLASS_EXPRESSION, FROM_THIS);
+
+// Primary
+static PRIMARY_BODY: Production = first_of!(FUNCTION_EXPRESSION, FROM_CLASS);
+
+pub(super) static FROM_NAME_BODY: Production = FROM_NAME;
+
+pub(super) static FROM_NULL_BODY: Production = FROM_NULL;
+
+pub(super) static FROM_THIS_BODY: Production = FROM_THIS;
+
+pub(super) static FROM_CLASS_BODY: Production = FROM_CLASS;

@@ -24,10 +24,11 @@ pub enum StatementRule {
     Jump,
     Labeled,
     ExpressionStatement,
+    Statement,
 }
 
 /// The production of a name.
-#[tactic(auto, unfolding(crate::specs::productions::Statements::in_parentheses, crate::specs::productions::Statements::if_, crate::specs::productions::Statements::for_left, crate::specs::productions::Statements::for_await, crate::specs::productions::Statements::for_rest, crate::specs::productions::Statements::for_head, crate::specs::productions::Statements::for_, crate::specs::productions::Statements::while_, crate::specs::productions::Statements::do_while, crate::specs::productions::Statements::switch_case, crate::specs::productions::Statements::switch, crate::specs::productions::Statements::catch_clause, crate::specs::productions::Statements::try_, crate::specs::productions::Statements::jump, crate::specs::productions::Statements::labeled, crate::specs::productions::Statements::expression_statement))]
+#[tactic(auto, unfolding(crate::specs::productions::Statements::in_parentheses, crate::specs::productions::Statements::if_, crate::specs::productions::Statements::for_left, crate::specs::productions::Statements::for_await, crate::specs::productions::Statements::for_rest, crate::specs::productions::Statements::for_head, crate::specs::productions::Statements::for_, crate::specs::productions::Statements::while_, crate::specs::productions::Statements::do_while, crate::specs::productions::Statements::switch_case, crate::specs::productions::Statements::switch, crate::specs::productions::Statements::catch_clause, crate::specs::productions::Statements::try_, crate::specs::productions::Statements::jump, crate::specs::productions::Statements::labeled, crate::specs::productions::Statements::expression_statement, crate::specs::productions::Statements::statement_body))]
 pub(super) fn statement_rule(rule: StatementRule) -> &'static Production
     ensures says { written result.now ≡ statement_rule rule }
     ensures unnamed { is_name result.now ≡ false }
@@ -49,6 +50,7 @@ pub(super) fn statement_rule(rule: StatementRule) -> &'static Production
         StatementRule::Jump => &JUMP_BODY,
         StatementRule::Labeled => &LABELED_BODY,
         StatementRule::ExpressionStatement => &EXPRESSION_STATEMENT_BODY,
+        StatementRule::Statement => &STATEMENT_BODY,
     }
 }
 
@@ -258,19 +260,44 @@ static EXPRESSION_STATEMENT_BODY: Production = node!(
     )
 );
 
+// Stmt, from each of its alternatives on with which it may begin
+const FROM_LABELED: Production = first_of!(LABELED, DECLARATION, EXPRESSION_STATEMENT);
+
+const FROM_JUMP: Production = first_of!(JUMP, FROM_LABELED);
+
+const FROM_TRY: Production = first_of!(TRY_, FROM_JUMP);
+
+const FROM_SWITCH: Production = first_of!(SWITCH, FROM_TRY);
+
+const FROM_DO_WHILE: Production = first_of!(DO_WHILE, FROM_SWITCH);
+
+const FROM_WHILE: Production = first_of!(WHILE_, FROM_DO_WHILE);
+
+const FROM_FOR: Production = first_of!(FOR_AWAIT, FOR_, FROM_WHILE);
+
+const FROM_IF: Production = first_of!(IF_, FROM_FOR);
+
+const FROM_EMPTY: Production = first_of!(node!(Plain::EmptyStmt, punct!(";")), FROM_IF);
+
 // Stmt
-pub(super) static STATEMENT_BODY: Production = first_of!(
-    BLOCK,
-    node!(Plain::EmptyStmt, punct!(";")),
-    IF_,
-    FOR_AWAIT,
-    FOR_,
-    WHILE_,
-    DO_WHILE,
-    SWITCH,
-    TRY_,
-    JUMP,
-    LABELED,
-    DECLARATION,
-    EXPRESSION_STATEMENT
-);
+static STATEMENT_BODY: Production = first_of!(BLOCK, FROM_EMPTY);
+
+pub(super) static FROM_LABELED_BODY: Production = FROM_LABELED;
+
+pub(super) static FROM_JUMP_BODY: Production = FROM_JUMP;
+
+pub(super) static FROM_TRY_BODY: Production = FROM_TRY;
+
+pub(super) static FROM_SWITCH_BODY: Production = FROM_SWITCH;
+
+pub(super) static FROM_DO_WHILE_BODY: Production = FROM_DO_WHILE;
+
+pub(super) static FROM_WHILE_BODY: Production = FROM_WHILE;
+
+pub(super) static FROM_FOR_BODY: Production = FROM_FOR;
+
+pub(super) static FROM_IF_BODY: Production = FROM_IF;
+
+pub(super) static FROM_EMPTY_BODY: Production = FROM_EMPTY;
+
+pub(super) static STATEMENT_PART: Production = The(Rule::Statement(StatementRule::Statement));

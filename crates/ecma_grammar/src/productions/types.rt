@@ -34,11 +34,12 @@ pub enum TypeRule {
     ObjectType,
     TemplateType,
     PrimaryType,
+    TypeOperator,
     AfterTypeArgs,
 }
 
 /// The production of a name.
-#[tactic(auto, unfolding(crate::specs::productions::Types::type_param, crate::specs::productions::Types::type_params, crate::specs::productions::Types::type_args, crate::specs::productions::Types::entity, crate::specs::productions::Types::type_list, crate::specs::productions::Types::return_type, crate::specs::productions::Types::some_annotation, crate::specs::productions::Types::some_return_annotation, crate::specs::productions::Types::parameter_modifier, crate::specs::productions::Types::rest_pattern, crate::specs::productions::Types::default_value, crate::specs::productions::Types::param, crate::specs::productions::Types::params, crate::specs::productions::Types::parenthesized_params, crate::specs::productions::Types::function_type, crate::specs::productions::Types::intersection_type, crate::specs::productions::Types::union_type, crate::specs::productions::Types::array_suffixes, crate::specs::productions::Types::import_type, crate::specs::productions::Types::tuple_element, crate::specs::productions::Types::mapped_type, crate::specs::productions::Types::signature_type, crate::specs::productions::Types::type_member, crate::specs::productions::Types::object_type, crate::specs::productions::Types::template_type, crate::specs::productions::Types::primary_type, crate::specs::productions::Types::after_type_args))]
+#[tactic(auto, unfolding(crate::specs::productions::Types::type_param, crate::specs::productions::Types::type_params, crate::specs::productions::Types::type_args, crate::specs::productions::Types::entity, crate::specs::productions::Types::type_list, crate::specs::productions::Types::return_type, crate::specs::productions::Types::some_annotation, crate::specs::productions::Types::some_return_annotation, crate::specs::productions::Types::parameter_modifier, crate::specs::productions::Types::rest_pattern, crate::specs::productions::Types::default_value, crate::specs::productions::Types::param, crate::specs::productions::Types::params, crate::specs::productions::Types::parenthesized_params, crate::specs::productions::Types::function_type, crate::specs::productions::Types::intersection_type, crate::specs::productions::Types::union_type, crate::specs::productions::Types::array_suffixes, crate::specs::productions::Types::import_type, crate::specs::productions::Types::tuple_element, crate::specs::productions::Types::mapped_type, crate::specs::productions::Types::signature_type, crate::specs::productions::Types::type_member, crate::specs::productions::Types::object_type, crate::specs::productions::Types::template_type, crate::specs::productions::Types::primary_type, crate::specs::productions::Types::type_operator_body, crate::specs::productions::Types::after_type_args))]
 pub(super) fn type_rule(rule: TypeRule) -> &'static Production
     ensures says { written result.now ≡ type_rule rule }
     ensures unnamed { is_name result.now ≡ false }
@@ -70,6 +71,7 @@ pub(super) fn type_rule(rule: TypeRule) -> &'static Production
         TypeRule::ObjectType => &OBJECT_TYPE_BODY,
         TypeRule::TemplateType => &TEMPLATE_TYPE_BODY,
         TypeRule::PrimaryType => &PRIMARY_TYPE_BODY,
+        TypeRule::TypeOperator => &TYPE_OPERATOR_BODY,
         TypeRule::AfterTypeArgs => &AFTER_TYPE_ARGS_BODY,
     }
 }
@@ -454,30 +456,76 @@ static TEMPLATE_TYPE_BODY: Production = first_of!(
 // TPrim
 static PRIMARY_TYPE_BODY: Production = first_of!(
     all!(punct!("("), TYPE_, punct!(")")),
+    FROM_TUPLE_TYPE
+);
+
+// the same, from each of its alternatives on with which it may begin
+const FROM_TUPLE_TYPE: Production = first_of!(
     all!(punct!("["), commas!(TUPLE_ELEMENT), punct!("]")),
-    MAPPED_TYPE,
-    OBJECT_TYPE,
-    TEMPLATE_TYPE,
-    token!(TokenKind::Str),
+    FROM_OBJECT_TYPE
+);
+
+const FROM_OBJECT_TYPE: Production = first_of!(MAPPED_TYPE, OBJECT_TYPE, FROM_TEMPLATE_TYPE);
+
+const FROM_TEMPLATE_TYPE: Production = first_of!(TEMPLATE_TYPE, FROM_STRING_TYPE);
+
+const FROM_STRING_TYPE: Production = first_of!(token!(TokenKind::Str), FROM_NUMBER_TYPE);
+
+const FROM_NUMBER_TYPE: Production = first_of!(
     all!(
         optional!(punct!("-")),
         first_of!(token!(TokenKind::Number), token!(TokenKind::BigInt))
     ),
-    word!("void"),
-    word!("null"),
-    word!("true"),
-    word!("false"),
-    all!(word!("typeof"), first_of!(IMPORT_TYPE, TYPE_REFERENCE)),
-    IMPORT_TYPE,
-    TYPE_REFERENCE
+    FROM_VOID_TYPE
 );
 
+const FROM_VOID_TYPE: Production = first_of!(word!("void"), FROM_NULL_TYPE);
+
+const FROM_NULL_TYPE: Production = first_of!(word!("null"), FROM_TRUE_TYPE);
+
+const FROM_TRUE_TYPE: Production = first_of!(word!("true"), FROM_FALSE_TYPE);
+
+const FROM_FALSE_TYPE: Production = first_of!(word!("false"), FROM_TYPE_QUERY);
+
+const FROM_TYPE_QUERY: Production = first_of!(
+    all!(word!("typeof"), first_of!(IMPORT_TYPE, TYPE_REFERENCE)),
+    FROM_IMPORT_TYPE
+);
+
+const FROM_IMPORT_TYPE: Production = first_of!(IMPORT_TYPE, TYPE_REFERENCE);
+
+pub(super) static FROM_TUPLE_TYPE_BODY: Production = FROM_TUPLE_TYPE;
+
+pub(super) static FROM_OBJECT_TYPE_BODY: Production = FROM_OBJECT_TYPE;
+
+pub(super) static FROM_TEMPLATE_TYPE_BODY: Production = FROM_TEMPLATE_TYPE;
+
+pub(super) static FROM_STRING_TYPE_BODY: Production = FROM_STRING_TYPE;
+
+pub(super) static FROM_NUMBER_TYPE_BODY: Production = FROM_NUMBER_TYPE;
+
+pub(super) static FROM_VOID_TYPE_BODY: Production = FROM_VOID_TYPE;
+
+pub(super) static FROM_NULL_TYPE_BODY: Production = FROM_NULL_TYPE;
+
+pub(super) static FROM_TRUE_TYPE_BODY: Production = FROM_TRUE_TYPE;
+
+pub(super) static FROM_FALSE_TYPE_BODY: Production = FROM_FALSE_TYPE;
+
+pub(super) static FROM_IMPORT_TYPE_BODY: Production = FROM_IMPORT_TYPE;
+
+pub(super) static TYPE_REFERENCE_BODY: Production = TYPE_REFERENCE;
+
 // TOp = ('keyof' / 'unique' / 'readonly') TOp / 'infer' Name (~'extends' TBase !'?')? / TPrim (~'[' Type? ']')*
-pub(super) static TYPE_OPERATOR_BODY: Production = first_of!(
+static TYPE_OPERATOR_BODY: Production = first_of!(
     all!(
         first_of!(word!("keyof"), word!("unique"), word!("readonly")),
         Up(Part::TypeOperator)
     ),
+    FROM_INFER
+);
+
+const FROM_INFER: Production = first_of!(
     all!(
         word!("infer"),
         A_NAME,
@@ -488,8 +536,16 @@ pub(super) static TYPE_OPERATOR_BODY: Production = first_of!(
             Unless(&punct!("?"))
         ))
     ),
-    all!(PRIMARY_TYPE, ARRAY_SUFFIXES)
+    SUFFIXED_TYPE
 );
+
+const SUFFIXED_TYPE: Production = all!(PRIMARY_TYPE, ARRAY_SUFFIXES);
+
+pub(super) static FROM_INFER_BODY: Production = FROM_INFER;
+
+pub(super) static SUFFIXED_TYPE_BODY: Production = SUFFIXED_TYPE;
+
+pub(super) static TYPE_OPERATOR_PART: Production = The(Rule::Type(TypeRule::TypeOperator));
 
 // After: what may stand behind type arguments in an expression
 static AFTER_TYPE_ARGS_BODY: Production = Ahead(&first_of!(

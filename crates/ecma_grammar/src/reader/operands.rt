@@ -4,7 +4,6 @@ ghost use Rattle.std.specs.Prelude.{◌≡◌, IsTrue};
 ghost use Rattle.ecma_grammar.specs.Operands.{OpensLeaf, is_quiet};
 
 use super::Reader;
-use super::outlook::Outlook;
 use crate::failure::Failure;
 use crate::production::{Leaf, TokenKind};
 use ecma_tree::NoMemory;
@@ -41,7 +40,7 @@ impl Reader<'_> {
     ghost use Rattle.std.specs.Prelude.{◌≡◌, ◌≤◌, IfSome, IfOk, IsTrue, codes, length, take};
     ghost use Rattle.ecma_lex.specs.Blanks.{skipped};
     ghost use Rattle.ecma_lex.specs.Tokens.{punct};
-    ghost use Rattle.ecma_grammar.specs.declared.reader.outlook.Outlook.TheVariants.{Fails};
+    ghost use Rattle.ecma_grammar.specs.Outlook.{Fails};
     ghost use Rattle.ecma_grammar.specs.declared.production.Leaf.TheVariants as Leaf;
     ghost use Rattle.ecma_grammar.specs.declared.production.TokenKind.TheVariants as TokenKind;
     ghost use Rattle.ecma_grammar.specs.Outlook.{found_outlook};
@@ -53,9 +52,9 @@ impl Reader<'_> {
         requires { self.now.ahead.place ≡ self.now.place }
         ensures { IsTrue result → MissesWord self.now.text.now self.now.place word.now }
     {
-        match self.word_outlook(word) {
-            Outlook::Fails(at) => at == self.ahead.skipped().to,
-            _ => false,
+        match self.word_failure(word) {
+            Some(at) => at == self.ahead.skipped().to,
+            None => false,
         }
     }
 
@@ -64,9 +63,9 @@ impl Reader<'_> {
         requires { self.now.ahead.place ≡ self.now.place }
         ensures { IsTrue result → Misses self.now.text.now self.now.place kind }
     {
-        match self.kind_outlook(kind) {
-            Outlook::Fails(at) => at == self.ahead.skipped().to,
-            _ => false,
+        match self.kind_failure(kind) {
+            Some(at) => at == self.ahead.skipped().to,
+            None => false,
         }
     }
 
@@ -181,9 +180,9 @@ impl Reader<'_> {
         requires { self.now.ahead.place ≡ self.now.place }
         ensures { IsTrue result → found_outlook (punct self.now.text.now self.now.place (codes "=>")) ≡ Fails (skipped self.now.text.now self.now.place).to }
     {
-        match self.punct_outlook("=>") {
-            Outlook::Fails(at) => at == self.ahead.skipped().to,
-            _ => false,
+        match self.punct_failure("=>") {
+            Some(at) => at == self.ahead.skipped().to,
+            None => false,
         }
     }
 

@@ -8,6 +8,9 @@ use Rattle.ecma_grammar.proofs.machine.Machine.+reading.Given as goal
 abbrev pub decreases-read : goal.decreases-read
 decreases-read g l = left_to_read l.production.now * 4 + 2
 
+abbrev pub decreases-read_first : goal.decreases-read_first
+decreases-read_first g l = left_to_read l.production.now * 4 + 3
+
 abbrev pub decreases-read_last : goal.decreases-read_last
 decreases-read_last g l = left_to_read l.production.now * 4 + 1
 
