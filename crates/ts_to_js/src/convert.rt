@@ -21,13 +21,18 @@ use ecma_text::read_module;
 use ecma_tree::{Module, NoMemory, PassError, Session};
 use ecma_written_laws::written_modules_do_what_their_sources_do;
 use std::alloc::Global;
+use std::mem::ManuallyDrop;
 
 /// How many bytes a module may have.
 pub const LIMIT: usize = 4_194_304;
 
-/// What is asked of a conversion beside the module. There is nothing to choose yet.
+/// What is asked of a conversion beside the module. It changes nothing in what is answered.
 #[derive(Clone, Copy, Debug, PartialEq, Eq)]
-pub struct Options {}
+pub struct Options {
+    /// Whether the program ends behind the conversion: then the memory of the tree is left to the system, which takes all of it at once. Else
+    /// the tree is let go of, node by node.
+    pub program_ends: bool,
+}
 
 /// Converts the bytes of a TypeScript module to those of a JavaScript module.
 pub fn ts_to_js(
@@ -46,10 +51,15 @@ pub fn ts_to_js(
     ensures session { OnOk result (HasDrawn session.old.left session.new.left src.now) }
 {
     written_modules_do_what_their_sources_do();
-    convert_bytes(alloc, session, src)
+    convert_bytes(alloc, session, src, options)
 }
 
-fn convert_bytes(alloc: Global, session: &mut Session, src: &[u8]) -> Result<Vec<u8>, TsError>
+fn convert_bytes(
+    alloc: Global,
+    session: &mut Session,
+    src: &[u8],
+    options: &Options,
+) -> Result<Vec<u8>, TsError>
     ensures text { AnswersBy result (IsConverted session.old.left src.now) }
     ensures session { OnOk result (HasDrawn session.old.left session.new.left src.now) }
 {
@@ -58,7 +68,7 @@ fn convert_bytes(alloc: Global, session: &mut Session, src: &[u8]) -> Result<Vec
     }
     match decoded(src) {
         None => Err(TsError::NotUtf8),
-        Some(text) => convert_text(alloc, session, text),
+        Some(text) => convert_text(alloc, session, text, options),
     }
 }
 
@@ -73,23 +83,33 @@ pub fn decoded(src: &[u8]) -> Option<&str>
     }
 }
 
-fn convert_text(alloc: Global, session: &mut Session, text: &str) -> Result<Vec<u8>, TsError>
+fn convert_text(
+    alloc: Global,
+    session: &mut Session,
+    text: &str,
+    options: &Options,
+) -> Result<Vec<u8>, TsError>
     requires { length text.now ≤ LIMIT }
     ensures text { AnswersBy result (ComesOfReading session.old.left (reads_as text.now typescript deepest)) }
     ensures session { OnOk result (HasDrawn session.old.left session.new.left text.now) }
 {
     let tree = read_module(alloc, text)?;
-    convert_tree(alloc, session, tree)
+    convert_tree(alloc, session, tree, options)
 }
 
 /// Converts a tree that was read, if nothing refuses it.
-fn convert_tree(alloc: Global, session: &mut Session, tree: Module) -> Result<Vec<u8>, TsError>
+fn convert_tree(
+    alloc: Global,
+    session: &mut Session,
+    tree: Module,
+    options: &Options,
+) -> Result<Vec<u8>, TsError>
     requires { HasSort sort.Module tree }
     ensures text { AnswersBy result (ComesOf session.old.left (refused session.old.left tree) tree) }
     ensures session { OnOk result (HasGivenFor session.old.left session.new.left tree) }
 {
     accept(alloc, session, &tree)?;
-    convert_accepted(alloc, session, tree)
+    convert_accepted(alloc, session, tree, options)
 }
 
 /// Whether each form of a tree is taken, contexts enough are left, and no name is declared again; else the first of these that fails.
@@ -108,15 +128,34 @@ fn accept(alloc: Global, session: &Session, tree: &Module) -> Result<(), TsError
 }
 
 /// Converts a tree that nothing refuses.
-fn convert_accepted(alloc: Global, session: &mut Session, tree: Module) -> Result<Vec<u8>, TsError>
+fn convert_accepted(
+    alloc: Global,
+    session: &mut Session,
+    tree: Module,
+    options: &Options,
+) -> Result<Vec<u8>, TsError>
     requires sorted { HasSort sort.Module tree }
     requires accepted { refused session.old.left tree ≡ None }
     ensures text { AnswersBy result (ComesOf session.old.left None tree) }
     ensures session { OnOk result (HasGivenFor session.old.left session.new.left tree) }
 {
+    if options.program_ends {
+        let mut left = ManuallyDrop::new(tree);
+        return written(alloc, session, &mut left);
+    }
     let mut tree = tree;
-    finish(alloc, session, &mut tree)?;
-    Ok(print_module(alloc, &tree)?)
+    written(alloc, session, &mut tree)
+}
+
+/// The text of what a tree that nothing refuses becomes.
+fn written(alloc: Global, session: &mut Session, tree: &mut Module) -> Result<Vec<u8>, TsError>
+    requires sorted { HasSort sort.Module tree.old }
+    requires accepted { refused session.old.left tree.old ≡ None }
+    ensures text { AnswersBy result (ComesOf session.old.left None tree.old) }
+    ensures session { OnOk result (HasGivenFor session.old.left session.new.left tree.old) }
+{
+    finish(alloc, session, tree)?;
+    Ok(print_module(alloc, tree)?)
 }
 
 /// Binds names with types round them, gives the tree its bindings, takes its types out, and gives the bindings their final texts.

@@ -106,7 +106,8 @@ fn convert<O: Sink, E: Sink>(alloc: Global, src: &[u8], out: &mut O, err: &mut E
         (seen E.taken E.faults E.calls err.old) (seen E.taken E.faults E.calls err.new) }
 {
     let mut session = Session::new(u32::MAX);
-    let answer = ts_to_js(alloc, &mut session, src, &Options {});
+    let options = Options { program_ends: true };
+    let answer = ts_to_js(alloc, &mut session, src, &options);
     tell(answer, out, err)
 }
 

@@ -241,7 +241,10 @@ fn modules_of_all_forms_are_converted_or_refused(rt: HostRuntime) -> Result<(), 
 /// A session with so many marks left, and what comes of a module then.
 fn spent(alloc: Global, left: u32) -> bool {
     let mut session = ecma_tree::Session::new(left);
-    let answer = ts_to_js(alloc, &mut session, b"let x: number = f(1);", &Options {});
+    let options = Options {
+        program_ends: false,
+    };
+    let answer = ts_to_js(alloc, &mut session, b"let x: number = f(1);", &options);
     matches!(answer, Err(TsError::Spent))
 }
 
