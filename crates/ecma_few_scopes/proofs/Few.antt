@@ -2,7 +2,7 @@
 use Rattle.std.proofs.Common.{◌≡◌, ◌≤◌, ℕ, ◌+◌, ◌*◌, List, [], ◌∷◌, length, Option, Some, None, Result, Ok, Err, refl, ap, arith}
 use Rattle.std.specs.Str.{IsUtf8}
 use Rattle.ecma_tree.specs.declared.node.Node.{Node}
-use Rattle.ecma_grammar.specs.declared.modules.RawError.{RawError}
+use Rattle.ecma_grammar.specs.declared.error.RawError.{RawError}
 use Rattle.ecma_grammar.specs.declared.production.Mode.{Mode}
 use Rattle.ecma_grammar.specs.Modules as grammar
 use Rattle.ecma_grammar.specs.Modules.{reads_module}
@@ -11,7 +11,7 @@ use Rattle.ecma_grammar.specs.trees.Others.{the_one}
 use Rattle.ecma_grammar.specs.trees.Parts.{framed}
 use Rattle.ecma_rules.specs.Finishing.{finished}
 use Rattle.ecma_rules.specs.Rules.{first_broken}
-use Rattle.ecma_text.specs.Modules.{answer_by, kept_by, reads_as}
+use Rattle.ecma_modules.specs.Modules.{answer_by, kept_by, reads_as}
 use Rattle.ecma_few_scopes.specs.Few.{NeededIsBoundedByTheText}
 use Rattle.ecma_few_scopes.proofs.Weights.{weight, weights, worth}
 use Rattle.ecma_few_scopes.proofs.Chains.{framed_weighs}

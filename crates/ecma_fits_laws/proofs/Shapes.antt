@@ -16,7 +16,7 @@ use Rattle.ecma_rules.specs.Failing.{failing_here, failing_step, first_failing, 
 use Rattle.ecma_rules.specs.Members.{is_constructor_key, is_method, is_misfit, is_special_by, is_special_constructor, is_special_function, is_stray_property, misplaces_this}
 use Rattle.ecma_rules.specs.Rules.{fails_list, fails_member, fails_statement}
 use Rattle.ecma_rules.proofs.Layers.{from_leaves-roll}
-use Rattle.ecma_text.specs.Modules.{reads_as}
+use Rattle.ecma_modules.specs.Modules.{reads_as}
 use Rattle.ecma_fits.specs.declared.unfit.Where.{Where}
 use Rattle.ecma_fits.specs.Branches.{is_choice as is_choice_kind, is_dangling, takes_else}
 use Rattle.ecma_fits.specs.Chains.{is_behind_chain, is_loose, is_loose_by}

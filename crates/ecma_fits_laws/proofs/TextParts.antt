@@ -15,7 +15,7 @@ use Rattle.ecma_rules.specs.Failing.{failing_here, failing_step, first_failing, 
 use Rattle.ecma_rules.specs.Finishing.{binding, default_by, each_in, element_by, finished_at, finished_by, left_by, name_by, part_by, property_by, with_type}
 use Rattle.ecma_rules.specs.Targets.{is_plain, target_in}
 use Rattle.ecma_rules.proofs.Layers.{from_leaves-roll}
-use Rattle.ecma_text.specs.Modules.{reads_as}
+use Rattle.ecma_modules.specs.Modules.{reads_as}
 use Rattle.ecma_fits.specs.declared.role.Role.{Role}
 use Rattle.ecma_fits.specs.declared.role.Role.TheVariants as role
 use Rattle.ecma_fits.specs.declared.unfit.Where.{Where}

@@ -4,7 +4,7 @@ use Rattle.std.specs.Str.{IsUtf8}
 use Rattle.ecma_tree.specs.declared.node.Node.{Node}
 use Rattle.ecma_grammar.specs.declared.production.Mode.{Mode}
 use Rattle.ecma_rules.specs.Jumps.{first_stray}
-use Rattle.ecma_text.specs.Modules.{reads_as}
+use Rattle.ecma_modules.specs.Modules.{reads_as}
 use Rattle.ecma_fits.specs.Fitting.{breaks_rule}
 use Rattle.ecma_fits_laws.specs.Clauses.{NoneFails, has_second_constructor, is_misspelled}
 

@@ -1,14 +1,2 @@
-pub mod Firsts
-pub mod Frames
 pub mod Glances
-pub mod Heads
-pub mod Levels
-pub mod Namespaces
-pub mod Operands
-pub mod Outlooks
-pub mod Readings
-pub mod Remainders
-pub mod Sights
-pub mod Sizes
 pub mod Steps
-pub mod Tails

@@ -7,10 +7,5 @@ pub mod Reading
 pub mod trees
 pub mod Made
 pub mod Reads
-pub mod Opening
-pub mod FirstByte
-pub mod Outlook
 pub mod Glance
-pub mod Agreement
-pub mod Operands
 pub mod Modules

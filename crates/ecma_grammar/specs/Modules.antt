@@ -1,10 +1,8 @@
 -- The reading of a whole text by the grammar alone.
 use Rattle.std.specs.Prelude.{◌≡◌, ℕ, List, Result, Ok, Err}
 use Rattle.ecma_tree.specs.declared.node.Node.{Node}
-use Rattle.ecma_grammar.specs.declared.failure.Failure.{Failure}
-use Rattle.ecma_grammar.specs.declared.failure.Failure.TheVariants as failure
-use Rattle.ecma_grammar.specs.declared.modules.RawError.{RawError}
-use Rattle.ecma_grammar.specs.declared.modules.RawError.TheVariants as error
+use Rattle.ecma_grammar.specs.declared.error.RawError.{RawError}
+use Rattle.ecma_grammar.specs.declared.error.RawError.TheVariants as error
 use Rattle.ecma_grammar.specs.declared.production.Mode.{Mode}
 use Rattle.ecma_grammar.specs.Reading.{Outcome, read, fails, too_deep}
 use Rattle.ecma_grammar.specs.trees.Parts.{framed}
@@ -15,12 +13,6 @@ use Rattle.ecma_grammar.specs.Reads.{reads, levels}
 -- a text as a module, with at most so many levels
 abbrev pub reads_module : List ℕ → Mode → ℕ → Outcome (List Node)
 reads_module text mode bound = reads text mode (levels text mode bound) module_body (record { place = 0; failed = 0 })
-
--- why a text was not read, where terminals failed up to a place
-abbrev pub reason_of : Failure → ℕ → RawError
-reason_of failure.NoMatch failed = error.Syntax failed
-reason_of (failure.TooDeep at) failed = error.TooDeep at
-reason_of failure.NoMemory failed = error.NoMemory
 
 -- the tree, or why there is none
 abbrev pub answer_of : Outcome (List Node) → Result Node RawError

@@ -38,27 +38,27 @@ pub use expressions::ExpressionRule;
 use expressions::*;
 pub use functions::FunctionRule;
 use functions::*;
-pub(crate) use glances::{Glance, rule_glance};
+pub use glances::{Glance, rule_glance};
 pub use modules::ModuleRule;
 use modules::*;
 pub use names::NameRule;
 use names::*;
 pub use operators::OperatorRule;
 use operators::*;
-pub(crate) use parts::{module_body, part_body};
+pub use parts::{module_body, part_body};
 pub use patterns::PatternRule;
 use patterns::*;
 pub use primary::PrimaryRule;
 use primary::*;
 pub use statements::StatementRule;
 use statements::*;
-pub(crate) use tails::{Tail, links_tail, tails};
+pub use tails::{Tail, links_tail, operator_tails};
 pub use types::TypeRule;
 use types::*;
 use words::*;
 
 /// The production of a name.
-pub(crate) fn rule_body(rule: Rule) -> &'static Production
+pub fn rule_body(rule: Rule) -> &'static Production
     ensures says { written result.now ≡ rule_grammar rule }
     ensures unnamed { is_name result.now ≡ false }
 {

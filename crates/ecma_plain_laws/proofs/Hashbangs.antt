@@ -19,7 +19,7 @@ use Rattle.ecma_grammar.specs.Reads.{kept_leaf, leaf_node, levels, next_start, r
 use Rattle.ecma_grammar.specs.productions.Modules.{module_body, module_item}
 use Rattle.ecma_grammar.specs.trees.Others.{text_of}
 use Rattle.ecma_grammar.specs.trees.Parts.{flag_node, from_to, kind_of}
-use Rattle.ecma_text.specs.Modules.{reads_as}
+use Rattle.ecma_modules.specs.Modules.{reads_as}
 use Rattle.ecma_spelling.specs.Everywhere.{Everywhere}
 use Rattle.ecma_spelling.proofs.Leaves.{Holds, holds_read, holds_then}
 use Rattle.ecma_spelling.proofs.Trees.{kind_good, kind_made}

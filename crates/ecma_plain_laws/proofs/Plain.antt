@@ -11,7 +11,7 @@ use Rattle.ecma_grammar.specs.Modules as grammar
 use Rattle.ecma_grammar.specs.Modules.{reads_module}
 use Rattle.ecma_grammar.specs.Reading.{Position, Outcome, fails, read, too_deep}
 use Rattle.ecma_rules.specs.declared.target.Target.TheVariants as target
-use Rattle.ecma_text.specs.Modules.{plain, reads_as}
+use Rattle.ecma_modules.specs.Modules.{plain, reads_as}
 use Rattle.ecma_spelling.specs.Everywhere.{Each, Everywhere, more, none}
 use Rattle.ecma_spelling.proofs.Trees.{good_absent, good_framed}
 use Rattle.ecma_fits_laws.proofs.Everywhere.{finished_good}

@@ -22,7 +22,7 @@ use Rattle.ecma_grammar.specs.Grammar.{Grammar, the_word}
 use Rattle.ecma_grammar.specs.Reads.{Parts, kept_leaf, leaf_node, levels, next_start, reads, same_line_on, token}
 use Rattle.ecma_grammar.specs.PartBodies.{part_body}
 use Rattle.ecma_grammar.specs.productions.Modules.{module_body}
-use Rattle.ecma_text.specs.Modules.{plain}
+use Rattle.ecma_modules.specs.Modules.{plain}
 use Rattle.ecma_spelling.specs.Everywhere.{none}
 use Rattle.ecma_spelling.proofs.Leaves.{Holds, holds_deep, holds_fails, holds_read, holds_then}
 use Rattle.ecma_spelling.proofs.Productions.{productions}

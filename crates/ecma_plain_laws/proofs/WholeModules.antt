@@ -18,7 +18,7 @@ use Rattle.ecma_grammar.specs.trees.Others.{the_one}
 use Rattle.ecma_grammar.specs.trees.Parts.{framed}
 use Rattle.ecma_rules.specs.declared.target.Target.TheVariants as target
 use Rattle.ecma_rules.specs.Children.{kind_of}
-use Rattle.ecma_text.specs.Modules.{plain, reads_as}
+use Rattle.ecma_modules.specs.Modules.{plain, reads_as}
 use Rattle.ecma_text_laws.specs.Sorts.{ReadModulesAreSorted}
 use Rattle.ecma_fits_reread.specs.Functions.{Functions, body_of, functions, functions_step, is_this_name, lacks_body, takes_this}
 use Rattle.ecma_fits_laws.proofs.Raws.{of_raw}

@@ -34,7 +34,7 @@ use Rattle.ecma_grammar.specs.Reads.{Parts, any_token, hashbang_token, kept_leaf
 use Rattle.ecma_grammar.specs.Made.{at_token}
 use Rattle.ecma_grammar.specs.PartBodies.{part_body}
 use Rattle.ecma_grammar.specs.productions.Modules.{module_body}
-use Rattle.ecma_text.specs.Modules.{plain}
+use Rattle.ecma_modules.specs.Modules.{plain}
 use Rattle.ecma_spelling.proofs.Leaves.{Holds, holds_deep, holds_fails, holds_read, holds_then}
 use Rattle.ecma_spelling.proofs.Productions.{productions}
 use Rattle.ecma_fits_laws.proofs.ReadingOf.{holds_followed, holds_or, holds_built}

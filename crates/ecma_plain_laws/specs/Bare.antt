@@ -6,7 +6,7 @@ use Rattle.ecma_tree.specs.declared.node.Node.{Node}
 use Rattle.ecma_grammar.specs.declared.production.Mode.{Mode}
 use Rattle.ecma_grammar.specs.trees.Functions.{questioned_kind}
 use Rattle.ecma_spelling.specs.Everywhere.{Everywhere}
-use Rattle.ecma_text.specs.Modules.{reads_as}
+use Rattle.ecma_modules.specs.Modules.{reads_as}
 use Rattle.ecma_fits_reread.specs.Forms.{IsBare}
 
 -- its texts are UTF-8, it has no context, and a literal has its source text; a name may have a `?`

@@ -6,7 +6,7 @@ use Rattle.ecma_kind.specs.declared.kind.Kind.TheVariants as kind
 use Rattle.ecma_tree.specs.declared.node.Node.{Node}
 use Rattle.ecma_tree.specs.Finding.{enters_all, finds}
 use Rattle.ecma_spelling.specs.Everywhere.{Everywhere}
-use Rattle.ecma_text.specs.Modules.{plain, reads_as}
+use Rattle.ecma_modules.specs.Modules.{plain, reads_as}
 use Rattle.ecma_rules.specs.Children.{kind_of}
 use Rattle.ecma_fits_reread.specs.Forms.{IsTaken}
 use Rattle.ecma_fits_reread.specs.Items.{HasUtf8Hashbang, has_plain_items}

@@ -3,7 +3,7 @@ use Rattle.std.proofs.Common.{◌≡◌, refl, sym, subst, ℕ, List, Option, So
 use Rattle.ecma_kind.specs.declared.shapes.Sort.TheVariants as sort
 use Rattle.ecma_tree.specs.declared.node.Node.{Node}
 use Rattle.ecma_tree.specs.Sorted.{HasSort}
-use Rattle.ecma_grammar.specs.declared.modules.RawError.{RawError}
+use Rattle.ecma_grammar.specs.declared.error.RawError.{RawError}
 use Rattle.ecma_grammar.specs.declared.production.Mode.{Mode}
 use Rattle.ecma_grammar.specs.Modules as grammar
 use Rattle.ecma_grammar.specs.Modules.{reads_module}
@@ -12,7 +12,7 @@ use Rattle.ecma_rules.specs.Rules.{first_broken}
 use Rattle.ecma_fits.specs.declared.unfit.Where.{Where}
 use Rattle.ecma_fits.specs.Fitting.{at_top, breaks_rule}
 use Rattle.ecma_fits_laws.proofs.Rules.{keeps_rules}
-use Rattle.ecma_text.specs.Modules.{answer_by, kept_by, reads_as}
+use Rattle.ecma_modules.specs.Modules.{answer_by, kept_by, reads_as}
 use Rattle.ecma_text_laws.proofs.Finished.{read_sorted}
 use Rattle.ecma_pass_laws.proofs.Keeping.{KeepsRules}
 use Rattle.ecma_pass_laws.proofs.UsualBodies.{usual-bodies}

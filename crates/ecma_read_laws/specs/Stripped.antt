@@ -2,7 +2,7 @@
 use Rattle.std.specs.Prelude.{◌≡◌, ℕ, true, List, Ok}
 use Rattle.ecma_tree.specs.declared.node.Node.{Node}
 use Rattle.ecma_grammar.specs.declared.production.Mode.{Mode}
-use Rattle.ecma_text.specs.Modules.{reads_as}
+use Rattle.ecma_modules.specs.Modules.{reads_as}
 use Rattle.ecma_strip.specs.Stripping.{stripped}
 use Rattle.ecma_strip_laws.specs.Usual.{has_usual_bodies}
 use Rattle.ecma_runs.specs.declared.config.Config.{Config}

@@ -15,7 +15,7 @@ use Rattle.ecma_round_trip.specs.Plain.{IsPlain}
 use Rattle.ecma_scope.specs.Laws.{without_contexts}
 use Rattle.ecma_source_laws.specs.Sources.{IsRead, ReadTreesAreRead}
 use Rattle.ecma_source_laws.proofs.Sources.{tree_stays}
-use Rattle.ecma_text.specs.Modules.{plain}
+use Rattle.ecma_modules.specs.Modules.{plain}
 use Rattle.ecma_relaid_laws.specs.Relaid.{RelaidModulesAreReadAgain}
 
 pub record Laws : Type 0 where

@@ -3,7 +3,7 @@ use Rattle.std.specs.Prelude.{◌≡◌, ◌<◌, ◌^◌, ℕ, false, List, Ok,
 use Rattle.std.specs.Str.{IsUtf8}
 use Rattle.ecma_tree.specs.declared.node.Node.{Node}
 use Rattle.ecma_tree.specs.Spans.{without_spans}
-use Rattle.ecma_text.specs.Modules.{plain, reads_as}
+use Rattle.ecma_modules.specs.Modules.{plain, reads_as}
 use Rattle.ecma_parentheses.specs.Explicit.{explicit}
 use Rattle.ecma_print.specs.Layout.{layout}
 

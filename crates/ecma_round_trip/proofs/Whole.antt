@@ -17,7 +17,7 @@ use Rattle.ecma_covers.proofs.Uncovering.{finishing_uncovers}
 use Rattle.ecma_grammar.specs.Modules as grammar
 use Rattle.ecma_grammar.specs.Modules.{reads_module}
 use Rattle.ecma_grammar.specs.Reading.{Position, read}
-use Rattle.ecma_text.specs.Modules.{answer_by, kept_by, plain, reads_as}
+use Rattle.ecma_modules.specs.Modules.{answer_by, kept_by, plain, reads_as}
 use Rattle.ecma_spelling.specs.Everywhere.{Everywhere}
 use Rattle.ecma_scope.specs.Laws.{without_contexts}
 use Rattle.ecma_print.specs.Layout.{layout}

@@ -1,7 +1,7 @@
 -- The layout of a module whose literals lack source texts is that of the module with them, which is read again.
 use Rattle.std.proofs.Common.{◌≡◌, ◌≤◌, ℕ, List, Ok, subst}
 use Rattle.ecma_tree.specs.declared.node.Node.{Node}
-use Rattle.ecma_text.specs.Modules.{plain, reads_as}
+use Rattle.ecma_modules.specs.Modules.{plain, reads_as}
 use Rattle.ecma_round_trip.specs.Laws.{IsReadAgain, WhatFitsIsReadAgain}
 use Rattle.ecma_sourced.specs.Again.{WrittenLiteralsAreReadAgain}
 use Rattle.ecma_sourced.specs.Sources.{with_sources}

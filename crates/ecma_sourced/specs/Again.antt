@@ -12,7 +12,7 @@ use Rattle.ecma_fits_reread.specs.Forms.{IsTaken}
 use Rattle.ecma_fits_reread.specs.Functions.{functions}
 use Rattle.ecma_fits_reread.specs.Items.{HasUtf8Hashbang, has_plain_items}
 use Rattle.ecma_print.specs.Layout.{layout}
-use Rattle.ecma_text.specs.Modules.{plain, reads_as}
+use Rattle.ecma_modules.specs.Modules.{plain, reads_as}
 use Rattle.ecma_round_trip.specs.Laws.{IsReadAgain}
 use Rattle.ecma_sourced.specs.Sources.{IsWritable, with_sources}
 

@@ -18,12 +18,12 @@ use Rattle.ecma_rules.specs.Surroundings.{around_in, at_root}
 use Rattle.ecma_rules.specs.Targets.{target_in}
 use Rattle.ecma_grammar.specs.Modules as grammar
 use Rattle.ecma_grammar.specs.Modules.{reads_module}
-use Rattle.ecma_grammar.specs.declared.modules.RawError.{RawError}
+use Rattle.ecma_grammar.specs.declared.error.RawError.{RawError}
 use Rattle.ecma_grammar_laws.specs.RawSorts as raw
 use Rattle.ecma_grammar_laws.specs.RawSorts.{HasRawShape, HasRawSort, RawShape, sorted, allows_raw, child_shapes_raw}
 use Rattle.ecma_grammar_laws.proofs.RawShapes.{HaveRaw, both, parts_of}
 use Rattle.ecma_grammar_laws.proofs.Sorted.{modules_sorted}
-use Rattle.ecma_text.specs.Modules.{answer_by, kept_by}
+use Rattle.ecma_modules.specs.Modules.{answer_by, kept_by}
 use Rattle.ecma_text_laws.specs.Sorts.{FinishedModulesAreSorted, ReadModulesAreSorted}
 use Rattle.ecma_text_laws.proofs.Turning.{all_turn, refined, turns, wanted}
 use Rattle.ecma_text_laws.proofs.KindsTurned.{allowed}

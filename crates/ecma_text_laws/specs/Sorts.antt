@@ -7,7 +7,7 @@ use Rattle.ecma_grammar.specs.declared.production.Mode.{Mode}
 use Rattle.ecma_grammar_laws.specs.RawSorts.{HasRawSort}
 use Rattle.ecma_rules.specs.Rules.{first_broken}
 use Rattle.ecma_rules.specs.Finishing.{finished}
-use Rattle.ecma_text.specs.Modules.{reads_as}
+use Rattle.ecma_modules.specs.Modules.{reads_as}
 
 -- of a raw tree that is sorted as the grammar alone can tell, and breaks no context rule
 abbrev pub FinishedModulesAreSorted : Type 0

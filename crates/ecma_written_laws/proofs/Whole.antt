@@ -11,7 +11,7 @@ use Rattle.ecma_source_laws.specs.Sources.{IsRead, ReadTreesAreRead, TakenTreesA
 use Rattle.ecma_bound_sources.specs.Laws.{BoundTreesAreRead, BoundTreesAreTaken}
 use Rattle.ecma_final_fits.specs.Laws.{FinalTreesFit}
 use Rattle.ecma_final_laws.specs.Final.{FinalTreesArePlain}
-use Rattle.ecma_text.specs.Modules.{typescript}
+use Rattle.ecma_modules.specs.Modules.{typescript}
 use Rattle.ecma_written_names.specs.Laws.{BoundModulesAreNotRedeclared}
 use Rattle.ecma_written_laws.specs.Written.{WrittenModulesDoWhatTheirSourcesDo}
 

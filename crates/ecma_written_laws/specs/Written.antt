@@ -2,7 +2,7 @@
 use Rattle.std.specs.Prelude.{◌≡◌, ◌<◌, ◌^◌, ◌-◌, ℕ, false, List, [], None, Ok, length}
 use Rattle.std.specs.Str.{IsUtf8}
 use Rattle.ecma_tree.specs.declared.node.Node.{Node}
-use Rattle.ecma_text.specs.Modules.{plain, reads_as, typescript}
+use Rattle.ecma_modules.specs.Modules.{plain, reads_as, typescript}
 use Rattle.ecma_print.specs.Layout.{layout}
 use Rattle.ecma_bind.specs.Binding.{with_bound_names}
 use Rattle.ecma_forms.specs.Forms.{first_untaken}

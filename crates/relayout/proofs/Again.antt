@@ -6,8 +6,8 @@ use Rattle.std.specs.Prelude.{Result, IfOk, if◌then◌else◌}
 use Rattle.std.specs.Str.{is_utf8}
 use Rattle.std.proofs.lemmas.Str.{IsUtf8-from_is_utf8}
 use Rattle.ecma_tree.specs.declared.node.Node.{Node}
-use Rattle.ecma_text.specs.declared.modules.ReadError.{ReadError}
-use Rattle.ecma_text.specs.Modules.{reads_as, plain, deepest}
+use Rattle.ecma_modules.specs.declared.error.ReadError.{ReadError}
+use Rattle.ecma_modules.specs.Modules.{reads_as, plain, deepest}
 use Rattle.ecma_print.specs.Layout.{layout}
 use Rattle.ecma_relaid_laws.specs.Relaid.{IsReadAsTree, RelaidModulesAreReadAgain}
 use Rattle.ts_to_js.specs.declared.error.TsError.{TsError}

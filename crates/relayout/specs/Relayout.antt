@@ -2,8 +2,8 @@
 use Rattle.std.specs.Prelude.{◌≡◌, ℕ, List, Result, Ok, Err, false, nat_lt, length, if◌then◌else◌}
 use Rattle.std.specs.Str.{is_utf8}
 use Rattle.ecma_tree.specs.declared.node.Node.{Node}
-use Rattle.ecma_text.specs.declared.modules.ReadError.{ReadError}
-use Rattle.ecma_text.specs.Modules.{reads_as, plain, deepest}
+use Rattle.ecma_modules.specs.declared.error.ReadError.{ReadError}
+use Rattle.ecma_modules.specs.Modules.{reads_as, plain, deepest}
 use Rattle.ecma_print.specs.Layout.{layout}
 use Rattle.ecma_relaid_laws.specs.Relaid.{IsReadAsTree}
 use Rattle.ts_to_js.specs.Conversion.{byte_limit}

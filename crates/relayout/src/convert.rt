@@ -1,5 +1,5 @@
 ghost use Rattle.std.specs.Prelude.{◌≡◌, ◌≤◌, false, length, IfOk, IfErr};
-ghost use Rattle.ecma_text.specs.Modules.{deepest, plain, reads_as};
+ghost use Rattle.ecma_modules.specs.Modules.{deepest, plain, reads_as};
 ghost use Rattle.ts_to_js.specs.Answer.{Answers};
 ghost use Rattle.ts_to_js.specs.Refusals.{refusal_of};
 ghost use Rattle.relayout.specs.Relayout.{IsRelaid, laid_out, relaid};

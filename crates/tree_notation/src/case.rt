@@ -1,6 +1,7 @@
 //! A module to be read, and the answer.
 use crate::notation::show_node;
-use ecma_grammar::{Mode, RawError, read_raw};
+use ecma_grammar::{Mode, RawError};
+use ecma_reader::read_raw;
 use std::alloc::Global;
 use std::io::{self, Write};
 

@@ -6,8 +6,8 @@ use Rattle.std.specs.Prelude.{Option, Result, IfOk, IsOk, cond}
 use Rattle.std.specs.Str.{IsUtf8, is_utf8}
 use Rattle.std.proofs.lemmas.Str.{IsUtf8-from_is_utf8, is_utf8-from_IsUtf8}
 use Rattle.ecma_tree.specs.declared.node.Node.{Node}
-use Rattle.ecma_text.specs.declared.modules.ReadError.{ReadError}
-use Rattle.ecma_text.specs.Modules.{reads_as, typescript, deepest}
+use Rattle.ecma_modules.specs.declared.error.ReadError.{ReadError}
+use Rattle.ecma_modules.specs.Modules.{reads_as, typescript, deepest}
 use Rattle.ecma_print.specs.Layout.{layout}
 use Rattle.ecma_final_texts.proofs.Leaving.{leave-sixteen}
 use Rattle.ecma_written_laws.specs.Written.{WrittenModulesDoWhatTheirSourcesDo}

@@ -5,9 +5,9 @@ use Rattle.std.proofs.lemmas.Str.{IsUtf8-from_is_utf8}
 use Rattle.std.specs.Prelude.{cond}
 use Rattle.std.specs.Str.{is_utf8}
 use Rattle.ecma_tree.specs.declared.node.Node.{Node}
-use Rattle.ecma_text.specs.declared.modules.ReadError.{ReadError}
-use Rattle.ecma_text.specs.declared.modules.ReadError.TheVariants as reading
-use Rattle.ecma_text.specs.Modules.{deepest, reads_as, typescript}
+use Rattle.ecma_modules.specs.declared.error.ReadError.{ReadError}
+use Rattle.ecma_modules.specs.declared.error.ReadError.TheVariants as reading
+use Rattle.ecma_modules.specs.Modules.{deepest, reads_as, typescript}
 use Rattle.ecma_scope.specs.Conflicts.{redeclared}
 use Rattle.ecma_scope.specs.Needs.{needed}
 use Rattle.ecma_forms.specs.Forms.{first_untaken}

@@ -2,8 +2,8 @@
 use Rattle.std.specs.Prelude.{◌≡◌, ◌+◌, ◌-◌, ℕ, List, Option, Some, None, Result, Ok, Err, cond, nat_lt, length}
 use Rattle.std.specs.Str.{is_utf8}
 use Rattle.ecma_tree.specs.declared.node.Node.{Node}
-use Rattle.ecma_text.specs.declared.modules.ReadError.{ReadError}
-use Rattle.ecma_text.specs.Modules.{reads_as, typescript, deepest}
+use Rattle.ecma_modules.specs.declared.error.ReadError.{ReadError}
+use Rattle.ecma_modules.specs.Modules.{reads_as, typescript, deepest}
 use Rattle.ecma_bind.specs.Binding.{with_bound_names}
 use Rattle.ecma_hygiene.specs.Hygienic.{IsHygienic}
 use Rattle.ecma_print.specs.Layout.{layout}

@@ -3,7 +3,7 @@ use Rattle.std.specs.Prelude.{◌≡◌, ◌⊎◌, ◌≤◌, ℕ, false, List,
 use Rattle.std.specs.Str.{IsUtf8}
 use Rattle.ecma_tree.specs.declared.node.Node.{Node}
 use Rattle.ecma_tree.specs.Spans.{without_spans}
-use Rattle.ecma_text.specs.Modules.{reads_as, typescript, plain, deepest}
+use Rattle.ecma_modules.specs.Modules.{reads_as, typescript, plain, deepest}
 use Rattle.ecma_scope.specs.Conflicts.{redeclared}
 use Rattle.ecma_scope.specs.Laws.{without_contexts}
 use Rattle.ecma_scope.specs.Resolved.{resolved}

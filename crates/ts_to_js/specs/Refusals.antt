@@ -1,8 +1,8 @@
 -- Why a module is refused: as it is read, and as its tree is looked at.
 use Rattle.std.specs.Prelude.{ℕ, Bool, List, [], ◌∷◌, Option, Some, None, cond, nat_lt}
 use Rattle.ecma_tree.specs.declared.node.Node.{Node}
-use Rattle.ecma_text.specs.declared.modules.ReadError.{ReadError}
-use Rattle.ecma_text.specs.declared.modules.ReadError.TheVariants as reading
+use Rattle.ecma_modules.specs.declared.error.ReadError.{ReadError}
+use Rattle.ecma_modules.specs.declared.error.ReadError.TheVariants as reading
 use Rattle.ecma_scope.specs.declared.error.ScopeError.{ScopeError}
 use Rattle.ecma_scope.specs.declared.error.ScopeError.TheVariants as scopes
 use Rattle.ecma_scope.specs.Conflicts.{redeclared}

@@ -4,7 +4,7 @@ ghost use Rattle.ecma_kind.specs.declared.shapes.Sort.TheVariants as sort;
 ghost use Rattle.ecma_tree.specs.Sorted.{HasSort};
 ghost use Rattle.ecma_scope.specs.Needs.{needed};
 ghost use Rattle.ecma_scope.specs.Resolved.{contexts};
-ghost use Rattle.ecma_text.specs.Modules.{deepest, reads_as, typescript};
+ghost use Rattle.ecma_modules.specs.Modules.{deepest, reads_as, typescript};
 ghost use Rattle.ts_to_js.specs.Answer.{AnswersBy};
 ghost use Rattle.ts_to_js.specs.Conversion.{ComesOf, ComesOfReading, HasDrawn, HasGivenFor, IsConverted, IsFinal, with_bindings};
 ghost use Rattle.ts_to_js.specs.Headline.{IsConversion, IsValid};

@@ -1,4 +1,5 @@
-use ecma_grammar::{Mode, RawError, read_raw};
+use ecma_grammar::{Mode, RawError};
+use ecma_reader::read_raw;
 use ecma_tree::Node;
 use std::alloc::Global;
 use std::test::Fail;

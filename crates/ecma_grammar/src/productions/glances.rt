@@ -27,7 +27,7 @@ use crate::production::{Production, Rule};
 
 /// What is known of a reading by the first byte of the token ahead.
 #[derive(Clone, Copy)]
-pub(crate) enum Glance {
+pub enum Glance {
     /// Nothing.
     Open,
     /// It fails there.
@@ -424,7 +424,7 @@ fn module_item_glance(first: u8) -> Glance
 }
 
 /// What is known of the production of a name.
-pub(crate) fn rule_glance(rule: Rule, first: u8) -> Glance
+pub fn rule_glance(rule: Rule, first: u8) -> Glance
     ensures { Says result first (rule_grammar rule) }
 {
     match rule {

@@ -134,7 +134,7 @@ static NULLISH_COALESCING_NO_IN_PART: Production = binary_body!(NullishCoalescin
 
 /// What a part is.
 #[tactic(auto, unfolding(crate::specs::productions::Statements::statement_body, crate::specs::productions::Modules::namespace_block, crate::specs::productions::Declarations::declared_body, crate::specs::productions::Patterns::pattern_body, crate::specs::productions::Types::type_body, crate::specs::productions::Types::type_operator_body, crate::specs::productions::Types::array_suffix_body, crate::specs::productions::Operators::assertion_body, crate::specs::productions::Chains::new_body, crate::specs::productions::Operators::power_body, crate::specs::productions::Declarations::dotted_name_body, crate::specs::productions::Modules::dotted_key_body))]
-pub(crate) fn part_body(part: Part) -> &'static Production
+pub fn part_body(part: Part) -> &'static Production
     ensures { written result.now ≡ part_body part }
 {
     match part {
@@ -314,7 +314,7 @@ fn binary_part(op: BinaryOp, no_in: bool) -> &'static Production
 
 /// A module.
 #[tactic(auto, unfolding(crate::specs::productions::Modules::module_body))]
-pub(crate) fn module_body() -> &'static Production
+pub fn module_body() -> &'static Production
     ensures { written result.now ≡ module_body }
 {
     &MODULE_BODY

@@ -7,7 +7,7 @@ use super::*;
 
 /// What may stand behind what was read, and the form of the two.
 #[derive(Clone, Copy)]
-pub(crate) struct Tail {
+pub struct Tail {
     pub form: Form,
     pub production: Production,
 }
@@ -42,14 +42,14 @@ static TAILS: [Tail; 13] = tails_of!(false);
 static TAILS_NO_IN: [Tail; 13] = tails_of!(true);
 
 /// The links behind the first operand.
-pub(crate) fn links_tail() -> &'static Tail
+pub fn links_tail() -> &'static Tail
     ensures { written_tail result.now ≡ links_tail }
 {
     &LINKS_TAIL
 }
 
 /// What stands behind a chain of links, up to an assignment: without the operator `in` where `no_in` is set.
-pub(crate) fn tails(no_in: bool) -> &'static [Tail]
+pub fn operator_tails(no_in: bool) -> &'static [Tail]
     ensures { map written_tail result.now ≡ tails no_in }
 {
     if no_in { &TAILS_NO_IN } else { &TAILS }

@@ -1,5 +1,5 @@
 use Rattle.std.proofs.Common.{sym}
-use Rattle.ecma_text.specs.Modules.{deepest, typescript}
+use Rattle.ecma_modules.specs.Modules.{deepest, typescript}
 use Rattle.ecma_text_laws.proofs.Finished.{read_sorted}
 use Rattle.ts_to_js.proofs.convert.convert_text.Goals as goal
 

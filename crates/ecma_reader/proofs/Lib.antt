@@ -1,0 +1,10 @@
+pub mod Firsts
+pub mod Heads
+pub mod Levels
+pub mod Operands
+pub mod Outlooks
+pub mod Readings
+pub mod Remainders
+pub mod Sights
+pub mod Sizes
+pub mod Tails

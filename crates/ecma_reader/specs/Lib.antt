@@ -1,0 +1,6 @@
+pub mod Opening
+pub mod FirstByte
+pub mod Outlook
+pub mod Agreement
+pub mod Operands
+pub mod Raw
