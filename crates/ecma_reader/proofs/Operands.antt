@@ -38,16 +38,13 @@ use Rattle.ecma_grammar.specs.productions.Chains.{super_of_link, import_meta, im
 use Rattle.ecma_grammar.specs.productions.Operators.{update, updates, prefixed, exponentiation, factors, terms, shifts, shift, relations, relation, equality, bit_and, bit_xor, bit_or, short_circuit, if_in, equalities, conjunctions, exclusions, disjunctions, coalescing, logicals}
 use Rattle.ecma_grammar.specs.productions.Expressions.{yield_, choice, conditional, assignments}
 use Rattle.ecma_reader.proofs.Firsts.{punct-off, angle-off}
-use Rattle.ecma_reader.proofs.Outlooks.{foreseen, Foresees}
+use Rattle.ecma_reader.proofs.Outlooks.{max-none, foreseen, Foresees}
 
 max-same : (k : ℕ) → max k k ≡ k
 max-same k = omega arith
 
 max-above : (k to : ℕ) → to ≤ k → max k to ≡ k
 max-above k to h = omega arith
-
-max-none : (k : ℕ) → max k 0 ≡ k
-max-none k = omega arith
 
 none-max : (k : ℕ) → max 0 k ≡ k
 none-max k = omega arith

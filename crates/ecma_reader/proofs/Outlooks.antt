@@ -34,7 +34,7 @@ Foresees (Fails at) s o = o ≡ fails (max s.failed at)
 Foresees (Stays at) s o = StaysAt at s o
 Foresees (Passes at) s o = o ≡ read [] (raised at s)
 
-max-none : (k : ℕ) → max k 0 ≡ k
+pub max-none : (k : ℕ) → max k 0 ≡ k
 max-none k = omega arith
 
 max-three : (a b c : ℕ) → max (max a b) c ≡ max a (max b c)

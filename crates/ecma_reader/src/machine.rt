@@ -63,14 +63,15 @@ pub(crate) struct Machine<'f, F> {
 impl<'f, F: Fn(&mut Reader, Part, u32) -> Result<(), Failure>> Machine<'f, F> {
     ghost use Rattle.std.specs.Prelude.{◌≡◌, ◌≤◌, ◌∷◌, false, length, map};
     ghost use Rattle.ecma_grammar.specs.Written.{goes_on, written, written_tail};
-    ghost use Rattle.ecma_grammar.specs.Grammar.{ahead, build, many, unless};
+    ghost use Rattle.ecma_grammar.specs.Grammar.{ahead, build, many};
     ghost use Rattle.ecma_reader.specs.Agreement.{Keeps, ReadsParts, kept, parts_in, position, reads_in};
     ghost use Rattle.ecma_reader.specs.Operands.{StandsAs, tail_on, tails_on};
     ghost use Rattle.ecma_grammar.specs.Reading.{read};
     ghost use Rattle.ecma_grammar.specs.productions.Tails.{links_tail, tails};
 
     /// Reads by a production. The last part of one is read in this loop, and so is one node that is made of all that is read:
-    /// so a call is taken only by the first of two, by each of a choice but the last, and by what is repeated or looked at.
+    /// so a call is taken only by the first of two that is neither a token nor a part further in, by each of a choice but the last, and by
+    /// what is repeated or looked at.
     #[tactic(auto, using(crate::proofs::Readings::reading))]
     #[cycle(reading)]
     pub(crate) fn read(
@@ -189,7 +190,17 @@ impl<'f, F: Fn(&mut Reader, Part, u32) -> Result<(), Failure>> Machine<'f, F> {
             }
             Production::Many(part) => self.read_many(reader, part),
             Production::Ahead(part) => self.read_ahead(reader, part),
-            Production::Unless(part) => self.read_unless(reader, part),
+            Production::Unless(part) => {
+                let (start, count) = (reader.place(), reader.count());
+                match self.read(reader, part) {
+                    Ok(()) => Err(Failure::NoMatch),
+                    Err(Failure::NoMatch) => {
+                        reader.go_back(start, count);
+                        Ok(())
+                    }
+                    Err(failure) => Err(failure),
+                }
+            }
             Production::Nothing => Ok(()),
             Production::SameLine => reader.same_line(),
             Production::Take(terminal) => reader.take_token(*terminal),
@@ -234,25 +245,6 @@ impl<'f, F: Fn(&mut Reader, Part, u32) -> Result<(), Failure>> Machine<'f, F> {
         self.read(reader, part)?;
         reader.go_back(start, count);
         Ok(())
-    }
-
-    /// Takes nothing, where this does not stand ahead.
-    #[tactic(auto, using(crate::proofs::Readings::looking))]
-    #[cycle(reading)]
-    #[inline(never)]
-    fn read_unless(&self, reader: &mut Reader, part: &'static Production) -> Result<(), Failure>
-        requires { ReadsParts F.Fn self.now }
-        ensures { Keeps reader.old reader.new result (reads_in reader.old self.now.left (unless (written part.now))) }
-    {
-        let (start, count) = (reader.place(), reader.count());
-        match self.read(reader, part) {
-            Ok(()) => Err(Failure::NoMatch),
-            Err(Failure::NoMatch) => {
-                reader.go_back(start, count);
-                Ok(())
-            }
-            Err(failure) => Err(failure),
-        }
     }
 
     #[tactic(auto, using(crate::proofs::Readings::repeating))]

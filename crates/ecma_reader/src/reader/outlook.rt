@@ -39,7 +39,6 @@ impl Reader<'_> {
     ghost use Rattle.ecma_reader.specs.Outlook.{Tells};
     ghost use Rattle.ecma_grammar.specs.Written.{written, written_token};
     ghost use Rattle.ecma_grammar.specs.Reading.{fails};
-    ghost use Rattle.ecma_grammar.specs.Grammar.{same_line};
     ghost use Rattle.ecma_grammar.specs.Reads.{Parts, reads};
     ghost use Rattle.ecma_reader.specs.Outlook.{Fails, found_outlook, kind_outlook, leaf_outlook, outlook, template_outlook, token_outlook, word_outlook};
     ghost use Rattle.ecma_reader.specs.Agreement.{Knows, SameText, kept, position};

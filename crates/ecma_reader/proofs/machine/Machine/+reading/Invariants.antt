@@ -24,9 +24,6 @@ decreases-read_many g l = left_to_read l.part.now * 4 + 3
 abbrev pub decreases-read_ahead : goal.decreases-read_ahead
 decreases-read_ahead g l = left_to_read l.part.now * 4 + 3
 
-abbrev pub decreases-read_unless : goal.decreases-read_unless
-decreases-read_unless g l = left_to_read l.part.now * 4 + 3
-
 abbrev pub decreases-read-going : goal.decreases-read-going
 decreases-read-going g l = left_to_read l.rest
 
