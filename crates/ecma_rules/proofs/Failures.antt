@@ -15,6 +15,17 @@ least-twice (Some i) None c = refl
 least-twice (Some i) (Some j) None = refl
 least-twice (Some i) (Some j) (Some k) = ap Some (omega arith)
 
+least-swap : (a b : Option ℕ) → least a b ≡ least b a
+least-swap None None = refl
+least-swap None (Some j) = refl
+least-swap (Some i) None = refl
+least-swap (Some i) (Some j) = ap Some (omega arith)
+
+pub least-pairs : (a b c d : Option ℕ) → least (least a b) (least c d) ≡ least (least a c) (least b d)
+least-pairs a b c d =
+    least-twice a b (least c d) ∙ ap (least a) (sym (least-twice b c d) ∙ ap (λ z. least z d) (least-swap b c) ∙ least-twice c b d)
+    ∙ sym (least-twice a c (least b d))
+
 -- behind the last nothing is left
 pub drop-none : (nodes : List Node) (i : ℕ) → length nodes ≡ i → drop i nodes ≡ []
 drop-none [] zero all = refl
@@ -30,8 +41,11 @@ module _ (A : Type 0) (place : A → Node → Option ℕ) (inside : A → Node �
   failing-out : (a : A) (n : Node) → first_failing A place inside n a ≡ least (place a n) (rest_failing a n 0)
   failing-out a n = ap (λ f. f a) (from_leaves_out (A → Option ℕ) (failing_step A place inside) n)
 
-  rest-next : (a : A) (n : Node) (i : ℕ) (x : Node) → slice_get (out-Node n).children i ≡ Some x → rest_failing a n i ≡ least (first_failing A place inside x (inside a n i)) (rest_failing a n (i + 1))
+  pub rest-next : (a : A) (n : Node) (i : ℕ) (x : Node) → slice_get (out-Node n).children i ≡ Some x → rest_failing a n i ≡ least (first_failing A place inside x (inside a n i)) (rest_failing a n (i + 1))
   rest-next a n i x at = rw (add-one, drop-item (out-Node n).children i x at, add-one) refl
+
+  pub rest-none : (a : A) (n : Node) (i : ℕ) → length (out-Node n).children ≡ i → rest_failing a n i ≡ None
+  rest-none a n i all = ap (λ (z : List Node). least_from A (inside a n) i (map (first_failing A place inside) z)) (drop-none (out-Node n).children i all)
 
   -- before the first child
   pub failing-first : (a : A) (n : Node) (here : Option ℕ) → here ≡ place a n → least here (rest_failing a n 0) ≡ first_failing A place inside n a
@@ -46,4 +60,4 @@ module _ (A : Type 0) (place : A → Node → Option ℕ) (inside : A → Node �
   -- behind the last
   pub failing-all : (a : A) (n : Node) (found : Option ℕ) (i : ℕ) → length (out-Node n).children ≡ i → least found (rest_failing a n i) ≡ first_failing A place inside n a → found ≡ first_failing A place inside n a
   failing-all a n found i all so_far =
-      sym (least-none found) ∙ ap (λ (z : List Node). least found (least_from A (inside a n) i (map (first_failing A place inside) z))) (sym (drop-none (out-Node n).children i all)) ∙ so_far
+      sym (least-none found) ∙ ap (least found) (sym (rest-none a n i all)) ∙ so_far

@@ -8,3 +8,4 @@ pub mod Seconds
 pub mod Leasts
 pub mod Unheld
 pub mod Unasked
+pub mod Together

@@ -1,4 +1,4 @@
--- Of most kinds a node breaks no rule where nothing is asked of it, and asks nothing of its children.
+-- Of most kinds a node breaks no rule where nothing is asked of it, asks nothing of its children, and holds no strays.
 use Rattle.std.proofs.Common.{◌≡◌, ℕ, ◌==◌, Bool, true, false, not, ◌&&◌, ◌||◌, cond, None, refl, sym, ap, ap₂}
 use Rattle.ecma_kind.specs.declared.kind.Kind.{Kind}
 use Rattle.ecma_kind.specs.declared.kind.Kind.TheVariants as kind
@@ -15,7 +15,7 @@ use Rattle.ecma_rules.specs.Supers.{is_private_name, is_super, is_super_member}
 use Rattle.ecma_rules.specs.Surroundings.{around_in, standing_by}
 use Rattle.ecma_rules.specs.Targets.{is_short_default, target_in}
 use Rattle.ecma_rules.specs.Rules.{is_misplaced, misplaced_here}
-use Rattle.ecma_rules.specs.Walks.{asks_targets, is_watched, unasked}
+use Rattle.ecma_rules.specs.Walks.{asks_targets, holds_strays, is_watched, unasked}
 
 free-either : (b : Bool) → cond b target.Free target.Free ≡ target.Free
 free-either true = refl
@@ -130,6 +130,12 @@ unwatched-not-misplaced l n h =
     let lone = unwatched-no-super (kind_of n) h in
     let member = unwatched-no-super-member (kind_of n) h in
     λ j. (default j && true) || (((rest j || false) && not l) || (((property j && true) || (misfit j || (special j || this j))) || ((lone j && true) || (member j && child_is is_private_name n 1))))
+
+pub unwatched-holds-none : (k : Kind) → is_watched k ≡ false → holds_strays k ≡ false
+unfolding is_watched
+unwatched-holds-none kind.TsEnumMember h = cc
+unwatched-holds-none kind.TsModuleBlock h = cc
+unwatched-holds-none _ h = refl
 
 pub unwatched-tells-none : (l : Bool) (n : Node) → is_watched (kind_of n) ≡ false → None ≡ misplaced_here (unasked l) n
 unwatched-tells-none l n h = sym (ap₂ least (ap (λ b. failing_here b n) (unwatched-not-misplaced l n h)) (unwatched-no-second (kind_of n) n h))

@@ -1,10 +1,11 @@
 //! The least place at which a rule is broken.
-ghost use Rattle.std.specs.Prelude.{◌≡◌};
-ghost use Rattle.ecma_rules.specs.Rules.{fails_list, fails_member, fails_statement, fails_super, fails_target, first_broken, first_misplaced, is_misplaced, misplaced_here};
-ghost use Rattle.ecma_rules.specs.Walks.{is_watched, unasked};
+ghost use Rattle.std.specs.Prelude.{◌≡◌, ◌&&◌, not};
+ghost use Rattle.ecma_rules.specs.Children.{kind_of};
+ghost use Rattle.ecma_rules.specs.Rules.{fails_list, fails_member, fails_statement, fails_super, fails_target, first_broken, is_misplaced, misplaced_here};
+ghost use Rattle.ecma_rules.specs.Walks.{first_broken_in, holds_strays, is_watched, stray_if, unasked};
 
 use crate::failing::{failing_here, least};
-use crate::jumps::first_stray;
+use crate::jumps::{first_stray, holds_strays};
 use crate::lists::{is_early_rest, is_wrong_head, last_in};
 use crate::members::{
     is_misfit, is_special_constructor, is_stray_property, misplaces_this, second_constructor,
@@ -71,7 +72,7 @@ fn misplaced_here(around: Around, node: &Node) -> Option<u32>
     least(place, second_constructor(node))
 }
 
-/// Whether a node of this kind may break a rule where nothing is asked of it, or asks something of its children.
+/// Whether a node of this kind may break a rule where nothing is asked of it, asks something of its children, or holds strays.
 #[tactic(auto, unfolding(crate::specs::Walks::is_watched))]
 fn is_watched(kind: &Kind) -> bool
     ensures { result ≡ is_watched kind.now }
@@ -103,48 +104,74 @@ fn is_watched(kind: &Kind) -> bool
             | Kind::ForStmt
             | Kind::ForInStmt
             | Kind::ForOfStmt { .. }
+            | Kind::TsEnumMember
+            | Kind::TsModuleBlock
     )
 }
 
-/// The least place at which a node in a tree begins that is not what it has to be where it stands.
-#[cycle(misplacing)]
-fn first_misplaced(node: &Node, around: Around) -> Option<u32>
-    ensures { result ≡ first_misplaced node.now around }
+/// The least place of a stray in a node that holds strays, where those are looked for.
+fn stray_in_holder(with_strays: bool, node: &Node) -> Option<u32>
+    ensures { result ≡ stray_if (with_strays && holds_strays (kind_of node.now)) node.now }
 {
-    let mut found = misplaced_here(around, node);
+    if with_strays && holds_strays(&node.kind) {
+        first_stray(node)
+    } else {
+        None
+    }
+}
+
+/// Whether strays are still to be looked for in the children of a node of this kind.
+fn seeks_strays_below(with_strays: bool, kind: &Kind) -> bool
+    ensures { result ≡ with_strays && not (holds_strays kind.now) }
+{
+    with_strays && !holds_strays(kind)
+}
+
+/// The least place at which a node in a tree begins that is not what it has to be where it stands, or that is a stray, where
+/// strays are looked for. Where a node holds strays, they are looked for from there, and no more in its children.
+#[cycle(breaking)]
+fn first_broken_in(node: &Node, around: Around, with_strays: bool) -> Option<u32>
+    ensures { result ≡ first_broken_in with_strays node.now around }
+{
+    let misplaced = misplaced_here(around, node);
+    let stray = stray_in_holder(with_strays, node);
+    let mut found = least(misplaced, stray);
+    let strays_below = seeks_strays_below(with_strays, &node.kind);
     for i in 0..node.children.len() {
-        let below = first_misplaced_around(node.children.at(i), around_in(around, node, i));
+        let inside = around_in(around, node, i);
+        let below = first_broken_around(node.children.at(i), inside, strays_below);
         found = least(found, below);
     }
     found
 }
 
 /// The same, found faster where nothing is asked of the tree.
-#[cycle(misplacing)]
-fn first_misplaced_around(node: &Node, around: Around) -> Option<u32>
-    ensures { result ≡ first_misplaced node.now around }
+#[cycle(breaking)]
+fn first_broken_around(node: &Node, around: Around, with_strays: bool) -> Option<u32>
+    ensures { result ≡ first_broken_in with_strays node.now around }
 {
     match around {
         Around {
             target: Target::Free,
             standing: Standing::Plain,
             is_last,
-        } => first_misplaced_freely(node, is_last),
-        _ => first_misplaced(node, around),
+        } => first_broken_freely(node, is_last, with_strays),
+        _ => first_broken_in(node, around, with_strays),
     }
 }
 
 /// The same in a tree of which nothing is asked.
-#[cycle(misplacing)]
-fn first_misplaced_freely(node: &Node, is_last: bool) -> Option<u32>
-    ensures { result ≡ first_misplaced node.now (unasked is_last) }
+#[cycle(breaking)]
+fn first_broken_freely(node: &Node, is_last: bool, with_strays: bool) -> Option<u32>
+    ensures { result ≡ first_broken_in with_strays node.now (unasked is_last) }
 {
     if is_watched(&node.kind) {
-        return first_misplaced(node, unasked(is_last));
+        return first_broken_in(node, unasked(is_last), with_strays);
     }
     let mut found = None;
     for i in 0..node.children.len() {
-        let below = first_misplaced_freely(node.children.at(i), last_in(is_last, node, i));
+        let last = last_in(is_last, node, i);
+        let below = first_broken_freely(node.children.at(i), last, with_strays);
         found = least(found, below);
     }
     found
@@ -155,7 +182,5 @@ fn first_misplaced_freely(node: &Node, is_last: bool) -> Option<u32>
 pub fn first_broken(tree: &Node) -> Option<u32>
     ensures { result ≡ first_broken tree.now }
 {
-    let misplaced = first_misplaced_freely(tree, true);
-    let stray = first_stray(tree);
-    least(misplaced, stray)
+    first_broken_freely(tree, true, true)
 }

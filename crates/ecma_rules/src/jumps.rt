@@ -129,7 +129,7 @@ fn first_stray_behind(
 }
 
 /// Whether something may belong to nothing inside a node of this kind, where nothing may outside of it.
-fn holds_strays(kind: &Kind) -> bool
+pub(crate) fn holds_strays(kind: &Kind) -> bool
     ensures { result ≡ holds_strays kind.now }
 {
     matches!(kind, Kind::TsEnumMember | Kind::TsModuleBlock)
