@@ -1,8 +1,9 @@
 -- Why a module is refused: as it is read, and as its tree is looked at.
-use Rattle.std.specs.Prelude.{ℕ, Bool, List, [], ◌∷◌, Option, Some, None, cond, nat_lt}
+use Rattle.std.specs.Prelude.{◌≡◌, ◌≤◌, ℕ, Bool, List, [], ◌∷◌, Option, Some, None, Ok, cond, nat_lt}
 use Rattle.ecma_tree.specs.declared.node.Node.{Node}
 use Rattle.ecma_modules.specs.declared.error.ReadError.{ReadError}
 use Rattle.ecma_modules.specs.declared.error.ReadError.TheVariants as reading
+use Rattle.ecma_modules.specs.Modules.{deepest, reads_as, typescript}
 use Rattle.ecma_scope.specs.declared.error.ScopeError.{ScopeError}
 use Rattle.ecma_scope.specs.declared.error.ScopeError.TheVariants as scopes
 use Rattle.ecma_scope.specs.Conflicts.{redeclared}
@@ -34,3 +35,7 @@ refused_by None short names = cond short (Some error.Spent) (refused_names names
 -- a tree that was read, where so many contexts are left
 abbrev pub refused : ℕ → Node → Option TsError
 refused left tree = refused_by (first_untaken tree) (nat_lt left (needed tree)) (redeclared tree)
+
+-- what is read of a text needs so many contexts at most
+abbrev pub ReadingNeedsAtMost : List ℕ → ℕ → Type 0
+ReadingNeedsAtMost text most = (tree : Node) → reads_as text typescript deepest ≡ Ok tree → needed tree ≤ most

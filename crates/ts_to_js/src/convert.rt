@@ -1,4 +1,4 @@
-ghost use Rattle.std.specs.Prelude.{◌≡◌, ◌≤◌, ◌+◌, ◌⊎◌, length, true, false, MatchOption, Option, IfErr, IfOk, IsOk, OnOk};
+ghost use Rattle.std.specs.Prelude.{◌≡◌, ◌<◌, ◌≤◌, ◌↔◌, ◌+◌, ◌⊎◌, length, true, false, Ok, MatchOption, Option, IfErr, IfOk, IsOk, IsTrue, OnOk};
 ghost use Rattle.std.specs.Str.{is_utf8};
 ghost use Rattle.ecma_kind.specs.declared.shapes.Sort.TheVariants as sort;
 ghost use Rattle.ecma_tree.specs.Sorted.{HasSort};
@@ -8,10 +8,11 @@ ghost use Rattle.ecma_modules.specs.Modules.{deepest, reads_as, typescript};
 ghost use Rattle.ts_to_js.specs.Answer.{AnswersBy};
 ghost use Rattle.ts_to_js.specs.Conversion.{ComesOf, ComesOfReading, HasDrawn, HasGivenFor, IsConverted, IsFinal, with_bindings};
 ghost use Rattle.ts_to_js.specs.Headline.{IsConversion, IsValid};
-ghost use Rattle.ts_to_js.specs.Refusals.{refused};
+ghost use Rattle.ts_to_js.specs.Refusals.{ReadingNeedsAtMost, refused};
 
 use crate::error::TsError;
 use ecma_bind::bind_names;
+use ecma_few_scopes::needed_is_bounded_by_the_text;
 use ecma_forms::first_untaken;
 use ecma_hygiene::hygiene;
 use ecma_print::print_module;
@@ -94,37 +95,62 @@ fn convert_text(
     ensures session { OnOk result (HasDrawn session.old.left session.new.left text.now) }
 {
     let tree = read_module(alloc, text)?;
-    convert_tree(alloc, session, tree, options)
+    convert_tree(alloc, session, tree, text, options)
 }
 
-/// Converts a tree that was read, if nothing refuses it.
+/// Converts the tree that was read of a text, if nothing refuses it.
 fn convert_tree(
     alloc: Global,
     session: &mut Session,
     tree: Module,
+    text: &str,
     options: &Options,
 ) -> Result<Vec<u8>, TsError>
-    requires { HasSort sort.Module tree }
+    requires short { length text.now ≤ LIMIT }
+    requires read { reads_as text.now typescript deepest ≡ Ok tree }
+    requires sorted { HasSort sort.Module tree }
     ensures text { AnswersBy result (ComesOf session.old.left (refused session.old.left tree) tree) }
     ensures session { OnOk result (HasGivenFor session.old.left session.new.left tree) }
 {
-    accept(alloc, session, &tree)?;
+    accept(alloc, session, &tree, text)?;
     convert_accepted(alloc, session, tree, options)
 }
 
-/// Whether each form of a tree is taken, contexts enough are left, and no name is declared again; else the first of these that fails.
-fn accept(alloc: Global, session: &Session, tree: &Module) -> Result<(), TsError>
+/// Whether each form of the tree of a text is taken, contexts enough are left, and no name is declared again; else the first of these that fails.
+fn accept(alloc: Global, session: &Session, tree: &Module, text: &str) -> Result<(), TsError>
+    requires short { length text.now ≤ LIMIT }
+    requires read { reads_as text.now typescript deepest ≡ Ok tree.now }
     ensures accepted { OnOk result (refused session.now.left tree.now ≡ None) }
     ensures refusal { IfErr result (λ refusal. (refusal ≡ TsError.NoMemory) ⊎ (refused session.now.left tree.now ≡ Some refusal)) }
 {
     if let Some(at) = first_untaken(tree) {
         return Err(TsError::Syntax { at });
     }
-    if needs(tree) > u64::from(session.left()) {
+    if is_spent(session, tree, text) {
         return Err(TsError::Spent);
     }
     check_scopes(alloc, tree)?;
     Ok(())
+}
+
+/// Whether fewer contexts are left than the tree of a text needs. What it needs is counted by a walk over the whole tree, and is bounded by the bytes
+/// of the text: where as many are left as that bound, nothing is counted. A run has always as many, since it begins with all contexts.
+fn is_spent(session: &Session, tree: &Module, text: &str) -> bool
+    requires short { length text.now ≤ LIMIT }
+    requires read { reads_as text.now typescript deepest ≡ Ok tree.now }
+    ensures { IsTrue result ↔ (session.now.left < needed tree.now) }
+{
+    let left = u64::from(session.left());
+    left < most_needed(text) && left < needs(tree)
+}
+
+/// How many contexts what is read of a text needs at most: a hundred for each of its bytes, and twenty more.
+fn most_needed(text: &str) -> u64
+    requires { length text.now ≤ LIMIT }
+    ensures { ReadingNeedsAtMost text.now result }
+{
+    needed_is_bounded_by_the_text();
+    100 * text.len() as u64 + 20
 }
 
 /// Converts a tree that nothing refuses.
