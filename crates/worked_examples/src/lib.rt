@@ -8,8 +8,6 @@ mod fitting;
 #[cfg(test)]
 mod printing;
 #[cfg(test)]
-mod reading;
-#[cfg(test)]
 mod rules;
 #[cfg(test)]
 mod scopes;
