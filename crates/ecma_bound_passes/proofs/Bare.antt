@@ -15,7 +15,7 @@ use Rattle.ecma_rules.proofs.Layers.{from_leaves_out}
 use Rattle.ecma_fits.specs.declared.role.Role.{Role}
 use Rattle.ecma_fits.specs.Roles.{is_name, role_in}
 use Rattle.ecma_bind.specs.Binding.{binds, bound_at, first_or, is_name_under_types, is_typed_name, names_step, under_types}
-use Rattle.ecma_bound_names.proofs.Alike.{bound_parts, typed_parts, usual_children, usual_kind, usual_span}
+use Rattle.ecma_bound_names.proofs.Alike.{bound_parts, usual_children, usual_kind, usual_span}
 use Rattle.ecma_bound_names.proofs.Bound.{bound_each, by_children, children_of, typed_is, usual_is}
 
 module _ (context_of : List ℕ → ℕ → ℕ) where

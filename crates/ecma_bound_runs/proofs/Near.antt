@@ -1,5 +1,5 @@
 -- A node with bound names means the same as a target, wherever it stands.
-use Rattle.std.proofs.Common.{◌≡◌, ◌∙◌, inl, inr, ℕ, suc, zero, Bool, true, false, ◌==◌, cond, List, [], ◌∷◌, map, length, Some, refl, sym, ap, ap₂, subst, slice_get, arith}
+use Rattle.std.proofs.Common.{◌≡◌, ◌∙◌, inr, ℕ, suc, Bool, true, false, ◌==◌, cond, List, [], ◌∷◌, map, length, Some, refl, sym, ap, ap₂, slice_get, arith}
 use Rattle.std.proofs.lemmas.Bool.{eqb-true}
 use Rattle.ecma_kind.specs.Sorts.{is_type_wrapper}
 use Rattle.ecma_kind.specs.declared.kind.Kind.{Kind}

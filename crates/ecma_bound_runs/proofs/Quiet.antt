@@ -1,12 +1,12 @@
 -- Where a node stands matters to its bound names in what is assigned to alone.
-use Rattle.std.proofs.Common.{◌≡◌, ◌∙◌, ◌⊎◌, inl, inr, ℕ, suc, Bool, true, false, ◌&&◌, ◌==◌, cond, List, [], ◌∷◌, map, Some, refl, sym, ap, ap₂, slice_get, arith}
+use Rattle.std.proofs.Common.{◌≡◌, ◌∙◌, ◌⊎◌, inl, inr, ℕ, suc, Bool, true, false, ◌==◌, cond, List, [], ◌∷◌, Some, refl, sym, ap, ap₂, slice_get}
 use Rattle.ecma_kind.specs.declared.kind.Kind.{Kind}
 use Rattle.ecma_kind.specs.declared.kind.Kind.TheVariants as kind
 use Rattle.ecma_tree.specs.declared.node.Node.{Node}
 use Rattle.ecma_rules.specs.Children.{kind_of}
 use Rattle.ecma_fits.specs.declared.role.Role.{Role}
 use Rattle.ecma_fits.specs.declared.role.Role.TheVariants as role
-use Rattle.ecma_fits.specs.Roles.{at_child, bound_name_of, by, in_default, in_list, in_pattern, in_rest, in_template, is_assigned, role_in}
+use Rattle.ecma_fits.specs.Roles.{bound_name_of, by, in_default, in_list, in_rest, in_template, is_assigned, role_in}
 use Rattle.ecma_bind.specs.Binding.{binds, bound_at, with_children}
 use Rattle.ecma_bound_names.proofs.Alike.{quiet_usual}
 use Rattle.ecma_bound_names.proofs.Bound.{bound_each, by_children, children_of, usual_is}

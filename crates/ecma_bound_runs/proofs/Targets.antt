@@ -1,6 +1,5 @@
 -- What a pattern that is assigned to means is made of what its parts mean as targets.
-use Rattle.std.proofs.Common.{◌≡◌, ◌∙◌, ℕ, Bool, List, [], ◌∷◌, ◌++◌, map, Option, None, refl, sym, ap, ap₂}
-use Rattle.ecma_kind.specs.declared.kind.Kind.{Kind}
+use Rattle.std.proofs.Common.{◌≡◌, ◌∙◌, Bool, List, [], ◌∷◌, ◌++◌, map, None, refl, sym, ap, ap₂}
 use Rattle.ecma_kind.specs.declared.kind.Kind.TheVariants as kind
 use Rattle.ecma_kind.specs.declared.operators.AssignOp.TheVariants.{Assign}
 use Rattle.ecma_tree.specs.declared.node.Node.{Node}

@@ -1,5 +1,5 @@
 -- What assigns to a pattern means the same of a tree with bound names.
-use Rattle.std.proofs.Common.{◌≡◌, ◌∙◌, inr, ℕ, suc, Bool, true, false, ◌==◌, cond, List, [], ◌∷◌, map, Some, refl, sym, ap, slice_get}
+use Rattle.std.proofs.Common.{◌≡◌, ◌∙◌, inr, ℕ, suc, Bool, true, false, ◌==◌, cond, List, [], ◌∷◌, map, Some, refl, ap, slice_get}
 use Rattle.ecma_kind.specs.declared.kind.Kind.{Kind}
 use Rattle.ecma_kind.specs.declared.kind.Kind.TheVariants as kind
 use Rattle.ecma_kind.specs.declared.operators.AssignOp.TheVariants.{Assign}

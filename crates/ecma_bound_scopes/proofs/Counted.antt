@@ -1,9 +1,8 @@
 -- A tree with bound names takes as many contexts.
-use Rattle.std.proofs.Common.{◌≡◌, ◌∙◌, ◌⊎◌, inl, inr, ℕ, zero, suc, ◌+◌, Bool, true, false, not, ◌&&◌, cond, List, [], ◌∷◌, map, length, Some, refl, sym, ap, ap₂, slice_get}
-use Rattle.ecma_kind.specs.declared.kind.Kind.{Kind}
+use Rattle.std.proofs.Common.{◌≡◌, ◌∙◌, ◌⊎◌, inl, inr, ℕ, suc, ◌+◌, Bool, true, false, not, ◌&&◌, cond, List, [], ◌∷◌, map, length, Some, refl, sym, ap, ap₂, slice_get}
 use Rattle.ecma_kind.specs.declared.kind.Kind.TheVariants as kind
 use Rattle.ecma_kind.specs.declared.shapes.Shape.{Shape}
-use Rattle.ecma_tree.specs.declared.node.Node.{Node, Node-F, out-Node}
+use Rattle.ecma_tree.specs.declared.node.Node.{Node, Node-F}
 use Rattle.ecma_tree.specs.declared.node.Node.TheViews.{out-roll-Node}
 use Rattle.ecma_tree.specs.Nodes.{absent}
 use Rattle.ecma_tree.specs.Sorted.{HasShape, child_shapes}
@@ -13,7 +12,7 @@ use Rattle.ecma_fits.specs.declared.role.Role.{Role}
 use Rattle.ecma_fits.specs.Roles.{role_in}
 use Rattle.ecma_scope.specs.declared.role.Role.{Role as Standing}
 use Rattle.ecma_scope.specs.Resolved.{context_count, count_step, counted, taken}
-use Rattle.ecma_scope.specs.Scopes.{is_root, is_there, opens, role_in as seen_in}
+use Rattle.ecma_scope.specs.Scopes.{is_root, is_there, role_in as seen_in}
 use Rattle.ecma_scope.proofs.Layers.{from_leaves_out}
 use Rattle.ecma_strip_fits.proofs.Lists.{have_at}
 use Rattle.ecma_strip_fits.proofs.Walk.{shape_parts}

@@ -1,5 +1,5 @@
 -- Scopes declare the same names in a tree with bound names.
-use Rattle.std.proofs.Common.{◌≡◌, ◌∙◌, inl, inr, ℕ, zero, suc, ◌+◌, Bool, true, false, not, ◌&&◌, ◌==◌, cond, List, [], ◌∷◌, ◌++◌, map, Option, Some, None, refl, sym, ap, ap₂, slice_get, arith}
+use Rattle.std.proofs.Common.{◌≡◌, ◌∙◌, inl, inr, ℕ, zero, suc, ◌+◌, Bool, true, false, not, ◌==◌, cond, List, [], ◌∷◌, ◌++◌, map, Option, Some, None, refl, sym, ap, ap₂, slice_get, arith}
 use Rattle.std.specs.Prelude.{filter}
 use Rattle.std.proofs.lemmas.Bool.{true≢false}
 use Rattle.ecma_kind.specs.Sorts.{is_type_wrapper}
@@ -7,7 +7,6 @@ use Rattle.ecma_kind.specs.declared.kind.Kind.{Kind}
 use Rattle.ecma_kind.specs.declared.kind.Kind.TheVariants as kind
 use Rattle.ecma_kind.specs.declared.operators.AssignOp.{AssignOp}
 use Rattle.ecma_tree.specs.declared.node.Node.{Node, Node-F}
-use Rattle.ecma_tree.specs.Nodes.{absent}
 use Rattle.ecma_rules.specs.Children.{kind_of}
 use Rattle.ecma_rules.specs.Finishing.{binding}
 use Rattle.ecma_fits.specs.declared.role.Role.{Role}
@@ -15,7 +14,6 @@ use Rattle.ecma_fits.specs.declared.role.Role.TheVariants as role
 use Rattle.ecma_fits.specs.Roles.{role_in}
 use Rattle.ecma_scope.specs.declared.role.Role.{Role as Standing}
 use Rattle.ecma_scope.specs.declared.role.Role.TheVariants as standing
-use Rattle.ecma_scope.specs.declared.form.Form.{Form}
 use Rattle.ecma_scope.specs.declared.form.Declaration.{Declaration}
 use Rattle.ecma_scope.specs.declared.form.Part.{Part}
 use Rattle.ecma_scope.specs.declared.form.Part.TheVariants as part
@@ -23,8 +21,8 @@ use Rattle.ecma_scope.specs.declared.form.Sought.{Sought}
 use Rattle.ecma_scope.specs.Declarations.{declarations, declared_here, declared_step, found_at, found_in, holds_vars, in_default, in_item, in_member, in_name, in_scope, in_var, is_own, is_value, names, own_part, sought_by, sought_in, vars_of}
 use Rattle.ecma_scope.specs.Scopes.{is_ambient}
 use Rattle.ecma_scope.proofs.Layers.{from_leaves_out}
-use Rattle.ecma_bind.specs.Binding.{binds, bound_at, is_typed_name, under_types}
-use Rattle.ecma_bound_names.proofs.Alike.{Six, bound_parts, six_at, typed_parts, usual_children, usual_kind}
+use Rattle.ecma_bind.specs.Binding.{bound_at, is_typed_name, under_types}
+use Rattle.ecma_bound_names.proofs.Alike.{bound_parts, six_at, typed_parts, usual_children, usual_kind}
 use Rattle.ecma_bound_names.proofs.Bound.{bound_each, by_children, children_of, typed_is}
 use Rattle.ecma_bound_runs.proofs.Quiet.{AsGood, Quiet, as_good, assigns, hands_on, quiet_binds, quiet_in}
 use Rattle.ecma_bound_runs.proofs.Tops.{free_quiet, takes_target}

@@ -1,5 +1,5 @@
 -- A tree with bound names is, with its contexts, the tree with its contexts whose names are bound.
-use Rattle.std.proofs.Common.{◌≡◌, ◌∙◌, ◌⊎◌, inl, inr, ℕ, zero, suc, ◌-◌, Bool, true, false, not, ◌&&◌, ◌||◌, cond, List, [], ◌∷◌, ◌++◌, map, Some, refl, sym, ap, ap₂, slice_get}
+use Rattle.std.proofs.Common.{◌≡◌, ◌∙◌, ◌⊎◌, inl, inr, ℕ, suc, ◌-◌, Bool, true, false, not, ◌&&◌, ◌||◌, cond, List, [], ◌∷◌, ◌++◌, map, Some, refl, sym, ap, ap₂, slice_get}
 use Rattle.std.proofs.lemmas.Bool.{true≢false}
 use Rattle.ecma_kind.specs.Sorts.{is_type_wrapper}
 use Rattle.ecma_kind.specs.declared.kind.Kind.{Kind}
@@ -7,7 +7,7 @@ use Rattle.ecma_kind.specs.declared.kind.Kind.TheVariants as kind
 use Rattle.ecma_kind.specs.declared.shapes.Shape.{Shape}
 use Rattle.ecma_kind.specs.declared.shapes.Sort.TheVariants as sort
 use Rattle.ecma_tree.specs.declared.node.Node.{Node, Node-F, fold_out-Node, out-Node, roll-Node}
-use Rattle.ecma_tree.specs.declared.node.Node.TheViews.{out-roll-Node, roll-out-Node}
+use Rattle.ecma_tree.specs.declared.node.Node.TheViews.{out-roll-Node}
 use Rattle.ecma_tree.specs.Nodes.{absent, node_of}
 use Rattle.ecma_tree.specs.Sorted.{HasShape, one}
 use Rattle.ecma_rules.specs.Children.{kind_of}
@@ -21,15 +21,15 @@ use Rattle.ecma_scope.specs.declared.role.Role.{Role as Standing}
 use Rattle.ecma_scope.specs.declared.role.Role.TheVariants as standing
 use Rattle.ecma_scope.specs.Declarations.{stated}
 use Rattle.ecma_scope.specs.Resolved.{Place, context_count, innermost, inside, kind_at, nowhere, placed, resolve_step, resolved_at, scope_at, taken}
-use Rattle.ecma_scope.specs.Scopes.{covers, is_root, is_there, role_in as seen_in}
+use Rattle.ecma_scope.specs.Scopes.{covers, is_root, is_there}
 use Rattle.ecma_scope.proofs.Layers.{from_leaves_out}
-use Rattle.ecma_bind.specs.Binding.{binds, bound_at, first_or, is_name_under_types, is_typed_name, names_step, under_types, with_children}
+use Rattle.ecma_bind.specs.Binding.{binds, bound_at, first_or, is_name_under_types, is_typed_name, names_step, under_types}
 use Rattle.ecma_bound_names.proofs.Alike.{bound_parts, typed_parts, usual_children, usual_kind, usual_span}
 use Rattle.ecma_bound_names.proofs.Bound.{bound_each, by_children, children_of, typed_is, usual_is}
 use Rattle.ecma_bound_scopes.specs.Laws.{BoundNamesResolveAlike}
-use Rattle.ecma_bound_scopes.proofs.Counted.{Shaped, absent_leaf, binding_children, binding_closed, child_shaped, count_same, none_taken}
+use Rattle.ecma_bound_scopes.proofs.Counted.{Shaped, binding_closed, child_shaped, count_same}
 use Rattle.ecma_bound_scopes.proofs.Declared.{names_same}
-use Rattle.ecma_bound_scopes.proofs.Sights.{Leaf, Plain, Sides, Wrapped, closed_opens, closed_role, is_closed, opens_same, seen_same, under_plain, view}
+use Rattle.ecma_bound_scopes.proofs.Sights.{Plain, Wrapped, closed_opens, closed_role, is_closed, opens_same, seen_same, under_plain, view}
 
 module _ (unresolved top : ℕ) where
   abbrev at_place : Node → Place → ℕ → Node

@@ -1,5 +1,5 @@
 -- What scopes see of a node is the same of a tree with bound names.
-use Rattle.std.proofs.Common.{◌≡◌, ◌∙◌, ◌⊎◌, inl, inr, ℕ, zero, suc, Bool, true, false, not, cond, List, [], ◌∷◌, map, length, Some, refl, sym, ap, ap₂, slice_get, subst}
+use Rattle.std.proofs.Common.{◌≡◌, ◌∙◌, ◌⊎◌, inl, inr, ℕ, zero, suc, Bool, true, false, not, List, [], ◌∷◌, map, length, Some, refl, sym, ap, ap₂, slice_get, subst}
 use Rattle.ecma_kind.specs.Sorts.{belongs, is_type_wrapper}
 use Rattle.ecma_kind.specs.declared.kind.Kind.{Kind}
 use Rattle.ecma_kind.specs.declared.kind.Kind.TheVariants as kind

@@ -1,10 +1,9 @@
 -- The same names are declared again in a tree with bound names.
-use Rattle.std.proofs.Common.{◌≡◌, ◌∙◌, ◌⊎◌, inl, inr, ℕ, zero, suc, Bool, true, false, not, ◌&&◌, ◌||◌, cond, List, [], ◌∷◌, ◌++◌, map, Option, Some, refl, sym, ap, ap₂, slice_get}
+use Rattle.std.proofs.Common.{◌≡◌, ◌∙◌, ◌⊎◌, inl, inr, ℕ, suc, Bool, true, false, not, ◌&&◌, ◌||◌, cond, List, [], ◌∷◌, ◌++◌, map, Option, Some, refl, sym, ap, ap₂, slice_get}
 use Rattle.std.specs.Prelude.{filter}
-use Rattle.ecma_kind.specs.declared.kind.Kind.{Kind}
 use Rattle.ecma_kind.specs.declared.shapes.Shape.{Shape}
 use Rattle.ecma_kind.specs.declared.shapes.Sort.TheVariants as sort
-use Rattle.ecma_tree.specs.declared.node.Node.{Node, out-Node}
+use Rattle.ecma_tree.specs.declared.node.Node.{Node}
 use Rattle.ecma_tree.specs.Nodes.{absent}
 use Rattle.ecma_tree.specs.Sorted.{HasShape, one}
 use Rattle.ecma_rules.specs.Children.{kind_of}
@@ -18,8 +17,8 @@ use Rattle.ecma_scope.specs.declared.form.Declaration.{Declaration}
 use Rattle.ecma_scope.specs.declared.form.Part.TheVariants as part
 use Rattle.ecma_scope.specs.declared.form.Sought.{Sought}
 use Rattle.ecma_scope.specs.Conflicts.{Surrounding, clash_step, clashes_in, clashing, is_further_out, marked, nothing, own_clashes, passing, redeclared_at, surrounds}
-use Rattle.ecma_scope.specs.Declarations.{declarations, holds_vars, names, stated}
-use Rattle.ecma_scope.specs.Scopes.{covers, is_ambient, is_there, opens, role_in as seen_in}
+use Rattle.ecma_scope.specs.Declarations.{holds_vars, stated}
+use Rattle.ecma_scope.specs.Scopes.{covers, is_ambient, is_there, opens}
 use Rattle.ecma_scope.proofs.Layers.{from_leaves_out}
 use Rattle.ecma_bind.specs.Binding.{bound_at, is_name_under_types, is_typed_name, under_types}
 use Rattle.ecma_bound_names.proofs.Alike.{typed_parts, usual_children, usual_kind}

@@ -1,5 +1,5 @@
 -- Final texts exist, and are determined.
-use Rattle.std.specs.Prelude.{◌≡◌, ℕ, ◌+◌, ◌^◌, ◌<◌, ◌≤◌, length}
+use Rattle.std.specs.Prelude.{◌≡◌, ◌+◌, ◌^◌, ◌<◌, ◌≤◌, length}
 use Rattle.ecma_tree.specs.declared.node.Node.{Node}
 use Rattle.ecma_scope.specs.Needs.{needed}
 use Rattle.ecma_scope.specs.Resolved.{contexts}

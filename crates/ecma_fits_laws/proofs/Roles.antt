@@ -22,7 +22,7 @@ use Rattle.ecma_rules.specs.Failing.{least_from}
 use Rattle.ecma_rules.specs.Finishing.{binding, default_by, each_in, element_by, finished_at, finished_by, left_by, name_by, part_by, property_by, with_kind, with_type}
 use Rattle.ecma_rules.specs.Rules.{first_misplaced, is_misplaced}
 use Rattle.ecma_rules.specs.Targets as targets
-use Rattle.ecma_rules.specs.Targets.{first_is, is_no_target, is_plain_target, is_property, is_short_default, is_simple_target, is_spread, is_stray_default, is_wrapper, simple_step, target_in}
+use Rattle.ecma_rules.specs.Targets.{is_plain_target, is_short_default, is_simple_target, is_spread, is_wrapper, target_in}
 use Rattle.ecma_fits.specs.declared.unfit.Where.{Where}
 use Rattle.ecma_fits.specs.declared.role.Role.{Role}
 use Rattle.ecma_fits.specs.declared.role.Role.TheVariants as role

@@ -1,7 +1,7 @@
 -- What meets an ask meets each wider one.
 use Rattle.std.proofs.Common.{◌≡◌, inr, ℕ, zero, suc, Bool, true, false, ◌&&◌, ◌||◌, length, refl, sym, ap, ap₂, subst}
 use denote.Enum.Bare.{same_true}
-use Rattle.ecma_kind.specs.Sorts.{belongs, is_expr, is_pattern, is_stmt, is_module_decl}
+use Rattle.ecma_kind.specs.Sorts.{is_expr, is_pattern, is_stmt, is_module_decl}
 use Rattle.ecma_kind.specs.contracts.shapes.Sort as contracts_sort
 use Rattle.ecma_kind.specs.contracts.shapes.Count as contracts_count
 use Rattle.ecma_kind.specs.declared.kind.Kind.{Kind}

@@ -1,5 +1,5 @@
 -- A map of names that is one to one keeps runs, where an import with both names has its text from the second.
-use Rattle.std.proofs.Common.{◌≡◌, ℕ, ◌++◌, inl, refl, sym, ap, ap₂, ◌∙◌, subst, List, [], ◌∷◌, map, None, Bool, true, false, cond, add-zero, bytes_eq, codes}
+use Rattle.std.proofs.Common.{◌≡◌, ℕ, ◌++◌, refl, sym, ap, ap₂, ◌∙◌, subst, List, [], ◌∷◌, map, None, Bool, true, false, cond, add-zero, bytes_eq, codes}
 use Rattle.ecma_kind.specs.declared.kind.Kind.{Kind}
 use Rattle.ecma_kind.specs.declared.kind.Kind.TheVariants as kind
 use Rattle.ecma_tree.specs.declared.node.Node.{Node, Node-F, fold-roll-Node, ind-Node, out-Node, roll-Node}

@@ -15,7 +15,7 @@ use Rattle.ecma_grammar.specs.declared.production.Form.TheVariants as form
 use Rattle.ecma_grammar.specs.trees.Parts.{children_of}
 use Rattle.ecma_grammar.specs.trees.Plain.{plain_kind}
 use Rattle.ecma_grammar.specs.Grammar as grammar
-use Rattle.ecma_grammar.specs.Grammar.{Grammar, the_word, the_punct, any}
+use Rattle.ecma_grammar.specs.Grammar.{Grammar, the_word}
 use Rattle.ecma_spelling.specs.Everywhere.{Each, Everywhere, more, none}
 use Rattle.ecma_spelling.proofs.Trees.{good_absent}
 use Rattle.ecma_fits_laws.proofs.Walks.{not_true}

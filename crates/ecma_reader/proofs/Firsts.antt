@@ -12,7 +12,7 @@ use Rattle.ecma_lex.specs.Keys.{key_end, word_end}
 use Rattle.ecma_lex.specs.Punctuators.{begins_with, is_longest, punct_end, angle_end}
 use Rattle.ecma_lex.specs.Templates.{template_text, template_text_end, any_template_text_end, template_characters, found_template_text}
 use Rattle.ecma_lex.specs.Strings.{quoted, string_literal, str_end, str_lit}
-use Rattle.ecma_number.specs.Numeral.{Reading, or_read, then_read, non_decimal_integer_literal, decimal_integer, digits, big_int_literal, integer_literal}
+use Rattle.ecma_number.specs.Numeral.{non_decimal_integer_literal, decimal_integer, digits, big_int_literal, integer_literal}
 use Rattle.ecma_lex.specs.Numerals.{num_end, big_end}
 use Rattle.ecma_lex.specs.Tokens.{word, punct, angle, num, big, found}
 use Rattle.ecma_lex.proofs.Steps.{ascii_here}

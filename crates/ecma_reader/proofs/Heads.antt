@@ -1,14 +1,12 @@
 -- Where the head of a grammar fails by the tokens ahead, the grammar does: its head is what it asks for first.
-use Rattle.std.proofs.Common.{◌≡◌, ℕ, max, Bool, true, false, List, Option, Some, None, if◌then◌else◌, refl, ap, sym, ◌∙◌, subst, arith}
-use Rattle.ecma_lex.specs.declared.blanks.Skipped.{Skipped}
+use Rattle.std.proofs.Common.{◌≡◌, ℕ, max, true, false, List, refl, arith}
 use Rattle.ecma_lex.specs.Blanks.{skipped}
 use Rattle.ecma_grammar.specs.declared.production.Mode.{Mode}
 use Rattle.ecma_grammar.specs.declared.production.Flag.{Flag}
 use Rattle.ecma_grammar.specs.declared.production.Form.{Form}
-use Rattle.ecma_grammar.specs.declared.production.Part.{Part}
 use Rattle.ecma_grammar.specs.Grammar as grammar
-use Rattle.ecma_grammar.specs.Grammar.{Terminal, Grammar, ◌▸◌, same_line, put, marked, ahead, build}
-use Rattle.ecma_reader.specs.Outlook.{Fails, then_outlook, ahead_outlook, build_outlook, outlook}
+use Rattle.ecma_grammar.specs.Grammar.{Grammar, ◌▸◌, same_line, put, marked, ahead, build}
+use Rattle.ecma_reader.specs.Outlook.{Fails, outlook}
 
 -- as far as the head is known to fail, the whole does
 abbrev pub IsHead : List ℕ → ℕ → Mode → Grammar → Grammar → Type 0

@@ -1,5 +1,5 @@
 -- What is known of a reading by the tokens that stand ahead is so.
-use Rattle.std.proofs.Common.{◌≡◌, ℕ, suc, max, Bool, true, false, List, [], ◌∷◌, ◌++◌, length, Result, Ok, Err, if◌then◌else◌, refl, ap, sym, ◌∙◌, add-one, arith}
+use Rattle.std.proofs.Common.{◌≡◌, ℕ, suc, max, Bool, true, false, List, [], ◌∷◌, ◌++◌, length, Result, Ok, Err, if◌then◌else◌, refl, ap, ◌∙◌, add-one, arith}
 use Rattle.ecma_lex.specs.declared.tokens.Token.{Token}
 use Rattle.ecma_lex.specs.declared.tokens.NoToken.{NoToken}
 use Rattle.ecma_lex.specs.declared.blanks.Skipped.{Skipped}

@@ -1,5 +1,5 @@
 -- What remains of a choice is read as the choice is.
-use Rattle.std.proofs.Common.{◌≡◌, ℕ, ◌+◌, ◌<◌, ◌≤◌, max, Bool, true, false, List, refl, ap, sym, ◌∙◌, subst, arith}
+use Rattle.std.proofs.Common.{◌≡◌, ℕ, ◌<◌, ◌≤◌, max, Bool, true, false, List, refl, sym, ◌∙◌, subst, arith}
 use Rattle.ecma_lex.specs.Blanks.{skipped}
 use Rattle.ecma_grammar.specs.declared.production.Mode.{Mode}
 use Rattle.ecma_grammar.specs.declared.productions.glances.Glance.{Glance}
@@ -9,11 +9,10 @@ use Rattle.ecma_grammar.specs.Grammar as grammar
 use Rattle.ecma_grammar.specs.Grammar.{Grammar}
 use Rattle.ecma_grammar.specs.Reading.{Position, fails}
 use Rattle.ecma_grammar.specs.Reads.{Parts, reads}
-use Rattle.ecma_grammar.specs.Written.{written}
 use Rattle.ecma_grammar.specs.Glance.{Sight, unknown, passes, rests, stays, sight, is_failing, leads_nowhere, remainder, Remains, Says}
 use Rattle.ecma_grammar.specs.Glance as seen
 use Rattle.ecma_reader.specs.Outlook.{Fails, outlook, IsSeen, Tells}
-use Rattle.ecma_reader.proofs.Outlooks.{raised, Foresees, foreseen}
+use Rattle.ecma_reader.proofs.Outlooks.{Foresees, foreseen}
 use Rattle.ecma_reader.proofs.Sights.{sees-fails, sees-passes}
 use Rattle.ecma_reader.proofs.Sizes.{size}
 

@@ -18,12 +18,9 @@ use Rattle.ecma_grammar.specs.productions.Patterns.{pattern_body, pattern_elemen
 use Rattle.ecma_grammar.specs.productions.Functions as functions
 use Rattle.ecma_grammar.specs.productions.Expressions as expressions
 use Rattle.ecma_grammar.specs.productions.Operators as operators
-use Rattle.ecma_grammar.specs.productions.Operators.{factors, terms, shifts, relations, equalities}
-use Rattle.ecma_grammar.specs.productions.Expressions.{assignments}
 use Rattle.ecma_grammar.specs.productions.Primary as primaries
 use Rattle.ecma_grammar.specs.productions.Primary.{element, spread, array}
 use Rattle.ecma_grammar.specs.productions.Chains as chains
-use Rattle.ecma_grammar.specs.productions.Chains.{links}
 use Rattle.ecma_grammar.specs.productions.Classes as classes
 use Rattle.ecma_grammar.specs.productions.Declarations as declarations
 use Rattle.ecma_grammar.specs.productions.Statements as statements

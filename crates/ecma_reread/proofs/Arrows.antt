@@ -25,7 +25,7 @@ use Rattle.ecma_tokens.specs.Items as items
 use Rattle.ecma_tokens.specs.Items.{sign, no_gap, Gap, Items, it}
 use Rattle.ecma_reread.specs.Machine.{read, with_front, or_on, built_on, interp, means}
 use Rattle.ecma_reread.specs.Shapes as shapes
-use Rattle.ecma_reread.specs.Shapes.{Role, IsElement, IsArguments, AreElements}
+use Rattle.ecma_reread.specs.Shapes.{Role, IsArguments, AreElements}
 use Rattle.ecma_reread.specs.Tokens.{arguments_tokens, elements_tokens}
 use Rattle.ecma_reread.specs.Signs.{blank}
 use Rattle.ecma_reread.specs.Bare.{bare_element, bare_arguments, bare_elements}

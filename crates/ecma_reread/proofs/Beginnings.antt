@@ -9,14 +9,14 @@ use Rattle.ecma_kind.specs.declared.operators.BinaryOp.{BinaryOp}
 use Rattle.ecma_lex.specs.Punctuators.{punctuators}
 use Rattle.ecma_tree.specs.declared.node.Node.{Node}
 use Rattle.ecma_tokens.specs.Items as items
-use Rattle.ecma_tokens.specs.Items.{Tok, sign, Gap, no_gap, Items, ends, it, render, token_text}
+use Rattle.ecma_tokens.specs.Items.{Tok, sign, Gap, no_gap, Items, it}
 use Rattle.ecma_tokens.specs.Taking.{refused, new_line_in, punct_in}
 use Rattle.ecma_tokens.specs.Joins.{joins_next}
 use Rattle.ecma_print.specs.declared.place.Beside.{Beside}
 use Rattle.ecma_print.specs.declared.place.Beside.TheVariants.{NoNeighbor}
 use Rattle.ecma_print.specs.Operators.{unary_sign, update_sign}
 use Rattle.ecma_reread.specs.Shapes as shapes
-use Rattle.ecma_reread.specs.Shapes.{Level, looser_than, IsOperator, IsIdent, ident, IsKey, key, IsExpression, IsElement, IsArguments, AreElements, AreExpressions, IsInitializer, IsDeclarator, AreDeclarators, AreSlots, IsMemberLevel, IsIndexed, IsChainKey, AreProperties, IsPropertyName, IsProperty, IsDefaulted, IsPattern, Role, IsChainLink}
+use Rattle.ecma_reread.specs.Shapes.{Level, looser_than, IsOperator, key, IsExpression, IsElement, IsInitializer, AreSlots, IsMemberLevel, IsIndexed, AreProperties, IsPropertyName, IsProperty, IsDefaulted, IsPattern, Role, IsChainLink}
 use Rattle.ecma_reread.specs.LiteralTexts.{regex_text, part_text}
 use Rattle.ecma_reread.specs.Tokens.{own_sign, ident_word, key_word, expression_tokens, element_tokens, arguments_tokens, more_tokens, slots_tokens, more_slots_tokens, chain_token, properties_tokens, more_properties_tokens, property_tokens, initializer_tokens, defaulted_tokens, pattern_tokens, part_token, parts_tokens, ends_here, first_raw, block_tokens, is_generator, is_async, function_tokens, function_name_tokens, class_tokens, property_name_tokens}
 use Rattle.ecma_reread.specs.Signs.{blank, sign_of, assign_token, update_token, unary_token, binary_token, unary_gap, star_of, star_word, function_word, point_of, question_of, method_tokens}

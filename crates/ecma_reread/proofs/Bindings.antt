@@ -12,7 +12,7 @@ use Rattle.ecma_grammar.specs.declared.production.Form.TheVariants as form
 use Rattle.ecma_grammar.specs.trees.Parts.{kind_of, in_front}
 use Rattle.ecma_grammar.specs.trees.Chains.{steps, in_front_logical, is_or}
 use Rattle.ecma_grammar.specs.Grammar as grammar
-use Rattle.ecma_grammar.specs.Grammar.{Grammar, ◌▸◌, ◌//◌, build, word, punct, optional}
+use Rattle.ecma_grammar.specs.Grammar.{Grammar, ◌▸◌, ◌//◌, build, punct, optional}
 use Rattle.ecma_grammar.specs.productions.Names.{expression}
 use Rattle.ecma_grammar.specs.productions.Types.{params}
 use Rattle.ecma_grammar.specs.productions.Functions.{arrow_rest, arrow_body}

@@ -23,10 +23,10 @@ use Rattle.ecma_grammar.specs.productions.Primary.{element, spread}
 use Rattle.ecma_grammar.specs.productions.Chains as chains
 use Rattle.ecma_grammar.specs.productions.Chains.{arguments, links}
 use Rattle.ecma_tokens.specs.Items as items
-use Rattle.ecma_tokens.specs.Items.{Tok, sign, Gap, no_gap, Items, it}
+use Rattle.ecma_tokens.specs.Items.{Tok, sign, no_gap, Items, it}
 use Rattle.ecma_reread.specs.Machine.{with_front}
 use Rattle.ecma_reread.specs.Shapes as shapes
-use Rattle.ecma_reread.specs.Shapes.{Level, IsPlainName, IsIdent, ident, IsKey, key, IsExpression, IsElement, AreSlots, IsProperty, AreProperties, IsArguments, AreElements, AreExpressions, IsMemberLevel, IsIndexed, IsConstructor, Role, IsPattern, IsDefaulted, IsInitializer, AreParts, IsChainLink}
+use Rattle.ecma_reread.specs.Shapes.{Level, IsPlainName, IsIdent, ident, key, IsArguments, AreElements, IsMemberLevel, IsIndexed, IsConstructor, AreParts, IsChainLink}
 use Rattle.ecma_reread.specs.Tokens.{ident_word, element_tokens, arguments_tokens, elements_tokens, part_token, parts_tokens}
 use Rattle.ecma_reread.specs.Signs.{blank, point_of, question_of}
 use Rattle.ecma_reread.specs.Bare.{bare, bare_element, bare_arguments, bare_elements, bare_substitutions, bare_parts}

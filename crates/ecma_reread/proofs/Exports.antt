@@ -16,11 +16,11 @@ use Rattle.ecma_grammar.specs.productions.Modules as productions
 use Rattle.ecma_grammar.specs.productions.Modules.{import_equals, from, export_specifier, export_names, export_star_as, export_star, export_default, export, module_item}
 use Rattle.ecma_print.specs.Statements.{keyword}
 use Rattle.ecma_tokens.specs.Items as items
-use Rattle.ecma_tokens.specs.Items.{sign, Gap, Items, it}
+use Rattle.ecma_tokens.specs.Items.{Gap, Items, it}
 use Rattle.ecma_reread.proofs.Classes.{class_declaration_read}
 use Rattle.ecma_reread.specs.Machine.{fails, built_on, with_front, or_on, interp, means, without}
 use Rattle.ecma_reread.specs.Shapes as shapes
-use Rattle.ecma_reread.specs.Shapes.{IsExpression, Ending, IsStatement}
+use Rattle.ecma_reread.specs.Shapes.{Ending, IsStatement}
 use Rattle.ecma_reread.specs.Modules as modules
 use Rattle.ecma_reread.specs.Modules.{IsString, IsExportName, IsWithClause, IsNamedExport, AreNamedExports, IsExportClause, is_declaration}
 use Rattle.ecma_reread.specs.Tokens.{statement_tokens, ident_word}

@@ -28,7 +28,7 @@ use Rattle.ecma_grammar.specs.productions.Modules as modules
 use Rattle.ecma_grammar.specs.productions.Modules.{module_item}
 use Rattle.ecma_print.specs.Statements.{keyword}
 use Rattle.ecma_tokens.specs.Items as items
-use Rattle.ecma_tokens.specs.Items.{Tok, sign, Gap, no_gap, Items, it}
+use Rattle.ecma_tokens.specs.Items.{sign, Gap, no_gap, Items, it}
 use Rattle.ecma_reread.specs.Machine.{read, or_on, interp, means, many_up_to, fails}
 use Rattle.ecma_reread.specs.Shapes as shapes
 use Rattle.ecma_reread.specs.Shapes.{Ending, IsOptional, IsForInit, IsDeclarator, AreDeclarators, IsPattern}

@@ -7,7 +7,7 @@ use Rattle.ecma_kind.specs.declared.kind.Kind.{Kind}
 use Rattle.ecma_kind.specs.declared.kind.Kind.TheVariants as kind
 use Rattle.ecma_tree.specs.declared.node.Node.{Node}
 use Rattle.ecma_reread.specs.Shapes as shapes
-use Rattle.ecma_reread.specs.Shapes.{Level, IsExpression, AreExpressions, IsMemberLevel, IsIndexed}
+use Rattle.ecma_reread.specs.Shapes.{Level, IsMemberLevel, IsIndexed}
 use Rattle.ecma_reread.specs.Heads.{may_hold_by}
 use Rattle.ecma_reread.proofs.Forms.{Laid}
 use Rattle.ecma_reread.proofs.Bindings.{StandsIn, Stands}

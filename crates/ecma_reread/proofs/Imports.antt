@@ -10,7 +10,7 @@ use Rattle.ecma_tokens.specs.Items as items
 use Rattle.ecma_tokens.specs.Items.{Gap, Items, it}
 use Rattle.ecma_reread.specs.Machine.{with_front}
 use Rattle.ecma_reread.specs.Modules as modules
-use Rattle.ecma_reread.specs.Modules.{IsString, IsWithClause, IsDefaultImport, IsNamespaceImport, IsNamedImport, AreNamedImports, IsImportClause}
+use Rattle.ecma_reread.specs.Modules.{IsString, IsWithClause, IsNamespaceImport, IsNamedImport, AreNamedImports, IsImportClause}
 use Rattle.ecma_reread.specs.Signs.{sign_of}
 use Rattle.ecma_reread.specs.Bare.{bare}
 use Rattle.ecma_reread.specs.ModuleTokens.{spaced_word, spaced_sign, source_tokens, namespace_import_tokens, named_import_tokens, more_imports_tokens, named_imports_tokens, import_clause_tokens, bare_string, bare_with, bare_namespace_import, bare_named_import, bare_named_imports, bare_import_clause}

@@ -12,7 +12,7 @@ use Rattle.ecma_lex.specs.Keys.{key_end}
 use Rattle.ecma_lex.specs.Punctuators.{punctuators}
 use Rattle.ecma_tree.specs.declared.node.Node.{Node}
 use Rattle.ecma_tokens.specs.Items as items
-use Rattle.ecma_tokens.specs.Items.{Tok, sign, Gap, no_gap, Items, ends, it, render, token_text}
+use Rattle.ecma_tokens.specs.Items.{sign, no_gap, Items, ends, it, render, token_text}
 use Rattle.ecma_tokens.specs.Good.{IsGap, IsToken, Good}
 use Rattle.ecma_tokens.specs.Joins.{joins_next, Fine, Joined}
 use Rattle.ecma_print.specs.declared.place.Beside.{Beside}
@@ -20,7 +20,7 @@ use Rattle.ecma_print.specs.declared.place.Beside.TheVariants.{BehindMinus, Behi
 use Rattle.ecma_tokens.proofs.Wholes.{some_text}
 use Rattle.ecma_reread.specs.Machine.{count}
 use Rattle.ecma_reread.specs.Shapes as shapes
-use Rattle.ecma_reread.specs.Shapes.{Level, looser_than, IsOperator, IsIdent, ident, IsKey, key, IsExpression, IsElement, IsArguments, AreElements, AreExpressions, IsInitializer, IsDeclarator, AreDeclarators, AreSlots, IsMemberLevel, IsIndexed, IsChainKey, AreProperties, IsPropertyName, IsProperty, IsPattern, Role, IsDefaulted, IsPart, AreParts}
+use Rattle.ecma_reread.specs.Shapes.{Level, IsOperator, IsIdent, ident, IsKey, key, IsExpression, AreElements, AreExpressions, AreDeclarators, IsChainKey, Role, IsPart}
 use Rattle.ecma_reread.specs.LiteralTexts.{part_text}
 use Rattle.ecma_reread.specs.Tokens.{ident_word, key_word, expression_tokens, elements_tokens, more_tokens, declarators_tokens, chain_token, part_raw}
 use Rattle.ecma_reread.specs.Signs.{blank, sign_of, assign_token, update_token, unary_token, binary_token, unary_gap, point_of, question_of}

@@ -28,7 +28,7 @@ use Rattle.ecma_tokens.specs.Items as items
 use Rattle.ecma_tokens.specs.Items.{Gap, no_gap, Items, ends, it}
 use Rattle.ecma_reread.specs.Machine.{read, with_front, followed_on, or_on, unless_on, built_on, interp, means, without}
 use Rattle.ecma_reread.specs.Modules as shapes
-use Rattle.ecma_reread.specs.Modules.{IsModuleItem, AreModuleItems, IsModule}
+use Rattle.ecma_reread.specs.Modules.{IsModuleItem, AreModuleItems}
 use Rattle.ecma_reread.specs.Signs.{line, sign_of}
 use Rattle.ecma_reread.specs.Bare.{bare}
 use Rattle.ecma_reread.specs.ModuleTokens.{source_tokens, from_tokens, import_clause_tokens, item_tokens, items_tokens, bare_item, bare_items}

@@ -14,7 +14,7 @@ use Rattle.ecma_tokens.specs.Items as items
 use Rattle.ecma_tokens.specs.Items.{sign, no_gap, Gap, Items, it}
 use Rattle.ecma_reread.specs.Machine.{followed_on, or_on, built_on, interp, means}
 use Rattle.ecma_reread.specs.Shapes as shapes
-use Rattle.ecma_reread.specs.Shapes.{Role, IsIdent, ident, IsPropertyName, IsProperty, AreProperties, IsInitializer}
+use Rattle.ecma_reread.specs.Shapes.{IsPropertyName}
 use Rattle.ecma_reread.specs.Tokens.{expression_tokens, property_name_tokens}
 use Rattle.ecma_reread.specs.Bare.{expression_kind, expression_parts, bare_property_name}
 use Rattle.ecma_reread.proofs.Fronts.{exactly, at_token}

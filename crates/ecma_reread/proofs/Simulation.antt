@@ -15,7 +15,7 @@ use Rattle.ecma_grammar.specs.declared.production.Form.{Form}
 use Rattle.ecma_grammar.specs.trees.Parts.{flag_node}
 use Rattle.ecma_grammar.specs.Made.{made}
 use Rattle.ecma_grammar.specs.Grammar as grammar
-use Rattle.ecma_grammar.specs.Grammar.{Grammar, Terminal, the_word, the_punct}
+use Rattle.ecma_grammar.specs.Grammar.{Grammar, the_word, the_punct}
 use Rattle.ecma_grammar.specs.PartBodies.{part_body}
 use Rattle.ecma_grammar.specs.productions.Chains.{new_body}
 use Rattle.ecma_grammar.specs.Reading as reading

@@ -4,10 +4,10 @@ use Rattle.ecma_kind.specs.declared.operators.UpdateOp.{UpdateOp}
 use Rattle.ecma_kind.specs.declared.operators.UpdateOp.TheVariants.{PlusPlus, MinusMinus}
 use Rattle.ecma_lex.specs.Punctuators.{punctuators}
 use Rattle.ecma_tokens.specs.Items as items
-use Rattle.ecma_tokens.specs.Items.{Tok, sign, Gap, no_gap, Items, ends, it, render, token_text}
+use Rattle.ecma_tokens.specs.Items.{Tok, sign, no_gap, Items, ends, it}
 use Rattle.ecma_tokens.specs.Joins.{joins_next, parted_by}
 use Rattle.ecma_reread.specs.Shapes as shapes
-use Rattle.ecma_reread.specs.Shapes.{Level, looser_than, IsOperator, IsIdent, ident, IsKey, key, IsExpression, IsElement, IsArguments, AreElements, AreExpressions, IsInitializer, IsDeclarator, AreDeclarators, AreSlots, IsMemberLevel, IsIndexed, IsConstructor, IsChainKey, AreProperties, IsPropertyName, IsProperty, IsChainLink}
+use Rattle.ecma_reread.specs.Shapes.{Level, looser_than, key, IsMemberLevel, IsConstructor, IsChainLink}
 use Rattle.ecma_reread.specs.Signs.{blank, sign_of, update_token, point_of, question_of}
 
 -- what may stand directly behind an expression; a point behind an object alone

@@ -17,7 +17,7 @@ use Rattle.ecma_print.specs.Operators.{unary_sign, update_sign, binary_word, bin
 use Rattle.ecma_print.specs.Expressions.{before_key, object_beside, is_optional, callee_spot}
 use Rattle.ecma_tokens.specs.Items.{token_text}
 use Rattle.ecma_reread.specs.Shapes as shapes
-use Rattle.ecma_reread.specs.Shapes.{Level, looser_than, IsOperator, IsIdent, ident, IsKey, key, IsAbsent, IsExpression, IsElement, IsArguments, AreElements, AreExpressions, IsInitializer, IsDeclarator, AreDeclarators, AreSlots, IsMemberLevel, IsIndexed, IsConstructor, IsProperty, IsPropertyName, AreProperties, IsChainLink}
+use Rattle.ecma_reread.specs.Shapes.{Level, looser_than, IsOperator, IsMemberLevel, IsIndexed, IsConstructor, IsChainLink}
 use Rattle.ecma_reread.specs.Signs.{binary_token}
 
 -- the level of the printer that is each level

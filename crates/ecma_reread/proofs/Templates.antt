@@ -14,7 +14,7 @@ use Rattle.ecma_grammar.specs.declared.production.Leaf.TheVariants as leaf
 use Rattle.ecma_grammar.specs.declared.production.Form.TheVariants as form
 use Rattle.ecma_grammar.specs.trees.Chains.{is_text_kind, is_text_part, is_substitution, template}
 use Rattle.ecma_grammar.specs.Grammar as grammar
-use Rattle.ecma_grammar.specs.Grammar.{Grammar, keep, ◌▸◌, ◌//◌}
+use Rattle.ecma_grammar.specs.Grammar.{Grammar, keep, ◌▸◌}
 use Rattle.ecma_grammar.specs.productions.Names as names
 use Rattle.ecma_grammar.specs.productions.Names.{expression}
 use Rattle.ecma_grammar.specs.productions.Types.{param, rest_pattern, default_value}
@@ -33,7 +33,7 @@ use Rattle.ecma_grammar.specs.productions.Primary.{primary, class_expression}
 use Rattle.ecma_grammar.specs.productions.Chains as chains
 use Rattle.ecma_grammar.specs.productions.Chains.{links, new_links, template_start, super_of_member, super_of_link, import_meta, import_call, construction}
 use Rattle.ecma_tokens.specs.Items as items
-use Rattle.ecma_tokens.specs.Items.{Tok, no_gap, Gap, Items, it}
+use Rattle.ecma_tokens.specs.Items.{no_gap, Gap, Items, it}
 use Rattle.ecma_tokens.specs.Taking.{part_inside}
 use Rattle.ecma_reread.specs.Machine.{read, with_front, followed_on, or_on, built_on, interp, means}
 use Rattle.ecma_reread.specs.Shapes as shapes

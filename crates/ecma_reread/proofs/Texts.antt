@@ -12,7 +12,7 @@ use Rattle.ecma_grammar.specs.declared.production.Form.TheVariants as form
 use Rattle.ecma_grammar.specs.trees.Parts.{from_to}
 use Rattle.ecma_grammar.specs.Grammar as grammar
 use Rattle.ecma_grammar.specs.Reading as reading
-use Rattle.ecma_grammar.specs.Reading.{Position, Outcome, terminal_on}
+use Rattle.ecma_grammar.specs.Reading.{Position}
 use Rattle.ecma_grammar.specs.Reads as reads
 use Rattle.ecma_grammar.specs.productions.Modules.{module_body}
 use Rattle.ecma_grammar.specs.Modules.{reads_module}

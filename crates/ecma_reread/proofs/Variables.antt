@@ -10,7 +10,7 @@ use Rattle.ecma_grammar.specs.declared.production.Part.TheVariants as part
 use Rattle.ecma_grammar.specs.declared.production.Form.TheVariants as form
 use Rattle.ecma_grammar.specs.Made.{made}
 use Rattle.ecma_grammar.specs.Grammar as grammar
-use Rattle.ecma_grammar.specs.Grammar.{Grammar, ◌▸◌, ◌//◌, punct, word, maybe, whether, marked, node}
+use Rattle.ecma_grammar.specs.Grammar.{Grammar, ◌▸◌, ◌//◌, punct, maybe, whether, marked}
 use Rattle.ecma_grammar.specs.productions.Names as names
 use Rattle.ecma_grammar.specs.productions.Names.{assign_in, end}
 use Rattle.ecma_grammar.specs.productions.Types.{annotation}
@@ -28,7 +28,7 @@ use Rattle.ecma_tokens.specs.Items as items
 use Rattle.ecma_tokens.specs.Items.{sign, Gap, Items, it}
 use Rattle.ecma_reread.specs.Machine.{read, with_front, followed_on, or_on, built_on, interp, means}
 use Rattle.ecma_reread.specs.Shapes as shapes
-use Rattle.ecma_reread.specs.Shapes.{IsInitializer, IsDeclarator, AreDeclarators, IsPattern}
+use Rattle.ecma_reread.specs.Shapes.{IsDeclarator, AreDeclarators, IsPattern}
 use Rattle.ecma_reread.specs.Tokens.{ident_word, initializer_tokens, declarator_tokens, declarators_tokens, pattern_tokens}
 use Rattle.ecma_reread.specs.Signs.{blank}
 use Rattle.ecma_reread.specs.Bare.{bare, bare_initializer, bare_declarator, bare_declarators, bare_pattern}

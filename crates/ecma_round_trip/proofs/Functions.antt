@@ -3,7 +3,7 @@ use Rattle.std.proofs.Common.{◌≡◌, ◌∙◌, refl, sym, ap, ap₂, subst,
 use Rattle.ecma_kind.specs.declared.kind.Kind.{Kind}
 use Rattle.ecma_kind.specs.declared.kind.Kind.TheVariants as kind
 use Rattle.ecma_tree.specs.declared.node.Node.{Node, Node-F, fold-roll-Node, ind-Node, roll-Node}
-use Rattle.ecma_tree.specs.Nodes.{dummy_span, node_of}
+use Rattle.ecma_tree.specs.Nodes.{dummy_span}
 use Rattle.ecma_tree.specs.Sorted.{is_absent}
 use Rattle.ecma_print.specs.declared.place.Spot.{Spot}
 use Rattle.ecma_print.specs.Places.{free}
@@ -13,7 +13,7 @@ use Rattle.ecma_parentheses.specs.Spots.{first_spots, further_spot}
 use Rattle.ecma_parentheses.proofs.Asking.{AllFit, Fits, first_fit, further_fits}
 use Rattle.ecma_parentheses.proofs.Sorting.{closed_is_misreadable, is_misreadable}
 use Rattle.ecma_parentheses.proofs.Standing.{stands}
-use Rattle.ecma_fits_reread.specs.Functions.{Functions, any_unusual, functions, functions_step, is_this_name, unusual_here}
+use Rattle.ecma_fits_reread.specs.Functions.{Functions, functions, functions_step, is_this_name}
 
 -- what stands in parentheses is something, and no name
 something : (k : Kind) → is_misreadable k ≡ true → is_absent k ≡ false

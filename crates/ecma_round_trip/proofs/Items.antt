@@ -1,5 +1,5 @@
 -- The items of a module are as plain with explicit parentheses as they were: none of them stands in parentheses.
-use Rattle.std.proofs.Common.{◌≡◌, ◌∙◌, refl, sym, ap, ap₂, subst, ℕ, Bool, true, false, ◌&&◌, List, [], ◌∷◌, map, length, slice_get, Some}
+use Rattle.std.proofs.Common.{◌≡◌, ◌∙◌, refl, sym, ap, ap₂, subst, ℕ, Bool, true, ◌&&◌, List, [], ◌∷◌, map, length, slice_get}
 use Rattle.std.specs.List.{list_all}
 use Rattle.ecma_kind.specs.declared.kind.Kind.{Kind}
 use Rattle.ecma_kind.specs.declared.kind.Kind.TheVariants as kind

@@ -1,12 +1,11 @@
 -- What holds of the kinds of all nodes, holds with explicit parentheses.
-use Rattle.std.proofs.Common.{◌≡◌, ◌∙◌, refl, sym, ap, subst, Bool, true, false, ◌||◌, if◌then◌else◌, List, [], ◌∷◌, map, ℕ, suc}
+use Rattle.std.proofs.Common.{◌≡◌, refl, sym, subst, Bool, true, false, ◌||◌, if◌then◌else◌, List, [], ◌∷◌, map, ℕ, suc}
 use Rattle.ecma_kind.specs.declared.kind.Kind.{Kind}
 use Rattle.ecma_kind.specs.declared.kind.Kind.TheVariants as kind
-use Rattle.ecma_kind.specs.declared.span.Span.{Span}
 use Rattle.ecma_tree.specs.Finding.{enters_all, finds, finds_from, finds_here}
 use Rattle.ecma_tree.specs.declared.node.Node.{Node, Node-F, fold-roll-Node, ind-Node, out-Node, roll-Node}
 use Rattle.ecma_tree.specs.declared.node.Node.TheViews.{out-roll-Node}
-use Rattle.ecma_tree.specs.Nodes.{dummy_span, node_of}
+use Rattle.ecma_tree.specs.Nodes.{dummy_span}
 use Rattle.ecma_spelling.specs.Everywhere.{Each, Everywhere, everywhere, more, none}
 use Rattle.ecma_print.specs.declared.place.Spot.{Spot}
 use Rattle.ecma_print.specs.Places.{free}

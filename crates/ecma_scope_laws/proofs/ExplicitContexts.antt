@@ -9,7 +9,7 @@ use Rattle.ecma_tree.specs.declared.node.Node.TheViews.{out-roll-Node, roll-out-
 use Rattle.ecma_tree.specs.Nodes.{dummy_span, node_of}
 use Rattle.ecma_print.specs.declared.place.Spot.{Spot}
 use Rattle.ecma_print.specs.Expressions.{object_beside}
-use Rattle.ecma_print.specs.Laid.{Laid, is_computed, is_object_pattern}
+use Rattle.ecma_print.specs.Laid.{is_computed, is_object_pattern}
 use Rattle.ecma_print.specs.Laid as laid_tests
 use Rattle.ecma_print.specs.Layout.{laid}
 use Rattle.ecma_print.specs.Levels.{begins_with_brace, in_parentheses, is_misread, lacks_arguments, level_of}

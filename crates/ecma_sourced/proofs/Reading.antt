@@ -7,7 +7,7 @@ use Rattle.std.proofs.lemmas.Bool.Decides.{nat_tests}
 use Rattle.std.proofs.lemmas.Str.{IsUtf8-append, IsUtf8-encode, IsUtf8-from_ascii, IsUtf8-nil, chars-append, chars-encodes, encode_ascii, len_utf8_ascii, length-encode}
 use lib.Utf8.{encode, encodes, scalar, scalar_cases, scalars}
 use Rattle.ecma_number.specs.Blanks.{is_line_terminator}
-use Rattle.ecma_lex.specs.Escapes.{character_escape_sequence, escape_sequence, escape_value, escape_value_of, hex4_digits, hex_digit, hex_escape_sequence, hex_or_unicode, hex_value, if_code_point, is_character_escape, is_hex_digit, line_terminator_sequence, null_escape, numeric_escape, unicode_escape_sequence, braced_digits, decimal_digit, hex_digits}
+use Rattle.ecma_lex.specs.Escapes.{character_escape_sequence, escape_sequence, escape_value, escape_value_of, hex4_digits, hex_digit, hex_escape_sequence, hex_or_unicode, hex_value, if_code_point, is_character_escape, is_hex_digit, line_terminator_sequence, null_escape, numeric_escape, unicode_escape_sequence, braced_digits, decimal_digit}
 use Rattle.ecma_lex.specs.Escapes as escapes
 use Rattle.ecma_lex.specs.Parts.{char_at, code_point, many, nothing, or_at, passing, then_at, unless, ◌>>◌, ◌//◌}
 use Rattle.ecma_lex.specs.Strings.{no_string_character, string_character}

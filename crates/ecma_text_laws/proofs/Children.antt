@@ -18,7 +18,7 @@ use Rattle.ecma_rules.specs.declared.standing.Standing.TheVariants as standing
 use Rattle.ecma_rules.specs.Targets.{in_list, target_in}
 use Rattle.ecma_rules.specs.Surroundings.{standing_by}
 use Rattle.ecma_grammar_laws.specs.RawSorts as raw
-use Rattle.ecma_grammar_laws.specs.RawSorts.{RawSort, RawShape, sorted, parameter, setter_parameter, allows_raw, belongs_raw, item_sort, shape_of}
+use Rattle.ecma_grammar_laws.specs.RawSorts.{RawSort, RawShape, sorted, parameter, setter_parameter, allows_raw, belongs_raw, item_sort}
 use Rattle.ecma_grammar_laws.proofs.RawShapes.{both}
 use Rattle.ecma_grammar_laws.proofs.Asks.{same_count}
 use Rattle.ecma_grammar_laws.proofs.Fits.{no, counts_same}

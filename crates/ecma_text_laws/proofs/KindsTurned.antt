@@ -19,7 +19,7 @@ use Rattle.ecma_rules.specs.Targets.{is_plain, is_plain_target, is_wrapper, may_
 use Rattle.ecma_rules.specs.Members.{is_declaring, is_property_kind}
 use Rattle.ecma_rules.specs.Supers.{is_linked, is_super}
 use Rattle.ecma_grammar_laws.specs.RawSorts as raw
-use Rattle.ecma_grammar_laws.specs.RawSorts.{RawSort, RawShape, sorted, parameter, setter_parameter, allows_raw, belongs_or_super, belongs_raw}
+use Rattle.ecma_grammar_laws.specs.RawSorts.{RawSort, RawShape, sorted, parameter, allows_raw, belongs_or_super, belongs_raw}
 use Rattle.ecma_grammar_laws.proofs.RawShapes.{both}
 use Rattle.ecma_grammar_laws.proofs.Asks.{same_count, same_sort}
 use Rattle.ecma_grammar_laws.proofs.Fits.{no, either_true, or_right, sorts_same, counts_same}

@@ -11,7 +11,7 @@ use Rattle.ecma_rules.specs.Members.{is_declaring, is_named_pattern, is_plain_pa
 use Rattle.ecma_rules.specs.Supers.{is_private_name, is_super_member}
 use Rattle.ecma_grammar.specs.trees.Parts.{kind_of, children_of}
 use Rattle.ecma_grammar_laws.specs.RawSorts as raw
-use Rattle.ecma_grammar_laws.specs.RawSorts.{HasRawShape, RawShape, RawSort, sorted, parameter, setter_parameter, allows_raw, belongs_or_super, belongs_raw, child_shapes_raw}
+use Rattle.ecma_grammar_laws.specs.RawSorts.{HasRawShape, RawShape, RawSort, sorted, parameter, setter_parameter, belongs_raw, child_shapes_raw}
 use Rattle.ecma_grammar_laws.proofs.RawShapes.{HaveRaw, from_parts, parts_of}
 use Rattle.ecma_grammar_laws.proofs.Fits.{no}
 use Rattle.ecma_text_laws.proofs.Turning.{refined}

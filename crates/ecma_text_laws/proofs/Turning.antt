@@ -19,7 +19,7 @@ use Rattle.ecma_rules.specs.Targets.{is_plain, is_plain_target, is_wrapper, may_
 use Rattle.ecma_rules.specs.Members.{is_declaring, is_property_kind}
 use Rattle.ecma_rules.specs.Supers.{is_linked, is_super}
 use Rattle.ecma_grammar_laws.specs.RawSorts as raw
-use Rattle.ecma_grammar_laws.specs.RawSorts.{RawSort, RawShape, sorted, parameter, setter_parameter, child_shapes_raw}
+use Rattle.ecma_grammar_laws.specs.RawSorts.{RawSort, RawShape, sorted, parameter, child_shapes_raw}
 use Rattle.ecma_grammar_laws.proofs.Asks.{same_count, same_sort}
 
 -- kinds

@@ -9,7 +9,7 @@ use Rattle.ecma_number.specs.Numeral.{begins, IsNumericLiteral}
 use Rattle.ecma_lex.specs.Keys.{is_valid_start}
 use Rattle.ecma_lex.specs.Punctuators.{is_longest, punct_end}
 use Rattle.ecma_lex.specs.Tokens as lex
-use Rattle.ecma_lex.specs.Tokens.{text_end, or_nothing}
+use Rattle.ecma_lex.specs.Tokens.{text_end}
 use Rattle.ecma_lex.specs.declared.tokens.Token.{Token}
 use Rattle.ecma_lex.proofs.Suffixes.{Stands, past}
 use Rattle.ecma_grammar.specs.Reading.{Position, Outcome, terminal_on}

@@ -1,5 +1,5 @@
 -- Classes and their members.
-use Rattle.std.proofs.Common.{◌≡◌, inl, inr, ℕ, Bool, true, false, cond, nat_eq, List, [], ◌∷◌, length, refl, sym, ◌∙◌, subst, Some, None, codes}
+use Rattle.std.proofs.Common.{◌≡◌, inl, inr, ℕ, Bool, true, false, cond, List, [], ◌∷◌, length, refl, sym, ◌∙◌, subst, codes}
 use Rattle.ecma_kind.specs.Sorts.{belongs}
 use Rattle.ecma_kind.specs.declared.span.Span.{Span}
 use Rattle.ecma_kind.specs.declared.operators.MethodKind.{MethodKind}
@@ -9,20 +9,20 @@ use Rattle.ecma_kind.specs.declared.kind.Kind.{Kind}
 use Rattle.ecma_kind.specs.declared.kind.Kind.TheVariants as kind
 use Rattle.ecma_kind.specs.declared.shapes.Sort.{Sort}
 use Rattle.ecma_kind.specs.declared.shapes.Sort.TheVariants as sort
-use Rattle.ecma_tree.specs.Nodes.{node_of, absent, dummy_span}
+use Rattle.ecma_tree.specs.Nodes.{node_of}
 use Rattle.ecma_tree.specs.declared.node.Node.{Node}
 use Rattle.ecma_grammar.specs.declared.production.Plain.{Plain}
 use Rattle.ecma_grammar.specs.declared.production.Plain.TheVariants as plain
 use Rattle.ecma_grammar.specs.trees.Plain.{plain_kind}
-use Rattle.ecma_grammar.specs.trees.Parts.{kind_of, children_of, is_present, by_frame, framed}
+use Rattle.ecma_grammar.specs.trees.Parts.{kind_of, children_of, is_present, framed}
 use Rattle.ecma_grammar.specs.trees.Functions.{has_word, accessibility_of, function_of}
 use Rattle.ecma_grammar.specs.trees.Classes.{class, is_private_name, no_modifiers, method, field, modified, is_constructor, constructor_of, method_by, member_by, member, index_signature}
 use Rattle.ecma_grammar_laws.specs.RawSorts as raw
-use Rattle.ecma_grammar_laws.specs.RawSorts.{RawShape, HasRawShape, HasRawSort, belongs_or_super, child_shapes_raw, sorted, one, maybe, many}
+use Rattle.ecma_grammar_laws.specs.RawSorts.{RawShape, HasRawSort, belongs_or_super, child_shapes_raw, sorted, one, maybe, many}
 use Rattle.ecma_grammar_laws.proofs.RawShapes.{HaveRaw, node_has, parts_of}
-use Rattle.ecma_grammar_laws.proofs.Asks.{Ask, shape, key, Meets, whatever, these, Given, fits}
+use Rattle.ecma_grammar_laws.proofs.Asks.{Ask, shape, key, Meets, these, Given, fits}
 use Rattle.ecma_grammar_laws.proofs.Needs.{a, maybe_a, if_so, class_parts, class_needs, method_parts, field_parts, modified_parts, signature_parts}
-use Rattle.ecma_grammar_laws.proofs.Fits.{no, fits_sound}
+use Rattle.ecma_grammar_laws.proofs.Fits.{no}
 use Rattle.ecma_grammar_laws.proofs.forms.Making.{given_so, made_sorted, as_sort, as_either, made_of}
 use Rattle.ecma_grammar_laws.proofs.forms.Functions.{function_sorted}
 
