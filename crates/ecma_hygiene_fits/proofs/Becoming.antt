@@ -11,8 +11,8 @@ use Rattle.ecma_scope.specs.Resolved.{is_name}
 use Rattle.ecma_scope.proofs.Layers.{from_leaves_out}
 use Rattle.ecma_hygiene.specs.declared.spot.Standing.{Standing}
 use Rattle.ecma_hygiene.specs.Renamed.{Texts, kind_with_text, old_name, renamed_at, renamed_step, shared_by, shared_name, standing_in, written_from}
-use Rattle.ecma_hygiene_laws.proofs.Growing.{OldName, expanded-of, grown, grown_pattern}
-use Rattle.ecma_hygiene_laws.proofs.Parts.{children-of, kind-of}
+use Rattle.ecma_hygiene_scopes.proofs.Growing.{OldName, expanded-of, grown, grown_pattern}
+use Rattle.ecma_hygiene_scopes.proofs.Parts.{children-of, kind-of}
 use Rattle.ecma_hygiene_fits.proofs.Everywhere.{Each, children_of, everywhere}
 
 -- what may get another text, or be written out, and what that is then

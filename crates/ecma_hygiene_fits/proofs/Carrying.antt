@@ -20,8 +20,8 @@ use Rattle.ecma_hygiene.specs.declared.spot.Spot.{Spot}
 use Rattle.ecma_hygiene.specs.declared.spot.Spot.TheVariants as spot
 use Rattle.ecma_hygiene.specs.declared.spot.Standing.{Standing}
 use Rattle.ecma_hygiene.specs.Renamed.{Texts, at_root, key_of, kind_is_absent, kind_with_text, name_of, old_name, renamed, shared_by, shorthand, spot_in, standing_in, text_of, two_names, with_default}
-use Rattle.ecma_hygiene_laws.proofs.Growing.{OldName, grown, grown_pattern}
-use Rattle.ecma_hygiene_laws.proofs.Parts.{children-of, kind-of}
+use Rattle.ecma_hygiene_scopes.proofs.Growing.{OldName, grown, grown_pattern}
+use Rattle.ecma_hygiene_scopes.proofs.Parts.{children-of, kind-of}
 use Rattle.ecma_hygiene_fits.proofs.Becoming.{all_become, become, become-out, children_become, children_stay, is_touched, kind_stays, old_of}
 use Rattle.ecma_hygiene_fits.proofs.Everywhere.{Each, children_of, everywhere}
 use Rattle.ecma_hygiene_fits.proofs.Walk.{neither_least, not_failing, shape_parts}

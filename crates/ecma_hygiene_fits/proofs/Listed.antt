@@ -15,7 +15,7 @@ use Rattle.ecma_fits.specs.Roles.{is_name as is_identifier}
 use Rattle.ecma_scope.specs.Resolved.{is_name}
 use Rattle.ecma_hygiene.specs.declared.spot.Standing.{Standing}
 use Rattle.ecma_hygiene.specs.Renamed.{Texts, kind_with_text, standing_in}
-use Rattle.ecma_hygiene_laws.proofs.Growing.{OldName, grown}
+use Rattle.ecma_hygiene_scopes.proofs.Growing.{OldName, grown}
 use Rattle.ecma_hygiene_fits.proofs.Becoming.{all_become, become, become-out, children_become, children_stay, children_unchanged, grown_same, is_changed, is_touched, old_of, own_kind}
 use Rattle.ecma_hygiene_fits.proofs.Everywhere.{children_of}
 use Rattle.ecma_hygiene_fits.proofs.Walk.{shape_parts}

@@ -24,7 +24,7 @@ use Rattle.ecma_hygiene.specs.Texts.{is_bound}
 use Rattle.ecma_hygiene.specs.Walks.{gathered_from}
 use Rattle.ecma_hygiene.proofs.Telling.{and-both, and-left, and-right, or-first, or-second, text-refl, true-false}
 use Rattle.ecma_hygiene.proofs.Walking.{gathered-out}
-use Rattle.ecma_hygiene_laws.proofs.Membership.{id-same}
+use Rattle.ecma_hygiene_scopes.proofs.Membership.{id-same}
 use Rattle.ecma_runs.specs.State.{Id}
 use Rattle.ecma_runs.specs.Environment.{is_among}
 use Rattle.ecma_runs.specs.Declarations.{has_no_effect}

@@ -13,8 +13,8 @@ use Rattle.ecma_hygiene.specs.declared.spot.Spot.{Spot}
 use Rattle.ecma_hygiene.specs.declared.spot.Spot.TheVariants as spot
 use Rattle.ecma_hygiene.specs.declared.spot.Standing.{Standing}
 use Rattle.ecma_hygiene.specs.Renamed.{Texts, changed_from, kind_is_absent, name_of, text_of, with_default}
-use Rattle.ecma_hygiene_laws.proofs.Growing.{OldName}
-use Rattle.ecma_hygiene_laws.proofs.KindsTurned.{turned_kind}
+use Rattle.ecma_hygiene_scopes.proofs.Growing.{OldName}
+use Rattle.ecma_hygiene_scopes.proofs.KindsTurned.{turned_kind}
 use Rattle.ecma_runs.specs.State.{Id}
 use Rattle.ecma_runs.specs.Names.{renamed, renamed_ident}
 use Rattle.ecma_hygiene_runs.specs.WrittenOut.{identifier_by, key_node, leaf_text, name_node, other_by, other_out, pattern_by, pattern_with, property_out, written_out}

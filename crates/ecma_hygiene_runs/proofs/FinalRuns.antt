@@ -19,10 +19,10 @@ use Rattle.ecma_hygiene.specs.Renamed as hygiene
 use Rattle.ecma_hygiene.specs.Sights.{meetings, nowhere, sights}
 use Rattle.ecma_hygiene.specs.Texts.{HygienicTexts, is_bound, text_in}
 use Rattle.ecma_hygiene.proofs.Telling.{id-refl, or-first, or-second, texts-tell-apart, true-false}
-use Rattle.ecma_hygiene_laws.proofs.Membership.{id-same}
-use Rattle.ecma_hygiene_laws.proofs.Parts.{contexts-of}
-use Rattle.ecma_hygiene_laws.proofs.ReadingAgain.{is-read-again}
-use Rattle.ecma_hygiene_laws.proofs.Stopping.{IsAmong, all-among}
+use Rattle.ecma_hygiene_scopes.proofs.Membership.{id-same}
+use Rattle.ecma_hygiene_scopes.proofs.Parts.{contexts-of}
+use Rattle.ecma_hygiene_scopes.proofs.ReadingAgain.{is-read-again}
+use Rattle.ecma_hygiene_scopes.proofs.Stopping.{IsAmong, all-among}
 use Rattle.ecma_runs.specs.declared.config.Config.{Config}
 use Rattle.ecma_runs.specs.declared.script.Script.{Script}
 use Rattle.ecma_runs.specs.State.{Id}

@@ -16,7 +16,7 @@ use Rattle.ecma_hygiene.specs.declared.spot.Spot.TheVariants as spot
 use Rattle.ecma_hygiene.specs.declared.spot.Standing.{Standing}
 use Rattle.ecma_hygiene.specs.Renamed.{Texts, changed_from, is_sourced, first_item, key_name, kind_is_absent, lone_name, old_name, old_name_by, text_of}
 use Rattle.ecma_hygiene.proofs.Telling.{and-left, and-right}
-use Rattle.ecma_hygiene_laws.proofs.Growing.{OldName, grown}
+use Rattle.ecma_hygiene_scopes.proofs.Growing.{OldName, grown}
 use Rattle.ecma_runs.specs.Names.{renamed, renamed_ident}
 use Rattle.ecma_hygiene_runs.specs.WrittenOut.{key_node, other_out, properties_out, property_out, written_out}
 use Rattle.ecma_hygiene_runs.specs.FinalTexts.{all_named, has_name, is_named_at, is_outer}

@@ -11,7 +11,7 @@ use Rattle.ecma_hygiene.specs.declared.sight.Sight.{Sight}
 use Rattle.ecma_hygiene.specs.Ids.{Id, same_id}
 use Rattle.ecma_hygiene.specs.Texts.{AreTexts, GetTexts, Had, IsNumbered, bindings, changing_bindings, changes, declared_in, distinct, had_with, is_bound, is_new, last_text, new_bindings, none, rule, source_has, text_in, with_text}
 use Rattle.ecma_hygiene.proofs.Telling.{and-both, id-refl, or-first, or-second}
-use Rattle.ecma_hygiene_laws.proofs.Membership.{id-same}
+use Rattle.ecma_hygiene_scopes.proofs.Membership.{id-same}
 
 -- texts that end in a digit
 

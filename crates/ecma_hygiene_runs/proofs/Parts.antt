@@ -15,9 +15,9 @@ use Rattle.ecma_hygiene.specs.declared.spot.Spot.{Spot}
 use Rattle.ecma_hygiene.specs.declared.spot.Spot.TheVariants as spot
 use Rattle.ecma_hygiene.specs.declared.spot.Standing.{Standing}
 use Rattle.ecma_hygiene.specs.Renamed.{Texts, is_sourced, key_name, kind_is_absent, lone_name, old_name, shared_by, shorthand, spot_in, with_default}
-use Rattle.ecma_hygiene_laws.proofs.Growing.{grown}
-use Rattle.ecma_hygiene_laws.proofs.KindsTurned.{turned_kind}
-use Rattle.ecma_hygiene_laws.proofs.Written.{again, again-out, all_again}
+use Rattle.ecma_hygiene_scopes.proofs.Growing.{grown}
+use Rattle.ecma_hygiene_scopes.proofs.KindsTurned.{turned_kind}
+use Rattle.ecma_hygiene_scopes.proofs.Written.{again, again-out, all_again}
 use Rattle.ecma_runs.specs.State.{Id}
 use Rattle.ecma_runs.specs.Names.{renamed, renamed_ident, renamed_node}
 use Rattle.ecma_hygiene_runs.specs.WrittenOut.{identifier_by, key_node, leaf_text, out_by, out_here, pattern_by, pattern_with, properties_by, properties_out, property_by, property_out, written_out}

@@ -17,7 +17,7 @@ use Rattle.ecma_hygiene.specs.Sights.{Around, around_child, sight_by, sight_here
 use Rattle.ecma_hygiene.specs.Walks.{gathered_from}
 use Rattle.ecma_hygiene.proofs.Telling.{and-both, and-left, and-right}
 use Rattle.ecma_hygiene.proofs.Walking.{gathered-out}
-use Rattle.ecma_hygiene_laws.proofs.Stopping.{All-first, All-second}
+use Rattle.ecma_hygiene_scopes.proofs.Stopping.{All-first, All-second}
 use Rattle.ecma_runs.specs.State.{Id}
 use Rattle.ecma_runs.specs.Names.{ids_pass, passes_by, passes_here}
 use Rattle.ecma_runs.proofs.Kept.{AllNodes}

@@ -6,13 +6,13 @@ use Rattle.ecma_tree.specs.Finding.{enters_all, finds, finds_from, finds_here}
 use Rattle.ecma_tree.specs.declared.node.Node.{Node, Node-F, fold-roll-Node, ind-Node, out-Node, roll-Node}
 use Rattle.ecma_tree.specs.declared.node.Node.TheViews.{out-roll-Node}
 use Rattle.ecma_tree.specs.Nodes.{dummy_span}
-use Rattle.ecma_spelling.specs.Everywhere.{Each, Everywhere, everywhere, more, none}
+use Rattle.ecma_text_leaves.specs.Everywhere.{Each, Everywhere, everywhere, more, none}
 use Rattle.ecma_print.specs.declared.place.Spot.{Spot}
 use Rattle.ecma_print.specs.Places.{free}
 use Rattle.ecma_print.specs.Levels.{in_parentheses}
-use Rattle.ecma_parentheses.specs.Explicit.{bare, explicit, in_spots, laid_children, parenthesized, stood}
-use Rattle.ecma_parentheses.specs.Spots.{first_spots, further_spot}
-use Rattle.ecma_parentheses.proofs.Standing.{stands}
+use Rattle.ecma_print_parentheses.specs.Explicit.{bare, explicit, in_spots, laid_children, parenthesized, stood}
+use Rattle.ecma_print_parentheses.specs.Spots.{first_spots, further_spot}
+use Rattle.ecma_print_parentheses.proofs.Standing.{stands}
 
 module _ (P : Kind → Type 0) where
   pub parts : {n : Node} → Everywhere P n → P (out-Node n).kind × Each P (out-Node n).children

@@ -8,8 +8,8 @@ use Rattle.ecma_tree.specs.declared.node.Node.{Node}
 use Rattle.ecma_rules.specs.declared.target.Target.TheVariants as target
 use Rattle.ecma_rules.specs.Finishing.{finished}
 use Rattle.ecma_rules.specs.Rules.{first_broken}
-use Rattle.ecma_rules_laws.proofs.Finishing.{spans_do_not_matter_to_finishing}
-use Rattle.ecma_rules_laws.proofs.Rules.{spans_do_not_matter_to_rules}
+use Rattle.ecma_rules_congruence.proofs.Finishing.{spans_do_not_matter_to_finishing}
+use Rattle.ecma_rules_congruence.proofs.Rules.{spans_do_not_matter_to_rules}
 use Rattle.ecma_covers.specs.Covering.{cover}
 use Rattle.ecma_covers.specs.Placing.{Stands}
 use Rattle.ecma_covers.proofs.Uncovering.{finishing_uncovers}
@@ -17,26 +17,26 @@ use Rattle.ecma_grammar.specs.Modules as grammar
 use Rattle.ecma_grammar.specs.Modules.{reads_module}
 use Rattle.ecma_grammar.specs.Reading.{Position, read}
 use Rattle.ecma_modules.specs.Modules.{answer_by, kept_by, plain, reads_as}
-use Rattle.ecma_spelling.specs.Everywhere.{Everywhere}
+use Rattle.ecma_text_leaves.specs.Everywhere.{Everywhere}
 use Rattle.ecma_scope.specs.Laws.{without_contexts}
 use Rattle.ecma_print.specs.Layout.{layout}
-use Rattle.ecma_print_laws.proofs.Layouts.{contexts_do_not_matter_to_layouts}
-use Rattle.ecma_parentheses.specs.Explicit.{explicit}
-use Rattle.ecma_parentheses.proofs.Lacks.{none_are_lacking}
-use Rattle.ecma_parentheses.proofs.Laying.{layout_stays}
-use Rattle.ecma_cover_layouts.proofs.Covering.{covers_keep_the_layout}
+use Rattle.ecma_print_congruence.proofs.Layouts.{contexts_do_not_matter_to_layouts}
+use Rattle.ecma_print_parentheses.specs.Explicit.{explicit}
+use Rattle.ecma_print_parentheses.proofs.Lacks.{none_are_lacking}
+use Rattle.ecma_print_parentheses.proofs.Laying.{layout_stays}
+use Rattle.ecma_print_covers.proofs.Covering.{covers_keep_the_layout}
 use Rattle.ecma_fits.specs.Fitting.{Fits}
-use Rattle.ecma_fits_kept.proofs.Contexts.{contexts_do_not_matter}
-use Rattle.ecma_fits_covers.specs.Laws.{HasNoOptionalPatterns, is_optional_pattern}
-use Rattle.ecma_fits_covers.proofs.Placed.{stands_placed}
-use Rattle.ecma_fits_covers.proofs.Strayless.{unbroken_covers}
-use Rattle.ecma_fits_covers.proofs.Usual.{what_fits_has_usual_defaults}
-use Rattle.ecma_fits_explicit.proofs.Explicit.{trees_fit}
-use Rattle.ecma_fits_reread.specs.Forms.{IsTaken}
-use Rattle.ecma_fits_reread.specs.Items.{HasUtf8Hashbang}
-use Rattle.ecma_fits_reread.proofs.Forming.{modules_have_shapes}
-use Rattle.ecma_reread.specs.Modules.{IsModule}
-use Rattle.ecma_reread.proofs.Law.{modules_read}
+use Rattle.ecma_scope_fits.proofs.Contexts.{contexts_do_not_matter}
+use Rattle.ecma_print_fits.specs.Laws.{HasNoOptionalPatterns, is_optional_pattern}
+use Rattle.ecma_print_fits.proofs.Placed.{stands_placed}
+use Rattle.ecma_print_fits.proofs.Strayless.{unbroken_covers}
+use Rattle.ecma_print_fits.proofs.Usual.{what_fits_has_usual_defaults}
+use Rattle.ecma_print_explicit.proofs.Explicit.{trees_fit}
+use Rattle.ecma_print_shapes.specs.Forms.{IsTaken}
+use Rattle.ecma_print_shapes.specs.Items.{HasUtf8Hashbang}
+use Rattle.ecma_print_shapes.proofs.Forming.{modules_have_shapes}
+use Rattle.ecma_print_reread.specs.Modules.{IsModule}
+use Rattle.ecma_print_reread.proofs.Law.{modules_read}
 use Rattle.ecma_round_trip.specs.Laws.{IsReadAgain, WhatFitsIsReadAgain}
 use Rattle.ecma_round_trip.specs.Plain.{IsPlain}
 use Rattle.ecma_round_trip.proofs.Functions.{functions_stay}

@@ -1,13 +1,13 @@
 -- Plain modules: what a plain reading gives, up to contexts.
 use Rattle.std.specs.Prelude.{◌≡◌, Bool, true, false}
 use Rattle.ecma_tree.specs.declared.node.Node.{Node}
-use Rattle.ecma_spelling.specs.Everywhere.{Everywhere}
+use Rattle.ecma_text_leaves.specs.Everywhere.{Everywhere}
 use Rattle.ecma_scope.specs.Laws.{without_contexts}
 use Rattle.ecma_rules.specs.Children.{kind_of}
 use Rattle.ecma_fits.specs.Fitting.{Fits}
-use Rattle.ecma_fits_reread.specs.Forms.{IsTaken}
-use Rattle.ecma_fits_reread.specs.Functions.{functions}
-use Rattle.ecma_fits_reread.specs.Items.{HasUtf8Hashbang, has_plain_items}
+use Rattle.ecma_print_shapes.specs.Forms.{IsTaken}
+use Rattle.ecma_print_shapes.specs.Functions.{functions}
+use Rattle.ecma_print_shapes.specs.Items.{HasUtf8Hashbang, has_plain_items}
 
 -- it fits; no node is TypeScript, but for the assignments of CommonJS modules where they may stand; texts are UTF-8, and literals have their source text;
 -- functions have bodies and the parameters of plain ones

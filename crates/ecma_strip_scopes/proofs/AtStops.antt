@@ -10,9 +10,9 @@ use Rattle.ecma_scope.specs.Scopes.{role_in}
 use Rattle.ecma_hygiene.specs.Sights.{Around, around_child}
 use Rattle.ecma_hygiene.specs.Walks.{gathered_from}
 use Rattle.ecma_hygiene.proofs.Walking.{gathered-out}
-use Rattle.ecma_hygiene_laws.specs.Seats.{Seat, seat_here, seats_at}
-use Rattle.ecma_hygiene_laws.specs.Stops.{Stop, stops_at, stops_from}
-use Rattle.ecma_hygiene_laws.proofs.Stopping.{All-first, All-second, stops-out}
+use Rattle.ecma_hygiene_scopes.specs.Seats.{Seat, seat_here, seats_at}
+use Rattle.ecma_hygiene_scopes.specs.Stops.{Stop, stops_at, stops_from}
+use Rattle.ecma_hygiene_scopes.proofs.Stopping.{All-first, All-second, stops-out}
 
 module _ (P : Seat → Type 0) where
   abbrev Holds : Stop → Type 0

@@ -19,9 +19,9 @@ use Rattle.ecma_strip.specs.Staying.{is_this_ident, is_this_param, item_stays, s
 use Rattle.ecma_strip.specs.Stripping.{body_of, plain, plain_children, plain_kind, staying_nodes, stripped, without_empty, without_this}
 use Rattle.ecma_strip.proofs.Stripping.{stripped-out}
 use Rattle.ecma_hygiene.proofs.Telling.{and-left, and-right, true-false}
-use Rattle.ecma_hygiene_laws.specs.DeclaredIds.{DeclaredId, id_here, ids_at, ids_declared, ids_in}
-use Rattle.ecma_hygiene_laws.proofs.Directly.{ids-out}
-use Rattle.ecma_hygiene_laws.proofs.Parts.{children-of, kind-of}
+use Rattle.ecma_hygiene_scopes.specs.DeclaredIds.{DeclaredId, id_here, ids_at, ids_declared, ids_in}
+use Rattle.ecma_hygiene_scopes.proofs.Directly.{ids-out}
+use Rattle.ecma_hygiene_scopes.proofs.Parts.{children-of, kind-of}
 use Rattle.ecma_strip_scopes.specs.Going.{is_list_part}
 use Rattle.ecma_strip_scopes.specs.Standing.{WhatStaysIsDeclared, bodies_stay, clear_at, clear_here, clear_in, clear_step, has_value, is_clear, is_none, same}
 use Rattle.ecma_strip_scopes.proofs.Exporting.{what-goes-declares-nothing}

@@ -20,9 +20,9 @@ use Rattle.ecma_strip.specs.Staying.{is_declared, member_stays_by, specifier_sta
 use Rattle.ecma_strip.specs.Values.{is_value as strip_value, value_by as strip_by}
 use Rattle.ecma_strip.proofs.Valuing as valuing
 use Rattle.ecma_hygiene.proofs.Telling.{true-false}
-use Rattle.ecma_hygiene_laws.specs.DeclaredIds.{id_here, ids_declared}
+use Rattle.ecma_hygiene_scopes.specs.DeclaredIds.{id_here, ids_declared}
 use Rattle.ecma_strip_scopes.specs.Going.{is_list_part}
-use Rattle.ecma_hygiene_laws.proofs.Gone.{below-gone, gone-at, gone-both, gone-some, kept, none-some}
+use Rattle.ecma_hygiene_scopes.proofs.Gone.{below-gone, gone-at, gone-both, gone-some, kept, none-some}
 use Rattle.ecma_strip_scopes.proofs.Values.{values-agree}
 
 pub and-none : (s x : Bool) → x ≡ false → (s && x) ≡ false

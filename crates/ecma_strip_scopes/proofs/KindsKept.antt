@@ -15,7 +15,7 @@ use Rattle.ecma_scope.specs.Scopes.{covers, is_there, opens_by, role_by}
 use Rattle.ecma_strip.specs.Stripping.{plain, plain_children, plain_kind, staying_nodes, stripped}
 use Rattle.ecma_strip.proofs.Stripping.{stripped-out}
 use Rattle.ecma_hygiene.proofs.Telling.{true-false}
-use Rattle.ecma_hygiene_laws.proofs.Parts.{kind-of}
+use Rattle.ecma_hygiene_scopes.proofs.Parts.{kind-of}
 use Rattle.ecma_strip_scopes.proofs.Going.{parts-have}
 
 -- ---- plain kinds

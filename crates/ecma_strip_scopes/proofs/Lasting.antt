@@ -10,10 +10,10 @@ use Rattle.ecma_scope.specs.declared.form.Sought.{Sought}
 use Rattle.ecma_scope.specs.Declarations.{in_default, in_item, in_member, in_name, in_scope, in_var, is_value, sought_by, sought_in}
 use Rattle.ecma_strip.specs.Staying.{if_there, is_this, is_this_by, is_this_ident, is_this_param, is_this_param_by}
 use Rattle.ecma_hygiene.proofs.Telling.{true-false}
-use Rattle.ecma_hygiene_laws.specs.DeclaredIds.{DeclaredId, id_here, ids_at, ids_declared, ids_in}
-use Rattle.ecma_hygiene_laws.proofs.Directly.{ids-out}
+use Rattle.ecma_hygiene_scopes.specs.DeclaredIds.{DeclaredId, id_here, ids_at, ids_declared, ids_in}
+use Rattle.ecma_hygiene_scopes.proofs.Directly.{ids-out}
 use Rattle.ecma_strip_scopes.specs.Standing.{lasts}
-use Rattle.ecma_hygiene_laws.proofs.Gone.{kept}
+use Rattle.ecma_hygiene_scopes.proofs.Gone.{kept}
 use Rattle.ecma_strip_scopes.proofs.Standing.{none-all}
 
 abbrev pub lasting : Bool → List DeclaredId → List DeclaredId

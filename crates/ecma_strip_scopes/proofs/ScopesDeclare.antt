@@ -13,8 +13,8 @@ use Rattle.ecma_scope.specs.Scopes.{is_ambient, is_there, opens_by}
 use Rattle.ecma_strip.specs.Stripping.{plain, plain_children, plain_kind, staying_nodes, stripped}
 use Rattle.ecma_strip.proofs.Stripping.{stripped-out}
 use Rattle.ecma_hygiene.proofs.Telling.{true-false}
-use Rattle.ecma_hygiene_laws.specs.DeclaredIds.{DeclaredId, ids_declared}
-use Rattle.ecma_hygiene_laws.proofs.Parts.{kind-of}
+use Rattle.ecma_hygiene_scopes.specs.DeclaredIds.{DeclaredId, ids_declared}
+use Rattle.ecma_hygiene_scopes.proofs.Parts.{kind-of}
 use Rattle.ecma_strip_scopes.specs.Apart.{ScopesDeclareWhatStays}
 use Rattle.ecma_strip_scopes.specs.Standing.{is_clear}
 use Rattle.ecma_strip_scopes.proofs.Declared.{what-stays-is-declared}

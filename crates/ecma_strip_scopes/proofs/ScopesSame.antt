@@ -6,8 +6,8 @@ use Rattle.std.proofs.lemmas.List.Elements.{All-cons, All-head, All-nil, All-tai
 use Rattle.ecma_hygiene.specs.Capture.{NoneDeclares}
 use Rattle.ecma_hygiene.specs.Ids.{Id, Scope, has_context, innermost, same_id}
 use Rattle.ecma_hygiene.proofs.Telling.{and-both, and-left, and-right, has-id, id-refl, or-first, or-second, true-false}
-use Rattle.ecma_hygiene_laws.specs.DeclaredIds.{DeclaredId}
-use Rattle.ecma_hygiene_laws.proofs.Membership.{id-same, is_kept}
+use Rattle.ecma_hygiene_scopes.specs.DeclaredIds.{DeclaredId}
+use Rattle.ecma_hygiene_scopes.proofs.Membership.{id-same, is_kept}
 use Rattle.ecma_strip_scopes.specs.Standing.{lasts}
 use Rattle.ecma_strip_scopes.proofs.Lasting.{lasting}
 

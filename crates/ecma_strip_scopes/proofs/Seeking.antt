@@ -14,7 +14,7 @@ use Rattle.ecma_scope.specs.declared.form.Part.TheVariants as part
 use Rattle.ecma_scope.specs.declared.form.Sought.{Sought}
 use Rattle.ecma_scope.specs.Declarations.{in_default, in_item, in_member, in_name, in_scope, in_var, sought_by}
 use Rattle.ecma_strip.specs.Stripping.{plain, plain_children, plain_kind}
-use Rattle.ecma_hygiene_laws.specs.DeclaredIds.{id_here}
+use Rattle.ecma_hygiene_scopes.specs.DeclaredIds.{id_here}
 use Rattle.ecma_strip_scopes.specs.Standing.{has_value}
 
 -- ---- values matter to few kinds

@@ -13,9 +13,9 @@ use Rattle.ecma_strip.specs.Plain.{unless_missing}
 use Rattle.ecma_strip.specs.Staying.{is_empty_stmt, item_stays}
 use Rattle.ecma_strip.specs.Stripping.{body_of, changed_at, without_empty}
 use Rattle.ecma_hygiene.proofs.Telling.{true-false}
-use Rattle.ecma_hygiene_laws.specs.DeclaredIds.{DeclaredId, id_here, ids_at, ids_declared, ids_in}
-use Rattle.ecma_hygiene_laws.proofs.Directly.{ids-out}
-use Rattle.ecma_hygiene_laws.proofs.Parts.{children-of, kind-of}
+use Rattle.ecma_hygiene_scopes.specs.DeclaredIds.{DeclaredId, id_here, ids_at, ids_declared, ids_in}
+use Rattle.ecma_hygiene_scopes.proofs.Directly.{ids-out}
+use Rattle.ecma_hygiene_scopes.proofs.Parts.{children-of, kind-of}
 use Rattle.ecma_strip_scopes.specs.Standing.{is_none, same}
 use Rattle.ecma_strip_scopes.proofs.Seeking.{list-seeks}
 

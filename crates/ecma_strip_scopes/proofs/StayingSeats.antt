@@ -11,8 +11,8 @@ use Rattle.ecma_scope.proofs.Layers.{from_leaves_out}
 use Rattle.ecma_strip.specs.Staying.{stays}
 use Rattle.ecma_hygiene.specs.Walks.{gathered_from}
 use Rattle.ecma_hygiene.proofs.Walking.{gathered-out}
-use Rattle.ecma_hygiene_laws.specs.Seats.{Seat, seat_here, seats_at}
-use Rattle.ecma_hygiene_laws.proofs.Stopping.{All-first, All-second}
+use Rattle.ecma_hygiene_scopes.specs.Seats.{Seat, seat_here, seats_at}
+use Rattle.ecma_hygiene_scopes.proofs.Stopping.{All-first, All-second}
 use Rattle.ecma_strip_scopes.specs.Staying.{staying_from, staying_seats, staying_step}
 
 pub staying-out : (n : Node) (r : Role) → staying_seats n r ≡ record { role = r; node = n } ∷ staying_from (is_list (out-Node n).kind) (role_in r n) 0 (out-Node n).children (map staying_seats (out-Node n).children)

@@ -20,12 +20,12 @@ use Rattle.ecma_strip.specs.Stripping.{plain_kind}
 use Rattle.ecma_hygiene.specs.Ids.{Id, has_context, innermost, is_block, is_body_block, own_ids}
 use Rattle.ecma_hygiene.specs.Sights.{Around, own_scope}
 use Rattle.ecma_hygiene.proofs.Telling.{and-left, has-id, true-false}
-use Rattle.ecma_hygiene_laws.specs.Apart.{DeclaresCleanly, IsScoped, own_contexts}
-use Rattle.ecma_hygiene_laws.specs.DeclaredIds.{DeclaredId, id_here, ids_declared, scope_ids}
-use Rattle.ecma_hygiene_laws.specs.Lasting.{KeepsScope}
-use Rattle.ecma_hygiene_laws.specs.Stops.{Stop}
-use Rattle.ecma_hygiene_laws.proofs.Forms.{Allowed, Formed, forms-by}
-use Rattle.ecma_hygiene_laws.proofs.Membership.{contexts-agree, is_kept, own-agrees}
+use Rattle.ecma_hygiene_scopes.specs.Apart.{DeclaresCleanly, IsScoped, own_contexts}
+use Rattle.ecma_hygiene_scopes.specs.DeclaredIds.{DeclaredId, id_here, ids_declared, scope_ids}
+use Rattle.ecma_hygiene_scopes.specs.Lasting.{KeepsScope}
+use Rattle.ecma_hygiene_scopes.specs.Stops.{Stop}
+use Rattle.ecma_hygiene_scopes.proofs.Forms.{Allowed, Formed, forms-by}
+use Rattle.ecma_hygiene_scopes.proofs.Membership.{contexts-agree, is_kept, own-agrees}
 use Rattle.ecma_strip_scopes.proofs.Lasting.{lasting}
 use Rattle.ecma_strip_scopes.proofs.RolesAlike.{Alike}
 use Rattle.ecma_strip_scopes.proofs.ScopesSame.{AreSame, IsSame, Stay, all-kept, any-kept, context-id, goes, id-context, kept-other, kept-stays, none-kept, same-innermost, same-last, same-none}

@@ -5,7 +5,7 @@ use Rattle.ecma_tree.specs.declared.node.Node.{Node}
 use Rattle.ecma_scope.specs.declared.role.Role.TheVariants as role
 use Rattle.ecma_scope.specs.Resolved.{resolved}
 use Rattle.ecma_scope.proofs.Unchanged.{keeps-sorts}
-use Rattle.ecma_hygiene_laws.proofs.ResolvedApart.{resolved-keeps-apart}
+use Rattle.ecma_hygiene_scopes.proofs.ResolvedApart.{resolved-keeps-apart}
 use Rattle.ecma_strip_scopes.specs.Apart.{IsWrapped, StrippedModulesTellScopesApart}
 use Rattle.ecma_strip_scopes.proofs.StayingSeats.{staying-among}
 use Rattle.ecma_strip_scopes.proofs.Walking.{stripped-tells-apart}

@@ -5,7 +5,7 @@ use Rattle.std.proofs.lemmas.List.Elements.{All-append, All-cons, All-head, All-
 use Rattle.std.proofs.lemmas.List.Folds.{list_any-append}
 use Rattle.ecma_hygiene.specs.Ids.{has_context}
 use Rattle.ecma_hygiene.proofs.Telling.{or-first, or-second, true-false}
-use Rattle.ecma_hygiene_laws.specs.Apart.{AreApart}
+use Rattle.ecma_hygiene_scopes.specs.Apart.{AreApart}
 
 abbrev Lacks : ℕ → List ℕ → Type 0
 Lacks c ctxts = has_context c ctxts ≡ false

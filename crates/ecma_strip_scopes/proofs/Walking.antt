@@ -26,13 +26,13 @@ use Rattle.ecma_strip.proofs.Stripping.{stripped-out}
 use Rattle.ecma_hygiene.specs.Ids.{Scope, has_context, innermost, own_ids}
 use Rattle.ecma_hygiene.specs.Sights.{Around, around_child, nowhere, own_scope}
 use Rattle.ecma_hygiene.proofs.Telling.{true-false}
-use Rattle.ecma_hygiene_laws.specs.Apart.{IsScoped, own_contexts}
-use Rattle.ecma_hygiene_laws.specs.DeclaredIds.{ids_declared, scope_ids}
-use Rattle.ecma_hygiene_laws.specs.Lasting.{KeepsScope}
-use Rattle.ecma_hygiene_laws.specs.Seats.{Seat}
-use Rattle.ecma_hygiene_laws.specs.Stops.{Stop, stops, stops_at, stops_from}
-use Rattle.ecma_hygiene_laws.proofs.Parts.{children-of, kind-of, parts_of}
-use Rattle.ecma_hygiene_laws.proofs.Stopping.{All-first, All-second, stops-out}
+use Rattle.ecma_hygiene_scopes.specs.Apart.{IsScoped, own_contexts}
+use Rattle.ecma_hygiene_scopes.specs.DeclaredIds.{ids_declared, scope_ids}
+use Rattle.ecma_hygiene_scopes.specs.Lasting.{KeepsScope}
+use Rattle.ecma_hygiene_scopes.specs.Seats.{Seat}
+use Rattle.ecma_hygiene_scopes.specs.Stops.{Stop, stops, stops_at, stops_from}
+use Rattle.ecma_hygiene_scopes.proofs.Parts.{children-of, kind-of, parts_of}
+use Rattle.ecma_hygiene_scopes.proofs.Stopping.{All-first, All-second, stops-out}
 use Rattle.ecma_strip_scopes.specs.Apart.{IsClearSeat, IsOther, IsWrapped, StrippedTellsScopesApart}
 use Rattle.ecma_strip_scopes.specs.Staying.{staying_seats}
 use Rattle.ecma_strip_scopes.proofs.AtStops.{at-stops}

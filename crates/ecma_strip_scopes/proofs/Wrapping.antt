@@ -20,7 +20,7 @@ use Rattle.ecma_scope.specs.Scopes.{is_there, of_specifier, passes_in_list, role
 use Rattle.ecma_hygiene.specs.Walks.{gathered_from}
 use Rattle.ecma_hygiene.proofs.Telling.{true-false}
 use Rattle.ecma_hygiene.proofs.Walking.{gathered-out}
-use Rattle.ecma_hygiene_laws.specs.Seats.{Seat, seat_here, seats_at}
+use Rattle.ecma_hygiene_scopes.specs.Seats.{Seat, seat_here, seats_at}
 use Rattle.ecma_strip_scopes.specs.Apart.{IsWrapped, is_free}
 use Rattle.ecma_strip_scopes.proofs.Going.{parts-have}
 

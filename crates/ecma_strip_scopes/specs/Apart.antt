@@ -13,10 +13,10 @@ use Rattle.ecma_scope.specs.Resolved.{contexts, resolved}
 use Rattle.ecma_scope.specs.Scopes.{is_ambient, opens}
 use Rattle.ecma_strip.specs.Staying.{is_this_ident}
 use Rattle.ecma_strip.specs.Stripping.{stripped}
-use Rattle.ecma_hygiene_laws.specs.Apart.{TellsScopesApart}
-use Rattle.ecma_hygiene_laws.specs.DeclaredIds.{scope_ids}
-use Rattle.ecma_hygiene_laws.specs.Lasting.{IsCheckedModule, KeepsScopesApart}
-use Rattle.ecma_hygiene_laws.specs.Seats.{Seat, seats_at}
+use Rattle.ecma_hygiene_scopes.specs.Apart.{TellsScopesApart}
+use Rattle.ecma_hygiene_scopes.specs.DeclaredIds.{scope_ids}
+use Rattle.ecma_hygiene_scopes.specs.Lasting.{IsCheckedModule, KeepsScopesApart}
+use Rattle.ecma_hygiene_scopes.specs.Seats.{Seat, seats_at}
 use Rattle.ecma_strip_scopes.specs.Staying.{staying_seats}
 use Rattle.ecma_strip_scopes.specs.Standing.{is_clear, lasts}
 

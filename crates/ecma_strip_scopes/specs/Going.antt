@@ -7,7 +7,7 @@ use Rattle.ecma_scope.specs.declared.form.Part.{Part}
 use Rattle.ecma_scope.specs.declared.form.Part.TheVariants as part
 use Rattle.ecma_scope.specs.declared.form.Sought.{Sought}
 use Rattle.ecma_strip.specs.Staying.{is_this_param, stays}
-use Rattle.ecma_hygiene_laws.specs.DeclaredIds.{ids_declared}
+use Rattle.ecma_hygiene_scopes.specs.DeclaredIds.{ids_declared}
 
 -- what is looked for in the items of a list
 abbrev pub is_list_part : Part → Bool

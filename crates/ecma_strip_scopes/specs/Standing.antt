@@ -12,7 +12,7 @@ use Rattle.ecma_scope.specs.Layers.{from_leaves}
 use Rattle.ecma_strip.specs.Plain.{unless_missing}
 use Rattle.ecma_strip.specs.Staying.{is_this_ident, is_this_param, item_stays, stays}
 use Rattle.ecma_strip.specs.Stripping.{stripped}
-use Rattle.ecma_hygiene_laws.specs.DeclaredIds.{DeclaredId, ids_declared}
+use Rattle.ecma_hygiene_scopes.specs.DeclaredIds.{DeclaredId, ids_declared}
 
 abbrev pub is_none : List DeclaredId → Bool
 is_none [] = true

@@ -6,7 +6,7 @@ use Rattle.ecma_scope.specs.declared.role.Role.{Role}
 use Rattle.ecma_scope.specs.Layers.{from_leaves}
 use Rattle.ecma_scope.specs.Scopes.{role_in}
 use Rattle.ecma_strip.specs.Staying.{stays}
-use Rattle.ecma_hygiene_laws.specs.Seats.{Seat}
+use Rattle.ecma_hygiene_scopes.specs.Seats.{Seat}
 
 -- in children, of which the first is the one at i: what goes from a list is passed over
 abbrev pub staying_from : Bool → (ℕ → Role) → ℕ → List Node → List (Role → List Seat) → List Seat

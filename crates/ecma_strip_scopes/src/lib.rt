@@ -1,4 +1,4 @@
-//! What scopes declare without the types of a tree, over the definitions of `ecma_strip`, `ecma_scope` and `ecma_hygiene_laws`.
+//! What scopes declare without the types of a tree, over the definitions of `ecma_strip`, `ecma_scope` and `ecma_hygiene_scopes`.
 //!
 //! Each function carries one law, and does nothing. The laws are stated in `specs/`.
 #![tactic(auto)]

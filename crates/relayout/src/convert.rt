@@ -5,7 +5,7 @@ ghost use Rattle.ts_to_js.specs.Refusals.{refusal_of};
 ghost use Rattle.relayout.specs.Relayout.{IsRelaid, laid_out, relaid};
 
 use ecma_print::print_module;
-use ecma_relaid_laws::relaid_modules_are_read_again;
+use ecma_round_trip_texts::relaid_modules_are_read_again;
 use ecma_text::{ReadError, read_plain};
 use ecma_tree::Module;
 use std::alloc::Global;

@@ -6,7 +6,7 @@ ghost use Rattle.relayout.specs.Relayout.{IsRelaid, relaid};
 
 use crate::convert::relayout;
 use devices::{ReadFault, Sink, Source, read_up_to};
-use ecma_relaid_laws::relaid_modules_are_read_again;
+use ecma_round_trip_texts::relaid_modules_are_read_again;
 use std::alloc::Global;
 use ts_to_js::{LIMIT, NO_MEMORY, READ_FAULT, tell};
 

@@ -7,8 +7,8 @@ use Rattle.ecma_tree.specs.Sorted.{HasSort}
 use Rattle.ecma_scope.specs.Needs.{needed}
 use Rattle.ecma_scope.specs.Resolved.{contexts}
 use Rattle.ecma_bind.specs.Binding.{with_bound_names}
-use Rattle.ecma_bound_scopes.proofs.Placed.{resolve_alike}
-use Rattle.ecma_final_texts.proofs.Leaving.{leave-sixteen}
+use Rattle.ecma_bind_scopes.proofs.Placed.{resolve_alike}
+use Rattle.ecma_hygiene_exists.proofs.Leaving.{leave-sixteen}
 use Rattle.ts_to_js.specs.Conversion.{HasGivenFor}
 
 -- the tree with its names bound takes as many

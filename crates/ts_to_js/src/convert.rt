@@ -12,15 +12,15 @@ ghost use Rattle.ts_to_js.specs.Refusals.{ReadingNeedsAtMost, refused};
 
 use crate::error::TsError;
 use ecma_bind::bind_names;
-use ecma_few_scopes::needed_is_bounded_by_the_text;
 use ecma_forms::first_untaken;
 use ecma_hygiene::hygiene;
+use ecma_pipeline::written_modules_do_what_their_sources_do;
 use ecma_print::print_module;
 use ecma_scope::{check_scopes, needs, resolve};
 use ecma_strip::strip_type;
 use ecma_text::read_module;
+use ecma_text_contexts::needed_is_bounded_by_the_text;
 use ecma_tree::{Module, NoMemory, PassError, Session};
-use ecma_written_laws::written_modules_do_what_their_sources_do;
 use std::alloc::Global;
 use std::mem::ManuallyDrop;
 

@@ -8,9 +8,9 @@ use crate::convert::{LIMIT, Options, ts_to_js};
 use crate::error::TsError;
 use crate::report::{write_fault, write_line};
 use devices::{ReadFault, Sink, SinkError, Source, read_up_to, write_all};
-use ecma_few_scopes::needed_is_bounded_by_the_text;
+use ecma_pipeline::written_modules_do_what_their_sources_do;
+use ecma_text_contexts::needed_is_bounded_by_the_text;
 use ecma_tree::Session;
-use ecma_written_laws::written_modules_do_what_their_sources_do;
 use std::alloc::Global;
 use std::rc::RcStr;
 

@@ -1,6 +1,6 @@
 use Rattle.std.proofs.Common.{sym}
 use Rattle.ecma_modules.specs.Modules.{deepest, typescript}
-use Rattle.ecma_text_laws.proofs.Finished.{read_sorted}
+use Rattle.ecma_text_sorts.proofs.Finished.{read_sorted}
 use Rattle.ts_to_js.proofs.convert.convert_text.Goals as goal
 
 pub convert_tree-requires-clause-sorted : goal.convert_tree-requires-clause-sorted

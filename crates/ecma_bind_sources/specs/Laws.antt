@@ -1,0 +1,14 @@
+-- What is read as a module, with bound names.
+use Rattle.std.specs.Prelude.{◌≡◌, None}
+use Rattle.ecma_tree.specs.declared.node.Node.{Node}
+use Rattle.ecma_forms.specs.Forms.{first_untaken}
+use Rattle.ecma_text_sources.specs.Sources.{IsRead}
+use Rattle.ecma_bind.specs.Binding.{with_bound_names}
+
+-- a tree as it is read is one with its names bound
+abbrev pub BoundTreesAreRead : Type 0
+BoundTreesAreRead = (tree : Node) → IsRead tree → IsRead (with_bound_names tree)
+
+-- and where each of its forms is taken, each is then
+abbrev pub BoundTreesAreTaken : Type 0
+BoundTreesAreTaken = (tree : Node) → first_untaken tree ≡ None → first_untaken (with_bound_names tree) ≡ None

@@ -1,0 +1,20 @@
+//! What is read as a module is so with its names bound, and each of its forms is still taken.
+//!
+//! Each function carries one law over the definitions, and does nothing. The laws are stated in `specs/`.
+#![tactic(auto)]
+
+ghost use Rattle.ecma_bind_sources.specs.Laws.{BoundTreesAreRead, BoundTreesAreTaken};
+
+use ecma_bind_fits::bound_names_fit;
+
+/// A tree as it is read, by its leaves too, is one with its names bound.
+pub fn bound_trees_are_read()
+    ensures { BoundTreesAreRead }
+{
+    bound_names_fit();
+}
+
+/// Where each form of a tree is taken, each form of it is with its names bound.
+pub fn bound_trees_are_taken()
+    ensures { BoundTreesAreTaken }
+{}

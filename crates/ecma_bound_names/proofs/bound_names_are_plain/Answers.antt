@@ -1,5 +1,0 @@
-use Rattle.ecma_bound_names.proofs.Whole.{names_are_plain}
-use Rattle.ecma_bound_names.proofs.bound_names_are_plain.Goals as goal
-
-pub returns : goal.returns
-returns c = names_are_plain

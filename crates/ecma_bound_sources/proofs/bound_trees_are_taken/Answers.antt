@@ -1,5 +1,0 @@
-use Rattle.ecma_bound_sources.proofs.Taken.{trees_are_taken}
-use Rattle.ecma_bound_sources.proofs.bound_trees_are_taken.Goals as goal
-
-pub returns : goal.returns
-returns c = trees_are_taken

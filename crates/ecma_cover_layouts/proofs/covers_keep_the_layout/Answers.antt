@@ -1,5 +1,0 @@
-use Rattle.ecma_cover_layouts.proofs.Covering as law
-use Rattle.ecma_cover_layouts.proofs.covers_keep_the_layout.Goals as goal
-
-pub returns : goal.returns
-returns c = law.covers_keep_the_layout

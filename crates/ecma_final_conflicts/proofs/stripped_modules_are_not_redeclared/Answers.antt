@@ -1,5 +1,0 @@
-use Rattle.ecma_final_conflicts.proofs.Walk.{resolved-not-redeclared}
-use Rattle.ecma_final_conflicts.proofs.stripped_modules_are_not_redeclared.Goals as goal
-
-pub returns : goal.returns
-returns c = resolved-not-redeclared

@@ -1,5 +1,0 @@
-use Rattle.ecma_final_laws.proofs.Law.{final_trees_plain}
-use Rattle.ecma_final_laws.proofs.final_trees_are_plain.Goals as goal
-
-pub returns : goal.returns
-returns c = final_trees_plain

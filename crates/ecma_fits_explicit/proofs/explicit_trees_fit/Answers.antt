@@ -1,5 +1,0 @@
-use Rattle.ecma_fits_explicit.proofs.Explicit.{trees_fit}
-use Rattle.ecma_fits_explicit.proofs.explicit_trees_fit.Goals as goal
-
-pub returns : goal.returns
-returns c = trees_fit

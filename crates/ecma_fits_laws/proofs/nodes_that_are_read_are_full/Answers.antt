@@ -1,5 +1,0 @@
-use Rattle.ecma_fits_laws.proofs.Shapes.{read_full}
-use Rattle.ecma_fits_laws.proofs.nodes_that_are_read_are_full.Goals as goal
-
-pub returns : goal.returns
-returns c = read_full c.trees_that_are_read_keep_rules.ensures

@@ -1,5 +1,0 @@
-use Rattle.ecma_fits_reread.proofs.Forming as law
-use Rattle.ecma_fits_reread.proofs.expressions_have_their_shapes.Goals as goal
-
-pub returns : goal.returns
-returns c = law.shapes_of_expressions

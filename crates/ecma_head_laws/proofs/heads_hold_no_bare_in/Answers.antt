@@ -1,5 +1,0 @@
-use Rattle.ecma_head_laws.proofs.BareIn as law
-use Rattle.ecma_head_laws.proofs.heads_hold_no_bare_in.Goals as goal
-
-pub returns : goal.returns
-returns c = law.heads_hold_no_bare_in

@@ -1,5 +1,0 @@
-use Rattle.ecma_hygiene_laws.proofs.Seeing.{contexts-are-mapped}
-use Rattle.ecma_hygiene_laws.proofs.contexts_are_mapped_one_to_one.Goals as goal
-
-pub returns : goal.returns
-returns c = contexts-are-mapped

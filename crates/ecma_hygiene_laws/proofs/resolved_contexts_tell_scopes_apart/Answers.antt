@@ -1,5 +1,0 @@
-use Rattle.ecma_hygiene_laws.proofs.ResolvedApart.{resolved-tells-apart}
-use Rattle.ecma_hygiene_laws.proofs.resolved_contexts_tell_scopes_apart.Goals as goal
-
-pub returns : goal.returns
-returns c = resolved-tells-apart

@@ -1,5 +1,0 @@
-use Rattle.ecma_hygiene_laws.proofs.ResolvedModules.{resolved-is-right}
-use Rattle.ecma_hygiene_laws.proofs.resolved_ids_say_which_scopes_declare_them.Goals as goal
-
-pub returns : goal.returns
-returns c = resolved-is-right

@@ -1,5 +1,0 @@
-use Rattle.ecma_hygiene_laws.proofs.ResolvedModules.{resolved-is-read-again}
-use Rattle.ecma_hygiene_laws.proofs.resolved_modules_are_read_again.Goals as goal
-
-pub returns : goal.returns
-returns c = resolved-is-read-again

@@ -1,5 +1,0 @@
-use Rattle.ecma_parentheses.proofs.Laying as law
-use Rattle.ecma_parentheses.proofs.layout_stays.Goals as goal
-
-pub returns : goal.returns
-returns c = law.layout_stays

@@ -1,5 +1,0 @@
-use Rattle.ecma_parentheses.proofs.Lacks as law
-use Rattle.ecma_parentheses.proofs.trees_that_lack_none_stay.Goals as goal
-
-pub returns : goal.returns
-returns c = law.trees_that_lack_none_stay

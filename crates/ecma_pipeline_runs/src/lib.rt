@@ -1,0 +1,31 @@
+//! Laws of a module's whole way: read, resolved, stripped of its types, given its final texts, written, read again and resolved again.
+//!
+//! Each function carries one law over the definitions, and does nothing. The laws are stated in `specs/`.
+#![tactic(auto)]
+
+ghost use Rattle.ecma_pipeline_runs.specs.Clear.{ModulesAreClear};
+ghost use Rattle.ecma_pipeline_runs.specs.Passes.{PassesKeepRuns};
+ghost use Rattle.ecma_pipeline_runs.specs.Plain.{StrippedModulesArePlain};
+
+use ecma_hygiene_runs::{plain_modules_are_resolved, reading_again_keeps_runs};
+use ecma_print_parentheses::it_runs_alike;
+
+/// In a module that fits, and in which all that is TypeScript is types, it is clear what each scope that stays declares without types.
+pub fn modules_are_clear()
+    ensures { ModulesAreClear }
+{}
+
+/// Without its types such a module is plain.
+pub fn stripped_modules_are_plain()
+    ensures { StrippedModulesArePlain }
+{}
+
+/// Such a module, resolved, stripped of its types and given its final texts, is observed to do what the resolved source does, once it is read again from its
+/// layout and resolved: where no name of the source is declared again where it may not be, and there were contexts enough.
+pub fn passes_keep_runs()
+    ensures { PassesKeepRuns }
+{
+    it_runs_alike();
+    reading_again_keeps_runs();
+    plain_modules_are_resolved();
+}

@@ -1,5 +1,0 @@
-use Rattle.ecma_plain_laws.proofs.WholeModules.{read_bodies}
-use Rattle.ecma_plain_laws.proofs.plain_functions_that_are_read_have_bodies.Goals as goal
-
-pub returns : goal.returns
-returns c = read_bodies c.modules_that_are_read_are_sorted.ensures

@@ -1,0 +1,5 @@
+use Rattle.ecma_print_congruence.proofs.Layouts as law
+use Rattle.ecma_print_congruence.proofs.contexts_do_not_matter_to_layouts.Goals as goal
+
+pub returns : goal.returns
+returns c = law.contexts_do_not_matter_to_layouts

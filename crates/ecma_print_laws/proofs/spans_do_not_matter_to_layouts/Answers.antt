@@ -1,5 +1,0 @@
-use Rattle.ecma_print_laws.proofs.Layouts as law
-use Rattle.ecma_print_laws.proofs.spans_do_not_matter_to_layouts.Goals as goal
-
-pub returns : goal.returns
-returns c = law.spans_do_not_matter_to_layouts

@@ -1,0 +1,12 @@
+//! What is printed is read again by the grammar as data: laws over the definitions of the layout and of the readings alone.
+//!
+//! Each function carries one law, and does nothing. The laws are stated in `specs/Theorems.antt`.
+#![tactic(auto)]
+
+ghost use Rattle.ecma_print_reread.specs.Theorems.{ModulesAreReadAgain};
+
+/// The layout of a module of the forms in `specs/Modules.antt` and `specs/Shapes.antt` is read in plain reading as that module, up to
+/// spans, wherever levels enough are allowed.
+pub fn printed_modules_are_read_again()
+    ensures { ModulesAreReadAgain }
+{}

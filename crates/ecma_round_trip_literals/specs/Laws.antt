@@ -1,0 +1,43 @@
+-- What is said of the texts that are written for literals.
+use Rattle.std.specs.Prelude.{◌≡◌, ℕ, Bool, true, List, Some}
+use Rattle.std.specs.Str.{IsUtf8}
+use Rattle.ecma_number.specs.declared.js_number.JsNumber.{JsNumber}
+use Rattle.ecma_number.specs.JsNumber.{value_of}
+use Rattle.ecma_number.specs.SafeInt.{IsSafe}
+use Rattle.ecma_number.specs.Text.{text_of}
+use Rattle.ecma_tree.specs.declared.node.Node.{Node}
+use Rattle.ecma_kind.specs.declared.kind.Kind.{Kind}
+use Rattle.ecma_text_leaves.specs.Everywhere.{Everywhere}
+use Rattle.ecma_leaves.specs.Words.{is_big_int, is_decimal, is_natural, is_number, is_readable, is_spelled, is_string}
+use Rattle.ecma_fits.specs.Fitting.{Fits}
+use Rattle.ecma_print.specs.Escapes.{made_text}
+use Rattle.ecma_print.specs.Layout.{layout}
+use Rattle.ecma_round_trip_literals.specs.Sources.{IsWritable, big_text, with_source, with_sources}
+
+-- a layout shows each literal by its source text, or else by that very text
+abbrev pub SourcesDoNotMatterToLayouts : Type 0
+SourcesDoNotMatterToLayouts = (tree : Node) → layout (with_sources tree) ≡ layout tree
+
+-- decimal digits and `n` are read as a BigInt of these digits
+abbrev pub WrittenBigIntsAreSpelled : Type 0
+WrittenBigIntsAreSpelled = (value : List ℕ) → is_readable (big_text value) ≡ true → is_decimal value ≡ true → is_big_int value (Some (big_text value)) ≡ true
+
+-- the text of a Number that is not negative is read as a numeral of that value
+abbrev pub WrittenNumbersAreSpelled : Type 0
+WrittenNumbersAreSpelled = (value : JsNumber) → IsSafe (value_of value) → is_natural value ≡ true → is_number (Some value) (Some (text_of value)) ≡ true
+
+-- the text that is made for a value is read as a string literal that says the value
+abbrev pub WrittenTextsAreSpelled : Type 0
+WrittenTextsAreSpelled = (value : List ℕ) → IsUtf8 value → is_readable (made_text value) ≡ true → is_string value (Some (made_text value)) ≡ true
+
+-- with its source text a literal is spelled as without
+abbrev pub KeepsSpelling : Kind → Type 0
+KeepsSpelling k = (tagged : Bool) → is_spelled tagged k ≡ true → is_spelled tagged (with_source k) ≡ true
+
+-- where it is writable, it is
+abbrev pub WritableLiteralsKeepSpelling : Type 0
+WritableLiteralsKeepSpelling = (k : Kind) → IsWritable k → KeepsSpelling k
+
+-- what fits fits with source texts, where each literal without one is writable
+abbrev pub WhatFitsFitsWithSources : Type 0
+WhatFitsFitsWithSources = (tree : Node) → Everywhere IsWritable tree → Fits tree → Fits (with_sources tree)

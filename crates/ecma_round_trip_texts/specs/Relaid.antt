@@ -1,0 +1,20 @@
+-- A plain module that is laid out anew is read again.
+use Rattle.std.specs.Prelude.{◌≡◌, ◌<◌, ◌^◌, ℕ, false, List, Ok, length}
+use Rattle.std.specs.Str.{IsUtf8}
+use Rattle.ecma_tree.specs.declared.node.Node.{Node}
+use Rattle.ecma_tree.specs.Spans.{without_spans}
+use Rattle.ecma_modules.specs.Modules.{plain, reads_as}
+use Rattle.ecma_print_parentheses.specs.Explicit.{explicit}
+use Rattle.ecma_print.specs.Layout.{layout}
+
+-- the text is read as a plain module, of this tree with the parentheses of its layout, up to spans
+pub record IsReadAsTree (tree : Node) (text : List ℕ) : Type 0 where
+  pub levels : ℕ
+  pub again : Node
+  pub read_plain : reads_as text (plain false) levels ≡ Ok again
+  pub same : without_spans again ≡ without_spans (explicit tree)
+
+-- the layout of what was read as a plain module
+abbrev pub RelaidModulesAreReadAgain : Type 0
+RelaidModulesAreReadAgain =
+    (text : List ℕ) (bound : ℕ) (tree : Node) → IsUtf8 text → length text < 2 ^ 32 → reads_as text (plain false) bound ≡ Ok tree → IsReadAsTree tree (layout tree)

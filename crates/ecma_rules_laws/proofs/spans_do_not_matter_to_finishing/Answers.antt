@@ -1,5 +1,0 @@
-use Rattle.ecma_rules_laws.proofs.Finishing as law
-use Rattle.ecma_rules_laws.proofs.spans_do_not_matter_to_finishing.Goals as goal
-
-pub returns : goal.returns
-returns c = law.spans_do_not_matter_to_finishing

@@ -1,0 +1,13 @@
+-- Neither where nodes stand nor parentheses matter to which names are declared twice.
+use Rattle.std.specs.Prelude.{◌≡◌}
+use Rattle.ecma_tree.specs.declared.node.Node.{Node}
+use Rattle.ecma_tree.specs.Spans.{without_spans}
+use Rattle.ecma_print_parentheses.specs.Explicit.{explicit}
+use Rattle.ecma_scope.specs.Conflicts.{redeclared}
+use Rattle.ecma_scope_congruence.specs.Parentheses.{HasBodies}
+
+abbrev pub SpansDoNotMatterToConflicts : Type 0
+SpansDoNotMatterToConflicts = (a b : Node) → without_spans a ≡ without_spans b → redeclared a ≡ redeclared b
+
+abbrev pub ParenthesesDoNotMatterToConflicts : Type 0
+ParenthesesDoNotMatterToConflicts = (tree : Node) → HasBodies tree → redeclared (explicit tree) ≡ redeclared tree

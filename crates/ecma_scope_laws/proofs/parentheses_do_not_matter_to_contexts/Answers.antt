@@ -1,5 +1,0 @@
-use Rattle.ecma_scope_laws.proofs.ExplicitContexts as law
-use Rattle.ecma_scope_laws.proofs.parentheses_do_not_matter_to_contexts.Goals as goal
-
-pub returns : goal.returns
-returns c = law.parentheses_do_not_matter_to_contexts

@@ -1,5 +1,0 @@
-use Rattle.ecma_scope_laws.proofs.SpanConflicts as law
-use Rattle.ecma_scope_laws.proofs.spans_do_not_matter_to_conflicts.Goals as goal
-
-pub returns : goal.returns
-returns c = law.spans_do_not_matter_to_conflicts

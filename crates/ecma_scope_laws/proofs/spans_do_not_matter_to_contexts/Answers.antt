@@ -1,5 +1,0 @@
-use Rattle.ecma_scope_laws.proofs.Resolved as law
-use Rattle.ecma_scope_laws.proofs.spans_do_not_matter_to_contexts.Goals as goal
-
-pub returns : goal.returns
-returns c = law.spans_do_not_matter_to_contexts

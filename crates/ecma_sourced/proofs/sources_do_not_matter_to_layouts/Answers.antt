@@ -1,5 +1,0 @@
-use Rattle.ecma_sourced.proofs.Layouts as law
-use Rattle.ecma_sourced.proofs.sources_do_not_matter_to_layouts.Goals as goal
-
-pub returns : goal.returns
-returns c = law.sources_do_not_matter_to_layouts

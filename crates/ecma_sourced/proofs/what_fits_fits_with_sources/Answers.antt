@@ -1,5 +1,0 @@
-use Rattle.ecma_sourced.proofs.Kept as law
-use Rattle.ecma_sourced.proofs.what_fits_fits_with_sources.Goals as goal
-
-pub returns : goal.returns
-returns c = law.what_fits_fits_with_sources

@@ -1,5 +1,0 @@
-use Rattle.ecma_strip_again.proofs.Sorted as law
-use Rattle.ecma_strip_again.proofs.sorted_trees_strip_once.Goals as goal
-
-pub returns : goal.returns
-returns c = law.sorted_trees_strip_once

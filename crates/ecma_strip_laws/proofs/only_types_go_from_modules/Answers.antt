@@ -1,5 +1,0 @@
-use Rattle.ecma_strip_laws.proofs.Sorted as law
-use Rattle.ecma_strip_laws.proofs.only_types_go_from_modules.Goals as goal
-
-pub returns : goal.returns
-returns c = law.only_types_go_from_modules

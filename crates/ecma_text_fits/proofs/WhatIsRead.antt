@@ -1,0 +1,24 @@
+-- What is read fits, clause by clause.
+use Rattle.ecma_text_sorts.specs.Sorts.{ReadModulesAreSorted}
+use Rattle.ecma_text_fits.specs.Clauses.{FitsByClauses}
+use Rattle.ecma_text_fits.specs.Read.{ReadLeavesAreSpelled, ReadTreesKeepRules}
+use Rattle.ecma_text_fits.specs.ReadRoles.{ReadTargetsAreNoStrays, ReadTreesHaveTheirRoles}
+use Rattle.ecma_text_fits.specs.Shapes.{ReadBranchesTakeTheirElse, ReadLinksAreNotLoose, ReadMembersAreNotMisread, ReadNodesAreFull}
+use Rattle.ecma_text_fits.specs.WhatIsRead.{WhatIsReadFits}
+
+pub read_fits : FitsByClauses → ReadModulesAreSorted → ReadNodesAreFull → ReadBranchesTakeTheirElse → ReadLinksAreNotLoose → ReadMembersAreNotMisread → ReadTreesHaveTheirRoles → ReadTargetsAreNoStrays → ReadTreesKeepRules → ReadLeavesAreSpelled → WhatIsReadFits
+read_fits by_clauses sorted full branches links members roles targets keeps spelled text mode bound tree utf8 small e =
+    let rules = keeps text mode bound tree e in
+    (by_clauses tree).1 (record {
+      sorted = sorted text mode bound tree e;
+      counts = full text mode bound tree e;
+      branches = branches text mode bound tree e;
+      chains = links text mode bound tree e;
+      members = members text mode bound tree e;
+      roles = roles text mode bound tree e;
+      targets = targets text mode bound tree e;
+      rules = rules.rules;
+      constructors = rules.constructors;
+      leaves = spelled text mode bound tree utf8 small e;
+      strays = rules.strays;
+    })

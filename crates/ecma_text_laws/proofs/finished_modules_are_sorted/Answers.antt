@@ -1,5 +1,0 @@
-use Rattle.ecma_text_laws.proofs.Finished.{finished_sorted}
-use Rattle.ecma_text_laws.proofs.finished_modules_are_sorted.Goals as goal
-
-pub returns : goal.returns
-returns c = finished_sorted

@@ -1,5 +1,0 @@
-use Rattle.ecma_text_laws.proofs.Finished.{read_sorted}
-use Rattle.ecma_text_laws.proofs.modules_that_are_read_are_sorted.Goals as goal
-
-pub returns : goal.returns
-returns c = read_sorted
