@@ -11,8 +11,8 @@ use Rattle.ecma_scope.specs.Laws.{without_contexts}
 use Rattle.ecma_scope.specs.Resolved.{resolved}
 use Rattle.ecma_scope.specs.declared.role.Role.TheVariants as role
 use Rattle.ecma_scope.proofs.Unchanged.{changes-contexts}
-use Rattle.ecma_scope_congruence.specs.Conflicts.{ParenthesesDoNotMatterToConflicts, SpansDoNotMatterToConflicts}
-use Rattle.ecma_scope_congruence.specs.Parentheses.{HasBodies}
+use Rattle.ecma_scope_congruence.specs.Laws.{ParenthesesDoNotMatterToConflicts, SpansDoNotMatterToConflicts}
+use Rattle.ecma_scope_congruence.specs.Bodies.{HasBodies}
 use Rattle.ecma_strip.specs.Stripping.{stripped}
 use Rattle.ecma_strip_fits.proofs.SortsKept.{sorts_kept}
 use Rattle.ecma_strip_scopes.proofs.StrippedModules.{stripped-modules-tell-apart}

@@ -10,7 +10,7 @@ use Rattle.ecma_text_leaves.specs.Everywhere.{Everywhere}
 use Rattle.ecma_scope_fits.proofs.Moved.{children_moved, kind_moved, to}
 use Rattle.ecma_print_shapes.specs.Functions.{Functions, any_unusual, functions, functions_step, is_missing_at, is_this_name, unusual_here}
 use Rattle.ecma_scope.specs.Laws.{without_contexts}
-use Rattle.ecma_strip_runs.specs.Usual.{holds_throughout}
+use Rattle.ecma_strip_runs.specs.UsualBodies.{holds_throughout}
 use Rattle.ecma_hygiene.proofs.Telling.{and-left, and-right}
 use Rattle.ecma_hygiene_fits.proofs.Everywhere.{Each as EachChild, children_of, everywhere as from_children}
 use Rattle.ecma_pipeline_runs.proofs.Nodes.{by-children, not-false, not-true, test-below, test-here}

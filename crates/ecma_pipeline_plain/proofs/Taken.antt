@@ -28,7 +28,7 @@ use Rattle.ecma_hygiene.specs.Renamed.{Texts, renamed, text_of}
 use Rattle.ecma_hygiene.specs.Sights.{meetings, sights}
 use Rattle.ecma_hygiene.specs.Texts.{text_in}
 use Rattle.ecma_hygiene_fits.proofs.Everywhere.{children_of}
-use Rattle.ecma_hygiene_fits.specs.Named.{IsUnreserved}
+use Rattle.ecma_hygiene_fits.specs.Unreserved.{IsUnreserved}
 use Rattle.ecma_hygiene_fits.proofs.Numbered.{texts_unreserved}
 use Rattle.ecma_pipeline_runs.specs.TypesAlone.{adds_types_alone}
 use Rattle.ecma_pipeline_runs.proofs.Contexts.{resolved-adds-types}

@@ -27,7 +27,7 @@ use Rattle.ecma_strip.specs.Staying.{is_this_ident, is_this_param, stays}
 use Rattle.ecma_strip.specs.Stripping.{stripped}
 use Rattle.ecma_strip.specs.Values.{is_value, value_by}
 use Rattle.ecma_strip.proofs.Valuing.{is_value-out}
-use Rattle.ecma_strip_runs.specs.Usual.{declares_no_body, has_usual_bodies}
+use Rattle.ecma_strip_runs.specs.UsualBodies.{declares_no_body, has_usual_bodies}
 use Rattle.ecma_hygiene.proofs.Telling.{and-both, true-false}
 use Rattle.ecma_hygiene_scopes.specs.DeclaredIds.{DeclaredId, ids_declared}
 use Rattle.ecma_strip_scopes.specs.Standing.{bodies_stay, clear_at, clear_here, clear_in, clear_step, has_value, is_clear, is_none, same}

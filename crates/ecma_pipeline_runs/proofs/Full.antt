@@ -17,7 +17,7 @@ use Rattle.ecma_strip.specs.Stripping.{plain, plain_children, plain_kind, stayin
 use Rattle.ecma_strip.specs.Values.{is_value, value_by}
 use Rattle.ecma_strip.proofs.Stripping.{stripped-out}
 use Rattle.ecma_strip.proofs.Valuing.{is_value-out}
-use Rattle.ecma_strip_runs.specs.Usual.{declares_no_body}
+use Rattle.ecma_strip_runs.specs.UsualBodies.{declares_no_body}
 use Rattle.ecma_hygiene.proofs.Telling.{and-both, and-left, and-right, true-false}
 use Rattle.ecma_strip_scopes.proofs.Declared.{not-list}
 use Rattle.ecma_strip_scopes.proofs.Going.{parts-have}

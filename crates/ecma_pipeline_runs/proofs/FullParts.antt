@@ -22,7 +22,7 @@ use Rattle.ecma_strip.specs.Stripping.{body_of, plain, plain_children, plain_kin
 use Rattle.ecma_strip.specs.Values.{is_value, value_by}
 use Rattle.ecma_strip.proofs.Stripping.{stripped-out}
 use Rattle.ecma_strip.proofs.Valuing.{is_value-out}
-use Rattle.ecma_strip_runs.specs.Usual.{holds_throughout}
+use Rattle.ecma_strip_runs.specs.UsualBodies.{holds_throughout}
 use Rattle.ecma_strip_runs.proofs.Telling.{holds-roll}
 use Rattle.ecma_hygiene.proofs.Telling.{and-both, and-left, and-right, true-false}
 use Rattle.ecma_hygiene.specs.Renamed.{kind_is_absent}

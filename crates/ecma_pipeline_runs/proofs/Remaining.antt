@@ -16,7 +16,7 @@ use Rattle.ecma_rules.specs.Statements.{is_declaration as declares_kind}
 use Rattle.ecma_strip.specs.Staying.{if_there, is_declared, is_empty_stmt, is_export, item_stays, member_stays, specifier_stays, is_this_param, stays}
 use Rattle.ecma_strip.specs.Values.{is_value, value_by}
 use Rattle.ecma_strip.proofs.Valuing.{is_value-out}
-use Rattle.ecma_strip_runs.specs.Usual.{declares_no_body, is_declaration}
+use Rattle.ecma_strip_runs.specs.UsualBodies.{declares_no_body, is_declaration}
 use Rattle.ecma_hygiene.proofs.Telling.{and-left, and-right, or-first, or-second, true-false}
 use Rattle.ecma_strip_scopes.proofs.Going.{parts-have}
 use Rattle.ecma_pipeline_runs.specs.TypesAlone.{has_ambient_head}

@@ -1,4 +1,3 @@
 pub mod TypesAlone
-pub mod Clear
-pub mod Plain
 pub mod Passes
+pub mod Laws

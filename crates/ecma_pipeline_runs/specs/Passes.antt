@@ -1,17 +1,12 @@
--- A module that is read, resolved, stripped of its types, given its final texts, written, read again and resolved again does what it did.
+-- Modules as they are read, contexts that are given, and what is read of a layout.
 use Rattle.std.specs.Prelude.{◌≡◌, ◌≢◌, ◌<◌, ◌≤◌, ℕ, true, []}
 use Rattle.ecma_tree.specs.Spans.{without_spans}
 use Rattle.ecma_tree.specs.declared.node.Node.{Node}
 use Rattle.ecma_fits.specs.Fitting.{Fits}
 use Rattle.ecma_print_parentheses.specs.Explicit.{explicit}
-use Rattle.ecma_runs.specs.declared.config.Config.{Config}
-use Rattle.ecma_runs.specs.declared.script.Script.{Script}
-use Rattle.ecma_runs.specs.Observation.{observe}
 use Rattle.ecma_scope.specs.Conflicts.{redeclared}
 use Rattle.ecma_scope.specs.Laws.{without_contexts}
-use Rattle.ecma_scope.specs.Resolved.{contexts, resolved}
-use Rattle.ecma_strip.specs.Stripping.{stripped}
-use Rattle.ecma_hygiene.specs.Hygienic.{IsHygienic}
+use Rattle.ecma_scope.specs.Resolved.{contexts}
 use Rattle.ecma_pipeline_runs.specs.TypesAlone.{adds_types_alone}
 
 -- a module as it is read: it fits, its identifiers have no contexts, no name is declared again where it may not be, and all that is TypeScript is types
@@ -31,10 +26,3 @@ pub record AreGiven (unresolved top left : ℕ) (tree : Node) : Type 0 where
 -- what is read from the layout of a tree: the parentheses of the layout are nodes, no identifier has a context, and nodes stand where they stand in that text
 abbrev pub IsReading : Node → Node → Type 0
 IsReading tree written = without_spans written ≡ without_spans (explicit (without_contexts tree))
-
--- what is observed of the written module, resolved with whatever contexts, is what is observed of the resolved source
-abbrev pub PassesKeepRuns : Type 0
-PassesKeepRuns =
-    (unresolved top left : ℕ) (source final written : Node) → IsSource source → AreGiven unresolved top left source → IsHygienic (stripped (resolved unresolved top left source)) final → IsReading final written
-    → (unresolved' top' left' : ℕ) → AreGiven unresolved' top' left' written
-    → (turns : ℕ) (options : Config) (script : Script) → observe turns options (resolved unresolved' top' left' written) script ≡ observe turns options (resolved unresolved top left source) script

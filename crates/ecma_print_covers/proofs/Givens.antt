@@ -22,7 +22,7 @@ use Rattle.ecma_print_parentheses.proofs.Asking.{AllFit, Fits, first_fit, furthe
 use Rattle.ecma_print_parentheses.proofs.Lacks.{complete_in}
 use Rattle.ecma_rules.specs.declared.target.Target.{Target}
 use Rattle.ecma_rules.proofs.Layers.{from_leaves-roll}
-use Rattle.ecma_print_covers.specs.Layouts.{has_usual_default, has_usual_defaults, usual_step}
+use Rattle.ecma_print_covers.specs.Defaults.{has_usual_default, has_usual_defaults, usual_step}
 use Rattle.ecma_print_covers.proofs.Pairs.{TemplateHasLists}
 use Rattle.ecma_print_covers.proofs.Seats.{AllSeated, Seated}
 

@@ -9,4 +9,4 @@ pub mod Signs
 pub mod Tokens
 pub mod Bare
 pub mod ModuleTokens
-pub mod Theorems
+pub mod Laws

@@ -22,7 +22,7 @@ use Rattle.ecma_print_shapes.specs.Forms.{IsTaken}
 use Rattle.ecma_print_shapes.specs.Functions.{Functions, functions, functions_step}
 use Rattle.ecma_print_shapes.specs.Items.{HasUtf8Hashbang, has_plain_items, is_external, is_plain_item, is_plain_kind}
 use Rattle.ecma_round_trip.specs.Plain.{IsPlain}
-use Rattle.ecma_round_trip_literals.specs.Again.{IsPlainWithoutSources, IsTakenWithoutSource}
+use Rattle.ecma_round_trip_literals.specs.Writable.{IsPlainWithoutSources, IsTakenWithoutSource}
 use Rattle.ecma_round_trip_literals.specs.Sources.{IsWritable, with_source, with_sources}
 use Rattle.ecma_round_trip_literals.proofs.Kept.{first-out, none_least, spelled_here, what_fits_fits_with_sources}
 use Rattle.ecma_round_trip_literals.proofs.Moved.{Same, all_same, blind, child_same, children_of, fold_same, items_same, kind_moved, to}

@@ -1,28 +1,13 @@
--- What is read as a module, and when it is the source of a module that is written.
-use Rattle.std.specs.Prelude.{◌≡◌, ◌<◌, ◌^◌, ℕ, List, [], None, Ok, length}
-use Rattle.std.specs.Str.{IsUtf8}
+-- Trees as they are read.
 use Rattle.ecma_tree.specs.declared.node.Node.{Node}
-use Rattle.ecma_grammar.specs.declared.production.Mode.{Mode}
 use Rattle.ecma_text_leaves.specs.Everywhere.{Everywhere}
 use Rattle.ecma_rules.specs.Children.{kind_of}
-use Rattle.ecma_modules.specs.Modules.{reads_as}
 use Rattle.ecma_fits.specs.Fitting.{Fits}
 use Rattle.ecma_print_shapes.specs.Items.{HasUtf8Hashbang}
 use Rattle.ecma_text_plain.specs.Bare.{IsBareUnquestioned}
-use Rattle.ecma_scope.specs.Conflicts.{redeclared}
-use Rattle.ecma_forms.specs.Forms.{first_untaken}
-use Rattle.ecma_pipeline_runs.specs.Passes.{IsSource}
 
 -- a tree as it is read: it fits, its leaves are bare, and what stands behind `#!` is UTF-8
 pub record IsRead (tree : Node) : Type 0 where
   pub fits : Fits tree
   pub bare : Everywhere IsBareUnquestioned tree
   pub hashbang : HasUtf8Hashbang (kind_of tree)
-
--- what is read as a module, in either mode and with any number of levels
-abbrev pub ReadTreesAreRead : Type 0
-ReadTreesAreRead = (text : List ℕ) (mode : Mode) (bound : ℕ) (tree : Node) → IsUtf8 text → length text < 2 ^ 32 → reads_as text mode bound ≡ Ok tree → IsRead tree
-
--- where each of its forms is taken, and no name is declared again where it may not be, it is a source
-abbrev pub TakenTreesAreSources : Type 0
-TakenTreesAreSources = (tree : Node) → IsRead tree → first_untaken tree ≡ None → redeclared tree ≡ [] → IsSource tree
