@@ -11,6 +11,7 @@ use Rattle.ecma_fits.specs.Roles.{is_tagged}
 use Rattle.ecma_hygiene.specs.declared.naming.Named.{Named}
 use Rattle.ecma_hygiene.specs.Ids.{Id}
 use Rattle.ecma_hygiene.specs.Renamed.{Texts}
+use Rattle.ecma_hygiene_fits.specs.Kept.{NoneFails}
 
 -- a leaf is not spelled as its terminal reads it
 abbrev pub is_misspelled : Where → Node → Bool
@@ -36,3 +37,7 @@ is_short_text text = nat_lt (length text + 64) 4294967296
 abbrev pub is_long : Kind → Bool
 is_long (kind.Ident sym ctxt optional) = not (is_short_text sym)
 is_long _ = false
+
+-- no identifier of a tree is long
+abbrev pub NoneLong : Node → Type 0
+NoneLong tree = NoneFails (λ w node. is_long (kind_of node)) tree

@@ -3,10 +3,10 @@ use Rattle.std.proofs.Common.{ℕ, ◌<◌, ◌+◌, ◌-◌, ◌^◌, false, ar
 use Rattle.ecma_fits.specs.Fitting.{Fits}
 use Rattle.ecma_bind.specs.Binding.{with_bound_names}
 use Rattle.ecma_pipeline_names.specs.Laws.{NamesThatAreReadAreShort}
-use Rattle.ecma_pipeline_names.specs.Names.{NoneLong}
+use Rattle.ecma_hygiene_fits.specs.Spelled.{NoneLong}
 use Rattle.ecma_round_trip.specs.Laws.{WhatFitsIsReadAgain}
 use Rattle.ecma_round_trip.specs.Plain.{IsPlain}
-use Rattle.ecma_pipeline_runs.specs.Passes.{IsSource}
+use Rattle.ecma_sources.specs.Sources.{IsSource}
 use Rattle.ecma_pipeline_bound.specs.Laws.{BoundPassesKeepRuns}
 use Rattle.ecma_text_sources.specs.Sources.{IsRead}
 use Rattle.ecma_text_sources.specs.Laws.{ReadTreesAreRead, TakenTreesAreSources}

@@ -9,7 +9,8 @@ use Rattle.ecma_scope.specs.Conflicts.{redeclared}
 use Rattle.ecma_scope.specs.Resolved.{resolved}
 use Rattle.ecma_strip.specs.Stripping.{stripped}
 use Rattle.ecma_hygiene.specs.Hygienic.{IsHygienic}
-use Rattle.ecma_pipeline_runs.specs.Passes.{AreGiven, IsReading}
+use Rattle.ecma_scope.specs.Resolved.{AreGiven}
+use Rattle.ecma_sources.specs.Sources.{IsReading}
 use Rattle.ecma_runs.specs.declared.config.Config.{Config}
 use Rattle.ecma_runs.specs.declared.script.Script.{Script}
 use Rattle.ecma_runs.specs.Observation.{observe}

@@ -6,7 +6,7 @@ use Rattle.ecma_modules.specs.Modules.{reads_as}
 use Rattle.ecma_scope.specs.Resolved.{resolved}
 use Rattle.ecma_strip.specs.Stripping.{stripped}
 use Rattle.ecma_bind.specs.Binding.{with_bound_names}
-use Rattle.ecma_pipeline_names.specs.Names.{NoneLong}
+use Rattle.ecma_hygiene_fits.specs.Spelled.{NoneLong}
 
 -- an identifier is a piece of the text
 abbrev pub NamesThatAreReadAreShort : Type 0

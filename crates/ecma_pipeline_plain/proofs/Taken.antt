@@ -30,7 +30,7 @@ use Rattle.ecma_hygiene.specs.Texts.{text_in}
 use Rattle.ecma_hygiene_fits.proofs.Everywhere.{children_of}
 use Rattle.ecma_hygiene_fits.specs.Unreserved.{IsUnreserved}
 use Rattle.ecma_hygiene_fits.proofs.Numbered.{texts_unreserved}
-use Rattle.ecma_pipeline_runs.specs.TypesAlone.{adds_types_alone}
+use Rattle.ecma_sources.specs.TypesAlone.{adds_types_alone}
 use Rattle.ecma_pipeline_runs.proofs.Contexts.{resolved-adds-types}
 use Rattle.ecma_pipeline_runs.proofs.Full.{modules-are-full}
 use Rattle.ecma_pipeline_runs.proofs.FullParts.{full_by, is_foreign, is_full, lacks}

@@ -7,7 +7,7 @@ use Rattle.ecma_tree.specs.Spans.{without_spans}
 use Rattle.ecma_tree.specs.declared.node.Node.{Node}
 use Rattle.ecma_fits.specs.Fitting.{Fits}
 use Rattle.ecma_scope_fits.specs.Laws.{ResolvedTreesFitAlike}
-use Rattle.ecma_print_parentheses.specs.Explicit.{explicit}
+use Rattle.ecma_print.specs.Explicit.{explicit}
 use Rattle.ecma_print_parentheses.specs.Laws.{RunsAlike}
 use Rattle.ecma_runs.specs.declared.config.Config.{Config}
 use Rattle.ecma_runs.specs.declared.script.Script.{Script}
@@ -33,8 +33,9 @@ use Rattle.ecma_hygiene_scopes.specs.Stops.{IsRight, stops}
 use Rattle.ecma_hygiene_runs.specs.Resolved.{IsResolved, KeepsApart}
 use Rattle.ecma_hygiene_runs.specs.Laws.{ReadingAgainKeepsRuns, PlainModulesAreResolved}
 use Rattle.ecma_pipeline_runs.specs.Laws.{ModulesAreClear, PassesKeepRuns, StrippedModulesArePlain}
-use Rattle.ecma_pipeline_runs.specs.Passes.{AreGiven, IsReading, IsSource}
-use Rattle.ecma_pipeline_runs.specs.TypesAlone.{adds_types_alone}
+use Rattle.ecma_scope.specs.Resolved.{AreGiven}
+use Rattle.ecma_sources.specs.Sources.{IsReading, IsSource}
+use Rattle.ecma_sources.specs.TypesAlone.{adds_types_alone}
 use Rattle.ecma_pipeline_runs.proofs.ClearSeats.{module-stands}
 use Rattle.ecma_pipeline_runs.proofs.Contexts.{resolved-adds-types}
 use Rattle.ecma_pipeline_runs.proofs.Full.{modules-are-full}

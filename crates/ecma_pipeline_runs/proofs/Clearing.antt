@@ -36,7 +36,7 @@ use Rattle.ecma_strip_scopes.proofs.Seeking.{setter-seeks}
 use Rattle.ecma_strip_scopes.proofs.Standing.{list-kind}
 use Rattle.ecma_strip_scopes.proofs.Values.{values-agree}
 use Rattle.ecma_strip_fits.proofs.Walk.{each_none, neither_least}
-use Rattle.ecma_pipeline_runs.specs.TypesAlone.{adds_types_alone, is_lowered, is_receiver}
+use Rattle.ecma_sources.specs.TypesAlone.{adds_types_alone, is_lowered, is_receiver}
 use Rattle.ecma_pipeline_runs.proofs.Expressions.{expression-item, expression-var, expressive, wrapper-expression}
 use Rattle.ecma_pipeline_runs.proofs.Nodes.{StaysIn, alone-below, by-children, child-shape, in-no-list, neither, no-ambient-head, none-some, not-lowered, some-same, test-below, test-here}
 use Rattle.ecma_strip_scopes.proofs.Wrapping.{takes_types}

@@ -24,7 +24,7 @@ use Rattle.ecma_strip_scopes.proofs.Going.{parts-have}
 use Rattle.ecma_strip_scopes.proofs.KindsKept.{wrapper-plain, wrapper-some}
 use Rattle.ecma_strip_scopes.proofs.Seeking.{Becomes, becomes}
 use Rattle.ecma_strip_scopes.proofs.Seeking.Becomes.{typed, wrapper, list, itself}
-use Rattle.ecma_pipeline_runs.specs.TypesAlone.{adds_types_alone, has_bodiless, is_receiver, lacks_body, lacks_body_by}
+use Rattle.ecma_sources.specs.TypesAlone.{adds_types_alone, has_bodiless, is_receiver, lacks_body, lacks_body_by}
 use Rattle.ecma_pipeline_runs.proofs.Asking.{is_default_export}
 use Rattle.ecma_pipeline_runs.proofs.ClearSeats.{module-stands}
 use Rattle.ecma_pipeline_runs.proofs.Clearing.{Stands, default-child, stands-below}

@@ -29,7 +29,7 @@ use Rattle.ecma_hygiene.specs.Renamed.{kind_is_absent}
 use Rattle.ecma_hygiene_scopes.proofs.Parts.{kind-of}
 use Rattle.ecma_hygiene_runs.specs.Plain.{has_no_receiver}
 use Rattle.ecma_strip_scopes.proofs.Going.{parts-have}
-use Rattle.ecma_pipeline_runs.specs.TypesAlone.{is_lowered, is_receiver, lacks_body, lacks_body_by}
+use Rattle.ecma_sources.specs.TypesAlone.{is_lowered, is_receiver, lacks_body, lacks_body_by}
 use Rattle.ecma_pipeline_runs.proofs.Strays.{is_spared}
 use Rattle.ecma_pipeline_runs.proofs.Nodes.{holds-out, none-some, not-false, not-true, some-same}
 use Rattle.ecma_pipeline_runs.proofs.Remaining.{all_calm, first_declared, holds_items, is_many, remains, remains_by, restless}

@@ -1,3 +1,1 @@
-pub mod TypesAlone
-pub mod Passes
 pub mod Laws

@@ -21,7 +21,7 @@ use Rattle.ecma_print.specs.Levels.{in_parentheses}
 use Rattle.ecma_print.specs.Pieces.{say, ◌>>◌}
 use Rattle.ecma_print.specs.Places.{free, opens_a_block}
 use Rattle.ecma_print.proofs.LaidOut.{laid_kind_of-node}
-use Rattle.ecma_print_parentheses.specs.Spots.{first_spots, further_spot}
+use Rattle.ecma_print.specs.Spots.{first_spots, further_spot}
 use Rattle.ecma_print_parentheses.proofs.Asking.{Fits}
 use Rattle.ecma_rules.specs.declared.target.Target.{Target}
 use Rattle.ecma_rules.specs.declared.target.Target.TheVariants as target

@@ -21,7 +21,7 @@ use Rattle.ecma_text_leaves.specs.Everywhere.{Everywhere}
 use Rattle.ecma_scope.specs.Laws.{without_contexts}
 use Rattle.ecma_print.specs.Layout.{layout}
 use Rattle.ecma_print_congruence.proofs.Layouts.{contexts_do_not_matter_to_layouts}
-use Rattle.ecma_print_parentheses.specs.Explicit.{explicit}
+use Rattle.ecma_print.specs.Explicit.{explicit}
 use Rattle.ecma_print_parentheses.proofs.Lacks.{none_are_lacking}
 use Rattle.ecma_print_parentheses.proofs.Laying.{layout_stays}
 use Rattle.ecma_print_covers.proofs.Covering.{covers_keep_the_layout}

@@ -3,7 +3,7 @@ use Rattle.std.specs.Prelude.{◌≡◌, ℕ, false, List, Ok}
 use Rattle.ecma_tree.specs.declared.node.Node.{Node}
 use Rattle.ecma_tree.specs.Spans.{without_spans}
 use Rattle.ecma_modules.specs.Modules.{plain, reads_as}
-use Rattle.ecma_print_parentheses.specs.Explicit.{explicit}
+use Rattle.ecma_print.specs.Explicit.{explicit}
 
 -- the text is read as a plain module, of this tree with the parentheses of its layout, up to spans
 pub record IsReadAsTree (tree : Node) (text : List ℕ) : Type 0 where

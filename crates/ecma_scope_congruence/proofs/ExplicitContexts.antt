@@ -15,8 +15,8 @@ use Rattle.ecma_print.specs.Layout.{laid}
 use Rattle.ecma_print.specs.Levels.{begins_with_brace, in_parentheses, is_misread, lacks_arguments, level_of}
 use Rattle.ecma_print.specs.Places.{free, is_headed, left, opens_a_block}
 use Rattle.ecma_print.proofs.LaidOut.{laid_kind}
-use Rattle.ecma_print_parentheses.specs.Explicit.{in_spots, parenthesized, stood}
-use Rattle.ecma_print_parentheses.specs.Spots.{first_spots, further_spot, has_computed_key}
+use Rattle.ecma_print.specs.Explicit.{in_spots, parenthesized, stood}
+use Rattle.ecma_print.specs.Spots.{first_spots, further_spot, has_computed_key}
 use Rattle.ecma_print_parentheses.proofs.Asking.{AllFit, Fits, first_fit, further_fits, open_where_free}
 use Rattle.ecma_print_parentheses.proofs.Spotted.{bare', spotted, stands_in}
 use Rattle.ecma_scope.specs.declared.role.Role.{Role}

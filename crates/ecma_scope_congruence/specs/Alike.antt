@@ -1,7 +1,7 @@
 -- Trees that are resolved alike.
 use Rattle.std.specs.Prelude.{◌≡◌, ℕ}
 use Rattle.ecma_tree.specs.declared.node.Node.{Node}
-use Rattle.ecma_print_parentheses.specs.Explicit.{explicit}
+use Rattle.ecma_print.specs.Explicit.{explicit}
 use Rattle.ecma_scope.specs.Resolved.{contexts, resolved}
 use Rattle.ecma_tree.specs.Spans.{without_spans}
 

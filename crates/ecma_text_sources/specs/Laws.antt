@@ -6,7 +6,7 @@ use Rattle.ecma_grammar.specs.declared.production.Mode.{Mode}
 use Rattle.ecma_modules.specs.Modules.{reads_as}
 use Rattle.ecma_scope.specs.Conflicts.{redeclared}
 use Rattle.ecma_forms.specs.Forms.{first_untaken}
-use Rattle.ecma_pipeline_runs.specs.Passes.{IsSource}
+use Rattle.ecma_sources.specs.Sources.{IsSource}
 use Rattle.ecma_text_sources.specs.Sources.{IsRead}
 
 -- what is read as a module, in either mode and with any number of levels, is as trees are read

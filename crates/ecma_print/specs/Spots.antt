@@ -1,4 +1,4 @@
--- In which spot each child stands: read it beside the layout of each kind in ecma_print.
+-- In which spot each child stands: read it beside the layout of each kind.
 use Rattle.std.specs.Prelude.{Bool, true, false, List, [], ◌∷◌}
 use Rattle.ecma_kind.specs.declared.kind.Kind.{Kind}
 use Rattle.ecma_kind.specs.declared.kind.Kind.TheVariants as kind
