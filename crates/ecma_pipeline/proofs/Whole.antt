@@ -4,7 +4,7 @@ use Rattle.ecma_fits.specs.Fitting.{Fits}
 use Rattle.ecma_bind.specs.Binding.{with_bound_names}
 use Rattle.ecma_pipeline_names.specs.Short.{NamesThatAreReadAreShort, NoneLong}
 use Rattle.ecma_round_trip.specs.Laws.{WhatFitsIsReadAgain}
-use Rattle.ecma_round_trip.specs.Plain.{IsPlain}
+use Rattle.ecma_plain.specs.Plain.{IsPlain}
 use Rattle.ecma_pipeline_runs.specs.Passes.{IsSource}
 use Rattle.ecma_pipeline_bound.specs.Laws.{BoundPassesKeepRuns}
 use Rattle.ecma_text_sources.specs.Sources.{IsRead, ReadTreesAreRead, TakenTreesAreSources}

@@ -12,7 +12,7 @@ use Rattle.ecma_text_leaves.specs.Everywhere.{Everywhere, everywhere, none}
 use Rattle.ecma_rules.specs.Children.{kind_of}
 use Rattle.ecma_fits.specs.Fitting.{Fits}
 use Rattle.ecma_scope_fits.proofs.Contexts.{resolved_fit_alike}
-use Rattle.ecma_print_shapes.specs.Functions.{is_this_name}
+use Rattle.ecma_plain.specs.Functions.{is_this_name}
 use Rattle.ecma_text_plain.specs.Bare.{IsBareUnquestioned}
 use Rattle.ecma_runs.specs.Evaluation.{meaning}
 use Rattle.ecma_runs.specs.Meaning.{Meaning}

@@ -8,8 +8,8 @@ use Rattle.ecma_print.specs.Layout.{layout}
 use Rattle.ecma_print_tokens.specs.Good.{Good}
 use Rattle.ecma_print_tokens.proofs.Leaves.{lexes}
 use Rattle.ecma_print_tokens.proofs.Joining.{joined_good}
-use Rattle.ecma_print_reread.specs.Machine.{count}
-use Rattle.ecma_print_reread.specs.ModuleTokens.{module_tokens}
+use Rattle.ecma_print_reread.proofs.Machine.{count}
+use Rattle.ecma_print_reread.proofs.ModuleTokens.{module_tokens}
 use Rattle.ecma_print_reread.specs.Theorems.{ModulesAreReadAgain}
 use Rattle.ecma_print_reread.proofs.Texts.{text_read}
 use Rattle.ecma_print_reread.proofs.ModuleLayouts.{module_laid}

@@ -17,7 +17,7 @@ use Rattle.ecma_print.specs.Places.{free}
 use Rattle.ecma_print_parentheses.specs.Explicit.{bare, explicit, in_spots, laid_children, stood}
 use Rattle.ecma_print_parentheses.proofs.Asking.{open_where_free}
 use Rattle.ecma_print_parentheses.proofs.Standing.{if_false, stands}
-use Rattle.ecma_print_shapes.specs.Items.{has_plain_items, is_external, is_plain_item, is_plain_kind}
+use Rattle.ecma_plain.specs.Items.{has_plain_items, is_external, is_plain_item, is_plain_kind}
 use Rattle.ecma_print_shapes.proofs.Sound.{children_made, kind_made}
 
 -- a node where nothing stands around

@@ -8,9 +8,9 @@ use Rattle.ecma_text_leaves.specs.Everywhere.{Everywhere}
 use Rattle.ecma_scope.specs.Laws.{without_contexts}
 use Rattle.ecma_rules.specs.Children.{kind_of}
 use Rattle.ecma_fits.specs.Fitting.{Fits}
-use Rattle.ecma_print_shapes.specs.Forms.{IsTaken}
-use Rattle.ecma_print_shapes.specs.Functions.{functions}
-use Rattle.ecma_print_shapes.specs.Items.{HasUtf8Hashbang, has_plain_items}
+use Rattle.ecma_plain.specs.Forms.{IsTaken}
+use Rattle.ecma_plain.specs.Functions.{functions}
+use Rattle.ecma_plain.specs.Items.{HasUtf8Hashbang, has_plain_items}
 use Rattle.ecma_print.specs.Layout.{layout}
 use Rattle.ecma_modules.specs.Modules.{plain, reads_as}
 use Rattle.ecma_round_trip.specs.Laws.{IsReadAgain}

@@ -20,7 +20,7 @@ use Rattle.ecma_rules.specs.declared.target.Target.TheVariants as target
 use Rattle.ecma_rules.specs.Children.{kind_of}
 use Rattle.ecma_modules.specs.Modules.{plain, reads_as}
 use Rattle.ecma_text_sorts.specs.Sorts.{ReadModulesAreSorted}
-use Rattle.ecma_print_shapes.specs.Functions.{Functions, body_of, functions, functions_step, is_this_name, lacks_body, takes_this}
+use Rattle.ecma_plain.specs.Functions.{Functions, body_of, functions, functions_step, is_this_name, lacks_body, takes_this}
 use Rattle.ecma_text_fits.proofs.Raws.{of_raw}
 use Rattle.ecma_text_fits.proofs.Walks.{neither, not_true}
 use Rattle.ecma_text_plain.specs.Functions.{ReadPlainFunctionsHaveBodies, ReadPlainNamesAreNotThis, children_told, has_this_parameter, holds_somewhere, is_bodiless}

@@ -7,7 +7,7 @@ use Rattle.ecma_grammar.specs.declared.production.Mode.{Mode}
 use Rattle.ecma_grammar.specs.trees.Functions.{questioned_kind}
 use Rattle.ecma_text_leaves.specs.Everywhere.{Everywhere}
 use Rattle.ecma_modules.specs.Modules.{reads_as}
-use Rattle.ecma_print_shapes.specs.Forms.{IsBare}
+use Rattle.ecma_plain.specs.Forms.{IsBare}
 
 -- its texts are UTF-8, it has no context, and a literal has its source text; a name may have a `?`
 abbrev pub IsBareUnquestioned : Kind → Type 0

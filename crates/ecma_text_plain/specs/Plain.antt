@@ -8,8 +8,8 @@ use Rattle.ecma_tree.specs.Finding.{enters_all, finds}
 use Rattle.ecma_text_leaves.specs.Everywhere.{Everywhere}
 use Rattle.ecma_modules.specs.Modules.{plain, reads_as}
 use Rattle.ecma_rules.specs.Children.{kind_of}
-use Rattle.ecma_print_shapes.specs.Forms.{IsTaken}
-use Rattle.ecma_print_shapes.specs.Items.{HasUtf8Hashbang, has_plain_items}
+use Rattle.ecma_plain.specs.Forms.{IsTaken}
+use Rattle.ecma_plain.specs.Items.{HasUtf8Hashbang, has_plain_items}
 
 -- the two assignment forms of imports and exports (TypeScript handbook, "Modules - Reference", `export =` and `import = require()`)
 abbrev pub is_assignment_form : Kind → Bool

@@ -7,7 +7,7 @@ use Rattle.ecma_text_leaves.specs.Everywhere.{Everywhere}
 use Rattle.ecma_rules.specs.Children.{kind_of}
 use Rattle.ecma_modules.specs.Modules.{reads_as}
 use Rattle.ecma_fits.specs.Fitting.{Fits}
-use Rattle.ecma_print_shapes.specs.Items.{HasUtf8Hashbang}
+use Rattle.ecma_plain.specs.Items.{HasUtf8Hashbang}
 use Rattle.ecma_text_plain.specs.Bare.{IsBareUnquestioned}
 use Rattle.ecma_scope.specs.Conflicts.{redeclared}
 use Rattle.ecma_forms.specs.Forms.{first_untaken}
