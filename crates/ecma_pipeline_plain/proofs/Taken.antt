@@ -12,7 +12,6 @@ use Rattle.ecma_text_leaves.specs.Everywhere.{Everywhere, everywhere, none}
 use Rattle.ecma_rules.specs.Children.{kind_of}
 use Rattle.ecma_fits.specs.Fitting.{Fits}
 use Rattle.ecma_scope_fits.proofs.Contexts.{resolved_fit_alike}
-use Rattle.ecma_print_shapes.specs.Functions.{is_this_name}
 use Rattle.ecma_text_plain.specs.Bare.{IsBareUnquestioned}
 use Rattle.ecma_runs.specs.Evaluation.{meaning}
 use Rattle.ecma_runs.specs.Meaning.{Meaning}
@@ -47,6 +46,7 @@ use Rattle.ecma_pipeline_plain.proofs.Renaming.{everywhere_renamed}
 use Rattle.ecma_pipeline_plain.proofs.Stripping.{Says, kept}
 use Rattle.ecma_pipeline_plain.proofs.Texts.{final_text_utf8}
 use Rattle.ecma_pipeline_plain.proofs.Untaken.{resolved_taken}
+use Rattle.ecma_plain.specs.Functions.{is_this_name}
 
 -- ---- the source
 

@@ -5,7 +5,7 @@ use Rattle.ecma_tree.specs.Spans.{without_spans}
 use Rattle.ecma_grammar.specs.Reading.{Position, read}
 use Rattle.ecma_grammar.specs.Modules.{reads_module}
 use Rattle.ecma_print.specs.Layout.{layout}
-use Rattle.ecma_print_reread.specs.Modules.{IsModule}
+use Rattle.ecma_shapes.specs.Modules.{IsModule}
 
 -- with some number of levels, and with any larger one, the layout of a module is read in plain reading as that module, up to spans
 abbrev pub ModulesAreReadAgain : Type 0

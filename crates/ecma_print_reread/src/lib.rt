@@ -5,7 +5,7 @@
 
 ghost use Rattle.ecma_print_reread.specs.Laws.{ModulesAreReadAgain};
 
-/// The layout of a module of the forms in `specs/Modules.antt` and `specs/Shapes.antt` is read in plain reading as that module, up to
+/// The layout of a module of the shapes of `ecma_shapes` is read in plain reading as that module, up to
 /// spans, wherever levels enough are allowed.
 pub fn printed_modules_are_read_again()
     ensures { ModulesAreReadAgain }

@@ -5,7 +5,7 @@
 
 ghost use Rattle.ecma_print_shapes.specs.Laws.{ExpressionsHaveTheirShapes, ModulesHaveTheirShapes};
 
-/// The raw tree of a plain expression that fits, lacks no parentheses and is of the forms of `specs/Forms.antt` has the shape of an expression.
+/// The raw tree of a plain expression that fits, lacks no parentheses and is of the forms of `ecma_plain` has the shape of an expression.
 pub fn expressions_have_their_shapes()
     ensures { ExpressionsHaveTheirShapes }
 {}

@@ -13,7 +13,7 @@ use Rattle.ecma_print.specs.Spots.{first_spots, further_spot}
 use Rattle.ecma_print_parentheses.proofs.Asking.{AllFit, Fits, first_fit, further_fits}
 use Rattle.ecma_print_parentheses.proofs.Sorting.{closed_is_misreadable, is_misreadable}
 use Rattle.ecma_print_parentheses.proofs.Standing.{stands}
-use Rattle.ecma_print_shapes.specs.Functions.{Functions, functions, functions_step, is_this_name}
+use Rattle.ecma_plain.specs.Functions.{Functions, functions, functions_step, is_this_name}
 
 -- what stands in parentheses is something, and no name
 something : (k : Kind) → is_misreadable k ≡ true → is_absent k ≡ false

@@ -8,10 +8,10 @@ use Rattle.ecma_text_leaves.specs.Everywhere.{Everywhere}
 use Rattle.ecma_scope.specs.Laws.{without_contexts}
 use Rattle.ecma_rules.specs.Children.{kind_of}
 use Rattle.ecma_fits.specs.Fitting.{Fits}
-use Rattle.ecma_print_shapes.specs.Forms.{IsTaken}
-use Rattle.ecma_print_shapes.specs.Functions.{functions}
-use Rattle.ecma_print_shapes.specs.Items.{HasUtf8Hashbang, has_plain_items}
 use Rattle.ecma_round_trip_literals.specs.Sources.{IsWritable}
+use Rattle.ecma_plain.specs.Forms.{IsTaken}
+use Rattle.ecma_plain.specs.Functions.{functions}
+use Rattle.ecma_plain.specs.Items.{HasUtf8Hashbang, has_plain_items}
 
 -- a source text that is there is UTF-8
 abbrev pub IsSourceOrNone : Option (List ℕ) → Type 0

@@ -11,8 +11,8 @@ use Rattle.ecma_kind.specs.declared.kind.Kind.TheVariants as kind
 use Rattle.ecma_tree.specs.declared.node.Node.{Node}
 use Rattle.ecma_tree.specs.Nodes.{node_of}
 use Rattle.ecma_print_tokens.specs.Good.{IsToken}
-use Rattle.ecma_print_reread.specs.Starts.{is_declaration_word, start_of}
-use Rattle.ecma_print_reread.specs.Shapes.{IsIdent, IsKey, IsAbsent, Level, assignment, IsExpression, Ending, IsStatement, declaration, function_statement, IsFunctionName, IsFunction, class_statement, IsClass}
+use Rattle.ecma_shapes.specs.Starts.{is_declaration_word, start_of}
+use Rattle.ecma_shapes.specs.Shapes.{IsIdent, IsKey, IsAbsent, Level, assignment, IsExpression, Ending, IsStatement, declaration, function_statement, IsFunctionName, IsFunction, class_statement, IsClass}
 
 pub data IsString : Node → Type 0 where
   string_literal : (at : Span) (raw : List ℕ) → IsToken str_end raw → IsString (node_of at (kind.Str (str_value (piece raw 1 (length raw - 1))) (Some raw)) [])

@@ -7,10 +7,10 @@ use Rattle.ecma_tree.specs.declared.node.Node.{Node}
 use Rattle.ecma_tree.specs.Nodes.{absent, list_node}
 use Rattle.ecma_print_tokens.specs.Items as items
 use Rattle.ecma_print_tokens.specs.Items.{Tok, sign, Gap, no_gap, Items, ends, it}
-use Rattle.ecma_print_reread.specs.Modules.{IsString, string_literal, IsExportName, word_name, string_name, IsAttributeKey, word_key, string_key, IsAttribute, attribute, AreAttributes, no_attributes, more_attributes, IsWithClause, no_with, with_nothing, with_attributes, IsDefaultImport, default_import, IsNamespaceImport, namespace_import, IsNamedImport, same_import, other_import, AreNamedImports, no_imports, more_imports, IsImportClause, import_default, import_namespace, import_names, import_default_and_namespace, import_default_and_names, IsNamedExport, same_export, other_export, AreNamedExports, no_exports, more_exports, IsExportClause, export_nothing, export_names, IsModuleItem, statement, import_alone, import_bindings, export_bindings, export_bindings_from, export_namespace, export_all, export_declaration, export_default, import_require, export_assignment, AreModuleItems, no_items, more_items, IsModule, module_of, module_behind_hashbang, export_default_function, export_default_class}
-use Rattle.ecma_print_reread.specs.Tokens.{ident_word, key_word, expression_tokens, statement_tokens, is_generator, is_async, function_name_tokens, function_tokens, class_tokens}
-use Rattle.ecma_print_reread.specs.Signs.{blank, line, sign_of, function_word}
-use Rattle.ecma_print_reread.specs.Bare.{bare, bare_ident, bare_expression, bare_statement, bare_function_name, bare_function, bare_class}
+use Rattle.ecma_shapes.specs.Modules.{IsString, string_literal, IsExportName, word_name, string_name, IsAttributeKey, word_key, string_key, IsAttribute, attribute, AreAttributes, no_attributes, more_attributes, IsWithClause, no_with, with_nothing, with_attributes, IsDefaultImport, default_import, IsNamespaceImport, namespace_import, IsNamedImport, same_import, other_import, AreNamedImports, no_imports, more_imports, IsImportClause, import_default, import_namespace, import_names, import_default_and_namespace, import_default_and_names, IsNamedExport, same_export, other_export, AreNamedExports, no_exports, more_exports, IsExportClause, export_nothing, export_names, IsModuleItem, statement, import_alone, import_bindings, export_bindings, export_bindings_from, export_namespace, export_all, export_declaration, export_default, import_require, export_assignment, AreModuleItems, no_items, more_items, IsModule, module_of, module_behind_hashbang, export_default_function, export_default_class}
+use Rattle.ecma_print_reread.proofs.Tokens.{ident_word, key_word, expression_tokens, statement_tokens, is_generator, is_async, function_name_tokens, function_tokens, class_tokens}
+use Rattle.ecma_print_reread.proofs.Signs.{blank, line, sign_of, function_word}
+use Rattle.ecma_print_reread.proofs.Bare.{bare, bare_ident, bare_expression, bare_statement, bare_function_name, bare_function, bare_class}
 
 -- a token behind a blank
 abbrev pub spaced : Tok → Items → Items

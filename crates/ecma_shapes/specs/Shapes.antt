@@ -21,10 +21,10 @@ use Rattle.ecma_tree.specs.declared.node.Node.{Node}
 use Rattle.ecma_tree.specs.Nodes.{node_of}
 use Rattle.ecma_grammar.specs.Reads.{without_separators}
 use Rattle.ecma_print_tokens.specs.Good.{IsToken, IsTextPart}
-use Rattle.ecma_print_reread.specs.Heads.{any_of, may_hold_in}
-use Rattle.ecma_print_reread.specs.Starts.{other_start, is_brace, start_of}
-use Rattle.ecma_print_reread.specs.MemberKinds.{names_constructor, method_kind, field_kind, accessor_kind}
-use Rattle.ecma_print_reread.specs.LiteralTexts.{regex_text, part_text}
+use Rattle.ecma_shapes.specs.Heads.{any_of, may_hold_in}
+use Rattle.ecma_shapes.specs.Starts.{other_start, is_brace, start_of}
+use Rattle.ecma_shapes.specs.MemberKinds.{names_constructor, method_kind, field_kind, accessor_kind}
+use Rattle.ecma_shapes.specs.LiteralTexts.{regex_text, part_text}
 
 -- a name that is no reserved word
 pub record IsPlainName (word : List ℕ) : Type 0 where

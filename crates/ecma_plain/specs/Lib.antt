@@ -1,0 +1,4 @@
+pub mod Forms
+pub mod Functions
+pub mod Items
+pub mod Plain
