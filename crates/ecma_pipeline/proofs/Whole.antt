@@ -7,7 +7,7 @@ use Rattle.ecma_hygiene_fits.specs.Spelled.{NoneLong}
 use Rattle.ecma_round_trip.specs.Laws.{WhatFitsIsReadAgain}
 use Rattle.ecma_sources.specs.Sources.{IsSource}
 use Rattle.ecma_pipeline_bound.specs.Laws.{BoundPassesKeepRuns}
-use Rattle.ecma_text_sources.specs.Sources.{IsRead}
+use Rattle.ecma_plain.specs.Read.{IsRead}
 use Rattle.ecma_text_sources.specs.Laws.{ReadTreesAreRead, TakenTreesAreSources}
 use Rattle.ecma_bind_sources.specs.Laws.{BoundTreesAreRead, BoundTreesAreTaken}
 use Rattle.ecma_pipeline_fits.specs.Laws.{FinalTreesFit}

@@ -10,7 +10,7 @@ use Rattle.ecma_hygiene.specs.Hygienic.{IsHygienic}
 use Rattle.ecma_hygiene_fits.specs.Laws.{HygieneKeepsFits}
 use Rattle.ecma_hygiene_fits.specs.Unreserved.{NoThis}
 use Rattle.ecma_bind.specs.Binding.{with_bound_names}
-use Rattle.ecma_text_sources.specs.Sources.{IsRead}
+use Rattle.ecma_plain.specs.Read.{IsRead}
 use Rattle.ecma_bind_fits.specs.Laws.{WhatFitsFitsWithoutTypes}
 use Rattle.ecma_bind_scopes.specs.Laws.{BoundNamesResolveAlike}
 use Rattle.ecma_bind_sources.specs.Laws.{BoundTreesAreRead, BoundTreesAreTaken}

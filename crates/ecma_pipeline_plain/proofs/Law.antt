@@ -14,7 +14,7 @@ use Rattle.ecma_hygiene.specs.Hygienic.{IsHygienic}
 use Rattle.ecma_hygiene.specs.Renamed.{renamed}
 use Rattle.ecma_hygiene.specs.Texts.{text_in}
 use Rattle.ecma_forms.specs.Forms.{first_untaken}
-use Rattle.ecma_text_sources.specs.Sources.{IsRead}
+use Rattle.ecma_plain.specs.Read.{IsRead}
 use Rattle.ecma_pipeline_plain.specs.Laws.{FinalTreesArePlain}
 use Rattle.ecma_pipeline_plain.proofs.Everywhere.{everywhere_moved}
 use Rattle.ecma_pipeline_plain.proofs.Hashbang.{hashbang_stays}

@@ -12,7 +12,7 @@ use Rattle.ecma_text_leaves.specs.Everywhere.{Everywhere, everywhere, none}
 use Rattle.ecma_rules.specs.Children.{kind_of}
 use Rattle.ecma_fits.specs.Fitting.{Fits}
 use Rattle.ecma_scope_fits.proofs.Contexts.{resolved_fit_alike}
-use Rattle.ecma_text_plain.specs.Bare.{IsBareUnquestioned}
+use Rattle.ecma_plain.specs.Forms.{IsBareUnquestioned}
 use Rattle.ecma_runs.specs.Evaluation.{meaning}
 use Rattle.ecma_runs.specs.Meaning.{Meaning}
 use Rattle.ecma_scope.specs.Resolved.{resolved}
@@ -36,7 +36,7 @@ use Rattle.ecma_pipeline_runs.proofs.FullParts.{full_by, is_foreign, is_full, la
 use Rattle.ecma_pipeline_runs.proofs.Nodes.{by-children, not-true, test-below, test-here}
 use Rattle.ecma_pipeline_runs.proofs.Plainness.{finds-below, finds-itself, full-lacks}
 use Rattle.ecma_forms.specs.Forms.{first_untaken, is_ambient_variable}
-use Rattle.ecma_text_sources.specs.Sources.{IsRead}
+use Rattle.ecma_plain.specs.Read.{IsRead}
 use Rattle.ecma_text_sources.proofs.Quiet.{not_this}
 use Rattle.ecma_text_sources.proofs.Taken.{not_later, taken_below}
 use Rattle.ecma_text_sources.proofs.TypesAlone.{types_alone}

@@ -6,7 +6,7 @@ use Rattle.ecma_forms.specs.Forms.{first_untaken}
 use Rattle.ecma_scope.specs.Resolved.{resolved}
 use Rattle.ecma_strip.specs.Stripping.{stripped}
 use Rattle.ecma_hygiene.specs.Hygienic.{IsHygienic}
-use Rattle.ecma_text_sources.specs.Sources.{IsRead}
+use Rattle.ecma_plain.specs.Read.{IsRead}
 use Rattle.ecma_plain.specs.Plain.{IsPlain}
 
 -- where each form of the source is taken, and the written tree fits, it is a plain module without import and export assignments

@@ -8,7 +8,7 @@ use Rattle.ecma_rules.specs.Children.{kind_of}
 use Rattle.ecma_text_plain.specs.Laws.{FunctionsAreUsualByTests, ReadPlainFunctionsHaveBodies, ReadPlainNamesAreNotThis, PlainTextsWithoutAssignmentsHavePlainItems, ReadPlainTreesAreTaken}
 use Rattle.ecma_round_trip.specs.Laws.{WhatFitsIsReadAgain}
 use Rattle.ecma_scope.specs.Laws.{without_contexts}
-use Rattle.ecma_text_sources.specs.Sources.{IsRead}
+use Rattle.ecma_plain.specs.Read.{IsRead}
 use Rattle.ecma_text_sources.specs.Laws.{ReadTreesAreRead}
 use Rattle.ecma_text_sources.proofs.Sources.{tree_stays}
 use Rattle.ecma_modules.specs.Modules.{plain}

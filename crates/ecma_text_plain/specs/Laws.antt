@@ -11,7 +11,7 @@ use Rattle.ecma_rules.specs.Children.{kind_of}
 use Rattle.ecma_plain.specs.Items.{HasUtf8Hashbang, has_plain_items}
 use Rattle.ecma_plain.specs.Functions.{functions}
 use Rattle.ecma_text_plain.specs.Assignments.{is_assignment_form}
-use Rattle.ecma_text_plain.specs.Bare.{IsBareUnquestioned}
+use Rattle.ecma_plain.specs.Forms.{IsBareUnquestioned}
 use Rattle.ecma_text_plain.specs.Functions.{holds_somewhere, is_bodiless, has_this_parameter}
 
 -- each leaf of what is read is bare, in every mode

@@ -1,4 +1,3 @@
-pub mod Bare
 pub mod Functions
 pub mod Assignments
 pub mod Laws

@@ -8,7 +8,7 @@ use Rattle.ecma_tree.specs.Contexts.{kind_with_context}
 use Rattle.ecma_tree.specs.Nodes.{node_of}
 use Rattle.ecma_text_leaves.specs.Everywhere.{Each, Everywhere, everywhere, more, none}
 use Rattle.ecma_text_fits.specs.Laws.{WhatIsReadFits}
-use Rattle.ecma_text_plain.specs.Bare.{IsBareUnquestioned}
+use Rattle.ecma_plain.specs.Forms.{IsBareUnquestioned}
 use Rattle.ecma_text_plain.specs.Laws.{ReadLeavesAreBare}
 use Rattle.ecma_text_plain.proofs.Hashbangs.{read_utf8}
 use Rattle.ecma_scope.specs.Laws.{without_contexts}

@@ -7,7 +7,7 @@ use Rattle.ecma_modules.specs.Modules.{reads_as}
 use Rattle.ecma_scope.specs.Conflicts.{redeclared}
 use Rattle.ecma_forms.specs.Forms.{first_untaken}
 use Rattle.ecma_sources.specs.Sources.{IsSource}
-use Rattle.ecma_text_sources.specs.Sources.{IsRead}
+use Rattle.ecma_plain.specs.Read.{IsRead}
 
 -- what is read as a module, in either mode and with any number of levels, is as trees are read
 abbrev pub ReadTreesAreRead : Type 0
