@@ -1,3 +1,4 @@
+//! The pass `hygiene`: it walks over a module, chooses a text for each binding, and writes the texts into the module.
 ghost use Rattle.std.specs.Prelude.{◌≡◌, OnOk};
 ghost use Rattle.ecma_hygiene.specs.Hygienic.{IsHygienic};
 ghost use Rattle.ecma_hygiene.specs.Renamed.{renamed};

@@ -1,3 +1,4 @@
+//! Identifiers as values of their own, and the ids that tell variables apart.
 ghost use Rattle.std.specs.Prelude.{◌≡◌, ◌↔◌, IsTrue};
 
 use crate::context::SyntaxContext;

@@ -1,3 +1,4 @@
+//! The kinds of nodes, with the data of each that is no node.
 use crate::context::SyntaxContext;
 use crate::operators::{
     Accessibility, AssignOp, BinaryOp, MemberModifiers, MetaPropKind, MethodKind, UnaryOp,

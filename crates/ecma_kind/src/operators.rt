@@ -1,3 +1,5 @@
+//! The operators, the words of declarations and members, and the modifiers that kinds hold.
+
 /// A unary operator (ECMAScript, 13.5).
 #[derive(Clone, Copy, Debug, PartialEq, Eq)]
 pub enum UnaryOp {

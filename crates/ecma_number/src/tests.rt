@@ -1,3 +1,4 @@
+//! The operators of Numbers, their texts and their numerals, by rows of expected answers.
 ghost use Rattle.std.specs.Prelude.{◌≡◌};
 
 mod grid;

@@ -1,3 +1,4 @@
+//! The conversion: the bytes of a TypeScript module to those of a JavaScript module, pass by pass.
 ghost use Rattle.std.specs.Prelude.{◌≡◌, ◌<◌, ◌≤◌, ◌↔◌, ◌+◌, ◌⊎◌, length, true, false, Ok, MatchOption, Option, IfErr, IfOk, IsOk, IsTrue, OnOk};
 ghost use Rattle.std.specs.Str.{is_utf8};
 ghost use Rattle.ecma_kind.specs.declared.shapes.Sort.TheVariants as sort;

@@ -1,3 +1,4 @@
+//! The program over the standard input and output of its process.
 use crate::program::{NO_MEMORY, run};
 use crate::words::words;
 use devices::{StdSink, StdSource};

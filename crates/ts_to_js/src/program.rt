@@ -1,3 +1,4 @@
+//! The program over devices: its words, its status, and the line that it writes for a refusal.
 ghost use Rattle.std.specs.Prelude.{◌≡◌, ◌≢◌, ◌⊎◌, ◌+◌, ℕ, List, Result, IfSome, IsSome};
 ghost use Rattle.std.specs.Option.{option_copied};
 ghost use Rattle.devices.specs.Counts.{CountedAtMost, CountedExactlyIf, Rose};
