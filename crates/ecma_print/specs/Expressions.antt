@@ -20,23 +20,28 @@ use Rattle.ecma_print.specs.Operators.{unary_word, unary_sign, update_word, upda
 use Rattle.ecma_print.specs.Laid.{Laid, is_computed}
 use Rattle.ecma_print.specs.Lists.{first_in}
 
+--   typeof a; !(a + b); - -c;
 abbrev pub unary : UnaryOp → List Laid → Spot → Piece
 unary op (operand ∷ []) spot = say (gap spot.beside (unary_sign op)) >> say (unary_word op) >> operand.at (At (right spot 14 (unary_sign op)))
 unary op children spot = nothing
 
+--   ++a; b--;
 abbrev pub update : UpdateOp → Bool → List Laid → Spot → Piece
 update op true (operand ∷ []) spot = say (gap spot.beside (update_sign op)) >> say (update_word op) >> operand.at (At (right spot 16 (update_sign op)))
 update op false (operand ∷ []) spot = operand.at (At (left spot 16 NoNeighbor)) >> say (update_word op)
 update op prefix children spot = nothing
 
+--   a + b * c; (a + b) * c;
 abbrev pub binary : BinaryOp → List Laid → Spot → Piece
 binary op (first ∷ second ∷ []) spot = first.at (At (left spot (left_level op) (under op))) >> say (binary_word op) >> second.at (At (right spot (right_level op) (under op)))
 binary op children spot = nothing
 
+--   a = b += c; d = (e, f);
 abbrev pub assignment : AssignOp → List Laid → Spot → Piece
 assignment op (target ∷ value ∷ []) spot = target.at (At (left spot 16 NoNeighbor)) >> say (assign_word op) >> value.at (At (right spot 1 NoNeighbor))
 assignment op children spot = nothing
 
+--   a ? b : c ? d : e; (a ? b : c) ? d : e;
 abbrev pub conditional : List Laid → Spot → Piece
 conditional (test ∷ first ∷ second ∷ []) spot = test.at (At (left spot 3 NoNeighbor)) >> say (codes " ? ") >> first.at (At (right spot 1 NoNeighbor)) >> say (codes " : ") >> second.at (At (right spot 1 NoNeighbor))
 conditional children spot = nothing
@@ -47,6 +52,7 @@ before_key true = BeforeLink
 before_key false = BeforeDot
 
 -- what an object is, where this link stands in an optional chain or not
+--   (a?.b).c; a?.b.c; (1).d;
 abbrev pub object_beside : Beside → Bool → Beside
 object_beside OfLink computed = InChain
 object_beside OfOptionalLink computed = InChain
@@ -65,6 +71,7 @@ abbrev pub super_member : List Laid → Piece
 super_member (object ∷ key ∷ []) = object.at (At (free 0)) >> key.at (Key false)
 super_member children = nothing
 
+--   a(b, (c, d)); (() => e)();
 abbrev pub call : List Laid → Spot → Piece
 call (callee ∷ args ∷ type_args ∷ []) spot = callee.at (At (left spot 16 BeforeLink)) >> args.at Arguments
 call children spot = nothing
@@ -78,6 +85,7 @@ chained_call (callee ∷ args ∷ type_args ∷ []) spot = callee.at (At (left s
 chained_call children spot = nothing
 
 -- in the callee of `new` a call stands in parentheses
+--   new (a())(); new (a()).b();
 abbrev pub callee_spot : Spot → Spot
 callee_spot spot = record { level = 17; begins = Anywhere; without_in = spot.without_in; in_callee_of_new = true; beside = BeforeLink }
 
@@ -97,6 +105,7 @@ abbrev pub more_of_sequence : List Laid → Spot → Piece
 more_of_sequence [] spot = nothing
 more_of_sequence (x ∷ xs) spot = say (codes ", ") >> x.at (At (right spot 1 NoNeighbor)) >> more_of_sequence xs spot
 
+--   a, (b, c), d = e;
 abbrev pub sequence : List Laid → Spot → Piece
 sequence [] spot = nothing
 sequence (x ∷ xs) spot = x.at (At (left spot 1 NoNeighbor)) >> more_of_sequence xs spot
@@ -131,6 +140,7 @@ abbrev pub yield_word : Bool → List ℕ
 yield_word true = codes "yield*"
 yield_word false = codes "yield"
 
+--   function* f() { yield a; b + (yield c); }
 abbrev pub yielding : Bool → List Laid → Spot → Piece
 yielding delegate (argument ∷ []) spot = say (yield_word delegate) >> argument.at (Within Blank (right spot 1 NoNeighbor))
 yielding delegate children spot = nothing

@@ -27,6 +27,8 @@ level_of (OptChainExpr optional) = 16
 level_of kind = 17
 
 -- `in` would end the first part of the head of a loop; `??` does not go with `||` and `&&`
+--   for (let a = (b in c);;) {}
+--   (a ?? b) || c; a ?? (b && c);
 abbrev pub clashes : BinaryOp → Spot → Beside → Bool
 clashes In spot beside = spot.without_in
 clashes LogicalOr spot UnderNullish = true
@@ -35,20 +37,25 @@ clashes NullishCoalescing spot UnderLogical = true
 clashes op spot beside = false
 
 -- a number before a `.` would take it as its own
+--   (1).a; 1[a];
 abbrev pub is_before_dot : Beside → Bool
 is_before_dot BeforeDot = true
 is_before_dot beside = false
 
 -- `new` without arguments would take those of what stands around
+--   (new A).b; new A().c;
 abbrev pub lacks_arguments : List Laid → Bool
 lacks_arguments (callee ∷ args ∷ type_args ∷ []) = is_absent args.kind
 lacks_arguments children = false
 
+--   ({ a } = b); [c] = d;
 abbrev pub begins_with_brace : List Laid → Bool
 begins_with_brace (target ∷ value ∷ []) = is_object_pattern target.kind
 begins_with_brace children = false
 
 -- what would be read as something else, whatever its level
+--   (function() {})(); ({}).a; new (b())();
+--   () => ({}); export default (class {});
 abbrev pub is_misread : Kind → List Laid → Spot → Bool
 is_misread (BinExpr op) children spot = clashes op spot spot.beside
 is_misread (OptChainExpr optional) children spot = ends_a_chain spot.beside
@@ -61,5 +68,7 @@ is_misread FnExpr children spot = opens_a_declaration spot.begins
 is_misread ClassExpr children spot = opens_a_declaration spot.begins
 is_misread kind children spot = false
 
+--   (a + b) * c; a * b + c;
+--   (a, b) ? c : (d, e);
 abbrev pub in_parentheses : Kind → List Laid → Spot → Bool
 in_parentheses kind children spot = ltb (level_of kind) spot.level || is_misread kind children spot

@@ -92,16 +92,21 @@ binary_level Mod = 12
 binary_level Exp = 13
 
 -- operators group to the left; on the left of `**` stands no unary operator
+--   a - b - c; (a ** b) ** c;
+--   (-a) ** b;
 abbrev pub left_level : BinaryOp → ℕ
 left_level Exp = 15
 left_level op = binary_level op
 
 -- but `**` groups to the right
+--   a - (b - c); a ** b ** c;
+--   a ** -b;
 abbrev pub right_level : BinaryOp → ℕ
 right_level Exp = 13
 right_level op = binary_level op + 1
 
 -- `??` does not go with `||` and `&&`
+--   (a ?? b) || c; a ?? (b && c); a && b || c;
 abbrev pub under : BinaryOp → Beside
 under NullishCoalescing = UnderNullish
 under LogicalOr = UnderLogical

@@ -26,24 +26,28 @@ abbrev pub beginning : ℕ → Begins → Bool → Spot
 beginning level begins without_in = record { level = level; begins = begins; without_in = without_in; in_callee_of_new = false; beside = NoNeighbor }
 
 -- where `{` would open a block
+--   ({}).a; () => ({}); b = {};
 abbrev pub opens_a_block : Begins → Bool
 opens_a_block StatementStart = true
 opens_a_block ArrowBodyStart = true
 opens_a_block begins = false
 
 -- where `function` and `class` would begin a declaration
+--   (function() {})(); a = function() {};
 abbrev pub opens_a_declaration : Begins → Bool
 opens_a_declaration StatementStart = true
 opens_a_declaration DefaultStart = true
 opens_a_declaration begins = false
 
 -- an object, a callee or a tag outside an optional chain
+--   (a?.b).c; a?.b.c;
 abbrev pub ends_a_chain : Beside → Bool
 ends_a_chain BeforeDot = true
 ends_a_chain BeforeLink = true
 ends_a_chain beside = false
 
 -- an object, a callee or a tag
+--   (new A).b; c = new A;
 abbrev pub is_headed : Beside → Bool
 is_headed BeforeDot = true
 is_headed BeforeLink = true
@@ -51,6 +55,7 @@ is_headed InChain = true
 is_headed beside = false
 
 -- what keeps a sign apart from the same sign before it
+--   - -a; +-b; + ++c;
 abbrev pub gap : Beside → Beside → List ℕ
 gap BehindMinus BehindMinus = codes " "
 gap BehindPlus BehindPlus = codes " "

@@ -27,6 +27,8 @@ abbrev pub shorthand : Node → Node
 shorthand name = node_of (out-Node name).span kind.AssignPatProp (binding name ∷ absent ∷ [])
 
 -- the left of an assignment: a name stays
+--   [a] = b;   // an ArrayPat
+--   a = b;   // an Ident still
 abbrev pub left_by : Kind → Node-F Node → Node
 left_by kind.ArrayLit parts = with_type (kind.ArrayPat false) parts
 left_by kind.ObjectLit parts = with_type (kind.ObjectPat false) parts
@@ -37,6 +39,7 @@ name_by (kind.Ident sym ctxt optional) parts = binding (roll-Node parts)
 name_by _ parts = roll-Node parts
 
 -- a target in a pattern, or before `in` or `of`
+--   for (a of b); [c] = d;   // a and c are BindingIdents
 abbrev pub part_by : Kind → Node-F Node → Node
 part_by (kind.Ident sym ctxt optional) parts = binding (roll-Node parts)
 part_by k parts = left_by k parts
@@ -45,11 +48,13 @@ abbrev pub default_by : AssignOp → Node-F Node → Node
 default_by Assign parts = with_kind kind.AssignPat parts
 default_by _ parts = roll-Node parts
 
+--   [a = 1, ...b] = c;   // an AssignPat, a RestPat
 abbrev pub element_by : Kind → Node-F Node → Node
 element_by kind.SpreadElement parts = with_type kind.RestPat parts
 element_by (kind.AssignExpr op) parts = default_by op parts
 element_by k parts = part_by k parts
 
+--   ({ a, b: c, d = 1, ...e } = f);   // AssignPatProp, KeyValuePatProp, AssignPatProp, RestPat
 abbrev pub property_by : Kind → Node-F Node → Node
 property_by kind.KeyValueProp parts = with_kind kind.KeyValuePatProp parts
 property_by kind.AssignProp parts = with_kind kind.AssignPatProp parts

@@ -136,6 +136,10 @@ pub(crate) fn holds_strays(kind: &Kind) -> bool
 }
 
 /// The least place of what belongs to nothing inside the enum initialiser or namespace body around it.
+///
+///     enum E { A = f(function () { return this; }) }
+///     enum E { A = this.b }   // refused
+///     namespace N { return a; }   // refused
 pub fn first_stray(tree: &Node) -> Option<u32>
     ensures { result ≡ first_stray tree.now }
 {
