@@ -7,24 +7,25 @@ use Rattle.ecma_kind.specs.declared.operators.BinaryOp.TheVariants.{In, LogicalO
 use Rattle.ecma_print.specs.declared.place.Beside.{Beside}
 use Rattle.ecma_print.specs.declared.place.Beside.TheVariants.{BeforeDot, UnderNullish, UnderLogical}
 use Rattle.ecma_print.specs.declared.place.Spot.{Spot}
+use Rattle.ecma_print.specs.Precedences as precedence
 use Rattle.ecma_print.specs.Places.{opens_a_block, opens_a_declaration, ends_a_chain, is_headed}
 use Rattle.ecma_print.specs.Operators.{binary_level}
 use Rattle.ecma_print.specs.Laid.{Laid, is_absent, is_object_pattern}
 
 -- how tight an expression binds
 abbrev pub level_of : Kind → ℕ
-level_of SeqExpr = 0
-level_of (AssignExpr op) = 1
-level_of (ArrowExpr is_async is_generator) = 1
-level_of (YieldExpr delegate) = 1
-level_of CondExpr = 2
+level_of SeqExpr = precedence.expression
+level_of (AssignExpr op) = precedence.assignment
+level_of (ArrowExpr is_async is_generator) = precedence.assignment
+level_of (YieldExpr delegate) = precedence.assignment
+level_of CondExpr = precedence.conditional
 level_of (BinExpr op) = binary_level op
-level_of (UnaryExpr op) = 14
-level_of AwaitExpr = 14
-level_of (UpdateExpr op prefix) = 15
-level_of CallExpr = 16
-level_of (OptChainExpr optional) = 16
-level_of kind = 17
+level_of (UnaryExpr op) = precedence.unary
+level_of AwaitExpr = precedence.unary
+level_of (UpdateExpr op prefix) = precedence.update
+level_of CallExpr = precedence.left_hand_side
+level_of (OptChainExpr optional) = precedence.left_hand_side
+level_of kind = precedence.member
 
 -- `in` would end the first part of the head of a loop; `??` does not go with `||` and `&&`
 --   for (let a = (b in c);;) {}

@@ -7,11 +7,16 @@ use Rattle.ecma_print.specs.declared.place.Beside.TheVariants.{NoNeighbor, Befor
 use Rattle.ecma_print.specs.declared.place.Spot.{Spot}
 use Rattle.ecma_print.specs.declared.place.Between.{Between}
 use Rattle.ecma_print.specs.declared.place.Between.TheVariants.{Blank, Equals, Extends, From, As, BeforeAs, Attributes, Finally, Else, LineElse, Parentheses}
+use Rattle.ecma_print.specs.Precedences as precedence
 use Rattle.ecma_print.specs.Pieces.{Piece, nothing, say, ◌>>◌, new_line}
 
 -- where nothing stands around: no level below this one without parentheses
 abbrev pub free : ℕ → Spot
 free level = record { level = level; begins = Anywhere; without_in = false; in_callee_of_new = false; beside = NoNeighbor }
+
+-- the same, and any expression goes without parentheses
+abbrev pub alone : Spot
+alone = free precedence.expression
 
 -- of a part with which the text of what stands here begins
 abbrev pub left : Spot → ℕ → Beside → Spot

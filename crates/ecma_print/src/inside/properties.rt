@@ -3,6 +3,7 @@ use super::Inside;
 use super::functions::{behind_blank, plain};
 use crate::out::Out;
 use crate::place::{Between, Place, Spot};
+use crate::precedence;
 use ecma_tree::{Kind, NoMemory, Node};
 
 impl<'f, 'n, F: Fn(&mut Out, &Node, Place, &[u8]) -> Result<(), NoMemory>> Inside<'f, 'n, F> {
@@ -34,7 +35,11 @@ impl<'f, 'n, F: Fn(&mut Out, &Node, Place, &[u8]) -> Result<(), NoMemory>> Insid
             return Ok(());
         };
         self.child(out, target, plain())?;
-        self.child(out, value, Place::Within(Between::Equals, Spot::free(1)))
+        self.child(
+            out,
+            value,
+            Place::Within(Between::Equals, Spot::free(precedence::ASSIGNMENT)),
+        )
     }
 
     /// `get key() {}`
