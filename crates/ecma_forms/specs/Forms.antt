@@ -48,7 +48,7 @@ abbrev pub has_body : Node → Bool
 has_body function = has_child function 1
 
 -- a function without a body that could be no declaration, as in `({ get a() })`: the grammar reads it, and TypeScript does not; and what no text has, though no law
--- says so: a variable in the head of a loop behind `declare`
+-- says so: a variable in the head of a loop after `declare`
 --   ({ get a() { return 1; } });   // taken
 --   ({ get a() });   // not taken
 abbrev pub is_odd_by : Kind → Node → Bool

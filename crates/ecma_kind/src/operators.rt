@@ -150,7 +150,7 @@ pub struct MemberModifiers {
     pub accessibility: Option<Accessibility>,
     pub is_static: bool,
     pub is_abstract: bool,
-    /// With a `?` behind its key.
+    /// With a `?` after its key.
     pub is_optional: bool,
     pub is_override: bool,
 }

@@ -127,7 +127,7 @@ abbrev pub others : List Piece → List Piece
 others [] = []
 others (e ∷ es) = es
 
--- texts, and behind each an expression
+-- texts, and after each an expression
 abbrev pub template_parts : List Piece → List Piece → Piece
 template_parts [] expressions = nothing
 template_parts (q ∷ quasis) expressions = q >> substitution expressions >> template_parts quasis (others expressions)

@@ -19,7 +19,7 @@ use Rattle.ecma_print.specs.Lists.{first_in}
 abbrev pub plain : Place
 plain = At (free precedence.assignment)
 
--- behind a blank, if it is there
+-- after a blank, if it is there
 abbrev pub behind_blank : Place
 behind_blank = Within Blank (free precedence.assignment)
 
@@ -44,7 +44,7 @@ abbrev pub named_function : List Laid → Piece
 named_function (name ∷ function ∷ []) = function.at FunctionHead >> name.at behind_blank >> function.at plain
 named_function children = nothing
 
--- what stands behind the name: parameters and body
+-- what stands after the name: parameters and body
 abbrev pub function_rest : List Laid → Piece
 function_rest (params ∷ body ∷ type_params ∷ return_type ∷ []) = params.at Arguments >> body.at behind_blank
 function_rest children = nothing
@@ -63,7 +63,7 @@ abbrev pub named_class : List Laid → Piece
 named_class (name ∷ body ∷ []) = say (codes "class") >> name.at behind_blank >> body.at plain
 named_class children = nothing
 
--- what stands behind the name: heritage and members
+-- what stands after the name: heritage and members
 abbrev pub class_rest : List Laid → Piece
 class_rest (super_class ∷ body ∷ type_params ∷ super_type_params ∷ interfaces ∷ []) =
     super_class.at (Within Extends (free precedence.left_hand_side)) >> say (codes " ") >> body.at Block
@@ -116,7 +116,7 @@ abbrev pub method : List Laid → Piece
 method (key ∷ function ∷ []) = function.at MethodHead >> key.at plain >> function.at plain
 method children = nothing
 
--- in brackets; what stands in them has the level of the place
+-- in brackets; what stands in them has the precedence that the place asks for
 abbrev pub computed : List Laid → Spot → Piece
 computed (expression ∷ []) spot = say (codes "[") >> expression.at (At (free spot.level)) >> say (codes "]")
 computed children spot = nothing

@@ -12,7 +12,7 @@ use Rattle.ecma_print.specs.Places.{opens_a_block, opens_a_declaration, ends_a_c
 use Rattle.ecma_print.specs.Operators.{binary_level}
 use Rattle.ecma_print.specs.Laid.{Laid, is_absent, is_object_pattern}
 
--- how tight an expression binds
+-- the precedence of an expression
 abbrev pub level_of : Kind → ℕ
 level_of SeqExpr = precedence.expression
 level_of (AssignExpr op) = precedence.assignment
@@ -54,7 +54,7 @@ abbrev pub begins_with_brace : List Laid → Bool
 begins_with_brace (target ∷ value ∷ []) = is_object_pattern target.kind
 begins_with_brace children = false
 
--- what would be read as something else, whatever its level
+-- what would be read as something else, whatever its precedence
 --   (function() {})(); ({}).a; new (b())();
 --   () => ({}); export default (class {});
 abbrev pub is_misread : Kind → List Laid → Spot → Bool

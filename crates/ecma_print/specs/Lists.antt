@@ -13,7 +13,7 @@ abbrev pub lines : List Laid → Piece
 lines [] = nothing
 lines (x ∷ xs) = x.at (At alone) >> say (codes "\n") >> lines xs
 
--- the same, each behind the beginning of its line
+-- the same, each after the beginning of its line
 abbrev pub new_lines : List Laid → Piece
 new_lines [] = nothing
 new_lines (x ∷ xs) = new_line >> x.at (At alone) >> new_lines xs
@@ -23,7 +23,7 @@ abbrev pub block : List Laid → Piece
 block [] = say (codes "{}")
 block (x ∷ xs) = say (codes "{") >> deeper (new_lines (x ∷ xs)) >> new_line >> say (codes "}")
 
--- each behind a comma and a blank
+-- each after a comma and a blank
 abbrev pub more_commas : Spot → List Laid → Piece
 more_commas spot [] = nothing
 more_commas spot (x ∷ xs) = say (codes ", ") >> x.at (At spot) >> more_commas spot xs
@@ -51,7 +51,7 @@ ends_in_hole [] = false
 ends_in_hole (x ∷ []) = is_absent x.kind
 ends_in_hole (x ∷ y ∷ ys) = ends_in_hole (y ∷ ys)
 
--- behind a last hole stands one comma more
+-- after a last hole stands one comma more
 abbrev pub hole_comma : Bool → List ℕ
 hole_comma true = codes ","
 hole_comma false = []
@@ -75,7 +75,7 @@ abbrev pub closing_brace : Bool → List ℕ
 closing_brace true = codes " }"
 closing_brace false = []
 
--- the specifiers behind one that stands in braces, or not
+-- the specifiers after one that stands in braces, or not
 abbrev pub more_specifiers : Bool → List Laid → Piece
 more_specifiers named [] = say (closing_brace named)
 more_specifiers named (x ∷ xs) = say (specifier_gap named (is_named x.kind)) >> x.at (At alone) >> more_specifiers (is_named x.kind) xs
@@ -93,7 +93,7 @@ abbrev pub imports : List Laid → Piece
 imports [] = say (codes " ")
 imports (x ∷ xs) = from_specifiers (x ∷ xs)
 
--- what stands behind `export`
+-- what stands after `export`
 abbrev pub exports : List Laid → Piece
 exports [] = say (codes "{}")
 exports (x ∷ xs) = specifiers (x ∷ xs)

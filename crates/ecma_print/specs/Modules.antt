@@ -28,7 +28,7 @@ abbrev pub import_specifier : List Laid → Piece
 import_specifier (local ∷ imported ∷ []) = imported.at (Within BeforeAs alone) >> local.at (At alone)
 import_specifier children = nothing
 
--- these characters, and the one child behind them
+-- these characters, and the one child after them
 abbrev pub behind_word : List ℕ → List Laid → Piece
 behind_word word (child ∷ []) = say word >> child.at (At alone)
 behind_word word children = nothing

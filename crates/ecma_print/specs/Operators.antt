@@ -1,4 +1,4 @@
--- Operators: their words and their levels (ECMAScript, 13.4 to 13.15).
+-- Operators: their words and their precedences (ECMAScript, 13.4 to 13.15).
 use Rattle.std.specs.Prelude.{ℕ, ◌+◌, List, codes}
 use Rattle.ecma_kind.specs.declared.operators.UnaryOp.{UnaryOp}
 use Rattle.ecma_kind.specs.declared.operators.UnaryOp.TheVariants.{Minus, Plus, Bang, Tilde, TypeOf, Void, Delete}
@@ -12,7 +12,7 @@ use Rattle.ecma_print.specs.declared.place.Beside.{Beside}
 use Rattle.ecma_print.specs.declared.place.Beside.TheVariants.{NoNeighbor, UnderNullish, UnderLogical, BehindMinus, BehindPlus}
 use Rattle.ecma_print.specs.Precedences as precedence
 
--- what a unary operator puts before its operand: a word has a blank behind it
+-- what a unary operator puts before its operand: a word has a blank after it
 abbrev pub unary_word : UnaryOp → List ℕ
 unary_word Minus = codes "-"
 unary_word Plus = codes "+"
@@ -64,7 +64,7 @@ binary_word InstanceOf = codes " instanceof "
 binary_word Exp = codes " ** "
 binary_word NullishCoalescing = codes " ?? "
 
--- the level of an expression with this operator: a higher level binds tighter
+-- the precedence of an expression with this operator
 abbrev pub binary_level : BinaryOp → ℕ
 binary_level NullishCoalescing = precedence.short_circuit
 binary_level LogicalOr = precedence.short_circuit

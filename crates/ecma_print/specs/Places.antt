@@ -10,7 +10,7 @@ use Rattle.ecma_print.specs.declared.place.Between.TheVariants.{Blank, Equals, E
 use Rattle.ecma_print.specs.Precedences as precedence
 use Rattle.ecma_print.specs.Pieces.{Piece, nothing, say, ◌>>◌, new_line}
 
--- where nothing stands around: no level below this one without parentheses
+-- where nothing stands around: an expression of a lower precedence stands in parentheses
 abbrev pub free : ℕ → Spot
 free level = record { level = level; begins = Anywhere; without_in = false; in_callee_of_new = false; beside = NoNeighbor }
 
@@ -80,7 +80,7 @@ before Else = say (codes " else ")
 before LineElse = new_line >> say (codes "else ")
 before Parentheses = say (codes " (")
 
--- and what behind it
+-- and what stands after it
 abbrev pub after : Between → Piece
 after BeforeAs = say (codes " as ")
 after Parentheses = say (codes ")")

@@ -20,7 +20,7 @@ use Rattle.ecma_print.specs.Laid.{Laid, is_absent, is_block}
 abbrev pub whole_place : Place
 whole_place = At alone
 
--- behind a blank, if it is there: an expression of a statement, or a body
+-- after a blank, if it is there: an expression of a statement, or a body
 abbrev pub behind : Place
 behind = Within Blank alone
 
@@ -32,7 +32,7 @@ abbrev pub block_statement : List Laid → Piece
 block_statement (statements ∷ []) = statements.at Block
 block_statement children = nothing
 
--- a word, what may stand behind it, and the end of the statement
+-- a word, what may stand after it, and the end of the statement
 abbrev pub word_statement : List ℕ → List Laid → Piece
 word_statement word (argument ∷ []) = say word >> argument.at behind >> say (codes ";")
 word_statement word children = nothing

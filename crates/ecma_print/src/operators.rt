@@ -1,4 +1,4 @@
-//! Operators: their words and their levels.
+//! Operators: their words and their precedences.
 ghost use Rattle.std.specs.Prelude.{◌≡◌};
 ghost use Rattle.ecma_print.specs.Operators.{unary_word, unary_sign, update_word, update_sign, binary_word, binary_level, left_level, right_level, under, assign_word};
 
@@ -85,7 +85,7 @@ pub(crate) fn binary_word(op: BinaryOp) -> &'static str
     }
 }
 
-/// The level of an expression with this operator.
+/// The precedence of an expression with this operator.
 pub(crate) fn binary_level(op: BinaryOp) -> u8
     ensures { result ≡ binary_level op }
 {
@@ -110,7 +110,7 @@ pub(crate) fn binary_level(op: BinaryOp) -> u8
     }
 }
 
-/// The level of its left operand.
+/// The least precedence of its left operand: operators group to the left, and on the left of `**` stands no unary operator.
 pub(crate) fn left_level(op: BinaryOp) -> u8
     ensures { result ≡ left_level op }
 {
@@ -120,7 +120,7 @@ pub(crate) fn left_level(op: BinaryOp) -> u8
     }
 }
 
-/// The level of its right operand.
+/// The least precedence of its right operand: one more than its own, but `**` groups to the right.
 pub(crate) fn right_level(op: BinaryOp) -> u8
     ensures { result ≡ right_level op }
 {

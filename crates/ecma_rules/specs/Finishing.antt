@@ -1,4 +1,5 @@
--- The finished tree: what is assigned to is a pattern where it was read as a literal (ECMAScript, 13.15.5: it covers an assignment pattern).
+-- The finished tree: what is assigned to is a pattern where it was read as a literal. The literals are the cover grammar of assignment patterns (ECMAScript,
+-- 13.15.5), and this refines them.
 use Rattle.std.specs.Prelude.{ℕ, suc, false, List, [], ◌∷◌, ◌++◌}
 use Rattle.ecma_kind.specs.declared.operators.AssignOp.{AssignOp}
 use Rattle.ecma_kind.specs.declared.operators.AssignOp.TheVariants.{Assign}
@@ -14,7 +15,7 @@ use Rattle.ecma_rules.specs.Targets.{target_in}
 abbrev pub with_kind : Kind → Node-F Node → Node
 with_kind k parts = node_of parts.span k parts.children
 
--- and with room for a type behind its children
+-- and with room for a type after its children
 abbrev pub with_type : Kind → Node-F Node → Node
 with_type k parts = node_of parts.span k (parts.children ++ absent ∷ [])
 

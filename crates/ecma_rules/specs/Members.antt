@@ -56,7 +56,7 @@ is_this_parameter node = child_holds is_this_pattern node 0
 abbrev pub takes_one : Node → Bool
 takes_one parameter = not (is_this_parameter parameter) && not (child_is is_rest_pattern parameter 0)
 
--- one parameter, perhaps behind one `this`
+-- one parameter, perhaps after one `this`
 --   class A { set b(c) { } }
 --   class A { set b() { } }   // refused
 abbrev pub is_one_parameter : List Node → Bool
@@ -103,7 +103,7 @@ abbrev pub behind_first : List Node → List Node
 behind_first [] = []
 behind_first (first ∷ others) = others
 
--- a function with a parameter `this` behind its first one, or one of which no parameter is `this`: an arrow function, a constructor, and a setter of an object
+-- a function with a parameter `this` after its first one, or one of which no parameter is `this`: an arrow function, a constructor, and a setter of an object
 -- beside its own `this`
 --   function f(this: T, a) { }
 --   function f(a, this: T) { }   // refused

@@ -29,7 +29,7 @@ abbrev pub is_private_name : Kind → Bool
 is_private_name (kind.PrivateName name) = true
 is_private_name _ = false
 
--- a private name behind it
+-- a private name after it
 --   class A extends B { f() { super.c; } }
 --   class A extends B { #c; f() { super.#c; } }   // refused
 abbrev pub is_private_of_super : Node → Bool

@@ -138,7 +138,7 @@ abbrev pub in_short_default : Target → Target
 in_short_default target.Property = target.Name
 in_short_default _ = target.Free
 
--- on the left of `=` behind an element or value of a pattern stands what takes a default
+-- the left of an assignment; in an element or a value of a pattern `=` stands before a default
 --   [[a] = b] = c;   // the left of = in a pattern
 --   [a] **= b;   // refused
 abbrev pub on_left : Target → AssignOp → Target

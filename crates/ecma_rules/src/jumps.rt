@@ -102,7 +102,7 @@ fn first_held_stray(node: &Node, strays: Strays, labels: &Labels<'_>) -> Option<
     found
 }
 
-/// The same in a tree that stands behind a label, or where no label holds.
+/// The same in a tree that stands after a label, or where no label holds.
 #[cycle(straying)]
 fn first_stray_behind(
     node: &Node,

@@ -28,7 +28,7 @@ pub enum Target {
     Property,
     /// What takes the rest of an object: a target that is no pattern.
     Rest,
-    /// The name of a property that has a default behind it.
+    /// The name of a property that has a default after it.
     Name,
 }
 

@@ -74,7 +74,7 @@ merges earlier d = may_merge d.form && list_any (λ e. bytes_eq e.sym d.sym && m
 abbrev pub mark : List Declaration → Declaration → Declaration
 mark earlier d = cond (merges earlier d) (record d { form = form.Merged }) d
 
--- declarations with those marked that merge, behind earlier ones
+-- declarations with those marked that merge, after earlier ones
 abbrev pub marked : List Declaration → List Declaration → List Declaration
 marked earlier [] = []
 marked earlier (d ∷ ds) = mark earlier d ∷ marked (earlier ++ mark earlier d ∷ []) ds

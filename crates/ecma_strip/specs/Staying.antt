@@ -16,7 +16,7 @@ abbrev pub is_empty_stmt : Kind → Bool
 is_empty_stmt kind.EmptyStmt = true
 is_empty_stmt _ = false
 
--- a declaration behind `declare`
+-- a declaration after `declare`
 --   declare let a: T;
 unfoldable pub is_declared : Kind → Bool
 is_declared (kind.FnDecl declare) = declare
@@ -30,7 +30,7 @@ abbrev pub is_export : Kind → Bool
 is_export kind.ExportDecl = true
 is_export _ = false
 
--- a declaration behind `declare`, or its export
+-- a declaration after `declare`, or its export
 --   export declare function f(): T;
 abbrev pub is_ambient : Node → Bool
 is_ambient n =
@@ -43,7 +43,7 @@ abbrev pub item_stays : Node → Bool
 item_stays n =
     cond (is_empty_stmt (out-Node n).kind) true (cond (belongs sort.ModuleItem (out-Node n).kind) (is_value n && not (is_ambient n)) true)
 
--- a member of a class: no index signature, nothing without its body, nothing abstract, no field behind `declare`
+-- a member of a class: no index signature, nothing without its body, nothing abstract, no field after `declare`
 --   abstract class A { constructor(b) { } c = 1; }   // stay
 --   abstract class A { constructor(b); abstract c(): T; declare d; [e: string]: U; }   // go
 unfoldable pub member_stays_by : Kind → Node → Bool
@@ -79,7 +79,7 @@ is_this_param_by _ n = is_this n
 abbrev pub is_this_param : Node → Bool
 is_this_param n = is_this_param_by (out-Node n).kind n
 
--- a specifier of an import or an export: not what is written `type`; and no type stays, as behind `implements`
+-- a specifier of an import or an export: not what is written `type`; and no type stays, as after `implements`
 --   import { type T, a } from "m";   // becomes import { a } from "m";
 --   class A implements B { }   // becomes class A { }
 unfoldable pub specifier_stays : Kind → Bool

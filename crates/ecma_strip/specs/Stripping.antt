@@ -14,7 +14,7 @@ use Rattle.ecma_strip.specs.Staying.{is_empty_stmt, item_stays, stays}
 abbrev pub plain_modifiers : MemberModifiers → MemberModifiers
 plain_modifiers modifiers = record { accessibility = None; is_static = modifiers.is_static; is_abstract = false; is_optional = false; is_override = false }
 
--- a kind without what its own data says of types: `?`, `!` behind a name, and modifiers
+-- a kind without what its own data says of types: `?`, `!` after a name, and modifiers
 --   let a!: T;   // becomes let a;
 --   abstract class A { private b?: T; }   // becomes class A { b; }
 unfoldable pub plain_kind : Kind → Kind

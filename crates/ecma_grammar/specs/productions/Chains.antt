@@ -85,14 +85,14 @@ abbrev pub member_of : Grammar → Grammar
 member_of key = item plain.MemberExpr key
 
 --   a`b`;
---   a`\u`;   // an ill-formed escape, which may stand behind a tag
+--   a`\u`;   // an ill-formed escape, which may stand after a tag
 unfoldable pub tagged_template : Grammar
 tagged_template = item plain.TaggedTpl (put Absent ▸ template true)
 
 abbrev pub non_null : Grammar
 non_null = item plain.TsNonNullExpr nothing
 
--- '?.' (Args / '[' Expr ']' / T TypeArgs Args / CKey), behind '?.'
+-- '?.' (Args / '[' Expr ']' / T TypeArgs Args / CKey), after '?.'
 --   a?.b; a?.[b]; a?.(b);
 --   a?.`b`;   // refused
 unfoldable pub optional_link : Grammar
@@ -164,7 +164,7 @@ new_tagged_body = tagged_template ▸ new_links
 unfoldable pub new_non_null_body : Grammar
 new_non_null_body = non_null ▸ new_links
 
--- what stands behind `new`
+-- what stands after `new`
 --   new A<T>(b);
 --   function F() { return new.target; }
 unfoldable pub new_body : Grammar

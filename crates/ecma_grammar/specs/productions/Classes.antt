@@ -75,7 +75,7 @@ member =
     // marked index_signature
     // build form.Modified (modifiers ▸ (getter // setter // method // field))
 
--- N [TypeParams] ('extends' Chain [TypeArgs])? ['implements' TypeList] '{' Member* '}', behind 'class'
+-- N [TypeParams] ('extends' Chain [TypeArgs])? ['implements' TypeList] '{' Member* '}', after 'class'
 --   class A<T> extends B<T> implements C { }
 --   class A extends B, C { }   // refused
 abbrev pub class_body : Bool → Grammar

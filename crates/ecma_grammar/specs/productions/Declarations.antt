@@ -91,7 +91,7 @@ declaration =
     // marked abstract_class_declaration // marked type_alias // marked interface // marked enum_ // marked namespace
     // marked (build form.Declared (behind_word (codes "declare") part.Declared))
 
--- ~Decl, behind 'declare'
+-- ~Decl, after 'declare'
 --   declare let a: T;
 --   declare = a;   // an assignment
 unfoldable pub declared_body : Grammar

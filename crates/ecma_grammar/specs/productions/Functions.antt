@@ -55,7 +55,7 @@ method_property = build (form.Function plain.MethodProp) (method_async ▸ wheth
 
 -- ABody = Block / !'{' Assign
 --   a => b;
---   a => ({ b: c });   // behind => a brace opens a block
+--   a => ({ b: c });   // after => a brace opens a block
 abbrev pub arrow_body : Bool → Grammar
 arrow_body no_in = same_line ▸ punct (codes "=>") ▸ (block // unless (punct (codes "{")) ▸ assign_in no_in)
 

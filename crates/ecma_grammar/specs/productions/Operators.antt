@@ -54,7 +54,7 @@ prefixed =
 unfoldable pub operand : Grammar
 operand = prefixed // update
 
--- ('const' / Type) ">" Operand, behind "<"
+-- ('const' / Type) ">" Operand, after "<"
 --   <T>a;
 --   <const>[a];
 unfoldable pub assertion_body : Grammar
@@ -125,7 +125,7 @@ relation no_in =
     build form.Chain
     ((if_in no_in (keep leaf.PrivateName ▸ item (plain.BinExpr binary.In) (word (codes "in") ▸ shift)) // shift) ▸ relations no_in)
 
--- 'const' / Type, behind `as`
+-- 'const' / Type, after `as`
 --   a as T;
 --   [a] as const;
 abbrev pub as_body : Bool → Grammar
@@ -170,7 +170,7 @@ bit_xor no_in = build form.Chain (bit_and no_in ▸ exclusions no_in)
 unfoldable pub bit_or : Bool → Grammar
 bit_or no_in = build form.Chain (bit_xor no_in ▸ disjunctions no_in)
 
--- the right side of an operator, and the operators that stand behind it in its chain
+-- the right side of an operator, and the operators that stand after it in its chain
 --   a + b * c;   // of +: b * c
 abbrev pub right_side : BinaryOp → Bool → Grammar
 right_side binary.Mul no_in = exponentiation
@@ -216,8 +216,8 @@ logicals no_in =
 unfoldable pub short_circuit : Bool → Grammar
 short_circuit no_in = build form.Logical (bit_or no_in ▸ (coalescing no_in // logicals no_in))
 
--- the operators that stand behind the right side in its chain
---   a - b + c;   // behind - b: + c
+-- the operators that stand after the right side in its chain
+--   a - b + c;   // after - b: + c
 abbrev pub more_operators : BinaryOp → Bool → Grammar
 more_operators binary.Mul no_in = factors
 more_operators binary.Div no_in = factors
@@ -245,6 +245,6 @@ more_operators binary.LogicalAnd no_in = logicals no_in
 more_operators binary.LogicalOr no_in = logicals no_in
 more_operators binary.NullishCoalescing no_in = optional (coalescing no_in)
 
--- an operator's right side, with what stands behind it
+-- an operator's right side, with what stands after it
 abbrev pub binary_body : BinaryOp → Bool → Grammar
 binary_body op no_in = item (plain.BinExpr op) (right_side op no_in) ▸ more_operators op no_in

@@ -238,7 +238,7 @@ type_operator_body =
     // word (codes "infer") ▸ a_name ▸ optional (same_line ▸ word (codes "extends") ▸ unconditional_type ▸ unless (punct (codes "?")))
     // primary_type ▸ array_suffixes
 
--- After: what may stand behind type arguments in an expression
+-- After: what may stand after type arguments in an expression
 --   a<T>(b);
 --   a<b>c;   // no type arguments: (a < b) > c
 unfoldable pub after_type_args : Grammar

@@ -15,7 +15,7 @@ pub(super) fn plain() -> Place
     Place::At(Spot::free(precedence::ASSIGNMENT))
 }
 
-/// Behind a blank, if it is there.
+/// After a blank, if it is there.
 pub(super) fn behind_blank() -> Place
     ensures { result ≡ behind_blank }
 {
@@ -64,7 +64,7 @@ impl<'f, 'n, F: Fn(&mut Out, &Node, Place, &[u8]) -> Result<(), NoMemory>> Insid
         self.child(out, function, plain())
     }
 
-    /// What stands behind the name: parameters and body.
+    /// What stands after the name: parameters and body.
     #[tactic(auto, using(crate::proofs::Arrays::fours))]
     fn function_rest(&self, out: &mut Out) -> Result<(), NoMemory>
         requires { ShowsChildren F.Fn self.now }
@@ -110,7 +110,7 @@ impl<'f, 'n, F: Fn(&mut Out, &Node, Place, &[u8]) -> Result<(), NoMemory>> Insid
         self.child(out, body, plain())
     }
 
-    /// What stands behind the name: heritage and members.
+    /// What stands after the name: heritage and members.
     #[tactic(auto, using(crate::proofs::Arrays::fives))]
     fn class_rest(&self, out: &mut Out) -> Result<(), NoMemory>
         requires { ShowsChildren F.Fn self.now }

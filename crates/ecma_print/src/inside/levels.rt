@@ -10,7 +10,7 @@ use crate::place::{Beside, Place, Spot};
 use crate::precedence;
 use ecma_tree::{BinaryOp, Kind, NoMemory, Node};
 
-/// How tight an expression binds.
+/// The precedence of an expression.
 fn level_of(kind: &Kind) -> u8
     ensures { result ≡ level_of kind.now }
 {
@@ -72,7 +72,7 @@ impl<'f, 'n, F: Fn(&mut Out, &Node, Place, &[u8]) -> Result<(), NoMemory>> Insid
         is_object_pattern(target)
     }
 
-    /// What would be read as something else, whatever its level.
+    /// What would be read as something else, whatever its precedence.
     fn is_misread(&self, spot: Spot) -> bool
         ensures { result ≡ is_misread (out-Node self.now.node.now).kind (children_of self.now) spot }
     {

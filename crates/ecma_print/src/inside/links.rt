@@ -166,7 +166,7 @@ impl<'f, 'n, F: Fn(&mut Out, &Node, Place, &[u8]) -> Result<(), NoMemory>> Insid
         )
     }
 
-    /// A template behind its tag.
+    /// A template after its tag.
     #[tactic(auto, using(crate::proofs::Arrays::threes))]
     fn tagged(&self, out: &mut Out, spot: Spot) -> Result<(), NoMemory>
         requires { ShowsChildren F.Fn self.now }

@@ -19,7 +19,7 @@ fn ends_in_hole(items: &[Node]) -> bool
     }
 }
 
-/// Behind a last hole stands one comma more.
+/// After a last hole stands one comma more.
 fn hole_comma(ends_in_hole: bool) -> &'static str
     ensures { result.now ≡ hole_comma ends_in_hole }
 {
@@ -82,7 +82,7 @@ impl<'f, 'n, F: Fn(&mut Out, &Node, Place, &[u8]) -> Result<(), NoMemory>> Insid
         Ok(())
     }
 
-    /// The same, each behind the beginning of its line.
+    /// The same, each after the beginning of its line.
     #[tactic(auto, using(crate::proofs::LaidOut::laying))]
     fn new_lines(&self, out: &mut Out, margin: &[u8]) -> Result<(), NoMemory>
         requires { ShowsChildren F.Fn self.now }
@@ -222,7 +222,7 @@ impl<'f, 'n, F: Fn(&mut Out, &Node, Place, &[u8]) -> Result<(), NoMemory>> Insid
         self.from_specifiers(out)
     }
 
-    /// What stands behind `export`.
+    /// What stands after `export`.
     fn exports(&self, out: &mut Out) -> Result<(), NoMemory>
         requires { ShowsChildren F.Fn self.now }
         ensures { OnOk result (Puts out.old out.new self.now.margin.now (exports (children_of self.now))) }

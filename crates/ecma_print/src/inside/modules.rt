@@ -87,7 +87,7 @@ impl<'f, 'n, F: Fn(&mut Out, &Node, Place, &[u8]) -> Result<(), NoMemory>> Insid
         self.child(out, local, Place::At(Spot::alone()))
     }
 
-    /// These characters, and the one child behind them.
+    /// These characters, and the one child after them.
     fn behind_word(&self, out: &mut Out, word: &str) -> Result<(), NoMemory>
         requires { ShowsChildren F.Fn self.now }
         ensures { OnOk result (Puts out.old out.new self.now.margin.now (behind_word word.now (children_of self.now))) }

@@ -94,7 +94,7 @@ impl<'f, 'n, F: Fn(&mut Out, &Node, Place, &[u8]) -> Result<(), NoMemory>> Insid
         }
     }
 
-    /// What stands behind it.
+    /// What stands after it.
     fn after(&self, out: &mut Out, between: Between) -> Result<(), NoMemory>
         ensures { OnOk result (Puts out.old out.new self.now.margin.now (after between)) }
     {

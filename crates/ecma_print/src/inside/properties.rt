@@ -87,7 +87,7 @@ impl<'f, 'n, F: Fn(&mut Out, &Node, Place, &[u8]) -> Result<(), NoMemory>> Insid
         self.child(out, function, plain())
     }
 
-    /// `[e]`; what stands in the brackets has the level of the place.
+    /// `[e]`; what stands in the brackets has the precedence that the place asks for.
     fn computed(&self, out: &mut Out, spot: Spot) -> Result<(), NoMemory>
         requires { ShowsChildren F.Fn self.now }
         ensures { OnOk result (Puts out.old out.new self.now.margin.now (computed (children_of self.now) spot)) }

@@ -15,7 +15,7 @@ pub(super) fn whole_place() -> Place
     Place::At(Spot::alone())
 }
 
-/// Behind a blank, if it is there: an expression of a statement, or a body.
+/// After a blank, if it is there: an expression of a statement, or a body.
 pub(super) fn behind() -> Place
     ensures { result ≡ behind }
 {
@@ -70,7 +70,7 @@ impl<'f, 'n, F: Fn(&mut Out, &Node, Place, &[u8]) -> Result<(), NoMemory>> Insid
         self.child(out, statements, Place::Block)
     }
 
-    /// A word, what may stand behind it, and the end of the statement.
+    /// A word, what may stand after it, and the end of the statement.
     fn word_statement(&self, out: &mut Out, word: &str) -> Result<(), NoMemory>
         requires { ShowsChildren F.Fn self.now }
         ensures { OnOk result (Puts out.old out.new self.now.margin.now (word_statement word.now (children_of self.now))) }

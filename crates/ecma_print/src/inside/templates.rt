@@ -59,7 +59,7 @@ impl<'f, 'n, F: Fn(&mut Out, &Node, Place, &[u8]) -> Result<(), NoMemory>> Insid
         self.say(out, "}")
     }
 
-    /// Texts, and behind each an expression.
+    /// Texts, and after each an expression.
     fn template_parts(
         &self,
         out: &mut Out,
