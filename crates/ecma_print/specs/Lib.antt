@@ -1,5 +1,6 @@
 pub mod Texts
 pub mod Pieces
+pub mod Precedences
 pub mod Places
 pub mod Operators
 pub mod Laid

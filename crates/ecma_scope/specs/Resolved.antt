@@ -73,7 +73,7 @@ count_step node children r = taken r node + counted (role_in r node) 0 children
 abbrev pub context_count : Node → Role → ℕ
 context_count = from_leaves (Role → ℕ) count_step
 
--- the children, of which the first is the one at i: each takes its contexts before those behind it
+-- the children, of which the first is the one at i: each takes its contexts before those after it
 abbrev pub placed : (ℕ → Place) → ℕ → List Node → List (Place → ℕ → Node) → ℕ → List Node
 placed place_of i (node ∷ nodes) (child ∷ children) left =
     child (place_of i) left ∷ placed place_of (suc i) nodes children (left - context_count node (place_of i).role)
