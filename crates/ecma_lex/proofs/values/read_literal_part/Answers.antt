@@ -1,7 +1,7 @@
 use Rattle.std.proofs.Common.{◌≡◌, Some, None, rules}
 use Rattle.ecma_lex.specs.Values.{literal_part, Joins}
 use Rattle.ecma_lex.proofs.Sayings.{read_none, read_some}
-use Rattle.ecma_lex.proofs.values.read_part.Goals as goal
+use Rattle.ecma_lex.proofs.values.read_literal_part.Goals as goal
 
 pub returns-in_err-joined-clause-value : goal.returns-in_err-joined-clause-value
 returns-in_err-joined-clause-value c =
