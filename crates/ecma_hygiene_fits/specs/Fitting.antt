@@ -1,10 +1,9 @@
 -- What fits fits with other texts for its identifiers.
 use Rattle.ecma_tree.specs.declared.node.Node.{Node}
 use Rattle.ecma_rules.specs.Children.{kind_of}
-use Rattle.ecma_fits.specs.Fitting.{Fits}
+use Rattle.ecma_fits.specs.Fitting.{Fits, NoneFails}
 use Rattle.ecma_hygiene.specs.Hygienic.{IsHygienic}
 use Rattle.ecma_hygiene.specs.Renamed.{Texts, renamed}
-use Rattle.ecma_hygiene_fits.specs.Kept.{NoneFails}
 use Rattle.ecma_hygiene_fits.specs.Named.{AreUnreserved, NoThis}
 use Rattle.ecma_hygiene_fits.specs.Spelled.{AreSpelled, is_long}
 

@@ -1,21 +1,15 @@
 -- What a tree with other texts for its identifiers keeps of fitting, whatever the texts are.
-use Rattle.std.specs.Prelude.{◌≡◌, Bool, None, is_some}
+use Rattle.std.specs.Prelude.{Bool}
 use Rattle.ecma_kind.specs.declared.shapes.Sort.TheVariants as sort
 use Rattle.ecma_tree.specs.declared.node.Node.{Node}
 use Rattle.ecma_tree.specs.Sorted.{HasSort}
-use Rattle.ecma_rules.specs.Failing.{failing_here, first_failing}
-use Rattle.ecma_rules.specs.Members.{second_constructor}
-use Rattle.ecma_fits.specs.declared.unfit.Where.{Where}
+use Rattle.ecma_rules.specs.Members.{has_second_constructor}
 use Rattle.ecma_fits.specs.Branches.{is_dangling}
 use Rattle.ecma_fits.specs.Chains.{is_loose}
 use Rattle.ecma_fits.specs.Counts.{is_short}
-use Rattle.ecma_fits.specs.Fitting.{at_top, where_in}
+use Rattle.ecma_fits.specs.Fitting.{NoneFails}
 use Rattle.ecma_fits.specs.Members.{is_misread}
 use Rattle.ecma_hygiene.specs.Renamed.{Texts, renamed}
-
--- no node of a tree fails a test of it and of where it stands
-abbrev pub NoneFails : (Where → Node → Bool) → Node → Type 0
-NoneFails fails tree = first_failing Where (λ w node. failing_here (fails w node) node) where_in tree at_top ≡ None
 
 -- a module in which no node fails a test is one with other texts
 abbrev pub FinalTextsKeep : (Node → Bool) → Type 0
@@ -39,7 +33,7 @@ FinalTextsKeepMembers = FinalTextsKeep is_misread
 
 -- a class has no second constructor with a body
 abbrev pub FinalTextsKeepConstructors : Type 0
-FinalTextsKeepConstructors = FinalTextsKeep (λ node. is_some (second_constructor node))
+FinalTextsKeepConstructors = FinalTextsKeep has_second_constructor
 
 -- a node has what its production asks for
 abbrev pub FinalTextsKeepCounts : Type 0

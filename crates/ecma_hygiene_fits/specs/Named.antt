@@ -6,14 +6,13 @@ use Rattle.ecma_tree.specs.declared.node.Node.{Node}
 use Rattle.ecma_tree.specs.Sorted.{HasSort}
 use Rattle.ecma_rules.specs.Jumps.{first_stray}
 use Rattle.ecma_rules.specs.Members.{is_this_pattern}
-use Rattle.ecma_fits.specs.Fitting.{breaks_rule}
+use Rattle.ecma_fits.specs.Fitting.{breaks_rule, NoneFails}
 use Rattle.ecma_fits.specs.Roles.{is_out_of_role}
 use Rattle.ecma_fits.specs.Strays.{is_stray_target}
 use Rattle.ecma_hygiene.specs.Ids.{Id}
 use Rattle.ecma_hygiene.specs.Renamed.{Texts, renamed, text_of}
 use Rattle.ecma_hygiene.specs.Texts.{HygienicTexts, text_in}
 use Rattle.ecma_hygiene.specs.declared.naming.Named.{Named}
-use Rattle.ecma_hygiene_fits.specs.Kept.{NoneFails}
 
 -- no reserved word, and not `arguments`
 pub record IsUnreserved (text : List ℕ) : Type 0 where

@@ -8,12 +8,12 @@ use Rattle.ecma_leaves.specs.Words.{is_readable, is_spelled}
 use Rattle.ecma_rules.specs.Children.{kind_of}
 use Rattle.ecma_fits.specs.declared.unfit.Where.{Where}
 use Rattle.ecma_fits.specs.Roles.{is_tagged}
+use Rattle.ecma_fits.specs.Fitting.{NoneFails}
 use Rattle.ecma_hygiene.specs.declared.naming.Named.{Named}
 use Rattle.ecma_hygiene.specs.Hygienic.{IsHygienic}
 use Rattle.ecma_hygiene.specs.Ids.{Id}
 use Rattle.ecma_hygiene.specs.Renamed.{Texts, renamed}
 use Rattle.ecma_hygiene.specs.Texts.{HygienicTexts, text_in}
-use Rattle.ecma_hygiene_fits.specs.Kept.{NoneFails}
 
 -- a leaf is not spelled as its terminal reads it
 abbrev pub is_misspelled : Where → Node → Bool

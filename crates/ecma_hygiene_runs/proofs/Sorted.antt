@@ -16,11 +16,11 @@ use Rattle.ecma_tree.specs.Laws.{HaveShapes}
 use Rattle.ecma_tree.specs.Nodes.{node_of}
 use Rattle.ecma_tree.specs.Sorted.{HasShape, allows, child_shapes, is_absent, is_list, many, maybe, one}
 use Rattle.ecma_tree.proofs.ShapeLaws.{node_has_shape}
+use Rattle.ecma_tree.proofs.Layers.{from_leaves-roll}
 use Rattle.ecma_scope.specs.declared.role.Role.{Role}
 use Rattle.ecma_scope.specs.declared.role.Role.TheVariants as role
 use Rattle.ecma_scope.specs.Resolved.{is_name}
 use Rattle.ecma_scope.specs.Scopes.{is_there, role_by}
-use Rattle.ecma_scope.proofs.Layers.{from_leaves-roll}
 use Rattle.ecma_hygiene.specs.Renamed.{kind_is_absent, with_default}
 use Rattle.ecma_hygiene.proofs.Telling.{and-both, and-left, and-right}
 use Rattle.ecma_runs.specs.State.{Id}

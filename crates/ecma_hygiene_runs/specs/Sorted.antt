@@ -4,9 +4,9 @@ use Rattle.std.specs.List.{All}
 use Rattle.ecma_kind.specs.declared.shapes.Sort.TheVariants as sort
 use Rattle.ecma_tree.specs.declared.node.Node.{Node, out-Node}
 use Rattle.ecma_tree.specs.Sorted.{HasSort}
+use Rattle.ecma_tree.specs.Layers.{from_leaves}
 use Rattle.ecma_scope.specs.declared.role.Role.{Role}
 use Rattle.ecma_scope.specs.declared.role.Role.TheVariants as role
-use Rattle.ecma_scope.specs.Layers.{from_leaves}
 use Rattle.ecma_scope.specs.Resolved.{is_name}
 use Rattle.ecma_scope.specs.Scopes.{role_in}
 use Rattle.ecma_hygiene_runs.specs.FinalTexts.{all_named, is_named, is_outer}

@@ -4,9 +4,9 @@ use Rattle.ecma_kind.specs.Sorts.{is_type_wrapper}
 use Rattle.ecma_kind.specs.declared.kind.Kind.TheVariants as kind
 use Rattle.ecma_tree.specs.declared.node.Node.{Node, out-Node}
 use Rattle.ecma_tree.specs.Nodes.{node_of}
+use Rattle.ecma_tree.proofs.Layers.{from_leaves-roll}
 use Rattle.ecma_rules.specs.Children.{kind_of}
 use Rattle.ecma_rules.specs.Finishing.{binding}
-use Rattle.ecma_rules.proofs.Layers.{from_leaves-roll}
 use Rattle.ecma_text_leaves.specs.Everywhere.{everywhere, more, none}
 use Rattle.ecma_text_leaves.proofs.Trees.{kind_good}
 use Rattle.ecma_fits.specs.declared.role.Role.{Role}

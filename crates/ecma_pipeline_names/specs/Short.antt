@@ -7,7 +7,7 @@ use Rattle.ecma_rules.specs.Children.{kind_of}
 use Rattle.ecma_scope.specs.Resolved.{resolved}
 use Rattle.ecma_strip.specs.Stripping.{stripped}
 use Rattle.ecma_bind.specs.Binding.{with_bound_names}
-use Rattle.ecma_hygiene_fits.specs.Kept.{NoneFails}
+use Rattle.ecma_fits.specs.Fitting.{NoneFails}
 use Rattle.ecma_hygiene_fits.specs.Spelled.{is_long}
 
 -- no identifier of a tree is long

@@ -10,6 +10,7 @@ use Rattle.ecma_kind.specs.declared.shapes.Sort.TheVariants as sort
 use Rattle.ecma_tree.specs.declared.node.Node.{Node, Node-F, ind-Node, out-Node, roll-Node}
 use Rattle.ecma_tree.specs.declared.node.Node.TheViews.{out-roll-Node}
 use Rattle.ecma_tree.specs.Sorted.{HasShape, child_shapes, is_list, one}
+use Rattle.ecma_tree.specs.Values.{is_value}
 use Rattle.ecma_rules.specs.Jumps.{first_stray}
 use Rattle.ecma_fits.specs.declared.unfit.Where.{Where}
 use Rattle.ecma_fits.specs.Fitting.{Fits, at_top, first_unfit_in, where_in}
@@ -19,7 +20,6 @@ use Rattle.ecma_scope.specs.declared.role.Role.TheVariants as role
 use Rattle.ecma_scope.specs.Declarations.{holds_vars, own_part}
 use Rattle.ecma_scope.specs.Scopes.{at_child, is_ambient, is_default, is_there, of_exports, of_specifier, opens, passes_ambient, passes_in_list, role_by, role_in}
 use Rattle.ecma_strip.specs.Staying.{stays}
-use Rattle.ecma_strip.specs.Values.{is_value}
 use Rattle.ecma_hygiene.proofs.Telling.{true-false}
 use Rattle.ecma_strip_scopes.specs.Apart.{IsClearSeat}
 use Rattle.ecma_strip_scopes.specs.Staying.{staying_from, staying_seats}

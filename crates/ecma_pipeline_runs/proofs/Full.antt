@@ -10,13 +10,13 @@ use Rattle.ecma_tree.specs.declared.node.Node.{Node, out-Node}
 use Rattle.ecma_tree.specs.Laws.{HaveShapes}
 use Rattle.ecma_tree.specs.Nodes.{node_of}
 use Rattle.ecma_tree.specs.Sorted.{child_shapes, is_list, one}
+use Rattle.ecma_tree.specs.Values.{is_value, value_by}
+use Rattle.ecma_tree.proofs.Valuing.{is_value-out}
 use Rattle.ecma_fits.specs.declared.unfit.Where.{Where}
 use Rattle.ecma_fits.specs.Fitting.{Fits, at_top, where_in}
 use Rattle.ecma_strip.specs.Staying.{is_this_ident, is_this_param, item_stays, member_stays, specifier_stays, stays}
 use Rattle.ecma_strip.specs.Stripping.{plain, plain_children, plain_kind, staying_nodes, stripped}
-use Rattle.ecma_strip.specs.Values.{is_value, value_by}
 use Rattle.ecma_strip.proofs.Stripping.{stripped-out}
-use Rattle.ecma_strip.proofs.Valuing.{is_value-out}
 use Rattle.ecma_strip_runs.specs.Usual.{declares_no_body}
 use Rattle.ecma_hygiene.proofs.Telling.{and-both, and-left, and-right, true-false}
 use Rattle.ecma_strip_scopes.proofs.Declared.{not-list}

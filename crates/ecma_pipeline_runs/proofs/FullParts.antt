@@ -14,14 +14,14 @@ use Rattle.ecma_tree.specs.declared.node.Node.{Node, out-Node}
 use Rattle.ecma_tree.specs.Laws.{HaveShapes}
 use Rattle.ecma_tree.specs.Nodes.{absent, dummy_span, node_of}
 use Rattle.ecma_tree.specs.Sorted.{HasShape, allows, allows_by, child_shapes, is_absent, is_list, many, maybe, one}
+use Rattle.ecma_tree.specs.Values.{is_value, value_by}
+use Rattle.ecma_tree.proofs.Valuing.{is_value-out}
 use Rattle.ecma_runs.specs.Evaluation.{meaning}
 use Rattle.ecma_runs.specs.Meaning.{Meaning}
 use Rattle.ecma_runs.proofs.Layer.{meaning-roll}
 use Rattle.ecma_strip.specs.Staying.{is_empty_stmt, is_this, is_this_by, is_this_ident, is_this_param_by, item_stays, member_stays, member_stays_by}
 use Rattle.ecma_strip.specs.Stripping.{body_of, plain, plain_children, plain_kind, staying_nodes, stripped, without_empty, without_this}
-use Rattle.ecma_strip.specs.Values.{is_value, value_by}
 use Rattle.ecma_strip.proofs.Stripping.{stripped-out}
-use Rattle.ecma_strip.proofs.Valuing.{is_value-out}
 use Rattle.ecma_strip_runs.specs.Usual.{holds_throughout}
 use Rattle.ecma_strip_runs.proofs.Telling.{holds-roll}
 use Rattle.ecma_hygiene.proofs.Telling.{and-both, and-left, and-right, true-false}

@@ -7,10 +7,10 @@ use Rattle.ecma_kind.specs.declared.kind.Kind.TheVariants as kind
 use Rattle.ecma_kind.specs.declared.span.Span.{Span}
 use Rattle.ecma_tree.specs.declared.node.Node.{Node, Node-F, ind-Node, out-Node, roll-Node}
 use Rattle.ecma_tree.specs.declared.node.Node.TheViews.{out-roll-Node}
+use Rattle.ecma_tree.proofs.Layers.{from_leaves_out}
 use Rattle.ecma_scope.specs.declared.role.Role.{Role}
 use Rattle.ecma_scope.specs.Resolved.{context_count, is_name, taken}
 use Rattle.ecma_scope.specs.Scopes.{role_in}
-use Rattle.ecma_scope.proofs.Layers.{from_leaves_out}
 use Rattle.ecma_hygiene.specs.declared.sight.Sight.{Sight}
 use Rattle.ecma_hygiene.specs.Ids.{Id, declares, same_id}
 use Rattle.ecma_hygiene.specs.Laws.{is_seen}

@@ -7,7 +7,7 @@ use Rattle.ecma_tree.specs.declared.node.Node.{Node, Node-F, ind-Node, out-Node,
 use Rattle.ecma_tree.specs.declared.node.Node.TheViews.{out-roll-Node, roll-out-Node}
 use Rattle.ecma_tree.specs.Laws.{HaveShapes}
 use Rattle.ecma_tree.specs.Sorted.{HasShape, has_shape, is_list}
-use Rattle.ecma_scope.proofs.Layers.{from_leaves_out}
+use Rattle.ecma_tree.proofs.Layers.{from_leaves_out}
 use Rattle.ecma_strip.specs.Staying.{stays}
 use Rattle.ecma_hygiene.proofs.Telling.{and-both, and-left, and-right, true-false}
 use Rattle.ecma_strip_runs.specs.Usual.{holds_throughout}

@@ -6,9 +6,9 @@ use Rattle.ecma_kind.specs.declared.kind.Kind.TheVariants as kind
 use Rattle.ecma_kind.specs.declared.shapes.Sort.TheVariants as sort
 use Rattle.ecma_tree.specs.declared.node.Node.{Node}
 use Rattle.ecma_tree.specs.Sorted.{HasSort}
+use Rattle.ecma_tree.specs.Layers.{from_leaves}
 use Rattle.ecma_rules.specs.declared.target.Target.TheVariants as target
 use Rattle.ecma_rules.specs.Children.{child_is, kind_of}
-use Rattle.ecma_rules.specs.Layers.{from_leaves}
 use Rattle.ecma_rules.specs.Targets.{is_wrapper}
 use Rattle.ecma_print.specs.Layout.{layout}
 use Rattle.ecma_print_parentheses.specs.Lacking.{lacks_none}

@@ -11,6 +11,7 @@ use Rattle.ecma_tree.specs.declared.node.Node.TheViews.{out-roll-Node}
 use Rattle.ecma_tree.specs.Laws.{HaveShapes}
 use Rattle.ecma_tree.specs.Nodes.{dummy_span, node_of}
 use Rattle.ecma_tree.specs.Sorted.{HasShape, child_shapes}
+use Rattle.ecma_tree.proofs.Layers.{from_leaves-roll}
 use Rattle.ecma_rules.specs.declared.standing.Standing.{Standing}
 use Rattle.ecma_rules.specs.declared.standing.Standing.TheVariants as standing
 use Rattle.ecma_rules.specs.declared.target.Target.{Target}
@@ -20,7 +21,6 @@ use Rattle.ecma_rules.specs.Failing.{failing_here, failing_step, first_failing, 
 use Rattle.ecma_rules.specs.Lists.{last_by}
 use Rattle.ecma_rules.specs.Surroundings.{standing_by}
 use Rattle.ecma_rules.specs.Targets.{in_list as target_in_list, in_literal, in_short_default, in_spread, in_value, is_plain_target, is_wrapper, on_left, target_in}
-use Rattle.ecma_rules.proofs.Layers.{from_leaves-roll}
 use Rattle.ecma_print.specs.declared.place.Spot.{Spot}
 use Rattle.ecma_print_parentheses.specs.Explicit.{parenthesized}
 use Rattle.ecma_print_parentheses.proofs.Asking.{AllFit, Fits}

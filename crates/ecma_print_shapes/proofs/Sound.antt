@@ -9,6 +9,7 @@ use Rattle.ecma_tree.specs.Laws.{HaveShapes}
 use Rattle.ecma_tree.specs.Nodes.{node_of}
 use Rattle.ecma_tree.specs.Sorted.{HasShape, allows, child_shapes, is_absent}
 use Rattle.ecma_tree.proofs.ShapeLaws.{node_has_shape}
+use Rattle.ecma_tree.proofs.Layers.{from_leaves-roll}
 use Rattle.ecma_rules.specs.Children.{kind_of}
 use Rattle.ecma_rules.specs.Failing.{failing_here, failing_step, least_from}
 use Rattle.ecma_rules.specs.Lists.{is_early_rest, is_wrong_head}
@@ -16,7 +17,6 @@ use Rattle.ecma_rules.specs.Members.{is_misfit, is_special_constructor, is_stray
 use Rattle.ecma_rules.specs.Rules.{fails_list, fails_member, fails_statement}
 use Rattle.ecma_rules.specs.Targets.{target_in}
 use Rattle.ecma_rules.specs.declared.target.Target.{Target}
-use Rattle.ecma_rules.proofs.Layers.{from_leaves-roll}
 use Rattle.ecma_text_leaves.specs.Everywhere.{Each, Everywhere, everywhere, more}
 use Rattle.ecma_leaves.specs.Words.{is_spelled}
 use Rattle.ecma_fits.specs.declared.role.Role.{Role}

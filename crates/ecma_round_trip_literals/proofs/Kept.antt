@@ -12,6 +12,7 @@ use Rattle.ecma_tree.specs.Laws.{KeepsShapes}
 use Rattle.ecma_tree.specs.Nodes.{node_of}
 use Rattle.ecma_tree.specs.Sorted.{HasSort, allows, allows_by, child_shapes, one}
 use Rattle.ecma_tree.proofs.ShapeLaws.{changes_keep_shapes}
+use Rattle.ecma_tree.proofs.Layers.{from_leaves_out}
 use Rattle.ecma_text_leaves.specs.Everywhere.{Each, Everywhere, everywhere, more, none}
 use Rattle.ecma_text_leaves.proofs.Trees.{children_made, kind_made}
 use Rattle.ecma_leaves.specs.Words.{is_spelled}
@@ -20,7 +21,6 @@ use Rattle.ecma_rules.specs.Failing.{failing_here, failing_step, least, least_fr
 use Rattle.ecma_rules.specs.Members.{second_constructor}
 use Rattle.ecma_rules.specs.Jumps.{first_stray}
 use Rattle.ecma_rules.specs.Jumps.{Held, held_in, not_held as no_jump_held, stray_here}
-use Rattle.ecma_rules.proofs.Layers.{from_leaves_out}
 use Rattle.ecma_fits.specs.declared.role.Role.{Role}
 use Rattle.ecma_fits.specs.declared.role.Role.TheVariants as role
 use Rattle.ecma_fits.specs.declared.strays.Arguments.{Arguments}

@@ -2,6 +2,7 @@
 use Rattle.std.specs.Prelude.{◌≡◌, ℕ, suc, Bool, true, false, ◌&&◌, ◌||◌, not, List, [], ◌∷◌, ◌++◌, filter, Option, None, Result, Ok, Err, bytes_eq, cond}
 use Rattle.std.specs.List.{list_any}
 use Rattle.ecma_tree.specs.declared.node.Node.{Node, out-Node}
+use Rattle.ecma_tree.specs.Layers.{from_leaves}
 use Rattle.ecma_scope.specs.declared.role.Role.{Role}
 use Rattle.ecma_scope.specs.declared.role.Role.TheVariants as role
 use Rattle.ecma_scope.specs.declared.form.Form.{Form}
@@ -12,7 +13,6 @@ use Rattle.ecma_scope.specs.declared.error.ScopeError.{ScopeError}
 use Rattle.ecma_scope.specs.declared.error.ScopeError.TheVariants.{Redeclared, NoMemory}
 use Rattle.ecma_scope.specs.declared.index.Index.{Index}
 use Rattle.ecma_scope.specs.Indexed.{states_of}
-use Rattle.ecma_scope.specs.Layers.{from_leaves}
 use Rattle.ecma_scope.specs.Scopes.{covers, is_ambient, is_root, opens, role_in}
 use Rattle.ecma_scope.specs.Declarations.{declarations, declares, holds_vars, is_body, is_stated, names, stated}
 

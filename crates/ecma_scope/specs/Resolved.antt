@@ -4,9 +4,9 @@ use Rattle.ecma_kind.specs.declared.kind.Kind.{Kind}
 use Rattle.ecma_kind.specs.declared.kind.Kind.TheVariants as kind
 use Rattle.ecma_tree.specs.declared.node.Node.{Node, out-Node}
 use Rattle.ecma_tree.specs.Nodes.{node_of}
+use Rattle.ecma_tree.specs.Layers.{from_leaves}
 use Rattle.ecma_scope.specs.declared.role.Role.{Role}
 use Rattle.ecma_scope.specs.declared.role.Role.TheVariants as role
-use Rattle.ecma_scope.specs.Layers.{from_leaves}
 use Rattle.ecma_scope.specs.Scopes.{covers, is_root, opens, role_in}
 use Rattle.ecma_scope.specs.Declarations.{names, stated}
 

@@ -3,9 +3,9 @@ use Rattle.std.specs.Prelude.{ℕ, suc, Bool, ◌||◌, ◌==◌, not, List, [],
 use Rattle.ecma_kind.specs.declared.kind.Kind.{Kind}
 use Rattle.ecma_kind.specs.declared.kind.Kind.TheVariants as kind
 use Rattle.ecma_tree.specs.declared.node.Node.{Node, out-Node}
+use Rattle.ecma_tree.specs.Layers.{from_leaves}
 use Rattle.ecma_scope.specs.declared.uses.Use.{Use}
 use Rattle.ecma_scope.specs.declared.uses.Use.TheVariants as stands
-use Rattle.ecma_scope.specs.Layers.{from_leaves}
 use Rattle.ecma_scope.specs.Scopes.{is_there}
 
 -- the child that is meant stands so, and the others otherwise

@@ -6,6 +6,7 @@ use Rattle.ecma_kind.specs.declared.kind.Kind.TheVariants as kind
 use Rattle.ecma_kind.specs.declared.span.Span.{Span}
 use Rattle.ecma_tree.specs.declared.node.Node.{Node, out-Node}
 use Rattle.ecma_tree.specs.Nodes.{dummy_span, node_of}
+use Rattle.ecma_tree.proofs.Layers.{from_leaves-roll}
 use Rattle.ecma_print.specs.declared.place.Spot.{Spot}
 use Rattle.ecma_print.specs.Layout.{laid}
 use Rattle.ecma_print.specs.Levels.{in_parentheses}
@@ -21,7 +22,6 @@ use Rattle.ecma_scope.specs.declared.form.Part.TheVariants as part
 use Rattle.ecma_scope.specs.Conflicts.{Surrounding, clash_step, clashes_in, clashing, nothing, own_clashes, passing, redeclared_at, surrounds}
 use Rattle.ecma_scope.specs.Declarations.{holds_vars, names, stated}
 use Rattle.ecma_scope.specs.Scopes.{covers, is_ambient, is_there, opens}
-use Rattle.ecma_scope.proofs.Layers.{from_leaves-roll}
 use Rattle.ecma_scope_congruence.specs.Conflicts.{ParenthesesDoNotMatterToConflicts}
 use Rattle.ecma_scope_congruence.specs.Parentheses.{AllHaveBodies, HasBodies, more, none, with_bodies}
 use Rattle.ecma_scope_congruence.proofs.ExplicitCounts.{opens_of_node, opens_spotted, role_of_node, role_spotted, unseen_children}

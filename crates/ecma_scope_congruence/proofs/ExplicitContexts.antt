@@ -7,6 +7,7 @@ use Rattle.ecma_kind.specs.declared.span.Span.{Span}
 use Rattle.ecma_tree.specs.declared.node.Node.{Node, Node-F, out-Node}
 use Rattle.ecma_tree.specs.declared.node.Node.TheViews.{out-roll-Node, roll-out-Node}
 use Rattle.ecma_tree.specs.Nodes.{dummy_span, node_of}
+use Rattle.ecma_tree.proofs.Layers.{from_leaves-roll}
 use Rattle.ecma_print.specs.declared.place.Spot.{Spot}
 use Rattle.ecma_print.specs.Expressions.{object_beside}
 use Rattle.ecma_print.specs.Laid.{is_computed, is_object_pattern}
@@ -24,7 +25,6 @@ use Rattle.ecma_scope.specs.declared.role.Role.TheVariants as role
 use Rattle.ecma_scope.specs.Declarations.{stated}
 use Rattle.ecma_scope.specs.Resolved.{Place, context_count, innermost, inside, kind_at, nowhere, placed, resolve_step, resolved_at, scope_at, taken}
 use Rattle.ecma_scope.specs.Scopes.{covers, is_root, is_there}
-use Rattle.ecma_scope.proofs.Layers.{from_leaves-roll}
 use Rattle.ecma_scope_congruence.specs.Parentheses.{AllHaveBodies, HasBodies, ParenthesesDoNotMatterToContexts, more, none, with_bodies}
 use Rattle.ecma_scope_congruence.proofs.ExplicitNames.{behind, kind_of_node, names_kept, standing}
 use Rattle.ecma_scope_congruence.proofs.ExplicitCounts.{count_kept, opens_of_node, opens_spotted, role_of_node, role_spotted, taken_of_node, taken_spotted, unseen_children}

@@ -5,8 +5,8 @@ use Rattle.ecma_kind.specs.declared.kind.Kind.{Kind}
 use Rattle.ecma_kind.specs.declared.kind.Kind.TheVariants as kind
 use Rattle.ecma_tree.specs.declared.node.Node.{Node}
 use Rattle.ecma_tree.specs.Nodes.{node_of}
+use Rattle.ecma_tree.specs.Values.{is_value}
 use Rattle.ecma_print_parentheses.specs.Explicit.{explicit}
-use Rattle.ecma_scope.specs.Declarations.{is_value}
 use Rattle.ecma_scope.specs.Resolved.{contexts, resolved}
 
 abbrev pub is_function_expression : Kind → Bool

@@ -2,21 +2,21 @@
 use Rattle.std.proofs.Common.{◌≡◌, ◌∙◌, ℕ, zero, suc, Bool, false, not, ◌||◌, List, [], ◌∷◌, map, Option, Some, None, is_some, refl, sym, ap, ap₂, subst, slice_get}
 use Rattle.ecma_tree.specs.declared.node.Node.{Node, Node-F, ind-Node, roll-Node}
 use Rattle.ecma_tree.specs.declared.node.Node.TheViews.{out-roll-Node}
+use Rattle.ecma_tree.proofs.Layers.{from_leaves_out}
 use Rattle.ecma_leaves.specs.Words.{is_spelled}
 use Rattle.ecma_rules.specs.Children.{kind_of}
 use Rattle.ecma_rules.specs.Failing.{failing_here, failing_step, first_failing, least, least_from}
 use Rattle.ecma_rules.specs.Members.{second_constructor}
-use Rattle.ecma_rules.proofs.Layers.{from_leaves_out}
 use Rattle.ecma_strip.specs.Stripping.{stripped}
 use Rattle.ecma_fits.specs.declared.unfit.Where.{Where}
 use Rattle.ecma_fits.specs.Branches.{is_dangling}
 use Rattle.ecma_fits.specs.Chains.{is_loose}
 use Rattle.ecma_fits.specs.Counts.{is_short}
-use Rattle.ecma_fits.specs.Fitting.{at_top, breaks_rule, first_unfit_in, is_misplaced, is_misshapen, is_unfit, unfit_here, where_in}
+use Rattle.ecma_fits.specs.Fitting.{at_top, breaks_rule, first_unfit_in, is_misplaced, is_misshapen, is_unfit, unfit_here, where_in, NoneFails}
 use Rattle.ecma_fits.specs.Members.{is_misread}
 use Rattle.ecma_fits.specs.Roles.{is_out_of_role, is_tagged}
 use Rattle.ecma_fits.specs.Strays.{is_stray_target}
-use Rattle.ecma_strip_fits.specs.Kept.{NoneFails, StrippingKeepsFits}
+use Rattle.ecma_strip_fits.specs.Kept.{StrippingKeepsFits}
 use Rattle.ecma_strip_fits.proofs.Branches.{branches_kept}
 use Rattle.ecma_strip_fits.proofs.Chains.{chains_kept}
 use Rattle.ecma_strip_fits.proofs.Constructors.{constructors_kept}

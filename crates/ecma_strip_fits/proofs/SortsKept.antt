@@ -14,10 +14,10 @@ use Rattle.ecma_tree.specs.declared.node.Node.{Node, Node-F, fold_out-Node, ind-
 use Rattle.ecma_tree.specs.declared.node.Node.TheViews.{out-roll-Node}
 use Rattle.ecma_tree.specs.Laws.{HaveShapes}
 use Rattle.ecma_tree.specs.Sorted.{HasShape, all_have_shapes, allows, allows_by, child_shapes, is_absent, item_shape, one}
+use Rattle.ecma_tree.proofs.Layers.{from_leaves_out}
 use Rattle.ecma_rules.specs.Children.{kind_of}
 use Rattle.ecma_rules.specs.Failing.{failing_step, least_from}
 use Rattle.ecma_rules.specs.Targets.{first_is, is_plain, is_plain_target, is_simple_target, is_wrapper}
-use Rattle.ecma_rules.proofs.Layers.{from_leaves_out}
 use Rattle.ecma_strip.specs.Laws.{HasSortUnderTypes, first_has, has_shape_under_types, shape_under_types_by}
 use Rattle.ecma_strip.proofs.Sorting.{sorts_are_kept}
 use Rattle.ecma_fits.specs.declared.role.Role.{Role}

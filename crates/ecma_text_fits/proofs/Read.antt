@@ -12,6 +12,7 @@ use Rattle.ecma_tree.specs.declared.node.Node.TheViews.{roll-out-Node}
 use Rattle.ecma_tree.specs.Laws.{HaveShapes}
 use Rattle.ecma_tree.specs.Sorted.{HasShape, HasSort, child_shapes, one}
 use Rattle.ecma_tree.proofs.ShapeLaws.{node_has_shape}
+use Rattle.ecma_tree.proofs.Layers.{from_leaves-roll}
 use Rattle.ecma_grammar.specs.declared.production.Mode.{Mode}
 use Rattle.ecma_grammar.specs.Modules as grammar
 use Rattle.ecma_grammar.specs.Modules.{reads_module}
@@ -23,16 +24,15 @@ use Rattle.ecma_rules.specs.declared.target.Target.TheVariants as target
 use Rattle.ecma_rules.specs.Children.{kind_of}
 use Rattle.ecma_rules.specs.Failing.{failing_here, failing_step, first_failing, least_from}
 use Rattle.ecma_rules.specs.Finishing.{finished}
-use Rattle.ecma_rules.proofs.Layers.{from_leaves-roll}
 use Rattle.ecma_text_leaves.specs.Everywhere.{Each, Everywhere, more, none}
 use Rattle.ecma_text_leaves.proofs.Forms.{is_leaf}
 use Rattle.ecma_text_leaves.proofs.Trees.{children_good, good_absent, good_framed, kind_good}
 use Rattle.ecma_text_sorts.specs.Sorts.{ReadModulesAreSorted}
 use Rattle.ecma_leaves.specs.Words.{is_spelled, is_text_part}
 use Rattle.ecma_fits.specs.declared.unfit.Where.{Where}
-use Rattle.ecma_fits.specs.Fitting.{at_top, where_in}
+use Rattle.ecma_fits.specs.Fitting.{at_top, where_in, NoneFails}
 use Rattle.ecma_fits.specs.Roles.{is_tagged}
-use Rattle.ecma_text_fits.specs.Clauses.{NoneFails, is_misspelled}
+use Rattle.ecma_text_fits.specs.Clauses.{is_misspelled}
 use Rattle.ecma_text_fits.specs.RawRoles.{is_unvalued}
 use Rattle.ecma_text_fits.specs.Read.{KeepsRules, ReadLeavesAreSpelled, ReadTreesKeepRules}
 use Rattle.ecma_text_fits.specs.ReadRoles.{RawModulesHaveTheirRoles}

@@ -7,6 +7,7 @@ use Rattle.ecma_kind.specs.declared.kind.Kind.TheVariants as kind
 use Rattle.ecma_kind.specs.declared.operators.MethodKind.{MethodKind}
 use Rattle.ecma_tree.specs.declared.node.Node.{Node, Node-F, ind-Node, roll-Node}
 use Rattle.ecma_tree.specs.Sorted.{is_absent, is_list}
+use Rattle.ecma_tree.proofs.Layers.{from_leaves-roll}
 use Rattle.ecma_grammar.specs.declared.production.Mode.{Mode}
 use Rattle.ecma_grammar.specs.trees.Classes.{is_plain_function}
 use Rattle.ecma_grammar.specs.trees.Parts.{children_of, kind_of}
@@ -15,16 +16,14 @@ use Rattle.ecma_rules.specs.Children.{child_holds, has_child, holds_of, is_prese
 use Rattle.ecma_rules.specs.Failing.{failing_here, failing_step, first_failing, least_from}
 use Rattle.ecma_rules.specs.Members.{is_constructor_key, is_method, is_misfit, is_special_by, is_special_constructor, is_special_function, is_stray_property, misplaces_this}
 use Rattle.ecma_rules.specs.Rules.{fails_list, fails_member, fails_statement}
-use Rattle.ecma_rules.proofs.Layers.{from_leaves-roll}
 use Rattle.ecma_modules.specs.Modules.{reads_as}
 use Rattle.ecma_fits.specs.declared.unfit.Where.{Where}
 use Rattle.ecma_fits.specs.Branches.{is_choice as is_choice_kind, is_dangling, takes_else}
 use Rattle.ecma_fits.specs.Chains.{is_behind_chain, is_loose, is_loose_by}
 use Rattle.ecma_fits.specs.Counts.{are_exports, are_imports, holds_attributes, is_attribute, is_full_by, is_short, is_whole_template}
-use Rattle.ecma_fits.specs.Fitting.{at_top, breaks_rule, where_in}
+use Rattle.ecma_fits.specs.Fitting.{at_top, breaks_rule, where_in, NoneFails}
 use Rattle.ecma_fits.specs.Members.{is_misread, is_misread_by}
 use Rattle.ecma_text_leaves.proofs.Trees.{children_made}
-use Rattle.ecma_text_fits.specs.Clauses.{NoneFails}
 use Rattle.ecma_text_fits.specs.Read.{KeepsRules, ReadTreesKeepRules}
 use Rattle.ecma_text_fits.specs.Shapes.{ReadBranchesTakeTheirElse, ReadLinksAreNotLoose, ReadMembersAreNotMisread, ReadNodesAreFull}
 use Rattle.ecma_text_fits.proofs.RawSound.{raw_sound}

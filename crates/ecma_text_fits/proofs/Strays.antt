@@ -13,6 +13,7 @@ use Rattle.ecma_tree.specs.Laws.{HaveShapes}
 use Rattle.ecma_tree.specs.Nodes.{absent, dummy_span, node_of}
 use Rattle.ecma_tree.specs.Sorted.{HasShape, child_shapes, one}
 use Rattle.ecma_tree.proofs.ShapeLaws.{node_has_shape}
+use Rattle.ecma_tree.proofs.Layers.{from_leaves-roll}
 use Rattle.ecma_rules.specs.declared.target.Target.{Target}
 use Rattle.ecma_rules.specs.declared.target.Target.TheVariants as target
 use Rattle.ecma_rules.specs.Failing.{failing_here, failing_step, least, least_from}
@@ -22,7 +23,6 @@ use Rattle.ecma_rules.specs.Rules.{first_misplaced}
 use Rattle.ecma_rules.specs.Strays.{in_named, is_stray, strays_in}
 use Rattle.ecma_rules.specs.Surroundings.{at_root}
 use Rattle.ecma_rules.specs.Targets.{target_in}
-use Rattle.ecma_rules.proofs.Layers.{from_leaves-roll}
 use Rattle.ecma_text_fits.specs.Finished.{FinishedTreesHaveNoStrays}
 use Rattle.ecma_text_fits.proofs.Walks.{both_none, free_kind, have_front, neither_least, not_failing, not_true, one_more, shifted}
 

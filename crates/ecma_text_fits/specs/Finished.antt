@@ -6,8 +6,8 @@ use Rattle.ecma_tree.specs.Sorted.{HasSort}
 use Rattle.ecma_rules.specs.Rules.{first_broken}
 use Rattle.ecma_rules.specs.Finishing.{finished}
 use Rattle.ecma_rules.specs.Jumps.{first_stray}
-use Rattle.ecma_fits.specs.Fitting.{breaks_rule}
-use Rattle.ecma_text_fits.specs.Clauses.{NoneFails, has_second_constructor}
+use Rattle.ecma_rules.specs.Members.{has_second_constructor}
+use Rattle.ecma_fits.specs.Fitting.{breaks_rule, NoneFails}
 
 -- where it is sorted, it holds no strays
 abbrev pub FinishedTreesHaveNoStrays : Type 0

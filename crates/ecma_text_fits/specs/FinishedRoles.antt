@@ -8,7 +8,7 @@ use Rattle.ecma_rules.specs.Finishing.{finished}
 use Rattle.ecma_fits.specs.declared.role.Role.TheVariants as role
 use Rattle.ecma_fits.specs.Roles.{is_out_of_role}
 use Rattle.ecma_fits.specs.Strays.{is_stray_target}
-use Rattle.ecma_text_fits.specs.Clauses.{NoneFails}
+use Rattle.ecma_fits.specs.Fitting.{NoneFails}
 use Rattle.ecma_text_fits.specs.RawRoles.{HasRawRole}
 
 -- where each node of a raw module is what it has to be where it is declared, each node of the finished one is what it has to be where it stands

@@ -4,9 +4,10 @@ use Rattle.std.specs.Str.{IsUtf8}
 use Rattle.ecma_tree.specs.declared.node.Node.{Node}
 use Rattle.ecma_grammar.specs.declared.production.Mode.{Mode}
 use Rattle.ecma_rules.specs.Jumps.{first_stray}
+use Rattle.ecma_rules.specs.Members.{has_second_constructor}
 use Rattle.ecma_modules.specs.Modules.{reads_as}
-use Rattle.ecma_fits.specs.Fitting.{breaks_rule}
-use Rattle.ecma_text_fits.specs.Clauses.{NoneFails, has_second_constructor, is_misspelled}
+use Rattle.ecma_fits.specs.Fitting.{breaks_rule, NoneFails}
+use Rattle.ecma_text_fits.specs.Clauses.{is_misspelled}
 
 -- each leaf is spelled as its terminal reads it, and says what that says, in a text that can be read at all
 abbrev pub ReadLeavesAreSpelled : Type 0

@@ -7,7 +7,7 @@ use Rattle.ecma_modules.specs.Modules.{reads_as}
 use Rattle.ecma_fits.specs.declared.role.Role.TheVariants as role
 use Rattle.ecma_fits.specs.Roles.{is_out_of_role}
 use Rattle.ecma_fits.specs.Strays.{is_stray_target}
-use Rattle.ecma_text_fits.specs.Clauses.{NoneFails}
+use Rattle.ecma_fits.specs.Fitting.{NoneFails}
 use Rattle.ecma_text_fits.specs.RawRoles.{HasRawRole}
 
 -- each node of a raw module that the grammar gives is what it has to be where it is declared

@@ -7,7 +7,7 @@ use Rattle.ecma_fits.specs.Branches.{is_dangling}
 use Rattle.ecma_fits.specs.Chains.{is_loose}
 use Rattle.ecma_fits.specs.Counts.{is_short}
 use Rattle.ecma_fits.specs.Members.{is_misread}
-use Rattle.ecma_text_fits.specs.Clauses.{NoneFails}
+use Rattle.ecma_fits.specs.Fitting.{NoneFails}
 
 -- each has the parts that its production asks for
 abbrev pub ReadNodesAreFull : Type 0

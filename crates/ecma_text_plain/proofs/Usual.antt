@@ -3,7 +3,7 @@ use Rattle.std.proofs.Common.{◌≡◌, ◌∙◌, false, ◌||◌, Bool, List,
 use Rattle.std.specs.List.{list_any}
 use Rattle.ecma_tree.specs.declared.node.Node.{Node, Node-F, fold_out-Node, ind-Node, out-Node, roll-Node}
 use Rattle.ecma_tree.specs.declared.node.Node.TheViews.{out-roll-Node}
-use Rattle.ecma_rules.proofs.Layers.{from_leaves_out}
+use Rattle.ecma_tree.proofs.Layers.{from_leaves_out}
 use Rattle.ecma_print_shapes.specs.Functions.{Functions, any_unusual, functions, functions_step}
 use Rattle.ecma_text_fits.proofs.Walks.{neither}
 use Rattle.ecma_text_plain.specs.Functions.{FunctionsAreUsualByTests, children_told, has_this_parameter, holds_somewhere, is_bodiless}

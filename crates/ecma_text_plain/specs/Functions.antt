@@ -3,8 +3,8 @@ use Rattle.std.specs.Prelude.{◌≡◌, ◌||◌, ℕ, Bool, false, List, map, 
 use Rattle.std.specs.List.{list_any}
 use Rattle.std.specs.Str.{IsUtf8}
 use Rattle.ecma_tree.specs.declared.node.Node.{Node, out-Node}
+use Rattle.ecma_tree.specs.Layers.{from_leaves}
 use Rattle.ecma_rules.specs.Children.{kind_of}
-use Rattle.ecma_rules.specs.Layers.{from_leaves}
 use Rattle.ecma_modules.specs.Modules.{plain, reads_as}
 use Rattle.ecma_print_shapes.specs.Functions.{Functions, body_of, functions, lacks_body, takes_this}
 
