@@ -8,7 +8,6 @@ use Rattle.ecma_tree.specs.Nodes.{node_of}
 use Rattle.ecma_leaves.specs.Words.{is_spelled}
 use Rattle.ecma_rules.specs.Children.{kind_of}
 use Rattle.ecma_rules.specs.Failing.{failing_here, failing_step, first_failing, least, least_from}
-use Rattle.ecma_rules.proofs.Layers.{from_leaves_out}
 use Rattle.ecma_fits.specs.declared.role.Role.{Role}
 use Rattle.ecma_fits.specs.declared.role.Role.TheVariants as role
 use Rattle.ecma_fits.specs.declared.unfit.Where.{Where}
@@ -27,6 +26,7 @@ use Rattle.ecma_hygiene_fits.proofs.Becoming.{all_become, become, become-out, ch
 use Rattle.ecma_hygiene_fits.proofs.Everywhere.{Each, children_of, everywhere}
 use Rattle.ecma_hygiene_fits.proofs.SpelledRoles.{Alike, alike_same, alike_then, default_alike, value_alike}
 use Rattle.ecma_hygiene_fits.proofs.Walk.{neither_least, not_failing}
+use Rattle.ecma_tree.proofs.Layers.{from_leaves_out}
 
 pub not_false : (b : Bool) → not b ≡ false → b ≡ true
 not_false true h = refl

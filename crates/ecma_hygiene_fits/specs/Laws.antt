@@ -8,7 +8,7 @@ use Rattle.ecma_rules.specs.Members.{second_constructor}
 use Rattle.ecma_fits.specs.Branches.{is_dangling}
 use Rattle.ecma_fits.specs.Chains.{is_loose}
 use Rattle.ecma_fits.specs.Counts.{is_short}
-use Rattle.ecma_fits.specs.Fitting.{breaks_rule, Fits}
+use Rattle.ecma_fits.specs.Fitting.{breaks_rule, Fits, NoneFails}
 use Rattle.ecma_fits.specs.Members.{is_misread}
 use Rattle.ecma_hygiene.specs.Renamed.{Texts, renamed}
 use Rattle.ecma_rules.specs.Jumps.{first_stray}
@@ -18,7 +18,7 @@ use Rattle.ecma_hygiene.specs.Texts.{HygienicTexts, text_in}
 use Rattle.ecma_hygiene.specs.declared.naming.Named.{Named}
 use Rattle.ecma_rules.specs.Children.{kind_of}
 use Rattle.ecma_hygiene.specs.Hygienic.{IsHygienic}
-use Rattle.ecma_hygiene_fits.specs.Kept.{NoneFails, FinalTextsKeep}
+use Rattle.ecma_hygiene_fits.specs.Kept.{FinalTextsKeep}
 use Rattle.ecma_hygiene_fits.specs.Unreserved.{AreUnreserved, NoThis}
 use Rattle.ecma_hygiene_fits.specs.Spelled.{AreSpelled, is_long, is_misspelled, are_readable}
 

@@ -11,7 +11,7 @@ use Rattle.ecma_fits.specs.Roles.{is_tagged}
 use Rattle.ecma_hygiene.specs.declared.naming.Named.{Named}
 use Rattle.ecma_hygiene.specs.Ids.{Id}
 use Rattle.ecma_hygiene.specs.Renamed.{Texts}
-use Rattle.ecma_hygiene_fits.specs.Kept.{NoneFails}
+use Rattle.ecma_fits.specs.Fitting.{NoneFails}
 
 -- a leaf is not spelled as its terminal reads it
 abbrev pub is_misspelled : Where → Node → Bool

@@ -5,7 +5,7 @@ use Rattle.ecma_tree.specs.declared.node.Node.{Node}
 use Rattle.ecma_rules.specs.Members.{is_this_pattern}
 use Rattle.ecma_hygiene.specs.Ids.{Id}
 use Rattle.ecma_hygiene.specs.Renamed.{Texts, text_of}
-use Rattle.ecma_hygiene_fits.specs.Kept.{NoneFails}
+use Rattle.ecma_fits.specs.Fitting.{NoneFails}
 
 -- no reserved word, and not `arguments`
 pub record IsUnreserved (text : List ℕ) : Type 0 where

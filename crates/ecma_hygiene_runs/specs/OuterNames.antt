@@ -4,12 +4,12 @@ use Rattle.std.specs.List.{All}
 use Rattle.ecma_tree.specs.declared.node.Node.{Node, out-Node}
 use Rattle.ecma_scope.specs.declared.role.Role.{Role}
 use Rattle.ecma_scope.specs.declared.role.Role.TheVariants as role
-use Rattle.ecma_scope.specs.Layers.{from_leaves}
 use Rattle.ecma_scope.specs.Resolved.{is_name}
 use Rattle.ecma_scope.specs.Scopes.{role_in}
 use Rattle.ecma_hygiene_runs.specs.FinalTexts.{all_named, is_named, is_outer}
 use Rattle.ecma_hygiene_runs.specs.KeyNames.{key_names_in}
 use Rattle.ecma_hygiene_runs.specs.WrittenOut.{written_out}
+use Rattle.ecma_tree.specs.Layers.{from_leaves}
 
 abbrev pub outer_step : Node → List (Role → Bool) → Role → Bool
 outer_step node children r = is_outer (is_name r) (out-Node node).kind && all_named (role_in r node) 0 children

@@ -4,10 +4,10 @@ use Rattle.std.specs.List.{list_all}
 use Rattle.ecma_kind.specs.declared.kind.Kind.{Kind}
 use Rattle.ecma_kind.specs.declared.kind.Kind.TheVariants as kind
 use Rattle.ecma_tree.specs.declared.node.Node.{Node, out-Node}
-use Rattle.ecma_scope.specs.Layers.{from_leaves}
 use Rattle.ecma_hygiene.specs.Renamed.{kind_is_absent}
 use Rattle.ecma_runs.specs.Declarations.{has_no_effect}
 use Rattle.ecma_runs.specs.Evaluation.{meaning}
+use Rattle.ecma_tree.specs.Layers.{from_leaves}
 
 -- what is neither a type, nor has one, nor declares other names than JavaScript does
 abbrev pub is_plain_kind : Kind → Bool

@@ -7,6 +7,7 @@ use Rattle.ecma_scope.specs.Resolved.{resolved}
 use Rattle.ecma_strip.specs.Stripping.{stripped}
 use Rattle.ecma_bind.specs.Binding.{with_bound_names}
 use Rattle.ecma_hygiene_fits.specs.Spelled.{NoneLong}
+use Rattle.ecma_fits.specs.Fitting.{NoneFails}
 
 -- an identifier is a piece of the text
 abbrev pub NamesThatAreReadAreShort : Type 0

@@ -5,8 +5,8 @@ use Rattle.ecma_kind.specs.declared.kind.Kind.{Kind}
 use Rattle.ecma_kind.specs.declared.kind.Kind.TheVariants as kind
 use Rattle.ecma_tree.specs.declared.node.Node.{Node}
 use Rattle.ecma_rules.specs.Children.{child_is, kind_of}
-use Rattle.ecma_rules.specs.Layers.{from_leaves}
 use Rattle.ecma_rules.specs.Targets.{is_wrapper}
+use Rattle.ecma_tree.specs.Layers.{from_leaves}
 
 -- what may be given a default: a name that is bound, a pattern, or a simple target; what is missing or a rest element is in no text that is read
 abbrev pub takes_default : Kind → Bool

@@ -6,9 +6,9 @@ use Rattle.ecma_tree.specs.declared.node.Node.{Node, out-Node}
 use Rattle.ecma_tree.specs.Nodes.{node_of}
 use Rattle.ecma_scope.specs.declared.role.Role.{Role}
 use Rattle.ecma_scope.specs.declared.role.Role.TheVariants as role
-use Rattle.ecma_scope.specs.Layers.{from_leaves}
 use Rattle.ecma_scope.specs.Scopes.{covers, is_root, opens, role_in}
 use Rattle.ecma_scope.specs.Declarations.{names, stated}
+use Rattle.ecma_tree.specs.Layers.{from_leaves}
 
 -- a scope that is in force: its context, and what it states of a text
 pub record Scope : Type 0 where

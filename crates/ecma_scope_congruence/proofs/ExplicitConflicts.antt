@@ -21,7 +21,6 @@ use Rattle.ecma_scope.specs.declared.form.Part.TheVariants as part
 use Rattle.ecma_scope.specs.Conflicts.{Surrounding, clash_step, clashes_in, clashing, nothing, own_clashes, passing, redeclared_at, surrounds}
 use Rattle.ecma_scope.specs.Declarations.{holds_vars, names, stated}
 use Rattle.ecma_scope.specs.Scopes.{covers, is_ambient, is_there, opens}
-use Rattle.ecma_scope.proofs.Layers.{from_leaves-roll}
 use Rattle.ecma_scope_congruence.specs.Laws.{ParenthesesDoNotMatterToConflicts}
 use Rattle.ecma_scope_congruence.specs.Bodies.{AllHaveBodies, HasBodies, more, none, with_bodies}
 use Rattle.ecma_scope_congruence.proofs.ExplicitCounts.{opens_of_node, opens_spotted, role_of_node, role_spotted, unseen_children}
@@ -29,6 +28,7 @@ use Rattle.ecma_scope_congruence.proofs.ExplicitNames.{behind, found_bare, kind_
 use Rattle.ecma_scope_congruence.proofs.Looking.{spot_at}
 use Rattle.ecma_scope_congruence.proofs.Roles.{Unseen, blind_opens, blind_role, is_blind, parentheses_open_none, parentheses_role}
 use Rattle.ecma_scope_congruence.proofs.SpanConflicts.{met}
+use Rattle.ecma_tree.proofs.Layers.{from_leaves-roll}
 
 told_of_node : (at : Span) (k : Kind) (ns : List Node) (s : Surrounding) → redeclared_at (node_of at k ns) s ≡ own_clashes s (node_of at k ns) ++ clashes_in (surrounds s (node_of at k ns)) 0 (map redeclared_at ns)
 told_of_node at k ns s = ap (λ f. f s) (from_leaves-roll (Surrounding → List (List ℕ)) clash_step (record { span = at; kind = k; children = ns }))

@@ -24,13 +24,13 @@ use Rattle.ecma_scope.specs.declared.role.Role.TheVariants as role
 use Rattle.ecma_scope.specs.Declarations.{stated}
 use Rattle.ecma_scope.specs.Resolved.{Place, context_count, innermost, inside, kind_at, nowhere, placed, resolve_step, resolved_at, scope_at, taken}
 use Rattle.ecma_scope.specs.Scopes.{covers, is_root, is_there}
-use Rattle.ecma_scope.proofs.Layers.{from_leaves-roll}
 use Rattle.ecma_scope_congruence.specs.Bodies.{AllHaveBodies, HasBodies, more, none, with_bodies}
 use Rattle.ecma_scope_congruence.specs.Laws.{ParenthesesDoNotMatterToContexts}
 use Rattle.ecma_scope_congruence.proofs.ExplicitNames.{behind, kind_of_node, names_kept, standing}
 use Rattle.ecma_scope_congruence.proofs.ExplicitCounts.{count_kept, opens_of_node, opens_spotted, role_of_node, role_spotted, taken_of_node, taken_spotted, unseen_children}
 use Rattle.ecma_scope_congruence.proofs.Looking.{spot_at}
 use Rattle.ecma_scope_congruence.proofs.Roles.{Unseen, blind_opens, blind_role, is_blind, parentheses_open_none, parentheses_role}
+use Rattle.ecma_tree.proofs.Layers.{from_leaves-roll}
 
 module _ (unresolved top : ℕ) where
   abbrev at_place : Node → Place → ℕ → Node

@@ -21,11 +21,11 @@ use Rattle.ecma_scope.specs.declared.role.Role.{Role}
 use Rattle.ecma_scope.specs.declared.role.Role.TheVariants as role
 use Rattle.ecma_scope.specs.Resolved.{context_count, count_step, counted, taken}
 use Rattle.ecma_scope.specs.Scopes.{is_root, is_there, opens, opens_by, role_by, role_in}
-use Rattle.ecma_scope.proofs.Layers.{from_leaves-roll}
 use Rattle.ecma_scope_congruence.specs.Bodies.{AllHaveBodies, HasBodies, more, none, with_bodies}
 use Rattle.ecma_scope_congruence.proofs.ExplicitNames.{behind, behind-zero, children_of_node, kind_of_node, standing}
 use Rattle.ecma_scope_congruence.proofs.Looking.{spot_at}
 use Rattle.ecma_scope_congruence.proofs.Roles.{Unseen, blind_opens, blind_role, children_unseen, parentheses_open_none, parentheses_role}
+use Rattle.ecma_tree.proofs.Layers.{from_leaves-roll}
 
 -- which children are there
 

@@ -17,7 +17,8 @@ use Rattle.ecma_scope.specs.declared.form.Part.{Part}
 use Rattle.ecma_scope.specs.declared.form.Part.TheVariants as part
 use Rattle.ecma_scope.specs.declared.form.Sought.{Sought}
 use Rattle.ecma_scope_congruence.specs.Bodies.{is_function_expression}
-use Rattle.ecma_scope.specs.Declarations.{declared_here, in_default, in_item, in_member, in_name, in_scope, in_var, seek, seek_at, sought_by, value_by}
+use Rattle.ecma_scope.specs.Declarations.{declared_here, in_default, in_item, in_member, in_name, in_scope, in_var, seek, seek_at, sought_by}
+use Rattle.ecma_tree.specs.Values.{value_by}
 
 -- what is looked for in an expression too: its own name
 abbrev pub is_entering : Part → Bool

@@ -5,7 +5,7 @@ use Rattle.ecma_kind.specs.declared.kind.Kind.{Kind}
 use Rattle.ecma_kind.specs.declared.kind.Kind.TheVariants as kind
 use Rattle.ecma_tree.specs.declared.node.Node.{Node}
 use Rattle.ecma_tree.specs.Nodes.{node_of}
-use Rattle.ecma_scope.specs.Declarations.{is_value}
+use Rattle.ecma_tree.specs.Values.{is_value}
 
 abbrev pub is_function_expression : Kind → Bool
 is_function_expression kind.FnExpr = true

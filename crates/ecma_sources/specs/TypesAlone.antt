@@ -5,9 +5,9 @@ use Rattle.ecma_kind.specs.declared.kind.Kind.{Kind}
 use Rattle.ecma_kind.specs.declared.kind.Kind.TheVariants as kind
 use Rattle.ecma_tree.specs.Sorted.{is_list}
 use Rattle.ecma_tree.specs.declared.node.Node.{Node, out-Node}
+use Rattle.ecma_tree.specs.Values.{is_value}
+use Rattle.ecma_tree.specs.Layers.{from_leaves}
 use Rattle.ecma_strip.specs.Staying.{is_declared, is_this, is_this_ident, is_this_param, stays}
-use Rattle.ecma_strip.specs.Values.{is_value}
-use Rattle.ecma_scope.specs.Layers.{from_leaves}
 
 -- an enum, a namespace, or `import a =`, which are lowered by other passes
 abbrev pub is_lowered : Kind → Bool

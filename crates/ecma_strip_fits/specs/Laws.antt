@@ -1,21 +1,21 @@
 -- What a tree that fits keeps without its types.
-use Rattle.std.specs.Prelude.{◌≡◌, not, None, is_some}
+use Rattle.std.specs.Prelude.{◌≡◌, not, None}
 use Rattle.ecma_kind.specs.declared.shapes.Sort.TheVariants as sort
 use Rattle.ecma_tree.specs.declared.node.Node.{Node}
 use Rattle.ecma_tree.specs.Sorted.{HasSort}
 use Rattle.ecma_leaves.specs.Words.{is_spelled}
 use Rattle.ecma_rules.specs.Children.{kind_of}
 use Rattle.ecma_rules.specs.Jumps.{first_stray}
-use Rattle.ecma_rules.specs.Members.{second_constructor}
+use Rattle.ecma_rules.specs.Members.{has_second_constructor}
 use Rattle.ecma_fits.specs.Branches.{is_dangling}
 use Rattle.ecma_fits.specs.Chains.{is_loose}
 use Rattle.ecma_fits.specs.Counts.{is_short}
-use Rattle.ecma_fits.specs.Fitting.{Fits, breaks_rule}
+use Rattle.ecma_fits.specs.Fitting.{Fits, breaks_rule, NoneFails}
 use Rattle.ecma_fits.specs.Members.{is_misread}
 use Rattle.ecma_fits.specs.Roles.{is_tagged, is_wrong_name}
 use Rattle.ecma_fits.specs.Strays.{is_stray_target}
 use Rattle.ecma_strip.specs.Stripping.{stripped}
-use Rattle.ecma_strip_fits.specs.Targets.{NoneFails, HasPlainTargets}
+use Rattle.ecma_strip_fits.specs.Targets.{HasPlainTargets}
 
 -- a constructor is the member `constructor` that is not static, and no other is; no getter or setter of a class is a generator or async
 abbrev pub StrippingKeepsMembers : Type 0
@@ -43,7 +43,7 @@ StrippingKeepsChains = (tree : Node) → Fits tree → NoneFails (λ w node. is_
 
 -- a class has no second constructor with a body
 abbrev pub StrippingKeepsConstructors : Type 0
-StrippingKeepsConstructors = (tree : Node) → Fits tree → NoneFails (λ w node. is_some (second_constructor node)) (stripped tree)
+StrippingKeepsConstructors = (tree : Node) → Fits tree → NoneFails (λ w node. has_second_constructor node) (stripped tree)
 
 -- a leaf is spelled as its terminal reads it, and says what that says
 abbrev pub StrippingKeepsLeaves : Type 0

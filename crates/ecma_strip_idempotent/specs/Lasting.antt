@@ -4,9 +4,9 @@ use Rattle.std.specs.List.{list_all}
 use Rattle.ecma_kind.specs.declared.kind.Kind.{Kind}
 use Rattle.ecma_kind.specs.declared.kind.Kind.TheVariants as kind
 use Rattle.ecma_tree.specs.declared.node.Node.{Node, out-Node}
-use Rattle.ecma_rules.specs.Layers.{from_leaves}
 use Rattle.ecma_strip.specs.Staying.{is_this_param}
-use Rattle.ecma_strip.specs.Values.{is_value, value_by}
+use Rattle.ecma_tree.specs.Layers.{from_leaves}
+use Rattle.ecma_tree.specs.Values.{is_value, value_by}
 
 -- whether a test holds of a node, and of all below it
 abbrev pub holds_everywhere : (Node → Bool) → Node → Bool

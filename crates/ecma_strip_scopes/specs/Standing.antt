@@ -6,12 +6,13 @@ use Rattle.ecma_kind.specs.declared.kind.Kind.TheVariants as kind
 use Rattle.ecma_tree.specs.Sorted.{is_list}
 use Rattle.ecma_tree.specs.declared.node.Node.{Node, out-Node}
 use Rattle.ecma_scope.specs.declared.form.Sought.{Sought}
-use Rattle.ecma_scope.specs.Declarations.{is_value, sought_in}
-use Rattle.ecma_scope.specs.Layers.{from_leaves}
+use Rattle.ecma_scope.specs.Declarations.{sought_in}
 use Rattle.ecma_strip.specs.Plain.{unless_missing}
 use Rattle.ecma_strip.specs.Staying.{is_this_ident, is_this_param, item_stays, stays}
 use Rattle.ecma_strip.specs.Stripping.{stripped}
 use Rattle.ecma_hygiene_scopes.specs.DeclaredIds.{DeclaredId, ids_declared}
+use Rattle.ecma_tree.specs.Values.{is_value}
+use Rattle.ecma_tree.specs.Layers.{from_leaves}
 
 abbrev pub is_none : List DeclaredId → Bool
 is_none [] = true

@@ -8,7 +8,7 @@ use Rattle.ecma_rules.specs.Jumps.{first_stray}
 use Rattle.ecma_fits.specs.Branches.{is_dangling}
 use Rattle.ecma_fits.specs.Chains.{is_loose}
 use Rattle.ecma_fits.specs.Counts.{is_short}
-use Rattle.ecma_fits.specs.Fitting.{Fits, breaks_rule, first_unfit}
+use Rattle.ecma_fits.specs.Fitting.{Fits, breaks_rule, first_unfit, NoneFails}
 use Rattle.ecma_fits.specs.Members.{is_misread}
 use Rattle.ecma_fits.specs.Roles.{is_out_of_role}
 use Rattle.ecma_fits.specs.Strays.{is_stray_target}
@@ -20,9 +20,10 @@ use Rattle.ecma_modules.specs.Modules.{reads_as}
 use Rattle.ecma_grammar.specs.Modules.{answer_of, reads_module}
 use Rattle.ecma_fits.specs.declared.role.Role.TheVariants as role
 use Rattle.ecma_grammar_laws.specs.RawSorts.{HasRawSort}
-use Rattle.ecma_text_fits.specs.Clauses.{NoneFails, has_second_constructor, is_misspelled, KeepsRules, Clauses}
+use Rattle.ecma_text_fits.specs.Clauses.{is_misspelled, KeepsRules, Clauses}
 use Rattle.ecma_text_fits.specs.RawRoles.{HasRawRole}
 use Rattle.ecma_text_fits.specs.Least.{Unfit}
+use Rattle.ecma_rules.specs.Members.{has_second_constructor}
 
 -- a tree fits exactly where each clause holds
 abbrev pub FitsByClauses : Type 0

@@ -3,8 +3,8 @@ use Rattle.std.specs.Prelude.{◌||◌, Bool, List, map}
 use Rattle.std.specs.List.{list_any}
 use Rattle.ecma_tree.specs.declared.node.Node.{Node, out-Node}
 use Rattle.ecma_rules.specs.Children.{kind_of}
-use Rattle.ecma_rules.specs.Layers.{from_leaves}
 use Rattle.ecma_plain.specs.Functions.{Functions, body_of, functions, lacks_body, takes_this}
+use Rattle.ecma_tree.specs.Layers.{from_leaves}
 
 -- whether a test holds of a node, or of one below it
 abbrev pub holds_somewhere : (Node → Bool) → Node → Bool

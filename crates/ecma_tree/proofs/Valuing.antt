@@ -1,7 +1,7 @@
 -- The equations of what is a value.
 use Rattle.std.proofs.Common.{◌≡◌, ℕ, zero, suc, Bool, false, List, [], ◌∷◌, map, get_or, Some, None, refl, ap, slice_get}
 use Rattle.ecma_tree.specs.declared.node.Node.{Node, fold_out-Node, out-Node}
-use Rattle.ecma_strip.specs.Values.{is_value, value_at, value_by, value_step}
+use Rattle.ecma_tree.specs.Values.{is_value, value_at, value_by, value_step}
 
 module _ {X : Type 0} (f : X → Bool) where
   get_or-some : (xs : List X) (i : ℕ) (x : X) → slice_get xs i ≡ Some x → get_or (map f xs) i false ≡ f x

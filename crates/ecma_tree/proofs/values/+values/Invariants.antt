@@ -1,8 +1,8 @@
 use Rattle.std.proofs.Common.{◌≡◌, ◌+◌, ◌*◌, map, drop}
 use Rattle.std.specs.List.{list_any}
 use Rattle.ecma_tree.specs.declared.node.Node.{out-Node, size-Node}
-use Rattle.ecma_scope.specs.Declarations.{is_value}
-use Rattle.ecma_scope.proofs.names.+values.Given as goal
+use Rattle.ecma_tree.proofs.values.+values.Given as goal
+use Rattle.ecma_tree.specs.Values.{is_value}
 
 -- the children that are left decide
 abbrev pub invariant-is_any_value-loop-child : goal.invariant-is_any_value-loop-child

@@ -3,7 +3,7 @@ use Rattle.std.proofs.Common.{◌≡◌, refl, sym, ap, ap₂, ◌∙◌, List, 
 use Rattle.ecma_tree.specs.declared.node.Node.{Node, Node-F, fold-Node, fold-roll-Node, roll-Node, out-Node, ind-Node}
 use Rattle.ecma_tree.specs.declared.node.Node.TheViews.{roll-out-Node}
 use Rattle.ecma_tree.specs.Nodes.{node_of}
-use Rattle.ecma_rules.specs.Layers.{Made, layer, from_leaves}
+use Rattle.ecma_tree.specs.Layers.{Made, layer, from_leaves}
 
 module _ (A : Type 0) (step : Node → List A → A) where
   made : Node → Made A

@@ -1,15 +1,16 @@
-//! Which items are values.
+//! Which items of a module, a block or a namespace are values.
 ghost use Rattle.std.specs.Prelude.{◌≡◌, map};
 ghost use Rattle.std.specs.List.{list_any};
 ghost use Rattle.ecma_tree.specs.declared.node.Node.{out-Node};
-ghost use Rattle.ecma_strip.specs.Values.{is_value, value_at};
+ghost use Rattle.ecma_tree.specs.Values.{is_value, value_at};
 
-use ecma_tree::{Kind, Node};
+use crate::node::Node;
+use ecma_kind::Kind;
 
 /// Whether the child at an index is there and a value.
 #[cycle(values)]
 #[tactic(auto, using(crate::proofs::Valuing::values))]
-pub(crate) fn is_value_at(node: &Node, index: usize) -> bool
+pub fn is_value_at(node: &Node, index: usize) -> bool
     ensures { result ≡ value_at index node.now }
 {
     match node.children.get(index) {
@@ -36,7 +37,7 @@ fn is_any_value(node: &Node) -> bool
 /// or what is written `type`. Ambient ones are values too.
 #[cycle(values)]
 #[tactic(auto, using(crate::proofs::Valuing::values), unfolding(crate::specs::Values::value_by))]
-pub(crate) fn is_value(node: &Node) -> bool
+pub fn is_value(node: &Node) -> bool
     ensures { result ≡ is_value node.now }
 {
     match &node.kind {
