@@ -4,6 +4,7 @@ use Rattle.std.specs.Str.{IsUtf8}
 use Rattle.ecma_kind.specs.declared.kind.Kind.{Kind}
 use Rattle.ecma_kind.specs.declared.kind.Kind.TheVariants as kind
 use Rattle.ecma_kind.specs.declared.operators.MemberModifiers.{MemberModifiers}
+use Rattle.ecma_grammar.specs.trees.Functions.{questioned_kind}
 
 -- a literal has its source text
 abbrev pub IsSource : Option (List ℕ) → Type 0
@@ -73,3 +74,7 @@ is_of_forms _ = true
 -- both
 abbrev pub IsTaken : Kind → Type 0
 IsTaken k = IsBare k × (is_of_forms k ≡ true)
+
+-- its texts are UTF-8, it has no context, and a literal has its source text; a name may have a `?`
+abbrev pub IsBareUnquestioned : Kind → Type 0
+IsBareUnquestioned k = IsBare (questioned_kind false k)

@@ -25,7 +25,7 @@ use Rattle.ecma_print.specs.Laid.{Laid}
 use Rattle.ecma_print.specs.Layout.{laid}
 use Rattle.ecma_print.specs.Levels.{in_parentheses}
 use Rattle.ecma_print_parentheses.specs.Lacking.{all_complete, complete}
-use Rattle.ecma_print_parentheses.specs.Spots.{first_spots, further_spot}
+use Rattle.ecma_print.specs.Spots.{first_spots, further_spot}
 use Rattle.ecma_print_parentheses.proofs.Lacks.{complete_in}
 use Rattle.ecma_print_heads.specs.Laws.{HeadsHoldNoBareIn}
 use Rattle.ecma_shapes.specs.Heads.{any_of, may_hold_by, may_hold_in}

@@ -1,1 +1,1 @@
-pub mod Theorems
+pub mod Laws

@@ -1,6 +1,6 @@
 //! Laws: the raw tree of a finished one that fits, with explicit parentheses, has the shapes that are read again.
 //!
-//! Each function carries one law over the definitions, and does nothing. The laws are stated in `specs/`.
+//! Each function carries one law over the definitions, and does nothing. The laws are stated in `specs/Laws.antt`.
 #![tactic(auto)]
 
 ghost use Rattle.ecma_print_shapes.specs.Laws.{ExpressionsHaveTheirShapes, ModulesHaveTheirShapes};

@@ -4,7 +4,7 @@ use Rattle.ecma_tree.specs.declared.node.Node.{Node}
 use Rattle.ecma_tree.specs.Spans.{without_spans}
 use Rattle.ecma_scope.specs.Laws.{without_contexts}
 use Rattle.ecma_print.specs.Layout.{layout}
-use Rattle.ecma_print_parentheses.specs.Explicit.{explicit}
+use Rattle.ecma_print.specs.Explicit.{explicit}
 use Rattle.ecma_modules.specs.Modules.{plain, reads_as}
 use Rattle.ecma_plain.specs.Plain.{IsPlain}
 
