@@ -6,7 +6,7 @@ mod modifiers;
 mod presence;
 mod signatures;
 
-pub use frames::{eight, five, four, nine, one, seven, six, three, two};
+pub use frames::{five, four, nine, one, seven, six, three, two};
 pub use modifiers::{accessibility_of, has_word};
 pub use presence::{is_absent, is_present, let_go};
 pub use signatures::{Signature, function_of};
