@@ -20,8 +20,8 @@ use Rattle.ecma_modules.specs.Modules.{reads_as}
 use Rattle.ecma_grammar.specs.Modules.{answer_of, reads_module}
 use Rattle.ecma_fits.specs.declared.role.Role.TheVariants as role
 use Rattle.ecma_grammar_laws.specs.RawSorts.{HasRawSort}
-use Rattle.ecma_text_fits.specs.Clauses.{NoneFails, has_second_constructor, is_misspelled, KeepsRules, Clauses}
-use Rattle.ecma_text_fits.specs.RawRoles.{HasRawRole}
+use Rattle.ecma_fits_clauses.specs.Clauses.{NoneFails, has_second_constructor, is_misspelled, KeepsRules, Clauses}
+use Rattle.ecma_fits_clauses.specs.RawRoles.{HasRawRole}
 use Rattle.ecma_text_fits.specs.Least.{Unfit}
 
 -- a tree fits exactly where each clause holds

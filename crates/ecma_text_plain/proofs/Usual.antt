@@ -4,7 +4,7 @@ use Rattle.std.specs.List.{list_any}
 use Rattle.ecma_tree.specs.declared.node.Node.{Node, Node-F, fold_out-Node, ind-Node, out-Node, roll-Node}
 use Rattle.ecma_tree.specs.declared.node.Node.TheViews.{out-roll-Node}
 use Rattle.ecma_rules.proofs.Layers.{from_leaves_out}
-use Rattle.ecma_text_fits.proofs.Walks.{neither}
+use Rattle.ecma_fits_clauses.proofs.Walks.{neither}
 use Rattle.ecma_text_plain.specs.Laws.{FunctionsAreUsualByTests}
 use Rattle.ecma_text_plain.specs.Functions.{children_told, has_this_parameter, holds_somewhere, is_bodiless}
 use Rattle.ecma_plain.specs.Functions.{Functions, any_unusual, functions, functions_step}
