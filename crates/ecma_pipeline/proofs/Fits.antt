@@ -16,9 +16,9 @@ use Rattle.ecma_bind_scopes.specs.Laws.{BoundNamesResolveAlike}
 use Rattle.ecma_bind_sources.specs.Laws.{BoundTreesAreRead, BoundTreesAreTaken}
 use Rattle.ecma_pipeline_names.specs.Laws.{BindingKeepsNamesShort, ContextsKeepNamesShort, StrippingKeepsNamesShort}
 use Rattle.ecma_hygiene_fits.specs.Spelled.{NoneLong}
-use Rattle.ecma_pipeline_fits.specs.Laws.{FinalTreesFit}
 use Rattle.ecma_pipeline_plain.proofs.Taken.{stripped_full}
-use Rattle.ecma_pipeline_fits.proofs.Others.{full_without_this}
+use Rattle.ecma_pipeline.specs.Laws.{FinalTreesFit}
+use Rattle.ecma_pipeline.proofs.Receivers.{full_without_this}
 
 pub record Laws : Type 0 where
   pub reads : BoundTreesAreRead

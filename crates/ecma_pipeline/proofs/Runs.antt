@@ -1,38 +1,26 @@
--- A module as it is read is one with bound names, and does the same.
+-- A module as it is read does the same with bound names.
 use Rattle.std.proofs.Common.{◌∙◌, ◌≤◌, ℕ, sym, ap, subst}
 use Rattle.ecma_kind.specs.declared.shapes.Sort.TheVariants as sort
 use Rattle.ecma_tree.specs.declared.node.Node.{Node}
 use Rattle.ecma_tree.specs.Sorted.{HasSort}
 use Rattle.ecma_fits.specs.declared.role.Role.TheVariants as role
 use Rattle.ecma_runs.specs.Observation.{observe}
-use Rattle.ecma_scope.specs.Resolved.{resolved}
+use Rattle.ecma_scope.specs.Resolved.{resolved, AreGiven}
 use Rattle.ecma_scope.proofs.Unchanged.{keeps-sorts}
-use Rattle.ecma_scope.specs.Resolved.{AreGiven}
 use Rattle.ecma_sources.specs.Sources.{IsSource}
 use Rattle.ecma_pipeline_runs.specs.Laws.{PassesKeepRuns}
 use Rattle.ecma_bind.specs.Binding.{with_bound_names}
-use Rattle.ecma_bind_fits.proofs.Whole.{names_fit}
 use Rattle.ecma_bind_runs.proofs.Runs.{runs_alike}
 use Rattle.ecma_bind_scopes.proofs.Placed.{resolve_alike}
-use Rattle.ecma_bind_scopes.proofs.Told.{declare_alike}
-use Rattle.ecma_pipeline_bound.specs.Laws.{BoundPassesKeepRuns, BoundSourcesAreSources, BoundSourcesRunAlike}
-use Rattle.ecma_pipeline_bound.proofs.Alone.{alone_stays}
-use Rattle.ecma_pipeline_bound.proofs.Bare.{bound_turned}
-
-pub sources_are_sources : BoundSourcesAreSources
-sources_are_sources source is = record {
-  fits = names_fit source is.fits;
-  bare = bound_turned (λ t c. 0) source role.Free ∙ ap with_bound_names is.bare;
-  distinct = declare_alike source is.fits.sorted ∙ is.distinct;
-  types = alone_stays source is.types role.Free;
-}
+use Rattle.ecma_pipeline.specs.Laws.{BoundPassesKeepRuns, BoundSourcesRunAlike}
+use Rattle.ecma_bind_sources.proofs.Sources.{sources_are_sources}
 
 pub sources_run_alike : BoundSourcesRunAlike
 sources_run_alike source is unresolved top left turns options script =
     let sorted : HasSort sort.Module (resolved unresolved top left source) = (keeps-sorts unresolved top left source sort.Module).1 is.fits.sorted in
     ap (λ (z : Node). observe turns options z script) ((resolve_alike source is.fits.sorted).same unresolved top left) ∙ runs_alike (resolved unresolved top left source) sorted turns options script
 
-bound_given : (unresolved top left : ℕ) (source : Node) → IsSource source → AreGiven unresolved top left source → AreGiven unresolved top left (with_bound_names source)
+pub bound_given : (unresolved top left : ℕ) (source : Node) → IsSource source → AreGiven unresolved top left source → AreGiven unresolved top left (with_bound_names source)
 bound_given unresolved top left source is given = record {
   unresolved_above = given.unresolved_above;
   top_above = given.top_above;

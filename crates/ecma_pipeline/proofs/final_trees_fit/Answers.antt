@@ -1,5 +1,5 @@
-use Rattle.ecma_pipeline_fits.proofs.Whole.{trees_fit}
-use Rattle.ecma_pipeline_fits.proofs.final_trees_fit.Goals as goal
+use Rattle.ecma_pipeline.proofs.Fits.{trees_fit}
+use Rattle.ecma_pipeline.proofs.final_trees_fit.Goals as goal
 
 pub returns : goal.returns
 returns c = trees_fit (record {

@@ -1,5 +1,5 @@
 -- From the source to what is read of the written module: nowhere a name is declared again where it may not be.
-use Rattle.std.proofs.Common.{◌≡◌, ◌≤◌, ℕ, true, [], refl, sym, ◌∙◌, subst}
+use Rattle.std.proofs.Common.{◌≡◌, ℕ, true, [], refl, sym, ◌∙◌, subst}
 use Rattle.ecma_kind.specs.declared.shapes.Sort.TheVariants as sort
 use Rattle.ecma_tree.specs.Sorted.{one}
 use Rattle.ecma_tree.specs.declared.node.Node.{Node}
@@ -8,7 +8,7 @@ use Rattle.ecma_scope_fits.proofs.Contexts.{resolved_fit_alike}
 use Rattle.ecma_print.specs.Explicit.{explicit}
 use Rattle.ecma_scope.specs.Conflicts.{redeclared}
 use Rattle.ecma_scope.specs.Laws.{without_contexts}
-use Rattle.ecma_scope.specs.Resolved.{resolved}
+use Rattle.ecma_scope.specs.Resolved.{resolved, AreGiven}
 use Rattle.ecma_scope.specs.declared.role.Role.TheVariants as role
 use Rattle.ecma_scope.proofs.Unchanged.{changes-contexts}
 use Rattle.ecma_scope_congruence.specs.Laws.{ParenthesesDoNotMatterToConflicts, SpansDoNotMatterToConflicts}
@@ -22,9 +22,6 @@ use Rattle.ecma_hygiene.specs.Texts.{text_in}
 use Rattle.ecma_hygiene_scopes.specs.Apart.{TellsScopesApart}
 use Rattle.ecma_hygiene_scopes.specs.Lasting.{IsCheckedModule}
 use Rattle.ecma_bind.specs.Binding.{with_bound_names}
-use Rattle.ecma_bind_scopes.proofs.Placed.{resolve_alike}
-use Rattle.ecma_pipeline_bound.proofs.Sources.{sources_are_sources}
-use Rattle.ecma_scope.specs.Resolved.{AreGiven}
 use Rattle.ecma_sources.specs.Sources.{IsSource}
 use Rattle.ecma_sources.specs.TypesAlone.{adds_types_alone}
 use Rattle.ecma_pipeline_runs.proofs.ClearSeats.{modules-are-clear}
@@ -34,7 +31,9 @@ use Rattle.ecma_pipeline_runs.proofs.Names.{seats-other}
 use Rattle.ecma_pipeline_runs.proofs.Renaming.{kept}
 use Rattle.ecma_strip_conflicts.proofs.Walk.{resolved-not-redeclared}
 use Rattle.ecma_hygiene_conflicts.proofs.Walk.{final-not-redeclared}
-use Rattle.ecma_pipeline_conflicts.specs.Laws.{BoundModulesAreNotRedeclared, WrittenModulesAreNotRedeclared}
+use Rattle.ecma_bind_sources.proofs.Sources.{sources_are_sources}
+use Rattle.ecma_pipeline.specs.Laws.{BoundModulesAreNotRedeclared, WrittenModulesAreNotRedeclared}
+use Rattle.ecma_pipeline.proofs.Runs.{bound_given}
 
 module _ (unresolved top left : ℕ) (source : Node) (is : IsSource source) (given : AreGiven unresolved top left source) where
   abbrev r : Node
@@ -72,14 +71,6 @@ written-not-redeclared parentheses spans unresolved top left source final writte
     ∙ parentheses bare (full unresolved top left source is given final hygienic)
     ∙ final-not-redeclared unresolved left (s unresolved top left source is given) final (tells unresolved top left source is given) hygienic (stripped-none unresolved top left source is given)
 
-bound-given : (unresolved top left : ℕ) (source : Node) → IsSource source → AreGiven unresolved top left source → AreGiven unresolved top left (with_bound_names source)
-bound-given unresolved top left source is given = record {
-  unresolved_above = given.unresolved_above;
-  top_above = given.top_above;
-  apart = given.apart;
-  enough = subst (λ (n : ℕ). n ≤ left) (sym (resolve_alike source is.fits.sorted).count) given.enough;
-}
-
 pub bound-not-redeclared : WrittenModulesAreNotRedeclared → BoundModulesAreNotRedeclared
 bound-not-redeclared none unresolved top left source final written is given hygienic reading =
-    none unresolved top left (with_bound_names source) final written (sources_are_sources source is) (bound-given unresolved top left source is given) hygienic reading
+    none unresolved top left (with_bound_names source) final written (sources_are_sources source is) (bound_given unresolved top left source is given) hygienic reading
