@@ -25,7 +25,8 @@ use Rattle.ecma_hygiene.specs.Texts.{GetTexts, Had, IsNumbered, bindings, changi
 use Rattle.ecma_hygiene.specs.Walks.{gathered_from}
 use Rattle.ecma_hygiene.proofs.Walking.{gathered-out}
 use Rattle.ecma_hygiene_fits.specs.Kept.{NoneFails}
-use Rattle.ecma_hygiene_fits.specs.Spelled.{FinalTextsAreReadable, FinalTextsAreShort, FinalTextsAreSpelled, HygieneKeepsSpelling, are_readable, is_long, is_misspelled, is_short_text, is_spelled_text}
+use Rattle.ecma_hygiene_fits.specs.Laws.{FinalTextsAreReadable, FinalTextsAreShort, FinalTextsAreSpelled, HygieneKeepsSpelling}
+use Rattle.ecma_hygiene_fits.specs.Spelled.{are_readable, is_long, is_misspelled, is_short_text, is_spelled_text}
 use Rattle.ecma_hygiene_fits.proofs.Everywhere.{Each, children_of, everywhere}
 use Rattle.ecma_hygiene_fits.proofs.Spelled.{none_some, not_false, some_same, spelling_kept}
 use Rattle.ecma_hygiene_fits.proofs.SpelledNumbers.{decimal_digits, decimal_length, numbered_spelled}

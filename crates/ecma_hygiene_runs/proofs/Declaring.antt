@@ -30,7 +30,8 @@ use Rattle.ecma_runs.specs.Environment.{is_among}
 use Rattle.ecma_runs.specs.Declarations.{has_no_effect}
 use Rattle.ecma_runs.specs.Evaluation.{meaning, meaning_by, no_effect, role_by}
 use Rattle.ecma_runs.proofs.Layer.{meaning_out}
-use Rattle.ecma_hygiene_runs.specs.Plain.{BindingsAreDeclared, PlainModulesAreResolved, has_no_receiver, is_plain, is_plain_kind, plain_by, plain_step}
+use Rattle.ecma_hygiene_runs.specs.Laws.{BindingsAreDeclared, PlainModulesAreResolved}
+use Rattle.ecma_hygiene_runs.specs.Plain.{has_no_receiver, is_plain, is_plain_kind, plain_by, plain_step}
 use Rattle.ecma_hygiene_runs.proofs.Covering.{Covered, Sub, cover, declared, layer, layer-covered, names, sub-left, sub-same}
 use Rattle.ecma_hygiene_runs.proofs.Seeking.{any_name, inner-name, may_name, soughts-name}
 use Rattle.ecma_hygiene_runs.proofs.Sorted.{shape_out, sorted_names_are_outer}

@@ -13,7 +13,7 @@ use Rattle.ecma_fits.specs.declared.role.Role.{Role}
 use Rattle.ecma_fits.specs.declared.role.Role.TheVariants as role
 use Rattle.ecma_fits.specs.Roles.{role_in}
 use Rattle.ecma_bind.specs.Binding.{bound_at, bound_step, each_at, first_or, is_typed_name, under_types, with_children}
-use Rattle.ecma_pipeline_names.specs.Short.{BindingKeepsNamesShort}
+use Rattle.ecma_pipeline_names.specs.Laws.{BindingKeepsNamesShort}
 use Rattle.ecma_pipeline_names.proofs.Throughout.{All, Good, IsShort, all_short, either, missing, node_good, none_long}
 
 binding_good : (n : Node) → Good n → Good (binding n)

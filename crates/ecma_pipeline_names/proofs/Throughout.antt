@@ -13,7 +13,7 @@ use Rattle.ecma_fits.specs.declared.unfit.Where.{Where}
 use Rattle.ecma_fits.specs.Fitting.{at_top, where_in}
 use Rattle.ecma_hygiene_fits.specs.Spelled.{is_long}
 use Rattle.ecma_hygiene_fits.proofs.Walk.{neither_least, not_failing}
-use Rattle.ecma_pipeline_names.specs.Short.{NoneLong}
+use Rattle.ecma_hygiene_fits.specs.Spelled.{NoneLong}
 
 -- a kind is no long identifier
 abbrev pub IsShort : Kind → Type 0

@@ -27,8 +27,8 @@ use Rattle.ecma_strip_scopes.proofs.Going.{parts-have}
 use Rattle.ecma_strip_scopes.proofs.KindsKept.{wrapper-opens}
 use Rattle.ecma_strip_scopes.proofs.StayingSeats.{staying-out}
 use Rattle.ecma_strip_fits.proofs.Walk.{neither_least}
-use Rattle.ecma_pipeline_runs.specs.Clear.{ModulesAreClear}
-use Rattle.ecma_pipeline_runs.specs.TypesAlone.{adds_types_alone}
+use Rattle.ecma_pipeline_runs.specs.Laws.{ModulesAreClear}
+use Rattle.ecma_sources.specs.TypesAlone.{adds_types_alone}
 use Rattle.ecma_pipeline_runs.proofs.Asking.{Asked, is_default_export}
 use Rattle.ecma_pipeline_runs.proofs.Strays.{opener-other}
 use Rattle.ecma_pipeline_runs.proofs.CalmRoles.{calm-role}

@@ -27,7 +27,7 @@ use Rattle.ecma_strip.specs.Staying.{is_this_ident, is_this_param, stays}
 use Rattle.ecma_strip.specs.Stripping.{stripped}
 use Rattle.ecma_strip.specs.Values.{is_value, value_by}
 use Rattle.ecma_strip.proofs.Valuing.{is_value-out}
-use Rattle.ecma_strip_runs.specs.Usual.{declares_no_body, has_usual_bodies}
+use Rattle.ecma_strip_runs.specs.UsualBodies.{declares_no_body, has_usual_bodies}
 use Rattle.ecma_hygiene.proofs.Telling.{and-both, true-false}
 use Rattle.ecma_hygiene_scopes.specs.DeclaredIds.{DeclaredId, ids_declared}
 use Rattle.ecma_strip_scopes.specs.Standing.{bodies_stay, clear_at, clear_here, clear_in, clear_step, has_value, is_clear, is_none, same}
@@ -36,7 +36,7 @@ use Rattle.ecma_strip_scopes.proofs.Seeking.{setter-seeks}
 use Rattle.ecma_strip_scopes.proofs.Standing.{list-kind}
 use Rattle.ecma_strip_scopes.proofs.Values.{values-agree}
 use Rattle.ecma_strip_fits.proofs.Walk.{each_none, neither_least}
-use Rattle.ecma_pipeline_runs.specs.TypesAlone.{adds_types_alone, is_lowered, is_receiver}
+use Rattle.ecma_sources.specs.TypesAlone.{adds_types_alone, is_lowered, is_receiver}
 use Rattle.ecma_pipeline_runs.proofs.Expressions.{expression-item, expression-var, expressive, wrapper-expression}
 use Rattle.ecma_pipeline_runs.proofs.Nodes.{StaysIn, alone-below, by-children, child-shape, in-no-list, neither, no-ambient-head, none-some, not-lowered, some-same, test-below, test-here}
 use Rattle.ecma_strip_scopes.proofs.Wrapping.{takes_types}

@@ -17,7 +17,7 @@ use Rattle.ecma_strip.specs.Staying.{if_there, is_ambient, is_declared, is_empty
 use Rattle.ecma_strip.specs.Values.{is_value, value_at, value_by}
 use Rattle.ecma_strip.proofs.Valuing.{is_value-out}
 use Rattle.ecma_hygiene_scopes.proofs.Parts.{children-of, kind-of}
-use Rattle.ecma_pipeline_runs.specs.TypesAlone.{adds_types_alone, adds_types_by, has_ambient_head, has_bodiless, has_stray_receiver, is_lone_receiver, is_lowered, is_receiver, lacks_body, lacks_body_by, staying_hold}
+use Rattle.ecma_sources.specs.TypesAlone.{adds_types_alone, adds_types_by, has_ambient_head, has_bodiless, has_stray_receiver, is_lone_receiver, is_lowered, is_receiver, lacks_body, lacks_body_by, staying_hold}
 use Rattle.ecma_pipeline_runs.proofs.Nodes.{alone-out}
 
 module _ (context_of : List ℕ → ℕ → ℕ) where

@@ -17,14 +17,14 @@ use Rattle.ecma_strip.specs.Stripping.{plain, plain_children, plain_kind, stayin
 use Rattle.ecma_strip.specs.Values.{is_value, value_by}
 use Rattle.ecma_strip.proofs.Stripping.{stripped-out}
 use Rattle.ecma_strip.proofs.Valuing.{is_value-out}
-use Rattle.ecma_strip_runs.specs.Usual.{declares_no_body}
+use Rattle.ecma_strip_runs.specs.UsualBodies.{declares_no_body}
 use Rattle.ecma_hygiene.proofs.Telling.{and-both, and-left, and-right, true-false}
 use Rattle.ecma_strip_scopes.proofs.Declared.{not-list}
 use Rattle.ecma_strip_scopes.proofs.Going.{parts-have}
 use Rattle.ecma_strip_scopes.proofs.KindsKept.{wrapper-plain, wrapper-some}
 use Rattle.ecma_strip_scopes.proofs.Seeking.{Becomes, becomes}
 use Rattle.ecma_strip_scopes.proofs.Seeking.Becomes.{typed, wrapper, list, itself}
-use Rattle.ecma_pipeline_runs.specs.TypesAlone.{adds_types_alone, has_bodiless, is_receiver, lacks_body, lacks_body_by}
+use Rattle.ecma_sources.specs.TypesAlone.{adds_types_alone, has_bodiless, is_receiver, lacks_body, lacks_body_by}
 use Rattle.ecma_pipeline_runs.proofs.Asking.{is_default_export}
 use Rattle.ecma_pipeline_runs.proofs.ClearSeats.{module-stands}
 use Rattle.ecma_pipeline_runs.proofs.Clearing.{Stands, default-child, stands-below}

@@ -23,7 +23,7 @@ use Rattle.ecma_hygiene_scopes.specs.Stops.{Stop, stops_at, stops_from}
 use Rattle.ecma_hygiene_scopes.proofs.Membership.{id-same}
 use Rattle.ecma_hygiene_scopes.proofs.Stopping.{All-first, All-second, stop-here, stops-below}
 use Rattle.ecma_hygiene_runs.specs.FinalTexts.{all_named, is_outer}
-use Rattle.ecma_hygiene_runs.specs.Sorted.{has_outer_names_at, outer_step}
+use Rattle.ecma_hygiene_runs.specs.OuterNames.{has_outer_names_at, outer_step}
 use Rattle.ecma_strip.specs.Staying.{is_this_ident}
 use Rattle.ecma_hygiene_scopes.specs.Seats.{Seat, seat_here, seats_at}
 use Rattle.ecma_strip_scopes.specs.Apart.{IsOther as IsOtherSeat}

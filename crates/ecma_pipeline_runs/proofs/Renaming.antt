@@ -21,9 +21,9 @@ use Rattle.ecma_runs.proofs.Layer.{meaning_out}
 use Rattle.ecma_scope.specs.Declarations.{is_value, value_by}
 use Rattle.ecma_scope.specs.Resolved.{is_name}
 use Rattle.ecma_scope.proofs.Naming.{is_value-out}
-use Rattle.ecma_scope_congruence.specs.Parentheses.{AllHaveBodies, HasBodies, is_function_expression}
-use Rattle.ecma_scope_congruence.specs.Parentheses.AllHaveBodies.{more, none}
-use Rattle.ecma_scope_congruence.specs.Parentheses.HasBodies.{with_bodies}
+use Rattle.ecma_scope_congruence.specs.Bodies.{AllHaveBodies, HasBodies, is_function_expression}
+use Rattle.ecma_scope_congruence.specs.Bodies.AllHaveBodies.{more, none}
+use Rattle.ecma_scope_congruence.specs.Bodies.HasBodies.{with_bodies}
 use Rattle.ecma_hygiene.specs.declared.spot.Spot.{Spot}
 use Rattle.ecma_hygiene.specs.declared.spot.Spot.TheVariants as spot
 use Rattle.ecma_hygiene.specs.declared.spot.Standing.{Standing}

@@ -18,7 +18,7 @@ use Rattle.ecma_strip.specs.Staying.{if_there, is_declared, is_empty_stmt, is_ex
 use Rattle.ecma_strip.specs.Stripping.{plain, plain_children, plain_kind, staying_nodes, stripped}
 use Rattle.ecma_strip.specs.Values.{is_value, value_by, value_step}
 use Rattle.ecma_strip.proofs.Stripping.{stripped-out}
-use Rattle.ecma_strip_runs.specs.Usual.{declares_no_body, is_declaration}
+use Rattle.ecma_strip_runs.specs.UsualBodies.{declares_no_body, is_declaration}
 use Rattle.ecma_hygiene.proofs.Telling.{and-both, and-left, and-right, true-false}
 use Rattle.ecma_hygiene_scopes.proofs.Parts.{value-of}
 use Rattle.ecma_strip_scopes.specs.Standing.{bodies_stay}

@@ -22,7 +22,7 @@ use Rattle.ecma_rules.specs.Surroundings.{standing_by}
 use Rattle.ecma_rules.specs.Targets.{in_list as target_in_list, in_literal, in_short_default, in_spread, in_value, is_plain_target, is_wrapper, on_left, target_in}
 use Rattle.ecma_rules.proofs.Layers.{from_leaves-roll}
 use Rattle.ecma_print.specs.declared.place.Spot.{Spot}
-use Rattle.ecma_print_parentheses.specs.Explicit.{parenthesized}
+use Rattle.ecma_print.specs.Explicit.{parenthesized}
 use Rattle.ecma_print_parentheses.proofs.Asking.{AllFit, Fits}
 use Rattle.ecma_fits.specs.declared.role.Role.{Role}
 use Rattle.ecma_fits.specs.declared.role.Role.TheVariants as role

@@ -14,8 +14,8 @@ use Rattle.ecma_print.specs.Places.{free}
 use Rattle.ecma_print.specs.Laid.{Laid}
 use Rattle.ecma_print.specs.Levels.{in_parentheses}
 use Rattle.ecma_print.proofs.LaidOut.{laid_kind}
-use Rattle.ecma_print_parentheses.specs.Explicit.{Standing, bare, in_spots, laid_children, parenthesized, stood}
-use Rattle.ecma_print_parentheses.specs.Spots.{first_spots, further_spot}
+use Rattle.ecma_print.specs.Explicit.{Standing, bare, in_spots, laid_children, parenthesized, stood}
+use Rattle.ecma_print.specs.Spots.{first_spots, further_spot}
 use Rattle.ecma_print_parentheses.proofs.Standing.{stands}
 use Rattle.ecma_print_parentheses.proofs.Asking.{AllFit, Fits, first_fit, further_fits, said_in_spot}
 use Rattle.ecma_fits.specs.declared.unfit.Where.{Where}

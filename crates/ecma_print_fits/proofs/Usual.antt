@@ -13,7 +13,7 @@ use Rattle.ecma_tree.specs.Sorted.{HasShape, child_shapes, one}
 use Rattle.ecma_rules.specs.Children.{kind_of, of_kind}
 use Rattle.ecma_rules.specs.Jumps.{first_stray}
 use Rattle.ecma_rules.proofs.Layers.{from_leaves-roll}
-use Rattle.ecma_print_covers.specs.Layouts.{has_usual_default, has_usual_defaults, is_default, takes_default, usual_step}
+use Rattle.ecma_print_covers.specs.Defaults.{has_usual_default, has_usual_defaults, is_default, takes_default, usual_step}
 use Rattle.ecma_fits.specs.declared.role.Role.{Role}
 use Rattle.ecma_fits.specs.declared.role.Role.TheVariants as role
 use Rattle.ecma_fits.specs.declared.unfit.Where.{Where}

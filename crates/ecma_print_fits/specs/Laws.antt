@@ -15,8 +15,8 @@ use Rattle.ecma_rules.specs.Surroundings.{at_root}
 use Rattle.ecma_rules.specs.Failing.{failing_here, first_failing}
 use Rattle.ecma_covers.specs.Covering.{cover}
 use Rattle.ecma_covers.specs.Placing.{Stands}
-use Rattle.ecma_print_covers.specs.Layouts.{has_usual_defaults}
-use Rattle.ecma_print_parentheses.specs.Explicit.{explicit}
+use Rattle.ecma_print_covers.specs.Defaults.{has_usual_defaults}
+use Rattle.ecma_print.specs.Explicit.{explicit}
 use Rattle.ecma_fits.specs.declared.unfit.Where.{Where}
 use Rattle.ecma_fits.specs.Branches.{is_dangling}
 use Rattle.ecma_fits.specs.Chains.{is_loose}

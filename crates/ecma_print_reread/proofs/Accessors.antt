@@ -11,12 +11,12 @@ use Rattle.ecma_grammar.specs.productions.Names.{prop_start, member_start}
 use Rattle.ecma_grammar.specs.productions.Classes.{modifier, getter, setter}
 use Rattle.ecma_print_tokens.specs.Items as items
 use Rattle.ecma_print_tokens.specs.Items.{Gap, Items, it}
-use Rattle.ecma_print_reread.specs.Shapes as shapes
-use Rattle.ecma_print_reread.specs.Shapes.{IsArguments}
-use Rattle.ecma_print_reread.specs.MemberKinds.{method_kind, accessor_kind}
-use Rattle.ecma_print_reread.specs.Tokens.{arguments_tokens}
-use Rattle.ecma_print_reread.specs.Signs.{blank, static_tokens, accessor_text}
-use Rattle.ecma_print_reread.specs.Bare.{bare_arguments, bare_params}
+use Rattle.ecma_shapes.specs.Shapes as shapes
+use Rattle.ecma_shapes.specs.Shapes.{IsArguments}
+use Rattle.ecma_shapes.specs.MemberKinds.{method_kind, accessor_kind}
+use Rattle.ecma_print_reread.proofs.Tokens.{arguments_tokens}
+use Rattle.ecma_print_reread.proofs.Signs.{blank, static_tokens, accessor_text}
+use Rattle.ecma_print_reread.proofs.Bare.{bare_arguments, bare_params}
 use Rattle.ecma_print_reread.proofs.Heads.{bare, nodes}
 use Rattle.ecma_print_reread.proofs.Forms.{Laid, s, Reads}
 use Rattle.ecma_print_reread.proofs.Arrows.{ArgumentForms}

@@ -26,12 +26,12 @@ use Rattle.ecma_grammar.specs.productions.Declarations as declarations
 use Rattle.ecma_grammar.specs.productions.Statements as statements
 use Rattle.ecma_grammar.specs.productions.Modules as modules
 use Rattle.ecma_print_tokens.specs.Items.{sign, no_gap, Gap, Items, it}
-use Rattle.ecma_print_reread.specs.Machine.{read, with_front, followed_on, or_on, built_on, interp, means}
-use Rattle.ecma_print_reread.specs.Shapes as shapes
-use Rattle.ecma_print_reread.specs.Shapes.{Role, IsExpression, IsElement, AreSlots}
-use Rattle.ecma_print_reread.specs.Tokens.{element_tokens, slots_tokens, more_slots_tokens}
-use Rattle.ecma_print_reread.specs.Signs.{blank}
-use Rattle.ecma_print_reread.specs.Bare.{expression_kind, bare_element, bare_slots}
+use Rattle.ecma_print_reread.proofs.Machine.{read, with_front, followed_on, or_on, built_on, interp, means}
+use Rattle.ecma_shapes.specs.Shapes as shapes
+use Rattle.ecma_shapes.specs.Shapes.{Role, IsExpression, IsElement, AreSlots}
+use Rattle.ecma_print_reread.proofs.Tokens.{element_tokens, slots_tokens, more_slots_tokens}
+use Rattle.ecma_print_reread.proofs.Signs.{blank}
+use Rattle.ecma_print_reread.proofs.Bare.{expression_kind, bare_element, bare_slots}
 use Rattle.ecma_print_reread.proofs.Moves.{eats}
 use Rattle.ecma_print_reread.proofs.Levels.{means_is}
 use Rattle.ecma_print_reread.proofs.Fronts.{exactly, Begins, at_token, refuses_at, refused_at, refuses_all, all_refused}

@@ -23,12 +23,12 @@ use Rattle.ecma_grammar.specs.productions.Statements.{labeled}
 use Rattle.ecma_grammar.specs.productions.Modules as modules
 use Rattle.ecma_print_tokens.specs.Items as items
 use Rattle.ecma_print_tokens.specs.Items.{sign, no_gap, Gap, Items, it}
-use Rattle.ecma_print_reread.specs.Machine.{read, with_front, or_on, built_on, interp, means}
-use Rattle.ecma_print_reread.specs.Shapes as shapes
-use Rattle.ecma_print_reread.specs.Shapes.{Role, IsArguments, AreElements}
-use Rattle.ecma_print_reread.specs.Tokens.{arguments_tokens, elements_tokens}
-use Rattle.ecma_print_reread.specs.Signs.{blank}
-use Rattle.ecma_print_reread.specs.Bare.{bare_element, bare_arguments, bare_elements}
+use Rattle.ecma_print_reread.proofs.Machine.{read, with_front, or_on, built_on, interp, means}
+use Rattle.ecma_shapes.specs.Shapes as shapes
+use Rattle.ecma_shapes.specs.Shapes.{Role, IsArguments, AreElements}
+use Rattle.ecma_print_reread.proofs.Tokens.{arguments_tokens, elements_tokens}
+use Rattle.ecma_print_reread.proofs.Signs.{blank}
+use Rattle.ecma_print_reread.proofs.Bare.{bare_element, bare_arguments, bare_elements}
 use Rattle.ecma_print_reread.proofs.Moves.{eats}
 use Rattle.ecma_print_reread.proofs.Levels.{means_is}
 use Rattle.ecma_print_reread.proofs.Fronts.{Front, exactly, Begins, at_token, refused_at, refuses_all, all_refused}

@@ -18,9 +18,9 @@ use Rattle.ecma_grammar.specs.productions.Operators.{factors, terms, shifts, rel
 use Rattle.ecma_grammar.specs.productions.Expressions as expressions
 use Rattle.ecma_grammar.specs.productions.Expressions.{assignments, yield_}
 use Rattle.ecma_print_tokens.specs.Items.{Gap, Items, it}
-use Rattle.ecma_print_reread.specs.Machine.{read, with_front, followed_on, or_on, built_on, interp, means}
-use Rattle.ecma_print_reread.specs.Shapes as shapes
-use Rattle.ecma_print_reread.specs.Signs.{blank, assign_token}
+use Rattle.ecma_print_reread.proofs.Machine.{read, with_front, followed_on, or_on, built_on, interp, means}
+use Rattle.ecma_shapes.specs.Shapes as shapes
+use Rattle.ecma_print_reread.proofs.Signs.{blank, assign_token}
 use Rattle.ecma_print_reread.proofs.Levels.{means_is}
 use Rattle.ecma_print_reread.proofs.Fronts.{Front, exactly, Begins, at_token, refuses_at, refused_at}
 use Rattle.ecma_print_reread.proofs.Towers.{behind_arrow, closes_in, closes_conditional}

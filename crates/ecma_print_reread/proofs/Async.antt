@@ -23,7 +23,7 @@ use Rattle.ecma_grammar.specs.productions.Modules as modules
 use Rattle.ecma_print_tokens.specs.Items as items
 use Rattle.ecma_print_tokens.specs.Items.{Gap, Items, it}
 use Rattle.ecma_print_tokens.specs.Taking.{new_line_in}
-use Rattle.ecma_print_reread.specs.Machine.{read, fails, with_front, followed_on, or_on, built_on, interp, means, without}
+use Rattle.ecma_print_reread.proofs.Machine.{read, fails, with_front, followed_on, or_on, built_on, interp, means, without}
 use Rattle.ecma_print_reread.proofs.Fronts.{Front, exactly, Begins, at_token, front_of, refuses_at, refused_at}
 use Rattle.ecma_print_reread.proofs.Towers.{Tower, later, sooner, here, climb, excluded, Opens, Starts}
 use Rattle.ecma_print_reread.proofs.Heads.{bare}

@@ -15,12 +15,12 @@ use Rattle.ecma_print_tokens.specs.Joins.{joins_next}
 use Rattle.ecma_print.specs.declared.place.Beside.{Beside}
 use Rattle.ecma_print.specs.declared.place.Beside.TheVariants.{NoNeighbor}
 use Rattle.ecma_print.specs.Operators.{unary_sign, update_sign}
-use Rattle.ecma_print_reread.specs.Shapes as shapes
-use Rattle.ecma_print_reread.specs.Shapes.{Level, looser_than, IsOperator, key, IsExpression, IsElement, IsInitializer, AreSlots, IsMemberLevel, IsIndexed, AreProperties, IsPropertyName, IsProperty, IsDefaulted, IsPattern, Role, IsChainLink}
-use Rattle.ecma_print_reread.specs.LiteralTexts.{regex_text, part_text}
-use Rattle.ecma_print_reread.specs.Tokens.{own_sign, ident_word, key_word, expression_tokens, element_tokens, arguments_tokens, more_tokens, slots_tokens, more_slots_tokens, chain_token, properties_tokens, more_properties_tokens, property_tokens, initializer_tokens, defaulted_tokens, pattern_tokens, part_token, parts_tokens, ends_here, first_raw, block_tokens, is_generator, is_async, function_tokens, function_name_tokens, class_tokens, property_name_tokens}
-use Rattle.ecma_print_reread.specs.Signs.{blank, sign_of, assign_token, update_token, unary_token, binary_token, unary_gap, star_of, star_word, function_word, point_of, question_of, method_tokens}
-use Rattle.ecma_print_reread.specs.Starts.{is_brace}
+use Rattle.ecma_shapes.specs.Shapes as shapes
+use Rattle.ecma_shapes.specs.Shapes.{Level, looser_than, IsOperator, key, IsExpression, IsElement, IsInitializer, AreSlots, IsMemberLevel, IsIndexed, AreProperties, IsPropertyName, IsProperty, IsDefaulted, IsPattern, Role, IsChainLink}
+use Rattle.ecma_shapes.specs.LiteralTexts.{regex_text, part_text}
+use Rattle.ecma_print_reread.proofs.Tokens.{own_sign, ident_word, key_word, expression_tokens, element_tokens, arguments_tokens, more_tokens, slots_tokens, more_slots_tokens, chain_token, properties_tokens, more_properties_tokens, property_tokens, initializer_tokens, defaulted_tokens, pattern_tokens, part_token, parts_tokens, ends_here, first_raw, block_tokens, is_generator, is_async, function_tokens, function_name_tokens, class_tokens, property_name_tokens}
+use Rattle.ecma_print_reread.proofs.Signs.{blank, sign_of, assign_token, update_token, unary_token, binary_token, unary_gap, star_of, star_word, function_word, point_of, question_of, method_tokens}
+use Rattle.ecma_shapes.specs.Starts.{is_brace}
 use Rattle.ecma_print_reread.proofs.Starts.{start}
 use Rattle.ecma_print_reread.proofs.Softs.{Soft, comma, closing_bracket, parted}
 

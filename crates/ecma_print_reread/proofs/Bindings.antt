@@ -23,9 +23,9 @@ use Rattle.ecma_grammar.specs.productions.Expressions as expressions
 use Rattle.ecma_grammar.specs.productions.Expressions.{assignments, yield_}
 use Rattle.ecma_grammar.specs.productions.Modules.{module_item}
 use Rattle.ecma_print_tokens.specs.Items.{Gap, Items}
-use Rattle.ecma_print_reread.specs.Machine.{read, with_front, followed_on, or_on, built_on, many_up_to, interp, means}
-use Rattle.ecma_print_reread.specs.Shapes as shapes
-use Rattle.ecma_print_reread.specs.Shapes.{Level, looser_than}
+use Rattle.ecma_print_reread.proofs.Machine.{read, with_front, followed_on, or_on, built_on, many_up_to, interp, means}
+use Rattle.ecma_shapes.specs.Shapes as shapes
+use Rattle.ecma_shapes.specs.Shapes.{Level, looser_than}
 use Rattle.ecma_print_reread.proofs.Levels.{means_is}
 use Rattle.ecma_print_reread.proofs.Fronts.{Front, Begins, refuses_at, refused_at, first_refuses, refuses_first, passes_at, passed_at}
 use Rattle.ecma_print_reread.proofs.Towers.{Tower, here, later, before, chained, climb, suffix, power_tail, choice_tail, private_in, behind_arrow, closes_conditional, closes, Ends, refuses_choices, stops, closes_in}

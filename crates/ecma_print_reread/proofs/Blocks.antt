@@ -21,10 +21,10 @@ use Rattle.ecma_grammar.specs.productions.Statements.{statement_body}
 use Rattle.ecma_grammar.specs.productions.Modules as modules
 use Rattle.ecma_grammar.specs.productions.Modules.{module_item}
 use Rattle.ecma_print_tokens.specs.Items.{sign, Gap, Items, it}
-use Rattle.ecma_print_reread.specs.Machine.{fails, with_front, followed_on, built_on, interp, means}
-use Rattle.ecma_print_reread.specs.Shapes as shapes
-use Rattle.ecma_print_reread.specs.Shapes.{Ending}
-use Rattle.ecma_print_reread.specs.Bare.{bare}
+use Rattle.ecma_print_reread.proofs.Machine.{fails, with_front, followed_on, built_on, interp, means}
+use Rattle.ecma_shapes.specs.Shapes as shapes
+use Rattle.ecma_shapes.specs.Shapes.{Ending}
+use Rattle.ecma_print_reread.proofs.Bare.{bare}
 use Rattle.ecma_print_reread.proofs.Levels.{means_is}
 use Rattle.ecma_print_reread.proofs.Fronts.{Front, exactly, Begins, at_token, refuses_all, all_refused}
 use Rattle.ecma_print_reread.proofs.Towers.{refuses_choices}

@@ -13,11 +13,11 @@ use Rattle.ecma_grammar.specs.productions.Modules as modules
 use Rattle.ecma_grammar.specs.productions.Modules.{module_item}
 use Rattle.ecma_print_tokens.specs.Items as items
 use Rattle.ecma_print_tokens.specs.Items.{sign, Gap, no_gap, Items, it}
-use Rattle.ecma_print_reread.specs.Machine.{means}
-use Rattle.ecma_print_reread.specs.Shapes as shapes
-use Rattle.ecma_print_reread.specs.Shapes.{Ending}
-use Rattle.ecma_print_reread.specs.Signs.{blank}
-use Rattle.ecma_print_reread.specs.Bare.{bare}
+use Rattle.ecma_print_reread.proofs.Machine.{means}
+use Rattle.ecma_shapes.specs.Shapes as shapes
+use Rattle.ecma_shapes.specs.Shapes.{Ending}
+use Rattle.ecma_print_reread.proofs.Signs.{blank}
+use Rattle.ecma_print_reread.proofs.Bare.{bare}
 use Rattle.ecma_print_reread.proofs.Fronts.{exactly, at_token, refuses_at, refused_at}
 use Rattle.ecma_print_reread.proofs.Forms.{Laid, s, Reads}
 use Rattle.ecma_print_reread.proofs.Bindings.{Stands, expression_read}

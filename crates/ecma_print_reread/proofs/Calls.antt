@@ -24,12 +24,12 @@ use Rattle.ecma_grammar.specs.productions.Chains as chains
 use Rattle.ecma_grammar.specs.productions.Chains.{arguments, links}
 use Rattle.ecma_print_tokens.specs.Items as items
 use Rattle.ecma_print_tokens.specs.Items.{Tok, sign, no_gap, Items, it}
-use Rattle.ecma_print_reread.specs.Machine.{with_front}
-use Rattle.ecma_print_reread.specs.Shapes as shapes
-use Rattle.ecma_print_reread.specs.Shapes.{Level, IsPlainName, IsIdent, ident, key, IsArguments, AreElements, IsMemberLevel, IsIndexed, IsConstructor, AreParts, IsChainLink}
-use Rattle.ecma_print_reread.specs.Tokens.{ident_word, element_tokens, arguments_tokens, elements_tokens, part_token, parts_tokens}
-use Rattle.ecma_print_reread.specs.Signs.{blank, point_of, question_of}
-use Rattle.ecma_print_reread.specs.Bare.{bare, bare_element, bare_arguments, bare_elements, bare_substitutions, bare_parts}
+use Rattle.ecma_print_reread.proofs.Machine.{with_front}
+use Rattle.ecma_shapes.specs.Shapes as shapes
+use Rattle.ecma_shapes.specs.Shapes.{Level, IsPlainName, IsIdent, ident, key, IsArguments, AreElements, IsMemberLevel, IsIndexed, IsConstructor, AreParts, IsChainLink}
+use Rattle.ecma_print_reread.proofs.Tokens.{ident_word, element_tokens, arguments_tokens, elements_tokens, part_token, parts_tokens}
+use Rattle.ecma_print_reread.proofs.Signs.{blank, point_of, question_of}
+use Rattle.ecma_print_reread.proofs.Bare.{bare, bare_element, bare_arguments, bare_elements, bare_substitutions, bare_parts}
 use Rattle.ecma_print_reread.proofs.Levels.{means_is}
 use Rattle.ecma_print_reread.proofs.Fronts.{Front, exactly, Begins, at_token, IsName, is_known, refuses_at, refuses_all, all_refused}
 use Rattle.ecma_print_reread.proofs.Heads.{call_made, is_head, chain_call_made}

@@ -11,8 +11,8 @@ use Rattle.ecma_grammar.specs.productions.Names.{member_start, block}
 use Rattle.ecma_grammar.specs.productions.Classes.{member, modifier, modifiers, getter, setter, method, field, index_signature}
 use Rattle.ecma_print_tokens.specs.Items as items
 use Rattle.ecma_print_tokens.specs.Items.{Gap, Items, it}
-use Rattle.ecma_print_reread.specs.Machine.{read, with_front, followed_on, or_on, built_on, interp, means}
-use Rattle.ecma_print_reread.specs.Signs.{blank, static_tokens}
+use Rattle.ecma_print_reread.proofs.Machine.{read, with_front, followed_on, or_on, built_on, interp, means}
+use Rattle.ecma_print_reread.proofs.Signs.{blank, static_tokens}
 use Rattle.ecma_print_reread.proofs.Moves.{eats}
 use Rattle.ecma_print_reread.proofs.Heads.{bare}
 use Rattle.ecma_print_reread.proofs.Forms.{Laid, Reads, Refuses}

@@ -22,12 +22,12 @@ use Rattle.ecma_grammar.specs.productions.Modules as modules
 use Rattle.ecma_grammar.specs.productions.Modules.{module_item}
 use Rattle.ecma_print_tokens.specs.Items as items
 use Rattle.ecma_print_tokens.specs.Items.{sign, Gap, Items, it}
-use Rattle.ecma_print_reread.specs.Machine.{read, or_on, built_on, interp, means, without}
-use Rattle.ecma_print_reread.specs.Shapes as shapes
-use Rattle.ecma_print_reread.specs.Shapes.{IsHeritage, IsFunctionName, ident}
-use Rattle.ecma_print_reread.specs.Tokens.{expression_tokens, heritage_tokens, function_name_tokens}
-use Rattle.ecma_print_reread.specs.Signs.{blank}
-use Rattle.ecma_print_reread.specs.Bare.{expression_kind, expression_parts, bare_heritage, bare_function_name}
+use Rattle.ecma_print_reread.proofs.Machine.{read, or_on, built_on, interp, means, without}
+use Rattle.ecma_shapes.specs.Shapes as shapes
+use Rattle.ecma_shapes.specs.Shapes.{IsHeritage, IsFunctionName, ident}
+use Rattle.ecma_print_reread.proofs.Tokens.{expression_tokens, heritage_tokens, function_name_tokens}
+use Rattle.ecma_print_reread.proofs.Signs.{blank}
+use Rattle.ecma_print_reread.proofs.Bare.{expression_kind, expression_parts, bare_heritage, bare_function_name}
 use Rattle.ecma_print_reread.proofs.Moves.{eats}
 use Rattle.ecma_print_reread.proofs.Levels.{means_is}
 use Rattle.ecma_print_reread.proofs.Fronts.{exactly, at_token, refuses_all, all_refused}

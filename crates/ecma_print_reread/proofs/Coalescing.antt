@@ -17,10 +17,10 @@ use Rattle.ecma_grammar.specs.productions.Chains.{links, template_start}
 use Rattle.ecma_grammar.specs.productions.Operators.{factors, terms, shifts, relations, equalities, coalescing}
 use Rattle.ecma_grammar.proofs.Steps.{steps-append}
 use Rattle.ecma_print_tokens.specs.Items.{sign, Items, it}
-use Rattle.ecma_print_reread.specs.Machine.{with_front, followed_on, or_on, built_on, interp, means}
-use Rattle.ecma_print_reread.specs.Shapes as shapes
-use Rattle.ecma_print_reread.specs.Shapes.{Level, IsCoalesceHead}
-use Rattle.ecma_print_reread.specs.Signs.{blank}
+use Rattle.ecma_print_reread.proofs.Machine.{with_front, followed_on, or_on, built_on, interp, means}
+use Rattle.ecma_shapes.specs.Shapes as shapes
+use Rattle.ecma_shapes.specs.Shapes.{Level, IsCoalesceHead}
+use Rattle.ecma_print_reread.proofs.Signs.{blank}
 use Rattle.ecma_print_reread.proofs.Levels.{means_is}
 use Rattle.ecma_print_reread.proofs.Fronts.{Front, exactly, Begins, at_token}
 use Rattle.ecma_print_reread.proofs.Towers.{closes_in}

@@ -27,9 +27,9 @@ use Rattle.ecma_grammar.specs.productions.Modules as modules
 use Rattle.ecma_grammar.specs.productions.Operators.{prefixed}
 use Rattle.ecma_grammar.specs.productions.Chains.{arguments, links, new_links, new_body, template_start, super_of_member, super_of_link, import_meta, import_call, construction, chain}
 use Rattle.ecma_print_tokens.specs.Items.{key, sign, number, no_gap, Gap, Items, it}
-use Rattle.ecma_print_reread.specs.Machine.{read, with_front, followed_on, or_on, built_on, body_at, interp, means}
-use Rattle.ecma_print_reread.specs.Shapes as shapes
-use Rattle.ecma_print_reread.specs.Signs.{blank}
+use Rattle.ecma_print_reread.proofs.Machine.{read, with_front, followed_on, or_on, built_on, body_at, interp, means}
+use Rattle.ecma_shapes.specs.Shapes as shapes
+use Rattle.ecma_print_reread.proofs.Signs.{blank}
 use Rattle.ecma_print_reread.proofs.Levels.{means_is}
 use Rattle.ecma_print_reread.proofs.Fronts.{Front, exactly, a_name, the_end, Begins, at_token, at_name, at_end, refuses_at, refused_at, refuses_first, first_refuses, passes_at, passed_at}
 use Rattle.ecma_print_reread.proofs.Towers.{Opens, closes, refuses_choices, skipped}

@@ -13,7 +13,7 @@ use Rattle.ecma_grammar.specs.productions.Expressions.{assignments}
 use Rattle.ecma_grammar.specs.productions.Chains as chains
 use Rattle.ecma_grammar.specs.productions.Chains.{links, new_links}
 use Rattle.ecma_print_tokens.specs.Items.{sign, no_gap, Items}
-use Rattle.ecma_print_reread.specs.Shapes as shapes
+use Rattle.ecma_shapes.specs.Shapes as shapes
 use Rattle.ecma_print_reread.proofs.Levels.{means_is}
 use Rattle.ecma_print_reread.proofs.Fronts.{exactly, at_token, refuses_at}
 use Rattle.ecma_print_reread.proofs.Towers.{Ends}

@@ -18,15 +18,15 @@ use Rattle.ecma_print.specs.Statements.{keyword}
 use Rattle.ecma_print_tokens.specs.Items as items
 use Rattle.ecma_print_tokens.specs.Items.{Gap, Items, it}
 use Rattle.ecma_print_reread.proofs.Classes.{class_declaration_read}
-use Rattle.ecma_print_reread.specs.Machine.{fails, built_on, with_front, or_on, interp, means, without}
-use Rattle.ecma_print_reread.specs.Shapes as shapes
-use Rattle.ecma_print_reread.specs.Shapes.{Ending, IsStatement}
-use Rattle.ecma_print_reread.specs.Modules as modules
-use Rattle.ecma_print_reread.specs.Modules.{IsString, IsExportName, IsWithClause, IsNamedExport, AreNamedExports, IsExportClause, is_declaration}
-use Rattle.ecma_print_reread.specs.Tokens.{statement_tokens, ident_word}
-use Rattle.ecma_print_reread.specs.Signs.{blank, sign_of, function_word, closing_gap}
-use Rattle.ecma_print_reread.specs.Bare.{bare, bare_statement}
-use Rattle.ecma_print_reread.specs.ModuleTokens.{spaced, spaced_word, spaced_sign, export_name_token, from_tokens, named_export_tokens, more_exports_tokens, export_clause_tokens, bare_string, bare_export_name, bare_with, bare_named_export, bare_named_exports, bare_export_clause}
+use Rattle.ecma_print_reread.proofs.Machine.{fails, built_on, with_front, or_on, interp, means, without}
+use Rattle.ecma_shapes.specs.Shapes as shapes
+use Rattle.ecma_shapes.specs.Shapes.{Ending, IsStatement}
+use Rattle.ecma_shapes.specs.Modules as modules
+use Rattle.ecma_shapes.specs.Modules.{IsString, IsExportName, IsWithClause, IsNamedExport, AreNamedExports, IsExportClause, is_declaration}
+use Rattle.ecma_print_reread.proofs.Tokens.{statement_tokens, ident_word}
+use Rattle.ecma_print_reread.proofs.Signs.{blank, sign_of, function_word, closing_gap}
+use Rattle.ecma_print_reread.proofs.Bare.{bare, bare_statement}
+use Rattle.ecma_print_reread.proofs.ModuleTokens.{spaced, spaced_word, spaced_sign, export_name_token, from_tokens, named_export_tokens, more_exports_tokens, export_clause_tokens, bare_string, bare_export_name, bare_with, bare_named_export, bare_named_exports, bare_export_clause}
 use Rattle.ecma_print_reread.proofs.Moves.{eats}
 use Rattle.ecma_print_reread.proofs.Fronts.{exactly, at_token}
 use Rattle.ecma_print_reread.proofs.Towers.{skipped}

@@ -32,12 +32,12 @@ use Rattle.ecma_grammar.specs.Reads.{without_separators}
 use Rattle.ecma_print_tokens.specs.Items as items
 use Rattle.ecma_print_tokens.specs.Items.{Tok, sign, Gap, no_gap, Items, it}
 use Rattle.ecma_print_tokens.specs.Taking.{leaf_kind}
-use Rattle.ecma_print_reread.specs.Machine.{read, with_front, followed_on, built_on, interp, means}
-use Rattle.ecma_print_reread.specs.Shapes as shapes
-use Rattle.ecma_print_reread.specs.Signs.{blank}
-use Rattle.ecma_print_reread.specs.Bare.{bare}
-use Rattle.ecma_print_reread.specs.Shapes.{IsRegex}
-use Rattle.ecma_print_reread.specs.LiteralTexts.{regex_text}
+use Rattle.ecma_print_reread.proofs.Machine.{read, with_front, followed_on, built_on, interp, means}
+use Rattle.ecma_shapes.specs.Shapes as shapes
+use Rattle.ecma_print_reread.proofs.Signs.{blank}
+use Rattle.ecma_print_reread.proofs.Bare.{bare}
+use Rattle.ecma_shapes.specs.Shapes.{IsRegex}
+use Rattle.ecma_shapes.specs.LiteralTexts.{regex_text}
 use Rattle.ecma_print_reread.proofs.Levels.{means_is}
 use Rattle.ecma_grammar.specs.Made.{made}
 use Rattle.ecma_print_reread.proofs.Fronts.{is_known, Front, exactly, a_name, Begins, at_token, at_name, IsName, front_of, refuses_at, refused_at, refuses_all, all_refused}

@@ -11,13 +11,13 @@ use Rattle.ecma_grammar.specs.productions.Names.{prop_start}
 use Rattle.ecma_grammar.specs.productions.Functions.{signature}
 use Rattle.ecma_grammar.specs.productions.Classes.{setter, method, field, question_or_exclamation}
 use Rattle.ecma_print_tokens.specs.Items.{sign, Gap, Items}
-use Rattle.ecma_print_reread.specs.Machine.{or_on, interp, means}
-use Rattle.ecma_print_reread.specs.Shapes as shapes
-use Rattle.ecma_print_reread.specs.Shapes.{IsInitializer}
-use Rattle.ecma_print_reread.specs.MemberKinds.{field_kind}
-use Rattle.ecma_print_reread.specs.Tokens.{initializer_tokens}
-use Rattle.ecma_print_reread.specs.Signs.{static_tokens}
-use Rattle.ecma_print_reread.specs.Bare.{bare_initializer}
+use Rattle.ecma_print_reread.proofs.Machine.{or_on, interp, means}
+use Rattle.ecma_shapes.specs.Shapes as shapes
+use Rattle.ecma_shapes.specs.Shapes.{IsInitializer}
+use Rattle.ecma_shapes.specs.MemberKinds.{field_kind}
+use Rattle.ecma_print_reread.proofs.Tokens.{initializer_tokens}
+use Rattle.ecma_print_reread.proofs.Signs.{static_tokens}
+use Rattle.ecma_print_reread.proofs.Bare.{bare_initializer}
 use Rattle.ecma_print_reread.proofs.Fronts.{exactly, at_token}
 use Rattle.ecma_print_reread.proofs.Heads.{bare, nodes}
 use Rattle.ecma_print_reread.proofs.Forms.{Laid, s, Reads, Refuses}

@@ -29,12 +29,12 @@ use Rattle.ecma_grammar.specs.productions.Modules.{module_item}
 use Rattle.ecma_print.specs.Statements.{keyword}
 use Rattle.ecma_print_tokens.specs.Items as items
 use Rattle.ecma_print_tokens.specs.Items.{sign, Gap, no_gap, Items, it}
-use Rattle.ecma_print_reread.specs.Machine.{read, or_on, interp, means, many_up_to, fails}
-use Rattle.ecma_print_reread.specs.Shapes as shapes
-use Rattle.ecma_print_reread.specs.Shapes.{Ending, IsOptional, IsForInit, IsDeclarator, AreDeclarators, IsPattern}
-use Rattle.ecma_print_reread.specs.Tokens.{expression_tokens, optional_tokens, for_init_tokens, declarator_tokens, declarators_tokens, pattern_tokens}
-use Rattle.ecma_print_reread.specs.Signs.{blank}
-use Rattle.ecma_print_reread.specs.Bare.{bare, expression_kind, expression_parts, bare_optional, bare_for_init, bare_declarator, bare_declarators, bare_pattern}
+use Rattle.ecma_print_reread.proofs.Machine.{read, or_on, interp, means, many_up_to, fails}
+use Rattle.ecma_shapes.specs.Shapes as shapes
+use Rattle.ecma_shapes.specs.Shapes.{Ending, IsOptional, IsForInit, IsDeclarator, AreDeclarators, IsPattern}
+use Rattle.ecma_print_reread.proofs.Tokens.{expression_tokens, optional_tokens, for_init_tokens, declarator_tokens, declarators_tokens, pattern_tokens}
+use Rattle.ecma_print_reread.proofs.Signs.{blank}
+use Rattle.ecma_print_reread.proofs.Bare.{bare, expression_kind, expression_parts, bare_optional, bare_for_init, bare_declarator, bare_declarators, bare_pattern}
 use Rattle.ecma_print_reread.proofs.Levels.{means_is}
 use Rattle.ecma_print_reread.proofs.Fronts.{Front, exactly, Begins, at_token, refuses_all, all_refused, is_known, refuses_at, refused_at, refuses_first, a_name, the_end, passes_at}
 use Rattle.ecma_print_reread.proofs.Towers.{skipped, Tower, here, later, before, chained, climb, behind_arrow, closes_conditional}

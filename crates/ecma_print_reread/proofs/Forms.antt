@@ -18,9 +18,9 @@ use Rattle.ecma_grammar.specs.productions.Statements.{labeled, statement_body}
 use Rattle.ecma_grammar.specs.productions.Modules.{module_item, import, import_equals, export}
 use Rattle.ecma_print_tokens.specs.Items.{Tok, sign, number, Gap, no_gap, Items, it}
 use Rattle.ecma_grammar.specs.declared.production.Part.TheVariants as part
-use Rattle.ecma_print_reread.specs.Signs.{blank}
-use Rattle.ecma_print_reread.specs.Machine.{read, fails, built_on, interp, means, without}
-use Rattle.ecma_print_reread.specs.Shapes as shapes
+use Rattle.ecma_print_reread.proofs.Signs.{blank}
+use Rattle.ecma_print_reread.proofs.Machine.{read, fails, built_on, interp, means, without}
+use Rattle.ecma_shapes.specs.Shapes as shapes
 use Rattle.ecma_print_reread.proofs.Fronts.{Front, exactly, Begins, at_token, refuses_at, refused_at, refuses_all, all_refused, passes_at, passed_at}
 use Rattle.ecma_print_reread.proofs.Towers.{refuses_choices, excluded, private_in, Opens, closes}
 use Rattle.ecma_print_reread.proofs.Heads.{bare}

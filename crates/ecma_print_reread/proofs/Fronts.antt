@@ -18,7 +18,7 @@ use Rattle.ecma_print_tokens.specs.Taking as taking
 use Rattle.ecma_print_tokens.specs.Taking.{Took, took, refused, took_if, unsure_if, begins_by, token_in, leaf_in, new_line_in, word_in, punct_in, key_in, name_in, private_name_in, string_in, number_in, big_int_in, regex_in, template_in}
 use Rattle.ecma_grammar.specs.PartBodies.{part_body}
 use Rattle.ecma_grammar.specs.productions.Chains.{new_body}
-use Rattle.ecma_print_reread.specs.Machine.{Out, read, fails, Turn, count, taken, kept, behind_on, with_front, followed_on, or_on, many_on, many_up_to, ahead_on, unless_on, built_on, without, body_at, interp, means}
+use Rattle.ecma_print_reread.proofs.Machine.{Out, read, fails, Turn, count, taken, kept, behind_on, with_front, followed_on, or_on, many_on, many_up_to, ahead_on, unless_on, built_on, without, body_at, interp, means}
 use Rattle.ecma_print_reread.proofs.Levels.{means_is}
 
 -- the token that stands first: this one, or a name that is none of the words that the grammar knows; or none

@@ -17,12 +17,12 @@ use Rattle.ecma_grammar.specs.productions.Operators.{prefixed}
 use Rattle.ecma_grammar.specs.productions.Chains.{super_of_member, super_of_link, import_meta, import_call, construction}
 use Rattle.ecma_print_tokens.specs.Items as items
 use Rattle.ecma_print_tokens.specs.Items.{sign, Gap, Items, it}
-use Rattle.ecma_print_reread.specs.Machine.{or_on, without, interp, means}
-use Rattle.ecma_print_reread.specs.Shapes as shapes
-use Rattle.ecma_print_reread.specs.Shapes.{IsArguments, IsFunctionName, IsHeritage}
-use Rattle.ecma_print_reread.specs.Tokens.{arguments_tokens, function_name_tokens, heritage_tokens}
-use Rattle.ecma_print_reread.specs.Signs.{blank, sign_of, star_word, function_word}
-use Rattle.ecma_print_reread.specs.Bare.{bare_arguments, bare_params, bare_function_name, bare_heritage}
+use Rattle.ecma_print_reread.proofs.Machine.{or_on, without, interp, means}
+use Rattle.ecma_shapes.specs.Shapes as shapes
+use Rattle.ecma_shapes.specs.Shapes.{IsArguments, IsFunctionName, IsHeritage}
+use Rattle.ecma_print_reread.proofs.Tokens.{arguments_tokens, function_name_tokens, heritage_tokens}
+use Rattle.ecma_print_reread.proofs.Signs.{blank, sign_of, star_word, function_word}
+use Rattle.ecma_print_reread.proofs.Bare.{bare_arguments, bare_params, bare_function_name, bare_heritage}
 use Rattle.ecma_print_reread.proofs.Fronts.{Front, exactly, Begins, at_token, refuses_at, refused_at}
 use Rattle.ecma_print_reread.proofs.Towers.{Opens}
 use Rattle.ecma_print_reread.proofs.Heads.{bare}

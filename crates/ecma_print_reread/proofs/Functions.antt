@@ -23,12 +23,12 @@ use Rattle.ecma_grammar.specs.productions.Modules as modules
 use Rattle.ecma_grammar.specs.productions.Modules.{module_item}
 use Rattle.ecma_print_tokens.specs.Items as items
 use Rattle.ecma_print_tokens.specs.Items.{Gap, Items, it}
-use Rattle.ecma_print_reread.specs.Machine.{read, or_on, interp, means, without}
-use Rattle.ecma_print_reread.specs.Shapes as shapes
-use Rattle.ecma_print_reread.specs.Shapes.{IsPattern, IsDefaulted, IsElement, AreElements, IsArguments, IsFunctionName, ident}
-use Rattle.ecma_print_reread.specs.Tokens.{arguments_tokens, function_name_tokens}
-use Rattle.ecma_print_reread.specs.Signs.{blank, function_word}
-use Rattle.ecma_print_reread.specs.Bare.{bare_pattern, bare_defaulted, bare_element, bare_elements, bare_arguments, bare_params, bare_function_name}
+use Rattle.ecma_print_reread.proofs.Machine.{read, or_on, interp, means, without}
+use Rattle.ecma_shapes.specs.Shapes as shapes
+use Rattle.ecma_shapes.specs.Shapes.{IsPattern, IsDefaulted, IsElement, AreElements, IsArguments, IsFunctionName, ident}
+use Rattle.ecma_print_reread.proofs.Tokens.{arguments_tokens, function_name_tokens}
+use Rattle.ecma_print_reread.proofs.Signs.{blank, function_word}
+use Rattle.ecma_print_reread.proofs.Bare.{bare_pattern, bare_defaulted, bare_element, bare_elements, bare_arguments, bare_params, bare_function_name}
 use Rattle.ecma_print_reread.proofs.Levels.{means_is}
 use Rattle.ecma_print_reread.proofs.Fronts.{Front, exactly, Begins, at_token}
 use Rattle.ecma_print_reread.proofs.Towers.{skipped, refuses_choices}

@@ -4,7 +4,7 @@ use Rattle.std.proofs.lemmas.Bool.{and_parts}
 use Rattle.ecma_tree.specs.declared.node.Node.{Node}
 use Rattle.ecma_grammar.specs.Grammar.{Grammar, ◌▸◌, punct}
 use Rattle.ecma_print_tokens.specs.Items.{sign, Gap, Items, it}
-use Rattle.ecma_print_reread.specs.Machine.{with_front, means}
+use Rattle.ecma_print_reread.proofs.Machine.{with_front, means}
 use Rattle.ecma_print_reread.proofs.Moves.{eats}
 use Rattle.ecma_print_reread.proofs.Fronts.{Front, Begins, refuses_at, refused_at, refuses_first}
 use Rattle.ecma_print_reread.proofs.Forms.{Reads, Refuses, ends_no_list, ends_no_item, AsItem, item_refused, whole_item, item_before}

@@ -6,9 +6,9 @@ use Rattle.ecma_kind.specs.declared.operators.BinaryOp.TheVariants as op
 use Rattle.ecma_kind.specs.declared.kind.Kind.{Kind}
 use Rattle.ecma_kind.specs.declared.kind.Kind.TheVariants as kind
 use Rattle.ecma_tree.specs.declared.node.Node.{Node}
-use Rattle.ecma_print_reread.specs.Shapes as shapes
-use Rattle.ecma_print_reread.specs.Shapes.{Level, IsMemberLevel, IsIndexed}
-use Rattle.ecma_print_reread.specs.Heads.{may_hold_by}
+use Rattle.ecma_shapes.specs.Shapes as shapes
+use Rattle.ecma_shapes.specs.Shapes.{Level, IsMemberLevel, IsIndexed}
+use Rattle.ecma_shapes.specs.Heads.{may_hold_by}
 use Rattle.ecma_print_reread.proofs.Forms.{Laid}
 use Rattle.ecma_print_reread.proofs.Bindings.{StandsIn, Stands}
 use Rattle.ecma_print_reread.proofs.Operations.{stands_there}

@@ -1,13 +1,11 @@
 -- In the head of a loop an expression without a bare `in` is laid out as elsewhere.
 use Rattle.std.proofs.Common.{◌≡◌, ℕ, ◌||◌, Bool, true, false, List, [], ◌∷◌, ◌++◌, map, refl, ap, sym, subst, ◌∙◌, codes, if◌then◌else◌}
-use Rattle.std.proofs.lemmas.Bool.{false≢true}
+use Rattle.std.proofs.lemmas.Bool.{false≢true, or_parts}
 use Rattle.ecma_kind.specs.declared.operators.BinaryOp.{BinaryOp}
 use Rattle.ecma_kind.specs.declared.operators.BinaryOp.TheVariants as op
-use Rattle.ecma_kind.specs.declared.span.Span.{Span}
 use Rattle.ecma_kind.specs.declared.kind.Kind.{Kind}
 use Rattle.ecma_kind.specs.declared.kind.Kind.TheVariants as kind
-use Rattle.ecma_tree.specs.declared.node.Node.{Node, ind-Node, fold-roll-Node}
-use Rattle.ecma_tree.specs.Nodes.{node_of}
+use Rattle.ecma_tree.specs.declared.node.Node.{Node, ind-Node}
 use Rattle.ecma_print.specs.declared.place.Begins.TheVariants.{ArrowBodyStart}
 use Rattle.ecma_print.specs.declared.place.Beside.{Beside}
 use Rattle.ecma_print.specs.declared.place.Beside.TheVariants.{NoNeighbor, BeforeLink, InChain}
@@ -23,15 +21,9 @@ use Rattle.ecma_print.specs.Operators.{assign_word, unary_word, unary_sign, upda
 use Rattle.ecma_print.specs.Expressions.{object_beside, is_optional, question_dot, callee_spot, link_of, more_of_sequence, yield_word}
 use Rattle.ecma_print.specs.Functions.{async_word}
 use Rattle.ecma_print.specs.Layout.{whole, standing, in_place, laid}
-use Rattle.ecma_print_reread.specs.Heads.{any_of, may_hold_by, may_hold_step, may_hold_in}
+use Rattle.ecma_shapes.specs.Heads.{any_of, may_hold_by, may_hold_in}
+use Rattle.ecma_shapes.proofs.Heads.{may_hold_node}
 use Rattle.ecma_print_reread.proofs.Layouts.{at_node}
-
-pub may_hold_node : (at : Span) (k : Kind) (cs : List Node) → may_hold_in (node_of at k cs) ≡ may_hold_by k (map may_hold_in cs)
-may_hold_node at k cs = fold-roll-Node Bool may_hold_step (record { span = at; kind = k; children = cs })
-
-pub neither : (a b : Bool) → (a || b) ≡ false → (a ≡ false) × (b ≡ false)
-neither true b h = absurd (false≢true (sym h))
-neither false b h = (refl, h)
 
 -- the same spot elsewhere
 abbrev pub with_in : Spot → Spot
@@ -72,7 +64,7 @@ abbrev held : Kind → Children → Bool
 held k cs = may_hold_by k (hold cs)
 
 pub one_same : (b : Bool) → (b || false) ≡ false → b ≡ false
-one_same b h = (neither b false h).0
+one_same b h = (or_parts b false h).0
 
 -- with what stands before and behind it, if it is there
 within_by : (k : Kind) (xs : List Laid) → ((spot : Spot) (m rest : List ℕ) → in_place k xs (At spot) m rest ≡ in_place k xs (At (with_in spot)) m rest)
@@ -95,7 +87,7 @@ within_same = ind-Node WithinSame (λ x y is S between spot m rest.
 rest_same : (cs : Children) → any_of (hold cs) ≡ false → (spot : Spot) (m rest : List ℕ) → more_of_sequence (texts cs) spot m rest ≡ more_of_sequence (texts cs) (with_in spot) m rest
 rest_same [] h spot m rest = refl
 rest_same (x ∷ cs) h spot m rest =
-    let c = neither (may_hold_in x.0) _ h in
+    let c = or_parts (may_hold_in x.0) _ h in
     ap (λ z. codes ", " ++ (laid x.0).at (At (right spot 1 NoNeighbor)) m z) (rest_same cs c.1 spot m rest) ∙ ap (λ z. codes ", " ++ z) (x.1 c.0 (right spot 1 NoNeighbor) m (more_of_sequence (texts cs) (with_in spot) m rest))
 
 step_same : (k : Kind) (cs : Children) → held k cs ≡ false → (spot : Spot) (m rest : List ℕ) → in_place k (texts cs) (At spot) m rest ≡ in_place k (texts cs) (At (with_in spot)) m rest
@@ -109,18 +101,18 @@ step_same kind.AwaitExpr (x ∷ []) h spot m rest =
     standing_same kind.AwaitExpr (texts (x ∷ [])) spot refl m rest (ap (λ z. codes "await " ++ z) (x.1 (one_same _ h) (right spot 14 NoNeighbor) m rest))
 step_same (kind.BinExpr o) (x ∷ y ∷ []) h spot m rest =
     let bs = may_hold_in x.0 ∷ may_hold_in y.0 ∷ [] in
-    let c = neither (may_hold_in x.0) _ (operands_hold o bs h) in
+    let c = or_parts (may_hold_in x.0) _ (operands_hold o bs h) in
     standing_same (kind.BinExpr o) (texts (x ∷ y ∷ [])) spot (rw (clash_same o bs h spot spot.beside) refl) m rest
     (ap (λ z. (laid x.0).at (At (left spot (left_level o) (under o))) m (binary_word o ++ z)) (y.1 (one_same _ c.1) (right spot (right_level o) (under o)) m rest)
     ∙ x.1 c.0 (left spot (left_level o) (under o)) m (binary_word o ++ (laid y.0).at (At (right (with_in spot) (right_level o) (under o))) m rest))
 step_same (kind.AssignExpr o) (x ∷ y ∷ []) h spot m rest =
-    let c = neither (may_hold_in x.0) _ h in
+    let c = or_parts (may_hold_in x.0) _ h in
     standing_same (kind.AssignExpr o) (texts (x ∷ y ∷ [])) spot refl m rest
     (ap (λ z. (laid x.0).at (At (left spot 16 NoNeighbor)) m (assign_word o ++ z)) (y.1 (one_same _ c.1) (right spot 1 NoNeighbor) m rest)
     ∙ x.1 c.0 (left spot 16 NoNeighbor) m (assign_word o ++ (laid y.0).at (At (right (with_in spot) 1 NoNeighbor)) m rest))
 step_same kind.CondExpr (x ∷ y ∷ z ∷ []) h spot m rest =
-    let c = neither (may_hold_in x.0) _ h in
-    let d = neither (may_hold_in y.0) _ c.1 in
+    let c = or_parts (may_hold_in x.0) _ h in
+    let d = or_parts (may_hold_in y.0) _ c.1 in
     let last = (laid z.0).at (At (right (with_in spot) 1 NoNeighbor)) m rest in
     let more = codes " ? " ++ (laid y.0).at (At (right (with_in spot) 1 NoNeighbor)) m (codes " : " ++ last) in
     standing_same kind.CondExpr (texts (x ∷ y ∷ z ∷ [])) spot refl m rest
@@ -139,19 +131,19 @@ step_same kind.TaggedTpl (x ∷ y ∷ z ∷ []) h spot m rest =
     standing_same kind.TaggedTpl (texts (x ∷ y ∷ z ∷ [])) spot refl m rest (x.1 h (left spot 16 BeforeLink) m ((laid z.0).at (At (free 0)) m rest))
 step_same kind.SeqExpr [] h spot m rest = standing_same kind.SeqExpr (texts []) spot refl m rest refl
 step_same kind.SeqExpr (x ∷ cs) h spot m rest =
-    let c = neither (may_hold_in x.0) _ h in
+    let c = or_parts (may_hold_in x.0) _ h in
     standing_same kind.SeqExpr (texts (x ∷ cs)) spot refl m rest
     (ap (λ z. (laid x.0).at (At (left spot 1 NoNeighbor)) m z) (rest_same cs c.1 spot m rest) ∙ x.1 c.0 (left spot 1 NoNeighbor) m (more_of_sequence (texts cs) (with_in spot) m rest))
 step_same (kind.YieldExpr delegate) (x ∷ []) h spot m rest =
     standing_same (kind.YieldExpr delegate) (texts (x ∷ [])) spot refl m rest (ap (λ z. yield_word delegate ++ z) (within_same x.0 (x.1 (one_same _ h)) Blank (right spot 1 NoNeighbor) m rest))
 step_same (kind.ArrowExpr is_async is_generator) (p ∷ b ∷ t ∷ r ∷ []) h spot m rest =
-    let c = neither (may_hold_in p.0) _ h in
-    let d = neither (may_hold_in b.0) _ c.1 in
+    let c = or_parts (may_hold_in p.0) _ h in
+    let d = or_parts (may_hold_in b.0) _ c.1 in
     standing_same (kind.ArrowExpr is_async is_generator) (texts (p ∷ b ∷ t ∷ r ∷ [])) spot refl m rest
     (ap (λ z. async_word is_async ++ (laid p.0).at Arguments m (codes " => " ++ z)) (b.1 d.0 (beginning 1 ArrowBodyStart spot.without_in) m rest))
 step_same (kind.VarDecl k declare) cs h spot m rest = absurd (false≢true (sym h))
 step_same (kind.VarDeclarator definite) (x ∷ y ∷ []) h spot m rest =
-    let c = neither (may_hold_in x.0) _ h in
+    let c = or_parts (may_hold_in x.0) _ h in
     standing_same (kind.VarDeclarator definite) (texts (x ∷ y ∷ [])) spot refl m rest (ap (λ z. (laid x.0).at (At (free 1)) m z) (within_same y.0 (y.1 (one_same _ c.1)) Equals (right spot 1 NoNeighbor) m rest))
 step_same (kind.BinExpr o) [] h spot m rest = standing_same (kind.BinExpr o) (texts []) spot (rw (clash_same o (hold []) h spot spot.beside) refl) m rest refl
 step_same (kind.BinExpr o) (x ∷ []) h spot m rest = standing_same (kind.BinExpr o) (texts (x ∷ [])) spot (rw (clash_same o (hold (x ∷ [])) h spot spot.beside) refl) m rest refl

@@ -23,7 +23,7 @@ use Rattle.ecma_grammar.specs.productions.Operators.{prefixed}
 use Rattle.ecma_grammar.specs.productions.Primary.{primary}
 use Rattle.ecma_grammar.specs.productions.Chains.{arguments, links, new_links, super_of_member, super_of_link, import_meta, import_call, construction}
 use Rattle.ecma_print_tokens.specs.Items.{key, no_gap, Gap, Items, it}
-use Rattle.ecma_print_reread.specs.Machine.{with_front, followed_on, or_on, built_on, interp, means}
+use Rattle.ecma_print_reread.proofs.Machine.{with_front, followed_on, or_on, built_on, interp, means}
 use Rattle.ecma_print_reread.proofs.Fronts.{Front, exactly, at_token, refuses_at, refused_at}
 use Rattle.ecma_print_reread.proofs.Towers.{Opens}
 use Rattle.ecma_print_reread.proofs.Heads.{bare}

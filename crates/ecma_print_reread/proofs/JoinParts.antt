@@ -1,6 +1,6 @@
 -- What the tokens of statements, functions and classes are put together of, and what may stand before them.
 use Rattle.ecma_print_tokens.specs.Items as items
-use Rattle.ecma_print_reread.specs.Shapes as shapes
+use Rattle.ecma_shapes.specs.Shapes as shapes
 use Rattle.std.proofs.Common.{◌≡◌, ℕ, zero, suc, ◌&&◌, Bool, true, false, List, [], ◌∷◌, codes, refl, ap₂, ◌∙◌, ◌++◌}
 use Rattle.std.specs.List.{list_all}
 use Rattle.std.proofs.lemmas.List.Folds.{list_all-append}
@@ -13,9 +13,9 @@ use Rattle.ecma_print.specs.Statements.{keyword}
 use Rattle.ecma_print_tokens.specs.Items.{Tok, sign, Gap, no_gap, Items, it}
 use Rattle.ecma_print_tokens.specs.Good.{IsGap, IsToken, is_gap_character}
 use Rattle.ecma_print_tokens.specs.Joins.{joins, joins_next, Joined}
-use Rattle.ecma_print_reread.specs.Shapes.{IsInitializer, Level, IsExpression, Ending, IsStatement, IsBlock, IsCase, AreCases, IsCatch, AreStatements, IsOptional, IsPattern, IsFunction, IsHeritage, IsClass, IsMemberName, IsMember, AreMembers, IsDeclarator}
-use Rattle.ecma_print_reread.specs.Tokens.{expression_tokens, ident_word, test_tokens, statement_tokens, block_tokens, case_tokens, cases_tokens, catch_tokens, lined_tokens, optional_tokens, initializer_tokens, pattern_tokens, is_generator, is_async, function_tokens, heritage_tokens, class_tokens, member_tokens, members_tokens, key_word, member_name_tokens, declarator_tokens}
-use Rattle.ecma_print_reread.specs.Signs.{margin, line_at, blank, sign_of, closing_gap, branch_gap, for_tokens, function_word, method_tokens, static_tokens, accessor_text}
+use Rattle.ecma_shapes.specs.Shapes.{IsInitializer, Level, IsExpression, Ending, IsStatement, IsBlock, IsCase, AreCases, IsCatch, AreStatements, IsOptional, IsPattern, IsFunction, IsHeritage, IsClass, IsMemberName, IsMember, AreMembers, IsDeclarator}
+use Rattle.ecma_print_reread.proofs.Tokens.{expression_tokens, ident_word, test_tokens, statement_tokens, block_tokens, case_tokens, cases_tokens, catch_tokens, lined_tokens, optional_tokens, initializer_tokens, pattern_tokens, is_generator, is_async, function_tokens, heritage_tokens, class_tokens, member_tokens, members_tokens, key_word, member_name_tokens, declarator_tokens}
+use Rattle.ecma_print_reread.proofs.Signs.{margin, line_at, blank, sign_of, closing_gap, branch_gap, for_tokens, function_word, method_tokens, static_tokens, accessor_text}
 use Rattle.ecma_print_reread.proofs.Beginnings.{pattern_blank_joins, begun, blank_joins, opening_joins}
 use Rattle.ecma_print_reread.proofs.Joins.{Words, BehindName, no_gap_is, blank_is}
 

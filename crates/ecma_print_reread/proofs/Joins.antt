@@ -18,12 +18,12 @@ use Rattle.ecma_print_tokens.specs.Joins.{joins_next, Fine, Joined}
 use Rattle.ecma_print.specs.declared.place.Beside.{Beside}
 use Rattle.ecma_print.specs.declared.place.Beside.TheVariants.{BehindMinus, BehindPlus}
 use Rattle.ecma_print_tokens.proofs.Wholes.{some_text}
-use Rattle.ecma_print_reread.specs.Machine.{count}
-use Rattle.ecma_print_reread.specs.Shapes as shapes
-use Rattle.ecma_print_reread.specs.Shapes.{Level, IsOperator, IsIdent, ident, IsKey, key, IsExpression, AreElements, AreExpressions, AreDeclarators, IsChainKey, Role, IsPart}
-use Rattle.ecma_print_reread.specs.LiteralTexts.{part_text}
-use Rattle.ecma_print_reread.specs.Tokens.{ident_word, key_word, expression_tokens, elements_tokens, more_tokens, declarators_tokens, chain_token, part_raw}
-use Rattle.ecma_print_reread.specs.Signs.{blank, sign_of, assign_token, update_token, unary_token, binary_token, unary_gap, point_of, question_of}
+use Rattle.ecma_print_reread.proofs.Machine.{count}
+use Rattle.ecma_shapes.specs.Shapes as shapes
+use Rattle.ecma_shapes.specs.Shapes.{Level, IsOperator, IsIdent, ident, IsKey, key, IsExpression, AreElements, AreExpressions, AreDeclarators, IsChainKey, Role, IsPart}
+use Rattle.ecma_shapes.specs.LiteralTexts.{part_text}
+use Rattle.ecma_print_reread.proofs.Tokens.{ident_word, key_word, expression_tokens, elements_tokens, more_tokens, declarators_tokens, chain_token, part_raw}
+use Rattle.ecma_print_reread.proofs.Signs.{blank, sign_of, assign_token, update_token, unary_token, binary_token, unary_gap, point_of, question_of}
 use Rattle.ecma_print_reread.proofs.Softs.{Soft, key_soft, private_soft, is_object, comma, semicolon, increment, decrement}
 use Rattle.ecma_print_reread.proofs.Beginnings.{blank_joins}
 

@@ -21,9 +21,9 @@ use Rattle.ecma_grammar.specs.productions.Modules.{module_item}
 use Rattle.ecma_print_tokens.specs.Items as items
 use Rattle.ecma_print_tokens.specs.Items.{sign, Items, it}
 use Rattle.ecma_print_tokens.specs.Taking.{new_line_in}
-use Rattle.ecma_print_reread.specs.Shapes as shapes
-use Rattle.ecma_print_reread.specs.Signs.{blank}
-use Rattle.ecma_print_reread.specs.Bare.{bare}
+use Rattle.ecma_shapes.specs.Shapes as shapes
+use Rattle.ecma_print_reread.proofs.Signs.{blank}
+use Rattle.ecma_print_reread.proofs.Bare.{bare}
 use Rattle.ecma_print_reread.proofs.Fronts.{exactly, at_token, refuses_all, all_refused}
 use Rattle.ecma_print_reread.proofs.Forms.{Laid, s}
 use Rattle.ecma_print_reread.proofs.Bindings.{Stands, expression_read}

@@ -1,9 +1,9 @@
 -- What the layout of statements, functions and classes is put together of.
 use Rattle.ecma_kind.specs.declared.kind.Kind.TheVariants as kind
 use Rattle.ecma_print_tokens.specs.Items as items
-use Rattle.ecma_print_reread.specs.Shapes as shapes
+use Rattle.ecma_shapes.specs.Shapes as shapes
 use Rattle.std.proofs.Common.{◌≡◌, ℕ, suc, Bool, true, false, List, [], ◌∷◌, ◌++◌, map, codes, refl, ap, sym, ◌∙◌}
-use Rattle.std.proofs.lemmas.Bool.{false≢true}
+use Rattle.std.proofs.lemmas.Bool.{false≢true, or_parts}
 use Rattle.ecma_kind.specs.declared.operators.MethodKind.{MethodKind}
 use Rattle.ecma_kind.specs.declared.operators.VarDeclKind.{VarDeclKind}
 use Rattle.ecma_kind.specs.declared.kind.Kind.{Kind}
@@ -23,13 +23,13 @@ use Rattle.ecma_print.specs.Statements.{else_behind, behind_body, keyword, for_w
 use Rattle.ecma_print.specs.Functions.{function_head, method_head, static_word, accessor_word}
 use Rattle.ecma_print.specs.Layout.{in_place, lay_step, laid}
 use Rattle.ecma_print_tokens.specs.Items.{sign, Gap, no_gap, Items, it, render}
-use Rattle.ecma_print_reread.specs.Shapes.{Level, IsExpression, IsDeclarator, AreDeclarators, Ending, IsStatement, IsBlock, IsPattern, AreParams, IsFunction, IsFunctionName, IsIdent, IsMemberName}
-use Rattle.ecma_print_reread.specs.MemberKinds.{static_modifiers, accessor_kind, method_kind, field_kind}
-use Rattle.ecma_print_reread.specs.Tokens.{expression_tokens, declarator_tokens, declarators_tokens, is_braced, test_tokens, is_generator, is_async, function_name_tokens, ident_word, member_name_tokens}
-use Rattle.ecma_print_reread.specs.Signs.{margin, line_at, blank, sign_of, closing_gap, branch_gap, for_tokens, function_word, method_tokens, static_tokens, accessor_text}
+use Rattle.ecma_shapes.specs.Shapes.{Level, IsExpression, IsDeclarator, AreDeclarators, Ending, IsStatement, IsBlock, IsPattern, AreParams, IsFunction, IsFunctionName, IsIdent, IsMemberName}
+use Rattle.ecma_shapes.specs.MemberKinds.{static_modifiers, accessor_kind, method_kind, field_kind}
+use Rattle.ecma_print_reread.proofs.Tokens.{expression_tokens, declarator_tokens, declarators_tokens, is_braced, test_tokens, is_generator, is_async, function_name_tokens, ident_word, member_name_tokens}
+use Rattle.ecma_print_reread.proofs.Signs.{margin, line_at, blank, sign_of, closing_gap, branch_gap, for_tokens, function_word, method_tokens, static_tokens, accessor_text}
 use Rattle.ecma_print_reread.proofs.Layouts.{laid_node, at_node, within_laid, gap_out, key_gap_out}
-use Rattle.ecma_print_reread.proofs.HeadLayouts.{head_laid, neither}
-use Rattle.ecma_print_reread.specs.Heads.{any_of, may_hold_in}
+use Rattle.ecma_print_reread.proofs.HeadLayouts.{head_laid}
+use Rattle.ecma_shapes.specs.Heads.{any_of, may_hold_in}
 
 -- an expression behind a word, and the end of the statement
 pub argument_laid : {level : Level} {e : Node} (is : IsExpression level e) (depth : ℕ) (us : Items) → (laid e).at (At (free 0)) (margin depth) (codes ";" ++ render us) ≡ render (expression_tokens is depth no_gap (sign_of (codes ";") us))
@@ -54,13 +54,13 @@ head_spot = right (beginning 0 Anywhere true) 1 NoNeighbor
 pub more_head_commas : (ds : List Node) → any_of (map may_hold_in ds) ≡ false → (m rest : List ℕ) → more_commas head_spot (map laid ds) m rest ≡ more_commas (free 1) (map laid ds) m rest
 more_head_commas [] h m rest = refl
 more_head_commas (d ∷ ds) h m rest =
-    let c = neither (may_hold_in d) _ h in
+    let c = or_parts (may_hold_in d) _ h in
     ap (λ z. codes ", " ++ (laid d).at (At head_spot) m z) (more_head_commas ds c.1 m rest) ∙ ap (λ z. codes ", " ++ z) (head_laid d c.0 head_spot m (more_commas (free 1) (map laid ds) m rest))
 
 pub head_commas : (ds : List Node) → any_of (map may_hold_in ds) ≡ false → (m rest : List ℕ) → commas head_spot (map laid ds) m rest ≡ commas (free 1) (map laid ds) m rest
 head_commas [] h m rest = refl
 head_commas (d ∷ ds) h m rest =
-    let c = neither (may_hold_in d) _ h in
+    let c = or_parts (may_hold_in d) _ h in
     ap (λ z. (laid d).at (At head_spot) m z) (more_head_commas ds c.1 m rest) ∙ head_laid d c.0 head_spot m (more_commas (free 1) (map laid ds) m rest)
 
 pub for_laid : (is_await : Bool) (us : Items) → for_word is_await ++ render us ≡ render (for_tokens is_await no_gap us)

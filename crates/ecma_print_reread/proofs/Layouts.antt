@@ -26,11 +26,11 @@ use Rattle.ecma_print.specs.Expressions.{link_of, question_dot, object_beside, i
 use Rattle.ecma_print.specs.Layout.{in_place, by_itself, lay_step, laid, key_mark}
 use Rattle.ecma_print_tokens.specs.Items as items
 use Rattle.ecma_print_tokens.specs.Items.{sign, Gap, no_gap, Items, it, token_text, render}
-use Rattle.ecma_print_reread.specs.Shapes as shapes
-use Rattle.ecma_print_reread.specs.Shapes.{Level, looser_than, IsIdent, ident, key, IsExpression, IsElement, IsArguments, AreSlots, IsProperty, IsPropertyName, Role, IsDefaulted, IsPattern, IsChainKey}
-use Rattle.ecma_print_reread.specs.LiteralTexts.{part_opening, part_closing, part_text}
-use Rattle.ecma_print_reread.specs.Tokens.{own_sign, expression_tokens, element_tokens, arguments_tokens, more_tokens, more_slots_tokens, chain_token, property_tokens, ident_word, defaulted_tokens, pattern_tokens, part_token, parts_tokens, is_generator, is_async, function_tokens, function_name_tokens, property_name_tokens}
-use Rattle.ecma_print_reread.specs.Signs.{margin, blank, sign_of, assign_token, update_token, unary_token, binary_token, unary_gap, function_word, point_of, question_of, method_tokens}
+use Rattle.ecma_shapes.specs.Shapes as shapes
+use Rattle.ecma_shapes.specs.Shapes.{Level, looser_than, IsIdent, ident, key, IsExpression, IsElement, IsArguments, AreSlots, IsProperty, IsPropertyName, Role, IsDefaulted, IsPattern, IsChainKey}
+use Rattle.ecma_shapes.specs.LiteralTexts.{part_opening, part_closing, part_text}
+use Rattle.ecma_print_reread.proofs.Tokens.{own_sign, expression_tokens, element_tokens, arguments_tokens, more_tokens, more_slots_tokens, chain_token, property_tokens, ident_word, defaulted_tokens, pattern_tokens, part_token, parts_tokens, is_generator, is_async, function_tokens, function_name_tokens, property_name_tokens}
+use Rattle.ecma_print_reread.proofs.Signs.{margin, blank, sign_of, assign_token, update_token, unary_token, binary_token, unary_gap, function_word, point_of, question_of, method_tokens}
 
 pub laid_node : (at : Span) (k : Kind) (cs : List Node) → laid (node_of at k cs) ≡ record { kind = k; at = in_place k (map laid cs); parts = map by_itself (map laid cs) }
 laid_node at k cs = fold-roll-Node Laid lay_step (record { span = at; kind = k; children = cs })

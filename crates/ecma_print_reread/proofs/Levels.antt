@@ -7,7 +7,7 @@ use Rattle.ecma_grammar.specs.Grammar.{Grammar}
 use Rattle.ecma_print_tokens.specs.Items.{Items}
 use Rattle.ecma_print_tokens.specs.Taking as taking
 use Rattle.ecma_print_tokens.specs.Taking.{Took, took, refused, token_in}
-use Rattle.ecma_print_reread.specs.Machine.{Out, read, fails, unsure, Turn, count, behind_on, with_front, followed_on, or_on, many_on, many_up_to, ahead_on, unless_on, built_on, body_at, interp, levels, means}
+use Rattle.ecma_print_reread.proofs.Machine.{Out, read, fails, unsure, Turn, count, behind_on, with_front, followed_on, or_on, many_on, many_up_to, ahead_on, unless_on, built_on, body_at, interp, levels, means}
 use Rattle.ecma_print_reread.proofs.Takes.{Shorter, token_eats, token_taken}
 use Rattle.ecma_print_reread.proofs.Moves.{eats, Leaves, Moves, leaves}
 use Rattle.ecma_print_reread.proofs.Ranks.{rank, leads, rank_small, ranked_at}

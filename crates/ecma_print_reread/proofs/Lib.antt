@@ -99,3 +99,8 @@ mod MemberSamples
 mod ObjectSamples
 mod ChainSamples
 mod ModuleSamples
+pub mod Machine
+pub mod Signs
+pub mod Tokens
+pub mod Bare
+pub mod ModuleTokens

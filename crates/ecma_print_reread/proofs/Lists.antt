@@ -2,11 +2,11 @@
 use Rattle.std.proofs.Common.{ℕ, ◌≡◌, Bool, true, false, List, codes}
 use Rattle.ecma_tree.specs.declared.node.Node.{Node}
 use Rattle.ecma_print_tokens.specs.Items.{sign, Items}
-use Rattle.ecma_print_reread.specs.Shapes as shapes
-use Rattle.ecma_print_reread.specs.Shapes.{AreExpressions}
-use Rattle.ecma_print_reread.specs.Tokens.{expression_tokens, more_tokens}
-use Rattle.ecma_print_reread.specs.Signs.{blank}
-use Rattle.ecma_print_reread.specs.Bare.{expression_kind, expression_parts}
+use Rattle.ecma_shapes.specs.Shapes as shapes
+use Rattle.ecma_shapes.specs.Shapes.{AreExpressions}
+use Rattle.ecma_print_reread.proofs.Tokens.{expression_tokens, more_tokens}
+use Rattle.ecma_print_reread.proofs.Signs.{blank}
+use Rattle.ecma_print_reread.proofs.Bare.{expression_kind, expression_parts}
 use Rattle.ecma_print_reread.proofs.Fronts.{Front, exactly, Begins, at_token}
 use Rattle.ecma_print_reread.proofs.Towers.{Ends, closes_in}
 use Rattle.ecma_print_reread.proofs.Bindings.{ends_no_equals, closed, StandsIn}

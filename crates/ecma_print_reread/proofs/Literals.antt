@@ -8,8 +8,8 @@ use Rattle.ecma_grammar.specs.productions.Functions.{arrow}
 use Rattle.ecma_grammar.specs.productions.Primary.{primary}
 use Rattle.ecma_grammar.specs.productions.Statements.{labeled}
 use Rattle.ecma_print_tokens.specs.Items.{Tok, sign, Gap, Items, it}
-use Rattle.ecma_print_reread.specs.Machine.{means}
-use Rattle.ecma_print_reread.specs.Signs.{blank}
+use Rattle.ecma_print_reread.proofs.Machine.{means}
+use Rattle.ecma_print_reread.proofs.Signs.{blank}
 use Rattle.ecma_print_reread.proofs.Fronts.{Front, exactly, at_token, refuses_at, refused_at}
 use Rattle.ecma_print_reread.proofs.Towers.{Tower, Opens, Starts}
 use Rattle.ecma_print_reread.proofs.Heads.{bare}

@@ -16,9 +16,9 @@ use Rattle.ecma_grammar.specs.productions.Chains.{links, template_start}
 use Rattle.ecma_grammar.specs.productions.Operators.{factors, terms, shifts, relations, equalities, logicals}
 use Rattle.ecma_grammar.proofs.Steps.{steps-append}
 use Rattle.ecma_print_tokens.specs.Items.{sign, it}
-use Rattle.ecma_print_reread.specs.Machine.{read, with_front, followed_on, built_on, interp, means}
-use Rattle.ecma_print_reread.specs.Shapes as shapes
-use Rattle.ecma_print_reread.specs.Signs.{blank}
+use Rattle.ecma_print_reread.proofs.Machine.{read, with_front, followed_on, built_on, interp, means}
+use Rattle.ecma_shapes.specs.Shapes as shapes
+use Rattle.ecma_print_reread.proofs.Signs.{blank}
 use Rattle.ecma_print_reread.proofs.Levels.{means_is}
 use Rattle.ecma_print_reread.proofs.Fronts.{exactly, at_token}
 use Rattle.ecma_print_reread.proofs.Heads.{bare, kind-node, nodes}

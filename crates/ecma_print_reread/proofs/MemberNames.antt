@@ -14,12 +14,12 @@ use Rattle.ecma_print_tokens.specs.Items as items
 use Rattle.ecma_print_tokens.specs.Items.{sign, no_gap, Gap, Items, it}
 use Rattle.ecma_print_tokens.specs.Taking.{new_line_in}
 use Rattle.ecma_print_tokens.specs.Good.{IsToken}
-use Rattle.ecma_print_reread.specs.Machine.{read}
-use Rattle.ecma_print_reread.specs.Shapes as shapes
-use Rattle.ecma_print_reread.specs.Shapes.{IsPropertyName, IsMemberName, is_private}
-use Rattle.ecma_print_reread.specs.MemberKinds.{names_constructor}
-use Rattle.ecma_print_reread.specs.Tokens.{key_word, member_name_tokens, property_name_tokens}
-use Rattle.ecma_print_reread.specs.Bare.{bare_member_name}
+use Rattle.ecma_print_reread.proofs.Machine.{read}
+use Rattle.ecma_shapes.specs.Shapes as shapes
+use Rattle.ecma_shapes.specs.Shapes.{IsPropertyName, IsMemberName, is_private}
+use Rattle.ecma_shapes.specs.MemberKinds.{names_constructor}
+use Rattle.ecma_print_reread.proofs.Tokens.{key_word, member_name_tokens, property_name_tokens}
+use Rattle.ecma_print_reread.proofs.Bare.{bare_member_name}
 use Rattle.ecma_print_reread.proofs.Fronts.{exactly, at_token}
 use Rattle.ecma_print_reread.proofs.Heads.{bare, nodes}
 use Rattle.ecma_print_reread.proofs.Forms.{Laid, s, Reads, Refuses}

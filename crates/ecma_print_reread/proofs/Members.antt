@@ -16,11 +16,11 @@ use Rattle.ecma_print_tokens.specs.Items as items
 use Rattle.ecma_print_tokens.specs.Items.{Tok, sign, no_gap, Items, it}
 use Rattle.ecma_print_tokens.specs.Good.{IsToken}
 use Rattle.ecma_print_tokens.proofs.Privates.{private_parts}
-use Rattle.ecma_print_reread.specs.Machine.{read}
-use Rattle.ecma_print_reread.specs.Shapes as shapes
-use Rattle.ecma_print_reread.specs.Shapes.{IsChainKey}
-use Rattle.ecma_print_reread.specs.Tokens.{chain_token, chain_kind}
-use Rattle.ecma_print_reread.specs.Bare.{bare}
+use Rattle.ecma_print_reread.proofs.Machine.{read}
+use Rattle.ecma_shapes.specs.Shapes as shapes
+use Rattle.ecma_shapes.specs.Shapes.{IsChainKey}
+use Rattle.ecma_print_reread.proofs.Tokens.{chain_token, chain_kind}
+use Rattle.ecma_print_reread.proofs.Bare.{bare}
 use Rattle.ecma_print_reread.proofs.Levels.{means_is}
 use Rattle.ecma_print_reread.proofs.Fronts.{exactly, at_token, refuses_at}
 use Rattle.ecma_print_reread.proofs.Heads.{member_made, is_head}

@@ -16,13 +16,13 @@ use Rattle.ecma_grammar.specs.productions.Names.{prop_start, member_start}
 use Rattle.ecma_grammar.specs.productions.Functions.{method_async}
 use Rattle.ecma_grammar.specs.productions.Classes.{getter, setter, method, field, modifier, question_or_exclamation}
 use Rattle.ecma_print_tokens.specs.Items.{Gap, no_gap, Items}
-use Rattle.ecma_print_reread.specs.Machine.{or_on, interp, means}
-use Rattle.ecma_print_reread.specs.Shapes as shapes
-use Rattle.ecma_print_reread.specs.Shapes.{IsArguments}
-use Rattle.ecma_print_reread.specs.MemberKinds.{method_kind}
-use Rattle.ecma_print_reread.specs.Tokens.{arguments_tokens}
-use Rattle.ecma_print_reread.specs.Signs.{blank, method_tokens, static_tokens}
-use Rattle.ecma_print_reread.specs.Bare.{bare_arguments, bare_params}
+use Rattle.ecma_print_reread.proofs.Machine.{or_on, interp, means}
+use Rattle.ecma_shapes.specs.Shapes as shapes
+use Rattle.ecma_shapes.specs.Shapes.{IsArguments}
+use Rattle.ecma_shapes.specs.MemberKinds.{method_kind}
+use Rattle.ecma_print_reread.proofs.Tokens.{arguments_tokens}
+use Rattle.ecma_print_reread.proofs.Signs.{blank, method_tokens, static_tokens}
+use Rattle.ecma_print_reread.proofs.Bare.{bare_arguments, bare_params}
 use Rattle.ecma_print_reread.proofs.Heads.{bare, nodes}
 use Rattle.ecma_print_reread.proofs.Forms.{Laid, s, Reads}
 use Rattle.ecma_print_reread.proofs.Arrows.{ArgumentForms}

@@ -7,12 +7,12 @@ use Rattle.ecma_print_tokens.specs.Items as items
 use Rattle.ecma_print_tokens.specs.Items.{Tok, sign, Gap, no_gap, Items, ends, it}
 use Rattle.ecma_print_tokens.specs.Good.{IsGap, IsToken}
 use Rattle.ecma_print_tokens.specs.Joins.{parted_by, joins_next, Fine, Joined}
-use Rattle.ecma_print_reread.specs.Shapes as shapes
-use Rattle.ecma_print_reread.specs.Modules as modules
-use Rattle.ecma_print_reread.specs.Modules.{IsString, IsExportName, IsAttributeKey, IsAttribute, AreAttributes, IsWithClause, IsDefaultImport, IsNamespaceImport, IsNamedImport, AreNamedImports, IsImportClause, IsModuleItem, AreModuleItems, IsModule, IsNamedExport, AreNamedExports, IsExportClause}
-use Rattle.ecma_print_reread.specs.Tokens.{ident_word, is_generator, is_async, function_tokens}
-use Rattle.ecma_print_reread.specs.Signs.{blank, line, sign_of}
-use Rattle.ecma_print_reread.specs.ModuleTokens.{spaced, spaced_sign, string_raw, export_name_token, attribute_key_token, attribute_tokens, more_attributes_tokens, with_tokens, source_tokens, default_import_tokens, namespace_import_tokens, named_import_tokens, more_imports_tokens, named_imports_tokens, import_clause_tokens, import_equals_tokens, item_tokens, items_tokens, module_tokens, spaced_word, from_tokens, named_export_tokens, more_exports_tokens, export_clause_tokens}
+use Rattle.ecma_shapes.specs.Shapes as shapes
+use Rattle.ecma_shapes.specs.Modules as modules
+use Rattle.ecma_shapes.specs.Modules.{IsString, IsExportName, IsAttributeKey, IsAttribute, AreAttributes, IsWithClause, IsDefaultImport, IsNamespaceImport, IsNamedImport, AreNamedImports, IsImportClause, IsModuleItem, AreModuleItems, IsModule, IsNamedExport, AreNamedExports, IsExportClause}
+use Rattle.ecma_print_reread.proofs.Tokens.{ident_word, is_generator, is_async, function_tokens}
+use Rattle.ecma_print_reread.proofs.Signs.{blank, line, sign_of}
+use Rattle.ecma_print_reread.proofs.ModuleTokens.{spaced, spaced_sign, string_raw, export_name_token, attribute_key_token, attribute_tokens, more_attributes_tokens, with_tokens, source_tokens, default_import_tokens, namespace_import_tokens, named_import_tokens, more_imports_tokens, named_imports_tokens, import_clause_tokens, import_equals_tokens, item_tokens, items_tokens, module_tokens, spaced_word, from_tokens, named_export_tokens, more_exports_tokens, export_clause_tokens}
 use Rattle.ecma_print_reread.proofs.Softs.{semicolon}
 use Rattle.ecma_print_reread.proofs.Beginnings.{blank_joins}
 use Rattle.ecma_print_reread.proofs.Joins.{Words, no_gap_is, blank_is, ident_whole, key_whole}

@@ -15,16 +15,16 @@ use Rattle.ecma_print.specs.Functions.{function_head}
 use Rattle.ecma_print.specs.Layout.{laid, layout}
 use Rattle.ecma_print_tokens.specs.Items as items
 use Rattle.ecma_print_tokens.specs.Items.{Tok, Gap, no_gap, Items, token_text, render}
-use Rattle.ecma_print_reread.specs.Shapes.{ident, key, absent}
-use Rattle.ecma_print_reread.specs.Modules as modules
-use Rattle.ecma_print_reread.specs.Modules.{IsString, IsExportName, IsAttribute, AreAttributes, IsWithClause, IsNamedImport, AreNamedImports, IsImportClause, IsNamedExport, AreNamedExports, IsExportClause, IsModuleItem, AreModuleItems, IsModule}
-use Rattle.ecma_print_reread.specs.Tokens.{is_generator, is_async, function_name_tokens, function_tokens, class_tokens}
-use Rattle.ecma_print_reread.specs.Signs.{blank, line, sign_of}
-use Rattle.ecma_print_reread.specs.ModuleTokens.{module_head, spaced, spaced_word, spaced_sign, string_raw, export_name_token, attribute_tokens, more_attributes_tokens, with_tokens, source_tokens, named_import_tokens, more_imports_tokens, named_imports_tokens, import_clause_tokens, require_tokens, import_equals_tokens, item_tokens, items_tokens, module_tokens, from_tokens, named_export_tokens, more_exports_tokens, export_clause_tokens}
+use Rattle.ecma_shapes.specs.Shapes.{ident, key, absent}
+use Rattle.ecma_shapes.specs.Modules as modules
+use Rattle.ecma_shapes.specs.Modules.{IsString, IsExportName, IsAttribute, AreAttributes, IsWithClause, IsNamedImport, AreNamedImports, IsImportClause, IsNamedExport, AreNamedExports, IsExportClause, IsModuleItem, AreModuleItems, IsModule}
+use Rattle.ecma_print_reread.proofs.Tokens.{is_generator, is_async, function_name_tokens, function_tokens, class_tokens}
+use Rattle.ecma_print_reread.proofs.Signs.{blank, line, sign_of}
+use Rattle.ecma_print_reread.proofs.ModuleTokens.{module_head, spaced, spaced_word, spaced_sign, string_raw, export_name_token, attribute_tokens, more_attributes_tokens, with_tokens, source_tokens, named_import_tokens, more_imports_tokens, named_imports_tokens, import_clause_tokens, require_tokens, import_equals_tokens, item_tokens, items_tokens, module_tokens, from_tokens, named_export_tokens, more_exports_tokens, export_clause_tokens}
 use Rattle.ecma_print_reread.proofs.Layouts.{laid_node, at_node, gap_out}
 use Rattle.ecma_print_reread.proofs.Spots.{calm_default, calm_0}
 use Rattle.ecma_print_reread.proofs.StatementLayouts.{expression_laid, statement_laid, function_laid, class_laid}
-use Rattle.ecma_print_reread.specs.Starts.{is_declaration_word}
+use Rattle.ecma_shapes.specs.Starts.{is_declaration_word}
 use Rattle.ecma_print_reread.proofs.Starts.{start, starts_agree, default_start}
 use Rattle.ecma_print_reread.proofs.LayoutParts.{function_head_laid, function_name_laid, function_word_text}
 

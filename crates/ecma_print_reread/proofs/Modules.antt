@@ -26,12 +26,12 @@ use Rattle.ecma_grammar.specs.productions.Modules as modules
 use Rattle.ecma_grammar.specs.productions.Modules.{module_item, module_body}
 use Rattle.ecma_print_tokens.specs.Items as items
 use Rattle.ecma_print_tokens.specs.Items.{Gap, no_gap, Items, ends, it}
-use Rattle.ecma_print_reread.specs.Machine.{read, with_front, followed_on, or_on, unless_on, built_on, interp, means, without}
-use Rattle.ecma_print_reread.specs.Modules as shapes
-use Rattle.ecma_print_reread.specs.Modules.{IsModuleItem, AreModuleItems}
-use Rattle.ecma_print_reread.specs.Signs.{line, sign_of}
-use Rattle.ecma_print_reread.specs.Bare.{bare}
-use Rattle.ecma_print_reread.specs.ModuleTokens.{source_tokens, from_tokens, import_clause_tokens, item_tokens, items_tokens, bare_item, bare_items}
+use Rattle.ecma_print_reread.proofs.Machine.{read, with_front, followed_on, or_on, unless_on, built_on, interp, means, without}
+use Rattle.ecma_shapes.specs.Modules as shapes
+use Rattle.ecma_shapes.specs.Modules.{IsModuleItem, AreModuleItems}
+use Rattle.ecma_print_reread.proofs.Signs.{line, sign_of}
+use Rattle.ecma_print_reread.proofs.Bare.{bare}
+use Rattle.ecma_print_reread.proofs.ModuleTokens.{source_tokens, from_tokens, import_clause_tokens, item_tokens, items_tokens, bare_item, bare_items}
 use Rattle.ecma_print_reread.proofs.Ranks.{item_eats}
 use Rattle.ecma_print_reread.proofs.Levels.{means_is}
 use Rattle.ecma_print_reread.proofs.Fronts.{exactly, the_end, at_token, at_end, refused_at, refuses_all, all_refused}

@@ -10,7 +10,7 @@ use Rattle.ecma_grammar.specs.Grammar.{Grammar}
 use Rattle.ecma_print_tokens.specs.Items.{Items}
 use Rattle.ecma_print_tokens.specs.Taking as taking
 use Rattle.ecma_print_tokens.specs.Taking.{Took, took, refused, token_in, leaf_in, new_line_in}
-use Rattle.ecma_print_reread.specs.Machine.{Out, read, fails, unsure, Turn, count, taken, kept, behind_on, with_front, followed_on, or_on, many_on, many_up_to, ahead_on, unless_on, built_on, interp}
+use Rattle.ecma_print_reread.proofs.Machine.{Out, read, fails, unsure, Turn, count, taken, kept, behind_on, with_front, followed_on, or_on, many_on, many_up_to, ahead_on, unless_on, built_on, interp}
 use Rattle.ecma_print_reread.proofs.Takes.{Shorter, token_eats, token_taken, leaf_taken}
 
 -- how many tokens are taken at least: by a part, all but `!`, which is taken before the part

@@ -16,12 +16,12 @@ use Rattle.ecma_grammar.specs.productions.Patterns.{pattern_property}
 use Rattle.ecma_grammar.specs.productions.Functions.{method_async, getter_property, setter_property, method_property}
 use Rattle.ecma_print_tokens.specs.Items as items
 use Rattle.ecma_print_tokens.specs.Items.{sign, no_gap, Gap, Items, it}
-use Rattle.ecma_print_reread.specs.Machine.{read, means}
-use Rattle.ecma_print_reread.specs.Shapes as shapes
-use Rattle.ecma_print_reread.specs.Shapes.{IsArguments, IsPropertyName, IsDefaulted, ident}
-use Rattle.ecma_print_reread.specs.Tokens.{key_word, arguments_tokens, property_name_tokens, defaulted_tokens}
-use Rattle.ecma_print_reread.specs.Signs.{blank, method_tokens}
-use Rattle.ecma_print_reread.specs.Bare.{bare_arguments, bare_params, bare_property_name, bare_defaulted}
+use Rattle.ecma_print_reread.proofs.Machine.{read, means}
+use Rattle.ecma_shapes.specs.Shapes as shapes
+use Rattle.ecma_shapes.specs.Shapes.{IsArguments, IsPropertyName, IsDefaulted, ident}
+use Rattle.ecma_print_reread.proofs.Tokens.{key_word, arguments_tokens, property_name_tokens, defaulted_tokens}
+use Rattle.ecma_print_reread.proofs.Signs.{blank, method_tokens}
+use Rattle.ecma_print_reread.proofs.Bare.{bare_arguments, bare_params, bare_property_name, bare_defaulted}
 use Rattle.ecma_print_reread.proofs.Fronts.{Front, exactly, Begins, at_token, refuses_at, refused_at, refuses_all, all_refused}
 use Rattle.ecma_print_reread.proofs.Heads.{nodes, bare}
 use Rattle.ecma_print_reread.proofs.Forms.{Laid, s, Reads, Refuses, ends_no_item, AsItem, item_refused, item_before}

@@ -5,7 +5,7 @@ use Rattle.ecma_grammar.specs.declared.production.Plain.TheVariants as plain
 use Rattle.ecma_grammar.specs.declared.production.Form.TheVariants as form
 use Rattle.ecma_grammar.specs.Grammar as grammar
 use Rattle.ecma_print_tokens.specs.Items as items
-use Rattle.ecma_print_reread.specs.Shapes as shapes
+use Rattle.ecma_shapes.specs.Shapes as shapes
 use Rattle.ecma_print_reread.proofs.ObjectMethods as methods
 use Rattle.std.proofs.Common.{◌≡◌, ℕ, Bool, true, false, List, [], ◌∷◌, ◌++◌, codes, nat_le, refl, ap, ◌∙◌, append-nil}
 use Rattle.std.proofs.lemmas.Bool.{and_parts}
@@ -19,11 +19,11 @@ use Rattle.ecma_grammar.specs.productions.Names.{prop_name, binding_ident, compu
 use Rattle.ecma_grammar.specs.productions.Types.{default_value}
 use Rattle.ecma_grammar.specs.productions.Patterns.{pattern_body, pattern_property, array_pattern, object_pattern}
 use Rattle.ecma_print_tokens.specs.Items.{sign, no_gap, Gap, Items, it}
-use Rattle.ecma_print_reread.specs.Machine.{Out, read, fails, with_front, followed_on, or_on, built_on, interp, means}
-use Rattle.ecma_print_reread.specs.Shapes.{ident, IsPropertyName, IsProperty, AreProperties, IsInitializer}
-use Rattle.ecma_print_reread.specs.Tokens.{initializer_tokens, defaulted_tokens, key_word, expression_tokens, property_name_tokens, property_tokens, properties_tokens, more_properties_tokens}
-use Rattle.ecma_print_reread.specs.Signs.{blank}
-use Rattle.ecma_print_reread.specs.Bare.{bare_initializer, bare_property_name, bare_property, bare_properties, bare_expression}
+use Rattle.ecma_print_reread.proofs.Machine.{Out, read, fails, with_front, followed_on, or_on, built_on, interp, means}
+use Rattle.ecma_shapes.specs.Shapes.{ident, IsPropertyName, IsProperty, AreProperties, IsInitializer}
+use Rattle.ecma_print_reread.proofs.Tokens.{initializer_tokens, defaulted_tokens, key_word, expression_tokens, property_name_tokens, property_tokens, properties_tokens, more_properties_tokens}
+use Rattle.ecma_print_reread.proofs.Signs.{blank}
+use Rattle.ecma_print_reread.proofs.Bare.{bare_initializer, bare_property_name, bare_property, bare_properties, bare_expression}
 use Rattle.ecma_print_reread.proofs.Moves.{eats}
 use Rattle.ecma_print_reread.proofs.Levels.{means_is}
 use Rattle.ecma_print_reread.proofs.Fronts.{Front, exactly, Begins, at_token, refuses_at, refused_at, all_refused}

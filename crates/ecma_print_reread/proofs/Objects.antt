@@ -12,7 +12,7 @@ use Rattle.ecma_grammar.specs.productions.Declarations as declarations
 use Rattle.ecma_grammar.specs.productions.Statements as statements
 use Rattle.ecma_grammar.specs.productions.Modules as modules
 use Rattle.ecma_print_tokens.specs.Items as items
-use Rattle.ecma_print_reread.specs.Shapes as shapes
+use Rattle.ecma_shapes.specs.Shapes as shapes
 use Rattle.ecma_print_reread.proofs.ObjectMethods as methods
 use Rattle.std.proofs.Common.{if◌then◌else◌, ◌≡◌, ℕ, bytes_eq, ◌&&◌, Bool, true, false, List, [], ◌∷◌, codes, nat_le, refl, ap, ◌∙◌, append-nil}
 use Rattle.std.proofs.lemmas.Bool.{and_parts}
@@ -30,11 +30,11 @@ use Rattle.ecma_grammar.specs.productions.Primary.{property, spread, object}
 use Rattle.ecma_grammar.specs.productions.Chains.{links}
 use Rattle.ecma_print_tokens.specs.Items.{sign, no_gap, Gap, Items, it}
 use Rattle.ecma_print_tokens.specs.Taking.{took_if, new_line_in}
-use Rattle.ecma_print_reread.specs.Machine.{Turn, read, fails, taken, with_front, followed_on, or_on, built_on, ahead_on, interp, means}
-use Rattle.ecma_print_reread.specs.Shapes.{Role, ident, IsPropertyName, IsProperty, AreProperties}
-use Rattle.ecma_print_reread.specs.Tokens.{defaulted_tokens, key_word, expression_tokens, property_name_tokens, property_tokens, properties_tokens, more_properties_tokens, block_tokens}
-use Rattle.ecma_print_reread.specs.Signs.{blank}
-use Rattle.ecma_print_reread.specs.Bare.{bare_defaulted, expression_kind, expression_parts, bare_property, bare_properties, bare_block}
+use Rattle.ecma_print_reread.proofs.Machine.{Turn, read, fails, taken, with_front, followed_on, or_on, built_on, ahead_on, interp, means}
+use Rattle.ecma_shapes.specs.Shapes.{Role, ident, IsPropertyName, IsProperty, AreProperties}
+use Rattle.ecma_print_reread.proofs.Tokens.{defaulted_tokens, key_word, expression_tokens, property_name_tokens, property_tokens, properties_tokens, more_properties_tokens, block_tokens}
+use Rattle.ecma_print_reread.proofs.Signs.{blank}
+use Rattle.ecma_print_reread.proofs.Bare.{bare_defaulted, expression_kind, expression_parts, bare_property, bare_properties, bare_block}
 use Rattle.ecma_print_reread.proofs.Moves.{eats}
 use Rattle.ecma_print_reread.proofs.Fronts.{Front, exactly, Begins, at_token, refuses_at, refused_at, refuses_all, all_refused}
 use Rattle.ecma_print_reread.proofs.Heads.{bare}

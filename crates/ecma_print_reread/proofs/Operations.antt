@@ -32,10 +32,10 @@ use Rattle.ecma_grammar.specs.productions.Operators.{prefixed, exponentiation, f
 use Rattle.ecma_grammar.specs.productions.Expressions.{assignments}
 use Rattle.ecma_grammar.proofs.Steps.{steps-append}
 use Rattle.ecma_print_tokens.specs.Items.{key, sign, Gap, Items, it}
-use Rattle.ecma_print_reread.specs.Machine.{read, with_front, followed_on, or_on, built_on, interp, means}
-use Rattle.ecma_print_reread.specs.Shapes as shapes
-use Rattle.ecma_print_reread.specs.Shapes.{Level, IsOperator}
-use Rattle.ecma_print_reread.specs.Signs.{blank, unary_token, binary_token}
+use Rattle.ecma_print_reread.proofs.Machine.{read, with_front, followed_on, or_on, built_on, interp, means}
+use Rattle.ecma_shapes.specs.Shapes as shapes
+use Rattle.ecma_shapes.specs.Shapes.{Level, IsOperator}
+use Rattle.ecma_print_reread.proofs.Signs.{blank, unary_token, binary_token}
 use Rattle.ecma_print_reread.proofs.Levels.{means_is}
 use Rattle.ecma_print_reread.proofs.Fronts.{Front, refused_at, exactly, Begins, at_token}
 use Rattle.ecma_print_reread.proofs.Towers.{power_tail, closes_in, closes}

@@ -11,8 +11,8 @@ use Rattle.ecma_grammar.specs.productions.Functions.{arrow_rest}
 use Rattle.ecma_grammar.specs.productions.Chains as chains
 use Rattle.ecma_grammar.specs.productions.Chains.{arguments, index, links, optional_link}
 use Rattle.ecma_print_tokens.specs.Items.{Tok, sign, no_gap, Items, it}
-use Rattle.ecma_print_reread.specs.Machine.{means}
-use Rattle.ecma_print_reread.specs.Shapes as shapes
+use Rattle.ecma_print_reread.proofs.Machine.{means}
+use Rattle.ecma_shapes.specs.Shapes as shapes
 use Rattle.ecma_print_reread.proofs.Levels.{means_is}
 use Rattle.ecma_print_reread.proofs.Fronts.{exactly, at_token, refuses_at, refused_at}
 use Rattle.ecma_print_reread.proofs.Heads.{bare, is_chain, chain_member_made, optional_made}

@@ -9,7 +9,7 @@ use Rattle.ecma_grammar.specs.productions.Names.{binding_ident}
 use Rattle.ecma_grammar.specs.productions.Types.{params, param, rest_pattern, default_value}
 use Rattle.ecma_grammar.specs.productions.Functions.{arrow_rest, arrow_body}
 use Rattle.ecma_print_tokens.specs.Items.{sign, Gap, Items, it}
-use Rattle.ecma_print_reread.specs.Machine.{with_front, followed_on, or_on, built_on, interp, means}
+use Rattle.ecma_print_reread.proofs.Machine.{with_front, followed_on, or_on, built_on, interp, means}
 use Rattle.ecma_print_reread.proofs.Moves.{eats}
 use Rattle.ecma_print_reread.proofs.Fronts.{Front, Begins, refuses_at, refused_at}
 use Rattle.ecma_print_reread.proofs.Forms.{s, behind_params, Reads, Refuses, ends_no_list, AsParam}

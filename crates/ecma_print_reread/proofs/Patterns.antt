@@ -16,12 +16,12 @@ use Rattle.ecma_grammar.specs.productions.Types.{param, rest_pattern, default_va
 use Rattle.ecma_grammar.specs.productions.Patterns.{pattern_body}
 use Rattle.ecma_print_tokens.specs.Items as items
 use Rattle.ecma_print_tokens.specs.Items.{sign, no_gap, Gap, Items, it}
-use Rattle.ecma_print_reread.specs.Machine.{read, or_on, with_front, followed_on, built_on, interp, means}
-use Rattle.ecma_print_reread.specs.Shapes as shapes
-use Rattle.ecma_print_reread.specs.Shapes.{IsIdent, ident, IsPattern, IsElement}
-use Rattle.ecma_print_reread.specs.Tokens.{ident_word, element_tokens, pattern_tokens}
-use Rattle.ecma_print_reread.specs.Signs.{blank}
-use Rattle.ecma_print_reread.specs.Bare.{bare_ident, bare_pattern, bare_element}
+use Rattle.ecma_print_reread.proofs.Machine.{read, or_on, with_front, followed_on, built_on, interp, means}
+use Rattle.ecma_shapes.specs.Shapes as shapes
+use Rattle.ecma_shapes.specs.Shapes.{IsIdent, ident, IsPattern, IsElement}
+use Rattle.ecma_print_reread.proofs.Tokens.{ident_word, element_tokens, pattern_tokens}
+use Rattle.ecma_print_reread.proofs.Signs.{blank}
+use Rattle.ecma_print_reread.proofs.Bare.{bare_ident, bare_pattern, bare_element}
 use Rattle.ecma_print_reread.proofs.Levels.{means_is}
 use Rattle.ecma_print_reread.proofs.Heads.{bare, nodes, span-node}
 use Rattle.ecma_print_reread.proofs.Forms.{Laid, Reads}

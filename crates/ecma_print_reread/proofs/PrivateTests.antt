@@ -24,9 +24,9 @@ use Rattle.ecma_grammar.specs.productions.Operators as operators
 use Rattle.ecma_grammar.specs.productions.Operators.{relations}
 use Rattle.ecma_print_tokens.specs.Items.{key, private_name, Gap, Items, it}
 use Rattle.ecma_print_tokens.specs.Good.{IsToken}
-use Rattle.ecma_print_reread.specs.Machine.{read, with_front, followed_on, or_on, built_on, interp, means}
-use Rattle.ecma_print_reread.specs.Shapes as shapes
-use Rattle.ecma_print_reread.specs.Signs.{blank}
+use Rattle.ecma_print_reread.proofs.Machine.{read, with_front, followed_on, or_on, built_on, interp, means}
+use Rattle.ecma_shapes.specs.Shapes as shapes
+use Rattle.ecma_print_reread.proofs.Signs.{blank}
 use Rattle.ecma_print_reread.proofs.Fronts.{Front, exactly, Begins, at_token}
 use Rattle.ecma_print_reread.proofs.Towers.{closes, private_in, refuses_choices}
 use Rattle.ecma_print_reread.proofs.Heads.{bare}

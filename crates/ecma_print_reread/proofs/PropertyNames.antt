@@ -12,11 +12,11 @@ use Rattle.ecma_grammar.specs.productions.Names.{assign, prop_name, binding_iden
 use Rattle.ecma_grammar.specs.productions.Patterns.{pattern_property}
 use Rattle.ecma_print_tokens.specs.Items as items
 use Rattle.ecma_print_tokens.specs.Items.{sign, no_gap, Gap, Items, it}
-use Rattle.ecma_print_reread.specs.Machine.{followed_on, or_on, built_on, interp, means}
-use Rattle.ecma_print_reread.specs.Shapes as shapes
-use Rattle.ecma_print_reread.specs.Shapes.{IsPropertyName}
-use Rattle.ecma_print_reread.specs.Tokens.{expression_tokens, property_name_tokens}
-use Rattle.ecma_print_reread.specs.Bare.{expression_kind, expression_parts, bare_property_name}
+use Rattle.ecma_print_reread.proofs.Machine.{followed_on, or_on, built_on, interp, means}
+use Rattle.ecma_shapes.specs.Shapes as shapes
+use Rattle.ecma_shapes.specs.Shapes.{IsPropertyName}
+use Rattle.ecma_print_reread.proofs.Tokens.{expression_tokens, property_name_tokens}
+use Rattle.ecma_print_reread.proofs.Bare.{expression_kind, expression_parts, bare_property_name}
 use Rattle.ecma_print_reread.proofs.Fronts.{exactly, at_token}
 use Rattle.ecma_print_reread.proofs.Heads.{bare}
 use Rattle.ecma_print_reread.proofs.Forms.{s, Reads, Refuses, AsItem}

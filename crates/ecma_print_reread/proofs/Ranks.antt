@@ -23,7 +23,7 @@ use Rattle.ecma_grammar.specs.productions.Primary as primaries
 use Rattle.ecma_grammar.specs.productions.Statements as statements
 use Rattle.ecma_grammar.specs.productions.Types as types
 use Rattle.ecma_print_tokens.specs.Items.{number, Items, it}
-use Rattle.ecma_print_reread.specs.Machine.{without, body_at}
+use Rattle.ecma_print_reread.proofs.Machine.{without, body_at}
 use Rattle.ecma_print_reread.proofs.Takes.{token_eats}
 use Rattle.ecma_print_reread.proofs.Moves.{part_eats, eats}
 

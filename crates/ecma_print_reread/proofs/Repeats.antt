@@ -4,7 +4,7 @@ use Rattle.ecma_tree.specs.declared.node.Node.{Node}
 use Rattle.ecma_grammar.specs.Grammar as grammar
 use Rattle.ecma_grammar.specs.Grammar.{Grammar}
 use Rattle.ecma_print_tokens.specs.Items.{Items}
-use Rattle.ecma_print_reread.specs.Machine.{read, fails, count, with_front, many_on, many_up_to, interp, means}
+use Rattle.ecma_print_reread.proofs.Machine.{read, fails, count, with_front, many_on, many_up_to, interp, means}
 use Rattle.ecma_print_reread.proofs.Moves.{eats, leaves}
 use Rattle.ecma_print_reread.proofs.Levels.{means_move}
 

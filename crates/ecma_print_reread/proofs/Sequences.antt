@@ -12,12 +12,12 @@ use Rattle.ecma_grammar.specs.productions.Names as names
 use Rattle.ecma_grammar.specs.productions.Names.{assign_in, expression}
 use Rattle.ecma_grammar.specs.productions.Functions.{arrow_rest}
 use Rattle.ecma_print_tokens.specs.Items.{sign, no_gap, Gap, Items}
-use Rattle.ecma_print_reread.specs.Machine.{read, with_front, followed_on, built_on, interp, means}
-use Rattle.ecma_print_reread.specs.Shapes as shapes
-use Rattle.ecma_print_reread.specs.Shapes.{AreExpressions}
-use Rattle.ecma_print_reread.specs.Tokens.{more_tokens}
-use Rattle.ecma_print_reread.specs.Signs.{blank}
-use Rattle.ecma_print_reread.specs.Bare.{bare, bare_expression, bare_expressions}
+use Rattle.ecma_print_reread.proofs.Machine.{read, with_front, followed_on, built_on, interp, means}
+use Rattle.ecma_shapes.specs.Shapes as shapes
+use Rattle.ecma_shapes.specs.Shapes.{AreExpressions}
+use Rattle.ecma_print_reread.proofs.Tokens.{more_tokens}
+use Rattle.ecma_print_reread.proofs.Signs.{blank}
+use Rattle.ecma_print_reread.proofs.Bare.{bare, bare_expression, bare_expressions}
 use Rattle.ecma_print_reread.proofs.Fronts.{Front, exactly, Begins, at_token, refuses_at, refused_at, refuses_first}
 use Rattle.ecma_print_reread.proofs.Towers.{closes_in}
 use Rattle.ecma_print_reread.proofs.Forms.{Laid, s, Reads, lead_before}

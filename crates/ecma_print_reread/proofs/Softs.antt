@@ -6,9 +6,9 @@ use Rattle.ecma_lex.specs.Punctuators.{punctuators}
 use Rattle.ecma_print_tokens.specs.Items as items
 use Rattle.ecma_print_tokens.specs.Items.{Tok, sign, no_gap, Items, ends, it}
 use Rattle.ecma_print_tokens.specs.Joins.{joins_next, parted_by}
-use Rattle.ecma_print_reread.specs.Shapes as shapes
-use Rattle.ecma_print_reread.specs.Shapes.{Level, looser_than, key, IsMemberLevel, IsConstructor, IsChainLink}
-use Rattle.ecma_print_reread.specs.Signs.{blank, sign_of, update_token, point_of, question_of}
+use Rattle.ecma_shapes.specs.Shapes as shapes
+use Rattle.ecma_shapes.specs.Shapes.{Level, looser_than, key, IsMemberLevel, IsConstructor, IsChainLink}
+use Rattle.ecma_print_reread.proofs.Signs.{blank, sign_of, update_token, point_of, question_of}
 
 -- what may stand directly behind an expression; a point behind an object alone
 pub data Soft : Bool → Items → Type 0 where

@@ -16,9 +16,9 @@ use Rattle.ecma_print.specs.Levels.{is_before_dot, clashes}
 use Rattle.ecma_print.specs.Operators.{unary_sign, update_sign, binary_word, binary_level, left_level, right_level, under}
 use Rattle.ecma_print.specs.Expressions.{before_key, object_beside, is_optional, callee_spot}
 use Rattle.ecma_print_tokens.specs.Items.{token_text}
-use Rattle.ecma_print_reread.specs.Shapes as shapes
-use Rattle.ecma_print_reread.specs.Shapes.{Level, looser_than, IsOperator, IsMemberLevel, IsIndexed, IsConstructor, IsChainLink}
-use Rattle.ecma_print_reread.specs.Signs.{binary_token}
+use Rattle.ecma_shapes.specs.Shapes as shapes
+use Rattle.ecma_shapes.specs.Shapes.{Level, looser_than, IsOperator, IsMemberLevel, IsIndexed, IsConstructor, IsChainLink}
+use Rattle.ecma_print_reread.proofs.Signs.{binary_token}
 
 -- the level of the printer that is each level
 abbrev pub number_of : Level → ℕ

@@ -13,12 +13,12 @@ use Rattle.ecma_grammar.specs.productions.Types.{rest_pattern, param}
 use Rattle.ecma_grammar.specs.productions.Patterns.{pattern_element}
 use Rattle.ecma_grammar.specs.productions.Primary.{element, spread}
 use Rattle.ecma_print_tokens.specs.Items.{no_gap, Gap, Items}
-use Rattle.ecma_print_reread.specs.Machine.{read, followed_on, or_on, built_on, interp, means}
-use Rattle.ecma_print_reread.specs.Shapes as shapes
-use Rattle.ecma_print_reread.specs.Shapes.{Role, IsElement, IsInitializer}
-use Rattle.ecma_print_reread.specs.Tokens.{expression_tokens, element_tokens, pattern_tokens, defaulted_tokens, initializer_tokens}
-use Rattle.ecma_print_reread.specs.Signs.{blank}
-use Rattle.ecma_print_reread.specs.Bare.{expression_kind, expression_parts, bare_element, bare_pattern, bare_defaulted, bare_initializer}
+use Rattle.ecma_print_reread.proofs.Machine.{read, followed_on, or_on, built_on, interp, means}
+use Rattle.ecma_shapes.specs.Shapes as shapes
+use Rattle.ecma_shapes.specs.Shapes.{Role, IsElement, IsInitializer}
+use Rattle.ecma_print_reread.proofs.Tokens.{expression_tokens, element_tokens, pattern_tokens, defaulted_tokens, initializer_tokens}
+use Rattle.ecma_print_reread.proofs.Signs.{blank}
+use Rattle.ecma_print_reread.proofs.Bare.{expression_kind, expression_parts, bare_element, bare_pattern, bare_defaulted, bare_initializer}
 use Rattle.ecma_print_reread.proofs.Fronts.{refused_at}
 use Rattle.ecma_print_reread.proofs.Forms.{Laid, Reads, Refuses, Lead, AsItem, AsParam}
 use Rattle.ecma_print_reread.proofs.Bindings.{ends_no_equals, Stands, used, closed, StandsIn}

@@ -9,9 +9,9 @@ use Rattle.ecma_tree.specs.Nodes.{node_of}
 use Rattle.ecma_print.specs.declared.place.Begins.{Begins}
 use Rattle.ecma_print.specs.declared.place.Begins.TheVariants.{Anywhere, StatementStart, ArrowBodyStart, DefaultStart}
 use Rattle.ecma_print.specs.Places.{opens_a_block, opens_a_declaration}
-use Rattle.ecma_print_reread.specs.Starts.{Start, brace, declaration_word, other_start, is_brace, is_declaration_word, start_by, start_step, start_of}
-use Rattle.ecma_print_reread.specs.Shapes as shapes
-use Rattle.ecma_print_reread.specs.Shapes.{Level, IsExpression, assignment_expression, binary_expression, both, call, coalesced, conditional_expression, either, element, exponentiation, looser, member, object_literal, function_expression, class_expression, postfix_update, sequence_expression, tagged_template, chain_member, chain_element, chain_call}
+use Rattle.ecma_shapes.specs.Starts.{Start, brace, declaration_word, other_start, is_brace, is_declaration_word, start_by, start_step, start_of}
+use Rattle.ecma_shapes.specs.Shapes as shapes
+use Rattle.ecma_shapes.specs.Shapes.{Level, IsExpression, assignment_expression, binary_expression, both, call, coalesced, conditional_expression, either, element, exponentiation, looser, member, object_literal, function_expression, class_expression, postfix_update, sequence_expression, tagged_template, chain_member, chain_element, chain_call}
 
 -- of a shape: by its outermost left part
 abbrev pub start : {level : Level} {e : Node} → IsExpression level e → Start

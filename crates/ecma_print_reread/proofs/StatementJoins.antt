@@ -1,6 +1,6 @@
 -- The tokens of statements are good: each joins the next.
 use Rattle.ecma_print_tokens.specs.Items as items
-use Rattle.ecma_print_reread.specs.Shapes as shapes
+use Rattle.ecma_shapes.specs.Shapes as shapes
 use Rattle.std.proofs.Common.{◌≡◌, ℕ, suc, Bool, true, false, List, codes, refl, ◌++◌}
 use Rattle.ecma_lex.specs.Punctuators.{punctuators}
 use Rattle.ecma_tree.specs.declared.node.Node.{Node}
@@ -8,10 +8,10 @@ use Rattle.ecma_print.specs.Statements.{keyword}
 use Rattle.ecma_print_tokens.specs.Items.{Tok, sign, Gap, no_gap, Items, it}
 use Rattle.ecma_print_tokens.specs.Good.{IsGap}
 use Rattle.ecma_print_tokens.specs.Joins.{joins_next, Joined}
-use Rattle.ecma_print_reread.specs.Shapes.{IsInitializer, Level, IsExpression, Ending, IsStatement, IsBlock, IsCase, AreCases, IsCatch, AreStatements, IsOptional, IsForLeft, IsForInit, IsPattern, IsFunction, IsHeritage, IsClass, IsMemberName, IsMember, AreMembers, IsElement, IsArguments, AreElements, AreExpressions, IsDeclarator, AreDeclarators, AreSlots, AreProperties, IsPropertyName, IsProperty, Role, IsDefaulted, AreParts}
-use Rattle.ecma_print_reread.specs.LiteralTexts.{regex_text, part_text}
-use Rattle.ecma_print_reread.specs.Tokens.{expression_tokens, ident_word, declarators_tokens, is_braced, test_tokens, statement_tokens, block_tokens, case_tokens, cases_tokens, catch_tokens, lined_tokens, optional_tokens, for_left_tokens, initializer_tokens, for_init_tokens, pattern_tokens, arguments_tokens, is_generator, is_async, function_tokens, heritage_tokens, class_tokens, member_tokens, members_tokens, key_word, member_name_tokens, own_sign, element_tokens, elements_tokens, more_tokens, declarator_tokens, slots_tokens, more_slots_tokens, chain_token, properties_tokens, more_properties_tokens, property_name_tokens, property_tokens, defaulted_tokens, part_raw, part_token, parts_tokens}
-use Rattle.ecma_print_reread.specs.Signs.{line_at, blank, sign_of, closing_gap, branch_gap, method_tokens, accessor_text, assign_token, update_token, binary_token, unary_gap, point_of, question_of}
+use Rattle.ecma_shapes.specs.Shapes.{IsInitializer, Level, IsExpression, Ending, IsStatement, IsBlock, IsCase, AreCases, IsCatch, AreStatements, IsOptional, IsForLeft, IsForInit, IsPattern, IsFunction, IsHeritage, IsClass, IsMemberName, IsMember, AreMembers, IsElement, IsArguments, AreElements, AreExpressions, IsDeclarator, AreDeclarators, AreSlots, AreProperties, IsPropertyName, IsProperty, Role, IsDefaulted, AreParts}
+use Rattle.ecma_shapes.specs.LiteralTexts.{regex_text, part_text}
+use Rattle.ecma_print_reread.proofs.Tokens.{expression_tokens, ident_word, declarators_tokens, is_braced, test_tokens, statement_tokens, block_tokens, case_tokens, cases_tokens, catch_tokens, lined_tokens, optional_tokens, for_left_tokens, initializer_tokens, for_init_tokens, pattern_tokens, arguments_tokens, is_generator, is_async, function_tokens, heritage_tokens, class_tokens, member_tokens, members_tokens, key_word, member_name_tokens, own_sign, element_tokens, elements_tokens, more_tokens, declarator_tokens, slots_tokens, more_slots_tokens, chain_token, properties_tokens, more_properties_tokens, property_name_tokens, property_tokens, defaulted_tokens, part_raw, part_token, parts_tokens}
+use Rattle.ecma_print_reread.proofs.Signs.{line_at, blank, sign_of, closing_gap, branch_gap, method_tokens, accessor_text, assign_token, update_token, binary_token, unary_gap, point_of, question_of}
 use Rattle.ecma_print_reread.proofs.Softs.{closing, semicolon, colon, Soft, is_object, parted, key_soft, string_soft, big_int_soft, number_soft, closing_soft, brace_soft, bracket_soft, update_soft, point_behind, softer, constructor_soft, opening, comma, opening_bracket, closing_bracket, regex_soft, part, part_joins, chain_point, chain_bracket, chain_opening}
 use Rattle.ecma_print_reread.proofs.Beginnings.{pattern_blank_joins, blank_joins, opening_joins, dots_join, element_opening_joins, update_joins, bracket_joins, element_blank_joins, property_parted, properties_open, properties_soft, slots_open, slots_parted, slots_soft, unary_joins, initializer_soft, pattern_dots_joins, defaulted_blank_joins}
 use Rattle.ecma_print_reread.proofs.Joins.{Words, BehindName, no_gap_is, blank_is, unary_gap_is, ident_whole, key_whole, chain_fine, point_joins, chain_soft, part_fine, point_fine, mark_joins, question_bracket, question_opening, colon_behind_name, more_soft, elements_soft, update_fine, update_behind, assign_fine, unary_fine, binary_fine, right_soft, value_joined, declarators_soft}

@@ -2,7 +2,7 @@
 use Rattle.ecma_kind.specs.declared.operators.BinaryOp.TheVariants as op
 use Rattle.ecma_kind.specs.declared.kind.Kind.TheVariants as kind
 use Rattle.ecma_print_tokens.specs.Items as items
-use Rattle.ecma_print_reread.specs.Shapes as shapes
+use Rattle.ecma_shapes.specs.Shapes as shapes
 use Rattle.std.proofs.Common.{◌≡◌, ℕ, suc, Bool, true, false, List, [], ◌∷◌, ◌++◌, map, codes, refl, ap, sym, ◌∙◌, None, arith, append_assoc}
 use Rattle.ecma_kind.specs.declared.operators.MethodKind.TheVariants.{Method}
 use Rattle.ecma_tree.specs.declared.node.Node.{Node}
@@ -19,15 +19,15 @@ use Rattle.ecma_print.specs.Statements.{else_behind, behind_body, case_word, key
 use Rattle.ecma_print.specs.Functions.{function_head, method_head, static_word, accessor_word}
 use Rattle.ecma_print.specs.Layout.{laid, by_itself, key_mark}
 use Rattle.ecma_print_tokens.specs.Items.{sign, Gap, no_gap, Items, it, render, token_text}
-use Rattle.ecma_print_reread.specs.Shapes.{Level, IsExpression, IsDeclarator, AreDeclarators, Ending, IsStatement, IsBlock, IsCase, AreCases, IsCatch, AreStatements, IsOptional, IsForLeft, IsInitializer, IsForInit, IsPattern, IsFunction, IsHeritage, IsClass, IsMember, AreMembers, IsMemberName, is_private, ident, IsElement, IsArguments, AreElements, AreExpressions, AreSlots, IsProperty, IsPropertyName, AreProperties, Role, IsDefaulted, AreParts}
-use Rattle.ecma_print_reread.specs.LiteralTexts.{part_opening}
-use Rattle.ecma_print_reread.specs.MemberKinds.{accessor_kind}
-use Rattle.ecma_print_reread.specs.Tokens.{expression_tokens, declarator_tokens, declarators_tokens, is_braced, test_tokens, statement_tokens, block_tokens, case_tokens, cases_tokens, catch_tokens, lined_tokens, optional_tokens, for_left_tokens, initializer_tokens, for_init_tokens, arguments_tokens, is_generator, is_async, function_tokens, ident_word, heritage_tokens, class_tokens, member_tokens, members_tokens, member_name_tokens, own_sign, element_tokens, elements_tokens, more_tokens, slots_tokens, more_slots_tokens, chain_token, property_tokens, property_name_tokens, properties_tokens, more_properties_tokens, defaulted_tokens, pattern_tokens, part_token, parts_tokens, function_name_tokens}
-use Rattle.ecma_print_reread.specs.Signs.{margin, line_at, blank, sign_of, closing_gap, branch_gap, method_tokens, accessor_text, assign_token, update_token, unary_token, binary_token, unary_gap, point_of, question_of}
+use Rattle.ecma_shapes.specs.Shapes.{Level, IsExpression, IsDeclarator, AreDeclarators, Ending, IsStatement, IsBlock, IsCase, AreCases, IsCatch, AreStatements, IsOptional, IsForLeft, IsInitializer, IsForInit, IsPattern, IsFunction, IsHeritage, IsClass, IsMember, AreMembers, IsMemberName, is_private, ident, IsElement, IsArguments, AreElements, AreExpressions, AreSlots, IsProperty, IsPropertyName, AreProperties, Role, IsDefaulted, AreParts}
+use Rattle.ecma_shapes.specs.LiteralTexts.{part_opening}
+use Rattle.ecma_shapes.specs.MemberKinds.{accessor_kind}
+use Rattle.ecma_print_reread.proofs.Tokens.{expression_tokens, declarator_tokens, declarators_tokens, is_braced, test_tokens, statement_tokens, block_tokens, case_tokens, cases_tokens, catch_tokens, lined_tokens, optional_tokens, for_left_tokens, initializer_tokens, for_init_tokens, arguments_tokens, is_generator, is_async, function_tokens, ident_word, heritage_tokens, class_tokens, member_tokens, members_tokens, member_name_tokens, own_sign, element_tokens, elements_tokens, more_tokens, slots_tokens, more_slots_tokens, chain_token, property_tokens, property_name_tokens, properties_tokens, more_properties_tokens, defaulted_tokens, pattern_tokens, part_token, parts_tokens, function_name_tokens}
+use Rattle.ecma_print_reread.proofs.Signs.{margin, line_at, blank, sign_of, closing_gap, branch_gap, method_tokens, accessor_text, assign_token, update_token, unary_token, binary_token, unary_gap, point_of, question_of}
 use Rattle.ecma_print_reread.proofs.Layouts.{laid_node, at_node, no_sign, word_gap, update_text, no_gap_before, and_false, assign_text, arguments_there, within_laid, gap_out, pattern_gap_out, defaulted_gap_out, element_gap_out, property_gap_out, slots_gap_out, element_there, value_laid, binding_laid, part_split, link_beside, link_asks, question_text, dot_text, key_named, key_laid, no_pattern}
 use Rattle.ecma_print_reread.proofs.Spots.{calm_start, calm_0, calm_1, quiet, before_dot, number_of, Calm, tightly, calmer, same_low, under_logical, under_nullish, before_link, index_calm, member_low, index_low, further, update_calm, unary_calm, operator_calls, printed, head_calm, callee_calm, chain_calm}
 use Rattle.ecma_print_reread.proofs.HeadLayouts.{head_laid}
-use Rattle.ecma_print_reread.specs.Starts.{is_brace}
+use Rattle.ecma_shapes.specs.Starts.{is_brace}
 use Rattle.ecma_print_reread.proofs.Starts.{start, starts_agree, misread, brace_stands, word_stands, statement_start, body_start}
 use Rattle.ecma_kind.specs.declared.operators.MetaPropKind.TheVariants.{NewTarget, ImportMeta}
 use Rattle.ecma_print.specs.Operators.{assign_word, unary_word, unary_sign, update_sign, binary_word}

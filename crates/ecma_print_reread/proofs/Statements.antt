@@ -22,10 +22,10 @@ use Rattle.ecma_grammar.specs.productions.Declarations.{declaration}
 use Rattle.ecma_grammar.specs.productions.Statements.{statement_body, expression_statement}
 use Rattle.ecma_grammar.specs.productions.Modules.{module_item}
 use Rattle.ecma_print_tokens.specs.Items.{Tok, sign, Gap, no_gap, Items, it, key, private_name, string, number, big_int, regex, template, ends}
-use Rattle.ecma_print_reread.specs.Machine.{read, fails, with_front, followed_on, or_on, unless_on, built_on, interp, means, without}
-use Rattle.ecma_print_reread.specs.Shapes as shapes
-use Rattle.ecma_print_reread.specs.Shapes.{Ending}
-use Rattle.ecma_print_reread.specs.Bare.{bare}
+use Rattle.ecma_print_reread.proofs.Machine.{read, fails, with_front, followed_on, or_on, unless_on, built_on, interp, means, without}
+use Rattle.ecma_shapes.specs.Shapes as shapes
+use Rattle.ecma_shapes.specs.Shapes.{Ending}
+use Rattle.ecma_print_reread.proofs.Bare.{bare}
 use Rattle.ecma_print_reread.proofs.Levels.{means_is}
 use Rattle.ecma_print_reread.proofs.Fronts.{Front, exactly, Begins, at_token, refuses_at, refuses_all, all_refused, a_name, the_end, is_known}
 use Rattle.ecma_print_reread.proofs.Towers.{skipped, refuses_choices, excluded}

@@ -19,8 +19,8 @@ use Rattle.ecma_grammar.specs.productions.Modules as modules
 use Rattle.ecma_grammar.specs.productions.Operators.{prefixed}
 use Rattle.ecma_grammar.specs.productions.Chains.{links, new_links, super_of_member, super_of_link}
 use Rattle.ecma_print_tokens.specs.Items.{key, no_gap, Gap, Items, it}
-use Rattle.ecma_print_reread.specs.Machine.{with_front, followed_on, interp, means}
-use Rattle.ecma_print_reread.specs.Shapes as shapes
+use Rattle.ecma_print_reread.proofs.Machine.{with_front, followed_on, interp, means}
+use Rattle.ecma_shapes.specs.Shapes as shapes
 use Rattle.ecma_print_reread.proofs.Fronts.{exactly}
 use Rattle.ecma_print_reread.proofs.Towers.{Opens}
 use Rattle.ecma_print_reread.proofs.Heads.{bare, super_member_made, super_call_made}

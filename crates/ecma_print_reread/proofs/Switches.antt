@@ -22,10 +22,10 @@ use Rattle.ecma_grammar.specs.productions.Modules as modules
 use Rattle.ecma_grammar.specs.productions.Modules.{module_item}
 use Rattle.ecma_print_tokens.specs.Items as items
 use Rattle.ecma_print_tokens.specs.Items.{sign, Gap, Items, it}
-use Rattle.ecma_print_reread.specs.Machine.{fails, means}
-use Rattle.ecma_print_reread.specs.Shapes as shapes
-use Rattle.ecma_print_reread.specs.Signs.{blank}
-use Rattle.ecma_print_reread.specs.Bare.{bare}
+use Rattle.ecma_print_reread.proofs.Machine.{fails, means}
+use Rattle.ecma_shapes.specs.Shapes as shapes
+use Rattle.ecma_print_reread.proofs.Signs.{blank}
+use Rattle.ecma_print_reread.proofs.Bare.{bare}
 use Rattle.ecma_print_reread.proofs.Fronts.{Front, exactly, Begins, at_token, refuses_all}
 use Rattle.ecma_print_reread.proofs.Towers.{Ends}
 use Rattle.ecma_print_reread.proofs.Forms.{Laid, s, Reads, Refuses}

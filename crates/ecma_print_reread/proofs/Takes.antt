@@ -8,7 +8,7 @@ use Rattle.ecma_grammar.specs.declared.production.Leaf.TheVariants as leaf
 use Rattle.ecma_grammar.specs.Grammar.{Terminal, the_word, the_punct, any}
 use Rattle.ecma_print_tokens.specs.Items.{Tok, key, private_name, sign, string, number, big_int, regex, template, Gap, Items, ends, it}
 use Rattle.ecma_print_tokens.specs.Taking.{Took, took, refused, unsure, took_if, unsure_if, end_by, token_in, leaf_in, word_in, punct_in, key_in, name_in, private_name_in, string_in, number_in, big_int_in, regex_in, angle_in, template_in, end_in, end_of_text_in}
-use Rattle.ecma_print_reread.specs.Machine.{count}
+use Rattle.ecma_print_reread.proofs.Machine.{count}
 
 -- behind a token that was taken k tokens fewer stand, or still fewer
 abbrev pub Shorter : ℕ → Items → Took → Type 0

@@ -35,12 +35,12 @@ use Rattle.ecma_grammar.specs.productions.Chains.{links, new_links, template_sta
 use Rattle.ecma_print_tokens.specs.Items as items
 use Rattle.ecma_print_tokens.specs.Items.{no_gap, Gap, Items, it}
 use Rattle.ecma_print_tokens.specs.Taking.{part_inside}
-use Rattle.ecma_print_reread.specs.Machine.{read, with_front, followed_on, or_on, built_on, interp, means}
-use Rattle.ecma_print_reread.specs.Shapes as shapes
-use Rattle.ecma_print_reread.specs.Shapes.{Level, IsExpression, IsPart, AreParts}
-use Rattle.ecma_print_reread.specs.LiteralTexts.{part_text}
-use Rattle.ecma_print_reread.specs.Tokens.{part_raw, part_token, expression_tokens, parts_tokens, ends_here, first_raw}
-use Rattle.ecma_print_reread.specs.Bare.{bare, expression_kind, expression_parts, bare_expression, bare_part, bare_parts, bare_substitutions}
+use Rattle.ecma_print_reread.proofs.Machine.{read, with_front, followed_on, or_on, built_on, interp, means}
+use Rattle.ecma_shapes.specs.Shapes as shapes
+use Rattle.ecma_shapes.specs.Shapes.{Level, IsExpression, IsPart, AreParts}
+use Rattle.ecma_shapes.specs.LiteralTexts.{part_text}
+use Rattle.ecma_print_reread.proofs.Tokens.{part_raw, part_token, expression_tokens, parts_tokens, ends_here, first_raw}
+use Rattle.ecma_print_reread.proofs.Bare.{bare, expression_kind, expression_parts, bare_expression, bare_part, bare_parts, bare_substitutions}
 use Rattle.ecma_print_reread.proofs.Moves.{eats}
 use Rattle.ecma_print_reread.proofs.Levels.{means_is}
 use Rattle.ecma_print_reread.proofs.Fronts.{Front, exactly, at_token, refuses_at}

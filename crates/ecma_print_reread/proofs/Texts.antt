@@ -18,12 +18,12 @@ use Rattle.ecma_grammar.specs.productions.Modules.{module_body}
 use Rattle.ecma_grammar.specs.Modules.{reads_module}
 use Rattle.ecma_print_tokens.specs.Items.{Items, ends, no_gap, render}
 use Rattle.ecma_print_tokens.specs.Lexing.{At, Goes, Lexes}
-use Rattle.ecma_print_reread.specs.Machine.{read, count, with_front, built_on, interp, means}
-use Rattle.ecma_print_reread.specs.Modules as modules
-use Rattle.ecma_print_reread.specs.Modules.{IsHashbangText, AreModuleItems, IsModule}
-use Rattle.ecma_print_reread.specs.Signs.{line}
-use Rattle.ecma_print_reread.specs.Bare.{bare}
-use Rattle.ecma_print_reread.specs.ModuleTokens.{items_tokens, module_tokens, module_head, bare_items, bare_module}
+use Rattle.ecma_print_reread.proofs.Machine.{read, count, with_front, built_on, interp, means}
+use Rattle.ecma_shapes.specs.Modules as modules
+use Rattle.ecma_shapes.specs.Modules.{IsHashbangText, AreModuleItems, IsModule}
+use Rattle.ecma_print_reread.proofs.Signs.{line}
+use Rattle.ecma_print_reread.proofs.Bare.{bare}
+use Rattle.ecma_print_reread.proofs.ModuleTokens.{items_tokens, module_tokens, module_head, bare_items, bare_module}
 use Rattle.ecma_print_reread.proofs.Ranks.{leads, module_leads}
 use Rattle.ecma_print_reread.proofs.Unplaced.{without_spans-node}
 use Rattle.ecma_print_reread.proofs.Simulation.{plain, NoTarget, Sims, sims_front, sims_built, means_simulate}

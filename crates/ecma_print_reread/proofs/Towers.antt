@@ -20,9 +20,9 @@ use Rattle.ecma_grammar.specs.productions.Declarations.{declaration}
 use Rattle.ecma_grammar.specs.productions.Statements.{statement_body}
 use Rattle.ecma_grammar.specs.productions.Modules.{module_item}
 use Rattle.ecma_print_tokens.specs.Items.{Items, sign, template}
-use Rattle.ecma_print_reread.specs.Shapes as shapes
-use Rattle.ecma_print_reread.specs.Shapes.{Level}
-use Rattle.ecma_print_reread.specs.Machine.{read, Turn, followed_on, or_on, with_front, built_on, without, interp}
+use Rattle.ecma_shapes.specs.Shapes as shapes
+use Rattle.ecma_shapes.specs.Shapes.{Level}
+use Rattle.ecma_print_reread.proofs.Machine.{read, Turn, followed_on, or_on, with_front, built_on, without, interp}
 use Rattle.ecma_print_reread.proofs.Fronts.{Front, Begins, refuses_at, passes_at, refused_at, passed_at, exactly}
 
 -- a grammar around another: the front is f, and k stands behind what is read

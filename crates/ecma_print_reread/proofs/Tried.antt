@@ -19,8 +19,8 @@ use Rattle.ecma_grammar.specs.productions.Patterns.{pattern_body, pattern_elemen
 use Rattle.ecma_print_tokens.specs.Items.{sign, number, regex, template, Gap, Items, it}
 use Rattle.ecma_print_tokens.specs.Taking as taking
 use Rattle.ecma_print_tokens.specs.Taking.{Took, took, refused, took_if, unsure_if, punct_in}
-use Rattle.ecma_print_reread.specs.Machine.{Out, read, fails, unsure, taken, with_front, followed_on, or_on, built_on, interp, means}
-use Rattle.ecma_print_reread.specs.Signs.{blank}
+use Rattle.ecma_print_reread.proofs.Machine.{Out, read, fails, unsure, taken, with_front, followed_on, or_on, built_on, interp, means}
+use Rattle.ecma_print_reread.proofs.Signs.{blank}
 use Rattle.ecma_print_reread.proofs.Levels.{means_is}
 use Rattle.ecma_print_reread.proofs.Fronts.{Front, exactly, Begins, at_token, refuses_at, refused_at, refuses_all, all_refused}
 use Rattle.ecma_print_reread.proofs.Forms.{Reads, Refuses, ends_no_item, AsItem, item_refused, whole_item, item_before, AsParam}

@@ -14,12 +14,12 @@ use Rattle.ecma_grammar.specs.productions.Modules as modules
 use Rattle.ecma_grammar.specs.productions.Modules.{module_item}
 use Rattle.ecma_print_tokens.specs.Items as items
 use Rattle.ecma_print_tokens.specs.Items.{sign, no_gap, Items, it}
-use Rattle.ecma_print_reread.specs.Machine.{means}
-use Rattle.ecma_print_reread.specs.Shapes as shapes
-use Rattle.ecma_print_reread.specs.Shapes.{IsPattern}
-use Rattle.ecma_print_reread.specs.Tokens.{pattern_tokens}
-use Rattle.ecma_print_reread.specs.Signs.{blank}
-use Rattle.ecma_print_reread.specs.Bare.{bare, bare_pattern}
+use Rattle.ecma_print_reread.proofs.Machine.{means}
+use Rattle.ecma_shapes.specs.Shapes as shapes
+use Rattle.ecma_shapes.specs.Shapes.{IsPattern}
+use Rattle.ecma_print_reread.proofs.Tokens.{pattern_tokens}
+use Rattle.ecma_print_reread.proofs.Signs.{blank}
+use Rattle.ecma_print_reread.proofs.Bare.{bare, bare_pattern}
 use Rattle.ecma_print_reread.proofs.Fronts.{exactly, refused_at}
 use Rattle.ecma_print_reread.proofs.Heads.{nodes}
 use Rattle.ecma_print_reread.proofs.Forms.{Laid, s, Reads}

@@ -24,9 +24,9 @@ use Rattle.ecma_grammar.specs.productions.Chains.{links, template_start}
 use Rattle.ecma_grammar.specs.productions.Operators as operators
 use Rattle.ecma_grammar.specs.productions.Operators.{prefixed}
 use Rattle.ecma_print_tokens.specs.Items.{no_gap, Gap, Items, it}
-use Rattle.ecma_print_reread.specs.Machine.{read, with_front, followed_on, built_on, interp, means}
-use Rattle.ecma_print_reread.specs.Shapes as shapes
-use Rattle.ecma_print_reread.specs.Signs.{update_token}
+use Rattle.ecma_print_reread.proofs.Machine.{read, with_front, followed_on, built_on, interp, means}
+use Rattle.ecma_shapes.specs.Shapes as shapes
+use Rattle.ecma_print_reread.proofs.Signs.{update_token}
 use Rattle.ecma_print_reread.proofs.Levels.{means_is}
 use Rattle.ecma_print_reread.proofs.Fronts.{Front, exactly, Begins, at_token, refuses_at}
 use Rattle.ecma_print_reread.proofs.Towers.{suffix, closes, skipped}

@@ -26,12 +26,12 @@ use Rattle.ecma_grammar.specs.productions.Modules.{module_item}
 use Rattle.ecma_print.specs.Statements.{keyword}
 use Rattle.ecma_print_tokens.specs.Items as items
 use Rattle.ecma_print_tokens.specs.Items.{sign, Gap, Items, it}
-use Rattle.ecma_print_reread.specs.Machine.{read, with_front, followed_on, or_on, built_on, interp, means}
-use Rattle.ecma_print_reread.specs.Shapes as shapes
-use Rattle.ecma_print_reread.specs.Shapes.{IsDeclarator, AreDeclarators, IsPattern}
-use Rattle.ecma_print_reread.specs.Tokens.{ident_word, initializer_tokens, declarator_tokens, declarators_tokens, pattern_tokens}
-use Rattle.ecma_print_reread.specs.Signs.{blank}
-use Rattle.ecma_print_reread.specs.Bare.{bare, bare_initializer, bare_declarator, bare_declarators, bare_pattern}
+use Rattle.ecma_print_reread.proofs.Machine.{read, with_front, followed_on, or_on, built_on, interp, means}
+use Rattle.ecma_shapes.specs.Shapes as shapes
+use Rattle.ecma_shapes.specs.Shapes.{IsDeclarator, AreDeclarators, IsPattern}
+use Rattle.ecma_print_reread.proofs.Tokens.{ident_word, initializer_tokens, declarator_tokens, declarators_tokens, pattern_tokens}
+use Rattle.ecma_print_reread.proofs.Signs.{blank}
+use Rattle.ecma_print_reread.proofs.Bare.{bare, bare_initializer, bare_declarator, bare_declarators, bare_pattern}
 use Rattle.ecma_print_reread.proofs.Levels.{means_is}
 use Rattle.ecma_print_reread.proofs.Fronts.{exactly, at_token}
 use Rattle.ecma_print_reread.proofs.Towers.{refuses_choices}

@@ -32,9 +32,9 @@ use Rattle.ecma_grammar.specs.productions.Modules as modules
 use Rattle.ecma_grammar.specs.productions.Modules.{module_item}
 use Rattle.ecma_print_tokens.specs.Items.{key, private_name, sign, string, number, big_int, regex, template, Gap, Items, it}
 use Rattle.ecma_print_tokens.specs.Taking.{new_line_in}
-use Rattle.ecma_print_reread.specs.Machine.{read, fails, with_front, followed_on, or_on, built_on, interp, means}
-use Rattle.ecma_print_reread.specs.Shapes as shapes
-use Rattle.ecma_print_reread.specs.Signs.{blank, star_of}
+use Rattle.ecma_print_reread.proofs.Machine.{read, fails, with_front, followed_on, or_on, built_on, interp, means}
+use Rattle.ecma_shapes.specs.Shapes as shapes
+use Rattle.ecma_print_reread.proofs.Signs.{blank, star_of}
 use Rattle.ecma_print_reread.proofs.Levels.{means_is}
 use Rattle.ecma_print_reread.proofs.Fronts.{Front, exactly, a_name, the_end, Begins, at_token, refuses_at, refused_at, refuses_all, all_refused}
 use Rattle.ecma_print_reread.proofs.Towers.{behind_arrow, refuses_choices, is_stop, stops, Ends, closes_in}

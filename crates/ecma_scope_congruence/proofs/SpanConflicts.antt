@@ -12,7 +12,7 @@ use Rattle.ecma_scope.specs.Conflicts.{Surrounding, clash_step, clashes_in, clas
 use Rattle.ecma_scope.specs.Declarations.{holds_vars, stated}
 use Rattle.ecma_scope.specs.Scopes.{covers, is_ambient}
 use Rattle.ecma_scope.proofs.Layers.{from_leaves_out}
-use Rattle.ecma_scope_congruence.specs.Conflicts.{SpansDoNotMatterToConflicts}
+use Rattle.ecma_scope_congruence.specs.Laws.{SpansDoNotMatterToConflicts}
 use Rattle.ecma_scope_congruence.proofs.Bare.{bare-children, bare-kind, opens-bare, role-bare}
 use Rattle.ecma_scope_congruence.proofs.Names.{declarations-bare, names-bare}
 

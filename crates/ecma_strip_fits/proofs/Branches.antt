@@ -17,7 +17,7 @@ use Rattle.ecma_strip.specs.Values.{is_value}
 use Rattle.ecma_strip.specs.Stripping.{body_of, changed_at, plain_children, plain_kind, stripped}
 use Rattle.ecma_fits.specs.Branches.{holds_at, holds_at_last, is_choice, is_dangling, last_part, takes_else, takes_else_step}
 use Rattle.ecma_fits.specs.Fitting.{Fits}
-use Rattle.ecma_strip_fits.specs.Kept.{NoneFails}
+use Rattle.ecma_strip_fits.specs.Targets.{NoneFails}
 use Rattle.ecma_strip_fits.proofs.Classes.{class_of}
 use Rattle.ecma_strip_fits.proofs.Classes.Class.{Usual}
 use Rattle.ecma_strip_fits.proofs.ChildrenKept.{AsUsual, Plain, maybe_usual, one_usual}

@@ -16,7 +16,8 @@ use Rattle.ecma_fits.specs.Fitting.{at_top, breaks_rule, first_unfit_in, is_misp
 use Rattle.ecma_fits.specs.Members.{is_misread}
 use Rattle.ecma_fits.specs.Roles.{is_out_of_role, is_tagged}
 use Rattle.ecma_fits.specs.Strays.{is_stray_target}
-use Rattle.ecma_strip_fits.specs.Kept.{NoneFails, StrippingKeepsFits}
+use Rattle.ecma_strip_fits.specs.Targets.{NoneFails}
+use Rattle.ecma_strip_fits.specs.Laws.{StrippingKeepsFits}
 use Rattle.ecma_strip_fits.proofs.Branches.{branches_kept}
 use Rattle.ecma_strip_fits.proofs.Chains.{chains_kept}
 use Rattle.ecma_strip_fits.proofs.Constructors.{constructors_kept}

@@ -21,7 +21,7 @@ use Rattle.ecma_fits.specs.declared.role.Role.TheVariants as role
 use Rattle.ecma_fits.specs.declared.unfit.Where.{Where}
 use Rattle.ecma_fits.specs.Fitting.{Fits, at_top, first_unfit_in, unfit_here, where_in}
 use Rattle.ecma_fits.specs.Roles.{at_child, is_binding, is_bound_name, is_default, is_free, is_name, is_out_of_role, is_pattern, is_rest, is_variables, is_wrong_name, may_be, role_in, takes}
-use Rattle.ecma_strip_fits.specs.Kept.{HasPlainTargets, NoneFails, is_typed_target}
+use Rattle.ecma_strip_fits.specs.Targets.{HasPlainTargets, NoneFails, is_typed_target}
 use Rattle.ecma_bind.specs.Binding.{binds, is_name_under_types, names_step}
 use Rattle.ecma_strip_fits.proofs.Classes.{Class, class_of, is_body_at, is_receiver_at, only_list, wrapped_front}
 use Rattle.ecma_strip_fits.proofs.Classes.Class.{Listed, Typed, Usual, Wrapped}

@@ -21,7 +21,7 @@ use Rattle.ecma_fits.specs.declared.unfit.Where.{Where}
 use Rattle.ecma_fits.specs.Fitting.{Fits, at_top, breaks_rule, first_unfit_in, unfit_here, where_in}
 use Rattle.ecma_fits.specs.Roles.{is_out_of_role}
 use Rattle.ecma_fits.specs.Strays.{is_stray_target}
-use Rattle.ecma_strip_fits.specs.Kept.{NoneFails}
+use Rattle.ecma_strip_fits.specs.Targets.{NoneFails}
 use Rattle.ecma_strip_fits.proofs.Classes.{class_of}
 use Rattle.ecma_strip_fits.proofs.Classes.Class.{Usual}
 use Rattle.ecma_strip_fits.proofs.ChildrenKept.{Plain, child_by, one_usual}

@@ -25,7 +25,7 @@ use Rattle.ecma_fits.specs.declared.role.Role.TheVariants as role
 use Rattle.ecma_fits.specs.declared.unfit.Where.{Where}
 use Rattle.ecma_fits.specs.Fitting.{Fits, at_top, first_unfit_in, unfit_here, where_in}
 use Rattle.ecma_fits.specs.Roles.{is_out_of_role, is_wrong_name, left_of, may_be, role_in, takes}
-use Rattle.ecma_strip_fits.specs.Kept.{StrippingKeepsSorts}
+use Rattle.ecma_strip_fits.specs.Laws.{StrippingKeepsSorts}
 use Rattle.ecma_strip_fits.proofs.Classes.{Class, class_of, wrapped_front}
 use Rattle.ecma_strip_fits.proofs.Classes.Class.{Listed, Wrapped}
 use Rattle.ecma_strip_fits.proofs.Ruled.{left_expression, must_take, simple-out, simple_under, wrapped_expression, wrapped_no_list, wrapped_there}

@@ -19,7 +19,7 @@ use Rattle.ecma_strip.specs.Values.{is_value, value_by, value_step}
 use Rattle.ecma_strip.proofs.Sorting.{allows-under, both}
 use Rattle.ecma_strip.proofs.Stripping.{stripped-out}
 use Rattle.ecma_strip.proofs.Valuing.{is_value-out}
-use Rattle.ecma_strip_idempotent.specs.Twice.{holds_everywhere, lasts, lasts_by}
+use Rattle.ecma_strip_idempotent.specs.Lasting.{holds_everywhere, lasts, lasts_by}
 use Rattle.ecma_strip_idempotent.proofs.Steady.{no}
 
 abbrev pub Lasts : Node → Type 0

@@ -17,7 +17,8 @@ use Rattle.ecma_strip.specs.Staying.{is_empty_stmt, is_this_param, item_stays, m
 use Rattle.ecma_strip.specs.Stripping.{body_of, changed_at, operand, plain, plain_children, plain_kind, staying_nodes, stripped, without_empty, without_this}
 use Rattle.ecma_strip.proofs.Sorting.{both}
 use Rattle.ecma_strip.proofs.Stripping.{stripped-roll}
-use Rattle.ecma_strip_idempotent.specs.Twice.{SortedTreesStripOnce, holds_everywhere, is_full, is_full_by, lasts, lasts_by}
+use Rattle.ecma_strip_idempotent.specs.Laws.{SortedTreesStripOnce}
+use Rattle.ecma_strip_idempotent.specs.Lasting.{holds_everywhere, is_full, is_full_by, lasts, lasts_by}
 use Rattle.ecma_strip_idempotent.proofs.Names.{param-stays, rest_of}
 use Rattle.ecma_strip_idempotent.proofs.Twice.{stripping_twice_is_stripping_once}
 

@@ -20,7 +20,8 @@ use Rattle.ecma_strip.specs.Stripping.{body_of, changed_at, operand, plain, plai
 use Rattle.ecma_strip.specs.Values.{is_value}
 use Rattle.ecma_strip.proofs.Sorting.{allows-under, both}
 use Rattle.ecma_strip.proofs.Stripping.{stripped-roll}
-use Rattle.ecma_strip_idempotent.specs.Twice.{StrippingTwiceIsStrippingOnce, lasts_by}
+use Rattle.ecma_strip_idempotent.specs.Laws.{StrippingTwiceIsStrippingOnce}
+use Rattle.ecma_strip_idempotent.specs.Lasting.{lasts_by}
 use Rattle.ecma_strip_idempotent.proofs.Again.{AllLast, Lasts, asked, below, lasting, shaped}
 use Rattle.ecma_strip_idempotent.proofs.Items.{stays-again}
 use Rattle.ecma_strip_idempotent.proofs.Steady.{is_listed, is_single, no}

@@ -15,7 +15,7 @@ use Rattle.ecma_runs.proofs.Layer.{meaning_out}
 use Rattle.ecma_strip.specs.Staying.{if_there, is_empty_stmt, is_declared, is_export, is_this, is_this_by, is_this_ident, is_this_param, is_this_param_by, item_stays, member_stays_by, specifier_stays, stays}
 use Rattle.ecma_strip.specs.Values.{is_value, value_by}
 use Rattle.ecma_strip.proofs.Valuing.{is_value-out}
-use Rattle.ecma_strip_runs.specs.Runs.{does_nothing}
+use Rattle.ecma_strip_runs.specs.OnlyTypes.{does_nothing}
 use Rattle.ecma_strip_runs.proofs.Valueless.{shape_out, body_absent, function_bodiless, valueless, typed, child_valueless, body_valueless}
 
 -- nodes of two shapes are two

@@ -23,7 +23,8 @@ use Rattle.ecma_hygiene_scopes.specs.DeclaredIds.{DeclaredId, id_here, ids_at, i
 use Rattle.ecma_hygiene_scopes.proofs.Directly.{ids-out}
 use Rattle.ecma_hygiene_scopes.proofs.Parts.{children-of, kind-of}
 use Rattle.ecma_strip_scopes.specs.Going.{is_list_part}
-use Rattle.ecma_strip_scopes.specs.Standing.{WhatStaysIsDeclared, bodies_stay, clear_at, clear_here, clear_in, clear_step, has_value, is_clear, is_none, same}
+use Rattle.ecma_strip_scopes.specs.Laws.{WhatStaysIsDeclared}
+use Rattle.ecma_strip_scopes.specs.Standing.{bodies_stay, clear_at, clear_here, clear_in, clear_step, has_value, is_clear, is_none, same}
 use Rattle.ecma_strip_scopes.proofs.Exporting.{what-goes-declares-nothing}
 use Rattle.ecma_strip_scopes.proofs.Going.{parts-have}
 use Rattle.ecma_strip_scopes.proofs.Lasting.{here-lasts, lasting, lasting-append, none-lasts, param-goes}

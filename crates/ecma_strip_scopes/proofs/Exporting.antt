@@ -18,7 +18,8 @@ use Rattle.ecma_strip.proofs.Valuing as valuing
 use Rattle.ecma_hygiene.proofs.Telling.{true-false}
 use Rattle.ecma_hygiene_scopes.specs.DeclaredIds.{DeclaredId, id_here, ids_at, ids_declared, ids_in}
 use Rattle.ecma_hygiene_scopes.proofs.Directly.{ids-out}
-use Rattle.ecma_strip_scopes.specs.Going.{WhatGoesDeclaresNothing, is_list_part}
+use Rattle.ecma_strip_scopes.specs.Laws.{WhatGoesDeclaresNothing}
+use Rattle.ecma_strip_scopes.specs.Going.{is_list_part}
 use Rattle.ecma_hygiene_scopes.proofs.Gone.{below-gone, gone-at, kept, none-append, none-some}
 use Rattle.ecma_strip_scopes.proofs.Going.{and-none, apart, decl-gone, decl-item, is_exporting, is_ident, is_silent, member-silent, no-id, no-scope, only, parts-have, silent-by, specifier-by}
 use Rattle.ecma_strip_scopes.proofs.Values.{values-agree}

@@ -1,10 +1,9 @@
--- What stays of a tree declares, without its types, what the tree declares as values that stay.
-use Rattle.std.specs.Prelude.{◌≡◌, ℕ, suc, Bool, true, false, ◌&&◌, ◌||◌, not, cond, filter, List, [], ◌∷◌, map, Option, Some, None, bytes_eq, codes, slice_get}
+-- Nodes of which it is clear what they declare without their types.
+use Rattle.std.specs.Prelude.{ℕ, suc, Bool, true, false, ◌&&◌, ◌||◌, not, cond, List, [], ◌∷◌, map, Option, Some, None, bytes_eq, codes, slice_get}
 use Rattle.ecma_kind.specs.Sorts.{is_type_wrapper}
 use Rattle.ecma_kind.specs.declared.kind.Kind.{Kind}
 use Rattle.ecma_kind.specs.declared.kind.Kind.TheVariants as kind
-use Rattle.ecma_kind.specs.declared.shapes.Shape.{Shape}
-use Rattle.ecma_tree.specs.Sorted.{HasShape, is_list}
+use Rattle.ecma_tree.specs.Sorted.{is_list}
 use Rattle.ecma_tree.specs.declared.node.Node.{Node, out-Node}
 use Rattle.ecma_scope.specs.declared.form.Sought.{Sought}
 use Rattle.ecma_scope.specs.Declarations.{is_value, sought_in}
@@ -72,7 +71,3 @@ clear_step receivers node children sought =
 -- so it is all the way down, where something is looked for
 abbrev pub is_clear : Bool → Node → Sought → Bool
 is_clear receivers = from_leaves (Sought → Bool) (clear_step receivers)
-
-abbrev pub WhatStaysIsDeclared : Type 0
-WhatStaysIsDeclared = (receivers : Bool) (shape : Shape) (tree : Node) (sought : Sought) → HasShape shape tree → sought.stays ≡ true → is_clear receivers tree sought ≡ true
-    → ids_declared (stripped tree) sought ≡ filter (lasts receivers) (ids_declared tree sought)

@@ -13,7 +13,8 @@ use Rattle.ecma_fits.specs.Fitting.{Fits, at_top, breaks_rule, first_unfit_in, i
 use Rattle.ecma_fits.specs.Members.{is_misread}
 use Rattle.ecma_fits.specs.Roles.{is_out_of_role}
 use Rattle.ecma_fits.specs.Strays.{is_stray_target}
-use Rattle.ecma_text_fits.specs.Clauses.{Clauses, FitsByClauses, NoneFails, has_second_constructor, is_misspelled}
+use Rattle.ecma_text_fits.specs.Clauses.{Clauses, NoneFails, has_second_constructor, is_misspelled}
+use Rattle.ecma_text_fits.specs.Laws.{FitsByClauses}
 use Rattle.ecma_text_fits.proofs.Walks.{both_none, neither, neither_least, not_failing, shifted}
 
 -- a place of each node

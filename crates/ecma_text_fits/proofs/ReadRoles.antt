@@ -8,8 +8,7 @@ use Rattle.ecma_fits.specs.declared.unfit.Where.{Where}
 use Rattle.ecma_fits.specs.Roles.{is_out_of_role}
 use Rattle.ecma_fits.specs.Strays.{is_stray_target}
 use Rattle.ecma_text_fits.specs.Clauses.{NoneFails}
-use Rattle.ecma_text_fits.specs.FinishedRoles.{FinishedTargetsAreNoStrays, FinishedTreesHaveTheirRoles}
-use Rattle.ecma_text_fits.specs.ReadRoles.{ReadTargetsAreNoStrays, ReadTreesHaveTheirRoles}
+use Rattle.ecma_text_fits.specs.Laws.{FinishedTargetsAreNoStrays, FinishedTreesHaveTheirRoles, ReadTargetsAreNoStrays, ReadTreesHaveTheirRoles}
 use Rattle.ecma_text_fits.proofs.Clauses.{less, out_of_role, stray_target}
 use Rattle.ecma_text_fits.proofs.FinishedRoles.{roles_finished}
 use Rattle.ecma_text_fits.proofs.Raws.{of_raw}

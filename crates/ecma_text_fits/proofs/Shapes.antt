@@ -24,9 +24,8 @@ use Rattle.ecma_fits.specs.Counts.{are_exports, are_imports, holds_attributes, i
 use Rattle.ecma_fits.specs.Fitting.{at_top, breaks_rule, where_in}
 use Rattle.ecma_fits.specs.Members.{is_misread, is_misread_by}
 use Rattle.ecma_text_leaves.proofs.Trees.{children_made}
-use Rattle.ecma_text_fits.specs.Clauses.{NoneFails}
-use Rattle.ecma_text_fits.specs.Read.{KeepsRules, ReadTreesKeepRules}
-use Rattle.ecma_text_fits.specs.Shapes.{ReadBranchesTakeTheirElse, ReadLinksAreNotLoose, ReadMembersAreNotMisread, ReadNodesAreFull}
+use Rattle.ecma_text_fits.specs.Clauses.{NoneFails, KeepsRules}
+use Rattle.ecma_text_fits.specs.Laws.{ReadTreesKeepRules, ReadBranchesTakeTheirElse, ReadLinksAreNotLoose, ReadMembersAreNotMisread, ReadNodesAreFull}
 use Rattle.ecma_text_fits.proofs.RawSound.{raw_sound}
 use Rattle.ecma_text_fits.proofs.Raws.{of_raw}
 use Rattle.ecma_text_fits.proofs.Sound.{Sound, are_attributes, are_several, both_true, has, holds_with, is_attribute_list, is_base, is_choice, is_export, is_export_all, is_function, is_import, is_linked, is_list_of, is_method_pair, is_named_well, is_object, is_template, items, may_be_named}

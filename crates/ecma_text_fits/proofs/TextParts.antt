@@ -23,7 +23,7 @@ use Rattle.ecma_fits.specs.Fitting.{at_top, where_in}
 use Rattle.ecma_fits.specs.Roles.{at_child, bound_name_of, by, in_default, in_list, in_rest, in_template, is_assigned, is_in, is_tagged, is_wrong_name, role_in}
 use Rattle.ecma_text_fits.specs.RawRoles.{HasRawRole, is_parameter, is_unvalued, may_be_raw, may_stand, raw_role, raw_role_in, usual_role_in}
 use Rattle.ecma_text_fits.specs.Clauses.{NoneFails}
-use Rattle.ecma_text_fits.specs.ReadRoles.{RawModulesHaveTheirRoles}
+use Rattle.ecma_text_fits.specs.Laws.{RawModulesHaveTheirRoles}
 use Rattle.ecma_text_fits.proofs.Placed.{Along, least_along, raw_parts}
 use Rattle.ecma_text_fits.proofs.Raws.{of_raw}
 use Rattle.ecma_text_fits.proofs.Standing.{finished_parts, kind_made}

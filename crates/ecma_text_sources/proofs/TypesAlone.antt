@@ -18,7 +18,7 @@ use Rattle.ecma_strip.specs.Values.{is_value, value_by}
 use Rattle.ecma_strip.proofs.Valuing.{is_value-out}
 use Rattle.ecma_hygiene.proofs.Telling.{and-both, true-false}
 use Rattle.ecma_strip_scopes.proofs.Going.{parts-have}
-use Rattle.ecma_pipeline_runs.specs.TypesAlone.{adds_types_alone, has_ambient_head, has_bodiless, has_stray_receiver, is_lowered, lacks_body, lacks_body_by}
+use Rattle.ecma_sources.specs.TypesAlone.{adds_types_alone, has_ambient_head, has_bodiless, has_stray_receiver, is_lowered, lacks_body, lacks_body_by}
 use Rattle.ecma_pipeline_runs.proofs.Clearing.{fits-below}
 use Rattle.ecma_pipeline_runs.proofs.Nodes.{StaysIn, alone-made, by-children, child-shape, not-false}
 use Rattle.ecma_forms.specs.Forms.{first_untaken, has_body, is_ambient_variable, is_later, is_odd_by}
