@@ -3,7 +3,7 @@ ghost use Rattle.std.specs.Prelude.{◌≡◌};
 ghost use Rattle.ecma_tree.specs.declared.node.Node.{out-Node};
 ghost use Rattle.ecma_strip.specs.Staying.{is_ambient, is_declared, is_empty_stmt, is_export, is_this, is_this_ident, is_this_param, item_stays, member_stays, specifier_stays, stays};
 
-use ecma_tree::{Kind, Node, Sort, belongs};
+use ecma_tree::{Kind, Node, Sort, belongs, is_value, is_value_at};
 
 pub(crate) fn is_empty_stmt(kind: &Kind) -> bool
     ensures { result ≡ is_empty_stmt kind.now }
