@@ -3,9 +3,9 @@ use Rattle.std.specs.Prelude.{ℕ, suc, Bool, true, false, ◌&&◌, ◌||◌, c
 use Rattle.ecma_kind.specs.Sorts.{is_type_wrapper}
 use Rattle.ecma_tree.specs.declared.node.Node.{Node, Node-F, fold-Node, out-Node}
 use Rattle.ecma_tree.specs.Nodes.{node_of}
+use Rattle.ecma_tree.specs.Layers.{from_leaves}
 use Rattle.ecma_rules.specs.Children.{kind_of}
 use Rattle.ecma_rules.specs.Finishing.{binding}
-use Rattle.ecma_rules.specs.Layers.{from_leaves}
 use Rattle.ecma_rules.specs.Targets.{first_is}
 use Rattle.ecma_fits.specs.declared.role.Role.{Role}
 use Rattle.ecma_fits.specs.declared.role.Role.TheVariants as role

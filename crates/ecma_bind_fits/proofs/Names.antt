@@ -6,12 +6,12 @@ use Rattle.ecma_kind.specs.declared.kind.Kind.TheVariants as kind
 use Rattle.ecma_kind.specs.declared.shapes.Shape.{Shape}
 use Rattle.ecma_tree.specs.declared.node.Node.{Node, fold_out-Node}
 use Rattle.ecma_tree.specs.Sorted.{HasShape, child_shapes}
+use Rattle.ecma_tree.proofs.Layers.{from_leaves_out}
 use Rattle.ecma_rules.specs.declared.strays.Strays.{Strays}
 use Rattle.ecma_rules.specs.Jumps.{Held, first_held_stray, held_in, stray_here}
 use Rattle.ecma_rules.specs.Strays.{in_named, strays_in}
 use Rattle.ecma_rules.specs.Children.{kind_of}
 use Rattle.ecma_rules.specs.Targets.{first_is}
-use Rattle.ecma_rules.proofs.Layers.{from_leaves_out}
 use Rattle.ecma_fits.specs.declared.role.Role.{Role}
 use Rattle.ecma_fits.specs.declared.role.Role.TheVariants as role
 use Rattle.ecma_fits.specs.declared.unfit.Where.{Where}

@@ -7,11 +7,11 @@ use Rattle.ecma_kind.specs.declared.kind.Kind.TheVariants as kind
 use Rattle.ecma_kind.specs.declared.shapes.Sort.TheVariants as sort
 use Rattle.ecma_tree.specs.declared.node.Node.{Node, fold-roll-Node, fold_out-Node, out-Node}
 use Rattle.ecma_tree.specs.Nodes.{absent}
+use Rattle.ecma_tree.specs.Values.{is_value, value_at, value_by, value_step}
 use Rattle.ecma_rules.specs.Children.{kind_of}
 use Rattle.ecma_fits.specs.declared.role.Role.{Role}
 use Rattle.ecma_fits.specs.Roles.{role_in}
 use Rattle.ecma_strip.specs.Staying.{if_there, is_ambient, is_declared, is_empty_stmt, is_export, is_this, is_this_by, is_this_ident, is_this_param, is_this_param_by, item_stays, member_stays, member_stays_by, specifier_stays, stays}
-use Rattle.ecma_strip.specs.Values.{is_value, value_at, value_by, value_step}
 use Rattle.ecma_bind.specs.Binding.{bound_at, is_typed_name, under_types}
 use Rattle.ecma_bind_fits.proofs.Alike.{Same, Six, by_kind, is_same, six_at, typed_parts, usual_children, usual_kind}
 use Rattle.ecma_bind_fits.proofs.Bound.{bound_each, children_of, typed_is}

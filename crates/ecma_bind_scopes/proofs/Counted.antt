@@ -6,6 +6,7 @@ use Rattle.ecma_tree.specs.declared.node.Node.{Node, Node-F}
 use Rattle.ecma_tree.specs.declared.node.Node.TheViews.{out-roll-Node}
 use Rattle.ecma_tree.specs.Nodes.{absent}
 use Rattle.ecma_tree.specs.Sorted.{HasShape, child_shapes}
+use Rattle.ecma_tree.proofs.Layers.{from_leaves_out}
 use Rattle.ecma_rules.specs.Children.{kind_of}
 use Rattle.ecma_rules.specs.Finishing.{binding}
 use Rattle.ecma_fits.specs.declared.role.Role.{Role}
@@ -13,7 +14,6 @@ use Rattle.ecma_fits.specs.Roles.{role_in}
 use Rattle.ecma_scope.specs.declared.role.Role.{Role as Standing}
 use Rattle.ecma_scope.specs.Resolved.{context_count, count_step, counted, taken}
 use Rattle.ecma_scope.specs.Scopes.{is_root, is_there, role_in as seen_in}
-use Rattle.ecma_scope.proofs.Layers.{from_leaves_out}
 use Rattle.ecma_strip_fits.proofs.Lists.{have_at}
 use Rattle.ecma_strip_fits.proofs.Walk.{shape_parts}
 use Rattle.ecma_bind.specs.Binding.{bound_at, is_name_under_types, is_typed_name, under_types}

@@ -7,6 +7,8 @@ use Rattle.ecma_kind.specs.declared.kind.Kind.{Kind}
 use Rattle.ecma_kind.specs.declared.kind.Kind.TheVariants as kind
 use Rattle.ecma_kind.specs.declared.operators.AssignOp.{AssignOp}
 use Rattle.ecma_tree.specs.declared.node.Node.{Node, Node-F}
+use Rattle.ecma_tree.specs.Values.{is_value}
+use Rattle.ecma_tree.proofs.Layers.{from_leaves_out}
 use Rattle.ecma_rules.specs.Children.{kind_of}
 use Rattle.ecma_rules.specs.Finishing.{binding}
 use Rattle.ecma_fits.specs.declared.role.Role.{Role}
@@ -18,9 +20,8 @@ use Rattle.ecma_scope.specs.declared.form.Declaration.{Declaration}
 use Rattle.ecma_scope.specs.declared.form.Part.{Part}
 use Rattle.ecma_scope.specs.declared.form.Part.TheVariants as part
 use Rattle.ecma_scope.specs.declared.form.Sought.{Sought}
-use Rattle.ecma_scope.specs.Declarations.{declarations, declared_here, declared_step, found_at, found_in, holds_vars, in_default, in_item, in_member, in_name, in_scope, in_var, is_own, is_value, names, own_part, sought_by, sought_in, vars_of}
+use Rattle.ecma_scope.specs.Declarations.{declarations, declared_here, declared_step, found_at, found_in, holds_vars, in_default, in_item, in_member, in_name, in_scope, in_var, is_own, names, own_part, sought_by, sought_in, vars_of}
 use Rattle.ecma_scope.specs.Scopes.{is_ambient}
-use Rattle.ecma_scope.proofs.Layers.{from_leaves_out}
 use Rattle.ecma_bind.specs.Binding.{bound_at, is_typed_name, under_types}
 use Rattle.ecma_bind_fits.proofs.Alike.{bound_parts, six_at, typed_parts, usual_children, usual_kind}
 use Rattle.ecma_bind_fits.proofs.Bound.{bound_each, by_children, children_of, typed_is}

@@ -10,10 +10,10 @@ use Rattle.ecma_tree.specs.declared.node.Node.{Node, Node-F, fold_out-Node, out-
 use Rattle.ecma_tree.specs.declared.node.Node.TheViews.{out-roll-Node}
 use Rattle.ecma_tree.specs.Nodes.{absent, node_of}
 use Rattle.ecma_tree.specs.Sorted.{HasShape, one}
+use Rattle.ecma_tree.proofs.Layers.{from_leaves_out}
 use Rattle.ecma_rules.specs.Children.{kind_of}
 use Rattle.ecma_rules.specs.Finishing.{binding}
 use Rattle.ecma_rules.specs.Targets.{first_is}
-use Rattle.ecma_rules.proofs.Layers.{from_leaves_out as made_out}
 use Rattle.ecma_fits.specs.declared.role.Role.{Role}
 use Rattle.ecma_fits.specs.declared.role.Role.TheVariants as role
 use Rattle.ecma_fits.specs.Roles.{is_name, role_in}
@@ -22,7 +22,6 @@ use Rattle.ecma_scope.specs.declared.role.Role.TheVariants as standing
 use Rattle.ecma_scope.specs.Declarations.{stated}
 use Rattle.ecma_scope.specs.Resolved.{Place, context_count, innermost, inside, kind_at, nowhere, placed, resolve_step, resolved_at, scope_at, taken}
 use Rattle.ecma_scope.specs.Scopes.{covers, is_root, is_there}
-use Rattle.ecma_scope.proofs.Layers.{from_leaves_out}
 use Rattle.ecma_bind.specs.Binding.{binds, bound_at, first_or, is_name_under_types, is_typed_name, names_step, under_types}
 use Rattle.ecma_bind_fits.proofs.Alike.{bound_parts, typed_parts, usual_children, usual_kind, usual_span}
 use Rattle.ecma_bind_fits.proofs.Bound.{bound_each, by_children, children_of, typed_is, usual_is}
@@ -112,7 +111,7 @@ module _ (unresolved top : ℕ) where
       no_children l = ap (λ (z : List Node). placed (inside top p n l) 0 z (map at_place z) (l - taken p.role n)) none
 
   under-out : (n : Node) → under_types n ≡ cond (is_type_wrapper (kind_of n)) (first_or n (map under_types (children_of n))) n
-  under-out = made_out Node (λ node inner. cond (is_type_wrapper (kind_of node)) (first_or node inner) node)
+  under-out = from_leaves_out Node (λ node inner. cond (is_type_wrapper (kind_of node)) (first_or node inner) node)
 
   first_under : (n : Node) (f : ℕ → Place) (cs : List Node) (e : Node) (l : ℕ) → slice_get cs 0 ≡ Some e → first_or n (map under_types (placed f 0 cs (map at_place cs) l)) ≡ under_types (at_place e (f 0) l)
   first_under n f [] e l at = cc

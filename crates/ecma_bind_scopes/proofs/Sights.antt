@@ -9,12 +9,12 @@ use Rattle.ecma_tree.specs.declared.node.Node.{Node, fold-roll-Node, fold_out-No
 use Rattle.ecma_tree.specs.Laws.{HaveShapes}
 use Rattle.ecma_tree.specs.Nodes.{absent}
 use Rattle.ecma_tree.specs.Sorted.{HasShape, child_shapes, is_absent, one}
+use Rattle.ecma_tree.specs.Values.{is_value, value_by, value_step}
 use Rattle.ecma_rules.specs.Children.{kind_of}
 use Rattle.ecma_fits.specs.declared.role.Role.{Role}
 use Rattle.ecma_fits.specs.Roles.{is_name, role_in}
 use Rattle.ecma_scope.specs.declared.role.Role.{Role as Standing}
 use Rattle.ecma_scope.specs.declared.role.Role.TheVariants as standing
-use Rattle.ecma_scope.specs.Declarations.{is_value, value_by, value_step}
 use Rattle.ecma_scope.specs.Scopes.{is_there, opens, opens_by, role_by, role_in as seen_in}
 use Rattle.ecma_strip_fits.proofs.Lists.{have_at}
 use Rattle.ecma_strip_fits.proofs.Walk.{shape_parts}

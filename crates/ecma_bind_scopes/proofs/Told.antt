@@ -6,6 +6,7 @@ use Rattle.ecma_kind.specs.declared.shapes.Sort.TheVariants as sort
 use Rattle.ecma_tree.specs.declared.node.Node.{Node}
 use Rattle.ecma_tree.specs.Nodes.{absent}
 use Rattle.ecma_tree.specs.Sorted.{HasShape, one}
+use Rattle.ecma_tree.proofs.Layers.{from_leaves_out}
 use Rattle.ecma_rules.specs.Children.{kind_of}
 use Rattle.ecma_rules.specs.Finishing.{binding}
 use Rattle.ecma_fits.specs.declared.role.Role.{Role}
@@ -19,7 +20,6 @@ use Rattle.ecma_scope.specs.declared.form.Sought.{Sought}
 use Rattle.ecma_scope.specs.Conflicts.{Surrounding, clash_step, clashes_in, clashing, is_further_out, marked, nothing, own_clashes, passing, redeclared_at, surrounds}
 use Rattle.ecma_scope.specs.Declarations.{holds_vars, stated}
 use Rattle.ecma_scope.specs.Scopes.{covers, is_ambient, is_there, opens}
-use Rattle.ecma_scope.proofs.Layers.{from_leaves_out}
 use Rattle.ecma_bind.specs.Binding.{bound_at, is_name_under_types, is_typed_name, under_types}
 use Rattle.ecma_bind_fits.proofs.Alike.{typed_parts, usual_children, usual_kind}
 use Rattle.ecma_bind_fits.proofs.Bound.{bound_each, by_children, children_of, typed_is}

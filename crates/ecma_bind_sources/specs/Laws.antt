@@ -2,7 +2,7 @@
 use Rattle.std.specs.Prelude.{◌≡◌, None}
 use Rattle.ecma_tree.specs.declared.node.Node.{Node}
 use Rattle.ecma_forms.specs.Forms.{first_untaken}
-use Rattle.ecma_text_sources.specs.Sources.{IsRead}
+use Rattle.ecma_plain.specs.Read.{IsRead}
 use Rattle.ecma_bind.specs.Binding.{with_bound_names}
 
 -- a tree as it is read is one with its names bound

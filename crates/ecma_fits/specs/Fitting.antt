@@ -48,6 +48,10 @@ at_top = record { role = role.Free; around = at_root; arguments = not_held }
 abbrev pub first_unfit_in : Node → Where → Option ℕ
 first_unfit_in = first_failing Where unfit_here where_in
 
+-- no node of a tree fails a test of it and of where it stands
+abbrev pub NoneFails : (Where → Node → Bool) → Node → Type 0
+NoneFails fails tree = first_failing Where (λ w node. failing_here (fails w node) node) where_in tree at_top ≡ None
+
 -- the least place at which a node begins that is not what it has to be, or that belongs to nothing inside the enum initialiser or namespace
 -- body around it; none where there is none
 abbrev pub first_unfit : Node → Option ℕ

@@ -2,7 +2,7 @@
 use Rattle.std.proofs.Common.{◌≡◌, ℕ, zero, suc, ◌+◌, List, [], ◌∷◌, ◌++◌, map, drop, length, Some, refl, sym, ap, ◌∙◌, slice_get, add-one, append_assoc, arith}
 use Rattle.ecma_tree.specs.declared.node.Node.{Node, out-Node}
 use Rattle.ecma_tree.proofs.Items.{drop-item}
-use Rattle.ecma_scope.proofs.Layers.{from_leaves_out}
+use Rattle.ecma_tree.proofs.Layers.{from_leaves_out}
 use Rattle.ecma_hygiene.specs.Walks.{gather_step, gathered_down, gathered_from}
 
 pub drop-none : {X : Type 0} → (xs : List X) (i : ℕ) → length xs ≡ i → drop i xs ≡ []

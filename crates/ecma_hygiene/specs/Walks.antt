@@ -1,7 +1,7 @@
 -- What is gathered on the way down a tree, where what stands around a node is told to its children.
 use Rattle.std.specs.Prelude.{ℕ, suc, List, [], ◌∷◌, ◌++◌}
 use Rattle.ecma_tree.specs.declared.node.Node.{Node}
-use Rattle.ecma_scope.specs.Layers.{from_leaves}
+use Rattle.ecma_tree.specs.Layers.{from_leaves}
 
 -- what children give, of which the first is the one at i
 abbrev pub gathered_from : (S A : Type 0) → (ℕ → S) → ℕ → List (S → List A) → List A

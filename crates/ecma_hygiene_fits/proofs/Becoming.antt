@@ -5,10 +5,10 @@ use Rattle.ecma_kind.specs.declared.kind.Kind.TheVariants as kind
 use Rattle.ecma_kind.specs.declared.span.Span.{Span}
 use Rattle.ecma_tree.specs.declared.node.Node.{Node, out-Node}
 use Rattle.ecma_tree.specs.Nodes.{node_of}
+use Rattle.ecma_tree.proofs.Layers.{from_leaves_out}
 use Rattle.ecma_rules.specs.Children.{child_holds, child_is, holds_of, is_present, kind_of, of_kind}
 use Rattle.ecma_fits.specs.Roles.{is_name as is_identifier}
 use Rattle.ecma_scope.specs.Resolved.{is_name}
-use Rattle.ecma_scope.proofs.Layers.{from_leaves_out}
 use Rattle.ecma_hygiene.specs.declared.spot.Standing.{Standing}
 use Rattle.ecma_hygiene.specs.Renamed.{Texts, kind_with_text, old_name, renamed_at, renamed_step, shared_by, shared_name, standing_in, written_from}
 use Rattle.ecma_hygiene_scopes.proofs.Growing.{OldName, expanded-of, grown, grown_pattern}

@@ -11,10 +11,10 @@ use Rattle.ecma_tree.specs.declared.node.Node.{Node, out-Node}
 use Rattle.ecma_tree.specs.Laws.{HaveShapes}
 use Rattle.ecma_tree.specs.Nodes.{node_of}
 use Rattle.ecma_tree.specs.Sorted.{HasShape, HasSort, child_shapes, one}
+use Rattle.ecma_tree.proofs.Layers.{from_leaves_out}
 use Rattle.ecma_rules.specs.Children.{child_is, kind_of, of_kind}
 use Rattle.ecma_rules.specs.Failing.{failing_here, failing_step, first_failing, least, least_from}
 use Rattle.ecma_rules.specs.Members.{is_binding_name}
-use Rattle.ecma_rules.proofs.Layers.{from_leaves_out}
 use Rattle.ecma_scope.specs.Resolved.{is_name}
 use Rattle.ecma_hygiene.specs.declared.spot.Spot.{Spot}
 use Rattle.ecma_hygiene.specs.declared.spot.Spot.TheVariants as spot

@@ -9,14 +9,13 @@ use Rattle.ecma_fits.specs.declared.unfit.Where.{Where}
 use Rattle.ecma_fits.specs.Branches.{is_dangling}
 use Rattle.ecma_fits.specs.Chains.{is_loose}
 use Rattle.ecma_fits.specs.Counts.{is_short}
-use Rattle.ecma_fits.specs.Fitting.{Fits, at_top, breaks_rule, first_unfit_in, is_misplaced, is_misshapen, is_unfit, unfit_here, where_in}
+use Rattle.ecma_fits.specs.Fitting.{Fits, at_top, breaks_rule, first_unfit_in, is_misplaced, is_misshapen, is_unfit, unfit_here, where_in, NoneFails}
 use Rattle.ecma_fits.specs.Members.{is_misread}
 use Rattle.ecma_fits.specs.Roles.{is_out_of_role}
 use Rattle.ecma_fits.specs.Strays.{is_stray_target}
 use Rattle.ecma_hygiene.specs.Renamed.{renamed}
 use Rattle.ecma_hygiene.specs.Texts.{text_in}
-use Rattle.ecma_hygiene_fits.specs.Kept.{NoneFails}
-use Rattle.ecma_hygiene_fits.specs.Fitting.{FinalTextsKeepFits, HygieneKeepsFits}
+use Rattle.ecma_hygiene_fits.specs.Laws.{FinalTextsKeepFits, HygieneKeepsFits}
 use Rattle.ecma_hygiene_fits.specs.Spelled.{is_misspelled}
 use Rattle.ecma_hygiene_fits.proofs.Constructors.{constructors_kept}
 use Rattle.ecma_hygiene_fits.proofs.Counts.{counts_kept}

@@ -2,11 +2,10 @@
 use Rattle.std.proofs.Common.{◌≡◌, ◌∙◌, ℕ, suc, Bool, false, ◌||◌, List, [], ◌∷◌, map, Option, None, refl, sym, ap, ap₂}
 use Rattle.std.proofs.lemmas.Bool.{or_from}
 use Rattle.ecma_tree.specs.declared.node.Node.{Node}
+use Rattle.ecma_tree.proofs.Layers.{from_leaves_out}
 use Rattle.ecma_rules.specs.Failing.{failing_here, failing_step, first_failing, least, least_from}
-use Rattle.ecma_rules.proofs.Layers.{from_leaves_out}
 use Rattle.ecma_fits.specs.declared.unfit.Where.{Where}
-use Rattle.ecma_fits.specs.Fitting.{at_top, where_in}
-use Rattle.ecma_hygiene_fits.specs.Kept.{NoneFails}
+use Rattle.ecma_fits.specs.Fitting.{at_top, where_in, NoneFails}
 use Rattle.ecma_hygiene_fits.proofs.Everywhere.{Each, children_of, everywhere}
 use Rattle.ecma_hygiene_fits.proofs.Walk.{neither_least, not_failing}
 

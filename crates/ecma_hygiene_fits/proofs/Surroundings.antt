@@ -14,12 +14,11 @@ use Rattle.ecma_rules.specs.Surroundings.{around_in, standing_by}
 use Rattle.ecma_rules.specs.Targets.{target_in}
 use Rattle.ecma_fits.specs.declared.role.Role.TheVariants as role
 use Rattle.ecma_fits.specs.declared.unfit.Where.{Where}
-use Rattle.ecma_fits.specs.Fitting.{at_top, where_in}
+use Rattle.ecma_fits.specs.Fitting.{at_top, where_in, NoneFails}
 use Rattle.ecma_fits.specs.Roles.{in_default, is_assigned, role_in}
 use Rattle.ecma_fits.specs.Strays.{arguments_in}
 use Rattle.ecma_hygiene.specs.declared.spot.Standing.{Standing}
 use Rattle.ecma_hygiene.specs.Renamed.{Texts, renamed, standing_in}
-use Rattle.ecma_hygiene_fits.specs.Kept.{NoneFails}
 use Rattle.ecma_hygiene_fits.proofs.Becoming.{become, child_same, children_stay, is_touched, kind_stays, present_quiet}
 use Rattle.ecma_hygiene_fits.proofs.Carrying.{Carries, carried, is_known, parts_pass}
 use Rattle.ecma_hygiene_fits.proofs.Everywhere.{children_of}

@@ -4,13 +4,14 @@ use Rattle.std.specs.List.{list_any}
 use Rattle.ecma_kind.specs.declared.kind.Kind.{Kind}
 use Rattle.ecma_kind.specs.declared.kind.Kind.TheVariants as kind
 use Rattle.ecma_tree.specs.declared.node.Node.{Node, out-Node}
+use Rattle.ecma_tree.specs.Values.{is_value}
 use Rattle.ecma_scope.specs.declared.form.Form.{Form}
 use Rattle.ecma_scope.specs.declared.form.Part.{Part}
 use Rattle.ecma_scope.specs.declared.form.Part.TheVariants as part
 use Rattle.ecma_scope.specs.declared.form.Sought.{Sought}
 use Rattle.ecma_scope.specs.declared.role.Role.{Role}
 use Rattle.ecma_scope.specs.declared.role.Role.TheVariants as role
-use Rattle.ecma_scope.specs.Declarations.{holds_vars, in_default, in_item, in_member, in_name, in_scope, in_var, is_value, own_part, seek, sought_by, sought_in}
+use Rattle.ecma_scope.specs.Declarations.{holds_vars, in_default, in_item, in_member, in_name, in_scope, in_var, own_part, seek, sought_by, sought_in}
 use Rattle.ecma_scope.specs.Scopes.{is_ambient}
 use Rattle.ecma_hygiene.specs.Ids.{found, is_name_part, scope_soughts, soughts_in, var_sought}
 use Rattle.ecma_hygiene.specs.Sights.{inner_soughts}

@@ -6,14 +6,15 @@ use Rattle.ecma_kind.specs.declared.kind.Kind.{Kind}
 use Rattle.ecma_kind.specs.declared.kind.Kind.TheVariants as kind
 use Rattle.ecma_tree.specs.declared.node.Node.{Node, Node-F, ind-Node, out-Node, roll-Node}
 use Rattle.ecma_tree.specs.declared.node.Node.TheViews.{out-roll-Node}
+use Rattle.ecma_tree.specs.Values.{is_value}
+use Rattle.ecma_tree.proofs.Layers.{from_leaves_out}
 use Rattle.ecma_scope.specs.declared.form.Part.{Part}
 use Rattle.ecma_scope.specs.declared.form.Part.TheVariants as part
 use Rattle.ecma_scope.specs.declared.form.Sought.{Sought}
 use Rattle.ecma_scope.specs.declared.role.Role.{Role}
-use Rattle.ecma_scope.specs.Declarations.{is_value, sought_in}
+use Rattle.ecma_scope.specs.Declarations.{sought_in}
 use Rattle.ecma_scope.specs.Resolved.{Place, Scope as Frame, context_count, context_in, inside, is_name, kind_at, placed, resolved_at, scope_at, taken}
 use Rattle.ecma_scope.specs.Scopes.{is_there, role_in}
-use Rattle.ecma_scope.proofs.Layers.{from_leaves_out}
 use Rattle.ecma_hygiene.proofs.Roles.{seeks_name, sought-no-name}
 use Rattle.ecma_hygiene_scopes.specs.DeclaredIds.{DeclaredId, id_here, ids_at, ids_declared, ids_in, ids_step}
 use Rattle.ecma_hygiene_scopes.proofs.Sameness.{children-here, children_resolved, kind-here, sought-resolved}

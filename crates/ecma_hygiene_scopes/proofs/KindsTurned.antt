@@ -4,10 +4,11 @@ use Rattle.ecma_kind.specs.declared.kind.Kind.{Kind}
 use Rattle.ecma_kind.specs.declared.kind.Kind.TheVariants as kind
 use Rattle.ecma_tree.specs.Contexts.{kind_with_context}
 use Rattle.ecma_tree.specs.Sorted.{is_absent}
+use Rattle.ecma_tree.specs.Values.{value_by}
 use Rattle.ecma_scope.specs.declared.form.Part.{Part}
 use Rattle.ecma_scope.specs.declared.form.Part.TheVariants as part
 use Rattle.ecma_scope.specs.declared.role.Role.{Role}
-use Rattle.ecma_scope.specs.Declarations.{holds_vars, in_default, in_item, in_member, in_name, in_scope, in_var, sought_by, value_by}
+use Rattle.ecma_scope.specs.Declarations.{holds_vars, in_default, in_item, in_member, in_name, in_scope, in_var, sought_by}
 use Rattle.ecma_scope.specs.Scopes.{covers, opens_by, role_by}
 use Rattle.ecma_hygiene.specs.Renamed.{Texts, kind_with_text}
 

@@ -8,13 +8,13 @@ use Rattle.ecma_kind.specs.declared.kind.Kind.{Kind}
 use Rattle.ecma_kind.specs.declared.kind.Kind.TheVariants as kind
 use Rattle.ecma_tree.specs.declared.node.Node.{Node, Node-F, ind-Node, out-Node, roll-Node}
 use Rattle.ecma_tree.specs.declared.node.Node.TheViews.{out-roll-Node}
+use Rattle.ecma_tree.proofs.Layers.{from_leaves_out}
 use Rattle.ecma_scope.specs.declared.form.Part.{Part}
 use Rattle.ecma_scope.specs.declared.form.Part.TheVariants as part
 use Rattle.ecma_scope.specs.declared.form.Sought.{Sought}
 use Rattle.ecma_scope.specs.declared.role.Role.{Role}
 use Rattle.ecma_scope.specs.Declarations.{holds_vars, own_part, sought_in}
 use Rattle.ecma_scope.specs.Scopes.{is_ambient}
-use Rattle.ecma_scope.proofs.Layers.{from_leaves_out}
 use Rattle.ecma_hygiene.specs.Ids.{Id, Scope, contexts_of, declared_by, declared_here, declared_ids, declares, found, has_context, innermost, is_body_block, is_own, own_ids, same_id, scope_soughts, soughts_in, var_sought}
 use Rattle.ecma_hygiene.specs.Sights.{own_scope}
 use Rattle.ecma_hygiene.specs.Walks.{gathered_from}

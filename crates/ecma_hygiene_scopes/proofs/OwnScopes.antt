@@ -7,6 +7,7 @@ use Rattle.std.proofs.lemmas.Slice.Eq.{bytes_eq-Decides}
 use Rattle.ecma_kind.specs.declared.kind.Kind.{Kind}
 use Rattle.ecma_kind.specs.declared.kind.Kind.TheVariants as kind
 use Rattle.ecma_tree.specs.declared.node.Node.{Node, out-Node}
+use Rattle.ecma_tree.specs.Values.{is_value}
 use Rattle.ecma_scope.specs.declared.form.Declaration.{Declaration}
 use Rattle.ecma_scope.specs.declared.form.Form.{Form}
 use Rattle.ecma_scope.specs.declared.form.Form.TheVariants as form
@@ -15,7 +16,7 @@ use Rattle.ecma_scope.specs.declared.form.Sought.{Sought}
 use Rattle.ecma_scope.specs.declared.role.Role.{Role}
 use Rattle.ecma_scope.specs.declared.role.Role.TheVariants as role
 use Rattle.ecma_scope.specs.Conflicts.{clashing, is_function_body, is_lexical, marked, meeting, passing}
-use Rattle.ecma_scope.specs.Declarations.{declarations, declares, holds_vars, in_scope, is_hoisted, is_own as is_own_name, is_stated, is_value, keeps, names, own_part, sought_in, vars_of}
+use Rattle.ecma_scope.specs.Declarations.{declarations, declares, holds_vars, in_scope, is_hoisted, is_own as is_own_name, is_stated, keeps, names, own_part, sought_in, vars_of}
 use Rattle.ecma_scope.specs.Resolved.{Scope as Frame, context_in, given, innermost as innermost_states, resolved_at}
 use Rattle.ecma_scope.specs.Scopes.{is_ambient, opens}
 use Rattle.ecma_hygiene.specs.Ids.{Id, Scope, has_context, innermost, is_block, is_body_block, is_function_body as is_body_role, is_own}

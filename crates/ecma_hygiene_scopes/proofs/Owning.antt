@@ -6,13 +6,14 @@ use Rattle.std.proofs.lemmas.List.Elements.{All-append, All-nil}
 use Rattle.ecma_kind.specs.declared.kind.Kind.{Kind}
 use Rattle.ecma_kind.specs.declared.kind.Kind.TheVariants as kind
 use Rattle.ecma_tree.specs.declared.node.Node.{Node, out-Node}
+use Rattle.ecma_tree.specs.Values.{is_value}
 use Rattle.ecma_scope.specs.declared.form.Form.TheVariants as form
 use Rattle.ecma_scope.specs.declared.form.Part.{Part}
 use Rattle.ecma_scope.specs.declared.form.Part.TheVariants as part
 use Rattle.ecma_scope.specs.declared.form.Sought.{Sought}
 use Rattle.ecma_scope.specs.declared.role.Role.{Role}
 use Rattle.ecma_scope.specs.declared.role.Role.TheVariants as role
-use Rattle.ecma_scope.specs.Declarations.{holds_vars, in_item, in_scope, in_var, is_value, own_part, sought_in}
+use Rattle.ecma_scope.specs.Declarations.{holds_vars, in_item, in_scope, in_var, own_part, sought_in}
 use Rattle.ecma_scope.specs.Resolved.{Place, Scope as Frame, context_count, innermost, inside, is_name, kind_at, placed, resolved_at, taken}
 use Rattle.ecma_scope.specs.Scopes.{covers, is_ambient, is_default, is_there, opens, opens_by, role_by, role_in}
 use Rattle.ecma_hygiene.specs.Ids.{is_block}

@@ -7,11 +7,12 @@ use Rattle.ecma_tree.specs.declared.node.Node.TheViews.{out-roll-Node}
 use Rattle.ecma_tree.specs.Contexts.{kind_with_context, with_contexts}
 use Rattle.ecma_tree.specs.Nodes.{node_of}
 use Rattle.ecma_tree.proofs.Changing.{changed-parts}
+use Rattle.ecma_tree.specs.Values.{is_value, value_by}
+use Rattle.ecma_tree.proofs.Layers.{from_leaves-roll}
+use Rattle.ecma_tree.proofs.Valuing.{is_value-out}
 use Rattle.ecma_scope.specs.declared.form.Declaration.{Declaration}
 use Rattle.ecma_scope.specs.declared.form.Sought.{Sought}
-use Rattle.ecma_scope.specs.Declarations.{declarations, declared_here, declared_step, found_in, is_value, sought_by, sought_in, value_by}
-use Rattle.ecma_scope.proofs.Layers.{from_leaves-roll}
-use Rattle.ecma_scope.proofs.Naming.{is_value-out}
+use Rattle.ecma_scope.specs.Declarations.{declarations, declared_here, declared_step, found_in, sought_by, sought_in}
 
 abbrev pub parts_of : Span → Kind → List Node → Node-F Node
 parts_of span k children = record { span = span; kind = k; children = children }

@@ -6,6 +6,7 @@ use Rattle.ecma_kind.specs.declared.kind.Kind.{Kind}
 use Rattle.ecma_kind.specs.declared.kind.Kind.TheVariants as kind
 use Rattle.ecma_kind.specs.declared.operators.VarDeclKind.TheVariants as var_kind
 use Rattle.ecma_tree.specs.declared.node.Node.{Node, out-Node}
+use Rattle.ecma_tree.specs.Values.{is_value}
 use Rattle.ecma_scope.specs.declared.form.Declaration.{Declaration}
 use Rattle.ecma_scope.specs.declared.form.Form.{Form}
 use Rattle.ecma_scope.specs.declared.form.Form.TheVariants as form
@@ -14,7 +15,7 @@ use Rattle.ecma_scope.specs.declared.form.Sought.{Sought}
 use Rattle.ecma_scope.specs.declared.role.Role.{Role}
 use Rattle.ecma_scope.specs.declared.role.Role.TheVariants as role
 use Rattle.ecma_scope.specs.Conflicts.{clashing, is_catch, marked, may_not_meet, meeting, passing}
-use Rattle.ecma_scope.specs.Declarations.{declarations, declares, holds_vars, in_scope, in_var, is_body, is_own as is_own_name, is_value, keeps, names, own_part, sought_in, stated}
+use Rattle.ecma_scope.specs.Declarations.{declarations, declares, holds_vars, in_scope, in_var, is_body, is_own as is_own_name, keeps, names, own_part, sought_in, stated}
 use Rattle.ecma_scope.specs.Resolved.{Scope as Frame, innermost, resolved_at}
 use Rattle.ecma_scope.specs.Scopes.{at_child, is_ambient, is_root, opens, opens_by, passes_ambient, passes_in_list, role_by}
 use Rattle.ecma_hygiene.specs.Ids.{is_block}

@@ -8,14 +8,15 @@ use Rattle.ecma_tree.specs.declared.node.Node.TheViews.{out-roll-Node, roll-out-
 use Rattle.ecma_tree.specs.Contexts.{kind_with_context, with_contexts}
 use Rattle.ecma_tree.specs.Nodes.{node_of}
 use Rattle.ecma_tree.proofs.Changing.{changed-parts}
+use Rattle.ecma_tree.specs.Values.{is_value}
+use Rattle.ecma_tree.proofs.Layers.{from_leaves_out}
 use Rattle.ecma_scope.specs.declared.role.Role.{Role}
 use Rattle.ecma_scope.specs.declared.role.Role.TheVariants as role
 use Rattle.ecma_scope.specs.declared.form.Sought.{Sought}
-use Rattle.ecma_scope.specs.Declarations.{declarations, is_value, sought_by, sought_in}
+use Rattle.ecma_scope.specs.Declarations.{declarations, sought_by, sought_in}
 use Rattle.ecma_scope.specs.Laws.{without_contexts}
 use Rattle.ecma_scope.specs.Resolved.{Place, context_count, counted, inside, is_name, kind_at, placed, resolved_at, taken}
 use Rattle.ecma_scope.specs.Scopes.{is_root, is_there, opens, role_by, role_in}
-use Rattle.ecma_scope.proofs.Layers.{from_leaves_out}
 use Rattle.ecma_scope.proofs.Opening.{context_count-out, resolved_at-out}
 use Rattle.ecma_hygiene.specs.declared.spot.Spot.TheVariants as spot
 use Rattle.ecma_hygiene.specs.declared.spot.Standing.{Standing}

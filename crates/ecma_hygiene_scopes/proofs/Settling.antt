@@ -7,6 +7,8 @@ use Rattle.ecma_kind.specs.declared.kind.Kind.{Kind}
 use Rattle.ecma_kind.specs.declared.kind.Kind.TheVariants as kind
 use Rattle.ecma_tree.specs.declared.node.Node.{Node, Node-F, ind-Node, out-Node, roll-Node}
 use Rattle.ecma_tree.specs.declared.node.Node.TheViews.{out-roll-Node}
+use Rattle.ecma_tree.specs.Values.{is_value}
+use Rattle.ecma_tree.proofs.Layers.{from_leaves_out}
 use Rattle.ecma_scope.specs.declared.form.Declaration.{Declaration}
 use Rattle.ecma_scope.specs.declared.form.Form.{Form}
 use Rattle.ecma_scope.specs.declared.form.Form.TheVariants as form
@@ -15,10 +17,9 @@ use Rattle.ecma_scope.specs.declared.form.Part.TheVariants as part
 use Rattle.ecma_scope.specs.declared.form.Sought.{Sought}
 use Rattle.ecma_scope.specs.declared.role.Role.{Role}
 use Rattle.ecma_scope.specs.declared.role.Role.TheVariants as role
-use Rattle.ecma_scope.specs.Declarations.{declarations, declared_here, declared_step, found_at, found_in, holds_vars, in_item, in_name, in_scope, is_own, is_value, names, own_part, sought_in, vars_of}
+use Rattle.ecma_scope.specs.Declarations.{declarations, declared_here, declared_step, found_at, found_in, holds_vars, in_item, in_name, in_scope, is_own, names, own_part, sought_in, vars_of}
 use Rattle.ecma_scope.specs.Resolved.{Scope as Frame, innermost}
 use Rattle.ecma_scope.specs.Scopes.{at_child, covers, is_ambient, is_there, of_exports, of_specifier, opens, opens_by, passes_ambient, passes_in_list, role_by, role_in}
-use Rattle.ecma_scope.proofs.Layers.{from_leaves_out}
 use Rattle.ecma_hygiene_scopes.specs.Seats.{all_names}
 use Rattle.ecma_hygiene_scopes.proofs.Clashes.{Stays, all-filter}
 use Rattle.ecma_hygiene_scopes.proofs.Goodness.{Good, fits-here, frame_of, frames_in, inner-last}

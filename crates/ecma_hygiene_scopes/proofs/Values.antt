@@ -6,9 +6,9 @@ use Rattle.ecma_kind.specs.declared.span.Span.{Span}
 use Rattle.ecma_tree.specs.declared.node.Node.{Node, Node-F, ind-Node, out-Node, roll-Node}
 use Rattle.ecma_tree.specs.declared.node.Node.TheViews.{out-roll-Node}
 use Rattle.ecma_tree.specs.Nodes.{node_of}
-use Rattle.ecma_scope.specs.Declarations.{is_value, value_by}
+use Rattle.ecma_tree.specs.Values.{is_value, value_by}
+use Rattle.ecma_tree.proofs.Valuing.{is_value-out}
 use Rattle.ecma_scope.specs.Resolved.{is_name}
-use Rattle.ecma_scope.proofs.Naming.{is_value-out}
 use Rattle.ecma_hygiene.specs.declared.spot.Standing.{Standing}
 use Rattle.ecma_hygiene.specs.Renamed.{Texts, key_of, standing_in, two_names, with_default}
 use Rattle.ecma_hygiene_scopes.proofs.Growing.{OldName, grown, grown_by, grown_pattern}

@@ -4,8 +4,8 @@ use Rattle.ecma_kind.specs.declared.kind.Kind.{Kind}
 use Rattle.ecma_kind.specs.declared.span.Span.{Span}
 use Rattle.ecma_tree.specs.declared.node.Node.{Node, out-Node}
 use Rattle.ecma_tree.specs.Contexts.{with_contexts}
+use Rattle.ecma_tree.proofs.Layers.{from_leaves_out}
 use Rattle.ecma_scope.specs.Resolved.{is_name}
-use Rattle.ecma_scope.proofs.Layers.{from_leaves_out}
 use Rattle.ecma_hygiene.specs.declared.spot.Standing.{Standing}
 use Rattle.ecma_hygiene.specs.Renamed.{Texts, kind_with_text, old_name, renamed_at, renamed_step, shared_name, standing_in, written_from}
 use Rattle.ecma_hygiene_scopes.proofs.Growing.{OldName, expanded-of, grown, grown-turned}

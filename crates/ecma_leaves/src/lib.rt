@@ -1,9 +1,6 @@
 //! Whether leaves say what their source texts say.
 #![tactic(auto)]
 
-mod chars;
-mod escapes;
-mod parts;
 mod regexes;
 mod says;
 mod templates;

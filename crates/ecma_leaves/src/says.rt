@@ -1,9 +1,9 @@
 //! Whether a literal says a text, without making that text.
-ghost use Rattle.std.specs.Prelude.{◌≡◌, ◌≢◌, ℕ, ◌^◌, ◌<◌, ◌++◌, List, length, MatchOption, is_some};
+ghost use Rattle.std.specs.Prelude.{◌≡◌, ◌≢◌, ℕ, ◌^◌, ◌<◌, ◌++◌, List, length, MatchOption};
 ghost use Rattle.ecma_lex.specs.Values.{bytes_of, literal_value};
 ghost use Rattle.ecma_leaves.specs.Sayings.{is_said, said_behind_all};
 
-use crate::parts::read_part;
+use ecma_lex::read_literal_part;
 
 /// What stands behind a character at the front of a text, if it stands there.
 fn behind(text: &[u8], says: Option<char>) -> Option<&[u8]>
@@ -35,7 +35,7 @@ pub(crate) fn says(inside: &str, value: &str, in_template: bool) -> bool
     let mut high = None;
     let mut i = 0;
     while (i as usize) < inside.len() {
-        let Some(step) = read_part(inside, i, high, in_template) else {
+        let Some(step) = read_literal_part(inside, i, high, in_template) else {
             return false;
         };
         let Some(more) = behind(rest, step.joined.says) else {
@@ -46,22 +46,4 @@ pub(crate) fn says(inside: &str, value: &str, in_template: bool) -> bool
         i = step.next;
     }
     is_over(high, rest)
-}
-
-/// Whether what stands in a literal says something.
-#[tactic(auto, unfolding(ecma_lex::specs::Values::literal_value), using(ecma_lex::proofs::Sayings::valuing))]
-pub(crate) fn has_value(inside: &str, in_template: bool) -> bool
-    requires { length inside.now < 2 ^ 32 }
-    ensures { result ≡ is_some (literal_value in_template inside.now) }
-{
-    let mut high = None;
-    let mut i = 0;
-    while (i as usize) < inside.len() {
-        let Some(step) = read_part(inside, i, high, in_template) else {
-            return false;
-        };
-        high = step.joined.high;
-        i = step.next;
-    }
-    high.is_none()
 }

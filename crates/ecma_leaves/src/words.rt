@@ -14,10 +14,10 @@ ghost use Rattle.ecma_lex.specs.Tokens.{big, key, num};
 ghost use Rattle.ecma_leaves.specs.Words.{digits_of, is_big_int, is_cooked, is_decimal, is_hashbang, is_natural, is_no_return, is_no_separator, is_number, is_one, is_one_line, is_readable, is_regex, is_same_whole, is_spelled, is_string, is_text_part, is_value, is_whole};
 
 use crate::regexes::{are_flags, is_body};
-use crate::says::{has_value, says};
+use crate::says::says;
 use crate::templates::stands_in_template;
 use ecma_kind::{JsWord, Kind};
-use ecma_lex::{NoToken, Token, big, key, num, piece, str_lit};
+use ecma_lex::{NoToken, Token, big, has_literal_value, key, num, piece, str_lit};
 use ecma_number::{JsNumber, is_line_terminator, numeral_value};
 
 /// Whether a token is the whole text.
@@ -212,7 +212,7 @@ fn is_cooked(raw: &str, cooked: &Option<JsWord>, tagged: bool) -> bool
 {
     match cooked {
         Some(cooked) => says(raw, cooked.as_str(), true),
-        None => tagged && !has_value(raw, true),
+        None => tagged && !has_literal_value(raw, true),
     }
 }
 

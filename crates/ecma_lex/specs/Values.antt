@@ -7,7 +7,7 @@ use Rattle.std.specs.Str.{encode_utf8_all}
 use Rattle.ecma_lex.specs.Parts.{Part, char_at, passing, code_point, many, ◌>>◌, ◌//◌}
 use Rattle.ecma_lex.specs.Escapes.{line_terminator_sequence, escape, escape_value, listed}
 use Rattle.ecma_lex.specs.declared.values.Joined.{Joined}
-use Rattle.ecma_lex.specs.declared.values.Step.{Step}
+use Rattle.ecma_lex.specs.declared.values.LiteralStep.{LiteralStep}
 
 -- characters of ASCII that say themselves in each literal: no LF (10), CR (13), quote (34, 39), `$` (36), backslash (92) and backtick (96)
 abbrev pub is_plain : ℕ → Bool
@@ -85,6 +85,6 @@ Joins high code None = (rest : List ℕ) → text_of (listed high ++ (listed cod
 Joins high code (Some joined) = (rest : List ℕ) → text_of (listed high ++ (listed code ++ rest)) ≡ onto (bytes_of joined.says) (text_of (listed joined.high ++ rest))
 
 -- what stands behind a place says what the part there completes, and then what stands behind that; or nothing
-abbrev pub Steps : Option ℕ → Bool → List ℕ → ℕ → Option Step → Type 0
+abbrev pub Steps : Option ℕ → Bool → List ℕ → ℕ → Option LiteralStep → Type 0
 Steps high in_template text i None = value_behind (listed high) in_template text i ≡ None
 Steps high in_template text i (Some step) = value_behind (listed high) in_template text i ≡ onto (bytes_of step.joined.says) (value_behind (listed step.joined.high) in_template text step.next)

@@ -97,11 +97,11 @@ fn paired(high: u32, low: u32) -> char
 
 /// What is known behind a code point.
 #[derive(Clone, Copy)]
-pub(crate) struct Joined {
+pub struct Joined {
     /// The character that it completes, if it does.
-    pub(crate) says: Option<char>,
+    pub says: Option<char>,
     /// The high surrogate that a low one still has to follow.
-    pub(crate) high: Option<u32>,
+    pub high: Option<u32>,
 }
 
 /// Joins a code point to the high surrogate before it, if one waits there; none where a surrogate is in no pair.
@@ -143,17 +143,22 @@ fn join(high: Option<u32>, code: Option<u32>) -> Option<Joined>
 
 /// How far the reading of a literal's text came with one part.
 #[derive(Clone, Copy)]
-struct Step {
+pub struct LiteralStep {
     /// The place behind the part.
-    next: u32,
+    pub next: u32,
     /// What is known behind its code point.
-    joined: Joined,
+    pub joined: Joined,
 }
 
 /// Reads the part of a literal's text at a place, behind a high surrogate if one waits; none where nothing well-formed stands there, or a
 /// surrogate is in no pair.
 #[tactic(auto, using(crate::proofs::Plain::saying))]
-fn read_part(text: &str, at: u32, high: Option<u32>, in_template: bool) -> Option<Step>
+pub fn read_literal_part(
+    text: &str,
+    at: u32,
+    high: Option<u32>,
+    in_template: bool,
+) -> Option<LiteralStep>
     requires small { length text.now < 2 ^ 32 }
     requires high { IsHigh high }
     requires more { at < length text.now }
@@ -163,7 +168,7 @@ fn read_part(text: &str, at: u32, high: Option<u32>, in_template: bool) -> Optio
 {
     if high.is_none() {
         if let Some(c) = plain_at(text, at) {
-            return Some(Step {
+            return Some(LiteralStep {
                 next: at + 1,
                 joined: Joined {
                     says: Some(c),
@@ -174,19 +179,19 @@ fn read_part(text: &str, at: u32, high: Option<u32>, in_template: bool) -> Optio
     }
     let next = literal_part_end(text, at, in_template)?;
     let joined = join(high, part_value(text, at, next, in_template))?;
-    Some(Step { next, joined })
+    Some(LiteralStep { next, joined })
 }
 
 /// Whether the text of a literal says something: each part of it is well-formed, and each surrogate is in a pair.
 #[tactic(auto, unfolding(crate::specs::Values::literal_value), using(crate::proofs::Sayings::valuing))]
-pub(crate) fn has_value(text: &str, in_template: bool) -> bool
+pub fn has_literal_value(text: &str, in_template: bool) -> bool
     requires { length text.now < 2 ^ 32 }
     ensures { result ≡ is_some (literal_value in_template text.now) }
 {
     let mut high = None;
     let mut i = 0;
     while (i as usize) < text.len() {
-        match read_part(text, i, high, in_template) {
+        match read_literal_part(text, i, high, in_template) {
             Some(step) => {
                 high = step.joined.high;
                 i = step.next;
@@ -221,7 +226,7 @@ pub(crate) fn literal_value(
     let mut high = None;
     let mut i = 0;
     while (i as usize) < text.len() {
-        match read_part(text, i, high, in_template) {
+        match read_literal_part(text, i, high, in_template) {
             Some(step) => {
                 push(&mut value, step.joined.says)?;
                 high = step.joined.high;

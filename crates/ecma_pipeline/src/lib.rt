@@ -1,10 +1,10 @@
 //! The law of the whole way: what is written for a module is a plain module, of the tree that was made of it, declares no name again where it may not, and does
 //! what it does.
 //!
-//! The function carries the law over the definitions, and does nothing. The law is stated in `specs/`.
+//! The function carries the law over the definitions, and does nothing. The law is stated in `specs/Laws.antt`.
 #![tactic(auto)]
 
-ghost use Rattle.ecma_pipeline.specs.Written.{WrittenModulesDoWhatTheirSourcesDo};
+ghost use Rattle.ecma_pipeline.specs.Laws.{WrittenModulesDoWhatTheirSourcesDo};
 
 use ecma_bind_sources::{bound_trees_are_read, bound_trees_are_taken};
 use ecma_pipeline_bound::passes_keep_runs_of_bound_sources;

@@ -13,14 +13,14 @@ use Rattle.ecma_rules.specs.Finishing.{binding}
 use Rattle.ecma_fits.specs.declared.role.Role.{Role}
 use Rattle.ecma_fits.specs.Roles.{is_name, role_in}
 use Rattle.ecma_strip.specs.Staying.{if_there, is_this, is_this_by, is_this_ident, is_this_param, is_this_param_by, stays}
-use Rattle.ecma_strip.specs.Values.{is_value}
-use Rattle.ecma_pipeline_runs.specs.TypesAlone.{adds_types_alone, adds_types_by, has_ambient_head, has_bodiless, has_stray_receiver, is_lone_receiver, is_lowered, is_receiver, lacks_body, lacks_body_by, staying_hold}
+use Rattle.ecma_sources.specs.TypesAlone.{adds_types_alone, adds_types_by, has_ambient_head, has_bodiless, has_stray_receiver, is_lone_receiver, is_lowered, is_receiver, lacks_body, lacks_body_by, staying_hold}
 use Rattle.ecma_pipeline_runs.proofs.Nodes.{StaysIn, alone-below, alone-here, alone-made, alone-out, any-at, in-no-list, neither, no-stray}
 use Rattle.ecma_bind.specs.Binding.{bound_at, is_name_under_types, is_typed_name, under_types}
 use Rattle.ecma_bind_fits.proofs.Alike.{Same, any_where, bound_parts, kind_same, six_at, typed_kind, typed_parts, usual_children, usual_kind}
 use Rattle.ecma_bind_fits.proofs.Bound.{bound_each, by_children, children_of, typed_is}
 use Rattle.ecma_bind_fits.proofs.Names.{bare_is, front, under_name}
 use Rattle.ecma_bind_fits.proofs.StayingItems.{bound_child, declared_same, first_same, ident_same, stays_before, this_usual, value_same, wrapper_param, wrapper_stays, wrapper_this}
+use Rattle.ecma_tree.specs.Values.{is_value}
 
 body_same : Same lacks_body
 body_same n r = ap (lacks_body_by (kind_of (bound_at n r))) (value_same n r) ∙ kind_same Bool (λ k. lacks_body_by k (is_value n)) (refl, refl, refl, refl, refl, refl) n r

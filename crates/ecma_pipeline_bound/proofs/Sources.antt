@@ -7,7 +7,9 @@ use Rattle.ecma_fits.specs.declared.role.Role.TheVariants as role
 use Rattle.ecma_runs.specs.Observation.{observe}
 use Rattle.ecma_scope.specs.Resolved.{resolved}
 use Rattle.ecma_scope.proofs.Unchanged.{keeps-sorts}
-use Rattle.ecma_pipeline_runs.specs.Passes.{AreGiven, IsSource, PassesKeepRuns}
+use Rattle.ecma_scope.specs.Resolved.{AreGiven}
+use Rattle.ecma_sources.specs.Sources.{IsSource}
+use Rattle.ecma_pipeline_runs.specs.Laws.{PassesKeepRuns}
 use Rattle.ecma_bind.specs.Binding.{with_bound_names}
 use Rattle.ecma_bind_fits.proofs.Whole.{names_fit}
 use Rattle.ecma_bind_runs.proofs.Runs.{runs_alike}

@@ -7,7 +7,8 @@ use Rattle.ecma_runs.specs.Observation.{observe}
 use Rattle.ecma_scope.specs.Resolved.{resolved}
 use Rattle.ecma_strip.specs.Stripping.{stripped}
 use Rattle.ecma_hygiene.specs.Hygienic.{IsHygienic}
-use Rattle.ecma_pipeline_runs.specs.Passes.{AreGiven, IsReading, IsSource}
+use Rattle.ecma_scope.specs.Resolved.{AreGiven}
+use Rattle.ecma_sources.specs.Sources.{IsReading, IsSource}
 use Rattle.ecma_bind.specs.Binding.{with_bound_names}
 
 -- a module as it is read is one with its names bound

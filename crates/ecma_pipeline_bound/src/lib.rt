@@ -1,7 +1,7 @@
 //! Names with types round them may be bound before a module goes its way: it is still a module as it is read, and what is written of it does what the
 //! source does.
 //!
-//! Each function carries laws over the definitions, and does nothing. The laws are stated in `specs/`.
+//! Each function carries laws over the definitions, and does nothing. The laws are stated in `specs/Laws.antt`.
 #![tactic(auto)]
 
 ghost use Rattle.ecma_pipeline_bound.specs.Laws.{BoundPassesKeepRuns, BoundSourcesAreSources, BoundSourcesRunAlike};

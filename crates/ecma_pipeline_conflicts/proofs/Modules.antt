@@ -5,14 +5,14 @@ use Rattle.ecma_tree.specs.Sorted.{one}
 use Rattle.ecma_tree.specs.declared.node.Node.{Node}
 use Rattle.ecma_fits.specs.Fitting.{Fits}
 use Rattle.ecma_scope_fits.proofs.Contexts.{resolved_fit_alike}
-use Rattle.ecma_print_parentheses.specs.Explicit.{explicit}
+use Rattle.ecma_print.specs.Explicit.{explicit}
 use Rattle.ecma_scope.specs.Conflicts.{redeclared}
 use Rattle.ecma_scope.specs.Laws.{without_contexts}
 use Rattle.ecma_scope.specs.Resolved.{resolved}
 use Rattle.ecma_scope.specs.declared.role.Role.TheVariants as role
 use Rattle.ecma_scope.proofs.Unchanged.{changes-contexts}
-use Rattle.ecma_scope_congruence.specs.Conflicts.{ParenthesesDoNotMatterToConflicts, SpansDoNotMatterToConflicts}
-use Rattle.ecma_scope_congruence.specs.Parentheses.{HasBodies}
+use Rattle.ecma_scope_congruence.specs.Laws.{ParenthesesDoNotMatterToConflicts, SpansDoNotMatterToConflicts}
+use Rattle.ecma_scope_congruence.specs.Bodies.{HasBodies}
 use Rattle.ecma_strip.specs.Stripping.{stripped}
 use Rattle.ecma_strip_fits.proofs.SortsKept.{sorts_kept}
 use Rattle.ecma_strip_scopes.proofs.StrippedModules.{stripped-modules-tell-apart}
@@ -24,8 +24,9 @@ use Rattle.ecma_hygiene_scopes.specs.Lasting.{IsCheckedModule}
 use Rattle.ecma_bind.specs.Binding.{with_bound_names}
 use Rattle.ecma_bind_scopes.proofs.Placed.{resolve_alike}
 use Rattle.ecma_pipeline_bound.proofs.Sources.{sources_are_sources}
-use Rattle.ecma_pipeline_runs.specs.Passes.{AreGiven, IsSource}
-use Rattle.ecma_pipeline_runs.specs.TypesAlone.{adds_types_alone}
+use Rattle.ecma_scope.specs.Resolved.{AreGiven}
+use Rattle.ecma_sources.specs.Sources.{IsSource}
+use Rattle.ecma_sources.specs.TypesAlone.{adds_types_alone}
 use Rattle.ecma_pipeline_runs.proofs.ClearSeats.{modules-are-clear}
 use Rattle.ecma_pipeline_runs.proofs.Contexts.{resolved-adds-types}
 use Rattle.ecma_pipeline_runs.proofs.Full.{modules-are-full}

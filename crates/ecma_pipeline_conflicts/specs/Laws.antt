@@ -6,7 +6,8 @@ use Rattle.ecma_scope.specs.Resolved.{resolved}
 use Rattle.ecma_strip.specs.Stripping.{stripped}
 use Rattle.ecma_hygiene.specs.Hygienic.{IsHygienic}
 use Rattle.ecma_bind.specs.Binding.{with_bound_names}
-use Rattle.ecma_pipeline_runs.specs.Passes.{AreGiven, IsReading, IsSource}
+use Rattle.ecma_scope.specs.Resolved.{AreGiven}
+use Rattle.ecma_sources.specs.Sources.{IsReading, IsSource}
 
 abbrev pub WrittenModulesAreNotRedeclared : Type 0
 WrittenModulesAreNotRedeclared =

@@ -1,6 +1,6 @@
 //! What is read of a module, once it is written, declares no name again where it may not be.
 //!
-//! Each function carries one law over the definitions, and does nothing. The laws are stated in `specs/`.
+//! Each function carries one law over the definitions, and does nothing. The laws are stated in `specs/Laws.antt`.
 #![tactic(auto)]
 
 ghost use Rattle.ecma_pipeline_conflicts.specs.Laws.{BoundModulesAreNotRedeclared, WrittenModulesAreNotRedeclared};

@@ -10,7 +10,7 @@ use Rattle.ecma_fits.specs.declared.unfit.Where.{Where}
 use Rattle.ecma_fits.specs.Fitting.{at_top, where_in}
 use Rattle.ecma_strip_fits.proofs.Strays.{none_failing}
 use Rattle.ecma_bind_fits.proofs.Bound.{by_children, children_of, whole_none}
-use Rattle.ecma_hygiene_fits.specs.Named.{NoThis}
+use Rattle.ecma_hygiene_fits.specs.Unreserved.{NoThis}
 use Rattle.ecma_pipeline_runs.proofs.FullParts.{full_by, is_foreign, is_full}
 use Rattle.ecma_pipeline_runs.proofs.Nodes.{test-below}
 use Rattle.ecma_pipeline_plain.proofs.Taken.{full_native}

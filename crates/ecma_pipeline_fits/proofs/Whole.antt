@@ -2,19 +2,20 @@
 use Rattle.std.proofs.Common.{◌≡◌, ℕ, None, sym, subst}
 use Rattle.ecma_tree.specs.declared.node.Node.{Node}
 use Rattle.ecma_fits.specs.Fitting.{Fits}
-use Rattle.ecma_scope_fits.specs.Kept.{ResolvedTreesFitAlike}
+use Rattle.ecma_scope_fits.specs.Laws.{ResolvedTreesFitAlike}
 use Rattle.ecma_forms.specs.Forms.{first_untaken}
 use Rattle.ecma_scope.specs.Resolved.{resolved}
 use Rattle.ecma_strip.specs.Stripping.{stripped}
 use Rattle.ecma_hygiene.specs.Hygienic.{IsHygienic}
-use Rattle.ecma_hygiene_fits.specs.Fitting.{HygieneKeepsFits}
-use Rattle.ecma_hygiene_fits.specs.Named.{NoThis}
+use Rattle.ecma_hygiene_fits.specs.Laws.{HygieneKeepsFits}
+use Rattle.ecma_hygiene_fits.specs.Unreserved.{NoThis}
 use Rattle.ecma_bind.specs.Binding.{with_bound_names}
-use Rattle.ecma_text_sources.specs.Sources.{IsRead}
+use Rattle.ecma_plain.specs.Read.{IsRead}
 use Rattle.ecma_bind_fits.specs.Laws.{WhatFitsFitsWithoutTypes}
 use Rattle.ecma_bind_scopes.specs.Laws.{BoundNamesResolveAlike}
 use Rattle.ecma_bind_sources.specs.Laws.{BoundTreesAreRead, BoundTreesAreTaken}
-use Rattle.ecma_pipeline_names.specs.Short.{BindingKeepsNamesShort, ContextsKeepNamesShort, NoneLong, StrippingKeepsNamesShort}
+use Rattle.ecma_pipeline_names.specs.Laws.{BindingKeepsNamesShort, ContextsKeepNamesShort, StrippingKeepsNamesShort}
+use Rattle.ecma_hygiene_fits.specs.Spelled.{NoneLong}
 use Rattle.ecma_pipeline_fits.specs.Laws.{FinalTreesFit}
 use Rattle.ecma_pipeline_plain.proofs.Taken.{stripped_full}
 use Rattle.ecma_pipeline_fits.proofs.Others.{full_without_this}

@@ -6,9 +6,9 @@ use Rattle.ecma_forms.specs.Forms.{first_untaken}
 use Rattle.ecma_scope.specs.Resolved.{resolved}
 use Rattle.ecma_strip.specs.Stripping.{stripped}
 use Rattle.ecma_hygiene.specs.Hygienic.{IsHygienic}
-use Rattle.ecma_text_sources.specs.Sources.{IsRead}
+use Rattle.ecma_plain.specs.Read.{IsRead}
 use Rattle.ecma_bind.specs.Binding.{with_bound_names}
-use Rattle.ecma_pipeline_names.specs.Short.{NoneLong}
+use Rattle.ecma_hygiene_fits.specs.Spelled.{NoneLong}
 
 -- where each form of the source is taken and none of its identifiers is long: its names bound, resolved, without its types, with its final texts
 abbrev pub FinalTreesFit : Type 0

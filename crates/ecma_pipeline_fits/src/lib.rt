@@ -1,6 +1,6 @@
 //! A law of the tree that is written for a module: it fits.
 //!
-//! The function carries the law over the definitions, and does nothing. The law is stated in `specs/`.
+//! The function carries the law over the definitions, and does nothing. The law is stated in `specs/Laws.antt`.
 #![tactic(auto)]
 
 ghost use Rattle.ecma_pipeline_fits.specs.Laws.{FinalTreesFit};

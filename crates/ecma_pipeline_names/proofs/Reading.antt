@@ -29,7 +29,8 @@ use Rattle.ecma_text_fits.proofs.Everywhere.{finished_good}
 use Rattle.ecma_text_fits.proofs.Raws.{of_raw}
 use Rattle.ecma_text_fits.proofs.ReadingOf.{read_holds}
 use Rattle.ecma_text_fits.proofs.Walks.{not_true}
-use Rattle.ecma_pipeline_names.specs.Short.{NamesThatAreReadAreShort, NoneLong}
+use Rattle.ecma_pipeline_names.specs.Laws.{NamesThatAreReadAreShort}
+use Rattle.ecma_hygiene_fits.specs.Spelled.{NoneLong}
 use Rattle.ecma_pipeline_names.proofs.Throughout.{All, Good, IsShort, missing, node_good, none_long}
 
 -- what stands between two places of a text is no longer than it

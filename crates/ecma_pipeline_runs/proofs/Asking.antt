@@ -22,13 +22,13 @@ use Rattle.ecma_scope.specs.declared.form.Part.{Part}
 use Rattle.ecma_scope.specs.declared.form.Part.TheVariants as part
 use Rattle.ecma_scope.specs.declared.form.Sought.{Sought}
 use Rattle.ecma_scope.specs.Declarations.{in_default as default_in, in_item, in_name, in_scope, in_var}
-use Rattle.ecma_strip.specs.Values.{is_value}
 use Rattle.ecma_hygiene.proofs.Telling.{and-both, and-left, and-right, true-false}
 use Rattle.ecma_strip_scopes.proofs.Going.{is_named, parts-have}
 use Rattle.ecma_strip_scopes.proofs.Wrapping.{belongs-same, takes_types}
-use Rattle.ecma_pipeline_runs.specs.TypesAlone.{is_lowered}
+use Rattle.ecma_sources.specs.TypesAlone.{is_lowered}
 use Rattle.ecma_pipeline_runs.proofs.Nodes.{none-some, or-right, some-same}
 use Rattle.ecma_pipeline_runs.proofs.Remaining.{holds_items, is_many, remains, remains_by}
+use Rattle.ecma_tree.specs.Values.{is_value}
 
 -- ---- where names are declared
 

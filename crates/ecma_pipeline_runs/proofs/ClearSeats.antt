@@ -19,7 +19,6 @@ use Rattle.ecma_scope.specs.declared.role.Role.TheVariants as role
 use Rattle.ecma_scope.specs.Declarations.{holds_vars, own_part}
 use Rattle.ecma_scope.specs.Scopes.{at_child, is_ambient, is_default, is_there, of_exports, of_specifier, opens, passes_ambient, passes_in_list, role_by, role_in}
 use Rattle.ecma_strip.specs.Staying.{stays}
-use Rattle.ecma_strip.specs.Values.{is_value}
 use Rattle.ecma_hygiene.proofs.Telling.{true-false}
 use Rattle.ecma_strip_scopes.specs.Apart.{IsClearSeat}
 use Rattle.ecma_strip_scopes.specs.Staying.{staying_from, staying_seats}
@@ -27,8 +26,8 @@ use Rattle.ecma_strip_scopes.proofs.Going.{parts-have}
 use Rattle.ecma_strip_scopes.proofs.KindsKept.{wrapper-opens}
 use Rattle.ecma_strip_scopes.proofs.StayingSeats.{staying-out}
 use Rattle.ecma_strip_fits.proofs.Walk.{neither_least}
-use Rattle.ecma_pipeline_runs.specs.Clear.{ModulesAreClear}
-use Rattle.ecma_pipeline_runs.specs.TypesAlone.{adds_types_alone}
+use Rattle.ecma_pipeline_runs.specs.Laws.{ModulesAreClear}
+use Rattle.ecma_sources.specs.TypesAlone.{adds_types_alone}
 use Rattle.ecma_pipeline_runs.proofs.Asking.{Asked, is_default_export}
 use Rattle.ecma_pipeline_runs.proofs.Strays.{opener-other}
 use Rattle.ecma_pipeline_runs.proofs.CalmRoles.{calm-role}
@@ -36,6 +35,7 @@ use Rattle.ecma_pipeline_runs.proofs.Clearing.{Stands, clears, stands-below}
 use Rattle.ecma_pipeline_runs.proofs.Nodes.{StaysIn, none-some, not-lowered, some-same}
 use Rattle.ecma_pipeline_runs.proofs.Remaining.{first_declared, remains_by}
 use Rattle.ecma_pipeline_runs.proofs.UsualBodies.{fitting-bodies}
+use Rattle.ecma_tree.specs.Values.{is_value}
 
 -- ---- what is exported as the default
 

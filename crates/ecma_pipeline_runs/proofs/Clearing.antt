@@ -17,26 +17,21 @@ use Rattle.ecma_fits.specs.Strays.{is_stray_target}
 use Rattle.ecma_leaves.specs.Words.{is_spelled}
 use Rattle.ecma_rules.specs.Failing.{failing_here, failing_step, least_from}
 use Rattle.ecma_rules.specs.Members.{second_constructor}
-use Rattle.ecma_rules.proofs.Layers.{from_leaves_out}
 use Rattle.ecma_scope.specs.declared.form.Part.{Part}
 use Rattle.ecma_scope.specs.declared.form.Part.TheVariants as part
 use Rattle.ecma_scope.specs.declared.form.Sought.{Sought}
-use Rattle.ecma_scope.specs.Declarations.{in_default, in_item, in_member, in_name, in_scope, in_var, is_value as scope_value, sought_by, sought_in}
-use Rattle.ecma_scope.proofs.Layers as layers
+use Rattle.ecma_scope.specs.Declarations.{in_default, in_item, in_member, in_name, in_scope, in_var, sought_by, sought_in}
 use Rattle.ecma_strip.specs.Staying.{is_this_ident, is_this_param, stays}
 use Rattle.ecma_strip.specs.Stripping.{stripped}
-use Rattle.ecma_strip.specs.Values.{is_value, value_by}
-use Rattle.ecma_strip.proofs.Valuing.{is_value-out}
-use Rattle.ecma_strip_runs.specs.Usual.{declares_no_body, has_usual_bodies}
+use Rattle.ecma_strip_runs.specs.UsualBodies.{declares_no_body, has_usual_bodies}
 use Rattle.ecma_hygiene.proofs.Telling.{and-both, true-false}
 use Rattle.ecma_hygiene_scopes.specs.DeclaredIds.{DeclaredId, ids_declared}
 use Rattle.ecma_strip_scopes.specs.Standing.{bodies_stay, clear_at, clear_here, clear_in, clear_step, has_value, is_clear, is_none, same}
 use Rattle.ecma_strip_scopes.proofs.Going.{is_named, parts-have}
 use Rattle.ecma_strip_scopes.proofs.Seeking.{setter-seeks}
 use Rattle.ecma_strip_scopes.proofs.Standing.{list-kind}
-use Rattle.ecma_strip_scopes.proofs.Values.{values-agree}
 use Rattle.ecma_strip_fits.proofs.Walk.{each_none, neither_least}
-use Rattle.ecma_pipeline_runs.specs.TypesAlone.{adds_types_alone, is_lowered, is_receiver}
+use Rattle.ecma_sources.specs.TypesAlone.{adds_types_alone, is_lowered, is_receiver}
 use Rattle.ecma_pipeline_runs.proofs.Expressions.{expression-item, expression-var, expressive, wrapper-expression}
 use Rattle.ecma_pipeline_runs.proofs.Nodes.{StaysIn, alone-below, by-children, child-shape, in-no-list, neither, no-ambient-head, none-some, not-lowered, some-same, test-below, test-here}
 use Rattle.ecma_strip_scopes.proofs.Wrapping.{takes_types}
@@ -44,6 +39,9 @@ use Rattle.ecma_pipeline_runs.proofs.Remaining.{children-remain, first_declared,
 use Rattle.ecma_pipeline_runs.proofs.Asking.{Asked, Got, Valued, declares-no-wrapper, default-got, got-some, is_default_export, item-got, list-declaring, name-got, scope-got, unassigned, var-got}
 use Rattle.ecma_pipeline_runs.proofs.Strays.{child-other, is_spared, item-other}
 use Rattle.ecma_pipeline_runs.proofs.Values.{bodies-stay, named-kept}
+use Rattle.ecma_tree.proofs.Layers.{from_leaves_out}
+use Rattle.ecma_tree.specs.Values.{is_value, value_by}
+use Rattle.ecma_tree.proofs.Valuing.{is_value-out}
 
 -- ---- a node that fits
 
@@ -174,8 +172,8 @@ module _ (n : Node) (s : Shape) (w : Where) (is : Stands n s w) where
   have : HaveShapes (child_shapes k s m) cs
   have = (parts-have n s is.has).1
 
-  valued : Valued k (scope_value n) (is_value n)
-  valued = λ named. values-agree n
+  valued : Valued k (is_value n) (is_value n)
+  valued = λ named. refl
 
   by-parts : remains n ≡ true → remains_by k (value_by k (map is_value cs)) (first_declared cs) ≡ true
   by-parts h = ap (λ (v : Bool). remains_by k v (first_declared cs)) (sym (is_value-out n)) ∙ h
@@ -185,18 +183,18 @@ module _ (n : Node) (s : Shape) (w : Where) (is : Stands n s w) where
 
   -- what is looked for in a child of what is no list
   got-by : (p : Part) → is_list k ≡ false → Asked p n s w.role → (i : ℕ) (c : Node) (o : Shape) (q : Sought) → slice_get cs i ≡ Some c → HasShape o c → slice_get (child_shapes k s m) i ≡ Some o
-      → sought_by p true (scope_value n) k i ≡ Some q → Got c o (role_in w.role k i) q
+      → sought_by p true (is_value n) k i ≡ Some q → Got c o (role_in w.role k i) q
   got-by part.Scope l asked i c o q there has at h =
-      scope-got k (scope_value n) (is_value n) (first_declared cs) s m w.role i c o q (not-lowered n is.alone) (λ r p. remain r p i c there) has at h
+      scope-got k (is_value n) (is_value n) (first_declared cs) s m w.role i c o q (not-lowered n is.alone) (λ r p. remain r p i c there) has at h
   got-by part.Item l asked i c o q there has at h =
-      item-got k (scope_value n) (is_value n) (first_declared cs) s m w.role i c o q l (not-lowered n is.alone) valued asked (λ p. remain asked p i c there) (λ e. default-child k cs s m e have (by-parts asked) i c there) at h
-  got-by part.Default l asked i c o q there has at h = default-got k (scope_value n) (is_value n) s m w.role i c o q valued asked.1 at h
+      item-got k (is_value n) (is_value n) (first_declared cs) s m w.role i c o q l (not-lowered n is.alone) valued asked (λ p. remain asked p i c there) (λ e. default-child k cs s m e have (by-parts asked) i c there) at h
+  got-by part.Default l asked i c o q there has at h = default-got k (is_value n) (is_value n) s m w.role i c o q valued asked.1 at h
   got-by part.Member l asked i c o q there has at h = absurd asked
   got-by part.Var l asked i c o q there has at h = var-got k (is_value n) (first_declared cs) s m w.role i c o q l asked (λ p. remain asked p i c there) at h
   got-by (part.Name f) l asked i c o q there has at h = name-got f k s m w.role i c o q l (unassigned (is_many s.count) (takes_types s.sort) w.role asked) at h
 
   -- what is looked for in an item of a list
-  list-got : (p : Part) → allows s kind.List ≡ true → Asked p n s w.role → (l : ℕ) (c : Node) (q : Sought) → stays c ≡ true → sought_by p true (scope_value n) kind.List l ≡ Some q → Got c (item_shape s) (in_list w.role) q
+  list-got : (p : Part) → allows s kind.List ≡ true → Asked p n s w.role → (l : ℕ) (c : Node) (q : Sought) → stays c ≡ true → sought_by p true (is_value n) kind.List l ≡ Some q → Got c (item_shape s) (in_list w.role) q
   unfolding in_scope in_item in_default in_member in_var in_name
   list-got part.Scope a asked l c q st h = none-some h
   list-got part.Default a asked l c q st h = none-some h
@@ -216,16 +214,16 @@ module _ (n : Node) (s : Shape) (w : Where) (is : Stands n s w) where
   wrapped-by part.Member st stay asked wrap = absurd asked
 
   clear-kind : (q : Sought) → q.stays ≡ true → Asked q.part n s w.role
-      → cond (is_type_wrapper k) (is_none (ids_declared (stripped n) q)) ((not (has_value k) || same (scope_value (stripped n)) (scope_value n)) && bodies_stay k (map stripped cs)) ≡ true
+      → cond (is_type_wrapper k) (is_none (ids_declared (stripped n) q)) ((not (has_value k) || same (is_value (stripped n)) (is_value n)) && bodies_stay k (map stripped cs)) ≡ true
   clear-kind q stay asked =
-      chosen (is_type_wrapper k) (is_none (ids_declared (stripped n) q)) ((not (has_value k) || same (scope_value (stripped n)) (scope_value n)) && bodies_stay k (map stripped cs)) (wrapped-by q.part q.stays stay asked)
-      (λ other. and-both (not (has_value k) || same (scope_value (stripped n)) (scope_value n)) (bodies_stay k (map stripped cs))
-      (implied (has_value k) (same (scope_value (stripped n)) (scope_value n)) (λ v. same-of (scope_value (stripped n)) (scope_value n) (named-kept n s is.has (valued-named k (not-lowered n is.alone) v))))
+      chosen (is_type_wrapper k) (is_none (ids_declared (stripped n) q)) ((not (has_value k) || same (is_value (stripped n)) (is_value n)) && bodies_stay k (map stripped cs)) (wrapped-by q.part q.stays stay asked)
+      (λ other. and-both (not (has_value k) || same (is_value (stripped n)) (is_value n)) (bodies_stay k (map stripped cs))
+      (implied (has_value k) (same (is_value (stripped n)) (is_value n)) (λ v. same-of (is_value (stripped n)) (is_value n) (named-kept n s is.has (valued-named k (not-lowered n is.alone) v))))
       (bodies-stay k cs s have (test-here declares_no_body n is.usual)))
 
   here : (q : Sought) → is_receiver n ≡ false → q.stays ≡ true → Asked q.part n s w.role → clear_here true n q ≡ true
   here q free stay asked =
-      and-both (not (is_this_ident k)) (cond (is_type_wrapper k) (is_none (ids_declared (stripped n) q)) ((not (has_value k) || same (scope_value (stripped n)) (scope_value n)) && bodies_stay k (map stripped cs)))
+      and-both (not (is_this_ident k)) (cond (is_type_wrapper k) (is_none (ids_declared (stripped n) q)) ((not (has_value k) || same (is_value (stripped n)) (is_value n)) && bodies_stay k (map stripped cs)))
       (ap not (neither (is_this_ident k) (is_this_param n) free).0) (clear-kind q stay asked)
 
 front : (j : ℕ) → j ≡ 0 + j
@@ -234,7 +232,7 @@ front j = omega arith
 layer-clears : (n : Node) → ((i : ℕ) (c : Node) → slice_get (out-Node n).children i ≡ Some c → Clears c) → Clears n
 unfolding sought_in role_in
 layer-clears n below s w q is free stay asked =
-    ap (λ f. f q) (layers.from_leaves_out (Sought → Bool) (clear_step true) n)
+    ap (λ f. f q) (from_leaves_out (Sought → Bool) (clear_step true) n)
     ∙ and-both (clear_here true n q) (clear_in true (is_list (out-Node n).kind) (sought_in q n) 0 (out-Node n).children (map (is_clear true) (out-Node n).children)) (here n s w is q free stay asked) (by (is_list (out-Node n).kind) refl)
   where
     -- nothing is looked for in the `this` of a setter
@@ -244,11 +242,11 @@ layer-clears n below s w q is free stay asked =
         by : (k : Kind) → (out-Node n).kind ≡ k → (b : Bool) → (j == 1) ≡ b → is_spared k j ≡ false
         by kind.SetterProp e false is = is
         by kind.SetterProp e true is =
-            none-some (sym (ap (λ (z : Kind). sought_by q.part q.stays (scope_value n) z 1) e ∙ setter-seeks q.part q.stays (scope_value n)) ∙ sym (ap (sought_in q n) (eqb-true j 1 is)) ∙ h)
+            none-some (sym (ap (λ (z : Kind). sought_by q.part q.stays (is_value n) z 1) e ∙ setter-seeks q.part q.stays (is_value n)) ∙ sym (ap (sought_in q n) (eqb-true j 1 is)) ∙ h)
         by k e b is = refl
 
-    true-stays : (i : ℕ) (o : Option Sought) → sought_in q n i ≡ o → sought_by q.part true (scope_value n) (out-Node n).kind i ≡ o
-    true-stays i o h = ap (λ (b : Bool). sought_by q.part b (scope_value n) (out-Node n).kind i) (sym stay) ∙ h
+    true-stays : (i : ℕ) (o : Option Sought) → sought_in q n i ≡ o → sought_by q.part true (is_value n) (out-Node n).kind i ≡ o
+    true-stays i o h = ap (λ (b : Bool). sought_by q.part b (is_value n) (out-Node n).kind i) (sym stay) ∙ h
 
     by : (b : Bool) → is_list (out-Node n).kind ≡ b → clear_in true b (sought_in q n) 0 (out-Node n).children (map (is_clear true) (out-Node n).children) ≡ true
     by false l =
@@ -260,7 +258,7 @@ layer-clears n below s w q is free stay asked =
     by true l =
         let e : (out-Node n).kind ≡ kind.List = list-kind (out-Node n).kind l in
         clear-items (sought_in q n) 0 (out-Node n).children (λ j c at i p st h. (
-        let g = list-got n s w is q.part (ap (allows s) (sym e) ∙ (parts-have n s is.has).0) asked i c p st (ap (λ (z : Kind). sought_by q.part true (scope_value n) z i) (sym e) ∙ true-stays i (Some p) h) in
+        let g = list-got n s w is q.part (ap (allows s) (sym e) ∙ (parts-have n s is.has).0) asked i c p st (ap (λ (z : Kind). sought_by q.part true (is_value n) z i) (sym e) ∙ true-stays i (Some p) h) in
         (g.0, below j c at (item_shape s) (where_in w n j) p (item-stands e j c at st) (item-other n is.alone l j c at st) g.0 (subst (λ (r : Role). Asked p.part c (item_shape s) r) (ap (λ (z : Kind). role_in w.role z j) (sym e)) g.1))))
       where
         item-at : (count i : ℕ) (o : Shape) → slice_get (replicate count (item_shape s)) i ≡ Some o → o ≡ item_shape s

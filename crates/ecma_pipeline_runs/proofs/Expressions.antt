@@ -9,8 +9,9 @@ use Rattle.ecma_kind.specs.declared.span.Span.{Span}
 use Rattle.ecma_tree.specs.declared.node.Node.{Node, out-Node}
 use Rattle.ecma_tree.specs.Laws.{HaveShapes}
 use Rattle.ecma_tree.specs.Sorted.{HasShape, child_shapes, one}
+use Rattle.ecma_tree.specs.Values.{is_value}
 use Rattle.ecma_scope.specs.declared.form.Part.TheVariants as part
-use Rattle.ecma_scope.specs.Declarations.{in_item, in_var, is_value as scope_value, sought_in}
+use Rattle.ecma_scope.specs.Declarations.{in_item, in_var, sought_in}
 use Rattle.ecma_strip.specs.Stripping.{plain, plain_children, plain_kind, staying_nodes, stripped}
 use Rattle.ecma_strip.proofs.Stripping.{stripped-out}
 use Rattle.ecma_hygiene.proofs.Telling.{true-false}
@@ -113,7 +114,7 @@ var-here _ = refl
 
 pub expression-item : (n : Node) → is_expr (out-Node n).kind ≡ true → ids_declared n (record { part = part.Item; stays = true }) ≡ []
 unfolding sought_in
-expression-item n h = silent n (record { part = part.Item; stays = true }) (item-here (out-Node n).kind) (λ i. item-none (out-Node n).kind (scope_value n) i h)
+expression-item n h = silent n (record { part = part.Item; stays = true }) (item-here (out-Node n).kind) (λ i. item-none (out-Node n).kind (is_value n) i h)
 
 pub expression-var : (n : Node) → is_expr (out-Node n).kind ≡ true → ids_declared n (record { part = part.Var; stays = true }) ≡ []
 unfolding sought_in

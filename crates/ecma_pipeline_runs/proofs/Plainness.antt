@@ -12,11 +12,11 @@ use Rattle.ecma_tree.specs.declared.node.Node.{Node, fold_out-Node, out-Node}
 use Rattle.ecma_tree.specs.Finding.{enters_all, finds, finds_from, finds_here}
 use Rattle.ecma_tree.specs.Laws.{HaveShapes}
 use Rattle.ecma_tree.specs.Sorted.{HasShape, child_shapes, one}
+use Rattle.ecma_tree.proofs.Layers.{from_leaves_out}
 use Rattle.ecma_runs.specs.Declarations.{has_no_effect}
 use Rattle.ecma_runs.specs.Evaluation.{meaning, meaning_by, no_effect, role_by}
 use Rattle.ecma_runs.specs.Meaning.{Meaning}
 use Rattle.ecma_runs.proofs.Layer.{meaning_out}
-use Rattle.ecma_scope.proofs.Layers.{from_leaves_out}
 use Rattle.ecma_strip.specs.Laws.{has_type_modifiers, is_type_part}
 use Rattle.ecma_hygiene.proofs.Telling.{and-both, and-left, and-right, or-first, or-second, true-false}
 use Rattle.ecma_hygiene_runs.specs.Plain.{has_no_receiver, is_none, is_plain, is_plain_kind, plain_by, plain_step}

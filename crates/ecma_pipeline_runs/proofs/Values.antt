@@ -12,35 +12,34 @@ use Rattle.ecma_tree.specs.Laws.{HaveShapes}
 use Rattle.ecma_tree.specs.Nodes.{node_of}
 use Rattle.ecma_tree.specs.Sorted.{HasShape, allows, child_shapes, is_absent, maybe, one}
 use Rattle.ecma_rules.specs.Statements.{is_declaration as declares_kind}
-use Rattle.ecma_scope.specs.Declarations.{is_value as scope_value, value_by as scope_by}
-use Rattle.ecma_scope.proofs.Naming as naming
 use Rattle.ecma_strip.specs.Staying.{if_there, is_declared, is_empty_stmt, is_export, item_stays}
 use Rattle.ecma_strip.specs.Stripping.{plain, plain_children, plain_kind, staying_nodes, stripped}
-use Rattle.ecma_strip.specs.Values.{is_value, value_by, value_step}
 use Rattle.ecma_strip.proofs.Stripping.{stripped-out}
-use Rattle.ecma_strip_runs.specs.Usual.{declares_no_body, is_declaration}
+use Rattle.ecma_strip_runs.specs.UsualBodies.{declares_no_body, is_declaration}
 use Rattle.ecma_hygiene.proofs.Telling.{and-both, and-left, and-right, true-false}
 use Rattle.ecma_hygiene_scopes.proofs.Parts.{value-of}
 use Rattle.ecma_strip_scopes.specs.Standing.{bodies_stay}
 use Rattle.ecma_strip_scopes.proofs.Going.{is_named, parts-have}
 use Rattle.ecma_pipeline_runs.proofs.Nodes.{not-true}
+use Rattle.ecma_tree.specs.Values.{is_value, value_by, value_step}
+use Rattle.ecma_tree.proofs.Valuing.{is_value-out}
 
 -- ---- values, to scopes
 
-body-by : (span : Span) (k : Kind) (cs : List Node) (vs : List Bool) → allows (maybe sort.BlockStmt) k ≡ true → scope_value (plain span k cs) ≡ scope_by k vs
-unfolding plain plain_kind plain_children scope_by
+body-by : (span : Span) (k : Kind) (cs : List Node) (vs : List Bool) → allows (maybe sort.BlockStmt) k ≡ true → is_value (plain span k cs) ≡ value_by k vs
+unfolding plain plain_kind plain_children value_by
 body-by span kind.Absent cs vs a = value-of span kind.Absent cs
 body-by span kind.BlockStmt cs vs a = value-of span kind.BlockStmt _
 body-by span _ cs vs a = absurd (true-false a refl)
 
-body-kept : (b : Node) → HasShape (maybe sort.BlockStmt) b → scope_value (stripped b) ≡ scope_value b
+body-kept : (b : Node) → HasShape (maybe sort.BlockStmt) b → is_value (stripped b) ≡ is_value b
 body-kept b has =
-    ap scope_value (stripped-out b)
-    ∙ body-by (out-Node b).span (out-Node b).kind (map stripped (staying_nodes (out-Node b).kind (out-Node b).children)) (map scope_value (out-Node b).children) (parts-have b (maybe sort.BlockStmt) has).0
-    ∙ sym (naming.is_value-out b)
+    ap is_value (stripped-out b)
+    ∙ body-by (out-Node b).span (out-Node b).kind (map stripped (staying_nodes (out-Node b).kind (out-Node b).children)) (map is_value (out-Node b).children) (parts-have b (maybe sort.BlockStmt) has).0
+    ∙ sym (is_value-out b)
 
-function-by : (span : Span) (k : Kind) (cs : List Node) → allows (one sort.Function) k ≡ true → HaveShapes (child_shapes k (one sort.Function) (length cs)) cs → scope_value (plain span k (map stripped (staying_nodes k cs))) ≡ scope_by k (map scope_value cs)
-unfolding plain plain_kind plain_children scope_by
+function-by : (span : Span) (k : Kind) (cs : List Node) → allows (one sort.Function) k ≡ true → HaveShapes (child_shapes k (one sort.Function) (length cs)) cs → is_value (plain span k (map stripped (staying_nodes k cs))) ≡ value_by k (map is_value cs)
+unfolding plain plain_kind plain_children value_by
 function-by span (kind.Function g a) (p ∷ b ∷ t ∷ r ∷ []) is have = value-of span (kind.Function g a) (map stripped (p ∷ b ∷ t ∷ r ∷ [])) ∙ body-kept b have.1.0
 function-by span (kind.Function g a) [] is have = absurd have
 function-by span (kind.Function g a) (p ∷ []) is have = absurd have.1
@@ -49,13 +48,13 @@ function-by span (kind.Function g a) (p ∷ b ∷ t ∷ []) is have = absurd hav
 function-by span (kind.Function g a) (p ∷ b ∷ t ∷ r ∷ u ∷ others) is have = absurd have.1.1.1.1
 function-by span _ cs is have = absurd (true-false is refl)
 
-function-kept : (f : Node) → HasShape (one sort.Function) f → scope_value (stripped f) ≡ scope_value f
+function-kept : (f : Node) → HasShape (one sort.Function) f → is_value (stripped f) ≡ is_value f
 function-kept f has =
     let parts = parts-have f (one sort.Function) has in
-    ap scope_value (stripped-out f) ∙ function-by (out-Node f).span (out-Node f).kind (out-Node f).children parts.0 parts.1 ∙ sym (naming.is_value-out f)
+    ap is_value (stripped-out f) ∙ function-by (out-Node f).span (out-Node f).kind (out-Node f).children parts.0 parts.1 ∙ sym (is_value-out f)
 
-named-by : (span : Span) (k : Kind) (s : Shape) (cs : List Node) → is_named k ≡ true → HaveShapes (child_shapes k s (length cs)) cs → scope_value (plain span k (map stripped (staying_nodes k cs))) ≡ scope_by k (map scope_value cs)
-unfolding plain plain_kind plain_children scope_by
+named-by : (span : Span) (k : Kind) (s : Shape) (cs : List Node) → is_named k ≡ true → HaveShapes (child_shapes k s (length cs)) cs → is_value (plain span k (map stripped (staying_nodes k cs))) ≡ value_by k (map is_value cs)
+unfolding plain plain_kind plain_children value_by
 named-by span (kind.FnDecl d) s (i ∷ f ∷ []) is have = value-of span (kind.FnDecl d) (map stripped (i ∷ f ∷ [])) ∙ function-kept f have.1.0
 named-by span (kind.FnDecl d) s [] is have = absurd have
 named-by span (kind.FnDecl d) s (i ∷ []) is have = absurd have.1
@@ -67,8 +66,8 @@ named-by span kind.FnExpr s (i ∷ f ∷ g ∷ others) is have = absurd have.1.1
 named-by span _ s cs is have = absurd (true-false is refl)
 
 -- a function with a name is a value without its types where it is one with them
-pub named-kept : (n : Node) (s : Shape) → HasShape s n → is_named (out-Node n).kind ≡ true → scope_value (stripped n) ≡ scope_value n
-named-kept n s has is = ap scope_value (stripped-out n) ∙ named-by (out-Node n).span (out-Node n).kind s (out-Node n).children is (parts-have n s has).1 ∙ sym (naming.is_value-out n)
+pub named-kept : (n : Node) (s : Shape) → HasShape s n → is_named (out-Node n).kind ≡ true → is_value (stripped n) ≡ is_value n
+named-kept n s has is = ap is_value (stripped-out n) ∙ named-by (out-Node n).span (out-Node n).kind s (out-Node n).children is (parts-have n s has).1 ∙ sym (is_value-out n)
 
 -- ---- bodies
 

@@ -14,3 +14,5 @@ pub mod Statements
 pub mod Modules
 pub mod Layout
 pub mod Writing
+pub mod Explicit
+pub mod Spots

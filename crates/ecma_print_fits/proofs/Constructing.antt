@@ -10,17 +10,17 @@ use Rattle.ecma_tree.specs.Laws.{HaveShapes}
 use Rattle.ecma_tree.specs.Nodes.{dummy_span, node_of}
 use Rattle.ecma_tree.specs.Sorted.{HasShape, child_shapes, is_list, many, one}
 use Rattle.ecma_rules.specs.Children.{children_of as items_of, is_present, of_kind}
-use Rattle.ecma_rules.specs.Members.{is_constructor, is_full_constructor, second_by, second_constructor, second_of}
+use Rattle.ecma_rules.specs.Members.{is_constructor, is_full_constructor, second_by, second_constructor, second_of, has_second_constructor}
 use Rattle.ecma_print.specs.declared.place.Spot.{Spot}
 use Rattle.ecma_print.specs.Places.{free}
 use Rattle.ecma_print.specs.Laid.{Laid}
 use Rattle.ecma_print.specs.Levels.{in_parentheses}
-use Rattle.ecma_print_parentheses.specs.Explicit.{bare, laid_children, parenthesized, stood}
-use Rattle.ecma_print_parentheses.specs.Spots.{first_spots, further_spot}
+use Rattle.ecma_print.specs.Explicit.{bare, laid_children, parenthesized, stood}
+use Rattle.ecma_print.specs.Spots.{first_spots, further_spot}
 use Rattle.ecma_print_parentheses.proofs.Standing.{if_false, stands}
 use Rattle.ecma_print_parentheses.proofs.Asking.{first_fit, further_fits, open_where_free}
 use Rattle.ecma_fits.specs.Fitting.{at_top}
-use Rattle.ecma_print_fits.specs.Laws.{ExplicitConstructorsStay, has_second_constructor}
+use Rattle.ecma_print_fits.specs.Laws.{ExplicitConstructorsStay}
 use Rattle.ecma_print_fits.proofs.Parts.{children_made, kind_made, not_true, shape_allows, shape_made}
 use Rattle.ecma_print_fits.proofs.Tests.{counted, no_second}
 use Rattle.ecma_print_fits.proofs.Explicit.{kept, kind_at, spotted}

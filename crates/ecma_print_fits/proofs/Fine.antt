@@ -4,6 +4,7 @@ use Rattle.ecma_kind.specs.declared.kind.Kind.{Kind}
 use Rattle.ecma_kind.specs.declared.kind.Kind.TheVariants as kind
 use Rattle.ecma_tree.specs.declared.node.Node.{Node, Node-F, roll-Node}
 use Rattle.ecma_tree.specs.declared.node.Node.TheViews.{out-roll-Node}
+use Rattle.ecma_tree.proofs.Layers.{from_leaves-roll}
 use Rattle.ecma_rules.specs.declared.target.Target.{Target}
 use Rattle.ecma_rules.specs.declared.standing.Around.{Around}
 use Rattle.ecma_rules.specs.declared.standing.Standing.{Standing}
@@ -16,7 +17,6 @@ use Rattle.ecma_rules.specs.Statements.{is_body, is_declaration, is_exported, is
 use Rattle.ecma_rules.specs.Supers.{is_linked, is_private_name, is_super, is_super_member}
 use Rattle.ecma_rules.specs.Surroundings.{around_in}
 use Rattle.ecma_rules.specs.Targets.{is_plain_target, is_property, is_short_default, is_simple_target, is_spread, is_variables, may_be}
-use Rattle.ecma_rules.proofs.Layers.{from_leaves-roll}
 use Rattle.ecma_rules.proofs.Simple.{simple-plain}
 use Rattle.ecma_print_fits.proofs.Parts.{around_by, kind_made, not_true, shifted}
 

@@ -13,6 +13,7 @@ use Rattle.ecma_tree.specs.Laws.{HaveShapes}
 use Rattle.ecma_tree.specs.Nodes.{node_of}
 use Rattle.ecma_tree.specs.Sorted.{HasShape, allows, child_shapes, is_absent, one}
 use Rattle.ecma_tree.proofs.ShapeLaws.{node_has_shape}
+use Rattle.ecma_tree.proofs.Layers.{from_leaves-roll}
 use Rattle.ecma_rules.specs.declared.standing.Around.{Around}
 use Rattle.ecma_rules.specs.Children.{is_present, kind_of, of_kind}
 use Rattle.ecma_rules.specs.Failing.{failing_here, failing_step, least, least_from}
@@ -20,7 +21,6 @@ use Rattle.ecma_rules.specs.Lists.{last_by}
 use Rattle.ecma_rules.specs.Members.{second_constructor}
 use Rattle.ecma_rules.specs.Surroundings.{standing_by}
 use Rattle.ecma_rules.specs.Targets.{first_is, is_plain_target, is_simple_target, is_wrapper, simple_step, target_in}
-use Rattle.ecma_rules.proofs.Layers.{from_leaves-roll}
 use Rattle.ecma_fits.specs.declared.role.Role.{Role}
 use Rattle.ecma_fits.specs.declared.role.Role.TheVariants as role
 use Rattle.ecma_fits.specs.declared.unfit.Where.{Where}

@@ -8,6 +8,7 @@ use Rattle.ecma_tree.specs.declared.node.Node.{Node, Node-F, roll-Node}
 use Rattle.ecma_tree.specs.declared.node.Node.TheViews.{out-roll-Node}
 use Rattle.ecma_tree.specs.Nodes.{node_of}
 use Rattle.ecma_tree.specs.Sorted.{child_shapes}
+use Rattle.ecma_tree.proofs.Layers.{from_leaves-roll}
 use Rattle.ecma_rules.specs.declared.strays.Strays.{Strays}
 use Rattle.ecma_rules.specs.declared.target.Target.{Target}
 use Rattle.ecma_rules.specs.declared.target.Target.TheVariants as target
@@ -18,7 +19,6 @@ use Rattle.ecma_rules.specs.Jumps.{Held, ends_jumps, first_held_stray, held_behi
 use Rattle.ecma_rules.specs.Strays.{all_held, as_name, in_named, is_stray, strays_in}
 use Rattle.ecma_rules.specs.Strays.{in_arrow, in_field, in_function, in_loop, in_member, in_switch, with_home, without_home}
 use Rattle.ecma_rules.specs.Targets.{target_in}
-use Rattle.ecma_rules.proofs.Layers.{from_leaves-roll}
 use Rattle.ecma_covers.specs.Covering.{cover_at}
 use Rattle.ecma_covers.specs.Placing.{binds}
 use Rattle.ecma_covers.proofs.Uncovering.{binding_node, free_kind, name_node}

@@ -1,5 +1,5 @@
 -- Laws of finished trees that fit.
-use Rattle.std.specs.Prelude.{◌≡◌, Bool, false, not, None, is_some, true}
+use Rattle.std.specs.Prelude.{◌≡◌, Bool, false, not, None, true}
 use Rattle.ecma_kind.specs.declared.kind.Kind.{Kind}
 use Rattle.ecma_kind.specs.declared.kind.Kind.TheVariants as kind
 use Rattle.ecma_kind.specs.declared.shapes.Sort.TheVariants as sort
@@ -9,20 +9,18 @@ use Rattle.ecma_tree.specs.Sorted.{HasSort}
 use Rattle.ecma_rules.specs.declared.target.Target.TheVariants as target
 use Rattle.ecma_rules.specs.Children.{kind_of}
 use Rattle.ecma_rules.specs.Jumps.{first_stray}
-use Rattle.ecma_rules.specs.Members.{second_constructor}
+use Rattle.ecma_rules.specs.Members.{has_second_constructor}
 use Rattle.ecma_rules.specs.Rules.{first_broken, first_misplaced}
 use Rattle.ecma_rules.specs.Surroundings.{at_root}
-use Rattle.ecma_rules.specs.Failing.{failing_here, first_failing}
 use Rattle.ecma_covers.specs.Covering.{cover}
 use Rattle.ecma_covers.specs.Placing.{Stands}
-use Rattle.ecma_print_covers.specs.Layouts.{has_usual_defaults}
-use Rattle.ecma_print_parentheses.specs.Explicit.{explicit}
-use Rattle.ecma_fits.specs.declared.unfit.Where.{Where}
+use Rattle.ecma_print_covers.specs.Defaults.{has_usual_defaults}
+use Rattle.ecma_print.specs.Explicit.{explicit}
 use Rattle.ecma_fits.specs.Branches.{is_dangling}
 use Rattle.ecma_fits.specs.Chains.{is_loose}
 use Rattle.ecma_fits.specs.Counts.{is_short}
 use Rattle.ecma_leaves.specs.Words.{is_spelled}
-use Rattle.ecma_fits.specs.Fitting.{Fits, at_top, breaks_rule, where_in}
+use Rattle.ecma_fits.specs.Fitting.{Fits, breaks_rule, NoneFails}
 use Rattle.ecma_fits.specs.Members.{is_misread}
 use Rattle.ecma_fits.specs.Roles.{is_out_of_role, is_tagged}
 use Rattle.ecma_fits.specs.Strays.{is_stray_target}
@@ -51,7 +49,7 @@ CoversBreakNoRule = (tree : Node) → Fits tree → HasNoOptionalPatterns tree �
 
 -- no node of a tree is such a one
 abbrev pub NoneIs : (Node → Bool) → Node → Type 0
-NoneIs is tree = first_failing Where (λ w node. failing_here (is node) node) where_in tree at_top ≡ None
+NoneIs is tree = NoneFails (λ w node. is node) tree
 
 -- in a module with explicit parentheses each node has what its production asks for where it had
 abbrev pub ExplicitCountsStay : Type 0
@@ -71,7 +69,7 @@ ExplicitChainsStay = (tree : Node) → HasSort sort.Module tree → NoneIs is_lo
 
 -- no node of a tree is out of its role
 abbrev pub NoneIsOutOfRole : Node → Type 0
-NoneIsOutOfRole tree = first_failing Where (λ w node. failing_here (is_out_of_role w.role node) node) where_in tree at_top ≡ None
+NoneIsOutOfRole tree = NoneFails (λ w node. is_out_of_role w.role node) tree
 
 -- nor with explicit parentheses where none was
 abbrev pub ExplicitRolesStay : Type 0
@@ -79,15 +77,11 @@ ExplicitRolesStay = (tree : Node) → NoneIsOutOfRole tree → NoneIsOutOfRole (
 
 -- no leaf of a tree is misspelled
 abbrev pub NoneIsMisspelled : Node → Type 0
-NoneIsMisspelled tree = first_failing Where (λ w node. failing_here (not (is_spelled (is_tagged w.role) (kind_of node))) node) where_in tree at_top ≡ None
+NoneIsMisspelled tree = NoneFails (λ w node. not (is_spelled (is_tagged w.role) (kind_of node))) tree
 
 -- nor with explicit parentheses where none was
 abbrev pub ExplicitLeavesStay : Type 0
 ExplicitLeavesStay = (tree : Node) → NoneIsMisspelled tree → NoneIsMisspelled (explicit tree)
-
--- a class has two constructors with bodies
-abbrev pub has_second_constructor : Node → Bool
-has_second_constructor node = is_some (second_constructor node)
 
 -- no class of a module has, with explicit parentheses, where none had
 abbrev pub ExplicitConstructorsStay : Type 0
@@ -95,7 +89,7 @@ ExplicitConstructorsStay = (tree : Node) → HasSort sort.Module tree → NoneIs
 
 -- no node of a tree is `arguments` that is assigned to in a pattern and belongs to nothing
 abbrev pub NoneIsStrayTarget : Node → Type 0
-NoneIsStrayTarget tree = first_failing Where (λ w node. failing_here (is_stray_target w.role w.arguments node) node) where_in tree at_top ≡ None
+NoneIsStrayTarget tree = NoneFails (λ w node. is_stray_target w.role w.arguments node) tree
 
 -- nor of a module with explicit parentheses where none was, and none out of its role
 abbrev pub ExplicitTargetsStay : Type 0
@@ -103,7 +97,7 @@ ExplicitTargetsStay = (tree : Node) → HasSort sort.Module tree → NoneIsOutOf
 
 -- no node of a tree breaks a rule that reads it as it reads a raw one
 abbrev pub NoneBreaksRule : Node → Type 0
-NoneBreaksRule tree = first_failing Where (λ w node. failing_here (breaks_rule w node) node) where_in tree at_top ≡ None
+NoneBreaksRule tree = NoneFails (λ w node. breaks_rule w node) tree
 
 -- nor of a module with explicit parentheses where none did, and none was out of its role
 abbrev pub ExplicitRulesStay : Type 0

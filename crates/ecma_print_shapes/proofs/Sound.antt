@@ -16,7 +16,6 @@ use Rattle.ecma_rules.specs.Members.{is_misfit, is_special_constructor, is_stray
 use Rattle.ecma_rules.specs.Rules.{fails_list, fails_member, fails_statement}
 use Rattle.ecma_rules.specs.Targets.{target_in}
 use Rattle.ecma_rules.specs.declared.target.Target.{Target}
-use Rattle.ecma_rules.proofs.Layers.{from_leaves-roll}
 use Rattle.ecma_text_leaves.specs.Everywhere.{Each, Everywhere, everywhere, more}
 use Rattle.ecma_leaves.specs.Words.{is_spelled}
 use Rattle.ecma_fits.specs.declared.role.Role.{Role}
@@ -29,10 +28,11 @@ use Rattle.ecma_print.specs.declared.place.Spot.{Spot}
 use Rattle.ecma_print.specs.Layout.{laid}
 use Rattle.ecma_print.specs.Levels.{in_parentheses}
 use Rattle.ecma_print_parentheses.specs.Lacking.{all_complete, complete}
-use Rattle.ecma_print_parentheses.specs.Spots.{first_spots, further_spot}
+use Rattle.ecma_print.specs.Spots.{first_spots, further_spot}
 use Rattle.ecma_print_parentheses.proofs.Lacks.{complete_in}
-use Rattle.ecma_print_shapes.specs.Forms.{IsTaken}
-use Rattle.ecma_print_shapes.specs.Functions.{Functions, any_unusual, functions, functions_step, is_this_name, unusual_here}
+use Rattle.ecma_plain.specs.Forms.{IsTaken}
+use Rattle.ecma_plain.specs.Functions.{Functions, any_unusual, functions, functions_step, is_this_name, unusual_here}
+use Rattle.ecma_tree.proofs.Layers.{from_leaves-roll}
 
 -- it fits where it has this role, whatever else stands around
 abbrev pub FitsAs : Role → Node → Type 0

@@ -17,7 +17,7 @@ use Rattle.ecma_text_fits.proofs.RawTexts.{untagged}
 use Rattle.ecma_text_fits.proofs.TemplateFeeds.{characters_kept}
 use Rattle.ecma_print_tokens.specs.Good.{IsTextPart}
 use Rattle.ecma_print_tokens.specs.Taking.{part_inside}
-use Rattle.ecma_print_reread.specs.LiteralTexts.{part_closing, part_text}
+use Rattle.ecma_shapes.specs.LiteralTexts.{part_closing, part_text}
 use Rattle.ecma_print_shapes.proofs.LeafTokens.{first_stands}
 use Rattle.ecma_print_shapes.proofs.TextParts.{after_stop, characters_there, closes_at, closing_cut, cut_inside, feeds_there, inside, raw_stays, text_length, text_utf8}
 

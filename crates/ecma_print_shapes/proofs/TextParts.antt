@@ -25,7 +25,7 @@ use Rattle.ecma_text_fits.proofs.LineFeeds.{Beside, Ends, View, broken, char_hea
 use Rattle.ecma_text_fits.proofs.LiteralFeeds.{Both, IsReady, template_part_kept}
 use Rattle.ecma_text_fits.proofs.LiteralParts.{escape_other, part_escape, terminator_end}
 use Rattle.ecma_text_fits.proofs.TemplateFeeds.{at_end}
-use Rattle.ecma_print_reread.specs.LiteralTexts.{part_closing, part_opening, part_text}
+use Rattle.ecma_shapes.specs.LiteralTexts.{part_closing, part_opening, part_text}
 
 -- no escape stands at the end
 

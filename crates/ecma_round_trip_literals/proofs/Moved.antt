@@ -9,9 +9,9 @@ use Rattle.ecma_tree.specs.declared.node.Node.{Node, Node-F, fold-Node, fold-rol
 use Rattle.ecma_tree.specs.declared.node.Node.TheViews.{out-roll-Node}
 use Rattle.ecma_tree.specs.Changing.{changed_here}
 use Rattle.ecma_tree.proofs.Changing.{changed-parts}
+use Rattle.ecma_tree.proofs.Layers.{from_leaves-roll}
 use Rattle.ecma_rules.specs.Children.{child_holds, child_is, children_of as items_of, has_child, holds_of, is_present, items_at, kind_of, of_kind}
 use Rattle.ecma_rules.specs.Failing.{failing_step, first_failing, least, least_from}
-use Rattle.ecma_rules.proofs.Layers.{from_leaves-roll}
 use Rattle.ecma_number.specs.declared.js_number.JsNumber.{JsNumber}
 use Rattle.ecma_print.specs.Escapes.{made_text}
 use Rattle.ecma_round_trip_literals.specs.Sources.{big_text, number_source, source_or, with_source, with_sources}

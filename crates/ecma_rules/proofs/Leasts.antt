@@ -3,13 +3,13 @@ use Rattle.std.proofs.Common.{◌≡◌, ◌∙◌, ◌≤◌, ◌⊎◌, ℕ, z
 use mathlib.Core.Logic.{inl, inr}
 use Rattle.ecma_tree.specs.declared.node.Node.{Node, Node-F, ind-Node, out-Node, roll-Node}
 use Rattle.ecma_tree.specs.declared.node.Node.TheViews.{out-roll-Node}
+use Rattle.ecma_tree.proofs.Layers.{from_leaves-roll}
 use Rattle.ecma_rules.specs.declared.standing.Around.{Around}
 use Rattle.ecma_rules.specs.Failing.{failing_step, first_failing, least, least_from}
 use Rattle.ecma_rules.specs.Surroundings.{around_in, at_root}
 use Rattle.ecma_rules.specs.Jumps.{Held, first_stray, held_in, not_held, stray_here}
 use Rattle.ecma_rules.specs.Rules.{first_misplaced, misplaced_here}
 use Rattle.ecma_rules.specs.Breaking.{FirstBrokenIsLeast, IsLeast, Leads, Tells}
-use Rattle.ecma_rules.proofs.Layers.{from_leaves-roll}
 
 none-some : {i : ℕ} → None ≡ Some i → ⊥
 none-some is = cc

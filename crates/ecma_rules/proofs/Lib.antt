@@ -1,7 +1,5 @@
-pub mod Layers
 pub mod Simple
 pub mod Failures
-pub mod Weights
 pub mod Fronted
 pub mod Keeping
 pub mod Seconds

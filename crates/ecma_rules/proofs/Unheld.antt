@@ -3,13 +3,13 @@ use Rattle.std.proofs.Common.{◌≡◌, ◌∙◌, ℕ, suc, ◌==◌, Bool, tr
 use Rattle.ecma_kind.specs.declared.kind.Kind.{Kind}
 use Rattle.ecma_kind.specs.declared.kind.Kind.TheVariants as kind
 use Rattle.ecma_tree.specs.declared.node.Node.{Node, Node-F, ind-Node, roll-Node}
+use Rattle.ecma_tree.proofs.Layers.{from_leaves-roll}
 use Rattle.ecma_rules.specs.declared.strays.Strays.{Strays}
 use Rattle.ecma_rules.specs.Children.{kind_of}
 use Rattle.ecma_rules.specs.Failing.{failing_here, failing_step, least, least_from}
 use Rattle.ecma_rules.specs.Jumps.{Held, ends_jumps, first_held_stray, first_stray, held_behind, held_in, is_stray_in, label_of, labels_behind, not_held, own_label, stray_here}
 use Rattle.ecma_rules.specs.Strays.{in_named, is_stray, nothing_held, strays_in}
 use Rattle.ecma_rules.specs.Walks.{holds_strays}
-use Rattle.ecma_rules.proofs.Layers.{from_leaves-roll}
 
 nothing-either : (b : Bool) → cond b nothing_held nothing_held ≡ nothing_held
 nothing-either true = refl

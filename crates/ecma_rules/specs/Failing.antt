@@ -1,7 +1,7 @@
 -- The least place in a tree, where what each node tells depends on what stands around it.
 use Rattle.std.specs.Prelude.{ℕ, suc, min, Bool, cond, List, [], ◌∷◌, Option, Some, None}
 use Rattle.ecma_tree.specs.declared.node.Node.{Node, out-Node}
-use Rattle.ecma_rules.specs.Layers.{from_leaves}
+use Rattle.ecma_tree.specs.Layers.{from_leaves}
 
 abbrev pub least : Option ℕ → Option ℕ → Option ℕ
 least None b = b

@@ -1,4 +1,3 @@
-pub mod Layers
 pub mod Failing
 pub mod Children
 pub mod Targets

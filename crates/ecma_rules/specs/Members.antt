@@ -1,5 +1,5 @@
 -- Parameters and members of objects and classes (ECMAScript, 15.4, 15.7.1; TypeScript handbook, "Parameter Properties", "Declaring this in a Function").
-use Rattle.std.specs.Prelude.{ℕ, Bool, true, false, not, ◌&&◌, ◌||◌, List, [], ◌∷◌, codes, bytes_eq, filter, Option, Some, None}
+use Rattle.std.specs.Prelude.{ℕ, Bool, true, false, not, ◌&&◌, ◌||◌, List, [], ◌∷◌, codes, bytes_eq, filter, Option, Some, None, is_some}
 use Rattle.std.specs.List.{list_any}
 use Rattle.ecma_kind.specs.declared.kind.Kind.{Kind}
 use Rattle.ecma_kind.specs.declared.kind.Kind.TheVariants as kind
@@ -137,6 +137,10 @@ second_by _ node = None
 --   class A { constructor() { } constructor() { } }   // refused
 abbrev pub second_constructor : Node → Option ℕ
 second_constructor node = second_by (kind_of node) node
+
+-- a class has two constructors with bodies
+abbrev pub has_second_constructor : Node → Bool
+has_second_constructor node = is_some (second_constructor node)
 
 abbrev pub is_constructor_key : Kind → Bool
 is_constructor_key (kind.IdentName sym) = bytes_eq sym (codes "constructor")

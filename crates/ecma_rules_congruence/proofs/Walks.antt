@@ -4,8 +4,8 @@ use Rattle.std.specs.Prelude.{is_some}
 use Rattle.ecma_tree.specs.declared.node.Node.{Node, Node-F, ind-Node, out-Node, roll-Node}
 use Rattle.ecma_tree.specs.declared.node.Node.TheViews.{out-roll-Node}
 use Rattle.ecma_tree.specs.Spans.{without_spans}
+use Rattle.ecma_tree.proofs.Layers.{from_leaves_out}
 use Rattle.ecma_rules.specs.Failing.{failing_step, first_failing, least, least_from}
-use Rattle.ecma_rules.proofs.Layers.{from_leaves_out}
 use Rattle.ecma_rules_congruence.proofs.Bare.{bare-children}
 
 pub least-some : (a b : Option ℕ) → is_some (least a b) ≡ (is_some a || is_some b)

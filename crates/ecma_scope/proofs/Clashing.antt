@@ -2,6 +2,7 @@
 use Rattle.std.proofs.Common.{◌≡◌, ℕ, ◌+◌, Bool, true, false, ◌&&◌, cond, List, [], ◌∷◌, ◌++◌, map, take, drop, length, Option, Some, Result, Ok, Err, refl, sym, ap, ◌∙◌, subst, slice_get, set, add-one}
 use Rattle.ecma_tree.specs.declared.node.Node.{Node, out-Node}
 use Rattle.ecma_tree.proofs.Items.{drop-item, take-item}
+use Rattle.ecma_tree.proofs.Layers.{from_leaves_out}
 use Rattle.ecma_scope.specs.declared.form.Declaration.{Declaration}
 use Rattle.ecma_scope.specs.declared.error.ScopeError.{ScopeError}
 use Rattle.ecma_scope.specs.declared.error.ScopeError.TheVariants.{Redeclared, NoMemory}
@@ -11,7 +12,6 @@ use Rattle.ecma_scope.specs.Declarations.{names, stated}
 use Rattle.ecma_scope.specs.declared.index.Index.{Index}
 use Rattle.ecma_scope.specs.Indexed.{states_of}
 use Rattle.ecma_scope.specs.Conflicts.{Answers, Surrounding, child_surrounding, clash_step, clashes, clashes_in, clashing, mark, marked, meeting, own_clashes, redeclared_at, surrounding, surrounds}
-use Rattle.ecma_scope.proofs.Layers.{from_leaves_out}
 use Rattle.ecma_scope.proofs.Resolving.{append-none, append-one, drop-none, drop-set, take-set, take-whole}
 
 -- the first i are marked, and the others still to be

@@ -1,5 +1,3 @@
-pub mod Layers
-pub mod Weights
 pub mod Roles
 pub mod Naming
 pub mod Indexing

@@ -1,33 +1,12 @@
--- The equations of what is a value, and of the declarations in a node, child by child.
+-- The equations of the declarations in a node, child by child.
 use Rattle.std.proofs.Common.{◌≡◌, ℕ, zero, suc, ◌+◌, Bool, false, List, [], ◌∷◌, ◌++◌, map, drop, length, get_or, Option, Some, None, refl, sym, ap, ◌∙◌, slice_get, add-one, append_assoc, arith}
 use Rattle.ecma_tree.specs.declared.node.Node.{Node, fold_out-Node, out-Node}
 use Rattle.ecma_tree.proofs.Items.{drop-item}
+use Rattle.ecma_tree.specs.Values.{is_value, value_by, value_step}
+use Rattle.ecma_tree.proofs.Layers.{from_leaves_out}
 use Rattle.ecma_scope.specs.declared.form.Declaration.{Declaration}
 use Rattle.ecma_scope.specs.declared.form.Sought.{Sought}
-use Rattle.ecma_scope.specs.Declarations.{declarations, declared_here, declared_step, found_at, found_in, is_value, sought_in, value_by, value_step}
-use Rattle.ecma_scope.proofs.Layers.{from_leaves_out}
-
-module _ {X : Type 0} (f : X → Bool) where
-  get_or-some : (xs : List X) (i : ℕ) (x : X) → slice_get xs i ≡ Some x → get_or (map f xs) i false ≡ f x
-  get_or-some [] i x at = cc
-  get_or-some (y ∷ ys) zero x at = let same : y ≡ x = cc in ap f same
-  get_or-some (y ∷ ys) (suc i) x at = get_or-some ys i x at
-
-  get_or-none : (xs : List X) (i : ℕ) → slice_get xs i ≡ None → get_or (map f xs) i false ≡ false
-  get_or-none [] i at = refl
-  get_or-none (y ∷ ys) zero at = cc
-  get_or-none (y ∷ ys) (suc i) at = get_or-none ys i at
-
-pub value_at : (n : Node) (i : ℕ) (x : Node) → slice_get (out-Node n).children i ≡ Some x → get_or (map is_value (out-Node n).children) i false ≡ is_value x
-value_at n = get_or-some is_value (out-Node n).children
-
-pub no_value_at : (n : Node) (i : ℕ) → slice_get (out-Node n).children i ≡ None → get_or (map is_value (out-Node n).children) i false ≡ false
-no_value_at n = get_or-none is_value (out-Node n).children
-
-pub is_value-out : (n : Node) → is_value n ≡ value_by (out-Node n).kind (map is_value (out-Node n).children)
-is_value-out = fold_out-Node Bool value_step
-
-pub ruleset values = (value_at, no_value_at, is_value-out)
+use Rattle.ecma_scope.specs.Declarations.{declarations, declared_here, declared_step, found_at, found_in, sought_in}
 
 -- the declarations in the children from the one at i on
 abbrev pub found_from : Sought → Node → ℕ → List Declaration

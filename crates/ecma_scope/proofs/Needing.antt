@@ -2,12 +2,12 @@
 use Rattle.std.proofs.Common.{◌≡◌, ℕ, suc, ◌+◌, ◌≤◌, Bool, true, false, ◌&&◌, not, cond, List, [], ◌∷◌, map, drop, length, Some, refl, ap, subst, slice_get, add-one, arith}
 use Rattle.ecma_tree.specs.declared.node.Node.{Node, Node-F, out-Node, ind-Node, roll-Node}
 use Rattle.ecma_tree.proofs.Items.{drop-item}
+use Rattle.ecma_tree.proofs.Layers.{from_leaves_out, from_leaves-roll}
 use Rattle.ecma_scope.specs.declared.role.Role.{Role}
 use Rattle.ecma_scope.specs.declared.role.Role.TheVariants as role
 use Rattle.ecma_scope.specs.Scopes.{is_root, opens, role_in}
 use Rattle.ecma_scope.specs.Resolved.{context_count, count_step, counted}
 use Rattle.ecma_scope.specs.Needs.{NeededSuffice, capped, has_computed_key, helpers_by, needed_at, needed_here, needed_in, needed_step}
-use Rattle.ecma_scope.proofs.Layers.{from_leaves_out, from_leaves-roll}
 use Rattle.ecma_scope.proofs.Resolving.{drop-none}
 
 -- what the children from the one at i on need

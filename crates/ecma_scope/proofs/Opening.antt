@@ -5,6 +5,7 @@ use Rattle.ecma_kind.specs.declared.kind.Kind.{Kind}
 use Rattle.ecma_tree.specs.Nodes.{node_of}
 use Rattle.ecma_tree.specs.declared.node.Node.{Node, Node-F, out-Node, roll-Node}
 use Rattle.ecma_tree.specs.declared.node.Node.TheViews.{out-roll-Node}
+use Rattle.ecma_tree.proofs.Layers.{from_leaves_out}
 use Rattle.ecma_scope.specs.declared.frame.Frame.{Frame}
 use Rattle.ecma_scope.specs.declared.role.Role.{Role}
 use Rattle.ecma_scope.specs.Scopes.{covers, is_root, is_there, opens, role_by, role_in}
@@ -12,7 +13,6 @@ use Rattle.ecma_scope.specs.Declarations.{names, stated}
 use Rattle.ecma_scope.specs.Resolved.{Place, Scope, context_count, count_step, inside, innermost, kind_at, resolve_step, resolved_at, scope_at, taken}
 use Rattle.ecma_scope.specs.Indexed.{states_of}
 use Rattle.ecma_scope.specs.Frames.{children_at, children_below, children_count, place_of, plain_places, scope_of, scope_places, scopes_of, with_children}
-use Rattle.ecma_scope.proofs.Layers.{from_leaves_out}
 
 pub context_count-out : (n : Node) (r : Role) → context_count n r ≡ taken r n + children_count n r
 context_count-out n r = ap (λ f. f r) (from_leaves_out (Role → ℕ) count_step n)

@@ -2,9 +2,9 @@
 use Rattle.std.proofs.Common.{◌≡◌, ℕ, ◌+◌, List, ◌++◌, map, drop, length, Some, refl, sym, ap, ◌∙◌, slice_get, add-one, append_assoc}
 use Rattle.ecma_tree.specs.declared.node.Node.{Node, out-Node}
 use Rattle.ecma_tree.proofs.Items.{drop-item}
+use Rattle.ecma_tree.proofs.Layers.{from_leaves_out}
 use Rattle.ecma_scope.specs.declared.uses.Use.{Use}
 use Rattle.ecma_scope.specs.Uses.{UsedId, use_in, used_at, used_from, used_here, used_step}
-use Rattle.ecma_scope.proofs.Layers.{from_leaves_out}
 use Rattle.ecma_scope.proofs.Resolving.{append-none, drop-none}
 
 module _ (stands : Use) (n : Node) where

@@ -12,9 +12,9 @@ use Rattle.ecma_scope.specs.declared.error.ScopeError.{ScopeError}
 use Rattle.ecma_scope.specs.declared.error.ScopeError.TheVariants.{Redeclared, NoMemory}
 use Rattle.ecma_scope.specs.declared.index.Index.{Index}
 use Rattle.ecma_scope.specs.Indexed.{states_of}
-use Rattle.ecma_scope.specs.Layers.{from_leaves}
 use Rattle.ecma_scope.specs.Scopes.{covers, is_ambient, is_root, opens, role_in}
 use Rattle.ecma_scope.specs.Declarations.{declarations, declares, holds_vars, is_body, is_stated, names, stated}
+use Rattle.ecma_tree.specs.Layers.{from_leaves}
 
 -- whether a declaration is lexical, in a scope that is opened in this role: a function is in all but the body of a function, and the variable of an enum
 -- or of a namespace is in all but a module

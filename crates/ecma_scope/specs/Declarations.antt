@@ -1,5 +1,5 @@
 -- The names that a scope declares.
-use Rattle.std.specs.Prelude.{ℕ, suc, Bool, true, false, ◌&&◌, ◌==◌, not, List, [], ◌∷◌, ◌++◌, filter, get_or, Option, Some, None, bytes_eq, cond}
+use Rattle.std.specs.Prelude.{ℕ, suc, Bool, true, false, ◌&&◌, ◌==◌, not, List, [], ◌∷◌, ◌++◌, filter, Option, Some, None, bytes_eq, cond}
 use Rattle.std.specs.List.{list_any}
 use Rattle.ecma_kind.specs.declared.kind.Kind.{Kind}
 use Rattle.ecma_kind.specs.declared.kind.Kind.TheVariants as kind
@@ -13,38 +13,8 @@ use Rattle.ecma_scope.specs.declared.form.Declaration.{Declaration}
 use Rattle.ecma_scope.specs.declared.form.Part.{Part}
 use Rattle.ecma_scope.specs.declared.form.Part.TheVariants as part
 use Rattle.ecma_scope.specs.declared.form.Sought.{Sought}
-use Rattle.ecma_scope.specs.Layers.{from_leaves}
 use Rattle.ecma_scope.specs.Scopes.{is_ambient}
-
--- whether an item is a value: not what is a type, a function without a body, a namespace without values, or an export of one of these
---   namespace N { let a; }   // a value
---   namespace N { type T = U; interface A { } }   // none
-unfoldable pub value_by : Kind → List Bool → Bool
-value_by kind.Absent children = false
-value_by kind.EmptyStmt children = false
-value_by (kind.TsInterfaceDecl declare) children = false
-value_by (kind.TsTypeAliasDecl declare) children = false
-value_by kind.TsNamespaceExportDecl children = false
-value_by (kind.ImportDecl type_only) children = not type_only
-value_by (kind.NamedExport type_only) children = not type_only
-value_by (kind.ExportAll type_only) children = not type_only
-value_by (kind.TsImportEqualsDecl is_export is_type_only) children = not is_type_only
-value_by (kind.Function is_generator is_async) children = get_or children 1 false
-value_by (kind.FnDecl declare) children = get_or children 1 false
-value_by kind.FnExpr children = get_or children 1 false
-value_by (kind.TsModuleDecl declare global) children = get_or children 1 false
-value_by (kind.TsNamespaceDecl declare global) children = get_or children 1 false
-value_by kind.TsModuleBlock children = get_or children 0 false
-value_by kind.ExportDecl children = get_or children 0 false
-value_by kind.ExportDefaultDecl children = get_or children 0 false
-value_by kind.List children = list_any (λ b. b) children
-value_by _ children = true
-
-abbrev pub value_step : Node-F Bool → Bool
-value_step parts = value_by parts.kind parts.children
-
-abbrev pub is_value : Node → Bool
-is_value = fold-Node Bool value_step
+use Rattle.ecma_tree.specs.Layers.{from_leaves}
 
 abbrev pub seek : Part → Bool → Option Sought
 seek part stays = Some (record { part = part; stays = stays })

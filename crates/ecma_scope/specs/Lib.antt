@@ -1,4 +1,3 @@
-pub mod Layers
 pub mod Scopes
 pub mod Declarations
 pub mod Resolved

@@ -5,8 +5,8 @@ use Rattle.ecma_kind.specs.declared.kind.Kind.TheVariants as kind
 use Rattle.ecma_tree.specs.declared.node.Node.{Node, out-Node}
 use Rattle.ecma_scope.specs.declared.uses.Use.{Use}
 use Rattle.ecma_scope.specs.declared.uses.Use.TheVariants as stands
-use Rattle.ecma_scope.specs.Layers.{from_leaves}
 use Rattle.ecma_scope.specs.Scopes.{is_there}
+use Rattle.ecma_tree.specs.Layers.{from_leaves}
 
 -- the child that is meant stands so, and the others otherwise
 abbrev pub use_at : ℕ → ℕ → Use → Use → Use

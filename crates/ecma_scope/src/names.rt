@@ -1,67 +1,12 @@
 //! The names that a scope declares.
-ghost use Rattle.std.specs.Prelude.{◌≡◌, ◌++◌, OnOk, get_or, map, false};
-ghost use Rattle.std.specs.List.{list_any};
+ghost use Rattle.std.specs.Prelude.{◌≡◌, ◌++◌, OnOk};
 ghost use Rattle.ecma_tree.specs.declared.node.Node.{out-Node};
-ghost use Rattle.ecma_scope.specs.Declarations.{declarations, declared_here, found_at, in_default, in_item, in_member, in_name, in_scope, in_var, is_value, seek, seek_at, sought_by, sought_in};
+ghost use Rattle.ecma_tree.specs.Values.{is_value};
+ghost use Rattle.ecma_scope.specs.Declarations.{declarations, declared_here, found_at, in_default, in_item, in_member, in_name, in_scope, in_var, seek, seek_at, sought_by, sought_in};
 
 use crate::form::{Declaration, Form, Part, Sought};
-use ecma_tree::{Kind, NoMemory, Node, VarDeclKind};
+use ecma_tree::{Kind, NoMemory, Node, VarDeclKind, is_value};
 use item_list::ItemList;
-
-/// Whether the child at an index is there and a value.
-#[cycle(values)]
-#[tactic(auto, using(crate::proofs::Naming::values))]
-fn is_value_at(node: &Node, index: usize) -> bool
-    ensures { result ≡ get_or (map is_value (out-Node node.now).children) index false }
-{
-    match node.children.get(index) {
-        Some(child) => is_value(child),
-        None => false,
-    }
-}
-
-/// Whether one of the children is a value.
-#[cycle(values)]
-#[tactic(auto, using(crate::proofs::Naming::values))]
-fn is_any_value(node: &Node) -> bool
-    ensures { result ≡ list_any (λ b. b) (map is_value (out-Node node.now).children) }
-{
-    for child in node.children.as_slice() {
-        if is_value(child) {
-            return true;
-        }
-    }
-    false
-}
-
-/// Whether an item is a value: not a type, a function without a body, a namespace without values, or an export of one of these.
-#[cycle(values)]
-#[tactic(auto, using(crate::proofs::Naming::values), unfolding(crate::specs::Declarations::value_by))]
-fn is_value(node: &Node) -> bool
-    ensures { result ≡ is_value node.now }
-{
-    match &node.kind {
-        Kind::Absent => false,
-        Kind::EmptyStmt => false,
-        Kind::TsInterfaceDecl { .. } => false,
-        Kind::TsTypeAliasDecl { .. } => false,
-        Kind::TsNamespaceExportDecl => false,
-        Kind::ImportDecl { type_only } => !*type_only,
-        Kind::NamedExport { type_only } => !*type_only,
-        Kind::ExportAll { type_only } => !*type_only,
-        Kind::TsImportEqualsDecl { is_type_only, .. } => !*is_type_only,
-        Kind::Function { .. } => is_value_at(node, 1),
-        Kind::FnDecl { .. } => is_value_at(node, 1),
-        Kind::FnExpr => is_value_at(node, 1),
-        Kind::TsModuleDecl { .. } => is_value_at(node, 1),
-        Kind::TsNamespaceDecl { .. } => is_value_at(node, 1),
-        Kind::TsModuleBlock => is_value_at(node, 0),
-        Kind::ExportDecl => is_value_at(node, 0),
-        Kind::ExportDefaultDecl => is_value_at(node, 0),
-        Kind::List => is_any_value(node),
-        _ => true,
-    }
-}
 
 fn seek(part: Part, stays: bool) -> Option<Sought>
     ensures { result ≡ seek part stays }

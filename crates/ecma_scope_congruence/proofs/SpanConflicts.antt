@@ -11,10 +11,10 @@ use Rattle.ecma_scope.specs.declared.form.Part.TheVariants as part
 use Rattle.ecma_scope.specs.Conflicts.{Surrounding, clash_step, clashes_in, clashing, is_further_out, marked, nothing, own_clashes, passing, redeclared, redeclared_at, surrounds}
 use Rattle.ecma_scope.specs.Declarations.{holds_vars, stated}
 use Rattle.ecma_scope.specs.Scopes.{covers, is_ambient}
-use Rattle.ecma_scope.proofs.Layers.{from_leaves_out}
-use Rattle.ecma_scope_congruence.specs.Conflicts.{SpansDoNotMatterToConflicts}
+use Rattle.ecma_scope_congruence.specs.Laws.{SpansDoNotMatterToConflicts}
 use Rattle.ecma_scope_congruence.proofs.Bare.{bare-children, bare-kind, opens-bare, role-bare}
 use Rattle.ecma_scope_congruence.proofs.Names.{declarations-bare, names-bare}
+use Rattle.ecma_tree.proofs.Layers.{from_leaves_out}
 
 passing-bare : (r : Role) (n : Node) → passing r (without_spans n) ≡ passing r n
 passing-bare r n =

@@ -10,9 +10,9 @@ use Rattle.ecma_tree.specs.declared.node.Node.TheViews.{out-roll-Node}
 use Rattle.ecma_tree.specs.Changing.{changed_here}
 use Rattle.ecma_tree.specs.Contexts.{kind_with_context, with_contexts}
 use Rattle.ecma_tree.proofs.Changing.{changed-parts}
+use Rattle.ecma_tree.proofs.Layers.{from_leaves-roll}
 use Rattle.ecma_rules.specs.Children.{child_holds, child_is, children_of as items_of, has_child, holds_of, is_present, items_at, kind_of, of_kind}
 use Rattle.ecma_rules.specs.Failing.{failing_step, first_failing, least, least_from}
-use Rattle.ecma_rules.proofs.Layers.{from_leaves-roll}
 
 -- the context of an identifier is nothing to it
 abbrev pub Blind : (A : Type 0) → (Kind → A) → Type 0

@@ -1,4 +1,3 @@
-pub mod Valuing
 pub mod ChangingAt
 pub mod Smaller
 pub mod Stripping

@@ -14,13 +14,13 @@ use Rattle.ecma_tree.specs.Nodes.{absent, dummy_span, node_of}
 use Rattle.ecma_tree.specs.Sorted.{allows_by, is_absent, is_list}
 use Rattle.ecma_tree.specs.declared.node.Node.{Node, Node-F, fold-roll-Node, out-Node}
 use Rattle.ecma_tree.specs.declared.node.Node.TheViews.{out-roll-Node}
+use Rattle.ecma_tree.specs.Values.{is_value, value_by, value_step}
+use Rattle.ecma_tree.proofs.Valuing.{is_value-out}
 use Rattle.ecma_strip.specs.Laws.{is_item_sort, is_type_part}
 use Rattle.ecma_strip.specs.Staying.{if_there, is_declared, is_empty_stmt, is_export, is_this_param, item_stays, member_stays, member_stays_by, specifier_stays, stays}
 use Rattle.ecma_strip.specs.Stripping.{body_of, plain, plain_children, plain_kind, staying_nodes, stripped}
-use Rattle.ecma_strip.specs.Values.{is_value, value_by, value_step}
 use Rattle.ecma_strip.proofs.Sorting.{both}
 use Rattle.ecma_strip.proofs.Stripping.{stripped-out}
-use Rattle.ecma_strip.proofs.Valuing.{is_value-out}
 
 abbrev pub Clean : Node → Type 0
 Clean n = finds is_type_part enters_all n ≡ false

@@ -1,4 +1,3 @@
-pub mod Values
 pub mod Staying
 pub mod Stripping
 pub mod Laws

@@ -5,7 +5,7 @@ use Rattle.ecma_kind.specs.declared.kind.Kind.{Kind}
 use Rattle.ecma_kind.specs.declared.kind.Kind.TheVariants as kind
 use Rattle.ecma_kind.specs.declared.shapes.Sort.TheVariants as sort
 use Rattle.ecma_tree.specs.declared.node.Node.{Node, out-Node}
-use Rattle.ecma_strip.specs.Values.{is_value, value_at}
+use Rattle.ecma_tree.specs.Values.{is_value, value_at}
 
 -- of a child that may be missing: what a test says of it
 abbrev pub if_there : Option Node → (Node → Bool) → Bool

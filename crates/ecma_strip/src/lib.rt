@@ -5,7 +5,6 @@ mod laws;
 mod plain;
 mod staying;
 mod stripper;
-mod values;
 
 pub use laws::{no_types_are_left, sorts_are_kept, trees_without_types_stay};
 pub use staying::stays;

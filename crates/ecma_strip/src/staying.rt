@@ -3,7 +3,6 @@ ghost use Rattle.std.specs.Prelude.{◌≡◌};
 ghost use Rattle.ecma_tree.specs.declared.node.Node.{out-Node};
 ghost use Rattle.ecma_strip.specs.Staying.{is_ambient, is_declared, is_empty_stmt, is_export, is_this, is_this_ident, is_this_param, item_stays, member_stays, specifier_stays, stays};
 
-use crate::values::{is_value, is_value_at};
 use ecma_tree::{Kind, Node, Sort, belongs};
 
 pub(crate) fn is_empty_stmt(kind: &Kind) -> bool

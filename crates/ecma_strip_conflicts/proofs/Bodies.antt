@@ -6,6 +6,7 @@ use Rattle.std.proofs.lemmas.Slice.Eq.{bytes_eq-Decides}
 use Rattle.ecma_kind.specs.declared.kind.Kind.{Kind}
 use Rattle.ecma_kind.specs.declared.kind.Kind.TheVariants as kind
 use Rattle.ecma_tree.specs.declared.node.Node.{Node, out-Node}
+use Rattle.ecma_tree.specs.Values.{is_value}
 use Rattle.ecma_scope.specs.declared.form.Declaration.{Declaration}
 use Rattle.ecma_scope.specs.declared.form.Form.TheVariants as form
 use Rattle.ecma_scope.specs.declared.form.Part.TheVariants as part
@@ -13,7 +14,7 @@ use Rattle.ecma_scope.specs.declared.form.Sought.{Sought}
 use Rattle.ecma_scope.specs.declared.role.Role.{Role}
 use Rattle.ecma_scope.specs.declared.role.Role.TheVariants as role
 use Rattle.ecma_scope.specs.Conflicts.{is_function_body}
-use Rattle.ecma_scope.specs.Declarations.{declares, holds_vars, is_own, is_stated, is_value, keeps, names, own_part, sought_in, stated}
+use Rattle.ecma_scope.specs.Declarations.{declares, holds_vars, is_own, is_stated, keeps, names, own_part, sought_in, stated}
 use Rattle.ecma_scope.specs.Scopes.{is_ambient}
 use Rattle.ecma_hygiene.proofs.Telling.{and-both, true-false}
 use Rattle.ecma_hygiene_scopes.specs.DeclaredIds.{id_here, ids_declared, scope_ids}

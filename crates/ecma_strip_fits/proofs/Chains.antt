@@ -12,8 +12,7 @@ use Rattle.ecma_rules.specs.Children.{child_holds, holds_of, kind_of}
 use Rattle.ecma_rules.specs.Targets.{first_is}
 use Rattle.ecma_strip.specs.Stripping.{plain_children, plain_kind, stripped}
 use Rattle.ecma_fits.specs.Chains.{goes_on, goes_on_step, is_behind_chain, is_link, is_loose, is_loose_by, keeps_chain}
-use Rattle.ecma_fits.specs.Fitting.{Fits}
-use Rattle.ecma_strip_fits.specs.Kept.{NoneFails}
+use Rattle.ecma_fits.specs.Fitting.{Fits, NoneFails}
 use Rattle.ecma_strip_fits.proofs.Classes.{class_of, wrapped_front}
 use Rattle.ecma_strip_fits.proofs.Classes.Class.{Usual, Wrapped}
 use Rattle.ecma_strip_fits.proofs.ChildrenKept.{Plain, child_by, one_usual}

@@ -14,8 +14,7 @@ use Rattle.ecma_strip.specs.Staying.{stays}
 use Rattle.ecma_strip.specs.Stripping.{plain_children, plain_kind, stripped}
 use Rattle.ecma_strip.proofs.Sorting.{list-kind}
 use Rattle.ecma_fits.specs.declared.unfit.Where.{Where}
-use Rattle.ecma_fits.specs.Fitting.{Fits, is_unfit, unfit_here}
-use Rattle.ecma_strip_fits.specs.Kept.{NoneFails}
+use Rattle.ecma_fits.specs.Fitting.{Fits, is_unfit, unfit_here, NoneFails}
 use Rattle.ecma_strip_fits.proofs.ChildrenKept.{AsUsual, Plain, child_by, kind_kept, maybe_usual, one_usual}
 use Rattle.ecma_strip_fits.proofs.Tests.{test_kept}
 use Rattle.ecma_strip_fits.proofs.Walk.{children_of, listed_parts, neither_least, shape_parts, usual_kind}

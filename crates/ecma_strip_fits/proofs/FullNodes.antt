@@ -15,8 +15,7 @@ use Rattle.ecma_rules.specs.Children.{child_is, children_of as items_of, has_chi
 use Rattle.ecma_rules.specs.Targets.{is_key_value}
 use Rattle.ecma_strip.specs.Stripping.{plain_children, plain_kind, stripped}
 use Rattle.ecma_fits.specs.Counts.{are_exports, are_imports, ends_once, has_attributes_at, holds_attributes, is_attribute, is_attribute_key, is_empty, is_full_by, is_short, is_text}
-use Rattle.ecma_fits.specs.Fitting.{Fits}
-use Rattle.ecma_strip_fits.specs.Kept.{NoneFails}
+use Rattle.ecma_fits.specs.Fitting.{Fits, NoneFails}
 use Rattle.ecma_strip_fits.proofs.Classes.{Class, class_of, only_list, wrapped_front}
 use Rattle.ecma_strip_fits.proofs.Classes.Class.{Listed, Typed, Usual, Wrapped}
 use Rattle.ecma_strip_fits.proofs.ChildrenKept.{AsUsual, Plain, child_by, child_kept, kind_kept, maybe_usual, one_usual}

@@ -12,9 +12,8 @@ use Rattle.ecma_strip.specs.Stripping.{plain_kind, stripped}
 use Rattle.ecma_fits.specs.declared.role.Role.{Role}
 use Rattle.ecma_fits.specs.declared.role.Role.TheVariants as role
 use Rattle.ecma_fits.specs.declared.unfit.Where.{Where}
-use Rattle.ecma_fits.specs.Fitting.{Fits, unfit_here}
+use Rattle.ecma_fits.specs.Fitting.{Fits, unfit_here, NoneFails}
 use Rattle.ecma_fits.specs.Roles.{is_wrong_name, is_wrong_text, may_be, takes}
-use Rattle.ecma_strip_fits.specs.Kept.{NoneFails}
 use Rattle.ecma_strip_fits.proofs.Classes.{class_of}
 use Rattle.ecma_strip_fits.proofs.Classes.Class.{Usual}
 use Rattle.ecma_strip_fits.proofs.ChildrenKept.{Plain}

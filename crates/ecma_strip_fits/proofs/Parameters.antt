@@ -10,12 +10,12 @@ use Rattle.ecma_kind.specs.declared.shapes.Sort.TheVariants as sort
 use Rattle.ecma_tree.specs.declared.node.Node.{Node, out-Node}
 use Rattle.ecma_tree.specs.Laws.{HaveShapes}
 use Rattle.ecma_tree.specs.Sorted.{HasShape, allows, child_shapes, is_list, one}
+use Rattle.ecma_tree.specs.Values.{is_value}
 use Rattle.ecma_rules.specs.Children.{child_is, holds_of, is_named, kind_of, of_kind}
 use Rattle.ecma_rules.specs.Lists.{is_rest_pattern}
 use Rattle.ecma_rules.specs.Members.{behind_first, is_binding_name, is_empty_list, is_named_pattern, is_one_parameter, is_plain_parameter, is_this_by, is_this_parameter, is_this_pattern, takes_not_one, takes_one}
 use Rattle.ecma_strip.specs.Staying.{if_there, is_ambient, is_empty_stmt, is_this, is_this_by as goes_by, is_this_ident, is_this_param, is_this_param_by, item_stays, member_stays, member_stays_by, specifier_stays, stays}
 use Rattle.ecma_strip.specs.Stripping.{plain_children, plain_kind, stripped}
-use Rattle.ecma_strip.specs.Values.{is_value}
 use Rattle.ecma_strip_fits.proofs.Classes.{class_of}
 use Rattle.ecma_strip_fits.proofs.Classes.Class.{Usual}
 use Rattle.ecma_strip_fits.proofs.ChildrenKept.{AsUsual, Plain, child_by, child_kept, kind_kept, one_usual}

@@ -9,10 +9,10 @@ use Rattle.ecma_kind.specs.declared.shapes.Sort.TheVariants as sort
 use Rattle.ecma_tree.specs.declared.node.Node.{Node, Node-F}
 use Rattle.ecma_tree.specs.Laws.{HaveShapes}
 use Rattle.ecma_tree.specs.Sorted.{HasShape, child_shapes, many, one}
+use Rattle.ecma_tree.specs.Values.{is_value}
 use Rattle.ecma_rules.specs.Children.{kind_of}
 use Rattle.ecma_strip.specs.Staying.{is_ambient, is_empty_stmt, is_this_by, is_this_param_by, member_stays_by, specifier_stays, stays}
 use Rattle.ecma_strip.specs.Stripping.{stripped}
-use Rattle.ecma_strip.specs.Values.{is_value}
 use Rattle.ecma_strip.proofs.Sorting.{list-kind}
 use Rattle.ecma_strip_fits.proofs.Walk.{children_of, listed_parts, shape_parts}
 

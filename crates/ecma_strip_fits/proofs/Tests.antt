@@ -15,9 +15,8 @@ use Rattle.ecma_fits.specs.declared.unfit.Where.{Where}
 use Rattle.ecma_fits.specs.Branches.{is_dangling}
 use Rattle.ecma_fits.specs.Chains.{is_loose}
 use Rattle.ecma_fits.specs.Counts.{is_short}
-use Rattle.ecma_fits.specs.Fitting.{Fits, at_top, first_unfit_in, is_misshapen, is_unfit, unfit_here, where_in}
+use Rattle.ecma_fits.specs.Fitting.{Fits, at_top, first_unfit_in, is_misshapen, is_unfit, unfit_here, where_in, NoneFails}
 use Rattle.ecma_fits.specs.Members.{is_misread, is_misread_by}
-use Rattle.ecma_strip_fits.specs.Kept.{NoneFails}
 use Rattle.ecma_strip_fits.proofs.Classes.{class_of}
 use Rattle.ecma_strip_fits.proofs.Classes.Class.{Usual}
 use Rattle.ecma_strip_fits.proofs.ChildrenKept.{AsUsual, Plain, kind_kept, one_usual}

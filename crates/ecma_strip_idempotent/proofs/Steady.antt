@@ -13,10 +13,10 @@ use Rattle.ecma_tree.specs.Nodes.{dummy_span, node_of}
 use Rattle.ecma_tree.specs.Sorted.{all_have_shapes, allows, allows_by, child_shapes, is_absent}
 use Rattle.ecma_tree.specs.declared.node.Node.{Node, Node-F, fold-roll-Node, ind-Node, out-Node, roll-Node}
 use Rattle.ecma_tree.specs.declared.node.Node.TheViews.{out-roll-Node}
+use Rattle.ecma_tree.specs.Values.{is_value}
 use Rattle.ecma_strip.specs.Laws.{first_has, has_shape_under_types, shape_under_types_by}
 use Rattle.ecma_strip.specs.Staying.{is_ambient, is_empty_stmt, is_this_param, member_stays_by, specifier_stays, stays}
 use Rattle.ecma_strip.specs.Stripping.{operand, plain, plain_children, plain_kind, staying_nodes, stripped}
-use Rattle.ecma_strip.specs.Values.{is_value}
 use Rattle.ecma_strip.proofs.Sorting.{both}
 use Rattle.ecma_strip.proofs.Stripping.{stripped-roll}
 

@@ -11,17 +11,17 @@ use Rattle.ecma_tree.specs.declared.node.Node.{Node, out-Node}
 use Rattle.ecma_scope.specs.declared.form.Part.{Part}
 use Rattle.ecma_scope.specs.declared.form.Part.TheVariants as part
 use Rattle.ecma_scope.specs.declared.form.Sought.{Sought}
-use Rattle.ecma_scope.specs.Declarations.{in_default, in_item, in_member, in_name, in_var, is_value as scope_value, sought_by, sought_in}
+use Rattle.ecma_scope.specs.Declarations.{in_default, in_item, in_member, in_name, in_var, sought_by, sought_in}
 use Rattle.ecma_strip.specs.Staying.{if_there, is_ambient, is_declared, is_empty_stmt, is_export, is_this_param, item_stays, member_stays, specifier_stays, stays}
-use Rattle.ecma_strip.specs.Values.{is_value as strip_value, value_by as strip_by}
-use Rattle.ecma_strip.proofs.Valuing as valuing
 use Rattle.ecma_hygiene.proofs.Telling.{true-false}
 use Rattle.ecma_hygiene_scopes.specs.DeclaredIds.{DeclaredId, id_here, ids_at, ids_declared, ids_in}
 use Rattle.ecma_hygiene_scopes.proofs.Directly.{ids-out}
-use Rattle.ecma_strip_scopes.specs.Going.{WhatGoesDeclaresNothing, is_list_part}
+use Rattle.ecma_strip_scopes.specs.Laws.{WhatGoesDeclaresNothing}
+use Rattle.ecma_strip_scopes.specs.Going.{is_list_part}
 use Rattle.ecma_hygiene_scopes.proofs.Gone.{below-gone, gone-at, kept, none-append, none-some}
 use Rattle.ecma_strip_scopes.proofs.Going.{and-none, apart, decl-gone, decl-item, is_exporting, is_ident, is_silent, member-silent, no-id, no-scope, only, parts-have, silent-by, specifier-by}
-use Rattle.ecma_strip_scopes.proofs.Values.{values-agree}
+use Rattle.ecma_tree.proofs.Valuing.{is_value-out}
+use Rattle.ecma_tree.specs.Values.{is_value, value_by}
 
 -- ---- the default export
 
@@ -29,17 +29,17 @@ default-here : (s : Bool) (k : Kind) → id_here (record { part = part.Default; 
 default-here s (kind.Ident t c o) = refl
 default-here s _ = refl
 
-default-by : (s v : Bool) (k : Kind) (vs : List Bool) (i : ℕ) (q : Sought) → strip_by k vs ≡ false → v ≡ false → in_default s v k i ≡ Some q → q.stays ≡ false
-unfolding strip_by in_default
+default-by : (s v : Bool) (k : Kind) (vs : List Bool) (i : ℕ) (q : Sought) → value_by k vs ≡ false → v ≡ false → in_default s v k i ≡ Some q → q.stays ≡ false
+unfolding value_by in_default
 default-by s v kind.FnExpr vs i q val not_v h = gone-at (i == 0) _ _ q (and-none s v not_v) h
 default-by s v kind.ClassExpr vs i q val not_v h = absurd (true-false refl val)
 default-by s v _ vs i q val not_v h = none-some q h
 
-default-gone : (d : Node) (s : Bool) → strip_value d ≡ false → kept (ids_declared d (record { part = part.Default; stays = s })) ≡ []
+default-gone : (d : Node) (s : Bool) → is_value d ≡ false → kept (ids_declared d (record { part = part.Default; stays = s })) ≡ []
 unfolding sought_in
 default-gone d s val =
     below-gone d (record { part = part.Default; stays = s }) (default-here s (out-Node d).kind)
-    (λ j next h. default-by s (scope_value d) (out-Node d).kind (map strip_value (out-Node d).children) j next (sym (valuing.is_value-out d) ∙ val) (values-agree d ∙ val) h)
+    (λ j next h. default-by s (is_value d) (out-Node d).kind (map is_value (out-Node d).children) j next (sym (is_value-out d) ∙ val) val h)
 
 -- ---- what an export declares, its declaration does
 
@@ -65,40 +65,40 @@ default-at part.Scope s v d list gone = no-scope list
 default-at part.Default s v d list gone = no-scope list
 
 -- the ids of a node with one child
-one-child : (n d : Node) (k : Kind) (q : Sought) → (out-Node n).kind ≡ k → id_here q k ≡ [] → (out-Node n).children ≡ d ∷ [] → ids_declared n q ≡ ids_at (sought_by q.part q.stays (scope_value n) k 0) (ids_declared d) ++ []
+one-child : (n d : Node) (k : Kind) (q : Sought) → (out-Node n).kind ≡ k → id_here q k ≡ [] → (out-Node n).children ≡ d ∷ [] → ids_declared n q ≡ ids_at (sought_by q.part q.stays (is_value n) k 0) (ids_declared d) ++ []
 unfolding sought_in
 one-child n d k q is here are =
     ids-out n q
-    ∙ (λ j. id_here q (is j) ++ ids_in (λ i. sought_by q.part q.stays (scope_value n) (is j) i) 0 (map ids_declared (are j)))
-    ∙ ap (λ (ds : List DeclaredId). ds ++ (ids_at (sought_by q.part q.stays (scope_value n) k 0) (ids_declared d) ++ [])) here
+    ∙ (λ j. id_here q (is j) ++ ids_in (λ i. sought_by q.part q.stays (is_value n) (is j) i) 0 (map ids_declared (are j)))
+    ∙ ap (λ (ds : List DeclaredId). ds ++ (ids_at (sought_by q.part q.stays (is_value n) k 0) (ids_declared d) ++ [])) here
 
 -- why an item goes
 abbrev Goes : Node → Type 0
-Goes n = (strip_value n ≡ false) ⊎ (is_ambient n ≡ true)
+Goes n = (is_value n ≡ false) ⊎ (is_ambient n ≡ true)
 
 ambient-kind : (n : Node) → is_export (out-Node n).kind ≡ false → is_ambient n ≡ true → is_declared (out-Node n).kind ≡ true
 ambient-kind n other h = sym (ap (λ (b : Bool). cond b (if_there (slice_get (out-Node n).children 0) (λ x. is_declared (out-Node x).kind)) (is_declared (out-Node n).kind)) other) ∙ h
 
 export-gone : (n d : Node) (q : Sought) → (out-Node n).kind ≡ kind.ExportDecl → (out-Node n).children ≡ d ∷ [] → HasShape (one sort.Decl) d → is_list_part q.part ≡ true → Goes n → kept (ids_declared n q) ≡ []
-unfolding strip_by
+unfolding value_by
 export-gone n d q is are has list goes =
     ap kept (one-child n d kind.ExportDecl q is refl are)
-    ∙ export-at q.part q.stays (scope_value n) d list (λ next part_list. decl-gone d next part_list item.0 item.1 (reason goes))
+    ∙ export-at q.part q.stays (is_value n) d list (λ next part_list. decl-gone d next part_list item.0 item.1 (reason goes))
   where
     item : (belongs sort.ModuleItem (out-Node d).kind ≡ true) × (is_exporting (out-Node d).kind ≡ false)
     item = decl-item (out-Node d).kind (parts-have d (one sort.Decl) has).0
 
-    reason : Goes n → (strip_value d ≡ false) ⊎ (is_declared (out-Node d).kind ≡ true)
-    reason (inl val) = inl (sym (valuing.is_value-out n ∙ (λ j. strip_by (is j) (map strip_value (are j)))) ∙ val)
+    reason : Goes n → (is_value d ≡ false) ⊎ (is_declared (out-Node d).kind ≡ true)
+    reason (inl val) = inl (sym (is_value-out n ∙ (λ j. value_by (is j) (map is_value (are j)))) ∙ val)
     reason (inr ambient) = inr (sym (λ j. cond (is_export (is j)) (if_there (slice_get (are j) 0) (λ x. is_declared (out-Node x).kind)) (is_declared (is j))) ∙ ambient)
 
 default-export-gone : (n d : Node) (q : Sought) → (out-Node n).kind ≡ kind.ExportDefaultDecl → (out-Node n).children ≡ d ∷ [] → is_list_part q.part ≡ true → Goes n → kept (ids_declared n q) ≡ []
-unfolding strip_by is_declared
+unfolding value_by is_declared
 default-export-gone n d q is are list goes =
-    ap kept (one-child n d kind.ExportDefaultDecl q is refl are) ∙ default-at q.part q.stays (scope_value n) d list (default-gone d q.stays (reason goes))
+    ap kept (one-child n d kind.ExportDefaultDecl q is refl are) ∙ default-at q.part q.stays (is_value n) d list (default-gone d q.stays (reason goes))
   where
-    reason : Goes n → strip_value d ≡ false
-    reason (inl val) = sym (valuing.is_value-out n ∙ (λ j. strip_by (is j) (map strip_value (are j)))) ∙ val
+    reason : Goes n → is_value d ≡ false
+    reason (inl val) = sym (is_value-out n ∙ (λ j. value_by (is j) (map is_value (are j)))) ∙ val
     reason (inr ambient) = absurd (true-false (sym (λ j. cond (is_export (is j)) (if_there (slice_get (are j) 0) (λ x. is_declared (out-Node x).kind)) (is_declared (is j))) ∙ ambient) refl)
 
 -- ---- items
@@ -123,7 +123,7 @@ item-gone n shape q has list item goes (default is) =
 item-gone n shape q has list item goes (other exporting export) =
     decl-gone n q list item exporting (reason goes)
   where
-    reason : Goes n → (strip_value n ≡ false) ⊎ (is_declared (out-Node n).kind ≡ true)
+    reason : Goes n → (is_value n ≡ false) ⊎ (is_declared (out-Node n).kind ≡ true)
     reason (inl val) = inl val
     reason (inr ambient) = inr (ambient-kind n export ambient)
 
@@ -153,10 +153,10 @@ pub what-goes-declares-nothing : WhatGoesDeclaresNothing
 unfolding stays sought_in
 what-goes-declares-nothing shape n q has goes this list =
     elim (reasons (item_stays n) (member_stays n) (specifier_stays (out-Node n).kind) (not (is_this_param n)) (ap not this) goes) [
-      | inl item ↦ (let why = item-reasons (is_empty_stmt (out-Node n).kind) (belongs sort.ModuleItem (out-Node n).kind) (strip_value n) (is_ambient n) item in item-gone n shape q has list why.0 why.1 (exports (out-Node n).kind))
+      | inl item ↦ (let why = item-reasons (is_empty_stmt (out-Node n).kind) (belongs sort.ModuleItem (out-Node n).kind) (is_value n) (is_ambient n) item in item-gone n shape q has list why.0 why.1 (exports (out-Node n).kind))
       | inr rest ↦ elim rest [
-        | inl member ↦ (let silent = member-silent (out-Node n).kind n member in below-gone n q (no-id q (out-Node n).kind (silent-ident (out-Node n).kind silent)) (λ j next h. silent-by q.part q.stays (scope_value n) (out-Node n).kind j next list silent h))
+        | inl member ↦ (let silent = member-silent (out-Node n).kind n member in below-gone n q (no-id q (out-Node n).kind (silent-ident (out-Node n).kind silent)) (λ j next h. silent-by q.part q.stays (is_value n) (out-Node n).kind j next list silent h))
         | inr specifier ↦ below-gone n q (no-id q (out-Node n).kind (apart (λ (z : Kind). not (specifier_stays z)) (out-Node n).kind specifier-ident (ap not specifier)))
-            (λ j next h. specifier-by q.part q.stays (scope_value n) (out-Node n).kind j next list specifier h)
+            (λ j next h. specifier-by q.part q.stays (is_value n) (out-Node n).kind j next list specifier h)
       ]
     ]

@@ -15,15 +15,14 @@ use Rattle.ecma_scope.specs.declared.form.Form.{Form}
 use Rattle.ecma_scope.specs.declared.form.Part.{Part}
 use Rattle.ecma_scope.specs.declared.form.Part.TheVariants as part
 use Rattle.ecma_scope.specs.declared.form.Sought.{Sought}
-use Rattle.ecma_scope.specs.Declarations.{in_default, in_item, in_member, in_name, in_var, is_value as scope_value, sought_by, sought_in}
+use Rattle.ecma_scope.specs.Declarations.{in_default, in_item, in_member, in_name, in_var, sought_by, sought_in}
 use Rattle.ecma_strip.specs.Staying.{is_declared, member_stays_by, specifier_stays}
-use Rattle.ecma_strip.specs.Values.{is_value as strip_value, value_by as strip_by}
-use Rattle.ecma_strip.proofs.Valuing as valuing
+use Rattle.ecma_tree.proofs.Valuing.{is_value-out}
+use Rattle.ecma_tree.specs.Values.{is_value, value_by}
 use Rattle.ecma_hygiene.proofs.Telling.{true-false}
 use Rattle.ecma_hygiene_scopes.specs.DeclaredIds.{id_here, ids_declared}
 use Rattle.ecma_strip_scopes.specs.Going.{is_list_part}
 use Rattle.ecma_hygiene_scopes.proofs.Gone.{below-gone, gone-at, gone-both, gone-some, kept, none-some}
-use Rattle.ecma_strip_scopes.proofs.Values.{values-agree}
 
 pub and-none : (s x : Bool) → x ≡ false → (s && x) ≡ false
 and-none true x h = h
@@ -80,9 +79,9 @@ none-unless : {A : Type 0} (v : Bool) (o : Option Sought) (q : Sought) → v ≡
 none-unless true o q is h = absurd (true-false refl is)
 none-unless false o q is h = none-some q h
 
-valueless-item : (s v : Bool) (k : Kind) (vs : List Bool) (i : ℕ) (q : Sought) → belongs sort.ModuleItem k ≡ true → strip_by k vs ≡ false → v ≡ false → is_exporting k ≡ false
+valueless-item : (s v : Bool) (k : Kind) (vs : List Bool) (i : ℕ) (q : Sought) → belongs sort.ModuleItem k ≡ true → value_by k vs ≡ false → v ≡ false → is_exporting k ≡ false
     → in_item s v k i ≡ Some q → q.stays ≡ false
-unfolding strip_by in_item
+unfolding value_by in_item
 valueless-item s v (kind.ImportDecl t) vs i q item val not_v other h = gone-at (i == 0) _ _ q (and-none s (not t) val) h
 valueless-item s v (kind.TsImportEqualsDecl e t) vs i q item val not_v other h = gone-at (i == 0) _ _ q (and-none s (not t) val) h
 valueless-item s v (kind.FnDecl d) vs i q item val not_v other h = gone-at (i == 0) _ _ q (and-none s (not d && v) (and-none (not d) v not_v)) h
@@ -104,8 +103,8 @@ valueless-item s v kind.TsModuleBlock vs i q item val not_v other h = none-some 
 valueless-item s v kind.List vs i q item val not_v other h = absurd (true-false item refl)
 valueless-item s v _ vs i q item val not_v other h = absurd (true-false refl val)
 
-valueless-var : (s : Bool) (k : Kind) (vs : List Bool) (q : Sought) → belongs sort.ModuleItem k ≡ true → strip_by k vs ≡ false → is_exporting k ≡ false → in_var s k ≡ Some q → q.stays ≡ false
-unfolding strip_by in_var
+valueless-var : (s : Bool) (k : Kind) (vs : List Bool) (q : Sought) → belongs sort.ModuleItem k ≡ true → value_by k vs ≡ false → is_exporting k ≡ false → in_var s k ≡ Some q → q.stays ≡ false
+unfolding value_by in_var
 valueless-var s kind.Absent vs q item val other h = none-some q h
 valueless-var s kind.EmptyStmt vs q item val other h = none-some q h
 valueless-var s (kind.TsInterfaceDecl d) vs q item val other h = none-some q h
@@ -160,7 +159,7 @@ declared-by (part.Name f) s v k i q list item is h = item-name f s k i q item h
 declared-by part.Scope s v k i q list item is h = no-scope list
 declared-by part.Default s v k i q list item is h = no-scope list
 
-valueless-by : (p : Part) (s v : Bool) (k : Kind) (vs : List Bool) (i : ℕ) (q : Sought) → is_list_part p ≡ true → belongs sort.ModuleItem k ≡ true → strip_by k vs ≡ false → v ≡ false → is_exporting k ≡ false
+valueless-by : (p : Part) (s v : Bool) (k : Kind) (vs : List Bool) (i : ℕ) (q : Sought) → is_list_part p ≡ true → belongs sort.ModuleItem k ≡ true → value_by k vs ≡ false → v ≡ false → is_exporting k ≡ false
     → sought_by p s v k i ≡ Some q → q.stays ≡ false
 valueless-by part.Item s v k vs i q list item val not_v other h = valueless-item s v k vs i q item val not_v other h
 valueless-by part.Var s v k vs i q list item val not_v other h = valueless-var s k vs q item val other h
@@ -241,15 +240,15 @@ apart test _ other h is = true-false is refl
 
 -- ---- declarations
 
-pub decl-gone : (n : Node) (q : Sought) → is_list_part q.part ≡ true → belongs sort.ModuleItem (out-Node n).kind ≡ true → is_exporting (out-Node n).kind ≡ false → (strip_value n ≡ false) ⊎ (is_declared (out-Node n).kind ≡ true)
+pub decl-gone : (n : Node) (q : Sought) → is_list_part q.part ≡ true → belongs sort.ModuleItem (out-Node n).kind ≡ true → is_exporting (out-Node n).kind ≡ false → (is_value n ≡ false) ⊎ (is_declared (out-Node n).kind ≡ true)
     → kept (ids_declared n q) ≡ []
 unfolding sought_in
 decl-gone n q list item other (inl val) =
     below-gone n q (no-id q (out-Node n).kind (apart (belongs sort.ModuleItem) (out-Node n).kind (λ s c o. refl) item))
-    (λ j next h. valueless-by q.part q.stays (scope_value n) (out-Node n).kind (map strip_value (out-Node n).children) j next list item (sym (valuing.is_value-out n) ∙ val) (values-agree n ∙ val) other h)
+    (λ j next h. valueless-by q.part q.stays (is_value n) (out-Node n).kind (map is_value (out-Node n).children) j next list item (sym (is_value-out n) ∙ val) val other h)
 decl-gone n q list item other (inr is) =
     below-gone n q (no-id q (out-Node n).kind (apart (belongs sort.ModuleItem) (out-Node n).kind (λ s c o. refl) item))
-    (λ j next h. declared-by q.part q.stays (scope_value n) (out-Node n).kind j next list item is h)
+    (λ j next h. declared-by q.part q.stays (is_value n) (out-Node n).kind j next list item is h)
 
 pub decl-item : (k : Kind) → belongs sort.Decl k ≡ true → (belongs sort.ModuleItem k ≡ true) × (is_exporting k ≡ false)
 decl-item (kind.ClassDecl d) h = (refl, refl)

@@ -1,4 +1,3 @@
-pub mod Values
 pub mod Going
 pub mod Exporting
 pub mod Seeking

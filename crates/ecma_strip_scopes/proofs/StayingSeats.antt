@@ -5,9 +5,9 @@ use Rattle.std.proofs.lemmas.List.Elements.{All-append, All-cons, All-head, All-
 use Rattle.ecma_tree.specs.Sorted.{is_list}
 use Rattle.ecma_tree.specs.declared.node.Node.{Node, Node-F, ind-Node, out-Node, roll-Node}
 use Rattle.ecma_tree.specs.declared.node.Node.TheViews.{out-roll-Node}
+use Rattle.ecma_tree.proofs.Layers.{from_leaves_out}
 use Rattle.ecma_scope.specs.declared.role.Role.{Role}
 use Rattle.ecma_scope.specs.Scopes.{role_in}
-use Rattle.ecma_scope.proofs.Layers.{from_leaves_out}
 use Rattle.ecma_strip.specs.Staying.{stays}
 use Rattle.ecma_hygiene.specs.Walks.{gathered_from}
 use Rattle.ecma_hygiene.proofs.Walking.{gathered-out}

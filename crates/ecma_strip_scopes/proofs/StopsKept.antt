@@ -7,13 +7,14 @@ use Rattle.ecma_kind.specs.declared.kind.Kind.{Kind}
 use Rattle.ecma_kind.specs.declared.kind.Kind.TheVariants as kind
 use Rattle.ecma_tree.specs.Sorted.{is_absent}
 use Rattle.ecma_tree.specs.declared.node.Node.{Node, out-Node}
+use Rattle.ecma_tree.specs.Values.{is_value}
 use Rattle.ecma_scope.specs.declared.form.Form.{Form}
 use Rattle.ecma_scope.specs.declared.form.Form.TheVariants as form
 use Rattle.ecma_scope.specs.declared.form.Part.TheVariants as part
 use Rattle.ecma_scope.specs.declared.form.Sought.{Sought}
 use Rattle.ecma_scope.specs.declared.role.Role.{Role}
 use Rattle.ecma_scope.specs.declared.role.Role.TheVariants as role
-use Rattle.ecma_scope.specs.Declarations.{holds_vars, in_scope, is_hoisted, is_value, sought_in}
+use Rattle.ecma_scope.specs.Declarations.{holds_vars, in_scope, is_hoisted, sought_in}
 use Rattle.ecma_scope.specs.Scopes.{covers, is_there, opens, opens_by}
 use Rattle.ecma_strip.specs.Staying.{is_this_ident}
 use Rattle.ecma_strip.specs.Stripping.{plain_kind}

@@ -5,11 +5,11 @@ use Rattle.ecma_kind.specs.declared.kind.Kind.{Kind}
 use Rattle.ecma_kind.specs.declared.kind.Kind.TheVariants as kind
 use Rattle.ecma_tree.specs.declared.node.Node.{Node, Node-F, ind-Node, out-Node, roll-Node}
 use Rattle.ecma_tree.specs.declared.node.Node.TheViews.{out-roll-Node}
+use Rattle.ecma_tree.proofs.Layers.{from_leaves-roll}
 use Rattle.ecma_scope.specs.declared.role.Role.{Role}
 use Rattle.ecma_scope.specs.declared.role.Role.TheVariants as role
 use Rattle.ecma_scope.specs.Scopes.{is_catch_body, is_default, is_there, opens_by, role_in}
 use Rattle.ecma_scope.specs.Needs.{has_computed_key, helpers_by, needed, needed_at, needed_here, needed_in, needed_step}
-use Rattle.ecma_scope.proofs.Layers.{from_leaves-roll}
 use Rattle.ecma_text_contexts.proofs.Weights.{here, weight, weights, weight_rolled}
 
 one_at_most : (b : Bool) → cond b 1 0 ≤ 1

@@ -3,18 +3,19 @@ use Rattle.std.proofs.Common.{◌≡◌, ◌∙◌, ℕ, suc, Bool, true, false,
 use Rattle.ecma_tree.specs.declared.node.Node.{Node, Node-F, ind-Node, roll-Node}
 use Rattle.ecma_rules.specs.Failing.{failing_here, failing_step, first_failing, least_from}
 use Rattle.ecma_rules.specs.Jumps.{first_stray}
-use Rattle.ecma_rules.specs.Members.{second_constructor}
-use Rattle.ecma_rules.proofs.Layers.{from_leaves-roll}
+use Rattle.ecma_rules.specs.Members.{second_constructor, has_second_constructor}
 use Rattle.ecma_fits.specs.declared.unfit.Where.{Where}
 use Rattle.ecma_fits.specs.Branches.{is_dangling}
 use Rattle.ecma_fits.specs.Chains.{is_loose}
 use Rattle.ecma_fits.specs.Counts.{is_short}
-use Rattle.ecma_fits.specs.Fitting.{Fits, at_top, breaks_rule, first_unfit_in, is_misplaced, is_misshapen, is_unfit, unfit_here, where_in}
+use Rattle.ecma_fits.specs.Fitting.{Fits, at_top, breaks_rule, first_unfit_in, is_misplaced, is_misshapen, is_unfit, unfit_here, where_in, NoneFails}
 use Rattle.ecma_fits.specs.Members.{is_misread}
 use Rattle.ecma_fits.specs.Roles.{is_out_of_role}
 use Rattle.ecma_fits.specs.Strays.{is_stray_target}
-use Rattle.ecma_text_fits.specs.Clauses.{Clauses, FitsByClauses, NoneFails, has_second_constructor, is_misspelled}
+use Rattle.ecma_text_fits.specs.Clauses.{Clauses, is_misspelled}
+use Rattle.ecma_text_fits.specs.Laws.{FitsByClauses}
 use Rattle.ecma_text_fits.proofs.Walks.{both_none, neither, neither_least, not_failing, shifted}
+use Rattle.ecma_tree.proofs.Layers.{from_leaves-roll}
 
 -- a place of each node
 abbrev Place : Type 0

@@ -15,13 +15,12 @@ use Rattle.ecma_rules.specs.declared.target.Target.TheVariants as target
 use Rattle.ecma_rules.specs.Children.{children_of as items_of, kind_of}
 use Rattle.ecma_rules.specs.Finishing.{each_in, finished_at}
 use Rattle.ecma_rules.specs.Jumps.{first_stray}
-use Rattle.ecma_rules.specs.Members.{is_constructor, is_full_constructor, second_by, second_constructor, second_of}
+use Rattle.ecma_rules.specs.Members.{is_constructor, is_full_constructor, second_by, second_constructor, second_of, has_second_constructor}
 use Rattle.ecma_rules.specs.Rules.{first_misplaced}
 use Rattle.ecma_rules.specs.Surroundings.{at_root}
 use Rattle.ecma_rules.specs.Targets.{target_in}
 use Rattle.ecma_fits.specs.Fitting.{at_top}
-use Rattle.ecma_text_fits.specs.Clauses.{has_second_constructor}
-use Rattle.ecma_text_fits.specs.Finished.{FinishedClassesHaveOneConstructor}
+use Rattle.ecma_text_fits.specs.Laws.{FinishedClassesHaveOneConstructor}
 use Rattle.ecma_text_fits.proofs.Walks.{free_kind, neither_least, not_true}
 use Rattle.ecma_text_fits.proofs.Standing.{kind_made}
 use Rattle.ecma_text_fits.proofs.Tests.{free_children, free_has_child, free_list, list_kind}

@@ -17,10 +17,9 @@ use Rattle.ecma_rules.specs.Targets.{is_spread}
 use Rattle.ecma_grammar_laws.specs.RawSorts.{HasRawShape, HasRawSort, RawShape, belongs_or_super, child_shapes_raw, many, one, shape_of, sorted}
 use Rattle.ecma_grammar_laws.proofs.RawShapes.{HaveRaw, parts_of}
 use Rattle.ecma_fits.specs.declared.role.Role.TheVariants as role
-use Rattle.ecma_fits.specs.Fitting.{at_top}
+use Rattle.ecma_fits.specs.Fitting.{at_top, NoneFails}
 use Rattle.ecma_fits.specs.Roles.{is_name, is_out_of_role}
 use Rattle.ecma_fits.specs.Strays.{is_stray_target}
-use Rattle.ecma_text_fits.specs.Clauses.{NoneFails}
 use Rattle.ecma_text_fits.specs.RawRoles.{HasRawRole}
 use Rattle.ecma_text_fits.proofs.RoleKinds.{calm}
 use Rattle.ecma_text_fits.proofs.RoleWalks.{AreSound, Each}

@@ -23,19 +23,17 @@ use Rattle.ecma_rules.specs.declared.target.Target.TheVariants as target
 use Rattle.ecma_rules.specs.Children.{kind_of}
 use Rattle.ecma_rules.specs.Failing.{failing_here, failing_step, first_failing, least_from}
 use Rattle.ecma_rules.specs.Finishing.{finished}
-use Rattle.ecma_rules.proofs.Layers.{from_leaves-roll}
 use Rattle.ecma_text_leaves.specs.Everywhere.{Each, Everywhere, more, none}
 use Rattle.ecma_text_leaves.proofs.Forms.{is_leaf}
 use Rattle.ecma_text_leaves.proofs.Trees.{children_good, good_absent, good_framed, kind_good}
-use Rattle.ecma_text_sorts.specs.Sorts.{ReadModulesAreSorted}
+use Rattle.ecma_text_sorts.specs.Laws.{ReadModulesAreSorted}
 use Rattle.ecma_leaves.specs.Words.{is_spelled, is_text_part}
 use Rattle.ecma_fits.specs.declared.unfit.Where.{Where}
-use Rattle.ecma_fits.specs.Fitting.{at_top, where_in}
+use Rattle.ecma_fits.specs.Fitting.{at_top, where_in, NoneFails}
 use Rattle.ecma_fits.specs.Roles.{is_tagged}
-use Rattle.ecma_text_fits.specs.Clauses.{NoneFails, is_misspelled}
+use Rattle.ecma_text_fits.specs.Clauses.{is_misspelled, KeepsRules}
 use Rattle.ecma_text_fits.specs.RawRoles.{is_unvalued}
-use Rattle.ecma_text_fits.specs.Read.{KeepsRules, ReadLeavesAreSpelled, ReadTreesKeepRules}
-use Rattle.ecma_text_fits.specs.ReadRoles.{RawModulesHaveTheirRoles}
+use Rattle.ecma_text_fits.specs.Laws.{ReadLeavesAreSpelled, ReadTreesKeepRules, RawModulesHaveTheirRoles}
 use Rattle.ecma_text_fits.proofs.Clauses.{either, either_none, less}
 use Rattle.ecma_text_fits.proofs.Constructors.{one_constructor}
 use Rattle.ecma_text_fits.proofs.Everywhere.{finished_good}
@@ -50,6 +48,7 @@ use Rattle.ecma_text_fits.proofs.Standing.{kind_made}
 use Rattle.ecma_text_fits.proofs.Strays.{no_strays}
 use Rattle.ecma_text_fits.proofs.TextParts.{is_silent, parts_valued}
 use Rattle.ecma_text_fits.proofs.Walks.{both_none, free_kind, neither, not_true, shifted}
+use Rattle.ecma_tree.proofs.Layers.{from_leaves-roll}
 
 pub read_keeps : ReadModulesAreSorted → ReadTreesKeepRules
 read_keeps read_sorted text mode bound tree e =

@@ -14,6 +14,7 @@ use Rattle.ecma_tree.specs.Laws.{HaveShapes}
 use Rattle.ecma_tree.specs.Nodes.{absent, dummy_span, node_of}
 use Rattle.ecma_tree.specs.Sorted.{HasShape, child_shapes, one}
 use Rattle.ecma_tree.proofs.ShapeLaws.{node_has_shape}
+use Rattle.ecma_tree.proofs.Layers.{from_leaves-roll}
 use Rattle.ecma_rules.specs.declared.target.Target.{Target}
 use Rattle.ecma_rules.specs.declared.target.Target.TheVariants as target
 use Rattle.ecma_rules.specs.declared.standing.Around.{Around}
@@ -26,7 +27,6 @@ use Rattle.ecma_rules.specs.Members.{second_constructor}
 use Rattle.ecma_rules.specs.Rules.{fails_list, first_misplaced, is_misplaced, misplaced_here}
 use Rattle.ecma_rules.specs.Surroundings.{around_in, standing_by}
 use Rattle.ecma_rules.specs.Targets.{first_is, is_literal, is_no_target, is_plain_target, is_simple_target, is_wrapper, takes_patterns, target_in}
-use Rattle.ecma_rules.proofs.Layers.{from_leaves-roll}
 use Rattle.ecma_fits.specs.declared.unfit.Where.{Where}
 use Rattle.ecma_fits.specs.Fitting.{where_in}
 use Rattle.ecma_text_fits.proofs.Walks.{both_none, free_kind, have_front, neither, neither_least, not_failing, not_true, one_more, shifted}

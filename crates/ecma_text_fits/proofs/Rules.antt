@@ -28,7 +28,7 @@ use Rattle.ecma_rules.specs.Surroundings.{at_root}
 use Rattle.ecma_rules.specs.Targets.{is_spread, is_variables, target_in}
 use Rattle.ecma_fits.specs.declared.unfit.Where.{Where}
 use Rattle.ecma_fits.specs.Fitting.{at_top, breaks_rule}
-use Rattle.ecma_text_fits.specs.Finished.{FinishedTreesKeepRules}
+use Rattle.ecma_text_fits.specs.Laws.{FinishedTreesKeepRules}
 use Rattle.ecma_text_fits.proofs.Walks.{neither, neither_least, not_true}
 use Rattle.ecma_text_fits.proofs.Standing.{Stands, as_last, keeps_last, kept_rules, kind_made, presence, shown}
 use Rattle.ecma_text_fits.proofs.Tests.{all_stay, further_stay, kind_at, kind_fits, patterns_stay, plain_parameter, test_at, this_pattern, without_value}

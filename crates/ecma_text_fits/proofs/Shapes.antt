@@ -15,18 +15,16 @@ use Rattle.ecma_rules.specs.Children.{child_holds, has_child, holds_of, is_prese
 use Rattle.ecma_rules.specs.Failing.{failing_here, failing_step, first_failing, least_from}
 use Rattle.ecma_rules.specs.Members.{is_constructor_key, is_method, is_misfit, is_special_by, is_special_constructor, is_special_function, is_stray_property, misplaces_this}
 use Rattle.ecma_rules.specs.Rules.{fails_list, fails_member, fails_statement}
-use Rattle.ecma_rules.proofs.Layers.{from_leaves-roll}
 use Rattle.ecma_modules.specs.Modules.{reads_as}
 use Rattle.ecma_fits.specs.declared.unfit.Where.{Where}
 use Rattle.ecma_fits.specs.Branches.{is_choice as is_choice_kind, is_dangling, takes_else}
 use Rattle.ecma_fits.specs.Chains.{is_behind_chain, is_loose, is_loose_by}
 use Rattle.ecma_fits.specs.Counts.{are_exports, are_imports, holds_attributes, is_attribute, is_full_by, is_short, is_whole_template}
-use Rattle.ecma_fits.specs.Fitting.{at_top, breaks_rule, where_in}
+use Rattle.ecma_fits.specs.Fitting.{at_top, breaks_rule, where_in, NoneFails}
 use Rattle.ecma_fits.specs.Members.{is_misread, is_misread_by}
 use Rattle.ecma_text_leaves.proofs.Trees.{children_made}
-use Rattle.ecma_text_fits.specs.Clauses.{NoneFails}
-use Rattle.ecma_text_fits.specs.Read.{KeepsRules, ReadTreesKeepRules}
-use Rattle.ecma_text_fits.specs.Shapes.{ReadBranchesTakeTheirElse, ReadLinksAreNotLoose, ReadMembersAreNotMisread, ReadNodesAreFull}
+use Rattle.ecma_text_fits.specs.Clauses.{KeepsRules}
+use Rattle.ecma_text_fits.specs.Laws.{ReadTreesKeepRules, ReadBranchesTakeTheirElse, ReadLinksAreNotLoose, ReadMembersAreNotMisread, ReadNodesAreFull}
 use Rattle.ecma_text_fits.proofs.RawSound.{raw_sound}
 use Rattle.ecma_text_fits.proofs.Raws.{of_raw}
 use Rattle.ecma_text_fits.proofs.Sound.{Sound, are_attributes, are_several, both_true, has, holds_with, is_attribute_list, is_base, is_choice, is_export, is_export_all, is_function, is_import, is_linked, is_list_of, is_method_pair, is_named_well, is_object, is_template, items, may_be_named}
@@ -34,6 +32,7 @@ use Rattle.ecma_text_fits.proofs.SoundStays.{finished_sound}
 use Rattle.ecma_text_fits.proofs.Steps.{one_true}
 use Rattle.ecma_text_fits.proofs.Throughout.{EachThroughout, Throughout, below, here, more}
 use Rattle.ecma_text_fits.proofs.Walks.{both_none, neither, neither_least, not_failing, not_true, shifted}
+use Rattle.ecma_tree.proofs.Layers.{from_leaves-roll}
 
 -- where a walk tells nothing, a test tells nothing that no sound node fails of which the walk tells nothing
 module _ (f g : Where → Node → Bool) (fine : (w : Where) (n : Node) → Sound (kind_of n) (children_of n) → f w n ≡ false → g w n ≡ false) where

@@ -22,9 +22,9 @@ use Rattle.ecma_rules.specs.Rules.{first_misplaced}
 use Rattle.ecma_rules.specs.Strays.{in_named, is_stray, strays_in}
 use Rattle.ecma_rules.specs.Surroundings.{at_root}
 use Rattle.ecma_rules.specs.Targets.{target_in}
-use Rattle.ecma_rules.proofs.Layers.{from_leaves-roll}
-use Rattle.ecma_text_fits.specs.Finished.{FinishedTreesHaveNoStrays}
+use Rattle.ecma_text_fits.specs.Laws.{FinishedTreesHaveNoStrays}
 use Rattle.ecma_text_fits.proofs.Walks.{both_none, free_kind, have_front, neither_least, not_failing, not_true, one_more, shifted}
+use Rattle.ecma_tree.proofs.Layers.{from_leaves-roll}
 
 -- the label of a node with these children
 abbrev pub label_in : List Node → Option (List ℕ)

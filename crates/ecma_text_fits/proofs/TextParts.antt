@@ -14,20 +14,19 @@ use Rattle.ecma_rules.specs.Children.{kind_of}
 use Rattle.ecma_rules.specs.Failing.{failing_here, failing_step, first_failing, least_from}
 use Rattle.ecma_rules.specs.Finishing.{binding, default_by, each_in, element_by, finished_at, finished_by, left_by, name_by, part_by, property_by, with_type}
 use Rattle.ecma_rules.specs.Targets.{is_plain, target_in}
-use Rattle.ecma_rules.proofs.Layers.{from_leaves-roll}
 use Rattle.ecma_modules.specs.Modules.{reads_as}
 use Rattle.ecma_fits.specs.declared.role.Role.{Role}
 use Rattle.ecma_fits.specs.declared.role.Role.TheVariants as role
 use Rattle.ecma_fits.specs.declared.unfit.Where.{Where}
-use Rattle.ecma_fits.specs.Fitting.{at_top, where_in}
+use Rattle.ecma_fits.specs.Fitting.{at_top, where_in, NoneFails}
 use Rattle.ecma_fits.specs.Roles.{at_child, bound_name_of, by, in_default, in_list, in_rest, in_template, is_assigned, is_in, is_tagged, is_wrong_name, role_in}
 use Rattle.ecma_text_fits.specs.RawRoles.{HasRawRole, is_parameter, is_unvalued, may_be_raw, may_stand, raw_role, raw_role_in, usual_role_in}
-use Rattle.ecma_text_fits.specs.Clauses.{NoneFails}
-use Rattle.ecma_text_fits.specs.ReadRoles.{RawModulesHaveTheirRoles}
+use Rattle.ecma_text_fits.specs.Laws.{RawModulesHaveTheirRoles}
 use Rattle.ecma_text_fits.proofs.Placed.{Along, least_along, raw_parts}
 use Rattle.ecma_text_fits.proofs.Raws.{of_raw}
 use Rattle.ecma_text_fits.proofs.Standing.{finished_parts, kind_made}
 use Rattle.ecma_text_fits.proofs.Walks.{both_none, neither, not_true, shifted}
+use Rattle.ecma_tree.proofs.Layers.{from_leaves-roll}
 
 -- a text part has no value, and stands behind no tag
 abbrev pub is_silent : Where → Node → Bool

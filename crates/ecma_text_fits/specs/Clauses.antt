@@ -1,29 +1,20 @@
 -- What it is to fit, clause by clause.
-use Rattle.std.specs.Prelude.{◌≡◌, ◌↔◌, Bool, not, None, is_some}
+use Rattle.std.specs.Prelude.{◌≡◌, Bool, not, None}
 use Rattle.ecma_kind.specs.declared.shapes.Sort.TheVariants as sort
 use Rattle.ecma_tree.specs.declared.node.Node.{Node}
 use Rattle.ecma_tree.specs.Sorted.{HasSort}
 use Rattle.ecma_rules.specs.Children.{kind_of}
-use Rattle.ecma_rules.specs.Failing.{failing_here, first_failing}
 use Rattle.ecma_rules.specs.Jumps.{first_stray}
-use Rattle.ecma_rules.specs.Members.{second_constructor}
+use Rattle.ecma_rules.specs.Members.{has_second_constructor}
 use Rattle.ecma_leaves.specs.Words.{is_spelled}
 use Rattle.ecma_fits.specs.declared.unfit.Where.{Where}
 use Rattle.ecma_fits.specs.Branches.{is_dangling}
 use Rattle.ecma_fits.specs.Chains.{is_loose}
 use Rattle.ecma_fits.specs.Counts.{is_short}
-use Rattle.ecma_fits.specs.Fitting.{Fits, at_top, breaks_rule, where_in}
+use Rattle.ecma_fits.specs.Fitting.{breaks_rule, NoneFails}
 use Rattle.ecma_fits.specs.Members.{is_misread}
 use Rattle.ecma_fits.specs.Roles.{is_out_of_role, is_tagged}
 use Rattle.ecma_fits.specs.Strays.{is_stray_target}
-
--- no node of a tree fails a test of it and of where it stands
-abbrev pub NoneFails : (Where → Node → Bool) → Node → Type 0
-NoneFails fails tree = first_failing Where (λ w node. failing_here (fails w node) node) where_in tree at_top ≡ None
-
--- a class has two constructors with bodies
-abbrev pub has_second_constructor : Node → Bool
-has_second_constructor node = is_some (second_constructor node)
 
 -- a leaf is not spelled as its terminal reads it, or says something else
 abbrev pub is_misspelled : Where → Node → Bool
@@ -42,6 +33,9 @@ pub record Clauses (tree : Node) : Type 0 where
   pub leaves : NoneFails is_misspelled tree
   pub strays : first_stray tree ≡ None
 
--- a tree fits exactly where each clause holds
-abbrev pub FitsByClauses : Type 0
-FitsByClauses = (tree : Node) → Fits tree ↔ Clauses tree
+-- no node breaks a context rule that reads a finished tree as it reads a raw one, no class has two constructors with bodies, and nothing belongs
+-- to nothing inside an enum initialiser or a namespace body
+pub record KeepsRules (tree : Node) : Type 0 where
+  pub rules : NoneFails breaks_rule tree
+  pub constructors : NoneFails (λ w node. has_second_constructor node) tree
+  pub strays : first_stray tree ≡ None

@@ -1,16 +1,9 @@
 //! Laws of trees that fit, over the definitions alone.
 //!
-//! Each function carries one law, and does nothing. The laws are stated in `specs/`.
+//! Each function carries one law, and does nothing. The laws are stated in `specs/Laws.antt`.
 #![tactic(auto)]
 
-ghost use Rattle.ecma_text_fits.specs.Clauses.{FitsByClauses};
-ghost use Rattle.ecma_text_fits.specs.Least.{FirstUnfitIsLeast};
-ghost use Rattle.ecma_text_fits.specs.Read.{ReadLeavesAreSpelled, ReadTreesKeepRules};
-ghost use Rattle.ecma_text_fits.specs.Shapes.{ReadBranchesTakeTheirElse, ReadLinksAreNotLoose, ReadMembersAreNotMisread, ReadNodesAreFull};
-ghost use Rattle.ecma_text_fits.specs.FinishedRoles.{FinishedTargetsAreNoStrays, FinishedTreesHaveTheirRoles};
-ghost use Rattle.ecma_text_fits.specs.ReadRoles.{RawModulesHaveTheirRoles, ReadTargetsAreNoStrays, ReadTreesHaveTheirRoles};
-ghost use Rattle.ecma_text_fits.specs.WhatIsRead.{WhatIsReadFits};
-ghost use Rattle.ecma_text_fits.specs.Finished.{FinishedClassesHaveOneConstructor, FinishedTreesHaveNoStrays, FinishedTreesKeepRules};
+ghost use Rattle.ecma_text_fits.specs.Laws.{FinishedClassesHaveOneConstructor, FinishedTargetsAreNoStrays, FinishedTreesHaveNoStrays, FinishedTreesHaveTheirRoles, FinishedTreesKeepRules, FirstUnfitIsLeast, FitsByClauses, RawModulesHaveTheirRoles, ReadBranchesTakeTheirElse, ReadLeavesAreSpelled, ReadLinksAreNotLoose, ReadMembersAreNotMisread, ReadNodesAreFull, ReadTargetsAreNoStrays, ReadTreesHaveTheirRoles, ReadTreesKeepRules, WhatIsReadFits};
 
 use ecma_text_sorts::modules_that_are_read_are_sorted;
 

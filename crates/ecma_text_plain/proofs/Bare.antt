@@ -34,7 +34,8 @@ use Rattle.ecma_text_fits.proofs.LineFeeds.{piece_parts}
 use Rattle.ecma_text_fits.proofs.Raws.{of_raw}
 use Rattle.ecma_text_fits.proofs.ReadingOf.{is_hashbang, read_holds}
 use Rattle.ecma_text_fits.proofs.Walks.{not_true}
-use Rattle.ecma_text_plain.specs.Bare.{IsBareUnquestioned, ReadLeavesAreBare}
+use Rattle.ecma_plain.specs.Forms.{IsBareUnquestioned}
+use Rattle.ecma_text_plain.specs.Laws.{ReadLeavesAreBare}
 use Rattle.ecma_text_plain.proofs.PlainKinds.{IsPlain, everywhere_also}
 
 -- what stands between two places of a text is UTF-8, as nothing is where it may not be cut

@@ -26,7 +26,7 @@ use Rattle.ecma_text_leaves.proofs.Trees.{kind_good, kind_made}
 use Rattle.ecma_text_fits.proofs.Raws.{of_raw}
 use Rattle.ecma_text_fits.proofs.ReadingOf.{holds_built, holds_followed, holds_or}
 use Rattle.ecma_text_fits.proofs.Walks.{free_kind}
-use Rattle.ecma_print_shapes.specs.Items.{HasUtf8Hashbang}
+use Rattle.ecma_plain.specs.Items.{HasUtf8Hashbang}
 use Rattle.ecma_text_plain.proofs.Bare.{leaf_plain}
 use Rattle.ecma_text_plain.proofs.PlainKinds.{IsPlain, hashbang_read, hashbang_utf8}
 

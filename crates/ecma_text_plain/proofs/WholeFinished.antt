@@ -17,7 +17,7 @@ use Rattle.ecma_text_leaves.proofs.Trees as trees
 use Rattle.ecma_text_fits.proofs.Rules.{children_made}
 use Rattle.ecma_text_fits.proofs.Standing.{finished_parts, kind_made}
 use Rattle.ecma_text_fits.proofs.Walks.{not_true}
-use Rattle.ecma_print_shapes.specs.Functions.{is_this_name}
+use Rattle.ecma_plain.specs.Functions.{is_this_name}
 use Rattle.ecma_text_plain.proofs.GivenWhole.{one_full, two_full}
 use Rattle.ecma_text_plain.proofs.Whole.{A, G, View, append_all, is_specifier, is_unusual, more, none, shut, view, whole}
 

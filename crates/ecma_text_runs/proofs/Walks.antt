@@ -1,8 +1,8 @@
 -- In a tree in which no node fails a test where it stands, none does, node by node.
 use Rattle.std.proofs.Common.{◌≡◌, sym, ap, ◌∙◌, ℕ, map, Bool, false, Option, Some, None, slice_get}
 use Rattle.ecma_tree.specs.declared.node.Node.{Node, out-Node}
+use Rattle.ecma_tree.proofs.Layers.{from_leaves_out}
 use Rattle.ecma_rules.specs.Failing.{failing_here, failing_step, first_failing, least_from}
-use Rattle.ecma_rules.proofs.Layers.{from_leaves_out}
 use Rattle.ecma_fits.specs.declared.unfit.Where.{Where}
 use Rattle.ecma_fits.specs.Fitting.{where_in}
 use Rattle.ecma_text_fits.proofs.Walks.{neither_least, not_failing}

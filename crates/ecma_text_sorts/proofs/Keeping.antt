@@ -4,6 +4,7 @@ use Rattle.ecma_kind.specs.declared.kind.Kind.TheVariants as kind
 use Rattle.ecma_tree.specs.declared.node.Node.{Node, Node-F, fold-roll-Node, out-Node, roll-Node}
 use Rattle.ecma_tree.specs.declared.node.Node.TheViews.{out-roll-Node}
 use Rattle.ecma_tree.specs.Sorted.{is_list}
+use Rattle.ecma_tree.proofs.Layers.{from_leaves-roll}
 use Rattle.ecma_rules.specs.declared.standing.Around.{Around}
 use Rattle.ecma_rules.specs.Children.{holds_of, is_present, of_kind}
 use Rattle.ecma_rules.specs.Failing.{failing_here, failing_step, least, least_from}
@@ -13,7 +14,6 @@ use Rattle.ecma_rules.specs.Rules.{fails_list, fails_member, fails_statement, fa
 use Rattle.ecma_rules.specs.Supers.{is_linked, is_lone_super, is_private_name, is_private_of_super, is_super, is_super_member}
 use Rattle.ecma_rules.specs.Surroundings.{around_in}
 use Rattle.ecma_rules.specs.Targets.{first_is, is_no_target, is_plain_target, is_simple_target, is_stray_default, is_wrapper, may_be, simple_step}
-use Rattle.ecma_rules.proofs.Layers.{from_leaves-roll}
 use Rattle.ecma_text_sorts.proofs.Turning.{keeps}
 use Rattle.ecma_text_sorts.proofs.Children.{and_true}
 

@@ -4,9 +4,9 @@ use Rattle.ecma_kind.specs.Sorts.{belongs}
 use Rattle.ecma_kind.specs.declared.kind.Kind.{Kind}
 use Rattle.ecma_kind.specs.declared.shapes.Sort.TheVariants as sort
 use Rattle.ecma_tree.specs.declared.node.Node.{Node}
+use Rattle.ecma_tree.specs.Values.{is_value}
 use Rattle.ecma_rules.specs.Children.{kind_of}
 use Rattle.ecma_strip.specs.Staying.{is_ambient, is_empty_stmt, is_this_param_by, member_stays_by, specifier_stays, stays}
-use Rattle.ecma_strip.specs.Values.{is_value}
 
 abbrev pub stays_by : Kind → Node → Bool
 stays_by k n =

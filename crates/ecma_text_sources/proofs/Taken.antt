@@ -4,9 +4,9 @@ use Rattle.ecma_kind.specs.Sorts.{belongs}
 use Rattle.ecma_kind.specs.declared.shapes.Sort.TheVariants as sort
 use Rattle.ecma_tree.specs.Sorted.{is_list}
 use Rattle.ecma_tree.specs.declared.node.Node.{Node, out-Node}
+use Rattle.ecma_tree.proofs.Layers.{from_leaves_out}
 use Rattle.ecma_rules.specs.Children.{holds_of, kind_of}
 use Rattle.ecma_rules.specs.Failing.{failing_step, first_failing, least_from}
-use Rattle.ecma_rules.proofs.Layers.{from_leaves_out}
 use Rattle.ecma_text_fits.proofs.Walks.{neither, neither_least, not_failing}
 use Rattle.ecma_strip.specs.Staying.{stays}
 use Rattle.ecma_strip_fits.proofs.Walk.{each_none}

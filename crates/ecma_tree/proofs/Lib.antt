@@ -6,3 +6,6 @@ pub mod Items
 pub mod Finding
 pub mod Changing
 pub mod Sameness
+pub mod Layers
+pub mod Weights
+pub mod Valuing

@@ -9,4 +9,6 @@ pub mod Contexts
 pub mod Idents
 pub mod Laws
 pub mod Gathering
+pub mod Layers
+pub mod Values
 pub mod NodeRefs

@@ -17,6 +17,7 @@ mod node_ref;
 mod sorted;
 mod spans;
 mod symbol;
+mod values;
 
 pub use collect::symbols;
 pub use copies::{
@@ -42,6 +43,7 @@ pub use node_ref::{NodeRef, eq_ignore_span};
 pub use sorted::{has_shape, has_sort};
 pub use spans::drop_spans;
 pub use symbol::verify_symbol;
+pub use values::{is_value, is_value_at};
 
 #[cfg(test)]
 mod tests;

@@ -1,6 +1,6 @@
 use Rattle.std.proofs.Common.{◌≡◌, ◌∙◌, OnOk, length, sym, ap, subst, arith}
 use Rattle.ecma_tree.specs.declared.node.Node.{Node, out-Node}
-use Rattle.ecma_rules.proofs.Weights.{weight-child}
+use Rattle.ecma_tree.proofs.Weights.{weight-child}
 use Rattle.ecma_bind.specs.Binding.{bound_at}
 use Rattle.ecma_bind.proofs.Fronted.{bound-all, bound-at, bound-count, bound-typed, set-bound}
 use Rattle.ecma_bind.proofs.binding.+bind_at.Goals as goal

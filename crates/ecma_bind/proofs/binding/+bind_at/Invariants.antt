@@ -1,5 +1,5 @@
 use Rattle.std.proofs.Common.{◌≡◌}
-use Rattle.ecma_rules.proofs.Weights.{weight}
+use Rattle.ecma_tree.proofs.Weights.{weight}
 use Rattle.ecma_bind.proofs.Fronted.{front_bound}
 use Rattle.ecma_bind.proofs.binding.+bind_at.Given as goal
 

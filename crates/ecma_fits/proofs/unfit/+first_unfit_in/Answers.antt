@@ -1,8 +1,8 @@
 use Rattle.std.proofs.Common.{◌≡◌, ◌∙◌, ◌+◌, Option, ℕ, length, ap, arith}
 use Rattle.ecma_tree.specs.declared.node.Node.{out-Node}
+use Rattle.ecma_tree.proofs.Weights.{weight-child}
 use Rattle.ecma_rules.specs.Failing.{least}
 use Rattle.ecma_rules.proofs.Failures.{failing-all, failing-first, failing-next, rest_failing}
-use Rattle.ecma_rules.proofs.Weights.{weight-child}
 use Rattle.ecma_fits.specs.declared.unfit.Where.{Where}
 use Rattle.ecma_fits.specs.Fitting.{first_unfit_in, unfit_here, where_in}
 use Rattle.ecma_fits.proofs.unfit.+first_unfit_in.Goals as goal

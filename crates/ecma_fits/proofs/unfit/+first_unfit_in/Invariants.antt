@@ -1,7 +1,7 @@
 use Rattle.std.proofs.Common.{◌≡◌}
 use Rattle.ecma_rules.specs.Failing.{least}
 use Rattle.ecma_rules.proofs.Failures.{rest_failing}
-use Rattle.ecma_rules.proofs.Weights.{weight}
+use Rattle.ecma_tree.proofs.Weights.{weight}
 use Rattle.ecma_fits.specs.declared.unfit.Where.{Where}
 use Rattle.ecma_fits.specs.Fitting.{first_unfit_in, unfit_here, where_in}
 use Rattle.ecma_fits.proofs.unfit.+first_unfit_in.Given as goal

@@ -1,8 +1,8 @@
 use Rattle.std.proofs.Common.{◌≡◌, ◌∙◌, ◌+◌, Bool, Option, ℕ, length, ap, arith}
 use Rattle.ecma_tree.specs.declared.node.Node.{out-Node}
+use Rattle.ecma_tree.proofs.Weights.{weight-child}
 use Rattle.ecma_rules.specs.Failing.{first_failing, least}
 use Rattle.ecma_rules.proofs.Failures.{failing-all, failing-first, failing-next, rest_failing}
-use Rattle.ecma_rules.proofs.Weights.{weight-child}
 use Rattle.ecma_forms.specs.Forms.{inside, untaken_here}
 use Rattle.ecma_forms.proofs.places.+first_untaken_in.Goals as goal
 

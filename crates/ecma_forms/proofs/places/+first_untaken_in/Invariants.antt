@@ -1,7 +1,7 @@
 use Rattle.std.proofs.Common.{◌≡◌, Bool}
 use Rattle.ecma_rules.specs.Failing.{first_failing, least}
 use Rattle.ecma_rules.proofs.Failures.{rest_failing}
-use Rattle.ecma_rules.proofs.Weights.{weight}
+use Rattle.ecma_tree.proofs.Weights.{weight}
 use Rattle.ecma_forms.specs.Forms.{inside, untaken_here}
 use Rattle.ecma_forms.proofs.places.+first_untaken_in.Given as goal
 

@@ -1,7 +1,7 @@
 use Rattle.std.proofs.Common.{rules, ◌≡◌, ◌∙◌, ◌++◌, Bool, List, [], length, ap, sym, arith}
 use Rattle.ecma_tree.specs.declared.node.Node.{out-Node}
+use Rattle.ecma_tree.proofs.Weights.{weight-child}
 use Rattle.ecma_scope.specs.declared.form.Sought.{Sought}
-use Rattle.ecma_scope.proofs.Weights.{weight-child}
 use Rattle.ecma_hygiene.specs.Ids.{Id, declared_by, declared_here, declared_ids, soughts_in}
 use Rattle.ecma_hygiene.proofs.Seeking.{nothing-declared}
 use Rattle.ecma_hygiene.proofs.Walking.{all_done, append-none, first, next}

@@ -1,6 +1,6 @@
 use Rattle.std.proofs.Common.{◌≡◌, ◌++◌, List}
 use Rattle.ecma_scope.specs.declared.form.Sought.{Sought}
-use Rattle.ecma_scope.proofs.Weights.{weight}
+use Rattle.ecma_tree.proofs.Weights.{weight}
 use Rattle.ecma_hygiene.specs.Ids.{Id, declared_here, declared_ids, soughts_in}
 use Rattle.ecma_hygiene.proofs.Walking.{rest}
 use Rattle.ecma_hygiene.proofs.declared.+push_declared.Given as goal

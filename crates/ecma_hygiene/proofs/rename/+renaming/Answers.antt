@@ -1,8 +1,8 @@
 use Rattle.std.proofs.Common.{◌≡◌, ◌∙◌, Bool, length, ap, arith}
 use Rattle.ecma_kind.specs.declared.kind.Kind.{Kind}
 use Rattle.ecma_tree.specs.declared.node.Node.{Node-F, Node, out-Node}
+use Rattle.ecma_tree.proofs.Weights.{weight-child}
 use Rattle.ecma_scope.proofs.Opening.{same-role}
-use Rattle.ecma_scope.proofs.Weights.{weight-child}
 use Rattle.ecma_hygiene.specs.Kept.{texts_in}
 use Rattle.ecma_hygiene.specs.Renamed.{kind_with_text, renamed_at, spot_in}
 use Rattle.ecma_hygiene.proofs.Writing.{child-was, front-all, front-next, front-out, front-start, renamed-all, same-length}

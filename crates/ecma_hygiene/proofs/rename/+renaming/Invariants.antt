@@ -1,5 +1,5 @@
 use Rattle.std.proofs.Common.{◌≡◌, ◌+◌, ◌*◌}
-use Rattle.ecma_scope.proofs.Weights.{weight}
+use Rattle.ecma_tree.proofs.Weights.{weight}
 use Rattle.ecma_hygiene.specs.Kept.{texts_in}
 use Rattle.ecma_hygiene.proofs.Writing.{front}
 use Rattle.ecma_hygiene.proofs.rename.+renaming.Given as goal

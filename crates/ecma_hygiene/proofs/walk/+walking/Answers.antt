@@ -1,9 +1,9 @@
 use Rattle.std.proofs.Common.{rules, ◌≡◌, ◌∙◌, ◌++◌, ◌&&◌, Bool, List, None, Some, [], cond, ap, append_assoc, sym, arith}
 use Rattle.ecma_tree.specs.declared.node.Node.{out-Node}
+use Rattle.ecma_tree.proofs.Weights.{weight-child}
 use Rattle.ecma_scope.specs.declared.form.Sought.{Sought}
 use Rattle.ecma_scope.specs.Resolved.{is_name}
 use Rattle.ecma_scope.specs.Scopes.{role_by}
-use Rattle.ecma_scope.proofs.Weights.{weight-child}
 use Rattle.ecma_hygiene.specs.declared.sight.Meeting.{Meeting}
 use Rattle.ecma_hygiene.specs.declared.sight.Sight.{Sight}
 use Rattle.ecma_hygiene.specs.Frames.{around_children, around_of, around_within, scopes_of}

@@ -1,6 +1,6 @@
 use Rattle.std.proofs.Common.{◌≡◌, ◌++◌, ◌+◌, ◌*◌, None, Some, map}
 use Rattle.ecma_tree.specs.declared.node.Node.{out-Node}
-use Rattle.ecma_scope.proofs.Weights.{weight}
+use Rattle.ecma_tree.proofs.Weights.{weight}
 use Rattle.ecma_hygiene.specs.declared.sight.Meeting.{Meeting}
 use Rattle.ecma_hygiene.specs.declared.sight.Sight.{Sight}
 use Rattle.ecma_hygiene.specs.Frames.{around_children}

@@ -1,11 +1,11 @@
 use Rattle.std.proofs.Common.{◌≡◌, ◌∙◌, ◌+◌, Option, ℕ, length, ap, sym, arith}
 use Rattle.ecma_tree.specs.declared.node.Node.{out-Node}
+use Rattle.ecma_tree.proofs.Weights.{weight-child}
 use Rattle.ecma_rules.specs.Children.{kind_of}
 use Rattle.ecma_rules.specs.Failing.{least}
 use Rattle.ecma_rules.specs.Walks.{first_broken_in, holds_strays, unasked}
 use Rattle.ecma_rules.proofs.Together.{broken-all, broken-first, broken-next, rest_broken, seeks-below-unheld, unwatched-broken-first}
 use Rattle.ecma_rules.proofs.Unasked.{stays-unasked, unwatched-holds-none}
-use Rattle.ecma_rules.proofs.Weights.{weight-child}
 use Rattle.ecma_rules.proofs.broken.+breaking.Goals as goal
 
 pub first_broken_in-loop-i-init : goal.first_broken_in-loop-i-init

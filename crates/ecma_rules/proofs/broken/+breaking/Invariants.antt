@@ -2,7 +2,7 @@ use Rattle.std.proofs.Common.{◌≡◌, ◌+◌, ◌*◌}
 use Rattle.ecma_rules.specs.Failing.{least}
 use Rattle.ecma_rules.specs.Walks.{first_broken_in, unasked}
 use Rattle.ecma_rules.proofs.Together.{rest_broken}
-use Rattle.ecma_rules.proofs.Weights.{weight}
+use Rattle.ecma_tree.proofs.Weights.{weight}
 use Rattle.ecma_rules.proofs.broken.+breaking.Given as goal
 
 -- what was found, and what the other children have

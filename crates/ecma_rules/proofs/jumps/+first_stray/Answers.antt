@@ -1,10 +1,10 @@
 use Rattle.std.proofs.Common.{◌≡◌, ◌∙◌, ◌+◌, Option, None, ℕ, length, ap, sym, arith}
 use Rattle.ecma_tree.specs.declared.node.Node.{out-Node}
+use Rattle.ecma_tree.proofs.Weights.{weight-child}
 use Rattle.ecma_rules.specs.Failing.{least}
 use Rattle.ecma_rules.specs.Jumps.{Held, held_in, not_held, stray_here}
 use Rattle.ecma_rules.proofs.Failures.{failing-all, failing-first, failing-next, rest_failing}
 use Rattle.ecma_rules.proofs.Unheld.{child-stray-first, not-held-tells-none}
-use Rattle.ecma_rules.proofs.Weights.{weight-child}
 use Rattle.ecma_rules.proofs.jumps.+first_stray.Goals as goal
 
 pub loop-i-init : goal.loop-i-init

@@ -2,7 +2,7 @@ use Rattle.std.proofs.Common.{◌≡◌}
 use Rattle.ecma_rules.specs.Failing.{least}
 use Rattle.ecma_rules.specs.Jumps.{Held, first_stray, held_in, not_held, stray_here}
 use Rattle.ecma_rules.proofs.Failures.{rest_failing}
-use Rattle.ecma_rules.proofs.Weights.{weight}
+use Rattle.ecma_tree.proofs.Weights.{weight}
 use Rattle.ecma_rules.proofs.jumps.+first_stray.Given as goal
 
 -- what was found, and what the other children have

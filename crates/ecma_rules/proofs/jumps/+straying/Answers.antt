@@ -1,10 +1,10 @@
 use Rattle.std.proofs.Common.{◌≡◌, ◌∙◌, ◌+◌, Bool, Option, ℕ, length, ap, arith}
 use Rattle.ecma_tree.specs.declared.node.Node.{out-Node}
+use Rattle.ecma_tree.proofs.Weights.{weight-child}
 use Rattle.ecma_rules.specs.Failing.{failing_here, least}
 use Rattle.ecma_rules.specs.Frames.{held_of, labels_of}
 use Rattle.ecma_rules.specs.Jumps.{Held, first_held_stray, held_behind, held_in, stray_here}
 use Rattle.ecma_rules.proofs.Failures.{failing-all, failing-first, failing-next, rest_failing}
-use Rattle.ecma_rules.proofs.Weights.{weight-child}
 use Rattle.ecma_rules.proofs.jumps.+straying.Goals as goal
 
 pub first_held_stray-loop-i-init : goal.first_held_stray-loop-i-init

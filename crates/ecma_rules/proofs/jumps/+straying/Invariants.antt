@@ -3,7 +3,7 @@ use Rattle.ecma_rules.specs.Failing.{least}
 use Rattle.ecma_rules.specs.Frames.{held_of}
 use Rattle.ecma_rules.specs.Jumps.{Held, first_held_stray, held_in, stray_here}
 use Rattle.ecma_rules.proofs.Failures.{rest_failing}
-use Rattle.ecma_rules.proofs.Weights.{weight}
+use Rattle.ecma_tree.proofs.Weights.{weight}
 use Rattle.ecma_rules.proofs.jumps.+straying.Given as goal
 
 -- what was found, and what the other children have

@@ -1,12 +1,12 @@
 use Rattle.std.proofs.Common.{◌≡◌, ◌∙◌, OnOk, length, ap, subst, sym, arith}
 use Rattle.ecma_tree.specs.declared.node.Node.{Node, out-Node}
 use Rattle.ecma_tree.specs.declared.node.Node.TheViews.{roll-out-Node}
+use Rattle.ecma_tree.proofs.Weights.{weight-child}
 use Rattle.ecma_rules.specs.declared.target.Target.TheVariants as target
 use Rattle.ecma_rules.specs.Finishing.{finished_at}
 use Rattle.ecma_rules.specs.Walks.{asks_targets}
 use Rattle.ecma_rules.proofs.Fronted.{finished-all, finished-at, finished-count, finished-kind, set-finished}
 use Rattle.ecma_rules.proofs.Unasked.{stays-free}
-use Rattle.ecma_rules.proofs.Weights.{weight-child}
 use Rattle.ecma_rules.proofs.patterns.+finishing.Goals as goal
 
 pub finish_at-get_mut-requires : goal.finish_at-get_mut-requires

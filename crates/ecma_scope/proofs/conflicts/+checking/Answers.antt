@@ -1,5 +1,6 @@
 use Rattle.std.proofs.Common.{◌≡◌, ◌∙◌, ◌+◌, ◌++◌, Bool, List, [], ℕ, Err, map, length, ap, sym, subst, arith}
 use Rattle.ecma_tree.specs.declared.node.Node.{out-Node}
+use Rattle.ecma_tree.proofs.Weights.{weight-child}
 use Rattle.ecma_scope.specs.declared.form.Declaration.{Declaration}
 use Rattle.ecma_scope.specs.declared.role.Role.{Role}
 use Rattle.ecma_scope.specs.Declarations.{stated}
@@ -7,7 +8,6 @@ use Rattle.ecma_scope.specs.Indexed.{states_of}
 use Rattle.ecma_scope.specs.Conflicts.{Answers, Surrounding, child_surrounding, chosen, clashes_in, clashing, meeting, redeclared_at, surrounding}
 use Rattle.ecma_scope.proofs.Clashing.{answers-more, answers-none, clashes_from, clashes_from-all, clashes_from-next, plain_surrounding, redeclared-plain}
 use Rattle.ecma_scope.proofs.Around.{redeclared-opens-bodies}
-use Rattle.ecma_scope.proofs.Weights.{weight-child}
 use Rattle.ecma_scope.proofs.conflicts.+checking.Goals as goal
 
 pub check_children-check_in-requires : goal.check_children-check_in-requires

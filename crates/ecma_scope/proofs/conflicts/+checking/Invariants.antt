@@ -1,8 +1,8 @@
 use Rattle.std.proofs.Common.{◌≡◌, ◌+◌, ◌*◌, map}
 use Rattle.ecma_tree.specs.declared.node.Node.{out-Node}
+use Rattle.ecma_tree.proofs.Weights.{weight}
 use Rattle.ecma_scope.specs.Conflicts.{child_surrounding, clashes_in, redeclared_at, surrounding}
 use Rattle.ecma_scope.proofs.Clashing.{clashes_from, plain_surrounding}
-use Rattle.ecma_scope.proofs.Weights.{weight}
 use Rattle.ecma_scope.proofs.conflicts.+checking.Given as goal
 
 -- nothing is declared again in the first i children

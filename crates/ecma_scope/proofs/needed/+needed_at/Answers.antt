@@ -1,10 +1,10 @@
 use Rattle.std.proofs.Common.{◌≡◌, ◌∙◌, ◌+◌, ℕ, length, ap, sym, arith}
 use Rattle.ecma_tree.specs.declared.node.Node.{out-Node}
+use Rattle.ecma_tree.proofs.Weights.{weight-child}
 use Rattle.ecma_scope.specs.declared.role.Role.{Role}
 use Rattle.ecma_scope.specs.Scopes.{role_in}
 use Rattle.ecma_scope.specs.Needs.{capped, needed_at}
 use Rattle.ecma_scope.proofs.Needing.{capped-more, needed_at-out, needed_from, needed_from-all, needed_from-next}
-use Rattle.ecma_scope.proofs.Weights.{weight-child}
 use Rattle.ecma_scope.proofs.needed.+needed_at.Goals as goal
 
 pub loop-i-init : goal.loop-i-init

@@ -1,7 +1,7 @@
 use Rattle.std.proofs.Common.{◌≡◌, ◌+◌, ◌-◌, ◌^◌, ◌≤◌}
 use Rattle.ecma_scope.specs.Needs.{capped, needed_at}
 use Rattle.ecma_scope.proofs.Needing.{needed_from}
-use Rattle.ecma_scope.proofs.Weights.{weight}
+use Rattle.ecma_tree.proofs.Weights.{weight}
 use Rattle.ecma_scope.proofs.needed.+needed_at.Given as goal
 
 -- what is counted, and what the other children need

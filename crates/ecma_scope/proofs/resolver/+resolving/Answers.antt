@@ -1,6 +1,7 @@
 use Rattle.std.proofs.Common.{rules, ◌≡◌, ◌∙◌, ◌+◌, ◌<◌, OnOk, sym, ap, ap₂, subst, List, ℕ, Some, Err, length, slice_get, arith}
 use Rattle.ecma_kind.specs.declared.error.PassError.TheVariants.{Spent}
 use Rattle.ecma_tree.specs.declared.node.Node.{Node, out-Node}
+use Rattle.ecma_tree.proofs.Weights.{weight-child}
 use Rattle.ecma_scope.specs.declared.frame.Frame.{Frame}
 use Rattle.ecma_scope.specs.declared.role.Role.{Role}
 use Rattle.ecma_scope.specs.Scopes.{covers, role_in}
@@ -10,7 +11,6 @@ use Rattle.ecma_scope.specs.Resolved.{Place, context_count, kind_at, resolved_at
 use Rattle.ecma_scope.specs.Frames.{place_inside, place_of, plain_places, scope_places, with_children}
 use Rattle.ecma_scope.proofs.Resolving.{child_at, done-all, done-next, done-spent}
 use Rattle.ecma_scope.proofs.Opening.{below-opens, below-plain, context_count-plain, count-opens, resolved_at-below, same-cover, same-role-sourced, spent-below, spent-here}
-use Rattle.ecma_scope.proofs.Weights.{weight-child}
 use Rattle.ecma_scope.proofs.resolver.+resolving.Goals as goal
 
 pub resolve_in-returns-clause-node : goal.resolve_in-returns-clause-node

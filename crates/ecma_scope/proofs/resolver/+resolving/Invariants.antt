@@ -1,7 +1,7 @@
 use Rattle.std.proofs.Common.{◌≡◌, ◌+◌, ◌*◌}
 use Rattle.ecma_scope.specs.Frames.{plain_places, scope_places}
 use Rattle.ecma_scope.proofs.Resolving.{Done}
-use Rattle.ecma_scope.proofs.Weights.{weight}
+use Rattle.ecma_tree.proofs.Weights.{weight}
 use Rattle.ecma_scope.proofs.resolver.+resolving.Given as goal
 
 -- the first i children are in their contexts

@@ -1,9 +1,9 @@
 use Rattle.std.proofs.Common.{◌≡◌, ◌∙◌, ◌++◌, length, ap, arith}
 use Rattle.ecma_tree.specs.declared.node.Node.{out-Node}
+use Rattle.ecma_tree.proofs.Weights.{weight-child}
 use Rattle.ecma_scope.specs.declared.uses.Use.{Use}
 use Rattle.ecma_scope.specs.Uses.{used_at}
 use Rattle.ecma_scope.proofs.Using.{used-all, used-first, used-next}
-use Rattle.ecma_scope.proofs.Weights.{weight-child}
 use Rattle.ecma_scope.proofs.uses.+push_used.Goals as goal
 
 pub loop-i-init : goal.loop-i-init

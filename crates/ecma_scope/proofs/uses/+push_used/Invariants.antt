@@ -1,7 +1,7 @@
 use Rattle.std.proofs.Common.{◌≡◌, ◌++◌}
 use Rattle.ecma_scope.specs.Uses.{used_at}
 use Rattle.ecma_scope.proofs.Using.{used_rest}
-use Rattle.ecma_scope.proofs.Weights.{weight}
+use Rattle.ecma_tree.proofs.Weights.{weight}
 use Rattle.ecma_scope.proofs.uses.+push_used.Given as goal
 
 -- what is there, and what is used in the other children
