@@ -1,10 +1,10 @@
 -- What a tree with other texts for its identifiers keeps of fitting: whatever the texts are, where none is a reserved word or `arguments`, and where they are spelled.
-use Rattle.std.specs.Prelude.{◌≡◌, None, is_some, List, ◌≤◌, ◌+◌, true, length}
+use Rattle.std.specs.Prelude.{◌≡◌, None, List, ◌≤◌, ◌+◌, true, length}
 use Rattle.std.specs.List.{All}
 use Rattle.ecma_kind.specs.declared.shapes.Sort.TheVariants as sort
 use Rattle.ecma_tree.specs.declared.node.Node.{Node}
 use Rattle.ecma_tree.specs.Sorted.{HasSort}
-use Rattle.ecma_rules.specs.Members.{second_constructor}
+use Rattle.ecma_rules.specs.Members.{has_second_constructor}
 use Rattle.ecma_fits.specs.Branches.{is_dangling}
 use Rattle.ecma_fits.specs.Chains.{is_loose}
 use Rattle.ecma_fits.specs.Counts.{is_short}
@@ -40,7 +40,7 @@ FinalTextsKeepMembers = FinalTextsKeep is_misread
 
 -- a class has no second constructor with a body
 abbrev pub FinalTextsKeepConstructors : Type 0
-FinalTextsKeepConstructors = FinalTextsKeep (λ node. is_some (second_constructor node))
+FinalTextsKeepConstructors = FinalTextsKeep has_second_constructor
 
 -- a node has what its production asks for
 abbrev pub FinalTextsKeepCounts : Type 0

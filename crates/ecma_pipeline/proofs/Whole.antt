@@ -6,15 +6,12 @@ use Rattle.ecma_pipeline_names.specs.Laws.{NamesThatAreReadAreShort}
 use Rattle.ecma_hygiene_fits.specs.Spelled.{NoneLong}
 use Rattle.ecma_round_trip.specs.Laws.{WhatFitsIsReadAgain}
 use Rattle.ecma_sources.specs.Sources.{IsSource}
-use Rattle.ecma_pipeline_bound.specs.Laws.{BoundPassesKeepRuns}
 use Rattle.ecma_plain.specs.Read.{IsRead}
 use Rattle.ecma_text_sources.specs.Laws.{ReadTreesAreRead, TakenTreesAreSources}
 use Rattle.ecma_bind_sources.specs.Laws.{BoundTreesAreRead, BoundTreesAreTaken}
-use Rattle.ecma_pipeline_fits.specs.Laws.{FinalTreesFit}
 use Rattle.ecma_pipeline_plain.specs.Laws.{FinalTreesArePlain}
 use Rattle.ecma_modules.specs.Modules.{typescript}
-use Rattle.ecma_pipeline_conflicts.specs.Laws.{BoundModulesAreNotRedeclared}
-use Rattle.ecma_pipeline.specs.Laws.{WrittenModulesDoWhatTheirSourcesDo}
+use Rattle.ecma_pipeline.specs.Laws.{BoundPassesKeepRuns, FinalTreesFit, BoundModulesAreNotRedeclared, WrittenModulesDoWhatTheirSourcesDo}
 use Rattle.ecma_plain.specs.Plain.{IsPlain}
 
 pub record Laws : Type 0 where

@@ -25,3 +25,4 @@ pub mod Arrows
 pub mod Statements
 pub mod Blocks
 pub mod Machine
+pub mod Productions

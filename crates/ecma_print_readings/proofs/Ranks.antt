@@ -11,18 +11,9 @@ use Rattle.ecma_grammar.specs.Grammar as grammar
 use Rattle.ecma_grammar.specs.Grammar.{Grammar}
 use Rattle.ecma_grammar.specs.PartBodies.{part_body}
 use Rattle.ecma_grammar.specs.productions.Chains as chains
-use Rattle.ecma_grammar.specs.productions.Classes as classes
-use Rattle.ecma_grammar.specs.productions.Declarations as declarations
-use Rattle.ecma_grammar.specs.productions.Expressions as expressions
-use Rattle.ecma_grammar.specs.productions.Functions as functions
 use Rattle.ecma_grammar.specs.productions.Modules as modules
-use Rattle.ecma_grammar.specs.productions.Names as names
-use Rattle.ecma_grammar.specs.productions.Operators as operators
-use Rattle.ecma_grammar.specs.productions.Patterns as patterns
-use Rattle.ecma_grammar.specs.productions.Primary as primaries
-use Rattle.ecma_grammar.specs.productions.Statements as statements
-use Rattle.ecma_grammar.specs.productions.Types as types
 use Rattle.ecma_print_tokens.specs.Items.{number, Items, it}
+use Rattle.ecma_print_readings.proofs.Productions.{productions}
 use Rattle.ecma_print_readings.proofs.Machine.{without, body_at}
 use Rattle.ecma_print_readings.proofs.Takes.{token_eats}
 use Rattle.ecma_print_readings.proofs.Moves.{part_eats, eats}
@@ -91,7 +82,7 @@ abbrev pub Ranked : Part → Type 0
 Ranked u = (leads (rank u) (part_body u) ≡ true) × (nat_le (part_eats u) (eats (part_body u)) ≡ true)
 
 operator_ranked : (op : BinaryOp) (no_in : Bool) → Ranked (part.Binary op no_in)
-unfolding chains.arguments chains.chain_key chains.index chains.template_start chains.import_meta chains.super_of_member chains.super_of_link chains.import_call chains.construction chains.links chains.tagged_template chains.optional_link chains.dot_body chains.optional_body chains.bracket_body chains.call_body chains.tagged_body chains.non_null_body chains.instantiation_body chains.chain chains.new_links chains.new_dot_body chains.new_bracket_body chains.new_tagged_body chains.new_non_null_body chains.new_body classes.modifier classes.question_or_exclamation classes.getter classes.setter classes.method classes.field classes.index_signature classes.member classes.class_declaration classes.abstract_class_declaration classes.abstract_class_expression declarations.type_alias declarations.interface declarations.enum_member declarations.enum_rest declarations.enum_ declarations.dotted_names declarations.dotted_name_body declarations.namespace declarations.declaration declarations.declared_body expressions.conditional expressions.assignments functions.signature functions.function_expression functions.function_declaration functions.method_async functions.getter_property functions.setter_property functions.method_property functions.arrow_rest functions.arrow modules.attributes modules.from modules.star modules.import_specifier modules.import_specifiers modules.import_clause modules.import modules.require modules.dotted_keys modules.dotted_key_body modules.import_equals modules.export_specifier modules.export_names modules.export_star_as modules.export_star modules.export_default modules.export modules.module_item modules.namespace_block names.binding_ident names.computed_prop_name names.prop_name names.class_element_name names.prop_start names.member_start names.module_export_name names.expression names.block operators.update operators.prefixed operators.operand operators.assertion_body operators.exponentiation operators.power_body operators.factors operators.terms operators.shifts operators.shift operators.relations operators.relation operators.equalities operators.equality operators.bit_and operators.bit_xor operators.bit_or operators.short_circuit patterns.pattern_element patterns.array_pattern patterns.pattern_property patterns.object_pattern patterns.pattern_body primaries.template primaries.spread primaries.element primaries.array primaries.property primaries.object primaries.parenthesized primaries.class_expression primaries.primary statements.in_parentheses statements.if_ statements.for_left statements.for_await statements.for_rest statements.for_head statements.for_ statements.while_ statements.do_while statements.switch_case statements.switch statements.catch_clause statements.try_ statements.jump statements.labeled statements.expression_statement statements.statement_body types.type_param types.type_params types.type_args types.entity types.type_list types.return_type types.some_annotation types.some_return_annotation types.parameter_modifier types.rest_pattern types.default_value types.param types.params types.parenthesized_params types.function_type types.intersection_type types.union_type types.type_body types.array_suffixes types.array_suffix_body types.import_type types.tuple_element types.mapped_type types.signature_type types.type_member types.object_type types.template_type types.primary_type types.type_operator_body types.after_type_args
+unfolding productions
 operator_ranked binary.EqEq true = (refl, refl)
 operator_ranked binary.EqEq false = (refl, refl)
 operator_ranked binary.NotEq true = (refl, refl)
@@ -144,7 +135,7 @@ operator_ranked binary.NullishCoalescing true = (refl, refl)
 operator_ranked binary.NullishCoalescing false = (refl, refl)
 
 link_ranked : (l : Link) → Ranked (part.Link l)
-unfolding chains.arguments chains.chain_key chains.index chains.template_start chains.import_meta chains.super_of_member chains.super_of_link chains.import_call chains.construction chains.links chains.tagged_template chains.optional_link chains.dot_body chains.optional_body chains.bracket_body chains.call_body chains.tagged_body chains.non_null_body chains.instantiation_body chains.chain chains.new_links chains.new_dot_body chains.new_bracket_body chains.new_tagged_body chains.new_non_null_body chains.new_body classes.modifier classes.question_or_exclamation classes.getter classes.setter classes.method classes.field classes.index_signature classes.member classes.class_declaration classes.abstract_class_declaration classes.abstract_class_expression declarations.type_alias declarations.interface declarations.enum_member declarations.enum_rest declarations.enum_ declarations.dotted_names declarations.dotted_name_body declarations.namespace declarations.declaration declarations.declared_body expressions.conditional expressions.assignments functions.signature functions.function_expression functions.function_declaration functions.method_async functions.getter_property functions.setter_property functions.method_property functions.arrow_rest functions.arrow modules.attributes modules.from modules.star modules.import_specifier modules.import_specifiers modules.import_clause modules.import modules.require modules.dotted_keys modules.dotted_key_body modules.import_equals modules.export_specifier modules.export_names modules.export_star_as modules.export_star modules.export_default modules.export modules.module_item modules.namespace_block names.binding_ident names.computed_prop_name names.prop_name names.class_element_name names.prop_start names.member_start names.module_export_name names.expression names.block operators.update operators.prefixed operators.operand operators.assertion_body operators.exponentiation operators.power_body operators.factors operators.terms operators.shifts operators.shift operators.relations operators.relation operators.equalities operators.equality operators.bit_and operators.bit_xor operators.bit_or operators.short_circuit patterns.pattern_element patterns.array_pattern patterns.pattern_property patterns.object_pattern patterns.pattern_body primaries.template primaries.spread primaries.element primaries.array primaries.property primaries.object primaries.parenthesized primaries.class_expression primaries.primary statements.in_parentheses statements.if_ statements.for_left statements.for_await statements.for_rest statements.for_head statements.for_ statements.while_ statements.do_while statements.switch_case statements.switch statements.catch_clause statements.try_ statements.jump statements.labeled statements.expression_statement statements.statement_body types.type_param types.type_params types.type_args types.entity types.type_list types.return_type types.some_annotation types.some_return_annotation types.parameter_modifier types.rest_pattern types.default_value types.param types.params types.parenthesized_params types.function_type types.intersection_type types.union_type types.type_body types.array_suffixes types.array_suffix_body types.import_type types.tuple_element types.mapped_type types.signature_type types.type_member types.object_type types.template_type types.primary_type types.type_operator_body types.after_type_args
+unfolding productions
 link_ranked link.Dot = (refl, refl)
 link_ranked link.Optional = (refl, refl)
 link_ranked link.Bracket = (refl, refl)
@@ -154,7 +145,7 @@ link_ranked link.NonNull = (refl, refl)
 link_ranked link.Instantiation = (refl, refl)
 
 new_link_ranked : (l : Link) → Ranked (part.NewLink l)
-unfolding chains.arguments chains.chain_key chains.index chains.template_start chains.import_meta chains.super_of_member chains.super_of_link chains.import_call chains.construction chains.links chains.tagged_template chains.optional_link chains.dot_body chains.optional_body chains.bracket_body chains.call_body chains.tagged_body chains.non_null_body chains.instantiation_body chains.chain chains.new_links chains.new_dot_body chains.new_bracket_body chains.new_tagged_body chains.new_non_null_body chains.new_body classes.modifier classes.question_or_exclamation classes.getter classes.setter classes.method classes.field classes.index_signature classes.member classes.class_declaration classes.abstract_class_declaration classes.abstract_class_expression declarations.type_alias declarations.interface declarations.enum_member declarations.enum_rest declarations.enum_ declarations.dotted_names declarations.dotted_name_body declarations.namespace declarations.declaration declarations.declared_body expressions.conditional expressions.assignments functions.signature functions.function_expression functions.function_declaration functions.method_async functions.getter_property functions.setter_property functions.method_property functions.arrow_rest functions.arrow modules.attributes modules.from modules.star modules.import_specifier modules.import_specifiers modules.import_clause modules.import modules.require modules.dotted_keys modules.dotted_key_body modules.import_equals modules.export_specifier modules.export_names modules.export_star_as modules.export_star modules.export_default modules.export modules.module_item modules.namespace_block names.binding_ident names.computed_prop_name names.prop_name names.class_element_name names.prop_start names.member_start names.module_export_name names.expression names.block operators.update operators.prefixed operators.operand operators.assertion_body operators.exponentiation operators.power_body operators.factors operators.terms operators.shifts operators.shift operators.relations operators.relation operators.equalities operators.equality operators.bit_and operators.bit_xor operators.bit_or operators.short_circuit patterns.pattern_element patterns.array_pattern patterns.pattern_property patterns.object_pattern patterns.pattern_body primaries.template primaries.spread primaries.element primaries.array primaries.property primaries.object primaries.parenthesized primaries.class_expression primaries.primary statements.in_parentheses statements.if_ statements.for_left statements.for_await statements.for_rest statements.for_head statements.for_ statements.while_ statements.do_while statements.switch_case statements.switch statements.catch_clause statements.try_ statements.jump statements.labeled statements.expression_statement statements.statement_body types.type_param types.type_params types.type_args types.entity types.type_list types.return_type types.some_annotation types.some_return_annotation types.parameter_modifier types.rest_pattern types.default_value types.param types.params types.parenthesized_params types.function_type types.intersection_type types.union_type types.type_body types.array_suffixes types.array_suffix_body types.import_type types.tuple_element types.mapped_type types.signature_type types.type_member types.object_type types.template_type types.primary_type types.type_operator_body types.after_type_args
+unfolding productions
 new_link_ranked link.Dot = (refl, refl)
 new_link_ranked link.Optional = (refl, refl)
 new_link_ranked link.Bracket = (refl, refl)
@@ -164,7 +155,7 @@ new_link_ranked link.NonNull = (refl, refl)
 new_link_ranked link.Instantiation = (refl, refl)
 
 pub part_ranked : (u : Part) → Ranked u
-unfolding chains.arguments chains.chain_key chains.index chains.template_start chains.import_meta chains.super_of_member chains.super_of_link chains.import_call chains.construction chains.links chains.tagged_template chains.optional_link chains.dot_body chains.optional_body chains.bracket_body chains.call_body chains.tagged_body chains.non_null_body chains.instantiation_body chains.chain chains.new_links chains.new_dot_body chains.new_bracket_body chains.new_tagged_body chains.new_non_null_body chains.new_body classes.modifier classes.question_or_exclamation classes.getter classes.setter classes.method classes.field classes.index_signature classes.member classes.class_declaration classes.abstract_class_declaration classes.abstract_class_expression declarations.type_alias declarations.interface declarations.enum_member declarations.enum_rest declarations.enum_ declarations.dotted_names declarations.dotted_name_body declarations.namespace declarations.declaration declarations.declared_body expressions.conditional expressions.assignments functions.signature functions.function_expression functions.function_declaration functions.method_async functions.getter_property functions.setter_property functions.method_property functions.arrow_rest functions.arrow modules.attributes modules.from modules.star modules.import_specifier modules.import_specifiers modules.import_clause modules.import modules.require modules.dotted_keys modules.dotted_key_body modules.import_equals modules.export_specifier modules.export_names modules.export_star_as modules.export_star modules.export_default modules.export modules.module_item modules.namespace_block names.binding_ident names.computed_prop_name names.prop_name names.class_element_name names.prop_start names.member_start names.module_export_name names.expression names.block operators.update operators.prefixed operators.operand operators.assertion_body operators.exponentiation operators.power_body operators.factors operators.terms operators.shifts operators.shift operators.relations operators.relation operators.equalities operators.equality operators.bit_and operators.bit_xor operators.bit_or operators.short_circuit patterns.pattern_element patterns.array_pattern patterns.pattern_property patterns.object_pattern patterns.pattern_body primaries.template primaries.spread primaries.element primaries.array primaries.property primaries.object primaries.parenthesized primaries.class_expression primaries.primary statements.in_parentheses statements.if_ statements.for_left statements.for_await statements.for_rest statements.for_head statements.for_ statements.while_ statements.do_while statements.switch_case statements.switch statements.catch_clause statements.try_ statements.jump statements.labeled statements.expression_statement statements.statement_body types.type_param types.type_params types.type_args types.entity types.type_list types.return_type types.some_annotation types.some_return_annotation types.parameter_modifier types.rest_pattern types.default_value types.param types.params types.parenthesized_params types.function_type types.intersection_type types.union_type types.type_body types.array_suffixes types.array_suffix_body types.import_type types.tuple_element types.mapped_type types.signature_type types.type_member types.object_type types.template_type types.primary_type types.type_operator_body types.after_type_args
+unfolding productions
 part_ranked part.Statement = (refl, refl)
 part_ranked part.NamespaceBody = (refl, refl)
 part_ranked part.Declared = (refl, refl)
@@ -205,9 +196,9 @@ ranked_at u ts = part_ranked u
 -- items of a module
 
 pub item_eats : nat_le 1 (eats modules.module_item) ≡ true
-unfolding chains.arguments chains.chain_key chains.index chains.template_start chains.import_meta chains.super_of_member chains.super_of_link chains.import_call chains.construction chains.links chains.tagged_template chains.optional_link chains.dot_body chains.optional_body chains.bracket_body chains.call_body chains.tagged_body chains.non_null_body chains.instantiation_body chains.chain chains.new_links chains.new_dot_body chains.new_bracket_body chains.new_tagged_body chains.new_non_null_body chains.new_body classes.modifier classes.question_or_exclamation classes.getter classes.setter classes.method classes.field classes.index_signature classes.member classes.class_declaration classes.abstract_class_declaration classes.abstract_class_expression declarations.type_alias declarations.interface declarations.enum_member declarations.enum_rest declarations.enum_ declarations.dotted_names declarations.dotted_name_body declarations.namespace declarations.declaration declarations.declared_body expressions.conditional expressions.assignments functions.signature functions.function_expression functions.function_declaration functions.method_async functions.getter_property functions.setter_property functions.method_property functions.arrow_rest functions.arrow modules.attributes modules.from modules.star modules.import_specifier modules.import_specifiers modules.import_clause modules.import modules.require modules.dotted_keys modules.dotted_key_body modules.import_equals modules.export_specifier modules.export_names modules.export_star_as modules.export_star modules.export_default modules.export modules.module_item modules.namespace_block names.binding_ident names.computed_prop_name names.prop_name names.class_element_name names.prop_start names.member_start names.module_export_name names.expression names.block operators.update operators.prefixed operators.operand operators.assertion_body operators.exponentiation operators.power_body operators.factors operators.terms operators.shifts operators.shift operators.relations operators.relation operators.equalities operators.equality operators.bit_and operators.bit_xor operators.bit_or operators.short_circuit patterns.pattern_element patterns.array_pattern patterns.pattern_property patterns.object_pattern patterns.pattern_body primaries.template primaries.spread primaries.element primaries.array primaries.property primaries.object primaries.parenthesized primaries.class_expression primaries.primary statements.in_parentheses statements.if_ statements.for_left statements.for_await statements.for_rest statements.for_head statements.for_ statements.while_ statements.do_while statements.switch_case statements.switch statements.catch_clause statements.try_ statements.jump statements.labeled statements.expression_statement statements.statement_body types.type_param types.type_params types.type_args types.entity types.type_list types.return_type types.some_annotation types.some_return_annotation types.parameter_modifier types.rest_pattern types.default_value types.param types.params types.parenthesized_params types.function_type types.intersection_type types.union_type types.type_body types.array_suffixes types.array_suffix_body types.import_type types.tuple_element types.mapped_type types.signature_type types.type_member types.object_type types.template_type types.primary_type types.type_operator_body types.after_type_args
+unfolding productions
 item_eats = refl
 
 pub module_leads : leads 2 modules.module_body ≡ true
-unfolding chains.arguments chains.chain_key chains.index chains.template_start chains.import_meta chains.super_of_member chains.super_of_link chains.import_call chains.construction chains.links chains.tagged_template chains.optional_link chains.dot_body chains.optional_body chains.bracket_body chains.call_body chains.tagged_body chains.non_null_body chains.instantiation_body chains.chain chains.new_links chains.new_dot_body chains.new_bracket_body chains.new_tagged_body chains.new_non_null_body chains.new_body classes.modifier classes.question_or_exclamation classes.getter classes.setter classes.method classes.field classes.index_signature classes.member classes.class_declaration classes.abstract_class_declaration classes.abstract_class_expression declarations.type_alias declarations.interface declarations.enum_member declarations.enum_rest declarations.enum_ declarations.dotted_names declarations.dotted_name_body declarations.namespace declarations.declaration declarations.declared_body expressions.conditional expressions.assignments functions.signature functions.function_expression functions.function_declaration functions.method_async functions.getter_property functions.setter_property functions.method_property functions.arrow_rest functions.arrow modules.attributes modules.from modules.star modules.import_specifier modules.import_specifiers modules.import_clause modules.import modules.require modules.dotted_keys modules.dotted_key_body modules.import_equals modules.export_specifier modules.export_names modules.export_star_as modules.export_star modules.export_default modules.export modules.module_item modules.namespace_block names.binding_ident names.computed_prop_name names.prop_name names.class_element_name names.prop_start names.member_start names.module_export_name names.expression names.block operators.update operators.prefixed operators.operand operators.assertion_body operators.exponentiation operators.power_body operators.factors operators.terms operators.shifts operators.shift operators.relations operators.relation operators.equalities operators.equality operators.bit_and operators.bit_xor operators.bit_or operators.short_circuit patterns.pattern_element patterns.array_pattern patterns.pattern_property patterns.object_pattern patterns.pattern_body primaries.template primaries.spread primaries.element primaries.array primaries.property primaries.object primaries.parenthesized primaries.class_expression primaries.primary statements.in_parentheses statements.if_ statements.for_left statements.for_await statements.for_rest statements.for_head statements.for_ statements.while_ statements.do_while statements.switch_case statements.switch statements.catch_clause statements.try_ statements.jump statements.labeled statements.expression_statement statements.statement_body types.type_param types.type_params types.type_args types.entity types.type_list types.return_type types.some_annotation types.some_return_annotation types.parameter_modifier types.rest_pattern types.default_value types.param types.params types.parenthesized_params types.function_type types.intersection_type types.union_type types.type_body types.array_suffixes types.array_suffix_body types.import_type types.tuple_element types.mapped_type types.signature_type types.type_member types.object_type types.template_type types.primary_type types.type_operator_body types.after_type_args modules.module_body
+unfolding productions modules.module_body
 module_leads = refl

@@ -13,8 +13,8 @@ use Rattle.ecma_lex.proofs.Repeats.{then_some}
 use Rattle.ecma_lex.proofs.Spelled.{alone}
 use Rattle.ecma_lex.proofs.Suffixes.{Stands, after_here, cut_here, cut_utf8, past, piece_here}
 use Rattle.ecma_leaves.specs.Words.{ends_at, is_cooked, is_no_return, is_readable, is_text_part, stands_in_template}
-use Rattle.ecma_text_fits.proofs.RawTexts.{untagged}
-use Rattle.ecma_text_fits.proofs.TemplateFeeds.{characters_kept}
+use Rattle.ecma_text_fits_leaves.proofs.RawTexts.{untagged}
+use Rattle.ecma_text_fits_leaves.proofs.TemplateFeeds.{characters_kept}
 use Rattle.ecma_print_tokens.specs.Good.{IsTextPart}
 use Rattle.ecma_print_tokens.specs.Taking.{part_inside}
 use Rattle.ecma_shapes.specs.LiteralTexts.{part_closing, part_text}

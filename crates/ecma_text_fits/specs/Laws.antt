@@ -20,10 +20,10 @@ use Rattle.ecma_modules.specs.Modules.{reads_as}
 use Rattle.ecma_grammar.specs.Modules.{answer_of, reads_module}
 use Rattle.ecma_fits.specs.declared.role.Role.TheVariants as role
 use Rattle.ecma_grammar_laws.specs.RawSorts.{HasRawSort}
-use Rattle.ecma_text_fits.specs.Clauses.{is_misspelled, KeepsRules, Clauses}
-use Rattle.ecma_text_fits.specs.RawRoles.{HasRawRole}
 use Rattle.ecma_text_fits.specs.Least.{Unfit}
 use Rattle.ecma_rules.specs.Members.{has_second_constructor}
+use Rattle.ecma_fits_clauses.specs.Clauses.{is_misspelled, KeepsRules, Clauses}
+use Rattle.ecma_fits_clauses.specs.RawRoles.{HasRawRole}
 
 -- a tree fits exactly where each clause holds
 abbrev pub FitsByClauses : Type 0

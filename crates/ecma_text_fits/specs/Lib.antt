@@ -1,4 +1,2 @@
-pub mod Clauses
 pub mod Least
-pub mod RawRoles
 pub mod Laws

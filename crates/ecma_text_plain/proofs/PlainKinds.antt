@@ -16,7 +16,7 @@ use Rattle.ecma_grammar.specs.trees.Classes.{modified}
 use Rattle.ecma_grammar.specs.trees.Others.{text_of}
 use Rattle.ecma_text_leaves.specs.Everywhere.{Each, Everywhere, everywhere, more, none}
 use Rattle.ecma_text_leaves.proofs.Trees.{kind_made}
-use Rattle.ecma_text_fits.proofs.Walks.{neither, not_true}
+use Rattle.ecma_fits_clauses.proofs.Walks.{neither, not_true}
 use Rattle.ecma_text_plain.specs.Assignments.{is_assignment_form}
 use Rattle.ecma_plain.specs.Forms.{IsBare, has_type_modifiers, is_of_forms}
 use Rattle.ecma_plain.specs.Items.{HasUtf8Hashbang}

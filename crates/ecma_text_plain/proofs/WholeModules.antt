@@ -20,8 +20,8 @@ use Rattle.ecma_rules.specs.declared.target.Target.TheVariants as target
 use Rattle.ecma_rules.specs.Children.{kind_of}
 use Rattle.ecma_modules.specs.Modules.{plain, reads_as}
 use Rattle.ecma_text_sorts.specs.Laws.{ReadModulesAreSorted}
-use Rattle.ecma_text_fits.proofs.Raws.{of_raw}
-use Rattle.ecma_text_fits.proofs.Walks.{neither, not_true}
+use Rattle.ecma_text_fits_finished.proofs.Raws.{of_raw}
+use Rattle.ecma_fits_clauses.proofs.Walks.{neither, not_true}
 use Rattle.ecma_text_plain.specs.Laws.{ReadPlainFunctionsHaveBodies, ReadPlainNamesAreNotThis}
 use Rattle.ecma_text_plain.specs.Functions.{children_told, has_this_parameter, holds_somewhere, is_bodiless}
 use Rattle.ecma_text_plain.proofs.WholeFinished.{finished_whole}

@@ -12,7 +12,6 @@ use Rattle.ecma_rules.specs.Children.{holds_of, is_present, kind_of, of_kind}
 use Rattle.ecma_rules.specs.Jumps.{first_stray}
 use Rattle.ecma_fits.specs.declared.unfit.Where.{Where}
 use Rattle.ecma_fits.specs.Fitting.{Fits, at_top, first_unfit_in, where_in}
-use Rattle.ecma_text_fits.proofs.Walks.{neither_least}
 use Rattle.ecma_strip.specs.Staying.{is_declared, is_this_by, member_stays_by, specifier_stays, stays}
 use Rattle.ecma_hygiene.proofs.Telling.{and-both, true-false}
 use Rattle.ecma_strip_scopes.proofs.Going.{parts-have}
@@ -25,6 +24,7 @@ use Rattle.ecma_text_sources.proofs.Staying.{stays_by, stays_is}
 use Rattle.ecma_text_sources.proofs.Taken.{not_later, not_odd, taken_below}
 use Rattle.ecma_tree.specs.Values.{is_value, value_by}
 use Rattle.ecma_tree.proofs.Valuing.{is_value-out}
+use Rattle.ecma_fits_clauses.proofs.Walks.{neither_least}
 
 unlowered : (k : Kind) → is_later k ≡ false → is_lowered k ≡ false
 unlowered (kind.TsEnumDecl declare is_const) h = absurd (true-false refl h)
