@@ -1,4 +1,4 @@
-// Sinks in memory.
+//! Sinks in memory: one that only want of memory stops, and one that fails at the calls that it is told of.
 ghost use Rattle.std.specs.Prelude.{◌≡◌, ◌≤◌, ◌<◌, ◌↔◌, ◌-◌, ◌^◌, ℕ, Some, [], ◌++◌, IfOk, IfErr, OnErr, Contains, length, min, take};
 ghost use Rattle.devices.specs.Counts.{Counted, CountedExactlyIf, next_count};
 ghost use Rattle.devices.specs.Sink.{Takes};

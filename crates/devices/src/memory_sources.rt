@@ -1,4 +1,4 @@
-// Sources in memory.
+//! Sources in memory: one that never fails, and one that fails at the calls that it is told of.
 ghost use Rattle.std.specs.Prelude.{◌≡◌, ◌≤◌, ◌<◌, ◌↔◌, ℕ, Some, IsErr, IsOk, IfOk, OnErr, Contains, length, min, drop};
 ghost use Rattle.devices.specs.Counts.{Counted, CountedExactlyIf, next_count};
 ghost use Rattle.devices.specs.Source.{Reads};

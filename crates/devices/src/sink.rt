@@ -1,4 +1,4 @@
-// Where bytes go.
+//! Where bytes go: the trait of sinks, and why a sink took nothing.
 ghost use Rattle.std.specs.Prelude.{◌≡◌, ℕ, List, Option};
 ghost use Rattle.devices.specs.Counts.{Counted, CountedExactlyIf};
 ghost use Rattle.devices.specs.Sink.{Takes};

@@ -1,4 +1,4 @@
-// Where bytes come from.
+//! Where bytes come from: the trait of sources, and their failure.
 ghost use Rattle.std.specs.Prelude.{◌<◌, ℕ, List, Option, IsErr, length};
 ghost use Rattle.devices.specs.Counts.{Counted, CountedExactlyIf};
 ghost use Rattle.devices.specs.Source.{Reads};

@@ -1,4 +1,4 @@
-// Any reader and any writer of the standard library as a source and a sink.
+//! Any reader and any writer of the standard library as a source and a sink.
 ghost use Rattle.std.specs.Prelude.{◌≡◌, ◌<◌, ℕ, None, IsErr, IfErr, length};
 ghost use Rattle.std.specs.Io.KnownBytes.{ReadConsumes, WriteAppends};
 ghost use Rattle.devices.specs.Counts.{Counted, CountedExactlyIf};

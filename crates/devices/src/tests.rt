@@ -1,3 +1,4 @@
+//! Devices in memory and over the standard library, at calls that succeed and at calls that fail.
 use super::*;
 use std::alloc::{AllocError, Global};
 use std::io;

@@ -1,4 +1,4 @@
-// All that a program reads and writes: from a source to its end or a limit, and the whole of a text to a sink.
+//! All that a program reads and writes: from a source to its end or a limit, and the whole of a text to a sink.
 ghost use Rattle.std.specs.Prelude.{◌≡◌, ◌≤◌, ◌<◌, ◌+◌, ◌++◌, [], length, take, IfOk, IfSome, OnErr, OnOk, vec_len};
 ghost use Rattle.std.specs.Io.KnownBytes.{append_known};
 ghost use Rattle.devices.specs.Counts.{Counted, CountedAtMost, CountedExactlyIf, Rose};

@@ -1,4 +1,4 @@
-// Bytes that are handed out from the front.
+//! Bytes that are handed out from the front, which the sources in memory share.
 ghost use Rattle.std.specs.Prelude.{◌≡◌, ◌≤◌, ℕ, List, length, min, take, drop, vec_len};
 
 use std::marker::Model;

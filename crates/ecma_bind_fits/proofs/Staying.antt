@@ -8,7 +8,7 @@ use Rattle.ecma_fits.specs.declared.role.Role.{Role}
 use Rattle.ecma_fits.specs.declared.unfit.Where.{Where}
 use Rattle.ecma_fits.specs.Fitting.{at_top, where_in}
 use Rattle.ecma_fits.specs.Roles.{role_in}
-use Rattle.ecma_strip_fits.specs.Kept.{is_typed_target}
+use Rattle.ecma_strip_fits.specs.Targets.{is_typed_target}
 use Rattle.ecma_strip_fits.proofs.Strays.{not_failing}
 use Rattle.ecma_bind.specs.Binding.{bound_at, with_children}
 use Rattle.ecma_bind_fits.specs.Laws.{BoundNamesStay}

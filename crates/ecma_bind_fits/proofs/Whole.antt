@@ -26,8 +26,8 @@ use Rattle.ecma_fits.specs.Fitting.{Fits, at_top, first_unfit_in, unfit_here, wh
 use Rattle.ecma_fits.specs.Roles.{is_assigned, is_bound_name, is_name, is_out_of_role, is_tagged, is_wrong_name, may_be, role_in, takes}
 use Rattle.ecma_fits.specs.declared.strays.Arguments.{Arguments}
 use Rattle.ecma_fits.specs.Strays.{arguments_in, is_stray_target}
-use Rattle.ecma_text_fits.proofs.Arguments.{AllLinked, Linked, allows_inert, is_inert_kind, linked_in}
-use Rattle.ecma_strip_fits.specs.Kept.{HasPlainTargets, is_typed_target}
+use Rattle.ecma_text_fits_finished.proofs.Arguments.{AllLinked, Linked, allows_inert, is_inert_kind, linked_in}
+use Rattle.ecma_strip_fits.specs.Targets.{HasPlainTargets, is_typed_target}
 use Rattle.ecma_strip_fits.proofs.FitsKept.{fits_kept}
 use Rattle.ecma_strip_fits.proofs.Leaves.{unfit_none}
 use Rattle.ecma_strip_fits.proofs.Strays.{none_failing, not_failing}

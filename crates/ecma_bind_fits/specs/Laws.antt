@@ -3,7 +3,7 @@ use Rattle.std.specs.Prelude.{◌≡◌}
 use Rattle.ecma_tree.specs.declared.node.Node.{Node}
 use Rattle.ecma_fits.specs.Fitting.{Fits}
 use Rattle.ecma_strip.specs.Stripping.{stripped}
-use Rattle.ecma_strip_fits.specs.Kept.{HasPlainTargets}
+use Rattle.ecma_strip_fits.specs.Targets.{HasPlainTargets}
 use Rattle.ecma_bind.specs.Binding.{with_bound_names}
 
 -- what fits fits with bound names

@@ -1,7 +1,7 @@
 //! Names with types round them, bound where names are bound: the tree in which a pattern that is assigned to, and the head of a loop, binds a name as
 //! finishing binds it, and the laws of that tree, over the definitions alone.
 //!
-//! Each function carries one law, and does nothing. The laws are stated in `specs/`.
+//! Each function carries one law, and does nothing. The laws are stated in `specs/Laws.antt`.
 #![tactic(auto)]
 
 ghost use Rattle.ecma_bind_fits.specs.Laws.{BoundNamesArePlain, BoundNamesFit, BoundNamesStay, WhatFitsFitsWithoutTypes};

@@ -1,7 +1,7 @@
 //! Names with types round them, bound where names are bound, do not matter to scopes: the contexts of identifiers, and which names are declared again
 //! where they may not be.
 //!
-//! Each function carries laws over the definitions, and does nothing. The laws are stated in `specs/`.
+//! Each function carries laws over the definitions, and does nothing. The laws are stated in `specs/Laws.antt`.
 #![tactic(auto)]
 
 ghost use Rattle.ecma_bind_scopes.specs.Laws.{BoundNamesDeclareAlike, BoundNamesResolveAlike};

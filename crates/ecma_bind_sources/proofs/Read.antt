@@ -1,8 +1,8 @@
 -- A tree as it is read is one with its names bound.
 use Rattle.std.proofs.Common.{refl, sym, subst}
-use Rattle.ecma_print_shapes.specs.Items.{HasUtf8Hashbang}
+use Rattle.ecma_plain.specs.Items.{HasUtf8Hashbang}
 use Rattle.ecma_fits.specs.declared.role.Role.TheVariants as role
-use Rattle.ecma_text_plain.specs.Bare.{IsBareUnquestioned}
+use Rattle.ecma_plain.specs.Forms.{IsBareUnquestioned}
 use Rattle.ecma_bind_fits.specs.Laws.{BoundNamesFit}
 use Rattle.ecma_bind_fits.proofs.Alike.{usual_kind}
 use Rattle.ecma_bind_sources.specs.Laws.{BoundTreesAreRead}

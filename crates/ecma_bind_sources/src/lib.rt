@@ -1,9 +1,9 @@
-//! What is read as a module is so with its names bound, and each of its forms is still taken.
+//! What is read as a module is so with its names bound, each of its forms is still taken, and the source of a module that is written is still one.
 //!
-//! Each function carries one law over the definitions, and does nothing. The laws are stated in `specs/`.
+//! Each function carries one law over the definitions, and does nothing. The laws are stated in `specs/Laws.antt`.
 #![tactic(auto)]
 
-ghost use Rattle.ecma_bind_sources.specs.Laws.{BoundTreesAreRead, BoundTreesAreTaken};
+ghost use Rattle.ecma_bind_sources.specs.Laws.{BoundSourcesAreSources, BoundTreesAreRead, BoundTreesAreTaken};
 
 use ecma_bind_fits::bound_names_fit;
 
@@ -17,4 +17,9 @@ pub fn bound_trees_are_read()
 /// Where each form of a tree is taken, each form of it is with its names bound.
 pub fn bound_trees_are_taken()
     ensures { BoundTreesAreTaken }
+{}
+
+/// A source of a module that is written is one with its names bound.
+pub fn bound_sources_are_sources()
+    ensures { BoundSourcesAreSources }
 {}

@@ -1,6 +1,6 @@
 //! The raw trees of finished ones: in the place of each pattern that is assigned to stands the literal that covers it.
 //!
-//! Each function carries one law over the definitions, and does nothing. The laws are stated in `specs/`.
+//! Each function carries one law over the definitions, and does nothing. The laws are stated in `specs/Laws.antt`.
 #![tactic(auto)]
 
 ghost use Rattle.ecma_covers.specs.Laws.{FinishingUncovers};

@@ -28,7 +28,7 @@ holds_at_last children (Some i) = holds_at children i
 abbrev pub takes_else_step : Node-F Bool → Bool
 takes_else_step parts = is_absent parts.kind || holds_at_last parts.children (last_part parts.kind)
 
--- an `else` behind the node would be its own: an alternative that is missing, or what ends with one
+-- an `else` after the node would be its own: an alternative that is missing, or what ends with one
 abbrev pub takes_else : Node → Bool
 takes_else = fold-Node Bool takes_else_step
 

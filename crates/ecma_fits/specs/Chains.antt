@@ -1,4 +1,4 @@
--- A link of an optional chain without its own `?.` stands behind one that has it (ECMAScript, 13.3.9).
+-- A link of an optional chain without its own `?.` stands after one that has it (ECMAScript, 13.3.9).
 use Rattle.std.specs.Prelude.{Bool, true, false, not, ◌&&◌, ◌||◌}
 use Rattle.ecma_kind.specs.declared.kind.Kind.{Kind}
 use Rattle.ecma_kind.specs.declared.kind.Kind.TheVariants as kind
@@ -10,7 +10,7 @@ abbrev pub is_link : Kind → Bool
 is_link (kind.OptChainExpr optional) = true
 is_link _ = false
 
--- `!` and type arguments behind a link do not end its chain
+-- `!` and type arguments after a link do not end its chain
 abbrev pub keeps_chain : Kind → Bool
 keeps_chain kind.TsNonNullExpr = true
 keeps_chain kind.TsInstantiation = true
@@ -19,7 +19,7 @@ keeps_chain _ = false
 abbrev pub goes_on_step : Node-F Bool → Bool
 goes_on_step parts = is_link parts.kind || (keeps_chain parts.kind && first_is parts.children)
 
--- whether an optional chain goes on behind a node
+-- whether an optional chain goes on after a node
 abbrev pub goes_on : Node → Bool
 goes_on = fold-Node Bool goes_on_step
 

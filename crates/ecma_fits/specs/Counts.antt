@@ -17,7 +17,7 @@ ends_once [] = false
 ends_once (part ∷ []) = ends_template (kind_of part)
 ends_once (part ∷ parts) = not (ends_template (kind_of part)) && ends_once parts
 
--- a text part before each expression of a template, and one behind the last
+-- a text part before each expression of a template, and one after the last
 abbrev pub is_whole_template : List Node → List Node → Bool
 is_whole_template expressions parts = length parts == length expressions + 1 && ends_once parts
 
@@ -59,7 +59,7 @@ abbrev pub are_imports : List Node → Bool
 are_imports [] = true
 are_imports (first ∷ others) = are_stars_or_names (first ∷ others) || (is_default_import (kind_of first) && are_stars_or_names others)
 
--- `* as a` stands alone, before a source; attributes stand behind a source
+-- `* as a` stands alone, before a source; attributes stand after a source
 abbrev pub is_star_of : Bool → List Node → Bool
 is_star_of has_source (one ∷ []) = has_source && is_star_export (kind_of one)
 is_star_of has_source _ = false

@@ -145,7 +145,7 @@ abbrev pub in_template : Role → Role
 in_template role.Tagged = role.TaggedTexts
 in_template _ = role.Free
 
--- a text part behind a tag
+-- a text part after a tag
 abbrev pub is_tagged : Role → Bool
 is_tagged role.TaggedText = true
 is_tagged _ = false

@@ -28,7 +28,7 @@ fn last_part(kind: &Kind) -> Option<usize>
     }
 }
 
-/// Whether an `else` behind a node would be its own.
+/// Whether an `else` after a node would be its own.
 #[tactic(auto, using(crate::proofs::Taking::taking))]
 fn takes_else(node: &Node) -> bool
     ensures { result ≡ takes_else node.now }

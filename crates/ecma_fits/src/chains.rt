@@ -17,7 +17,7 @@ fn keeps_chain(kind: &Kind) -> bool
     matches!(kind, Kind::TsNonNullExpr | Kind::TsInstantiation)
 }
 
-/// Whether an optional chain goes on behind a node.
+/// Whether an optional chain goes on after a node.
 #[tactic(auto, using(crate::proofs::Going::going))]
 fn goes_on(node: &Node) -> bool
     ensures { result ≡ goes_on node.now }
@@ -34,7 +34,7 @@ fn goes_on(node: &Node) -> bool
     }
 }
 
-/// Whether the object or the callee of a link is one that a chain goes on behind.
+/// Whether the object or the callee of a link is one that a chain goes on after.
 fn is_behind_chain(base: &Node) -> bool
     ensures { result ≡ is_behind_chain base.now }
 {

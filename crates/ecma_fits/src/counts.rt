@@ -29,7 +29,7 @@ fn ends_once(parts: &[Node]) -> bool
     }
 }
 
-/// Whether a text part stands before each expression of a template, and one behind the last.
+/// Whether a text part stands before each expression of a template, and one after the last.
 fn is_whole_template(expressions: &[Node], parts: &[Node]) -> bool
     ensures { result ≡ is_whole_template expressions.now parts.now }
 {

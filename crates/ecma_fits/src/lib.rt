@@ -1,4 +1,4 @@
-//! Which finished trees fit: docs/FITS.md.
+//! Which finished trees fit, that is, are well-formed: docs/FITS.md.
 #![tactic(auto)]
 
 mod branches;

@@ -43,7 +43,7 @@ pub enum Role {
     DeclaredName,
     /// A parameter.
     Parameter,
-    /// A parameter that has a default behind it.
+    /// A parameter that has a default after it.
     DefaultedParameter,
     /// Parameters.
     Parameters,
@@ -61,7 +61,7 @@ pub enum Role {
     AssignedProperties,
     /// A target that is no pattern, in a pattern that is assigned to.
     AssignedName,
-    /// A template behind a tag.
+    /// A template after a tag.
     Tagged,
     /// Its text parts.
     TaggedTexts,
@@ -278,7 +278,7 @@ fn in_template(role: Role) -> Role
     }
 }
 
-/// Whether a text part stands behind a tag.
+/// Whether a text part stands after a tag.
 pub(crate) fn is_tagged(role: Role) -> bool
     ensures { result ≡ is_tagged role }
 {

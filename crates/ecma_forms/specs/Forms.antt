@@ -11,6 +11,8 @@ use Rattle.ecma_rules.specs.Children.{child_holds, child_is, has_child, kind_of}
 use Rattle.ecma_rules.specs.Failing.{first_failing, failing_here}
 
 -- imports and exports (ECMAScript, 16.2.2, 16.2.3; TypeScript handbook, "Modules - Reference"); enums and namespaces; and parameter properties
+--   let a: T = b; class A { c; }   // taken
+--   import "m"; enum E { } class A { constructor(private b) { } }   // not taken, each of them
 abbrev pub is_later : Kind → Bool
 is_later (kind.ImportDecl type_only) = true
 is_later (kind.ImportNamedSpecifier is_type_only) = true
@@ -46,7 +48,9 @@ abbrev pub has_body : Node → Bool
 has_body function = has_child function 1
 
 -- a function without a body that could be no declaration, as in `({ get a() })`: the grammar reads it, and TypeScript does not; and what no text has, though no law
--- says so: a variable in the head of a loop behind `declare`
+-- says so: a variable in the head of a loop after `declare`
+--   ({ get a() { return 1; } });   // taken
+--   ({ get a() });   // not taken
 abbrev pub is_odd_by : Kind → Node → Bool
 is_odd_by kind.SetterProp node = not (has_child node 3)
 is_odd_by kind.GetterProp node = not (has_child node 2)
@@ -61,6 +65,8 @@ abbrev pub is_untaken : Node → Bool
 is_untaken node = is_later (kind_of node) || is_odd_by (kind_of node) node
 
 -- an item that goes from a list when the types go, but for an import or an export, which leaves its trace in what is written
+--   declare namespace N { enum E { } }   // taken, since it goes
+--   namespace N { enum E { } }   // not taken
 abbrev pub goes : Node → Bool
 goes item = not (stays item) && not (belongs sort.ModuleDecl (kind_of item))
 

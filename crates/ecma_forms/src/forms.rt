@@ -15,7 +15,7 @@ fn is_ambient_variable(kind: &Kind) -> bool
     }
 }
 
-/// Whether the head of a loop is a variable behind `declare`.
+/// Whether the head of a loop is a variable after `declare`.
 fn has_ambient_head(node: &Node) -> bool
     ensures { result ≡ child_is is_ambient_variable node.now 0 }
 {

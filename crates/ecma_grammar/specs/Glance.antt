@@ -15,7 +15,7 @@ use Rattle.ecma_grammar.specs.Grammar.{Terminal, the_word, the_punct, any, Gramm
 pub data Sight : Type 0 where
   -- nothing is known
   unknown : Sight
-  -- it fails, as terminals do behind the blanks
+  -- it fails, as terminals do after the blanks
   fails : Sight
   -- nothing is read, while terminals fail there
   passes : Sight
@@ -33,7 +33,7 @@ abbrev pub only_fails : Sight → Sight
 only_fails fails = fails
 only_fails y = unknown
 
--- one behind the other
+-- one after the other
 abbrev pub then_sight : Sight → Sight → Sight
 then_sight unknown y = unknown
 then_sight fails y = fails
@@ -115,7 +115,7 @@ module _ (byte : ℕ) where
   leads_nowhere (grammar.◌//◌ a b) = is_failing (sight byte a)
   leads_nowhere g = false
 
-  -- what remains of a choice behind the first of its alternatives, as far as they fail
+  -- what remains of a choice after the first of its alternatives, as far as they fail
   abbrev pub remainder : Grammar → Grammar
   remainder (grammar.◌//◌ a b) = if is_failing (sight byte a) then remainder b else grammar.◌//◌ a b
   remainder g = g

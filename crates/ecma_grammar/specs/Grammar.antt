@@ -22,7 +22,7 @@ pub data Grammar : Type 0 where
   take : Terminal → Grammar
   keep : Leaf → Grammar
   put : Flag → Grammar
-  -- one behind the other; ordered choice; as often as it is read
+  -- one after the other; ordered choice; as often as it is read
   ◌▸◌ ◌//◌ : Grammar → Grammar → Grammar
   many : Grammar → Grammar
   -- it stands ahead, or does not
@@ -62,7 +62,7 @@ maybe g = g // put Absent
 abbrev pub whether : Grammar → Grammar
 whether g = g ▸ put Present // put Absent
 
--- L(g): with commas between, and perhaps one behind the last
+-- L(g): with commas between, and perhaps one after the last
 abbrev pub commas : Grammar → Grammar
 commas g = g ▸ many (punct (codes ",") ▸ g) ▸ optional (punct (codes ",")) // nothing
 

@@ -21,7 +21,7 @@ Reading A = Position → Outcome A
 abbrev pub pure : {A : Type 0} → A → Reading A
 pure x s = read x s
 
--- one reading behind the other
+-- one reading after the other
 abbrev pub then_on : {A B : Type 0} → (A → Reading B) → Outcome A → Outcome B
 then_on f (read x s) = f x s
 then_on f (fails k) = fails k
@@ -31,7 +31,7 @@ infixl 10 ◌>>=◌
 abbrev pub ◌>>=◌ : {A B : Type 0} → Reading A → (A → Reading B) → Reading B
 ◌>>=◌ p f s = then_on f (p s)
 
--- what was read stands in front of what is read behind it
+-- what was read stands in front of what is read after it
 abbrev pub with_front : {A : Type 0} → List A → Outcome (List A) → Outcome (List A)
 with_front xs (read ys t) = read (xs ++ ys) t
 with_front xs (fails k) = fails k

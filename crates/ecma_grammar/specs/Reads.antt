@@ -31,7 +31,7 @@ use Rattle.ecma_grammar.specs.Grammar as grammar
 use Rattle.ecma_grammar.specs.Grammar.{Terminal, the_word, the_punct, any, Grammar}
 use Rattle.ecma_grammar.specs.PartBodies.{part_body}
 
--- no line break stands before what follows; one fails as a terminal, behind it
+-- no line break stands before what follows; one fails as a terminal, after it
 abbrev pub same_line_on : Position → Skipped → Outcome (List Node)
 same_line_on s before = if before.new_line then fails (max s.failed before.to) else read [] s
 

@@ -33,7 +33,7 @@ written (production.Behind t u) = behind (written_token t) u
 written (production.Build' f p a) = build f (written a)
 written (production.The r) = rule_grammar r
 
--- what stands behind what was read
+-- what stands after what was read
 abbrev pub written_tail : declared_tail.Tail → Tail
 written_tail t = tail t.form (written t.production)
 

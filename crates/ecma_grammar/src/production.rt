@@ -10,37 +10,37 @@ use ecma_tree::{AssignOp, BinaryOp, MetaPropKind, MethodKind, UnaryOp, UpdateOp,
 pub enum Part {
     Statement,
     NamespaceBody,
-    /// A declaration behind `declare`.
+    /// A declaration after `declare`.
     Declared,
     /// AssignmentExpression: without the operator `in` where `no_in` is set; in the middle of a conditional expression where `middle` is set.
     Assign { no_in: bool, middle: bool },
     Pattern,
     Type,
     TypeOperator,
-    /// `[]` or an index, behind the `[` that follows a type.
+    /// `[]` or an index, after the `[` that follows a type.
     ArraySuffix,
     /// The operand of a prefix operator.
     Operand,
-    /// What stands behind `<` in `<T>e`.
+    /// What stands after `<` in `<T>e`.
     Assertion,
-    /// What stands behind `new`.
+    /// What stands after `new`.
     New,
     /// The right side of `**`.
     Power,
-    /// What stands behind `class`; its name may be missing where `named` is not set.
+    /// What stands after `class`; its name may be missing where `named` is not set.
     Class { named: bool },
     Link(Link),
     /// A link of the callee of `new`.
     NewLink(Link),
-    /// What stands behind a binary operator whose chains go to the left.
+    /// What stands after a binary operator whose chains go to the left.
     Binary { op: BinaryOp, no_in: bool },
-    /// What stands behind `as`.
+    /// What stands after `as`.
     As { no_in: bool },
-    /// What stands behind `satisfies`.
+    /// What stands after `satisfies`.
     Satisfies { no_in: bool },
-    /// A name behind a point, in the name of a namespace.
+    /// A name after a point, in the name of a namespace.
     DottedName,
-    /// A name behind a point, behind `import a =`.
+    /// A name after a point, in what stands after `import a =`.
     DottedKey,
 }
 
@@ -56,7 +56,7 @@ pub enum Link {
     Instantiation,
 }
 
-/// A text part of a template: the first or a later one, behind a tag or not, the last or one before a substitution.
+/// A text part of a template: the first or a later one, after a tag or not, the last or one before a substitution.
 #[derive(Clone, Copy, Debug)]
 pub struct TemplatePart {
     pub first: bool,
@@ -114,7 +114,7 @@ pub enum Leaf {
     False,
     Super,
     Import,
-    /// `#!` and what stands behind it, as a name with that text.
+    /// `#!` and what stands after it, as a name with that text.
     Hashbang,
 }
 
@@ -279,7 +279,7 @@ pub enum Form {
     IndexSignature,
     /// The head of a loop, its body.
     Headed,
-    /// A declaration behind `declare`.
+    /// A declaration after `declare`.
     Declared,
     /// The names of a namespace, its body.
     Namespace,
@@ -317,7 +317,7 @@ pub enum Production {
     Keep(Leaf),
     /// A node of no text.
     Put(Flag),
-    /// One behind the other.
+    /// One after the other.
     Then(&'static Production, &'static Production),
     /// The second, where the first fails.
     Or(&'static Production, &'static Production),
@@ -337,7 +337,7 @@ pub enum Production {
     Up(Part),
     /// The same, too deep where the next token begins.
     Enter(Part),
-    /// A part behind a token, one level further in; too deep where that token begins.
+    /// A part after a token, one level further in; too deep where that token begins.
     Behind(Terminal, Part),
     /// The production of that name.
     /// The production of that name.

@@ -1,4 +1,5 @@
-//! The productions of the grammar, in the words of `specs/Grammar.antt`.
+//! The productions of the grammar, in the words of `specs/Grammar.antt`. What each reads is said in `specs/productions`, by its row and by
+//! examples.
 ghost use Rattle.std.specs.Prelude.{◌≡◌, false};
 ghost use Rattle.ecma_grammar.specs.Rules.{rule_grammar};
 ghost use Rattle.ecma_grammar.specs.Written.{is_name, written};

@@ -15,7 +15,8 @@ use Rattle.ecma_grammar.specs.Made.{made}
 use Rattle.ecma_grammar.specs.PartBodies.{part_body}
 use Rattle.ecma_grammar.specs.productions.Modules.{module_body}
 use Rattle.ecma_grammar_laws.specs.Takes.{takes, part_takes, terminal_takes, repeated}
-use Rattle.ecma_grammar_laws.specs.Repetitions.{ReadingsMoveOn, RepetitionsEnd, EndsItself, reads_with}
+use Rattle.ecma_grammar_laws.specs.Laws.{ReadingsMoveOn, RepetitionsEnd}
+use Rattle.ecma_grammar_laws.specs.Repetitions.{EndsItself, reads_with}
 use Rattle.ecma_grammar_laws.proofs.Moves.{least, Goes, Moves, goes_read, goes_fails, goes_deep, goes_less, goes_then, goes_followed, goes_or, goes_ahead, goes_unless, goes_marked, moves_many, same_with_more}
 use Rattle.ecma_grammar_laws.proofs.Terminals.{moves_token, moves_leaf, goes_same_line}
 use Rattle.ecma_grammar_laws.proofs.Taking.{parts_take, module_repeats, parts_repeat}

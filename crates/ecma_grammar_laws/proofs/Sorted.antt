@@ -19,7 +19,7 @@ use Rattle.ecma_grammar.specs.PartBodies.{part_body}
 use Rattle.ecma_grammar.specs.productions.Modules.{module_body}
 use Rattle.ecma_grammar.specs.Modules.{answer_of, reads_module}
 use Rattle.ecma_grammar_laws.specs.RawSorts.{HasRawSort}
-use Rattle.ecma_grammar_laws.specs.RawTrees.{ModulesAreSorted}
+use Rattle.ecma_grammar_laws.specs.Laws.{ModulesAreSorted}
 use Rattle.ecma_grammar_laws.proofs.RawShapes.{both}
 use Rattle.ecma_grammar_laws.proofs.Asks.{Asked, these, Given, all_given, first_part, second_part, of_many, none_asked, is_one, of_one}
 use Rattle.ecma_grammar_laws.proofs.Needs.{a, keeps, part_keeps, width, leaf_kind, leaf_meets, flag_meets, needs}

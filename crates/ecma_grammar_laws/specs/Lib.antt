@@ -1,4 +1,4 @@
 pub mod Takes
 pub mod Repetitions
 pub mod RawSorts
-pub mod RawTrees
+pub mod Laws

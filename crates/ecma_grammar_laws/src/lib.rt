@@ -1,10 +1,9 @@
 //! What holds of every production: laws of the grammar and of what it reads, over their definitions alone.
 //!
-//! Each function carries one law, and does nothing. The laws are stated in `specs/`.
+//! Each function carries one law, and does nothing. The laws are stated in `specs/Laws.antt`.
 #![tactic(auto)]
 
-ghost use Rattle.ecma_grammar_laws.specs.RawTrees.{ModulesAreSorted};
-ghost use Rattle.ecma_grammar_laws.specs.Repetitions.{ReadingsMoveOn, RepetitionsEnd};
+ghost use Rattle.ecma_grammar_laws.specs.Laws.{ModulesAreSorted, ReadingsMoveOn, RepetitionsEnd};
 
 /// A reading goes on, in the text; it ends further on where the grammar reads only by taking a token.
 pub fn readings_move_on()

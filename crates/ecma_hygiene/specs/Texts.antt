@@ -69,7 +69,7 @@ abbrev pub had_with : List Named → Had → Had
 had_with [] had = had
 had_with (named ∷ names) had = had_with names (with_text named.text had)
 
--- the text with the least number from 1 behind it that none has
+-- the text with the least number from 1 after it that none has
 pub record IsNumbered (had : Had) (text result : List ℕ) : Type 0 where
   pub number : ℕ
   pub positive : 1 ≤ number
@@ -77,7 +77,7 @@ pub record IsNumbered (had : Had) (text result : List ℕ) : Type 0 where
   pub none_has : had result ≡ false
   pub least : (k : ℕ) → 1 ≤ k → k < number → had (text ++ decimal k) ≡ true
 
--- the text itself where none has it, else with a number behind it
+-- the text itself where none has it, else with a number after it
 abbrev pub IsBaseOrNumbered : Had → List ℕ → List ℕ → Type 0
 IsBaseOrNumbered had text result = cond (had text) (IsNumbered had text result) (result ≡ text)
 

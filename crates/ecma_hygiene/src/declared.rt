@@ -19,7 +19,7 @@ fn push_declared_by(declared: bool, kind: &Kind, ids: &mut ItemList<Id>) -> Resu
     Ok(())
 }
 
-/// Puts the ids that are declared in a node behind those that are there.
+/// Puts the ids that are declared in a node after those that are there.
 pub(crate) fn push_declared(
     alloc: Global,
     soughts: &ItemList<Sought>,

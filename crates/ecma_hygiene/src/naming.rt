@@ -1,3 +1,4 @@
+//! What hygiene decides: an id and the text that it gets.
 use ecma_tree::{Id, JsWord};
 
 /// An id and the text that it gets.

@@ -1,3 +1,4 @@
+//! The pass `hygiene`: it walks over a module, chooses a text for each binding, and writes the texts into the module.
 ghost use Rattle.std.specs.Prelude.{◌≡◌, OnOk};
 ghost use Rattle.ecma_hygiene.specs.Hygienic.{IsHygienic};
 ghost use Rattle.ecma_hygiene.specs.Renamed.{renamed};
@@ -29,7 +30,7 @@ fn write_texts(alloc: Global, names: &ItemList<Named>, tree: &mut Module) -> Res
 }
 
 /// Gives the bindings of a module their final texts, so that the texts alone say what its ids say. New names come first:
-/// each takes its own text if none has it, else the least number from 1 behind it that makes a text that none has. Then a
+/// each takes its own text if none has it, else the least number from 1 after it that makes a text that none has. Then a
 /// binding of the source gets a number too where an identifier of its text stands in its scope and names another, or where it
 /// is one of the body of a function that has a parameter of its text. Keys of objects and patterns stay, and so do imported and exported names.
 pub fn hygiene(alloc: Global, tree: &mut Module) -> Result<(), NoMemory>

@@ -112,7 +112,7 @@ fn push_contexts_by(
     }
 }
 
-/// Puts contexts behind those that are there.
+/// Puts contexts after those that are there.
 fn push_contexts(
     ctxts: &ItemList<SyntaxContext>,
     so_far: &mut ItemList<SyntaxContext>,
@@ -125,7 +125,7 @@ fn push_contexts(
     Ok(())
 }
 
-/// Puts the contexts in which a scope declares a text behind those that are there.
+/// Puts the contexts in which a scope declares a text after those that are there.
 pub(crate) fn push_contexts_in(
     scope: &Declared,
     text: &JsWord,

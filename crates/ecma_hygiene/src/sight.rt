@@ -1,3 +1,4 @@
+//! What the walk over a module notes down: the identifiers that it sees, and which names have to be told from which bindings.
 use ecma_tree::Id;
 
 /// An identifier of a tree: its id, whether it stands in the source, and whether it is declared here.

@@ -41,7 +41,7 @@ fn push_found(sought: Option<Sought>, soughts: &mut ItemList<Sought>) -> Result<
     Ok(())
 }
 
-/// Puts what is looked for in the child at an index behind what is there.
+/// Puts what is looked for in the child at an index after what is there.
 pub(crate) fn push_soughts_in(
     soughts: &ItemList<Sought>,
     node: &Node,
@@ -80,7 +80,7 @@ fn push_var_sought(holds: bool, stays: bool, soughts: &mut ItemList<Sought>) -> 
     Ok(())
 }
 
-/// Puts what is looked for in a node that opens a scope behind what is there.
+/// Puts what is looked for in a node that opens a scope after what is there.
 pub(crate) fn push_scope_soughts(
     role: Role,
     kind: &Kind,

@@ -1,3 +1,4 @@
+//! What a node is to the object and to the parents that it stands in, as the walks of hygiene hand it down.
 ghost use Rattle.std.specs.Prelude.{◌≡◌, ◌==◌, cond};
 ghost use Rattle.ecma_kind.specs.declared.kind.Kind.TheVariants as kind;
 ghost use Rattle.ecma_hygiene.specs.declared.spot.Spot.TheVariants as spot;

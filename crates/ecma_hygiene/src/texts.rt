@@ -70,7 +70,7 @@ fn is_new(ids: &NewIds, id: &Id) -> bool
     has_id(&ids.outside, id) && !has_id(&ids.source, id)
 }
 
-/// Puts an id behind those that are there, if it was not met.
+/// Puts an id after those that are there, if it was not met.
 fn push_distinct(id: &Id, met: &mut IdSet, ids: &mut ItemList<Id>) -> Result<(), NoMemory>
     ensures { OnOk result ((rest : List Id) → ids.new ++ distinct (has_id met.new) rest ≡ ids.old ++ distinct (has_id met.old) (id.now ∷ rest)) }
 {
@@ -182,7 +182,7 @@ fn changing_bindings(
     Ok(found)
 }
 
-/// A text with a number behind it.
+/// A text with a number after it.
 fn with_number(alloc: Global, text: &JsWord, number: u64) -> Result<JsWord, NoMemory>
     ensures { IfOk result (λ word. word ≡ text.now ++ decimal number) }
 {
@@ -191,7 +191,7 @@ fn with_number(alloc: Global, text: &JsWord, number: u64) -> Result<JsWord, NoMe
     JsWord::new(alloc, written.as_str())
 }
 
-/// The text with the least number from 1 behind it that none has.
+/// The text with the least number from 1 after it that none has.
 fn numbered(alloc: Global, had: &TextSet, text: &JsWord) -> Result<JsWord, NoMemory>
     ensures { IfOk result (λ word. IsNumbered (has_text had.now) text.now word) }
 {
@@ -204,7 +204,7 @@ fn numbered(alloc: Global, had: &TextSet, text: &JsWord) -> Result<JsWord, NoMem
     Err(NoMemory)
 }
 
-/// The text itself where none has it, else with a number behind it.
+/// The text itself where none has it, else with a number after it.
 fn base_or_numbered(alloc: Global, had: &TextSet, text: &JsWord) -> Result<JsWord, NoMemory>
     ensures { IfOk result (λ word. IsBaseOrNumbered (has_text had.now) text.now word) }
 {

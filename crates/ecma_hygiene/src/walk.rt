@@ -61,7 +61,7 @@ fn push_sight(
     Ok(())
 }
 
-/// What is hidden with one scope more further in.
+/// What is shadowed with one scope more further in.
 fn pass_scope(
     alloc: Global,
     frame: &Declared,
@@ -195,7 +195,7 @@ fn push_beside_innermost(
     Ok(())
 }
 
-/// The scope of a node that opens one; what stands beside parameters is put behind the meetings that are there.
+/// The scope of a node that opens one; what stands beside parameters is put after the meetings that are there.
 fn opened_scope(
     alloc: Global,
     role: Role,
@@ -213,7 +213,7 @@ fn opened_scope(
     scope_of(alloc, ids)
 }
 
-/// Puts what is looked for behind what is there.
+/// Puts what is looked for after what is there.
 fn push_soughts(soughts: &ItemList<Sought>, inner: &mut ItemList<Sought>) -> Result<(), NoMemory>
     ensures { OnOk result (inner.new ≡ inner.old ++ soughts.now) }
 {
@@ -238,7 +238,7 @@ fn inner_soughts(
     Ok(inner)
 }
 
-/// Puts the identifiers of a node, and what meets in it, behind those that are there.
+/// Puts the identifiers of a node, and what meets in it, after those that are there.
 #[cycle(walking)]
 fn walk(
     alloc: Global,

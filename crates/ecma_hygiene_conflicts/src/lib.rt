@@ -1,6 +1,6 @@
 //! Which names are declared again where they may not be, in a tree with its final texts: over the definitions of scopes and of final texts.
 //!
-//! The function carries the law, and does nothing. The law is stated in `specs/`.
+//! The function carries the law, and does nothing. The law is stated in `specs/Laws.antt`.
 #![tactic(auto)]
 
 ghost use Rattle.ecma_hygiene_conflicts.specs.Laws.{FinalTextsAreNotRedeclared};

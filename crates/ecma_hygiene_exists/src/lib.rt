@@ -1,6 +1,6 @@
 //! Laws of the final texts of a tree: there are some, and there are no others; and of how many contexts it needs.
 //!
-//! Each function carries one law over the definitions, and does nothing. The laws are stated in `specs/`.
+//! Each function carries one law over the definitions, and does nothing. The laws are stated in `specs/Laws.antt`.
 #![tactic(auto)]
 
 ghost use Rattle.ecma_hygiene_exists.specs.Laws.{FinalTextsAreUnique, FinalTextsExist, NeededLeaveSixteen};

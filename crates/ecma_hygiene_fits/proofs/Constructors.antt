@@ -11,7 +11,7 @@ use Rattle.ecma_rules.specs.Children.{children_of as items_of, has_child, is_pre
 use Rattle.ecma_rules.specs.Members.{is_constructor, is_full_constructor, second_by, second_of}
 use Rattle.ecma_hygiene.specs.declared.spot.Standing.{Standing}
 use Rattle.ecma_hygiene.specs.Renamed.{Texts, standing_in}
-use Rattle.ecma_hygiene_fits.specs.Kept.{FinalTextsKeepConstructors}
+use Rattle.ecma_hygiene_fits.specs.Laws.{FinalTextsKeepConstructors}
 use Rattle.ecma_hygiene_fits.proofs.Becoming.{Quiet, Silent, present_quiet, all_become, become, child_same, children_stay, is_touched, kind_same}
 use Rattle.ecma_hygiene_fits.proofs.Everywhere.{children_of}
 use Rattle.ecma_hygiene_fits.proofs.Listed.{items_same}

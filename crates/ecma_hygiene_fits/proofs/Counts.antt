@@ -14,7 +14,7 @@ use Rattle.ecma_rules.specs.Targets.{is_key_value}
 use Rattle.ecma_fits.specs.Counts.{are_exports, are_imports, are_stars_or_names, ends_once, ends_template, holds_attributes, is_attribute, is_attribute_key, is_default_import, is_empty, is_full_by, is_named_export, is_named_import, is_star_export, is_star_import, is_star_of, is_text, is_whole_template}
 use Rattle.ecma_hygiene.specs.declared.spot.Standing.{Standing}
 use Rattle.ecma_hygiene.specs.Renamed.{Texts, standing_in}
-use Rattle.ecma_hygiene_fits.specs.Kept.{FinalTextsKeepCounts}
+use Rattle.ecma_hygiene_fits.specs.Laws.{FinalTextsKeepCounts}
 use Rattle.ecma_hygiene_fits.proofs.Becoming.{Silent, present_quiet, all_become, become, child_same, children_stay, is_changed, is_touched, kind_unchanged}
 use Rattle.ecma_hygiene_fits.proofs.Everywhere.{children_of}
 use Rattle.ecma_hygiene_fits.proofs.Listed.{Nameless, all_like, child_like, items_related, items_same, kind_like, length_same, some_same}

@@ -15,7 +15,7 @@ use Rattle.ecma_fits.specs.Roles.{is_out_of_role}
 use Rattle.ecma_fits.specs.Strays.{is_stray_target}
 use Rattle.ecma_hygiene.specs.Renamed.{renamed}
 use Rattle.ecma_hygiene.specs.Texts.{text_in}
-use Rattle.ecma_hygiene_fits.specs.Fitting.{FinalTextsKeepFits, HygieneKeepsFits}
+use Rattle.ecma_hygiene_fits.specs.Laws.{FinalTextsKeepFits, HygieneKeepsFits}
 use Rattle.ecma_hygiene_fits.specs.Spelled.{is_misspelled}
 use Rattle.ecma_hygiene_fits.proofs.Constructors.{constructors_kept}
 use Rattle.ecma_hygiene_fits.proofs.Counts.{counts_kept}

@@ -7,7 +7,7 @@ use Rattle.ecma_rules.specs.Children.{child_is, is_named, kind_of, of_kind}
 use Rattle.ecma_scope.specs.Resolved.{is_name}
 use Rattle.ecma_hygiene.specs.declared.spot.Standing.{Standing}
 use Rattle.ecma_hygiene.specs.Renamed.{Texts, kind_with_text, standing_in, text_of}
-use Rattle.ecma_hygiene_fits.specs.Named.{AreUnreserved, IsUnreserved}
+use Rattle.ecma_hygiene_fits.specs.Unreserved.{AreUnreserved, IsUnreserved}
 use Rattle.ecma_hygiene_fits.proofs.Becoming.{all_become, become, become-out, children_become, children_stay, grown_same, is_touched, old_of, own_kind}
 use Rattle.ecma_hygiene_fits.proofs.Everywhere.{children_of}
 

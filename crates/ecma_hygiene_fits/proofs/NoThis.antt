@@ -8,7 +8,7 @@ use Rattle.ecma_rules.specs.Failing.{failing_here, least, least_from}
 use Rattle.ecma_rules.specs.Members.{is_this_by, is_this_pattern}
 use Rattle.ecma_fits.specs.declared.unfit.Where.{Where}
 use Rattle.ecma_fits.specs.Fitting.{at_top, where_in, NoneFails}
-use Rattle.ecma_hygiene_fits.specs.Named.{NoThis}
+use Rattle.ecma_hygiene_fits.specs.Unreserved.{NoThis}
 use Rattle.ecma_hygiene_fits.proofs.Everywhere.{Each, children_of, everywhere}
 use Rattle.ecma_hygiene_fits.proofs.Joining.{first, first-out}
 use Rattle.ecma_hygiene_fits.proofs.Walk.{neither_least, not_failing}

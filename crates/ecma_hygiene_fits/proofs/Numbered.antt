@@ -8,7 +8,8 @@ use Rattle.ecma_lex.specs.Keys.{is_reserved, reserved_words}
 use Rattle.ecma_hygiene.specs.declared.naming.Named.{Named}
 use Rattle.ecma_hygiene.specs.Ids.{Id, same_id}
 use Rattle.ecma_hygiene.specs.Texts.{GetTexts, Had, IsNumbered, last_text, rule, with_text}
-use Rattle.ecma_hygiene_fits.specs.Named.{HygienicTextsAreUnreserved, IsUnreserved}
+use Rattle.ecma_hygiene_fits.specs.Laws.{HygienicTextsAreUnreserved}
+use Rattle.ecma_hygiene_fits.specs.Unreserved.{IsUnreserved}
 use Rattle.std.proofs.Math.Nat.{mod-lt}
 
 -- ---- digits

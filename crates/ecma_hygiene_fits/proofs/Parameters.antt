@@ -20,7 +20,7 @@ use Rattle.ecma_rules.specs.Lists.{is_rest_pattern}
 use Rattle.ecma_rules.specs.Members.{behind_first, fits_kind, is_binding_name, is_empty_list, is_named_pattern, is_one_parameter, is_plain_parameter, is_this_by, is_this_parameter, is_this_pattern, takes_one}
 use Rattle.ecma_hygiene.specs.declared.spot.Standing.{Standing}
 use Rattle.ecma_hygiene.specs.Renamed.{Texts, standing_in, text_of}
-use Rattle.ecma_hygiene_fits.specs.Named.{AreUnreserved, IsUnreserved}
+use Rattle.ecma_hygiene_fits.specs.Unreserved.{AreUnreserved, IsUnreserved}
 use Rattle.ecma_hygiene_fits.proofs.Becoming.{Quiet, all_become, become, child_same, children_stay, is_touched, kind_stays, stays_touched}
 use Rattle.ecma_hygiene_fits.proofs.Everywhere.{Each, children_of}
 use Rattle.ecma_hygiene_fits.proofs.Listed.{list_untouched}

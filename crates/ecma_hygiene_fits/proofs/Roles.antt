@@ -22,7 +22,8 @@ use Rattle.ecma_hygiene.specs.declared.spot.Standing.{Standing}
 use Rattle.ecma_hygiene.specs.Renamed.{Texts, kind_with_text, old_name, shared_by, shorthand, spot_in, standing_in, text_of}
 use Rattle.ecma_hygiene_scopes.proofs.Growing.{OldName, grown}
 use Rattle.ecma_hygiene_scopes.proofs.Parts.{kind-of}
-use Rattle.ecma_hygiene_fits.specs.Named.{AreUnreserved, FinalTextsKeepRoles, IsUnreserved}
+use Rattle.ecma_hygiene_fits.specs.Unreserved.{AreUnreserved, IsUnreserved}
+use Rattle.ecma_hygiene_fits.specs.Laws.{FinalTextsKeepRoles}
 use Rattle.ecma_hygiene_fits.proofs.Becoming.{all_become, become, become-out, children_become, children_stay, grown_same, is_touched, kind_stays, stays_touched}
 use Rattle.ecma_hygiene_fits.proofs.Carrying.{Carries, carried, is_known, parts_pass, touched_known}
 use Rattle.ecma_hygiene_fits.proofs.Everywhere.{Each, children_of, everywhere}

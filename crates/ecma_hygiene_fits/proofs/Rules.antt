@@ -23,7 +23,8 @@ use Rattle.ecma_fits.specs.Roles.{role_in}
 use Rattle.ecma_fits.specs.Strays.{arguments_in}
 use Rattle.ecma_hygiene.specs.declared.spot.Standing.{Standing}
 use Rattle.ecma_hygiene.specs.Renamed.{Texts, renamed, standing_in}
-use Rattle.ecma_hygiene_fits.specs.Named.{AreUnreserved, FinalTextsKeepRules}
+use Rattle.ecma_hygiene_fits.specs.Unreserved.{AreUnreserved}
+use Rattle.ecma_hygiene_fits.specs.Laws.{FinalTextsKeepRules}
 use Rattle.ecma_hygiene_fits.proofs.Becoming.{Quiet, all_become, become, child_same, children_stay, holds_same, is_touched, kind_stays, present_quiet}
 use Rattle.ecma_hygiene_fits.proofs.Carrying.{AllPass, Carries, carried, defaults_name, first, is_known, parts_pass}
 use Rattle.ecma_hygiene_fits.proofs.Everywhere.{Each, children_of}

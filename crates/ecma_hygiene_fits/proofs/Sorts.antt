@@ -22,7 +22,7 @@ use Rattle.ecma_hygiene.specs.declared.spot.Spot.TheVariants as spot
 use Rattle.ecma_hygiene.specs.declared.spot.Standing.{Standing}
 use Rattle.ecma_hygiene.specs.Renamed.{Texts, at_root, key_of, kind_is_absent, kind_with_text, name_of, old_name, shared_by, shorthand, spot_in, standing_in, text_of, two_names, with_default}
 use Rattle.ecma_hygiene_scopes.proofs.Growing.{OldName, grown, grown_by, grown_pattern}
-use Rattle.ecma_hygiene_fits.specs.Kept.{FinalTextsKeepSorts}
+use Rattle.ecma_hygiene_fits.specs.Laws.{FinalTextsKeepSorts}
 use Rattle.ecma_hygiene_fits.proofs.Becoming.{all_become, become, become-out, children_become, old_of, own_kind}
 use Rattle.ecma_hygiene_fits.proofs.Everywhere.{Each, children_of, everywhere}
 use Rattle.ecma_hygiene_fits.proofs.Listed.{length_same}

@@ -5,7 +5,6 @@ use Rattle.ecma_kind.specs.declared.kind.Kind.TheVariants as kind
 use Rattle.ecma_kind.specs.declared.span.Span.{Span}
 use Rattle.ecma_tree.specs.declared.node.Node.{Node, out-Node}
 use Rattle.ecma_tree.specs.Nodes.{node_of}
-use Rattle.ecma_tree.proofs.Layers.{from_leaves_out}
 use Rattle.ecma_leaves.specs.Words.{is_spelled}
 use Rattle.ecma_rules.specs.Children.{kind_of}
 use Rattle.ecma_rules.specs.Failing.{failing_here, failing_step, first_failing, least, least_from}
@@ -21,11 +20,13 @@ use Rattle.ecma_hygiene.specs.declared.spot.Standing.{Standing}
 use Rattle.ecma_hygiene.specs.Renamed.{Texts, at_root, changed_from, first_item, is_sourced, key_name, key_of, kind_is_absent, kind_with_text, lone_name, name_of, old_name, old_name_by, shared_by, shorthand, standing_in, two_names, with_default}
 use Rattle.ecma_hygiene_scopes.proofs.Growing.{OldName, grown, grown_by, grown_pattern}
 use Rattle.ecma_hygiene_scopes.proofs.Parts.{children-of, kind-of}
-use Rattle.ecma_hygiene_fits.specs.Spelled.{AreSpelled, FinalTextsKeepSpelling, is_misspelled, is_spelled_text}
+use Rattle.ecma_hygiene_fits.specs.Spelled.{AreSpelled, is_misspelled, is_spelled_text}
+use Rattle.ecma_hygiene_fits.specs.Laws.{FinalTextsKeepSpelling}
 use Rattle.ecma_hygiene_fits.proofs.Becoming.{all_become, become, become-out, children_become, old_of, own_kind}
 use Rattle.ecma_hygiene_fits.proofs.Everywhere.{Each, children_of, everywhere}
 use Rattle.ecma_hygiene_fits.proofs.SpelledRoles.{Alike, alike_same, alike_then, default_alike, value_alike}
 use Rattle.ecma_hygiene_fits.proofs.Walk.{neither_least, not_failing}
+use Rattle.ecma_tree.proofs.Layers.{from_leaves_out}
 
 pub not_false : (b : Bool) → not b ≡ false → b ≡ true
 not_false true h = refl

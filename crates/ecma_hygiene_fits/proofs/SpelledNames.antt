@@ -9,7 +9,6 @@ use Rattle.ecma_kind.specs.declared.kind.Kind.{Kind}
 use Rattle.ecma_kind.specs.declared.kind.Kind.TheVariants as kind
 use Rattle.ecma_kind.specs.declared.span.Span.{Span}
 use Rattle.ecma_tree.specs.declared.node.Node.{Node, out-Node}
-use Rattle.ecma_tree.proofs.Layers.{from_leaves_out}
 use Rattle.ecma_leaves.specs.Words.{is_readable, is_spelled}
 use Rattle.ecma_rules.specs.Children.{kind_of}
 use Rattle.ecma_rules.specs.Failing.{failing_here, failing_step, first_failing, least, least_from}
@@ -24,11 +23,13 @@ use Rattle.ecma_hygiene.specs.Sights.{Around, around_child, nowhere, sight_by, s
 use Rattle.ecma_hygiene.specs.Texts.{GetTexts, Had, IsNumbered, bindings, changing_bindings, declared_in, distinct, last_text, new_bindings, none, rule, text_in, with_text}
 use Rattle.ecma_hygiene.specs.Walks.{gathered_from}
 use Rattle.ecma_hygiene.proofs.Walking.{gathered-out}
-use Rattle.ecma_hygiene_fits.specs.Spelled.{FinalTextsAreReadable, FinalTextsAreShort, FinalTextsAreSpelled, HygieneKeepsSpelling, are_readable, is_long, is_misspelled, is_short_text, is_spelled_text}
+use Rattle.ecma_hygiene_fits.specs.Laws.{FinalTextsAreReadable, FinalTextsAreShort, FinalTextsAreSpelled, HygieneKeepsSpelling}
+use Rattle.ecma_hygiene_fits.specs.Spelled.{are_readable, is_long, is_misspelled, is_short_text, is_spelled_text}
 use Rattle.ecma_hygiene_fits.proofs.Everywhere.{Each, children_of, everywhere}
 use Rattle.ecma_hygiene_fits.proofs.Spelled.{none_some, not_false, some_same, spelling_kept}
 use Rattle.ecma_hygiene_fits.proofs.SpelledNumbers.{decimal_digits, decimal_length, numbered_spelled}
 use Rattle.ecma_hygiene_fits.proofs.Walk.{neither_least, not_failing}
+use Rattle.ecma_tree.proofs.Layers.{from_leaves_out}
 
 -- ---- identifiers, and bindings
 

@@ -22,7 +22,8 @@ use Rattle.ecma_hygiene.specs.declared.spot.Standing.{Standing}
 use Rattle.ecma_hygiene.specs.Renamed.{Texts, kind_with_text, old_name, shared_by, shorthand, spot_in, standing_in, text_of}
 use Rattle.ecma_hygiene_scopes.proofs.Growing.{grown}
 use Rattle.ecma_hygiene_scopes.proofs.Parts.{kind-of}
-use Rattle.ecma_hygiene_fits.specs.Named.{AreUnreserved, FinalTextsKeepStrays}
+use Rattle.ecma_hygiene_fits.specs.Unreserved.{AreUnreserved}
+use Rattle.ecma_hygiene_fits.specs.Laws.{FinalTextsKeepStrays}
 use Rattle.ecma_hygiene_fits.proofs.Becoming.{all_become, become, become-out, children_become, children_stay, is_touched, kind_stays}
 use Rattle.ecma_hygiene_fits.proofs.Carrying.{Carries, carried, is_known, parts_pass}
 use Rattle.ecma_hygiene_fits.proofs.Everywhere.{children_of}

@@ -14,7 +14,8 @@ use Rattle.ecma_fits.specs.Roles.{is_assigned, is_bound_name, role_in}
 use Rattle.ecma_fits.specs.Strays.{arguments_in, is_stray_target}
 use Rattle.ecma_hygiene.specs.declared.spot.Standing.{Standing}
 use Rattle.ecma_hygiene.specs.Renamed.{Texts}
-use Rattle.ecma_hygiene_fits.specs.Named.{AreUnreserved, FinalTextsKeepTargets}
+use Rattle.ecma_hygiene_fits.specs.Unreserved.{AreUnreserved}
+use Rattle.ecma_hygiene_fits.specs.Laws.{FinalTextsKeepTargets}
 use Rattle.ecma_hygiene_fits.proofs.Becoming.{become, is_touched, kind_stays}
 use Rattle.ecma_hygiene_fits.proofs.Carrying.{Carries, carried, is_known, parts_pass}
 use Rattle.ecma_hygiene_fits.proofs.Named.{child_unnamed, not_arguments}

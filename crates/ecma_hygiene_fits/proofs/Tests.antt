@@ -16,7 +16,7 @@ use Rattle.ecma_fits.specs.Chains.{goes_on, goes_on_step, is_behind_chain, is_li
 use Rattle.ecma_fits.specs.Members.{is_misread_by}
 use Rattle.ecma_hygiene.specs.declared.spot.Standing.{Standing}
 use Rattle.ecma_hygiene.specs.Renamed.{Texts, standing_in}
-use Rattle.ecma_hygiene_fits.specs.Kept.{FinalTextsKeepBranches, FinalTextsKeepChains, FinalTextsKeepMembers}
+use Rattle.ecma_hygiene_fits.specs.Laws.{FinalTextsKeepBranches, FinalTextsKeepChains, FinalTextsKeepMembers}
 use Rattle.ecma_hygiene_fits.proofs.Becoming.{Quiet, Silent, all_become, become, child_same, children_stay, holds_same, is_touched, made_same, present_quiet}
 use Rattle.ecma_hygiene_fits.proofs.Everywhere.{children_of}
 use Rattle.ecma_hygiene_fits.proofs.Surroundings.{test_kept}

@@ -1,4 +1,4 @@
 pub mod Kept
-pub mod Named
 pub mod Spelled
-pub mod Fitting
+pub mod Unreserved
+pub mod Laws

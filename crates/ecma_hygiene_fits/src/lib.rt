@@ -1,12 +1,9 @@
 //! Trees with their final texts fit where the trees do, clause by clause and whole, over the definitions alone.
 //!
-//! Each function carries one law, and does nothing. The laws are stated in `specs/`.
+//! Each function carries one law, and does nothing. The laws are stated in `specs/Laws.antt`.
 #![tactic(auto)]
 
-ghost use Rattle.ecma_hygiene_fits.specs.Fitting.{FinalTextsKeepFits, HygieneKeepsFits};
-ghost use Rattle.ecma_hygiene_fits.specs.Kept.{FinalTextsKeepBranches, FinalTextsKeepChains, FinalTextsKeepConstructors, FinalTextsKeepCounts, FinalTextsKeepMembers, FinalTextsKeepSorts};
-ghost use Rattle.ecma_hygiene_fits.specs.Named.{FinalTextsKeepRoles, FinalTextsKeepRules, FinalTextsKeepStrays, FinalTextsKeepTargets, HygienicTextsAreUnreserved};
-ghost use Rattle.ecma_hygiene_fits.specs.Spelled.{FinalTextsAreReadable, FinalTextsAreShort, FinalTextsAreSpelled, FinalTextsKeepSpelling, HygieneKeepsSpelling};
+ghost use Rattle.ecma_hygiene_fits.specs.Laws.{FinalTextsAreReadable, FinalTextsAreShort, FinalTextsAreSpelled, FinalTextsKeepBranches, FinalTextsKeepChains, FinalTextsKeepConstructors, FinalTextsKeepCounts, FinalTextsKeepFits, FinalTextsKeepMembers, FinalTextsKeepRoles, FinalTextsKeepRules, FinalTextsKeepSorts, FinalTextsKeepSpelling, FinalTextsKeepStrays, FinalTextsKeepTargets, HygieneKeepsFits, HygieneKeepsSpelling, HygienicTextsAreUnreserved};
 
 /// Where a module keeps these clauses of fitting, it keeps them with whatever texts for its identifiers.
 pub fn final_texts_keep_clauses_of_what_fits()

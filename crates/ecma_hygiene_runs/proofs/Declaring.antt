@@ -12,13 +12,11 @@ use Rattle.ecma_tree.specs.declared.node.Node.{Node, Node-F, ind-Node, out-Node,
 use Rattle.ecma_tree.specs.declared.node.Node.TheViews.{out-roll-Node}
 use Rattle.ecma_tree.specs.Laws.{HaveShapes}
 use Rattle.ecma_tree.specs.Sorted.{HasShape, child_shapes, one}
-use Rattle.ecma_tree.proofs.Layers.{from_leaves_out}
 use Rattle.ecma_scope.specs.declared.form.Sought.{Sought}
 use Rattle.ecma_scope.specs.Resolved.{is_name}
 use Rattle.ecma_scope.specs.Scopes.{opens}
 use Rattle.ecma_hygiene.specs.declared.sight.Sight.{Sight}
-use Rattle.ecma_hygiene.specs.Ids.{declares, is_name_part, scope_soughts}
-use Rattle.ecma_hygiene.specs.Ids.{Id as HygieneId, same_id}
+use Rattle.ecma_hygiene.specs.Ids.{declares, is_name_part, scope_soughts, Id as HygieneId, same_id}
 use Rattle.ecma_hygiene.specs.Sights.{Around, around_child, inner_soughts, nowhere, sight_by, sight_here, sights, sights_at}
 use Rattle.ecma_hygiene.specs.Texts.{is_bound}
 use Rattle.ecma_hygiene.specs.Walks.{gathered_from}
@@ -30,10 +28,12 @@ use Rattle.ecma_runs.specs.Environment.{is_among}
 use Rattle.ecma_runs.specs.Declarations.{has_no_effect}
 use Rattle.ecma_runs.specs.Evaluation.{meaning, meaning_by, no_effect, role_by}
 use Rattle.ecma_runs.proofs.Layer.{meaning_out}
-use Rattle.ecma_hygiene_runs.specs.Plain.{BindingsAreDeclared, PlainModulesAreResolved, has_no_receiver, is_plain, is_plain_kind, plain_by, plain_step}
+use Rattle.ecma_hygiene_runs.specs.Laws.{BindingsAreDeclared, PlainModulesAreResolved}
+use Rattle.ecma_hygiene_runs.specs.Plain.{has_no_receiver, is_plain, is_plain_kind, plain_by, plain_step}
 use Rattle.ecma_hygiene_runs.proofs.Covering.{Covered, Sub, cover, declared, layer, layer-covered, names, sub-left, sub-same}
 use Rattle.ecma_hygiene_runs.proofs.Seeking.{any_name, inner-name, may_name, soughts-name}
 use Rattle.ecma_hygiene_runs.proofs.Sorted.{shape_out, sorted_names_are_outer}
+use Rattle.ecma_tree.proofs.Layers.{from_leaves_out}
 
 -- what a layer covers, its node does
 

@@ -35,7 +35,8 @@ use Rattle.ecma_runs.proofs.Standing.{Passes}
 use Rattle.ecma_runs.proofs.Layers.{images, layers_alike, same_ids, the_same}
 use Rattle.ecma_hygiene_runs.specs.FinalTexts.{final_id}
 use Rattle.ecma_hygiene_runs.specs.KeyNames.{key_names_in}
-use Rattle.ecma_hygiene_runs.specs.Laws.{FinalTextsKeepRuns, IsResolved, KeepsApart, ReadingAgainKeepsRuns}
+use Rattle.ecma_hygiene_runs.specs.Laws.{FinalTextsKeepRuns, ReadingAgainKeepsRuns}
+use Rattle.ecma_hygiene_runs.specs.Resolved.{IsResolved, KeepsApart}
 use Rattle.ecma_hygiene_runs.specs.WrittenOut.{written_out}
 use Rattle.ecma_hygiene_runs.proofs.FinalTree.{turned-everywhere}
 use Rattle.ecma_hygiene_runs.proofs.GivenTexts.{IsGiven, given-text}

@@ -16,7 +16,6 @@ use Rattle.ecma_tree.specs.Laws.{HaveShapes}
 use Rattle.ecma_tree.specs.Nodes.{node_of}
 use Rattle.ecma_tree.specs.Sorted.{HasShape, allows, child_shapes, is_absent, is_list, many, maybe, one}
 use Rattle.ecma_tree.proofs.ShapeLaws.{node_has_shape}
-use Rattle.ecma_tree.proofs.Layers.{from_leaves-roll}
 use Rattle.ecma_scope.specs.declared.role.Role.{Role}
 use Rattle.ecma_scope.specs.declared.role.Role.TheVariants as role
 use Rattle.ecma_scope.specs.Resolved.{is_name}
@@ -29,9 +28,11 @@ use Rattle.ecma_runs.proofs.Kept.{AllNodes}
 use Rattle.ecma_hygiene_runs.specs.WrittenOut.{identifier_by, key_node, leaf_text, name_node, other_by, other_out, out_by, properties_out, property_by, property_out, written_out}
 use Rattle.ecma_hygiene_runs.specs.FinalTexts.{all_named, has_name, has_text, is_named_at, is_outer, is_text}
 use Rattle.ecma_hygiene_runs.specs.KeyNames.{KeyNames, at_names, is_name_by, key_names, key_names_by, key_names_in}
-use Rattle.ecma_hygiene_runs.specs.Sorted.{SortedNamesAreOuter, has_outer_names_at, outer_step}
+use Rattle.ecma_hygiene_runs.specs.Laws.{SortedNamesAreOuter}
+use Rattle.ecma_hygiene_runs.specs.OuterNames.{has_outer_names_at, outer_step}
 use Rattle.ecma_hygiene_runs.proofs.FinalParts.{Named, named, named-out, other-known, other-there, pattern-out}
 use Rattle.ecma_hygiene_runs.proofs.Parts.{named-roll, out-flag, out-of, out-roll, parts_of, properties-of}
+use Rattle.ecma_tree.proofs.Layers.{from_leaves-roll}
 
 -- the parts of a node with a shape
 

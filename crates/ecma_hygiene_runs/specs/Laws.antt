@@ -6,7 +6,6 @@ use Rattle.ecma_hygiene.specs.declared.naming.Named.{Named}
 use Rattle.ecma_scope.specs.Laws.{without_contexts}
 use Rattle.ecma_scope.specs.Resolved.{resolved}
 use Rattle.ecma_hygiene.specs.Ids.{Id}
-use Rattle.ecma_hygiene.specs.Laws.{is_seen}
 use Rattle.ecma_hygiene.specs.Renamed.{renamed}
 use Rattle.ecma_hygiene.specs.Sights.{sights}
 use Rattle.ecma_hygiene.specs.Texts.{HygienicTexts, is_bound, text_in}
@@ -16,9 +15,27 @@ use Rattle.ecma_runs.specs.declared.script.Script.{Script}
 use Rattle.ecma_runs.specs.Environment.{is_among}
 use Rattle.ecma_runs.specs.Evaluation.{meaning}
 use Rattle.ecma_runs.specs.Observation.{observe}
-use Rattle.ecma_hygiene_runs.specs.FinalTexts.{is_named}
-use Rattle.ecma_hygiene_runs.specs.KeyNames.{key_names_in}
+use Rattle.ecma_kind.specs.declared.shapes.Sort.TheVariants as sort
+use Rattle.ecma_tree.specs.Sorted.{HasSort}
 use Rattle.ecma_hygiene_runs.specs.WrittenOut.{written_out}
+use Rattle.ecma_hygiene_runs.specs.Resolved.{IsResolved, KeepsApart}
+use Rattle.ecma_hygiene_runs.specs.OuterNames.{has_outer_names, NamesAreOuter}
+use Rattle.ecma_hygiene_runs.specs.Plain.{is_plain}
+
+-- in a sorted module whose names outside of variables have the empty context, patterns have names, and keys beside shorthands have that context
+abbrev pub SortedNamesAreOuter : Type 0
+SortedNamesAreOuter = (tree : Node) → HasSort sort.Module tree → has_outer_names tree ≡ true → NamesAreOuter tree
+
+-- each binding of a plain module is declared where the module runs
+abbrev pub BindingsAreDeclared : Type 0
+BindingsAreDeclared =
+    (tree : Node) → HasSort sort.Module tree → is_plain tree ≡ true → (id : Id) → is_bound (sights tree) id ≡ true → is_among (record { sym = id.0; ctxt = id.1 }) (meaning tree).declared ≡ true
+
+-- a sorted module is resolved where it is plain, what is no name of a variable has the empty context, and no binding has it or is `this`
+abbrev pub PlainModulesAreResolved : Type 0
+PlainModulesAreResolved =
+    (tree : Node) → HasSort sort.Module tree → is_plain tree ≡ true → has_outer_names tree ≡ true
+    → ((id : Id) → is_bound (sights tree) id ≡ true → (id.1 ≢ 0) × (bytes_eq id.0 (codes "this") ≡ false)) → IsResolved tree
 
 -- trees that are equal with their shorthands written out run alike
 abbrev pub ShorthandsDoNotMatter : Type 0
@@ -28,30 +45,11 @@ ShorthandsDoNotMatter = (turns : ℕ) (options : Config) (m m' : Node) (script :
 abbrev pub WrittenOutShorthandsDoNotMatter : Type 0
 WrittenOutShorthandsDoNotMatter = (turns : ℕ) (options : Config) (m : Node) (script : Script) → observe turns options (written_out m) script ≡ observe turns options m script
 
--- a binding has a context, is declared where the module runs, and is not `this`
-pub record IsBinding (tree : Node) (id : Id) : Type 0 where
-  pub inner : id.1 ≢ 0
-  pub declared : is_among (record { sym = id.0; ctxt = id.1 }) (meaning tree).declared ≡ true
-  pub apart : bytes_eq id.0 (codes "this") ≡ false
-
--- a resolved tree: what is no name of a variable has the empty context, names that are keys beside shorthands too, and bindings are bindings where the
--- module runs
-pub record IsResolved (tree : Node) : Type 0 where
-  pub named : is_named tree ≡ true
-  pub keys : All (λ id. id.ctxt ≡ 0) (key_names_in (written_out tree))
-  pub bindings : (id : Id) → is_bound (sights tree) id ≡ true → IsBinding tree id
-
 -- a resolved tree with its final texts runs as it does with its own
 abbrev pub FinalTextsKeepRuns : Type 0
 FinalTextsKeepRuns =
     (turns : ℕ) (options : Config) (tree : Node) (names : List Named) (script : Script) → HygienicTexts tree names → IsResolved tree
     → observe turns options (renamed (text_in names) tree) script ≡ observe turns options tree script
-
--- a map of contexts that keeps two names with one text two, and the empty context apart from those of variables
-pub record KeepsApart (to : ℕ → ℕ) (tree : Node) : Type 0 where
-  pub none : to 0 ≡ 0
-  pub inner : (text : List ℕ) (ctxt : ℕ) → is_seen (sights tree) (text, ctxt) ≡ true → to ctxt ≡ 0 → ctxt ≡ 0
-  pub apart : (text : List ℕ) (c d : ℕ) → is_seen (sights tree) (text, c) ≡ true → is_seen (sights tree) (text, d) ≡ true → to c ≡ to d → c ≡ d
 
 -- the tree with its final texts, read again without contexts and resolved, runs as the tree does
 abbrev pub ReadingAgainKeepsRuns : Type 0

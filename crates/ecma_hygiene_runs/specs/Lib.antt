@@ -1,6 +1,7 @@
 pub mod WrittenOut
 pub mod FinalTexts
 pub mod KeyNames
-pub mod Sorted
-pub mod Laws
 pub mod Plain
+pub mod OuterNames
+pub mod Resolved
+pub mod Laws

@@ -1,21 +1,13 @@
 -- Trees without types and without enums and namespaces, in which what is declared is declared where the module runs.
-use Rattle.std.specs.Prelude.{◌≡◌, ◌≢◌, bytes_eq, codes, Bool, true, false, ◌&&◌, ◌||◌, not, List, [], ◌∷◌, map}
+use Rattle.std.specs.Prelude.{Bool, true, false, ◌&&◌, ◌||◌, not, List, [], ◌∷◌, map}
 use Rattle.std.specs.List.{list_all}
 use Rattle.ecma_kind.specs.declared.kind.Kind.{Kind}
 use Rattle.ecma_kind.specs.declared.kind.Kind.TheVariants as kind
-use Rattle.ecma_kind.specs.declared.shapes.Sort.TheVariants as sort
 use Rattle.ecma_tree.specs.declared.node.Node.{Node, out-Node}
-use Rattle.ecma_tree.specs.Sorted.{HasSort}
-use Rattle.ecma_tree.specs.Layers.{from_leaves}
-use Rattle.ecma_hygiene.specs.Ids.{Id}
 use Rattle.ecma_hygiene.specs.Renamed.{kind_is_absent}
-use Rattle.ecma_hygiene.specs.Sights.{sights}
-use Rattle.ecma_hygiene.specs.Texts.{is_bound}
 use Rattle.ecma_runs.specs.Declarations.{has_no_effect}
-use Rattle.ecma_runs.specs.Environment.{is_among}
 use Rattle.ecma_runs.specs.Evaluation.{meaning}
-use Rattle.ecma_hygiene_runs.specs.Laws.{IsResolved}
-use Rattle.ecma_hygiene_runs.specs.Sorted.{has_outer_names}
+use Rattle.ecma_tree.specs.Layers.{from_leaves}
 
 -- what is neither a type, nor has one, nor declares other names than JavaScript does
 abbrev pub is_plain_kind : Kind → Bool
@@ -53,14 +45,3 @@ plain_step node results = plain_by (out-Node node).kind (out-Node node).children
 
 abbrev pub is_plain : Node → Bool
 is_plain = from_leaves Bool plain_step
-
--- each binding of a plain module is declared where the module runs
-abbrev pub BindingsAreDeclared : Type 0
-BindingsAreDeclared =
-    (tree : Node) → HasSort sort.Module tree → is_plain tree ≡ true → (id : Id) → is_bound (sights tree) id ≡ true → is_among (record { sym = id.0; ctxt = id.1 }) (meaning tree).declared ≡ true
-
--- a sorted module is resolved where it is plain, what is no name of a variable has the empty context, and no binding has it or is `this`
-abbrev pub PlainModulesAreResolved : Type 0
-PlainModulesAreResolved =
-    (tree : Node) → HasSort sort.Module tree → is_plain tree ≡ true → has_outer_names tree ≡ true
-    → ((id : Id) → is_bound (sights tree) id ≡ true → (id.1 ≢ 0) × (bytes_eq id.0 (codes "this") ≡ false)) → IsResolved tree

@@ -1,12 +1,10 @@
 //! What a module with its shorthands written out, and one with its final texts, does when it runs: over the definitions of `ecma_hygiene`, `ecma_scope`
 //! and `ecma_runs`.
 //!
-//! Each function carries one law, and does nothing. The laws are stated in `specs/`.
+//! Each function carries one law, and does nothing. The laws are stated in `specs/Laws.antt`.
 #![tactic(auto)]
 
-ghost use Rattle.ecma_hygiene_runs.specs.Laws.{FinalTextsKeepRuns, ReadingAgainKeepsRuns, ShorthandsDoNotMatter, WrittenOutShorthandsDoNotMatter};
-ghost use Rattle.ecma_hygiene_runs.specs.Plain.{BindingsAreDeclared, PlainModulesAreResolved};
-ghost use Rattle.ecma_hygiene_runs.specs.Sorted.{SortedNamesAreOuter};
+ghost use Rattle.ecma_hygiene_runs.specs.Laws.{BindingsAreDeclared, FinalTextsKeepRuns, PlainModulesAreResolved, ReadingAgainKeepsRuns, ShorthandsDoNotMatter, SortedNamesAreOuter, WrittenOutShorthandsDoNotMatter};
 
 /// A module with its shorthands written out is observed to do what it does with them, for every tree, every script of the host and every number of
 /// turns.

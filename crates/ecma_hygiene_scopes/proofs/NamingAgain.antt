@@ -8,7 +8,8 @@ use Rattle.ecma_tree.proofs.Changing.{changed-parts}
 use Rattle.ecma_scope.specs.Bindings.{HasId, IsAt, Occurrence}
 use Rattle.ecma_hygiene.specs.Renamed.{renamed}
 use Rattle.ecma_hygiene.specs.Texts.{text_in}
-use Rattle.ecma_hygiene_scopes.specs.Apart.{IsMap, TextsNameWhatIdsDo}
+use Rattle.ecma_hygiene_scopes.specs.Apart.{IsMap}
+use Rattle.ecma_hygiene_scopes.specs.Laws.{TextsNameWhatIdsDo}
 use Rattle.ecma_hygiene_scopes.proofs.Parts.{children-of, kind-of}
 use Rattle.ecma_hygiene_scopes.proofs.ReadingAgain.{follows-its-texts}
 use Rattle.ecma_hygiene_scopes.proofs.Seeing.{contexts-are-mapped}

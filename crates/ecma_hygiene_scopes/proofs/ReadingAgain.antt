@@ -16,7 +16,7 @@ use Rattle.ecma_hygiene.specs.Capture.{IsNotCaptured, Placed, placed_here}
 use Rattle.ecma_hygiene.specs.Sights.{meetings, meets, nowhere, sight_here, sights}
 use Rattle.ecma_hygiene.specs.Texts.{HygienicTexts, text_in}
 use Rattle.ecma_hygiene.proofs.Capturing.{nothing-is-captured}
-use Rattle.ecma_hygiene_scopes.specs.ReadAgain.{FollowsItsTexts, IsReadAgain}
+use Rattle.ecma_hygiene_scopes.specs.Laws.{FollowsItsTexts, IsReadAgain}
 use Rattle.ecma_hygiene_scopes.specs.Stops.{IsRight, stops}
 use Rattle.ecma_hygiene_scopes.proofs.Reading.{Fine, counts-again, resolves-again}
 use Rattle.ecma_hygiene_scopes.proofs.Stopping.{IsAmong, all-among, any-among, inside}

@@ -9,9 +9,10 @@ use Rattle.ecma_scope.specs.Resolved.{contexts, resolved}
 use Rattle.ecma_scope.specs.Scopes.{opens}
 use Rattle.ecma_hygiene.specs.Ids.{Id, has_context, innermost, own_ids, same_id}
 use Rattle.ecma_hygiene.proofs.Telling.{has-id, id-refl, or-first, or-second, true-false}
-use Rattle.ecma_hygiene_scopes.specs.Apart.{AreApart, IsScoped, ResolvedTellsScopesApart, own_contexts}
+use Rattle.ecma_hygiene_scopes.specs.Apart.{AreApart, IsScoped, own_contexts}
+use Rattle.ecma_hygiene_scopes.specs.Laws.{ResolvedTellsScopesApart, ResolvedKeepsScopesApart}
 use Rattle.ecma_hygiene_scopes.specs.DeclaredIds.{DeclaredId, scope_ids}
-use Rattle.ecma_hygiene_scopes.specs.Lasting.{KeepsScope, ResolvedKeepsScopesApart}
+use Rattle.ecma_hygiene_scopes.specs.Lasting.{KeepsScope}
 use Rattle.ecma_hygiene_scopes.specs.Stops.{Stop, stops}
 use Rattle.ecma_hygiene_scopes.proofs.Mapping.{has-opened}
 use Rattle.ecma_hygiene_scopes.proofs.Membership.{contexts-agree}

@@ -20,7 +20,8 @@ use Rattle.ecma_hygiene.specs.Texts.{text_in}
 use Rattle.ecma_hygiene.specs.Walks.{gathered_from}
 use Rattle.ecma_hygiene.proofs.Walking.{gathered-out}
 use Rattle.ecma_hygiene_scopes.specs.Lasting.{IsCheckedModule}
-use Rattle.ecma_hygiene_scopes.specs.Resolving.{IsPlainModule, ResolvedFollowsItsTexts, ResolvedIsReadAgain, ResolvedIsRight}
+use Rattle.ecma_hygiene_scopes.specs.PlainModules.{IsPlainModule}
+use Rattle.ecma_hygiene_scopes.specs.Laws.{ResolvedFollowsItsTexts, ResolvedIsReadAgain, ResolvedIsRight}
 use Rattle.ecma_hygiene_scopes.specs.Seats.{Seat, seat_here, seats_at}
 use Rattle.ecma_hygiene_scopes.proofs.Goodness.{Fits}
 use Rattle.ecma_hygiene_scopes.proofs.Parts.{children-of, kind-of}

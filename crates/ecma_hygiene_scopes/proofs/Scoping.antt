@@ -20,7 +20,7 @@ use Rattle.ecma_hygiene.specs.Ids.{is_name_part}
 use Rattle.ecma_hygiene.specs.Renamed.{Texts, key_of, kind_is_absent, standing_in, two_names, with_default}
 use Rattle.ecma_hygiene.proofs.Telling.{true-false}
 use Rattle.ecma_hygiene_scopes.specs.DeclaredIds.{DeclaredId, ids_declared, scope_ids, with_text}
-use Rattle.ecma_hygiene_scopes.specs.Scopes.{ScopesDeclareFinalTexts}
+use Rattle.ecma_hygiene_scopes.specs.Laws.{ScopesDeclareFinalTexts}
 use Rattle.ecma_hygiene_scopes.proofs.Declaring.{declares-again, plain-declares}
 use Rattle.ecma_hygiene_scopes.proofs.Growing.{OldName, grown, grown_pattern}
 use Rattle.ecma_hygiene_scopes.proofs.KindsTurned.{absent-same, holds-same, opens-same}

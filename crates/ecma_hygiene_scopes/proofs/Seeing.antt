@@ -17,7 +17,8 @@ use Rattle.ecma_hygiene.specs.Sights.{Around, around_child, nowhere, own_scope, 
 use Rattle.ecma_hygiene.specs.Walks.{gathered_from}
 use Rattle.ecma_hygiene.proofs.Telling.{true-false}
 use Rattle.ecma_hygiene.proofs.Walking.{gathered-out}
-use Rattle.ecma_hygiene_scopes.specs.Apart.{ContextsAreMapped, IsContext, IsScoped, own_contexts}
+use Rattle.ecma_hygiene_scopes.specs.Laws.{ContextsAreMapped}
+use Rattle.ecma_hygiene_scopes.specs.Apart.{IsContext, IsScoped, own_contexts}
 use Rattle.ecma_hygiene_scopes.specs.Stops.{Stop, stops, stops_at, stops_from}
 use Rattle.ecma_hygiene_scopes.proofs.Membership.{id-same}
 use Rattle.ecma_hygiene_scopes.proofs.Mapping.{mapped, own-has, to}

@@ -10,7 +10,7 @@ use Rattle.ecma_hygiene.specs.Renamed.{text_of}
 use Rattle.ecma_hygiene.specs.Sights.{meetings, sights}
 use Rattle.ecma_hygiene.specs.Texts.{AreTexts, GetTexts, Had, bindings, changes, declared_in, distinct, had_with, is_bound, is_new, last_text, source_has, text_in, none as none_yet, with_text}
 use Rattle.ecma_hygiene.proofs.Telling.{and-both, id-refl, or-first, or-second, text-refl, texts-tell-apart, true-false}
-use Rattle.ecma_hygiene_scopes.specs.ReadAgain.{IdsStayApart}
+use Rattle.ecma_hygiene_scopes.specs.Laws.{IdsStayApart}
 use Rattle.ecma_hygiene_scopes.proofs.Membership.{id-same}
 
 module _ (seen : List Sight) where

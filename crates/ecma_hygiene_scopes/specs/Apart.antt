@@ -1,23 +1,18 @@
 -- Trees whose contexts tell their scopes apart, and the map of these contexts to those that the scopes get.
-use Rattle.std.specs.Prelude.{◌≡◌, ◌≢◌, ◌⊎◌, ◌<◌, ◌≤◌, ℕ, Bool, true, false, List, [], ◌∷◌, map, cond}
+use Rattle.std.specs.Prelude.{◌≡◌, ◌≢◌, ◌⊎◌, ℕ, Bool, true, false, List, [], ◌∷◌, map, cond}
 use Rattle.std.specs.List.{All, list_any}
 use Rattle.ecma_kind.specs.declared.kind.Kind.TheVariants as kind
 use Rattle.ecma_tree.specs.declared.node.Node.{Node, out-Node}
 use Rattle.ecma_scope.specs.declared.role.Role.TheVariants as role
 use Rattle.ecma_scope.specs.Declarations.{is_hoisted}
-use Rattle.ecma_scope.specs.Bindings.{FollowBindings}
-use Rattle.ecma_scope.specs.Laws.{without_contexts}
-use Rattle.ecma_scope.specs.Resolved.{contexts, is_name, resolved}
+use Rattle.ecma_scope.specs.Resolved.{is_name}
 use Rattle.ecma_scope.specs.Scopes.{opens}
-use Rattle.ecma_hygiene.specs.declared.naming.Named.{Named}
 use Rattle.ecma_hygiene.specs.Capture.{NoneDeclares}
 use Rattle.ecma_hygiene.specs.Ids.{Id, has_context, innermost, is_block, is_body_block, own_ids}
 use Rattle.ecma_hygiene.specs.Laws.{is_seen}
-use Rattle.ecma_hygiene.specs.Renamed.{kind_is_absent, renamed}
+use Rattle.ecma_hygiene.specs.Renamed.{kind_is_absent}
 use Rattle.ecma_hygiene.specs.Sights.{sights}
-use Rattle.ecma_hygiene.specs.Texts.{HygienicTexts, text_in}
 use Rattle.ecma_hygiene_scopes.specs.DeclaredIds.{DeclaredId, scope_ids}
-use Rattle.ecma_hygiene_scopes.specs.Resolving.{IsPlainModule}
 use Rattle.ecma_hygiene_scopes.specs.Stops.{IsRight, Stop, stops}
 
 -- the contexts in which the scope of a node declares ids, if it opens one
@@ -64,17 +59,3 @@ pub record IsMap (unresolved top free left : ℕ) (tree : Node) (to : ℕ → �
   pub free_names : to free ≡ unresolved
   pub inner : (c : ℕ) → IsContext free left tree c → to c ≢ 0
   pub seen : (id : Id) → is_seen (sights tree) id ≡ true → IsContext free left tree id.1
-
-abbrev pub ContextsAreMapped : Type 0
-ContextsAreMapped = (unresolved top free left : ℕ) (tree : Node) → TellsScopesApart free left tree → left < unresolved → left < top → unresolved ≢ top → contexts tree ≤ left
-    → (to : ℕ → ℕ) × IsMap unresolved top free left tree to
-
--- so the ids of the tree with final texts say what its texts name, where there are contexts enough
-abbrev pub TextsNameWhatIdsDo : Type 0
-TextsNameWhatIdsDo = (free left : ℕ) (tree : Node) (names : List Named) → HygienicTexts tree names → TellsScopesApart free left tree → contexts tree ≤ left
-    → FollowBindings free (renamed (text_in names) tree) (without_contexts (renamed (text_in names) tree))
-
--- the contexts of a resolved module do, where there were contexts enough
-abbrev pub ResolvedTellsScopesApart : Type 0
-ResolvedTellsScopesApart = (unresolved top left : ℕ) (source : Node) → IsPlainModule source → left < unresolved → left < top → unresolved ≢ top → contexts source ≤ left
-    → TellsScopesApart unresolved left (resolved unresolved top left source)

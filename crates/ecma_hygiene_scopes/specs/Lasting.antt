@@ -1,5 +1,5 @@
 -- Resolved modules in which declarations may go: what scopes declare as values that stay, they declare in contexts of their own.
-use Rattle.std.specs.Prelude.{◌≡◌, ◌≢◌, ◌<◌, ◌≤◌, ℕ, Bool, true, false, List, [], map}
+use Rattle.std.specs.Prelude.{◌≡◌, ◌≢◌, ℕ, Bool, true, false, List, [], map}
 use Rattle.std.specs.List.{All}
 use Rattle.ecma_kind.specs.declared.kind.Kind.TheVariants as kind
 use Rattle.ecma_kind.specs.declared.shapes.Sort.TheVariants as sort
@@ -9,7 +9,7 @@ use Rattle.ecma_scope.specs.declared.role.Role.TheVariants as role
 use Rattle.ecma_scope.specs.Conflicts.{redeclared}
 use Rattle.ecma_scope.specs.Declarations.{is_hoisted}
 use Rattle.ecma_scope.specs.Laws.{without_contexts}
-use Rattle.ecma_scope.specs.Resolved.{contexts, is_name, resolved}
+use Rattle.ecma_scope.specs.Resolved.{is_name}
 use Rattle.ecma_scope.specs.Scopes.{opens}
 use Rattle.ecma_hygiene.specs.Capture.{NoneDeclares}
 use Rattle.ecma_hygiene.specs.Ids.{has_context, innermost, is_block, is_body_block}
@@ -41,8 +41,3 @@ pub record IsCheckedModule (source : Node) : Type 0 where
   pub sorted : HasSort sort.Module source
   pub bare : without_contexts source ≡ source
   pub clear : redeclared source ≡ []
-
--- once it is resolved its scopes are kept apart, where there were contexts enough
-abbrev pub ResolvedKeepsScopesApart : Type 0
-ResolvedKeepsScopesApart = (unresolved top left : ℕ) (source : Node) → IsCheckedModule source → left < unresolved → left < top → unresolved ≢ top → contexts source ≤ left
-    → KeepsScopesApart unresolved left (resolved unresolved top left source)

@@ -1,8 +1,9 @@
 pub mod DeclaredIds
-pub mod Scopes
 pub mod Stops
-pub mod ReadAgain
 pub mod Seats
-pub mod Resolving
 pub mod Apart
 pub mod Lasting
+pub mod ApartTexts
+pub mod FinalTexts
+pub mod PlainModules
+pub mod Laws

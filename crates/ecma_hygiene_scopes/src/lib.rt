@@ -1,14 +1,10 @@
 //! Laws of the tree that `hygiene` of `ecma_hygiene` gives, read again by its texts alone: over the definitions of scopes, of
 //! resolving and of final texts.
 //!
-//! Each function carries one law, and does nothing. The laws are stated in `specs/`.
+//! Each function carries one law, and does nothing. The laws are stated in `specs/Laws.antt`.
 #![tactic(auto)]
 
-ghost use Rattle.ecma_hygiene_scopes.specs.Apart.{ContextsAreMapped, ResolvedTellsScopesApart, TextsNameWhatIdsDo};
-ghost use Rattle.ecma_hygiene_scopes.specs.Lasting.{ResolvedKeepsScopesApart};
-ghost use Rattle.ecma_hygiene_scopes.specs.ReadAgain.{FollowsItsTexts, IdsStayApart, IsReadAgain};
-ghost use Rattle.ecma_hygiene_scopes.specs.Resolving.{ResolvedFollowsItsTexts, ResolvedIsReadAgain, ResolvedIsRight};
-ghost use Rattle.ecma_hygiene_scopes.specs.Scopes.{ScopesDeclareFinalTexts};
+ghost use Rattle.ecma_hygiene_scopes.specs.Laws.{ContextsAreMapped, FollowsItsTexts, IdsStayApart, IsReadAgain, ResolvedFollowsItsTexts, ResolvedIsReadAgain, ResolvedIsRight, ResolvedKeepsScopesApart, ResolvedTellsScopesApart, ScopesDeclareFinalTexts, TextsNameWhatIdsDo};
 
 /// A node with other texts opens a scope where it did, and that scope declares the final texts of what it declared.
 pub fn scopes_declare_final_texts()

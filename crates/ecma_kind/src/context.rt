@@ -1,3 +1,4 @@
+//! Marks, and the syntax contexts that tell identifiers of one text apart.
 ghost use Rattle.std.specs.Prelude.{◌≡◌, ◌↔◌, ◌^◌, ◌<◌, ℕ, IsTrue};
 
 use std::marker::Model;

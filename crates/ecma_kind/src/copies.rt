@@ -1,3 +1,4 @@
+//! Copies of a kind with all its data.
 ghost use Rattle.std.specs.Prelude.{◌≡◌, IfOk};
 
 use crate::kind::Kind;

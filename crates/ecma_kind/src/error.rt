@@ -1,3 +1,4 @@
+//! Why a pass that draws contexts stopped.
 ghost use Rattle.std.specs.Prelude.{◌≡◌};
 ghost use Rattle.ecma_kind.specs.declared.error.PassError.TheVariants as pass_error;
 

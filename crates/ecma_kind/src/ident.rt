@@ -1,3 +1,4 @@
+//! Identifiers as values of their own, and the ids that tell variables apart.
 ghost use Rattle.std.specs.Prelude.{◌≡◌, ◌↔◌, IsTrue};
 
 use crate::context::SyntaxContext;
@@ -9,7 +10,7 @@ use std::alloc::AllocError;
 pub type Id = (JsWord, SyntaxContext);
 
 /// An identifier that names a variable, as a value of its own: where it stands, its context, its text, and
-/// whether a `?` stands behind it.
+/// whether a `?` stands after it.
 #[derive(Debug, Drop, PartialEq, Eq, Hash)]
 pub struct Ident {
     pub span: Span,

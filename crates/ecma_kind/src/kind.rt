@@ -1,3 +1,4 @@
+//! The kinds of nodes, with the data of each that is no node.
 use crate::context::SyntaxContext;
 use crate::operators::{
     Accessibility, AssignOp, BinaryOp, MemberModifiers, MetaPropKind, MethodKind, UnaryOp,
@@ -15,15 +16,15 @@ pub enum Kind {
     Absent,
     /// Several nodes in one place. Its children are the items.
     List,
-    /// A module (ECMAScript, 16.2), with the text behind `#!` if it begins so.
+    /// A module (ECMAScript, 16.2), with the text after `#!` if it begins so.
     Module {
         shebang: Option<JsWord>,
     },
-    /// A script (ECMAScript, 16.1), with the text behind `#!` if it begins so.
+    /// A script (ECMAScript, 16.1), with the text after `#!` if it begins so.
     Script {
         shebang: Option<JsWord>,
     },
-    /// An identifier that names a variable; `optional` with a `?` behind it.
+    /// An identifier that names a variable; `optional` with a `?` after it.
     Ident {
         sym: JsWord,
         ctxt: SyntaxContext,
@@ -113,7 +114,7 @@ pub enum Kind {
     CallExpr,
     /// A construction; without parentheses its arguments are missing (ECMAScript, 13.3.5).
     NewExpr,
-    /// A link of an optional chain (ECMAScript, 13.3.9): `optional` with its own `?.`, else behind one that is.
+    /// A link of an optional chain (ECMAScript, 13.3.9): `optional` with its own `?.`, else after one that is.
     OptChainExpr {
         optional: bool,
     },
@@ -129,7 +130,7 @@ pub enum Kind {
         cooked: Option<JsWord>,
         tail: bool,
     },
-    /// A template behind a tag (ECMAScript, 13.3.11).
+    /// A template after a tag (ECMAScript, 13.3.11).
     TaggedTpl,
     /// `yield`, or `yield*` with `delegate` (ECMAScript, 15.5).
     YieldExpr {
@@ -199,7 +200,7 @@ pub enum Kind {
         kind: MethodKind,
         modifiers: MemberModifiers,
     },
-    /// A field of a class; `definite` with a `!` behind its key.
+    /// A field of a class; `definite` with a `!` after its key.
     ClassProp {
         modifiers: MemberModifiers,
         readonly: bool,
@@ -289,7 +290,7 @@ pub enum Kind {
         kind: VarDeclKind,
         declare: bool,
     },
-    /// A declared pattern with its value; `definite` with a `!` behind its name.
+    /// A declared pattern with its value; `definite` with a `!` after its name.
     VarDeclarator {
         definite: bool,
     },
@@ -359,9 +360,9 @@ pub enum Kind {
         is_export: bool,
         is_type_only: bool,
     },
-    /// `require("m")` behind `import a =`.
+    /// `require("m")` after `import a =`.
     TsExternalModuleRef,
-    /// A dotted name behind `import a =`.
+    /// A dotted name after `import a =`.
     TsQualifiedName,
     /// `export = e`.
     TsExportAssignment,

@@ -1,3 +1,5 @@
+//! The operators, the words of declarations and members, and the modifiers that kinds hold.
+
 /// A unary operator (ECMAScript, 13.5).
 #[derive(Clone, Copy, Debug, PartialEq, Eq)]
 pub enum UnaryOp {
@@ -148,7 +150,7 @@ pub struct MemberModifiers {
     pub accessibility: Option<Accessibility>,
     pub is_static: bool,
     pub is_abstract: bool,
-    /// With a `?` behind its key.
+    /// With a `?` after its key.
     pub is_optional: bool,
     pub is_override: bool,
 }

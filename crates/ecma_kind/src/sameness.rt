@@ -1,3 +1,4 @@
+//! Whether two kinds are equal.
 ghost use Rattle.std.specs.Prelude.{◌≡◌, ◌↔◌, IsTrue};
 
 use crate::kind::Kind;

@@ -1,3 +1,4 @@
+//! A session, which gives marks to the passes of one conversion and keeps which helpers they use.
 ghost use Rattle.std.specs.Prelude.{◌≡◌, ◌↔◌, ◌-◌, ◌<◌, ◌≤◌, IsErr, IfOk, OnErr, IfSome, slice_get, slice_set, length, replicate, None, Some};
 
 use crate::context::{Mark, SyntaxContext};

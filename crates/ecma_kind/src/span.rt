@@ -1,4 +1,6 @@
-/// Where something stands in a text: from the place of its first byte to the place behind its last.
+//! Where something stands in a text.
+
+/// Where something stands in a text: from the place of its first byte to the place after its last.
 /// Places are byte offsets from 0.
 #[derive(Clone, Copy, Debug, PartialEq, Eq, Hash)]
 pub struct Span {

@@ -1,3 +1,4 @@
+//! Sessions give their marks and keep their slots; words keep their texts; errors say what happened.
 use super::*;
 use std::test::Fail;
 

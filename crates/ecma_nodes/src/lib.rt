@@ -4,17 +4,20 @@
 ghost use Rattle.std.specs.Prelude.{◌≡◌, IfOk};
 ghost use Rattle.ecma_grammar.specs.Made.{made};
 
-mod chains;
-mod classes;
-mod frames;
-mod functions;
-mod others;
 mod parts;
 mod plain;
 
 use ecma_grammar::Form;
+use ecma_nodes_classes::{class, field, index_signature, member, method};
+pub use ecma_nodes_expressions::only;
+use ecma_nodes_expressions::{
+    assertion, chained, construction, elements, links, logical, sequence, swapped, template,
+};
+use ecma_nodes_functions::{
+    annotated, arrow, declarator, function, getter, parameter, setter, yield_expr,
+};
+use ecma_nodes_statements::{declared, headed, import_equals, module_of, namespace};
 use ecma_tree::{NoMemory, Node, Nodes, Span};
-pub use others::only;
 pub use parts::flag_node;
 use parts::{bare_node, first_alone};
 use plain::plain_kind;
@@ -29,35 +32,35 @@ pub fn made(alloc: Global, form: Form, lo: u32, hi: u32, items: Nodes) -> Result
         Form::Node(plain) => Ok(Node::new(span, plain_kind(plain), items)),
         Form::Bare(plain) => Ok(bare_node(alloc, span, plain_kind(plain), items)),
         Form::First(plain) => Ok(Node::new(span, plain_kind(plain), first_alone(items))),
-        Form::Swapped(plain) => Ok(Node::new(span, plain_kind(plain), others::swapped(items))),
+        Form::Swapped(plain) => Ok(Node::new(span, plain_kind(plain), swapped(items))),
         Form::List => Ok(Node::list(items)),
-        Form::Elements => Ok(Node::list(others::elements(items))),
-        Form::Sequence => Ok(others::sequence(alloc, span, items)),
-        Form::Chain => Ok(chains::chained(alloc, items)),
-        Form::Links => chains::links(alloc, items),
-        Form::Logical => chains::logical(alloc, items),
-        Form::Template => chains::template(alloc, span, items),
-        Form::Arrow => functions::arrow(alloc, span, items),
-        Form::Yield => functions::yield_expr(alloc, span, items),
-        Form::New => chains::construction(alloc, span, items),
-        Form::Assertion => others::assertion(alloc, span, items),
-        Form::Annotated => functions::annotated(alloc, span, items),
-        Form::Declarator => functions::declarator(alloc, span, items),
-        Form::Param => functions::parameter(alloc, span, items),
-        Form::Function(plain) => functions::function(alloc, span, plain_kind(plain), items),
-        Form::Getter => functions::getter(alloc, span, items),
-        Form::Setter => functions::setter(alloc, span, items),
+        Form::Elements => Ok(Node::list(elements(items))),
+        Form::Sequence => Ok(sequence(alloc, span, items)),
+        Form::Chain => Ok(chained(alloc, items)),
+        Form::Links => links(alloc, items),
+        Form::Logical => logical(alloc, items),
+        Form::Template => template(alloc, span, items),
+        Form::Arrow => arrow(alloc, span, items),
+        Form::Yield => yield_expr(alloc, span, items),
+        Form::New => construction(alloc, span, items),
+        Form::Assertion => assertion(alloc, span, items),
+        Form::Annotated => annotated(alloc, span, items),
+        Form::Declarator => declarator(alloc, span, items),
+        Form::Param => parameter(alloc, span, items),
+        Form::Function(plain) => function(alloc, span, plain_kind(plain), items),
+        Form::Getter => getter(alloc, span, items),
+        Form::Setter => setter(alloc, span, items),
         Form::Class { plain, is_abstract } => {
-            classes::class(alloc, span, plain_kind(plain), is_abstract, items)
+            class(alloc, span, plain_kind(plain), is_abstract, items)
         }
-        Form::Method(kind) => classes::method(alloc, span, kind, items),
-        Form::Field => classes::field(alloc, span, items),
-        Form::Modified => classes::member(alloc, span, items),
-        Form::IndexSignature => Ok(classes::index_signature(alloc, span, items)),
-        Form::Headed => others::headed(alloc, span, items),
-        Form::Declared => Ok(others::declared(alloc, span, items)),
-        Form::Namespace => others::namespace(alloc, span, items),
-        Form::ImportEquals => others::import_equals(alloc, span, items),
-        Form::Module => others::module_of(alloc, span, items),
+        Form::Method(kind) => method(alloc, span, kind, items),
+        Form::Field => field(alloc, span, items),
+        Form::Modified => member(alloc, span, items),
+        Form::IndexSignature => Ok(index_signature(alloc, span, items)),
+        Form::Headed => headed(alloc, span, items),
+        Form::Declared => Ok(declared(alloc, span, items)),
+        Form::Namespace => namespace(alloc, span, items),
+        Form::ImportEquals => import_equals(alloc, span, items),
+        Form::Module => module_of(alloc, span, items),
     }
 }

@@ -27,7 +27,7 @@ HoldsInteger size exact = size ≡ saturated exact.mv
 abbrev pub HoldsSize : Option ℕ → MathematicalValue → Type 0
 HoldsSize size exact = size ≡ option_map saturated (whole_value exact.significand exact.power)
 
--- the significand, and how many of its digits stand behind the point
+-- the significand, and how many of its digits stand after the point
 abbrev pub HoldsMantissa : DigitRun → MathematicalValue → Type 0
 HoldsMantissa run exact = Holds 10 run (record { mv = exact.significand; count = run.count }) × (exact.power ≡ neg_ℤ (pos run.count))
 
@@ -40,7 +40,7 @@ abbrev pub digits_of_radix : NumeralForm → Option ℕ → Reading Digits
 digits_of_radix form (Some radix) text = digits form radix text
 digits_of_radix form None text = None
 
--- what was read up to a place of a text is what a production reads, which leaves what stands behind the place
+-- what was read up to a place of a text is what a production reads, which leaves what stands after the place
 abbrev pub Reads : {T A : Type 0} → (T → A → Type 0) → List ℕ → Option (T × ℕ) → Option (A × List ℕ) → Type 0
 Reads holds text None None = Unit {0}
 Reads holds text (Some read) (Some exact) = holds read.0 exact.0 × (exact.1 ≡ drop read.1 text) × (read.1 ≤ length text)

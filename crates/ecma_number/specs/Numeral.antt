@@ -22,7 +22,7 @@ abbrev pub begins : (ℕ → Bool) → List ℕ → Bool
 begins passes [] = false
 begins passes (first ∷ others) = passes first
 
--- a character that passes, and directly behind it a production
+-- a character that passes, and directly after it a production
 infixr 6 ◌>>◌
 abbrev pub ◌>>◌ : {A : Type 0} → (ℕ → Bool) → Reading A → Reading A
 ◌>>◌ passes read [] = None
@@ -35,7 +35,7 @@ code_point wanted character = character == wanted
 abbrev pub letter : ℕ → ℕ → Bool
 letter wanted character = eq_ignore_ascii_case character wanted
 
--- a production, and directly behind it the one that its value asks for
+-- a production, and directly after it the one that its value asks for
 abbrev pub then_read : {A B : Type 0} → (A → Reading B) → Option (A × List ℕ) → Option (B × List ℕ)
 then_read next None = None
 then_read next (Some read) = next read.0 read.1
@@ -115,7 +115,7 @@ pub record MathematicalValue : Type 0 where
 abbrev pub times_power : MathematicalValue → ℤ → MathematicalValue
 times_power value power = record { significand = value.significand; power = value.power +ℤ power }
 
--- the MV of the integer part plus that of the digits behind the point × 10 ^ -n, where there are n of them
+-- the MV of the integer part plus that of the digits after the point × 10 ^ -n, where there are n of them
 abbrev pub with_fraction : Digits → Digits → MathematicalValue
 with_fraction whole fraction = record { significand = whole.mv * 10 ^ fraction.count + fraction.mv; power = neg_ℤ (pos fraction.count) }
 
@@ -133,7 +133,7 @@ signed_integer form = maybe false sign >>= λ negative. digits form 10 >>= λ si
 unfoldable pub exponent_part : NumeralForm → Reading ℤ
 exponent_part form = letter 101 >> signed_integer form
 
--- a point (46), and digits or none behind it
+-- a point (46), and digits or none after it
 unfoldable pub point_and_digits : NumeralForm → Reading Digits
 point_and_digits form = code_point 46 >> maybe no_digits (digits form 10)
 
@@ -168,7 +168,7 @@ integer value = record { significand = value.mv; power = pos 0 }
 unfoldable pub numeric_literal : Reading MathematicalValue
 numeric_literal = (non_decimal_integer_literal Literal >>= λ value. pure (integer value)) // decimal_literal Literal
 
--- NumericLiteral of a BigInt: an integer, and `n` (110) directly behind it
+-- NumericLiteral of a BigInt: an integer, and `n` (110) directly after it
 unfoldable pub integer_literal : Reading Digits
 integer_literal = non_decimal_integer_literal Literal // decimal_integer Literal
 

@@ -33,7 +33,7 @@ struct SignedSize {
     size: u64,
 }
 
-/// The exact value of a numeral: decimal with fraction and exponent, or behind `0x`, `0o` or `0b` in
+/// The exact value of a numeral: decimal with fraction and exponent, or after `0x`, `0o` or `0b` in
 /// either case, with `_` between digits, of any length. `None` exactly where the text is no such
 /// numeral, as one with a zero before another digit or one of a BigInt, or where its value is no
 /// whole number up to 2^53 - 1.
@@ -119,7 +119,7 @@ fn numeric_literal(text: &[u8]) -> Option<(Option<u64>, usize)>
     decimal_literal(NumeralForm::Literal, text)
 }
 
-// Digits behind `0x`, `0o` or `0b`: their value, or 2^64 - 1 where it is more.
+// Digits after `0x`, `0o` or `0b`: their value, or 2^64 - 1 where it is more.
 pub(crate) fn non_decimal_integer(form: NumeralForm, text: &[u8]) -> Option<(u64, usize)>
     ensures { Reads HoldsInteger text.now result (non_decimal_integer_literal form text.now) }
 {
@@ -156,7 +156,7 @@ pub(crate) fn decimal_literal(form: NumeralForm, text: &[u8]) -> Option<(Option<
     Some((whole_size(run, exponent), end))
 }
 
-// The digits before the exponent, of which `count` stand behind the point.
+// The digits before the exponent, of which `count` stand after the point.
 fn mantissa(form: NumeralForm, text: &[u8]) -> Option<(DigitRun, usize)>
     ensures read { Reads HoldsMantissa text.now result (mantissa form text.now) }
     ensures short { IfSome result IsShort }
@@ -185,7 +185,7 @@ fn decimal_integer(form: NumeralForm, text: &[u8]) -> Option<(DigitRun, usize)>
     }
 }
 
-// The digits before a point with those behind it, if there are any; only these are counted.
+// The digits before a point with those after it, if there are any; only these are counted.
 fn fraction(form: NumeralForm, whole: DigitRun, text: &[u8], at: usize) -> (DigitRun, usize)
     requires within { at ≤ length text.now }
     requires short { IsShort (whole, at) }
@@ -202,7 +202,7 @@ fn fraction(form: NumeralForm, whole: DigitRun, text: &[u8], at: usize) -> (Digi
     more_digits(form, 10, start, text, at + 1)
 }
 
-// The exponent behind a mantissa, which may be missing.
+// The exponent after a mantissa, which may be missing.
 fn exponent(form: NumeralForm, text: &[u8], at: usize) -> (SignedSize, usize)
     requires { at ≤ length text.now }
     ensures { Reads HoldsSigned text.now (Some result) (maybe (pos 0) (exponent_part form) (drop at text.now)) }
@@ -231,7 +231,7 @@ fn exponent_part(form: NumeralForm, text: &[u8], at: usize) -> Option<(SignedSiz
     ))
 }
 
-// Whether a minus stands there, and the place behind a sign.
+// Whether a minus stands there, and the place after a sign.
 pub(crate) fn sign(text: &[u8], at: usize) -> (bool, usize)
     requires { at ≤ length text.now }
     ensures read { maybe false sign (drop at text.now) ≡ Some (result.0, drop result.1 text.now) }
@@ -352,7 +352,7 @@ impl DigitRun {
         count: 0,
     };
 
-    // One more digit behind these.
+    // One more digit after these.
     fn with(self, radix: u32, digit: u32) -> DigitRun
         requires least { 2 ≤ radix }
         requires small { digit < radix }

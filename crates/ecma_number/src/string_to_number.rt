@@ -8,7 +8,7 @@ use crate::numerals::{NumeralForm, decimal_literal, non_decimal_integer, number,
 use crate::{JsNumber, Value};
 
 /// The Number of a text, with white space and line terminators round it left out: 0 for no text, a
-/// decimal numeral with or without a sign, `Infinity` with or without one, or digits behind `0x`,
+/// decimal numeral with or without a sign, `Infinity` with or without one, or digits after `0x`,
 /// `0o` or `0b`; NaN for any other text. Unknown exactly where the exact value is no whole number
 /// within 2^53 - 1.
 pub fn num_from_str(text: &str) -> Value<JsNumber>

@@ -1,3 +1,4 @@
+//! The operators of Numbers, their texts and their numerals, by rows of expected answers.
 ghost use Rattle.std.specs.Prelude.{◌≡◌};
 
 mod grid;
@@ -187,7 +188,7 @@ fn numerals(rt: HostRuntime) -> Result<(), Fail> {
         assert_eq!(rt; numeral_value(text), answer(wanted)?, "{text}");
     }
 
-    // A number of 401 digits behind as many zeros, and an exponent that takes them all back.
+    // A number of 401 digits after as many zeros, and an exponent that takes them all back.
     let mut long = String::from_str(rt.alloc(), "0.")?;
     for _ in 0..400 {
         long.push('0')?;

@@ -35,7 +35,7 @@ pub trait ToJsString {
         ensures { IfOk result (λ text. text ≡ text_of self.now) };
 }
 
-/// The text of a Number (6.1.6.1.20 Number::toString): its decimal digits, behind a minus below 0;
+/// The text of a Number (6.1.6.1.20 Number::toString): its decimal digits, after a minus below 0;
 /// both zeros are `0`.
 impl ToJsString for JsNumber {
     ghost use Rattle.ecma_number.specs.Text.{text_of};

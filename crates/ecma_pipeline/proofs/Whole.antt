@@ -2,18 +2,17 @@
 use Rattle.std.proofs.Common.{ℕ, ◌<◌, ◌+◌, ◌-◌, ◌^◌, false, arith, length}
 use Rattle.ecma_fits.specs.Fitting.{Fits}
 use Rattle.ecma_bind.specs.Binding.{with_bound_names}
-use Rattle.ecma_pipeline_names.specs.Short.{NamesThatAreReadAreShort, NoneLong}
+use Rattle.ecma_pipeline_names.specs.Laws.{NamesThatAreReadAreShort}
+use Rattle.ecma_hygiene_fits.specs.Spelled.{NoneLong}
 use Rattle.ecma_round_trip.specs.Laws.{WhatFitsIsReadAgain}
-use Rattle.ecma_round_trip.specs.Plain.{IsPlain}
-use Rattle.ecma_pipeline_runs.specs.Passes.{IsSource}
-use Rattle.ecma_pipeline_bound.specs.Laws.{BoundPassesKeepRuns}
-use Rattle.ecma_text_sources.specs.Sources.{IsRead, ReadTreesAreRead, TakenTreesAreSources}
+use Rattle.ecma_sources.specs.Sources.{IsSource}
+use Rattle.ecma_plain.specs.Read.{IsRead}
+use Rattle.ecma_text_sources.specs.Laws.{ReadTreesAreRead, TakenTreesAreSources}
 use Rattle.ecma_bind_sources.specs.Laws.{BoundTreesAreRead, BoundTreesAreTaken}
-use Rattle.ecma_pipeline_fits.specs.Laws.{FinalTreesFit}
-use Rattle.ecma_pipeline_plain.specs.Final.{FinalTreesArePlain}
+use Rattle.ecma_pipeline_plain.specs.Laws.{FinalTreesArePlain}
 use Rattle.ecma_modules.specs.Modules.{typescript}
-use Rattle.ecma_pipeline_conflicts.specs.Laws.{BoundModulesAreNotRedeclared}
-use Rattle.ecma_pipeline.specs.Written.{WrittenModulesDoWhatTheirSourcesDo}
+use Rattle.ecma_pipeline.specs.Laws.{BoundPassesKeepRuns, FinalTreesFit, BoundModulesAreNotRedeclared, WrittenModulesDoWhatTheirSourcesDo}
+use Rattle.ecma_plain.specs.Plain.{IsPlain}
 
 pub record Laws : Type 0 where
   pub reads : ReadTreesAreRead

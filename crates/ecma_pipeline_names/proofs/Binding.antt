@@ -4,7 +4,6 @@ use Rattle.ecma_kind.specs.Sorts.{is_type_wrapper}
 use Rattle.ecma_kind.specs.declared.kind.Kind.TheVariants as kind
 use Rattle.ecma_tree.specs.declared.node.Node.{Node, out-Node}
 use Rattle.ecma_tree.specs.Nodes.{node_of}
-use Rattle.ecma_tree.proofs.Layers.{from_leaves-roll}
 use Rattle.ecma_rules.specs.Children.{kind_of}
 use Rattle.ecma_rules.specs.Finishing.{binding}
 use Rattle.ecma_text_leaves.specs.Everywhere.{everywhere, more, none}
@@ -13,8 +12,9 @@ use Rattle.ecma_fits.specs.declared.role.Role.{Role}
 use Rattle.ecma_fits.specs.declared.role.Role.TheVariants as role
 use Rattle.ecma_fits.specs.Roles.{role_in}
 use Rattle.ecma_bind.specs.Binding.{bound_at, bound_step, each_at, first_or, is_typed_name, under_types, with_children}
-use Rattle.ecma_pipeline_names.specs.Short.{BindingKeepsNamesShort}
+use Rattle.ecma_pipeline_names.specs.Laws.{BindingKeepsNamesShort}
 use Rattle.ecma_pipeline_names.proofs.Throughout.{All, Good, IsShort, all_short, either, missing, node_good, none_long}
+use Rattle.ecma_tree.proofs.Layers.{from_leaves-roll}
 
 binding_good : (n : Node) → Good n → Good (binding n)
 binding_good n g = node_good (out-Node n).span kind.BindingIdent refl (more g (more missing none))

@@ -5,11 +5,11 @@ use Rattle.ecma_kind.specs.declared.kind.Kind.TheVariants as kind
 use Rattle.ecma_tree.specs.declared.node.Node.{Node, Node-F, roll-Node}
 use Rattle.ecma_tree.specs.declared.node.Node.TheViews.{out-roll-Node}
 use Rattle.ecma_tree.specs.Nodes.{node_of}
-use Rattle.ecma_tree.proofs.Layers.{from_leaves-roll}
 use Rattle.ecma_text_leaves.specs.Everywhere.{everywhere, more, none}
 use Rattle.ecma_scope.specs.Resolved.{Place, context_count, inside, kind_at, nowhere, placed, resolve_step, resolved_at, taken}
-use Rattle.ecma_pipeline_names.specs.Short.{ContextsKeepNamesShort}
+use Rattle.ecma_pipeline_names.specs.Laws.{ContextsKeepNamesShort}
 use Rattle.ecma_pipeline_names.proofs.Throughout.{All, Good, IsShort, all_short, node_good, none_long}
+use Rattle.ecma_tree.proofs.Layers.{from_leaves-roll}
 
 module _ (unresolved top : ℕ) where
   kind_short : (place : Place) (k : Kind) → IsShort k → IsShort (kind_at unresolved place k)

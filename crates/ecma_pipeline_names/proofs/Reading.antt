@@ -25,11 +25,12 @@ use Rattle.ecma_text_leaves.specs.Everywhere.{more, none}
 use Rattle.ecma_text_leaves.proofs.Forms.{is_leaf}
 use Rattle.ecma_text_leaves.proofs.Leaves.{Holds, holds_read, holds_then}
 use Rattle.ecma_text_leaves.proofs.Trees.{good_framed}
-use Rattle.ecma_text_fits.proofs.Everywhere.{finished_good}
-use Rattle.ecma_text_fits.proofs.Raws.{of_raw}
-use Rattle.ecma_text_fits.proofs.ReadingOf.{read_holds}
-use Rattle.ecma_text_fits.proofs.Walks.{not_true}
-use Rattle.ecma_pipeline_names.specs.Short.{NamesThatAreReadAreShort, NoneLong}
+use Rattle.ecma_text_fits_finished.proofs.Everywhere.{finished_good}
+use Rattle.ecma_text_fits_finished.proofs.Raws.{of_raw}
+use Rattle.ecma_text_fits_leaves.proofs.ReadingOf.{read_holds}
+use Rattle.ecma_fits_clauses.proofs.Walks.{not_true}
+use Rattle.ecma_pipeline_names.specs.Laws.{NamesThatAreReadAreShort}
+use Rattle.ecma_hygiene_fits.specs.Spelled.{NoneLong}
 use Rattle.ecma_pipeline_names.proofs.Throughout.{All, Good, IsShort, missing, node_good, none_long}
 
 -- what stands between two places of a text is no longer than it

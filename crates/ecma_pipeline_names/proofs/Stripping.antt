@@ -13,7 +13,7 @@ use Rattle.ecma_strip.specs.Stripping.{body_of, changed_at, operand, plain, plai
 use Rattle.ecma_strip.proofs.Stripping.{stripped-roll}
 use Rattle.ecma_strip_fits.proofs.Classes.{Class, class_of, only_list, plain_listed, plain_typed, plain_usual, plain_wrapped}
 use Rattle.ecma_strip_fits.proofs.Classes.Class.{Listed, Typed, Usual, Wrapped}
-use Rattle.ecma_pipeline_names.specs.Short.{StrippingKeepsNamesShort}
+use Rattle.ecma_pipeline_names.specs.Laws.{StrippingKeepsNamesShort}
 use Rattle.ecma_pipeline_names.proofs.Throughout.{All, Good, IsShort, all_short, either, missing, node_good, none_long}
 
 -- ---- a node whose children have no types any more

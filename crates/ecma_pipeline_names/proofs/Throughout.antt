@@ -4,16 +4,15 @@ use Rattle.ecma_kind.specs.declared.kind.Kind.{Kind}
 use Rattle.ecma_kind.specs.declared.span.Span.{Span}
 use Rattle.ecma_tree.specs.declared.node.Node.{Node, Node-F, ind-Node, roll-Node}
 use Rattle.ecma_tree.specs.Nodes.{absent, node_of}
-use Rattle.ecma_tree.proofs.Layers.{from_leaves-roll}
 use Rattle.ecma_rules.specs.Children.{kind_of}
 use Rattle.ecma_rules.specs.Failing.{failing_here, failing_step, first_failing, least, least_from}
 use Rattle.ecma_text_leaves.specs.Everywhere.{Each, Everywhere, everywhere, more, none}
 use Rattle.ecma_text_leaves.proofs.Trees.{good_absent, good_node, kind_made}
 use Rattle.ecma_fits.specs.declared.unfit.Where.{Where}
 use Rattle.ecma_fits.specs.Fitting.{at_top, where_in}
-use Rattle.ecma_hygiene_fits.specs.Spelled.{is_long}
+use Rattle.ecma_hygiene_fits.specs.Spelled.{is_long, NoneLong}
 use Rattle.ecma_hygiene_fits.proofs.Walk.{neither_least, not_failing}
-use Rattle.ecma_pipeline_names.specs.Short.{NoneLong}
+use Rattle.ecma_tree.proofs.Layers.{from_leaves-roll}
 
 -- a kind is no long identifier
 abbrev pub IsShort : Kind → Type 0

@@ -1,9 +1,9 @@
 //! No identifier of what a program reads, resolves, binds and strips is long: its text has fewer than 2^32 - 64 bytes.
 //!
-//! Each function carries one law over the definitions, and does nothing. The laws are stated in `specs/`.
+//! Each function carries one law over the definitions, and does nothing. The laws are stated in `specs/Laws.antt`.
 #![tactic(auto)]
 
-ghost use Rattle.ecma_pipeline_names.specs.Short.{BindingKeepsNamesShort, ContextsKeepNamesShort, NamesThatAreReadAreShort, StrippingKeepsNamesShort};
+ghost use Rattle.ecma_pipeline_names.specs.Laws.{BindingKeepsNamesShort, ContextsKeepNamesShort, NamesThatAreReadAreShort, StrippingKeepsNamesShort};
 
 /// No identifier is long in what is read, in either mode and with any number of levels, of a text with fewer than 2^32 - 64 bytes.
 #[tactic(auto, using(crate::proofs::Reading::names_read))]

@@ -9,7 +9,7 @@ use Rattle.ecma_tree.specs.Sorted.{one}
 use Rattle.ecma_rules.specs.Children.{kind_of}
 use Rattle.ecma_fits.specs.Fitting.{Fits}
 use Rattle.ecma_scope_fits.proofs.Moved.{kind_moved}
-use Rattle.ecma_print_shapes.specs.Items.{HasUtf8Hashbang}
+use Rattle.ecma_plain.specs.Items.{HasUtf8Hashbang}
 use Rattle.ecma_scope.specs.Laws.{without_contexts}
 use Rattle.ecma_scope.specs.Resolved.{resolved}
 use Rattle.ecma_scope.proofs.Unchanged.{changes-contexts, keeps-sorts}

@@ -6,7 +6,7 @@ use Rattle.ecma_kind.specs.declared.kind.Kind.TheVariants as kind
 use Rattle.ecma_tree.specs.declared.node.Node.{Node}
 use Rattle.ecma_rules.specs.Children.{children_of, kind_of}
 use Rattle.ecma_text_leaves.specs.Everywhere.{Each, Everywhere, more, none}
-use Rattle.ecma_print_shapes.specs.Items.{has_plain_items, is_plain_item, is_plain_kind}
+use Rattle.ecma_plain.specs.Items.{has_plain_items, is_plain_item, is_plain_kind}
 use Rattle.ecma_forms.specs.Forms.{is_later}
 use Rattle.ecma_hygiene.proofs.Telling.{and-both, true-false}
 use Rattle.ecma_pipeline_plain.proofs.KindsSaid.{IsNotLater}

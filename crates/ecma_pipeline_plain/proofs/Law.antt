@@ -6,9 +6,6 @@ use Rattle.ecma_tree.specs.declared.node.Node.{Node}
 use Rattle.ecma_rules.specs.Children.{kind_of}
 use Rattle.ecma_text_leaves.specs.Everywhere.{Everywhere}
 use Rattle.ecma_fits.specs.Fitting.{Fits}
-use Rattle.ecma_print_shapes.specs.Forms.{IsTaken}
-use Rattle.ecma_print_shapes.specs.Functions.{Functions, functions}
-use Rattle.ecma_print_shapes.specs.Items.{HasUtf8Hashbang, has_plain_items}
 use Rattle.ecma_scope.specs.Laws.{without_contexts}
 use Rattle.ecma_scope.specs.Resolved.{resolved}
 use Rattle.ecma_strip.specs.Stripping.{stripped}
@@ -17,8 +14,8 @@ use Rattle.ecma_hygiene.specs.Hygienic.{IsHygienic}
 use Rattle.ecma_hygiene.specs.Renamed.{renamed}
 use Rattle.ecma_hygiene.specs.Texts.{text_in}
 use Rattle.ecma_forms.specs.Forms.{first_untaken}
-use Rattle.ecma_text_sources.specs.Sources.{IsRead}
-use Rattle.ecma_pipeline_plain.specs.Final.{FinalTreesArePlain}
+use Rattle.ecma_plain.specs.Read.{IsRead}
+use Rattle.ecma_pipeline_plain.specs.Laws.{FinalTreesArePlain}
 use Rattle.ecma_pipeline_plain.proofs.Everywhere.{everywhere_moved}
 use Rattle.ecma_pipeline_plain.proofs.Hashbang.{hashbang_stays}
 use Rattle.ecma_pipeline_plain.proofs.Items.{items_are_plain}
@@ -28,6 +25,9 @@ use Rattle.ecma_pipeline_plain.proofs.OrdinaryRenamed.{ordinary_renamed}
 use Rattle.ecma_pipeline_plain.proofs.OrdinaryStripped.{stripped_ordinary, stripped_parts}
 use Rattle.ecma_pipeline_plain.proofs.Taken.{left_renamed, resolved_fits, stripped_full}
 use Rattle.ecma_pipeline_plain.proofs.Untaken.{resolved_taken}
+use Rattle.ecma_plain.specs.Forms.{IsTaken}
+use Rattle.ecma_plain.specs.Functions.{Functions, functions}
+use Rattle.ecma_plain.specs.Items.{HasUtf8Hashbang, has_plain_items}
 
 module _ (unresolved top left : ℕ) (source final : Node) (read : IsRead source) (taken : first_untaken source ≡ None) (hygienic : IsHygienic (stripped (resolved unresolved top left source)) final) where
   abbrev r : Node

@@ -8,14 +8,14 @@ use Rattle.ecma_tree.specs.Sorted.{is_absent}
 use Rattle.ecma_rules.specs.Children.{is_present, kind_of, of_kind}
 use Rattle.ecma_text_leaves.specs.Everywhere.{Everywhere}
 use Rattle.ecma_scope_fits.proofs.Moved.{children_moved, kind_moved, to}
-use Rattle.ecma_print_shapes.specs.Functions.{Functions, any_unusual, functions, functions_step, is_missing_at, is_this_name, unusual_here}
 use Rattle.ecma_scope.specs.Laws.{without_contexts}
-use Rattle.ecma_strip_runs.specs.Usual.{holds_throughout}
+use Rattle.ecma_strip_runs.specs.UsualBodies.{holds_throughout}
 use Rattle.ecma_hygiene.proofs.Telling.{and-left, and-right}
 use Rattle.ecma_hygiene_fits.proofs.Everywhere.{Each as EachChild, children_of, everywhere as from_children}
 use Rattle.ecma_pipeline_runs.proofs.Nodes.{by-children, not-false, not-true, test-below, test-here}
 use Rattle.ecma_pipeline_plain.proofs.Everywhere.{each_at, parts}
 use Rattle.ecma_pipeline_plain.proofs.KindsSaid.{bare, empty}
+use Rattle.ecma_plain.specs.Functions.{Functions, any_unusual, functions, functions_step, is_missing_at, is_this_name, unusual_here}
 
 -- whether a child stands at an index
 abbrev pub is_there : List Node → ℕ → Bool

@@ -21,7 +21,7 @@ use Rattle.ecma_runs.proofs.Layer.{meaning_out}
 use Rattle.ecma_forms.specs.Forms.{first_untaken, has_body}
 use Rattle.ecma_text_sources.proofs.Taken.{not_odd, taken_below}
 use Rattle.ecma_strip.specs.Stripping.{plain_children, plain_kind, stripped}
-use Rattle.ecma_strip_runs.specs.Usual.{holds_throughout}
+use Rattle.ecma_strip_runs.specs.UsualBodies.{holds_throughout}
 use Rattle.ecma_strip_runs.proofs.Telling.{holds-roll}
 use Rattle.ecma_strip_scopes.proofs.Going.{parts-have}
 use Rattle.ecma_hygiene.proofs.Telling.{and-both, and-left, and-right, true-false}

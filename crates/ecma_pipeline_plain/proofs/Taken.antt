@@ -12,8 +12,7 @@ use Rattle.ecma_text_leaves.specs.Everywhere.{Everywhere, everywhere, none}
 use Rattle.ecma_rules.specs.Children.{kind_of}
 use Rattle.ecma_fits.specs.Fitting.{Fits}
 use Rattle.ecma_scope_fits.proofs.Contexts.{resolved_fit_alike}
-use Rattle.ecma_print_shapes.specs.Functions.{is_this_name}
-use Rattle.ecma_text_plain.specs.Bare.{IsBareUnquestioned}
+use Rattle.ecma_plain.specs.Forms.{IsBareUnquestioned}
 use Rattle.ecma_runs.specs.Evaluation.{meaning}
 use Rattle.ecma_runs.specs.Meaning.{Meaning}
 use Rattle.ecma_scope.specs.Resolved.{resolved}
@@ -28,16 +27,16 @@ use Rattle.ecma_hygiene.specs.Renamed.{Texts, renamed, text_of}
 use Rattle.ecma_hygiene.specs.Sights.{meetings, sights}
 use Rattle.ecma_hygiene.specs.Texts.{text_in}
 use Rattle.ecma_hygiene_fits.proofs.Everywhere.{children_of}
-use Rattle.ecma_hygiene_fits.specs.Named.{IsUnreserved}
+use Rattle.ecma_hygiene_fits.specs.Unreserved.{IsUnreserved}
 use Rattle.ecma_hygiene_fits.proofs.Numbered.{texts_unreserved}
-use Rattle.ecma_pipeline_runs.specs.TypesAlone.{adds_types_alone}
+use Rattle.ecma_sources.specs.TypesAlone.{adds_types_alone}
 use Rattle.ecma_pipeline_runs.proofs.Contexts.{resolved-adds-types}
 use Rattle.ecma_pipeline_runs.proofs.Full.{modules-are-full}
 use Rattle.ecma_pipeline_runs.proofs.FullParts.{full_by, is_foreign, is_full, lacks}
 use Rattle.ecma_pipeline_runs.proofs.Nodes.{by-children, not-true, test-below, test-here}
 use Rattle.ecma_pipeline_runs.proofs.Plainness.{finds-below, finds-itself, full-lacks}
 use Rattle.ecma_forms.specs.Forms.{first_untaken, is_ambient_variable}
-use Rattle.ecma_text_sources.specs.Sources.{IsRead}
+use Rattle.ecma_plain.specs.Read.{IsRead}
 use Rattle.ecma_text_sources.proofs.Quiet.{not_this}
 use Rattle.ecma_text_sources.proofs.Taken.{not_later, taken_below}
 use Rattle.ecma_text_sources.proofs.TypesAlone.{types_alone}
@@ -47,6 +46,7 @@ use Rattle.ecma_pipeline_plain.proofs.Renaming.{everywhere_renamed}
 use Rattle.ecma_pipeline_plain.proofs.Stripping.{Says, kept}
 use Rattle.ecma_pipeline_plain.proofs.Texts.{final_text_utf8}
 use Rattle.ecma_pipeline_plain.proofs.Untaken.{resolved_taken}
+use Rattle.ecma_plain.specs.Functions.{is_this_name}
 
 -- ---- the source
 

@@ -1,1 +1,1 @@
-pub mod Final
+pub mod Laws

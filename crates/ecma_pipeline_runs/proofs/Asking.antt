@@ -12,7 +12,6 @@ use Rattle.ecma_kind.specs.declared.shapes.Sort.{Sort}
 use Rattle.ecma_kind.specs.declared.shapes.Sort.TheVariants as sort
 use Rattle.ecma_tree.specs.declared.node.Node.{Node, out-Node}
 use Rattle.ecma_tree.specs.Sorted.{HasShape, allows, allows_by, child_shapes, is_absent, is_list, item_shape, many, maybe, one, with_holes}
-use Rattle.ecma_tree.specs.Values.{is_value}
 use Rattle.ecma_rules.specs.Targets.{is_simple_target}
 use Rattle.ecma_fits.specs.declared.role.Role.{Role}
 use Rattle.ecma_fits.specs.declared.role.Role.TheVariants as role
@@ -26,9 +25,10 @@ use Rattle.ecma_scope.specs.Declarations.{in_default as default_in, in_item, in_
 use Rattle.ecma_hygiene.proofs.Telling.{and-both, and-left, and-right, true-false}
 use Rattle.ecma_strip_scopes.proofs.Going.{is_named, parts-have}
 use Rattle.ecma_strip_scopes.proofs.Wrapping.{belongs-same, takes_types}
-use Rattle.ecma_pipeline_runs.specs.TypesAlone.{is_lowered}
+use Rattle.ecma_sources.specs.TypesAlone.{is_lowered}
 use Rattle.ecma_pipeline_runs.proofs.Nodes.{none-some, or-right, some-same}
 use Rattle.ecma_pipeline_runs.proofs.Remaining.{holds_items, is_many, remains, remains_by}
+use Rattle.ecma_tree.specs.Values.{is_value}
 
 -- ---- where names are declared
 

@@ -6,7 +6,7 @@ use Rattle.ecma_scope.specs.declared.role.Role.{Role}
 use Rattle.ecma_scope.specs.declared.role.Role.TheVariants as role
 use Rattle.ecma_scope.specs.Scopes.{at_child, is_ambient, of_exports, of_specifier, passes_ambient, passes_in_list, role_by}
 use Rattle.ecma_hygiene.proofs.Telling.{true-false}
-use Rattle.ecma_pipeline_runs.specs.TypesAlone.{is_lowered}
+use Rattle.ecma_sources.specs.TypesAlone.{is_lowered}
 
 calm-list : (r : Role) → is_ambient r ≡ false → is_ambient (passes_in_list r) ≡ false
 calm-list role.Ambient h = absurd (true-false refl h)

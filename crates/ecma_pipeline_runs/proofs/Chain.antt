@@ -6,8 +6,8 @@ use Rattle.ecma_tree.specs.Sorted.{HasSort, one}
 use Rattle.ecma_tree.specs.Spans.{without_spans}
 use Rattle.ecma_tree.specs.declared.node.Node.{Node}
 use Rattle.ecma_fits.specs.Fitting.{Fits}
-use Rattle.ecma_scope_fits.specs.Kept.{ResolvedTreesFitAlike}
-use Rattle.ecma_print_parentheses.specs.Explicit.{explicit}
+use Rattle.ecma_scope_fits.specs.Laws.{ResolvedTreesFitAlike}
+use Rattle.ecma_print.specs.Explicit.{explicit}
 use Rattle.ecma_print_parentheses.specs.Laws.{RunsAlike}
 use Rattle.ecma_runs.specs.declared.config.Config.{Config}
 use Rattle.ecma_runs.specs.declared.script.Script.{Script}
@@ -15,27 +15,27 @@ use Rattle.ecma_runs.specs.Observation.{observe}
 use Rattle.ecma_scope.specs.declared.role.Role.TheVariants as role
 use Rattle.ecma_scope.specs.Laws.{ResolvedChangesContexts, ResolvedKeepsSorts, without_contexts}
 use Rattle.ecma_scope.specs.Resolved.{contexts, resolved}
-use Rattle.ecma_scope_congruence.specs.Parentheses.{HasBodies, ParenthesesDoNotMatterToContexts}
-use Rattle.ecma_scope_congruence.specs.Spans.{SpansDoNotMatterToContexts}
+use Rattle.ecma_scope_congruence.specs.Bodies.{HasBodies}
+use Rattle.ecma_scope_congruence.specs.Laws.{ParenthesesDoNotMatterToContexts, SpansDoNotMatterToContexts}
 use Rattle.ecma_strip.specs.Stripping.{stripped}
-use Rattle.ecma_strip_fits.specs.Kept.{StrippingKeepsSorts}
-use Rattle.ecma_strip_runs.specs.Runs.{StrippingKeepsRuns}
-use Rattle.ecma_strip_runs.specs.Usual.{OnlyTypesGo}
-use Rattle.ecma_strip_scopes.specs.Apart.{StrippedModulesTellScopesApart}
+use Rattle.ecma_strip_fits.specs.Laws.{StrippingKeepsSorts}
+use Rattle.ecma_strip_runs.specs.Laws.{StrippingKeepsRuns, OnlyTypesGo}
+use Rattle.ecma_strip_scopes.specs.Laws.{StrippedModulesTellScopesApart}
 use Rattle.ecma_hygiene.specs.declared.naming.Named.{Named}
 use Rattle.ecma_hygiene.specs.Ids.{Id}
 use Rattle.ecma_hygiene.specs.Renamed.{at_root, renamed}
 use Rattle.ecma_hygiene.specs.Sights.{nowhere, sights}
 use Rattle.ecma_hygiene.specs.Texts.{HygienicTexts, is_bound, text_in}
-use Rattle.ecma_hygiene_scopes.specs.Apart.{ContextsAreMapped, IsMap, TellsScopesApart}
+use Rattle.ecma_hygiene_scopes.specs.Laws.{ContextsAreMapped}
+use Rattle.ecma_hygiene_scopes.specs.Apart.{IsMap, TellsScopesApart}
 use Rattle.ecma_hygiene_scopes.specs.Lasting.{IsCheckedModule}
 use Rattle.ecma_hygiene_scopes.specs.Stops.{IsRight, stops}
-use Rattle.ecma_hygiene_runs.specs.Laws.{IsResolved, KeepsApart, ReadingAgainKeepsRuns}
-use Rattle.ecma_hygiene_runs.specs.Plain.{PlainModulesAreResolved}
-use Rattle.ecma_pipeline_runs.specs.Clear.{ModulesAreClear}
-use Rattle.ecma_pipeline_runs.specs.Passes.{AreGiven, IsReading, IsSource, PassesKeepRuns}
-use Rattle.ecma_pipeline_runs.specs.Plain.{StrippedModulesArePlain}
-use Rattle.ecma_pipeline_runs.specs.TypesAlone.{adds_types_alone}
+use Rattle.ecma_hygiene_runs.specs.Resolved.{IsResolved, KeepsApart}
+use Rattle.ecma_hygiene_runs.specs.Laws.{ReadingAgainKeepsRuns, PlainModulesAreResolved}
+use Rattle.ecma_pipeline_runs.specs.Laws.{ModulesAreClear, PassesKeepRuns, StrippedModulesArePlain}
+use Rattle.ecma_scope.specs.Resolved.{AreGiven}
+use Rattle.ecma_sources.specs.Sources.{IsReading, IsSource}
+use Rattle.ecma_sources.specs.TypesAlone.{adds_types_alone}
 use Rattle.ecma_pipeline_runs.proofs.ClearSeats.{module-stands}
 use Rattle.ecma_pipeline_runs.proofs.Contexts.{resolved-adds-types}
 use Rattle.ecma_pipeline_runs.proofs.Full.{modules-are-full}

@@ -10,7 +10,6 @@ use Rattle.ecma_kind.specs.declared.shapes.Sort.TheVariants as sort
 use Rattle.ecma_tree.specs.declared.node.Node.{Node, Node-F, ind-Node, out-Node, roll-Node}
 use Rattle.ecma_tree.specs.declared.node.Node.TheViews.{out-roll-Node}
 use Rattle.ecma_tree.specs.Sorted.{HasShape, child_shapes, is_list, one}
-use Rattle.ecma_tree.specs.Values.{is_value}
 use Rattle.ecma_rules.specs.Jumps.{first_stray}
 use Rattle.ecma_fits.specs.declared.unfit.Where.{Where}
 use Rattle.ecma_fits.specs.Fitting.{Fits, at_top, first_unfit_in, where_in}
@@ -27,8 +26,8 @@ use Rattle.ecma_strip_scopes.proofs.Going.{parts-have}
 use Rattle.ecma_strip_scopes.proofs.KindsKept.{wrapper-opens}
 use Rattle.ecma_strip_scopes.proofs.StayingSeats.{staying-out}
 use Rattle.ecma_strip_fits.proofs.Walk.{neither_least}
-use Rattle.ecma_pipeline_runs.specs.Clear.{ModulesAreClear}
-use Rattle.ecma_pipeline_runs.specs.TypesAlone.{adds_types_alone}
+use Rattle.ecma_pipeline_runs.specs.Laws.{ModulesAreClear}
+use Rattle.ecma_sources.specs.TypesAlone.{adds_types_alone}
 use Rattle.ecma_pipeline_runs.proofs.Asking.{Asked, is_default_export}
 use Rattle.ecma_pipeline_runs.proofs.Strays.{opener-other}
 use Rattle.ecma_pipeline_runs.proofs.CalmRoles.{calm-role}
@@ -36,6 +35,7 @@ use Rattle.ecma_pipeline_runs.proofs.Clearing.{Stands, clears, stands-below}
 use Rattle.ecma_pipeline_runs.proofs.Nodes.{StaysIn, none-some, not-lowered, some-same}
 use Rattle.ecma_pipeline_runs.proofs.Remaining.{first_declared, remains_by}
 use Rattle.ecma_pipeline_runs.proofs.UsualBodies.{fitting-bodies}
+use Rattle.ecma_tree.specs.Values.{is_value}
 
 -- ---- what is exported as the default
 

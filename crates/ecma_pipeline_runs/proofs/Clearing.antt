@@ -21,12 +21,9 @@ use Rattle.ecma_scope.specs.declared.form.Part.{Part}
 use Rattle.ecma_scope.specs.declared.form.Part.TheVariants as part
 use Rattle.ecma_scope.specs.declared.form.Sought.{Sought}
 use Rattle.ecma_scope.specs.Declarations.{in_default, in_item, in_member, in_name, in_scope, in_var, sought_by, sought_in}
-use Rattle.ecma_tree.proofs.Layers.{from_leaves_out}
-use Rattle.ecma_tree.specs.Values.{is_value, value_by}
-use Rattle.ecma_tree.proofs.Valuing.{is_value-out}
 use Rattle.ecma_strip.specs.Staying.{is_this_ident, is_this_param, stays}
 use Rattle.ecma_strip.specs.Stripping.{stripped}
-use Rattle.ecma_strip_runs.specs.Usual.{declares_no_body, has_usual_bodies}
+use Rattle.ecma_strip_runs.specs.UsualBodies.{declares_no_body, has_usual_bodies}
 use Rattle.ecma_hygiene.proofs.Telling.{and-both, true-false}
 use Rattle.ecma_hygiene_scopes.specs.DeclaredIds.{DeclaredId, ids_declared}
 use Rattle.ecma_strip_scopes.specs.Standing.{bodies_stay, clear_at, clear_here, clear_in, clear_step, has_value, is_clear, is_none, same}
@@ -34,7 +31,7 @@ use Rattle.ecma_strip_scopes.proofs.Going.{is_named, parts-have}
 use Rattle.ecma_strip_scopes.proofs.Seeking.{setter-seeks}
 use Rattle.ecma_strip_scopes.proofs.Standing.{list-kind}
 use Rattle.ecma_strip_fits.proofs.Walk.{each_none, neither_least}
-use Rattle.ecma_pipeline_runs.specs.TypesAlone.{adds_types_alone, is_lowered, is_receiver}
+use Rattle.ecma_sources.specs.TypesAlone.{adds_types_alone, is_lowered, is_receiver}
 use Rattle.ecma_pipeline_runs.proofs.Expressions.{expression-item, expression-var, expressive, wrapper-expression}
 use Rattle.ecma_pipeline_runs.proofs.Nodes.{StaysIn, alone-below, by-children, child-shape, in-no-list, neither, no-ambient-head, none-some, not-lowered, some-same, test-below, test-here}
 use Rattle.ecma_strip_scopes.proofs.Wrapping.{takes_types}
@@ -42,6 +39,9 @@ use Rattle.ecma_pipeline_runs.proofs.Remaining.{children-remain, first_declared,
 use Rattle.ecma_pipeline_runs.proofs.Asking.{Asked, Got, Valued, declares-no-wrapper, default-got, got-some, is_default_export, item-got, list-declaring, name-got, scope-got, unassigned, var-got}
 use Rattle.ecma_pipeline_runs.proofs.Strays.{child-other, is_spared, item-other}
 use Rattle.ecma_pipeline_runs.proofs.Values.{bodies-stay, named-kept}
+use Rattle.ecma_tree.proofs.Layers.{from_leaves_out}
+use Rattle.ecma_tree.specs.Values.{is_value, value_by}
+use Rattle.ecma_tree.proofs.Valuing.{is_value-out}
 
 -- ---- a node that fits
 

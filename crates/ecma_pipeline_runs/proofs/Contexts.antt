@@ -11,14 +11,14 @@ use Rattle.ecma_tree.specs.Sorted.{is_list}
 use Rattle.ecma_tree.specs.declared.node.Node.{Node, Node-F, ind-Node, out-Node, roll-Node}
 use Rattle.ecma_tree.specs.declared.node.Node.TheViews.{out-roll-Node}
 use Rattle.ecma_tree.proofs.Changing.{changed-parts}
-use Rattle.ecma_tree.specs.Values.{is_value, value_at, value_by}
-use Rattle.ecma_tree.proofs.Valuing.{is_value-out}
 use Rattle.ecma_scope.specs.Laws.{ResolvedChangesContexts}
 use Rattle.ecma_scope.specs.Resolved.{resolved}
 use Rattle.ecma_strip.specs.Staying.{if_there, is_ambient, is_declared, is_empty_stmt, is_export, is_this, is_this_by, is_this_ident, is_this_param, is_this_param_by, item_stays, member_stays, member_stays_by, specifier_stays, stays}
 use Rattle.ecma_hygiene_scopes.proofs.Parts.{children-of, kind-of}
-use Rattle.ecma_pipeline_runs.specs.TypesAlone.{adds_types_alone, adds_types_by, has_ambient_head, has_bodiless, has_stray_receiver, is_lone_receiver, is_lowered, is_receiver, lacks_body, lacks_body_by, staying_hold}
+use Rattle.ecma_sources.specs.TypesAlone.{adds_types_alone, adds_types_by, has_ambient_head, has_bodiless, has_stray_receiver, is_lone_receiver, is_lowered, is_receiver, lacks_body, lacks_body_by, staying_hold}
 use Rattle.ecma_pipeline_runs.proofs.Nodes.{alone-out}
+use Rattle.ecma_tree.specs.Values.{is_value, value_at, value_by}
+use Rattle.ecma_tree.proofs.Valuing.{is_value-out}
 
 module _ (context_of : List ℕ → ℕ → ℕ) where
   abbrev turned : Node → Node

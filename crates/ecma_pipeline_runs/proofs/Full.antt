@@ -10,21 +10,19 @@ use Rattle.ecma_tree.specs.declared.node.Node.{Node, out-Node}
 use Rattle.ecma_tree.specs.Laws.{HaveShapes}
 use Rattle.ecma_tree.specs.Nodes.{node_of}
 use Rattle.ecma_tree.specs.Sorted.{child_shapes, is_list, one}
-use Rattle.ecma_tree.specs.Values.{is_value, value_by}
-use Rattle.ecma_tree.proofs.Valuing.{is_value-out}
 use Rattle.ecma_fits.specs.declared.unfit.Where.{Where}
 use Rattle.ecma_fits.specs.Fitting.{Fits, at_top, where_in}
 use Rattle.ecma_strip.specs.Staying.{is_this_ident, is_this_param, item_stays, member_stays, specifier_stays, stays}
 use Rattle.ecma_strip.specs.Stripping.{plain, plain_children, plain_kind, staying_nodes, stripped}
 use Rattle.ecma_strip.proofs.Stripping.{stripped-out}
-use Rattle.ecma_strip_runs.specs.Usual.{declares_no_body}
+use Rattle.ecma_strip_runs.specs.UsualBodies.{declares_no_body}
 use Rattle.ecma_hygiene.proofs.Telling.{and-both, and-left, and-right, true-false}
 use Rattle.ecma_strip_scopes.proofs.Declared.{not-list}
 use Rattle.ecma_strip_scopes.proofs.Going.{parts-have}
 use Rattle.ecma_strip_scopes.proofs.KindsKept.{wrapper-plain, wrapper-some}
 use Rattle.ecma_strip_scopes.proofs.Seeking.{Becomes, becomes}
 use Rattle.ecma_strip_scopes.proofs.Seeking.Becomes.{typed, wrapper, list, itself}
-use Rattle.ecma_pipeline_runs.specs.TypesAlone.{adds_types_alone, has_bodiless, is_receiver, lacks_body, lacks_body_by}
+use Rattle.ecma_sources.specs.TypesAlone.{adds_types_alone, has_bodiless, is_receiver, lacks_body, lacks_body_by}
 use Rattle.ecma_pipeline_runs.proofs.Asking.{is_default_export}
 use Rattle.ecma_pipeline_runs.proofs.ClearSeats.{module-stands}
 use Rattle.ecma_pipeline_runs.proofs.Clearing.{Stands, default-child, stands-below}
@@ -32,6 +30,8 @@ use Rattle.ecma_pipeline_runs.proofs.Nodes.{any-at, by-children, in-no-list, nei
 use Rattle.ecma_pipeline_runs.proofs.Strays.{child-other, is_spared, item-other, module-other}
 use Rattle.ecma_pipeline_runs.proofs.Remaining.{all-calm-remain, children-remain, first_declared, holds_items, remains, remains_by, stays-remains}
 use Rattle.ecma_pipeline_runs.proofs.FullParts.{absent-full, absent-other, alive, alive-from, alive_by, children-memberless, full-here, full-of, is_full, member-by, memberless-at, native, others-calm, spared-full}
+use Rattle.ecma_tree.specs.Values.{is_value, value_by}
+use Rattle.ecma_tree.proofs.Valuing.{is_value-out}
 
 bodied : (k : Kind) (cs : List Node) → is_default_export k ≡ false → has_bodiless k cs ≡ false → list_any lacks_body cs ≡ false
 bodied kind.ExportDefaultDecl cs e h = absurd (true-false refl e)

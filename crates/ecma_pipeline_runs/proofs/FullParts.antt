@@ -14,25 +14,25 @@ use Rattle.ecma_tree.specs.declared.node.Node.{Node, out-Node}
 use Rattle.ecma_tree.specs.Laws.{HaveShapes}
 use Rattle.ecma_tree.specs.Nodes.{absent, dummy_span, node_of}
 use Rattle.ecma_tree.specs.Sorted.{HasShape, allows, allows_by, child_shapes, is_absent, is_list, many, maybe, one}
-use Rattle.ecma_tree.specs.Values.{is_value, value_by}
-use Rattle.ecma_tree.proofs.Valuing.{is_value-out}
 use Rattle.ecma_runs.specs.Evaluation.{meaning}
 use Rattle.ecma_runs.specs.Meaning.{Meaning}
 use Rattle.ecma_runs.proofs.Layer.{meaning-roll}
 use Rattle.ecma_strip.specs.Staying.{is_empty_stmt, is_this, is_this_by, is_this_ident, is_this_param_by, item_stays, member_stays, member_stays_by}
 use Rattle.ecma_strip.specs.Stripping.{body_of, plain, plain_children, plain_kind, staying_nodes, stripped, without_empty, without_this}
 use Rattle.ecma_strip.proofs.Stripping.{stripped-out}
-use Rattle.ecma_strip_runs.specs.Usual.{holds_throughout}
+use Rattle.ecma_strip_runs.specs.UsualBodies.{holds_throughout}
 use Rattle.ecma_strip_runs.proofs.Telling.{holds-roll}
 use Rattle.ecma_hygiene.proofs.Telling.{and-both, and-left, and-right, true-false}
 use Rattle.ecma_hygiene.specs.Renamed.{kind_is_absent}
 use Rattle.ecma_hygiene_scopes.proofs.Parts.{kind-of}
 use Rattle.ecma_hygiene_runs.specs.Plain.{has_no_receiver}
 use Rattle.ecma_strip_scopes.proofs.Going.{parts-have}
-use Rattle.ecma_pipeline_runs.specs.TypesAlone.{is_lowered, is_receiver, lacks_body, lacks_body_by}
+use Rattle.ecma_sources.specs.TypesAlone.{is_lowered, is_receiver, lacks_body, lacks_body_by}
 use Rattle.ecma_pipeline_runs.proofs.Strays.{is_spared}
 use Rattle.ecma_pipeline_runs.proofs.Nodes.{holds-out, none-some, not-false, not-true, some-same}
 use Rattle.ecma_pipeline_runs.proofs.Remaining.{all_calm, first_declared, holds_items, is_many, remains, remains_by, restless}
+use Rattle.ecma_tree.specs.Values.{is_value, value_by}
+use Rattle.ecma_tree.proofs.Valuing.{is_value-out}
 
 -- what a node lacks when it runs
 abbrev pub lacks : Kind → List Meaning → Bool

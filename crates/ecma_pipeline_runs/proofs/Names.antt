@@ -7,7 +7,6 @@ use Rattle.ecma_kind.specs.declared.kind.Kind.TheVariants as kind
 use Rattle.ecma_kind.specs.declared.span.Span.{Span}
 use Rattle.ecma_tree.specs.declared.node.Node.{Node, Node-F, ind-Node, out-Node, roll-Node}
 use Rattle.ecma_tree.specs.declared.node.Node.TheViews.{out-roll-Node}
-use Rattle.ecma_tree.proofs.Layers.{from_leaves_out}
 use Rattle.ecma_scope.specs.declared.role.Role.{Role}
 use Rattle.ecma_scope.specs.Resolved.{context_count, is_name, taken}
 use Rattle.ecma_scope.specs.Scopes.{role_in}
@@ -23,13 +22,14 @@ use Rattle.ecma_hygiene_scopes.specs.Stops.{Stop, stops_at, stops_from}
 use Rattle.ecma_hygiene_scopes.proofs.Membership.{id-same}
 use Rattle.ecma_hygiene_scopes.proofs.Stopping.{All-first, All-second, stop-here, stops-below}
 use Rattle.ecma_hygiene_runs.specs.FinalTexts.{all_named, is_outer}
-use Rattle.ecma_hygiene_runs.specs.Sorted.{has_outer_names_at, outer_step}
+use Rattle.ecma_hygiene_runs.specs.OuterNames.{has_outer_names_at, outer_step}
 use Rattle.ecma_strip.specs.Staying.{is_this_ident}
 use Rattle.ecma_hygiene_scopes.specs.Seats.{Seat, seat_here, seats_at}
 use Rattle.ecma_strip_scopes.specs.Apart.{IsOther as IsOtherSeat}
 use Rattle.ecma_pipeline_runs.proofs.FullParts.{is_foreign, full_by, is_full}
 use Rattle.ecma_pipeline_runs.proofs.Nodes.{test-below}
 use Rattle.ecma_pipeline_runs.proofs.Plainness.{full-lowered}
+use Rattle.ecma_tree.proofs.Layers.{from_leaves_out}
 
 -- ---- contexts
 

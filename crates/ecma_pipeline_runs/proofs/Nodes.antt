@@ -7,12 +7,12 @@ use Rattle.ecma_tree.specs.declared.node.Node.{Node, Node-F, ind-Node, out-Node,
 use Rattle.ecma_tree.specs.declared.node.Node.TheViews.{out-roll-Node, roll-out-Node}
 use Rattle.ecma_tree.specs.Laws.{HaveShapes}
 use Rattle.ecma_tree.specs.Sorted.{HasShape, has_shape, is_list}
-use Rattle.ecma_tree.proofs.Layers.{from_leaves_out}
 use Rattle.ecma_strip.specs.Staying.{stays}
 use Rattle.ecma_hygiene.proofs.Telling.{and-both, and-left, and-right, true-false}
-use Rattle.ecma_strip_runs.specs.Usual.{holds_throughout}
+use Rattle.ecma_strip_runs.specs.UsualBodies.{holds_throughout}
 use Rattle.ecma_strip_runs.proofs.Telling.{holds-roll}
-use Rattle.ecma_pipeline_runs.specs.TypesAlone.{adds_types_alone, adds_types_by, alone_step, has_ambient_head, has_bodiless, has_stray_receiver, is_lowered, staying_hold}
+use Rattle.ecma_sources.specs.TypesAlone.{adds_types_alone, adds_types_by, alone_step, has_ambient_head, has_bodiless, has_stray_receiver, is_lowered, staying_hold}
+use Rattle.ecma_tree.proofs.Layers.{from_leaves_out}
 
 pub some-same : {X : Type 0} {x y : X} → Some x ≡ Some y → x ≡ y
 some-same e = cc

@@ -10,9 +10,8 @@ use Rattle.ecma_strip_runs.proofs.Sorted.{only_types_go_from_modules}
 use Rattle.ecma_strip_runs.proofs.Steps.{stripping_keeps_runs}
 use Rattle.ecma_strip_scopes.proofs.StrippedModules.{stripped-modules-tell-apart}
 use Rattle.ecma_hygiene_scopes.proofs.Seeing.{contexts-are-mapped}
-use Rattle.ecma_hygiene_runs.specs.Laws.{ReadingAgainKeepsRuns}
-use Rattle.ecma_hygiene_runs.specs.Plain.{PlainModulesAreResolved}
-use Rattle.ecma_pipeline_runs.specs.Passes.{PassesKeepRuns}
+use Rattle.ecma_hygiene_runs.specs.Laws.{ReadingAgainKeepsRuns, PlainModulesAreResolved}
+use Rattle.ecma_pipeline_runs.specs.Laws.{PassesKeepRuns}
 use Rattle.ecma_pipeline_runs.proofs.Chain.{Laws, keep-runs}
 use Rattle.ecma_pipeline_runs.proofs.ClearSeats.{modules-are-clear}
 use Rattle.ecma_pipeline_runs.proofs.Counting.{counts}

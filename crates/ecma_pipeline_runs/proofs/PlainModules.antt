@@ -5,7 +5,7 @@ use Rattle.ecma_tree.specs.Sorted.{one}
 use Rattle.ecma_strip.specs.Stripping.{stripped}
 use Rattle.ecma_strip.proofs.Leaving.{no_types_are_left}
 use Rattle.ecma_strip_fits.proofs.SortsKept.{fits_under_types, sorts_kept}
-use Rattle.ecma_pipeline_runs.specs.Plain.{StrippedModulesArePlain}
+use Rattle.ecma_pipeline_runs.specs.Laws.{StrippedModulesArePlain}
 use Rattle.ecma_pipeline_runs.proofs.Full.{modules-are-full}
 use Rattle.ecma_pipeline_runs.proofs.Plainness.{plainly}
 

@@ -19,7 +19,7 @@ use Rattle.ecma_fits.specs.Fitting.{at_top, breaks_rule, first_unfit_in, where_i
 use Rattle.ecma_fits.specs.Roles.{at_child, bound_name_of, by, in_default, in_list, in_pattern, in_rest, in_template, is_assigned, is_out_of_role, is_wrong_name, left_of, may_be, operand_of, role_in, takes}
 use Rattle.ecma_rules.specs.Targets.{is_simple_target}
 use Rattle.ecma_strip.specs.Staying.{if_there, is_this, is_this_by as goes_by, is_this_ident}
-use Rattle.ecma_strip_runs.specs.Usual.{has_no_arrow_receivers, lists_no_receiver}
+use Rattle.ecma_strip_runs.specs.UsualBodies.{has_no_arrow_receivers, lists_no_receiver}
 use Rattle.ecma_hygiene.proofs.Telling.{and-both, true-false}
 use Rattle.ecma_pipeline_runs.proofs.Clearing.{in-role}
 use Rattle.ecma_pipeline_runs.proofs.Keeping.{Fits, KeepsRules, what-fits-keeps-rules}

@@ -12,15 +12,15 @@ use Rattle.ecma_kind.specs.declared.shapes.Sort.TheVariants as sort
 use Rattle.ecma_tree.specs.declared.node.Node.{Node, out-Node}
 use Rattle.ecma_tree.specs.Laws.{HaveShapes}
 use Rattle.ecma_tree.specs.Sorted.{HasShape, allows_by, child_shapes, is_absent, is_list, maybe, one}
-use Rattle.ecma_tree.specs.Values.{is_value, value_by}
-use Rattle.ecma_tree.proofs.Valuing.{is_value-out}
 use Rattle.ecma_rules.specs.Statements.{is_declaration as declares_kind}
 use Rattle.ecma_strip.specs.Staying.{if_there, is_declared, is_empty_stmt, is_export, item_stays, member_stays, specifier_stays, is_this_param, stays}
-use Rattle.ecma_strip_runs.specs.Usual.{declares_no_body, is_declaration}
+use Rattle.ecma_strip_runs.specs.UsualBodies.{declares_no_body, is_declaration}
 use Rattle.ecma_hygiene.proofs.Telling.{and-left, and-right, or-first, or-second, true-false}
 use Rattle.ecma_strip_scopes.proofs.Going.{parts-have}
-use Rattle.ecma_pipeline_runs.specs.TypesAlone.{has_ambient_head}
+use Rattle.ecma_sources.specs.TypesAlone.{has_ambient_head}
 use Rattle.ecma_pipeline_runs.proofs.Nodes.{none-some, not-true, or-right, some-same}
+use Rattle.ecma_tree.specs.Values.{is_value, value_by}
+use Rattle.ecma_tree.proofs.Valuing.{is_value-out}
 
 -- whether a node of this kind, which is a value or not and whose first child is written `declare` or not, remains by itself
 abbrev pub remains_by : Kind → Bool → Bool → Bool

@@ -15,15 +15,13 @@ use Rattle.ecma_tree.specs.Laws.{HaveShapes}
 use Rattle.ecma_tree.specs.Nodes.{node_of}
 use Rattle.ecma_tree.specs.Sorted.{HasShape, allows, allows_by, child_shapes, is_absent, item_shape, maybe, one}
 use Rattle.ecma_tree.proofs.ShapeLaws.{node_has_shape}
-use Rattle.ecma_tree.specs.Values.{is_value, value_by}
-use Rattle.ecma_tree.proofs.Valuing.{is_value-out}
 use Rattle.ecma_runs.specs.Evaluation.{meaning, meaning_by}
 use Rattle.ecma_runs.specs.Meaning.{Meaning}
 use Rattle.ecma_runs.proofs.Layer.{meaning_out}
 use Rattle.ecma_scope.specs.Resolved.{is_name}
-use Rattle.ecma_scope_congruence.specs.Parentheses.{AllHaveBodies, HasBodies, is_function_expression}
-use Rattle.ecma_scope_congruence.specs.Parentheses.AllHaveBodies.{more, none}
-use Rattle.ecma_scope_congruence.specs.Parentheses.HasBodies.{with_bodies}
+use Rattle.ecma_scope_congruence.specs.Bodies.{AllHaveBodies, HasBodies, is_function_expression}
+use Rattle.ecma_scope_congruence.specs.Bodies.AllHaveBodies.{more, none}
+use Rattle.ecma_scope_congruence.specs.Bodies.HasBodies.{with_bodies}
 use Rattle.ecma_hygiene.specs.declared.spot.Spot.{Spot}
 use Rattle.ecma_hygiene.specs.declared.spot.Spot.TheVariants as spot
 use Rattle.ecma_hygiene.specs.declared.spot.Standing.{Standing}
@@ -38,6 +36,8 @@ use Rattle.ecma_strip_scopes.proofs.Going.{parts-have}
 use Rattle.ecma_pipeline_runs.proofs.FullParts.{full_by, is_full, lacks}
 use Rattle.ecma_pipeline_runs.proofs.Nodes.{none-some, not-false, not-true, test-below}
 use Rattle.ecma_pipeline_runs.proofs.Plainness.{full-lacks}
+use Rattle.ecma_tree.specs.Values.{is_value, value_by}
+use Rattle.ecma_tree.proofs.Valuing.{is_value-out}
 
 -- ---- function expressions of what is full are values
 

@@ -14,7 +14,7 @@ use Rattle.ecma_strip.specs.Staying.{if_there, is_this, is_this_by, is_this_iden
 use Rattle.ecma_hygiene.proofs.Telling.{and-right, true-false}
 use Rattle.ecma_strip_scopes.proofs.Going.{parts-have}
 use Rattle.ecma_strip_scopes.proofs.Standing.{list-kind}
-use Rattle.ecma_pipeline_runs.specs.TypesAlone.{adds_types_alone, has_stray_receiver, is_lone_receiver, is_receiver}
+use Rattle.ecma_sources.specs.TypesAlone.{adds_types_alone, has_stray_receiver, is_lone_receiver, is_receiver}
 use Rattle.ecma_pipeline_runs.proofs.Nodes.{any-at, neither, no-stray, none-some, not-true, some-same}
 
 -- ---- parameters `this`

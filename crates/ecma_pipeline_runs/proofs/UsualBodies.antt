@@ -12,7 +12,7 @@ use Rattle.ecma_rules.specs.Statements.{is_declared_body, is_quoted_local}
 use Rattle.ecma_rules.specs.Surroundings.{standing_by}
 use Rattle.ecma_fits.specs.declared.unfit.Where.{Where}
 use Rattle.ecma_fits.specs.Fitting.{first_unfit_in, where_in}
-use Rattle.ecma_strip_runs.specs.Usual.{declares_no_body, has_usual_bodies, is_declaration}
+use Rattle.ecma_strip_runs.specs.UsualBodies.{declares_no_body, has_usual_bodies, is_declaration}
 use Rattle.ecma_hygiene.proofs.Telling.{and-both}
 use Rattle.ecma_pipeline_runs.proofs.Keeping.{Fits, KeepsRules, what-fits-keeps-rules}
 use Rattle.ecma_pipeline_runs.proofs.Nodes.{by-children, holds-out, neither}

@@ -11,18 +11,18 @@ use Rattle.ecma_tree.specs.declared.node.Node.TheViews.{out-roll-Node}
 use Rattle.ecma_tree.specs.Laws.{HaveShapes}
 use Rattle.ecma_tree.specs.Nodes.{node_of}
 use Rattle.ecma_tree.specs.Sorted.{HasShape, allows, child_shapes, is_absent, maybe, one}
-use Rattle.ecma_tree.specs.Values.{is_value, value_by, value_step}
-use Rattle.ecma_tree.proofs.Valuing.{is_value-out}
 use Rattle.ecma_rules.specs.Statements.{is_declaration as declares_kind}
 use Rattle.ecma_strip.specs.Staying.{if_there, is_declared, is_empty_stmt, is_export, item_stays}
 use Rattle.ecma_strip.specs.Stripping.{plain, plain_children, plain_kind, staying_nodes, stripped}
 use Rattle.ecma_strip.proofs.Stripping.{stripped-out}
-use Rattle.ecma_strip_runs.specs.Usual.{declares_no_body, is_declaration}
+use Rattle.ecma_strip_runs.specs.UsualBodies.{declares_no_body, is_declaration}
 use Rattle.ecma_hygiene.proofs.Telling.{and-both, and-left, and-right, true-false}
 use Rattle.ecma_hygiene_scopes.proofs.Parts.{value-of}
 use Rattle.ecma_strip_scopes.specs.Standing.{bodies_stay}
 use Rattle.ecma_strip_scopes.proofs.Going.{is_named, parts-have}
 use Rattle.ecma_pipeline_runs.proofs.Nodes.{not-true}
+use Rattle.ecma_tree.specs.Values.{is_value, value_by, value_step}
+use Rattle.ecma_tree.proofs.Valuing.{is_value-out}
 
 -- ---- values, to scopes
 

@@ -1,4 +1,1 @@
-pub mod TypesAlone
-pub mod Clear
-pub mod Plain
-pub mod Passes
+pub mod Laws

@@ -1,11 +1,9 @@
 //! Laws of a module's whole way: read, resolved, stripped of its types, given its final texts, written, read again and resolved again.
 //!
-//! Each function carries one law over the definitions, and does nothing. The laws are stated in `specs/`.
+//! Each function carries one law over the definitions, and does nothing. The laws are stated in `specs/Laws.antt`.
 #![tactic(auto)]
 
-ghost use Rattle.ecma_pipeline_runs.specs.Clear.{ModulesAreClear};
-ghost use Rattle.ecma_pipeline_runs.specs.Passes.{PassesKeepRuns};
-ghost use Rattle.ecma_pipeline_runs.specs.Plain.{StrippedModulesArePlain};
+ghost use Rattle.ecma_pipeline_runs.specs.Laws.{ModulesAreClear, PassesKeepRuns, StrippedModulesArePlain};
 
 use ecma_hygiene_runs::{plain_modules_are_resolved, reading_again_keeps_runs};
 use ecma_print_parentheses::it_runs_alike;

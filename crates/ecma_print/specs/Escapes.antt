@@ -23,7 +23,7 @@ abbrev pub unit : List ℕ → List ℕ
 unit [] = []
 unit (a ∷ s) = cond (begins_with_separator (a ∷ s)) (separator_escape (get_or s 1 0)) (escape a)
 
--- and what stands behind it
+-- and what stands after it
 abbrev pub behind_unit : List ℕ → List ℕ
 behind_unit s = cond (begins_with_separator s) (drop 3 s) (drop 1 s)
 

@@ -14,31 +14,42 @@ use Rattle.ecma_print.specs.declared.place.Beside.TheVariants.{NoNeighbor, Befor
 use Rattle.ecma_print.specs.declared.place.Spot.{Spot}
 use Rattle.ecma_print.specs.declared.place.Between.TheVariants.{Blank}
 use Rattle.ecma_print.specs.declared.place.Place.TheVariants.{At, Within, Key, Arguments, Braces, Brackets}
+use Rattle.ecma_print.specs.Precedences as precedence
 use Rattle.ecma_print.specs.Pieces.{Piece, nothing, say, ◌>>◌}
-use Rattle.ecma_print.specs.Places.{free, left, right, gap}
+use Rattle.ecma_print.specs.Places.{alone, free, left, right, gap}
 use Rattle.ecma_print.specs.Operators.{unary_word, unary_sign, update_word, update_sign, binary_word, left_level, right_level, under, assign_word}
 use Rattle.ecma_print.specs.Laid.{Laid, is_computed}
 use Rattle.ecma_print.specs.Lists.{first_in}
 
+--   typeof a; !(a + b); - -c;
 abbrev pub unary : UnaryOp → List Laid → Spot → Piece
-unary op (operand ∷ []) spot = say (gap spot.beside (unary_sign op)) >> say (unary_word op) >> operand.at (At (right spot 14 (unary_sign op)))
+unary op (operand ∷ []) spot = say (gap spot.beside (unary_sign op)) >> say (unary_word op) >> operand.at (At (right spot precedence.unary (unary_sign op)))
 unary op children spot = nothing
 
+--   ++a; b--;
 abbrev pub update : UpdateOp → Bool → List Laid → Spot → Piece
-update op true (operand ∷ []) spot = say (gap spot.beside (update_sign op)) >> say (update_word op) >> operand.at (At (right spot 16 (update_sign op)))
-update op false (operand ∷ []) spot = operand.at (At (left spot 16 NoNeighbor)) >> say (update_word op)
+update op true (operand ∷ []) spot =
+    say (gap spot.beside (update_sign op)) >> say (update_word op) >> operand.at (At (right spot precedence.left_hand_side (update_sign op)))
+update op false (operand ∷ []) spot = operand.at (At (left spot precedence.left_hand_side NoNeighbor)) >> say (update_word op)
 update op prefix children spot = nothing
 
+--   a + b * c; (a + b) * c;
 abbrev pub binary : BinaryOp → List Laid → Spot → Piece
 binary op (first ∷ second ∷ []) spot = first.at (At (left spot (left_level op) (under op))) >> say (binary_word op) >> second.at (At (right spot (right_level op) (under op)))
 binary op children spot = nothing
 
+--   a = b += c; d = (e, f);
 abbrev pub assignment : AssignOp → List Laid → Spot → Piece
-assignment op (target ∷ value ∷ []) spot = target.at (At (left spot 16 NoNeighbor)) >> say (assign_word op) >> value.at (At (right spot 1 NoNeighbor))
+assignment op (target ∷ value ∷ []) spot =
+    target.at (At (left spot precedence.left_hand_side NoNeighbor)) >> say (assign_word op) >> value.at (At (right spot precedence.assignment NoNeighbor))
 assignment op children spot = nothing
 
+--   a ? b : c ? d : e; (a ? b : c) ? d : e;
 abbrev pub conditional : List Laid → Spot → Piece
-conditional (test ∷ first ∷ second ∷ []) spot = test.at (At (left spot 3 NoNeighbor)) >> say (codes " ? ") >> first.at (At (right spot 1 NoNeighbor)) >> say (codes " : ") >> second.at (At (right spot 1 NoNeighbor))
+conditional (test ∷ first ∷ second ∷ []) spot =
+    test.at (At (left spot precedence.short_circuit NoNeighbor)) >> say (codes " ? ")
+    >> first.at (At (right spot precedence.assignment NoNeighbor)) >> say (codes " : ")
+    >> second.at (At (right spot precedence.assignment NoNeighbor))
 conditional children spot = nothing
 
 -- what an object is beside a key, outside an optional chain
@@ -47,6 +58,7 @@ before_key true = BeforeLink
 before_key false = BeforeDot
 
 -- what an object is, where this link stands in an optional chain or not
+--   (a?.b).c; a?.b.c; (1).d;
 abbrev pub object_beside : Beside → Bool → Beside
 object_beside OfLink computed = InChain
 object_beside OfOptionalLink computed = InChain
@@ -58,15 +70,17 @@ is_optional OfOptionalLink = true
 is_optional beside = false
 
 abbrev pub member : List Laid → Spot → Piece
-member (object ∷ key ∷ []) spot = object.at (At (left spot 16 (object_beside spot.beside (is_computed key.kind)))) >> key.at (Key (is_optional spot.beside))
+member (object ∷ key ∷ []) spot =
+    object.at (At (left spot precedence.left_hand_side (object_beside spot.beside (is_computed key.kind)))) >> key.at (Key (is_optional spot.beside))
 member children spot = nothing
 
 abbrev pub super_member : List Laid → Piece
-super_member (object ∷ key ∷ []) = object.at (At (free 0)) >> key.at (Key false)
+super_member (object ∷ key ∷ []) = object.at (At alone) >> key.at (Key false)
 super_member children = nothing
 
+--   a(b, (c, d)); (() => e)();
 abbrev pub call : List Laid → Spot → Piece
-call (callee ∷ args ∷ type_args ∷ []) spot = callee.at (At (left spot 16 BeforeLink)) >> args.at Arguments
+call (callee ∷ args ∷ type_args ∷ []) spot = callee.at (At (left spot precedence.left_hand_side BeforeLink)) >> args.at Arguments
 call children spot = nothing
 
 abbrev pub question_dot : Bool → List ℕ
@@ -74,12 +88,14 @@ question_dot true = codes "?."
 question_dot false = []
 
 abbrev pub chained_call : List Laid → Spot → Piece
-chained_call (callee ∷ args ∷ type_args ∷ []) spot = callee.at (At (left spot 16 InChain)) >> say (question_dot (is_optional spot.beside)) >> args.at Arguments
+chained_call (callee ∷ args ∷ type_args ∷ []) spot =
+    callee.at (At (left spot precedence.left_hand_side InChain)) >> say (question_dot (is_optional spot.beside)) >> args.at Arguments
 chained_call children spot = nothing
 
 -- in the callee of `new` a call stands in parentheses
+--   new (a())(); new (a()).b();
 abbrev pub callee_spot : Spot → Spot
-callee_spot spot = record { level = 17; begins = Anywhere; without_in = spot.without_in; in_callee_of_new = true; beside = BeforeLink }
+callee_spot spot = record { level = precedence.member; begins = Anywhere; without_in = spot.without_in; in_callee_of_new = true; beside = BeforeLink }
 
 abbrev pub construction : List Laid → Spot → Piece
 construction (callee ∷ args ∷ type_args ∷ []) spot = say (codes "new ") >> callee.at (At (callee_spot spot)) >> args.at Arguments
@@ -90,16 +106,17 @@ link_of true = OfOptionalLink
 link_of false = OfLink
 
 abbrev pub chain : Bool → List Laid → Spot → Piece
-chain optional (base ∷ []) spot = base.at (At (left spot 0 (link_of optional)))
+chain optional (base ∷ []) spot = base.at (At (left spot precedence.expression (link_of optional)))
 chain optional children spot = nothing
 
 abbrev pub more_of_sequence : List Laid → Spot → Piece
 more_of_sequence [] spot = nothing
-more_of_sequence (x ∷ xs) spot = say (codes ", ") >> x.at (At (right spot 1 NoNeighbor)) >> more_of_sequence xs spot
+more_of_sequence (x ∷ xs) spot = say (codes ", ") >> x.at (At (right spot precedence.assignment NoNeighbor)) >> more_of_sequence xs spot
 
+--   a, (b, c), d = e;
 abbrev pub sequence : List Laid → Spot → Piece
 sequence [] spot = nothing
-sequence (x ∷ xs) spot = x.at (At (left spot 1 NoNeighbor)) >> more_of_sequence xs spot
+sequence (x ∷ xs) spot = x.at (At (left spot precedence.assignment NoNeighbor)) >> more_of_sequence xs spot
 
 -- an expression in `${` and `}`, if there is one
 abbrev pub substitution : List Piece → Piece
@@ -110,7 +127,7 @@ abbrev pub others : List Piece → List Piece
 others [] = []
 others (e ∷ es) = es
 
--- texts, and behind each an expression
+-- texts, and after each an expression
 abbrev pub template_parts : List Piece → List Piece → Piece
 template_parts [] expressions = nothing
 template_parts (q ∷ quasis) expressions = q >> substitution expressions >> template_parts quasis (others expressions)
@@ -124,19 +141,20 @@ template (expressions ∷ quasis ∷ []) = say (codes "`") >> template_parts qua
 template children = nothing
 
 abbrev pub tagged : List Laid → Spot → Piece
-tagged (tag ∷ type_args ∷ text ∷ []) spot = tag.at (At (left spot 16 BeforeLink)) >> text.at (At (free 0))
+tagged (tag ∷ type_args ∷ text ∷ []) spot = tag.at (At (left spot precedence.left_hand_side BeforeLink)) >> text.at (At alone)
 tagged children spot = nothing
 
 abbrev pub yield_word : Bool → List ℕ
 yield_word true = codes "yield*"
 yield_word false = codes "yield"
 
+--   function* f() { yield a; b + (yield c); }
 abbrev pub yielding : Bool → List Laid → Spot → Piece
-yielding delegate (argument ∷ []) spot = say (yield_word delegate) >> argument.at (Within Blank (right spot 1 NoNeighbor))
+yielding delegate (argument ∷ []) spot = say (yield_word delegate) >> argument.at (Within Blank (right spot precedence.assignment NoNeighbor))
 yielding delegate children spot = nothing
 
 abbrev pub awaiting : List Laid → Spot → Piece
-awaiting (operand ∷ []) spot = say (codes "await ") >> operand.at (At (right spot 14 NoNeighbor))
+awaiting (operand ∷ []) spot = say (codes "await ") >> operand.at (At (right spot precedence.unary NoNeighbor))
 awaiting children spot = nothing
 
 abbrev pub meta_word : MetaPropKind → List ℕ
@@ -144,11 +162,11 @@ meta_word NewTarget = codes "new.target"
 meta_word ImportMeta = codes "import.meta"
 
 abbrev pub parenthesized : List Laid → Piece
-parenthesized (expression ∷ []) = say (codes "(") >> expression.at (At (free 0)) >> say (codes ")")
+parenthesized (expression ∷ []) = say (codes "(") >> expression.at (At alone) >> say (codes ")")
 parenthesized children = nothing
 
 abbrev pub spread : List Laid → Piece
-spread (expression ∷ []) = say (codes "...") >> expression.at (At (free 1))
+spread (expression ∷ []) = say (codes "...") >> expression.at (At (free precedence.assignment))
 spread children = nothing
 
 -- expressions with operators; other nodes have no such text

@@ -9,6 +9,7 @@ use Rattle.ecma_print.specs.declared.place.Spot.{Spot}
 use Rattle.ecma_print.specs.declared.place.Between.TheVariants.{Blank, Equals, Extends}
 use Rattle.ecma_print.specs.declared.place.Place.{Place}
 use Rattle.ecma_print.specs.declared.place.Place.TheVariants.{At, Within, FunctionHead, MethodHead, Block, Arguments, Braces, Brackets}
+use Rattle.ecma_print.specs.Precedences as precedence
 use Rattle.ecma_print.specs.Pieces.{Piece, nothing, say, ◌>>◌}
 use Rattle.ecma_print.specs.Places.{free, beginning}
 use Rattle.ecma_print.specs.Laid.{Laid}
@@ -16,11 +17,11 @@ use Rattle.ecma_print.specs.Lists.{first_in}
 
 -- by itself, as a part of what stands around
 abbrev pub plain : Place
-plain = At (free 1)
+plain = At (free precedence.assignment)
 
--- behind a blank, if it is there
+-- after a blank, if it is there
 abbrev pub behind_blank : Place
-behind_blank = Within Blank (free 1)
+behind_blank = Within Blank (free precedence.assignment)
 
 -- what stands before the name of a function
 abbrev pub function_head : Kind → List ℕ
@@ -43,7 +44,7 @@ abbrev pub named_function : List Laid → Piece
 named_function (name ∷ function ∷ []) = function.at FunctionHead >> name.at behind_blank >> function.at plain
 named_function children = nothing
 
--- what stands behind the name: parameters and body
+-- what stands after the name: parameters and body
 abbrev pub function_rest : List Laid → Piece
 function_rest (params ∷ body ∷ type_params ∷ return_type ∷ []) = params.at Arguments >> body.at behind_blank
 function_rest children = nothing
@@ -53,16 +54,19 @@ async_word true = codes "async "
 async_word false = []
 
 abbrev pub arrow : Bool → List Laid → Spot → Piece
-arrow is_async (params ∷ body ∷ type_params ∷ return_type ∷ []) spot = say (async_word is_async) >> params.at Arguments >> say (codes " => ") >> body.at (At (beginning 1 ArrowBodyStart spot.without_in))
+arrow is_async (params ∷ body ∷ type_params ∷ return_type ∷ []) spot =
+    say (async_word is_async) >> params.at Arguments >> say (codes " => ")
+    >> body.at (At (beginning precedence.assignment ArrowBodyStart spot.without_in))
 arrow is_async children spot = nothing
 
 abbrev pub named_class : List Laid → Piece
 named_class (name ∷ body ∷ []) = say (codes "class") >> name.at behind_blank >> body.at plain
 named_class children = nothing
 
--- what stands behind the name: heritage and members
+-- what stands after the name: heritage and members
 abbrev pub class_rest : List Laid → Piece
-class_rest (super_class ∷ body ∷ type_params ∷ super_type_params ∷ interfaces ∷ []) = super_class.at (Within Extends (free 16)) >> say (codes " ") >> body.at Block
+class_rest (super_class ∷ body ∷ type_params ∷ super_type_params ∷ interfaces ∷ []) =
+    super_class.at (Within Extends (free precedence.left_hand_side)) >> say (codes " ") >> body.at Block
 class_rest children = nothing
 
 abbrev pub constructor : List Laid → Piece
@@ -83,7 +87,8 @@ class_method kind is_static (key ∷ function ∷ []) = say (static_word is_stat
 class_method kind is_static children = nothing
 
 abbrev pub field : Bool → List Laid → Piece
-field is_static (key ∷ value ∷ type_ann ∷ []) = say (static_word is_static) >> key.at plain >> value.at (Within Equals (free 1)) >> say (codes ";")
+field is_static (key ∷ value ∷ type_ann ∷ []) =
+    say (static_word is_static) >> key.at plain >> value.at (Within Equals (free precedence.assignment)) >> say (codes ";")
 field is_static children = nothing
 
 abbrev pub static_block : List Laid → Piece
@@ -96,7 +101,7 @@ key_value children = nothing
 
 -- a name or a pattern, and what it is without a value
 abbrev pub with_default : List Laid → Piece
-with_default (target ∷ value ∷ []) = target.at plain >> value.at (Within Equals (free 1))
+with_default (target ∷ value ∷ []) = target.at plain >> value.at (Within Equals (free precedence.assignment))
 with_default children = nothing
 
 abbrev pub getter : List Laid → Piece
@@ -111,7 +116,7 @@ abbrev pub method : List Laid → Piece
 method (key ∷ function ∷ []) = function.at MethodHead >> key.at plain >> function.at plain
 method children = nothing
 
--- in brackets; what stands in them has the level of the place
+-- in brackets; what stands in them has the precedence that the place asks for
 abbrev pub computed : List Laid → Spot → Piece
 computed (expression ∷ []) spot = say (codes "[") >> expression.at (At (free spot.level)) >> say (codes "]")
 computed children spot = nothing

@@ -11,7 +11,7 @@ use Rattle.ecma_print.specs.declared.place.Place.{Place}
 use Rattle.ecma_print.specs.declared.place.Place.TheVariants.{At, Within, Key, FunctionHead, MethodHead}
 use Rattle.ecma_print.specs.declared.inside.Inside.{Inside}
 use Rattle.ecma_print.specs.Pieces.{Piece, nothing, say, ◌>>◌}
-use Rattle.ecma_print.specs.Places.{free, before, after}
+use Rattle.ecma_print.specs.Places.{alone, before, after}
 use Rattle.ecma_print.specs.Laid.{Laid, is_computed}
 use Rattle.ecma_print.specs.Levels.{in_parentheses}
 use Rattle.ecma_print.specs.Lists.{listed}
@@ -27,7 +27,7 @@ whole kind children spot = literal kind >> operation kind children spot >> link 
 
 -- in parentheses where its spot asks for them
 abbrev pub standing : Kind → List Laid → Spot → Piece
-standing kind children spot = if in_parentheses kind children spot then (say (codes "(") >> whole kind children (free 0) >> say (codes ")")) else whole kind children spot
+standing kind children spot = if in_parentheses kind children spot then (say (codes "(") >> whole kind children alone >> say (codes ")")) else whole kind children spot
 
 -- what stands between an object and its key
 abbrev pub key_mark : Bool → Bool → List ℕ
@@ -39,7 +39,7 @@ key_mark false false = codes "."
 abbrev pub placed : Kind → List Laid → Place → Piece
 placed kind children (At spot) = standing kind children spot
 placed kind children (Within between spot) = before between >> standing kind children spot >> after between
-placed kind children (Key optional) = say (key_mark optional (is_computed kind)) >> whole kind children (free 0)
+placed kind children (Key optional) = say (key_mark optional (is_computed kind)) >> whole kind children alone
 placed kind children FunctionHead = say (function_head kind)
 placed kind children MethodHead = say (method_head kind)
 placed kind children place = nothing
@@ -51,7 +51,7 @@ in_place ListKind items place = listed items place
 in_place kind children place = placed kind children place
 
 abbrev pub by_itself : Laid → Piece
-by_itself child = child.at (At (free 0))
+by_itself child = child.at (At alone)
 
 abbrev pub lay_step : Node-F Laid → Laid
 lay_step parts = record { kind = parts.kind; at = in_place parts.kind parts.children; parts = map by_itself parts.children }
@@ -65,4 +65,4 @@ children_of inside = map laid (out-Node inside.node.now).children
 
 -- the text of a module
 abbrev pub layout : Node → List ℕ
-layout tree = (laid tree).at (At (free 0)) [] []
+layout tree = (laid tree).at (At alone) [] []

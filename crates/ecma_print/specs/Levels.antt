@@ -7,26 +7,29 @@ use Rattle.ecma_kind.specs.declared.operators.BinaryOp.TheVariants.{In, LogicalO
 use Rattle.ecma_print.specs.declared.place.Beside.{Beside}
 use Rattle.ecma_print.specs.declared.place.Beside.TheVariants.{BeforeDot, UnderNullish, UnderLogical}
 use Rattle.ecma_print.specs.declared.place.Spot.{Spot}
+use Rattle.ecma_print.specs.Precedences as precedence
 use Rattle.ecma_print.specs.Places.{opens_a_block, opens_a_declaration, ends_a_chain, is_headed}
 use Rattle.ecma_print.specs.Operators.{binary_level}
 use Rattle.ecma_print.specs.Laid.{Laid, is_absent, is_object_pattern}
 
--- how tight an expression binds
+-- the precedence of an expression
 abbrev pub level_of : Kind → ℕ
-level_of SeqExpr = 0
-level_of (AssignExpr op) = 1
-level_of (ArrowExpr is_async is_generator) = 1
-level_of (YieldExpr delegate) = 1
-level_of CondExpr = 2
+level_of SeqExpr = precedence.expression
+level_of (AssignExpr op) = precedence.assignment
+level_of (ArrowExpr is_async is_generator) = precedence.assignment
+level_of (YieldExpr delegate) = precedence.assignment
+level_of CondExpr = precedence.conditional
 level_of (BinExpr op) = binary_level op
-level_of (UnaryExpr op) = 14
-level_of AwaitExpr = 14
-level_of (UpdateExpr op prefix) = 15
-level_of CallExpr = 16
-level_of (OptChainExpr optional) = 16
-level_of kind = 17
+level_of (UnaryExpr op) = precedence.unary
+level_of AwaitExpr = precedence.unary
+level_of (UpdateExpr op prefix) = precedence.update
+level_of CallExpr = precedence.left_hand_side
+level_of (OptChainExpr optional) = precedence.left_hand_side
+level_of kind = precedence.member
 
 -- `in` would end the first part of the head of a loop; `??` does not go with `||` and `&&`
+--   for (let a = (b in c);;) {}
+--   (a ?? b) || c; a ?? (b && c);
 abbrev pub clashes : BinaryOp → Spot → Beside → Bool
 clashes In spot beside = spot.without_in
 clashes LogicalOr spot UnderNullish = true
@@ -35,20 +38,25 @@ clashes NullishCoalescing spot UnderLogical = true
 clashes op spot beside = false
 
 -- a number before a `.` would take it as its own
+--   (1).a; 1[a];
 abbrev pub is_before_dot : Beside → Bool
 is_before_dot BeforeDot = true
 is_before_dot beside = false
 
 -- `new` without arguments would take those of what stands around
+--   (new A).b; new A().c;
 abbrev pub lacks_arguments : List Laid → Bool
 lacks_arguments (callee ∷ args ∷ type_args ∷ []) = is_absent args.kind
 lacks_arguments children = false
 
+--   ({ a } = b); [c] = d;
 abbrev pub begins_with_brace : List Laid → Bool
 begins_with_brace (target ∷ value ∷ []) = is_object_pattern target.kind
 begins_with_brace children = false
 
--- what would be read as something else, whatever its level
+-- what would be read as something else, whatever its precedence
+--   (function() {})(); ({}).a; new (b())();
+--   () => ({}); export default (class {});
 abbrev pub is_misread : Kind → List Laid → Spot → Bool
 is_misread (BinExpr op) children spot = clashes op spot spot.beside
 is_misread (OptChainExpr optional) children spot = ends_a_chain spot.beside
@@ -61,5 +69,7 @@ is_misread FnExpr children spot = opens_a_declaration spot.begins
 is_misread ClassExpr children spot = opens_a_declaration spot.begins
 is_misread kind children spot = false
 
+--   (a + b) * c; a * b + c;
+--   (a, b) ? c : (d, e);
 abbrev pub in_parentheses : Kind → List Laid → Spot → Bool
 in_parentheses kind children spot = ltb (level_of kind) spot.level || is_misread kind children spot

@@ -1,5 +1,6 @@
 pub mod Texts
 pub mod Pieces
+pub mod Precedences
 pub mod Places
 pub mod Operators
 pub mod Laid
@@ -13,3 +14,5 @@ pub mod Statements
 pub mod Modules
 pub mod Layout
 pub mod Writing
+pub mod Explicit
+pub mod Spots

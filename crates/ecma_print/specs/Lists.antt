@@ -3,26 +3,27 @@ use Rattle.std.specs.Prelude.{ℕ, Bool, true, false, List, [], ◌∷◌, codes
 use Rattle.ecma_print.specs.declared.place.Place.{Place}
 use Rattle.ecma_print.specs.declared.place.Place.TheVariants.{At, Lines, Deeper, Block, Commas, Arguments, Braces, Brackets, Imports, Exports}
 use Rattle.ecma_print.specs.declared.place.Spot.{Spot}
+use Rattle.ecma_print.specs.Precedences as precedence
 use Rattle.ecma_print.specs.Pieces.{Piece, nothing, say, ◌>>◌, new_line, deeper}
-use Rattle.ecma_print.specs.Places.{free}
+use Rattle.ecma_print.specs.Places.{alone, free}
 use Rattle.ecma_print.specs.Laid.{Laid, is_absent, is_named}
 
 -- each on a line of its own
 abbrev pub lines : List Laid → Piece
 lines [] = nothing
-lines (x ∷ xs) = x.at (At (free 0)) >> say (codes "\n") >> lines xs
+lines (x ∷ xs) = x.at (At alone) >> say (codes "\n") >> lines xs
 
--- the same, each behind the beginning of its line
+-- the same, each after the beginning of its line
 abbrev pub new_lines : List Laid → Piece
 new_lines [] = nothing
-new_lines (x ∷ xs) = new_line >> x.at (At (free 0)) >> new_lines xs
+new_lines (x ∷ xs) = new_line >> x.at (At alone) >> new_lines xs
 
 -- in braces, each on a line of its own
 abbrev pub block : List Laid → Piece
 block [] = say (codes "{}")
 block (x ∷ xs) = say (codes "{") >> deeper (new_lines (x ∷ xs)) >> new_line >> say (codes "}")
 
--- each behind a comma and a blank
+-- each after a comma and a blank
 abbrev pub more_commas : Spot → List Laid → Piece
 more_commas spot [] = nothing
 more_commas spot (x ∷ xs) = say (codes ", ") >> x.at (At spot) >> more_commas spot xs
@@ -34,11 +35,11 @@ commas spot (x ∷ xs) = x.at (At spot) >> more_commas spot xs
 
 -- in parentheses
 abbrev pub arguments : List Laid → Piece
-arguments items = say (codes "(") >> commas (free 1) items >> say (codes ")")
+arguments items = say (codes "(") >> commas (free precedence.assignment) items >> say (codes ")")
 
 -- in braces, and a blank within each
 abbrev pub wide_braces : List Laid → Piece
-wide_braces items = say (codes "{ ") >> commas (free 1) items >> say (codes " }")
+wide_braces items = say (codes "{ ") >> commas (free precedence.assignment) items >> say (codes " }")
 
 -- in braces
 abbrev pub braces : List Laid → Piece
@@ -50,14 +51,14 @@ ends_in_hole [] = false
 ends_in_hole (x ∷ []) = is_absent x.kind
 ends_in_hole (x ∷ y ∷ ys) = ends_in_hole (y ∷ ys)
 
--- behind a last hole stands one comma more
+-- after a last hole stands one comma more
 abbrev pub hole_comma : Bool → List ℕ
 hole_comma true = codes ","
 hole_comma false = []
 
 -- in brackets
 abbrev pub brackets : List Laid → Piece
-brackets items = say (codes "[") >> commas (free 1) items >> say (hole_comma (ends_in_hole items)) >> say (codes "]")
+brackets items = say (codes "[") >> commas (free precedence.assignment) items >> say (hole_comma (ends_in_hole items)) >> say (codes "]")
 
 -- what stands before a specifier, where the one before it stands in braces, or not
 abbrev pub specifier_gap : Bool → Bool → List ℕ
@@ -74,15 +75,15 @@ abbrev pub closing_brace : Bool → List ℕ
 closing_brace true = codes " }"
 closing_brace false = []
 
--- the specifiers behind one that stands in braces, or not
+-- the specifiers after one that stands in braces, or not
 abbrev pub more_specifiers : Bool → List Laid → Piece
 more_specifiers named [] = say (closing_brace named)
-more_specifiers named (x ∷ xs) = say (specifier_gap named (is_named x.kind)) >> x.at (At (free 0)) >> more_specifiers (is_named x.kind) xs
+more_specifiers named (x ∷ xs) = say (specifier_gap named (is_named x.kind)) >> x.at (At alone) >> more_specifiers (is_named x.kind) xs
 
 -- specifiers with commas between; those with names of the module stand in braces
 abbrev pub specifiers : List Laid → Piece
 specifiers [] = nothing
-specifiers (x ∷ xs) = say (opening_brace (is_named x.kind)) >> x.at (At (free 0)) >> more_specifiers (is_named x.kind) xs
+specifiers (x ∷ xs) = say (opening_brace (is_named x.kind)) >> x.at (At alone) >> more_specifiers (is_named x.kind) xs
 
 abbrev pub from_specifiers : List Laid → Piece
 from_specifiers items = say (codes " ") >> specifiers items >> say (codes " from ")
@@ -92,7 +93,7 @@ abbrev pub imports : List Laid → Piece
 imports [] = say (codes " ")
 imports (x ∷ xs) = from_specifiers (x ∷ xs)
 
--- what stands behind `export`
+-- what stands after `export`
 abbrev pub exports : List Laid → Piece
 exports [] = say (codes "{}")
 exports (x ∷ xs) = specifiers (x ∷ xs)

@@ -6,8 +6,9 @@ use Rattle.ecma_print.specs.declared.place.Begins.TheVariants.{DefaultStart}
 use Rattle.ecma_print.specs.declared.place.Spot.{Spot}
 use Rattle.ecma_print.specs.declared.place.Between.TheVariants.{From, As, BeforeAs, Attributes}
 use Rattle.ecma_print.specs.declared.place.Place.TheVariants.{At, Within, Lines, Imports, Exports}
+use Rattle.ecma_print.specs.Precedences as precedence
 use Rattle.ecma_print.specs.Pieces.{Piece, nothing, say, ◌>>◌}
-use Rattle.ecma_print.specs.Places.{free, beginning}
+use Rattle.ecma_print.specs.Places.{alone, beginning}
 use Rattle.ecma_print.specs.Laid.{Laid}
 
 -- the first line, if the text begins with `#!`
@@ -20,16 +21,16 @@ whole_module shebang (body ∷ []) = hashbang shebang >> body.at Lines
 whole_module shebang children = nothing
 
 abbrev pub import_text : List Laid → Piece
-import_text (specifiers ∷ source ∷ attributes ∷ []) = say (codes "import") >> specifiers.at Imports >> source.at (At (free 0)) >> attributes.at (Within Attributes (free 0)) >> say (codes ";")
+import_text (specifiers ∷ source ∷ attributes ∷ []) = say (codes "import") >> specifiers.at Imports >> source.at (At alone) >> attributes.at (Within Attributes alone) >> say (codes ";")
 import_text children = nothing
 
 abbrev pub import_specifier : List Laid → Piece
-import_specifier (local ∷ imported ∷ []) = imported.at (Within BeforeAs (free 0)) >> local.at (At (free 0))
+import_specifier (local ∷ imported ∷ []) = imported.at (Within BeforeAs alone) >> local.at (At alone)
 import_specifier children = nothing
 
--- these characters, and the one child behind them
+-- these characters, and the one child after them
 abbrev pub behind_word : List ℕ → List Laid → Piece
-behind_word word (child ∷ []) = say word >> child.at (At (free 0))
+behind_word word (child ∷ []) = say word >> child.at (At alone)
 behind_word word children = nothing
 
 -- the same, and the end of the statement
@@ -38,15 +39,15 @@ ended_behind_word word (child ∷ []) spot = say word >> child.at (At spot) >> s
 ended_behind_word word children spot = nothing
 
 abbrev pub named_export : List Laid → Piece
-named_export (specifiers ∷ source ∷ attributes ∷ []) = say (codes "export ") >> specifiers.at Exports >> source.at (Within From (free 0)) >> attributes.at (Within Attributes (free 0)) >> say (codes ";")
+named_export (specifiers ∷ source ∷ attributes ∷ []) = say (codes "export ") >> specifiers.at Exports >> source.at (Within From alone) >> attributes.at (Within Attributes alone) >> say (codes ";")
 named_export children = nothing
 
 abbrev pub export_specifier : List Laid → Piece
-export_specifier (original ∷ exported ∷ []) = original.at (At (free 0)) >> exported.at (Within As (free 0))
+export_specifier (original ∷ exported ∷ []) = original.at (At alone) >> exported.at (Within As alone)
 export_specifier children = nothing
 
 abbrev pub export_all : List Laid → Piece
-export_all (source ∷ attributes ∷ []) = say (codes "export * from ") >> source.at (At (free 0)) >> attributes.at (Within Attributes (free 0)) >> say (codes ";")
+export_all (source ∷ attributes ∷ []) = say (codes "export * from ") >> source.at (At alone) >> attributes.at (Within Attributes alone) >> say (codes ";")
 export_all children = nothing
 
 abbrev pub import_equals_word : Bool → List ℕ
@@ -54,15 +55,15 @@ import_equals_word true = codes "export import "
 import_equals_word false = codes "import "
 
 abbrev pub import_equals : Bool → List Laid → Piece
-import_equals is_export (name ∷ reference ∷ []) = say (import_equals_word is_export) >> name.at (At (free 0)) >> say (codes " = ") >> reference.at (At (free 0)) >> say (codes ";")
+import_equals is_export (name ∷ reference ∷ []) = say (import_equals_word is_export) >> name.at (At alone) >> say (codes " = ") >> reference.at (At alone) >> say (codes ";")
 import_equals is_export children = nothing
 
 abbrev pub module_reference : List Laid → Piece
-module_reference (text ∷ []) = say (codes "require(") >> text.at (At (free 0)) >> say (codes ")")
+module_reference (text ∷ []) = say (codes "require(") >> text.at (At alone) >> say (codes ")")
 module_reference children = nothing
 
 abbrev pub qualified_name : List Laid → Piece
-qualified_name (first ∷ second ∷ []) = first.at (At (free 0)) >> say (codes ".") >> second.at (At (free 0))
+qualified_name (first ∷ second ∷ []) = first.at (At alone) >> say (codes ".") >> second.at (At alone)
 qualified_name children = nothing
 
 -- modules and imports; other nodes have no such text
@@ -86,7 +87,7 @@ exporting (ExportNamedSpecifier is_type_only) children = export_specifier childr
 exporting ExportDefaultSpecifier children = behind_word [] children
 exporting ExportNamespaceSpecifier children = behind_word (codes "* as ") children
 exporting ExportDefaultDecl children = behind_word (codes "export default ") children
-exporting ExportDefaultExpr children = ended_behind_word (codes "export default ") children (beginning 1 DefaultStart false)
+exporting ExportDefaultExpr children = ended_behind_word (codes "export default ") children (beginning precedence.assignment DefaultStart false)
 exporting (ExportAll type_only) children = export_all children
-exporting TsExportAssignment children = ended_behind_word (codes "export = ") children (free 0)
+exporting TsExportAssignment children = ended_behind_word (codes "export = ") children alone
 exporting kind children = nothing

@@ -1,4 +1,4 @@
--- Operators: their words and their levels (ECMAScript, 13.4 to 13.15).
+-- Operators: their words and their precedences (ECMAScript, 13.4 to 13.15).
 use Rattle.std.specs.Prelude.{ℕ, ◌+◌, List, codes}
 use Rattle.ecma_kind.specs.declared.operators.UnaryOp.{UnaryOp}
 use Rattle.ecma_kind.specs.declared.operators.UnaryOp.TheVariants.{Minus, Plus, Bang, Tilde, TypeOf, Void, Delete}
@@ -10,8 +10,9 @@ use Rattle.ecma_kind.specs.declared.operators.AssignOp.{AssignOp}
 use Rattle.ecma_kind.specs.declared.operators.AssignOp.TheVariants.{Assign, AddAssign, SubAssign, MulAssign, DivAssign, ModAssign, LShiftAssign, RShiftAssign, ZeroFillRShiftAssign, BitOrAssign, BitXorAssign, BitAndAssign, ExpAssign, AndAssign, OrAssign, NullishAssign}
 use Rattle.ecma_print.specs.declared.place.Beside.{Beside}
 use Rattle.ecma_print.specs.declared.place.Beside.TheVariants.{NoNeighbor, UnderNullish, UnderLogical, BehindMinus, BehindPlus}
+use Rattle.ecma_print.specs.Precedences as precedence
 
--- what a unary operator puts before its operand: a word has a blank behind it
+-- what a unary operator puts before its operand: a word has a blank after it
 abbrev pub unary_word : UnaryOp → List ℕ
 unary_word Minus = codes "-"
 unary_word Plus = codes "+"
@@ -63,45 +64,50 @@ binary_word InstanceOf = codes " instanceof "
 binary_word Exp = codes " ** "
 binary_word NullishCoalescing = codes " ?? "
 
--- the level of an expression with this operator: a higher level binds tighter
+-- the precedence of an expression with this operator
 abbrev pub binary_level : BinaryOp → ℕ
-binary_level NullishCoalescing = 3
-binary_level LogicalOr = 3
-binary_level LogicalAnd = 4
-binary_level BitOr = 5
-binary_level BitXor = 6
-binary_level BitAnd = 7
-binary_level EqEq = 8
-binary_level NotEq = 8
-binary_level EqEqEq = 8
-binary_level NotEqEq = 8
-binary_level Lt = 9
-binary_level LtEq = 9
-binary_level Gt = 9
-binary_level GtEq = 9
-binary_level In = 9
-binary_level InstanceOf = 9
-binary_level LShift = 10
-binary_level RShift = 10
-binary_level ZeroFillRShift = 10
-binary_level Add = 11
-binary_level Sub = 11
-binary_level Mul = 12
-binary_level Div = 12
-binary_level Mod = 12
-binary_level Exp = 13
+binary_level NullishCoalescing = precedence.short_circuit
+binary_level LogicalOr = precedence.short_circuit
+binary_level LogicalAnd = precedence.logical_and
+binary_level BitOr = precedence.bitwise_or
+binary_level BitXor = precedence.bitwise_xor
+binary_level BitAnd = precedence.bitwise_and
+binary_level EqEq = precedence.equality
+binary_level NotEq = precedence.equality
+binary_level EqEqEq = precedence.equality
+binary_level NotEqEq = precedence.equality
+binary_level Lt = precedence.relational
+binary_level LtEq = precedence.relational
+binary_level Gt = precedence.relational
+binary_level GtEq = precedence.relational
+binary_level In = precedence.relational
+binary_level InstanceOf = precedence.relational
+binary_level LShift = precedence.shift
+binary_level RShift = precedence.shift
+binary_level ZeroFillRShift = precedence.shift
+binary_level Add = precedence.additive
+binary_level Sub = precedence.additive
+binary_level Mul = precedence.multiplicative
+binary_level Div = precedence.multiplicative
+binary_level Mod = precedence.multiplicative
+binary_level Exp = precedence.exponentiation
 
 -- operators group to the left; on the left of `**` stands no unary operator
+--   a - b - c; (a ** b) ** c;
+--   (-a) ** b;
 abbrev pub left_level : BinaryOp → ℕ
-left_level Exp = 15
+left_level Exp = precedence.update
 left_level op = binary_level op
 
 -- but `**` groups to the right
+--   a - (b - c); a ** b ** c;
+--   a ** -b;
 abbrev pub right_level : BinaryOp → ℕ
-right_level Exp = 13
+right_level Exp = precedence.exponentiation
 right_level op = binary_level op + 1
 
 -- `??` does not go with `||` and `&&`
+--   (a ?? b) || c; a ?? (b && c); a && b || c;
 abbrev pub under : BinaryOp → Beside
 under NullishCoalescing = UnderNullish
 under LogicalOr = UnderLogical

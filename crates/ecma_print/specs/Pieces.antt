@@ -13,7 +13,7 @@ abbrev pub say : List ℕ → Piece
 say text margin rest = text ++ rest
 
 infixr 6 ◌>>◌
--- one piece, and behind it another
+-- one piece, and after it another
 abbrev pub ◌>>◌ : Piece → Piece → Piece
 (first >> second) margin rest = first margin (second margin rest)
 

@@ -7,11 +7,16 @@ use Rattle.ecma_print.specs.declared.place.Beside.TheVariants.{NoNeighbor, Befor
 use Rattle.ecma_print.specs.declared.place.Spot.{Spot}
 use Rattle.ecma_print.specs.declared.place.Between.{Between}
 use Rattle.ecma_print.specs.declared.place.Between.TheVariants.{Blank, Equals, Extends, From, As, BeforeAs, Attributes, Finally, Else, LineElse, Parentheses}
+use Rattle.ecma_print.specs.Precedences as precedence
 use Rattle.ecma_print.specs.Pieces.{Piece, nothing, say, ◌>>◌, new_line}
 
--- where nothing stands around: no level below this one without parentheses
+-- where nothing stands around: an expression of a lower precedence stands in parentheses
 abbrev pub free : ℕ → Spot
 free level = record { level = level; begins = Anywhere; without_in = false; in_callee_of_new = false; beside = NoNeighbor }
+
+-- the same, and any expression goes without parentheses
+abbrev pub alone : Spot
+alone = free precedence.expression
 
 -- of a part with which the text of what stands here begins
 abbrev pub left : Spot → ℕ → Beside → Spot
@@ -26,24 +31,28 @@ abbrev pub beginning : ℕ → Begins → Bool → Spot
 beginning level begins without_in = record { level = level; begins = begins; without_in = without_in; in_callee_of_new = false; beside = NoNeighbor }
 
 -- where `{` would open a block
+--   ({}).a; () => ({}); b = {};
 abbrev pub opens_a_block : Begins → Bool
 opens_a_block StatementStart = true
 opens_a_block ArrowBodyStart = true
 opens_a_block begins = false
 
 -- where `function` and `class` would begin a declaration
+--   (function() {})(); a = function() {};
 abbrev pub opens_a_declaration : Begins → Bool
 opens_a_declaration StatementStart = true
 opens_a_declaration DefaultStart = true
 opens_a_declaration begins = false
 
 -- an object, a callee or a tag outside an optional chain
+--   (a?.b).c; a?.b.c;
 abbrev pub ends_a_chain : Beside → Bool
 ends_a_chain BeforeDot = true
 ends_a_chain BeforeLink = true
 ends_a_chain beside = false
 
 -- an object, a callee or a tag
+--   (new A).b; c = new A;
 abbrev pub is_headed : Beside → Bool
 is_headed BeforeDot = true
 is_headed BeforeLink = true
@@ -51,6 +60,7 @@ is_headed InChain = true
 is_headed beside = false
 
 -- what keeps a sign apart from the same sign before it
+--   - -a; +-b; + ++c;
 abbrev pub gap : Beside → Beside → List ℕ
 gap BehindMinus BehindMinus = codes " "
 gap BehindPlus BehindPlus = codes " "
@@ -70,7 +80,7 @@ before Else = say (codes " else ")
 before LineElse = new_line >> say (codes "else ")
 before Parentheses = say (codes " (")
 
--- and what behind it
+-- and what stands after it
 abbrev pub after : Between → Piece
 after BeforeAs = say (codes " as ")
 after Parentheses = say (codes ")")

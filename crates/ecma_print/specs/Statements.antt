@@ -11,27 +11,28 @@ use Rattle.ecma_print.specs.declared.place.Between.{Between}
 use Rattle.ecma_print.specs.declared.place.Between.TheVariants.{Blank, Equals, Finally, Else, LineElse, Parentheses}
 use Rattle.ecma_print.specs.declared.place.Place.{Place}
 use Rattle.ecma_print.specs.declared.place.Place.TheVariants.{At, Within, Deeper, Block, Commas}
+use Rattle.ecma_print.specs.Precedences as precedence
 use Rattle.ecma_print.specs.Pieces.{Piece, nothing, say, ◌>>◌, new_line}
-use Rattle.ecma_print.specs.Places.{free, right, beginning}
+use Rattle.ecma_print.specs.Places.{alone, free, right, beginning}
 use Rattle.ecma_print.specs.Laid.{Laid, is_absent, is_block}
 
 -- an expression of a statement or a head, or a statement in a list
 abbrev pub whole_place : Place
-whole_place = At (free 0)
+whole_place = At alone
 
--- behind a blank, if it is there: an expression of a statement, or a body
+-- after a blank, if it is there: an expression of a statement, or a body
 abbrev pub behind : Place
-behind = Within Blank (free 0)
+behind = Within Blank alone
 
 abbrev pub expression_statement : List Laid → Piece
-expression_statement (expression ∷ []) = expression.at (At (beginning 0 StatementStart false)) >> say (codes ";")
+expression_statement (expression ∷ []) = expression.at (At (beginning precedence.expression StatementStart false)) >> say (codes ";")
 expression_statement children = nothing
 
 abbrev pub block_statement : List Laid → Piece
 block_statement (statements ∷ []) = statements.at Block
 block_statement children = nothing
 
--- a word, what may stand behind it, and the end of the statement
+-- a word, what may stand after it, and the end of the statement
 abbrev pub word_statement : List ℕ → List Laid → Piece
 word_statement word (argument ∷ []) = say word >> argument.at behind >> say (codes ";")
 word_statement word children = nothing
@@ -46,7 +47,7 @@ else_behind true = Else
 else_behind false = LineElse
 
 abbrev pub if_statement : List Laid → Piece
-if_statement (test ∷ body ∷ alternative ∷ []) = say (codes "if (") >> test.at whole_place >> say (codes ")") >> body.at behind >> alternative.at (Within (else_behind (is_block body.kind)) (free 0))
+if_statement (test ∷ body ∷ alternative ∷ []) = say (codes "if (") >> test.at whole_place >> say (codes ")") >> body.at behind >> alternative.at (Within (else_behind (is_block body.kind)) alone)
 if_statement children = nothing
 
 abbrev pub switch_statement : List Laid → Piece
@@ -62,11 +63,11 @@ switch_case (test ∷ statements ∷ []) = say (case_word (is_absent test.kind))
 switch_case children = nothing
 
 abbrev pub try_statement : List Laid → Piece
-try_statement (body ∷ handler ∷ finalizer ∷ []) = say (codes "try ") >> body.at whole_place >> handler.at behind >> finalizer.at (Within Finally (free 0))
+try_statement (body ∷ handler ∷ finalizer ∷ []) = say (codes "try ") >> body.at whole_place >> handler.at behind >> finalizer.at (Within Finally alone)
 try_statement children = nothing
 
 abbrev pub catch_clause : List Laid → Piece
-catch_clause (param ∷ body ∷ []) = say (codes "catch") >> param.at (Within Parentheses (free 1)) >> body.at behind
+catch_clause (param ∷ body ∷ []) = say (codes "catch") >> param.at (Within Parentheses (free precedence.assignment)) >> body.at behind
 catch_clause children = nothing
 
 abbrev pub while_statement : List Laid → Piece
@@ -84,7 +85,7 @@ do_statement children = nothing
 
 -- the first part of the head of a loop
 abbrev pub head : Place
-head = At (beginning 0 Anywhere true)
+head = At (beginning precedence.expression Anywhere true)
 
 abbrev pub for_statement : List Laid → Piece
 for_statement (init ∷ test ∷ update ∷ body ∷ []) = say (codes "for (") >> init.at head >> say (codes ";") >> test.at behind >> say (codes ";") >> update.at behind >> say (codes ")") >> body.at behind
@@ -99,7 +100,8 @@ for_word true = codes "for await ("
 for_word false = codes "for ("
 
 abbrev pub for_of : Bool → List Laid → Piece
-for_of is_await (target ∷ iterable ∷ body ∷ []) = say (for_word is_await) >> target.at head >> say (codes " of ") >> iterable.at (At (free 1)) >> say (codes ")") >> body.at behind
+for_of is_await (target ∷ iterable ∷ body ∷ []) =
+    say (for_word is_await) >> target.at head >> say (codes " of ") >> iterable.at (At (free precedence.assignment)) >> say (codes ")") >> body.at behind
 for_of is_await children = nothing
 
 -- the end of a statement; in the head of a loop there is none
@@ -113,11 +115,12 @@ keyword Let = codes "let"
 keyword Const = codes "const"
 
 abbrev pub declaration : VarDeclKind → List Laid → Spot → Piece
-declaration kind (declarators ∷ []) spot = say (keyword kind) >> say (codes " ") >> declarators.at (Commas (right spot 1 NoNeighbor)) >> say (statement_end spot.without_in)
+declaration kind (declarators ∷ []) spot =
+    say (keyword kind) >> say (codes " ") >> declarators.at (Commas (right spot precedence.assignment NoNeighbor)) >> say (statement_end spot.without_in)
 declaration kind children spot = nothing
 
 abbrev pub declarator : List Laid → Spot → Piece
-declarator (name ∷ init ∷ []) spot = name.at (At (free 1)) >> init.at (Within Equals (right spot 1 NoNeighbor))
+declarator (name ∷ init ∷ []) spot = name.at (At (free precedence.assignment)) >> init.at (Within Equals (right spot precedence.assignment NoNeighbor))
 declarator children spot = nothing
 
 -- statements without loops; other nodes have no such text

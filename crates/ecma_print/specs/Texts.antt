@@ -4,7 +4,7 @@ use Rattle.std.specs.Prelude.{◌≡◌, ℕ, List, ◌++◌}
 abbrev pub Text : Type 0
 Text = List ℕ → List ℕ
 
--- what was written behind the old text is the new text, whatever follows
+-- what was written after the old text is the new text, whatever follows
 abbrev pub Writes : List ℕ → List ℕ → Text → Type 0
 Writes old new text = (rest : List ℕ) → new ++ rest ≡ old ++ text rest
 

@@ -10,7 +10,7 @@ use Rattle.ecma_print.specs.declared.inside.Inside.{Inside}
 use Rattle.ecma_print.specs.Pieces.{Piece}
 use Rattle.ecma_print.specs.Layout.{laid}
 
--- what was written behind the old text at this margin is the piece, whatever follows
+-- what was written after the old text at this margin is the piece, whatever follows
 abbrev pub Puts : Out → Out → List ℕ → Piece → Type 0
 Puts old new margin piece = (rest : List ℕ) → new.bytes.items ++ rest ≡ old.bytes.items ++ piece margin rest
 

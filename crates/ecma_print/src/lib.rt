@@ -7,6 +7,7 @@ mod kinds;
 mod operators;
 mod out;
 pub mod place;
+mod precedence;
 mod show;
 
 pub use show::print_module;

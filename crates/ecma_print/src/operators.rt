@@ -1,8 +1,9 @@
-//! Operators: their words and their levels.
+//! Operators: their words and their precedences.
 ghost use Rattle.std.specs.Prelude.{◌≡◌};
 ghost use Rattle.ecma_print.specs.Operators.{unary_word, unary_sign, update_word, update_sign, binary_word, binary_level, left_level, right_level, under, assign_word};
 
 use crate::place::Beside;
+use crate::precedence;
 use ecma_tree::{AssignOp, BinaryOp, UnaryOp, UpdateOp};
 
 /// What a unary operator puts before its operand.
@@ -84,61 +85,63 @@ pub(crate) fn binary_word(op: BinaryOp) -> &'static str
     }
 }
 
-/// The level of an expression with this operator.
+/// The precedence of an expression with this operator.
 pub(crate) fn binary_level(op: BinaryOp) -> u8
     ensures { result ≡ binary_level op }
 {
     match op {
-        BinaryOp::NullishCoalescing | BinaryOp::LogicalOr => 3,
-        BinaryOp::LogicalAnd => 4,
-        BinaryOp::BitOr => 5,
-        BinaryOp::BitXor => 6,
-        BinaryOp::BitAnd => 7,
-        BinaryOp::EqEq | BinaryOp::NotEq | BinaryOp::EqEqEq | BinaryOp::NotEqEq => 8,
+        BinaryOp::NullishCoalescing | BinaryOp::LogicalOr => precedence::SHORT_CIRCUIT,
+        BinaryOp::LogicalAnd => precedence::LOGICAL_AND,
+        BinaryOp::BitOr => precedence::BITWISE_OR,
+        BinaryOp::BitXor => precedence::BITWISE_XOR,
+        BinaryOp::BitAnd => precedence::BITWISE_AND,
+        BinaryOp::EqEq | BinaryOp::NotEq | BinaryOp::EqEqEq | BinaryOp::NotEqEq =>
+            precedence::EQUALITY,
         BinaryOp::Lt
         | BinaryOp::LtEq
         | BinaryOp::Gt
         | BinaryOp::GtEq
         | BinaryOp::In
-        | BinaryOp::InstanceOf => 9,
-        BinaryOp::LShift | BinaryOp::RShift | BinaryOp::ZeroFillRShift => 10,
-        BinaryOp::Add | BinaryOp::Sub => 11,
-        BinaryOp::Mul | BinaryOp::Div | BinaryOp::Mod => 12,
-        BinaryOp::Exp => 13,
+        | BinaryOp::InstanceOf => precedence::RELATIONAL,
+        BinaryOp::LShift | BinaryOp::RShift | BinaryOp::ZeroFillRShift => precedence::SHIFT,
+        BinaryOp::Add | BinaryOp::Sub => precedence::ADDITIVE,
+        BinaryOp::Mul | BinaryOp::Div | BinaryOp::Mod => precedence::MULTIPLICATIVE,
+        BinaryOp::Exp => precedence::EXPONENTIATION,
     }
 }
 
-/// The level of its left operand.
+/// The least precedence of its left operand: operators group to the left, and on the left of `**` stands no unary operator.
 pub(crate) fn left_level(op: BinaryOp) -> u8
     ensures { result ≡ left_level op }
 {
     match op {
-        BinaryOp::Exp => 15,
+        BinaryOp::Exp => precedence::UPDATE,
         _ => binary_level(op),
     }
 }
 
-/// The level of its right operand.
+/// The least precedence of its right operand: one more than its own, but `**` groups to the right.
 pub(crate) fn right_level(op: BinaryOp) -> u8
     ensures { result ≡ right_level op }
 {
     match op {
-        BinaryOp::NullishCoalescing | BinaryOp::LogicalOr => 4,
-        BinaryOp::LogicalAnd => 5,
-        BinaryOp::BitOr => 6,
-        BinaryOp::BitXor => 7,
-        BinaryOp::BitAnd => 8,
-        BinaryOp::EqEq | BinaryOp::NotEq | BinaryOp::EqEqEq | BinaryOp::NotEqEq => 9,
+        BinaryOp::NullishCoalescing | BinaryOp::LogicalOr => precedence::LOGICAL_AND,
+        BinaryOp::LogicalAnd => precedence::BITWISE_OR,
+        BinaryOp::BitOr => precedence::BITWISE_XOR,
+        BinaryOp::BitXor => precedence::BITWISE_AND,
+        BinaryOp::BitAnd => precedence::EQUALITY,
+        BinaryOp::EqEq | BinaryOp::NotEq | BinaryOp::EqEqEq | BinaryOp::NotEqEq =>
+            precedence::RELATIONAL,
         BinaryOp::Lt
         | BinaryOp::LtEq
         | BinaryOp::Gt
         | BinaryOp::GtEq
         | BinaryOp::In
-        | BinaryOp::InstanceOf => 10,
-        BinaryOp::LShift | BinaryOp::RShift | BinaryOp::ZeroFillRShift => 11,
-        BinaryOp::Add | BinaryOp::Sub => 12,
-        BinaryOp::Mul | BinaryOp::Div | BinaryOp::Mod => 13,
-        BinaryOp::Exp => 13,
+        | BinaryOp::InstanceOf => precedence::SHIFT,
+        BinaryOp::LShift | BinaryOp::RShift | BinaryOp::ZeroFillRShift => precedence::ADDITIVE,
+        BinaryOp::Add | BinaryOp::Sub => precedence::MULTIPLICATIVE,
+        BinaryOp::Mul | BinaryOp::Div | BinaryOp::Mod => precedence::EXPONENTIATION,
+        BinaryOp::Exp => precedence::EXPONENTIATION,
     }
 }
 

@@ -1,3 +1,4 @@
+//! What a layout is written to: the text so far, and pieces that are added to its end.
 use ecma_tree::NoMemory;
 use std::alloc::Global;
 

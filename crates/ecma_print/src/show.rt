@@ -15,7 +15,7 @@ pub fn print_module(alloc: Global, tree: &Module) -> Result<Vec<u8>, NoMemory>
     ensures { IfOk result (λ text. text.items ≡ layout tree.now) }
 {
     let mut out = Out::new(alloc);
-    show(&mut out, tree, Place::At(Spot::free(0)), b"")?;
+    show(&mut out, tree, Place::At(Spot::alone()), b"")?;
     let Out { alloc: _, bytes } = out;
     Ok(bytes)
 }

@@ -21,7 +21,7 @@ use Rattle.ecma_print.specs.Layout.{in_place, key_mark, laid, lay_step, layout, 
 use Rattle.ecma_print.specs.Levels.{begins_with_brace, in_parentheses, is_misread, lacks_arguments, level_of}
 use Rattle.ecma_print.specs.Literals.{literal}
 use Rattle.ecma_print.specs.Places.{after, before, is_headed, opens_a_block}
-use Rattle.ecma_print_congruence.specs.Contexts.{ContextsDoNotMatterToLayouts, SpansDoNotMatterToLayouts}
+use Rattle.ecma_print_congruence.specs.Laws.{ContextsDoNotMatterToLayouts, SpansDoNotMatterToLayouts}
 use Rattle.ecma_print_congruence.proofs.Lists.{listed_told}
 use Rattle.ecma_print_congruence.proofs.Expressions.{operation_told, link_told, primary_told}
 use Rattle.ecma_print_congruence.proofs.Functions.{function_text_told, class_member_told, property_told, pattern_told}

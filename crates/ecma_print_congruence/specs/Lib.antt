@@ -1,1 +1,1 @@
-pub mod Contexts
+pub mod Laws

@@ -21,7 +21,7 @@ use Rattle.ecma_print.specs.Levels.{in_parentheses}
 use Rattle.ecma_print.specs.Pieces.{say, ◌>>◌}
 use Rattle.ecma_print.specs.Places.{free, opens_a_block}
 use Rattle.ecma_print.proofs.LaidOut.{laid_kind_of-node}
-use Rattle.ecma_print_parentheses.specs.Spots.{first_spots, further_spot}
+use Rattle.ecma_print.specs.Spots.{first_spots, further_spot}
 use Rattle.ecma_print_parentheses.proofs.Asking.{Fits}
 use Rattle.ecma_rules.specs.declared.target.Target.{Target}
 use Rattle.ecma_rules.specs.declared.target.Target.TheVariants as target
@@ -31,7 +31,8 @@ use Rattle.ecma_rules.specs.Finishing.{each_in}
 use Rattle.ecma_covers.specs.Covering.{cover_at, cover_in}
 use Rattle.ecma_covers.specs.Placing.{Stands, EachStands, array, object, bound, default, rest_element, rest_property, key_value, short, short_default, other, none, more, as_read}
 use Rattle.ecma_covers.proofs.Uncovering.{array_covered, asks_same, binding_covered, binding_node, cover_node, default_name, each_same, kept, literal_asks, name_node, object_covered, short_name}
-use Rattle.ecma_print_covers.specs.Layouts.{CoversKeepTheLayout, has_usual_default, is_default, takes_default}
+use Rattle.ecma_print_covers.specs.Laws.{CoversKeepTheLayout}
+use Rattle.ecma_print_covers.specs.Defaults.{has_usual_default, is_default, takes_default}
 use Rattle.ecma_print_covers.proofs.Givens.{AllGiven, Given, children_given, has_shapes, is_usual, stands_bare, template_has_lists}
 use Rattle.ecma_print_covers.proofs.Layers.{in_place_alike, is_one, laid_in, layer_alike, turned_alike}
 use Rattle.ecma_print_covers.proofs.Pairs.{AllAlike, IsAlike, Pair, TemplateHasLists, afters, befores, spot_in}

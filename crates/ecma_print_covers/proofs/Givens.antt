@@ -12,19 +12,19 @@ use Rattle.ecma_tree.specs.Laws.{HaveShapes}
 use Rattle.ecma_tree.specs.Nodes.{node_of}
 use Rattle.ecma_tree.specs.Sorted.{HasShape, child_shapes, is_list, many}
 use Rattle.ecma_tree.proofs.ShapeLaws.{node_has_shape}
-use Rattle.ecma_tree.proofs.Layers.{from_leaves-roll}
 use Rattle.ecma_print.specs.declared.place.Spot.{Spot}
 use Rattle.ecma_print.specs.Layout.{laid}
 use Rattle.ecma_print.specs.Levels.{in_parentheses}
 use Rattle.ecma_print.proofs.LaidOut.{laid_kind}
 use Rattle.ecma_print_parentheses.specs.Lacking.{all_complete, complete}
-use Rattle.ecma_print_parentheses.specs.Spots.{first_spots, further_spot}
+use Rattle.ecma_print.specs.Spots.{first_spots, further_spot}
 use Rattle.ecma_print_parentheses.proofs.Asking.{AllFit, Fits, first_fit, further_fits}
 use Rattle.ecma_print_parentheses.proofs.Lacks.{complete_in}
 use Rattle.ecma_rules.specs.declared.target.Target.{Target}
-use Rattle.ecma_print_covers.specs.Layouts.{has_usual_default, has_usual_defaults, usual_step}
+use Rattle.ecma_print_covers.specs.Defaults.{has_usual_default, has_usual_defaults, usual_step}
 use Rattle.ecma_print_covers.proofs.Pairs.{TemplateHasLists}
 use Rattle.ecma_print_covers.proofs.Seats.{AllSeated, Seated}
+use Rattle.ecma_tree.proofs.Layers.{from_leaves-roll}
 
 pub record Given (t : Target) (spot : Spot) (n : Node) : Type 0 where
   pub fits : Fits spot

@@ -14,7 +14,7 @@ use Rattle.ecma_print.specs.Laid.{is_computed}
 use Rattle.ecma_print.specs.Layout.{laid}
 use Rattle.ecma_print.specs.Expressions.{object_beside, is_optional, question_dot, callee_spot, link_of, template_parts, yield_word, operation, link, primary}
 use Rattle.ecma_print.specs.Functions.{async_word, static_word, accessor_word, function_text, class_member, property, pattern}
-use Rattle.ecma_print_parentheses.specs.Spots.{first_spots, further_spot}
+use Rattle.ecma_print.specs.Spots.{first_spots, further_spot}
 use Rattle.ecma_print_covers.proofs.Pairs.{AllAlike, Pair, TemplateHasLists, afters, befores, more_of_sequence_alike}
 
 module _ (spot : Spot) where

@@ -13,7 +13,7 @@ use Rattle.ecma_print.specs.Laid.{is_block}
 use Rattle.ecma_print.specs.Layout.{laid}
 use Rattle.ecma_print.specs.Statements.{else_behind, case_word, behind_body, for_word, statement_end, keyword, statement, control}
 use Rattle.ecma_print.specs.Modules.{hashbang, import_equals_word, importing, exporting}
-use Rattle.ecma_print_parentheses.specs.Spots.{first_spots, further_spot}
+use Rattle.ecma_print.specs.Spots.{first_spots, further_spot}
 use Rattle.ecma_print_covers.proofs.Pairs.{AllAlike, Pair, TemplateHasLists, afters, befores}
 
 module _ (spot : Spot) where

@@ -17,7 +17,7 @@ use Rattle.ecma_print.specs.Literals.{literal}
 use Rattle.ecma_print.specs.Pieces.{say, ◌>>◌}
 use Rattle.ecma_print.specs.Places.{after, before, free, is_headed, opens_a_block}
 use Rattle.ecma_print.proofs.LaidOut.{laid_kind_of-node}
-use Rattle.ecma_print_parentheses.specs.Spots.{first_spots, further_spot}
+use Rattle.ecma_print.specs.Spots.{first_spots, further_spot}
 use Rattle.ecma_print_covers.proofs.Pairs.{AllAlike, IsAlike, Pair, TemplateHasLists, afters, befores, each_by_itself, listed_alike, spot_in}
 use Rattle.ecma_print_covers.proofs.LaidExpressions.{operation_alike, link_alike, primary_alike, function_alike, class_member_alike, property_alike, pattern_alike}
 use Rattle.ecma_print_covers.proofs.LaidStatements.{statement_alike, control_alike, importing_alike, exporting_alike}

@@ -15,7 +15,7 @@ use Rattle.ecma_print.specs.Laid.{is_object_pattern}
 use Rattle.ecma_print.specs.Layout.{laid}
 use Rattle.ecma_print.specs.Levels.{in_parentheses}
 use Rattle.ecma_print.specs.Places.{free, left, opens_a_block}
-use Rattle.ecma_print_parentheses.specs.Spots.{first_spots, further_spot}
+use Rattle.ecma_print.specs.Spots.{first_spots, further_spot}
 use Rattle.ecma_rules.specs.declared.target.Target.{Target}
 use Rattle.ecma_rules.specs.declared.target.Target.TheVariants as target
 use Rattle.ecma_rules.specs.Targets.{at_child, in_list, in_literal, in_short_default, in_spread, in_value, on_left, takes_patterns, target_in}

@@ -2,10 +2,10 @@
 use Rattle.ecma_kind.specs.declared.shapes.Sort.TheVariants as sort
 use Rattle.ecma_tree.specs.declared.node.Node.{Node}
 use Rattle.ecma_tree.specs.Sorted.{one}
-use Rattle.ecma_print_parentheses.specs.Explicit.{explicit}
+use Rattle.ecma_print.specs.Explicit.{explicit}
 use Rattle.ecma_print_parentheses.proofs.Sorting.{sorts_are_kept}
-use Rattle.ecma_text_fits.specs.Clauses.{Clauses}
-use Rattle.ecma_text_fits.proofs.Clauses.{fits_by_clauses}
+use Rattle.ecma_fits_clauses.specs.Clauses.{Clauses}
+use Rattle.ecma_fits_clauses.proofs.Clauses.{fits_by_clauses}
 use Rattle.ecma_print_fits.proofs.Branching.{branches_stay, members_stay}
 use Rattle.ecma_print_fits.proofs.Chaining.{chains_stay}
 use Rattle.ecma_print_fits.proofs.Constructing.{constructors_stay}

@@ -1,6 +1,6 @@
 -- What fits, and explicit parentheses.
 use Rattle.ecma_tree.specs.declared.node.Node.{Node}
-use Rattle.ecma_print_parentheses.specs.Explicit.{explicit}
+use Rattle.ecma_print.specs.Explicit.{explicit}
 use Rattle.ecma_fits.specs.Fitting.{Fits}
 
 -- a tree that fits, fits with explicit parentheses

@@ -11,7 +11,6 @@ use Rattle.ecma_tree.specs.declared.node.Node.TheViews.{out-roll-Node}
 use Rattle.ecma_tree.specs.Laws.{HaveShapes}
 use Rattle.ecma_tree.specs.Nodes.{dummy_span, node_of}
 use Rattle.ecma_tree.specs.Sorted.{HasShape, child_shapes}
-use Rattle.ecma_tree.proofs.Layers.{from_leaves-roll}
 use Rattle.ecma_rules.specs.declared.standing.Standing.{Standing}
 use Rattle.ecma_rules.specs.declared.standing.Standing.TheVariants as standing
 use Rattle.ecma_rules.specs.declared.target.Target.{Target}
@@ -22,7 +21,7 @@ use Rattle.ecma_rules.specs.Lists.{last_by}
 use Rattle.ecma_rules.specs.Surroundings.{standing_by}
 use Rattle.ecma_rules.specs.Targets.{in_list as target_in_list, in_literal, in_short_default, in_spread, in_value, is_plain_target, is_wrapper, on_left, target_in}
 use Rattle.ecma_print.specs.declared.place.Spot.{Spot}
-use Rattle.ecma_print_parentheses.specs.Explicit.{parenthesized}
+use Rattle.ecma_print.specs.Explicit.{parenthesized}
 use Rattle.ecma_print_parentheses.proofs.Asking.{AllFit, Fits}
 use Rattle.ecma_fits.specs.declared.role.Role.{Role}
 use Rattle.ecma_fits.specs.declared.role.Role.TheVariants as role
@@ -36,6 +35,7 @@ use Rattle.ecma_print_fits.proofs.Branching.{present_kept}
 use Rattle.ecma_print_fits.proofs.Holding.{Expression, closes, expression, same_roles}
 use Rattle.ecma_print_fits.proofs.Opening.{as_many}
 use Rattle.ecma_print_fits.proofs.Walking.{AllKnown}
+use Rattle.ecma_tree.proofs.Layers.{from_leaves-roll}
 
 -- a target is asked of a finished node only where its role asks the same
 abbrev pub aims : Target → Role → Bool

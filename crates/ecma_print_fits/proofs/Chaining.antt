@@ -18,8 +18,8 @@ use Rattle.ecma_print.specs.declared.place.Spot.{Spot}
 use Rattle.ecma_print.specs.Places.{ends_a_chain, free, left}
 use Rattle.ecma_print.specs.Laid.{Laid}
 use Rattle.ecma_print.specs.Levels.{in_parentheses}
-use Rattle.ecma_print_parentheses.specs.Explicit.{bare, laid_children, parenthesized, stood}
-use Rattle.ecma_print_parentheses.specs.Spots.{first_spots, further_spot}
+use Rattle.ecma_print.specs.Explicit.{bare, laid_children, parenthesized, stood}
+use Rattle.ecma_print.specs.Spots.{first_spots, further_spot}
 use Rattle.ecma_print_parentheses.proofs.Standing.{if_false, stands}
 use Rattle.ecma_fits.specs.Chains.{goes_on, goes_on_step, is_behind_chain, is_link, is_loose, is_loose_by, keeps_chain}
 use Rattle.ecma_fits.specs.Fitting.{at_top}

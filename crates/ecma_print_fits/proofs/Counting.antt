@@ -18,8 +18,8 @@ use Rattle.ecma_print.specs.declared.place.Beside.TheVariants.{NoNeighbor}
 use Rattle.ecma_print.specs.declared.place.Spot.{Spot}
 use Rattle.ecma_print.specs.Places.{free, right}
 use Rattle.ecma_print.specs.Laid.{Laid}
-use Rattle.ecma_print_parentheses.specs.Explicit.{laid_children, parenthesized, stood}
-use Rattle.ecma_print_parentheses.specs.Spots.{first_spots, further_spot}
+use Rattle.ecma_print.specs.Explicit.{laid_children, parenthesized, stood}
+use Rattle.ecma_print.specs.Spots.{first_spots, further_spot}
 use Rattle.ecma_print_parentheses.proofs.Asking.{Fits, first_fit, further_fits}
 use Rattle.ecma_fits.specs.Counts.{are_exports, are_imports, are_stars_or_names, ends_once, ends_template, holds_attributes, is_attribute, is_attribute_key, is_default_import, is_empty, is_full_by, is_named_export, is_named_import, is_short, is_star_export, is_star_import, is_star_of, is_text, is_whole_template}
 use Rattle.ecma_fits.specs.Fitting.{at_top}

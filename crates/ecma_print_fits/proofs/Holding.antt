@@ -6,16 +6,14 @@ use Rattle.ecma_kind.specs.declared.kind.Kind.TheVariants as kind
 use Rattle.ecma_tree.specs.declared.node.Node.{Node, Node-F, fold-roll-Node, ind-Node, roll-Node}
 use Rattle.ecma_tree.specs.Nodes.{dummy_span, node_of}
 use Rattle.ecma_tree.specs.Sorted.{is_absent}
-use Rattle.ecma_tree.specs.Layers.{from_leaves}
-use Rattle.ecma_tree.proofs.Layers.{from_leaves-roll}
 use Rattle.ecma_rules.specs.Failing.{failing_here, failing_step, least, least_from}
 use Rattle.ecma_rules.specs.Targets.{first_is, is_plain_target, is_simple_target, is_wrapper, simple_step}
 use Rattle.ecma_print.specs.declared.place.Spot.{Spot}
 use Rattle.ecma_print.specs.Places.{free}
 use Rattle.ecma_print.specs.Laid.{Laid}
 use Rattle.ecma_print.specs.Levels.{in_parentheses}
-use Rattle.ecma_print_parentheses.specs.Explicit.{Standing, bare, laid_children, parenthesized, stood}
-use Rattle.ecma_print_parentheses.specs.Spots.{first_spots, further_spot}
+use Rattle.ecma_print.specs.Explicit.{Standing, bare, laid_children, parenthesized, stood}
+use Rattle.ecma_print.specs.Spots.{first_spots, further_spot}
 use Rattle.ecma_print_parentheses.proofs.Standing.{if_false, stands}
 use Rattle.ecma_print_parentheses.proofs.Asking.{AllFit, Fits, first_fit, further_fits, open_where_free}
 use Rattle.ecma_fits.specs.declared.role.Role.{Role}
@@ -26,6 +24,8 @@ use Rattle.ecma_fits.specs.Roles.{is_binding, is_bound_name, is_default, is_free
 use Rattle.ecma_print_fits.specs.Laws.{ExplicitRolesStay}
 use Rattle.ecma_print_fits.proofs.Parts.{kind_made, neither_least, not_failing, not_true, shifted}
 use Rattle.ecma_print_fits.proofs.Explicit.{spotted}
+use Rattle.ecma_tree.specs.Layers.{from_leaves}
+use Rattle.ecma_tree.proofs.Layers.{from_leaves-roll}
 
 -- the kinds that may stand in parentheses
 abbrev pub closes : Kind → Bool

@@ -10,10 +10,9 @@ use Rattle.ecma_tree.specs.declared.node.Node.TheViews.{out-roll-Node, roll-out-
 use Rattle.ecma_tree.specs.Nodes.{dummy_span}
 use Rattle.ecma_tree.specs.Laws.{HaveShapes}
 use Rattle.ecma_tree.specs.Sorted.{HasShape, child_shapes, one}
-use Rattle.ecma_tree.proofs.Layers.{from_leaves-roll}
 use Rattle.ecma_rules.specs.Children.{kind_of, of_kind}
 use Rattle.ecma_rules.specs.Jumps.{first_stray}
-use Rattle.ecma_print_covers.specs.Layouts.{has_usual_default, has_usual_defaults, is_default, takes_default, usual_step}
+use Rattle.ecma_print_covers.specs.Defaults.{has_usual_default, has_usual_defaults, is_default, takes_default, usual_step}
 use Rattle.ecma_fits.specs.declared.role.Role.{Role}
 use Rattle.ecma_fits.specs.declared.role.Role.TheVariants as role
 use Rattle.ecma_fits.specs.declared.unfit.Where.{Where}
@@ -21,6 +20,7 @@ use Rattle.ecma_fits.specs.Fitting.{at_top, first_unfit_in}
 use Rattle.ecma_fits.specs.Roles.{in_default, is_assigned, may_be, role_in, takes}
 use Rattle.ecma_print_fits.specs.Laws.{WhatFitsHasUsualDefaults}
 use Rattle.ecma_print_fits.proofs.Parts.{AllFit, Fit, allowed, fitting, kind_allowed, neither_least, shape_made, where_by}
+use Rattle.ecma_tree.proofs.Layers.{from_leaves-roll}
 
 -- what may stand before a default takes one
 assigned_takes : (k : Kind) → allowed role.Assigned k ≡ true → takes_default k ≡ true

@@ -5,20 +5,20 @@ use Rattle.ecma_kind.specs.declared.kind.Kind.{Kind}
 use Rattle.ecma_kind.specs.declared.kind.Kind.TheVariants as kind
 use Rattle.ecma_tree.specs.declared.node.Node.{Node, Node-F, ind-Node, roll-Node}
 use Rattle.ecma_tree.specs.Nodes.{dummy_span, node_of}
-use Rattle.ecma_tree.specs.Layers.{from_leaves}
-use Rattle.ecma_tree.proofs.Layers.{from_leaves-roll}
 use Rattle.ecma_rules.specs.Failing.{failing_here, failing_step, least, least_from}
 use Rattle.ecma_print.specs.declared.place.Spot.{Spot}
 use Rattle.ecma_print.specs.Places.{free}
 use Rattle.ecma_print.specs.Laid.{Laid}
 use Rattle.ecma_print.specs.Levels.{in_parentheses}
-use Rattle.ecma_print_parentheses.specs.Explicit.{Standing, bare, laid_children, parenthesized, stood}
-use Rattle.ecma_print_parentheses.specs.Spots.{first_spots, further_spot}
+use Rattle.ecma_print.specs.Explicit.{Standing, bare, laid_children, parenthesized, stood}
+use Rattle.ecma_print.specs.Spots.{first_spots, further_spot}
 use Rattle.ecma_print_parentheses.proofs.Standing.{stands}
 use Rattle.ecma_print_parentheses.proofs.Asking.{AllFit, Fits, first_fit, further_fits}
 use Rattle.ecma_print_fits.proofs.Parts.{neither_least, not_failing, shifted}
 use Rattle.ecma_print_fits.proofs.Explicit.{spotted}
 use Rattle.ecma_print_fits.proofs.Holding.{closed, closes}
+use Rattle.ecma_tree.specs.Layers.{from_leaves}
+use Rattle.ecma_tree.proofs.Layers.{from_leaves-roll}
 
 -- what is known of each of these where it stands
 abbrev pub AllKnown : (A : Type 0) → (A → Node → Type 0) → (ℕ → A) → List Node → Type 0

@@ -14,13 +14,13 @@ use Rattle.ecma_rules.specs.Rules.{first_broken, first_misplaced}
 use Rattle.ecma_rules.specs.Surroundings.{at_root}
 use Rattle.ecma_covers.specs.Covering.{cover}
 use Rattle.ecma_covers.specs.Placing.{Stands}
-use Rattle.ecma_print_covers.specs.Layouts.{has_usual_defaults}
-use Rattle.ecma_print_parentheses.specs.Explicit.{explicit}
+use Rattle.ecma_print_covers.specs.Defaults.{has_usual_defaults}
+use Rattle.ecma_print.specs.Explicit.{explicit}
 use Rattle.ecma_fits.specs.Branches.{is_dangling}
 use Rattle.ecma_fits.specs.Chains.{is_loose}
 use Rattle.ecma_fits.specs.Counts.{is_short}
 use Rattle.ecma_leaves.specs.Words.{is_spelled}
-use Rattle.ecma_fits.specs.Fitting.{Fits, NoneFails, breaks_rule}
+use Rattle.ecma_fits.specs.Fitting.{Fits, breaks_rule, NoneFails}
 use Rattle.ecma_fits.specs.Members.{is_misread}
 use Rattle.ecma_fits.specs.Roles.{is_out_of_role, is_tagged}
 use Rattle.ecma_fits.specs.Strays.{is_stray_target}

@@ -1,6 +1,6 @@
 //! Laws of finished trees that fit, and of the raw trees that are made of them.
 //!
-//! Each function carries one law over the definitions, and does nothing. The laws are stated in `specs/`.
+//! Each function carries one law over the definitions, and does nothing. The laws are stated in `specs/Laws.antt`.
 #![tactic(auto)]
 
 ghost use Rattle.ecma_print_fits.specs.Laws.{CoversAreNotMisplaced, CoversBreakNoRule, ExplicitBranchesStay, ExplicitChainsStay, ExplicitConstructorsStay, ExplicitCountsStay, ExplicitLeavesStay, ExplicitMembersStay, ExplicitRolesStay, ExplicitRulesStay, ExplicitStraysStay, ExplicitTargetsStay, WhatFitsStands, WhatFitsHasUsualDefaults};

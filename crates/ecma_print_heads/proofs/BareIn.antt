@@ -1,6 +1,6 @@
 -- Where `in` is no operator, an expression that lacks no parentheses has none outside of brackets.
 use Rattle.std.proofs.Common.{◌≡◌, Bool, true, false, not, ◌||◌, List, [], ◌∷◌, map, length, replicate, refl, sym, subst, ltb, ◌∙◌}
-use Rattle.std.proofs.lemmas.Bool.{false≢true, and_parts}
+use Rattle.std.proofs.lemmas.Bool.{false≢true, and_parts, or_parts}
 use Rattle.ecma_kind.specs.declared.operators.BinaryOp.{BinaryOp}
 use Rattle.ecma_kind.specs.declared.operators.BinaryOp.TheVariants as op
 use Rattle.ecma_kind.specs.declared.span.Span.{Span}
@@ -25,11 +25,11 @@ use Rattle.ecma_print.specs.Laid.{Laid}
 use Rattle.ecma_print.specs.Layout.{laid}
 use Rattle.ecma_print.specs.Levels.{in_parentheses}
 use Rattle.ecma_print_parentheses.specs.Lacking.{all_complete, complete}
-use Rattle.ecma_print_parentheses.specs.Spots.{first_spots, further_spot}
+use Rattle.ecma_print.specs.Spots.{first_spots, further_spot}
 use Rattle.ecma_print_parentheses.proofs.Lacks.{complete_in}
 use Rattle.ecma_print_heads.specs.Laws.{HeadsHoldNoBareIn}
-use Rattle.ecma_print_reread.specs.Heads.{any_of, may_hold_by, may_hold_in}
-use Rattle.ecma_print_reread.proofs.HeadLayouts.{may_hold_node, neither}
+use Rattle.ecma_shapes.specs.Heads.{any_of, may_hold_by, may_hold_in}
+use Rattle.ecma_shapes.proofs.Heads.{may_hold_node}
 
 -- shapes of expressions, and of what an expression may stand in the place of
 
@@ -167,7 +167,7 @@ is_in op.In = true
 is_in o = false
 
 not_in : (o : BinaryOp) (xs : List Laid) (spot : Spot) → spot.without_in ≡ true → in_parentheses (kind.BinExpr o) xs spot ≡ false → is_in o ≡ false
-not_in op.In xs spot w h = absurd (false≢true (sym (neither (ltb 9 spot.level) spot.without_in h).1 ∙ w))
+not_in op.In xs spot w h = absurd (false≢true (sym (or_parts (ltb 9 spot.level) spot.without_in h).1 ∙ w))
 not_in o xs spot w h = refl
 
 operands : (o : BinaryOp) (bs : List Bool) → is_in o ≡ false → any_of bs ≡ false → may_hold_by (kind.BinExpr o) bs ≡ false

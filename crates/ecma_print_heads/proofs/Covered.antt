@@ -1,6 +1,6 @@
 -- With literals in the place of patterns, what has no `in` outside of brackets has none.
 use Rattle.std.proofs.Common.{◌≡◌, ◌∙◌, refl, sym, subst, ℕ, suc, ◌==◌, cond, Bool, true, false, List, [], ◌∷◌, map}
-use Rattle.std.proofs.lemmas.Bool.{false≢true}
+use Rattle.std.proofs.lemmas.Bool.{false≢true, or_parts}
 use Rattle.ecma_kind.specs.declared.operators.AssignOp.{AssignOp}
 use Rattle.ecma_kind.specs.declared.operators.AssignOp.TheVariants.{Assign}
 use Rattle.ecma_kind.specs.declared.operators.BinaryOp.TheVariants as op
@@ -15,8 +15,8 @@ use Rattle.ecma_rules.specs.Targets.{on_left, target_in}
 use Rattle.ecma_rules.specs.Finishing.{each_in}
 use Rattle.ecma_covers.specs.Covering.{cover_at, cover_by, cover_in, untyped}
 use Rattle.ecma_covers.proofs.Uncovering.{cover_node}
-use Rattle.ecma_print_reread.specs.Heads.{any_of, first_of, may_hold_by, may_hold_in}
-use Rattle.ecma_print_reread.proofs.HeadLayouts.{may_hold_node, neither}
+use Rattle.ecma_shapes.specs.Heads.{any_of, first_of, may_hold_by, may_hold_in}
+use Rattle.ecma_shapes.proofs.Heads.{may_hold_node}
 use Rattle.ecma_print_heads.specs.Laws.{CoversHoldNoBareIn}
 use Rattle.ecma_print_heads.proofs.BareIn.{none_of_more}
 
@@ -45,7 +45,7 @@ covered f cs = map may_hold_in (each_in f (map cover_at (nodes cs)))
 all_hold_none : (f : ℕ → Target) → ((i : ℕ) → is_whole (f i) ≡ true) → (cs : Children) → any_of (hold cs) ≡ false → any_of (covered f cs) ≡ false
 all_hold_none f w [] h = refl
 all_hold_none f w (x ∷ cs) h =
-    let c = neither (may_hold_in x.0) _ h in
+    let c = or_parts (may_hold_in x.0) _ h in
     none_of_more (may_hold_in (cover_at x.0 (f 0))) _ (x.1 (f 0) (w 0) c.0) (all_hold_none (λ i. f (suc i)) (λ i. w (suc i)) cs c.1)
 
 first_holds_none : (f : ℕ → Target) → ((i : ℕ) → is_whole (f i) ≡ true) → (cs : Children) → first_of (hold cs) ≡ false → first_of (covered f cs) ≡ false

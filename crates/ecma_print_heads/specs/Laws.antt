@@ -6,7 +6,7 @@ use Rattle.ecma_tree.specs.Sorted.{HasSort}
 use Rattle.ecma_print.specs.declared.place.Spot.{Spot}
 use Rattle.ecma_covers.specs.Covering.{cover}
 use Rattle.ecma_print_parentheses.specs.Lacking.{complete}
-use Rattle.ecma_print_reread.specs.Heads.{may_hold_in}
+use Rattle.ecma_shapes.specs.Heads.{may_hold_in}
 
 -- in a spot where `in` is no operator an expression that lacks no parentheses has no `in` outside of brackets
 abbrev pub HeadsHoldNoBareIn : Type 0

@@ -1,6 +1,6 @@
 //! The heads of loops: where `in` is no operator, an expression that lacks no parentheses holds none outside of brackets.
 //!
-//! Each function carries one law over the definitions, and does nothing. The laws are stated in `specs/`.
+//! Each function carries one law over the definitions, and does nothing. The laws are stated in `specs/Laws.antt`.
 #![tactic(auto)]
 
 ghost use Rattle.ecma_print_heads.specs.Laws.{CoversHoldNoBareIn, HeadsHoldNoBareIn};

@@ -6,8 +6,8 @@ use Rattle.ecma_tree.specs.Nodes.{dummy_span}
 use Rattle.ecma_print.specs.declared.place.Spot.{Spot}
 use Rattle.ecma_print.specs.Places.{free}
 use Rattle.ecma_print.specs.Levels.{in_parentheses}
-use Rattle.ecma_print_parentheses.specs.Spots.{first_spots, further_spot}
-use Rattle.ecma_print_parentheses.specs.Explicit.{in_spots, laid_children, bare, parenthesized, stood, opened, without_parens}
+use Rattle.ecma_print.specs.Spots.{first_spots, further_spot}
+use Rattle.ecma_print.specs.Explicit.{in_spots, laid_children, bare, parenthesized, stood, opened, without_parens}
 use Rattle.ecma_print_parentheses.specs.Laws.{OnlyParenthesesAreAdded}
 use Rattle.ecma_print_parentheses.proofs.Standing.{stands}
 

@@ -14,8 +14,8 @@ use Rattle.ecma_print.specs.Layout.{laid}
 use Rattle.ecma_print.specs.Operators.{binary_level, left_level, right_level}
 use Rattle.ecma_print.specs.Levels.{clashes, in_parentheses}
 use Rattle.ecma_print.proofs.LaidOut.{laid_kind, laid_kind_of-node}
-use Rattle.ecma_print_parentheses.specs.Spots.{first_spots, further_spot}
-use Rattle.ecma_print_parentheses.specs.Explicit.{in_spots, laid_children, bare, parenthesized, stood}
+use Rattle.ecma_print.specs.Spots.{first_spots, further_spot}
+use Rattle.ecma_print.specs.Explicit.{in_spots, laid_children, bare, parenthesized, stood}
 use Rattle.ecma_print_parentheses.proofs.Standing.{stands}
 
 -- a spot with a level that there is

@@ -4,7 +4,7 @@ use Rattle.ecma_kind.specs.declared.kind.Kind.{Kind}
 use Rattle.ecma_kind.specs.declared.kind.Kind.TheVariants as kind
 use Rattle.ecma_tree.specs.declared.node.Node.{Node, Node-F, fold-Node}
 use Rattle.ecma_tree.specs.Nodes.{node_of}
-use Rattle.ecma_print_parentheses.specs.Explicit.{parenthesized}
+use Rattle.ecma_print.specs.Explicit.{parenthesized}
 
 -- what a node is by itself, and as a link of a chain
 pub record Ended : Type 0 where

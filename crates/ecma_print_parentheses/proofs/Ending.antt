@@ -21,8 +21,8 @@ use Rattle.ecma_print.specs.Layout.{laid}
 use Rattle.ecma_print.specs.Levels.{in_parentheses}
 use Rattle.ecma_runs.specs.Wrappers.{opened_by, opened, without_parentheses, is_chain_by, is_chain_step}
 use Rattle.ecma_runs.specs.Wrappers as runs
-use Rattle.ecma_print_parentheses.specs.Spots.{first_spots, further_spot}
-use Rattle.ecma_print_parentheses.specs.Explicit.{in_spots, parenthesized, stood, explicit}
+use Rattle.ecma_print.specs.Spots.{first_spots, further_spot}
+use Rattle.ecma_print.specs.Explicit.{in_spots, parenthesized, stood, explicit}
 use Rattle.ecma_print_parentheses.proofs.Chains.{Ended, is_chain, ended_children, linked_children, end_step, ends_of, ended}
 use Rattle.ecma_print_parentheses.proofs.Standing.{if_false}
 use Rattle.ecma_print_parentheses.proofs.Asking.{Fits, AllFit, first_fit, further_fits}

@@ -9,8 +9,8 @@ use Rattle.ecma_print.specs.declared.place.Spot.{Spot}
 use Rattle.ecma_print.specs.Places.{free}
 use Rattle.ecma_print.specs.Layout.{laid}
 use Rattle.ecma_print.specs.Levels.{in_parentheses}
-use Rattle.ecma_print_parentheses.specs.Spots.{first_spots, further_spot}
-use Rattle.ecma_print_parentheses.specs.Explicit.{in_spots, parenthesized, stood, explicit}
+use Rattle.ecma_print.specs.Spots.{first_spots, further_spot}
+use Rattle.ecma_print.specs.Explicit.{in_spots, parenthesized, stood, explicit}
 use Rattle.ecma_print_parentheses.specs.Lacking.{Complete, all_complete, complete_by, complete_step, complete}
 use Rattle.ecma_print_parentheses.specs.Laws.{NoneAreAddedAgain, NoneAreLacking, TreesThatLackNoneStay}
 use Rattle.ecma_print_parentheses.proofs.Standing.{if_false}

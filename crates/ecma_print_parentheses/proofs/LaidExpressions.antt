@@ -14,7 +14,7 @@ use Rattle.ecma_print.specs.Laid.{is_computed}
 use Rattle.ecma_print.specs.Layout.{laid}
 use Rattle.ecma_print.specs.Expressions.{object_beside, is_optional, question_dot, callee_spot, link_of, template_parts, yield_word, operation, link, primary}
 use Rattle.ecma_print.specs.Functions.{async_word, static_word, accessor_word, function_text, class_member, property, pattern}
-use Rattle.ecma_print_parentheses.specs.Explicit.{stood}
+use Rattle.ecma_print.specs.Explicit.{stood}
 use Rattle.ecma_print_parentheses.proofs.Asking.{Fits, left_fits, right_fits, said_where_free}
 use Rattle.ecma_print_parentheses.proofs.Spotted.{spotted}
 use Rattle.ecma_print_parentheses.proofs.Places.{Child, nodes, TemplateHasLists, more_of_sequence_alike}

@@ -13,7 +13,7 @@ use Rattle.ecma_print.specs.Laid.{is_absent, is_block}
 use Rattle.ecma_print.specs.Layout.{laid}
 use Rattle.ecma_print.specs.Statements.{else_behind, case_word, behind_body, for_word, statement_end, keyword, statement, control}
 use Rattle.ecma_print.specs.Modules.{hashbang, import_equals_word, importing, exporting}
-use Rattle.ecma_print_parentheses.specs.Explicit.{stood}
+use Rattle.ecma_print.specs.Explicit.{stood}
 use Rattle.ecma_print_parentheses.proofs.Asking.{Fits, said_where_free}
 use Rattle.ecma_print_parentheses.proofs.Spotted.{spotted}
 use Rattle.ecma_print_parentheses.proofs.Places.{Child, nodes, TemplateHasLists}

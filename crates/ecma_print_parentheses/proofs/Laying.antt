@@ -24,7 +24,7 @@ use Rattle.ecma_print.specs.Lists.{listed}
 use Rattle.ecma_print.specs.Literals.{literal}
 use Rattle.ecma_print.specs.Layout.{by_itself, in_place, key_mark, laid, lay_step, placed, standing, whole}
 use Rattle.ecma_print.proofs.LaidOut.{laid_kind, laid_kind_of-node}
-use Rattle.ecma_print_parentheses.specs.Explicit.{parenthesized}
+use Rattle.ecma_print.specs.Explicit.{parenthesized}
 use Rattle.ecma_print_parentheses.specs.Laws.{LayoutStays}
 use Rattle.ecma_print_parentheses.proofs.Standing.{if_false}
 use Rattle.ecma_print_parentheses.proofs.Shaped.{AllShaped, all_shaped}

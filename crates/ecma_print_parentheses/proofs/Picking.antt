@@ -16,8 +16,8 @@ use Rattle.ecma_print.specs.Places.{free, left, right, ends_a_chain}
 use Rattle.ecma_print.specs.Operators.{unary_sign, update_sign, left_level, right_level, under}
 use Rattle.ecma_print.specs.Expressions.{object_beside, link_of}
 use Rattle.ecma_print.specs.Laid.{Laid}
-use Rattle.ecma_print_parentheses.specs.Spots.{has_computed_key, first_spots, further_spot}
-use Rattle.ecma_print_parentheses.specs.Explicit.{parenthesized}
+use Rattle.ecma_print.specs.Spots.{has_computed_key, first_spots, further_spot}
+use Rattle.ecma_print.specs.Explicit.{parenthesized}
 use Rattle.ecma_print_parentheses.proofs.Chains.{Ended, closed, wholes, closed_first, ended_children, linked_children}
 
 -- a spot where a chain stands in parentheses, and one of a link

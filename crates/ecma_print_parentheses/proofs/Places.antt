@@ -15,7 +15,7 @@ use Rattle.ecma_print.specs.Laid.{Laid, is_named}
 use Rattle.ecma_print.specs.Layout.{laid, by_itself}
 use Rattle.ecma_print.specs.Lists.{lines, new_lines, block, more_commas, commas, braces, ends_in_hole, hole_comma, brackets, specifier_gap, opening_brace, more_specifiers, specifiers, imports, exports, listed}
 use Rattle.ecma_print_parentheses.proofs.Shaped.{Shaped, AllShaped}
-use Rattle.ecma_print_parentheses.specs.Explicit.{in_spots, stood}
+use Rattle.ecma_print.specs.Explicit.{in_spots, stood}
 use Rattle.ecma_print_parentheses.proofs.Asking.{Fits, absent_in_spot, said_where_free}
 
 -- the spot of what stands in a place, or of the items of a list there

@@ -28,7 +28,7 @@ use Rattle.ecma_runs.proofs.Kept.{StepsAlike, observe_unless}
 use Rattle.ecma_runs.proofs.Steps.{step_same}
 use Rattle.ecma_runs.specs.Laws.{ParenthesesDoNotMatter}
 use Rattle.ecma_print_parentheses.proofs.Shaped.{Shaped, AllShaped, all_shaped}
-use Rattle.ecma_print_parentheses.specs.Explicit.{explicit, parenthesized}
+use Rattle.ecma_print.specs.Explicit.{explicit, parenthesized}
 use Rattle.ecma_print_parentheses.specs.Laws.{RunsAlike}
 use Rattle.ecma_print_parentheses.proofs.Ending.{explicit_agrees}
 use Rattle.ecma_print_parentheses.proofs.Chains.{Ended, closed, closed_first, wholes, ended_children, linked_children, end_step, ends_of, ended}

@@ -19,8 +19,8 @@ use Rattle.ecma_print.specs.Places.{free}
 use Rattle.ecma_print.specs.Laid.{Laid}
 use Rattle.ecma_print.specs.Layout.{laid}
 use Rattle.ecma_print.specs.Levels.{in_parentheses}
-use Rattle.ecma_print_parentheses.specs.Spots.{first_spots, further_spot}
-use Rattle.ecma_print_parentheses.specs.Explicit.{in_spots, parenthesized, stood}
+use Rattle.ecma_print.specs.Spots.{first_spots, further_spot}
+use Rattle.ecma_print.specs.Explicit.{in_spots, parenthesized, stood}
 use Rattle.ecma_print_parentheses.specs.Laws.{SortsAreKept}
 use Rattle.ecma_print_parentheses.proofs.Asking.{Fits, AllFit, first_fit, further_fits}
 use Rattle.ecma_print_parentheses.proofs.Spotted.{bare', spotted, stands_in}

@@ -12,8 +12,8 @@ use Rattle.ecma_print.specs.Expressions.{object_beside}
 use Rattle.ecma_print.specs.Laid.{is_computed}
 use Rattle.ecma_print.specs.Layout.{laid}
 use Rattle.ecma_print.specs.Levels.{level_of, is_misread, in_parentheses}
-use Rattle.ecma_print_parentheses.specs.Spots.{first_spots, further_spot}
-use Rattle.ecma_print_parentheses.specs.Explicit.{in_spots, parenthesized, stood}
+use Rattle.ecma_print.specs.Spots.{first_spots, further_spot}
+use Rattle.ecma_print.specs.Explicit.{in_spots, parenthesized, stood}
 use Rattle.ecma_print_parentheses.proofs.Standing.{laid_children_of, stands}
 use Rattle.ecma_print_parentheses.proofs.Asking.{Fits, absent_in_spot, object_pattern_in_spot, said_where_free}
 

@@ -4,7 +4,7 @@ use Rattle.ecma_tree.specs.declared.node.Node.{Node, Node-F, fold-roll-Node, rol
 use Rattle.ecma_tree.specs.Nodes.{node_of}
 use Rattle.ecma_print.specs.declared.place.Spot.{Spot}
 use Rattle.ecma_print.specs.Layout.{laid}
-use Rattle.ecma_print_parentheses.specs.Explicit.{Standing, laid_children, standing, stand_step, stood}
+use Rattle.ecma_print.specs.Explicit.{Standing, laid_children, standing, stand_step, stood}
 
 nodes_themselves : (ns : List ((n : Node) × ((stood n).node ≡ n))) → map (λ m. m.node) (map stood (map (λ e. e.0) ns)) ≡ map (λ e. e.0) ns
 nodes_themselves [] = refl

@@ -8,7 +8,7 @@ use Rattle.ecma_print.specs.Places.{free}
 use Rattle.ecma_print.specs.Laid.{Laid}
 use Rattle.ecma_print.specs.Layout.{laid}
 use Rattle.ecma_print.specs.Levels.{in_parentheses}
-use Rattle.ecma_print_parentheses.specs.Spots.{first_spots, further_spot}
+use Rattle.ecma_print.specs.Spots.{first_spots, further_spot}
 
 -- a node, and whether it lacks none in each spot
 pub record Complete : Type 0 where

@@ -8,7 +8,7 @@ use Rattle.ecma_print.specs.Layout.{layout}
 use Rattle.ecma_runs.specs.declared.config.Config.{Config}
 use Rattle.ecma_runs.specs.declared.script.Script.{Script}
 use Rattle.ecma_runs.specs.Observation.{observe}
-use Rattle.ecma_print_parentheses.specs.Explicit.{explicit, without_parens}
+use Rattle.ecma_print.specs.Explicit.{explicit, without_parens}
 use Rattle.ecma_print_parentheses.specs.Lacking.{lacks_none}
 
 -- nothing but parentheses is added

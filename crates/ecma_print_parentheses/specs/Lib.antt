@@ -1,4 +1,2 @@
-pub mod Spots
-pub mod Explicit
 pub mod Lacking
 pub mod Laws

@@ -5,11 +5,11 @@ use Rattle.ecma_tree.specs.declared.node.Node.{Node}
 use Rattle.ecma_tree.specs.Nodes.{node_of}
 use Rattle.ecma_print.specs.Layout.{layout}
 use Rattle.ecma_print_tokens.specs.Items.{render}
-use Rattle.ecma_print_reread.specs.Shapes.{ident, name, key, plain_key, absent, one, no_elements, arguments, no_expressions, member, member_of_new, new_expression, new_alone, new_target, constructor_callee, chain_member, chain_element, chain_call, opens_chain, asks_on, goes_on, super_element, import_call, import_meta, parenthesized, sequence_expression, yield_value, coalesced, first_head, IsRegex, IsPart, part, regex, tagged_template, template, more_parts, last_part, index_of_new}
-use Rattle.ecma_print_reread.specs.Modules.{statement, no_items, more_items, IsModule, module_of}
-use Rattle.ecma_print_reread.specs.ModuleTokens.{module_tokens}
-use Rattle.ecma_print_reread.proofs.ModuleLayouts.{module_laid}
-use Rattle.ecma_print_reread.proofs.Words.{whole}
+use Rattle.ecma_shapes.specs.Shapes.{ident, name, key, plain_key, absent, one, no_elements, arguments, no_expressions, member, member_of_new, new_expression, new_alone, new_target, constructor_callee, chain_member, chain_element, chain_call, opens_chain, asks_on, goes_on, super_element, import_call, import_meta, parenthesized, sequence_expression, yield_value, coalesced, first_head, IsRegex, IsPart, part, regex, tagged_template, template, more_parts, last_part, index_of_new}
+use Rattle.ecma_shapes.specs.Modules.{statement, no_items, more_items, IsModule, module_of}
+use Rattle.ecma_shapes.proofs.ModuleTokens.{module_tokens}
+use Rattle.ecma_print_layouts.proofs.ModuleLayouts.{module_laid}
+use Rattle.ecma_print_layouts.proofs.Words.{whole}
 use Rattle.ecma_print_reread.proofs.Samples.{at, a_spelled, a_name, out, plainly}
 use Rattle.ecma_lex.specs.Regexes.{backslash_sequence, class_char, class_chars, class, regex_char, regex_chars, body, opened, regex_end, regex_body_end}
 use Rattle.ecma_lex.specs.Parts.{many, at_most}

@@ -17,24 +17,24 @@ use Rattle.ecma_print_tokens.specs.Items as items
 use Rattle.ecma_print_tokens.specs.Items.{sign, Gap, Items, it}
 use Rattle.ecma_print_tokens.specs.Taking as taking
 use Rattle.ecma_print_tokens.specs.Taking.{Took, took, refused, token_in}
-use Rattle.ecma_print_reread.proofs.Classes.{class_expression_read}
-use Rattle.ecma_print_reread.specs.Machine.{Out, read, unsure, Turn, taken, behind_on, followed_on, fails, built_on, with_front, or_on, interp, means, without}
-use Rattle.ecma_print_reread.specs.Shapes as shapes
-use Rattle.ecma_print_reread.specs.Shapes.{IsExpression, IsFunctionName, IsFunction, IsClass}
-use Rattle.ecma_print_reread.specs.Tokens.{expression_tokens, is_generator, is_async, function_name_tokens, function_tokens, class_tokens}
-use Rattle.ecma_print_reread.specs.Signs.{blank, sign_of, function_word, closing_gap}
-use Rattle.ecma_print_reread.specs.Bare.{bare, bare_expression, bare_function_name, bare_function, bare_class}
-use Rattle.ecma_print_reread.specs.ModuleTokens.{spaced_word}
-use Rattle.ecma_print_reread.proofs.Fronts.{exactly, at_token}
-use Rattle.ecma_print_reread.proofs.Towers.{excluded}
-use Rattle.ecma_print_reread.proofs.Forms.{Reads, Refuses}
-use Rattle.ecma_print_reread.proofs.Bindings.{used}
-use Rattle.ecma_print_reread.proofs.Expressions.{semicolon_ends}
-use Rattle.ecma_print_reread.specs.Starts.{is_declaration_word, start_of}
-use Rattle.ecma_print_reread.proofs.Starts.{starts_agree}
+use Rattle.ecma_print_reread_functions.proofs.Classes.{class_expression_read}
+use Rattle.ecma_print_readings.proofs.Machine.{Out, read, unsure, Turn, taken, behind_on, followed_on, fails, built_on, with_front, or_on, interp, means, without}
+use Rattle.ecma_shapes.specs.Shapes as shapes
+use Rattle.ecma_shapes.specs.Shapes.{IsExpression, IsFunctionName, IsFunction, IsClass}
+use Rattle.ecma_shapes.proofs.Tokens.{expression_tokens, is_generator, is_async, function_name_tokens, function_tokens, class_tokens}
+use Rattle.ecma_shapes.proofs.Signs.{blank, sign_of, function_word, closing_gap}
+use Rattle.ecma_shapes.proofs.Bare.{bare, bare_expression, bare_function_name, bare_function, bare_class}
+use Rattle.ecma_shapes.proofs.ModuleTokens.{spaced_word}
+use Rattle.ecma_print_readings.proofs.Fronts.{exactly, at_token}
+use Rattle.ecma_print_readings.proofs.Towers.{excluded}
+use Rattle.ecma_print_readings.proofs.Forms.{Reads, Refuses}
+use Rattle.ecma_print_readings.proofs.Bindings.{used}
+use Rattle.ecma_print_readings.proofs.Expressions.{semicolon_ends}
+use Rattle.ecma_shapes.specs.Starts.{is_declaration_word, start_of}
+use Rattle.ecma_shapes.proofs.Starts.{starts_agree}
 use Rattle.ecma_print_reread.proofs.Undeclared.{undeclared}
 use Rattle.ecma_print_reread.proofs.StatementForms.{expression_form, argument_forms, block_form, member_forms, heritage_form}
-use Rattle.ecma_print_reread.proofs.Functions.{function_expression_read}
+use Rattle.ecma_print_reread_functions.proofs.Functions.{function_expression_read}
 use Rattle.ecma_print_reread.proofs.Exports.{export_item}
 
 -- where a choice fails, each of its alternatives does

@@ -17,25 +17,25 @@ use Rattle.ecma_grammar.specs.productions.Modules.{import_equals, from, export_s
 use Rattle.ecma_print.specs.Statements.{keyword}
 use Rattle.ecma_print_tokens.specs.Items as items
 use Rattle.ecma_print_tokens.specs.Items.{Gap, Items, it}
-use Rattle.ecma_print_reread.proofs.Classes.{class_declaration_read}
-use Rattle.ecma_print_reread.specs.Machine.{fails, built_on, with_front, or_on, interp, means, without}
-use Rattle.ecma_print_reread.specs.Shapes as shapes
-use Rattle.ecma_print_reread.specs.Shapes.{Ending, IsStatement}
-use Rattle.ecma_print_reread.specs.Modules as modules
-use Rattle.ecma_print_reread.specs.Modules.{IsString, IsExportName, IsWithClause, IsNamedExport, AreNamedExports, IsExportClause, is_declaration}
-use Rattle.ecma_print_reread.specs.Tokens.{statement_tokens, ident_word}
-use Rattle.ecma_print_reread.specs.Signs.{blank, sign_of, function_word, closing_gap}
-use Rattle.ecma_print_reread.specs.Bare.{bare, bare_statement}
-use Rattle.ecma_print_reread.specs.ModuleTokens.{spaced, spaced_word, spaced_sign, export_name_token, from_tokens, named_export_tokens, more_exports_tokens, export_clause_tokens, bare_string, bare_export_name, bare_with, bare_named_export, bare_named_exports, bare_export_clause}
-use Rattle.ecma_print_reread.proofs.Moves.{eats}
-use Rattle.ecma_print_reread.proofs.Fronts.{exactly, at_token}
-use Rattle.ecma_print_reread.proofs.Towers.{skipped}
-use Rattle.ecma_print_reread.proofs.Forms.{Reads, Refuses}
-use Rattle.ecma_print_reread.proofs.Repeats.{Repeats, repeats_end, repeats_more, repeated}
-use Rattle.ecma_print_reread.proofs.Variables.{declaration_read}
+use Rattle.ecma_print_reread_functions.proofs.Classes.{class_declaration_read}
+use Rattle.ecma_print_readings.proofs.Machine.{fails, built_on, with_front, or_on, interp, means, without}
+use Rattle.ecma_shapes.specs.Shapes as shapes
+use Rattle.ecma_shapes.specs.Shapes.{Ending, IsStatement}
+use Rattle.ecma_shapes.specs.Modules as modules
+use Rattle.ecma_shapes.specs.Modules.{IsString, IsExportName, IsWithClause, IsNamedExport, AreNamedExports, IsExportClause, is_declaration}
+use Rattle.ecma_shapes.proofs.Tokens.{statement_tokens, ident_word}
+use Rattle.ecma_shapes.proofs.Signs.{blank, sign_of, function_word, closing_gap}
+use Rattle.ecma_shapes.proofs.Bare.{bare, bare_statement}
+use Rattle.ecma_shapes.proofs.ModuleTokens.{spaced, spaced_word, spaced_sign, export_name_token, from_tokens, named_export_tokens, more_exports_tokens, export_clause_tokens, bare_string, bare_export_name, bare_with, bare_named_export, bare_named_exports, bare_export_clause}
+use Rattle.ecma_print_readings.proofs.Moves.{eats}
+use Rattle.ecma_print_readings.proofs.Fronts.{exactly, at_token}
+use Rattle.ecma_print_readings.proofs.Towers.{skipped}
+use Rattle.ecma_print_readings.proofs.Forms.{Reads, Refuses}
+use Rattle.ecma_print_readings.proofs.Repeats.{Repeats, repeats_end, repeats_more, repeated}
+use Rattle.ecma_print_reread_statements.proofs.Variables.{declaration_read}
 use Rattle.ecma_print_reread.proofs.StatementForms.{argument_forms, declarator_form, declarator_forms, block_form, member_forms, heritage_form}
-use Rattle.ecma_print_reread.proofs.Functions.{function_declaration_read}
-use Rattle.ecma_print_reread.proofs.Calls.{ident_free}
+use Rattle.ecma_print_reread_functions.proofs.Functions.{function_declaration_read}
+use Rattle.ecma_print_reread_expressions.proofs.Calls.{ident_free}
 use Rattle.ecma_print_reread.proofs.Sources.{from_read}
 
 specifier_eats : nat_le 1 (eats (punct (codes ",") ▸ export_specifier)) ≡ true

@@ -5,13 +5,13 @@ use Rattle.ecma_tree.specs.declared.node.Node.{Node}
 use Rattle.ecma_grammar.specs.trees.Classes.{is_constructor_key}
 use Rattle.ecma_print.specs.Layout.{layout}
 use Rattle.ecma_print_tokens.specs.Items.{render}
-use Rattle.ecma_print_reread.specs.Shapes.{ident, name, key, absent, arguments, no_arguments, bound, no_default, name_pattern, no_elements, no_params, more_params, no_initializer, initializer, block_of, no_statements, more_statements, return_nothing, function_of, function_statement, unnamed, function_name, function_expression, class_expression, no_heritage, heritage, new_alone, constructor_callee, class_of, class_statement, class_constructor, method, field, key_name, string_name, computed_name, property_member, static_block, no_members, more_members}
-use Rattle.ecma_print_reread.specs.Modules.{statement, export_declaration, export_default_function, no_items, more_items, IsModule, module_of}
-use Rattle.ecma_print_reread.specs.ModuleTokens.{module_tokens}
-use Rattle.ecma_print_reread.proofs.ModuleLayouts.{module_laid}
-use Rattle.ecma_print_reread.proofs.Words.{whole, layout_words}
+use Rattle.ecma_shapes.specs.Shapes.{ident, name, key, absent, arguments, no_arguments, bound, no_default, name_pattern, no_elements, no_params, more_params, no_initializer, initializer, block_of, no_statements, more_statements, return_nothing, function_of, function_statement, unnamed, function_name, function_expression, class_expression, no_heritage, heritage, new_alone, constructor_callee, class_of, class_statement, class_constructor, method, field, key_name, string_name, computed_name, property_member, static_block, no_members, more_members}
+use Rattle.ecma_shapes.specs.Modules.{statement, export_declaration, export_default_function, no_items, more_items, IsModule, module_of}
+use Rattle.ecma_shapes.proofs.ModuleTokens.{module_tokens}
+use Rattle.ecma_print_layouts.proofs.ModuleLayouts.{module_laid}
+use Rattle.ecma_print_layouts.proofs.Words.{whole, layout_words}
 use Rattle.ecma_print_reread.proofs.ModuleSamples.{m_whole}
-use Rattle.ecma_print_reread.proofs.Heads.{kind-node}
+use Rattle.ecma_print_readings.proofs.Heads.{kind-node}
 use Rattle.ecma_print_reread.proofs.Samples.{at, a_spelled, a_name, out}
 
 abbrev sample : (tree : Node) × IsModule false tree

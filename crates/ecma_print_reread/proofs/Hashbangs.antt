@@ -12,7 +12,7 @@ use Rattle.ecma_lex.specs.Tokens.{hashbang}
 use Rattle.ecma_lex.proofs.Repeats.{then_some, code_point_stands}
 use Rattle.ecma_lex.proofs.Suffixes.{wide-chars, once, Cut, cut_ascii, cut_utf8, chars_ascii, Opens, Stands, past, after_here, piece_here, skipped_gap}
 use Rattle.ecma_lex.proofs.Spelled.{many_again}
-use Rattle.ecma_print_reread.specs.Modules.{IsHashbangText}
+use Rattle.ecma_shapes.specs.Modules.{IsHashbangText}
 
 abbrev in_line : ℕ → Bool
 in_line c = not (is_line_terminator c)

@@ -8,16 +8,16 @@ use Rattle.ecma_grammar.specs.productions.Names.{string, module_export_name}
 use Rattle.ecma_grammar.specs.productions.Modules.{star, import_specifier, import_specifiers, import_clause, import}
 use Rattle.ecma_print_tokens.specs.Items as items
 use Rattle.ecma_print_tokens.specs.Items.{Gap, Items, it}
-use Rattle.ecma_print_reread.specs.Machine.{with_front}
-use Rattle.ecma_print_reread.specs.Modules as modules
-use Rattle.ecma_print_reread.specs.Modules.{IsString, IsWithClause, IsNamespaceImport, IsNamedImport, AreNamedImports, IsImportClause}
-use Rattle.ecma_print_reread.specs.Signs.{sign_of}
-use Rattle.ecma_print_reread.specs.Bare.{bare}
-use Rattle.ecma_print_reread.specs.ModuleTokens.{spaced_word, spaced_sign, source_tokens, namespace_import_tokens, named_import_tokens, more_imports_tokens, named_imports_tokens, import_clause_tokens, bare_string, bare_with, bare_namespace_import, bare_named_import, bare_named_imports, bare_import_clause}
-use Rattle.ecma_print_reread.proofs.Moves.{eats}
-use Rattle.ecma_print_reread.proofs.Forms.{Reads, Refuses}
-use Rattle.ecma_print_reread.proofs.Repeats.{Repeats, repeats_end, repeats_more, repeated}
-use Rattle.ecma_print_reread.proofs.Calls.{ident_free}
+use Rattle.ecma_print_readings.proofs.Machine.{with_front}
+use Rattle.ecma_shapes.specs.Modules as modules
+use Rattle.ecma_shapes.specs.Modules.{IsString, IsWithClause, IsNamespaceImport, IsNamedImport, AreNamedImports, IsImportClause}
+use Rattle.ecma_shapes.proofs.Signs.{sign_of}
+use Rattle.ecma_shapes.proofs.Bare.{bare}
+use Rattle.ecma_shapes.proofs.ModuleTokens.{spaced_word, spaced_sign, source_tokens, namespace_import_tokens, named_import_tokens, more_imports_tokens, named_imports_tokens, import_clause_tokens, bare_string, bare_with, bare_namespace_import, bare_named_import, bare_named_imports, bare_import_clause}
+use Rattle.ecma_print_readings.proofs.Moves.{eats}
+use Rattle.ecma_print_readings.proofs.Forms.{Reads, Refuses}
+use Rattle.ecma_print_readings.proofs.Repeats.{Repeats, repeats_end, repeats_more, repeated}
+use Rattle.ecma_print_reread_expressions.proofs.Calls.{ident_free}
 use Rattle.ecma_print_reread.proofs.Sources.{with_read, from_read}
 
 specifier_eats : nat_le 1 (eats (punct (codes ",") ▸ import_specifier)) ≡ true

@@ -8,15 +8,15 @@ use Rattle.ecma_print.specs.Layout.{layout}
 use Rattle.ecma_print_tokens.specs.Good.{Good}
 use Rattle.ecma_print_tokens.proofs.Leaves.{lexes}
 use Rattle.ecma_print_tokens.proofs.Joining.{joined_good}
-use Rattle.ecma_print_reread.specs.Machine.{count}
-use Rattle.ecma_print_reread.specs.ModuleTokens.{module_tokens}
-use Rattle.ecma_print_reread.specs.Theorems.{ModulesAreReadAgain}
+use Rattle.ecma_print_reread.specs.Laws.{ModulesAreReadAgain}
 use Rattle.ecma_print_reread.proofs.Texts.{text_read}
-use Rattle.ecma_print_reread.proofs.ModuleLayouts.{module_laid}
-use Rattle.ecma_print_reread.proofs.Joins.{good_long}
-use Rattle.ecma_print_reread.proofs.ModuleJoins.{module_joined}
-use Rattle.ecma_print_reread.proofs.Words.{layout_words}
+use Rattle.ecma_print_layouts.proofs.ModuleLayouts.{module_laid}
+use Rattle.ecma_print_layouts.proofs.Joins.{good_long}
+use Rattle.ecma_print_layouts.proofs.ModuleJoins.{module_joined}
+use Rattle.ecma_print_layouts.proofs.Words.{layout_words}
 use Rattle.ecma_print_reread.proofs.Targets.{no_target}
+use Rattle.ecma_shapes.proofs.Signs.{count}
+use Rattle.ecma_shapes.proofs.ModuleTokens.{module_tokens}
 
 -- the one tree that is read
 the_tree : (o : Outcome (List Node)) (x : Node) (ys : List Node) (t : Position) → o ≡ reading.read ys t → map without_spans ys ≡ x ∷ [] → (again : Node) × (s : Position) × (o ≡ reading.read (again ∷ []) s) × (without_spans again ≡ x)

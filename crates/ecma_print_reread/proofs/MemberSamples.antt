@@ -12,12 +12,12 @@ use Rattle.ecma_print_tokens.specs.Good.{IsToken}
 use Rattle.ecma_print_tokens.specs.Items.{render}
 use Rattle.ecma_print_tokens.proofs.Privates.{private_again}
 use Rattle.ecma_lex.proofs.Spelled.{alone}
-use Rattle.ecma_print_reread.specs.Shapes.{ident, name, key, absent, arguments, no_arguments, bound, no_default, name_pattern, no_elements, no_params, more_params, no_initializer, block_of, no_statements, function_of, no_heritage, class_of, class_statement, method, field, accessor, empty_member, key_name, string_name, computed_name, property_member, private_member, no_members, more_members}
-use Rattle.ecma_print_reread.specs.Modules.{statement, no_items, more_items, IsModule, module_of}
-use Rattle.ecma_print_reread.specs.ModuleTokens.{module_tokens}
-use Rattle.ecma_print_reread.proofs.Heads.{kind-node}
-use Rattle.ecma_print_reread.proofs.ModuleLayouts.{module_laid}
-use Rattle.ecma_print_reread.proofs.Words.{layout_words}
+use Rattle.ecma_shapes.specs.Shapes.{ident, name, key, absent, arguments, no_arguments, bound, no_default, name_pattern, no_elements, no_params, more_params, no_initializer, block_of, no_statements, function_of, no_heritage, class_of, class_statement, method, field, accessor, empty_member, key_name, string_name, computed_name, property_member, private_member, no_members, more_members}
+use Rattle.ecma_shapes.specs.Modules.{statement, no_items, more_items, IsModule, module_of}
+use Rattle.ecma_shapes.proofs.ModuleTokens.{module_tokens}
+use Rattle.ecma_print_readings.proofs.Heads.{kind-node}
+use Rattle.ecma_print_layouts.proofs.ModuleLayouts.{module_laid}
+use Rattle.ecma_print_layouts.proofs.Words.{layout_words}
 use Rattle.ecma_print_reread.proofs.ModuleSamples.{m_whole}
 use Rattle.ecma_print_reread.proofs.Samples.{at, a_spelled, a_name, out}
 

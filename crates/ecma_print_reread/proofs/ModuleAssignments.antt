@@ -15,20 +15,20 @@ use Rattle.ecma_grammar.specs.productions.Names.{statement, end, ident}
 use Rattle.ecma_grammar.specs.productions.Modules.{import, import_clause, from, require, import_equals, export, module_item}
 use Rattle.ecma_print_tokens.specs.Items as items
 use Rattle.ecma_print_tokens.specs.Items.{sign, Gap, Items, it}
-use Rattle.ecma_print_reread.specs.Machine.{Out, read, fails, with_front, followed_on, or_on, built_on, interp, means, without}
-use Rattle.ecma_print_reread.specs.Shapes.{Level, IsIdent, IsExpression}
-use Rattle.ecma_print_reread.specs.Modules.{IsString}
-use Rattle.ecma_print_reread.specs.Tokens.{ident_word, expression_tokens}
-use Rattle.ecma_print_reread.specs.Signs.{blank, sign_of}
-use Rattle.ecma_print_reread.specs.Bare.{bare, bare_ident, bare_expression}
-use Rattle.ecma_print_reread.specs.ModuleTokens.{spaced_word, spaced_sign, require_tokens, import_equals_tokens, bare_string}
-use Rattle.ecma_print_reread.proofs.Fronts.{exactly, at_token}
-use Rattle.ecma_print_reread.proofs.Towers.{skipped}
-use Rattle.ecma_print_reread.proofs.Heads.{nodes}
-use Rattle.ecma_print_reread.proofs.Forms.{Reads, Refuses}
-use Rattle.ecma_print_reread.proofs.Bindings.{standing, expression_read}
-use Rattle.ecma_print_reread.proofs.Expressions.{semicolon_ends}
-use Rattle.ecma_print_reread.proofs.Calls.{ident_free}
+use Rattle.ecma_print_readings.proofs.Machine.{Out, read, fails, with_front, followed_on, or_on, built_on, interp, means, without}
+use Rattle.ecma_shapes.specs.Shapes.{Level, IsIdent, IsExpression}
+use Rattle.ecma_shapes.specs.Modules.{IsString}
+use Rattle.ecma_shapes.proofs.Tokens.{ident_word, expression_tokens}
+use Rattle.ecma_shapes.proofs.Signs.{blank, sign_of}
+use Rattle.ecma_shapes.proofs.Bare.{bare, bare_ident, bare_expression}
+use Rattle.ecma_shapes.proofs.ModuleTokens.{spaced_word, spaced_sign, require_tokens, import_equals_tokens, bare_string}
+use Rattle.ecma_print_readings.proofs.Fronts.{exactly, at_token}
+use Rattle.ecma_print_readings.proofs.Towers.{skipped}
+use Rattle.ecma_print_readings.proofs.Heads.{nodes}
+use Rattle.ecma_print_readings.proofs.Forms.{Reads, Refuses}
+use Rattle.ecma_print_readings.proofs.Bindings.{standing, expression_read}
+use Rattle.ecma_print_readings.proofs.Expressions.{semicolon_ends}
+use Rattle.ecma_print_reread_expressions.proofs.Calls.{ident_free}
 use Rattle.ecma_print_reread.proofs.StatementForms.{expression_form}
 use Rattle.ecma_print_reread.proofs.Exports.{export_item, no_default, no_names, no_star_as, no_star}
 

@@ -15,13 +15,13 @@ use Rattle.ecma_tree.specs.Nodes.{node_of}
 use Rattle.ecma_print.specs.Layout.{layout}
 use Rattle.ecma_print_tokens.specs.Items.{render}
 use Rattle.ecma_print_tokens.specs.Good.{IsToken}
-use Rattle.ecma_print_reread.specs.Shapes.{name_pattern, ident, key, absent, name, no_initializer, declarator, no_declarators, declaration}
-use Rattle.ecma_print_reread.specs.Starts.{is_declaration_word}
-use Rattle.ecma_print_reread.proofs.Starts.{starts_agree}
-use Rattle.ecma_print_reread.specs.Modules.{string_literal, word_name, string_name, word_key, attribute, no_attributes, no_with, with_attributes, default_import, same_import, other_import, no_imports, more_imports, import_default_and_names, same_export, other_export, no_exports, more_exports, export_names, import_alone, import_bindings, export_bindings, export_all, export_declaration, export_default, import_require, no_items, more_items, IsHashbangText, IsModule, module_behind_hashbang}
-use Rattle.ecma_print_reread.specs.ModuleTokens.{module_head, module_tokens}
-use Rattle.ecma_print_reread.proofs.ModuleLayouts.{module_laid}
-use Rattle.ecma_print_reread.proofs.Words.{whole, async_spelled, layout_words}
+use Rattle.ecma_shapes.specs.Shapes.{name_pattern, ident, key, absent, name, no_initializer, declarator, no_declarators, declaration}
+use Rattle.ecma_shapes.specs.Starts.{is_declaration_word}
+use Rattle.ecma_shapes.proofs.Starts.{starts_agree}
+use Rattle.ecma_shapes.specs.Modules.{string_literal, word_name, string_name, word_key, attribute, no_attributes, no_with, with_attributes, default_import, same_import, other_import, no_imports, more_imports, import_default_and_names, same_export, other_export, no_exports, more_exports, export_names, import_alone, import_bindings, export_bindings, export_all, export_declaration, export_default, import_require, no_items, more_items, IsHashbangText, IsModule, module_behind_hashbang}
+use Rattle.ecma_shapes.proofs.ModuleTokens.{module_head, module_tokens}
+use Rattle.ecma_print_layouts.proofs.ModuleLayouts.{module_laid}
+use Rattle.ecma_print_layouts.proofs.Words.{whole, async_spelled, layout_words}
 use Rattle.ecma_print_reread.proofs.Samples.{at, a_spelled, a_name, async_name, gone, a, async, out}
 
 pub m_whole : IsToken str_end (codes "\"m\"")

@@ -6,11 +6,11 @@ use Rattle.ecma_kind.specs.declared.kind.Kind.TheVariants as kind
 use Rattle.ecma_tree.specs.declared.node.Node.{Node}
 use Rattle.ecma_tree.specs.Nodes.{node_of, list_node}
 use Rattle.ecma_tree.specs.Spans.{without_spans}
-use Rattle.ecma_print_reread.specs.Modules as modules
-use Rattle.ecma_print_reread.specs.Modules.{IsString, IsExportName, IsAttributeKey, IsAttribute, AreAttributes, IsWithClause, IsDefaultImport, IsNamespaceImport, IsNamedImport, AreNamedImports, IsImportClause, IsNamedExport, AreNamedExports, IsExportClause, IsModuleItem, AreModuleItems, IsModule}
-use Rattle.ecma_print_reread.specs.Bare.{bare}
-use Rattle.ecma_print_reread.specs.ModuleTokens.{bare_string, bare_export_name, bare_attribute_key, bare_attribute, bare_attributes, bare_with, bare_default_import, bare_namespace_import, bare_named_import, bare_named_imports, bare_import_clause, bare_named_export, bare_named_exports, bare_export_clause, bare_item, bare_items, bare_module}
-use Rattle.ecma_print_reread.proofs.Unplaced.{without_spans-node}
+use Rattle.ecma_shapes.specs.Modules as modules
+use Rattle.ecma_shapes.specs.Modules.{IsString, IsExportName, IsAttributeKey, IsAttribute, AreAttributes, IsWithClause, IsDefaultImport, IsNamespaceImport, IsNamedImport, AreNamedImports, IsImportClause, IsNamedExport, AreNamedExports, IsExportClause, IsModuleItem, AreModuleItems, IsModule}
+use Rattle.ecma_shapes.proofs.Bare.{bare}
+use Rattle.ecma_shapes.proofs.ModuleTokens.{bare_string, bare_export_name, bare_attribute_key, bare_attribute, bare_attributes, bare_with, bare_default_import, bare_namespace_import, bare_named_import, bare_named_imports, bare_import_clause, bare_named_export, bare_named_exports, bare_export_clause, bare_item, bare_items, bare_module}
+use Rattle.ecma_print_readings.proofs.Unplaced.{without_spans-node}
 use Rattle.ecma_print_reread.proofs.Whole.{absent_bare, ident_bare, key_bare, expression_bare, statement_bare, function_name_bare, function_bare, class_bare}
 
 string_bare : {n : Node} (s : IsString n) → without_spans n ≡ bare_string s

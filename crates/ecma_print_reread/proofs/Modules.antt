@@ -26,22 +26,22 @@ use Rattle.ecma_grammar.specs.productions.Modules as modules
 use Rattle.ecma_grammar.specs.productions.Modules.{module_item, module_body}
 use Rattle.ecma_print_tokens.specs.Items as items
 use Rattle.ecma_print_tokens.specs.Items.{Gap, no_gap, Items, ends, it}
-use Rattle.ecma_print_reread.specs.Machine.{read, with_front, followed_on, or_on, unless_on, built_on, interp, means, without}
-use Rattle.ecma_print_reread.specs.Modules as shapes
-use Rattle.ecma_print_reread.specs.Modules.{IsModuleItem, AreModuleItems}
-use Rattle.ecma_print_reread.specs.Signs.{line, sign_of}
-use Rattle.ecma_print_reread.specs.Bare.{bare}
-use Rattle.ecma_print_reread.specs.ModuleTokens.{source_tokens, from_tokens, import_clause_tokens, item_tokens, items_tokens, bare_item, bare_items}
-use Rattle.ecma_print_reread.proofs.Ranks.{item_eats}
-use Rattle.ecma_print_reread.proofs.Levels.{means_is}
-use Rattle.ecma_print_reread.proofs.Fronts.{exactly, the_end, at_token, at_end, refused_at, refuses_all, all_refused}
-use Rattle.ecma_print_reread.proofs.Towers.{excluded, skipped, refuses_choices}
-use Rattle.ecma_print_reread.proofs.Heads.{kind-node}
-use Rattle.ecma_print_reread.proofs.Forms.{Reads, Refuses}
-use Rattle.ecma_print_reread.proofs.Repeats.{Repeats, repeats_end, repeats_more, repeated}
-use Rattle.ecma_print_reread.proofs.Statements.{item_read, closes_any}
+use Rattle.ecma_print_readings.proofs.Machine.{read, with_front, followed_on, or_on, unless_on, built_on, interp, means, without}
+use Rattle.ecma_shapes.specs.Modules as shapes
+use Rattle.ecma_shapes.specs.Modules.{IsModuleItem, AreModuleItems}
+use Rattle.ecma_shapes.proofs.Signs.{line, sign_of}
+use Rattle.ecma_shapes.proofs.Bare.{bare}
+use Rattle.ecma_shapes.proofs.ModuleTokens.{source_tokens, from_tokens, import_clause_tokens, item_tokens, items_tokens, bare_item, bare_items}
+use Rattle.ecma_print_readings.proofs.Ranks.{item_eats}
+use Rattle.ecma_print_readings.proofs.Levels.{means_is}
+use Rattle.ecma_print_readings.proofs.Fronts.{exactly, the_end, at_token, at_end, refused_at, refuses_all, all_refused}
+use Rattle.ecma_print_readings.proofs.Towers.{excluded, skipped, refuses_choices}
+use Rattle.ecma_print_readings.proofs.Heads.{kind-node}
+use Rattle.ecma_print_readings.proofs.Forms.{Reads, Refuses}
+use Rattle.ecma_print_readings.proofs.Repeats.{Repeats, repeats_end, repeats_more, repeated}
+use Rattle.ecma_print_readings.proofs.Statements.{item_read, closes_any}
 use Rattle.ecma_print_reread.proofs.Imports.{import_alone_read, import_bindings_read}
-use Rattle.ecma_print_reread.proofs.Blocks.{Closing}
+use Rattle.ecma_print_readings.proofs.Blocks.{Closing}
 use Rattle.ecma_print_reread.proofs.StatementForms.{statement_form}
 use Rattle.ecma_print_reread.proofs.ModuleAssignments.{import_require_read, export_assignment_read}
 use Rattle.ecma_print_reread.proofs.Exports.{export_bindings_read, export_bindings_from_read, export_namespace_read, export_all_read, export_declaration_read}

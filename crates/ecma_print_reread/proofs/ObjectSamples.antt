@@ -4,11 +4,11 @@ use Rattle.ecma_kind.specs.declared.operators.VarDeclKind.TheVariants.{Const}
 use Rattle.ecma_tree.specs.declared.node.Node.{Node}
 use Rattle.ecma_print.specs.Layout.{layout}
 use Rattle.ecma_print_tokens.specs.Items.{render}
-use Rattle.ecma_print_reread.specs.Shapes.{ident, key, absent, arguments, bound, no_default, name_pattern, no_elements, no_params, more_params, initializer, declarator, no_declarators, declaration, block_of, no_statements, more_statements, return_nothing, function_of, arrow_block, object_literal, no_properties, more_properties, key_name, key_value, method_property, getter_property, setter_property}
-use Rattle.ecma_print_reread.specs.Modules.{statement, no_items, more_items, IsModule, module_of}
-use Rattle.ecma_print_reread.specs.ModuleTokens.{module_tokens}
-use Rattle.ecma_print_reread.proofs.ModuleLayouts.{module_laid}
-use Rattle.ecma_print_reread.proofs.Words.{whole}
+use Rattle.ecma_shapes.specs.Shapes.{ident, key, absent, arguments, bound, no_default, name_pattern, no_elements, no_params, more_params, initializer, declarator, no_declarators, declaration, block_of, no_statements, more_statements, return_nothing, function_of, arrow_block, object_literal, no_properties, more_properties, key_name, key_value, method_property, getter_property, setter_property}
+use Rattle.ecma_shapes.specs.Modules.{statement, no_items, more_items, IsModule, module_of}
+use Rattle.ecma_shapes.proofs.ModuleTokens.{module_tokens}
+use Rattle.ecma_print_layouts.proofs.ModuleLayouts.{module_laid}
+use Rattle.ecma_print_layouts.proofs.Words.{whole}
 use Rattle.ecma_print_reread.proofs.Samples.{at, a_spelled, a_name, out}
 
 abbrev sample : (tree : Node) × IsModule false tree

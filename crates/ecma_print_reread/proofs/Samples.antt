@@ -20,14 +20,14 @@ use Rattle.ecma_tree.specs.declared.node.Node.{Node}
 use Rattle.ecma_tree.specs.Nodes.{node_of}
 use Rattle.ecma_print.specs.Layout.{layout}
 use Rattle.ecma_print_tokens.specs.Items.{render}
-use Rattle.ecma_print_reread.specs.Shapes.{arrow_function, closed, Level, assignment, IsExpression, element, postfix_update, conditional_expression, assignment_expression, unary_expression, binary_expression, plus, times, IsPlainName, ident, key, absent, looser, name, null_word, this_word, member, call, parenthesized, one, spread, arguments, no_elements, more_elements, name_pattern, array_pattern, object_pattern, bound, rest, no_default, with_default, renamed, named, rest_property, no_initializer, more_declarators, initializer, declarator, no_declarators, expression, declaration, object_literal, key_name, key_value, shorthand, initialized, spread_property, no_properties, more_properties, array, no_slots, filled, hole, member_of_new, member_of_object, index_of_callee, plain_key, IsStatement}
-use Rattle.ecma_print_reread.specs.Modules.{statement, no_items, more_items, IsModule, module_of}
-use Rattle.ecma_print_reread.specs.ModuleTokens.{module_tokens}
-use Rattle.ecma_print_reread.proofs.Bindings.{further_out}
-use Rattle.ecma_print_reread.proofs.ModuleLayouts.{module_laid}
-use Rattle.ecma_print_reread.proofs.Words.{whole, async_spelled}
-use Rattle.ecma_print_reread.specs.Starts.{other_start, is_brace}
-use Rattle.ecma_print_reread.proofs.Starts.{start, starts_agree}
+use Rattle.ecma_shapes.specs.Shapes.{arrow_function, closed, Level, assignment, IsExpression, element, postfix_update, conditional_expression, assignment_expression, unary_expression, binary_expression, plus, times, IsPlainName, ident, key, absent, looser, name, null_word, this_word, member, call, parenthesized, one, spread, arguments, no_elements, more_elements, name_pattern, array_pattern, object_pattern, bound, rest, no_default, with_default, renamed, named, rest_property, no_initializer, more_declarators, initializer, declarator, no_declarators, expression, declaration, object_literal, key_name, key_value, shorthand, initialized, spread_property, no_properties, more_properties, array, no_slots, filled, hole, member_of_new, member_of_object, index_of_callee, plain_key, IsStatement}
+use Rattle.ecma_shapes.specs.Modules.{statement, no_items, more_items, IsModule, module_of}
+use Rattle.ecma_shapes.proofs.ModuleTokens.{module_tokens}
+use Rattle.ecma_print_readings.proofs.Bindings.{further_out}
+use Rattle.ecma_print_layouts.proofs.ModuleLayouts.{module_laid}
+use Rattle.ecma_print_layouts.proofs.Words.{whole, async_spelled}
+use Rattle.ecma_shapes.specs.Starts.{other_start, is_brace}
+use Rattle.ecma_shapes.proofs.Starts.{start, starts_agree}
 
 abbrev pub at : Span
 at = record { lo = 3; hi = 5 }

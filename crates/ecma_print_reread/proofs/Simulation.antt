@@ -25,12 +25,13 @@ use Rattle.ecma_print_tokens.specs.Items.{number, Gap, Items, it, render}
 use Rattle.ecma_print_tokens.specs.Taking as taking
 use Rattle.ecma_print_tokens.specs.Taking.{Took, took, refused, token_in, leaf_in, leaf_kind, new_line_in}
 use Rattle.ecma_print_tokens.specs.Lexing.{Fails, At, Goes, Agrees, IsLeaf, GoesOn, Lexes}
-use Rattle.ecma_print_reread.specs.Machine.{Out, read, fails, unsure, Turn, count, taken, kept, behind_on, with_front, followed_on, or_on, many_on, many_up_to, ahead_on, unless_on, built_on, without, body_at, interp, levels, means}
-use Rattle.ecma_print_reread.proofs.Takes.{Shorter, token_eats, token_taken}
-use Rattle.ecma_print_reread.proofs.Moves.{eats, Leaves, Moves, leaves}
-use Rattle.ecma_print_reread.proofs.Ranks.{rank, leads, rank_small, part_ranked, ranked_at}
-use Rattle.ecma_print_reread.proofs.Levels.{levels_move}
-use Rattle.ecma_print_reread.proofs.Unplaced.{without_spans-node}
+use Rattle.ecma_print_readings.proofs.Machine.{Out, read, fails, unsure, Turn, taken, kept, behind_on, with_front, followed_on, or_on, many_on, many_up_to, ahead_on, unless_on, built_on, without, body_at, interp, levels, means}
+use Rattle.ecma_shapes.proofs.Signs.{count}
+use Rattle.ecma_print_readings.proofs.Takes.{Shorter, token_eats, token_taken}
+use Rattle.ecma_print_readings.proofs.Moves.{eats, Leaves, Moves, leaves}
+use Rattle.ecma_print_readings.proofs.Ranks.{rank, leads, rank_small, part_ranked, ranked_at}
+use Rattle.ecma_print_readings.proofs.Levels.{levels_move}
+use Rattle.ecma_print_readings.proofs.Unplaced.{without_spans-node}
 use Rattle.ecma_print_reread.proofs.UnplacedForms.{made_unplaced}
 
 abbrev pub plain : Bool → Mode

@@ -7,13 +7,13 @@ use Rattle.ecma_grammar.specs.Grammar.{Grammar, keep, ◌▸◌, ◌//◌, punct
 use Rattle.ecma_grammar.specs.productions.Names.{string}
 use Rattle.ecma_grammar.specs.productions.Modules.{attributes, from}
 use Rattle.ecma_print_tokens.specs.Items.{Items}
-use Rattle.ecma_print_reread.specs.Machine.{with_front}
-use Rattle.ecma_print_reread.specs.Modules as modules
-use Rattle.ecma_print_reread.specs.Modules.{IsString, IsAttribute, AreAttributes, IsWithClause}
-use Rattle.ecma_print_reread.specs.Signs.{sign_of}
-use Rattle.ecma_print_reread.specs.ModuleTokens.{spaced_sign, spaced_word, attribute_tokens, more_attributes_tokens, with_tokens, source_tokens, bare_string, bare_attribute, bare_attributes, bare_with}
-use Rattle.ecma_print_reread.proofs.Forms.{Reads}
-use Rattle.ecma_print_reread.proofs.Repeats.{Repeats, repeats_end, repeats_more, repeated}
+use Rattle.ecma_print_readings.proofs.Machine.{with_front}
+use Rattle.ecma_shapes.specs.Modules as modules
+use Rattle.ecma_shapes.specs.Modules.{IsString, IsAttribute, AreAttributes, IsWithClause}
+use Rattle.ecma_shapes.proofs.Signs.{sign_of}
+use Rattle.ecma_shapes.proofs.ModuleTokens.{spaced_sign, spaced_word, attribute_tokens, more_attributes_tokens, with_tokens, source_tokens, bare_string, bare_attribute, bare_attributes, bare_with}
+use Rattle.ecma_print_readings.proofs.Forms.{Reads}
+use Rattle.ecma_print_readings.proofs.Repeats.{Repeats, repeats_end, repeats_more, repeated}
 
 abbrev an_attribute : Grammar
 an_attribute = node plain.KeyValueProp ((keep leaf.IdentName // string) ▸ punct (codes ":") ▸ string)

@@ -1,69 +1,70 @@
 -- Statements by their shape.
-use Rattle.ecma_print_reread.specs.Shapes as shapes
+use Rattle.ecma_shapes.specs.Shapes as shapes
 use Rattle.ecma_kind.specs.declared.kind.Kind.TheVariants as kind
 use Rattle.ecma_print_tokens.specs.Items as items
 use Rattle.ecma_kind.specs.declared.operators.BinaryOp.TheVariants as op
-use Rattle.ecma_print_reread.proofs.Sequences as sequences
-use Rattle.std.proofs.Common.{ℕ, suc, Bool, true, false, List, ap, codes, sym, ◌∙◌, ◌≡◌, [], ◌∷◌, refl, map}
+use Rattle.ecma_print_reread_expressions.proofs.Sequences as sequences
+use Rattle.std.proofs.Common.{ℕ, suc, Bool, true, false, List, [], ap, codes, sym, ◌∙◌, ◌≡◌, ◌∷◌, refl, map}
 use Rattle.ecma_tree.specs.declared.node.Node.{Node}
-use Rattle.ecma_print_reread.proofs.Accessors.{accessor_form}
-use Rattle.ecma_print_reread.proofs.Fields.{field_form}
-use Rattle.ecma_print_reread.proofs.MemberNames.{ReadAsName, name_private, constructor_named, no_constructor, member_name_form}
-use Rattle.ecma_print_reread.proofs.Methods.{method_form, constructor_form}
-use Rattle.ecma_print_reread.proofs.Classes.{ReadAsMember, ReadAsMembers, no_members_form, more_members_form, static_block_form, empty_member_form, HeritageForm, class_form}
-use Rattle.ecma_print_reread.specs.Machine.{taken}
-use Rattle.ecma_print_reread.specs.Shapes.{IsPropertyName, IsInitializer, IsDeclarator, AreDeclarators, Ending, IsStatement, IsBlock, IsCase, AreCases, IsCatch, AreStatements, IsOptional, IsForInit, IsForLeft, IsHeritage, IsMemberName, is_private, IsMember, AreMembers, Level, key, IsExpression, IsElement, AreSlots, IsProperty, AreProperties, IsArguments, AreElements, AreExpressions, Role, IsPattern, IsDefaulted, AreParts}
-use Rattle.ecma_print_reread.specs.LiteralTexts.{regex_text}
-use Rattle.ecma_print_reread.specs.Tokens.{property_name_tokens, ident_word, is_braced, statement_tokens, block_tokens, case_tokens, cases_tokens, catch_tokens, lined_tokens, for_left_tokens, member_tokens, members_tokens, member_name_tokens, key_word, own_sign, expression_tokens, arguments_tokens, pattern_tokens, defaulted_tokens}
-use Rattle.ecma_print_reread.specs.Signs.{line_at, closing_gap, branch_gap, blank, unary_gap}
-use Rattle.ecma_print_reread.specs.Bare.{bare_property_name, bare_statement, bare_block, bare_case, bare_cases, bare_catch, bare_statements, bare_for_left, bare_member_name, bare_member, bare_members, expression_kind, expression_parts, bare_arguments, bare_pattern, bare_defaulted}
-use Rattle.ecma_print_reread.proofs.Bindings.{standing, Stands, from_form, loosened, from_new, StandsIn}
-use Rattle.ecma_print_reread.proofs.Beginnings.{no_new_line, no_brace, no_star}
-use Rattle.ecma_print_reread.proofs.Calls.{arguments_read, call_read, ident_free, member_stands, element_stands, tagged_stands, constructed_form, numeral_stands, chain_member_stands, chain_element_stands, chain_call_stands, call_stands, ident_stands, single_stands}
-use Rattle.ecma_print_reread.proofs.Statements.{ReadAsStatement, expression_statement_form}
-use Rattle.ecma_print_reread.proofs.Variables.{DeclaratorForm, DeclaratorForms, declaration_form, DeclaratorIn, DeclaratorsIn}
-use Rattle.ecma_print_reread.proofs.Jumps.{empty_form, debugger_form, return_form, break_form, continue_form, throw_form, return_value_form}
-use Rattle.ecma_print_reread.proofs.Blocks.{ReadAsStatements, no_statements_form, more_statements_form, ReadAsBlock, braces_form, block_statement}
-use Rattle.ecma_print_reread.proofs.Branches.{if_form, if_else_form}
-use Rattle.ecma_print_reread.proofs.Loops.{while_form, do_form}
-use Rattle.ecma_print_reread.proofs.Switches.{ReadAsCase, ReadAsCases, no_cases_form, more_cases_form, case_form, default_form, switch_form}
-use Rattle.ecma_print_reread.proofs.Tries.{ReadAsCatch, catch_any_form, catch_pattern_form, try_catch_form, try_finally_form, try_catch_finally_form}
-use Rattle.ecma_print_reread.proofs.ForLoops.{OptionalForm, for_loop_form, for_in_form, for_of_form, for_await_form, InitForm, ReadAsForLeft, binding_left, in_left, of_left}
-use Rattle.ecma_print_reread.proofs.Labels.{labeled_form, break_label_form, continue_label_form}
-use Rattle.ecma_print_reread.proofs.Functions.{function_form}
-use Rattle.ecma_print_reread.proofs.HeadForms.{tightly, member_tight, index_tight, no_in_there}
-use Rattle.ecma_print_reread.specs.Starts.{is_brace, is_declaration_word}
-use Rattle.ecma_print_reread.proofs.Starts.{starts_agree}
+use Rattle.ecma_print_reread_functions.proofs.Accessors.{accessor_form}
+use Rattle.ecma_print_reread_functions.proofs.Fields.{field_form}
+use Rattle.ecma_print_reread_functions.proofs.MemberNames.{ReadAsName, name_private, constructor_named, no_constructor, member_name_form}
+use Rattle.ecma_print_reread_functions.proofs.Methods.{method_form, constructor_form}
+use Rattle.ecma_print_reread_functions.proofs.Classes.{ReadAsMember, ReadAsMembers, no_members_form, more_members_form, static_block_form, empty_member_form, HeritageForm, class_form}
+use Rattle.ecma_print_readings.proofs.Machine.{taken}
+use Rattle.ecma_shapes.specs.Shapes.{IsPropertyName, IsInitializer, IsDeclarator, AreDeclarators, Ending, IsStatement, IsBlock, IsCase, AreCases, IsCatch, AreStatements, IsOptional, IsForInit, IsForLeft, IsHeritage, IsMemberName, is_private, IsMember, AreMembers, Level, key, IsExpression, IsElement, AreSlots, IsProperty, AreProperties, IsArguments, AreElements, AreExpressions, Role, IsPattern, IsDefaulted, AreParts}
+use Rattle.ecma_shapes.specs.LiteralTexts.{regex_text}
+use Rattle.ecma_shapes.proofs.Tokens.{property_name_tokens, ident_word, is_braced, statement_tokens, block_tokens, case_tokens, cases_tokens, catch_tokens, lined_tokens, for_left_tokens, member_tokens, members_tokens, member_name_tokens, key_word, own_sign, expression_tokens, arguments_tokens, pattern_tokens, defaulted_tokens}
+use Rattle.ecma_shapes.proofs.Signs.{line_at, closing_gap, branch_gap, blank, unary_gap}
+use Rattle.ecma_shapes.proofs.Bare.{bare_property_name, bare_statement, bare_block, bare_case, bare_cases, bare_catch, bare_statements, bare_for_left, bare_member_name, bare_member, bare_members, expression_kind, expression_parts, bare_arguments, bare_pattern, bare_defaulted}
+use Rattle.ecma_print_readings.proofs.Bindings.{standing, Stands, from_form, loosened, from_new, StandsIn}
+use Rattle.ecma_print_layouts.proofs.Beginnings.{no_new_line, no_brace, no_star}
+use Rattle.ecma_print_reread_expressions.proofs.Calls.{arguments_read, call_read, ident_free, member_stands, element_stands, tagged_stands, constructed_form, numeral_stands, chain_member_stands, chain_element_stands, chain_call_stands, call_stands, ident_stands, single_stands}
+use Rattle.ecma_print_readings.proofs.Statements.{ReadAsStatement, expression_statement_form}
+use Rattle.ecma_print_reread_statements.proofs.Variables.{DeclaratorForm, DeclaratorForms, declaration_form, DeclaratorIn, DeclaratorsIn}
+use Rattle.ecma_print_reread_statements.proofs.Jumps.{empty_form, debugger_form, return_form, break_form, continue_form, throw_form, return_value_form}
+use Rattle.ecma_print_readings.proofs.Blocks.{ReadAsStatements, no_statements_form, more_statements_form, ReadAsBlock, braces_form, block_statement}
+use Rattle.ecma_print_reread_statements.proofs.Branches.{if_form, if_else_form}
+use Rattle.ecma_print_reread_statements.proofs.Loops.{while_form, do_form}
+use Rattle.ecma_print_reread_statements.proofs.Switches.{ReadAsCase, ReadAsCases, no_cases_form, more_cases_form, case_form, default_form, switch_form}
+use Rattle.ecma_print_reread_statements.proofs.Tries.{ReadAsCatch, catch_any_form, catch_pattern_form, try_catch_form, try_finally_form, try_catch_finally_form}
+use Rattle.ecma_print_reread_statements.proofs.ForLoops.{OptionalForm, for_loop_form, for_in_form, for_of_form, for_await_form, InitForm, ReadAsForLeft, binding_left, in_left, of_left}
+use Rattle.ecma_print_reread_statements.proofs.Labels.{labeled_form, break_label_form, continue_label_form}
+use Rattle.ecma_print_reread_functions.proofs.Functions.{function_form}
+use Rattle.ecma_print_reread_expressions.proofs.HeadForms.{tightly, member_tight, index_tight, no_in_there}
+use Rattle.ecma_shapes.specs.Starts.{is_brace, is_declaration_word}
+use Rattle.ecma_shapes.proofs.Starts.{starts_agree}
 use Rattle.ecma_print_reread.proofs.Undeclared.{undeclared}
-use Rattle.ecma_print_reread.proofs.FunctionExpressions.{function_new, class_new}
-use Rattle.std.proofs.lemmas.Bool.{false≢true}
+use Rattle.ecma_print_reread_functions.proofs.FunctionExpressions.{function_new, class_new}
+use Rattle.std.proofs.lemmas.Bool.{false≢true, or_parts}
 use Rattle.ecma_tree.specs.Nodes.{list_node}
-use Rattle.ecma_print_reread.proofs.Forms.{s}
-use Rattle.ecma_print_reread.proofs.Operations.{await_form, power_form, unary_form, binary_form}
-use Rattle.ecma_print_reread.proofs.Members.{link_key}
-use Rattle.ecma_print_reread.proofs.Supers.{super_member_form, super_element_form, super_call_form}
-use Rattle.ecma_print_reread.proofs.Constructions.{new_form, alone_form, target_form}
-use Rattle.ecma_print_reread.proofs.Updates.{prefix_form, postfix_form}
-use Rattle.ecma_print_reread.proofs.Choices.{choice_form}
-use Rattle.ecma_print_reread.proofs.Logicals.{both_form, either_form}
-use Rattle.ecma_print_reread.proofs.Coalescing.{coalesced_form}
-use Rattle.ecma_print_reread.proofs.Assignments.{assignment_form, whole_read}
-use Rattle.ecma_print_reread.proofs.Expressions.{string_single, this_single, big_int_single, null_single, true_single, false_single, parenthesized_new, regex_single}
-use Rattle.ecma_print_reread.proofs.Lists.{Forms, FormsIn}
-use Rattle.ecma_print_reread.proofs.Sequences.{sequence_form}
-use Rattle.ecma_print_reread.proofs.Arrays.{SlotForms, array_new, array_pattern_read}
-use Rattle.ecma_print_reread.proofs.Objects.{PropertyForm, PropertyForms}
-use Rattle.ecma_print_reread.proofs.ObjectPatterns.{object_new, object_pattern_read}
-use Rattle.ecma_print_reread.proofs.Spreads.{ElementForm, ReadAsPattern, ReadAsDefaulted, InitializerForm}
-use Rattle.ecma_print_reread.proofs.PrivateTests.{private_form}
-use Rattle.ecma_print_reread.proofs.Yields.{yield_alone, yield_form, alone_read, yield_read}
-use Rattle.ecma_print_reread.proofs.ImportCalls.{meta_form, import_call_form}
-use Rattle.ecma_print_reread.proofs.Templates.{PartForms, template_form}
-use Rattle.ecma_print_reread.proofs.Patterns.{pattern_unplaced, name_pattern_read, no_default_read, default_read}
-use Rattle.ecma_print_reread.proofs.Arrows.{ElementForms, ArgumentForms, arrow_form, async_arrow_form, arrow_read, async_arrow_read, expression_body, block_body}
-use Rattle.ecma_print_reread.specs.Heads.{any_of, may_hold_in}
-use Rattle.ecma_print_reread.proofs.HeadLayouts.{neither, may_hold_node, operands_hold, one_same}
-use Rattle.ecma_print_reread.proofs.PropertyNames.{NameForm}
+use Rattle.ecma_print_readings.proofs.Forms.{s}
+use Rattle.ecma_print_reread_expressions.proofs.Operations.{await_form, power_form, unary_form, binary_form}
+use Rattle.ecma_print_readings.proofs.Members.{link_key}
+use Rattle.ecma_print_reread_expressions.proofs.Supers.{super_member_form, super_element_form, super_call_form}
+use Rattle.ecma_print_reread_expressions.proofs.Constructions.{new_form, alone_form, target_form}
+use Rattle.ecma_print_reread_expressions.proofs.Updates.{prefix_form, postfix_form}
+use Rattle.ecma_print_reread_expressions.proofs.Choices.{choice_form}
+use Rattle.ecma_print_reread_expressions.proofs.Logicals.{both_form, either_form}
+use Rattle.ecma_print_reread_expressions.proofs.Coalescing.{coalesced_form}
+use Rattle.ecma_print_reread_expressions.proofs.Assignments.{assignment_form, whole_read}
+use Rattle.ecma_print_readings.proofs.Expressions.{string_single, this_single, big_int_single, null_single, true_single, false_single, parenthesized_new, regex_single}
+use Rattle.ecma_print_readings.proofs.Lists.{Forms, FormsIn}
+use Rattle.ecma_print_reread_expressions.proofs.Sequences.{sequence_form}
+use Rattle.ecma_print_reread_expressions.proofs.Arrays.{SlotForms, array_new, array_pattern_read}
+use Rattle.ecma_print_reread_functions.proofs.Objects.{PropertyForm, PropertyForms}
+use Rattle.ecma_print_reread_functions.proofs.ObjectPatterns.{object_new, object_pattern_read}
+use Rattle.ecma_print_readings.proofs.Spreads.{ElementForm, ReadAsPattern, ReadAsDefaulted, InitializerForm}
+use Rattle.ecma_print_reread_expressions.proofs.PrivateTests.{private_form}
+use Rattle.ecma_print_reread_expressions.proofs.Yields.{yield_alone, yield_form, alone_read, yield_read}
+use Rattle.ecma_print_reread_expressions.proofs.ImportCalls.{meta_form, import_call_form}
+use Rattle.ecma_print_reread_expressions.proofs.Templates.{PartForms, template_form}
+use Rattle.ecma_print_readings.proofs.Patterns.{pattern_unplaced, name_pattern_read, no_default_read, default_read}
+use Rattle.ecma_print_readings.proofs.Arrows.{ElementForms, ArgumentForms, arrow_form, async_arrow_form, arrow_read, async_arrow_read, expression_body, block_body}
+use Rattle.ecma_shapes.specs.Heads.{any_of, may_hold_in}
+use Rattle.ecma_shapes.proofs.Heads.{may_hold_node}
+use Rattle.ecma_print_layouts.proofs.HeadLayouts.{operands_hold, one_same}
+use Rattle.ecma_print_reread_functions.proofs.PropertyNames.{NameForm}
 
 module _ (assigned : Bool) where
   mutual
@@ -192,24 +193,24 @@ module _ (assigned : Bool) where
     head_form (shapes.binary_expression at {operator = o} {left = l'} {right = r'} i l r) depth h S =
         let k = sym (may_hold_node at (kind.BinExpr o) (l' ∷ r' ∷ [])) ∙ h in
         let bs = may_hold_in l' ∷ may_hold_in r' ∷ [] in
-        let c = neither (may_hold_in l') _ (operands_hold o bs k) in
+        let c = or_parts (may_hold_in l') _ (operands_hold o bs k) in
         binary_form assigned true i (no_in_there o bs k) (head_form l depth c.0 (expression_form l depth)) (head_form r depth (one_same _ c.1) (expression_form r depth))
     head_form (shapes.private_in at at' w t r) depth h S = absurd (false≢true (sym (sym (may_hold_node at (kind.BinExpr op.In) _) ∙ h)))
     head_form (shapes.both at {left = l'} {right = r'} l r) depth h S =
-        let c = neither (may_hold_in l') _ (sym (may_hold_node at (kind.BinExpr op.LogicalAnd) (l' ∷ r' ∷ [])) ∙ h) in
+        let c = or_parts (may_hold_in l') _ (sym (may_hold_node at (kind.BinExpr op.LogicalAnd) (l' ∷ r' ∷ [])) ∙ h) in
         both_form assigned (head_form l depth c.0 (expression_form l depth)) (head_form r depth (one_same _ c.1) (expression_form r depth))
     head_form (shapes.either at {left = l'} {right = r'} l r) depth h S =
-        let c = neither (may_hold_in l') _ (sym (may_hold_node at (kind.BinExpr op.LogicalOr) (l' ∷ r' ∷ [])) ∙ h) in
+        let c = or_parts (may_hold_in l') _ (sym (may_hold_node at (kind.BinExpr op.LogicalOr) (l' ∷ r' ∷ [])) ∙ h) in
         either_form assigned (head_form l depth c.0 (expression_form l depth)) (head_form r depth (one_same _ c.1) (expression_form r depth))
     head_form (shapes.coalesced at {left = l'} {right = r'} i l r) depth h S =
-        let c = neither (may_hold_in l') _ (sym (may_hold_node at (kind.BinExpr op.NullishCoalescing) (l' ∷ r' ∷ [])) ∙ h) in
+        let c = or_parts (may_hold_in l') _ (sym (may_hold_node at (kind.BinExpr op.NullishCoalescing) (l' ∷ r' ∷ [])) ∙ h) in
         coalesced_form assigned i (head_form l depth c.0 (expression_form l depth)) (head_form r depth (one_same _ c.1) (expression_form r depth))
     head_form (shapes.conditional_expression at {test = t'} {first = x'} {second = y'} t x y) depth h S =
-        let c = neither (may_hold_in t') _ (sym (may_hold_node at kind.CondExpr (t' ∷ x' ∷ y' ∷ [])) ∙ h) in
-        let d = neither (may_hold_in x') _ c.1 in
+        let c = or_parts (may_hold_in t') _ (sym (may_hold_node at kind.CondExpr (t' ∷ x' ∷ y' ∷ [])) ∙ h) in
+        let d = or_parts (may_hold_in x') _ c.1 in
         choice_form assigned (head_form t depth c.0 (expression_form t depth)) (head_form x depth d.0 (expression_form x depth)) (head_form y depth (one_same _ d.1) (expression_form y depth))
     head_form (shapes.assignment_expression at o {target = t'} {value = v'} t v) depth h S =
-        let c = neither (may_hold_in t') _ (sym (may_hold_node at (kind.AssignExpr o) (t' ∷ v' ∷ [])) ∙ h) in
+        let c = or_parts (may_hold_in t') _ (sym (may_hold_node at (kind.AssignExpr o) (t' ∷ v' ∷ [])) ∙ h) in
         record { lead = S.lead; tight = S.tight; no_or = S.no_or; no_arrow = S.no_arrow; param = S.param; reading = whole_read assigned o (head_form t depth c.0 (expression_form t depth)) (head_form v depth (one_same _ c.1) (expression_form v depth)) }
     head_form (shapes.yield_nothing at none) depth h S =
         record { lead = S.lead; tight = S.tight; no_or = S.no_or; no_arrow = S.no_arrow; param = S.param; reading = alone_read assigned true }
@@ -217,26 +218,26 @@ module _ (assigned : Bool) where
         let c = one_same _ (sym (may_hold_node at (kind.YieldExpr d) (e' ∷ [])) ∙ h) in
         record { lead = S.lead; tight = S.tight; no_or = S.no_or; no_arrow = S.no_arrow; param = S.param; reading = yield_read assigned (head_form e depth c (expression_form e depth)) d (no_new_line e depth) (λ us. ap taken (no_star e depth blank us)) }
     head_form (shapes.arrow_function at false {params = ps'} {body = e'} {none = n} {none' = n'} ps e z a b) depth h S =
-        let c = neither (may_hold_in ps') _ (sym (may_hold_node at (kind.ArrowExpr false false) (ps' ∷ e' ∷ n ∷ n' ∷ [])) ∙ h) in
-        let d = neither (may_hold_in e') _ c.1 in
+        let c = or_parts (may_hold_in ps') _ (sym (may_hold_node at (kind.ArrowExpr false false) (ps' ∷ e' ∷ n ∷ n' ∷ [])) ∙ h) in
+        let d = or_parts (may_hold_in e') _ c.1 in
         record { lead = S.lead; tight = S.tight; no_or = S.no_or; no_arrow = S.no_arrow; param = S.param; reading = arrow_read assigned ps depth (argument_forms ps depth) (expression_body assigned (head_form e depth d.0 (expression_form e depth)) (λ g us. ap taken (no_brace e depth (sym (ap is_brace (starts_agree e)) ∙ z) g us))) }
     head_form (shapes.arrow_function at true {params = ps'} {body = e'} {none = n} {none' = n'} ps e z a b) depth h S =
-        let c = neither (may_hold_in ps') _ (sym (may_hold_node at (kind.ArrowExpr true false) (ps' ∷ e' ∷ n ∷ n' ∷ [])) ∙ h) in
-        let d = neither (may_hold_in e') _ c.1 in
+        let c = or_parts (may_hold_in ps') _ (sym (may_hold_node at (kind.ArrowExpr true false) (ps' ∷ e' ∷ n ∷ n' ∷ [])) ∙ h) in
+        let d = or_parts (may_hold_in e') _ c.1 in
         record { lead = S.lead; tight = S.tight; no_or = S.no_or; no_arrow = S.no_arrow; param = S.param; reading = async_arrow_read assigned ps depth (argument_forms ps depth) (expression_body assigned (head_form e depth d.0 (expression_form e depth)) (λ g us. ap taken (no_brace e depth (sym (ap is_brace (starts_agree e)) ∙ z) g us))) }
     head_form (shapes.arrow_block at false ps b n n') depth h S =
         record { lead = S.lead; tight = S.tight; no_or = S.no_or; no_arrow = S.no_arrow; param = S.param; reading = arrow_read assigned ps depth (argument_forms ps depth) (block_body assigned (block_form b depth)) }
     head_form (shapes.arrow_block at true ps b n n') depth h S =
         record { lead = S.lead; tight = S.tight; no_or = S.no_or; no_arrow = S.no_arrow; param = S.param; reading = async_arrow_read assigned ps depth (argument_forms ps depth) (block_body assigned (block_form b depth)) }
     head_form (shapes.sequence_expression at {first = x'} {second = y'} {more = es'} x y es) depth h S =
-        let c = neither (may_hold_in x') _ (sym (may_hold_node at kind.SeqExpr (x' ∷ y' ∷ es')) ∙ h) in
-        let d = neither (may_hold_in y') _ c.1 in
+        let c = or_parts (may_hold_in x') _ (sym (may_hold_node at kind.SeqExpr (x' ∷ y' ∷ es')) ∙ h) in
+        let d = or_parts (may_hold_in y') _ c.1 in
         record { lead = S.lead; tight = S.tight; no_or = S.no_or; no_arrow = S.no_arrow; param = S.param; reading = sequences.whole_read assigned (head_form x depth c.0 (expression_form x depth)) (head_form y depth d.0 (expression_form y depth)) es depth (head_forms es depth d.1) }
     head_form is depth h S = tightly assigned _ refl S
 
     head_forms : {es : List Node} (is : AreExpressions es) (depth : ℕ) → any_of (map may_hold_in es) ≡ false → FormsIn assigned true is depth
     head_forms shapes.no_expressions depth h = tt
-    head_forms (shapes.more_expressions {e = e'} e es) depth h = let c = neither (may_hold_in e') _ h in (head_form e depth c.0 (expression_form e depth), head_forms es depth c.1)
+    head_forms (shapes.more_expressions {e = e'} e es) depth h = let c = or_parts (may_hold_in e') _ h in (head_form e depth c.0 (expression_form e depth), head_forms es depth c.1)
 
     pub declarator_form : {n : Node} (is : IsDeclarator n) (depth : ℕ) → DeclaratorForm assigned is depth
     declarator_form (shapes.declarator at p e) depth = (pattern_form p depth, initializer_form e depth)
@@ -252,16 +253,16 @@ module _ (assigned : Bool) where
     for_declarator_form : {n : Node} (is : IsDeclarator n) (depth : ℕ) → may_hold_in n ≡ false → DeclaratorIn assigned true is depth
     for_declarator_form (shapes.declarator at p (shapes.no_initializer b)) depth h = (pattern_form p depth, tt)
     for_declarator_form (shapes.declarator at {p = p'} {init = e'} p (shapes.initializer e)) depth h =
-        let c = neither (may_hold_in p') _ (sym (may_hold_node at (kind.VarDeclarator false) (p' ∷ e' ∷ [])) ∙ h) in
+        let c = or_parts (may_hold_in p') _ (sym (may_hold_node at (kind.VarDeclarator false) (p' ∷ e' ∷ [])) ∙ h) in
         (pattern_form p depth, head_form e depth (one_same _ c.1) (expression_form e depth))
 
     for_declarator_forms : {ds : List Node} (is : AreDeclarators ds) (depth : ℕ) → any_of (map may_hold_in ds) ≡ false → DeclaratorsIn assigned true is depth
     for_declarator_forms shapes.no_declarators depth h = tt
-    for_declarator_forms (shapes.more_declarators {d = d'} d ds) depth h = let c = neither (may_hold_in d') _ h in (for_declarator_form d depth c.0, for_declarator_forms ds depth c.1)
+    for_declarator_forms (shapes.more_declarators {d = d'} d ds) depth h = let c = or_parts (may_hold_in d') _ h in (for_declarator_form d depth c.0, for_declarator_forms ds depth c.1)
 
     init_form : {n : Node} (is : IsForInit n) (depth : ℕ) → InitForm assigned is depth
     init_form (shapes.no_init a) depth = tt
-    init_form (shapes.init_declaration at of_list k {d = d'} d ds z) depth = let c = neither (may_hold_in d') _ z in (for_declarator_form d depth c.0, for_declarator_forms ds depth c.1)
+    init_form (shapes.init_declaration at of_list k {d = d'} d ds z) depth = let c = or_parts (may_hold_in d') _ z in (for_declarator_form d depth c.0, for_declarator_forms ds depth c.1)
     init_form (shapes.init_expression e z) depth = (standing assigned (expression_form e depth), standing assigned (head_form e depth z (expression_form e depth)))
 
     in_form : {n : Node} (is : IsForLeft n) (depth : ℕ) → ReadAsForLeft assigned (codes "in") (for_left_tokens is depth) (bare_for_left is)

@@ -7,12 +7,12 @@ use Rattle.ecma_tree.specs.declared.node.Node.{Node}
 use Rattle.ecma_tree.specs.Nodes.{node_of}
 use Rattle.ecma_print.specs.Layout.{layout}
 use Rattle.ecma_print_tokens.specs.Items.{render}
-use Rattle.ecma_print_reread.specs.Shapes.{callee, assignment, IsExpression, ident, absent, name, name_pattern, initializer, left_out, given, declarator, no_declarators, init_declaration, init_expression, sequence_expression, assignment_expression, no_expressions, for_target, empty, debugger_word, throw, return_nothing, break_label, block, block_of, if_only, if_else, while_loop, do_loop, for_loop, for_of, switch_statement, case_of, default_of, no_cases, more_cases, try_catch_finally, catch_pattern, labeled, no_statements, more_statements}
-use Rattle.ecma_print_reread.specs.Heads.{any_of, may_hold_in}
-use Rattle.ecma_print_reread.specs.Modules.{IsModule, module_of, statement, no_items, more_items}
-use Rattle.ecma_print_reread.specs.ModuleTokens.{module_tokens}
-use Rattle.ecma_print_reread.proofs.ModuleLayouts.{module_laid}
-use Rattle.ecma_print_reread.proofs.HeadLayouts.{may_hold_node}
+use Rattle.ecma_shapes.specs.Shapes.{callee, assignment, IsExpression, ident, absent, name, name_pattern, initializer, left_out, given, declarator, no_declarators, init_declaration, init_expression, sequence_expression, assignment_expression, no_expressions, for_target, empty, debugger_word, throw, return_nothing, break_label, block, block_of, if_only, if_else, while_loop, do_loop, for_loop, for_of, switch_statement, case_of, default_of, no_cases, more_cases, try_catch_finally, catch_pattern, labeled, no_statements, more_statements}
+use Rattle.ecma_shapes.specs.Heads.{any_of, may_hold_in}
+use Rattle.ecma_shapes.specs.Modules.{IsModule, module_of, statement, no_items, more_items}
+use Rattle.ecma_shapes.proofs.ModuleTokens.{module_tokens}
+use Rattle.ecma_print_layouts.proofs.ModuleLayouts.{module_laid}
+use Rattle.ecma_print_layouts.proofs.HeadLayouts.{may_hold_node}
 use Rattle.ecma_print_reread.proofs.Samples.{at, a_name, a, out}
 
 target : IsExpression callee a

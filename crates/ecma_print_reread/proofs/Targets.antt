@@ -30,7 +30,7 @@ use Rattle.ecma_print_tokens.proofs.Gaps.{clear, behind_gap, skipped_gap}
 use Rattle.ecma_print_tokens.proofs.Found.{Here, none_there, absent_there}
 use Rattle.ecma_print_tokens.proofs.Leaves.{lexes}
 use Rattle.ecma_print_tokens.proofs.Terminals.{here}
-use Rattle.ecma_print_reread.proofs.Joins.{no_gap_is}
+use Rattle.ecma_print_layouts.proofs.Joins.{no_gap_is}
 use Rattle.ecma_print_reread.proofs.Simulation.{NoTarget}
 
 digit_small : (c : ℕ) → is_digit c 10 ≡ true → c < 128

@@ -18,18 +18,18 @@ use Rattle.ecma_grammar.specs.productions.Modules.{module_body}
 use Rattle.ecma_grammar.specs.Modules.{reads_module}
 use Rattle.ecma_print_tokens.specs.Items.{Items, ends, no_gap, render}
 use Rattle.ecma_print_tokens.specs.Lexing.{At, Goes, Lexes}
-use Rattle.ecma_print_reread.specs.Machine.{read, count, with_front, built_on, interp, means}
-use Rattle.ecma_print_reread.specs.Modules as modules
-use Rattle.ecma_print_reread.specs.Modules.{IsHashbangText, AreModuleItems, IsModule}
-use Rattle.ecma_print_reread.specs.Signs.{line}
-use Rattle.ecma_print_reread.specs.Bare.{bare}
-use Rattle.ecma_print_reread.specs.ModuleTokens.{items_tokens, module_tokens, module_head, bare_items, bare_module}
-use Rattle.ecma_print_reread.proofs.Ranks.{leads, module_leads}
-use Rattle.ecma_print_reread.proofs.Unplaced.{without_spans-node}
+use Rattle.ecma_print_readings.proofs.Machine.{read, with_front, built_on, interp, means}
+use Rattle.ecma_shapes.specs.Modules as modules
+use Rattle.ecma_shapes.specs.Modules.{IsHashbangText, AreModuleItems, IsModule}
+use Rattle.ecma_shapes.proofs.Signs.{line, count}
+use Rattle.ecma_shapes.proofs.Bare.{bare}
+use Rattle.ecma_shapes.proofs.ModuleTokens.{items_tokens, module_tokens, module_head, bare_items, bare_module}
+use Rattle.ecma_print_readings.proofs.Ranks.{leads, module_leads}
+use Rattle.ecma_print_readings.proofs.Unplaced.{without_spans-node}
 use Rattle.ecma_print_reread.proofs.Simulation.{plain, NoTarget, Sims, sims_front, sims_built, means_simulate}
 use Rattle.ecma_print_reread.proofs.Modules.{module_rest, hashbang_made, rest_read, module_read}
 use Rattle.ecma_print_reread.proofs.ModuleTrees.{module_bare}
-use Rattle.ecma_print_reread.proofs.ModuleLayouts.{items_line}
+use Rattle.ecma_print_layouts.proofs.ModuleLayouts.{items_line}
 use Rattle.ecma_print_reread.proofs.Hashbangs.{stands_2, hashbang_token, hashbang_says}
 
 rest_leads : leads 2 module_rest ≡ true

@@ -19,19 +19,19 @@ use Rattle.ecma_grammar.specs.productions.Declarations.{declaration}
 use Rattle.ecma_print_tokens.specs.Items as items
 use Rattle.ecma_print_tokens.specs.Items.{Tok, sign, Gap, no_gap, Items, it}
 use Rattle.ecma_print_tokens.specs.Taking.{refused, word_in}
-use Rattle.ecma_print_reread.specs.Machine.{means}
-use Rattle.ecma_print_reread.specs.Starts.{is_declaration_word}
-use Rattle.ecma_print_reread.specs.Shapes as shapes
-use Rattle.ecma_print_reread.specs.Shapes.{IsIdent, ident, IsExpression}
-use Rattle.ecma_print_reread.specs.LiteralTexts.{regex_text}
-use Rattle.ecma_print_reread.specs.Tokens.{own_sign, ident_word, chain_token, key_word, expression_tokens, arguments_tokens, more_tokens, slots_tokens, properties_tokens, part_token, parts_tokens, block_tokens}
-use Rattle.ecma_print_reread.specs.Signs.{blank, sign_of, unary_token, update_token, binary_token, assign_token, unary_gap, star_of, point_of, question_of}
-use Rattle.ecma_print_reread.proofs.Starts.{start}
-use Rattle.ecma_print_reread.proofs.Fronts.{Front, exactly, a_name, Begins, at_token, at_name, refuses_at, refused_at}
-use Rattle.ecma_print_reread.proofs.Towers.{excluded, Undeclared}
-use Rattle.ecma_print_reread.proofs.Forms.{Refuses, NoDeclaration}
-use Rattle.ecma_print_reread.proofs.Async.{async_no_declaration, async_no_word}
-use Rattle.ecma_print_reread.proofs.Calls.{plain_name}
+use Rattle.ecma_print_readings.proofs.Machine.{means}
+use Rattle.ecma_shapes.specs.Starts.{is_declaration_word}
+use Rattle.ecma_shapes.specs.Shapes as shapes
+use Rattle.ecma_shapes.specs.Shapes.{IsIdent, ident, IsExpression}
+use Rattle.ecma_shapes.specs.LiteralTexts.{regex_text}
+use Rattle.ecma_shapes.proofs.Tokens.{own_sign, ident_word, chain_token, key_word, expression_tokens, arguments_tokens, more_tokens, slots_tokens, properties_tokens, part_token, parts_tokens, block_tokens}
+use Rattle.ecma_shapes.proofs.Signs.{blank, sign_of, unary_token, update_token, binary_token, assign_token, unary_gap, star_of, point_of, question_of}
+use Rattle.ecma_shapes.proofs.Starts.{start}
+use Rattle.ecma_print_readings.proofs.Fronts.{Front, exactly, a_name, Begins, at_token, at_name, refuses_at, refused_at}
+use Rattle.ecma_print_readings.proofs.Towers.{excluded, Undeclared}
+use Rattle.ecma_print_readings.proofs.Forms.{Refuses, NoDeclaration}
+use Rattle.ecma_print_readings.proofs.Async.{async_no_declaration, async_no_word}
+use Rattle.ecma_print_reread_expressions.proofs.Calls.{plain_name}
 
 name_undeclared : Undeclared a_name
 unfolding declaration function_declaration class_declaration is_reserved reserved_words

@@ -23,7 +23,7 @@ use Rattle.ecma_grammar.specs.trees.Functions.{has_word, accessibility_of, param
 use Rattle.ecma_grammar.specs.trees.Classes.{class, method_kind, no_modifiers, method, field, modified, is_constructor, constructor_of, method_by, member_by, member, index_signature}
 use Rattle.ecma_grammar.specs.trees.Others.{swapped, missing, elements, the_one, sequence, headed, declared, namespaces, namespace, import_equals, module_of, const_assertion, type_assertion, assertion}
 use Rattle.ecma_grammar.specs.Made.{made}
-use Rattle.ecma_print_reread.proofs.Unplaced.{without_spans-node, kind_same, children_same, span_same, unplacing, absent_same, if_same, map_if, Each, Commutes, framed_same, in_front_same, all_steps_same, in_front_logical_same}
+use Rattle.ecma_print_readings.proofs.Unplaced.{without_spans-node, kind_same, children_same, span_same, unplacing, absent_same, if_same, map_if, Each, Commutes, framed_same, in_front_same, all_steps_same, in_front_logical_same}
 use Rattle.ecma_print_reread.proofs.UnplacedLinks.{in_front_link_same, construction_same, template_same, has_word_same, accessibility_same, annotated_same, declarator_same}
 
 -- functions

@@ -12,7 +12,7 @@ use Rattle.ecma_tree.specs.Spans.{without_spans}
 use Rattle.ecma_grammar.specs.trees.Parts.{kind_of, span_of, children_of, from_to, framed, is_absent, is_present}
 use Rattle.ecma_grammar.specs.trees.Chains.{goes_on, Callee, callee_of, member_of, call_of, tagged_of, optional_of, link_by, in_front_link, new_expr, construction, is_text_part, is_substitution, template}
 use Rattle.ecma_grammar.specs.trees.Functions.{is_word_kind, has_word, accessibility_of, questioned_kind, questioned_part, annotated_of, annotated_pattern, annotated, end_of, declarator}
-use Rattle.ecma_print_reread.proofs.Unplaced.{without_spans-node, kind_same, children_same, span_same, unplacing, if_same, Each, Commutes, framed_same, in_front_same, goes_on_same, linked_same, pair_unplaced, callee_same, member_of_same}
+use Rattle.ecma_print_readings.proofs.Unplaced.{without_spans-node, kind_same, children_same, span_same, unplacing, if_same, Each, Commutes, framed_same, in_front_same, goes_on_same, linked_same, pair_unplaced, callee_same, member_of_same}
 
 call_of_same : (at : Span) (c : Callee) → Each 3 (Commutes (call_of at c) (call_of dummy_span (pair_unplaced c)))
 call_of_same at c x y z = rw goes_on_same (if_same (goes_on c.0) _ _ _ _ (linked_same _ _ (without_spans-node _ _ _)) (without_spans-node _ _ _))

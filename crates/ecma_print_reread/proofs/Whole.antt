@@ -8,13 +8,13 @@ use Rattle.ecma_tree.specs.declared.node.Node.{Node}
 use Rattle.ecma_tree.specs.Nodes.{absent, list_node, node_of, dummy_span}
 use Rattle.ecma_grammar.specs.trees.Parts.{children_of}
 use Rattle.ecma_tree.specs.Spans.{without_spans}
-use Rattle.ecma_print_reread.specs.Shapes as shapes
-use Rattle.ecma_print_reread.specs.Shapes.{Level, IsIdent, ident, IsKey, key, IsAbsent, IsExpression, IsElement, IsArguments, AreElements, AreExpressions, IsInitializer, IsDeclarator, AreDeclarators, Ending, IsStatement, IsBlock, AreStatements, AreSlots, IsCase, AreCases, IsCatch, IsChainKey, IsOptional, IsForLeft, IsPropertyName, IsProperty, AreProperties, Role, IsPattern, IsDefaulted, IsForInit, IsPart, AreParts, IsFunction, AreParams, IsFunctionName, IsHeritage, IsClass, IsMember, AreMembers, IsMemberName, is_private}
-use Rattle.ecma_print_reread.specs.MemberKinds.{method_kind, field_kind, accessor_kind}
-use Rattle.ecma_print_reread.specs.Tokens.{key_word, chain_kind}
-use Rattle.ecma_print_reread.specs.Bare.{bare, bare_ident, bare_expression, bare_element, bare_arguments, bare_elements, bare_expressions, bare_initializer, bare_declarator, bare_declarators, bare_statement, bare_block, bare_statements, bare_slots, bare_case, bare_cases, bare_catch, bare_optional, bare_for_left, bare_property_name, bare_property, bare_properties, bare_pattern, bare_defaulted, bare_for_init, bare_part, bare_parts, bare_substitutions, bare_params, bare_function, bare_function_name, bare_heritage, bare_class, bare_member_name, bare_member, bare_members}
-use Rattle.ecma_print_reread.proofs.Unplaced.{without_spans-node}
-use Rattle.ecma_print_reread.proofs.Heads.{children-node}
+use Rattle.ecma_shapes.specs.Shapes as shapes
+use Rattle.ecma_shapes.specs.Shapes.{Level, IsIdent, ident, IsKey, key, IsAbsent, IsExpression, IsElement, IsArguments, AreElements, AreExpressions, IsInitializer, IsDeclarator, AreDeclarators, Ending, IsStatement, IsBlock, AreStatements, AreSlots, IsCase, AreCases, IsCatch, IsChainKey, IsOptional, IsForLeft, IsPropertyName, IsProperty, AreProperties, Role, IsPattern, IsDefaulted, IsForInit, IsPart, AreParts, IsFunction, AreParams, IsFunctionName, IsHeritage, IsClass, IsMember, AreMembers, IsMemberName, is_private}
+use Rattle.ecma_shapes.specs.MemberKinds.{method_kind, field_kind, accessor_kind}
+use Rattle.ecma_shapes.proofs.Tokens.{key_word, chain_kind}
+use Rattle.ecma_shapes.proofs.Bare.{bare, bare_ident, bare_expression, bare_element, bare_arguments, bare_elements, bare_expressions, bare_initializer, bare_declarator, bare_declarators, bare_statement, bare_block, bare_statements, bare_slots, bare_case, bare_cases, bare_catch, bare_optional, bare_for_left, bare_property_name, bare_property, bare_properties, bare_pattern, bare_defaulted, bare_for_init, bare_part, bare_parts, bare_substitutions, bare_params, bare_function, bare_function_name, bare_heritage, bare_class, bare_member_name, bare_member, bare_members}
+use Rattle.ecma_print_readings.proofs.Unplaced.{without_spans-node}
+use Rattle.ecma_print_readings.proofs.Heads.{children-node}
 
 pub absent_bare : {n : Node} → IsAbsent n → without_spans n ≡ absent
 absent_bare (shapes.absent at) = without_spans-node at kind.Absent []

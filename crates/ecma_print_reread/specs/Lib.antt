@@ -1,12 +1,1 @@
-pub mod Machine
-pub mod Heads
-pub mod Starts
-pub mod LiteralTexts
-pub mod MemberKinds
-pub mod Shapes
-pub mod Modules
-pub mod Signs
-pub mod Tokens
-pub mod Bare
-pub mod ModuleTokens
-pub mod Theorems
+pub mod Laws

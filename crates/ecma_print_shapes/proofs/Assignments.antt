@@ -28,8 +28,8 @@ use Rattle.ecma_print.specs.declared.place.Spot.{Spot}
 use Rattle.ecma_print.specs.Layout.{laid}
 use Rattle.ecma_print.specs.Operators.{update_sign}
 use Rattle.ecma_print.specs.Places.{left, right}
-use Rattle.ecma_print_reread.specs.Shapes.{AreExpressions, IsExpression, assignment, assignment_expression, callee, new_callee, more_expressions, no_expressions, postfix_update, prefix_update, sequence, sequence_expression, update, yield_nothing, yield_value}
-use Rattle.ecma_print_shapes.specs.Forms.{is_of_forms}
+use Rattle.ecma_shapes.specs.Shapes.{AreExpressions, IsExpression, assignment, assignment_expression, callee, new_callee, more_expressions, no_expressions, postfix_update, prefix_update, sequence, sequence_expression, update, yield_nothing, yield_value}
+use Rattle.ecma_plain.specs.Forms.{is_of_forms}
 use Rattle.ecma_print_shapes.proofs.Bindings.{or_there}
 use Rattle.ecma_print_shapes.proofs.Building.{absent_shape, first_there, simple_target, simple_tight, stands_as}
 use Rattle.ecma_print_shapes.proofs.Claims as claims

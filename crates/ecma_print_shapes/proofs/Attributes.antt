@@ -17,8 +17,8 @@ use Rattle.ecma_fits.specs.declared.role.Role.TheVariants as role
 use Rattle.ecma_fits.specs.Counts.{holds_attributes, is_attribute, is_attribute_key, is_text}
 use Rattle.ecma_fits.specs.Roles.{role_in}
 use Rattle.ecma_print.specs.Places.{free}
-use Rattle.ecma_print_reread.specs.Modules.{AreAttributes, IsAttribute, IsAttributeKey, IsWithClause, attribute, more_attributes, no_attributes, no_with, string_key, with_attributes, with_nothing, word_key}
-use Rattle.ecma_print_reread.specs.Shapes.{IsKey}
+use Rattle.ecma_shapes.specs.Modules.{AreAttributes, IsAttribute, IsAttributeKey, IsWithClause, attribute, more_attributes, no_attributes, no_with, string_key, with_attributes, with_nothing, word_key}
+use Rattle.ecma_shapes.specs.Shapes.{IsKey}
 use Rattle.ecma_print_shapes.proofs.Blocks.{ItemsIn, items_covered, items_in}
 use Rattle.ecma_print_shapes.proofs.Building.{absent_shape}
 use Rattle.ecma_print_shapes.proofs.ByKind.{made_as, seen_as, sort_there}

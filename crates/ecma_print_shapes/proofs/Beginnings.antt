@@ -21,7 +21,7 @@ use Rattle.ecma_print.specs.Laid.{is_object_pattern}
 use Rattle.ecma_print.specs.Layout.{laid}
 use Rattle.ecma_print.specs.Places.{opens_a_block, opens_a_declaration}
 use Rattle.ecma_print.proofs.LaidOut.{laid_kind}
-use Rattle.ecma_print_reread.specs.Starts.{Start, brace, declaration_word, is_brace, is_declaration_word, other_start, start_by, start_of, start_step}
+use Rattle.ecma_shapes.specs.Starts.{Start, brace, declaration_word, is_brace, is_declaration_word, other_start, start_by, start_of, start_step}
 use Rattle.ecma_print_shapes.proofs.Covered.{cover_node, covered_children}
 use Rattle.ecma_print_shapes.proofs.Seats.{both_false, either_parts}
 use Rattle.ecma_print_shapes.proofs.Sound.{Here, Sound, here, kind_made}

@@ -23,7 +23,7 @@ use Rattle.ecma_print.specs.declared.place.Spot.{Spot}
 use Rattle.ecma_print.specs.Layout.{laid}
 use Rattle.ecma_print.specs.Operators.{binary_level, left_level, right_level, under}
 use Rattle.ecma_print.specs.Places.{left, right}
-use Rattle.ecma_print_reread.specs.Shapes.{Level, coalescing, relation, shift, IsExpression, private_in, times, divided, modulo, plus, minus, left_shift, right_shift, unsigned_shift, less, greater, at_most, at_least, instance_of, contained, equal, unequal, same, other, conjunction, exclusion, disjunction, first_head, next_head, binary_expression, exponentiation, both, either, coalesced}
+use Rattle.ecma_shapes.specs.Shapes.{Level, coalescing, relation, shift, IsExpression, private_in, times, divided, modulo, plus, minus, left_shift, right_shift, unsigned_shift, less, greater, at_most, at_least, instance_of, contained, equal, unequal, same, other, conjunction, exclusion, disjunction, first_head, next_head, binary_expression, exponentiation, both, either, coalesced}
 use Rattle.ecma_print_shapes.proofs.Claims.{AllFormed, Expressed, Formed, IsPrivateName, Proper, a_private_name, free_there, free_value, is_of_link, reads_values, seen}
 use Rattle.ecma_print_shapes.proofs.Covered.{covered_children}
 use Rattle.ecma_print_shapes.proofs.Ranks.{IsWithin, operator_level, own_level, to_bit_and, to_bit_or, to_bit_xor, to_equality, to_logical_and, to_logical_or, to_power, to_product, to_relation, to_shift, to_sum, to_update}

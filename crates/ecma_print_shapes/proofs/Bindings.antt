@@ -25,9 +25,9 @@ use Rattle.ecma_fits.specs.declared.role.Role.TheVariants as role
 use Rattle.ecma_fits.specs.Roles.{bound_name_of, by, in_default, in_list, in_rest, is_binding, is_default, is_rest, may_be, role_in, takes}
 use Rattle.ecma_print.specs.declared.place.Spot.{Spot}
 use Rattle.ecma_print.specs.Places.{free}
-use Rattle.ecma_print_reread.specs.Shapes.{IsAbsent, IsInitializer, initializer, no_initializer}
-use Rattle.ecma_print_shapes.specs.Forms.{is_of_forms}
-use Rattle.ecma_print_shapes.specs.Functions.{functions}
+use Rattle.ecma_shapes.specs.Shapes.{IsAbsent, IsInitializer, initializer, no_initializer}
+use Rattle.ecma_plain.specs.Forms.{is_of_forms}
+use Rattle.ecma_plain.specs.Functions.{functions}
 use Rattle.ecma_print_shapes.proofs.Building.{absent_shape, stands_as}
 use Rattle.ecma_print_shapes.proofs.Claims.{AllFormed, Formed, IsNaming, is_declared, names_parameter, names_value, seen, takes_rest, value_kind}
 use Rattle.ecma_print_shapes.proofs.Covered.{covered}

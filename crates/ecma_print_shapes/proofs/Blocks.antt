@@ -17,7 +17,7 @@ use Rattle.ecma_fits.specs.declared.role.Role.TheVariants as role
 use Rattle.ecma_fits.specs.Roles.{role_in}
 use Rattle.ecma_print.specs.declared.place.Spot.{Spot}
 use Rattle.ecma_print.specs.Places.{free}
-use Rattle.ecma_print_reread.specs.Shapes.{AreStatements, IsBlock, block_of, more_statements, no_statements}
+use Rattle.ecma_shapes.specs.Shapes.{AreStatements, IsBlock, block_of, more_statements, no_statements}
 use Rattle.ecma_print_shapes.proofs.Claims.{AllFormed, ListOf, seen}
 use Rattle.ecma_print_shapes.proofs.Covered.{covered}
 use Rattle.ecma_print_shapes.proofs.ByKind.{made_as, seen_as}

@@ -19,8 +19,8 @@ use Rattle.ecma_print.specs.declared.place.Spot.{Spot}
 use Rattle.ecma_print.specs.Laid.{Laid}
 use Rattle.ecma_print.specs.Places.{free}
 use Rattle.ecma_print.specs.Layout.{laid}
-use Rattle.ecma_print_reread.specs.Shapes.{IsAbsent, IsExpression, absent}
-use Rattle.ecma_print_shapes.specs.Forms.{is_of_forms}
+use Rattle.ecma_shapes.specs.Shapes.{IsAbsent, IsExpression, absent}
+use Rattle.ecma_plain.specs.Forms.{is_of_forms}
 use Rattle.ecma_print_shapes.proofs.Claims.{Expressed, is_simple, is_value, seen}
 use Rattle.ecma_print_shapes.proofs.Covered.{covered, covered_children, is_of_pattern}
 use Rattle.ecma_print_shapes.proofs.Ranks.{IsWithin, own_level}

@@ -25,8 +25,8 @@ use Rattle.ecma_print.specs.Layout.{laid}
 use Rattle.ecma_print.specs.Levels.{lacks_arguments}
 use Rattle.ecma_print.specs.Places.{free, left}
 use Rattle.ecma_print.proofs.LaidOut.{laid_kind}
-use Rattle.ecma_print_reread.specs.Shapes.{IsAbsent, IsArguments, IsConstructor, IsExpression, Level, call, callee, constructor_callee, constructor_numeral, import_call, looser, new_alone, new_callee, new_expression, numeral, object, super_call, super_element, super_member, values}
-use Rattle.ecma_print_shapes.specs.Forms.{is_of_forms}
+use Rattle.ecma_shapes.specs.Shapes.{IsAbsent, IsArguments, IsConstructor, IsExpression, Level, call, callee, constructor_callee, constructor_numeral, import_call, looser, new_alone, new_callee, new_expression, numeral, object, super_call, super_element, super_member, values}
+use Rattle.ecma_plain.specs.Forms.{is_of_forms}
 use Rattle.ecma_print_shapes.proofs.Building.{absent_shape, childless}
 use Rattle.ecma_print_shapes.proofs.Claims.{AllFormed, Formed, SuperKey, bracketed_of_super, named_of_super, seen, value_kind}
 use Rattle.ecma_print_shapes.proofs.Covered.{covered, covered_children}

@@ -18,7 +18,7 @@ use Rattle.ecma_fits.specs.declared.role.Role.TheVariants as role
 use Rattle.ecma_fits.specs.Roles.{role_in}
 use Rattle.ecma_print.specs.declared.place.Spot.{Spot}
 use Rattle.ecma_print.specs.Places.{free}
-use Rattle.ecma_print_reread.specs.Shapes.{AreCases, AreStatements, IsBlock, IsCase, IsCatch, IsStatement, case_of, catch_any, catch_pattern, closed, default_of, more_cases, no_cases, switch_statement, try_catch, try_catch_finally, try_finally}
+use Rattle.ecma_shapes.specs.Shapes.{AreCases, AreStatements, IsBlock, IsCase, IsCatch, IsStatement, case_of, catch_any, catch_pattern, closed, default_of, more_cases, no_cases, switch_statement, try_catch, try_catch_finally, try_finally}
 use Rattle.ecma_print_shapes.proofs.Assignments.{full}
 use Rattle.ecma_print_shapes.proofs.Blocks.{ItemsIn, items_covered, items_in, listed}
 use Rattle.ecma_print_shapes.proofs.Building.{absent_shape}

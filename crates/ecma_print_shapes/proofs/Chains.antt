@@ -26,9 +26,9 @@ use Rattle.ecma_print.specs.Expressions.{link_of, object_beside}
 use Rattle.ecma_print.specs.Laid.{Laid, is_computed}
 use Rattle.ecma_print.specs.Layout.{laid}
 use Rattle.ecma_print.specs.Places.{ends_a_chain, left}
-use Rattle.ecma_print_reread.specs.Shapes.{IsChainLink, IsExpression, Level, asks_on, callee, chain, chain_call, chain_element, chain_member, opens_chain}
-use Rattle.ecma_print_reread.specs.Shapes as shapes
-use Rattle.ecma_print_shapes.specs.Forms.{is_of_forms}
+use Rattle.ecma_shapes.specs.Shapes.{IsChainLink, IsExpression, Level, asks_on, callee, chain, chain_call, chain_element, chain_member, opens_chain}
+use Rattle.ecma_shapes.specs.Shapes as shapes
+use Rattle.ecma_plain.specs.Forms.{is_of_forms}
 use Rattle.ecma_print_shapes.proofs.Calls.{call_arguments, no_type_arguments}
 use Rattle.ecma_print_shapes.proofs.Claims.{AllFormed, Expressed, Formed, Linked, LinkedBehind, MemberKey, Proper, bracketed_key, linked_call, linked_element, linked_member, named_key, seen}
 use Rattle.ecma_print_shapes.proofs.Covered.{covered, covered_children}

@@ -32,11 +32,11 @@ use Rattle.ecma_print.specs.Layout.{laid}
 use Rattle.ecma_print.specs.Levels.{in_parentheses, level_of}
 use Rattle.ecma_print.specs.Places.{beginning, ends_a_chain, free, left, right}
 use Rattle.ecma_print_tokens.specs.Good.{IsToken}
-use Rattle.ecma_print_reread.specs.Heads.{any_of, may_hold_in}
-use Rattle.ecma_print_reread.specs.Modules.{is_declaration}
-use Rattle.ecma_print_reread.specs.Shapes.{AreCases, AreDeclarators, AreMembers, AreParams, AreParts, AreProperties, AreSlots, AreStatements, Ending, IsAbsent, IsArguments, IsBlock, IsCase, IsCatch, IsChainKey, IsClass, IsDeclarator, IsDefaulted, IsElement, IsExpression, IsForInit, IsForLeft, IsFunction, IsIdent, IsKey, IsMember, IsPattern, IsProperty, IsPropertyName, IsStatement, Level, assignment, bindings, callee, chain, closed, new_callee, values}
-use Rattle.ecma_print_shapes.specs.Forms.{is_of_forms}
-use Rattle.ecma_print_shapes.specs.Functions.{functions}
+use Rattle.ecma_shapes.specs.Heads.{any_of, may_hold_in}
+use Rattle.ecma_shapes.specs.Modules.{is_declaration}
+use Rattle.ecma_shapes.specs.Shapes.{AreCases, AreDeclarators, AreMembers, AreParams, AreParts, AreProperties, AreSlots, AreStatements, Ending, IsAbsent, IsArguments, IsBlock, IsCase, IsCatch, IsChainKey, IsClass, IsDeclarator, IsDefaulted, IsElement, IsExpression, IsForInit, IsForLeft, IsFunction, IsIdent, IsKey, IsMember, IsPattern, IsProperty, IsPropertyName, IsStatement, Level, assignment, bindings, callee, chain, closed, new_callee, values}
+use Rattle.ecma_plain.specs.Forms.{is_of_forms}
+use Rattle.ecma_plain.specs.Functions.{functions}
 use Rattle.ecma_print_shapes.proofs.Ranks.{own_level}
 use Rattle.ecma_print_shapes.proofs.Seats.{either_parts}
 use Rattle.ecma_print_shapes.proofs.Sound.{Here, Sound, here, kind_made}

@@ -30,10 +30,10 @@ use Rattle.ecma_fits.specs.declared.role.Role.TheVariants as role
 use Rattle.ecma_fits.specs.Roles.{role_in}
 use Rattle.ecma_print.specs.declared.place.Spot.{Spot}
 use Rattle.ecma_print.specs.Places.{free}
-use Rattle.ecma_print_reread.specs.MemberKinds.{accessor_kind, method_kind, names_constructor, static_modifiers}
-use Rattle.ecma_print_reread.specs.Shapes.{IsFunction, IsMember, IsMemberName, accessor, class_constructor, empty_member, field, function_of, method, private_member, property_member, static_block}
-use Rattle.ecma_print_shapes.specs.Forms.{has_type_modifiers}
-use Rattle.ecma_print_shapes.specs.Functions.{functions}
+use Rattle.ecma_shapes.specs.MemberKinds.{accessor_kind, method_kind, names_constructor, static_modifiers}
+use Rattle.ecma_shapes.specs.Shapes.{IsFunction, IsMember, IsMemberName, accessor, class_constructor, empty_member, field, function_of, method, private_member, property_member, static_block}
+use Rattle.ecma_plain.specs.Forms.{has_type_modifiers}
+use Rattle.ecma_plain.specs.Functions.{functions}
 use Rattle.ecma_print_shapes.proofs.Bindings.{initializer_there, no_type, not_true}
 use Rattle.ecma_print_shapes.proofs.Cases.{block_there}
 use Rattle.ecma_print_shapes.proofs.Claims.{AllFormed, Formed, IsPrivateName, a_private_name, seen}

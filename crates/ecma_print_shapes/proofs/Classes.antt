@@ -16,8 +16,8 @@ use Rattle.ecma_covers.specs.Covering.{cover_at, cover_in}
 use Rattle.ecma_fits.specs.declared.role.Role.TheVariants as role
 use Rattle.ecma_fits.specs.Roles.{role_in}
 use Rattle.ecma_print.specs.Places.{free}
-use Rattle.ecma_print_reread.specs.Shapes.{AreMembers, IsClass, IsHeritage, class_of, heritage, more_members, no_heritage, no_members}
-use Rattle.ecma_print_shapes.specs.Forms.{is_of_forms}
+use Rattle.ecma_shapes.specs.Shapes.{AreMembers, IsClass, IsHeritage, class_of, heritage, more_members, no_heritage, no_members}
+use Rattle.ecma_plain.specs.Forms.{is_of_forms}
 use Rattle.ecma_print_shapes.proofs.Bindings.{no_type_parameters}
 use Rattle.ecma_print_shapes.proofs.Blocks.{ItemsIn, items_covered, items_in, listed}
 use Rattle.ecma_print_shapes.proofs.Building.{absent_shape}

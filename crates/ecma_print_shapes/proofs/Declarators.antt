@@ -23,8 +23,8 @@ use Rattle.ecma_print.specs.declared.place.Beside.TheVariants as beside
 use Rattle.ecma_print.specs.declared.place.Spot.{Spot}
 use Rattle.ecma_print.specs.Places.{free, right}
 use Rattle.ecma_print_heads.specs.Laws.{CoversHoldNoBareIn, HeadsHoldNoBareIn}
-use Rattle.ecma_print_reread.specs.Heads.{any_of, may_hold_by, may_hold_in, may_hold_step}
-use Rattle.ecma_print_reread.specs.Shapes.{AreDeclarators, IsAbsent, IsDeclarator, IsInitializer, IsPattern, absent, array_pattern, declaration, declarator, initializer, more_declarators, name_pattern, no_declarators, no_initializer, object_pattern}
+use Rattle.ecma_shapes.specs.Heads.{any_of, may_hold_by, may_hold_in, may_hold_step}
+use Rattle.ecma_shapes.specs.Shapes.{AreDeclarators, IsAbsent, IsDeclarator, IsInitializer, IsPattern, absent, array_pattern, declaration, declarator, initializer, more_declarators, name_pattern, no_declarators, no_initializer, object_pattern}
 use Rattle.ecma_print_shapes.proofs.Assignments.{full}
 use Rattle.ecma_print_shapes.proofs.Bindings.{binding_there, not_true}
 use Rattle.ecma_print_shapes.proofs.Blocks.{ItemsIn, items_covered, items_in, list_of_kind}

@@ -17,7 +17,7 @@ use Rattle.ecma_fits.specs.declared.role.Role.TheVariants as role
 use Rattle.ecma_fits.specs.Roles.{role_in}
 use Rattle.ecma_print.specs.declared.place.Spot.{Spot}
 use Rattle.ecma_print.specs.Places.{free}
-use Rattle.ecma_print_reread.specs.Shapes.{IsExpression, IsFunctionName, class_expression, function_expression, function_name, new_callee, unnamed}
+use Rattle.ecma_shapes.specs.Shapes.{IsExpression, IsFunctionName, class_expression, function_expression, function_name, new_callee, unnamed}
 use Rattle.ecma_print_shapes.proofs.Building.{absent_shape}
 use Rattle.ecma_print_shapes.proofs.ByKind.{sort_there}
 use Rattle.ecma_print_shapes.proofs.Claims.{AllFormed, names_value, seen}

@@ -16,8 +16,8 @@ use Rattle.ecma_fits.specs.declared.role.Role.{Role}
 use Rattle.ecma_fits.specs.Roles.{is_tagged, role_in}
 use Rattle.ecma_print.specs.declared.place.Spot.{Spot}
 use Rattle.ecma_print.specs.Places.{free}
-use Rattle.ecma_print_reread.specs.Modules.{IsExportName, IsString}
-use Rattle.ecma_print_reread.specs.Modules as modules
+use Rattle.ecma_shapes.specs.Modules.{IsExportName, IsString}
+use Rattle.ecma_shapes.specs.Modules as modules
 use Rattle.ecma_print_shapes.proofs.Building.{childless}
 use Rattle.ecma_print_shapes.proofs.Claims.{seen}
 use Rattle.ecma_print_shapes.proofs.Leaves.{export_name_shape, string_literal_shape}

@@ -19,7 +19,7 @@ use Rattle.ecma_print.specs.Laid.{is_computed}
 use Rattle.ecma_print.specs.Layout.{laid}
 use Rattle.ecma_print.specs.Places.{free}
 use Rattle.ecma_print.proofs.LaidOut.{laid_kind_of-node}
-use Rattle.ecma_print_reread.specs.Shapes.{IsChainKey, IsExpression, IsKey, Level, plain_key, private_key}
+use Rattle.ecma_shapes.specs.Shapes.{IsChainKey, IsExpression, IsKey, Level, plain_key, private_key}
 use Rattle.ecma_print_shapes.proofs.Building.{childless}
 use Rattle.ecma_print_shapes.proofs.Claims.{AllFormed, MemberKey, SuperKey, bracketed_key, bracketed_of_super, named_key, named_of_super}
 use Rattle.ecma_print_shapes.proofs.Covered.{covered}

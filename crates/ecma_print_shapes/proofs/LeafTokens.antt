@@ -15,7 +15,7 @@ use Rattle.ecma_lex.proofs.Spelled.{alone, key_again, key_by_itself, piece_all}
 use Rattle.ecma_lex.proofs.Suffixes.{Stands, after_here, chars_ascii, cut_ascii, past}
 use Rattle.ecma_grammar.specs.Reads.{without_separators}
 use Rattle.ecma_leaves.specs.Words.{digits_of, is_big_int, is_one, is_readable, is_whole}
-use Rattle.ecma_text_fits.proofs.ReadDigits.{digits_are, word, word_is}
+use Rattle.ecma_text_fits_leaves.proofs.ReadDigits.{digits_are, word, word_is}
 use Rattle.ecma_print_tokens.specs.Good.{IsToken}
 use Rattle.ecma_print_shapes.proofs.Tokens.{key_token, term_whole}
 

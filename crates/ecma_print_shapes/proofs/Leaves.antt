@@ -6,9 +6,9 @@ use Rattle.ecma_kind.specs.declared.span.Span.{Span}
 use Rattle.ecma_kind.specs.declared.kind.Kind.TheVariants as kind
 use Rattle.ecma_tree.specs.Nodes.{node_of}
 use Rattle.ecma_leaves.specs.Words.{is_spelled}
-use Rattle.ecma_print_reread.specs.Shapes.{IsExpression, IsIdent, IsKey, IsPropertyName, big_int, big_int_name, ident, key, new_callee, number, number_name, numeral, string, string_name}
-use Rattle.ecma_print_reread.specs.Modules.{IsExportName, IsString, string_literal, word_name}
-use Rattle.ecma_print_shapes.specs.Forms.{IsBare}
+use Rattle.ecma_shapes.specs.Shapes.{IsExpression, IsIdent, IsKey, IsPropertyName, big_int, big_int_name, ident, key, new_callee, number, number_name, numeral, string, string_name}
+use Rattle.ecma_shapes.specs.Modules.{IsExportName, IsString, string_literal, word_name}
+use Rattle.ecma_plain.specs.Forms.{IsBare}
 use Rattle.ecma_print_shapes.proofs.LeafTokens.{big_token}
 use Rattle.ecma_print_shapes.proofs.Tokens.{key_token, number_token, string_token}
 

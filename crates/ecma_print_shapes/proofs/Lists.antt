@@ -20,8 +20,8 @@ use Rattle.ecma_fits.specs.declared.role.Role.TheVariants as role
 use Rattle.ecma_fits.specs.Roles.{role_in}
 use Rattle.ecma_print.specs.declared.place.Spot.{Spot}
 use Rattle.ecma_print.specs.Places.{free}
-use Rattle.ecma_print_reread.specs.Shapes.{AreElements, AreSlots, IsArguments, IsElement, IsExpression, arguments, array, filled, hole, more_elements, new_callee, no_arguments, no_elements, no_slots, spread, values}
-use Rattle.ecma_print_reread.specs.Shapes as shapes
+use Rattle.ecma_shapes.specs.Shapes.{AreElements, AreSlots, IsArguments, IsElement, IsExpression, arguments, array, filled, hole, more_elements, new_callee, no_arguments, no_elements, no_slots, spread, values}
+use Rattle.ecma_shapes.specs.Shapes as shapes
 use Rattle.ecma_print_shapes.proofs.Building.{absent_shape}
 use Rattle.ecma_print_shapes.proofs.Claims.{AllFormed, Formed, FormedExpression, seen, value_kind}
 use Rattle.ecma_print_shapes.proofs.Covered.{covered, covered_children}

@@ -23,8 +23,8 @@ use Rattle.ecma_fits.specs.declared.role.Role.TheVariants as role
 use Rattle.ecma_fits.specs.Roles.{by, is_bound_name, is_default, is_pattern, is_rest, may_be, role_in}
 use Rattle.ecma_print.specs.declared.place.Spot.{Spot}
 use Rattle.ecma_print.specs.Places.{free}
-use Rattle.ecma_print_reread.specs.Shapes.{AreProperties, AreSlots, IsElement, IsExpression, IsProperty, array, assignment, assignment_expression, callee, filled, hole, initialized, key_value, more_properties, new_callee, no_properties, no_slots, object_literal, shorthand, spread, spread_property, values}
-use Rattle.ecma_print_reread.specs.Shapes as shapes
+use Rattle.ecma_shapes.specs.Shapes.{AreProperties, AreSlots, IsElement, IsExpression, IsProperty, array, assignment, assignment_expression, callee, filled, hole, initialized, key_value, more_properties, new_callee, no_properties, no_slots, object_literal, shorthand, spread, spread_property, values}
+use Rattle.ecma_shapes.specs.Shapes as shapes
 use Rattle.ecma_print_shapes.proofs.Bindings.{items_of, or_there}
 use Rattle.ecma_print_shapes.proofs.Building.{absent_shape}
 use Rattle.ecma_print_shapes.proofs.Claims.{AllFormed, CoveredList, Formed, IsCovered, as_element, as_part, as_value, covered_there, in_head, on_left, rest_there, seen, value_kind}

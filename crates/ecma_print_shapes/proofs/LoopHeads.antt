@@ -23,8 +23,8 @@ use Rattle.ecma_print.specs.declared.place.Begins.TheVariants.{Anywhere}
 use Rattle.ecma_print.specs.declared.place.Spot.{Spot}
 use Rattle.ecma_print.specs.Places.{beginning, free}
 use Rattle.ecma_print_heads.specs.Laws.{CoversHoldNoBareIn, HeadsHoldNoBareIn}
-use Rattle.ecma_print_reread.specs.Heads.{may_hold_in}
-use Rattle.ecma_print_reread.specs.Shapes.{IsExpression, IsForInit, IsForLeft, IsIdent, IsOptional, for_binding, for_in, for_loop, for_of, for_target, given, ident, init_declaration, init_expression, left_out, looser, name, new_callee, no_init}
+use Rattle.ecma_shapes.specs.Heads.{may_hold_in}
+use Rattle.ecma_shapes.specs.Shapes.{IsExpression, IsForInit, IsForLeft, IsIdent, IsOptional, for_binding, for_in, for_loop, for_of, for_target, given, ident, init_declaration, init_expression, left_out, looser, name, new_callee, no_init}
 use Rattle.ecma_print_shapes.proofs.Building.{absent_shape, simple_target, simple_tight, stands_as}
 use Rattle.ecma_print_shapes.proofs.ByKind.{in_shape, made_as, seen_as}
 use Rattle.ecma_print_shapes.proofs.Claims.{AllFormed, BoundName, Formed, FormedExpression, IsOneBinding, Stated, alone, is_simple, one_binding, seen, value_kind}

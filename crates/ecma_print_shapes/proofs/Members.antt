@@ -21,7 +21,7 @@ use Rattle.ecma_print.specs.Expressions.{before_key, object_beside}
 use Rattle.ecma_print.specs.Laid.{is_computed}
 use Rattle.ecma_print.specs.Layout.{laid}
 use Rattle.ecma_print.specs.Places.{left}
-use Rattle.ecma_print_reread.specs.Shapes.{IsExpression, IsIndexed, IsMemberLevel, Level, callee, element, index_of_callee, index_of_new, index_of_numeral, looser, member, member_of_new, member_of_object, new_callee, numeral, parenthesized}
+use Rattle.ecma_shapes.specs.Shapes.{IsExpression, IsIndexed, IsMemberLevel, Level, callee, element, index_of_callee, index_of_new, index_of_numeral, looser, member, member_of_new, member_of_object, new_callee, numeral, parenthesized}
 use Rattle.ecma_print_shapes.proofs.Claims.{AllFormed, Expressed, MemberKey, Proper, bracketed_key, is_of_link, named_key}
 use Rattle.ecma_print_shapes.proofs.Covered.{covered_children}
 use Rattle.ecma_print_shapes.proofs.ObjectSeats.{at_link, at_object, before_link}

@@ -16,8 +16,8 @@ use Rattle.ecma_covers.specs.Covering.{cover_at, cover_in}
 use Rattle.ecma_fits.specs.declared.role.Role.TheVariants as role
 use Rattle.ecma_fits.specs.Roles.{role_in}
 use Rattle.ecma_print.specs.Places.{free}
-use Rattle.ecma_print_reread.specs.Shapes.{IsProperty, getter_property, method_property, setter_property, values}
-use Rattle.ecma_print_shapes.specs.Functions.{functions}
+use Rattle.ecma_shapes.specs.Shapes.{IsProperty, getter_property, method_property, setter_property, values}
+use Rattle.ecma_plain.specs.Functions.{functions}
 use Rattle.ecma_print_shapes.proofs.Bindings.{no_type, parameter_there}
 use Rattle.ecma_print_shapes.proofs.Building.{absent_shape}
 use Rattle.ecma_print_shapes.proofs.Claims.{AllFormed}

@@ -20,10 +20,10 @@ use Rattle.ecma_fits.specs.Counts.{are, are_exports, are_imports, holds_attribut
 use Rattle.ecma_fits.specs.Roles.{role_in}
 use Rattle.ecma_print.specs.declared.place.Begins.TheVariants.{DefaultStart}
 use Rattle.ecma_print.specs.Places.{beginning, free}
-use Rattle.ecma_print_reread.specs.Modules.{AreModuleItems, IsModuleItem, IsString, export_all, export_assignment, export_bindings, export_bindings_from, export_declaration, export_default, export_default_class, export_default_function, export_namespace, import_alone, import_bindings, import_require, more_items, no_items}
-use Rattle.ecma_print_reread.specs.Modules as modules
-use Rattle.ecma_print_reread.specs.Starts.{is_declaration_word, start_of}
-use Rattle.ecma_print_shapes.specs.Items.{is_external, is_plain_item, is_plain_kind}
+use Rattle.ecma_shapes.specs.Modules.{AreModuleItems, IsModuleItem, IsString, export_all, export_assignment, export_bindings, export_bindings_from, export_declaration, export_default, export_default_class, export_default_function, export_namespace, import_alone, import_bindings, import_require, more_items, no_items}
+use Rattle.ecma_shapes.specs.Modules as modules
+use Rattle.ecma_shapes.specs.Starts.{is_declaration_word, start_of}
+use Rattle.ecma_plain.specs.Items.{is_external, is_plain_item, is_plain_kind}
 use Rattle.ecma_print_shapes.proofs.Assignments.{full}
 use Rattle.ecma_print_shapes.proofs.Attributes.{with_formed}
 use Rattle.ecma_print_shapes.proofs.Blocks.{ItemsIn, items_covered, items_in}

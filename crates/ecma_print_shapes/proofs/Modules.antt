@@ -19,10 +19,10 @@ use Rattle.ecma_covers.specs.Covering.{cover_at, cover_in}
 use Rattle.ecma_fits.specs.declared.role.Role.TheVariants as role
 use Rattle.ecma_fits.specs.Fitting.{at_top, first_unfit_in}
 use Rattle.ecma_fits.specs.Roles.{role_in}
-use Rattle.ecma_text_fits.proofs.Walks.{neither_least}
+use Rattle.ecma_fits_clauses.proofs.Walks.{neither_least}
 use Rattle.ecma_print.specs.Places.{free}
-use Rattle.ecma_print_reread.specs.Modules.{AreModuleItems, IsModule, module_behind_hashbang, module_of}
-use Rattle.ecma_print_shapes.specs.Items.{HasUtf8Hashbang, is_plain_item}
+use Rattle.ecma_shapes.specs.Modules.{AreModuleItems, IsModule, module_behind_hashbang, module_of}
+use Rattle.ecma_plain.specs.Items.{HasUtf8Hashbang, is_plain_item}
 use Rattle.ecma_print_shapes.specs.Laws.{ModulesHaveTheirShapes}
 use Rattle.ecma_print_shapes.proofs.Blocks.{items_covered, items_in}
 use Rattle.ecma_print_shapes.proofs.ByKind.{made_as, seen_as}

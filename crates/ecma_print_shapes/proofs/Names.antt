@@ -17,8 +17,8 @@ use Rattle.ecma_fits.specs.declared.role.Role.{Role}
 use Rattle.ecma_fits.specs.Roles.{is_tagged, is_wrong_text, role_in}
 use Rattle.ecma_print.specs.declared.place.Spot.{Spot}
 use Rattle.ecma_print.specs.Places.{free}
-use Rattle.ecma_print_reread.specs.Shapes.{IsIdent}
-use Rattle.ecma_print_shapes.specs.Functions.{functions, is_this_name}
+use Rattle.ecma_shapes.specs.Shapes.{IsIdent}
+use Rattle.ecma_plain.specs.Functions.{functions, is_this_name}
 use Rattle.ecma_print_shapes.proofs.Building.{childless, stands_as}
 use Rattle.ecma_print_shapes.proofs.Claims.{IsNaming, IsPrivateName, a_private_name, names_parameter, names_value, no_reserved, seen}
 use Rattle.ecma_print_shapes.proofs.Covered.{covered, is_of_pattern}

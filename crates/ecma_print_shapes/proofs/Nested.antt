@@ -20,7 +20,7 @@ use Rattle.ecma_fits.specs.Members.{is_misread}
 use Rattle.ecma_fits.specs.declared.role.Role.TheVariants as role
 use Rattle.ecma_fits.specs.Roles.{role_in}
 use Rattle.ecma_print.specs.Places.{free}
-use Rattle.ecma_print_reread.specs.Shapes.{IsStatement, do_loop, if_else, if_only, labeled, while_loop}
+use Rattle.ecma_shapes.specs.Shapes.{IsStatement, do_loop, if_else, if_only, labeled, while_loop}
 use Rattle.ecma_print_shapes.proofs.Building.{absent_shape}
 use Rattle.ecma_print_shapes.proofs.ByKind.{in_place}
 use Rattle.ecma_print_shapes.proofs.Claims.{AllFormed, Formed, Stated, seen}

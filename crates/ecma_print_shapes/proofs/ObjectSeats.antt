@@ -11,7 +11,7 @@ use Rattle.ecma_print.specs.Levels.{in_parentheses, lacks_arguments}
 use Rattle.ecma_print.specs.Expressions.{callee_spot}
 use Rattle.ecma_print.specs.Operators.{binary_level}
 use Rattle.ecma_print.specs.Places.{left}
-use Rattle.ecma_print_reread.specs.Shapes.{Level, chain, callee, new_callee, numeral, object}
+use Rattle.ecma_shapes.specs.Shapes.{Level, chain, callee, new_callee, numeral, object}
 use Rattle.ecma_print_shapes.proofs.Ranks.{IsWithin, member_level, new_level, own_level, rank}
 
 -- no operator of two operands does

@@ -17,7 +17,7 @@ use Rattle.ecma_fits.specs.declared.role.Role.TheVariants as role
 use Rattle.ecma_fits.specs.Roles.{may_be, role_in, takes}
 use Rattle.ecma_print.specs.declared.place.Spot.{Spot}
 use Rattle.ecma_print.specs.Places.{free}
-use Rattle.ecma_print_reread.specs.Shapes.{AreProperties, IsExpression, IsProperty, IsPropertyName, computed_name, key_name, key_value, more_properties, new_callee, no_properties, object_literal, shorthand, spread_property, values}
+use Rattle.ecma_shapes.specs.Shapes.{AreProperties, IsExpression, IsProperty, IsPropertyName, computed_name, key_name, key_value, more_properties, new_callee, no_properties, object_literal, shorthand, spread_property, values}
 use Rattle.ecma_print_shapes.proofs.Building.{childless, stands_as}
 use Rattle.ecma_print_shapes.proofs.Claims.{AllFormed, seen}
 use Rattle.ecma_print_shapes.proofs.Covered.{covered, covered_children}

@@ -16,7 +16,7 @@ use Rattle.ecma_print.specs.declared.place.Beside.TheVariants as beside
 use Rattle.ecma_print.specs.declared.place.Spot.{Spot}
 use Rattle.ecma_print.specs.Operators.{unary_sign}
 use Rattle.ecma_print.specs.Layout.{laid}
-use Rattle.ecma_print_reread.specs.Shapes.{IsExpression, unary, unary_expression, await_expression, assignment, conditional_expression}
+use Rattle.ecma_shapes.specs.Shapes.{IsExpression, unary, unary_expression, await_expression, assignment, conditional_expression}
 use Rattle.ecma_print_shapes.proofs.Claims.{AllFormed, Proper, is_of_link, level_open}
 use Rattle.ecma_print_shapes.proofs.Covered.{covered_children}
 use Rattle.ecma_print_shapes.proofs.Ranks.{own_level, to_short_circuit, to_unary}

@@ -24,9 +24,9 @@ use Rattle.ecma_fits.specs.Roles.{role_in}
 use Rattle.ecma_print.specs.declared.place.Begins.TheVariants.{ArrowBodyStart}
 use Rattle.ecma_print.specs.declared.place.Spot.{Spot}
 use Rattle.ecma_print.specs.Places.{beginning, free}
-use Rattle.ecma_print_reread.specs.Shapes.{AreElements, AreParams, IsAbsent, IsArguments, IsBlock, IsExpression, IsFunction, arguments, arrow_block, arrow_function, assignment, bindings, function_of, more_elements, more_params, no_arguments, no_elements, no_params}
-use Rattle.ecma_print_shapes.specs.Forms.{is_of_forms}
-use Rattle.ecma_print_shapes.specs.Functions.{functions}
+use Rattle.ecma_shapes.specs.Shapes.{AreElements, AreParams, IsAbsent, IsArguments, IsBlock, IsExpression, IsFunction, arguments, arrow_block, arrow_function, assignment, bindings, function_of, more_elements, more_params, no_arguments, no_elements, no_params}
+use Rattle.ecma_plain.specs.Forms.{is_of_forms}
+use Rattle.ecma_plain.specs.Functions.{functions}
 use Rattle.ecma_print_shapes.proofs.Assignments.{full}
 use Rattle.ecma_print_shapes.proofs.Beginnings.{begins_with_no_brace}
 use Rattle.ecma_print_shapes.proofs.Bindings.{items_of, no_type, no_type_parameters, not_true, or_there}

@@ -16,7 +16,7 @@ use Rattle.ecma_fits.specs.declared.role.Role.{Role}
 use Rattle.ecma_fits.specs.declared.role.Role.TheVariants as role
 use Rattle.ecma_fits.specs.Roles.{is_binding, is_bound_name, is_default, is_pattern, is_rest, may_be}
 use Rattle.ecma_print.specs.Places.{free}
-use Rattle.ecma_print_reread.specs.Shapes.{AreProperties, AreSlots, IsArguments, IsDefaulted, IsElement, IsExpression, IsFunction, IsPattern, IsProperty, assignment, bindings, callee, values}
+use Rattle.ecma_shapes.specs.Shapes.{AreProperties, AreSlots, IsArguments, IsDefaulted, IsElement, IsExpression, IsFunction, IsPattern, IsProperty, assignment, bindings, callee, values}
 use Rattle.ecma_print_shapes.proofs.Bindings.{or_there}
 use Rattle.ecma_print_shapes.proofs.Claims.{AllFormed, CoveredList, FormedExpression, IsTargeted, ListOf, ParameterOf, ParametersOf, as_element, as_value, covered_there, is_declared, seen, takes_rest}
 use Rattle.ecma_print_shapes.proofs.Literals.{assigned_element_formed, assigned_properties_formed, assigned_property_formed, assigned_slots_formed, assigned_value_formed, literal_formed}

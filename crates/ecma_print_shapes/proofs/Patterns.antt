@@ -20,7 +20,7 @@ use Rattle.ecma_fits.specs.declared.role.Role.TheVariants as role
 use Rattle.ecma_fits.specs.Roles.{in_default, is_binding, is_bound_name, is_default, is_rest, may_be, role_in, takes}
 use Rattle.ecma_print.specs.declared.place.Spot.{Spot}
 use Rattle.ecma_print.specs.Places.{free}
-use Rattle.ecma_print_reread.specs.Shapes.{AreProperties, AreSlots, IsDefaulted, IsElement, IsPattern, IsProperty, array_pattern, bindings, bound, filled, hole, more_properties, name_pattern, named, no_default, no_properties, no_slots, object_pattern, renamed, rest, rest_property, with_default}
+use Rattle.ecma_shapes.specs.Shapes.{AreProperties, AreSlots, IsDefaulted, IsElement, IsPattern, IsProperty, array_pattern, bindings, bound, filled, hole, more_properties, name_pattern, named, no_default, no_properties, no_slots, object_pattern, renamed, rest, rest_property, with_default}
 use Rattle.ecma_print_shapes.proofs.Bindings.{before_default, binding_there, declared_parts, default_declared, element_there, initializer_there, items_of, naming, no_rest_before, no_type, not_true, or_false, rest_declared, rest_taken, value_there}
 use Rattle.ecma_print_shapes.proofs.Building.{absent_shape, stands_as}
 use Rattle.ecma_print_shapes.proofs.Claims.{AllFormed, BoundName, Formed, ListOf, covers_name, is_declared, seen, takes_rest}

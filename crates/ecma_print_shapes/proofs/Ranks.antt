@@ -7,7 +7,7 @@ use Rattle.ecma_kind.specs.declared.operators.BinaryOp.TheVariants as op
 use Rattle.ecma_tree.specs.declared.node.Node.{Node}
 use Rattle.ecma_print.specs.Laid.{Laid}
 use Rattle.ecma_print.specs.Levels.{lacks_arguments}
-use Rattle.ecma_print_reread.specs.Shapes.{Level, new_callee, object, numeral, callee, chain, left_hand_side, update, unary, power, product, sum, shift, relation, equality, bit_and, bit_xor, bit_or, logical_and, logical_or, coalescing, short_circuit, assignment, sequence, IsExpression, looser}
+use Rattle.ecma_shapes.specs.Shapes.{Level, new_callee, object, numeral, callee, chain, left_hand_side, update, unary, power, product, sum, shift, relation, equality, bit_and, bit_xor, bit_or, logical_and, logical_or, coalescing, short_circuit, assignment, sequence, IsExpression, looser}
 
 -- of an operator
 abbrev pub operator_level : BinaryOp → Level

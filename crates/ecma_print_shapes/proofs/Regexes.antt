@@ -15,9 +15,9 @@ use Rattle.ecma_lex.proofs.Spelled.{alone, many_again}
 use Rattle.ecma_lex.proofs.Standings.{same_char}
 use Rattle.ecma_lex.proofs.Suffixes.{Stands, after_here, chars_ascii, cut_ascii, past, wide-chars}
 use Rattle.ecma_leaves.specs.Words.{are_flags, ends_at, is_body, is_readable, is_regex}
-use Rattle.ecma_text_fits.proofs.ReadRegexes.{body_kept}
-use Rattle.ecma_print_reread.specs.LiteralTexts.{regex_text}
-use Rattle.ecma_print_reread.specs.Shapes.{IsRegex}
+use Rattle.ecma_text_fits_leaves.proofs.ReadRegexes.{body_kept}
+use Rattle.ecma_shapes.specs.LiteralTexts.{regex_text}
+use Rattle.ecma_shapes.specs.Shapes.{IsRegex}
 use Rattle.ecma_print_shapes.proofs.LeafTokens.{first_stands}
 
 ends_there : (n : ℕ) (o : Option ℕ) → ends_at n o ≡ true → o ≡ Some n

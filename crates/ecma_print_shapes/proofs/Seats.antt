@@ -11,7 +11,7 @@ use Rattle.ecma_print.specs.Laid.{Laid}
 use Rattle.ecma_print.specs.Levels.{in_parentheses, lacks_arguments, level_of}
 use Rattle.ecma_print.specs.Operators.{binary_level}
 use Rattle.ecma_print.specs.Places.{left, right}
-use Rattle.ecma_print_reread.specs.Shapes.{coalescing}
+use Rattle.ecma_shapes.specs.Shapes.{coalescing}
 use Rattle.ecma_print_shapes.proofs.Ranks.{IsWithin, member_level, new_level, operator_level, own_level}
 
 pub either_parts : (a b : Bool) → (a || b) ≡ false → (a ≡ false) × (b ≡ false)

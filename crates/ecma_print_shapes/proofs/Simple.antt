@@ -17,8 +17,8 @@ use Rattle.ecma_fits.specs.Roles.{role_in}
 use Rattle.ecma_print.specs.declared.place.Begins.TheVariants.{StatementStart}
 use Rattle.ecma_print.specs.declared.place.Spot.{Spot}
 use Rattle.ecma_print.specs.Places.{free}
-use Rattle.ecma_print_reread.specs.Shapes as shapes
-use Rattle.ecma_print_reread.specs.Shapes.{IsIdent, IsStatement, break_label, break_nothing, class_statement, closed, continue_label, continue_nothing, debugger_word, empty, function_statement, return_nothing, return_value, throw}
+use Rattle.ecma_shapes.specs.Shapes as shapes
+use Rattle.ecma_shapes.specs.Shapes.{IsIdent, IsStatement, break_label, break_nothing, class_statement, closed, continue_label, continue_nothing, debugger_word, empty, function_statement, return_nothing, return_value, throw}
 use Rattle.ecma_print_shapes.proofs.Beginnings.{begins_otherwise}
 use Rattle.ecma_print_shapes.proofs.Building.{absent_shape}
 use Rattle.ecma_print_shapes.proofs.ByKind.{in_place}

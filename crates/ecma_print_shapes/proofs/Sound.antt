@@ -9,7 +9,6 @@ use Rattle.ecma_tree.specs.Laws.{HaveShapes}
 use Rattle.ecma_tree.specs.Nodes.{node_of}
 use Rattle.ecma_tree.specs.Sorted.{HasShape, allows, child_shapes, is_absent}
 use Rattle.ecma_tree.proofs.ShapeLaws.{node_has_shape}
-use Rattle.ecma_tree.proofs.Layers.{from_leaves-roll}
 use Rattle.ecma_rules.specs.Children.{kind_of}
 use Rattle.ecma_rules.specs.Failing.{failing_here, failing_step, least_from}
 use Rattle.ecma_rules.specs.Lists.{is_early_rest, is_wrong_head}
@@ -24,15 +23,16 @@ use Rattle.ecma_fits.specs.declared.unfit.Where.{Where}
 use Rattle.ecma_fits.specs.Fitting.{breaks_rule, first_unfit_in, is_misplaced, is_misshapen, is_unfit, unfit_here, where_in}
 use Rattle.ecma_fits.specs.Roles.{is_out_of_role, is_tagged, role_in}
 use Rattle.ecma_fits.specs.Strays.{is_stray_target}
-use Rattle.ecma_text_fits.proofs.Walks.{neither, neither_least, not_failing, shifted}
 use Rattle.ecma_print.specs.declared.place.Spot.{Spot}
 use Rattle.ecma_print.specs.Layout.{laid}
 use Rattle.ecma_print.specs.Levels.{in_parentheses}
 use Rattle.ecma_print_parentheses.specs.Lacking.{all_complete, complete}
-use Rattle.ecma_print_parentheses.specs.Spots.{first_spots, further_spot}
+use Rattle.ecma_print.specs.Spots.{first_spots, further_spot}
 use Rattle.ecma_print_parentheses.proofs.Lacks.{complete_in}
-use Rattle.ecma_print_shapes.specs.Forms.{IsTaken}
-use Rattle.ecma_print_shapes.specs.Functions.{Functions, any_unusual, functions, functions_step, is_this_name, unusual_here}
+use Rattle.ecma_plain.specs.Forms.{IsTaken}
+use Rattle.ecma_plain.specs.Functions.{Functions, any_unusual, functions, functions_step, is_this_name, unusual_here}
+use Rattle.ecma_tree.proofs.Layers.{from_leaves-roll}
+use Rattle.ecma_fits_clauses.proofs.Walks.{neither, neither_least, not_failing, shifted}
 
 -- it fits where it has this role, whatever else stands around
 abbrev pub FitsAs : Role → Node → Type 0

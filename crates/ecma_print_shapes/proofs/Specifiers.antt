@@ -17,8 +17,8 @@ use Rattle.ecma_fits.specs.declared.role.Role.TheVariants as role
 use Rattle.ecma_fits.specs.Counts.{are, are_imports, are_stars_or_names, is_default_import, is_named_export, is_named_import, is_star_export, is_star_import}
 use Rattle.ecma_fits.specs.Roles.{role_in}
 use Rattle.ecma_print.specs.Places.{free}
-use Rattle.ecma_print_reread.specs.Modules.{AreNamedExports, AreNamedImports, IsDefaultImport, IsExportClause, IsExportName, IsImportClause, IsNamedExport, IsNamedImport, IsNamespaceImport, default_import, export_names, export_nothing, import_default, import_default_and_names, import_default_and_namespace, import_names, import_namespace, more_exports, more_imports, namespace_import, no_exports, no_imports, other_export, other_import, same_export, same_import}
-use Rattle.ecma_print_reread.specs.Shapes.{IsIdent}
+use Rattle.ecma_shapes.specs.Modules.{AreNamedExports, AreNamedImports, IsDefaultImport, IsExportClause, IsExportName, IsImportClause, IsNamedExport, IsNamedImport, IsNamespaceImport, default_import, export_names, export_nothing, import_default, import_default_and_names, import_default_and_namespace, import_names, import_namespace, more_exports, more_imports, namespace_import, no_exports, no_imports, other_export, other_import, same_export, same_import}
+use Rattle.ecma_shapes.specs.Shapes.{IsIdent}
 use Rattle.ecma_print_shapes.proofs.Blocks.{ItemsIn, items_covered}
 use Rattle.ecma_print_shapes.proofs.Building.{absent_shape}
 use Rattle.ecma_print_shapes.proofs.ByKind.{made_as, seen_as, sort_there}

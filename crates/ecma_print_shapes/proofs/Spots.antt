@@ -16,7 +16,7 @@ use Rattle.ecma_print.specs.Laid.{Laid}
 use Rattle.ecma_print.specs.Levels.{in_parentheses, level_of}
 use Rattle.ecma_print.specs.Places.{beginning, ends_a_chain, free, left, right}
 use Rattle.ecma_covers.specs.Covering.{cover_at}
-use Rattle.ecma_print_reread.specs.Shapes.{IsExpression, assignment}
+use Rattle.ecma_shapes.specs.Shapes.{IsExpression, assignment}
 use Rattle.ecma_print_shapes.proofs.Claims.{Expressed, Formed, Proper, is_of_link, seen, value_kind, level_open}
 use Rattle.ecma_print_shapes.proofs.Ranks.{IsWithin, own_level, to_assignment}
 use Rattle.ecma_print_shapes.proofs.Seats.{at_assignment, binds, either_parts}

@@ -16,8 +16,8 @@ use Rattle.ecma_covers.specs.Covering.{cover_at}
 use Rattle.ecma_fits.specs.Branches.{holds_at_last, last_part, takes_else, takes_else_step}
 use Rattle.ecma_fits.specs.declared.role.Role.TheVariants as role
 use Rattle.ecma_print.specs.Places.{free}
-use Rattle.ecma_print_reread.specs.Modules.{is_declaration}
-use Rattle.ecma_print_reread.specs.Shapes.{Ending, IsExpression, IsStatement, Level, closed, dangling}
+use Rattle.ecma_shapes.specs.Modules.{is_declaration}
+use Rattle.ecma_shapes.specs.Shapes.{Ending, IsExpression, IsStatement, Level, closed, dangling}
 use Rattle.ecma_print_shapes.proofs.ByKind.{in_place}
 use Rattle.ecma_print_shapes.proofs.Claims.{Formed, Stated}
 use Rattle.ecma_print_shapes.proofs.Covered.{covered, covered_children, is_of_pattern}

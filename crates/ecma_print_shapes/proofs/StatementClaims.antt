@@ -20,7 +20,7 @@ use Rattle.ecma_print.specs.declared.place.Beside.TheVariants as beside
 use Rattle.ecma_print.specs.declared.place.Spot.{Spot}
 use Rattle.ecma_print.specs.Places.{free, right}
 use Rattle.ecma_print_heads.specs.Laws.{CoversHoldNoBareIn, HeadsHoldNoBareIn}
-use Rattle.ecma_print_reread.specs.Shapes.{AreCases, AreMembers, AreStatements, IsBlock, IsCase, IsCatch, IsClass, IsExpression, IsForInit, IsForLeft, IsMember, new_callee}
+use Rattle.ecma_shapes.specs.Shapes.{AreCases, AreMembers, AreStatements, IsBlock, IsCase, IsCatch, IsClass, IsExpression, IsForInit, IsForLeft, IsMember, new_callee}
 use Rattle.ecma_print_shapes.proofs.Blocks.{block_formed, statements_formed}
 use Rattle.ecma_print_shapes.proofs.Cases.{case_formed, cases_formed, catch_formed}
 use Rattle.ecma_print_shapes.proofs.Claims.{AllFormed, BoundName, Declares, DeclaresAll, FormedExpression, ListOf, Stated}

@@ -11,7 +11,7 @@ use Rattle.ecma_tree.specs.Nodes.{node_of}
 use Rattle.ecma_rules.specs.declared.target.Target.TheVariants as target
 use Rattle.ecma_fits.specs.declared.role.Role.TheVariants as role
 use Rattle.ecma_print.specs.Places.{free}
-use Rattle.ecma_print_reread.specs.Shapes.{IsBlock, block}
+use Rattle.ecma_shapes.specs.Shapes.{IsBlock, block}
 use Rattle.ecma_print_shapes.proofs.Blocks.{block_here}
 use Rattle.ecma_print_shapes.proofs.Cases.{switch_formed, try_formed}
 use Rattle.ecma_print_shapes.proofs.Claims.{AllFormed, Stated}

@@ -16,7 +16,7 @@ use Rattle.ecma_fits.specs.declared.role.Role.TheVariants as role
 use Rattle.ecma_fits.specs.Roles.{is_binding, is_bound_name, is_default, is_pattern, is_rest, is_variables, may_be, takes}
 use Rattle.ecma_print.specs.declared.place.Spot.{Spot}
 use Rattle.ecma_print.specs.Places.{free}
-use Rattle.ecma_print_reread.specs.Shapes.{IsExpression, callee, name, new_callee}
+use Rattle.ecma_shapes.specs.Shapes.{IsExpression, callee, name, new_callee}
 use Rattle.ecma_print_shapes.proofs.Assignments.{simple_shape}
 use Rattle.ecma_print_shapes.proofs.Bindings.{or_there}
 use Rattle.ecma_print_shapes.proofs.Building.{simple_target, stands_as}

@@ -22,7 +22,7 @@ use Rattle.ecma_fits.specs.Roles.{in_list, in_template, is_tagged, role_in}
 use Rattle.ecma_print.specs.declared.place.Beside.TheVariants as beside
 use Rattle.ecma_print.specs.declared.place.Spot.{Spot}
 use Rattle.ecma_print.specs.Places.{free}
-use Rattle.ecma_print_reread.specs.Shapes.{AreParts, IsExpression, IsPart, last_part, more_parts, new_callee, part, tagged_template, template}
+use Rattle.ecma_shapes.specs.Shapes.{AreParts, IsExpression, IsPart, last_part, more_parts, new_callee, part, tagged_template, template}
 use Rattle.ecma_print_shapes.proofs.Assignments.{full}
 use Rattle.ecma_print_shapes.proofs.Blocks.{ItemsIn, items_covered, items_in, list_of_kind, listed}
 use Rattle.ecma_print_shapes.proofs.Building.{childless}

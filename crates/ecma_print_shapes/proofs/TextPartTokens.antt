@@ -13,11 +13,11 @@ use Rattle.ecma_lex.proofs.Repeats.{then_some}
 use Rattle.ecma_lex.proofs.Spelled.{alone}
 use Rattle.ecma_lex.proofs.Suffixes.{Stands, after_here, cut_here, cut_utf8, past, piece_here}
 use Rattle.ecma_leaves.specs.Words.{ends_at, is_cooked, is_no_return, is_readable, is_text_part, stands_in_template}
-use Rattle.ecma_text_fits.proofs.RawTexts.{untagged}
-use Rattle.ecma_text_fits.proofs.TemplateFeeds.{characters_kept}
+use Rattle.ecma_text_fits_leaves.proofs.RawTexts.{untagged}
+use Rattle.ecma_text_fits_leaves.proofs.TemplateFeeds.{characters_kept}
 use Rattle.ecma_print_tokens.specs.Good.{IsTextPart}
 use Rattle.ecma_print_tokens.specs.Taking.{part_inside}
-use Rattle.ecma_print_reread.specs.LiteralTexts.{part_closing, part_text}
+use Rattle.ecma_shapes.specs.LiteralTexts.{part_closing, part_text}
 use Rattle.ecma_print_shapes.proofs.LeafTokens.{first_stands}
 use Rattle.ecma_print_shapes.proofs.TextParts.{after_stop, characters_there, closes_at, closing_cut, cut_inside, feeds_there, inside, raw_stays, text_length, text_utf8}
 

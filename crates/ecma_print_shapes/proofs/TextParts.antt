@@ -21,11 +21,11 @@ use Rattle.ecma_lex.proofs.Steps.{after_is, cut, next_here}
 use Rattle.ecma_lex.proofs.Suffixes.{Cut, Stands, after_here, chars_ascii, cut_here, cut_utf8, past}
 use Rattle.ecma_lex.proofs.TemplateParts.{end_is, ends_by, is_brace}
 use Rattle.ecma_leaves.specs.Words.{is_no_return}
-use Rattle.ecma_text_fits.proofs.LineFeeds.{Beside, Ends, View, broken, char_head, over, same, view}
-use Rattle.ecma_text_fits.proofs.LiteralFeeds.{Both, IsReady, template_part_kept}
-use Rattle.ecma_text_fits.proofs.LiteralParts.{escape_other, part_escape, terminator_end}
-use Rattle.ecma_text_fits.proofs.TemplateFeeds.{at_end}
-use Rattle.ecma_print_reread.specs.LiteralTexts.{part_closing, part_opening, part_text}
+use Rattle.ecma_text_fits_leaves.proofs.LineFeeds.{Beside, Ends, View, broken, char_head, over, same, view}
+use Rattle.ecma_text_fits_leaves.proofs.LiteralFeeds.{Both, IsReady, template_part_kept}
+use Rattle.ecma_text_fits_leaves.proofs.LiteralParts.{escape_other, part_escape, terminator_end}
+use Rattle.ecma_text_fits_leaves.proofs.TemplateFeeds.{at_end}
+use Rattle.ecma_shapes.specs.LiteralTexts.{part_closing, part_opening, part_text}
 
 -- no escape stands at the end
 

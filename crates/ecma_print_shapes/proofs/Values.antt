@@ -16,8 +16,8 @@ use Rattle.ecma_fits.specs.Roles.{is_tagged, role_in}
 use Rattle.ecma_print.specs.declared.place.Spot.{Spot}
 use Rattle.ecma_print.specs.Layout.{laid}
 use Rattle.ecma_print.specs.Places.{free}
-use Rattle.ecma_print_reread.specs.Shapes.{IsExpression, false_word, import_meta, name, new_target, null_word, regex, this_word, true_word}
-use Rattle.ecma_print_shapes.specs.Forms.{is_of_forms}
+use Rattle.ecma_shapes.specs.Shapes.{IsExpression, false_word, import_meta, name, new_target, null_word, regex, this_word, true_word}
+use Rattle.ecma_plain.specs.Forms.{is_of_forms}
 use Rattle.ecma_print_shapes.proofs.Assignments.{assignment_formed, sequence_formed, update_formed, yield_formed}
 use Rattle.ecma_print_shapes.proofs.Binary.{binary_formed}
 use Rattle.ecma_print_shapes.proofs.Building.{built, childless, only_free, stands_as}

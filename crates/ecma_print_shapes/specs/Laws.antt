@@ -10,11 +10,11 @@ use Rattle.ecma_fits.specs.declared.role.Role.TheVariants as role
 use Rattle.ecma_fits.specs.declared.unfit.Where.{Where}
 use Rattle.ecma_fits.specs.Fitting.{Fits, first_unfit_in}
 use Rattle.ecma_print_parentheses.specs.Lacking.{lacks_none}
-use Rattle.ecma_print_reread.specs.Modules.{IsModule}
-use Rattle.ecma_print_reread.specs.Shapes.{IsExpression, Level}
-use Rattle.ecma_print_shapes.specs.Forms.{IsTaken}
-use Rattle.ecma_print_shapes.specs.Functions.{functions}
-use Rattle.ecma_print_shapes.specs.Items.{HasUtf8Hashbang, has_plain_items}
+use Rattle.ecma_shapes.specs.Modules.{IsModule}
+use Rattle.ecma_shapes.specs.Shapes.{IsExpression, Level}
+use Rattle.ecma_plain.specs.Forms.{IsTaken}
+use Rattle.ecma_plain.specs.Functions.{functions}
+use Rattle.ecma_plain.specs.Items.{HasUtf8Hashbang, has_plain_items}
 
 -- an expression that fits where nothing is declared or assigned to, lacks no parentheses and is plain: the raw tree of it has the shape of an expression
 abbrev pub ExpressionsHaveTheirShapes : Type 0

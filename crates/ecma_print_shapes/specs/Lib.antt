@@ -1,4 +1,1 @@
-pub mod Forms
-pub mod Functions
-pub mod Items
 pub mod Laws

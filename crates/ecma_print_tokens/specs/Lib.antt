@@ -3,4 +3,4 @@ pub mod Taking
 pub mod Good
 pub mod Lexing
 pub mod Joins
-pub mod Theorems
+pub mod Laws

@@ -1,9 +1,9 @@
 //! Lists of tokens: the terminals read the text of such a list as its tokens.
 //!
-//! Each function carries one law, and does nothing. The laws are stated in `specs/Theorems.antt`.
+//! Each function carries one law, and does nothing. The laws are stated in `specs/Laws.antt`.
 #![tactic(auto)]
 
-ghost use Rattle.ecma_print_tokens.specs.Theorems.{JoinedTokensAreGood, TerminalsReadTokens};
+ghost use Rattle.ecma_print_tokens.specs.Laws.{JoinedTokensAreGood, TerminalsReadTokens};
 
 /// Where the text of a good list of tokens stands, each terminal, each leaf and the test of line breaks reads it as these
 /// tokens say.

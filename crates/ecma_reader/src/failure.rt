@@ -1,3 +1,4 @@
+//! Why a part was not read, while the machine may still try something else.
 ghost use Rattle.std.specs.Prelude.{◌≡◌};
 ghost use Rattle.ecma_reader.specs.declared.failure.Failure.TheVariants as failure;
 

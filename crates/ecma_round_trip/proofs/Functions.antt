@@ -8,12 +8,12 @@ use Rattle.ecma_tree.specs.Sorted.{is_absent}
 use Rattle.ecma_print.specs.declared.place.Spot.{Spot}
 use Rattle.ecma_print.specs.Places.{free}
 use Rattle.ecma_print.specs.Levels.{in_parentheses}
-use Rattle.ecma_print_parentheses.specs.Explicit.{bare, explicit, in_spots, laid_children, parenthesized, stood}
-use Rattle.ecma_print_parentheses.specs.Spots.{first_spots, further_spot}
+use Rattle.ecma_print.specs.Explicit.{bare, explicit, in_spots, laid_children, parenthesized, stood}
+use Rattle.ecma_print.specs.Spots.{first_spots, further_spot}
 use Rattle.ecma_print_parentheses.proofs.Asking.{AllFit, Fits, first_fit, further_fits}
 use Rattle.ecma_print_parentheses.proofs.Sorting.{closed_is_misreadable, is_misreadable}
 use Rattle.ecma_print_parentheses.proofs.Standing.{stands}
-use Rattle.ecma_print_shapes.specs.Functions.{Functions, functions, functions_step, is_this_name}
+use Rattle.ecma_plain.specs.Functions.{Functions, functions, functions_step, is_this_name}
 
 -- what stands in parentheses is something, and no name
 something : (k : Kind) → is_misreadable k ≡ true → is_absent k ≡ false

@@ -14,11 +14,11 @@ use Rattle.ecma_tree.proofs.ShapeLaws.{node_has_shape}
 use Rattle.ecma_rules.specs.Children.{child_is, children_of, kind_of, of_kind}
 use Rattle.ecma_print.specs.Levels.{in_parentheses}
 use Rattle.ecma_print.specs.Places.{free}
-use Rattle.ecma_print_parentheses.specs.Explicit.{bare, explicit, in_spots, laid_children, stood}
+use Rattle.ecma_print.specs.Explicit.{bare, explicit, in_spots, laid_children, stood}
 use Rattle.ecma_print_parentheses.proofs.Asking.{open_where_free}
 use Rattle.ecma_print_parentheses.proofs.Standing.{if_false, stands}
-use Rattle.ecma_print_shapes.specs.Items.{has_plain_items, is_external, is_plain_item, is_plain_kind}
 use Rattle.ecma_print_shapes.proofs.Sound.{children_made, kind_made}
+use Rattle.ecma_plain.specs.Items.{has_plain_items, is_external, is_plain_item, is_plain_kind}
 
 -- a node where nothing stands around
 layer_free : (x : Node-F Node) → (stood (roll-Node x)).at (free 0) ≡ bare x.span x.kind (map stood x.children) (free 0)

@@ -21,7 +21,7 @@ use Rattle.ecma_text_leaves.specs.Everywhere.{Everywhere}
 use Rattle.ecma_scope.specs.Laws.{without_contexts}
 use Rattle.ecma_print.specs.Layout.{layout}
 use Rattle.ecma_print_congruence.proofs.Layouts.{contexts_do_not_matter_to_layouts}
-use Rattle.ecma_print_parentheses.specs.Explicit.{explicit}
+use Rattle.ecma_print.specs.Explicit.{explicit}
 use Rattle.ecma_print_parentheses.proofs.Lacks.{none_are_lacking}
 use Rattle.ecma_print_parentheses.proofs.Laying.{layout_stays}
 use Rattle.ecma_print_covers.proofs.Covering.{covers_keep_the_layout}
@@ -32,16 +32,16 @@ use Rattle.ecma_print_fits.proofs.Placed.{stands_placed}
 use Rattle.ecma_print_fits.proofs.Strayless.{unbroken_covers}
 use Rattle.ecma_print_fits.proofs.Usual.{what_fits_has_usual_defaults}
 use Rattle.ecma_print_explicit.proofs.Explicit.{trees_fit}
-use Rattle.ecma_print_shapes.specs.Forms.{IsTaken}
-use Rattle.ecma_print_shapes.specs.Items.{HasUtf8Hashbang}
 use Rattle.ecma_print_shapes.proofs.Forming.{modules_have_shapes}
-use Rattle.ecma_print_reread.specs.Modules.{IsModule}
 use Rattle.ecma_print_reread.proofs.Law.{modules_read}
 use Rattle.ecma_round_trip.specs.Laws.{IsReadAgain, WhatFitsIsReadAgain}
-use Rattle.ecma_round_trip.specs.Plain.{IsPlain}
 use Rattle.ecma_round_trip.proofs.Functions.{functions_stay}
 use Rattle.ecma_round_trip.proofs.Items.{kind_free, plain_items_stay}
 use Rattle.ecma_round_trip.proofs.Standing.{everywhere_explicit, not_found}
+use Rattle.ecma_plain.specs.Forms.{IsTaken}
+use Rattle.ecma_plain.specs.Items.{HasUtf8Hashbang}
+use Rattle.ecma_shapes.specs.Modules.{IsModule}
+use Rattle.ecma_plain.specs.Plain.{IsPlain}
 
 -- no pattern of what is plain has a `?`
 no_optional_pattern : (k : Kind) → IsTaken k → is_optional_pattern k ≡ false

@@ -4,9 +4,9 @@ use Rattle.ecma_tree.specs.declared.node.Node.{Node}
 use Rattle.ecma_tree.specs.Spans.{without_spans}
 use Rattle.ecma_scope.specs.Laws.{without_contexts}
 use Rattle.ecma_print.specs.Layout.{layout}
-use Rattle.ecma_print_parentheses.specs.Explicit.{explicit}
+use Rattle.ecma_print.specs.Explicit.{explicit}
 use Rattle.ecma_modules.specs.Modules.{plain, reads_as}
-use Rattle.ecma_round_trip.specs.Plain.{IsPlain}
+use Rattle.ecma_plain.specs.Plain.{IsPlain}
 
 -- a tree is what the layout of a module is read as, up to spans: the module without contexts, in which the parentheses of the layout are nodes
 abbrev pub IsReadAgain : Node → Node → Type 0

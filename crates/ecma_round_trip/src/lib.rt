@@ -1,6 +1,6 @@
 //! A law: what fits is read again as it is printed.
 //!
-//! The function carries the law over the definitions, and does nothing. The law is stated in `specs/`.
+//! The function carries the law over the definitions, and does nothing. The law is stated in `specs/Laws.antt`.
 #![tactic(auto)]
 
 ghost use Rattle.ecma_round_trip.specs.Laws.{WhatFitsIsReadAgain};

@@ -3,7 +3,7 @@ use Rattle.std.proofs.Common.{◌≡◌, ◌≤◌, ℕ, List, Ok, subst}
 use Rattle.ecma_tree.specs.declared.node.Node.{Node}
 use Rattle.ecma_modules.specs.Modules.{plain, reads_as}
 use Rattle.ecma_round_trip.specs.Laws.{IsReadAgain, WhatFitsIsReadAgain}
-use Rattle.ecma_round_trip_literals.specs.Again.{WrittenLiteralsAreReadAgain}
+use Rattle.ecma_round_trip_literals.specs.Laws.{WrittenLiteralsAreReadAgain}
 use Rattle.ecma_round_trip_literals.specs.Sources.{with_sources}
 use Rattle.ecma_round_trip_literals.proofs.Layouts.{sources_do_not_matter_to_layouts}
 use Rattle.ecma_round_trip_literals.proofs.PlainTrees.{plain_with_sources}

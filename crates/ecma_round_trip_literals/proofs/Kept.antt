@@ -12,15 +12,13 @@ use Rattle.ecma_tree.specs.Laws.{KeepsShapes}
 use Rattle.ecma_tree.specs.Nodes.{node_of}
 use Rattle.ecma_tree.specs.Sorted.{HasSort, allows, allows_by, child_shapes, one}
 use Rattle.ecma_tree.proofs.ShapeLaws.{changes_keep_shapes}
-use Rattle.ecma_tree.proofs.Layers.{from_leaves_out}
 use Rattle.ecma_text_leaves.specs.Everywhere.{Each, Everywhere, everywhere, more, none}
 use Rattle.ecma_text_leaves.proofs.Trees.{children_made, kind_made}
 use Rattle.ecma_leaves.specs.Words.{is_spelled}
 use Rattle.ecma_rules.specs.Children.{is_named, kind_of}
 use Rattle.ecma_rules.specs.Failing.{failing_here, failing_step, least, least_from}
 use Rattle.ecma_rules.specs.Members.{second_constructor}
-use Rattle.ecma_rules.specs.Jumps.{first_stray}
-use Rattle.ecma_rules.specs.Jumps.{Held, held_in, not_held as no_jump_held, stray_here}
+use Rattle.ecma_rules.specs.Jumps.{first_stray, Held, held_in, not_held as no_jump_held, stray_here}
 use Rattle.ecma_fits.specs.declared.role.Role.{Role}
 use Rattle.ecma_fits.specs.declared.role.Role.TheVariants as role
 use Rattle.ecma_fits.specs.declared.strays.Arguments.{Arguments}
@@ -28,12 +26,13 @@ use Rattle.ecma_fits.specs.declared.unfit.Where.{Where}
 use Rattle.ecma_fits.specs.Fitting.{at_top, breaks_rule, first_unfit_in, is_misplaced, is_misshapen, is_unfit, unfit_here, where_in}
 use Rattle.ecma_fits.specs.Roles.{is_assigned, is_bound_name, is_out_of_role, is_tagged, is_wrong_name, may_be, role_in, takes}
 use Rattle.ecma_fits.specs.Strays.{arguments_in, is_stray_target}
-use Rattle.ecma_round_trip_literals.specs.Laws.{KeepsSpelling, WhatFitsFitsWithSources}
-use Rattle.ecma_round_trip_literals.specs.Sources.{IsWritable, with_source, with_sources}
+use Rattle.ecma_round_trip_literals.specs.Sources.{KeepsSpelling, IsWritable, with_source, with_sources}
+use Rattle.ecma_round_trip_literals.specs.Laws.{WhatFitsFitsWithSources}
 use Rattle.ecma_round_trip_literals.proofs.Moved.{Blind, Same, blind, child_same, children_moved, children_of, kind_moved, kind_same, to, walk_same}
 use Rattle.ecma_round_trip_literals.proofs.Spelled.{writable_literals_keep_spelling}
 use Rattle.ecma_round_trip_literals.proofs.Tests.{chains_same, dangling_same, members_same as misread_same, short_same, simple_same}
 use Rattle.ecma_round_trip_literals.proofs.Rules.{around_same, constructors_same, held_same, lists_same, members_same, statements_same, stray_place_same}
+use Rattle.ecma_tree.proofs.Layers.{from_leaves_out}
 
 misshapen_same : Same is_misshapen
 misshapen_same n = ap₂ (λ a b. a || b) (short_same n) (ap₂ (λ a b. a || b) (dangling_same n) (ap₂ (λ a b. a || b) (chains_same n) (misread_same n)))

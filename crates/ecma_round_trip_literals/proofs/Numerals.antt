@@ -7,7 +7,7 @@ use Rattle.std.specs.Int.RustNames.{int_lt}
 use Rattle.std.specs.List.{list_all}
 use Rattle.std.specs.Str.{IsAscii, IsUtf8, chars}
 use Rattle.std.proofs.Math.Seq.{take-append_seam}
-use Rattle.std.proofs.lemmas.Bool.{and_parts, false≢true}
+use Rattle.std.proofs.lemmas.Bool.{and_parts, false≢true, and_from}
 use Rattle.std.proofs.lemmas.Bool.Decides.{nat_tests}
 use Rattle.std.proofs.lemmas.Fmt.{decimal_digit, decimal_is_IsNumeral, first_decimal, length-decimal-le}
 use Rattle.std.proofs.lemmas.Slice.Eq.{bytes_eq-Decides}
@@ -30,7 +30,6 @@ use Rattle.ecma_print_tokens.specs.Good.{IsToken}
 use Rattle.ecma_print_tokens.specs.Items.{big_int as big_token, number as number_token}
 use Rattle.ecma_print_tokens.proofs.Numerals.{big_again}
 use Rattle.ecma_leaves.specs.Words.{digits_of, is_decimal, is_empty, is_natural, is_no_separator, is_number, is_one, is_readable, is_value, is_whole}
-use Rattle.ecma_text_fits.proofs.Sound.{both_true}
 use Rattle.ecma_round_trip_literals.specs.Laws.{WrittenBigIntsAreSpelled, WrittenNumbersAreSpelled}
 use Rattle.ecma_round_trip_literals.specs.Sources.{big_text}
 use Rattle.ecma_round_trip_literals.proofs.Digits.{are_digits, digit_in_range, integer_before_mark, number_alone, whole_number}
@@ -87,8 +86,8 @@ unfolding lex.big chars
 written_big_ints_are_spelled value short is =
     let w = big_text value in
     let token = big_is_token value is in
-    both_true (is_one lex.big w) (bytes_eq value (digits_of w))
-    (both_true (is_readable w) (is_whole w (term big_end w 0)) short (by_itself (big_token w) big_end token refl token.whole))
+    and_from (is_one lex.big w) (bytes_eq value (digits_of w))
+    (and_from (is_readable w) (is_whole w (term big_end w 0)) short (by_itself (big_token w) big_end token refl token.whole))
     ((bytes_eq-Decides value (digits_of w)).1 (sym (big_digits value is)))
 
 -- ---- Numbers
@@ -97,7 +96,7 @@ no_less : (a : ℕ) → not (int_lt (pos a) (pos a)) ≡ true
 no_less n = let e : nat_lt n n ≡ false = grind (arith, nat_tests) in rw e refl
 
 same_value : (n : ℕ) → is_value (Some (Whole (pos n))) (Some (Whole (pos n))) ≡ true
-same_value n = both_true (not (int_lt (pos n) (pos n))) (not (int_lt (pos n) (pos n))) (no_less n) (no_less n)
+same_value n = and_from (not (int_lt (pos n) (pos n))) (not (int_lt (pos n) (pos n))) (no_less n) (no_less n)
 
 above_zero : (ds : List ℕ) → list_all is_ascii_digit ds ≡ true → 0 < length ds → (eqb (length ds) 0 ≡ false → 48 < get_or ds 0 0) → is_decimal ds ≡ true
 above_zero [] all some first = absurd (omega arith)
@@ -105,7 +104,7 @@ above_zero (c ∷ cs) all some first =
     let n : eqb (length (c ∷ cs)) 0 ≡ false = grind (arith, nat_tests) in
     let above : 48 < c = first n in
     let e : eqb c 48 ≡ false = grind (arith, nat_tests) in
-    both_true (list_all is_ascii_digit (c ∷ cs)) (not (eqb c 48) || is_empty cs) all (rw e refl)
+    and_from (list_all is_ascii_digit (c ∷ cs)) (not (eqb c 48) || is_empty cs) all (rw e refl)
 
 module _ (n : ℕ) (safe : n < 2 ^ 64) where
   is_decimal_text : is_decimal (decimal n) ≡ true
@@ -159,8 +158,8 @@ number_spelled n safe =
     let value = numeral_value n small in
     let in_domain : is_safe (pos n) ≡ true = grind (arith, nat_tests) in
     let says : numeral_of w ≡ Some (Whole (pos n)) = numeral_is n small ∙ value.2 ∙ whole_of_size n in_domain in
-    both_true (is_one lex.num w) (is_value (Some (Whole (pos n))) (numeral_of w))
-    (both_true (is_readable w) (is_whole w (term num_end w 0)) (number_is_readable n small) (by_itself (number_token w) num_end token refl token.whole))
+    and_from (is_one lex.num w) (is_value (Some (Whole (pos n))) (numeral_of w))
+    (and_from (is_readable w) (is_whole w (term num_end w 0)) (number_is_readable n small) (by_itself (number_token w) num_end token refl token.whole))
     (ap (is_value (Some (Whole (pos n)))) says ∙ same_value n)
 
 pub written_numbers_are_spelled : WrittenNumbersAreSpelled

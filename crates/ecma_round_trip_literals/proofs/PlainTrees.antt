@@ -18,17 +18,17 @@ use Rattle.ecma_rules.specs.Jumps.{first_stray}
 use Rattle.ecma_fits.specs.declared.unfit.Where.{Where}
 use Rattle.ecma_fits.specs.Fitting.{at_top, first_unfit_in, unfit_here, where_in}
 use Rattle.ecma_fits.specs.Roles.{is_tagged}
-use Rattle.ecma_print_shapes.specs.Forms.{IsTaken}
-use Rattle.ecma_print_shapes.specs.Functions.{Functions, functions, functions_step}
-use Rattle.ecma_print_shapes.specs.Items.{HasUtf8Hashbang, has_plain_items, is_external, is_plain_item, is_plain_kind}
-use Rattle.ecma_round_trip.specs.Plain.{IsPlain}
-use Rattle.ecma_round_trip_literals.specs.Again.{IsPlainWithoutSources, IsTakenWithoutSource}
+use Rattle.ecma_round_trip_literals.specs.Writable.{IsPlainWithoutSources, IsTakenWithoutSource}
 use Rattle.ecma_round_trip_literals.specs.Sources.{IsWritable, with_source, with_sources}
 use Rattle.ecma_round_trip_literals.proofs.Kept.{first-out, none_least, spelled_here, what_fits_fits_with_sources}
 use Rattle.ecma_round_trip_literals.proofs.Moved.{Same, all_same, blind, child_same, children_of, fold_same, items_same, kind_moved, to}
 use Rattle.ecma_round_trip_literals.proofs.Numerals.{big_utf8, number_utf8}
 use Rattle.ecma_round_trip_literals.proofs.Tests.{by_kind}
 use Rattle.ecma_round_trip_literals.proofs.Texts.{made_utf8}
+use Rattle.ecma_plain.specs.Forms.{IsTaken}
+use Rattle.ecma_plain.specs.Functions.{Functions, functions, functions_step}
+use Rattle.ecma_plain.specs.Items.{HasUtf8Hashbang, has_plain_items, is_external, is_plain_item, is_plain_kind}
+use Rattle.ecma_plain.specs.Plain.{IsPlain}
 
 -- ---- contexts and source texts have nothing to do with each other
 

@@ -1,5 +1,6 @@
 -- The text that is made for a value is a string literal, which says the value.
 use Rattle.std.proofs.Common.{◌≡◌, ◌∙◌, ℕ, ◌+◌, ◌-◌, true, false, List, [], ◌∷◌, ◌++◌, length, length-append, bytes_eq, Some, refl, sym, ap, subst, arith}
+use Rattle.std.proofs.lemmas.Bool.{and_from}
 use Rattle.std.specs.Prelude.{unwrap_or}
 use Rattle.std.specs.Str.{IsUtf8, chars}
 use Rattle.std.proofs.lemmas.Slice.Eq.{bytes_eq-Decides}
@@ -19,7 +20,6 @@ use Rattle.ecma_lex.proofs.Suffixes.{Stands, cut_ascii, cut_utf8, past, piece_he
 use Rattle.ecma_print_tokens.specs.Good.{IsToken}
 use Rattle.ecma_print_tokens.specs.Items.{string as string_token}
 use Rattle.ecma_leaves.specs.Words.{is_one, is_readable, is_string, is_whole}
-use Rattle.ecma_text_fits.proofs.Sound.{both_true}
 use Rattle.ecma_print.specs.Escapes.{escaped, made_text}
 use Rattle.ecma_round_trip_literals.specs.Laws.{WrittenTextsAreSpelled}
 use Rattle.ecma_round_trip_literals.proofs.Characters.{escaped_is_written, written_all}
@@ -99,8 +99,8 @@ module _ (cs : List ℕ) (h : scalars cs ≡ true) where
   unfolding strings.str_lit
   text_spelled short =
       let token = is_string_token in
-      both_true (is_one strings.str_lit text) (bytes_eq (str_value (piece text 1 (length text - 1))) (encodes cs))
-      (both_true (is_readable text) (is_whole text (term str_end text 0)) short (by_itself (string_token text) str_end token tt token.whole))
+      and_from (is_one strings.str_lit text) (bytes_eq (str_value (piece text 1 (length text - 1))) (encodes cs))
+      (and_from (is_readable text) (is_whole text (term str_end text 0)) short (by_itself (string_token text) str_end token tt token.whole))
       ((bytes_eq-Decides (str_value (piece text 1 (length text - 1))) (encodes cs)).1 says)
 
 made_is : (value : List ℕ) → IsUtf8 value → 34 ∷ written_all (chars value) ++ 34 ∷ [] ≡ made_text value

@@ -1,5 +1,5 @@
--- What is said of the texts that are written for literals.
-use Rattle.std.specs.Prelude.{◌≡◌, ℕ, Bool, true, List, Some}
+-- What is said of the texts that are written for literals, and that a module whose literals lack source texts is read again as it is printed.
+use Rattle.std.specs.Prelude.{◌≡◌, ℕ, Bool, true, List, Some, ◌≤◌, Ok}
 use Rattle.std.specs.Str.{IsUtf8}
 use Rattle.ecma_number.specs.declared.js_number.JsNumber.{JsNumber}
 use Rattle.ecma_number.specs.JsNumber.{value_of}
@@ -8,11 +8,14 @@ use Rattle.ecma_number.specs.Text.{text_of}
 use Rattle.ecma_tree.specs.declared.node.Node.{Node}
 use Rattle.ecma_kind.specs.declared.kind.Kind.{Kind}
 use Rattle.ecma_text_leaves.specs.Everywhere.{Everywhere}
-use Rattle.ecma_leaves.specs.Words.{is_big_int, is_decimal, is_natural, is_number, is_readable, is_spelled, is_string}
+use Rattle.ecma_leaves.specs.Words.{is_big_int, is_decimal, is_natural, is_number, is_readable, is_string}
 use Rattle.ecma_fits.specs.Fitting.{Fits}
 use Rattle.ecma_print.specs.Escapes.{made_text}
 use Rattle.ecma_print.specs.Layout.{layout}
-use Rattle.ecma_round_trip_literals.specs.Sources.{IsWritable, big_text, with_source, with_sources}
+use Rattle.ecma_modules.specs.Modules.{plain, reads_as}
+use Rattle.ecma_round_trip.specs.Laws.{IsReadAgain}
+use Rattle.ecma_round_trip_literals.specs.Sources.{IsWritable, big_text, with_sources, KeepsSpelling}
+use Rattle.ecma_round_trip_literals.specs.Writable.{IsPlainWithoutSources}
 
 -- a layout shows each literal by its source text, or else by that very text
 abbrev pub SourcesDoNotMatterToLayouts : Type 0
@@ -30,14 +33,15 @@ WrittenNumbersAreSpelled = (value : JsNumber) → IsSafe (value_of value) → is
 abbrev pub WrittenTextsAreSpelled : Type 0
 WrittenTextsAreSpelled = (value : List ℕ) → IsUtf8 value → is_readable (made_text value) ≡ true → is_string value (Some (made_text value)) ≡ true
 
--- with its source text a literal is spelled as without
-abbrev pub KeepsSpelling : Kind → Type 0
-KeepsSpelling k = (tagged : Bool) → is_spelled tagged k ≡ true → is_spelled tagged (with_source k) ≡ true
-
--- where it is writable, it is
+-- where a literal is writable, it is spelled with its source text as without
 abbrev pub WritableLiteralsKeepSpelling : Type 0
 WritableLiteralsKeepSpelling = (k : Kind) → IsWritable k → KeepsSpelling k
 
 -- what fits fits with source texts, where each literal without one is writable
 abbrev pub WhatFitsFitsWithSources : Type 0
 WhatFitsFitsWithSources = (tree : Node) → Everywhere IsWritable tree → Fits tree → Fits (with_sources tree)
+
+-- the layout of a module is read again as the tree with source texts, with some number of levels and with any larger one
+abbrev pub WrittenLiteralsAreReadAgain : Type 0
+WrittenLiteralsAreReadAgain = (assignments : Bool) (tree : Node) → IsPlainWithoutSources assignments tree
+    → (enough : ℕ) × ((bound : ℕ) → enough ≤ bound → (again : Node) × (reads_as (layout tree) (plain assignments) bound ≡ Ok again) × IsReadAgain (with_sources tree) again)

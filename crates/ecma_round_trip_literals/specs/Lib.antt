@@ -1,3 +1,3 @@
 pub mod Sources
+pub mod Writable
 pub mod Laws
-pub mod Again

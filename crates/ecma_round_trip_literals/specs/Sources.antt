@@ -1,5 +1,5 @@
 -- Trees whose literals have source texts: a literal without one gets the text that is written for it (ECMAScript, 12.9.3, 12.9.4).
-use Rattle.std.specs.Prelude.{◌≡◌, ℕ, true, List, ◌++◌, Option, Some, None, codes}
+use Rattle.std.specs.Prelude.{◌≡◌, ℕ, true, List, ◌++◌, Option, Some, None, codes, Bool}
 use Rattle.std.specs.Str.{IsUtf8}
 use Rattle.ecma_number.specs.declared.js_number.JsNumber.{JsNumber}
 use Rattle.ecma_number.specs.JsNumber.{value_of}
@@ -9,7 +9,7 @@ use Rattle.ecma_kind.specs.declared.kind.Kind.{Kind}
 use Rattle.ecma_kind.specs.declared.kind.Kind.TheVariants.{Str, Number, BigInt}
 use Rattle.ecma_tree.specs.declared.node.Node.{Node}
 use Rattle.ecma_tree.specs.Changing.{changed}
-use Rattle.ecma_leaves.specs.Words.{is_readable}
+use Rattle.ecma_leaves.specs.Words.{is_readable, is_spelled}
 use Rattle.ecma_print.specs.Escapes.{made_text}
 
 -- the source text that is there, or else this one
@@ -42,3 +42,7 @@ IsWritable (Str value None) = IsUtf8 value × (is_readable (made_text value) ≡
 IsWritable (Number (Some value) None) = IsSafe (value_of value)
 IsWritable (BigInt value None) = is_readable (big_text value) ≡ true
 IsWritable _ = Unit {0}
+
+-- with its source text a literal is spelled as without
+abbrev pub KeepsSpelling : Kind → Type 0
+KeepsSpelling k = (tagged : Bool) → is_spelled tagged k ≡ true → is_spelled tagged (with_source k) ≡ true

@@ -1,10 +1,9 @@
 //! Laws of the texts that are written for literals without source text.
 //!
-//! Each function carries laws over the definitions, and does nothing. The laws are stated in `specs/`.
+//! Each function carries laws over the definitions, and does nothing. The laws are stated in `specs/Laws.antt`.
 #![tactic(auto)]
 
-ghost use Rattle.ecma_round_trip_literals.specs.Again.{WrittenLiteralsAreReadAgain};
-ghost use Rattle.ecma_round_trip_literals.specs.Laws.{SourcesDoNotMatterToLayouts, WhatFitsFitsWithSources, WritableLiteralsKeepSpelling, WrittenBigIntsAreSpelled, WrittenNumbersAreSpelled, WrittenTextsAreSpelled};
+ghost use Rattle.ecma_round_trip_literals.specs.Laws.{SourcesDoNotMatterToLayouts, WhatFitsFitsWithSources, WritableLiteralsKeepSpelling, WrittenBigIntsAreSpelled, WrittenLiteralsAreReadAgain, WrittenNumbersAreSpelled, WrittenTextsAreSpelled};
 
 use ecma_round_trip::what_fits_is_read_again;
 

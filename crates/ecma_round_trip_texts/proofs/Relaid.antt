@@ -2,21 +2,21 @@
 use Rattle.std.proofs.Common.{◌≡◌, ◌∙◌, true, false, sym, ap, subst, arith}
 use Rattle.ecma_tree.specs.declared.node.Node.{Node}
 use Rattle.ecma_tree.specs.Spans.{without_spans}
-use Rattle.ecma_print_parentheses.specs.Explicit.{explicit}
+use Rattle.ecma_print.specs.Explicit.{explicit}
 use Rattle.ecma_text_leaves.specs.Everywhere.{Everywhere}
 use Rattle.ecma_rules.specs.Children.{kind_of}
-use Rattle.ecma_print_shapes.specs.Forms.{IsTaken}
-use Rattle.ecma_print_shapes.specs.Functions.{functions}
-use Rattle.ecma_print_shapes.specs.Items.{HasUtf8Hashbang, has_plain_items}
-use Rattle.ecma_text_plain.specs.Functions.{FunctionsAreUsualByTests, ReadPlainFunctionsHaveBodies, ReadPlainNamesAreNotThis}
-use Rattle.ecma_text_plain.specs.Plain.{PlainTextsWithoutAssignmentsHavePlainItems, ReadPlainTreesAreTaken}
+use Rattle.ecma_text_plain.specs.Laws.{FunctionsAreUsualByTests, ReadPlainFunctionsHaveBodies, ReadPlainNamesAreNotThis, PlainTextsWithoutAssignmentsHavePlainItems, ReadPlainTreesAreTaken}
 use Rattle.ecma_round_trip.specs.Laws.{WhatFitsIsReadAgain}
-use Rattle.ecma_round_trip.specs.Plain.{IsPlain}
 use Rattle.ecma_scope.specs.Laws.{without_contexts}
-use Rattle.ecma_text_sources.specs.Sources.{IsRead, ReadTreesAreRead}
+use Rattle.ecma_plain.specs.Read.{IsRead}
+use Rattle.ecma_text_sources.specs.Laws.{ReadTreesAreRead}
 use Rattle.ecma_text_sources.proofs.Sources.{tree_stays}
 use Rattle.ecma_modules.specs.Modules.{plain}
-use Rattle.ecma_round_trip_texts.specs.Relaid.{RelaidModulesAreReadAgain}
+use Rattle.ecma_round_trip_texts.specs.Laws.{RelaidModulesAreReadAgain}
+use Rattle.ecma_plain.specs.Forms.{IsTaken}
+use Rattle.ecma_plain.specs.Functions.{functions}
+use Rattle.ecma_plain.specs.Items.{HasUtf8Hashbang, has_plain_items}
+use Rattle.ecma_plain.specs.Plain.{IsPlain}
 
 pub record Laws : Type 0 where
   pub reads : ReadTreesAreRead

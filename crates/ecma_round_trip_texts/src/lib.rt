@@ -1,9 +1,9 @@
 //! A law of plain modules that are laid out anew: they are read again as they were read.
 //!
-//! The function carries the law over the definitions, and does nothing. The law is stated in `specs/`.
+//! The function carries the law over the definitions, and does nothing. The law is stated in `specs/Laws.antt`.
 #![tactic(auto)]
 
-ghost use Rattle.ecma_round_trip_texts.specs.Relaid.{RelaidModulesAreReadAgain};
+ghost use Rattle.ecma_round_trip_texts.specs.Laws.{RelaidModulesAreReadAgain};
 
 use ecma_round_trip::what_fits_is_read_again;
 use ecma_text_plain::{

@@ -1,4 +1,5 @@
--- The finished tree: what is assigned to is a pattern where it was read as a literal (ECMAScript, 13.15.5: it covers an assignment pattern).
+-- The finished tree: what is assigned to is a pattern where it was read as a literal. The literals are the cover grammar of assignment patterns (ECMAScript,
+-- 13.15.5), and this refines them.
 use Rattle.std.specs.Prelude.{ℕ, suc, false, List, [], ◌∷◌, ◌++◌}
 use Rattle.ecma_kind.specs.declared.operators.AssignOp.{AssignOp}
 use Rattle.ecma_kind.specs.declared.operators.AssignOp.TheVariants.{Assign}
@@ -14,7 +15,7 @@ use Rattle.ecma_rules.specs.Targets.{target_in}
 abbrev pub with_kind : Kind → Node-F Node → Node
 with_kind k parts = node_of parts.span k parts.children
 
--- and with room for a type behind its children
+-- and with room for a type after its children
 abbrev pub with_type : Kind → Node-F Node → Node
 with_type k parts = node_of parts.span k (parts.children ++ absent ∷ [])
 
@@ -27,6 +28,8 @@ abbrev pub shorthand : Node → Node
 shorthand name = node_of (out-Node name).span kind.AssignPatProp (binding name ∷ absent ∷ [])
 
 -- the left of an assignment: a name stays
+--   [a] = b;   // an ArrayPat
+--   a = b;   // an Ident still
 abbrev pub left_by : Kind → Node-F Node → Node
 left_by kind.ArrayLit parts = with_type (kind.ArrayPat false) parts
 left_by kind.ObjectLit parts = with_type (kind.ObjectPat false) parts
@@ -37,6 +40,7 @@ name_by (kind.Ident sym ctxt optional) parts = binding (roll-Node parts)
 name_by _ parts = roll-Node parts
 
 -- a target in a pattern, or before `in` or `of`
+--   for (a of b); [c] = d;   // a and c are BindingIdents
 abbrev pub part_by : Kind → Node-F Node → Node
 part_by (kind.Ident sym ctxt optional) parts = binding (roll-Node parts)
 part_by k parts = left_by k parts
@@ -45,11 +49,13 @@ abbrev pub default_by : AssignOp → Node-F Node → Node
 default_by Assign parts = with_kind kind.AssignPat parts
 default_by _ parts = roll-Node parts
 
+--   [a = 1, ...b] = c;   // an AssignPat, a RestPat
 abbrev pub element_by : Kind → Node-F Node → Node
 element_by kind.SpreadElement parts = with_type kind.RestPat parts
 element_by (kind.AssignExpr op) parts = default_by op parts
 element_by k parts = part_by k parts
 
+--   ({ a, b: c, d = 1, ...e } = f);   // AssignPatProp, KeyValuePatProp, AssignPatProp, RestPat
 abbrev pub property_by : Kind → Node-F Node → Node
 property_by kind.KeyValueProp parts = with_kind kind.KeyValuePatProp parts
 property_by kind.AssignProp parts = with_kind kind.AssignPatProp parts

@@ -27,6 +27,8 @@ abbrev pub label_of : Node → Option (List ℕ)
 label_of node = text_of (slice_get (out-Node node).children 0)
 
 -- a jump without a label is one to the innermost loop or `switch`
+--   namespace N { a: for (;;) { break; continue a; } }
+--   namespace N { break; }   // refused
 abbrev pub is_stray_jump : Bool → Held → Option (List ℕ) → Bool
 is_stray_jump unlabeled held None = unlabeled
 is_stray_jump unlabeled held (Some label) = held.strays.held && not (list_any (λ l. bytes_eq l label) held.labels)
@@ -37,10 +39,14 @@ is_stray_in held kind.ContinueStmt label = is_stray_jump held.strays.continuing 
 is_stray_in held k label = is_stray held.strays k
 
 -- a node that belongs to nothing inside the enum initialiser or namespace body around it
+--   enum E { A = f(function () { return this; }) }
+--   enum E { A = this.b }   // refused
 abbrev pub is_held_stray : Held → Node → Bool
 is_held_stray held node = is_stray_in held (kind_of node) (label_of node)
 
 -- no jump leaves a node of this kind
+--   namespace N { a: for (;;) { break a; } }
+--   namespace N { a: for (;;) { () => { break a; }; } }   // refused
 unfoldable pub ends_jumps : Kind → Bool
 ends_jumps (kind.Function is_generator is_async) = true
 ends_jumps (kind.ArrowExpr is_async is_generator) = true
@@ -83,5 +89,7 @@ abbrev pub not_held : Held
 not_held = record { strays = nothing_held; labels = [] }
 
 -- the least place of a stray
+--   namespace N { function f() { return arguments; } }
+--   namespace N { return a; }   // refused
 abbrev pub first_stray : Node → Option ℕ
 first_stray tree = first_held_stray tree not_held

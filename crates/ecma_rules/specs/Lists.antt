@@ -19,10 +19,13 @@ is_item target.Property = true
 is_item _ = false
 
 -- a rest parameter, element or property
+--   function f(...a) { } [...b] = c; ({ ...d } = e);
 abbrev pub is_rest : Target → Kind → Bool
 is_rest t k = is_rest_pattern k || (is_item t && is_spread k)
 
 -- one that does not stand last
+--   function f(a, ...b) { }
+--   function f(...a, b) { }   // refused
 abbrev pub is_early_rest : Target → Bool → Node → Bool
 is_early_rest t is_last node = is_rest t (kind_of node) && not is_last
 
@@ -38,6 +41,8 @@ abbrev pub last_in : Bool → Node → ℕ → Bool
 last_in is_last node i = last_by is_last (kind_of node) (length (out-Node node).children) i
 
 -- one declarator without a value
+--   for (let a of b);
+--   for (let a = 1 of b);   // refused
 abbrev pub is_one_without_value : List Node → Bool
 is_one_without_value (declarator ∷ []) = not (has_child declarator 1)
 is_one_without_value _ = false
@@ -47,5 +52,7 @@ is_head target.Head = true
 is_head _ = false
 
 -- a declaration before `in` or `of` of a loop that is otherwise
+--   for (const [a, b] of c);
+--   for (let a, b of c);   // refused
 abbrev pub is_wrong_head : Target → Node → Bool
 is_wrong_head t node = (is_head t && is_variables (kind_of node)) && not (is_one_without_value (items_at node 0))

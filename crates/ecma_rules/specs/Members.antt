@@ -35,10 +35,13 @@ is_declaring standing.Declaring = true
 is_declaring _ = false
 
 -- a parameter with modifiers that is none of a constructor with a body, or no plain name
+--   class A { constructor(private b, readonly c = 1) { } }
+--   function f(private a) { }   // refused
 abbrev pub is_stray_property : Standing → Node → Bool
 is_stray_property s node = is_property_kind (kind_of node) && not (is_declaring s && child_holds is_plain_parameter node 0)
 
 -- the parameter `this`, which is a type of the function and no parameter
+--   function f(this: T) { }
 abbrev pub is_this_by : Kind → Node → Bool
 is_this_by kind.BindingIdent node = child_is (is_named (codes "this")) node 0
 is_this_by _ node = false
@@ -53,7 +56,9 @@ is_this_parameter node = child_holds is_this_pattern node 0
 abbrev pub takes_one : Node → Bool
 takes_one parameter = not (is_this_parameter parameter) && not (child_is is_rest_pattern parameter 0)
 
--- one parameter, perhaps behind one `this`
+-- one parameter, perhaps after one `this`
+--   class A { set b(c) { } }
+--   class A { set b() { } }   // refused
 abbrev pub is_one_parameter : List Node → Bool
 is_one_parameter (parameter ∷ []) = takes_one parameter
 is_one_parameter (first ∷ parameter ∷ []) = is_this_parameter first && takes_one parameter
@@ -68,6 +73,8 @@ abbrev pub parameters_of : Node → List Node
 parameters_of function = items_at function 0
 
 -- whether an accessor of a class has the parameters that its kind asks for
+--   class A { get b() { return 1; } set b(c) { } }
+--   class A { get b(c) { return 1; } }   // refused
 abbrev pub fits_kind : MethodKind → Node → Bool
 fits_kind Method function = true
 fits_kind Getter function = is_empty_list (parameters_of function)
@@ -79,6 +86,8 @@ takes_not_one k = is_list k || is_rest_pattern k
 
 -- a rest with a default; a getter with a parameter, or a setter that does not take one argument; those of objects keep the parameters that they may not have
 -- as a list
+--   ({ get a() { return 1; }, set a(b) { } });
+--   (...a = b) => c;   // refused
 unfoldable pub misfits_by : Kind → Node → Bool
 misfits_by kind.AssignPat node = child_is is_rest_pattern node 0
 misfits_by kind.GetterProp node = has_child node 3
@@ -94,8 +103,10 @@ abbrev pub behind_first : List Node → List Node
 behind_first [] = []
 behind_first (first ∷ others) = others
 
--- a function with a parameter `this` behind its first one, or one of which no parameter is `this`: an arrow function, a constructor, and a setter of an object
+-- a function with a parameter `this` after its first one, or one of which no parameter is `this`: an arrow function, a constructor, and a setter of an object
 -- beside its own `this`
+--   function f(this: T, a) { }
+--   function f(a, this: T) { }   // refused
 unfoldable pub misplaces_this_by : Kind → Node → Bool
 misplaces_this_by (kind.Function is_generator is_async) node = list_any is_this_parameter (behind_first (items_at node 0))
 misplaces_this_by (kind.ArrowExpr is_async is_generator) node = list_any is_this_pattern (items_at node 0)
@@ -122,6 +133,8 @@ second_by (kind.Class is_abstract) node = second_of (filter is_full_constructor 
 second_by _ node = None
 
 -- the place of the second constructor of a class that has a body: a class has one at most
+--   class A { constructor(b); constructor(b, c?) { } }
+--   class A { constructor() { } constructor() { } }   // refused
 abbrev pub second_constructor : Node → Option ℕ
 second_constructor node = second_by (kind_of node) node
 
@@ -148,5 +161,7 @@ is_special_by (kind.ClassMethod k modifiers) node =
 is_special_by _ node = false
 
 -- a constructor that is an accessor, a generator or async
+--   class A { async ["constructor"]() { } }   // a key in brackets
+--   class A { async constructor() { } }   // refused
 abbrev pub is_special_constructor : Node → Bool
 is_special_constructor node = is_special_by (kind_of node) node

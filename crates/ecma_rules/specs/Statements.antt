@@ -18,6 +18,8 @@ is_exported standing.Exported = true
 is_exported _ = false
 
 -- a quoted name for what an export without a source takes from its own module
+--   export { "a" } from "m";
+--   export { "a" };   // refused
 abbrev pub is_quoted_local : Standing → Node → Bool
 is_quoted_local s node = is_exported s && is_text (kind_of node)
 
@@ -26,6 +28,7 @@ is_lexical Var = false
 is_lexical _ = true
 
 -- a declaration other than a `var` without `declare`
+--   { let a; function f() { } }
 unfoldable pub is_declaration : Kind → Bool
 is_declaration (kind.FnDecl declare) = true
 is_declaration (kind.ClassDecl declare) = true
@@ -41,5 +44,7 @@ is_body standing.Body = true
 is_body _ = false
 
 -- one as the body of an `if`, an `else`, a loop or a label
+--   if (a) { let b; } while (c) var d;
+--   if (a) let b;   // refused
 abbrev pub is_declared_body : Standing → Node → Bool
 is_declared_body s node = is_body s && is_declaration (kind_of node)

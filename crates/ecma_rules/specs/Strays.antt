@@ -37,6 +37,8 @@ all_held = record {
 }
 
 -- in an arrow function, which has no `this`, `arguments` and `super` of its own
+--   namespace N { async () => { await a; return; }; }
+--   namespace N { () => this; }   // refused
 abbrev pub in_arrow : Bool → Strays → Strays
 in_arrow is_async s = record s {
   awaiting = s.held && not is_async;
@@ -47,6 +49,8 @@ in_arrow is_async s = record s {
 }
 
 -- in any other function; whether it has `super`, the node around it says
+--   namespace N { function* f() { this.a; yield arguments; } }
+--   namespace N { function f() { for (;;) g(() => { continue; }); } }   // refused
 abbrev pub in_function : Bool → Bool → Strays → Strays
 in_function is_generator is_async s = record s {
   receiver = false;
@@ -65,10 +69,13 @@ abbrev pub without_home : Strays → Strays
 without_home s = record s { home = s.held }
 
 -- in a constructor or an accessor
+--   namespace N { class A extends B { constructor() { super(); } get c() { return super.c; } } }
 abbrev pub in_member : Strays → Strays
 in_member s = with_home (in_function false false s)
 
 -- in the value of a field, or in a static block
+--   namespace N { class A { b = this.c; static { this.d; } } }
+--   namespace N { class A { b = arguments; } }   // refused
 abbrev pub in_field : Strays → Strays
 in_field s = record s {
   receiver = false;
@@ -81,13 +88,18 @@ in_field s = record s {
   continuing = s.held;
 }
 
+--   namespace N { for (;;) break; }
 abbrev pub in_loop : Strays → Strays
 in_loop s = record s { breaking = false; continuing = false }
 
+--   namespace N { switch (a) { default: break; } }
+--   namespace N { switch (a) { default: continue; } }   // refused
 abbrev pub in_switch : Strays → Strays
 in_switch s = record s { breaking = false }
 
 -- where a name stands that is no use of a variable
+--   enum E { arguments = 1 }
+--   enum E { A = arguments }   // refused
 abbrev pub as_name : Strays → Strays
 as_name s = record s { arguments = false }
 
@@ -123,6 +135,8 @@ abbrev pub in_named_function : ℕ → Strays → Strays
 in_named_function i s = cond (i == 1) (without_home s) (as_name s)
 
 -- in the child at an index of a node of this kind
+--   namespace N { class A { b() { this; super.c; } } }
+--   namespace N { class A { [this.b]() { } } }   // refused
 unfoldable pub strays_in : Strays → Kind → ℕ → Strays
 strays_in s (kind.FnDecl declare) i = in_named_function i s
 strays_in s kind.FnExpr i = in_named_function i s
@@ -152,6 +166,8 @@ is_new_target NewTarget = true
 is_new_target _ = false
 
 -- whether a node of this kind, which is no jump, is a stray
+--   enum E { A = f(async () => await b) }
+--   enum E { A = await b }   // refused
 unfoldable pub is_stray : Strays → Kind → Bool
 is_stray s kind.ThisExpr = s.receiver
 is_stray s (kind.MetaPropExpr k) = s.receiver && is_new_target k

@@ -16,6 +16,8 @@ is_linked standing.Linked = true
 is_linked _ = false
 
 -- `super` before no member and no arguments
+--   class A extends B { constructor() { super(); super.c; super[d]; } }
+--   class A extends B { f() { super; } }   // refused
 abbrev pub is_lone_super : Standing → Node → Bool
 is_lone_super s node = is_super (kind_of node) && not (is_linked s)
 
@@ -27,6 +29,8 @@ abbrev pub is_private_name : Kind → Bool
 is_private_name (kind.PrivateName name) = true
 is_private_name _ = false
 
--- a private name behind it
+-- a private name after it
+--   class A extends B { f() { super.c; } }
+--   class A extends B { #c; f() { super.#c; } }   // refused
 abbrev pub is_private_of_super : Node → Bool
 is_private_of_super node = is_super_member (kind_of node) && child_is is_private_name node 1

@@ -11,6 +11,8 @@ use Rattle.ecma_rules.specs.declared.target.Target.TheVariants as target
 use Rattle.ecma_rules.specs.Children.{kind_of}
 
 -- a name, a member that is no optional chain, a member of `super`
+--   a = b; c.d = e;
+--   f() = a;   // refused
 abbrev pub is_plain_target : Kind → Bool
 is_plain_target (kind.Ident sym ctxt optional) = true
 is_plain_target kind.MemberExpr = true
@@ -18,6 +20,7 @@ is_plain_target kind.SuperPropExpr = true
 is_plain_target _ = false
 
 -- parentheses and type wrappers
+--   (a) = b; (c as T) = d; e! = f;
 abbrev pub is_wrapper : Kind → Bool
 is_wrapper kind.ParenExpr = true
 is_wrapper kind.TsTypeAssertion = true
@@ -36,6 +39,8 @@ abbrev pub simple_step : Node-F Bool → Bool
 simple_step parts = is_plain_target parts.kind || (is_wrapper parts.kind && first_is parts.children)
 
 -- one of the former, perhaps in the latter
+--   (a.b) = c;
+--   (a, b) = c;   // refused
 abbrev pub is_simple_target : Node → Bool
 is_simple_target = fold-Node Bool simple_step
 
@@ -53,6 +58,7 @@ is_plain Assign = true
 is_plain _ = false
 
 -- `target = value`, which is a target with a default
+--   [a = 1] = b;
 abbrev pub is_default : Kind → Bool
 is_default (kind.AssignExpr op) = is_plain op
 is_default _ = false
@@ -70,6 +76,8 @@ is_key_value kind.KeyValueProp = true
 is_key_value _ = false
 
 -- what may stand there that is no simple target
+--   [a, b.c] = d;
+--   [a] += b;   // refused
 abbrev pub may_be : Target → Kind → Bool
 may_be target.Left k = is_literal k
 may_be target.Simple k = false
@@ -81,6 +89,8 @@ may_be target.Property k = is_key_value k || (is_short_default k || is_spread k)
 may_be _ k = true
 
 -- what is assigned to and is no target
+--   [a, b.c] = d;
+--   [a, f()] = b;   // refused
 abbrev pub is_no_target : Target → Node → Bool
 is_no_target t node = not (may_be t (kind_of node) || is_simple_target node)
 
@@ -89,10 +99,14 @@ is_property target.Property = true
 is_property _ = false
 
 -- `name = value` that is no property of an object literal that turns into a pattern
+--   ({ a = 1 } = b);
+--   ({ a = 1 });   // refused
 abbrev pub is_stray_default : Target → Node → Bool
 is_stray_default t node = is_short_default (kind_of node) && not (is_property t)
 
 -- whether a literal there turns into a pattern
+--   for ([a] of b);
+--   [a]++;   // refused
 abbrev pub takes_patterns : Target → Bool
 takes_patterns target.Left = true
 takes_patterns target.Head = true
@@ -109,6 +123,8 @@ in_list target.Elements = target.Element
 in_list target.Properties = target.Property
 in_list _ = target.Free
 
+--   [...[a]] = b;
+--   ({ ...{ a } } = b);   // refused
 abbrev pub in_spread : Target → Target
 in_spread target.Element = target.Part
 in_spread target.Property = target.Rest
@@ -122,7 +138,9 @@ abbrev pub in_short_default : Target → Target
 in_short_default target.Property = target.Name
 in_short_default _ = target.Free
 
--- on the left of `=` behind an element or value of a pattern stands what takes a default
+-- the left of an assignment; in an element or a value of a pattern `=` stands before a default
+--   [[a] = b] = c;   // the left of = in a pattern
+--   [a] **= b;   // refused
 abbrev pub on_left : Target → AssignOp → Target
 on_left target.Element Assign = target.Part
 on_left _ Assign = target.Left
@@ -132,6 +150,8 @@ abbrev pub at_child : ℕ → ℕ → Target → Target
 at_child wanted i t = cond (i == wanted) t target.Free
 
 -- what the child at an index has to be, in a node of this kind
+--   [a, { b: c.d }] = e; for (f.g of h);
+--   ({ a: b + c } = d);   // refused
 unfoldable pub target_in : Target → Kind → ℕ → Target
 target_in t kind.List i = in_list t
 target_in t kind.ArrayLit i = in_literal t target.Elements

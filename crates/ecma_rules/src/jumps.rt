@@ -102,7 +102,7 @@ fn first_held_stray(node: &Node, strays: Strays, labels: &Labels<'_>) -> Option<
     found
 }
 
-/// The same in a tree that stands behind a label, or where no label holds.
+/// The same in a tree that stands after a label, or where no label holds.
 #[cycle(straying)]
 fn first_stray_behind(
     node: &Node,
@@ -136,6 +136,10 @@ pub(crate) fn holds_strays(kind: &Kind) -> bool
 }
 
 /// The least place of what belongs to nothing inside the enum initialiser or namespace body around it.
+///
+///     enum E { A = f(function () { return this; }) }
+///     enum E { A = this.b }   // refused
+///     namespace N { return a; }   // refused
 pub fn first_stray(tree: &Node) -> Option<u32>
     ensures { result ≡ first_stray tree.now }
 {

@@ -27,6 +27,9 @@ fn is_rest(target: Target, kind: &Kind) -> bool
 }
 
 /// Whether a node is a rest parameter, element or property that does not stand last.
+///
+///     function f(a, ...b) { }
+///     function f(...a, b) { }   // refused
 pub(crate) fn is_early_rest(target: Target, is_last: bool, node: &Node) -> bool
     ensures { result ≡ is_early_rest target is_last node.now }
 {
@@ -71,6 +74,9 @@ fn is_head(target: Target) -> bool
 }
 
 /// Whether a node is a declaration before `in` or `of` that has not one declarator, or one with a value.
+///
+///     for (const [a, b] of c);
+///     for (let a, b of c);   // refused
 pub(crate) fn is_wrong_head(target: Target, node: &Node) -> bool
     ensures { result ≡ is_wrong_head target node.now }
 {

@@ -47,6 +47,9 @@ fn is_property_kind(kind: &Kind) -> bool
 }
 
 /// Whether a node is a parameter with modifiers that is none of a constructor with a body, or no plain name.
+///
+///     class A { constructor(private b) { } }
+///     function f(private a) { }   // refused
 pub(crate) fn is_stray_property(standing: Standing, node: &Node) -> bool
     ensures { result ≡ is_stray_property standing node.now }
 {
@@ -137,6 +140,10 @@ fn has_not_one(node: &Node, index: usize) -> bool
 }
 
 /// Whether a node is a rest with a default, a getter with a parameter, or a setter that does not take one argument.
+///
+///     ({ get a() { return 1; }, set a(b) { } });
+///     ({ get a(b) { return 1; } });   // refused
+///     (...a = b) => c;   // refused
 #[tactic(auto, unfolding(crate::specs::Members::misfits_by))]
 pub(crate) fn is_misfit(node: &Node) -> bool
     ensures { result ≡ is_misfit node.now }
@@ -188,6 +195,9 @@ fn has_this_pattern(node: &Node, index: usize) -> bool
 }
 
 /// Whether a node is a function with a parameter `this` where none may stand.
+///
+///     function f(this: T, a) { }
+///     function f(a, this: T) { }   // refused
 #[tactic(auto, unfolding(crate::specs::Members::misplaces_this_by))]
 pub(crate) fn misplaces_this(node: &Node) -> bool
     ensures { result ≡ misplaces_this node.now }
@@ -242,6 +252,9 @@ fn second_member(list: &Node) -> Option<u32>
 }
 
 /// The place of the second constructor of a class that has a body.
+///
+///     class A { constructor(b); constructor(b, c?) { } }
+///     class A { constructor() { } constructor() { } }   // refused
 pub fn second_constructor(node: &Node) -> Option<u32>
     ensures { result ≡ second_constructor node.now }
 {
@@ -301,6 +314,9 @@ fn is_method(kind: MethodKind) -> bool
 }
 
 /// Whether a node is a constructor that is an accessor, a generator or async.
+///
+///     class A { async ["constructor"]() { } }   // a key in brackets
+///     class A { async constructor() { } }   // refused
 pub(crate) fn is_special_constructor(node: &Node) -> bool
     ensures { result ≡ is_special_constructor node.now }
 {

@@ -1,4 +1,4 @@
-//! The finished tree: what is assigned to is a pattern where it was read as a literal.
+//! The finished tree: what is assigned to is a pattern where it was read as a literal, the cover grammar of such patterns.
 ghost use Rattle.std.specs.Prelude.{◌≡◌, OnOk};
 ghost use Rattle.ecma_tree.specs.declared.node.Node.{out-Node};
 ghost use Rattle.ecma_rules.specs.Finishing.{binding, default_by, element_by, finished, finished_at, finished_by, left_by, name_by, part_by, property_by, shorthand, with_kind, with_type};
@@ -15,7 +15,7 @@ fn set_kind(node: &mut Node, kind: Kind)
     node.kind = kind;
 }
 
-/// Makes a node one of another kind that has room for a type behind its children.
+/// Makes a node one of another kind that has room for a type after its children.
 fn add_type(alloc: Global, node: &mut Node, kind: Kind) -> Result<(), NoMemory>
     ensures { OnOk result (node.new ≡ with_type kind (out-Node node.old)) }
 {

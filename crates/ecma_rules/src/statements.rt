@@ -18,6 +18,9 @@ fn is_exported(standing: Standing) -> bool
 }
 
 /// Whether a node is a quoted name for what an export without a source takes from its own module.
+///
+///     export { "a" } from "m";
+///     export { "a" };   // refused
 pub(crate) fn is_quoted_local(standing: Standing, node: &Node) -> bool
     ensures { result ≡ is_quoted_local standing node.now }
 {
@@ -54,6 +57,9 @@ fn is_body(standing: Standing) -> bool
 }
 
 /// Whether a node is such a declaration as the body of an `if`, an `else`, a loop or a label.
+///
+///     if (a) { let b; } while (c) var d;
+///     if (a) let b;   // refused
 pub(crate) fn is_declared_body(standing: Standing, node: &Node) -> bool
     ensures { result ≡ is_declared_body standing node.now }
 {

@@ -238,6 +238,9 @@ fn is_new_target(kind: MetaPropKind) -> bool
 }
 
 /// Whether a node of this kind, which is no jump, is a stray.
+///
+///     enum E { A = f(async () => await b) }
+///     enum E { A = await b }   // refused
 #[tactic(auto, unfolding(crate::specs::Strays::is_stray))]
 pub(crate) fn is_stray(strays: Strays, kind: &Kind) -> bool
     ensures { result ≡ is_stray strays kind.now }

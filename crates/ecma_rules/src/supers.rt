@@ -19,6 +19,9 @@ fn is_super(kind: &Kind) -> bool
 }
 
 /// Whether a node is `super` before no member and no arguments.
+///
+///     class A extends B { constructor() { super(); super.c; } }
+///     class A extends B { f() { super; } }   // refused
 pub(crate) fn is_lone_super(standing: Standing, node: &Node) -> bool
     ensures { result ≡ is_lone_super standing node.now }
 {
@@ -41,6 +44,9 @@ fn has_private_name(node: &Node) -> bool
 }
 
 /// Whether a node is a member of `super` with a private name.
+///
+///     class A extends B { f() { super.c; } }
+///     class A extends B { #c; f() { super.#c; } }   // refused
 pub(crate) fn is_private_of_super(node: &Node) -> bool
     ensures { result ≡ is_private_of_super node.now }
 {

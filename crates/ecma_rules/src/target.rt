@@ -28,7 +28,7 @@ pub enum Target {
     Property,
     /// What takes the rest of an object: a target that is no pattern.
     Rest,
-    /// The name of a property that has a default behind it.
+    /// The name of a property that has a default after it.
     Name,
 }
 
@@ -144,6 +144,9 @@ fn may_be(target: Target, kind: &Kind) -> bool
 }
 
 /// Whether a node is assigned to and is no target.
+///
+///     [a, b.c] = d;
+///     [a, f()] = b;   // refused
 pub(crate) fn is_no_target(target: Target, node: &Node) -> bool
     ensures { result ≡ is_no_target target node.now }
 {
@@ -157,6 +160,9 @@ fn is_property(target: Target) -> bool
 }
 
 /// Whether a node is `name = value` outside the object literals that turn into patterns.
+///
+///     ({ a = 1 } = b);
+///     ({ a = 1 });   // refused
 pub(crate) fn is_stray_default(target: Target, node: &Node) -> bool
     ensures { result ≡ is_stray_default target node.now }
 {

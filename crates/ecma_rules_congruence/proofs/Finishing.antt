@@ -13,7 +13,7 @@ use Rattle.ecma_rules.specs.declared.target.Target.{Target}
 use Rattle.ecma_rules.specs.declared.target.Target.TheVariants as target
 use Rattle.ecma_rules.specs.Targets.{target_in}
 use Rattle.ecma_rules.specs.Finishing.{binding, default_by, each_in, element_by, finished_at, finished_by, finished_step, left_by, name_by, part_by, property_by, shorthand, with_type}
-use Rattle.ecma_rules_congruence.specs.Spans.{SpansDoNotMatterToFinishing}
+use Rattle.ecma_rules_congruence.specs.Laws.{SpansDoNotMatterToFinishing}
 
 spanless : (at : Span) (k : Kind) (children : List Node) → without_spans (node_of at k children) ≡ node_of dummy_span k (map without_spans children)
 spanless at k children = fold-roll-Node Node unplaced (record { span = at; kind = k; children = children })

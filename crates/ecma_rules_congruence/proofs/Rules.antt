@@ -14,7 +14,7 @@ use Rattle.ecma_rules.specs.Rules.{first_broken, first_misplaced, is_misplaced, 
 use Rattle.ecma_rules.specs.Strays.{strays_in}
 use Rattle.ecma_rules.specs.Surroundings.{around_in, at_root, standing_by, standing_in}
 use Rattle.ecma_rules.specs.Targets.{target_in}
-use Rattle.ecma_rules_congruence.specs.Spans.{SpansDoNotMatterToRules}
+use Rattle.ecma_rules_congruence.specs.Laws.{SpansDoNotMatterToRules}
 use Rattle.ecma_rules_congruence.proofs.Bare.{bare-child, bare-count, bare-has_child, bare-kind, bare_of}
 use Rattle.ecma_rules_congruence.proofs.Tests.{misplaced-bare, second-bare}
 use Rattle.ecma_rules_congruence.proofs.Walks.{least-some, told-bare}

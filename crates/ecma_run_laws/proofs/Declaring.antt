@@ -10,7 +10,8 @@ use Rattle.ecma_runs.specs.State.{Id}
 use Rattle.ecma_runs.specs.Observation.{observe}
 use Rattle.ecma_runs.proofs.Kept.{AllNodes}
 use Rattle.ecma_runs.proofs.Standing.{Passes, passes_parts}
-use Rattle.ecma_run_laws.specs.Lessened.{statement_goes, lessened, without, module_of, WhatIsUsedStays, NewNamesMayBeDeclared}
+use Rattle.ecma_run_laws.specs.Lessened.{statement_goes, lessened, without, module_of}
+use Rattle.ecma_run_laws.specs.Laws.{WhatIsUsedStays, NewNamesMayBeDeclared}
 use Rattle.ecma_run_laws.proofs.Both.{both_true}
 use Rattle.ecma_run_laws.proofs.Dropping.{stands}
 use Rattle.ecma_run_laws.proofs.Lessening.{image, list_left}

@@ -10,7 +10,8 @@ use Rattle.ecma_runs.proofs.Alike.{Change}
 use Rattle.ecma_runs.proofs.Kept.{AllNodes, StepsAlike, layer_same, observe_unless}
 use Rattle.ecma_runs.proofs.Layers.{images_where, the_same, none_excused, same_kind, kept_layer, rewritten_layers, observe_kept}
 use Rattle.ecma_run_laws.proofs.Both.{both_true}
-use Rattle.ecma_run_laws.specs.Exchanged.{KeepsMeanings, EqualPartsMayStandForEachOther, exchanged_node, in_seats, exchanged, EqualExpressionsMayStandForEachOther, in_references, exchanged_references_node, exchanged_references, EqualReferencesMayStandForEachOther}
+use Rattle.ecma_run_laws.specs.Exchanged.{KeepsMeanings, exchanged_node, in_seats, exchanged, in_references, exchanged_references_node, exchanged_references}
+use Rattle.ecma_run_laws.specs.Laws.{EqualPartsMayStandForEachOther, EqualExpressionsMayStandForEachOther, EqualReferencesMayStandForEachOther}
 use Rattle.ecma_run_laws.proofs.Seats.{seats}
 use Rattle.ecma_run_laws.proofs.References.{references}
 

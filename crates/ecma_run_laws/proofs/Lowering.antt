@@ -34,7 +34,8 @@ use Rattle.ecma_runs.proofs.Kept.{Kept, StepsAlike, layer_same, IsNotExcused, ob
 use Rattle.ecma_runs.proofs.Layers.{same_names, always, the_same, all_units, same_kind, kept_layer}
 use Rattle.ecma_runs.proofs.Depth.{invoke-apply}
 use Rattle.ecma_runs.proofs.Turns.{in_turns, calls_in}
-use Rattle.ecma_run_laws.specs.Lowered.{function_of, expression_of, call_of, called_function, lowered_by, lowered_node, lowered, BlocksMayBeCalledAsFunctions}
+use Rattle.ecma_run_laws.specs.Lowered.{function_of, expression_of, call_of, called_function, lowered_by, lowered_node, lowered}
+use Rattle.ecma_run_laws.specs.Laws.{BlocksMayBeCalledAsFunctions}
 
 abbrev Layer : Span → Kind → List Node → Node-F Node
 Layer span k ns = record { span = span; kind = k; children = ns }

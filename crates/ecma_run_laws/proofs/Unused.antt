@@ -24,7 +24,8 @@ use Rattle.ecma_runs.proofs.Steps.{step_same}
 use Rattle.ecma_runs.proofs.Kept.{AllNodes, Kept, StepsAlike, layer_same, observe_unless}
 use Rattle.ecma_runs.proofs.Layers.{texts_stay, none_excused}
 use Rattle.ecma_runs.proofs.Standing.{Passes}
-use Rattle.ecma_run_laws.specs.Lessened.{declarator_goes, specifier_goes, statement_goes, left_of, lessened, without, UnusedNamesDoNotMatter}
+use Rattle.ecma_run_laws.specs.Lessened.{declarator_goes, specifier_goes, statement_goes, left_of, lessened, without}
+use Rattle.ecma_run_laws.specs.Laws.{UnusedNamesDoNotMatter}
 use Rattle.ecma_run_laws.proofs.Lessening.{less_all, image}
 use Rattle.ecma_run_laws.proofs.Dropping.{stands, dropping, seen, seen_alike, role_seen}
 use Rattle.ecma_run_laws.proofs.Going.{silent_statement, silent_declarator, silent_specifier, statement_silent, declarator_silent, specifier_silent}

@@ -1,5 +1,5 @@
 -- Trees in which parts stand for others that mean the same.
-use Rattle.std.specs.Prelude.{◌≡◌, ℕ, Bool, true, List, [], ◌∷◌, map}
+use Rattle.std.specs.Prelude.{◌≡◌, Bool, true, List, [], ◌∷◌, map}
 use Rattle.std.specs.List.{list_all}
 use Rattle.ecma_kind.specs.declared.kind.Kind.{Kind}
 use Rattle.ecma_kind.specs.declared.kind.Kind.TheVariants as kind
@@ -8,11 +8,8 @@ use Rattle.ecma_kind.specs.declared.operators.UnaryOp.TheVariants as operator
 use Rattle.ecma_tree.specs.declared.node.Node.{Node, Node-F, out-Node, roll-Node}
 use Rattle.ecma_tree.specs.Nodes.{node_of}
 use Rattle.ecma_tree.specs.Rewritten.{rewritten}
-use Rattle.ecma_runs.specs.declared.config.Config.{Config}
-use Rattle.ecma_runs.specs.declared.script.Script.{Script}
 use Rattle.ecma_runs.specs.Meaning.{Meaning}
 use Rattle.ecma_runs.specs.Evaluation.{meaning_by, meaning}
-use Rattle.ecma_runs.specs.Observation.{observe}
 
 -- equal parts
 
@@ -21,12 +18,6 @@ use Rattle.ecma_runs.specs.Observation.{observe}
 pub record KeepsMeanings (test : Node → Bool) (f : Node → Node) : Type 0 where
   pub below : (x : Node-F Node) → test (roll-Node x) ≡ true → list_all test x.children ≡ true
   pub same : (x : Node-F Node) → test (roll-Node x) ≡ true → meaning (f (roll-Node x)) ≡ meaning_by (f (roll-Node x)) x.kind (map meaning (map f x.children))
-
--- a tree runs as its image does
-abbrev pub EqualPartsMayStandForEachOther : Type 0
-EqualPartsMayStandForEachOther =
-    (test : Node → Bool) (f : Node → Node) → KeepsMeanings test f →
-    (turns : ℕ) (options : Config) (m : Node) (script : Script) → test m ≡ true → observe turns options (f m) script ≡ observe turns options m script
 
 -- expressions
 
@@ -96,12 +87,6 @@ exchanged_node swap parts = node_of parts.span parts.kind (in_seats swap parts.k
 abbrev pub exchanged : (Node → Node) → Node → Node
 exchanged swap = rewritten (exchanged_node swap)
 
--- expressions may be exchanged for others that are read alike
-abbrev pub EqualExpressionsMayStandForEachOther : Type 0
-EqualExpressionsMayStandForEachOther =
-    (swap : Node → Node) → ((n : Node) → ReadsAlike (meaning n) (meaning (swap n))) →
-    (turns : ℕ) (options : Config) (m : Node) (script : Script) → observe turns options (exchanged swap m) script ≡ observe turns options m script
-
 -- references
 
 -- the second does what the first does where an expression is referred to: what it refers to, as a target, and in front of a link of an optional chain;
@@ -131,9 +116,3 @@ exchanged_references_node swap parts = node_of parts.span parts.kind (in_referen
 -- the tree with its expressions exchanged wherever they are referred to, from the leaves up
 abbrev pub exchanged_references : (Node → Node) → Node → Node
 exchanged_references swap = rewritten (exchanged_references_node swap)
-
--- expressions may be exchanged for others that refer to the same
-abbrev pub EqualReferencesMayStandForEachOther : Type 0
-EqualReferencesMayStandForEachOther =
-    (swap : Node → Node) → ((n : Node) → RefersAlike (meaning n) (meaning (swap n))) →
-    (turns : ℕ) (options : Config) (m : Node) (script : Script) → observe turns options (exchanged_references swap m) script ≡ observe turns options m script

@@ -1,5 +1,5 @@
 -- Trees without declarations of names that are to go.
-use Rattle.std.specs.Prelude.{◌≡◌, ℕ, Bool, true, false, not, ◌&&◌, Option, List, [], ◌∷◌, ◌++◌, map, filter}
+use Rattle.std.specs.Prelude.{ℕ, Bool, true, false, not, ◌&&◌, Option, List, [], ◌∷◌, map, filter}
 use Rattle.std.specs.List.{list_all}
 use Rattle.ecma_kind.specs.declared.kind.Kind.{Kind}
 use Rattle.ecma_kind.specs.declared.kind.Kind.TheVariants as kind
@@ -7,13 +7,9 @@ use Rattle.ecma_kind.specs.declared.operators.VarDeclKind.TheVariants.{Var, Let}
 use Rattle.ecma_kind.specs.declared.span.Span.{Span}
 use Rattle.ecma_tree.specs.declared.node.Node.{Node, Node-F, fold-Node, out-Node}
 use Rattle.ecma_tree.specs.Nodes.{node_of}
-use Rattle.ecma_runs.specs.declared.config.Config.{Config}
-use Rattle.ecma_runs.specs.declared.script.Script.{Script}
 use Rattle.ecma_runs.specs.State.{Id}
 use Rattle.ecma_runs.specs.Declarations.{is_absent_of}
 use Rattle.ecma_runs.specs.Evaluation.{meaning}
-use Rattle.ecma_runs.specs.Observation.{observe}
-use Rattle.ecma_runs.specs.Names.{ids_pass}
 
 -- what goes
 
@@ -108,22 +104,5 @@ lessened gone = fold-Node Lessened (lessened_step gone)
 abbrev pub without : (Id → Bool) → Node → Node
 without gone n = (lessened gone n).less
 
--- declarations of names that no identifier of what is left has may go, and come
-abbrev pub UnusedNamesDoNotMatter : Type 0
-UnusedNamesDoNotMatter =
-    (gone : Id → Bool) (turns : ℕ) (options : Config) (m : Node) (script : Script) → ids_pass (λ id. not (gone id)) (without gone m) ≡ true →
-    observe turns options (without gone m) script ≡ observe turns options m script
-
--- what has no name that is to go stays as it is
-abbrev pub WhatIsUsedStays : Type 0
-WhatIsUsedStays = (gone : Id → Bool) (m : Node) → ids_pass (λ id. not (gone id)) m ≡ true → without gone m ≡ m
-
 abbrev pub module_of : Span → Option (List ℕ) → Span → List Node → Node
 module_of span shebang place items = node_of span (kind.Module shebang) (node_of place kind.List items ∷ [])
-
--- declarations that do nothing, of names that no identifier of a module has, may come to its head
-abbrev pub NewNamesMayBeDeclared : Type 0
-NewNamesMayBeDeclared =
-    (gone : Id → Bool) (turns : ℕ) (options : Config) (script : Script) (span place : Span) (shebang : Option (List ℕ)) (added items : List Node) →
-    list_all (statement_goes gone) added ≡ true → ids_pass (λ id. not (gone id)) (module_of span shebang place items) ≡ true →
-    observe turns options (module_of span shebang place (added ++ items)) script ≡ observe turns options (module_of span shebang place items) script

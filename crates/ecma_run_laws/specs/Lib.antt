@@ -1,3 +1,4 @@
 pub mod Exchanged
 pub mod Lessened
 pub mod Lowered
+pub mod Laws

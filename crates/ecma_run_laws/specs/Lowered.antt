@@ -1,15 +1,11 @@
 -- Trees in which the blocks of namespaces are written as functions that are called where they stand.
-use Rattle.std.specs.Prelude.{◌≡◌, ◌≢◌, ℕ, List, [], ◌∷◌, false, cond}
+use Rattle.std.specs.Prelude.{List, [], ◌∷◌, false, cond}
 use Rattle.ecma_kind.specs.declared.kind.Kind.{Kind}
 use Rattle.ecma_kind.specs.declared.kind.Kind.TheVariants as kind
 use Rattle.ecma_tree.specs.declared.node.Node.{Node, Node-F, roll-Node}
 use Rattle.ecma_tree.specs.Nodes.{node_of, dummy_span, absent, list_node}
 use Rattle.ecma_tree.specs.Rewritten.{rewritten}
-use Rattle.ecma_runs.specs.declared.config.Config.{Config}
-use Rattle.ecma_runs.specs.declared.observation.Ending.TheVariants as ending
-use Rattle.ecma_runs.specs.declared.script.Script.{Script}
 use Rattle.ecma_runs.specs.Evaluation.{meaning}
-use Rattle.ecma_runs.specs.Observation.{observe}
 
 -- a function without name and parameters, of whose body these are the statements
 abbrev pub function_of : Node → Node
@@ -36,8 +32,3 @@ lowered_node parts = lowered_by parts.kind parts.children parts
 -- the tree with its blocks as such calls, from the leaves up
 abbrev pub lowered : Node → Node
 lowered = rewritten lowered_node
-
--- blocks may be written as functions that are called where they stand, unless the run meets something open
-abbrev pub BlocksMayBeCalledAsFunctions : Type 0
-BlocksMayBeCalledAsFunctions =
-    (turns : ℕ) (options : Config) (m : Node) (script : Script) → (observe turns options m script).ending ≢ ending.Outside → observe turns options (lowered m) script ≡ observe turns options m script

@@ -1,11 +1,9 @@
 //! What may be changed of a module so that it is observed to do what it does, over the definitions of `ecma_runs` alone.
 //!
-//! Each function carries one law, and does nothing. The laws are stated in `specs/`.
+//! Each function carries one law, and does nothing. The laws are stated in `specs/Laws.antt`.
 #![tactic(auto)]
 
-ghost use Rattle.ecma_run_laws.specs.Exchanged.{EqualPartsMayStandForEachOther, EqualExpressionsMayStandForEachOther, EqualReferencesMayStandForEachOther};
-ghost use Rattle.ecma_run_laws.specs.Lessened.{UnusedNamesDoNotMatter, WhatIsUsedStays, NewNamesMayBeDeclared};
-ghost use Rattle.ecma_run_laws.specs.Lowered.{BlocksMayBeCalledAsFunctions};
+ghost use Rattle.ecma_run_laws.specs.Laws.{BlocksMayBeCalledAsFunctions, EqualExpressionsMayStandForEachOther, EqualPartsMayStandForEachOther, EqualReferencesMayStandForEachOther, NewNamesMayBeDeclared, UnusedNamesDoNotMatter, WhatIsUsedStays};
 
 /// A module is observed to do what its image under a map of trees does, where what the map makes of a node means, in each role, what the node's kind makes
 /// of what the images of its children mean.

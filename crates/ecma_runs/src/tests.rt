@@ -1,3 +1,4 @@
+//! Scripts, events and endings are made and let go of.
 use super::*;
 use ecma_number::JsNumber;
 use ecma_tree::{JsWord, NoMemory};

@@ -68,6 +68,8 @@ NoneDeclares [] sym = Unit {0}
 NoneDeclares (scope ∷ scopes) sym = (declares scope.declared sym ≡ false) × NoneDeclares scopes sym
 
 -- of these scopes the innermost that declares the text is the one opened at a place, and one of the declarations there is a value that stays
+--   let a; { let a; { a; } }   // the last a is bound in the block
+--   let b; namespace N { declare let b: T; b; }   // the last b is free: what shadows the first one goes
 pub record IsBound (around : List Around) (sym : List ℕ) (place : Occurrence) : Type 0 where
   pub outer : List Around
   pub scope : Around

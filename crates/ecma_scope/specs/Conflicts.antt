@@ -2,7 +2,6 @@
 use Rattle.std.specs.Prelude.{◌≡◌, ℕ, suc, Bool, true, false, ◌&&◌, ◌||◌, not, List, [], ◌∷◌, ◌++◌, filter, Option, None, Result, Ok, Err, bytes_eq, cond}
 use Rattle.std.specs.List.{list_any}
 use Rattle.ecma_tree.specs.declared.node.Node.{Node, out-Node}
-use Rattle.ecma_tree.specs.Layers.{from_leaves}
 use Rattle.ecma_scope.specs.declared.role.Role.{Role}
 use Rattle.ecma_scope.specs.declared.role.Role.TheVariants as role
 use Rattle.ecma_scope.specs.declared.form.Form.{Form}
@@ -15,9 +14,12 @@ use Rattle.ecma_scope.specs.declared.index.Index.{Index}
 use Rattle.ecma_scope.specs.Indexed.{states_of}
 use Rattle.ecma_scope.specs.Scopes.{covers, is_ambient, is_root, opens, role_in}
 use Rattle.ecma_scope.specs.Declarations.{declarations, declares, holds_vars, is_body, is_stated, names, stated}
+use Rattle.ecma_tree.specs.Layers.{from_leaves}
 
 -- whether a declaration is lexical, in a scope that is opened in this role: a function is in all but the body of a function, and the variable of an enum
 -- or of a namespace is in all but a module
+--   function f() { function g() { } function g() { } }
+--   { function f() { } function f() { } }   // refused
 abbrev pub is_lexical : Role → Form → Bool
 is_lexical r form.Import = true
 is_lexical r form.Lexical = true
@@ -40,6 +42,9 @@ is_parameter form.Parameter = true
 is_parameter _ = false
 
 -- a lexical declaration beside any other, two parameters, or the name of a `catch` beside a `var`
+--   var a; var a; function f(b) { var b; }
+--   let a; var a;   // refused
+--   function f(a, a) { }   // refused
 abbrev pub may_not_meet : Role → Form → Form → Bool
 may_not_meet r a b =
     (is_lexical r a || is_lexical r b) || ((is_parameter a && is_parameter b) || ((is_catch a && is_var b) || (is_var a && is_catch b)))
@@ -61,18 +66,22 @@ may_be_merged form.Merged = true
 may_be_merged _ = false
 
 -- an enum or a namespace merges with a class, function, enum or namespace of its text before it
+--   function f() { } namespace f { let a; }
+--   enum E { A } function E() { }   // refused
 abbrev pub merges : List Declaration → Declaration → Bool
 merges earlier d = may_merge d.form && list_any (λ e. bytes_eq e.sym d.sym && may_be_merged e.form) earlier
 
 abbrev pub mark : List Declaration → Declaration → Declaration
 mark earlier d = cond (merges earlier d) (record d { form = form.Merged }) d
 
--- declarations with those marked that merge, behind earlier ones
+-- declarations with those marked that merge, after earlier ones
 abbrev pub marked : List Declaration → List Declaration → List Declaration
 marked earlier [] = []
 marked earlier (d ∷ ds) = mark earlier d ∷ marked (earlier ++ mark earlier d ∷ []) ds
 
 -- the `var` names that pass through the scope of a node to one around it, as values that stay
+--   { var a; } var a;
+--   { let a; { var a; } }   // refused
 abbrev pub passing : Role → Node → List Declaration
 passing r node = cond (holds_vars r (out-Node node).kind) [] (filter (λ d. d.stays) (declarations node (record { part = part.Var; stays = not (is_ambient r) })))
 
@@ -81,6 +90,8 @@ is_function_body role.Body = true
 is_function_body _ = false
 
 -- a declaration conflicts with one before it, or, where it is lexical in the body of a function, with a parameter
+--   function f(a) { { let a; } }
+--   function f(a) { let a; }   // refused
 abbrev pub clashes : Role → (List ℕ → Option Bool) → List Declaration → Declaration → Bool
 clashes r around earlier d = list_any (λ e. conflict r e d) earlier || (is_function_body r && (is_lexical r d.form && is_stated (around d.sym)))
 
@@ -90,6 +101,7 @@ clashing r around earlier [] = []
 clashing r around earlier (d ∷ ds) = cond (clashes r around earlier d) (d.sym ∷ []) [] ++ clashing r around (earlier ++ d ∷ []) ds
 
 -- whether a name of this text belongs to a scope further out: a `var` that passes through, or, in the body of a function, a parameter
+--   { function f(): void; var f; }   // refused
 abbrev pub is_further_out : Role → (List ℕ → Option Bool) → List Declaration → List ℕ → Bool
 is_further_out r around passed sym = declares passed sym || (is_function_body r && is_stated (around sym))
 
@@ -126,6 +138,8 @@ redeclared_at = from_leaves (Surrounding → List (List ℕ)) clash_step
 abbrev pub nothing : List ℕ → Option Bool
 nothing sym = None
 
+--   let a; { let a; }
+--   let a; let a;   // refused
 abbrev pub redeclared : Node → List (List ℕ)
 redeclared tree = redeclared_at tree (record { role = role.Root; around = nothing })
 

@@ -25,6 +25,7 @@ abbrev pub seek_at : ℕ → ℕ → Part → Bool → Option Sought
 seek_at wanted i part stays = cond (i == wanted) (seek part stays) None
 
 -- where the names of a pattern stand
+--   let [a, { b: c = d }, ...e] = f;   // declares a, c and e
 unfoldable pub in_name : Form → Bool → Kind → ℕ → Option Sought
 in_name f stays kind.List i = seek (part.Name f) stays
 in_name f stays kind.BindingIdent i = seek_at 0 i (part.Name f) stays
@@ -40,6 +41,8 @@ in_name f stays kind.KeyValuePatProp i = seek_at 1 i (part.Name f) stays
 in_name f stays _ i = None
 
 -- where `var` may stand: in every statement, and in no function, class or namespace inside
+--   if (a) { for (var b; ;) { } }   // declares b
+--   function f() { var c; }   // does not declare c
 unfoldable pub in_var : Bool → Kind → Option Sought
 in_var stays (kind.VarDecl var_kind.Var declare) = seek (part.Name form.Var) (stays && not declare)
 in_var stays kind.List = seek part.Var stays
@@ -62,6 +65,8 @@ in_var stays kind.SwitchCase = seek part.Var stays
 in_var stays _ = None
 
 -- the names of an item of a list of statements; the item may be a value
+--   import a, { b } from "m"; const c = 1; class D { } function f() { }   // declares a, b, c, D and f
+--   declare let g; type T = U;   // declares g, which goes
 unfoldable pub in_item : Bool → Bool → Kind → ℕ → Option Sought
 in_item stays value kind.List i = seek part.Item stays
 in_item stays value kind.SwitchCase i = seek_at 1 i part.Item stays
@@ -81,12 +86,15 @@ in_item stays value (kind.TsModuleDecl declare false) i = cond value (seek_at 0 
 in_item stays value _ i = None
 
 -- the name of what is exported as the default
+--   export default function f() { }   // declares f
 unfoldable pub in_default : Bool → Bool → Kind → ℕ → Option Sought
 in_default stays value kind.FnExpr i = seek_at 0 i (part.Name form.Function) (stays && value)
 in_default stays value kind.ClassExpr i = seek_at 0 i (part.Name form.Class) stays
 in_default stays value _ i = None
 
 -- the names of the scope that a node opens, but for its `var` names; the node may be a value
+--   for (let a of b) { }   // the loop declares a
+--   try { } catch (c) { let d; }   // the catch declares c and d
 unfoldable pub in_scope : Bool → Bool → Kind → ℕ → Option Sought
 in_scope stays value (kind.Module shebang) i = seek part.Item stays
 in_scope stays value (kind.Script shebang) i = seek part.Item stays
@@ -108,6 +116,7 @@ in_scope stays value (kind.TsNamespaceDecl declare global) i = cond value (seek_
 in_scope stays value _ i = None
 
 -- the members of an enum
+--   enum E { A, B = A }   // E declares A and B
 unfoldable pub in_member : Bool → Kind → ℕ → Option Sought
 in_member stays kind.List i = seek part.Member stays
 in_member stays kind.TsEnumMember i = seek_at 0 i (part.Name form.Member) stays
@@ -156,6 +165,7 @@ is_body role.StaticBody = true
 is_body _ = false
 
 -- whether the names of `var` statements inside belong to the scope that a node opens
+--   function f() { { var a; } }   // a belongs to the body of f
 unfoldable pub holds_vars : Role → Kind → Bool
 holds_vars r (kind.Module shebang) = true
 holds_vars r (kind.Script shebang) = true
@@ -183,6 +193,7 @@ is_stated None = false
 is_stated (Some stays) = true
 
 -- in the body of a function a `var` or a function with a parameter's name is the parameter
+--   function f(a) { var a; }   // the parameter
 abbrev pub is_own : Role → (List ℕ → Option Bool) → Declaration → Bool
 is_own role.Body parameters d = not (is_hoisted d.form && is_stated (parameters d.sym))
 is_own _ parameters d = true

@@ -1,14 +1,14 @@
 -- The tree with contexts: one context a scope, handed out in the order of the text, and each identifier in that of the scope that its text names.
-use Rattle.std.specs.Prelude.{ℕ, suc, ◌+◌, ◌-◌, Bool, true, false, ◌&&◌, not, List, [], ◌∷◌, ◌++◌, Option, Some, None, cond}
+use Rattle.std.specs.Prelude.{ℕ, suc, ◌+◌, ◌-◌, Bool, true, false, ◌&&◌, not, List, [], ◌∷◌, ◌++◌, Option, Some, None, cond, ◌≢◌, ◌<◌, ◌≤◌}
 use Rattle.ecma_kind.specs.declared.kind.Kind.{Kind}
 use Rattle.ecma_kind.specs.declared.kind.Kind.TheVariants as kind
 use Rattle.ecma_tree.specs.declared.node.Node.{Node, out-Node}
 use Rattle.ecma_tree.specs.Nodes.{node_of}
-use Rattle.ecma_tree.specs.Layers.{from_leaves}
 use Rattle.ecma_scope.specs.declared.role.Role.{Role}
 use Rattle.ecma_scope.specs.declared.role.Role.TheVariants as role
 use Rattle.ecma_scope.specs.Scopes.{covers, is_root, opens, role_in}
 use Rattle.ecma_scope.specs.Declarations.{names, stated}
+use Rattle.ecma_tree.specs.Layers.{from_leaves}
 
 -- a scope that is in force: its context, and what it states of a text
 pub record Scope : Type 0 where
@@ -73,7 +73,7 @@ count_step node children r = taken r node + counted (role_in r node) 0 children
 abbrev pub context_count : Node → Role → ℕ
 context_count = from_leaves (Role → ℕ) count_step
 
--- the children, of which the first is the one at i: each takes its contexts before those behind it
+-- the children, of which the first is the one at i: each takes its contexts before those after it
 abbrev pub placed : (ℕ → Place) → ℕ → List Node → List (Place → ℕ → Node) → ℕ → List Node
 placed place_of i (node ∷ nodes) (child ∷ children) left =
     child (place_of i) left ∷ placed place_of (suc i) nodes children (left - context_count node (place_of i).role)
@@ -98,3 +98,10 @@ resolved unresolved top left tree = resolved_at unresolved top tree nowhere left
 -- how many contexts the scopes of a tree take: one each, but for that of the root, which has the context of the top
 abbrev pub contexts : Node → ℕ
 contexts tree = context_count tree role.Root
+
+-- two contexts that were given, and so many that are left: enough for the scopes of a tree
+pub record AreGiven (unresolved top left : ℕ) (tree : Node) : Type 0 where
+  pub unresolved_above : left < unresolved
+  pub top_above : left < top
+  pub apart : unresolved ≢ top
+  pub enough : contexts tree ≤ left

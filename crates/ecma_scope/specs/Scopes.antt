@@ -46,6 +46,7 @@ of_exports true i = at_child role.Sourced 0 i
 of_exports false i = role.Plain
 
 -- what the child at an index is to its parent, which has this role and kind; an export may have a source
+--   import { a as b } from "m"; b: f();   // the name that others have and the label are no identifiers
 unfoldable pub role_by : Role → Kind → Bool → ℕ → Role
 role_by r kind.List sourced i = passes_in_list r
 role_by r kind.LabeledStmt sourced i = at_child role.Name 0 i
@@ -86,6 +87,8 @@ is_catch_body role.CatchBody = true
 is_catch_body _ = false
 
 -- whether a node of this role and kind opens a scope; a function as an expression may have a name
+--   { let a; } a;   // the last a is free
+--   (function f() { f; }); f;   // so is the last f
 unfoldable pub opens_by : Role → Kind → Bool → Bool
 opens_by r (kind.Module shebang) named = true
 opens_by r (kind.Script shebang) named = true
@@ -112,6 +115,8 @@ abbrev pub opens : Role → Node → Bool
 opens r node = opens_by r (out-Node node).kind (is_there (out-Node node).children 0)
 
 -- whether the child at an index stands in the scope that its parent opens: a key does not, nor what `switch` looks at, nor the name of a declared class or enum
+--   switch (a) { case a: let a; }   // the first a is another
+--   ({ get [b]() { var b; return b; } });   // so is the first b
 unfoldable pub covers : Role → Kind → ℕ → Bool
 covers r kind.GetterProp i = not (i == 0)
 covers r kind.SetterProp i = not (i == 0)

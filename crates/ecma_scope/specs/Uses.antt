@@ -3,10 +3,10 @@ use Rattle.std.specs.Prelude.{ℕ, suc, Bool, ◌||◌, ◌==◌, not, List, [],
 use Rattle.ecma_kind.specs.declared.kind.Kind.{Kind}
 use Rattle.ecma_kind.specs.declared.kind.Kind.TheVariants as kind
 use Rattle.ecma_tree.specs.declared.node.Node.{Node, out-Node}
-use Rattle.ecma_tree.specs.Layers.{from_leaves}
 use Rattle.ecma_scope.specs.declared.uses.Use.{Use}
 use Rattle.ecma_scope.specs.declared.uses.Use.TheVariants as stands
 use Rattle.ecma_scope.specs.Scopes.{is_there}
+use Rattle.ecma_tree.specs.Layers.{from_leaves}
 
 -- the child that is meant stands so, and the others otherwise
 abbrev pub use_at : ℕ → ℕ → Use → Use → Use
@@ -16,6 +16,8 @@ abbrev pub used_if : Bool → Use
 used_if b = cond b stands.Used stands.Out
 
 -- how the child at an index stands, in a node where identifiers are used; an export may have a source
+--   let a = b; c.d(e);   // uses b, c and e
+--   import f from "m"; let g; export { g };   // uses g
 unfoldable pub in_used : Kind → Bool → ℕ → Use
 in_used (kind.VarDeclarator definite) sourced i = use_at 0 i stands.Declared stands.Used
 in_used (kind.Function is_generator is_async) sourced i = use_at 0 i stands.Declared stands.Used
@@ -47,6 +49,7 @@ in_used kind.ContinueStmt sourced i = stands.Out
 in_used _ sourced i = stands.Used
 
 -- and in a pattern that declares its names: they are no uses, but defaults and keys in brackets may be
+--   let { [a]: b = c } = d;   // uses a, c and d
 unfoldable pub in_declared : Kind → ℕ → Use
 in_declared kind.List i = stands.Declared
 in_declared kind.BindingIdent i = use_at 0 i stands.Declared stands.Used

@@ -1,3 +1,4 @@
+//! What is wrong with the scopes of a module.
 ghost use Rattle.std.specs.Prelude.{◌≡◌};
 ghost use Rattle.ecma_scope.specs.declared.error.ScopeError.TheVariants as scope_error;
 

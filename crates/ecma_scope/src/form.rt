@@ -1,3 +1,4 @@
+//! How a name is declared, and what is looked for when declarations are gathered.
 use ecma_tree::JsWord;
 
 /// How a name is declared.

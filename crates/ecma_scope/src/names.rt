@@ -229,7 +229,7 @@ fn push_here(sought: Sought, kind: &Kind, names: &mut ItemList<Declaration>) -> 
     Ok(())
 }
 
-/// Puts the declarations in a child behind those that are there, if something is looked for in it.
+/// Puts the declarations in a child after those that are there, if something is looked for in it.
 #[cycle(declaring)]
 fn push_found(
     sought: Option<Sought>,
@@ -244,7 +244,7 @@ fn push_found(
     }
 }
 
-/// Puts the declarations in a node behind those that are there.
+/// Puts the declarations in a node after those that are there.
 #[cycle(declaring)]
 pub(crate) fn push_declarations(
     sought: Sought,

@@ -63,7 +63,7 @@ pub fn own_part(role: Role) -> Part
     }
 }
 
-/// Puts the `var` names that belong to the scope of a node behind those that are there.
+/// Puts the `var` names that belong to the scope of a node after those that are there.
 fn push_vars(
     role: Role,
     stays: bool,

@@ -112,7 +112,7 @@ fn push_here(stands: Use, kind: &Kind, ids: &mut ItemList<Id>) -> Result<(), NoM
     Ok(())
 }
 
-/// Puts the ids that are used in a node behind those that are there.
+/// Puts the ids that are used in a node after those that are there.
 fn push_used(stands: Use, node: &Node, ids: &mut ItemList<Id>) -> Result<(), NoMemory>
     ensures { OnOk result (ids.new ≡ ids.old ++ used_at node.now stands) }
 {

@@ -6,13 +6,12 @@ use Rattle.ecma_kind.specs.declared.kind.Kind.TheVariants as kind
 use Rattle.ecma_kind.specs.declared.span.Span.{Span}
 use Rattle.ecma_tree.specs.declared.node.Node.{Node, out-Node}
 use Rattle.ecma_tree.specs.Nodes.{dummy_span, node_of}
-use Rattle.ecma_tree.proofs.Layers.{from_leaves-roll}
 use Rattle.ecma_print.specs.declared.place.Spot.{Spot}
 use Rattle.ecma_print.specs.Layout.{laid}
 use Rattle.ecma_print.specs.Levels.{in_parentheses}
 use Rattle.ecma_print.specs.Places.{free}
-use Rattle.ecma_print_parentheses.specs.Explicit.{in_spots, parenthesized, stood}
-use Rattle.ecma_print_parentheses.specs.Spots.{first_spots, further_spot}
+use Rattle.ecma_print.specs.Explicit.{in_spots, parenthesized, stood}
+use Rattle.ecma_print.specs.Spots.{first_spots, further_spot}
 use Rattle.ecma_print_parentheses.proofs.Asking.{AllFit, Fits, first_fit, further_fits, open_where_free}
 use Rattle.ecma_print_parentheses.proofs.Spotted.{bare', spotted, stands_in}
 use Rattle.ecma_scope.specs.declared.role.Role.{Role}
@@ -22,13 +21,14 @@ use Rattle.ecma_scope.specs.declared.form.Part.TheVariants as part
 use Rattle.ecma_scope.specs.Conflicts.{Surrounding, clash_step, clashes_in, clashing, nothing, own_clashes, passing, redeclared_at, surrounds}
 use Rattle.ecma_scope.specs.Declarations.{holds_vars, names, stated}
 use Rattle.ecma_scope.specs.Scopes.{covers, is_ambient, is_there, opens}
-use Rattle.ecma_scope_congruence.specs.Conflicts.{ParenthesesDoNotMatterToConflicts}
-use Rattle.ecma_scope_congruence.specs.Parentheses.{AllHaveBodies, HasBodies, more, none, with_bodies}
+use Rattle.ecma_scope_congruence.specs.Laws.{ParenthesesDoNotMatterToConflicts}
+use Rattle.ecma_scope_congruence.specs.Bodies.{AllHaveBodies, HasBodies, more, none, with_bodies}
 use Rattle.ecma_scope_congruence.proofs.ExplicitCounts.{opens_of_node, opens_spotted, role_of_node, role_spotted, unseen_children}
 use Rattle.ecma_scope_congruence.proofs.ExplicitNames.{behind, found_bare, kind_of_node, names_kept, standing}
 use Rattle.ecma_scope_congruence.proofs.Looking.{spot_at}
 use Rattle.ecma_scope_congruence.proofs.Roles.{Unseen, blind_opens, blind_role, is_blind, parentheses_open_none, parentheses_role}
 use Rattle.ecma_scope_congruence.proofs.SpanConflicts.{met}
+use Rattle.ecma_tree.proofs.Layers.{from_leaves-roll}
 
 told_of_node : (at : Span) (k : Kind) (ns : List Node) (s : Surrounding) → redeclared_at (node_of at k ns) s ≡ own_clashes s (node_of at k ns) ++ clashes_in (surrounds s (node_of at k ns)) 0 (map redeclared_at ns)
 told_of_node at k ns s = ap (λ f. f s) (from_leaves-roll (Surrounding → List (List ℕ)) clash_step (record { span = at; kind = k; children = ns }))

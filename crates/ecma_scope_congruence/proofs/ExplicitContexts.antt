@@ -7,7 +7,6 @@ use Rattle.ecma_kind.specs.declared.span.Span.{Span}
 use Rattle.ecma_tree.specs.declared.node.Node.{Node, Node-F, out-Node}
 use Rattle.ecma_tree.specs.declared.node.Node.TheViews.{out-roll-Node, roll-out-Node}
 use Rattle.ecma_tree.specs.Nodes.{dummy_span, node_of}
-use Rattle.ecma_tree.proofs.Layers.{from_leaves-roll}
 use Rattle.ecma_print.specs.declared.place.Spot.{Spot}
 use Rattle.ecma_print.specs.Expressions.{object_beside}
 use Rattle.ecma_print.specs.Laid.{is_computed, is_object_pattern}
@@ -16,8 +15,8 @@ use Rattle.ecma_print.specs.Layout.{laid}
 use Rattle.ecma_print.specs.Levels.{begins_with_brace, in_parentheses, is_misread, lacks_arguments, level_of}
 use Rattle.ecma_print.specs.Places.{free, is_headed, left, opens_a_block}
 use Rattle.ecma_print.proofs.LaidOut.{laid_kind}
-use Rattle.ecma_print_parentheses.specs.Explicit.{in_spots, parenthesized, stood}
-use Rattle.ecma_print_parentheses.specs.Spots.{first_spots, further_spot, has_computed_key}
+use Rattle.ecma_print.specs.Explicit.{in_spots, parenthesized, stood}
+use Rattle.ecma_print.specs.Spots.{first_spots, further_spot, has_computed_key}
 use Rattle.ecma_print_parentheses.proofs.Asking.{AllFit, Fits, first_fit, further_fits, open_where_free}
 use Rattle.ecma_print_parentheses.proofs.Spotted.{bare', spotted, stands_in}
 use Rattle.ecma_scope.specs.declared.role.Role.{Role}
@@ -25,11 +24,13 @@ use Rattle.ecma_scope.specs.declared.role.Role.TheVariants as role
 use Rattle.ecma_scope.specs.Declarations.{stated}
 use Rattle.ecma_scope.specs.Resolved.{Place, context_count, innermost, inside, kind_at, nowhere, placed, resolve_step, resolved_at, scope_at, taken}
 use Rattle.ecma_scope.specs.Scopes.{covers, is_root, is_there}
-use Rattle.ecma_scope_congruence.specs.Parentheses.{AllHaveBodies, HasBodies, ParenthesesDoNotMatterToContexts, more, none, with_bodies}
+use Rattle.ecma_scope_congruence.specs.Bodies.{AllHaveBodies, HasBodies, more, none, with_bodies}
+use Rattle.ecma_scope_congruence.specs.Laws.{ParenthesesDoNotMatterToContexts}
 use Rattle.ecma_scope_congruence.proofs.ExplicitNames.{behind, kind_of_node, names_kept, standing}
 use Rattle.ecma_scope_congruence.proofs.ExplicitCounts.{count_kept, opens_of_node, opens_spotted, role_of_node, role_spotted, taken_of_node, taken_spotted, unseen_children}
 use Rattle.ecma_scope_congruence.proofs.Looking.{spot_at}
 use Rattle.ecma_scope_congruence.proofs.Roles.{Unseen, blind_opens, blind_role, is_blind, parentheses_open_none, parentheses_role}
+use Rattle.ecma_tree.proofs.Layers.{from_leaves-roll}
 
 module _ (unresolved top : ℕ) where
   abbrev at_place : Node → Place → ℕ → Node

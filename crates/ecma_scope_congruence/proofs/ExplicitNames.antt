@@ -7,14 +7,12 @@ use Rattle.ecma_kind.specs.declared.span.Span.{Span}
 use Rattle.ecma_tree.specs.declared.node.Node.{Node, fold-roll-Node, out-Node}
 use Rattle.ecma_tree.specs.declared.node.Node.TheViews.{out-roll-Node}
 use Rattle.ecma_tree.specs.Nodes.{dummy_span, node_of}
-use Rattle.ecma_tree.specs.Values.{is_value, value_by, value_step}
-use Rattle.ecma_tree.proofs.Layers.{from_leaves-roll}
 use Rattle.ecma_print.specs.declared.place.Spot.{Spot}
 use Rattle.ecma_print.specs.Layout.{laid}
 use Rattle.ecma_print.specs.Levels.{in_parentheses}
 use Rattle.ecma_print.specs.Places.{free}
-use Rattle.ecma_print_parentheses.specs.Explicit.{in_spots, parenthesized, stood}
-use Rattle.ecma_print_parentheses.specs.Spots.{first_spots, further_spot}
+use Rattle.ecma_print.specs.Explicit.{in_spots, parenthesized, stood}
+use Rattle.ecma_print.specs.Spots.{first_spots, further_spot}
 use Rattle.ecma_print_parentheses.proofs.Asking.{AllFit, Fits, first_fit, further_fits}
 use Rattle.ecma_print_parentheses.proofs.Sorting.{closed_is_misreadable}
 use Rattle.ecma_print_parentheses.proofs.Spotted.{bare', spotted, stands_in}
@@ -24,8 +22,10 @@ use Rattle.ecma_scope.specs.declared.form.Part.TheVariants as part
 use Rattle.ecma_scope.specs.declared.form.Sought.{Sought}
 use Rattle.ecma_scope.specs.Declarations.{declarations, declared_here, declared_step, found_at, found_in, holds_vars, is_own, names, own_part, sought_by, sought_in, vars_of}
 use Rattle.ecma_scope.specs.Scopes.{is_ambient}
-use Rattle.ecma_scope_congruence.specs.Parentheses.{AllHaveBodies, HasBodies, is_function_expression, more, none, with_bodies}
+use Rattle.ecma_scope_congruence.specs.Bodies.{AllHaveBodies, HasBodies, is_function_expression, more, none, with_bodies}
 use Rattle.ecma_scope_congruence.proofs.Looking.{Blind, BlindAt, children_blind, is_entering, loose_declares_none, loose_holds_none, loose_is_value, parentheses_are_value, parentheses_declare_none, parentheses_hold_none, spot_at}
+use Rattle.ecma_tree.specs.Values.{is_value, value_by, value_step}
+use Rattle.ecma_tree.proofs.Layers.{from_leaves-roll}
 
 -- a node in its spot
 abbrev pub standing : Node → Spot → Node

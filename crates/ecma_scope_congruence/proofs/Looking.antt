@@ -8,7 +8,7 @@ use Rattle.ecma_print.specs.declared.place.Spot.{Spot}
 use Rattle.ecma_print.specs.Places.{free}
 use Rattle.ecma_print.specs.Laid.{Laid}
 use Rattle.ecma_print.specs.Levels.{in_parentheses}
-use Rattle.ecma_print_parentheses.specs.Spots.{first_spots, further_spot}
+use Rattle.ecma_print.specs.Spots.{first_spots, further_spot}
 use Rattle.ecma_print_parentheses.proofs.Asking.{open_where_free}
 use Rattle.ecma_print_parentheses.proofs.Sorting.{is_misreadable}
 use Rattle.ecma_scope.specs.declared.form.Form.{Form}
@@ -16,9 +16,9 @@ use Rattle.ecma_scope.specs.declared.form.Form.TheVariants as form
 use Rattle.ecma_scope.specs.declared.form.Part.{Part}
 use Rattle.ecma_scope.specs.declared.form.Part.TheVariants as part
 use Rattle.ecma_scope.specs.declared.form.Sought.{Sought}
-use Rattle.ecma_scope_congruence.specs.Parentheses.{is_function_expression}
-use Rattle.ecma_tree.specs.Values.{value_by}
+use Rattle.ecma_scope_congruence.specs.Bodies.{is_function_expression}
 use Rattle.ecma_scope.specs.Declarations.{declared_here, in_default, in_item, in_member, in_name, in_scope, in_var, seek, seek_at, sought_by}
+use Rattle.ecma_tree.specs.Values.{value_by}
 
 -- what is looked for in an expression too: its own name
 abbrev pub is_entering : Part → Bool

@@ -4,15 +4,15 @@ use Rattle.ecma_tree.specs.declared.node.Node.{Node, Node-F, fold-roll-Node, ind
 use Rattle.ecma_tree.specs.declared.node.Node.TheViews.{out-roll-Node}
 use Rattle.ecma_tree.specs.Nodes.{dummy_span, node_of}
 use Rattle.ecma_tree.specs.Spans.{unplaced, without_spans}
-use Rattle.ecma_tree.proofs.Layers.{from_leaves_out}
 use Rattle.ecma_scope.specs.declared.role.Role.{Role}
 use Rattle.ecma_scope.specs.declared.role.Role.TheVariants as role
 use Rattle.ecma_scope.specs.Declarations.{stated}
 use Rattle.ecma_scope.specs.Resolved.{Place, context_count, contexts, count_step, counted, innermost, inside, kind_at, nowhere, placed, resolve_step, resolved, resolved_at, scope_at, taken}
 use Rattle.ecma_scope.specs.Scopes.{covers, is_root, role_in}
-use Rattle.ecma_scope_congruence.specs.Spans.{SpansDoNotMatterToContexts}
+use Rattle.ecma_scope_congruence.specs.Laws.{SpansDoNotMatterToContexts}
 use Rattle.ecma_scope_congruence.proofs.Bare.{bare, bare-children, bare-kind, opens-bare, role-bare}
 use Rattle.ecma_scope_congruence.proofs.Names.{names-bare}
+use Rattle.ecma_tree.proofs.Layers.{from_leaves_out}
 
 -- how many contexts
 

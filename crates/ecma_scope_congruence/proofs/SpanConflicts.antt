@@ -4,7 +4,6 @@ use Rattle.std.specs.Prelude.{filter}
 use Rattle.ecma_tree.specs.declared.node.Node.{Node, Node-F, ind-Node, out-Node, roll-Node}
 use Rattle.ecma_tree.specs.declared.node.Node.TheViews.{out-roll-Node}
 use Rattle.ecma_tree.specs.Spans.{without_spans}
-use Rattle.ecma_tree.proofs.Layers.{from_leaves_out}
 use Rattle.ecma_scope.specs.declared.role.Role.{Role}
 use Rattle.ecma_scope.specs.declared.role.Role.TheVariants as role
 use Rattle.ecma_scope.specs.declared.form.Declaration.{Declaration}
@@ -12,9 +11,10 @@ use Rattle.ecma_scope.specs.declared.form.Part.TheVariants as part
 use Rattle.ecma_scope.specs.Conflicts.{Surrounding, clash_step, clashes_in, clashing, is_further_out, marked, nothing, own_clashes, passing, redeclared, redeclared_at, surrounds}
 use Rattle.ecma_scope.specs.Declarations.{holds_vars, stated}
 use Rattle.ecma_scope.specs.Scopes.{covers, is_ambient}
-use Rattle.ecma_scope_congruence.specs.Conflicts.{SpansDoNotMatterToConflicts}
+use Rattle.ecma_scope_congruence.specs.Laws.{SpansDoNotMatterToConflicts}
 use Rattle.ecma_scope_congruence.proofs.Bare.{bare-children, bare-kind, opens-bare, role-bare}
 use Rattle.ecma_scope_congruence.proofs.Names.{declarations-bare, names-bare}
+use Rattle.ecma_tree.proofs.Layers.{from_leaves_out}
 
 passing-bare : (r : Role) (n : Node) → passing r (without_spans n) ≡ passing r n
 passing-bare r n =

@@ -1,3 +1,3 @@
-pub mod Spans
-pub mod Parentheses
-pub mod Conflicts
+pub mod Alike
+pub mod Bodies
+pub mod Laws

@@ -1,11 +1,9 @@
 //! Laws of resolved trees: neither where nodes stand in a text nor parentheses matter to their contexts, and to which names are declared twice.
 //!
-//! Each function carries one law over the definitions, and does nothing. The laws are stated in `specs/`.
+//! Each function carries one law over the definitions, and does nothing. The laws are stated in `specs/Laws.antt`.
 #![tactic(auto)]
 
-ghost use Rattle.ecma_scope_congruence.specs.Conflicts.{ParenthesesDoNotMatterToConflicts, SpansDoNotMatterToConflicts};
-ghost use Rattle.ecma_scope_congruence.specs.Parentheses.{ParenthesesDoNotMatterToContexts};
-ghost use Rattle.ecma_scope_congruence.specs.Spans.{SpansDoNotMatterToContexts};
+ghost use Rattle.ecma_scope_congruence.specs.Laws.{ParenthesesDoNotMatterToConflicts, ParenthesesDoNotMatterToContexts, SpansDoNotMatterToConflicts, SpansDoNotMatterToContexts};
 
 /// Trees that are equal up to spans are, with their contexts, equal up to spans, and take as many contexts.
 pub fn spans_do_not_matter_to_contexts()

@@ -18,7 +18,7 @@ use Rattle.ecma_fits.specs.Strays.{arguments_in, is_stray_target}
 use Rattle.ecma_scope.specs.Laws.{without_contexts}
 use Rattle.ecma_scope.specs.Resolved.{resolved}
 use Rattle.ecma_scope.proofs.Unchanged.{changes-contexts}
-use Rattle.ecma_scope_fits.specs.Kept.{ContextsDoNotMatter, EqualButForContextsFitAlike, ResolvedTreesFitAlike}
+use Rattle.ecma_scope_fits.specs.Laws.{ContextsDoNotMatter, EqualButForContextsFitAlike, ResolvedTreesFitAlike}
 use Rattle.ecma_scope_fits.proofs.Moved.{Blind, Same, child_same, kind_same, span_moved, to, walk_same}
 use Rattle.ecma_scope_fits.proofs.Tests.{chains_same, dangling_same, members_same as misread_same, short_same, simple_same}
 use Rattle.ecma_scope_fits.proofs.Rules.{around_same, constructors_same, held_same, lists_same, members_same, statements_same, stray_place_same}

@@ -48,6 +48,8 @@ seen_step parts =
     record { node = node_of parts.span parts.kind children; has_none = (not (is_type_part parts.kind) && children_stay parts.kind children) && list_all (λ seen. seen.has_none) parts.children }
 
 -- whether there are no types in a tree, all the way down
+--   let a = b; function f(c) { }   // none
+--   let a: T; interface A { }   // some
 abbrev pub has_no_types : Node → Bool
 has_no_types node = (fold-Node Seen seen_step node).has_none
 

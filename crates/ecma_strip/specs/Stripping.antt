@@ -10,10 +10,13 @@ use Rattle.ecma_tree.specs.Sorted.{is_absent}
 use Rattle.ecma_strip.specs.Staying.{is_empty_stmt, item_stays, stays}
 
 -- modifiers of a member of a class: `static` alone stays
+--   class A { private static override b() { } }   // becomes class A { static b() { } }
 abbrev pub plain_modifiers : MemberModifiers → MemberModifiers
 plain_modifiers modifiers = record { accessibility = None; is_static = modifiers.is_static; is_abstract = false; is_optional = false; is_override = false }
 
--- a kind without what its own data says of types: `?`, `!` behind a name, and modifiers
+-- a kind without what its own data says of types: `?`, `!` after a name, and modifiers
+--   let a!: T;   // becomes let a;
+--   abstract class A { private b?: T; }   // becomes class A { b; }
 unfoldable pub plain_kind : Kind → Kind
 plain_kind (kind.Ident sym ctxt optional) = kind.Ident sym ctxt false
 plain_kind (kind.ArrayPat optional) = kind.ArrayPat false
@@ -34,14 +37,17 @@ changed_at zero to (n ∷ ns) = to n ∷ ns
 changed_at (suc i) to (n ∷ ns) = n ∷ changed_at i to ns
 
 -- a list of statements without empty ones
+--   type T = U;; f();   // becomes f();
 abbrev pub without_empty : Node → Node
 without_empty list = node_of (out-Node list).span (out-Node list).kind (filter (λ n. not (is_empty_stmt (out-Node n).kind)) (out-Node list).children)
 
 -- the body of a statement: where a declaration stands there that goes, as in no valid module, an empty statement stands in its place
+--   while (a) b;   // stays
 abbrev pub body_of : Node → Node
 body_of n = cond (item_stays n) n (node_of (out-Node n).span kind.EmptyStmt [])
 
 -- the parameter `this` of a setter is missing
+--   ({ set a(this: T, b) { } });   // becomes ({ set a(b) { } });
 abbrev pub without_this : Node → Node
 without_this n = cond (is_absent (out-Node n).kind) n absent
 
@@ -63,11 +69,14 @@ plain_children kind.SetterProp = changed_at 1 without_this
 plain_children _ = λ children. children
 
 -- an expression in the place of one with a type round it
+--   a as T;   // becomes a;
 abbrev pub operand : Span → Kind → List Node → Node
 operand span k [] = node_of span k []
 operand span k (e ∷ types) = e
 
 -- a node whose children have no types any more and whose list has lost what goes
+--   let a: T = <U>b;   // becomes let a = b;
+--   f<T>(a!, b satisfies U);   // becomes f(a, b);
 unfoldable pub plain : Span → Kind → List Node → Node
 plain span kind.TsTypeAnn children = absent
 plain span kind.TsType children = absent

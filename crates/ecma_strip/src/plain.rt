@@ -28,7 +28,7 @@ fn plain_field(readonly: &mut bool, declare: &mut bool, definite: &mut bool)
     *definite = false;
 }
 
-/// Takes out what the kind itself says of types: `?`, `!` behind a name, and modifiers.
+/// Takes out what the kind itself says of types: `?`, `!` after a name, and modifiers.
 #[tactic(auto, unfolding(crate::specs::Stripping::plain_kind))]
 fn plain_kind(kind: &mut Kind)
     ensures { kind.new ≡ plain_kind kind.old }

@@ -31,7 +31,7 @@ fn is_export(kind: &Kind) -> bool
     matches!(kind, Kind::ExportDecl)
 }
 
-/// Whether it is a declaration behind `declare`, or its export.
+/// Whether it is a declaration after `declare`, or its export.
 fn is_ambient(node: &Node) -> bool
     ensures { result ≡ is_ambient node.now }
 {

@@ -1,6 +1,6 @@
 //! Which names are declared again where they may not be, in the tree without types: over the definitions of `ecma_scope`, `ecma_strip` and `ecma_strip_scopes`.
 //!
-//! Each function carries one law, and does nothing. The laws are stated in `specs/`.
+//! Each function carries one law, and does nothing. The laws are stated in `specs/Laws.antt`.
 #![tactic(auto)]
 
 ghost use Rattle.ecma_strip_conflicts.specs.Laws.{StrippedIsNotRedeclared, StrippedModulesAreNotRedeclared};

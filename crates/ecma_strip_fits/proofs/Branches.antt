@@ -11,7 +11,6 @@ use Rattle.ecma_tree.specs.declared.node.Node.TheViews.{out-roll-Node}
 use Rattle.ecma_tree.specs.Laws.{HaveShapes}
 use Rattle.ecma_tree.specs.Nodes.{node_of}
 use Rattle.ecma_tree.specs.Sorted.{HasShape, child_shapes, is_absent, maybe, one}
-use Rattle.ecma_tree.specs.Values.{is_value}
 use Rattle.ecma_rules.specs.Children.{child_holds, has_child, holds_of, is_present, kind_of, of_kind}
 use Rattle.ecma_strip.specs.Staying.{is_ambient, is_empty_stmt, item_stays}
 use Rattle.ecma_strip.specs.Stripping.{body_of, changed_at, plain_children, plain_kind, stripped}
@@ -24,6 +23,7 @@ use Rattle.ecma_strip_fits.proofs.Lists.{have_at, map_at}
 use Rattle.ecma_strip_fits.proofs.Strays.{kind_node}
 use Rattle.ecma_strip_fits.proofs.Tests.{not_dangling, test_kept}
 use Rattle.ecma_strip_fits.proofs.Walk.{children_of, shape_parts, usual_children, usual_kind}
+use Rattle.ecma_tree.specs.Values.{is_value}
 
 some_same : {X : Type 0} {x y : X} → Some x ≡ Some y → x ≡ y
 some_same e = cc

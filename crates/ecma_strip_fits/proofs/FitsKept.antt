@@ -2,7 +2,6 @@
 use Rattle.std.proofs.Common.{◌≡◌, ◌∙◌, ℕ, zero, suc, Bool, false, not, ◌||◌, List, [], ◌∷◌, map, Option, Some, None, is_some, refl, sym, ap, ap₂, subst, slice_get}
 use Rattle.ecma_tree.specs.declared.node.Node.{Node, Node-F, ind-Node, roll-Node}
 use Rattle.ecma_tree.specs.declared.node.Node.TheViews.{out-roll-Node}
-use Rattle.ecma_tree.proofs.Layers.{from_leaves_out}
 use Rattle.ecma_leaves.specs.Words.{is_spelled}
 use Rattle.ecma_rules.specs.Children.{kind_of}
 use Rattle.ecma_rules.specs.Failing.{failing_here, failing_step, first_failing, least, least_from}
@@ -16,7 +15,7 @@ use Rattle.ecma_fits.specs.Fitting.{at_top, breaks_rule, first_unfit_in, is_misp
 use Rattle.ecma_fits.specs.Members.{is_misread}
 use Rattle.ecma_fits.specs.Roles.{is_out_of_role, is_tagged}
 use Rattle.ecma_fits.specs.Strays.{is_stray_target}
-use Rattle.ecma_strip_fits.specs.Kept.{StrippingKeepsFits}
+use Rattle.ecma_strip_fits.specs.Laws.{StrippingKeepsFits}
 use Rattle.ecma_strip_fits.proofs.Branches.{branches_kept}
 use Rattle.ecma_strip_fits.proofs.Chains.{chains_kept}
 use Rattle.ecma_strip_fits.proofs.Constructors.{constructors_kept}
@@ -28,6 +27,7 @@ use Rattle.ecma_strip_fits.proofs.SortsKept.{sorts_kept}
 use Rattle.ecma_strip_fits.proofs.Strays.{keeps_strays, none_failing, not_failing}
 use Rattle.ecma_strip_fits.proofs.Tests.{members_kept}
 use Rattle.ecma_strip_fits.proofs.Walk.{NoneTells, children_of, each_none, neither_least, none_from}
+use Rattle.ecma_tree.proofs.Layers.{from_leaves_out}
 
 abbrev first : (Where → Node → Option ℕ) → Node → Where → Option ℕ
 first place = first_failing Where place where_in

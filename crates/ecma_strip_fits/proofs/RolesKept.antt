@@ -10,7 +10,6 @@ use Rattle.ecma_tree.specs.declared.node.Node.{Node, Node-F, fold_out-Node, ind-
 use Rattle.ecma_tree.specs.declared.node.Node.TheViews.{out-roll-Node}
 use Rattle.ecma_tree.specs.Nodes.{absent, dummy_span, node_of}
 use Rattle.ecma_tree.specs.Sorted.{HasShape, child_shapes, is_absent, is_list, one}
-use Rattle.ecma_tree.proofs.Layers.{from_leaves_out}
 use Rattle.ecma_rules.specs.Children.{kind_of}
 use Rattle.ecma_rules.specs.Failing.{failing_here, failing_step, first_failing, least_from}
 use Rattle.ecma_rules.specs.Targets.{first_is, is_plain_target, is_simple_target, is_wrapper}
@@ -21,7 +20,7 @@ use Rattle.ecma_fits.specs.declared.role.Role.TheVariants as role
 use Rattle.ecma_fits.specs.declared.unfit.Where.{Where}
 use Rattle.ecma_fits.specs.Fitting.{Fits, at_top, first_unfit_in, unfit_here, where_in, NoneFails}
 use Rattle.ecma_fits.specs.Roles.{at_child, is_binding, is_bound_name, is_default, is_free, is_name, is_out_of_role, is_pattern, is_rest, is_variables, is_wrong_name, may_be, role_in, takes}
-use Rattle.ecma_strip_fits.specs.Kept.{HasPlainTargets, is_typed_target}
+use Rattle.ecma_strip_fits.specs.Targets.{HasPlainTargets, is_typed_target}
 use Rattle.ecma_bind.specs.Binding.{binds, is_name_under_types, names_step}
 use Rattle.ecma_strip_fits.proofs.Classes.{Class, class_of, is_body_at, is_receiver_at, only_list, wrapped_front}
 use Rattle.ecma_strip_fits.proofs.Classes.Class.{Listed, Typed, Usual, Wrapped}
@@ -36,6 +35,7 @@ use Rattle.ecma_strip_fits.proofs.Standing.{role_below, role_item, wrapped_role}
 use Rattle.ecma_strip_fits.proofs.Strays.{kind_node, none_failing, not_failing}
 use Rattle.ecma_strip_fits.proofs.Tests.{neither}
 use Rattle.ecma_strip_fits.proofs.Walk.{Carries, NoneTells, children_of, each_none, kept, neither_least, shape_parts, usual_children, usual_kind, wrapped_is}
+use Rattle.ecma_tree.proofs.Layers.{from_leaves_out}
 
 some_same : {X : Type 0} {x y : X} → Some x ≡ Some y → x ≡ y
 some_same e = cc

@@ -14,7 +14,6 @@ use Rattle.ecma_tree.specs.declared.node.Node.{Node, Node-F, fold_out-Node, ind-
 use Rattle.ecma_tree.specs.declared.node.Node.TheViews.{out-roll-Node}
 use Rattle.ecma_tree.specs.Laws.{HaveShapes}
 use Rattle.ecma_tree.specs.Sorted.{HasShape, all_have_shapes, allows, allows_by, child_shapes, is_absent, item_shape, one}
-use Rattle.ecma_tree.proofs.Layers.{from_leaves_out}
 use Rattle.ecma_rules.specs.Children.{kind_of}
 use Rattle.ecma_rules.specs.Failing.{failing_step, least_from}
 use Rattle.ecma_rules.specs.Targets.{first_is, is_plain, is_plain_target, is_simple_target, is_wrapper}
@@ -25,12 +24,13 @@ use Rattle.ecma_fits.specs.declared.role.Role.TheVariants as role
 use Rattle.ecma_fits.specs.declared.unfit.Where.{Where}
 use Rattle.ecma_fits.specs.Fitting.{Fits, at_top, first_unfit_in, unfit_here, where_in}
 use Rattle.ecma_fits.specs.Roles.{is_out_of_role, is_wrong_name, left_of, may_be, role_in, takes}
-use Rattle.ecma_strip_fits.specs.Kept.{StrippingKeepsSorts}
+use Rattle.ecma_strip_fits.specs.Laws.{StrippingKeepsSorts}
 use Rattle.ecma_strip_fits.proofs.Classes.{Class, class_of, wrapped_front}
 use Rattle.ecma_strip_fits.proofs.Classes.Class.{Listed, Wrapped}
 use Rattle.ecma_strip_fits.proofs.Ruled.{left_expression, must_take, simple-out, simple_under, wrapped_expression, wrapped_no_list, wrapped_there}
 use Rattle.ecma_strip_fits.proofs.RulesKept.{in_role}
 use Rattle.ecma_strip_fits.proofs.Walk.{NoneTells, children_of, each_none, neither_least, shape_parts}
+use Rattle.ecma_tree.proofs.Layers.{from_leaves_out}
 
 some_same : {X : Type 0} {x y : X} → Some x ≡ Some y → x ≡ y
 some_same e = cc

@@ -17,7 +17,7 @@ use Rattle.ecma_rules.specs.Strays.{in_named, is_stray, strays_in}
 use Rattle.ecma_strip.specs.Stripping.{plain_children, plain_kind, stripped}
 use Rattle.ecma_strip.proofs.Sorting.{list-kind}
 use Rattle.ecma_fits.specs.Fitting.{at_top, first_unfit_in}
-use Rattle.ecma_strip_fits.specs.Kept.{StrippingKeepsStrays}
+use Rattle.ecma_strip_fits.specs.Laws.{StrippingKeepsStrays}
 use Rattle.ecma_strip_fits.proofs.Classes.{class_of}
 use Rattle.ecma_strip_fits.proofs.Classes.Class.{Usual, Wrapped}
 use Rattle.ecma_strip_fits.proofs.ChildrenKept.{AsUsual, Plain, child_kept, maybe_usual, one_usual}

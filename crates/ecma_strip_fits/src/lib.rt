@@ -1,9 +1,9 @@
 //! What fits, without its types: which clauses the tree keeps, over the definitions alone.
 //!
-//! Each function carries one law, and does nothing. The laws are stated in `specs/`.
+//! Each function carries one law, and does nothing. The laws are stated in `specs/Laws.antt`.
 #![tactic(auto)]
 
-ghost use Rattle.ecma_strip_fits.specs.Kept.{StrippingKeepsBranches, StrippingKeepsChains, StrippingKeepsConstructors, StrippingKeepsCounts, StrippingKeepsFits, StrippingKeepsLeaves, StrippingKeepsMembers, StrippingKeepsNames, StrippingKeepsRules, StrippingKeepsSorts, StrippingKeepsStrays, StrippingKeepsTargets};
+ghost use Rattle.ecma_strip_fits.specs.Laws.{StrippingKeepsBranches, StrippingKeepsChains, StrippingKeepsConstructors, StrippingKeepsCounts, StrippingKeepsFits, StrippingKeepsLeaves, StrippingKeepsMembers, StrippingKeepsNames, StrippingKeepsRules, StrippingKeepsSorts, StrippingKeepsStrays, StrippingKeepsTargets};
 
 /// Where a tree fits, the tree without its types keeps these clauses of fitting.
 pub fn stripping_keeps_clauses_of_what_fits()

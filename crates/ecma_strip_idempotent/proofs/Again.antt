@@ -11,16 +11,16 @@ use Rattle.ecma_tree.specs.Nodes.{node_of}
 use Rattle.ecma_tree.specs.Sorted.{all_have_shapes, allows, child_shapes, maybe, one}
 use Rattle.ecma_tree.specs.declared.node.Node.{Node, Node-F, fold-roll-Node, fold_out-Node, out-Node, roll-Node}
 use Rattle.ecma_tree.specs.declared.node.Node.TheViews.{out-roll-Node}
-use Rattle.ecma_tree.proofs.Layers.{from_leaves-roll}
-use Rattle.ecma_tree.specs.Values.{is_value, value_by, value_step}
-use Rattle.ecma_tree.proofs.Valuing.{is_value-out}
 use Rattle.ecma_strip.specs.Laws.{has_shape_under_types, shape_under_types_by}
 use Rattle.ecma_strip.specs.Staying.{if_there, is_declared, is_empty_stmt, is_export, is_this_param, item_stays, member_stays, member_stays_by, specifier_stays, stays}
 use Rattle.ecma_strip.specs.Stripping.{plain, plain_children, plain_kind, staying_nodes, stripped}
 use Rattle.ecma_strip.proofs.Sorting.{allows-under, both}
 use Rattle.ecma_strip.proofs.Stripping.{stripped-out}
-use Rattle.ecma_strip_idempotent.specs.Twice.{holds_everywhere, lasts, lasts_by}
+use Rattle.ecma_strip_idempotent.specs.Lasting.{holds_everywhere, lasts, lasts_by}
 use Rattle.ecma_strip_idempotent.proofs.Steady.{no}
+use Rattle.ecma_tree.proofs.Layers.{from_leaves-roll}
+use Rattle.ecma_tree.specs.Values.{is_value, value_by, value_step}
+use Rattle.ecma_tree.proofs.Valuing.{is_value-out}
 
 abbrev pub Lasts : Node → Type 0
 Lasts n = holds_everywhere lasts n ≡ true

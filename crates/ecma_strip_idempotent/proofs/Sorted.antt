@@ -12,14 +12,15 @@ use Rattle.ecma_tree.specs.Sorted.{HasShape, child_shapes, is_absent, item_shape
 use Rattle.ecma_tree.specs.declared.node.Node.{Node, Node-F, ind-Node, out-Node, roll-Node}
 use Rattle.ecma_tree.specs.declared.node.Node.TheViews.{out-roll-Node, roll-out-Node}
 use Rattle.ecma_tree.proofs.ShapeLaws.{node_has_shape}
-use Rattle.ecma_tree.proofs.Layers.{from_leaves-roll}
 use Rattle.ecma_strip.specs.Staying.{is_empty_stmt, is_this_param, item_stays, member_stays, specifier_stays, stays}
 use Rattle.ecma_strip.specs.Stripping.{body_of, changed_at, operand, plain, plain_children, plain_kind, staying_nodes, stripped, without_empty, without_this}
 use Rattle.ecma_strip.proofs.Sorting.{both}
 use Rattle.ecma_strip.proofs.Stripping.{stripped-roll}
-use Rattle.ecma_strip_idempotent.specs.Twice.{SortedTreesStripOnce, holds_everywhere, is_full, is_full_by, lasts, lasts_by}
+use Rattle.ecma_strip_idempotent.specs.Laws.{SortedTreesStripOnce}
+use Rattle.ecma_strip_idempotent.specs.Lasting.{holds_everywhere, is_full, is_full_by, lasts, lasts_by}
 use Rattle.ecma_strip_idempotent.proofs.Names.{param-stays, rest_of}
 use Rattle.ecma_strip_idempotent.proofs.Twice.{stripping_twice_is_stripping_once}
+use Rattle.ecma_tree.proofs.Layers.{from_leaves-roll}
 
 abbrev nameless_by : Kind → List Node → Bool
 nameless_by kind.List cs = list_all (λ n. not (is_this_param n)) cs

@@ -14,16 +14,17 @@ use Rattle.ecma_tree.specs.Nodes.{absent, dummy_span, node_of}
 use Rattle.ecma_tree.specs.Sorted.{all_have_shapes, allows, allows_by, child_shapes, is_absent, is_list, item_count, item_shape, many, one}
 use Rattle.ecma_tree.specs.declared.node.Node.{Node, Node-F, fold-roll-Node, ind-Node, out-Node, roll-Node}
 use Rattle.ecma_tree.specs.declared.node.Node.TheViews.{out-roll-Node}
-use Rattle.ecma_tree.specs.Values.{is_value}
 use Rattle.ecma_strip.specs.Laws.{first_has, has_shape_under_types, shape_under_types_by}
 use Rattle.ecma_strip.specs.Staying.{is_ambient, is_empty_stmt, is_this_param, item_stays, stays}
 use Rattle.ecma_strip.specs.Stripping.{body_of, changed_at, operand, plain, plain_children, plain_kind, staying_nodes, stripped, without_empty, without_this}
 use Rattle.ecma_strip.proofs.Sorting.{allows-under, both}
 use Rattle.ecma_strip.proofs.Stripping.{stripped-roll}
-use Rattle.ecma_strip_idempotent.specs.Twice.{StrippingTwiceIsStrippingOnce, lasts_by}
+use Rattle.ecma_strip_idempotent.specs.Laws.{StrippingTwiceIsStrippingOnce}
+use Rattle.ecma_strip_idempotent.specs.Lasting.{lasts_by}
 use Rattle.ecma_strip_idempotent.proofs.Again.{AllLast, Lasts, asked, below, lasting, shaped}
 use Rattle.ecma_strip_idempotent.proofs.Items.{stays-again}
 use Rattle.ecma_strip_idempotent.proofs.Steady.{is_listed, is_single, no}
+use Rattle.ecma_tree.specs.Values.{is_value}
 
 -- a node that stays when it is stripped, where nothing is left in it that goes then
 abbrev Settles : Node → Type 0

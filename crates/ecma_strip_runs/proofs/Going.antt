@@ -8,15 +8,15 @@ use Rattle.ecma_kind.specs.declared.shapes.Sort.TheVariants as sort
 use Rattle.ecma_tree.specs.declared.node.Node.{Node, out-Node}
 use Rattle.ecma_tree.specs.Laws.{HaveShapes}
 use Rattle.ecma_tree.specs.Sorted.{HasShape, child_shapes, one, maybe, many}
-use Rattle.ecma_tree.specs.Values.{is_value, value_by}
-use Rattle.ecma_tree.proofs.Valuing.{is_value-out}
 use Rattle.ecma_runs.specs.Meaning.{Meaning}
 use Rattle.ecma_runs.specs.Declarations.{has_no_effect, is_type_of}
 use Rattle.ecma_runs.specs.Evaluation.{meaning_by, meaning}
 use Rattle.ecma_runs.proofs.Layer.{meaning_out}
 use Rattle.ecma_strip.specs.Staying.{if_there, is_empty_stmt, is_declared, is_export, is_this, is_this_by, is_this_ident, is_this_param, is_this_param_by, item_stays, member_stays_by, specifier_stays, stays}
-use Rattle.ecma_strip_runs.specs.Runs.{does_nothing}
+use Rattle.ecma_strip_runs.specs.OnlyTypes.{does_nothing}
 use Rattle.ecma_strip_runs.proofs.Valueless.{shape_out, body_absent, function_bodiless, valueless, typed, child_valueless, body_valueless}
+use Rattle.ecma_tree.specs.Values.{is_value, value_by}
+use Rattle.ecma_tree.proofs.Valuing.{is_value-out}
 
 -- nodes of two shapes are two
 pub two : (a b : Shape) (cs : List Node) → HaveShapes (a ∷ b ∷ []) cs → (x : Node) × (y : Node) × (cs ≡ x ∷ y ∷ []) × HasShape a x × HasShape b y

@@ -2,7 +2,7 @@
 use Rattle.std.proofs.Common.{◌≡◌, refl, sym, ap, ap₂, ◌∙◌, List, [], ◌∷◌, map}
 use Rattle.ecma_tree.specs.declared.node.Node.{Node, Node-F, fold-Node, fold-roll-Node, roll-Node, ind-Node}
 use Rattle.ecma_tree.specs.Nodes.{node_of}
-use Rattle.ecma_strip_runs.specs.Runs.{Seen, fine_by, seen_step, only_types_go}
+use Rattle.ecma_strip_runs.specs.OnlyTypes.{Seen, fine_by, seen_step, only_types_go}
 
 -- a node as it is seen
 abbrev pub seen : Node → Seen

@@ -19,17 +19,18 @@ use Rattle.ecma_tree.specs.Laws.{HaveShapes}
 use Rattle.ecma_tree.specs.Nodes.{node_of}
 use Rattle.ecma_tree.specs.Sorted.{HasShape, allows, allows_by, child_shapes, item_shape, is_absent, one, maybe, many}
 use Rattle.ecma_tree.proofs.ShapeLaws.{node_has_shape}
-use Rattle.ecma_tree.specs.Values.{value_by}
 use Rattle.ecma_strip.specs.Staying.{is_this, is_this_param, item_stays, is_declared, specifier_stays, member_stays_by, stays}
 use Rattle.ecma_strip.specs.Stripping.{plain, plain_children, plain_kind, staying_nodes, stripped}
 use Rattle.ecma_strip.proofs.Stripping.{stripped-out}
-use Rattle.ecma_strip_runs.specs.Runs.{does_nothing, Seen, fine_item, fine_body, fine_list, all_fine, fine_by, only_types_go}
-use Rattle.ecma_strip_runs.specs.Usual.{bodies_of, is_declaration, declares_no_body, lists_no_receiver, OnlyTypesGo}
+use Rattle.ecma_strip_runs.specs.OnlyTypes.{does_nothing, Seen, fine_item, fine_body, fine_list, all_fine, fine_by, only_types_go}
+use Rattle.ecma_strip_runs.specs.UsualBodies.{bodies_of, is_declaration, declares_no_body, lists_no_receiver}
+use Rattle.ecma_strip_runs.specs.Laws.{OnlyTypesGo}
 use Rattle.ecma_strip_runs.proofs.Seeing.{seen, only_types_go-roll}
 use Rattle.ecma_strip_runs.proofs.Telling.{is_usual, usual_parts}
 use Rattle.ecma_strip_runs.proofs.Plain.{is_concrete}
 use Rattle.ecma_strip_runs.proofs.Valueless.{shape_out}
 use Rattle.ecma_strip_runs.proofs.Going.{item_by, item_same, member_by, member_same, value_of, goes_silently}
+use Rattle.ecma_tree.specs.Values.{value_by}
 
 -- a kind that may stand where no type and no member of a class does
 abbrev is_fit : Kind → Bool

@@ -26,7 +26,8 @@ use Rattle.ecma_runs.proofs.Layers.{images_where, texts_stay, the_same, none_exc
 use Rattle.ecma_strip.specs.Staying.{is_empty_stmt, item_stays, stays}
 use Rattle.ecma_strip.specs.Stripping.{body_of, plain, plain_children, plain_kind, stripped, without_empty, without_this}
 use Rattle.ecma_strip.proofs.Stripping.{stripped-roll}
-use Rattle.ecma_strip_runs.specs.Runs.{does_nothing, fine_item, fine_body, fine_list, all_fine, fine_by, only_types_go, StrippingKeepsRuns}
+use Rattle.ecma_strip_runs.specs.OnlyTypes.{does_nothing, fine_item, fine_body, fine_list, all_fine, fine_by, only_types_go}
+use Rattle.ecma_strip_runs.specs.Laws.{StrippingKeepsRuns}
 use Rattle.ecma_strip_runs.proofs.Seeing.{seen, only_types_go-roll}
 use Rattle.ecma_strip_runs.proofs.Pairs.{Alike, none, more, layer_alike, Lessened, empty, stays as remains, goes, list_alike}
 use Rattle.ecma_strip_runs.proofs.Plain.{is_concrete, plain_meaning}

@@ -5,7 +5,7 @@ use Rattle.std.proofs.lemmas.Bool.{and_parts}
 use Rattle.ecma_kind.specs.declared.kind.Kind.{Kind}
 use Rattle.ecma_tree.specs.declared.node.Node.{Node, Node-F, fold-Node, fold-roll-Node, roll-Node, ind-Node}
 use Rattle.ecma_tree.specs.Nodes.{node_of}
-use Rattle.ecma_strip_runs.specs.Usual.{Told, told_step, holds_throughout, declares_no_body, lists_no_receiver, has_usual_bodies, has_no_arrow_receivers}
+use Rattle.ecma_strip_runs.specs.UsualBodies.{Told, told_step, holds_throughout, declares_no_body, lists_no_receiver, has_usual_bodies, has_no_arrow_receivers}
 
 module _ (test : Kind → List Node → Bool) where
   abbrev told : Node → Told

@@ -1,10 +1,9 @@
 //! What a module without its types does when it runs, over the definitions of `ecma_strip` and `ecma_runs` alone.
 //!
-//! Each function carries one law, and does nothing. The laws are stated in `specs/`.
+//! Each function carries one law, and does nothing. The laws are stated in `specs/Laws.antt`.
 #![tactic(auto)]
 
-ghost use Rattle.ecma_strip_runs.specs.Runs.{StrippingKeepsRuns};
-ghost use Rattle.ecma_strip_runs.specs.Usual.{OnlyTypesGo};
+ghost use Rattle.ecma_strip_runs.specs.Laws.{OnlyTypesGo, StrippingKeepsRuns};
 
 /// A module without its types is observed to do what it does with them, for every script of the host and every number of turns, where what goes does
 /// nothing: of each tree from which only types go.

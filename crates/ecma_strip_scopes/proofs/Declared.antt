@@ -10,8 +10,6 @@ use Rattle.ecma_tree.specs.Nodes.{absent, node_of}
 use Rattle.ecma_tree.specs.Sorted.{HasShape, child_shapes, is_list, item_shape, many}
 use Rattle.ecma_tree.specs.declared.node.Node.{Node, Node-F, ind-Node, out-Node, roll-Node}
 use Rattle.ecma_tree.specs.declared.node.Node.TheViews.{out-roll-Node}
-use Rattle.ecma_tree.specs.Values.{is_value}
-use Rattle.ecma_tree.proofs.Layers.{from_leaves_out}
 use Rattle.ecma_scope.specs.declared.form.Part.{Part}
 use Rattle.ecma_scope.specs.declared.form.Part.TheVariants as part
 use Rattle.ecma_scope.specs.declared.form.Sought.{Sought}
@@ -24,12 +22,15 @@ use Rattle.ecma_hygiene_scopes.specs.DeclaredIds.{DeclaredId, id_here, ids_at, i
 use Rattle.ecma_hygiene_scopes.proofs.Directly.{ids-out}
 use Rattle.ecma_hygiene_scopes.proofs.Parts.{children-of, kind-of}
 use Rattle.ecma_strip_scopes.specs.Going.{is_list_part}
-use Rattle.ecma_strip_scopes.specs.Standing.{WhatStaysIsDeclared, bodies_stay, clear_at, clear_here, clear_in, clear_step, has_value, is_clear, is_none, same}
+use Rattle.ecma_strip_scopes.specs.Laws.{WhatStaysIsDeclared}
+use Rattle.ecma_strip_scopes.specs.Standing.{bodies_stay, clear_at, clear_here, clear_in, clear_step, has_value, is_clear, is_none, same}
 use Rattle.ecma_strip_scopes.proofs.Exporting.{what-goes-declares-nothing}
 use Rattle.ecma_strip_scopes.proofs.Going.{parts-have}
 use Rattle.ecma_strip_scopes.proofs.Lasting.{here-lasts, lasting, lasting-append, none-lasts, param-goes}
 use Rattle.ecma_strip_scopes.proofs.Standing.{body-same, changed-declares, full-declares, is-none, list-kind, list-sought, silent, value-free}
 use Rattle.ecma_strip_scopes.proofs.Seeking.{Becomes, becomes, here-plain, itself, list, seeks-plain, setter-seeks, typed, wrapper}
+use Rattle.ecma_tree.specs.Values.{is_value}
+use Rattle.ecma_tree.proofs.Layers.{from_leaves_out}
 
 -- ---- the children that become plain
 

@@ -13,14 +13,15 @@ use Rattle.ecma_scope.specs.declared.form.Part.TheVariants as part
 use Rattle.ecma_scope.specs.declared.form.Sought.{Sought}
 use Rattle.ecma_scope.specs.Declarations.{in_default, in_item, in_member, in_name, in_var, sought_by, sought_in}
 use Rattle.ecma_strip.specs.Staying.{if_there, is_ambient, is_declared, is_empty_stmt, is_export, is_this_param, item_stays, member_stays, specifier_stays, stays}
-use Rattle.ecma_tree.proofs.Valuing.{is_value-out}
-use Rattle.ecma_tree.specs.Values.{is_value, value_by}
 use Rattle.ecma_hygiene.proofs.Telling.{true-false}
 use Rattle.ecma_hygiene_scopes.specs.DeclaredIds.{DeclaredId, id_here, ids_at, ids_declared, ids_in}
 use Rattle.ecma_hygiene_scopes.proofs.Directly.{ids-out}
-use Rattle.ecma_strip_scopes.specs.Going.{WhatGoesDeclaresNothing, is_list_part}
+use Rattle.ecma_strip_scopes.specs.Laws.{WhatGoesDeclaresNothing}
+use Rattle.ecma_strip_scopes.specs.Going.{is_list_part}
 use Rattle.ecma_hygiene_scopes.proofs.Gone.{below-gone, gone-at, kept, none-append, none-some}
 use Rattle.ecma_strip_scopes.proofs.Going.{and-none, apart, decl-gone, decl-item, is_exporting, is_ident, is_silent, member-silent, no-id, no-scope, only, parts-have, silent-by, specifier-by}
+use Rattle.ecma_tree.proofs.Valuing.{is_value-out}
+use Rattle.ecma_tree.specs.Values.{is_value, value_by}
 
 -- ---- the default export
 

@@ -15,7 +15,7 @@ use Rattle.ecma_strip.proofs.Stripping.{stripped-out}
 use Rattle.ecma_hygiene.proofs.Telling.{true-false}
 use Rattle.ecma_hygiene_scopes.specs.DeclaredIds.{DeclaredId, ids_declared}
 use Rattle.ecma_hygiene_scopes.proofs.Parts.{kind-of}
-use Rattle.ecma_strip_scopes.specs.Apart.{ScopesDeclareWhatStays}
+use Rattle.ecma_strip_scopes.specs.Laws.{ScopesDeclareWhatStays}
 use Rattle.ecma_strip_scopes.specs.Standing.{is_clear}
 use Rattle.ecma_strip_scopes.proofs.Declared.{what-stays-is-declared}
 use Rattle.ecma_strip_scopes.proofs.Lasting.{lasting, lasting-append}

@@ -6,7 +6,8 @@ use Rattle.ecma_scope.specs.declared.role.Role.TheVariants as role
 use Rattle.ecma_scope.specs.Resolved.{resolved}
 use Rattle.ecma_scope.proofs.Unchanged.{keeps-sorts}
 use Rattle.ecma_hygiene_scopes.proofs.ResolvedApart.{resolved-keeps-apart}
-use Rattle.ecma_strip_scopes.specs.Apart.{IsWrapped, StrippedModulesTellScopesApart}
+use Rattle.ecma_strip_scopes.specs.Apart.{IsWrapped}
+use Rattle.ecma_strip_scopes.specs.Laws.{StrippedModulesTellScopesApart}
 use Rattle.ecma_strip_scopes.proofs.StayingSeats.{staying-among}
 use Rattle.ecma_strip_scopes.proofs.Walking.{stripped-tells-apart}
 use Rattle.ecma_strip_scopes.proofs.Wrapping.{module-wraps}

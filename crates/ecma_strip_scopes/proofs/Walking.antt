@@ -33,7 +33,8 @@ use Rattle.ecma_hygiene_scopes.specs.Seats.{Seat}
 use Rattle.ecma_hygiene_scopes.specs.Stops.{Stop, stops, stops_at, stops_from}
 use Rattle.ecma_hygiene_scopes.proofs.Parts.{children-of, kind-of, parts_of}
 use Rattle.ecma_hygiene_scopes.proofs.Stopping.{All-first, All-second, stops-out}
-use Rattle.ecma_strip_scopes.specs.Apart.{IsClearSeat, IsOther, IsWrapped, StrippedTellsScopesApart}
+use Rattle.ecma_strip_scopes.specs.Apart.{IsClearSeat, IsOther, IsWrapped}
+use Rattle.ecma_strip_scopes.specs.Laws.{StrippedTellsScopesApart}
 use Rattle.ecma_strip_scopes.specs.Staying.{staying_seats}
 use Rattle.ecma_strip_scopes.proofs.AtStops.{at-stops}
 use Rattle.ecma_strip_scopes.proofs.Declared.{not-list}

@@ -2,3 +2,4 @@ pub mod Going
 pub mod Standing
 pub mod Staying
 pub mod Apart
+pub mod Laws

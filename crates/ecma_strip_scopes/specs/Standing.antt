@@ -1,19 +1,18 @@
--- What stays of a tree declares, without its types, what the tree declares as values that stay.
-use Rattle.std.specs.Prelude.{◌≡◌, ℕ, suc, Bool, true, false, ◌&&◌, ◌||◌, not, cond, filter, List, [], ◌∷◌, map, Option, Some, None, bytes_eq, codes, slice_get}
+-- Nodes of which it is clear what they declare without their types.
+use Rattle.std.specs.Prelude.{ℕ, suc, Bool, true, false, ◌&&◌, ◌||◌, not, cond, List, [], ◌∷◌, map, Option, Some, None, bytes_eq, codes, slice_get}
 use Rattle.ecma_kind.specs.Sorts.{is_type_wrapper}
 use Rattle.ecma_kind.specs.declared.kind.Kind.{Kind}
 use Rattle.ecma_kind.specs.declared.kind.Kind.TheVariants as kind
-use Rattle.ecma_kind.specs.declared.shapes.Shape.{Shape}
-use Rattle.ecma_tree.specs.Sorted.{HasShape, is_list}
+use Rattle.ecma_tree.specs.Sorted.{is_list}
 use Rattle.ecma_tree.specs.declared.node.Node.{Node, out-Node}
-use Rattle.ecma_tree.specs.Values.{is_value}
-use Rattle.ecma_tree.specs.Layers.{from_leaves}
 use Rattle.ecma_scope.specs.declared.form.Sought.{Sought}
 use Rattle.ecma_scope.specs.Declarations.{sought_in}
 use Rattle.ecma_strip.specs.Plain.{unless_missing}
 use Rattle.ecma_strip.specs.Staying.{is_this_ident, is_this_param, item_stays, stays}
 use Rattle.ecma_strip.specs.Stripping.{stripped}
 use Rattle.ecma_hygiene_scopes.specs.DeclaredIds.{DeclaredId, ids_declared}
+use Rattle.ecma_tree.specs.Values.{is_value}
+use Rattle.ecma_tree.specs.Layers.{from_leaves}
 
 abbrev pub is_none : List DeclaredId → Bool
 is_none [] = true
@@ -73,7 +72,3 @@ clear_step receivers node children sought =
 -- so it is all the way down, where something is looked for
 abbrev pub is_clear : Bool → Node → Sought → Bool
 is_clear receivers = from_leaves (Sought → Bool) (clear_step receivers)
-
-abbrev pub WhatStaysIsDeclared : Type 0
-WhatStaysIsDeclared = (receivers : Bool) (shape : Shape) (tree : Node) (sought : Sought) → HasShape shape tree → sought.stays ≡ true → is_clear receivers tree sought ≡ true
-    → ids_declared (stripped tree) sought ≡ filter (lasts receivers) (ids_declared tree sought)

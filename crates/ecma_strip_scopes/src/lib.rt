@@ -1,11 +1,9 @@
 //! What scopes declare without the types of a tree, over the definitions of `ecma_strip`, `ecma_scope` and `ecma_hygiene_scopes`.
 //!
-//! Each function carries one law, and does nothing. The laws are stated in `specs/`.
+//! Each function carries one law, and does nothing. The laws are stated in `specs/Laws.antt`.
 #![tactic(auto)]
 
-ghost use Rattle.ecma_strip_scopes.specs.Apart.{ScopesDeclareWhatStays, StrippedModulesTellScopesApart, StrippedTellsScopesApart};
-ghost use Rattle.ecma_strip_scopes.specs.Going.{WhatGoesDeclaresNothing};
-ghost use Rattle.ecma_strip_scopes.specs.Standing.{WhatStaysIsDeclared};
+ghost use Rattle.ecma_strip_scopes.specs.Laws.{ScopesDeclareWhatStays, StrippedModulesTellScopesApart, StrippedTellsScopesApart, WhatGoesDeclaresNothing, WhatStaysIsDeclared};
 
 /// Where names are looked for in a list, no item that goes with the types declares a value that stays.
 pub fn what_goes_declares_nothing()

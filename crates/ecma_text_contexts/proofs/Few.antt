@@ -12,7 +12,7 @@ use Rattle.ecma_grammar.specs.trees.Parts.{framed}
 use Rattle.ecma_rules.specs.Finishing.{finished}
 use Rattle.ecma_rules.specs.Rules.{first_broken}
 use Rattle.ecma_modules.specs.Modules.{answer_by, kept_by, reads_as}
-use Rattle.ecma_text_contexts.specs.Few.{NeededIsBoundedByTheText}
+use Rattle.ecma_text_contexts.specs.Laws.{NeededIsBoundedByTheText}
 use Rattle.ecma_text_contexts.proofs.Weights.{weight, weights, worth}
 use Rattle.ecma_text_contexts.proofs.Chains.{framed_weighs}
 use Rattle.ecma_text_contexts.proofs.Made.{the_one_light}

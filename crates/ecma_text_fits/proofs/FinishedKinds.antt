@@ -13,8 +13,8 @@ use Rattle.ecma_rules.specs.declared.target.Target.TheVariants as target
 use Rattle.ecma_rules.specs.Finishing.{binding, default_by, each_in, element_by, finished_at, finished_by, left_by, name_by, part_by, property_by, shorthand, with_type}
 use Rattle.ecma_rules.specs.Targets.{target_in}
 use Rattle.ecma_text_leaves.proofs.Trees.{children_made}
-use Rattle.ecma_text_fits.proofs.Standing.{finished_parts}
-use Rattle.ecma_text_fits.proofs.Throughout.{EachThroughout, Throughout, append_all, below, here, more, none, throughout}
+use Rattle.ecma_text_fits_finished.proofs.Standing.{finished_parts}
+use Rattle.ecma_text_fits_parts.proofs.Throughout.{EachThroughout, Throughout, append_all, below, here, more, none, throughout}
 
 -- the kinds that finishing makes
 abbrev pub is_turned : Kind → Bool

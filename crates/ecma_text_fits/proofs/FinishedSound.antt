@@ -1,7 +1,7 @@
 -- What is sound, of nodes that nothing is assigned to.
 use Rattle.std.proofs.Common.{◌≡◌, ◌∙◌, ℕ, None, Some, Option, zero, suc, Bool, true, false, not, ◌&&◌, ◌||◌, List, [], ◌∷◌, map, length, refl, sym, ap, ap₂, subst, slice_get}
 use Rattle.std.specs.List.{list_all}
-use Rattle.std.proofs.lemmas.Bool.{and_parts}
+use Rattle.std.proofs.lemmas.Bool.{and_parts, and_from}
 use Rattle.ecma_kind.specs.declared.kind.Kind.{Kind}
 use Rattle.ecma_kind.specs.declared.kind.Kind.TheVariants as kind
 use Rattle.ecma_tree.specs.declared.node.Node.{Node, Node-F, fold-roll-Node, ind-Node, roll-Node}
@@ -15,11 +15,11 @@ use Rattle.ecma_rules.specs.Targets.{first_is, is_key_value, target_in}
 use Rattle.ecma_fits.specs.Branches.{holds_at, holds_at_last, last_part, takes_else, takes_else_step}
 use Rattle.ecma_fits.specs.Chains.{goes_on, goes_on_step, is_behind_chain, is_link, keeps_chain}
 use Rattle.ecma_fits.specs.Counts.{are, are_exports, are_imports, are_stars_or_names, ends_once, ends_template, is_attribute, is_attribute_key, is_default_import, is_empty, is_named_export, is_named_import, is_star_export, is_star_import, is_star_of, is_text, is_whole_template}
-use Rattle.ecma_text_fits.proofs.Sound.{both_true, holds_with, is_attribute_list, is_base, is_list_of, is_object, or_first, or_second}
-use Rattle.ecma_text_fits.proofs.Standing.{finished_parts}
-use Rattle.ecma_text_fits.proofs.Steps.{one_true}
-use Rattle.ecma_text_fits.proofs.Tests.{free_children, free_list, kind_at}
-use Rattle.ecma_text_fits.proofs.Walks.{free_kind, not_true}
+use Rattle.ecma_text_fits_parts.proofs.Sound.{holds_with, is_attribute_list, is_base, is_list_of, is_object, or_first, or_second}
+use Rattle.ecma_text_fits_finished.proofs.Standing.{finished_parts}
+use Rattle.ecma_text_fits_parts.proofs.Steps.{one_true}
+use Rattle.ecma_text_fits_finished.proofs.Tests.{free_children, free_list, kind_at}
+use Rattle.ecma_fits_clauses.proofs.Walks.{free_kind, not_true}
 
 -- a node that nothing is assigned to
 abbrev pub free : Node → Node
@@ -74,7 +74,7 @@ whole_map xs ys h = let a = length_map xs in let b = length_map ys in let c = en
 pub list_of_free : (test : List Node → Bool) → ((xs : List Node) → test xs ≡ true → test (map free xs) ≡ true) → (n : Node) → is_list_of test n ≡ true → is_list_of test (free n) ≡ true
 list_of_free test f n h =
     let both = and_parts (is_list (kind_of n)) (test (children_of n)) h in
-    both_true (is_list (kind_of (free n))) (test (children_of (free n))) (ap is_list (free_kind n) ∙ both.0) (ap test (list_free n both.0) ∙ f (children_of n) both.1)
+    and_from (is_list (kind_of (free n))) (test (children_of (free n))) (ap is_list (free_kind n) ∙ both.0) (ap test (list_free n both.0) ∙ f (children_of n) both.1)
 
 -- attributes
 
@@ -96,14 +96,14 @@ attribute_free n h =
     let outer = and_parts (is_key_value (kind_of n)) (of_kind is_attribute_key (slice_get (children_of n) 0) && of_kind is_text (slice_get (children_of n) 1)) h in
     let inner = and_parts (of_kind is_attribute_key (slice_get (children_of n) 0)) (of_kind is_text (slice_get (children_of n) 1)) outer.1 in
     let f = value_free (kind_of n) outer.0 in
-    both_true (is_key_value (kind_of (free n))) (of_kind is_attribute_key (slice_get (children_of (free n)) 0) && of_kind is_text (slice_get (children_of (free n)) 1)) (ap is_key_value (free_kind n) ∙ outer.0)
-    (both_true (of_kind is_attribute_key (slice_get (children_of (free n)) 0)) (of_kind is_text (slice_get (children_of (free n)) 1)) (child_free is_attribute_key n 0 f.0 ∙ inner.0) (child_free is_text n 1 f.1 ∙ inner.1))
+    and_from (is_key_value (kind_of (free n))) (of_kind is_attribute_key (slice_get (children_of (free n)) 0) && of_kind is_text (slice_get (children_of (free n)) 1)) (ap is_key_value (free_kind n) ∙ outer.0)
+    (and_from (of_kind is_attribute_key (slice_get (children_of (free n)) 0)) (of_kind is_text (slice_get (children_of (free n)) 1)) (child_free is_attribute_key n 0 f.0 ∙ inner.0) (child_free is_text n 1 f.1 ∙ inner.1))
 
 all_attributes : (xs : List Node) → list_all is_attribute xs ≡ true → list_all is_attribute (map free xs) ≡ true
 all_attributes [] h = refl
 all_attributes (x ∷ xs) h =
     let both = and_parts (is_attribute x) (list_all is_attribute xs) h in
-    both_true (is_attribute (free x)) (list_all is_attribute (map free xs)) (attribute_free x both.0) (all_attributes xs both.1)
+    and_from (is_attribute (free x)) (list_all is_attribute (map free xs)) (attribute_free x both.0) (all_attributes xs both.1)
 
 attribute_list_free : (target_of : ℕ → Target) (cs : List Node) → target_of 0 ≡ target.Free → is_attribute_list cs ≡ true → is_attribute_list (each_in target_of (map finished_at cs)) ≡ true
 attribute_list_free target_of (list ∷ []) f h = subst (λ t. is_list_of (list_all is_attribute) (finished_at list t) ≡ true) (sym f) (list_of_free (list_all is_attribute) all_attributes list h)
@@ -114,11 +114,11 @@ with_free n h =
     one_true (is_absent (kind_of n) && is_empty (children_of n)) (is_object (kind_of n) && is_attribute_list (children_of n)) h
     (λ e. (let both = and_parts (is_absent (kind_of n)) (is_empty (children_of n)) e in
     or_first (is_absent (kind_of (free n)) && is_empty (children_of (free n))) (is_object (kind_of (free n)) && is_attribute_list (children_of (free n)))
-    (both_true (is_absent (kind_of (free n))) (is_empty (children_of (free n))) (ap is_absent (free_kind n) ∙ both.0)
+    (and_from (is_absent (kind_of (free n))) (is_empty (children_of (free n))) (ap is_absent (free_kind n) ∙ both.0)
     (ap is_empty (free_children n) ∙ empty_each (target_in target.Free (kind_of n)) (children_of n) ∙ both.1))))
     (λ e. (let both = and_parts (is_object (kind_of n)) (is_attribute_list (children_of n)) e in
     or_second (is_absent (kind_of (free n)) && is_empty (children_of (free n))) (is_object (kind_of (free n)) && is_attribute_list (children_of (free n)))
-    (both_true (is_object (kind_of (free n))) (is_attribute_list (children_of (free n))) (ap is_object (free_kind n) ∙ both.0)
+    (and_from (is_object (kind_of (free n))) (is_attribute_list (children_of (free n))) (ap is_object (free_kind n) ∙ both.0)
     (ap is_attribute_list (free_children n) ∙ attribute_list_free (target_in target.Free (kind_of n)) (children_of n) (object_free (kind_of n) both.0) both.1))))
 
 -- branches

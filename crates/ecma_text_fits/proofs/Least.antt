@@ -4,7 +4,7 @@ use Rattle.ecma_rules.specs.Jumps.{Held, first_stray, held_in, not_held, stray_h
 use Rattle.ecma_rules.proofs.Leasts.{either-least, told}
 use Rattle.ecma_fits.specs.declared.unfit.Where.{Where}
 use Rattle.ecma_fits.specs.Fitting.{at_top, first_unfit_in, unfit_here, where_in}
-use Rattle.ecma_text_fits.specs.Least.{FirstUnfitIsLeast}
+use Rattle.ecma_text_fits.specs.Laws.{FirstUnfitIsLeast}
 
 pub unfit_least : FirstUnfitIsLeast
 unfit_least tree =

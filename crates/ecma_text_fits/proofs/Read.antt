@@ -12,7 +12,6 @@ use Rattle.ecma_tree.specs.declared.node.Node.TheViews.{roll-out-Node}
 use Rattle.ecma_tree.specs.Laws.{HaveShapes}
 use Rattle.ecma_tree.specs.Sorted.{HasShape, HasSort, child_shapes, one}
 use Rattle.ecma_tree.proofs.ShapeLaws.{node_has_shape}
-use Rattle.ecma_tree.proofs.Layers.{from_leaves-roll}
 use Rattle.ecma_grammar.specs.declared.production.Mode.{Mode}
 use Rattle.ecma_grammar.specs.Modules as grammar
 use Rattle.ecma_grammar.specs.Modules.{reads_module}
@@ -27,29 +26,28 @@ use Rattle.ecma_rules.specs.Finishing.{finished}
 use Rattle.ecma_text_leaves.specs.Everywhere.{Each, Everywhere, more, none}
 use Rattle.ecma_text_leaves.proofs.Forms.{is_leaf}
 use Rattle.ecma_text_leaves.proofs.Trees.{children_good, good_absent, good_framed, kind_good}
-use Rattle.ecma_text_sorts.specs.Sorts.{ReadModulesAreSorted}
+use Rattle.ecma_text_sorts.specs.Laws.{ReadModulesAreSorted}
 use Rattle.ecma_leaves.specs.Words.{is_spelled, is_text_part}
 use Rattle.ecma_fits.specs.declared.unfit.Where.{Where}
 use Rattle.ecma_fits.specs.Fitting.{at_top, where_in, NoneFails}
 use Rattle.ecma_fits.specs.Roles.{is_tagged}
-use Rattle.ecma_text_fits.specs.Clauses.{is_misspelled}
-use Rattle.ecma_text_fits.specs.RawRoles.{is_unvalued}
-use Rattle.ecma_text_fits.specs.Read.{KeepsRules, ReadLeavesAreSpelled, ReadTreesKeepRules}
-use Rattle.ecma_text_fits.specs.ReadRoles.{RawModulesHaveTheirRoles}
-use Rattle.ecma_text_fits.proofs.Clauses.{either, either_none, less}
-use Rattle.ecma_text_fits.proofs.Constructors.{one_constructor}
-use Rattle.ecma_text_fits.proofs.Everywhere.{finished_good}
-use Rattle.ecma_text_fits.proofs.RawTexts.{untagged}
-use Rattle.ecma_text_fits.proofs.Raws.{of_raw}
-use Rattle.ecma_text_fits.proofs.Programs.{inner_children, inner_kind, is_inner, module_children}
-use Rattle.ecma_text_fits.proofs.ReadHashbangs.{IsModule, module_told}
-use Rattle.ecma_text_fits.proofs.ReadLeaves.{Told, leaf_told}
-use Rattle.ecma_text_fits.proofs.ReadingOf.{read_holds}
-use Rattle.ecma_text_fits.proofs.Rules.{children_made, keeps_rules}
-use Rattle.ecma_text_fits.proofs.Standing.{kind_made}
-use Rattle.ecma_text_fits.proofs.Strays.{no_strays}
-use Rattle.ecma_text_fits.proofs.TextParts.{is_silent, parts_valued}
-use Rattle.ecma_text_fits.proofs.Walks.{both_none, free_kind, neither, not_true, shifted}
+use Rattle.ecma_text_fits.specs.Laws.{ReadLeavesAreSpelled, ReadTreesKeepRules, RawModulesHaveTheirRoles}
+use Rattle.ecma_tree.proofs.Layers.{from_leaves-roll}
+use Rattle.ecma_fits_clauses.specs.Clauses.{is_misspelled, KeepsRules}
+use Rattle.ecma_fits_clauses.specs.RawRoles.{is_unvalued}
+use Rattle.ecma_fits_clauses.proofs.Clauses.{either, either_none, less}
+use Rattle.ecma_text_fits_finished.proofs.Constructors.{one_constructor}
+use Rattle.ecma_text_fits_finished.proofs.Everywhere.{finished_good}
+use Rattle.ecma_text_fits_leaves.proofs.RawTexts.{untagged}
+use Rattle.ecma_text_fits_finished.proofs.Raws.{of_raw}
+use Rattle.ecma_text_fits_leaves.proofs.Programs.{inner_children, inner_kind, is_inner, module_children}
+use Rattle.ecma_text_fits_leaves.proofs.ReadHashbangs.{IsModule, module_told}
+use Rattle.ecma_text_fits_leaves.proofs.ReadLeaves.{Told, leaf_told}
+use Rattle.ecma_text_fits_leaves.proofs.ReadingOf.{read_holds}
+use Rattle.ecma_text_fits_finished.proofs.Rules.{children_made, keeps_rules}
+use Rattle.ecma_text_fits_finished.proofs.Strays.{no_strays}
+use Rattle.ecma_text_fits_finished.proofs.TextParts.{is_silent, parts_valued}
+use Rattle.ecma_fits_clauses.proofs.Walks.{kind_made, both_none, free_kind, neither, not_true, shifted}
 
 pub read_keeps : ReadModulesAreSorted → ReadTreesKeepRules
 read_keeps read_sorted text mode bound tree e =

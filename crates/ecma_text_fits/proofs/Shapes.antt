@@ -1,13 +1,12 @@
 -- In what is read as a module no node is short, no link is loose and no member is misread.
 use Rattle.std.proofs.Common.{◌≡◌, ◌∙◌, ℕ, suc, Bool, true, false, not, ◌&&◌, ◌||◌, List, [], ◌∷◌, map, length, nat_lt, arith, Option, None, Ok, refl, sym, ap, subst, slice_get}
 use Rattle.std.specs.List.{list_all}
-use Rattle.std.proofs.lemmas.Bool.{and_parts}
+use Rattle.std.proofs.lemmas.Bool.{and_parts, and_from}
 use Rattle.ecma_kind.specs.declared.kind.Kind.{Kind}
 use Rattle.ecma_kind.specs.declared.kind.Kind.TheVariants as kind
 use Rattle.ecma_kind.specs.declared.operators.MethodKind.{MethodKind}
 use Rattle.ecma_tree.specs.declared.node.Node.{Node, Node-F, ind-Node, roll-Node}
 use Rattle.ecma_tree.specs.Sorted.{is_absent, is_list}
-use Rattle.ecma_tree.proofs.Layers.{from_leaves-roll}
 use Rattle.ecma_grammar.specs.declared.production.Mode.{Mode}
 use Rattle.ecma_grammar.specs.trees.Classes.{is_plain_function}
 use Rattle.ecma_grammar.specs.trees.Parts.{children_of, kind_of}
@@ -24,15 +23,16 @@ use Rattle.ecma_fits.specs.Counts.{are_exports, are_imports, holds_attributes, i
 use Rattle.ecma_fits.specs.Fitting.{at_top, breaks_rule, where_in, NoneFails}
 use Rattle.ecma_fits.specs.Members.{is_misread, is_misread_by}
 use Rattle.ecma_text_leaves.proofs.Trees.{children_made}
-use Rattle.ecma_text_fits.specs.Read.{KeepsRules, ReadTreesKeepRules}
-use Rattle.ecma_text_fits.specs.Shapes.{ReadBranchesTakeTheirElse, ReadLinksAreNotLoose, ReadMembersAreNotMisread, ReadNodesAreFull}
-use Rattle.ecma_text_fits.proofs.RawSound.{raw_sound}
-use Rattle.ecma_text_fits.proofs.Raws.{of_raw}
-use Rattle.ecma_text_fits.proofs.Sound.{Sound, are_attributes, are_several, both_true, has, holds_with, is_attribute_list, is_base, is_choice, is_export, is_export_all, is_function, is_import, is_linked, is_list_of, is_method_pair, is_named_well, is_object, is_template, items, may_be_named}
+use Rattle.ecma_text_fits.specs.Laws.{ReadTreesKeepRules, ReadBranchesTakeTheirElse, ReadLinksAreNotLoose, ReadMembersAreNotMisread, ReadNodesAreFull}
 use Rattle.ecma_text_fits.proofs.SoundStays.{finished_sound}
-use Rattle.ecma_text_fits.proofs.Steps.{one_true}
-use Rattle.ecma_text_fits.proofs.Throughout.{EachThroughout, Throughout, below, here, more}
-use Rattle.ecma_text_fits.proofs.Walks.{both_none, neither, neither_least, not_failing, not_true, shifted}
+use Rattle.ecma_tree.proofs.Layers.{from_leaves-roll}
+use Rattle.ecma_fits_clauses.specs.Clauses.{KeepsRules}
+use Rattle.ecma_text_fits_parts.proofs.RawSound.{raw_sound}
+use Rattle.ecma_text_fits_finished.proofs.Raws.{of_raw}
+use Rattle.ecma_text_fits_parts.proofs.Sound.{Sound, are_attributes, are_several, has, holds_with, is_attribute_list, is_base, is_choice, is_export, is_export_all, is_function, is_import, is_linked, is_list_of, is_method_pair, is_named_well, is_object, is_template, items, may_be_named}
+use Rattle.ecma_text_fits_parts.proofs.Steps.{one_true}
+use Rattle.ecma_text_fits_parts.proofs.Throughout.{EachThroughout, Throughout, below, here, more}
+use Rattle.ecma_fits_clauses.proofs.Walks.{both_none, neither, neither_least, not_failing, not_true, shifted}
 
 -- where a walk tells nothing, a test tells nothing that no sound node fails of which the walk tells nothing
 module _ (f g : Where → Node → Bool) (fine : (w : Where) (n : Node) → Sound (kind_of n) (children_of n) → f w n ≡ false → g w n ≡ false) where
@@ -89,14 +89,14 @@ several_full (a ∷ b ∷ cs) h = grind arith
 import_full : (cs : List Node) → is_import cs ≡ true → (are_imports (items cs 0) && holds_of holds_attributes (slice_get cs 2)) ≡ true
 import_full (a ∷ b ∷ c ∷ []) h =
     let both = and_parts (is_list_of are_imports a) (holds_with c) h in
-    both_true (are_imports (children_of a)) (holds_attributes c) (and_parts (is_list (kind_of a)) (are_imports (children_of a)) both.0).1 (attributes_held (kind_of c) (children_of c) both.1)
+    and_from (are_imports (children_of a)) (holds_attributes c) (and_parts (is_list (kind_of a)) (are_imports (children_of a)) both.0).1 (attributes_held (kind_of c) (children_of c) both.1)
 import_full _ h = not_true h
 
 export_full : (cs : List Node) → is_export cs ≡ true → (are_exports (has cs 1) (has cs 2) (items cs 0) && holds_of holds_attributes (slice_get cs 2)) ≡ true
 export_full (a ∷ b ∷ c ∷ []) h =
     let names = are_exports (is_present (kind_of b)) (is_present (kind_of c)) in
     let both = and_parts (is_list_of names a) (holds_with c) h in
-    both_true (names (children_of a)) (holds_attributes c) (and_parts (is_list (kind_of a)) (names (children_of a)) both.0).1 (attributes_held (kind_of c) (children_of c) both.1)
+    and_from (names (children_of a)) (holds_attributes c) (and_parts (is_list (kind_of a)) (names (children_of a)) both.0).1 (attributes_held (kind_of c) (children_of c) both.1)
 export_full _ h = not_true h
 
 all_export_full : (cs : List Node) → is_export_all cs ≡ true → holds_of holds_attributes (slice_get cs 1) ≡ true

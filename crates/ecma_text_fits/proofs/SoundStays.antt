@@ -1,6 +1,6 @@
 -- What is sound stays so when it is finished.
 use Rattle.std.proofs.Common.{◌≡◌, ◌∙◌, ℕ, Bool, true, not, ◌&&◌, ◌||◌, List, [], ◌∷◌, map, refl, ap, ap₂}
-use Rattle.std.proofs.lemmas.Bool.{and_parts}
+use Rattle.std.proofs.lemmas.Bool.{and_parts, and_from}
 use Rattle.ecma_kind.specs.declared.kind.Kind.{Kind}
 use Rattle.ecma_kind.specs.declared.kind.Kind.TheVariants as kind
 use Rattle.ecma_kind.specs.declared.operators.MethodKind.{MethodKind}
@@ -18,11 +18,11 @@ use Rattle.ecma_fits.specs.Chains.{is_behind_chain}
 use Rattle.ecma_fits.specs.Counts.{are_exports, are_imports, is_empty, is_whole_template}
 use Rattle.ecma_text_fits.proofs.FinishedKinds.{is_turned, throughout_finished}
 use Rattle.ecma_text_fits.proofs.FinishedSound.{behind_free, empty_each, exports_map, free, imports_map, list_free, list_of_free, takes_free, whole_map, with_free}
-use Rattle.ecma_text_fits.proofs.Sound.{Sound, are_several, both_true, holds_with, is_base, is_choice, is_export, is_export_all, is_function, is_import, is_linked, is_list_of, is_method_pair, is_named_well, is_pair, is_some, is_template, is_triple, items}
-use Rattle.ecma_text_fits.proofs.Standing.{presence}
-use Rattle.ecma_text_fits.proofs.Tests.{free_children, kind_at}
-use Rattle.ecma_text_fits.proofs.Throughout.{Throughout}
-use Rattle.ecma_text_fits.proofs.Walks.{free_kind, not_true}
+use Rattle.ecma_text_fits_parts.proofs.Sound.{Sound, are_several, holds_with, is_base, is_choice, is_export, is_export_all, is_function, is_import, is_linked, is_list_of, is_method_pair, is_named_well, is_pair, is_some, is_template, is_triple, items}
+use Rattle.ecma_text_fits_finished.proofs.Standing.{presence}
+use Rattle.ecma_text_fits_finished.proofs.Tests.{free_children, kind_at}
+use Rattle.ecma_text_fits_parts.proofs.Throughout.{Throughout}
+use Rattle.ecma_fits_clauses.proofs.Walks.{free_kind, not_true}
 
 -- children that nothing is assigned to
 abbrev frees : List Node → List Node
@@ -34,8 +34,8 @@ template_stays (a ∷ b ∷ []) h =
     let lists = and_parts (is_list (kind_of a)) (is_list (kind_of b)) outer.0 in
     let e = list_free a lists.0 in
     let f = list_free b lists.1 in
-    both_true (is_list (kind_of (free a)) && is_list (kind_of (free b))) (is_whole_template (children_of (free a)) (children_of (free b)))
-    (both_true (is_list (kind_of (free a))) (is_list (kind_of (free b))) (ap is_list (free_kind a) ∙ lists.0) (ap is_list (free_kind b) ∙ lists.1))
+    and_from (is_list (kind_of (free a)) && is_list (kind_of (free b))) (is_whole_template (children_of (free a)) (children_of (free b)))
+    (and_from (is_list (kind_of (free a))) (is_list (kind_of (free b))) (ap is_list (free_kind a) ∙ lists.0) (ap is_list (free_kind b) ∙ lists.1))
     (ap₂ is_whole_template e f ∙ whole_map (children_of a) (children_of b) outer.1)
 template_stays _ h = not_true h
 
@@ -55,14 +55,14 @@ filled_stays (c ∷ cs) h = ap (λ (z : List Node). not (is_empty z)) (free_chil
 import_stays : (cs : List Node) → is_import cs ≡ true → is_import (frees cs) ≡ true
 import_stays (a ∷ b ∷ c ∷ []) h =
     let both = and_parts (is_list_of are_imports a) (holds_with c) h in
-    both_true (is_list_of are_imports (free a)) (holds_with (free c)) (list_of_free are_imports (λ xs e. imports_map xs ∙ e) a both.0) (with_free c both.1)
+    and_from (is_list_of are_imports (free a)) (holds_with (free c)) (list_of_free are_imports (λ xs e. imports_map xs ∙ e) a both.0) (with_free c both.1)
 import_stays _ h = not_true h
 
 export_stays : (cs : List Node) → is_export cs ≡ true → is_export (frees cs) ≡ true
 export_stays (a ∷ b ∷ c ∷ []) h =
     let both = and_parts (is_list_of (are_exports (is_present (kind_of b)) (is_present (kind_of c))) a) (holds_with c) h in
     let names = list_of_free (are_exports (is_present (kind_of b)) (is_present (kind_of c))) (λ xs e. exports_map (is_present (kind_of b)) (is_present (kind_of c)) xs ∙ e) a both.0 in
-    both_true (is_list_of (are_exports (is_present (kind_of (free b))) (is_present (kind_of (free c)))) (free a)) (holds_with (free c))
+    and_from (is_list_of (are_exports (is_present (kind_of (free b))) (is_present (kind_of (free c)))) (free a)) (holds_with (free c))
     (ap₂ (λ k l. is_list_of (are_exports (is_present k) (is_present l)) (free a)) (free_kind b) (free_kind c) ∙ names) (with_free c both.1)
 export_stays _ h = not_true h
 
@@ -82,7 +82,7 @@ name_stays k static (key ∷ f ∷ cs) h = ap₂ (λ a b. static || (not (is_con
 method_stays : (k : MethodKind) (static : Bool) (cs : List Node) → (is_method_pair k cs && is_named_well k static cs) ≡ true → (is_method_pair k (frees cs) && is_named_well k static (frees cs)) ≡ true
 method_stays k static cs h =
     let both = and_parts (is_method_pair k cs) (is_named_well k static cs) h in
-    both_true (is_method_pair k (frees cs)) (is_named_well k static (frees cs)) (pair_of_method k cs both.0) (name_stays k static cs both.1)
+    and_from (is_method_pair k (frees cs)) (is_named_well k static (frees cs)) (pair_of_method k cs both.0) (name_stays k static cs both.1)
 
 pair_stays : (target_of : ℕ → Target) (cs : List Node) → is_pair cs ≡ true → is_pair (each_in target_of (map finished_at cs)) ≡ true
 pair_stays target_of (a ∷ b ∷ []) h = refl
@@ -95,7 +95,7 @@ triple_stays target_of _ h = not_true h
 linked_stays : (optional : Bool) (cs : List Node) → is_linked optional cs ≡ true → is_linked optional (frees cs) ≡ true
 linked_stays optional (base ∷ []) h =
     let both = and_parts (is_base (kind_of base)) (optional || is_behind_chain base) h in
-    both_true (is_base (kind_of (free base))) (optional || is_behind_chain (free base)) (ap is_base (free_kind base) ∙ both.0) (ap (λ b. optional || b) (behind_free base both.0) ∙ both.1)
+    and_from (is_base (kind_of (free base))) (optional || is_behind_chain (free base)) (ap is_base (free_kind base) ∙ both.0) (ap (λ b. optional || b) (behind_free base both.0) ∙ both.1)
 linked_stays optional _ h = not_true h
 
 choice_stays : (cs : List Node) → is_choice cs ≡ true → is_choice (frees cs) ≡ true

@@ -1,10 +1,6 @@
 -- What is read fits, clause by clause.
-use Rattle.ecma_text_sorts.specs.Sorts.{ReadModulesAreSorted}
-use Rattle.ecma_text_fits.specs.Clauses.{FitsByClauses}
-use Rattle.ecma_text_fits.specs.Read.{ReadLeavesAreSpelled, ReadTreesKeepRules}
-use Rattle.ecma_text_fits.specs.ReadRoles.{ReadTargetsAreNoStrays, ReadTreesHaveTheirRoles}
-use Rattle.ecma_text_fits.specs.Shapes.{ReadBranchesTakeTheirElse, ReadLinksAreNotLoose, ReadMembersAreNotMisread, ReadNodesAreFull}
-use Rattle.ecma_text_fits.specs.WhatIsRead.{WhatIsReadFits}
+use Rattle.ecma_text_sorts.specs.Laws.{ReadModulesAreSorted}
+use Rattle.ecma_text_fits.specs.Laws.{FitsByClauses, ReadLeavesAreSpelled, ReadTreesKeepRules, ReadTargetsAreNoStrays, ReadTreesHaveTheirRoles, ReadBranchesTakeTheirElse, ReadLinksAreNotLoose, ReadMembersAreNotMisread, ReadNodesAreFull, WhatIsReadFits}
 
 pub read_fits : FitsByClauses → ReadModulesAreSorted → ReadNodesAreFull → ReadBranchesTakeTheirElse → ReadLinksAreNotLoose → ReadMembersAreNotMisread → ReadTreesHaveTheirRoles → ReadTargetsAreNoStrays → ReadTreesKeepRules → ReadLeavesAreSpelled → WhatIsReadFits
 read_fits by_clauses sorted full branches links members roles targets keeps spelled text mode bound tree utf8 small e =

@@ -1,21 +1,14 @@
 //! Laws of trees that fit, over the definitions alone.
 //!
-//! Each function carries one law, and does nothing. The laws are stated in `specs/`.
+//! Each function carries one law, and does nothing. The laws are stated in `specs/Laws.antt`.
 #![tactic(auto)]
 
-ghost use Rattle.ecma_text_fits.specs.Clauses.{FitsByClauses};
-ghost use Rattle.ecma_text_fits.specs.Least.{FirstUnfitIsLeast};
-ghost use Rattle.ecma_text_fits.specs.Read.{ReadLeavesAreSpelled, ReadTreesKeepRules};
-ghost use Rattle.ecma_text_fits.specs.Shapes.{ReadBranchesTakeTheirElse, ReadLinksAreNotLoose, ReadMembersAreNotMisread, ReadNodesAreFull};
-ghost use Rattle.ecma_text_fits.specs.FinishedRoles.{FinishedTargetsAreNoStrays, FinishedTreesHaveTheirRoles};
-ghost use Rattle.ecma_text_fits.specs.ReadRoles.{RawModulesHaveTheirRoles, ReadTargetsAreNoStrays, ReadTreesHaveTheirRoles};
-ghost use Rattle.ecma_text_fits.specs.WhatIsRead.{WhatIsReadFits};
-ghost use Rattle.ecma_text_fits.specs.Finished.{FinishedClassesHaveOneConstructor, FinishedTreesHaveNoStrays, FinishedTreesKeepRules};
+ghost use Rattle.ecma_text_fits.specs.Laws.{FinishedClassesHaveOneConstructor, FinishedTargetsAreNoStrays, FinishedTreesHaveNoStrays, FinishedTreesHaveTheirRoles, FinishedTreesKeepRules, FirstUnfitIsLeast, FitsByClauses, RawModulesHaveTheirRoles, ReadBranchesTakeTheirElse, ReadLeavesAreSpelled, ReadLinksAreNotLoose, ReadMembersAreNotMisread, ReadNodesAreFull, ReadTargetsAreNoStrays, ReadTreesHaveTheirRoles, ReadTreesKeepRules, WhatIsReadFits};
 
 use ecma_text_sorts::modules_that_are_read_are_sorted;
 
 /// A tree fits exactly where it is a module by its sorts and no node of it fails one of the clauses.
-#[tactic(auto, using(crate::proofs::Clauses::clauses))]
+#[tactic(auto, using(crate::proofs::Stated::clauses))]
 pub fn trees_fit_by_clauses()
     ensures { FitsByClauses }
 {}
@@ -27,19 +20,19 @@ pub fn the_first_unfit_is_the_least()
 {}
 
 /// In what is made of a raw tree that keeps the context rules, nothing belongs to nothing inside an enum initialiser or a namespace body.
-#[tactic(auto, using(crate::proofs::Strays::strayless))]
+#[tactic(auto, using(crate::proofs::Stated::strayless))]
 pub fn finished_trees_have_no_strays()
     ensures { FinishedTreesHaveNoStrays }
 {}
 
 /// No node of what is made of a raw tree that keeps the context rules breaks one that reads a finished tree as it reads a raw one.
-#[tactic(auto, using(crate::proofs::Rules::rules_kept))]
+#[tactic(auto, using(crate::proofs::Stated::rules_kept))]
 pub fn finished_trees_keep_rules()
     ensures { FinishedTreesKeepRules }
 {}
 
 /// No class of it has two constructors with bodies.
-#[tactic(auto, using(crate::proofs::Constructors::single))]
+#[tactic(auto, using(crate::proofs::Stated::single))]
 pub fn finished_classes_have_one_constructor()
     ensures { FinishedClassesHaveOneConstructor }
 {}
@@ -81,7 +74,7 @@ pub fn members_that_are_read_are_not_misread()
 
 /// In the raw module that the grammar gives, names, patterns and parameters stand where something is declared, private names where they may, reserved
 /// words where they name nothing, and text parts without a value behind a tag.
-#[tactic(auto, using(crate::proofs::RoleReads::roles_given))]
+#[tactic(auto, using(crate::proofs::Stated::roles_given))]
 pub fn raw_modules_have_their_roles()
     ensures { RawModulesHaveTheirRoles }
 {}

@@ -33,7 +33,7 @@ use Rattle.ecma_grammar.specs.PartBodies.{part_body}
 use Rattle.ecma_grammar.specs.productions.Modules.{module_body, module_item}
 use Rattle.ecma_text_leaves.specs.Everywhere.{Each, none, more}
 use Rattle.ecma_text_leaves.specs.Spelling.{IsSpelled}
-use Rattle.ecma_text_leaves.specs.Theorem.{LeavesAreSpelled}
+use Rattle.ecma_text_leaves.specs.Laws.{LeavesAreSpelled}
 use Rattle.ecma_text_leaves.proofs.Trees.{good_node, each_append}
 use Rattle.ecma_text_leaves.proofs.Forms.{is_leaf, made_good, module_good}
 use Rattle.ecma_text_leaves.proofs.Leaves.{Holds, holds_read, holds_fails, holds_deep, holds_then, Spelled, is_hashbang, leaf_spelled}

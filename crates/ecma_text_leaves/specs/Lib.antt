@@ -1,3 +1,3 @@
 pub mod Everywhere
 pub mod Spelling
-pub mod Theorem
+pub mod Laws

@@ -3,7 +3,7 @@
 //! A law over the definitions of the grammar alone; the function carries it, and does nothing.
 #![tactic(auto)]
 
-ghost use Rattle.ecma_text_leaves.specs.Theorem.{LeavesAreSpelled};
+ghost use Rattle.ecma_text_leaves.specs.Laws.{LeavesAreSpelled};
 
 /// The leaves of what the grammar reads of a text are spelled as tokens, in every mode and at every number of levels.
 #[tactic(auto, using(crate::proofs::Readings::leaves_are_spelled))]

@@ -29,12 +29,13 @@ use Rattle.ecma_text_leaves.specs.Everywhere.{Each, Everywhere, more, none}
 use Rattle.ecma_text_leaves.proofs.Forms.{is_leaf}
 use Rattle.ecma_text_leaves.proofs.Leaves.{Holds, holds_read, holds_then}
 use Rattle.ecma_text_leaves.proofs.Trees.{good_absent, good_framed, good_node}
-use Rattle.ecma_text_fits.proofs.Everywhere.{finished_good}
-use Rattle.ecma_text_fits.proofs.LineFeeds.{piece_parts}
-use Rattle.ecma_text_fits.proofs.Raws.{of_raw}
-use Rattle.ecma_text_fits.proofs.ReadingOf.{is_hashbang, read_holds}
-use Rattle.ecma_text_fits.proofs.Walks.{not_true}
-use Rattle.ecma_text_plain.specs.Bare.{IsBareUnquestioned, ReadLeavesAreBare}
+use Rattle.ecma_text_fits_finished.proofs.Everywhere.{finished_good}
+use Rattle.ecma_text_fits_leaves.proofs.LineFeeds.{piece_parts}
+use Rattle.ecma_text_fits_finished.proofs.Raws.{of_raw}
+use Rattle.ecma_text_fits_leaves.proofs.ReadingOf.{is_hashbang, read_holds}
+use Rattle.ecma_fits_clauses.proofs.Walks.{not_true}
+use Rattle.ecma_plain.specs.Forms.{IsBareUnquestioned}
+use Rattle.ecma_text_plain.specs.Laws.{ReadLeavesAreBare}
 use Rattle.ecma_text_plain.proofs.PlainKinds.{IsPlain, everywhere_also}
 
 -- what stands between two places of a text is UTF-8, as nothing is where it may not be cut

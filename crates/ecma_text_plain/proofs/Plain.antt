@@ -14,14 +14,14 @@ use Rattle.ecma_rules.specs.declared.target.Target.TheVariants as target
 use Rattle.ecma_modules.specs.Modules.{plain, reads_as}
 use Rattle.ecma_text_leaves.specs.Everywhere.{Each, Everywhere, more, none}
 use Rattle.ecma_text_leaves.proofs.Trees.{good_absent, good_framed}
-use Rattle.ecma_text_fits.proofs.Everywhere.{finished_good}
-use Rattle.ecma_text_fits.proofs.Raws.{of_raw}
-use Rattle.ecma_print_shapes.specs.Forms.{IsTaken, is_of_forms}
-use Rattle.ecma_text_plain.specs.Plain.{PlainTextsWithoutAssignmentsHavePlainItems, ReadPlainModulesHaveUtf8Hashbangs, ReadPlainTreesAreTaken, ReadPlainTreesKeepAssignmentForms}
+use Rattle.ecma_text_fits_finished.proofs.Everywhere.{finished_good}
+use Rattle.ecma_text_fits_finished.proofs.Raws.{of_raw}
+use Rattle.ecma_text_plain.specs.Laws.{PlainTextsWithoutAssignmentsHavePlainItems, ReadPlainModulesHaveUtf8Hashbangs, ReadPlainTreesAreTaken, ReadPlainTreesKeepAssignmentForms}
 use Rattle.ecma_text_plain.proofs.Hashbangs.{read_utf8}
 use Rattle.ecma_text_plain.proofs.PlainKinds.{IsPlain, bare_of, everywhere_also}
 use Rattle.ecma_text_plain.proofs.PlainReads.{module_reads}
 use Rattle.ecma_text_plain.proofs.Unfound.{items_unfound, unfound}
+use Rattle.ecma_plain.specs.Forms.{IsTaken, is_of_forms}
 
 module _ (assignments : Bool) where
   abbrev Good : Node → Type 0

@@ -17,7 +17,7 @@ use Rattle.ecma_grammar.specs.trees.Classes.{class, is_private_name, no_modifier
 use Rattle.ecma_grammar.specs.trees.Others.{swapped, missing, elements, the_one, sequence, headed, import_equals, text_of, module_of}
 use Rattle.ecma_text_leaves.specs.Everywhere.{none, more}
 use Rattle.ecma_text_leaves.proofs.Trees.{Good, All, good_node, kind_good, children_good, each_append, each_take, each_filter, each_map, each_set, each_swap, good_absent, good_framed}
-use Rattle.ecma_print_shapes.specs.Forms.{has_type_modifiers}
+use Rattle.ecma_plain.specs.Forms.{has_type_modifiers}
 use Rattle.ecma_text_plain.proofs.PlainKinds.{AbsentAt, AllStatic, IsPlain, StaticFirst, constructor_unmodified, field_plain, field_was, hashbang_read, is_missing, method_plain, modified_plain, not_present, private_field_plain, private_method_plain, unless_so, unquestioned, word_missing}
 
 module _ (assignments : Bool) where

@@ -27,8 +27,8 @@ use Rattle.ecma_text_leaves.specs.Everywhere.{none}
 use Rattle.ecma_text_leaves.proofs.Leaves.{Holds, holds_deep, holds_fails, holds_read, holds_then}
 use Rattle.ecma_text_leaves.proofs.Productions.{productions}
 use Rattle.ecma_text_leaves.proofs.Trees.{good_node}
-use Rattle.ecma_text_fits.proofs.ReadingOf.{holds_followed, holds_or, holds_built}
-use Rattle.ecma_text_fits.proofs.Walks.{not_true}
+use Rattle.ecma_text_fits_leaves.proofs.ReadingOf.{holds_followed, holds_or, holds_built}
+use Rattle.ecma_fits_clauses.proofs.Walks.{not_true}
 use Rattle.ecma_text_plain.proofs.PlainKinds.{IsPlain, allowed, everywhere_also}
 use Rattle.ecma_text_plain.proofs.Bare.{leaf_plain}
 use Rattle.ecma_text_plain.proofs.Given.{All, Given, Good, Has, Meets, any_nodes, anything, asks_static, exactly, fact_made, flag_gives, followed, forget, gives, is_plain, is_plain_part, joined, keeps_key, never, part_gives, repeated, static, takes}

@@ -9,11 +9,11 @@ use Rattle.ecma_tree.specs.Finding.{enters_all, finds, finds_from, finds_here}
 use Rattle.ecma_text_leaves.specs.Everywhere.{Each, Everywhere, everywhere, more, none}
 use Rattle.ecma_text_leaves.proofs.Trees.{children_good, kind_good}
 use Rattle.ecma_rules.specs.Children.{children_of, kind_of}
-use Rattle.ecma_text_fits.proofs.Walks.{not_true}
-use Rattle.ecma_print_shapes.specs.Forms.{is_of_forms}
-use Rattle.ecma_print_shapes.specs.Items.{has_plain_items, is_plain_item, is_plain_kind}
-use Rattle.ecma_text_plain.specs.Plain.{is_assignment_form}
+use Rattle.ecma_fits_clauses.proofs.Walks.{not_true}
+use Rattle.ecma_text_plain.specs.Assignments.{is_assignment_form}
 use Rattle.ecma_text_plain.proofs.PlainKinds.{IsPlain}
+use Rattle.ecma_plain.specs.Forms.{is_of_forms}
+use Rattle.ecma_plain.specs.Items.{has_plain_items, is_plain_item, is_plain_kind}
 
 abbrev found : Node → Bool
 found = finds is_assignment_form enters_all

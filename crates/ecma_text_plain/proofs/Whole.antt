@@ -10,8 +10,8 @@ use Rattle.ecma_tree.specs.Nodes.{node_of}
 use Rattle.ecma_tree.specs.Sorted.{is_absent}
 use Rattle.ecma_grammar.specs.trees.Parts.{children_of, kind_of}
 use Rattle.ecma_text_leaves.proofs.Trees.{children_made, kind_made}
-use Rattle.ecma_text_fits.proofs.Walks.{not_true}
-use Rattle.ecma_print_shapes.specs.Functions.{is_this_name}
+use Rattle.ecma_fits_clauses.proofs.Walks.{not_true}
+use Rattle.ecma_plain.specs.Functions.{is_this_name}
 
 -- a function whose body is missing, or a setter with a parameter `this`
 abbrev pub is_unusual : Kind → List Node → Bool

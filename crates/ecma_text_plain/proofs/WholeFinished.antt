@@ -14,10 +14,10 @@ use Rattle.ecma_rules.specs.declared.target.Target.TheVariants as target
 use Rattle.ecma_rules.specs.Finishing.{binding, default_by, each_in, element_by, finished_at, finished_by, left_by, name_by, part_by, property_by}
 use Rattle.ecma_rules.specs.Targets.{target_in}
 use Rattle.ecma_text_leaves.proofs.Trees as trees
-use Rattle.ecma_text_fits.proofs.Rules.{children_made}
-use Rattle.ecma_text_fits.proofs.Standing.{finished_parts, kind_made}
-use Rattle.ecma_text_fits.proofs.Walks.{not_true}
-use Rattle.ecma_print_shapes.specs.Functions.{is_this_name}
+use Rattle.ecma_text_fits_finished.proofs.Rules.{children_made}
+use Rattle.ecma_text_fits_finished.proofs.Standing.{finished_parts}
+use Rattle.ecma_fits_clauses.proofs.Walks.{not_true, kind_made}
+use Rattle.ecma_plain.specs.Functions.{is_this_name}
 use Rattle.ecma_text_plain.proofs.GivenWhole.{one_full, two_full}
 use Rattle.ecma_text_plain.proofs.Whole.{A, G, View, append_all, is_specifier, is_unusual, more, none, shut, view, whole}
 

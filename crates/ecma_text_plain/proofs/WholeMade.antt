@@ -16,10 +16,10 @@ use Rattle.ecma_grammar.specs.trees.Parts.{from_to, in_front, kind_of}
 use Rattle.ecma_grammar.specs.trees.Plain.{plain_kind}
 use Rattle.ecma_grammar.specs.Made.{made}
 use Rattle.ecma_text_leaves.proofs.Trees.{kind_made}
-use Rattle.ecma_text_fits.proofs.Walks.{not_true}
+use Rattle.ecma_fits_clauses.proofs.Walks.{not_true}
 use Rattle.ecma_text_plain.proofs.WholeForms.{annotated_good, arrow_good, class_good, declarator_good, elements_good, field_good, function_good, getter_good, headed_good, import_equals_good, member_form_good, method_good, module_form_good, parameter_good, sequence_good, setter_good, swapped_good, yield_good}
 use Rattle.ecma_text_plain.proofs.WholeChains.{all_steps_good, construction_good, frames, in_front_good, link_good, list_of, logical_good, template_good}
-use Rattle.ecma_print_shapes.specs.Functions.{is_this_name}
+use Rattle.ecma_plain.specs.Functions.{is_this_name}
 use Rattle.ecma_text_plain.proofs.GivenWhole.{Given, Has, Meets, anything, bare_full, calm, calm_full, calm_there_at, exactly, fact_if, forget, is_calm, is_calm_at, is_tight_list, loose, makes_calm, never, one_full, some, sound, takes}
 use Rattle.ecma_text_plain.proofs.Whole.{A, G, is_specifier, is_unusual, none, shut, take_all, whole}
 

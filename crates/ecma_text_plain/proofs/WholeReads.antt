@@ -37,11 +37,11 @@ use Rattle.ecma_grammar.specs.productions.Modules.{module_body}
 use Rattle.ecma_modules.specs.Modules.{plain}
 use Rattle.ecma_text_leaves.proofs.Leaves.{Holds, holds_deep, holds_fails, holds_read, holds_then}
 use Rattle.ecma_text_leaves.proofs.Productions.{productions}
-use Rattle.ecma_text_fits.proofs.ReadingOf.{holds_followed, holds_or, holds_built}
-use Rattle.ecma_text_fits.proofs.Walks.{not_true}
+use Rattle.ecma_text_fits_leaves.proofs.ReadingOf.{holds_followed, holds_or, holds_built}
+use Rattle.ecma_fits_clauses.proofs.Walks.{not_true}
 use Rattle.ecma_text_plain.proofs.Given.{is_plain_part}
 use Rattle.ecma_text_plain.proofs.WholeMade.{made_meets}
-use Rattle.ecma_print_shapes.specs.Functions.{is_this_name}
+use Rattle.ecma_plain.specs.Functions.{is_this_name}
 use Rattle.ecma_text_plain.proofs.GivenWhole.{Given, Has, Meets, bare_full, calm, exactly, fact_if, followed, forget, gives, is_full, is_tight_list, joined, leaf_gives, makes_calm, never, part_gives, some_if, sound, takes}
 use Rattle.ecma_text_plain.proofs.WholeJoins.{followed_has, joined_left, joined_right, repeated_more, repeated_none}
 use Rattle.ecma_text_plain.proofs.Whole.{A, G, none, whole}

@@ -1,3 +1,3 @@
-pub mod Bare
-pub mod Plain
 pub mod Functions
+pub mod Assignments
+pub mod Laws

@@ -1,11 +1,9 @@
 //! Laws of what is read as a module: its leaves are bare, and what is read as a plain one is no TypeScript but the two assignment forms, with the functions of one.
 //!
-//! Each function carries one law over the definitions, and does nothing. The laws are stated in `specs/`.
+//! Each function carries one law over the definitions, and does nothing. The laws are stated in `specs/Laws.antt`.
 #![tactic(auto)]
 
-ghost use Rattle.ecma_text_plain.specs.Bare.{ReadLeavesAreBare};
-ghost use Rattle.ecma_text_plain.specs.Functions.{FunctionsAreUsualByTests, ReadPlainFunctionsHaveBodies, ReadPlainNamesAreNotThis};
-ghost use Rattle.ecma_text_plain.specs.Plain.{PlainTextsWithoutAssignmentsHavePlainItems, ReadPlainModulesHaveUtf8Hashbangs, ReadPlainTreesAreTaken, ReadPlainTreesKeepAssignmentForms};
+ghost use Rattle.ecma_text_plain.specs.Laws.{FunctionsAreUsualByTests, PlainTextsWithoutAssignmentsHavePlainItems, ReadLeavesAreBare, ReadPlainFunctionsHaveBodies, ReadPlainModulesHaveUtf8Hashbangs, ReadPlainNamesAreNotThis, ReadPlainTreesAreTaken, ReadPlainTreesKeepAssignmentForms};
 
 use ecma_text_sorts::modules_that_are_read_are_sorted;
 

@@ -11,12 +11,12 @@ use Rattle.ecma_rules.specs.Finishing.{finished}
 use Rattle.ecma_rules.specs.Rules.{first_broken}
 use Rattle.ecma_fits.specs.declared.unfit.Where.{Where}
 use Rattle.ecma_fits.specs.Fitting.{at_top, breaks_rule}
-use Rattle.ecma_text_fits.proofs.Rules.{keeps_rules}
+use Rattle.ecma_text_fits_finished.proofs.Rules.{keeps_rules}
 use Rattle.ecma_modules.specs.Modules.{answer_by, kept_by, reads_as}
 use Rattle.ecma_text_sorts.proofs.Finished.{read_sorted}
 use Rattle.ecma_pipeline_runs.proofs.Keeping.{KeepsRules}
 use Rattle.ecma_pipeline_runs.proofs.UsualBodies.{usual-bodies}
-use Rattle.ecma_text_runs.specs.Stripped.{ReadModulesHaveUsualBodies}
+use Rattle.ecma_text_runs.specs.Laws.{ReadModulesHaveUsualBodies}
 use Rattle.ecma_text_runs.proofs.Walks.{none_below, none_here, walk}
 
 abbrev Good : Node → Where → Type 0

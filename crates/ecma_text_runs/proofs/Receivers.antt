@@ -4,7 +4,7 @@ use Rattle.ecma_tree.specs.declared.node.Node.{Node}
 use Rattle.ecma_fits.specs.declared.unfit.Where.{Where}
 use Rattle.ecma_fits.specs.Fitting.{at_top, breaks_rule}
 use Rattle.ecma_fits.specs.Roles.{is_out_of_role}
-use Rattle.ecma_strip_runs.specs.Usual.{has_no_arrow_receivers}
+use Rattle.ecma_strip_runs.specs.UsualBodies.{has_no_arrow_receivers}
 use Rattle.ecma_pipeline_runs.proofs.Keeping.{KeepsRules}
 use Rattle.ecma_pipeline_runs.proofs.Receivers.{none-received}
 use Rattle.ecma_text_runs.proofs.Walks.{none_below, none_here, walk}

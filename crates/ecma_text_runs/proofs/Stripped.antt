@@ -3,7 +3,7 @@ use Rattle.ecma_text_fits.proofs.ReadRoles.{read_in_roles}
 use Rattle.ecma_text_sorts.proofs.Finished.{read_sorted}
 use Rattle.ecma_strip_runs.proofs.Steps.{stripping_keeps_runs}
 use Rattle.ecma_strip_runs.proofs.Sorted.{only_types_go_from_modules}
-use Rattle.ecma_text_runs.specs.Stripped.{ReadModulesRunStripped}
+use Rattle.ecma_text_runs.specs.Laws.{ReadModulesRunStripped}
 use Rattle.ecma_text_runs.proofs.Bodies.{read_rules, read_usual}
 use Rattle.ecma_text_runs.proofs.Receivers.{no_receivers}
 

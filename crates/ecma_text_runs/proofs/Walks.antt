@@ -5,8 +5,8 @@ use Rattle.ecma_tree.proofs.Layers.{from_leaves_out}
 use Rattle.ecma_rules.specs.Failing.{failing_here, failing_step, first_failing, least_from}
 use Rattle.ecma_fits.specs.declared.unfit.Where.{Where}
 use Rattle.ecma_fits.specs.Fitting.{where_in}
-use Rattle.ecma_text_fits.proofs.Walks.{neither_least, not_failing}
 use Rattle.ecma_strip_fits.proofs.Walk.{each_none}
+use Rattle.ecma_fits_clauses.proofs.Walks.{neither_least, not_failing}
 
 module _ (fails : Where → Node → Bool) where
   abbrev tell : Where → Node → Option ℕ

@@ -1,1 +1,1 @@
-pub mod Stripped
+pub mod Laws

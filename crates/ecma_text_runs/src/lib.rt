@@ -1,9 +1,9 @@
 //! Laws of modules that are read: what they do without their types.
 //!
-//! Each function carries one law over the definitions, and does nothing. The laws are stated in `specs/`.
+//! Each function carries one law over the definitions, and does nothing. The laws are stated in `specs/Laws.antt`.
 #![tactic(auto)]
 
-ghost use Rattle.ecma_text_runs.specs.Stripped.{ReadModulesHaveUsualBodies, ReadModulesRunStripped};
+ghost use Rattle.ecma_text_runs.specs.Laws.{ReadModulesHaveUsualBodies, ReadModulesRunStripped};
 
 /// In what is read as a module no statement has a declaration but a `var` as its body.
 pub fn read_modules_have_usual_bodies()

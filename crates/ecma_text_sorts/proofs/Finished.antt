@@ -24,7 +24,7 @@ use Rattle.ecma_grammar_laws.specs.RawSorts.{HasRawShape, HasRawSort, RawShape, 
 use Rattle.ecma_grammar_laws.proofs.RawShapes.{HaveRaw, both, parts_of}
 use Rattle.ecma_grammar_laws.proofs.Sorted.{modules_sorted}
 use Rattle.ecma_modules.specs.Modules.{answer_by, kept_by}
-use Rattle.ecma_text_sorts.specs.Sorts.{FinishedModulesAreSorted, ReadModulesAreSorted}
+use Rattle.ecma_text_sorts.specs.Laws.{FinishedModulesAreSorted, ReadModulesAreSorted}
 use Rattle.ecma_text_sorts.proofs.Turning.{all_turn, refined, turns, wanted}
 use Rattle.ecma_text_sorts.proofs.KindsTurned.{allowed}
 use Rattle.ecma_text_sorts.proofs.Children.{children_turned, inside}

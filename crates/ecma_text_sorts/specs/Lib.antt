@@ -1,1 +1,1 @@
-pub mod Sorts
+pub mod Laws

@@ -1,9 +1,9 @@
 //! Laws of the trees that `read_module` and `read_plain` of `ecma_text` give, over the definitions alone.
 //!
-//! Each function carries one law, and does nothing. The laws are stated in `specs/`.
+//! Each function carries one law, and does nothing. The laws are stated in `specs/Laws.antt`.
 #![tactic(auto)]
 
-ghost use Rattle.ecma_text_sorts.specs.Sorts.{FinishedModulesAreSorted, ReadModulesAreSorted};
+ghost use Rattle.ecma_text_sorts.specs.Laws.{FinishedModulesAreSorted, ReadModulesAreSorted};
 
 /// What is made of a raw module that keeps the context rules has the sort of a module, all the way down.
 pub fn finished_modules_are_sorted()

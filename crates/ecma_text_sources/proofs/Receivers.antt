@@ -22,7 +22,7 @@ use Rattle.ecma_strip.specs.Staying.{if_there, is_this, is_this_by, is_this_iden
 use Rattle.ecma_strip_fits.proofs.Parameters.{this_goes}
 use Rattle.ecma_hygiene.proofs.Telling.{true-false}
 use Rattle.ecma_strip_scopes.proofs.Going.{parts-have}
-use Rattle.ecma_pipeline_runs.specs.TypesAlone.{has_stray_receiver, is_lone_receiver, is_receiver}
+use Rattle.ecma_sources.specs.TypesAlone.{has_stray_receiver, is_lone_receiver, is_receiver}
 use Rattle.ecma_pipeline_runs.proofs.Clearing.{fits-below, fits-here, in-role}
 use Rattle.ecma_pipeline_runs.proofs.Nodes.{all-at, any-at, child-shape, neither}
 use Rattle.ecma_forms.specs.Forms.{is_later}

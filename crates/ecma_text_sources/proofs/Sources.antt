@@ -7,11 +7,12 @@ use Rattle.ecma_tree.specs.Changing.{changed_here}
 use Rattle.ecma_tree.specs.Contexts.{kind_with_context}
 use Rattle.ecma_tree.specs.Nodes.{node_of}
 use Rattle.ecma_text_leaves.specs.Everywhere.{Each, Everywhere, everywhere, more, none}
-use Rattle.ecma_text_fits.specs.WhatIsRead.{WhatIsReadFits}
-use Rattle.ecma_text_plain.specs.Bare.{IsBareUnquestioned, ReadLeavesAreBare}
+use Rattle.ecma_text_fits.specs.Laws.{WhatIsReadFits}
+use Rattle.ecma_plain.specs.Forms.{IsBareUnquestioned}
+use Rattle.ecma_text_plain.specs.Laws.{ReadLeavesAreBare}
 use Rattle.ecma_text_plain.proofs.Hashbangs.{read_utf8}
 use Rattle.ecma_scope.specs.Laws.{without_contexts}
-use Rattle.ecma_text_sources.specs.Sources.{ReadTreesAreRead, TakenTreesAreSources}
+use Rattle.ecma_text_sources.specs.Laws.{ReadTreesAreRead, TakenTreesAreSources}
 use Rattle.ecma_text_sources.proofs.TypesAlone.{types_alone}
 
 pub read_trees : WhatIsReadFits → ReadLeavesAreBare → ReadTreesAreRead

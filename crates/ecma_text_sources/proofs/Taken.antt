@@ -7,11 +7,11 @@ use Rattle.ecma_tree.specs.declared.node.Node.{Node, out-Node}
 use Rattle.ecma_tree.proofs.Layers.{from_leaves_out}
 use Rattle.ecma_rules.specs.Children.{holds_of, kind_of}
 use Rattle.ecma_rules.specs.Failing.{failing_step, first_failing, least_from}
-use Rattle.ecma_text_fits.proofs.Walks.{neither, neither_least, not_failing}
 use Rattle.ecma_strip.specs.Staying.{stays}
 use Rattle.ecma_strip_fits.proofs.Walk.{each_none}
 use Rattle.ecma_pipeline_runs.proofs.Nodes.{StaysIn}
 use Rattle.ecma_forms.specs.Forms.{first_untaken, goes, goes_at, inside, is_later, is_odd_by, is_untaken, untaken_here}
+use Rattle.ecma_fits_clauses.proofs.Walks.{neither, neither_least, not_failing}
 
 abbrev walk : Node → Bool → Option ℕ
 walk = first_failing Bool untaken_here inside

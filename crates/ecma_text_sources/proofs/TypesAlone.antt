@@ -8,23 +8,23 @@ use Rattle.ecma_kind.specs.declared.shapes.Sort.TheVariants as sort
 use Rattle.ecma_tree.specs.declared.node.Node.{Node, out-Node}
 use Rattle.ecma_tree.specs.Laws.{HaveShapes}
 use Rattle.ecma_tree.specs.Sorted.{HasShape, allows, child_shapes, maybe, one}
-use Rattle.ecma_tree.specs.Values.{is_value, value_by}
-use Rattle.ecma_tree.proofs.Valuing.{is_value-out}
 use Rattle.ecma_rules.specs.Children.{holds_of, is_present, kind_of, of_kind}
 use Rattle.ecma_rules.specs.Jumps.{first_stray}
 use Rattle.ecma_fits.specs.declared.unfit.Where.{Where}
 use Rattle.ecma_fits.specs.Fitting.{Fits, at_top, first_unfit_in, where_in}
-use Rattle.ecma_text_fits.proofs.Walks.{neither_least}
 use Rattle.ecma_strip.specs.Staying.{is_declared, is_this_by, member_stays_by, specifier_stays, stays}
 use Rattle.ecma_hygiene.proofs.Telling.{and-both, true-false}
 use Rattle.ecma_strip_scopes.proofs.Going.{parts-have}
-use Rattle.ecma_pipeline_runs.specs.TypesAlone.{adds_types_alone, has_ambient_head, has_bodiless, has_stray_receiver, is_lowered, lacks_body, lacks_body_by}
+use Rattle.ecma_sources.specs.TypesAlone.{adds_types_alone, has_ambient_head, has_bodiless, has_stray_receiver, is_lowered, lacks_body, lacks_body_by}
 use Rattle.ecma_pipeline_runs.proofs.Clearing.{fits-below}
 use Rattle.ecma_pipeline_runs.proofs.Nodes.{StaysIn, alone-made, by-children, child-shape, not-false}
 use Rattle.ecma_forms.specs.Forms.{first_untaken, has_body, is_ambient_variable, is_later, is_odd_by}
 use Rattle.ecma_text_sources.proofs.Receivers.{IsFree, child_free, no_stray}
 use Rattle.ecma_text_sources.proofs.Staying.{stays_by, stays_is}
 use Rattle.ecma_text_sources.proofs.Taken.{not_later, not_odd, taken_below}
+use Rattle.ecma_tree.specs.Values.{is_value, value_by}
+use Rattle.ecma_tree.proofs.Valuing.{is_value-out}
+use Rattle.ecma_fits_clauses.proofs.Walks.{neither_least}
 
 unlowered : (k : Kind) → is_later k ≡ false → is_lowered k ≡ false
 unlowered (kind.TsEnumDecl declare is_const) h = absurd (true-false refl h)

@@ -1,9 +1,9 @@
 //! Laws of what is read as a module: it is the source that the laws of the passes ask for.
 //!
-//! Each function carries one law over the definitions, and does nothing. The laws are stated in `specs/`.
+//! Each function carries one law over the definitions, and does nothing. The laws are stated in `specs/Laws.antt`.
 #![tactic(auto)]
 
-ghost use Rattle.ecma_text_sources.specs.Sources.{ReadTreesAreRead, TakenTreesAreSources};
+ghost use Rattle.ecma_text_sources.specs.Laws.{ReadTreesAreRead, TakenTreesAreSources};
 
 use ecma_text_fits::what_is_read_fits;
 use ecma_text_plain::leaves_that_are_read_are_bare;

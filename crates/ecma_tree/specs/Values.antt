@@ -6,6 +6,8 @@ use Rattle.ecma_kind.specs.declared.kind.Kind.TheVariants as kind
 use Rattle.ecma_tree.specs.declared.node.Node.{Node, Node-F, fold-Node, out-Node}
 
 -- whether a node of this kind is a value, where its children are or not
+--   namespace N { let a; }   // a value
+--   namespace N { type T = U; interface A { } }   // none
 unfoldable pub value_by : Kind → List Bool → Bool
 value_by kind.Absent children = false
 value_by kind.EmptyStmt children = false

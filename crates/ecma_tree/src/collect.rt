@@ -1,3 +1,4 @@
+//! The texts of all identifiers of a tree.
 ghost use Rattle.std.specs.Prelude.{◌≡◌, ◌++◌, IfOk, OnOk};
 ghost use Rattle.ecma_tree.specs.Gathering.{symbol_here, symbols_of};
 

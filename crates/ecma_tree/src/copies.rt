@@ -1,3 +1,4 @@
+//! Copies of trees.
 ghost use Rattle.std.specs.Prelude.{◌≡◌, IfOk};
 
 use crate::node::{Class, Expr, Function, Module, ModuleItem, Node, Nodes, Pat, Stmt};

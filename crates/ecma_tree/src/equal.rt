@@ -1,3 +1,4 @@
+//! Whether trees are equal but for spans.
 ghost use Rattle.std.specs.Prelude.{◌≡◌, ◌↔◌, IsTrue, map};
 ghost use Rattle.ecma_tree.specs.Spans.{without_spans};
 

@@ -1,3 +1,4 @@
+//! Whether an identifier of a given text stands in a tree.
 ghost use Rattle.std.specs.Prelude.{◌≡◌};
 ghost use Rattle.ecma_tree.specs.Finding.{is_ident, mentions};
 

@@ -1,3 +1,4 @@
+//! A node of the tree, and the names that signatures give to nodes of certain sorts.
 ghost use Rattle.std.specs.Prelude.{◌≡◌, IfOk, []};
 
 use ecma_kind::{DUMMY_SP, Kind, NoMemory, Span};

@@ -1,3 +1,4 @@
+//! Parts of trees that are compared but for spans.
 ghost use Rattle.std.specs.Prelude.{◌≡◌, ◌↔◌, IsTrue};
 ghost use Rattle.ecma_tree.specs.NodeRefs.{EqualButForSpans};
 

@@ -1,3 +1,4 @@
+//! Taking the spans out of a tree.
 ghost use Rattle.std.specs.Prelude.{◌≡◌};
 ghost use Rattle.ecma_tree.specs.Spans.{without_spans};
 

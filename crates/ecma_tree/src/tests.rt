@@ -1,3 +1,4 @@
+//! Sorts, children by their names, copies and comparisons, of small trees.
 use super::*;
 use std::alloc::Global;
 use std::test::Fail;

@@ -1,3 +1,4 @@
+//! A list keeps its items through the calls that change it.
 use super::*;
 use std::test::Fail;
 

@@ -9,7 +9,8 @@ use Rattle.ecma_tree.specs.declared.node.Node.{Node}
 use Rattle.ecma_modules.specs.declared.error.ReadError.{ReadError}
 use Rattle.ecma_modules.specs.Modules.{reads_as, plain, deepest}
 use Rattle.ecma_print.specs.Layout.{layout}
-use Rattle.ecma_round_trip_texts.specs.Relaid.{IsReadAsTree, RelaidModulesAreReadAgain}
+use Rattle.ecma_round_trip_texts.specs.Again.{IsReadAsTree}
+use Rattle.ecma_round_trip_texts.specs.Laws.{RelaidModulesAreReadAgain}
 use Rattle.ts_to_js.specs.declared.error.TsError.{TsError}
 use Rattle.ts_to_js.specs.declared.error.TsError.TheVariants as error
 use Rattle.ts_to_js.specs.declared.program.TheConstants.{DONE}

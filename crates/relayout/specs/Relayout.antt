@@ -5,7 +5,7 @@ use Rattle.ecma_tree.specs.declared.node.Node.{Node}
 use Rattle.ecma_modules.specs.declared.error.ReadError.{ReadError}
 use Rattle.ecma_modules.specs.Modules.{reads_as, plain, deepest}
 use Rattle.ecma_print.specs.Layout.{layout}
-use Rattle.ecma_round_trip_texts.specs.Relaid.{IsReadAsTree}
+use Rattle.ecma_round_trip_texts.specs.Again.{IsReadAsTree}
 use Rattle.ts_to_js.specs.Conversion.{byte_limit}
 use Rattle.ts_to_js.specs.Refusals.{refusal_of}
 use Rattle.ts_to_js.specs.declared.error.TsError.{TsError}

@@ -1,3 +1,4 @@
+//! The bytes of a plain module to the bytes of its layout.
 ghost use Rattle.std.specs.Prelude.{◌≡◌, ◌≤◌, false, length, IfOk, IfErr};
 ghost use Rattle.ecma_modules.specs.Modules.{deepest, plain, reads_as};
 ghost use Rattle.ts_to_js.specs.Answer.{Answers};

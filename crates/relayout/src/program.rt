@@ -1,3 +1,4 @@
+//! The program over devices: it reads a plain module and writes its layout.
 ghost use Rattle.std.specs.Prelude.{◌≡◌, ◌+◌, ℕ, List, IfSome};
 ghost use Rattle.devices.specs.Counts.{CountedAtMost, CountedExactlyIf};
 ghost use Rattle.ts_to_js.specs.declared.program.TheConstants.{DONE, WRITE_FAULT};

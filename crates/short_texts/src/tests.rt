@@ -1,3 +1,4 @@
+//! Texts that are the same and texts that are not.
 use super::*;
 use std::test::Fail;
 

@@ -10,7 +10,7 @@ use Rattle.ecma_modules.specs.declared.error.ReadError.{ReadError}
 use Rattle.ecma_modules.specs.Modules.{reads_as, typescript, deepest}
 use Rattle.ecma_print.specs.Layout.{layout}
 use Rattle.ecma_hygiene_exists.proofs.Leaving.{leave-sixteen}
-use Rattle.ecma_pipeline.specs.Written.{WrittenModulesDoWhatTheirSourcesDo}
+use Rattle.ecma_pipeline.specs.Laws.{WrittenModulesDoWhatTheirSourcesDo}
 use Rattle.ts_to_js.specs.declared.error.TsError.{TsError}
 use Rattle.ts_to_js.specs.declared.error.TsError.TheVariants as error
 use Rattle.ts_to_js.specs.Answer.{AnswersBy}

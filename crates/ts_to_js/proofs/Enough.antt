@@ -11,7 +11,7 @@ use Rattle.ecma_modules.specs.Modules.{deepest, reads_as, typescript}
 use Rattle.ecma_scope.specs.Conflicts.{redeclared}
 use Rattle.ecma_scope.specs.Needs.{needed}
 use Rattle.ecma_forms.specs.Forms.{first_untaken}
-use Rattle.ecma_text_contexts.specs.Few.{NeededIsBoundedByTheText}
+use Rattle.ecma_text_contexts.specs.Laws.{NeededIsBoundedByTheText}
 use Rattle.ts_to_js.specs.declared.error.TsError.{TsError}
 use Rattle.ts_to_js.specs.declared.error.TsError.TheVariants as error
 use Rattle.ts_to_js.specs.Conversion.{ComesOf, ComesOfReading, byte_limit}

@@ -1,7 +1,7 @@
 -- What the status of a run says of the bytes that were read.
 use Rattle.std.proofs.Common.{◌≡◌, ◌⊎◌, ◌≢◌, ℕ, List, Some, None, Ok, Err, inl, inr, refl, sym, ◌∙◌, subst, arith}
 use Rattle.std.specs.Prelude.{Option, Result, IfSome}
-use Rattle.ecma_pipeline.specs.Written.{WrittenModulesDoWhatTheirSourcesDo}
+use Rattle.ecma_pipeline.specs.Laws.{WrittenModulesDoWhatTheirSourcesDo}
 use Rattle.devices.specs.Counts.{Counted, Rose}
 use Rattle.ts_to_js.specs.declared.error.TsError.{TsError}
 use Rattle.ts_to_js.specs.declared.program.TheConstants.{DONE, REFUSED, BAD_WORD, READ_FAULT, WRITE_FAULT, NO_MEMORY}

@@ -18,7 +18,7 @@ abbrev pub byte_limit : ℕ
 byte_limit = 4194304
 
 -- the tree with its bindings, where so many contexts are left: the first is that of free names, the next that of the module, and each scope gets one of
--- those behind
+-- those after these
 abbrev pub with_bindings : ℕ → Node → Node
 with_bindings left tree = resolved left (left - 1) (left - 2) tree
 

@@ -1,3 +1,4 @@
+//! The conversion: the bytes of a TypeScript module to those of a JavaScript module, pass by pass.
 ghost use Rattle.std.specs.Prelude.{◌≡◌, ◌<◌, ◌≤◌, ◌↔◌, ◌+◌, ◌⊎◌, length, true, false, Ok, MatchOption, Option, IfErr, IfOk, IsOk, IsTrue, OnOk};
 ghost use Rattle.std.specs.Str.{is_utf8};
 ghost use Rattle.ecma_kind.specs.declared.shapes.Sort.TheVariants as sort;
@@ -30,7 +31,7 @@ pub const LIMIT: usize = 4_194_304;
 /// What is asked of a conversion beside the module. It changes nothing in what is answered.
 #[derive(Clone, Copy, Debug, PartialEq, Eq)]
 pub struct Options {
-    /// Whether the program ends behind the conversion: then the memory of the tree is left to the system, which takes all of it at once. Else
+    /// Whether the program ends after the conversion: then the memory of the tree is left to the system, which takes all of it at once. Else
     /// the tree is let go of, node by node.
     pub program_ends: bool,
 }

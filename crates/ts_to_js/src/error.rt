@@ -1,3 +1,4 @@
+//! Why a module was not converted.
 ghost use Rattle.std.specs.Prelude.{◌≡◌};
 ghost use Rattle.ts_to_js.specs.declared.error.TsError.TheVariants as error;
 

@@ -1,9 +1,10 @@
+//! The program over the standard input and output of its process.
 use crate::program::{NO_MEMORY, run};
 use crate::words::words;
 use devices::{StdSink, StdSource};
 use std::process::ExitCode;
 
-/// The program: [`run`] with the words behind its name, from standard input to standard output, with
+/// The program: [`run`] with the words after its name, from standard input to standard output, with
 /// its refusals on standard error. It ends with the status of the run, or with `NO_MEMORY` where there
 /// is none for the words.
 pub fn command(rt: &HostRuntime) -> ExitCode {

@@ -1,3 +1,4 @@
+//! The program over devices: its words, its status, and the line that it writes for a refusal.
 ghost use Rattle.std.specs.Prelude.{◌≡◌, ◌≢◌, ◌⊎◌, ◌+◌, ℕ, List, Result, IfSome, IsSome};
 ghost use Rattle.std.specs.Option.{option_copied};
 ghost use Rattle.devices.specs.Counts.{CountedAtMost, CountedExactlyIf, Rose};
@@ -27,7 +28,7 @@ pub const WRITE_FAULT: u8 = 4;
 /// The status of a run that lacked memory.
 pub const NO_MEMORY: u8 = 5;
 
-/// All that the program does. It takes the words behind its name, reads the source to its end, or its
+/// All that the program does. It takes the words after its name, reads the source to its end, or its
 /// first `LIMIT + 1` bytes where there are more, converts them, and writes the text to `out` or the
 /// line of the refusal to `err`. No word is known yet.
 pub fn run<S: Source, O: Sink, E: Sink>(

@@ -19,7 +19,7 @@ fn write_text<K: Sink>(sink: &mut K, text: &str) -> Result<(), SinkError>
     write_all(sink, text.as_bytes())
 }
 
-/// Writes two texts, one behind the other.
+/// Writes two texts, one after the other.
 #[tactic(auto, using(crate::proofs::Pieces::pieces))]
 fn write_both<K: Sink>(sink: &mut K, first: &str, second: &str) -> Result<(), SinkError>
     ensures ok { OnOk result (K.taken sink.new ≡ append_known (K.taken sink.old) (first.now ++ second.now)) }

@@ -1,3 +1,4 @@
+//! Runs of the whole program over devices in memory; conversions and refusals by topic stand in the modules beside.
 mod expressions;
 mod names;
 mod refusals;

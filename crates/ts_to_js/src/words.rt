@@ -1,4 +1,4 @@
-//! The words behind the program's name.
+//! The words after the program's name.
 use std::alloc::{AllocError, Global};
 use std::env::{Env, FillError};
 use std::rc::RcStr;
@@ -6,7 +6,7 @@ use std::rc::RcStr;
 /// What is passed for a word that is no text: no word that is known.
 const NO_TEXT: &str = "\u{FFFD}";
 
-/// The words behind the program's name, in their order.
+/// The words after the program's name, in their order.
 pub(crate) fn words(rt: &impl Env, alloc: Global) -> Result<Vec<RcStr>, AllocError> {
     let mut words = Vec::new(alloc);
     for index in 1..usize::MAX {
@@ -18,7 +18,7 @@ pub(crate) fn words(rt: &impl Env, alloc: Global) -> Result<Vec<RcStr>, AllocErr
     Ok(words)
 }
 
-/// The word at an index, the program's name being at 0; none behind the last.
+/// The word at an index, the program's name being at 0; none after the last.
 /// A buffer that was too short is tried again at twice its size.
 fn word(rt: &impl Env, alloc: Global, index: usize) -> Result<Option<RcStr>, AllocError> {
     for bits in 8u32..40 {

@@ -1,3 +1,4 @@
+//! Binding names with types round them, by `ecma_bind`.
 use ecma_bind::bind_names;
 use ecma_tree::{
     AssignOp, JsWord, Kind, NoMemory, Node, Nodes, Span, SyntaxContext, same_but_for_spans,

@@ -1,3 +1,4 @@
+//! Small trees that fit and that do not, by `ecma_fits`.
 use ecma_fits::{first_unfit, fits};
 use ecma_number::{JsNumber, SafeInt};
 use ecma_tree::{AssignOp, JsWord, Kind, NoMemory, Node, Nodes, Span, SyntaxContext};

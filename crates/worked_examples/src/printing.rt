@@ -1,3 +1,4 @@
+//! Layouts of small trees, by `ecma_print`.
 use ecma_print::print_module;
 use ecma_tree::{DUMMY_SP, Expr, JsWord, Kind, Module, Node, Nodes, Stmt, SyntaxContext, UnaryOp};
 use std::alloc::Global;

@@ -1,3 +1,4 @@
+//! A context rule and a finished tree, by `ecma_rules`.
 use ecma_rules::{finish, first_broken};
 use ecma_tree::{
     AssignOp, JsWord, Kind, NoMemory, Node, Nodes, Sort, Span, SyntaxContext, has_sort,

@@ -1,3 +1,4 @@
+//! Scopes that are resolved and conflicts that are refused, by `ecma_scope`.
 use ecma_scope::{ScopeError, check_scopes, needs, resolve, used_ids};
 use ecma_tree::{
     DUMMY_SP, JsWord, Kind, NoMemory, Node, Nodes, PassError, Session, SyntaxContext, VarDeclKind,

@@ -1,3 +1,4 @@
+//! Types taken out of a small module, by `ecma_strip`.
 use ecma_strip::strip_type;
 use ecma_tree::{
     JsWord, Kind, NoMemory, Node, NodeRef, Nodes, Span, SyntaxContext, VarDeclKind, eq_ignore_span,

@@ -1,3 +1,4 @@
+//! Final texts of a small module, by `ecma_hygiene`.
 use ecma_hygiene::hygiene;
 use ecma_tree::{
     JsWord, Kind, NoMemory, Node, Nodes, Session, Span, SyntaxContext, VarDeclKind, symbols,

@@ -12,14 +12,20 @@ use Rattle.ecma_grammar.specs.productions.Operators.{short_circuit}
 use Rattle.ecma_grammar.specs.productions.Functions.{arrow}
 
 -- ('?' Assign ':' Assign)?
+--   a ? b : c;
+--   a ? b;   // refused
 abbrev pub choice : Bool → Grammar
 choice no_in = optional (item plain.CondExpr (punct (codes "?") ▸ up (part.Assign no_in true) ▸ punct (codes ":") ▸ assign_in no_in))
 
 -- Cond = Short ('?' Assign ':' Assign)?
+--   a || b ? c : d;
+--   a ? b : c ? d : e;
 unfoldable pub conditional : Bool → Grammar
 conditional no_in = build form.Chain (short_circuit no_in ▸ choice no_in)
 
 -- 'yield' (~'*' Assign / ~Assign)?
+--   function* f() { yield; yield a; yield* b; }
+--   function* f() { a + yield b; }   // refused
 abbrev pub yield_ : Bool → Grammar
 yield_ no_in =
     build form.Yield
@@ -30,6 +36,8 @@ abbrev pub assignment : List ℕ → AssignOp → Bool → Grammar
 assignment sign op no_in = item (plain.AssignExpr op) (punct sign ▸ assign_in no_in)
 
 -- AssignOp Assign
+--   a = b ||= c;
+--   a = ;   // refused
 unfoldable pub assignments : Bool → Grammar
 assignments no_in =
     assignment (codes "=") assign_op.Assign no_in
@@ -45,5 +53,7 @@ assignments no_in =
     // nothing
 
 -- Assign = Arrow / 'yield' .. / Cond (AssignOp Assign)?
+--   a => b; a = b;
+--   function* f() { a = yield b; }
 abbrev pub assign_body : Bool → Bool → Grammar
 assign_body no_in middle = arrow no_in middle // yield_ no_in // build form.Chain (conditional no_in ▸ assignments no_in)

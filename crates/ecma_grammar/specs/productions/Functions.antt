@@ -8,46 +8,67 @@ use Rattle.ecma_grammar.specs.productions.Names.{assign_in, end, ident, binding_
 use Rattle.ecma_grammar.specs.productions.Types.{type_param_decl, return_annotation, some_return_annotation, params}
 
 -- Sig = [TypeParams] '(' Params ')' [RetAnn] (Block / T End)
+--   function f<T>(a: T, ...b): T { }
+--   declare function f(a: T): void;
 unfoldable pub signature : Grammar
 signature = type_param_decl ▸ punct (codes "(") ▸ params ▸ punct (codes ")") ▸ return_annotation ▸ (block // marked (end ▸ put Absent))
 
 -- Fun(N) = ('async' ~'function' / 'function') '*'? N Sig
+--   async function* f() { }
 abbrev pub function : Grammar → Grammar
 function name =
     (word (codes "async") ▸ same_line ▸ word (codes "function") ▸ put Present // word (codes "function") ▸ put Absent)
     ▸ whether (punct (codes "*")) ▸ name ▸ signature
 
+--   (function f() { });
+--   (function () { });
 unfoldable pub function_expression : Grammar
 function_expression = build (form.Function plain.FnExpr) (function (maybe ident))
 
+--   function f() { }
+--   function () { }   // refused
 unfoldable pub function_declaration : Grammar
 function_declaration = build (form.Function plain.FnDecl) (function ident)
 
 -- 'async' ~&MStart, or not
+--   ({ async a() { } });
+--   ({ async() { } });   // a method of the name async
 unfoldable pub method_async : Grammar
 method_async = whether (word (codes "async") ▸ same_line ▸ ahead member_start)
 
 -- ('get' / 'set') &PropStart PName Sig
+--   ({ get a() { return 1; } });
+--   ({ get: 1 });   // a property of the name get
 unfoldable pub getter_property : Grammar
 getter_property = build form.Getter (word (codes "get") ▸ ahead prop_start ▸ prop_name ▸ signature)
 
+--   ({ set a(b) { } });
+--   ({ set() { } });   // a method of the name set
 unfoldable pub setter_property : Grammar
 setter_property = build form.Setter (word (codes "set") ▸ ahead prop_start ▸ prop_name ▸ signature)
 
 -- ('async' ~&MStart)? '*'? PName Sig
+--   ({ a() { }, *"b"() { }, async [c]() { } });
+--   ({ function a() { } });   // refused
 unfoldable pub method_property : Grammar
 method_property = build (form.Function plain.MethodProp) (method_async ▸ whether (punct (codes "*")) ▸ prop_name ▸ signature)
 
 -- ABody = Block / !'{' Assign
+--   a => b;
+--   a => ({ b: c });   // after => a brace opens a block
 abbrev pub arrow_body : Bool → Grammar
 arrow_body no_in = same_line ▸ punct (codes "=>") ▸ (block // unless (punct (codes "{")) ▸ assign_in no_in)
 
 -- in the middle of a conditional expression an arrow function with a return annotation is read only before `:`
+--   a ? (b): T => c : d;   // the arrow function (b): T => c
+--   a ? (b) : c => d;   // b, or the arrow function c => d
 abbrev pub before_colon : Bool → Grammar
 before_colon true = ahead (punct (codes ":"))
 before_colon false = nothing
 
 -- AHead ~'=>' ABody, with AHead = Name / [TypeParams] '(' Params ')' [RetAnn]
+--   (a, [b] = c, ...d): T => e;
+--   (a + b) => c;   // refused
 unfoldable pub arrow_rest : Bool → Bool → Grammar
 arrow_rest no_in middle =
     put Absent ▸ list binding_ident ▸ put Absent ▸ arrow_body no_in
@@ -55,6 +76,8 @@ arrow_rest no_in middle =
     ▸ (marked some_return_annotation ▸ arrow_body no_in ▸ before_colon middle // put Absent ▸ arrow_body no_in)
 
 -- Arrow = 'async' ~AHead ~'=>' ABody / AHead ~'=>' ABody
+--   async a => await a;
+--   async (a, b) => a;
 unfoldable pub arrow : Bool → Bool → Grammar
 arrow no_in middle =
     build form.Arrow (word (codes "async") ▸ same_line ▸ put Present ▸ arrow_rest no_in middle)

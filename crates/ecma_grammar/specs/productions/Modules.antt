@@ -14,19 +14,27 @@ use Rattle.ecma_grammar.specs.productions.Classes.{abstract_class_expression}
 use Rattle.ecma_grammar.specs.productions.Declarations.{interface, declaration}
 
 -- Attrs = 'with' '{' L(MName ':' Str) '}'
+--   import a from "m" with { type: "json" };
+--   import a from "m" with { type: 1 };   // refused
 unfoldable pub attributes : Grammar
 attributes =
     maybe (word (codes "with") ▸ node plain.ObjectLit (punct (codes "{") ▸ list (commas (node plain.KeyValueProp ((keep leaf.IdentName // string) ▸ punct (codes ":") ▸ string))) ▸ punct (codes "}")))
 
 -- 'from' Str Attrs?
+--   export * from "m";
+--   export * from m;   // refused
 unfoldable pub from : Grammar
 from = word (codes "from") ▸ string ▸ attributes
 
 -- Star = '*' 'as' Name
+--   import * as a from "m";
+--   import * from "m";   // refused
 unfoldable pub star : Grammar
 star = node plain.ImportStarAsSpecifier (punct (codes "*") ▸ word (codes "as") ▸ ident)
 
 -- Spec = T 'type' 'as' 'as' Name / MName 'as' Name / T 'type' MName 'as' Name / T 'type' Name / Name
+--   import { a, b as c, default as d } from "m";
+--   import { type T, type U as V } from "m";
 unfoldable pub import_specifier : Grammar
 import_specifier =
     marked (build (form.Swapped (plain.ImportNamedSpecifier true)) (word (codes "type") ▸ ahead (word (codes "as")) ▸ ident ▸ word (codes "as") ▸ ident))
@@ -36,15 +44,21 @@ import_specifier =
     // node (plain.ImportNamedSpecifier false) (ident ▸ put Absent)
 
 -- Specs = '{' L(Spec) '}'
+--   import { a, b, } from "m";
+--   import { a b } from "m";   // refused
 unfoldable pub import_specifiers : Grammar
 import_specifiers = punct (codes "{") ▸ commas import_specifier ▸ punct (codes "}")
 
 -- Clause = Name (',' (Star / Specs))? / Star / Specs
+--   import a, { b } from "m";
+--   import { b }, a from "m";   // refused
 unfoldable pub import_clause : Grammar
 import_clause =
     list (node plain.ImportDefaultSpecifier ident ▸ optional (punct (codes ",") ▸ (star // import_specifiers)) // star // import_specifiers)
 
 -- Import
+--   import "m"; import a from "n";
+--   import type { T } from "m";
 unfoldable pub import : Grammar
 import =
     node (plain.ImportDecl false) (word (codes "import") ▸ list nothing ▸ string ▸ attributes ▸ end)
@@ -52,17 +66,23 @@ import =
     // node (plain.ImportDecl false) (word (codes "import") ▸ import_clause ▸ from ▸ end)
 
 -- 'require' '(' Str ')'
+--   import a = require("m");
+--   import a = require(m);   // refused
 unfoldable pub require : Grammar
 require = node plain.TsExternalModuleRef (word (codes "require") ▸ punct (codes "(") ▸ string ▸ punct (codes ")"))
 
 -- ('.' Key)*
+--   import a = b.c.d;
 unfoldable pub dotted_keys : Grammar
 dotted_keys = optional (behind_punct (codes ".") part.DottedKey)
 
+--   import a = b.c;   // .c
 unfoldable pub dotted_key_body : Grammar
 dotted_key_body = item plain.TsQualifiedName (keep leaf.IdentName) ▸ dotted_keys
 
 -- ImportEq = 'export'? 'import' ('type' &Name)? Name '=' ('require' '(' Str ')' / Name ('.' Key)*) End
+--   import a = require("m"); export import b = c.d;
+--   import a = b();   // refused
 unfoldable pub import_equals : Grammar
 import_equals =
     assigned (build form.ImportEquals (whether (word (codes "export")) ▸ word (codes "import") ▸ put Absent ▸ ident ▸ punct (codes "=") ▸ require ▸ end))
@@ -72,6 +92,8 @@ import_equals =
     ▸ (require // build form.Chain (ident ▸ dotted_keys)) ▸ end))
 
 -- ESpec = T 'type' 'as' 'as' MName / MName 'as' MName / T 'type' MName ('as' MName)? / MName
+--   export { a, b as default, type T } from "m";
+--   export { a.b } from "m";   // refused
 unfoldable pub export_specifier : Grammar
 export_specifier =
     marked (node (plain.ExportNamedSpecifier true) (word (codes "type") ▸ ahead (word (codes "as")) ▸ keep leaf.KeyIdent ▸ word (codes "as") ▸ module_export_name))
@@ -80,18 +102,26 @@ export_specifier =
     // node (plain.ExportNamedSpecifier false) (module_export_name ▸ put Absent)
 
 -- '{' L(ESpec) '}' ('from' Str Attrs?)? End
+--   export { a, b as c } from "m";
+--   export { };
 unfoldable pub export_names : Grammar
 export_names = punct (codes "{") ▸ list (commas export_specifier) ▸ punct (codes "}") ▸ (from // put Absent ▸ put Absent) ▸ end
 
 -- '*' 'as' MName 'from' Str Attrs? End
+--   export * as a from "m";
+--   export * as a;   // refused
 unfoldable pub export_star_as : Grammar
 export_star_as = list (node plain.ExportNamespaceSpecifier (punct (codes "*") ▸ word (codes "as") ▸ module_export_name)) ▸ from ▸ end
 
 -- '*' 'from' Str Attrs? End
+--   export * from "m";
+--   export *;   // refused
 unfoldable pub export_star : Grammar
 export_star = punct (codes "*") ▸ from ▸ end
 
 -- 'export' 'default' (Fun(Name?) / Class(Name?) / T 'abstract' ~Class(Name?) / T Interface / Assign End)
+--   export default function () { }
+--   export default a + b;
 unfoldable pub export_default : Grammar
 export_default =
     node plain.ExportDefaultDecl
@@ -99,6 +129,8 @@ export_default =
     // node plain.ExportDefaultExpr (word (codes "export") ▸ word (codes "default") ▸ assign ▸ end)
 
 -- Export
+--   export let a = 1;
+--   export a;   // refused
 unfoldable pub export : Grammar
 export =
     export_default
@@ -113,13 +145,17 @@ export =
     // node plain.ExportDecl (word (codes "export") ▸ declaration)
 
 -- Item = Import / T ImportEq / Export / Stmt
+--   import "m"; export { }; f();
 unfoldable pub module_item : Grammar
 module_item = import // import_equals // export // statement
 
 -- NsBody = '{' Item* '}'
+--   namespace A { export let b; import c = d.e; }
 unfoldable pub namespace_block : Grammar
 namespace_block = node plain.TsModuleBlock (punct (codes "{") ▸ list (many module_item) ▸ punct (codes "}"))
 
 -- Module = Hashbang? Item* EndOfText
+--   #!/usr/bin/env node
+--   f();
 unfoldable pub module_body : Grammar
 module_body = build form.Module (maybe (keep leaf.Hashbang) ▸ list (many module_item) ▸ a token.EndOfText)

@@ -15,6 +15,8 @@ use Rattle.ecma_grammar.specs.productions.Names.{type_, right_angle}
 use Rattle.ecma_grammar.specs.productions.Chains.{chain}
 
 -- (~('++' / '--'))?
+--   a++;
+--   a++ ++;   // refused
 abbrev pub updates : Grammar
 updates =
     same_line ▸ item (plain.UpdateExpr update_op.PlusPlus false) (punct (codes "++"))
@@ -22,6 +24,8 @@ updates =
     // nothing
 
 -- Update = ('++' / '--') Operand / Chain (~('++' / '--'))?
+--   ++a;
+--   a--;
 unfoldable pub update : Grammar
 update =
     node (plain.UpdateExpr update_op.PlusPlus true) (behind_punct (codes "++") part.Operand)
@@ -30,6 +34,8 @@ update =
     (chain ▸ updates)
 
 -- Pre Operand
+--   typeof a; -await b;
+--   <T>a;
 unfoldable pub prefixed : Grammar
 prefixed =
     node (plain.UnaryExpr unary.Delete) (behind_word (codes "delete") part.Operand)
@@ -43,17 +49,24 @@ prefixed =
     // marked (build form.Assertion (behind (any token.LeftAngle) part.Assertion))
 
 -- Operand = Pre Operand / Update
+--   - -a;
+--   !a++;
 unfoldable pub operand : Grammar
 operand = prefixed // update
 
--- ('const' / Type) ">" Operand, behind "<"
+-- ('const' / Type) ">" Operand, after "<"
+--   <T>a;
+--   <const>[a];
 unfoldable pub assertion_body : Grammar
 assertion_body = (word (codes "const") // bare plain.TsType type_) ▸ right_angle ▸ operand
 
 -- Exp = Pre Operand / Update ('**' Exp)?
+--   a ** b ** c;   // a ** (b ** c)
+--   -a ** b;   // refused
 unfoldable pub exponentiation : Grammar
 exponentiation = prefixed // build form.Chain (update ▸ optional (behind_punct (codes "**") part.Power))
 
+--   a ** -b;   // ** -b
 unfoldable pub power_body : Grammar
 power_body = item (plain.BinExpr binary.Exp) exponentiation
 
@@ -61,29 +74,39 @@ abbrev pub operator : List ℕ → BinaryOp → Bool → Grammar
 operator sign op no_in = behind_punct sign (part.Binary op no_in)
 
 -- Mul, Add, Shift = left chains of `*` `/` `%`, of `+` `-`, of `<<` `>>` `>>>`
+--   a * b / c % d;   // ((a * b) / c) % d
 unfoldable pub factors : Grammar
 factors = operator (codes "*") binary.Mul false // operator (codes "/") binary.Div false // operator (codes "%") binary.Mod false // nothing
 
+--   a - b + c;   // (a - b) + c
 unfoldable pub terms : Grammar
 terms = operator (codes "+") binary.Add false // operator (codes "-") binary.Sub false // nothing
 
+--   a << b >>> c;   // (a << b) >>> c
 unfoldable pub shifts : Grammar
 shifts = operator (codes "<<") binary.LShift false // operator (codes ">>") binary.RShift false // operator (codes ">>>") binary.ZeroFillRShift false // nothing
 
+--   a * b ** c;   // a * (b ** c)
 abbrev pub product : Grammar
 product = build form.Chain (exponentiation ▸ factors)
 
+--   a + b * c;   // a + (b * c)
 abbrev pub sum : Grammar
 sum = build form.Chain (product ▸ terms)
 
+--   a << b + c;   // a << (b + c)
 unfoldable pub shift : Grammar
 shift = build form.Chain (sum ▸ shifts)
 
 -- `in`, where it is an operator
+--   for (let a = (b in c); d; );
+--   for (let a = b in c; d; );   // refused
 abbrev pub if_in : Bool → Grammar → Grammar
 if_in no_in g = if no_in then unless nothing else g
 
 -- (('<' / '>' / '<=' / '>=' / 'instanceof' / 'in') Shift / T ~'as' ('const' / Type) / T ~'satisfies' Type)*
+--   a < b instanceof c;
+--   a as T as U;
 unfoldable pub relations : Bool → Grammar
 relations no_in =
     operator (codes "<") binary.Lt no_in // operator (codes ">") binary.Gt no_in
@@ -95,46 +118,60 @@ relations no_in =
     // nothing
 
 -- Rel = (PrivName 'in' Shift / Shift) ..
+--   class A { #b; f(c) { return #b in c; } }
+--   class A { #b; f(c) { return #b < c; } }   // refused
 unfoldable pub relation : Bool → Grammar
 relation no_in =
     build form.Chain
     ((if_in no_in (keep leaf.PrivateName ▸ item (plain.BinExpr binary.In) (word (codes "in") ▸ shift)) // shift) ▸ relations no_in)
 
--- 'const' / Type, behind `as`
+-- 'const' / Type, after `as`
+--   a as T;
+--   [a] as const;
 abbrev pub as_body : Bool → Grammar
 as_body no_in = (item plain.TsConstAssertion (word (codes "const")) // item plain.TsAsExpr (bare plain.TsType type_)) ▸ relations no_in
 
+--   a satisfies T;
 abbrev pub satisfies_body : Bool → Grammar
 satisfies_body no_in = item plain.TsSatisfiesExpr (bare plain.TsType type_) ▸ relations no_in
 
 -- Eq, BitAnd, BitXor, BitOr = left chains of `==` `!=` `===` `!==`, of `&`, of `^`, of `|`
+--   a == b !== c;   // (a == b) !== c
 unfoldable pub equalities : Bool → Grammar
 equalities no_in =
     operator (codes "==") binary.EqEq no_in // operator (codes "!=") binary.NotEq no_in
     // operator (codes "===") binary.EqEqEq no_in // operator (codes "!==") binary.NotEqEq no_in // nothing
 
+--   a & b & c;   // (a & b) & c
 abbrev pub conjunctions : Bool → Grammar
 conjunctions no_in = optional (operator (codes "&") binary.BitAnd no_in)
 
+--   a ^ b ^ c;   // (a ^ b) ^ c
 abbrev pub exclusions : Bool → Grammar
 exclusions no_in = optional (operator (codes "^") binary.BitXor no_in)
 
+--   a | b | c;   // (a | b) | c
 abbrev pub disjunctions : Bool → Grammar
 disjunctions no_in = optional (operator (codes "|") binary.BitOr no_in)
 
+--   a == b < c;   // a == (b < c)
 unfoldable pub equality : Bool → Grammar
 equality no_in = build form.Chain (relation no_in ▸ equalities no_in)
 
+--   a & b == c;   // a & (b == c)
 unfoldable pub bit_and : Bool → Grammar
 bit_and no_in = build form.Chain (equality no_in ▸ conjunctions no_in)
 
+--   a ^ b & c;   // a ^ (b & c)
 unfoldable pub bit_xor : Bool → Grammar
 bit_xor no_in = build form.Chain (bit_and no_in ▸ exclusions no_in)
 
+--   a | b ^ c;   // a | (b ^ c)
 unfoldable pub bit_or : Bool → Grammar
 bit_or no_in = build form.Chain (bit_xor no_in ▸ disjunctions no_in)
 
--- the right side of an operator, and the operators that stand behind it in its chain
+-- the right side of an operator, and the operators that stand after it in its chain
+--   a + b * c;   // of +: b * c
 abbrev pub right_side : BinaryOp → Bool → Grammar
 right_side binary.Mul no_in = exponentiation
 right_side binary.Div no_in = exponentiation
@@ -163,17 +200,24 @@ right_side binary.LogicalOr no_in = bit_or no_in
 right_side binary.NullishCoalescing no_in = bit_or no_in
 
 -- Short = BitOr (('??' BitOr)+ / ('&&' BitOr)* ('||' BitOr ('&&' BitOr)*)*)
+--   a ?? b ?? c;
+--   a ?? b || c;   // refused
 abbrev pub coalescing : Bool → Grammar
 coalescing no_in = behind_punct (codes "??") (part.Binary binary.NullishCoalescing no_in)
 
+--   a && b || c && d;   // (a && b) || (c && d)
+--   a || b ?? c;   // refused
 abbrev pub logicals : Bool → Grammar
 logicals no_in =
     behind_punct (codes "&&") (part.Binary binary.LogicalAnd no_in) // behind_punct (codes "||") (part.Binary binary.LogicalOr no_in) // nothing
 
+--   a ?? b | c;   // a ?? (b | c)
+--   (a ?? b) || c;
 unfoldable pub short_circuit : Bool → Grammar
 short_circuit no_in = build form.Logical (bit_or no_in ▸ (coalescing no_in // logicals no_in))
 
--- the operators that stand behind the right side in its chain
+-- the operators that stand after the right side in its chain
+--   a - b + c;   // after - b: + c
 abbrev pub more_operators : BinaryOp → Bool → Grammar
 more_operators binary.Mul no_in = factors
 more_operators binary.Div no_in = factors
@@ -201,6 +245,6 @@ more_operators binary.LogicalAnd no_in = logicals no_in
 more_operators binary.LogicalOr no_in = logicals no_in
 more_operators binary.NullishCoalescing no_in = optional (coalescing no_in)
 
--- an operator's right side, with what stands behind it
+-- an operator's right side, with what stands after it
 abbrev pub binary_body : BinaryOp → Bool → Grammar
 binary_body op no_in = item (plain.BinExpr op) (right_side op no_in) ▸ more_operators op no_in

@@ -1,4 +1,4 @@
--- What may stand behind the first operand of an assignment expression, one level of operators behind the other: all of it is read behind what was read so far, and both are made into one node.
+-- What may stand after the first operand of an assignment expression, one precedence of operators after the other: all of it is read after what was read so far, and both are made into one node.
 use Rattle.std.specs.Prelude.{Bool, List, [], ◌∷◌}
 use Rattle.ecma_grammar.specs.declared.production.Form.{Form}
 use Rattle.ecma_grammar.specs.declared.production.Form.TheVariants as form
@@ -19,7 +19,7 @@ tail f g = record { form = f; grammar = g }
 abbrev pub links_tail : Tail
 links_tail = tail form.Links links
 
--- behind the links
+-- after the links
 abbrev pub tails : Bool → List Tail
 tails no_in =
     tail form.Chain updates

@@ -12,16 +12,20 @@ use Rattle.ecma_grammar.specs.productions.Names.{pattern, type_, assign, a_name,
 -- TypeParams, TypeArgs
 
 -- TypeParam = ('const' / 'in' / 'out' &Name)* Name ('extends' Type)? ('=' Type)?
+--   type A<in out T extends U = V> = T;
+--   function f<const T>(a: T) { }
 unfoldable pub type_param : Grammar
 type_param =
     many (word (codes "const") // word (codes "in") // word (codes "out") ▸ ahead a_name) ▸ a_name
     ▸ optional (word (codes "extends") ▸ type_) ▸ optional (punct (codes "=") ▸ type_)
 
 -- "<" L(TypeParam) ">"
+--   type A<T, U,> = T;
 unfoldable pub type_params : Grammar
 type_params = left_angle ▸ commas type_param ▸ right_angle
 
 -- "<" L(Type) ">"
+--   let a: A<B, C>;
 unfoldable pub type_args : Grammar
 type_args = left_angle ▸ commas type_ ▸ right_angle
 
@@ -33,10 +37,12 @@ abbrev pub type_param_instantiation : Grammar
 type_param_instantiation = bare plain.TsTypeParamInstantiation type_args
 
 -- Entity = (Name / 'this') ('.' Key)*
+--   let a: A.B.C;
 unfoldable pub entity : Grammar
 entity = (a_name // word (codes "this")) ▸ many (punct (codes ".") ▸ a token.Key)
 
 -- Ref = Entity (~TypeArgs)?
+--   let a: A.B<C>;
 abbrev pub type_reference : Grammar
 type_reference = entity ▸ optional (same_line ▸ type_args)
 
@@ -44,12 +50,15 @@ abbrev pub heritage_type : Grammar
 heritage_type = bare plain.TsType type_reference
 
 -- TypeList = Ref (',' Ref)*
+--   class A implements B, C<D> { }
 unfoldable pub type_list : Grammar
 type_list = heritage_type ▸ many (punct (codes ",") ▸ heritage_type)
 
 -- annotations
 
 -- Ret = 'asserts' ~(Name / 'this') ('is' Type)? / (Name / 'this') ~'is' Type / Type
+--   function f(a): a is T { }
+--   function f(a): asserts a is T { }
 unfoldable pub return_type : Grammar
 return_type =
     word (codes "asserts") ▸ same_line ▸ (a_name // word (codes "this")) ▸ optional (word (codes "is") ▸ type_)
@@ -57,6 +66,7 @@ return_type =
     // type_
 
 -- Ann = ':' Type
+--   let a: T;
 unfoldable pub some_annotation : Grammar
 some_annotation = node plain.TsTypeAnn (punct (codes ":") ▸ bare plain.TsType type_)
 
@@ -64,6 +74,7 @@ abbrev pub annotation : Grammar
 annotation = maybe (marked some_annotation)
 
 -- RetAnn = ':' Ret
+--   function f(): T { }
 unfoldable pub some_return_annotation : Grammar
 some_return_annotation = node plain.TsTypeAnn (punct (codes ":") ▸ bare plain.TsType return_type)
 
@@ -73,20 +84,25 @@ return_annotation = maybe (marked some_return_annotation)
 -- parameters, which functions share with types
 
 -- Acc = 'public' / 'private' / 'protected' / ('readonly' / 'override') &(Key / '[' / '{')
+--   class A { constructor(private readonly b) { } }
+--   function f(readonly) { }   // a parameter of the name readonly
 unfoldable pub parameter_modifier : Grammar
 parameter_modifier =
     kept_word (word (codes "public")) // kept_word (word (codes "private")) // kept_word (word (codes "protected"))
     // (kept_word (word (codes "readonly")) // kept_word (word (codes "override"))) ▸ ahead (a token.Key // punct (codes "[") // punct (codes "{"))
 
 -- '...' Pattern
+--   function f(...a) { }
 unfoldable pub rest_pattern : Grammar
 rest_pattern = node plain.RestPat (punct (codes "...") ▸ pattern ▸ put Absent)
 
 -- '=' Assign
+--   function f(a = 1) { }
 unfoldable pub default_value : Grammar
 default_value = optional (item plain.AssignPat (punct (codes "=") ▸ assign))
 
 -- Param = T 'this' Ann? / [Acc+] ('...' Pattern / Pattern) ['?'] [Ann] ('=' Assign)?
+--   function f(this: T, a?: U, [b] = c, ...d) { }
 unfoldable pub param : Grammar
 param =
     marked (build form.Annotated (node plain.BindingIdent (keep leaf.ThisIdent ▸ put Absent) ▸ put Absent ▸ maybe some_annotation))
@@ -95,25 +111,32 @@ param =
     ▸ build form.Chain (build form.Annotated ((rest_pattern // pattern) ▸ whether (marked (punct (codes "?"))) ▸ annotation) ▸ default_value))
 
 -- Params = L(Param)
+--   function f(a, b,) { }
+--   function f(a b) { }   // refused
 unfoldable pub params : Grammar
 params = list (commas param)
 
 -- types
 
+--   type A = (b: T, c?: U) => V;
 unfoldable pub parenthesized_params : Grammar
 parenthesized_params = punct (codes "(") ▸ params ▸ punct (codes ")")
 
 -- TFun = 'abstract'? 'new' TypeParams? '(' Params ')' '=>' Ret / TypeParams? '(' Params ')' '=>' Ret
+--   type A = <T>(a: T) => T;
+--   type A = abstract new () => B;
 unfoldable pub function_type : Grammar
 function_type =
     optional (word (codes "abstract")) ▸ word (codes "new") ▸ optional type_params ▸ parenthesized_params ▸ punct (codes "=>") ▸ return_type
     // optional type_params ▸ parenthesized_params ▸ punct (codes "=>") ▸ return_type
 
 -- TInter = '&'? TOp ('&' TOp)*
+--   type A = B & C;
 unfoldable pub intersection_type : Grammar
 intersection_type = optional (punct (codes "&")) ▸ up part.TypeOperator ▸ many (punct (codes "&") ▸ up part.TypeOperator)
 
 -- TUnion = '|'? TInter ('|' TInter)*
+--   type A = | B | C & D;   // B | (C & D)
 unfoldable pub union_type : Grammar
 union_type = optional (punct (codes "|")) ▸ intersection_type ▸ many (punct (codes "|") ▸ intersection_type)
 
@@ -122,29 +145,37 @@ abbrev pub unconditional_type : Grammar
 unconditional_type = function_type // union_type
 
 -- Type = TFun / TUnion (~'extends' TBase '?' Type ':' Type)?
+--   type A = B extends C ? D : E;
 unfoldable pub type_body : Grammar
 type_body =
     function_type
     // union_type ▸ optional (same_line ▸ word (codes "extends") ▸ unconditional_type ▸ punct (codes "?") ▸ type_ ▸ punct (codes ":") ▸ type_)
 
 -- (~'[' Type? ']')*
+--   type A = B[]; type C = D["e"];
 unfoldable pub array_suffixes : Grammar
 array_suffixes = optional (same_line ▸ behind_punct (codes "[") part.ArraySuffix)
 
+--   type A = B[][];   // ][]
 unfoldable pub array_suffix_body : Grammar
 array_suffix_body = optional type_ ▸ punct (codes "]") ▸ array_suffixes
 
 -- TImp = 'import' '(' Type ')' ('.' Key)* (~TypeArgs)?
+--   type A = import("m").B<C>;
 unfoldable pub import_type : Grammar
 import_type = word (codes "import") ▸ punct (codes "(") ▸ type_ ▸ punct (codes ")") ▸ many (punct (codes ".") ▸ a token.Key) ▸ optional (same_line ▸ type_args)
 
 -- TElem = '...'? (Key '?'? ':' Type / Type '?'?)
+--   type A = [B, C?, ...D[]];
+--   type A = [b: B, c?: C, ...d: D[]];
 unfoldable pub tuple_element : Grammar
 tuple_element =
     optional (punct (codes "..."))
     ▸ (a token.Key ▸ optional (punct (codes "?")) ▸ punct (codes ":") ▸ type_ // type_ ▸ optional (punct (codes "?")))
 
 -- TMap = '{' (('+' / '-')? 'readonly')? '[' Name 'in' Type ('as' Type)? ']' (('+' / '-')? '?')? Ann? (';' / ',')? '}'
+--   type A = { readonly [B in C]?: D };
+--   type A = { -readonly [B in C as D]-?: E };
 unfoldable pub mapped_type : Grammar
 mapped_type =
     punct (codes "{") ▸ optional (optional (punct (codes "+") // punct (codes "-")) ▸ word (codes "readonly"))
@@ -153,10 +184,13 @@ mapped_type =
     ▸ optional some_annotation ▸ optional (punct (codes ";") // punct (codes ",")) ▸ punct (codes "}")
 
 -- TypeParams? '(' Params ')' RetAnn?
+--   interface A { <T>(b: T): U }
 unfoldable pub signature_type : Grammar
 signature_type = optional type_params ▸ parenthesized_params ▸ optional some_return_annotation
 
 -- TMember
+--   interface A { readonly b?: C; d(): E; get f(): G }
+--   interface A { new (b): C; [d: string]: E }
 unfoldable pub type_member : Grammar
 type_member =
     (word (codes "get") // word (codes "set")) ▸ ahead prop_start ▸ prop_name ▸ parenthesized_params ▸ optional some_return_annotation
@@ -165,10 +199,13 @@ type_member =
     // optional (word (codes "readonly") ▸ ahead prop_start) ▸ prop_name ▸ optional (punct (codes "?")) ▸ (signature_type // optional some_annotation)
 
 -- TObj = '{' (TMember (';' / ',' / End))* '}'
+--   type A = { b: C; d: E };
+--   type A = { b: C d: E };   // refused
 unfoldable pub object_type : Grammar
 object_type = punct (codes "{") ▸ many (type_member ▸ (punct (codes ";") // punct (codes ",") // end)) ▸ punct (codes "}")
 
 -- a template with types in it
+--   type A = `b${C}d`;
 unfoldable pub template_type : Grammar
 template_type =
     a (token.Template (record { first = true; tagged = false; last = true }))
@@ -177,6 +214,7 @@ template_type =
     ▸ a (token.Template (record { first = false; tagged = false; last = true }))
 
 -- TPrim
+--   type A = (B) | [C] | { d: E } | "f" | -1 | null | typeof g;
 unfoldable pub primary_type : Grammar
 primary_type =
     punct (codes "(") ▸ type_ ▸ punct (codes ")")
@@ -192,13 +230,17 @@ primary_type =
     // type_reference
 
 -- TOp = ('keyof' / 'unique' / 'readonly') TOp / 'infer' Name (~'extends' TBase !'?')? / TPrim (~'[' Type? ']')*
+--   type A = keyof B; type C = readonly D[];
+--   type A = B extends (infer C extends D)[] ? C : E;
 unfoldable pub type_operator_body : Grammar
 type_operator_body =
     (word (codes "keyof") // word (codes "unique") // word (codes "readonly")) ▸ up part.TypeOperator
     // word (codes "infer") ▸ a_name ▸ optional (same_line ▸ word (codes "extends") ▸ unconditional_type ▸ unless (punct (codes "?")))
     // primary_type ▸ array_suffixes
 
--- After: what may stand behind type arguments in an expression
+-- After: what may stand after type arguments in an expression
+--   a<T>(b);
+--   a<b>c;   // no type arguments: (a < b) > c
 unfoldable pub after_type_args : Grammar
 after_type_args =
     ahead (punct (codes "(") // a (token.Template (record { first = true; tagged = true; last = true })) // a (token.Template (record { first = true; tagged = true; last = false }))

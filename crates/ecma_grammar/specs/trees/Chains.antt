@@ -9,7 +9,7 @@ use Rattle.ecma_tree.specs.declared.node.Node.{Node, Node-F, fold-Node}
 use Rattle.ecma_tree.specs.Nodes.{node_of, absent, list_node}
 use Rattle.ecma_grammar.specs.trees.Parts.{kind_of, span_of, children_of, from_to, in_front, frame, framed}
 
--- one part behind the other
+-- one part after the other
 abbrev pub step_on : (Node → Node → Node) → Option Node → Node → Option Node
 step_on step None n = Some n
 step_on step (Some x) n = Some (step x n)
@@ -50,7 +50,7 @@ logical xs = all_steps in_front_logical xs
 
 -- members, calls and templates
 
--- whether an optional chain goes on behind a node: it is a link of one, or type arguments or `!` behind such
+-- whether an optional chain goes on after a node: it is a link of one, or type arguments or `!` after such
 abbrev pub first_true : List Bool → Bool
 first_true [] = false
 first_true (c ∷ cs) = c

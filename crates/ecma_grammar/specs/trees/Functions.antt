@@ -105,7 +105,7 @@ abbrev pub yield_ : Span → List Node → Node
 yield_ span (star ∷ operand ∷ []) = node_of span (kind.YieldExpr (is_present star)) (operand ∷ [])
 yield_ span xs = absent
 
--- key, type parameters, parameters, return type, body; parameters that a getter may not have stay behind its children
+-- key, type parameters, parameters, return type, body; parameters that a getter may not have stay after its children
 abbrev pub getter : Span → List Node → Node
 getter span (key ∷ type_params ∷ params ∷ return_type ∷ body ∷ []) =
     node_of span kind.GetterProp (if length (children_of params) == 0 then key ∷ return_type ∷ body ∷ [] else key ∷ return_type ∷ body ∷ params ∷ [])
@@ -130,7 +130,7 @@ is_this n = is_this_by n (kind_of n)
 abbrev pub setter_of : Span → Node → Node → Node → Node → Node
 setter_of span key this_param param body = node_of span kind.SetterProp (key ∷ this_param ∷ param ∷ body ∷ [])
 
--- one parameter, perhaps behind `this`; where they are others, all stand as a list in its place
+-- one parameter, perhaps after `this`; where they are others, all stand as a list in its place
 abbrev pub setter_by : Span → Node → Node → Node → List Node → Node
 setter_by span key params body (param ∷ []) = if is_this param then setter_of span key absent params body else setter_of span key absent param body
 setter_by span key params body (first ∷ second ∷ []) = if is_this first then setter_of span key first second body else setter_of span key absent params body

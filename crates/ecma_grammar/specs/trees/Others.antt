@@ -43,7 +43,7 @@ declared_kind (kind.TsEnumDecl declare is_const) = kind.TsEnumDecl true is_const
 declared_kind (kind.TsModuleDecl declare global) = kind.TsModuleDecl true global
 declared_kind k = k
 
--- a declaration behind `declare`
+-- a declaration after `declare`
 abbrev pub declared : Span → List Node → Node
 declared span (declaration ∷ []) = node_of span (declared_kind (kind_of declaration)) (children_of declaration)
 declared span xs = absent
@@ -52,7 +52,7 @@ declared span xs = absent
 abbrev pub nested : ℕ → Node → Node → Node
 nested hi name body = node_of (from_to (span_of name).lo hi) (kind.TsNamespaceDecl false false) (name ∷ body ∷ [])
 
--- the names of a namespace, its body: a name behind a point is a namespace inside
+-- the names of a namespace, its body: a name after a point is a namespace inside
 abbrev pub namespaces : ℕ → List Node → Node
 namespaces hi [] = absent
 namespaces hi (body ∷ []) = body

@@ -5,7 +5,7 @@ use Rattle.ecma_kind.specs.declared.kind.Kind.TheVariants as kind
 use Rattle.ecma_grammar.specs.declared.production.Plain.{Plain}
 use Rattle.ecma_grammar.specs.declared.production.Plain.TheVariants as plain
 
--- the kind, with no `declare`, no `?` and no name behind `#!`
+-- the kind, with no `declare`, no `?` and no name after `#!`
 abbrev pub plain_kind : Plain → Kind
 plain_kind plain.BindingIdent = kind.BindingIdent
 plain_kind plain.ArrayLit = kind.ArrayLit

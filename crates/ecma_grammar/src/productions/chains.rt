@@ -163,7 +163,7 @@ static TAGGED_TEMPLATE_BODY: Production = item!(
 
 pub(super) const NON_NULL: Production = item!(Plain::TsNonNullExpr, Nothing);
 
-// '?.' (Args / '[' Expr ']' / T TypeArgs Args / CKey), behind '?.'
+// '?.' (Args / '[' Expr ']' / T TypeArgs Args / CKey), after '?.'
 static OPTIONAL_LINK_BODY: Production = node!(
     Plain::OptChainExpr { optional: true },
     first_of!(
@@ -235,7 +235,7 @@ pub(super) static NEW_TAGGED_BODY: Production = all!(TAGGED_TEMPLATE, NEW_LINKS)
 
 pub(super) static NEW_NON_NULL_BODY: Production = all!(NON_NULL, NEW_LINKS);
 
-// what stands behind `new`
+// what stands after `new`
 pub(super) static NEW_BODY: Production = first_of!(
     all!(punct!("."), word!("target")),
     all!(

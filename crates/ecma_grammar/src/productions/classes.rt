@@ -176,7 +176,7 @@ static MEMBER_BODY: Production = first_of!(
     )
 );
 
-// N [TypeParams] ('extends' Chain [TypeArgs])? ['implements' TypeList] '{' Member* '}', behind 'class'
+// N [TypeParams] ('extends' Chain [TypeArgs])? ['implements' TypeList] '{' Member* '}', after 'class'
 macro_rules! class_body {
     (true) => { all!(IDENT, TYPE_PARAM_DECL, first_of!(all!(word!("extends"), CHAIN, maybe!(Marked(&TYPE_PARAM_INSTANTIATION))), all!(Put(Flag::Absent), Put(Flag::Absent))), list!(optional!(Marked(&all!(word!("implements"), TYPE_LIST)))), punct!("{"), list!(Many(&MEMBER)), punct!("}")) };
     (false) => { all!(maybe!(IDENT), TYPE_PARAM_DECL, first_of!(all!(word!("extends"), CHAIN, maybe!(Marked(&TYPE_PARAM_INSTANTIATION))), all!(Put(Flag::Absent), Put(Flag::Absent))), list!(optional!(Marked(&all!(word!("implements"), TYPE_LIST)))), punct!("{"), list!(Many(&MEMBER)), punct!("}")) };

@@ -185,5 +185,5 @@ static DECLARATION_BODY: Production = first_of!(
     ))
 );
 
-// ~Decl, behind 'declare'
+// ~Decl, after 'declare'
 pub(super) static DECLARED_BODY: Production = all!(SameLine, DECLARATION);

@@ -163,7 +163,7 @@ static PREFIXED_BODY: Production = first_of!(
 // Operand = Pre Operand / Update
 static OPERAND_BODY: Production = first_of!(PREFIXED, UPDATE);
 
-// ('const' / Type) ">" Operand, behind "<"
+// ('const' / Type) ">" Operand, after "<"
 pub(super) static ASSERTION_BODY: Production = all!(
     first_of!(word!("const"), bare!(Plain::TsType, TYPE_)),
     RIGHT_ANGLE,
@@ -255,7 +255,7 @@ static RELATION_BODY: Production = relation_body!(false);
 
 static RELATION_NO_IN_BODY: Production = relation_body!(true);
 
-// 'const' / Type, behind `as`
+// 'const' / Type, after `as`
 macro_rules! as_body {
     ($no_in:tt) => { all!(first_of!(item!(Plain::TsConstAssertion, word!("const")), item!(Plain::TsAsExpr, bare!(Plain::TsType, TYPE_))), relations!($no_in)) };
 }
@@ -357,7 +357,7 @@ static BIT_OR_BODY: Production = bit_or_body!(false);
 
 static BIT_OR_NO_IN_BODY: Production = bit_or_body!(true);
 
-// the right side of an operator, and the operators that stand behind it in its chain
+// the right side of an operator, and the operators that stand after it in its chain
 macro_rules! right_side {
     (Mul, $no_in:tt) => { EXPONENTIATION };
     (Div, $no_in:tt) => { EXPONENTIATION };
@@ -415,7 +415,7 @@ static SHORT_CIRCUIT_BODY: Production = short_circuit_body!(false);
 
 static SHORT_CIRCUIT_NO_IN_BODY: Production = short_circuit_body!(true);
 
-// the operators that stand behind the right side in its chain
+// the operators that stand after the right side in its chain
 macro_rules! more_operators {
     (Mul, $no_in:tt) => { FACTORS };
     (Div, $no_in:tt) => { FACTORS };
@@ -446,7 +446,7 @@ macro_rules! more_operators {
 
 pub(super) use more_operators;
 
-// an operator's right side, with what stands behind it
+// an operator's right side, with what stands after it
 macro_rules! binary_body {
     ($op:ident, $no_in:tt) => { all!(item!(Plain::BinExpr(BinaryOp::$op), right_side!($op, $no_in)), more_operators!($op, $no_in)) };
 }

@@ -301,7 +301,7 @@ fn binary_part_no_in(op: BinaryOp) -> &'static Production
     }
 }
 
-/// The right side of a binary operator, with what stands behind it in its chain.
+/// The right side of a binary operator, with what stands after it in its chain.
 fn binary_part(op: BinaryOp, no_in: bool) -> &'static Production
     ensures { written result.now ≡ binary_body op no_in }
 {

@@ -1,11 +1,11 @@
-//! What may stand behind the first operand of an assignment expression, one level of operators behind the other.
+//! What may stand after the first operand of an assignment expression, one precedence of operators after the other.
 ghost use Rattle.std.specs.Prelude.{◌≡◌, map};
 ghost use Rattle.ecma_grammar.specs.productions.Tails.{links_tail, tails};
 ghost use Rattle.ecma_grammar.specs.Written.{written_tail};
 
 use super::*;
 
-/// What may stand behind what was read, and the form of the two.
+/// What may stand after what was read, and the form of the two.
 #[derive(Clone, Copy)]
 pub struct Tail {
     pub form: Form,
@@ -41,14 +41,14 @@ static TAILS: [Tail; 13] = tails_of!(false);
 
 static TAILS_NO_IN: [Tail; 13] = tails_of!(true);
 
-/// The links behind the first operand.
+/// The links after the first operand.
 pub fn links_tail() -> &'static Tail
     ensures { written_tail result.now ≡ links_tail }
 {
     &LINKS_TAIL
 }
 
-/// What stands behind a chain of links, up to an assignment: without the operator `in` where `no_in` is set.
+/// What stands after a chain of links, up to an assignment: without the operator `in` where `no_in` is set.
 pub fn operator_tails(no_in: bool) -> &'static [Tail]
     ensures { map written_tail result.now ≡ tails no_in }
 {

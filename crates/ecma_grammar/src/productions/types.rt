@@ -547,7 +547,7 @@ pub(super) static SUFFIXED_TYPE_BODY: Production = SUFFIXED_TYPE;
 
 pub(super) static TYPE_OPERATOR_PART: Production = The(Rule::Type(TypeRule::TypeOperator));
 
-// After: what may stand behind type arguments in an expression
+// After: what may stand after type arguments in an expression
 static AFTER_TYPE_ARGS_BODY: Production = Ahead(&first_of!(
     punct!("("),
     token!(TokenKind::Template(TemplatePart {

@@ -1,7 +1,7 @@
 //! The words in which productions are written.
 use super::*;
 
-/// One behind the other.
+/// One after the other.
 macro_rules! all {
     ($only:expr) => { $only };
     ($first:expr, $($rest:expr),+) => { Production::Then(&$first, &all!($($rest),+)) };
@@ -56,7 +56,7 @@ macro_rules! whether {
 
 pub(super) use whether;
 
-/// With commas between, and perhaps one behind the last.
+/// With commas between, and perhaps one after the last.
 macro_rules! commas {
     ($part:expr) => { Production::Or(&all!($part, Many(&all!(punct!(","), $part)), optional!(punct!(","))), &Nothing) };
 }

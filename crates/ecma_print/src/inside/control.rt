@@ -7,13 +7,14 @@ use super::statements::{behind, whole_place};
 use crate::kinds::{is_absent, is_block};
 use crate::out::Out;
 use crate::place::{Begins, Between, Place, Spot};
+use crate::precedence;
 use ecma_tree::{Kind, NoMemory, Node};
 
 /// The first part of the head of a loop.
 fn head() -> Place
     ensures { result ≡ head }
 {
-    Place::At(Spot::beginning(0, Begins::Anywhere, true))
+    Place::At(Spot::beginning(precedence::EXPRESSION, Begins::Anywhere, true))
 }
 
 /// `else` stands on the line of `}`, or on a line of its own.
@@ -60,7 +61,7 @@ impl<'f, 'n, F: Fn(&mut Out, &Node, Place, &[u8]) -> Result<(), NoMemory>> Insid
         self.child(out, test, whole_place())?;
         self.say(out, ")")?;
         self.child(out, body, behind())?;
-        self.child(out, alternative, Place::Within(between, Spot::free(0)))
+        self.child(out, alternative, Place::Within(between, Spot::alone()))
     }
 
     /// `switch`
@@ -106,7 +107,7 @@ impl<'f, 'n, F: Fn(&mut Out, &Node, Place, &[u8]) -> Result<(), NoMemory>> Insid
         self.child(
             out,
             finalizer,
-            Place::Within(Between::Finally, Spot::free(0)),
+            Place::Within(Between::Finally, Spot::alone()),
         )
     }
 
@@ -122,7 +123,7 @@ impl<'f, 'n, F: Fn(&mut Out, &Node, Place, &[u8]) -> Result<(), NoMemory>> Insid
         self.child(
             out,
             param,
-            Place::Within(Between::Parentheses, Spot::free(1)),
+            Place::Within(Between::Parentheses, Spot::free(precedence::ASSIGNMENT)),
         )?;
         self.child(out, body, behind())
     }
@@ -216,7 +217,7 @@ impl<'f, 'n, F: Fn(&mut Out, &Node, Place, &[u8]) -> Result<(), NoMemory>> Insid
         self.say(out, for_word(is_await))?;
         self.child(out, target, head())?;
         self.say(out, " of ")?;
-        self.child(out, iterable, Place::At(Spot::free(1)))?;
+        self.child(out, iterable, Place::At(Spot::free(precedence::ASSIGNMENT)))?;
         self.say(out, ")")?;
         self.child(out, body, behind())
     }

@@ -5,20 +5,21 @@ ghost use Rattle.ecma_print.specs.Functions.{plain, behind_blank, async_word, st
 use super::Inside;
 use crate::out::Out;
 use crate::place::{Begins, Between, Place, Spot};
+use crate::precedence;
 use ecma_tree::{Kind, MethodKind, NoMemory, Node};
 
 /// By itself, as a part of what stands around.
 pub(super) fn plain() -> Place
     ensures { result ≡ plain }
 {
-    Place::At(Spot::free(1))
+    Place::At(Spot::free(precedence::ASSIGNMENT))
 }
 
-/// Behind a blank, if it is there.
+/// After a blank, if it is there.
 pub(super) fn behind_blank() -> Place
     ensures { result ≡ behind_blank }
 {
-    Place::Within(Between::Blank, Spot::free(1))
+    Place::Within(Between::Blank, Spot::free(precedence::ASSIGNMENT))
 }
 
 fn async_word(is_async: bool) -> &'static str
@@ -63,7 +64,7 @@ impl<'f, 'n, F: Fn(&mut Out, &Node, Place, &[u8]) -> Result<(), NoMemory>> Insid
         self.child(out, function, plain())
     }
 
-    /// What stands behind the name: parameters and body.
+    /// What stands after the name: parameters and body.
     #[tactic(auto, using(crate::proofs::Arrays::fours))]
     fn function_rest(&self, out: &mut Out) -> Result<(), NoMemory>
         requires { ShowsChildren F.Fn self.now }
@@ -85,7 +86,11 @@ impl<'f, 'n, F: Fn(&mut Out, &Node, Place, &[u8]) -> Result<(), NoMemory>> Insid
         let [params, body, type_params, return_type] = self.node.children.as_slice() else {
             return Ok(());
         };
-        let start = Spot::beginning(1, Begins::ArrowBodyStart, spot.without_in);
+        let start = Spot::beginning(
+            precedence::ASSIGNMENT,
+            Begins::ArrowBodyStart,
+            spot.without_in,
+        );
         self.say(out, async_word(is_async))?;
         self.child(out, params, Place::Arguments)?;
         self.say(out, " => ")?;
@@ -105,7 +110,7 @@ impl<'f, 'n, F: Fn(&mut Out, &Node, Place, &[u8]) -> Result<(), NoMemory>> Insid
         self.child(out, body, plain())
     }
 
-    /// What stands behind the name: heritage and members.
+    /// What stands after the name: heritage and members.
     #[tactic(auto, using(crate::proofs::Arrays::fives))]
     fn class_rest(&self, out: &mut Out) -> Result<(), NoMemory>
         requires { ShowsChildren F.Fn self.now }
@@ -124,7 +129,7 @@ impl<'f, 'n, F: Fn(&mut Out, &Node, Place, &[u8]) -> Result<(), NoMemory>> Insid
         self.child(
             out,
             super_class,
-            Place::Within(Between::Extends, Spot::free(16)),
+            Place::Within(Between::Extends, Spot::free(precedence::LEFT_HAND_SIDE)),
         )?;
         self.say(out, " ")?;
         self.child(out, body, Place::Block)
@@ -185,7 +190,11 @@ impl<'f, 'n, F: Fn(&mut Out, &Node, Place, &[u8]) -> Result<(), NoMemory>> Insid
         };
         self.say(out, static_word(is_static))?;
         self.child(out, key, plain())?;
-        self.child(out, value, Place::Within(Between::Equals, Spot::free(1)))?;
+        self.child(
+            out,
+            value,
+            Place::Within(Between::Equals, Spot::free(precedence::ASSIGNMENT)),
+        )?;
         self.say(out, ";")
     }
 

@@ -7,21 +7,23 @@ use crate::kinds::{is_absent, is_object_pattern};
 use crate::operators::binary_level;
 use crate::out::Out;
 use crate::place::{Beside, Place, Spot};
+use crate::precedence;
 use ecma_tree::{BinaryOp, Kind, NoMemory, Node};
 
-/// How tight an expression binds.
+/// The precedence of an expression.
 fn level_of(kind: &Kind) -> u8
     ensures { result ≡ level_of kind.now }
 {
     match kind {
-        Kind::SeqExpr => 0,
-        Kind::AssignExpr { .. } | Kind::ArrowExpr { .. } | Kind::YieldExpr { .. } => 1,
-        Kind::CondExpr => 2,
+        Kind::SeqExpr => precedence::EXPRESSION,
+        Kind::AssignExpr { .. } | Kind::ArrowExpr { .. } | Kind::YieldExpr { .. } =>
+            precedence::ASSIGNMENT,
+        Kind::CondExpr => precedence::CONDITIONAL,
         Kind::BinExpr { op } => binary_level(*op),
-        Kind::UnaryExpr { .. } | Kind::AwaitExpr => 14,
-        Kind::UpdateExpr { .. } => 15,
-        Kind::CallExpr | Kind::OptChainExpr { .. } => 16,
-        _ => 17,
+        Kind::UnaryExpr { .. } | Kind::AwaitExpr => precedence::UNARY,
+        Kind::UpdateExpr { .. } => precedence::UPDATE,
+        Kind::CallExpr | Kind::OptChainExpr { .. } => precedence::LEFT_HAND_SIDE,
+        _ => precedence::MEMBER,
     }
 }
 
@@ -70,7 +72,7 @@ impl<'f, 'n, F: Fn(&mut Out, &Node, Place, &[u8]) -> Result<(), NoMemory>> Insid
         is_object_pattern(target)
     }
 
-    /// What would be read as something else, whatever its level.
+    /// What would be read as something else, whatever its precedence.
     fn is_misread(&self, spot: Spot) -> bool
         ensures { result ≡ is_misread (out-Node self.now.node.now).kind (children_of self.now) spot }
     {

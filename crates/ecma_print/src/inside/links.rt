@@ -6,6 +6,7 @@ use super::Inside;
 use crate::kinds::is_computed;
 use crate::out::Out;
 use crate::place::{Begins, Beside, Place, Spot};
+use crate::precedence;
 use ecma_tree::{Kind, MetaPropKind, NoMemory, Node};
 
 /// What an object is, where this link stands in an optional chain or not.
@@ -47,7 +48,7 @@ fn callee_spot(spot: Spot) -> Spot
     ensures { result ≡ callee_spot spot }
 {
     Spot {
-        level: 17,
+        level: precedence::MEMBER,
         begins: Begins::Anywhere,
         without_in: spot.without_in,
         in_callee_of_new: true,
@@ -81,7 +82,11 @@ impl<'f, 'n, F: Fn(&mut Out, &Node, Place, &[u8]) -> Result<(), NoMemory>> Insid
         };
         let computed = is_computed(key);
         let beside = object_beside(spot.beside, computed);
-        self.child(out, object, Place::At(spot.left(16, beside)))?;
+        self.child(
+            out,
+            object,
+            Place::At(spot.left(precedence::LEFT_HAND_SIDE, beside)),
+        )?;
         self.child(out, key, Place::Key(is_optional(spot.beside)))
     }
 
@@ -93,7 +98,7 @@ impl<'f, 'n, F: Fn(&mut Out, &Node, Place, &[u8]) -> Result<(), NoMemory>> Insid
         let [object, key] = self.node.children.as_slice() else {
             return Ok(());
         };
-        self.child(out, object, Place::At(Spot::free(0)))?;
+        self.child(out, object, Place::At(Spot::alone()))?;
         self.child(out, key, Place::Key(false))
     }
 
@@ -106,7 +111,11 @@ impl<'f, 'n, F: Fn(&mut Out, &Node, Place, &[u8]) -> Result<(), NoMemory>> Insid
         let [callee, args, type_args] = self.node.children.as_slice() else {
             return Ok(());
         };
-        self.child(out, callee, Place::At(spot.left(16, Beside::BeforeLink)))?;
+        self.child(
+            out,
+            callee,
+            Place::At(spot.left(precedence::LEFT_HAND_SIDE, Beside::BeforeLink)),
+        )?;
         self.child(out, args, Place::Arguments)
     }
 
@@ -119,7 +128,11 @@ impl<'f, 'n, F: Fn(&mut Out, &Node, Place, &[u8]) -> Result<(), NoMemory>> Insid
         let [callee, args, type_args] = self.node.children.as_slice() else {
             return Ok(());
         };
-        self.child(out, callee, Place::At(spot.left(16, Beside::InChain)))?;
+        self.child(
+            out,
+            callee,
+            Place::At(spot.left(precedence::LEFT_HAND_SIDE, Beside::InChain)),
+        )?;
         self.say(out, question_dot(is_optional(spot.beside)))?;
         self.child(out, args, Place::Arguments)
     }
@@ -146,10 +159,14 @@ impl<'f, 'n, F: Fn(&mut Out, &Node, Place, &[u8]) -> Result<(), NoMemory>> Insid
         let [base] = self.node.children.as_slice() else {
             return Ok(());
         };
-        self.child(out, base, Place::At(spot.left(0, link_of(optional))))
+        self.child(
+            out,
+            base,
+            Place::At(spot.left(precedence::EXPRESSION, link_of(optional))),
+        )
     }
 
-    /// A template behind its tag.
+    /// A template after its tag.
     #[tactic(auto, using(crate::proofs::Arrays::threes))]
     fn tagged(&self, out: &mut Out, spot: Spot) -> Result<(), NoMemory>
         requires { ShowsChildren F.Fn self.now }
@@ -158,8 +175,12 @@ impl<'f, 'n, F: Fn(&mut Out, &Node, Place, &[u8]) -> Result<(), NoMemory>> Insid
         let [tag, type_args, text] = self.node.children.as_slice() else {
             return Ok(());
         };
-        self.child(out, tag, Place::At(spot.left(16, Beside::BeforeLink)))?;
-        self.child(out, text, Place::At(Spot::free(0)))
+        self.child(
+            out,
+            tag,
+            Place::At(spot.left(precedence::LEFT_HAND_SIDE, Beside::BeforeLink)),
+        )?;
+        self.child(out, text, Place::At(Spot::alone()))
     }
 
     /// Members, calls and templates.
@@ -189,7 +210,7 @@ impl<'f, 'n, F: Fn(&mut Out, &Node, Place, &[u8]) -> Result<(), NoMemory>> Insid
             return Ok(());
         };
         self.say(out, "(")?;
-        self.child(out, expression, Place::At(Spot::free(0)))?;
+        self.child(out, expression, Place::At(Spot::alone()))?;
         self.say(out, ")")
     }
 
@@ -202,7 +223,11 @@ impl<'f, 'n, F: Fn(&mut Out, &Node, Place, &[u8]) -> Result<(), NoMemory>> Insid
             return Ok(());
         };
         self.say(out, "...")?;
-        self.child(out, expression, Place::At(Spot::free(1)))
+        self.child(
+            out,
+            expression,
+            Place::At(Spot::free(precedence::ASSIGNMENT)),
+        )
     }
 
     /// All else that is an expression by itself, or a part of one.

@@ -7,6 +7,7 @@ use super::Inside;
 use crate::kinds::{is_absent, is_named};
 use crate::out::Out;
 use crate::place::{Place, Spot};
+use crate::precedence;
 use ecma_tree::{NoMemory, Node};
 
 fn ends_in_hole(items: &[Node]) -> bool
@@ -18,7 +19,7 @@ fn ends_in_hole(items: &[Node]) -> bool
     }
 }
 
-/// Behind a last hole stands one comma more.
+/// After a last hole stands one comma more.
 fn hole_comma(ends_in_hole: bool) -> &'static str
     ensures { result.now ≡ hole_comma ends_in_hole }
 {
@@ -63,9 +64,9 @@ impl<'f, 'n, F: Fn(&mut Out, &Node, Place, &[u8]) -> Result<(), NoMemory>> Insid
     fn child_within(&self, out: &mut Out, child: &Node, margin: &[u8]) -> Result<(), NoMemory>
         requires shows { ShowsChildren F.Fn self.now }
         requires inside { size-Node child.now < size-Node self.now.node.now }
-        ensures { OnOk result (Puts out.old out.new margin.now ((laid child.now).at (At (free 0)))) }
+        ensures { OnOk result (Puts out.old out.new margin.now ((laid child.now).at (At alone))) }
     {
-        (self.show)(out, child, Place::At(Spot::free(0)), margin)
+        (self.show)(out, child, Place::At(Spot::alone()), margin)
     }
 
     /// Each on a line of its own.
@@ -75,13 +76,13 @@ impl<'f, 'n, F: Fn(&mut Out, &Node, Place, &[u8]) -> Result<(), NoMemory>> Insid
         ensures { OnOk result (Puts out.old out.new self.now.margin.now (lines (children_of self.now))) }
     {
         for item in self.node.children.as_slice() {
-            self.child(out, item, Place::At(Spot::free(0)))?;
+            self.child(out, item, Place::At(Spot::alone()))?;
             self.say(out, "\n")?;
         }
         Ok(())
     }
 
-    /// The same, each behind the beginning of its line.
+    /// The same, each after the beginning of its line.
     #[tactic(auto, using(crate::proofs::LaidOut::laying))]
     fn new_lines(&self, out: &mut Out, margin: &[u8]) -> Result<(), NoMemory>
         requires { ShowsChildren F.Fn self.now }
@@ -141,7 +142,7 @@ impl<'f, 'n, F: Fn(&mut Out, &Node, Place, &[u8]) -> Result<(), NoMemory>> Insid
         ensures { OnOk result (Puts out.old out.new self.now.margin.now (arguments (children_of self.now))) }
     {
         self.say(out, "(")?;
-        self.commas(out, Spot::free(1))?;
+        self.commas(out, Spot::free(precedence::ASSIGNMENT))?;
         self.say(out, ")")
     }
 
@@ -151,7 +152,7 @@ impl<'f, 'n, F: Fn(&mut Out, &Node, Place, &[u8]) -> Result<(), NoMemory>> Insid
         ensures { OnOk result (Puts out.old out.new self.now.margin.now (wide_braces (children_of self.now))) }
     {
         self.say(out, "{ ")?;
-        self.commas(out, Spot::free(1))?;
+        self.commas(out, Spot::free(precedence::ASSIGNMENT))?;
         self.say(out, " }")
     }
 
@@ -172,7 +173,7 @@ impl<'f, 'n, F: Fn(&mut Out, &Node, Place, &[u8]) -> Result<(), NoMemory>> Insid
         ensures { OnOk result (Puts out.old out.new self.now.margin.now (brackets (children_of self.now))) }
     {
         self.say(out, "[")?;
-        self.commas(out, Spot::free(1))?;
+        self.commas(out, Spot::free(precedence::ASSIGNMENT))?;
         let comma = hole_comma(ends_in_hole(self.node.children.as_slice()));
         self.say(out, comma)?;
         self.say(out, "]")
@@ -190,11 +191,11 @@ impl<'f, 'n, F: Fn(&mut Out, &Node, Place, &[u8]) -> Result<(), NoMemory>> Insid
         };
         let mut named = is_named(first);
         self.say(out, opening_brace(named))?;
-        self.child(out, first, Place::At(Spot::free(0)))?;
+        self.child(out, first, Place::At(Spot::alone()))?;
         for i in 1..items.len() {
             let next = is_named(&items[i]);
             self.say(out, specifier_gap(named, next))?;
-            self.child(out, &items[i], Place::At(Spot::free(0)))?;
+            self.child(out, &items[i], Place::At(Spot::alone()))?;
             named = next;
         }
         self.say(out, closing_brace(named))
@@ -221,7 +222,7 @@ impl<'f, 'n, F: Fn(&mut Out, &Node, Place, &[u8]) -> Result<(), NoMemory>> Insid
         self.from_specifiers(out)
     }
 
-    /// What stands behind `export`.
+    /// What stands after `export`.
     fn exports(&self, out: &mut Out) -> Result<(), NoMemory>
         requires { ShowsChildren F.Fn self.now }
         ensures { OnOk result (Puts out.old out.new self.now.margin.now (exports (children_of self.now))) }

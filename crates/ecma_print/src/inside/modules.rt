@@ -5,6 +5,7 @@ ghost use Rattle.ecma_print.specs.Modules.{import_equals_word};
 use super::Inside;
 use crate::out::Out;
 use crate::place::{Begins, Between, Place, Spot};
+use crate::precedence;
 use ecma_tree::{JsWord, Kind, NoMemory, Node};
 
 fn import_equals_word(is_export: bool) -> &'static str
@@ -61,11 +62,11 @@ impl<'f, 'n, F: Fn(&mut Out, &Node, Place, &[u8]) -> Result<(), NoMemory>> Insid
         };
         self.say(out, "import")?;
         self.child(out, specifiers, Place::Imports)?;
-        self.child(out, source, Place::At(Spot::free(0)))?;
+        self.child(out, source, Place::At(Spot::alone()))?;
         self.child(
             out,
             attributes,
-            Place::Within(Between::Attributes, Spot::free(0)),
+            Place::Within(Between::Attributes, Spot::alone()),
         )?;
         self.say(out, ";")
     }
@@ -81,12 +82,12 @@ impl<'f, 'n, F: Fn(&mut Out, &Node, Place, &[u8]) -> Result<(), NoMemory>> Insid
         self.child(
             out,
             imported,
-            Place::Within(Between::BeforeAs, Spot::free(0)),
+            Place::Within(Between::BeforeAs, Spot::alone()),
         )?;
-        self.child(out, local, Place::At(Spot::free(0)))
+        self.child(out, local, Place::At(Spot::alone()))
     }
 
-    /// These characters, and the one child behind them.
+    /// These characters, and the one child after them.
     fn behind_word(&self, out: &mut Out, word: &str) -> Result<(), NoMemory>
         requires { ShowsChildren F.Fn self.now }
         ensures { OnOk result (Puts out.old out.new self.now.margin.now (behind_word word.now (children_of self.now))) }
@@ -95,7 +96,7 @@ impl<'f, 'n, F: Fn(&mut Out, &Node, Place, &[u8]) -> Result<(), NoMemory>> Insid
             return Ok(());
         };
         self.say(out, word)?;
-        self.child(out, child, Place::At(Spot::free(0)))
+        self.child(out, child, Place::At(Spot::alone()))
     }
 
     /// The same, and the end of the statement.
@@ -122,11 +123,11 @@ impl<'f, 'n, F: Fn(&mut Out, &Node, Place, &[u8]) -> Result<(), NoMemory>> Insid
         };
         self.say(out, "export ")?;
         self.child(out, specifiers, Place::Exports)?;
-        self.child(out, source, Place::Within(Between::From, Spot::free(0)))?;
+        self.child(out, source, Place::Within(Between::From, Spot::alone()))?;
         self.child(
             out,
             attributes,
-            Place::Within(Between::Attributes, Spot::free(0)),
+            Place::Within(Between::Attributes, Spot::alone()),
         )?;
         self.say(out, ";")
     }
@@ -139,8 +140,8 @@ impl<'f, 'n, F: Fn(&mut Out, &Node, Place, &[u8]) -> Result<(), NoMemory>> Insid
         let [original, exported] = self.node.children.as_slice() else {
             return Ok(());
         };
-        self.child(out, original, Place::At(Spot::free(0)))?;
-        self.child(out, exported, Place::Within(Between::As, Spot::free(0)))
+        self.child(out, original, Place::At(Spot::alone()))?;
+        self.child(out, exported, Place::Within(Between::As, Spot::alone()))
     }
 
     /// `export * from "m";`
@@ -152,11 +153,11 @@ impl<'f, 'n, F: Fn(&mut Out, &Node, Place, &[u8]) -> Result<(), NoMemory>> Insid
             return Ok(());
         };
         self.say(out, "export * from ")?;
-        self.child(out, source, Place::At(Spot::free(0)))?;
+        self.child(out, source, Place::At(Spot::alone()))?;
         self.child(
             out,
             attributes,
-            Place::Within(Between::Attributes, Spot::free(0)),
+            Place::Within(Between::Attributes, Spot::alone()),
         )?;
         self.say(out, ";")
     }
@@ -170,9 +171,9 @@ impl<'f, 'n, F: Fn(&mut Out, &Node, Place, &[u8]) -> Result<(), NoMemory>> Insid
             return Ok(());
         };
         self.say(out, import_equals_word(is_export))?;
-        self.child(out, name, Place::At(Spot::free(0)))?;
+        self.child(out, name, Place::At(Spot::alone()))?;
         self.say(out, " = ")?;
-        self.child(out, reference, Place::At(Spot::free(0)))?;
+        self.child(out, reference, Place::At(Spot::alone()))?;
         self.say(out, ";")
     }
 
@@ -185,7 +186,7 @@ impl<'f, 'n, F: Fn(&mut Out, &Node, Place, &[u8]) -> Result<(), NoMemory>> Insid
             return Ok(());
         };
         self.say(out, "require(")?;
-        self.child(out, text, Place::At(Spot::free(0)))?;
+        self.child(out, text, Place::At(Spot::alone()))?;
         self.say(out, ")")
     }
 
@@ -197,9 +198,9 @@ impl<'f, 'n, F: Fn(&mut Out, &Node, Place, &[u8]) -> Result<(), NoMemory>> Insid
         let [first, second] = self.node.children.as_slice() else {
             return Ok(());
         };
-        self.child(out, first, Place::At(Spot::free(0)))?;
+        self.child(out, first, Place::At(Spot::alone()))?;
         self.say(out, ".")?;
-        self.child(out, second, Place::At(Spot::free(0)))
+        self.child(out, second, Place::At(Spot::alone()))
     }
 
     /// Modules and imports.
@@ -233,11 +234,11 @@ impl<'f, 'n, F: Fn(&mut Out, &Node, Place, &[u8]) -> Result<(), NoMemory>> Insid
             Kind::ExportNamespaceSpecifier => self.behind_word(out, "* as "),
             Kind::ExportDefaultDecl => self.behind_word(out, "export default "),
             Kind::ExportDefaultExpr => {
-                let start = Spot::beginning(1, Begins::DefaultStart, false);
+                let start = Spot::beginning(precedence::ASSIGNMENT, Begins::DefaultStart, false);
                 self.ended_behind_word(out, "export default ", start)
             }
             Kind::ExportAll { .. } => self.export_all(out),
-            Kind::TsExportAssignment => self.ended_behind_word(out, "export = ", Spot::free(0)),
+            Kind::TsExportAssignment => self.ended_behind_word(out, "export = ", Spot::alone()),
             _ => Ok(()),
         }
     }

@@ -9,6 +9,7 @@ use crate::operators::{
 };
 use crate::out::Out;
 use crate::place::{Beside, Between, Place, Spot};
+use crate::precedence;
 use ecma_tree::{AssignOp, BinaryOp, Kind, NoMemory, Node, UnaryOp, UpdateOp};
 
 fn yield_word(delegate: bool) -> &'static str
@@ -35,7 +36,7 @@ impl<'f, 'n, F: Fn(&mut Out, &Node, Place, &[u8]) -> Result<(), NoMemory>> Insid
         let sign = unary_sign(op);
         self.say(out, spot.beside.gap(sign))?;
         self.say(out, unary_word(op))?;
-        self.child(out, operand, Place::At(spot.right(14, sign)))
+        self.child(out, operand, Place::At(spot.right(precedence::UNARY, sign)))
     }
 
     /// `++e`, `e++`
@@ -50,9 +51,17 @@ impl<'f, 'n, F: Fn(&mut Out, &Node, Place, &[u8]) -> Result<(), NoMemory>> Insid
             let sign = update_sign(op);
             self.say(out, spot.beside.gap(sign))?;
             self.say(out, update_word(op))?;
-            return self.child(out, operand, Place::At(spot.right(16, sign)));
+            return self.child(
+                out,
+                operand,
+                Place::At(spot.right(precedence::LEFT_HAND_SIDE, sign)),
+            );
         }
-        self.child(out, operand, Place::At(spot.left(16, Beside::NoNeighbor)))?;
+        self.child(
+            out,
+            operand,
+            Place::At(spot.left(precedence::LEFT_HAND_SIDE, Beside::NoNeighbor)),
+        )?;
         self.say(out, update_word(op))
     }
 
@@ -78,9 +87,17 @@ impl<'f, 'n, F: Fn(&mut Out, &Node, Place, &[u8]) -> Result<(), NoMemory>> Insid
         let [target, value] = self.node.children.as_slice() else {
             return Ok(());
         };
-        self.child(out, target, Place::At(spot.left(16, Beside::NoNeighbor)))?;
+        self.child(
+            out,
+            target,
+            Place::At(spot.left(precedence::LEFT_HAND_SIDE, Beside::NoNeighbor)),
+        )?;
         self.say(out, assign_word(op))?;
-        self.child(out, value, Place::At(spot.right(1, Beside::NoNeighbor)))
+        self.child(
+            out,
+            value,
+            Place::At(spot.right(precedence::ASSIGNMENT, Beside::NoNeighbor)),
+        )
     }
 
     /// `test ? first : second`
@@ -92,11 +109,23 @@ impl<'f, 'n, F: Fn(&mut Out, &Node, Place, &[u8]) -> Result<(), NoMemory>> Insid
         let [test, first, second] = self.node.children.as_slice() else {
             return Ok(());
         };
-        self.child(out, test, Place::At(spot.left(3, Beside::NoNeighbor)))?;
+        self.child(
+            out,
+            test,
+            Place::At(spot.left(precedence::SHORT_CIRCUIT, Beside::NoNeighbor)),
+        )?;
         self.say(out, " ? ")?;
-        self.child(out, first, Place::At(spot.right(1, Beside::NoNeighbor)))?;
+        self.child(
+            out,
+            first,
+            Place::At(spot.right(precedence::ASSIGNMENT, Beside::NoNeighbor)),
+        )?;
         self.say(out, " : ")?;
-        self.child(out, second, Place::At(spot.right(1, Beside::NoNeighbor)))
+        self.child(
+            out,
+            second,
+            Place::At(spot.right(precedence::ASSIGNMENT, Beside::NoNeighbor)),
+        )
     }
 
     /// `a, b`
@@ -109,10 +138,18 @@ impl<'f, 'n, F: Fn(&mut Out, &Node, Place, &[u8]) -> Result<(), NoMemory>> Insid
         let [first, ..] = items else {
             return Ok(());
         };
-        self.child(out, first, Place::At(spot.left(1, Beside::NoNeighbor)))?;
+        self.child(
+            out,
+            first,
+            Place::At(spot.left(precedence::ASSIGNMENT, Beside::NoNeighbor)),
+        )?;
         for i in 1..items.len() {
             self.say(out, ", ")?;
-            self.child(out, &items[i], Place::At(spot.right(1, Beside::NoNeighbor)))?;
+            self.child(
+                out,
+                &items[i],
+                Place::At(spot.right(precedence::ASSIGNMENT, Beside::NoNeighbor)),
+            )?;
         }
         Ok(())
     }
@@ -126,7 +163,7 @@ impl<'f, 'n, F: Fn(&mut Out, &Node, Place, &[u8]) -> Result<(), NoMemory>> Insid
             return Ok(());
         };
         self.say(out, yield_word(delegate))?;
-        let inner = spot.right(1, Beside::NoNeighbor);
+        let inner = spot.right(precedence::ASSIGNMENT, Beside::NoNeighbor);
         self.child(out, argument, Place::Within(Between::Blank, inner))
     }
 
@@ -139,7 +176,11 @@ impl<'f, 'n, F: Fn(&mut Out, &Node, Place, &[u8]) -> Result<(), NoMemory>> Insid
             return Ok(());
         };
         self.say(out, "await ")?;
-        self.child(out, operand, Place::At(spot.right(14, Beside::NoNeighbor)))
+        self.child(
+            out,
+            operand,
+            Place::At(spot.right(precedence::UNARY, Beside::NoNeighbor)),
+        )
     }
 
     /// An expression with operators.

@@ -94,7 +94,7 @@ impl<'f, 'n, F: Fn(&mut Out, &Node, Place, &[u8]) -> Result<(), NoMemory>> Insid
         }
     }
 
-    /// What stands behind it.
+    /// What stands after it.
     fn after(&self, out: &mut Out, between: Between) -> Result<(), NoMemory>
         ensures { OnOk result (Puts out.old out.new self.now.margin.now (after between)) }
     {
@@ -250,7 +250,7 @@ impl<'f, 'n, F: Fn(&mut Out, &Node, Place, &[u8]) -> Result<(), NoMemory>> Insid
     {
         if self.in_parentheses(spot) {
             self.say(out, "(")?;
-            self.whole(out, Spot::free(0))?;
+            self.whole(out, Spot::alone())?;
             return self.say(out, ")");
         }
         self.whole(out, spot)
@@ -271,7 +271,7 @@ impl<'f, 'n, F: Fn(&mut Out, &Node, Place, &[u8]) -> Result<(), NoMemory>> Insid
             }
             Place::Key(optional) => {
                 self.say(out, key_mark(optional, is_computed_kind(kind)))?;
-                self.whole(out, Spot::free(0))
+                self.whole(out, Spot::alone())
             }
             Place::FunctionHead => self.say(out, function_head(kind)),
             Place::MethodHead => self.say(out, method_head(kind)),

@@ -3,6 +3,7 @@ use super::Inside;
 use super::functions::{behind_blank, plain};
 use crate::out::Out;
 use crate::place::{Between, Place, Spot};
+use crate::precedence;
 use ecma_tree::{Kind, NoMemory, Node};
 
 impl<'f, 'n, F: Fn(&mut Out, &Node, Place, &[u8]) -> Result<(), NoMemory>> Inside<'f, 'n, F> {
@@ -34,7 +35,11 @@ impl<'f, 'n, F: Fn(&mut Out, &Node, Place, &[u8]) -> Result<(), NoMemory>> Insid
             return Ok(());
         };
         self.child(out, target, plain())?;
-        self.child(out, value, Place::Within(Between::Equals, Spot::free(1)))
+        self.child(
+            out,
+            value,
+            Place::Within(Between::Equals, Spot::free(precedence::ASSIGNMENT)),
+        )
     }
 
     /// `get key() {}`
@@ -82,7 +87,7 @@ impl<'f, 'n, F: Fn(&mut Out, &Node, Place, &[u8]) -> Result<(), NoMemory>> Insid
         self.child(out, function, plain())
     }
 
-    /// `[e]`; what stands in the brackets has the level of the place.
+    /// `[e]`; what stands in the brackets has the precedence that the place asks for.
     fn computed(&self, out: &mut Out, spot: Spot) -> Result<(), NoMemory>
         requires { ShowsChildren F.Fn self.now }
         ensures { OnOk result (Puts out.old out.new self.now.margin.now (computed (children_of self.now) spot)) }

@@ -5,20 +5,21 @@ ghost use Rattle.ecma_print.specs.Statements.{whole_place, behind, keyword, stat
 use super::Inside;
 use crate::out::Out;
 use crate::place::{Begins, Beside, Between, Place, Spot};
+use crate::precedence;
 use ecma_tree::{Kind, NoMemory, Node, VarDeclKind};
 
 /// An expression of a statement or a head, or a statement in a list.
 pub(super) fn whole_place() -> Place
     ensures { result ≡ whole_place }
 {
-    Place::At(Spot::free(0))
+    Place::At(Spot::alone())
 }
 
-/// Behind a blank, if it is there: an expression of a statement, or a body.
+/// After a blank, if it is there: an expression of a statement, or a body.
 pub(super) fn behind() -> Place
     ensures { result ≡ behind }
 {
-    Place::Within(Between::Blank, Spot::free(0))
+    Place::Within(Between::Blank, Spot::alone())
 }
 
 fn keyword(kind: VarDeclKind) -> &'static str
@@ -53,7 +54,7 @@ impl<'f, 'n, F: Fn(&mut Out, &Node, Place, &[u8]) -> Result<(), NoMemory>> Insid
         let [expression] = self.node.children.as_slice() else {
             return Ok(());
         };
-        let start = Spot::beginning(0, Begins::StatementStart, false);
+        let start = Spot::beginning(precedence::EXPRESSION, Begins::StatementStart, false);
         self.child(out, expression, Place::At(start))?;
         self.say(out, ";")
     }
@@ -69,7 +70,7 @@ impl<'f, 'n, F: Fn(&mut Out, &Node, Place, &[u8]) -> Result<(), NoMemory>> Insid
         self.child(out, statements, Place::Block)
     }
 
-    /// A word, what may stand behind it, and the end of the statement.
+    /// A word, what may stand after it, and the end of the statement.
     fn word_statement(&self, out: &mut Out, word: &str) -> Result<(), NoMemory>
         requires { ShowsChildren F.Fn self.now }
         ensures { OnOk result (Puts out.old out.new self.now.margin.now (word_statement word.now (children_of self.now))) }
@@ -103,7 +104,7 @@ impl<'f, 'n, F: Fn(&mut Out, &Node, Place, &[u8]) -> Result<(), NoMemory>> Insid
         let [declarators] = self.node.children.as_slice() else {
             return Ok(());
         };
-        let inner = spot.right(1, Beside::NoNeighbor);
+        let inner = spot.right(precedence::ASSIGNMENT, Beside::NoNeighbor);
         self.say(out, keyword(kind))?;
         self.say(out, " ")?;
         self.child(out, declarators, Place::Commas(inner))?;
@@ -118,8 +119,8 @@ impl<'f, 'n, F: Fn(&mut Out, &Node, Place, &[u8]) -> Result<(), NoMemory>> Insid
         let [name, init] = self.node.children.as_slice() else {
             return Ok(());
         };
-        let inner = spot.right(1, Beside::NoNeighbor);
-        self.child(out, name, Place::At(Spot::free(1)))?;
+        let inner = spot.right(precedence::ASSIGNMENT, Beside::NoNeighbor);
+        self.child(out, name, Place::At(Spot::free(precedence::ASSIGNMENT)))?;
         self.child(out, init, Place::Within(Between::Equals, inner))
     }
 

@@ -42,7 +42,7 @@ impl<'f, 'n, F: Fn(&mut Out, &Node, Place, &[u8]) -> Result<(), NoMemory>> Insid
         requires within { index < length (out-Node list.now).children }
         ensures { OnOk result (Puts out.old out.new self.now.margin.now (first_piece (drop index (laid list.now).parts))) }
     {
-        self.child(out, item_of(list, index), Place::At(Spot::free(0)))
+        self.child(out, item_of(list, index), Place::At(Spot::alone()))
     }
 
     /// An expression in `${` and `}`, if there is one.
@@ -59,7 +59,7 @@ impl<'f, 'n, F: Fn(&mut Out, &Node, Place, &[u8]) -> Result<(), NoMemory>> Insid
         self.say(out, "}")
     }
 
-    /// Texts, and behind each an expression.
+    /// Texts, and after each an expression.
     fn template_parts(
         &self,
         out: &mut Out,

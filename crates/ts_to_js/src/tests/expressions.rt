@@ -103,7 +103,7 @@ x = () => ({});
 -(-d);
 "#,
     },
-    // a class behind a type at the beginning of a statement
+    // a class after a type at the beginning of a statement
     Case {
         src: "<any>class { }; <T>class A<U> { m(): void {} }.b<V>()",
         want: r#"(class {});
@@ -112,7 +112,7 @@ x = () => ({});
 }).b();
 "#,
     },
-    // escapes behind a tag
+    // escapes after a tag
     Case {
         src: r#"(f as any)`\u{m}${a!}\1`"#,
         want: r#"(f)`\u{m}${a}\1`;
@@ -266,7 +266,7 @@ set;
 module;
 "#,
     },
-    // line breaks behind words
+    // line breaks after words
     Case {
         src: r#"abstract
 class A {}

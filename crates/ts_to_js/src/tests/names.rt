@@ -336,7 +336,7 @@ const b = 1;
         want: r#"error: Syntax at 14
 "#,
     },
-    // an ambient namespace hides a name, and binds none
+    // an ambient namespace shadows a name, and binds none
     Case {
         src: "{ declare namespace a { let b } a; } let a = 1;",
         want: r#"{

@@ -161,7 +161,7 @@ let z = (y) => {
 };
 "#,
     },
-    // types hide nothing
+    // types shadow nothing
     Case {
         src: "let f = () => 1; { interface f { } type g = f; f(); } const g = <f>(x: f) => f(); { function h<g>(): g; g; }",
         want: r#"let f = () => 1;

@@ -1,0 +1,3 @@
+pub mod Walks
+pub mod Clauses
+pub mod Placed

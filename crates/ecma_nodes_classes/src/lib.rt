@@ -1,0 +1,6 @@
+//! The nodes of classes and of their members.
+#![tactic(auto)]
+
+mod classes;
+
+pub use classes::{class, field, index_signature, member, method};

@@ -1,0 +1,5 @@
+pub mod Forms
+pub mod Functions
+pub mod Items
+pub mod Plain
+pub mod Read

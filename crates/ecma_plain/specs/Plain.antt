@@ -1,0 +1,19 @@
+-- Plain modules: what a plain reading gives, up to contexts.
+use Rattle.std.specs.Prelude.{◌≡◌, Bool, true, false}
+use Rattle.ecma_tree.specs.declared.node.Node.{Node}
+use Rattle.ecma_text_leaves.specs.Everywhere.{Everywhere}
+use Rattle.ecma_scope.specs.Laws.{without_contexts}
+use Rattle.ecma_rules.specs.Children.{kind_of}
+use Rattle.ecma_fits.specs.Fitting.{Fits}
+use Rattle.ecma_plain.specs.Forms.{IsTaken}
+use Rattle.ecma_plain.specs.Functions.{functions}
+use Rattle.ecma_plain.specs.Items.{HasUtf8Hashbang, has_plain_items}
+
+-- it fits; no node is TypeScript, but for the assignments of CommonJS modules where they may stand; texts are UTF-8, and literals have their source text;
+-- functions have bodies and the parameters of plain ones
+pub record IsPlain (assignments : Bool) (tree : Node) : Type 0 where
+  pub fits : Fits tree
+  pub taken : Everywhere IsTaken (without_contexts tree)
+  pub usual : (functions (without_contexts tree)).has_unusual ≡ false
+  pub items : has_plain_items assignments (without_contexts tree) ≡ true
+  pub hashbang : HasUtf8Hashbang (kind_of (without_contexts tree))

@@ -1,0 +1,13 @@
+pub mod Spots
+pub mod Layouts
+pub mod HeadLayouts
+pub mod LayoutParts
+pub mod StatementLayouts
+pub mod ModuleLayouts
+pub mod Softs
+pub mod Beginnings
+pub mod Joins
+pub mod JoinParts
+pub mod StatementJoins
+pub mod ModuleJoins
+pub mod Words

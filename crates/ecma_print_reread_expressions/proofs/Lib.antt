@@ -1,0 +1,17 @@
+pub mod Operations
+pub mod Logicals
+pub mod Coalescing
+pub mod Choices
+pub mod Assignments
+pub mod Updates
+pub mod Supers
+pub mod OptionalChains
+pub mod Templates
+pub mod ImportCalls
+pub mod PrivateTests
+pub mod Yields
+pub mod Constructions
+pub mod Arrays
+pub mod Sequences
+pub mod Calls
+pub mod HeadForms

@@ -1,0 +1,12 @@
+pub mod PropertyNames
+pub mod ObjectMethods
+pub mod Objects
+pub mod ObjectPatterns
+pub mod Functions
+pub mod Classes
+pub mod FunctionExpressions
+pub mod MemberNames
+pub mod ClassMembers
+pub mod Methods
+pub mod Accessors
+pub mod Fields

@@ -1,0 +1,15 @@
+pub mod Standing
+pub mod Tests
+pub mod Ruled
+pub mod Rules
+pub mod Constructors
+pub mod Everywhere
+pub mod Strays
+pub mod Raws
+pub mod TextParts
+pub mod RoleKinds
+pub mod RoleChildren
+pub mod RoleWalks
+pub mod Roles
+pub mod FinishedRoles
+pub mod Arguments

@@ -1,0 +1,11 @@
+pub mod LineFeeds
+pub mod LiteralParts
+pub mod LiteralFeeds
+pub mod TemplateFeeds
+pub mod ReadDigits
+pub mod ReadRegexes
+pub mod ReadingOf
+pub mod RawTexts
+pub mod ReadLeaves
+pub mod ReadHashbangs
+pub mod Programs

@@ -1,0 +1,11 @@
+pub mod RoleAsks
+pub mod RoleNeeds
+pub mod RoleGiven
+pub mod RoleForms
+pub mod RoleLinks
+pub mod RoleFunctions
+pub mod RoleClasses
+pub mod RoleMakings
+pub mod RoleLeaves
+pub mod RoleChecks
+pub mod RoleReads

@@ -1,0 +1,48 @@
+-- What holds of what is read of a text as a module: of its leaves, and where it was read as a plain one of its kinds, its items and its functions.
+use Rattle.std.specs.Prelude.{◌≡◌, ℕ, false, List, Ok, ◌⊎◌, Bool, true}
+use Rattle.std.specs.Str.{IsUtf8}
+use Rattle.ecma_tree.specs.declared.node.Node.{Node}
+use Rattle.ecma_grammar.specs.declared.production.Mode.{Mode}
+use Rattle.ecma_text_leaves.specs.Everywhere.{Everywhere}
+use Rattle.ecma_modules.specs.Modules.{reads_as, plain}
+use Rattle.ecma_plain.specs.Forms.{IsTaken}
+use Rattle.ecma_tree.specs.Finding.{enters_all, finds}
+use Rattle.ecma_rules.specs.Children.{kind_of}
+use Rattle.ecma_plain.specs.Items.{HasUtf8Hashbang, has_plain_items}
+use Rattle.ecma_plain.specs.Functions.{functions}
+use Rattle.ecma_text_plain.specs.Assignments.{is_assignment_form}
+use Rattle.ecma_plain.specs.Forms.{IsBareUnquestioned}
+use Rattle.ecma_text_plain.specs.Functions.{holds_somewhere, is_bodiless, has_this_parameter}
+
+-- each leaf of what is read is bare, in every mode
+abbrev pub ReadLeavesAreBare : Type 0
+ReadLeavesAreBare = (text : List ℕ) (mode : Mode) (bound : ℕ) (tree : Node) → IsUtf8 text → reads_as text mode bound ≡ Ok tree → Everywhere IsBareUnquestioned tree
+
+-- each node of what is read as a plain module is bare, and no TypeScript but the two assignment forms
+abbrev pub ReadPlainTreesAreTaken : Type 0
+ReadPlainTreesAreTaken = (text : List ℕ) (assignments : Bool) (bound : ℕ) (tree : Node) → IsUtf8 text → reads_as text (plain assignments) bound ≡ Ok tree → Everywhere IsTaken tree
+
+-- and these are there only where they may stay
+abbrev pub ReadPlainTreesKeepAssignmentForms : Type 0
+ReadPlainTreesKeepAssignmentForms = (text : List ℕ) (assignments : Bool) (bound : ℕ) (tree : Node) → IsUtf8 text → reads_as text (plain assignments) bound ≡ Ok tree
+    → (assignments ≡ true) ⊎ (finds is_assignment_form enters_all tree ≡ false)
+
+-- what stands behind `#!` is UTF-8
+abbrev pub ReadPlainModulesHaveUtf8Hashbangs : Type 0
+ReadPlainModulesHaveUtf8Hashbangs = (text : List ℕ) (assignments : Bool) (bound : ℕ) (tree : Node) → IsUtf8 text → reads_as text (plain assignments) bound ≡ Ok tree → HasUtf8Hashbang (kind_of tree)
+
+-- where the assignment forms may not stay, the items are plain
+abbrev pub PlainTextsWithoutAssignmentsHavePlainItems : Type 0
+PlainTextsWithoutAssignmentsHavePlainItems = (text : List ℕ) (bound : ℕ) (tree : Node) → IsUtf8 text → reads_as text (plain false) bound ≡ Ok tree → has_plain_items false tree ≡ true
+
+-- each function of what is read has its body
+abbrev pub ReadPlainFunctionsHaveBodies : Type 0
+ReadPlainFunctionsHaveBodies = (text : List ℕ) (assignments : Bool) (bound : ℕ) (tree : Node) → IsUtf8 text → reads_as text (plain assignments) bound ≡ Ok tree → holds_somewhere is_bodiless tree ≡ false
+
+-- no bound name is `this`, and no setter has such a parameter
+abbrev pub ReadPlainNamesAreNotThis : Type 0
+ReadPlainNamesAreNotThis = (text : List ℕ) (assignments : Bool) (bound : ℕ) (tree : Node) → IsUtf8 text → reads_as text (plain assignments) bound ≡ Ok tree → holds_somewhere has_this_parameter tree ≡ false
+
+-- a tree has the functions of a plain module where neither test holds anywhere
+abbrev pub FunctionsAreUsualByTests : Type 0
+FunctionsAreUsualByTests = (tree : Node) → holds_somewhere is_bodiless tree ≡ false → holds_somewhere has_this_parameter tree ≡ false → (functions tree).has_unusual ≡ false
