@@ -4,7 +4,9 @@ use Rattle.std.specs.List.{list_any}
 use Rattle.ecma_kind.specs.declared.kind.Kind.{Kind}
 use Rattle.ecma_kind.specs.declared.kind.Kind.TheVariants as kind
 use Rattle.ecma_kind.specs.declared.operators.VarDeclKind.TheVariants as var_kind
-use Rattle.ecma_tree.specs.declared.node.Node.{Node, Node-F, fold-Node, out-Node}
+use Rattle.ecma_tree.specs.declared.node.Node.{Node, out-Node}
+use Rattle.ecma_tree.specs.Layers.{from_leaves}
+use Rattle.ecma_tree.specs.Values.{is_value}
 use Rattle.ecma_scope.specs.declared.role.Role.{Role}
 use Rattle.ecma_scope.specs.declared.role.Role.TheVariants as role
 use Rattle.ecma_scope.specs.declared.form.Form.{Form}
@@ -14,7 +16,6 @@ use Rattle.ecma_scope.specs.declared.form.Part.{Part}
 use Rattle.ecma_scope.specs.declared.form.Part.TheVariants as part
 use Rattle.ecma_scope.specs.declared.form.Sought.{Sought}
 use Rattle.ecma_scope.specs.Scopes.{is_ambient}
-use Rattle.ecma_tree.specs.Layers.{from_leaves}
 
 abbrev pub seek : Part → Bool → Option Sought
 seek part stays = Some (record { part = part; stays = stays })

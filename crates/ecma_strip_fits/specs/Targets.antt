@@ -1,9 +1,8 @@
 -- Trees in which no name is bound with a type round it.
-use Rattle.std.specs.Prelude.{◌≡◌, Bool, None}
+use Rattle.std.specs.Prelude.{Bool}
 use Rattle.ecma_tree.specs.declared.node.Node.{Node}
-use Rattle.ecma_rules.specs.Failing.{failing_here, first_failing}
 use Rattle.ecma_fits.specs.declared.unfit.Where.{Where}
-use Rattle.ecma_fits.specs.Fitting.{at_top, where_in}
+use Rattle.ecma_fits.specs.Fitting.{NoneFails}
 use Rattle.ecma_bind.specs.Binding.{is_typed_name}
 
 -- a name with a type round it where names are bound
