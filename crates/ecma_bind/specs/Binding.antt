@@ -19,6 +19,7 @@ abbrev pub is_name_under_types : Node → Bool
 is_name_under_types = fold-Node Bool names_step
 
 -- where a name is bound, in a pattern that is assigned to and before `in` or `of`
+--   [a, { b: c }] = d; for (e of f);   // a, c and e
 abbrev pub binds : Role → Bool
 binds role.Head = true
 binds role.Assigned = true
@@ -36,6 +37,8 @@ abbrev pub under_types : Node → Node
 under_types = from_leaves Node (λ node inner. cond (is_type_wrapper (kind_of node)) (first_or node inner) node)
 
 -- a name with a type round it where names are bound; one in parentheses is none
+--   [a as T] = b; for (c! of d);   // a as T and c!
+--   [(a as T)] = b;   // none: in parentheses stands a simple target
 abbrev pub is_typed_name : Role → Node → Bool
 is_typed_name r node = binds r && (is_type_wrapper (kind_of node) && is_name_under_types node)
 
@@ -55,5 +58,6 @@ abbrev pub bound_at : Node → Role → Node
 bound_at = from_leaves (Role → Node) bound_step
 
 -- the tree in which such a name is bound as finishing binds a name without types
+--   [a as T] = b; for (c! of d);   // [a] = b; for (c of d);
 abbrev pub with_bound_names : Node → Node
 with_bound_names tree = bound_at tree role.Free

@@ -13,9 +13,9 @@ use Rattle.ecma_tree.specs.Sorted.{HasShape, child_shapes, maybe, one}
 use Rattle.ecma_tree.proofs.ShapeLaws.{node_has_shape}
 use Rattle.ecma_leaves.specs.Words.{is_spelled}
 use Rattle.ecma_rules.specs.Children.{child_is, is_named, kind_of, of_kind}
-use Rattle.ecma_rules.specs.Failing.{failing_here, first_failing, least}
+use Rattle.ecma_rules.specs.Failing.{failing_here, first_failing}
 use Rattle.ecma_rules.specs.Finishing.{binding}
-use Rattle.ecma_rules.specs.Jumps.{Held, first_held_stray, first_stray, held_in, is_held_stray, is_stray_in, label_of, not_held, stray_here}
+use Rattle.ecma_rules.specs.Jumps.{Held, first_held_stray, held_in, is_held_stray, is_stray_in, label_of, not_held, stray_here}
 use Rattle.ecma_rules.specs.declared.strays.Strays.{Strays}
 use Rattle.ecma_rules.specs.Strays.{in_named, is_stray, strays_in}
 use Rattle.ecma_rules.specs.Targets.{is_simple_target}
@@ -31,7 +31,7 @@ use Rattle.ecma_strip_fits.specs.Targets.{HasPlainTargets, is_typed_target}
 use Rattle.ecma_strip_fits.proofs.FitsKept.{fits_kept}
 use Rattle.ecma_strip_fits.proofs.Leaves.{unfit_none}
 use Rattle.ecma_strip_fits.proofs.Strays.{none_failing, not_failing}
-use Rattle.ecma_strip_fits.proofs.Walk.{neither_least, shape_parts}
+use Rattle.ecma_strip_fits.proofs.Walk.{shape_parts}
 use Rattle.ecma_bind.specs.Binding.{binds, bound_at, is_name_under_types, is_typed_name, under_types, with_bound_names}
 use Rattle.ecma_bind_fits.specs.Laws.{BoundNamesArePlain, BoundNamesFit, WhatFitsFitsWithoutTypes}
 use Rattle.ecma_bind_fits.proofs.Alike.{bound_length, bound_parts, six_at, typed_parts, usual_children, usual_kind}
@@ -42,6 +42,7 @@ use Rattle.ecma_bind_fits.proofs.Idle.{idle_fits, is_idle}
 use Rattle.ecma_bind_fits.proofs.Names.{Good, GoodName, Place, good_child, inside, name_good, under_name}
 use Rattle.ecma_bind_fits.proofs.Rules.{good_word, some_same}
 use Rattle.ecma_bind_fits.proofs.Suiting.{allows_bound, suits, suits_child}
+use Rattle.ecma_fits.proofs.Clauses.{fits_of, none_unfit}
 
 abbrev typed_here : Where → Node → Option ℕ
 typed_here w n = failing_here (is_typed_target w n) n
@@ -376,9 +377,8 @@ kept = by_children Kept (λ n below p g fine linked. by n below p g fine linked 
 
 whole_kept : (tree : Node) → Fits tree → Fits (with_bound_names tree) × HasPlainTargets (with_bound_names tree)
 whole_kept tree f =
-    let told = neither_least (first_unfit_in tree at_top) (first_stray tree) f.fitting in
-    let k = kept tree (record { where_at = at_top; held_at = not_held; shape = one sort.Module }) (record { shaped = f.sorted; fit = told.0; held = told.1 }) refl (inl (refl, refl)) in
-    (record { sorted = k.0.shaped; fitting = ap₂ least k.0.fit k.0.held }, k.1)
+    let k = kept tree (record { where_at = at_top; held_at = not_held; shape = one sort.Module }) (record { shaped = f.sorted; fit = none_unfit tree f; held = f.strays }) refl (inl (refl, refl)) in
+    (fits_of (with_bound_names tree) k.0.shaped k.0.fit k.0.held, k.1)
 
 pub names_fit : BoundNamesFit
 names_fit tree f = (whole_kept tree f).0

@@ -1,2 +1,4 @@
 pub mod Taking
 pub mod Going
+pub mod Walks
+pub mod Clauses

@@ -111,6 +111,7 @@ pub fn first_unfit(tree: &Node) -> Option<u32>
 }
 
 /// Whether a tree fits: it is a module by its sorts, and each node of it is what it has to be where it stands.
+#[tactic(auto, using(crate::proofs::Clauses::clauses))]
 pub fn fits(tree: &Module) -> bool
     ensures { IsTrue result ↔ Fits tree.now }
 {

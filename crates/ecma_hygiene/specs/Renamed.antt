@@ -54,6 +54,7 @@ shorthand spot.Property node = Some node
 shorthand _ node = None
 
 -- the identifier of a node whose text is also a key, or a name that the module has for others
+--   ({ x }); ({ x } = a); export { x };   // x is a key too, and a name that others know
 unfoldable pub shared_by : Standing → Kind → Node → Option Node
 shared_by stands (kind.Ident sym ctxt optional) node = shorthand stands.spot node
 shared_by stands (kind.ImportNamedSpecifier is_type_only) node = lone_name (out-Node node).children
@@ -107,11 +108,14 @@ two_names old children = children
 abbrev pub with_default : Span → Node → Node → Node
 with_default span pattern value = cond (kind_is_absent value) pattern (node_of span kind.AssignPat (pattern ∷ value ∷ []))
 
+--   ({ x = 1 } = a);   // where x gets x1: ({ x: x1 = 1 } = a)
 abbrev pub two_patterns : OldName → Node → List Node → Node
 two_patterns old written (pattern ∷ value ∷ []) = node_of (out-Node written).span kind.KeyValuePatProp (key_of old ∷ with_default (out-Node written).span pattern value ∷ [])
 two_patterns old written children = written
 
 -- a node that is written so, with the old text of its shared name beside the new one
+--   ({ x });   // where x gets x1: ({ x: x1 })
+--   export { x }; import { y } from "m";   // where y gets y1: export { x1 as x }; import { y as y1 } from "m"
 unfoldable pub expanded_by : Kind → OldName → Node → Node
 expanded_by (kind.Ident sym ctxt optional) old written = node_of (out-Node written).span kind.KeyValueProp (key_of old ∷ written ∷ [])
 expanded_by (kind.ImportNamedSpecifier is_type_only) old written = node_of (out-Node written).span (out-Node written).kind (two_names old (out-Node written).children)

@@ -9,9 +9,8 @@ use Rattle.ecma_tree.specs.Nodes.{node_of}
 use Rattle.ecma_tree.specs.Sorted.{is_absent}
 use Rattle.ecma_scope.specs.declared.role.Role.{Role}
 use Rattle.ecma_scope.specs.declared.role.Role.TheVariants as role
-use Rattle.ecma_scope.specs.Resolved.{Place, context_in, inside, is_name, kind_at, placed, resolved_at, scope_at, taken}
+use Rattle.ecma_scope.specs.Resolved.{Place, context_in, inside, is_name, kind_at, placed, resolved_at, scope_at, taken, context_count, counted}
 use Rattle.ecma_scope.specs.Scopes.{covers, is_root, is_there, of_specifier, opens_by, role_by}
-use Rattle.ecma_scope.specs.Resolved.{context_count, counted}
 use Rattle.ecma_scope.proofs.Opening.{context_count-out, resolved_at-out}
 use Rattle.ecma_hygiene.specs.Renamed.{key_of, kind_is_absent, name_of, two_names, with_default}
 use Rattle.ecma_hygiene_scopes.proofs.Declaring.{is_ident}

@@ -6,10 +6,9 @@ use Rattle.ecma_print.specs.Layout.{layout}
 use Rattle.ecma_bind.specs.Binding.{with_bound_names}
 use Rattle.ecma_forms.specs.Forms.{first_untaken}
 use Rattle.ecma_scope.specs.Conflicts.{redeclared}
-use Rattle.ecma_scope.specs.Resolved.{resolved}
+use Rattle.ecma_scope.specs.Resolved.{resolved, AreGiven}
 use Rattle.ecma_strip.specs.Stripping.{stripped}
 use Rattle.ecma_hygiene.specs.Hygienic.{IsHygienic}
-use Rattle.ecma_scope.specs.Resolved.{AreGiven}
 use Rattle.ecma_sources.specs.Sources.{IsReading}
 use Rattle.ecma_runs.specs.declared.config.Config.{Config}
 use Rattle.ecma_runs.specs.declared.script.Script.{Script}

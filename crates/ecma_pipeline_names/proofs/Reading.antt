@@ -28,7 +28,7 @@ use Rattle.ecma_text_leaves.proofs.Trees.{good_framed}
 use Rattle.ecma_text_fits_finished.proofs.Everywhere.{finished_good}
 use Rattle.ecma_text_fits_finished.proofs.Raws.{of_raw}
 use Rattle.ecma_text_fits_leaves.proofs.ReadingOf.{read_holds}
-use Rattle.ecma_fits_clauses.proofs.Walks.{not_true}
+use Rattle.ecma_raw_roles.proofs.Walks.{not_true}
 use Rattle.ecma_pipeline_names.specs.Laws.{NamesThatAreReadAreShort}
 use Rattle.ecma_hygiene_fits.specs.Spelled.{NoneLong}
 use Rattle.ecma_pipeline_names.proofs.Throughout.{All, Good, IsShort, missing, node_good, none_long}

@@ -4,9 +4,8 @@ use Rattle.std.specs.Str.{IsUtf8}
 use Rattle.ecma_kind.specs.declared.kind.Kind.{Kind}
 use Rattle.ecma_kind.specs.declared.kind.Kind.TheVariants as kind
 use Rattle.ecma_tree.specs.Contexts.{kind_with_context}
-use Rattle.ecma_plain.specs.Forms.{IsBare, IsTaken}
+use Rattle.ecma_plain.specs.Forms.{IsBare, IsTaken, IsBareUnquestioned}
 use Rattle.ecma_plain.specs.Functions.{is_this_name}
-use Rattle.ecma_plain.specs.Forms.{IsBareUnquestioned}
 use Rattle.ecma_forms.specs.Forms.{is_ambient_variable, is_later}
 use Rattle.ecma_strip.specs.Laws.{is_type_part}
 use Rattle.ecma_strip.specs.Stripping.{plain_kind}

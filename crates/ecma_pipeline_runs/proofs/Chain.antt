@@ -14,7 +14,7 @@ use Rattle.ecma_runs.specs.declared.script.Script.{Script}
 use Rattle.ecma_runs.specs.Observation.{observe}
 use Rattle.ecma_scope.specs.declared.role.Role.TheVariants as role
 use Rattle.ecma_scope.specs.Laws.{ResolvedChangesContexts, ResolvedKeepsSorts, without_contexts}
-use Rattle.ecma_scope.specs.Resolved.{contexts, resolved}
+use Rattle.ecma_scope.specs.Resolved.{contexts, resolved, AreGiven}
 use Rattle.ecma_scope_congruence.specs.Bodies.{HasBodies}
 use Rattle.ecma_scope_congruence.specs.Laws.{ParenthesesDoNotMatterToContexts, SpansDoNotMatterToContexts}
 use Rattle.ecma_strip.specs.Stripping.{stripped}
@@ -33,7 +33,6 @@ use Rattle.ecma_hygiene_scopes.specs.Stops.{IsRight, stops}
 use Rattle.ecma_hygiene_runs.specs.Resolved.{IsResolved, KeepsApart}
 use Rattle.ecma_hygiene_runs.specs.Laws.{ReadingAgainKeepsRuns, PlainModulesAreResolved}
 use Rattle.ecma_pipeline_runs.specs.Laws.{ModulesAreClear, PassesKeepRuns, StrippedModulesArePlain}
-use Rattle.ecma_scope.specs.Resolved.{AreGiven}
 use Rattle.ecma_sources.specs.Sources.{IsReading, IsSource}
 use Rattle.ecma_sources.specs.TypesAlone.{adds_types_alone}
 use Rattle.ecma_pipeline_runs.proofs.ClearSeats.{module-stands}

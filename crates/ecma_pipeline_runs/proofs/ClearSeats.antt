@@ -10,9 +10,8 @@ use Rattle.ecma_kind.specs.declared.shapes.Sort.TheVariants as sort
 use Rattle.ecma_tree.specs.declared.node.Node.{Node, Node-F, ind-Node, out-Node, roll-Node}
 use Rattle.ecma_tree.specs.declared.node.Node.TheViews.{out-roll-Node}
 use Rattle.ecma_tree.specs.Sorted.{HasShape, child_shapes, is_list, one}
-use Rattle.ecma_rules.specs.Jumps.{first_stray}
 use Rattle.ecma_fits.specs.declared.unfit.Where.{Where}
-use Rattle.ecma_fits.specs.Fitting.{Fits, at_top, first_unfit_in, where_in}
+use Rattle.ecma_fits.specs.Fitting.{Fits, at_top, where_in}
 use Rattle.ecma_scope.specs.declared.form.Part.TheVariants as part
 use Rattle.ecma_scope.specs.declared.role.Role.{Role}
 use Rattle.ecma_scope.specs.declared.role.Role.TheVariants as role
@@ -25,7 +24,6 @@ use Rattle.ecma_strip_scopes.specs.Staying.{staying_from, staying_seats}
 use Rattle.ecma_strip_scopes.proofs.Going.{parts-have}
 use Rattle.ecma_strip_scopes.proofs.KindsKept.{wrapper-opens}
 use Rattle.ecma_strip_scopes.proofs.StayingSeats.{staying-out}
-use Rattle.ecma_strip_fits.proofs.Walk.{neither_least}
 use Rattle.ecma_pipeline_runs.specs.Laws.{ModulesAreClear}
 use Rattle.ecma_sources.specs.TypesAlone.{adds_types_alone}
 use Rattle.ecma_pipeline_runs.proofs.Asking.{Asked, is_default_export}
@@ -36,6 +34,7 @@ use Rattle.ecma_pipeline_runs.proofs.Nodes.{StaysIn, none-some, not-lowered, som
 use Rattle.ecma_pipeline_runs.proofs.Remaining.{first_declared, remains_by}
 use Rattle.ecma_pipeline_runs.proofs.UsualBodies.{fitting-bodies}
 use Rattle.ecma_tree.specs.Values.{is_value}
+use Rattle.ecma_fits.proofs.Clauses.{none_unfit}
 
 -- ---- what is exported as the default
 
@@ -188,7 +187,7 @@ seats-clear = ind-Node SeatsClear (λ x y is.
 
 pub module-stands : (tree : Node) → Fits tree → adds_types_alone tree ≡ true → Stands tree (one sort.Module) at_top
 module-stands tree fits alone =
-    let here = (neither_least (first_unfit_in tree at_top) (first_stray tree) fits.fitting).0 in
+    let here = none_unfit tree fits in
     record { has = fits.sorted; fits = here; usual = fitting-bodies tree at_top here; alone = alone }
 
 pub modules-are-clear : ModulesAreClear

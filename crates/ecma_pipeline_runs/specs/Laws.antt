@@ -11,11 +11,10 @@ use Rattle.ecma_hygiene_runs.specs.Plain.{is_plain}
 use Rattle.ecma_runs.specs.declared.config.Config.{Config}
 use Rattle.ecma_runs.specs.declared.script.Script.{Script}
 use Rattle.ecma_runs.specs.Observation.{observe}
-use Rattle.ecma_scope.specs.Resolved.{resolved}
+use Rattle.ecma_scope.specs.Resolved.{resolved, AreGiven}
 use Rattle.ecma_hygiene.specs.Hygienic.{IsHygienic}
 use Rattle.ecma_sources.specs.TypesAlone.{adds_types_alone}
 use Rattle.ecma_sources.specs.Sources.{IsSource, IsReading}
-use Rattle.ecma_scope.specs.Resolved.{AreGiven}
 
 -- in a module that fits, and in which all that is TypeScript is types, it is clear what each scope that stays declares without types
 abbrev pub ModulesAreClear : Type 0

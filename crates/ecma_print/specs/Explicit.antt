@@ -7,7 +7,7 @@ use Rattle.ecma_tree.specs.declared.node.Node.{Node, Node-F, fold-Node, roll-Nod
 use Rattle.ecma_tree.specs.Nodes.{dummy_span, node_of}
 use Rattle.ecma_tree.specs.Rewritten.{rewritten}
 use Rattle.ecma_print.specs.declared.place.Spot.{Spot}
-use Rattle.ecma_print.specs.Places.{free}
+use Rattle.ecma_print.specs.Places.{alone}
 use Rattle.ecma_print.specs.Laid.{Laid}
 use Rattle.ecma_print.specs.Layout.{laid}
 use Rattle.ecma_print.specs.Levels.{in_parentheses}
@@ -36,7 +36,7 @@ parenthesized expression = node_of dummy_span kind.ParenExpr (expression ∷ [])
 
 -- a node in its spot
 abbrev pub standing : Span → Kind → List Standing → Spot → Node
-standing span k children spot = if in_parentheses k (laid_children children) spot then parenthesized (bare span k children (free 0)) else bare span k children spot
+standing span k children spot = if in_parentheses k (laid_children children) spot then parenthesized (bare span k children alone) else bare span k children spot
 
 abbrev pub stand_step : Node-F Standing → Standing
 stand_step parts = record { node = node_of parts.span parts.kind (map (λ child. child.node) parts.children); at = standing parts.span parts.kind parts.children }
@@ -46,7 +46,7 @@ stood = fold-Node Standing stand_step
 
 -- a tree that stands by itself, in which all parentheses are nodes
 abbrev pub explicit : Node → Node
-explicit tree = (stood tree).at (free 0)
+explicit tree = (stood tree).at alone
 
 abbrev pub opened_by : Kind → List Node → Node-F Node → Node
 opened_by kind.ParenExpr (expression ∷ []) parts = expression

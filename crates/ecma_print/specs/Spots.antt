@@ -5,7 +5,8 @@ use Rattle.ecma_kind.specs.declared.kind.Kind.TheVariants as kind
 use Rattle.ecma_print.specs.declared.place.Begins.TheVariants.{Anywhere, StatementStart, ArrowBodyStart, DefaultStart}
 use Rattle.ecma_print.specs.declared.place.Beside.TheVariants.{NoNeighbor, BeforeLink, InChain}
 use Rattle.ecma_print.specs.declared.place.Spot.{Spot}
-use Rattle.ecma_print.specs.Places.{free, left, right, beginning}
+use Rattle.ecma_print.specs.Precedences as precedence
+use Rattle.ecma_print.specs.Places.{alone, free, left, right, beginning}
 use Rattle.ecma_print.specs.Operators.{unary_sign, update_sign, left_level, right_level, under}
 use Rattle.ecma_print.specs.Laid.{Laid, is_computed}
 use Rattle.ecma_print.specs.Expressions.{object_beside, callee_spot, link_of}
@@ -17,64 +18,64 @@ has_computed_key children = false
 
 -- of the first children, in order; the items of a list stand in the spot of the list
 abbrev pub first_spots : Kind → List Laid → Spot → List Spot
-first_spots (kind.UnaryExpr op) children spot = right spot 14 (unary_sign op) ∷ []
-first_spots (kind.UpdateExpr op true) children spot = right spot 16 (update_sign op) ∷ []
-first_spots (kind.UpdateExpr op false) children spot = left spot 16 NoNeighbor ∷ []
+first_spots (kind.UnaryExpr op) children spot = right spot precedence.unary (unary_sign op) ∷ []
+first_spots (kind.UpdateExpr op true) children spot = right spot precedence.left_hand_side (update_sign op) ∷ []
+first_spots (kind.UpdateExpr op false) children spot = left spot precedence.left_hand_side NoNeighbor ∷ []
 first_spots (kind.BinExpr op) children spot = left spot (left_level op) (under op) ∷ right spot (right_level op) (under op) ∷ []
-first_spots (kind.AssignExpr op) children spot = left spot 16 NoNeighbor ∷ right spot 1 NoNeighbor ∷ []
-first_spots kind.CondExpr children spot = left spot 3 NoNeighbor ∷ right spot 1 NoNeighbor ∷ right spot 1 NoNeighbor ∷ []
-first_spots kind.SeqExpr children spot = left spot 1 NoNeighbor ∷ []
-first_spots (kind.YieldExpr delegate) children spot = right spot 1 NoNeighbor ∷ []
-first_spots kind.AwaitExpr children spot = right spot 14 NoNeighbor ∷ []
-first_spots kind.MemberExpr children spot = left spot 16 (object_beside spot.beside (has_computed_key children)) ∷ []
-first_spots kind.CallExpr children spot = left spot 16 BeforeLink ∷ free 1 ∷ []
-first_spots kind.OptCall children spot = left spot 16 InChain ∷ free 1 ∷ []
-first_spots kind.NewExpr children spot = callee_spot spot ∷ free 1 ∷ []
-first_spots (kind.OptChainExpr optional) children spot = left spot 0 (link_of optional) ∷ []
-first_spots kind.TaggedTpl children spot = left spot 16 BeforeLink ∷ []
-first_spots kind.SpreadElement children spot = free 1 ∷ []
-first_spots kind.ArrayLit children spot = free 1 ∷ []
-first_spots kind.ObjectLit children spot = free 1 ∷ []
-first_spots (kind.ArrowExpr is_async is_generator) children spot = free 1 ∷ beginning 1 ArrowBodyStart spot.without_in ∷ []
-first_spots (kind.Class is_abstract) children spot = free 16 ∷ []
+first_spots (kind.AssignExpr op) children spot = left spot precedence.left_hand_side NoNeighbor ∷ right spot precedence.assignment NoNeighbor ∷ []
+first_spots kind.CondExpr children spot = left spot precedence.short_circuit NoNeighbor ∷ right spot precedence.assignment NoNeighbor ∷ right spot precedence.assignment NoNeighbor ∷ []
+first_spots kind.SeqExpr children spot = left spot precedence.assignment NoNeighbor ∷ []
+first_spots (kind.YieldExpr delegate) children spot = right spot precedence.assignment NoNeighbor ∷ []
+first_spots kind.AwaitExpr children spot = right spot precedence.unary NoNeighbor ∷ []
+first_spots kind.MemberExpr children spot = left spot precedence.left_hand_side (object_beside spot.beside (has_computed_key children)) ∷ []
+first_spots kind.CallExpr children spot = left spot precedence.left_hand_side BeforeLink ∷ free precedence.assignment ∷ []
+first_spots kind.OptCall children spot = left spot precedence.left_hand_side InChain ∷ free precedence.assignment ∷ []
+first_spots kind.NewExpr children spot = callee_spot spot ∷ free precedence.assignment ∷ []
+first_spots (kind.OptChainExpr optional) children spot = left spot precedence.expression (link_of optional) ∷ []
+first_spots kind.TaggedTpl children spot = left spot precedence.left_hand_side BeforeLink ∷ []
+first_spots kind.SpreadElement children spot = free precedence.assignment ∷ []
+first_spots kind.ArrayLit children spot = free precedence.assignment ∷ []
+first_spots kind.ObjectLit children spot = free precedence.assignment ∷ []
+first_spots (kind.ArrowExpr is_async is_generator) children spot = free precedence.assignment ∷ beginning precedence.assignment ArrowBodyStart spot.without_in ∷ []
+first_spots (kind.Class is_abstract) children spot = free precedence.left_hand_side ∷ []
 first_spots kind.ComputedPropName children spot = free spot.level ∷ []
-first_spots kind.ExprStmt children spot = beginning 0 StatementStart false ∷ []
-first_spots kind.CatchClause children spot = free 1 ∷ []
-first_spots kind.ForStmt children spot = beginning 0 Anywhere true ∷ []
-first_spots kind.ForInStmt children spot = beginning 0 Anywhere true ∷ []
-first_spots (kind.ForOfStmt is_await) children spot = beginning 0 Anywhere true ∷ free 1 ∷ []
-first_spots (kind.VarDecl sort declare) children spot = right spot 1 NoNeighbor ∷ []
-first_spots (kind.VarDeclarator definite) children spot = free 1 ∷ right spot 1 NoNeighbor ∷ []
-first_spots kind.ExportDefaultExpr children spot = beginning 1 DefaultStart false ∷ []
+first_spots kind.ExprStmt children spot = beginning precedence.expression StatementStart false ∷ []
+first_spots kind.CatchClause children spot = free precedence.assignment ∷ []
+first_spots kind.ForStmt children spot = beginning precedence.expression Anywhere true ∷ []
+first_spots kind.ForInStmt children spot = beginning precedence.expression Anywhere true ∷ []
+first_spots (kind.ForOfStmt is_await) children spot = beginning precedence.expression Anywhere true ∷ free precedence.assignment ∷ []
+first_spots (kind.VarDecl sort declare) children spot = right spot precedence.assignment NoNeighbor ∷ []
+first_spots (kind.VarDeclarator definite) children spot = free precedence.assignment ∷ right spot precedence.assignment NoNeighbor ∷ []
+first_spots kind.ExportDefaultExpr children spot = beginning precedence.assignment DefaultStart false ∷ []
 first_spots k children spot = []
 
--- of all children behind them: of parts of functions, of members, properties and patterns no sequence stands without parentheses
+-- of all children after them: of parts of functions, of members, properties and patterns no sequence stands without parentheses
 abbrev pub further_spot : Kind → Spot → Spot
 further_spot kind.List spot = spot
-further_spot kind.SeqExpr spot = right spot 1 NoNeighbor
-further_spot kind.FnExpr spot = free 1
-further_spot (kind.FnDecl declare) spot = free 1
-further_spot (kind.Function is_generator is_async) spot = free 1
-further_spot kind.Param spot = free 1
-further_spot kind.ClassExpr spot = free 1
-further_spot (kind.ClassDecl declare) spot = free 1
-further_spot (kind.Constructor accessibility is_optional) spot = free 1
-further_spot (kind.TsParamProp accessibility is_override readonly) spot = free 1
-further_spot (kind.ClassMethod sort modifiers) spot = free 1
-further_spot (kind.PrivateMethod sort modifiers) spot = free 1
-further_spot (kind.ClassProp modifiers readonly declare definite) spot = free 1
-further_spot (kind.PrivateProp modifiers readonly declare definite) spot = free 1
-further_spot kind.StaticBlock spot = free 1
-further_spot kind.KeyValueProp spot = free 1
-further_spot kind.AssignProp spot = free 1
-further_spot kind.GetterProp spot = free 1
-further_spot kind.SetterProp spot = free 1
-further_spot kind.MethodProp spot = free 1
-further_spot kind.BindingIdent spot = free 1
-further_spot (kind.ArrayPat optional) spot = free 1
-further_spot (kind.ObjectPat optional) spot = free 1
-further_spot kind.RestPat spot = free 1
-further_spot kind.AssignPat spot = free 1
-further_spot kind.KeyValuePatProp spot = free 1
-further_spot kind.AssignPatProp spot = free 1
-further_spot k spot = free 0
+further_spot kind.SeqExpr spot = right spot precedence.assignment NoNeighbor
+further_spot kind.FnExpr spot = free precedence.assignment
+further_spot (kind.FnDecl declare) spot = free precedence.assignment
+further_spot (kind.Function is_generator is_async) spot = free precedence.assignment
+further_spot kind.Param spot = free precedence.assignment
+further_spot kind.ClassExpr spot = free precedence.assignment
+further_spot (kind.ClassDecl declare) spot = free precedence.assignment
+further_spot (kind.Constructor accessibility is_optional) spot = free precedence.assignment
+further_spot (kind.TsParamProp accessibility is_override readonly) spot = free precedence.assignment
+further_spot (kind.ClassMethod sort modifiers) spot = free precedence.assignment
+further_spot (kind.PrivateMethod sort modifiers) spot = free precedence.assignment
+further_spot (kind.ClassProp modifiers readonly declare definite) spot = free precedence.assignment
+further_spot (kind.PrivateProp modifiers readonly declare definite) spot = free precedence.assignment
+further_spot kind.StaticBlock spot = free precedence.assignment
+further_spot kind.KeyValueProp spot = free precedence.assignment
+further_spot kind.AssignProp spot = free precedence.assignment
+further_spot kind.GetterProp spot = free precedence.assignment
+further_spot kind.SetterProp spot = free precedence.assignment
+further_spot kind.MethodProp spot = free precedence.assignment
+further_spot kind.BindingIdent spot = free precedence.assignment
+further_spot (kind.ArrayPat optional) spot = free precedence.assignment
+further_spot (kind.ObjectPat optional) spot = free precedence.assignment
+further_spot kind.RestPat spot = free precedence.assignment
+further_spot kind.AssignPat spot = free precedence.assignment
+further_spot kind.KeyValuePatProp spot = free precedence.assignment
+further_spot kind.AssignPatProp spot = free precedence.assignment
+further_spot k spot = alone

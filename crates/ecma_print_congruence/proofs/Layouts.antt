@@ -1,5 +1,5 @@
 -- Trees that differ in spans and contexts alone are laid out alike.
-use Rattle.std.proofs.Common.{◌≡◌, refl, ap, ap₂, ◌∙◌, ℕ, List, [], ◌∷◌, map, codes}
+use Rattle.std.proofs.Common.{◌≡◌, refl, ap, ap₂, ◌∙◌, ℕ, List, [], ◌∷◌, map, codes, sym, subst}
 use Rattle.ecma_kind.specs.declared.kind.Kind.{Kind}
 use Rattle.ecma_kind.specs.declared.kind.Kind.TheVariants as kind
 use Rattle.ecma_print.specs.Laid.{Laid}
@@ -7,9 +7,8 @@ use Rattle.ecma_print.specs.declared.place.Spot.{Spot}
 use Rattle.ecma_print.specs.declared.place.Place.{Place}
 use Rattle.ecma_print.specs.declared.place.Place.TheVariants as place
 use Rattle.ecma_print.specs.Pieces.{say, ◌>>◌}
-use Rattle.ecma_print.specs.Places.{free}
+use Rattle.ecma_print.specs.Places.{free, after, before, is_headed, opens_a_block}
 use Rattle.ecma_print_congruence.proofs.Telling as telling
-use Rattle.std.proofs.Common.{sym, subst}
 use Rattle.std.specs.Prelude.{◌&&◌, ◌||◌, ltb, if◌then◌else◌}
 use Rattle.ecma_kind.specs.declared.span.Span.{Span}
 use Rattle.ecma_tree.specs.declared.node.Node.{Node, Node-F, fold-roll-Node, ind-Node, roll-Node}
@@ -20,7 +19,6 @@ use Rattle.ecma_print.specs.Functions.{function_head, method_head}
 use Rattle.ecma_print.specs.Layout.{in_place, key_mark, laid, lay_step, layout, placed, standing, whole}
 use Rattle.ecma_print.specs.Levels.{begins_with_brace, in_parentheses, is_misread, lacks_arguments, level_of}
 use Rattle.ecma_print.specs.Literals.{literal}
-use Rattle.ecma_print.specs.Places.{after, before, is_headed, opens_a_block}
 use Rattle.ecma_print_congruence.specs.Laws.{ContextsDoNotMatterToLayouts, SpansDoNotMatterToLayouts}
 use Rattle.ecma_print_congruence.proofs.Lists.{listed_told}
 use Rattle.ecma_print_congruence.proofs.Expressions.{operation_told, link_told, primary_told}

@@ -1,11 +1,7 @@
 -- What fits, fits with explicit parentheses, since each clause stays.
 use Rattle.ecma_kind.specs.declared.shapes.Sort.TheVariants as sort
-use Rattle.ecma_tree.specs.declared.node.Node.{Node}
 use Rattle.ecma_tree.specs.Sorted.{one}
-use Rattle.ecma_print.specs.Explicit.{explicit}
 use Rattle.ecma_print_parentheses.proofs.Sorting.{sorts_are_kept}
-use Rattle.ecma_fits_clauses.specs.Clauses.{Clauses}
-use Rattle.ecma_fits_clauses.proofs.Clauses.{fits_by_clauses}
 use Rattle.ecma_print_fits.proofs.Branching.{branches_stay, members_stay}
 use Rattle.ecma_print_fits.proofs.Chaining.{chains_stay}
 use Rattle.ecma_print_fits.proofs.Constructing.{constructors_stay}
@@ -17,8 +13,8 @@ use Rattle.ecma_print_fits.proofs.Straying.{strays_stay}
 use Rattle.ecma_print_fits.proofs.Targeting.{targets_stay}
 use Rattle.ecma_print_explicit.specs.Laws.{ExplicitTreesFit}
 
-clauses_stay : (tree : Node) → Clauses tree → Clauses (explicit tree)
-clauses_stay tree c = record {
+pub trees_fit : ExplicitTreesFit
+trees_fit tree c = record {
   sorted = sorts_are_kept tree (one sort.Module) c.sorted;
   counts = counts_stay tree c.sorted c.counts;
   branches = branches_stay tree c.branches;
@@ -31,6 +27,3 @@ clauses_stay tree c = record {
   leaves = leaves_stay tree c.leaves;
   strays = strays_stay tree c.strays;
 }
-
-pub trees_fit : ExplicitTreesFit
-trees_fit tree fits = (fits_by_clauses (explicit tree)).1 (clauses_stay tree ((fits_by_clauses tree).0 fits))

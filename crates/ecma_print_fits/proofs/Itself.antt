@@ -16,8 +16,7 @@ use Rattle.ecma_rules.specs.Lists.{is_early_rest, is_head, is_wrong_head}
 use Rattle.ecma_rules.specs.Members.{is_misfit, is_special_by, is_special_constructor, is_stray_property, misfits_by, misplaces_this, misplaces_this_by}
 use Rattle.ecma_rules.specs.Rules.{fails_list, fails_member, fails_statement}
 use Rattle.ecma_rules.specs.Supers.{is_linked}
-use Rattle.ecma_rules.specs.Targets.{is_simple_target, target_in}
-use Rattle.ecma_rules.specs.Targets.{may_be as target_may_be}
+use Rattle.ecma_rules.specs.Targets.{is_simple_target, target_in, may_be as target_may_be}
 use Rattle.ecma_covers.specs.Covering.{cover_at}
 use Rattle.ecma_covers.specs.Placing.{as_read}
 use Rattle.ecma_fits.specs.declared.role.Role.TheVariants as role

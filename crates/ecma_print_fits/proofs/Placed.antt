@@ -14,17 +14,17 @@ use Rattle.ecma_tree.specs.Sorted.{HasShape, child_shapes, is_absent, maybe, one
 use Rattle.ecma_rules.specs.declared.target.Target.{Target}
 use Rattle.ecma_rules.specs.declared.target.Target.TheVariants as target
 use Rattle.ecma_rules.specs.Children.{kind_of}
-use Rattle.ecma_rules.specs.Jumps.{first_stray}
 use Rattle.ecma_rules.specs.Targets.{takes_patterns, target_in}
 use Rattle.ecma_covers.specs.Placing.{EachStands, Stands, binds}
 use Rattle.ecma_covers.specs.Placing as place
 use Rattle.ecma_fits.specs.declared.role.Role.{Role}
 use Rattle.ecma_fits.specs.declared.role.Role.TheVariants as role
 use Rattle.ecma_fits.specs.declared.unfit.Where.{Where}
-use Rattle.ecma_fits.specs.Fitting.{at_top, first_unfit_in}
+use Rattle.ecma_fits.specs.Fitting.{at_top}
 use Rattle.ecma_fits.specs.Roles.{is_assigned, role_in}
+use Rattle.ecma_fits.proofs.Clauses.{none_unfit}
 use Rattle.ecma_print_fits.specs.Laws.{WhatFitsStands, is_optional_pattern}
-use Rattle.ecma_print_fits.proofs.Parts.{AllFit, AllLack, Fit, IsMissing, IsName, Lacks, fitting, is_missing, is_name, kind_allowed, lacking, neither_least, not_true, nothing_stands, shape_made, where_by}
+use Rattle.ecma_print_fits.proofs.Parts.{AllFit, AllLack, Fit, IsMissing, IsName, Lacks, fitting, is_missing, is_name, kind_allowed, lacking, not_true, nothing_stands, shape_made, where_by}
 use Rattle.ecma_print_fits.proofs.Roles.{AllSuit, Way, array, asked, bound, default, itself, key_value, object, property_kind, rest_element, rest_property, short, suited, suits, target_of, way_of}
 
 each_alike : (f g : ℕ → Target) → ((i : ℕ) → f i ≡ g i) → {ns : List Node} → EachStands f ns → EachStands g ns
@@ -225,6 +225,6 @@ placed_in = ind-Node Placed (λ x y is. node_placed x (subst (λ (z : Node-F Nod
 
 pub stands_placed : WhatFitsStands
 stands_placed tree fits none =
-    placed_in tree at_top (one sort.Module) refl fits.sorted (neither_least (first_unfit_in tree at_top) (first_stray tree) fits.fitting).0 none
+    placed_in tree at_top (one sort.Module) refl fits.sorted (none_unfit tree fits) none
 
 pub ruleset placed = (stands_placed)

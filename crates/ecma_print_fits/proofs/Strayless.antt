@@ -13,7 +13,7 @@ use Rattle.ecma_tree.specs.Sorted.{HasShape, child_shapes, many, maybe, one, wit
 use Rattle.ecma_rules.specs.declared.target.Target.{Target}
 use Rattle.ecma_rules.specs.declared.target.Target.TheVariants as target
 use Rattle.ecma_rules.specs.Finishing.{each_in}
-use Rattle.ecma_rules.specs.Jumps.{Held, ends_jumps, first_stray, held_behind, not_held}
+use Rattle.ecma_rules.specs.Jumps.{Held, ends_jumps, held_behind, not_held}
 use Rattle.ecma_rules.specs.Lists.{last_by}
 use Rattle.ecma_rules.specs.Failing.{least}
 use Rattle.ecma_rules.specs.Strays.{in_named, strays_in}
@@ -24,11 +24,12 @@ use Rattle.ecma_covers.specs.Placing.{EachStands, Stands, array, as_read, binds,
 use Rattle.ecma_covers.proofs.Uncovering.{array_covered, asks_same, binding_covered, binding_node, cover_node, default_name, each_same, kept, literal_asks, name_node, object_covered, short_name}
 use Rattle.ecma_fits.specs.declared.role.Role.TheVariants as role
 use Rattle.ecma_fits.specs.declared.unfit.Where.{Where}
-use Rattle.ecma_fits.specs.Fitting.{at_top, first_unfit_in}
+use Rattle.ecma_fits.specs.Fitting.{at_top}
 use Rattle.ecma_fits.specs.Roles.{by, in_rest, is_assigned, role_in}
 use Rattle.ecma_fits.specs.Strays.{arguments_in}
+use Rattle.ecma_fits.proofs.Clauses.{none_unfit}
 use Rattle.ecma_print_fits.specs.Laws.{CoversBreakNoRule}
-use Rattle.ecma_print_fits.proofs.Parts.{AllFit, Fit, fitting, neither_least, not_true, where_by}
+use Rattle.ecma_print_fits.proofs.Parts.{AllFit, Fit, fitting, not_true, where_by}
 use Rattle.ecma_print_fits.proofs.Roles.{suited, target_of}
 use Rattle.ecma_print_fits.proofs.Itself.{There}
 use Rattle.ecma_print_fits.proofs.Below.{AllThere}
@@ -189,9 +190,8 @@ mutual
 
 pub unbroken_covers : CoversBreakNoRule
 unbroken_covers tree f bare =
-    let w = neither_least (first_unfit_in tree at_top) (first_stray tree) f.fitting in
     let quiet = strayless (stands_placed tree f bare) not_held true at_top (one sort.Module) (record { same = refl; head = refl; last = λ e. refl; suit = refl; short = λ e. not_true e; super = λ e. not_true e })
-    (record { stray = λ e. not_true e; within = λ e. not_true e; inside = λ e. not_true e }) f.sorted w.0 w.1 in
+    (record { stray = λ e. not_true e; within = λ e. not_true e; inside = λ e. not_true e }) f.sorted (none_unfit tree f) f.strays in
     ap₂ least (covers_whole tree f bare) quiet
 
 pub ruleset keeping = (unbroken_covers)

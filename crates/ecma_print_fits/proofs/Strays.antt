@@ -16,8 +16,7 @@ use Rattle.ecma_rules.specs.Children.{is_named, kind_of, of_kind}
 use Rattle.ecma_rules.specs.Failing.{failing_here, failing_step, least, least_from}
 use Rattle.ecma_rules.specs.Finishing.{each_in}
 use Rattle.ecma_rules.specs.Jumps.{Held, ends_jumps, first_held_stray, held_behind, held_in, is_held_stray, is_stray_in, own_label, stray_here, text_by, text_of}
-use Rattle.ecma_rules.specs.Strays.{all_held, as_name, in_named, is_stray, strays_in}
-use Rattle.ecma_rules.specs.Strays.{in_arrow, in_field, in_function, in_loop, in_member, in_switch, with_home, without_home}
+use Rattle.ecma_rules.specs.Strays.{all_held, as_name, in_named, is_stray, strays_in, in_arrow, in_field, in_function, in_loop, in_member, in_switch, with_home, without_home}
 use Rattle.ecma_rules.specs.Targets.{target_in}
 use Rattle.ecma_covers.specs.Covering.{cover_at}
 use Rattle.ecma_covers.specs.Placing.{binds}
@@ -26,8 +25,7 @@ use Rattle.ecma_fits.specs.declared.role.Role.{Role}
 use Rattle.ecma_fits.specs.declared.role.Role.TheVariants as role
 use Rattle.ecma_fits.specs.declared.strays.Arguments.{Arguments}
 use Rattle.ecma_fits.specs.Roles.{is_assigned, is_bound_name}
-use Rattle.ecma_fits.specs.Strays.{arguments_in, is_stray_target}
-use Rattle.ecma_fits.specs.Strays.{all_held as held_all, in_field as field_of, in_function as function_of}
+use Rattle.ecma_fits.specs.Strays.{arguments_in, is_stray_target, all_held as held_all, in_field as field_of, in_function as function_of}
 use Rattle.ecma_print_fits.proofs.Parts.{kind_made, neither_least, not_failing, not_true, shifted}
 use Rattle.ecma_print_fits.proofs.Roles.{target_of}
 

@@ -18,7 +18,6 @@ use Rattle.ecma_rules.specs.declared.standing.Standing.{Standing}
 use Rattle.ecma_rules.specs.declared.standing.Standing.TheVariants as standing
 use Rattle.ecma_rules.specs.Children.{is_present, kind_of, of_kind}
 use Rattle.ecma_rules.specs.Finishing.{each_in}
-use Rattle.ecma_rules.specs.Jumps.{first_stray}
 use Rattle.ecma_rules.specs.Lists.{is_early_rest, is_head, is_item, is_rest, is_wrong_head, last_by}
 use Rattle.ecma_rules.specs.Members.{second_by, second_constructor}
 use Rattle.ecma_rules.specs.Rules.{fails_list, fails_member, fails_statement}
@@ -31,10 +30,11 @@ use Rattle.ecma_covers.proofs.Uncovering.{array_covered, asks_same, binding_cove
 use Rattle.ecma_fits.specs.declared.role.Role.{Role}
 use Rattle.ecma_fits.specs.declared.role.Role.TheVariants as role
 use Rattle.ecma_fits.specs.declared.unfit.Where.{Where}
-use Rattle.ecma_fits.specs.Fitting.{at_top, breaks_rule, first_unfit_in}
+use Rattle.ecma_fits.specs.Fitting.{at_top, breaks_rule}
 use Rattle.ecma_fits.specs.Roles.{by, in_default, in_rest, is_assigned, role_in}
+use Rattle.ecma_fits.proofs.Clauses.{none_unfit}
 use Rattle.ecma_print_fits.specs.Laws.{CoversAreNotMisplaced}
-use Rattle.ecma_print_fits.proofs.Parts.{AllFit, Fit, Fitting, around_by, fitting, kind_allowed, kind_made, neither, neither_least, not_true, shape_made, where_by}
+use Rattle.ecma_print_fits.proofs.Parts.{AllFit, Fit, Fitting, around_by, fitting, kind_allowed, kind_made, neither, not_true, shape_made, where_by}
 use Rattle.ecma_print_fits.proofs.Roles.{asked, property_kind, suited, suits, target_of}
 use Rattle.ecma_print_fits.proofs.Tests.{as_many}
 use Rattle.ecma_print_fits.proofs.Fine.{AllWhole, Whole, and_no, covering_whole, fine_node, no_and, whole_node}
@@ -314,7 +314,6 @@ mutual
 
 pub covers_whole : CoversAreNotMisplaced
 covers_whole tree f bare =
-    let fit = (neither_least (first_unfit_in tree at_top) (first_stray tree) f.fitting).0 in
-    unbroken (stands_placed tree f bare) true at_top (one sort.Module) (record { same = refl; head = refl; last = λ e. refl; suit = refl; short = λ e. not_true e; super = λ e. not_true e }) f.sorted fit
+    unbroken (stands_placed tree f bare) true at_top (one sort.Module) (record { same = refl; head = refl; last = λ e. refl; suit = refl; short = λ e. not_true e; super = λ e. not_true e }) f.sorted (none_unfit tree f)
 
 pub ruleset whole = (covers_whole)

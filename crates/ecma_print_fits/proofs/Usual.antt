@@ -11,16 +11,16 @@ use Rattle.ecma_tree.specs.Nodes.{dummy_span}
 use Rattle.ecma_tree.specs.Laws.{HaveShapes}
 use Rattle.ecma_tree.specs.Sorted.{HasShape, child_shapes, one}
 use Rattle.ecma_rules.specs.Children.{kind_of, of_kind}
-use Rattle.ecma_rules.specs.Jumps.{first_stray}
 use Rattle.ecma_print_covers.specs.Defaults.{has_usual_default, has_usual_defaults, is_default, takes_default, usual_step}
 use Rattle.ecma_fits.specs.declared.role.Role.{Role}
 use Rattle.ecma_fits.specs.declared.role.Role.TheVariants as role
 use Rattle.ecma_fits.specs.declared.unfit.Where.{Where}
-use Rattle.ecma_fits.specs.Fitting.{at_top, first_unfit_in}
+use Rattle.ecma_fits.specs.Fitting.{at_top}
 use Rattle.ecma_fits.specs.Roles.{in_default, is_assigned, may_be, role_in, takes}
 use Rattle.ecma_print_fits.specs.Laws.{WhatFitsHasUsualDefaults}
-use Rattle.ecma_print_fits.proofs.Parts.{AllFit, Fit, allowed, fitting, kind_allowed, neither_least, shape_made, where_by}
+use Rattle.ecma_print_fits.proofs.Parts.{AllFit, Fit, allowed, fitting, kind_allowed, shape_made, where_by}
 use Rattle.ecma_tree.proofs.Layers.{from_leaves-roll}
+use Rattle.ecma_fits.proofs.Clauses.{none_unfit}
 
 -- what may stand before a default takes one
 assigned_takes : (k : Kind) → allowed role.Assigned k ≡ true → takes_default k ≡ true
@@ -105,6 +105,6 @@ usual_in : (n : Node) → Usual n
 usual_in = ind-Node Usual (λ x y is. node_usual x (subst (λ (z : Node-F Node). AllUsual z.children) is (all_usual y.children)))
 
 pub what_fits_has_usual_defaults : WhatFitsHasUsualDefaults
-what_fits_has_usual_defaults tree fits = usual_in tree at_top (one sort.Module) fits.sorted (neither_least (first_unfit_in tree at_top) (first_stray tree) fits.fitting).0
+what_fits_has_usual_defaults tree fits = usual_in tree at_top (one sort.Module) fits.sorted (none_unfit tree fits)
 
 pub ruleset usual = (what_fits_has_usual_defaults)

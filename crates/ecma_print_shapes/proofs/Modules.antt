@@ -13,13 +13,11 @@ use Rattle.ecma_tree.specs.Nodes.{node_of}
 use Rattle.ecma_tree.specs.Sorted.{allows, one}
 use Rattle.ecma_rules.specs.declared.target.Target.TheVariants as target
 use Rattle.ecma_rules.specs.Children.{children_of, kind_of}
-use Rattle.ecma_rules.specs.Jumps.{first_stray}
 use Rattle.ecma_rules.specs.Targets.{target_in}
 use Rattle.ecma_covers.specs.Covering.{cover_at, cover_in}
 use Rattle.ecma_fits.specs.declared.role.Role.TheVariants as role
-use Rattle.ecma_fits.specs.Fitting.{at_top, first_unfit_in}
+use Rattle.ecma_fits.specs.Fitting.{at_top}
 use Rattle.ecma_fits.specs.Roles.{role_in}
-use Rattle.ecma_fits_clauses.proofs.Walks.{neither_least}
 use Rattle.ecma_print.specs.Places.{free}
 use Rattle.ecma_shapes.specs.Modules.{AreModuleItems, IsModule, module_behind_hashbang, module_of}
 use Rattle.ecma_plain.specs.Items.{HasUtf8Hashbang, is_plain_item}
@@ -31,6 +29,8 @@ use Rattle.ecma_print_shapes.proofs.Covered.{covered}
 use Rattle.ecma_print_shapes.proofs.Lists.{cover_of_list}
 use Rattle.ecma_print_shapes.proofs.ModuleItems.{BeginsNoDeclaration, items_of}
 use Rattle.ecma_print_shapes.proofs.Sound.{Here, Sound}
+use Rattle.ecma_fits.proofs.Clauses.{none_unfit}
+use Rattle.ecma_fits.proofs.Walks.{neither_least}
 
 -- what stands behind `#!`
 
@@ -68,5 +68,4 @@ module_formed formed starts assignments n s utf8 may = go (kind_of n) refl (seen
 
 pub shapes_of_modules : ((n : Node) → Formed n) → BeginsNoDeclaration → ModulesHaveTheirShapes
 shapes_of_modules formed starts assignments tree fits complete taken usual may utf8 =
-    let walk = neither_least (first_unfit_in tree at_top) (first_stray tree) fits.fitting in
-    module_formed formed starts assignments tree (record { shaped = fits.sorted; fitting = (at_top, refl, walk.0); complete = complete; bare = taken; usual = usual }) utf8 may
+    module_formed formed starts assignments tree (record { shaped = fits.sorted; fitting = (at_top, refl, none_unfit tree fits); complete = complete; bare = taken; usual = usual }) utf8 may

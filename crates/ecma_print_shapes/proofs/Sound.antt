@@ -32,7 +32,7 @@ use Rattle.ecma_print_parentheses.proofs.Lacks.{complete_in}
 use Rattle.ecma_plain.specs.Forms.{IsTaken}
 use Rattle.ecma_plain.specs.Functions.{Functions, any_unusual, functions, functions_step, is_this_name, unusual_here}
 use Rattle.ecma_tree.proofs.Layers.{from_leaves-roll}
-use Rattle.ecma_fits_clauses.proofs.Walks.{neither, neither_least, not_failing, shifted}
+use Rattle.ecma_fits.proofs.Walks.{neither, neither_least, not_failing, shifted}
 
 -- it fits where it has this role, whatever else stands around
 abbrev pub FitsAs : Role → Node → Type 0

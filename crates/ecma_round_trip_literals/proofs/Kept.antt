@@ -33,6 +33,7 @@ use Rattle.ecma_round_trip_literals.proofs.Spelled.{writable_literals_keep_spell
 use Rattle.ecma_round_trip_literals.proofs.Tests.{chains_same, dangling_same, members_same as misread_same, short_same, simple_same}
 use Rattle.ecma_round_trip_literals.proofs.Rules.{around_same, constructors_same, held_same, lists_same, members_same, statements_same, stray_place_same}
 use Rattle.ecma_tree.proofs.Layers.{from_leaves_out}
+use Rattle.ecma_fits.proofs.Clauses.{fits_of, none_unfit}
 
 misshapen_same : Same is_misshapen
 misshapen_same n = ap₂ (λ a b. a || b) (short_same n) (ap₂ (λ a b. a || b) (dangling_same n) (ap₂ (λ a b. a || b) (chains_same n) (misread_same n)))
@@ -177,5 +178,4 @@ strays_stay tree = walk_same Held stray_here held_in stray_place_same held_same 
 
 pub what_fits_fits_with_sources : WhatFitsFitsWithSources
 what_fits_fits_with_sources tree writable fits =
-    let told = none_least (first_unfit_in tree at_top) (first_stray tree) fits.fitting in
-    record { sorted = sources_keep_sorts tree sort.Module fits.sorted; fitting = ap₂ least (kept writable at_top told.0) (strays_stay tree ∙ told.1) }
+    fits_of (with_sources tree) (sources_keep_sorts tree sort.Module fits.sorted) (kept writable at_top (none_unfit tree fits)) (strays_stay tree ∙ fits.strays)

@@ -1,5 +1,5 @@
 -- With source texts a tree is laid out alike.
-use Rattle.std.proofs.Common.{◌≡◌, refl, ap, ap₂, ◌∙◌, ℕ, List, [], ◌∷◌, map, codes, Option, Some, None, append_assoc}
+use Rattle.std.proofs.Common.{◌≡◌, refl, ap, ap₂, ◌∙◌, ℕ, List, [], ◌∷◌, map, codes, Option, Some, None, append_assoc, sym, subst}
 use Rattle.ecma_kind.specs.declared.kind.Kind.{Kind}
 use Rattle.ecma_kind.specs.declared.kind.Kind.TheVariants as kind
 use Rattle.ecma_print.specs.Laid.{Laid}
@@ -7,8 +7,7 @@ use Rattle.ecma_print.specs.declared.place.Spot.{Spot}
 use Rattle.ecma_print.specs.declared.place.Place.{Place}
 use Rattle.ecma_print.specs.declared.place.Place.TheVariants as place
 use Rattle.ecma_print.specs.Pieces.{say, ◌>>◌}
-use Rattle.ecma_print.specs.Places.{free}
-use Rattle.std.proofs.Common.{sym, subst}
+use Rattle.ecma_print.specs.Places.{free, after, before, is_headed, opens_a_block}
 use Rattle.std.specs.Prelude.{◌&&◌, ◌||◌, ltb, if◌then◌else◌}
 use Rattle.ecma_tree.specs.declared.node.Node.{Node, Node-F, fold-roll-Node, ind-Node, roll-Node}
 use Rattle.ecma_tree.specs.Changing.{changed_here}
@@ -19,7 +18,6 @@ use Rattle.ecma_print.specs.Levels.{begins_with_brace, in_parentheses, is_misrea
 use Rattle.ecma_print.specs.Literals.{big_literal, literal, number_literal, text_literal}
 use Rattle.ecma_print.specs.Escapes.{made_text}
 use Rattle.ecma_number.specs.declared.js_number.JsNumber.{JsNumber}
-use Rattle.ecma_print.specs.Places.{after, before, is_headed, opens_a_block}
 use Rattle.ecma_round_trip_literals.specs.Laws.{SourcesDoNotMatterToLayouts}
 use Rattle.ecma_round_trip_literals.specs.Sources.{big_text, number_source, source_or, with_source, with_sources}
 use Rattle.ecma_round_trip_literals.proofs.Telling.{is_absent_told, is_computed_told, is_object_pattern_told, parts_told, told}

@@ -14,7 +14,6 @@ use Rattle.ecma_scope.specs.Laws.{without_contexts}
 use Rattle.ecma_leaves.specs.Words.{is_spelled}
 use Rattle.ecma_rules.specs.Children.{items_at, kind_of}
 use Rattle.ecma_rules.specs.Failing.{least_from}
-use Rattle.ecma_rules.specs.Jumps.{first_stray}
 use Rattle.ecma_fits.specs.declared.unfit.Where.{Where}
 use Rattle.ecma_fits.specs.Fitting.{at_top, first_unfit_in, unfit_here, where_in}
 use Rattle.ecma_fits.specs.Roles.{is_tagged}
@@ -29,6 +28,7 @@ use Rattle.ecma_plain.specs.Forms.{IsTaken}
 use Rattle.ecma_plain.specs.Functions.{Functions, functions, functions_step}
 use Rattle.ecma_plain.specs.Items.{HasUtf8Hashbang, has_plain_items, is_external, is_plain_item, is_plain_kind}
 use Rattle.ecma_plain.specs.Plain.{IsPlain}
+use Rattle.ecma_fits.proofs.Clauses.{none_unfit}
 
 -- ---- contexts and source texts have nothing to do with each other
 
@@ -132,7 +132,7 @@ plain_with_sources assignments tree is =
     let same = sym (commutes tree) in
     record {
       fits = what_fits_fits_with_sources tree is.writable is.fits;
-      taken = subst (Everywhere IsTaken) same (taken_moved is.writable at_top (none_least (first_unfit_in tree at_top) (first_stray tree) is.fits.fitting).0 is.taken);
+      taken = subst (Everywhere IsTaken) same (taken_moved is.writable at_top (none_unfit tree is.fits) is.taken);
       usual = subst (λ m. (functions m).has_unusual ≡ false) same (ap (λ f. f.has_unusual) (functions_same n) ∙ is.usual);
       items = subst (λ m. has_plain_items assignments m ≡ true) same (plain_items_same assignments n ∙ is.items);
       hashbang = subst (λ m. HasUtf8Hashbang (kind_of m)) same (hashbang_moved n is.hashbang);

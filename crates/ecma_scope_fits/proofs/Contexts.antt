@@ -12,12 +12,13 @@ use Rattle.ecma_fits.specs.declared.role.Role.{Role}
 use Rattle.ecma_fits.specs.declared.role.Role.TheVariants as role
 use Rattle.ecma_fits.specs.declared.strays.Arguments.{Arguments}
 use Rattle.ecma_fits.specs.declared.unfit.Where.{Where}
-use Rattle.ecma_fits.specs.Fitting.{Fits, at_top, breaks_rule, first_unfit, is_misplaced, is_misshapen, is_unfit, unfit_here, where_in}
+use Rattle.ecma_fits.specs.Fitting.{Fits, at_top, breaks_rule, is_misplaced, is_misshapen, is_unfit, unfit_here, where_in}
 use Rattle.ecma_fits.specs.Roles.{is_assigned, is_bound_name, is_out_of_role, is_tagged, is_wrong_name, may_be, role_in, takes}
 use Rattle.ecma_fits.specs.Strays.{arguments_in, is_stray_target}
 use Rattle.ecma_scope.specs.Laws.{without_contexts}
 use Rattle.ecma_scope.specs.Resolved.{resolved}
 use Rattle.ecma_scope.proofs.Unchanged.{changes-contexts}
+use Rattle.ecma_fits.proofs.Clauses.{fits_of, none_unfit}
 use Rattle.ecma_scope_fits.specs.Laws.{ContextsDoNotMatter, EqualButForContextsFitAlike, ResolvedTreesFitAlike}
 use Rattle.ecma_scope_fits.proofs.Moved.{Blind, Same, child_same, kind_same, span_moved, to, walk_same}
 use Rattle.ecma_scope_fits.proofs.Tests.{chains_same, dangling_same, members_same as misread_same, short_same, simple_same}
@@ -85,16 +86,17 @@ module _ (context_of : List ℕ → ℕ → ℕ) where
     arguments = kind_same context_of Arguments (λ k. arguments_in w.arguments k i) (arguments_blind w.arguments i) n j;
   }
 
-  unfit_stays : (tree : Node) → first_unfit (with_contexts context_of tree) ≡ first_unfit tree
-  unfit_stays tree =
-      ap₂ least (walk_same context_of Where unfit_here where_in place_same where_same tree at_top)
-      (walk_same context_of Held stray_here held_in (stray_place_same context_of) (held_same context_of) tree no_jump_held)
+  unfit_stays : (tree : Node) → first_unfit_in (with_contexts context_of tree) at_top ≡ first_unfit_in tree at_top
+  unfit_stays tree = walk_same context_of Where unfit_here where_in place_same where_same tree at_top
+
+  strays_stay : (tree : Node) → first_stray (with_contexts context_of tree) ≡ first_stray tree
+  strays_stay tree = walk_same context_of Held stray_here held_in (stray_place_same context_of) (held_same context_of) tree no_jump_held
 
 pub contexts_do_not_matter : ContextsDoNotMatter
 contexts_do_not_matter context_of tree =
     let sorts = contexts_keep_sorts context_of tree sort.Module in (
-      (λ f. record { sorted = sorts.0 f.sorted; fitting = sym (unfit_stays context_of tree) ∙ f.fitting }),
-      (λ f. record { sorted = sorts.1 f.sorted; fitting = unfit_stays context_of tree ∙ f.fitting }),
+      (λ f. fits_of tree (sorts.0 f.sorted) (sym (unfit_stays context_of tree) ∙ none_unfit (with_contexts context_of tree) f) (sym (strays_stay context_of tree) ∙ f.strays)),
+      (λ f. fits_of (with_contexts context_of tree) (sorts.1 f.sorted) (unfit_stays context_of tree ∙ none_unfit tree f) (strays_stay context_of tree ∙ f.strays)),
     )
 
 abbrev empty : List ℕ → ℕ → ℕ

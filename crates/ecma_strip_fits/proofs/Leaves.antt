@@ -14,7 +14,7 @@ use Rattle.ecma_rules.specs.Failing.{failing_here}
 use Rattle.ecma_rules.specs.Members.{second_constructor}
 use Rattle.ecma_strip.specs.Stripping.{plain_children, plain_kind, stripped}
 use Rattle.ecma_fits.specs.declared.unfit.Where.{Where}
-use Rattle.ecma_fits.specs.Fitting.{Fits, at_top, breaks_rule, first_unfit_in, is_misplaced, is_misshapen, is_unfit, unfit_here, where_in, NoneFails}
+use Rattle.ecma_fits.specs.Fitting.{Fits, at_top, breaks_rule, is_misplaced, is_misshapen, is_unfit, unfit_here, where_in, NoneFails}
 use Rattle.ecma_fits.specs.Roles.{is_assigned, is_bound_name, is_out_of_role, is_tagged}
 use Rattle.ecma_fits.specs.Strays.{is_stray_target}
 use Rattle.ecma_strip_fits.proofs.Classes.{class_of}
@@ -24,6 +24,7 @@ use Rattle.ecma_strip_fits.proofs.Standing.{How, Stands, below, items, under}
 use Rattle.ecma_strip_fits.proofs.Strays.{kind_node, none_failing, not_failing}
 use Rattle.ecma_strip_fits.proofs.Tests.{neither}
 use Rattle.ecma_strip_fits.proofs.Walk.{Carries, children_of, kept, neither_least, usual_kind}
+use Rattle.ecma_fits.proofs.Clauses.{none_unfit}
 
 some_same : {X : Type 0} {x y : X} → Some x ≡ Some y → x ≡ y
 some_same e = cc
@@ -58,7 +59,7 @@ module _ (fails : Where → Kind → Node → Bool) (missing : (w : Where) (n : 
   pub place_kept : (tree : Node) → Fits tree → NoneFails (λ w n. fails w (kind_of n) n) (stripped tree)
   place_kept tree f =
       (kept Where where_in unfit_here (λ w n. failing_here (fails w (kind_of n) n) n) Stands carries tree (one sort.Module) at_top at_top f.sorted
-      (record { arguments = refl; tagged = λ t. absurd (cc); how = inl refl }) (neither_least (first_unfit_in tree at_top) _ f.fitting).0).0
+      (record { arguments = refl; tagged = λ t. absurd (cc); how = inl refl }) (none_unfit tree f)).0
 
 -- ---- leaves
 

@@ -18,7 +18,7 @@ use Rattle.ecma_strip.proofs.Sorting.{list-kind}
 use Rattle.ecma_fits.specs.declared.role.Role.{Role}
 use Rattle.ecma_fits.specs.declared.role.Role.TheVariants as role
 use Rattle.ecma_fits.specs.declared.unfit.Where.{Where}
-use Rattle.ecma_fits.specs.Fitting.{Fits, at_top, first_unfit_in, unfit_here, where_in, NoneFails}
+use Rattle.ecma_fits.specs.Fitting.{Fits, at_top, unfit_here, where_in, NoneFails}
 use Rattle.ecma_fits.specs.Roles.{at_child, is_binding, is_bound_name, is_default, is_free, is_name, is_out_of_role, is_pattern, is_rest, is_variables, is_wrong_name, may_be, role_in, takes}
 use Rattle.ecma_strip_fits.specs.Targets.{HasPlainTargets, is_typed_target}
 use Rattle.ecma_bind.specs.Binding.{binds, is_name_under_types, names_step}
@@ -36,6 +36,7 @@ use Rattle.ecma_strip_fits.proofs.Strays.{kind_node, none_failing, not_failing}
 use Rattle.ecma_strip_fits.proofs.Tests.{neither}
 use Rattle.ecma_strip_fits.proofs.Walk.{Carries, NoneTells, children_of, each_none, kept, neither_least, shape_parts, usual_children, usual_kind, wrapped_is}
 use Rattle.ecma_tree.proofs.Layers.{from_leaves_out}
+use Rattle.ecma_fits.proofs.Clauses.{none_unfit}
 
 some_same : {X : Type 0} {x y : X} → Some x ≡ Some y → x ≡ y
 some_same e = cc
@@ -544,4 +545,4 @@ carries = record {
 pub roles_kept : (tree : Node) → Fits tree → HasPlainTargets tree → NoneFails (λ w n. is_out_of_role w.role n) (stripped tree)
 roles_kept tree f plain =
     (kept Where where_in unfit_here (λ w n. failing_here (is_out_of_role w.role n) n) Stands carries tree (one sort.Module) at_top at_top f.sorted
-    (record { base = record { arguments = refl; tagged = λ t. absurd (cc); how = inl refl }; meets = inl refl; walked = plain }) (neither_least (first_unfit_in tree at_top) _ f.fitting).0).0
+    (record { base = record { arguments = refl; tagged = λ t. absurd (cc); how = inl refl }; meets = inl refl; walked = plain }) (none_unfit tree f)).0

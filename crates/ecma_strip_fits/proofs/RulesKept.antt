@@ -18,7 +18,7 @@ use Rattle.ecma_rules.specs.Statements.{is_body, is_declaration, is_exported, is
 use Rattle.ecma_rules.specs.Targets.{is_variables}
 use Rattle.ecma_strip.specs.Stripping.{plain_children, plain_kind, stripped}
 use Rattle.ecma_fits.specs.declared.unfit.Where.{Where}
-use Rattle.ecma_fits.specs.Fitting.{Fits, at_top, breaks_rule, first_unfit_in, unfit_here, where_in, NoneFails}
+use Rattle.ecma_fits.specs.Fitting.{Fits, at_top, breaks_rule, unfit_here, where_in, NoneFails}
 use Rattle.ecma_fits.specs.Roles.{is_out_of_role}
 use Rattle.ecma_fits.specs.Strays.{is_stray_target}
 use Rattle.ecma_strip_fits.proofs.Classes.{class_of}
@@ -32,7 +32,8 @@ use Rattle.ecma_strip_fits.proofs.RuleStanding.{How, Stands, below, items, under
 use Rattle.ecma_strip_fits.proofs.StaysAll.{all_of_list, declarators_calm, items_have}
 use Rattle.ecma_strip_fits.proofs.Strays.{kind_node, none_failing}
 use Rattle.ecma_strip_fits.proofs.Tests.{neither}
-use Rattle.ecma_strip_fits.proofs.Walk.{Carries, children_of, kept, neither_least, shape_parts, usual_kind}
+use Rattle.ecma_strip_fits.proofs.Walk.{Carries, children_of, kept, shape_parts, usual_kind}
+use Rattle.ecma_fits.proofs.Clauses.{none_unfit}
 
 some_same : {X : Type 0} {x y : X} → Some x ≡ Some y → x ≡ y
 some_same e = cc
@@ -216,4 +217,4 @@ carries = record {
 pub rules_kept : (tree : Node) → Fits tree → NoneFails breaks_rule (stripped tree)
 rules_kept tree f =
     (kept Where where_in unfit_here (λ w n. failing_here (ruling w (kind_of n) n) n) Stands carries tree (one sort.Module) at_top at_top f.sorted
-    (record { named = λ x. absurd (cc); met = refl; how = inl (refl, refl, (λ x. x)) }) (neither_least (first_unfit_in tree at_top) _ f.fitting).0).0
+    (record { named = λ x. absurd (cc); met = refl; how = inl (refl, refl, (λ x. x)) }) (none_unfit tree f)).0

@@ -31,6 +31,7 @@ use Rattle.ecma_strip_fits.proofs.Ruled.{left_expression, must_take, simple-out,
 use Rattle.ecma_strip_fits.proofs.RulesKept.{in_role}
 use Rattle.ecma_strip_fits.proofs.Walk.{NoneTells, children_of, each_none, neither_least, shape_parts}
 use Rattle.ecma_tree.proofs.Layers.{from_leaves_out}
+use Rattle.ecma_fits.proofs.Clauses.{none_unfit}
 
 some_same : {X : Type 0} {x y : X} → Some x ≡ Some y → x ≡ y
 some_same e = cc
@@ -347,7 +348,7 @@ right = ind-Node Right (λ x y is. node_right (roll-Node x) (λ i c at.
 
 -- also where the types round its expressions are looked through
 pub fits_under_types : (tree : Node) → Fits tree → HasSortUnderTypes sort.Module tree
-fits_under_types tree f = right tree (one sort.Module) (one sort.Module) at_top f.sorted (shape_parts tree (one sort.Module) f.sorted).0 refl (λ g. absurd (cc)) (neither_least (first_unfit_in tree at_top) _ f.fitting).0
+fits_under_types tree f = right tree (one sort.Module) (one sort.Module) at_top f.sorted (shape_parts tree (one sort.Module) f.sorted).0 refl (λ g. absurd (cc)) (none_unfit tree f)
 
 pub sorts_kept : StrippingKeepsSorts
 sorts_kept tree f = sorts_are_kept tree sort.Module refl (fits_under_types tree f)

@@ -16,12 +16,11 @@ use Rattle.ecma_rules.specs.Jumps.{Held, ends_jumps, held_behind, held_in, is_he
 use Rattle.ecma_rules.specs.Strays.{in_named, is_stray, strays_in}
 use Rattle.ecma_strip.specs.Stripping.{plain_children, plain_kind, stripped}
 use Rattle.ecma_strip.proofs.Sorting.{list-kind}
-use Rattle.ecma_fits.specs.Fitting.{at_top, first_unfit_in}
 use Rattle.ecma_strip_fits.specs.Laws.{StrippingKeepsStrays}
 use Rattle.ecma_strip_fits.proofs.Classes.{class_of}
 use Rattle.ecma_strip_fits.proofs.Classes.Class.{Usual, Wrapped}
 use Rattle.ecma_strip_fits.proofs.ChildrenKept.{AsUsual, Plain, child_kept, maybe_usual, one_usual}
-use Rattle.ecma_strip_fits.proofs.Walk.{Carries, children_of, kept, neither_least, shape_parts, usual_kind}
+use Rattle.ecma_strip_fits.proofs.Walk.{Carries, children_of, kept, shape_parts, usual_kind}
 
 pub kind_node : (span : Span) (k : Kind) (cs : List Node) → kind_of (node_of span k cs) ≡ k
 kind_node span k cs = ap (λ (z : Node-F Node). z.kind) (out-roll-Node (record { span = span; kind = k; children = cs }))
@@ -166,4 +165,4 @@ carries = record {
 pub keeps_strays : StrippingKeepsStrays
 keeps_strays tree f =
     (kept Held held_in stray_here stray_here Alike carries tree (one sort.Module) not_held not_held f.sorted refl
-    (neither_least (first_unfit_in tree at_top) _ f.fitting).1).0
+    f.strays).0

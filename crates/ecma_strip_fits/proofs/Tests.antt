@@ -15,13 +15,14 @@ use Rattle.ecma_fits.specs.declared.unfit.Where.{Where}
 use Rattle.ecma_fits.specs.Branches.{is_dangling}
 use Rattle.ecma_fits.specs.Chains.{is_loose}
 use Rattle.ecma_fits.specs.Counts.{is_short}
-use Rattle.ecma_fits.specs.Fitting.{Fits, at_top, first_unfit_in, is_misshapen, is_unfit, unfit_here, where_in, NoneFails}
+use Rattle.ecma_fits.specs.Fitting.{Fits, at_top, is_misshapen, is_unfit, unfit_here, where_in, NoneFails}
 use Rattle.ecma_fits.specs.Members.{is_misread, is_misread_by}
 use Rattle.ecma_strip_fits.proofs.Classes.{class_of}
 use Rattle.ecma_strip_fits.proofs.Classes.Class.{Usual}
 use Rattle.ecma_strip_fits.proofs.ChildrenKept.{AsUsual, Plain, kind_kept, one_usual}
 use Rattle.ecma_strip_fits.proofs.Strays.{kind_node, none_failing, not_failing}
 use Rattle.ecma_strip_fits.proofs.Walk.{Carries, children_of, kept, neither_least, usual_kind}
+use Rattle.ecma_fits.proofs.Clauses.{none_unfit}
 
 pub neither : (a b : Bool) → (a || b) ≡ false → (a ≡ false) × (b ≡ false)
 neither true b h = cc
@@ -68,7 +69,7 @@ module _ (fails : Kind → Node → Bool) (missing : (n : Node) → fails kind.A
   pub test_kept : (tree : Node) → Fits tree → NoneFails (λ w n. fails (kind_of n) n) (stripped tree)
   test_kept tree f =
       (kept Where where_in unfit_here (λ w n. failing_here (fails (kind_of n) n) n) (λ n s a b. Unit {0}) carries tree (one sort.Module) at_top at_top f.sorted tt
-      (neither_least (first_unfit_in tree at_top) _ f.fitting).0).0
+      (none_unfit tree f)).0
 
 some_same : {X : Type 0} {x y : X} → Some x ≡ Some y → x ≡ y
 some_same e = cc

@@ -19,7 +19,7 @@ use Rattle.ecma_text_fits_parts.proofs.Sound.{holds_with, is_attribute_list, is_
 use Rattle.ecma_text_fits_finished.proofs.Standing.{finished_parts}
 use Rattle.ecma_text_fits_parts.proofs.Steps.{one_true}
 use Rattle.ecma_text_fits_finished.proofs.Tests.{free_children, free_list, kind_at}
-use Rattle.ecma_fits_clauses.proofs.Walks.{free_kind, not_true}
+use Rattle.ecma_raw_roles.proofs.Walks.{free_kind, not_true}
 
 -- a node that nothing is assigned to
 abbrev pub free : Node → Node

@@ -29,13 +29,11 @@ use Rattle.ecma_text_leaves.proofs.Trees.{children_good, good_absent, good_frame
 use Rattle.ecma_text_sorts.specs.Laws.{ReadModulesAreSorted}
 use Rattle.ecma_leaves.specs.Words.{is_spelled, is_text_part}
 use Rattle.ecma_fits.specs.declared.unfit.Where.{Where}
-use Rattle.ecma_fits.specs.Fitting.{at_top, where_in, NoneFails}
+use Rattle.ecma_fits.specs.Fitting.{at_top, where_in, NoneFails, is_misspelled}
 use Rattle.ecma_fits.specs.Roles.{is_tagged}
 use Rattle.ecma_text_fits.specs.Laws.{ReadLeavesAreSpelled, ReadTreesKeepRules, RawModulesHaveTheirRoles}
 use Rattle.ecma_tree.proofs.Layers.{from_leaves-roll}
-use Rattle.ecma_fits_clauses.specs.Clauses.{is_misspelled, KeepsRules}
-use Rattle.ecma_fits_clauses.specs.RawRoles.{is_unvalued}
-use Rattle.ecma_fits_clauses.proofs.Clauses.{either, either_none, less}
+use Rattle.ecma_raw_roles.specs.RawRoles.{is_unvalued}
 use Rattle.ecma_text_fits_finished.proofs.Constructors.{one_constructor}
 use Rattle.ecma_text_fits_finished.proofs.Everywhere.{finished_good}
 use Rattle.ecma_text_fits_leaves.proofs.RawTexts.{untagged}
@@ -47,7 +45,10 @@ use Rattle.ecma_text_fits_leaves.proofs.ReadingOf.{read_holds}
 use Rattle.ecma_text_fits_finished.proofs.Rules.{children_made, keeps_rules}
 use Rattle.ecma_text_fits_finished.proofs.Strays.{no_strays}
 use Rattle.ecma_text_fits_finished.proofs.TextParts.{is_silent, parts_valued}
-use Rattle.ecma_fits_clauses.proofs.Walks.{kind_made, both_none, free_kind, neither, not_true, shifted}
+use Rattle.ecma_raw_roles.proofs.Walks.{kind_made, free_kind, not_true}
+use Rattle.ecma_text_fits.specs.Rules.{KeepsRules}
+use Rattle.ecma_fits.proofs.Clauses.{either, either_none, less}
+use Rattle.ecma_fits.proofs.Walks.{both_none, neither, shifted}
 
 pub read_keeps : ReadModulesAreSorted → ReadTreesKeepRules
 read_keeps read_sorted text mode bound tree e =

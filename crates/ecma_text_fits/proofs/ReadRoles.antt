@@ -9,11 +9,11 @@ use Rattle.ecma_fits.specs.Roles.{is_out_of_role}
 use Rattle.ecma_fits.specs.Strays.{is_stray_target}
 use Rattle.ecma_text_fits.specs.Laws.{FinishedTargetsAreNoStrays, FinishedTreesHaveTheirRoles, ReadTargetsAreNoStrays, ReadTreesHaveTheirRoles}
 use Rattle.ecma_fits.specs.Fitting.{NoneFails}
-use Rattle.ecma_fits_clauses.proofs.Clauses.{less, out_of_role, stray_target}
 use Rattle.ecma_text_fits_finished.proofs.FinishedRoles.{roles_finished}
 use Rattle.ecma_text_fits_finished.proofs.Raws.{of_raw}
 use Rattle.ecma_text_fits_roles.proofs.RoleReads.{modules_placed}
-use Rattle.ecma_fits_clauses.proofs.Walks.{neither}
+use Rattle.ecma_fits.proofs.Clauses.{less, out_of_role, stray_target}
+use Rattle.ecma_fits.proofs.Walks.{neither}
 
 abbrev both : Where → Node → Bool
 both w node = is_out_of_role w.role node || is_stray_target w.role w.arguments node

@@ -26,13 +26,14 @@ use Rattle.ecma_text_leaves.proofs.Trees.{children_made}
 use Rattle.ecma_text_fits.specs.Laws.{ReadTreesKeepRules, ReadBranchesTakeTheirElse, ReadLinksAreNotLoose, ReadMembersAreNotMisread, ReadNodesAreFull}
 use Rattle.ecma_text_fits.proofs.SoundStays.{finished_sound}
 use Rattle.ecma_tree.proofs.Layers.{from_leaves-roll}
-use Rattle.ecma_fits_clauses.specs.Clauses.{KeepsRules}
 use Rattle.ecma_text_fits_parts.proofs.RawSound.{raw_sound}
 use Rattle.ecma_text_fits_finished.proofs.Raws.{of_raw}
 use Rattle.ecma_text_fits_parts.proofs.Sound.{Sound, are_attributes, are_several, has, holds_with, is_attribute_list, is_base, is_choice, is_export, is_export_all, is_function, is_import, is_linked, is_list_of, is_method_pair, is_named_well, is_object, is_template, items, may_be_named}
 use Rattle.ecma_text_fits_parts.proofs.Steps.{one_true}
 use Rattle.ecma_text_fits_parts.proofs.Throughout.{EachThroughout, Throughout, below, here, more}
-use Rattle.ecma_fits_clauses.proofs.Walks.{both_none, neither, neither_least, not_failing, not_true, shifted}
+use Rattle.ecma_raw_roles.proofs.Walks.{not_true}
+use Rattle.ecma_text_fits.specs.Rules.{KeepsRules}
+use Rattle.ecma_fits.proofs.Walks.{both_none, neither, neither_least, not_failing, shifted}
 
 -- where a walk tells nothing, a test tells nothing that no sound node fails of which the walk tells nothing
 module _ (f g : Where → Node → Bool) (fine : (w : Where) (n : Node) → Sound (kind_of n) (children_of n) → f w n ≡ false → g w n ≡ false) where

@@ -22,7 +22,7 @@ use Rattle.ecma_text_fits_parts.proofs.Sound.{Sound, are_several, holds_with, is
 use Rattle.ecma_text_fits_finished.proofs.Standing.{presence}
 use Rattle.ecma_text_fits_finished.proofs.Tests.{free_children, kind_at}
 use Rattle.ecma_text_fits_parts.proofs.Throughout.{Throughout}
-use Rattle.ecma_fits_clauses.proofs.Walks.{free_kind, not_true}
+use Rattle.ecma_raw_roles.proofs.Walks.{free_kind, not_true}
 
 -- children that nothing is assigned to
 abbrev frees : List Node → List Node

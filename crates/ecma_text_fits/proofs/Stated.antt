@@ -1,13 +1,9 @@
 -- The laws that are proved below, as they are stated.
-use Rattle.ecma_fits_clauses.proofs.Clauses.{fits_by_clauses}
-use Rattle.ecma_text_fits.specs.Laws.{FinishedClassesHaveOneConstructor, FinishedTreesHaveNoStrays, FinishedTreesKeepRules, FitsByClauses, RawModulesHaveTheirRoles}
+use Rattle.ecma_text_fits.specs.Laws.{FinishedClassesHaveOneConstructor, FinishedTreesHaveNoStrays, FinishedTreesKeepRules, RawModulesHaveTheirRoles}
 use Rattle.ecma_text_fits_finished.proofs.Constructors.{one_constructor}
 use Rattle.ecma_text_fits_finished.proofs.Rules.{keeps_rules}
 use Rattle.ecma_text_fits_finished.proofs.Strays.{no_strays}
 use Rattle.ecma_text_fits_roles.proofs.RoleReads.{modules_placed}
-
-pub by_clauses : FitsByClauses
-by_clauses = fits_by_clauses
 
 pub have_no_strays : FinishedTreesHaveNoStrays
 have_no_strays = no_strays
@@ -20,8 +16,6 @@ have_one_constructor = one_constructor
 
 pub have_roles : RawModulesHaveTheirRoles
 have_roles = modules_placed
-
-pub ruleset clauses = (by_clauses)
 
 pub ruleset strayless = (have_no_strays)
 

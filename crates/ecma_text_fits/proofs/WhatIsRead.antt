@@ -1,11 +1,11 @@
 -- What is read fits, clause by clause.
 use Rattle.ecma_text_sorts.specs.Laws.{ReadModulesAreSorted}
-use Rattle.ecma_text_fits.specs.Laws.{FitsByClauses, ReadLeavesAreSpelled, ReadTreesKeepRules, ReadTargetsAreNoStrays, ReadTreesHaveTheirRoles, ReadBranchesTakeTheirElse, ReadLinksAreNotLoose, ReadMembersAreNotMisread, ReadNodesAreFull, WhatIsReadFits}
+use Rattle.ecma_text_fits.specs.Laws.{ReadLeavesAreSpelled, ReadTreesKeepRules, ReadTargetsAreNoStrays, ReadTreesHaveTheirRoles, ReadBranchesTakeTheirElse, ReadLinksAreNotLoose, ReadMembersAreNotMisread, ReadNodesAreFull, WhatIsReadFits}
 
-pub read_fits : FitsByClauses → ReadModulesAreSorted → ReadNodesAreFull → ReadBranchesTakeTheirElse → ReadLinksAreNotLoose → ReadMembersAreNotMisread → ReadTreesHaveTheirRoles → ReadTargetsAreNoStrays → ReadTreesKeepRules → ReadLeavesAreSpelled → WhatIsReadFits
-read_fits by_clauses sorted full branches links members roles targets keeps spelled text mode bound tree utf8 small e =
+pub read_fits : ReadModulesAreSorted → ReadNodesAreFull → ReadBranchesTakeTheirElse → ReadLinksAreNotLoose → ReadMembersAreNotMisread → ReadTreesHaveTheirRoles → ReadTargetsAreNoStrays → ReadTreesKeepRules → ReadLeavesAreSpelled → WhatIsReadFits
+read_fits sorted full branches links members roles targets keeps spelled text mode bound tree utf8 small e =
     let rules = keeps text mode bound tree e in
-    (by_clauses tree).1 (record {
+    record {
       sorted = sorted text mode bound tree e;
       counts = full text mode bound tree e;
       branches = branches text mode bound tree e;
@@ -17,4 +17,4 @@ read_fits by_clauses sorted full branches links members roles targets keeps spel
       constructors = rules.constructors;
       leaves = spelled text mode bound tree utf8 small e;
       strays = rules.strays;
-    })
+    }

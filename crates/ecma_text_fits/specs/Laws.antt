@@ -8,7 +8,7 @@ use Rattle.ecma_rules.specs.Jumps.{first_stray}
 use Rattle.ecma_fits.specs.Branches.{is_dangling}
 use Rattle.ecma_fits.specs.Chains.{is_loose}
 use Rattle.ecma_fits.specs.Counts.{is_short}
-use Rattle.ecma_fits.specs.Fitting.{Fits, breaks_rule, first_unfit, NoneFails}
+use Rattle.ecma_fits.specs.Fitting.{Fits, breaks_rule, first_unfit, NoneFails, is_misspelled}
 use Rattle.ecma_fits.specs.Members.{is_misread}
 use Rattle.ecma_fits.specs.Roles.{is_out_of_role}
 use Rattle.ecma_fits.specs.Strays.{is_stray_target}
@@ -22,12 +22,12 @@ use Rattle.ecma_fits.specs.declared.role.Role.TheVariants as role
 use Rattle.ecma_grammar_laws.specs.RawSorts.{HasRawSort}
 use Rattle.ecma_text_fits.specs.Least.{Unfit}
 use Rattle.ecma_rules.specs.Members.{has_second_constructor}
-use Rattle.ecma_fits_clauses.specs.Clauses.{is_misspelled, KeepsRules, Clauses}
-use Rattle.ecma_fits_clauses.specs.RawRoles.{HasRawRole}
+use Rattle.ecma_raw_roles.specs.RawRoles.{HasRawRole}
+use Rattle.ecma_text_fits.specs.Rules.{KeepsRules}
 
--- a tree fits exactly where each clause holds
-abbrev pub FitsByClauses : Type 0
-FitsByClauses = (tree : Node) → Fits tree ↔ Clauses tree
+-- a tree fits exactly where it is a module by its sorts and no place is told
+abbrev pub FitsWhereNoneIsTold : Type 0
+FitsWhereNoneIsTold = (tree : Node) → Fits tree ↔ (HasSort sort.Module tree × (first_unfit tree ≡ None))
 
 -- where a place is told, a node that begins there fails a clause, and none that begins before; where none is told, no node does
 abbrev pub FirstUnfitIsLeast : Type 0

@@ -3,14 +3,14 @@
 //! Each function carries one law, and does nothing. The laws are stated in `specs/Laws.antt`.
 #![tactic(auto)]
 
-ghost use Rattle.ecma_text_fits.specs.Laws.{FinishedClassesHaveOneConstructor, FinishedTargetsAreNoStrays, FinishedTreesHaveNoStrays, FinishedTreesHaveTheirRoles, FinishedTreesKeepRules, FirstUnfitIsLeast, FitsByClauses, RawModulesHaveTheirRoles, ReadBranchesTakeTheirElse, ReadLeavesAreSpelled, ReadLinksAreNotLoose, ReadMembersAreNotMisread, ReadNodesAreFull, ReadTargetsAreNoStrays, ReadTreesHaveTheirRoles, ReadTreesKeepRules, WhatIsReadFits};
+ghost use Rattle.ecma_text_fits.specs.Laws.{FinishedClassesHaveOneConstructor, FinishedTargetsAreNoStrays, FinishedTreesHaveNoStrays, FinishedTreesHaveTheirRoles, FinishedTreesKeepRules, FirstUnfitIsLeast, FitsWhereNoneIsTold, RawModulesHaveTheirRoles, ReadBranchesTakeTheirElse, ReadLeavesAreSpelled, ReadLinksAreNotLoose, ReadMembersAreNotMisread, ReadNodesAreFull, ReadTargetsAreNoStrays, ReadTreesHaveTheirRoles, ReadTreesKeepRules, WhatIsReadFits};
 
 use ecma_text_sorts::modules_that_are_read_are_sorted;
 
-/// A tree fits exactly where it is a module by its sorts and no node of it fails one of the clauses.
-#[tactic(auto, using(crate::proofs::Stated::clauses))]
-pub fn trees_fit_by_clauses()
-    ensures { FitsByClauses }
+/// A tree fits exactly where it is a module by its sorts and no place is told of it.
+#[tactic(auto, using(ecma_fits::proofs::Clauses::clauses))]
+pub fn trees_fit_where_no_place_is_told()
+    ensures { FitsWhereNoneIsTold }
 {}
 
 /// Where a tree does not fit, a node that fails a clause begins at the place that is told, and none begins before; where it fits, none is told.
@@ -117,7 +117,6 @@ pub fn leaves_that_are_read_are_spelled()
 pub fn what_is_read_fits()
     ensures { WhatIsReadFits }
 {
-    trees_fit_by_clauses();
     modules_that_are_read_are_sorted();
     nodes_that_are_read_are_full();
     branches_that_are_read_take_their_else();

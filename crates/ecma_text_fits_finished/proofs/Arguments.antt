@@ -13,7 +13,7 @@ use Rattle.ecma_rules.specs.declared.strays.Strays.{Strays}
 use Rattle.ecma_rules.specs.Strays.{in_named, strays_in}
 use Rattle.ecma_fits.specs.declared.strays.Arguments.{Arguments}
 use Rattle.ecma_fits.specs.Strays.{arguments_in}
-use Rattle.ecma_fits_clauses.proofs.Walks.{not_true}
+use Rattle.ecma_raw_roles.proofs.Walks.{not_true}
 
 -- the same belongs to nothing
 abbrev pub Match : Strays → Arguments → Type 0

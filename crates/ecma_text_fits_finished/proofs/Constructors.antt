@@ -20,10 +20,11 @@ use Rattle.ecma_rules.specs.Rules.{first_misplaced, first_broken}
 use Rattle.ecma_rules.specs.Surroundings.{at_root}
 use Rattle.ecma_rules.specs.Targets.{target_in}
 use Rattle.ecma_fits.specs.Fitting.{at_top, NoneFails}
-use Rattle.ecma_fits_clauses.proofs.Walks.{free_kind, neither_least, not_true, kind_made}
+use Rattle.ecma_raw_roles.proofs.Walks.{free_kind, not_true, kind_made}
 use Rattle.ecma_text_fits_finished.proofs.Tests.{free_children, free_has_child, free_list, list_kind}
 use Rattle.ecma_text_fits_finished.proofs.Rules.{children_made}
 use Rattle.ecma_text_fits_finished.proofs.Ruled.{is_made, ruled}
+use Rattle.ecma_fits.proofs.Walks.{neither_least}
 
 full_stays : (n : Node) → is_full_constructor (finished_at n target.Free) ≡ is_full_constructor n
 full_stays n = ap₂ (λ a b. is_constructor a && b) (free_kind n) (free_has_child n 2)

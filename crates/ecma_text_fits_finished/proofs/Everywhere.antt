@@ -15,7 +15,7 @@ use Rattle.ecma_text_leaves.specs.Everywhere.{Each, Everywhere, more, none}
 use Rattle.ecma_text_leaves.proofs.Trees.{children_good, each_append, good_node, kind_good}
 use Rattle.ecma_text_fits_finished.proofs.Standing.{finished_parts}
 use Rattle.ecma_text_fits_finished.proofs.Rules.{children_made}
-use Rattle.ecma_fits_clauses.proofs.Walks.{kind_made}
+use Rattle.ecma_raw_roles.proofs.Walks.{kind_made}
 
 module _ (P : Kind → Type 0) (missing : P kind.Absent) (bound : P kind.BindingIdent) (array : P (kind.ArrayPat false)) (object : P (kind.ObjectPat false)) (rest : P kind.RestPat)
     (default : P kind.AssignPat) (value : P kind.KeyValuePatProp) (short : P kind.AssignPatProp) where

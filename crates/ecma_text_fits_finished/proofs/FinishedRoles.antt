@@ -20,11 +20,12 @@ use Rattle.ecma_fits.specs.declared.role.Role.TheVariants as role
 use Rattle.ecma_fits.specs.Fitting.{at_top, NoneFails}
 use Rattle.ecma_fits.specs.Roles.{is_name, is_out_of_role}
 use Rattle.ecma_fits.specs.Strays.{is_stray_target}
-use Rattle.ecma_fits_clauses.specs.RawRoles.{HasRawRole}
+use Rattle.ecma_raw_roles.specs.RawRoles.{HasRawRole}
 use Rattle.ecma_text_fits_finished.proofs.RoleKinds.{calm}
 use Rattle.ecma_text_fits_finished.proofs.RoleWalks.{AreSound, Each}
 use Rattle.ecma_text_fits_finished.proofs.Roles.{in_roles}
-use Rattle.ecma_fits_clauses.proofs.Walks.{neither_least, not_true}
+use Rattle.ecma_raw_roles.proofs.Walks.{not_true}
+use Rattle.ecma_fits.proofs.Walks.{neither_least}
 
 -- it has a shape of the grammar
 abbrev Sound : Node → Type 0

@@ -17,9 +17,9 @@ use Rattle.ecma_rules.specs.Targets.{is_plain_target, is_spread, is_wrapper, on_
 use Rattle.ecma_fits.specs.declared.role.Role.{Role}
 use Rattle.ecma_fits.specs.declared.role.Role.TheVariants as role
 use Rattle.ecma_fits.specs.Roles.{is_bound_name, bound_name_of, by, in_default, in_list, in_rest, in_template, is_assigned, is_name, left_of, operand_of, role_in}
-use Rattle.ecma_fits_clauses.specs.RawRoles.{is_getter, is_parameter, raw_role, usual_role_in}
+use Rattle.ecma_raw_roles.specs.RawRoles.{is_getter, is_parameter, raw_role, usual_role_in}
 use Rattle.ecma_text_fits_finished.proofs.RoleKinds.{Proper, bound_name, calm, is_calm, is_declared, is_single, items_even, maybe_parameter, one_pat, parameters, property_parameter, unassigned}
-use Rattle.ecma_fits_clauses.proofs.Walks.{not_true}
+use Rattle.ecma_raw_roles.proofs.Walks.{not_true}
 
 -- a node of this kind has one role in the raw tree, and another in the finished one
 abbrev pub Agrees : Target → Role → Role → Kind → Type 0

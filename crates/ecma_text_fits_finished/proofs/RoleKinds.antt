@@ -14,8 +14,9 @@ use Rattle.ecma_grammar_laws.specs.RawSorts.{is_parameter_property}
 use Rattle.ecma_fits.specs.declared.role.Role.{Role}
 use Rattle.ecma_fits.specs.declared.role.Role.TheVariants as role
 use Rattle.ecma_fits.specs.Roles.{in_list, is_assigned, is_binding, is_default, is_free, is_rest, is_wrong_name, is_wrong_text, may_be, takes}
-use Rattle.ecma_fits_clauses.specs.RawRoles.{is_parameter, may_be_raw, may_say, may_stand as may_stand_raw, raw_role}
-use Rattle.ecma_fits_clauses.proofs.Walks.{neither, not_true}
+use Rattle.ecma_raw_roles.specs.RawRoles.{is_parameter, may_be_raw, may_say, may_stand as may_stand_raw, raw_role}
+use Rattle.ecma_raw_roles.proofs.Walks.{not_true}
+use Rattle.ecma_fits.proofs.Walks.{neither}
 
 -- roles of what is declared, and of all else that is not assigned to
 abbrev pub is_declared : Role → Bool

@@ -27,11 +27,12 @@ use Rattle.ecma_fits.specs.declared.role.Role.TheVariants as role
 use Rattle.ecma_fits.specs.Fitting.{where_in}
 use Rattle.ecma_fits.specs.Roles.{bound_name_of, is_assigned, is_bound_name, is_name, is_out_of_role, is_wrong_name, may_be, role_in}
 use Rattle.ecma_fits.specs.Strays.{arguments_in, is_stray_target}
-use Rattle.ecma_fits_clauses.specs.RawRoles.{raw_role_in, usual_role_in}
-use Rattle.ecma_fits_clauses.proofs.Walks.{both_none, neither, not_true, kind_made}
+use Rattle.ecma_raw_roles.specs.RawRoles.{raw_role_in, usual_role_in}
+use Rattle.ecma_raw_roles.proofs.Walks.{not_true, kind_made}
 use Rattle.ecma_text_fits_finished.proofs.Standing.{finished_parts}
-use Rattle.ecma_fits_clauses.proofs.Placed.{along_least, least_along, raw_walk, usual}
+use Rattle.ecma_raw_roles.proofs.Placed.{along_least, least_along, raw_walk, usual}
 use Rattle.ecma_text_fits_finished.proofs.RoleKinds.{may_stand, out_by}
+use Rattle.ecma_fits.proofs.Walks.{both_none, neither}
 
 -- what the sorts of a raw tree say of the first children of a node of this kind
 abbrev pub AreSound : Kind → List Node → Type 0

@@ -28,11 +28,11 @@ use Rattle.ecma_fits.specs.declared.role.Role.{Role}
 use Rattle.ecma_fits.specs.declared.role.Role.TheVariants as role
 use Rattle.ecma_fits.specs.Fitting.{where_in}
 use Rattle.ecma_fits.specs.Roles.{in_default, in_rest, is_assigned, is_bound_name, is_name, is_wrong_name, may_be, role_in, takes}
-use Rattle.ecma_fits_clauses.specs.RawRoles.{is_getter, may_be_raw, raw_role, usual_role_in}
-use Rattle.ecma_fits_clauses.proofs.Walks.{both_none, neither, neither_least, not_true, shifted, kind_made}
+use Rattle.ecma_raw_roles.specs.RawRoles.{is_getter, may_be_raw, raw_role, usual_role_in}
+use Rattle.ecma_raw_roles.proofs.Walks.{not_true, kind_made}
 use Rattle.ecma_text_fits_finished.proofs.Standing.{around_by, finished_parts, shape_allows}
 use Rattle.ecma_text_fits_finished.proofs.Ruled.{broken_parts}
-use Rattle.ecma_fits_clauses.proofs.Placed.{displaced_by, raw_parts, raw_walk}
+use Rattle.ecma_raw_roles.proofs.Placed.{displaced_by, raw_parts, raw_walk}
 use Rattle.ecma_text_fits_finished.proofs.RoleKinds.{Proper, calm, is_odd, unassigned, may_stand, no_list_parameter, one_pat, out_by, stands, taken, wrong_name}
 use Rattle.ecma_text_fits_finished.proofs.RoleChildren.{Agrees, AllProper, AllStand, Stands, calm_in, default_single, each_stands, free_agrees, is_steady, proper_in, steady_unbound, rest_single, stand, steady_stand, untold}
 use Rattle.ecma_rules.specs.Jumps.{Held, first_held_stray, is_stray_in}
@@ -41,6 +41,7 @@ use Rattle.ecma_fits.specs.Strays.{arguments_in}
 use Rattle.ecma_text_fits_finished.proofs.Strays.{held_by, label_in, none_parts}
 use Rattle.ecma_text_fits_finished.proofs.Arguments.{AllLinked, Linked, allows_inert, is_inert_kind, linked_in, linked_turned}
 use Rattle.ecma_text_fits_finished.proofs.RoleWalks.{declared_fine, stray_by, unbound, AreSound, Each, walk, walk_whole, absent_tells, kept_targets, usual_roles, first_simple, simple_made, simple_same, each_simple, binding_tells, shorthand_tells}
+use Rattle.ecma_fits.proofs.Walks.{both_none, neither, neither_least, shifted}
 
 module _ (Sound : Node → Type 0) (sound : (x : Node-F Node) → Sound (roll-Node x) → Each Sound x.children × AreSound x.kind x.children) where
   -- of children of which nothing was told, nothing is told

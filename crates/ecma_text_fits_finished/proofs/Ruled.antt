@@ -29,8 +29,9 @@ use Rattle.ecma_rules.specs.Surroundings.{around_in, standing_by}
 use Rattle.ecma_rules.specs.Targets.{first_is, is_literal, is_no_target, is_plain_target, is_simple_target, is_wrapper, takes_patterns, target_in}
 use Rattle.ecma_fits.specs.declared.unfit.Where.{Where}
 use Rattle.ecma_fits.specs.Fitting.{where_in}
-use Rattle.ecma_fits_clauses.proofs.Walks.{both_none, free_kind, have_front, neither, neither_least, not_failing, not_true, one_more, shifted, kind_made}
+use Rattle.ecma_raw_roles.proofs.Walks.{free_kind, have_front, not_true, one_more, kind_made}
 use Rattle.ecma_text_fits_finished.proofs.Standing.{AllStand, Stands, around_by, binds, each_stands, finished_parts, free_child, is_element, is_part, is_property, keeps_last, kept_rules, no_rest_expression, no_target_by, same_children, shape_allows, shown, turns}
+use Rattle.ecma_fits.proofs.Walks.{both_none, neither, neither_least, not_failing, shifted}
 
 -- the kinds that finishing makes, and what may stand in them
 abbrev pub is_made : Kind → Bool

@@ -28,10 +28,11 @@ use Rattle.ecma_rules.specs.Surroundings.{at_root}
 use Rattle.ecma_rules.specs.Targets.{is_spread, is_variables, target_in}
 use Rattle.ecma_fits.specs.declared.unfit.Where.{Where}
 use Rattle.ecma_fits.specs.Fitting.{at_top, breaks_rule, NoneFails}
-use Rattle.ecma_fits_clauses.proofs.Walks.{neither, neither_least, not_true, kind_made}
+use Rattle.ecma_raw_roles.proofs.Walks.{not_true, kind_made}
 use Rattle.ecma_text_fits_finished.proofs.Standing.{Stands, as_last, keeps_last, kept_rules, presence, shown}
 use Rattle.ecma_text_fits_finished.proofs.Tests.{all_stay, further_stay, kind_at, kind_fits, patterns_stay, plain_parameter, test_at, this_pattern, without_value}
 use Rattle.ecma_text_fits_finished.proofs.Ruled.{is_made, ruled}
+use Rattle.ecma_fits.proofs.Walks.{neither, neither_least}
 
 either_no : (a b : Bool) → a ≡ false → b ≡ false → (a || b) ≡ false
 either_no a b h g = rw (h, g) refl

@@ -22,7 +22,8 @@ use Rattle.ecma_rules.specs.Lists.{last_by}
 use Rattle.ecma_rules.specs.Rules.{fails_list, fails_member, fails_statement, fails_super, fails_target, is_misplaced}
 use Rattle.ecma_rules.specs.Surroundings.{standing_by}
 use Rattle.ecma_rules.specs.Targets.{first_is, is_literal, is_no_target, is_plain, is_plain_target, is_simple_target, is_stray_default, is_wrapper, simple_step, takes_patterns, target_in}
-use Rattle.ecma_fits_clauses.proofs.Walks.{neither, not_true, kind_made}
+use Rattle.ecma_raw_roles.proofs.Walks.{not_true, kind_made}
+use Rattle.ecma_fits.proofs.Walks.{neither}
 
 -- what the rules still see of a target: literals and names in a pattern are turned, and nothing more is asked of them
 abbrev pub shown : Target → Target

@@ -23,7 +23,8 @@ use Rattle.ecma_rules.specs.Strays.{in_named, is_stray, strays_in}
 use Rattle.ecma_rules.specs.Surroundings.{at_root}
 use Rattle.ecma_rules.specs.Targets.{target_in}
 use Rattle.ecma_tree.proofs.Layers.{from_leaves-roll}
-use Rattle.ecma_fits_clauses.proofs.Walks.{both_none, free_kind, have_front, neither_least, not_failing, not_true, one_more, shifted}
+use Rattle.ecma_raw_roles.proofs.Walks.{free_kind, have_front, not_true, one_more}
+use Rattle.ecma_fits.proofs.Walks.{both_none, neither_least, not_failing, shifted}
 
 -- the label of a node with these children
 abbrev pub label_in : List Node → Option (List ℕ)

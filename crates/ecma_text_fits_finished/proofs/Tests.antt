@@ -21,7 +21,7 @@ use Rattle.ecma_rules.specs.Finishing.{each_in, finished_at}
 use Rattle.ecma_rules.specs.Lists.{is_one_without_value, is_rest_pattern}
 use Rattle.ecma_rules.specs.Members.{behind_first, fits_kind, is_binding_name, is_empty_list, is_named_pattern, is_one_parameter, is_plain_parameter, is_this_by, is_this_parameter, is_this_pattern, takes_one}
 use Rattle.ecma_rules.specs.Targets.{target_in}
-use Rattle.ecma_fits_clauses.proofs.Walks.{free_kind, not_true}
+use Rattle.ecma_raw_roles.proofs.Walks.{free_kind, not_true}
 use Rattle.ecma_text_fits_finished.proofs.Standing.{finished_parts, presence}
 
 abbrev children_of : Node → List Node

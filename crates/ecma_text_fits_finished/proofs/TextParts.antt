@@ -21,12 +21,13 @@ use Rattle.ecma_fits.specs.declared.unfit.Where.{Where}
 use Rattle.ecma_fits.specs.Fitting.{at_top, where_in, NoneFails}
 use Rattle.ecma_fits.specs.Roles.{at_child, bound_name_of, by, in_default, in_list, in_rest, in_template, is_assigned, is_in, is_tagged, is_wrong_name, role_in}
 use Rattle.ecma_tree.proofs.Layers.{from_leaves-roll}
-use Rattle.ecma_fits_clauses.specs.RawRoles.{HasRawRole, is_parameter, is_unvalued, may_be_raw, may_stand, raw_role, raw_role_in, usual_role_in}
-use Rattle.ecma_fits_clauses.proofs.Placed.{Along, least_along, raw_parts}
+use Rattle.ecma_raw_roles.specs.RawRoles.{HasRawRole, is_parameter, is_unvalued, may_be_raw, may_stand, raw_role, raw_role_in, usual_role_in}
+use Rattle.ecma_raw_roles.proofs.Placed.{Along, least_along, raw_parts}
 use Rattle.ecma_text_fits_finished.proofs.Raws.{of_raw}
 use Rattle.ecma_text_fits_finished.proofs.Standing.{finished_parts}
-use Rattle.ecma_fits_clauses.proofs.Walks.{kind_made, both_none, neither, not_true, shifted}
+use Rattle.ecma_raw_roles.proofs.Walks.{kind_made, not_true}
 use Rattle.ecma_grammar.specs.Modules.{answer_of, reads_module}
+use Rattle.ecma_fits.proofs.Walks.{both_none, neither, shifted}
 
 -- a text part has no value, and stands behind no tag
 abbrev pub is_silent : Where → Node → Bool

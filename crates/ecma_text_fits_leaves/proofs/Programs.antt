@@ -11,7 +11,7 @@ use Rattle.ecma_kind.specs.declared.shapes.Sort.{Sort}
 use Rattle.ecma_kind.specs.declared.shapes.Sort.TheVariants as sort
 use Rattle.ecma_tree.specs.Sorted.{allows, allows_by, child_shapes, item_shape, one}
 use Rattle.ecma_text_fits_leaves.proofs.ReadLeaves.{is_program}
-use Rattle.ecma_fits_clauses.proofs.Walks.{not_true}
+use Rattle.ecma_raw_roles.proofs.Walks.{not_true}
 
 -- sorts of what stands within a program
 abbrev pub is_inner_sort : Sort → Bool

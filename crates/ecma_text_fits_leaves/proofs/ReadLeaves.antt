@@ -53,7 +53,7 @@ use Rattle.ecma_text_fits_leaves.proofs.ReadDigits.{digits_are, word, word_is, w
 use Rattle.ecma_text_fits_leaves.proofs.ReadingOf.{is_hashbang}
 use Rattle.ecma_text_fits_leaves.proofs.RawTexts.{part_spelled}
 use Rattle.ecma_text_fits_leaves.proofs.ReadRegexes.{regex_body, regex_flags}
-use Rattle.ecma_fits_clauses.proofs.Walks.{not_true}
+use Rattle.ecma_raw_roles.proofs.Walks.{not_true}
 
 -- a whole program, which stands nowhere but at the root
 abbrev pub is_program : Kind → Bool

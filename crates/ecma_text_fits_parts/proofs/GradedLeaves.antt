@@ -18,7 +18,7 @@ use Rattle.ecma_fits.specs.Counts.{is_attribute_key, is_text}
 use Rattle.ecma_text_leaves.proofs.Leaves.{Holds, holds_fails, holds_read, holds_then}
 use Rattle.ecma_text_fits_parts.proofs.Grades.{Grade, LeafKind, Meets, is_expression, is_key_leaf, is_text_leaf, leaf_fits, leaf_meets, leaf_part}
 use Rattle.ecma_text_fits_parts.proofs.Sound.{Sound}
-use Rattle.ecma_fits_clauses.proofs.Walks.{not_true}
+use Rattle.ecma_raw_roles.proofs.Walks.{not_true}
 
 -- a text part is the last where that is wanted, and else it is not
 

@@ -20,7 +20,7 @@ use Rattle.ecma_fits.specs.Counts.{are, are_imports, is_attribute, is_attribute_
 use Rattle.ecma_text_leaves.proofs.Trees.{children_made, kind_made}
 use Rattle.ecma_text_fits_parts.proofs.Sound.{Sound, are_attributes, is_base, is_method_pair, is_mild, is_pair, is_pattern, is_some, is_triple}
 use Rattle.ecma_text_fits_parts.proofs.Throughout.{EachThroughout, Throughout, none, throughout}
-use Rattle.ecma_fits_clauses.proofs.Walks.{not_true}
+use Rattle.ecma_raw_roles.proofs.Walks.{not_true}
 
 pub data Grade : Type 0 where
   -- each node in it is sound; and it has a mild kind; that of a pattern; that of a link; that of its base; it is there and no text part; it is there; it is missing

@@ -17,7 +17,7 @@ use Rattle.ecma_grammar.specs.productions.Statements.{do_while, expression_state
 use Rattle.ecma_text_leaves.proofs.Productions.{productions}
 use Rattle.ecma_text_fits_parts.proofs.Grades.{closed, good}
 use Rattle.ecma_text_fits_parts.proofs.Keeps.{keeps, part_keeps}
-use Rattle.ecma_fits_clauses.proofs.Walks.{not_true}
+use Rattle.ecma_raw_roles.proofs.Walks.{not_true}
 use Rattle.ecma_text_fits_parts.proofs.Wanted.{done, ends, one}
 
 pub module_kept : keeps module_body ends (one good done) ≡ true

@@ -21,7 +21,7 @@ use Rattle.ecma_text_fits_parts.proofs.Keeps.{keeps, none, part_keeps, single}
 use Rattle.ecma_text_fits_parts.proofs.Needs.{needs}
 use Rattle.ecma_text_fits_parts.proofs.Makings.{form_made}
 use Rattle.ecma_text_fits_parts.proofs.Steps.{Leaves, Repeated, ends_given, leaves_both, one_true, passes_leave, repeats_leave, stays, steps_leave}
-use Rattle.ecma_fits_clauses.proofs.Walks.{not_true}
+use Rattle.ecma_raw_roles.proofs.Walks.{not_true}
 use Rattle.ecma_text_fits_parts.proofs.Wanted.{Given, Wanted, choice, done, ends, is_whatever, one, passes, repeats_then, steps, whatever}
 
 -- how a property of what is read goes through the words of a grammar

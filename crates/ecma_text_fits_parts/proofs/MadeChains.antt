@@ -22,7 +22,7 @@ use Rattle.ecma_text_fits_parts.proofs.MadeLists.{made_usually}
 use Rattle.ecma_text_fits_parts.proofs.Needs.{chain_needs, usually}
 use Rattle.ecma_text_fits_parts.proofs.Sound.{Sound, base_mild, is_base, is_linked, is_mild, is_some, is_triple, mild_set, set_pair, set_triple}
 use Rattle.ecma_text_fits_parts.proofs.Throughout.{EachThroughout, Throughout, below, filter_all, first_of, here, more, none, others_of, set_all, throughout}
-use Rattle.ecma_fits_clauses.proofs.Walks.{not_true}
+use Rattle.ecma_raw_roles.proofs.Walks.{not_true}
 use Rattle.ecma_text_fits_parts.proofs.Wanted.{Each, Given, Turns, each, one, turns}
 
 -- what stands before a node becomes its first child

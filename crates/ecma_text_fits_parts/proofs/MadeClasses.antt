@@ -23,7 +23,7 @@ use Rattle.ecma_text_fits_parts.proofs.MadeNodes.{quiet_sound}
 use Rattle.ecma_text_fits_parts.proofs.Needs.{five, is_quiet, method_parts, nine, seven, six, three}
 use Rattle.ecma_text_fits_parts.proofs.Sound.{Sound, is_function, is_method_pair, may_be_named, or_first, or_second}
 use Rattle.ecma_text_fits_parts.proofs.Throughout.{EachThroughout, Throughout, below, first_of, more, none, others_of, throughout}
-use Rattle.ecma_fits_clauses.proofs.Walks.{not_true}
+use Rattle.ecma_raw_roles.proofs.Walks.{not_true}
 use Rattle.ecma_text_fits_parts.proofs.Wanted.{Given, done, one}
 
 absent_sound : Throughout Sound absent

@@ -20,8 +20,9 @@ use Rattle.ecma_text_fits_parts.proofs.MadeNodes.{all_sound, quiet_sound}
 use Rattle.ecma_text_fits_parts.proofs.Needs.{declared_needs, five, four, is_quiet, namespace_needs, seven, three, two}
 use Rattle.ecma_text_fits_parts.proofs.Sound.{Sound, declared_sound, is_pattern, or_first, or_second, questioned_sound}
 use Rattle.ecma_text_fits_parts.proofs.Throughout.{EachThroughout, Throughout, append_all, below, first_of, here, map_all, more, none, others_of, throughout}
-use Rattle.ecma_fits_clauses.proofs.Walks.{not_true}
-use Rattle.ecma_text_fits_parts.proofs.Wanted.{Given, done, either, one}
+use Rattle.ecma_raw_roles.proofs.Walks.{not_true}
+use Rattle.ecma_text_fits_parts.proofs.Wanted.{Given, done, one}
+use Rattle.ecma_fits.proofs.Clauses.{either}
 
 absent_sound : Throughout Sound absent
 absent_sound = throughout dummy_span kind.Absent refl none

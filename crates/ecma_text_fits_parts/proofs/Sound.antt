@@ -16,7 +16,7 @@ use Rattle.ecma_rules.specs.Members.{is_constructor_key, is_method, is_special_f
 use Rattle.ecma_fits.specs.Branches.{takes_else}
 use Rattle.ecma_fits.specs.Chains.{is_behind_chain}
 use Rattle.ecma_fits.specs.Counts.{are_exports, are_imports, is_attribute, is_empty, is_whole_template}
-use Rattle.ecma_fits_clauses.proofs.Walks.{not_true}
+use Rattle.ecma_raw_roles.proofs.Walks.{not_true}
 
 abbrev pub items : List Node → ℕ → List Node
 items cs i = items_of (slice_get cs i)

@@ -38,7 +38,7 @@ use Rattle.ecma_text_fits_parts.proofs.Makings.{form_made}
 use Rattle.ecma_text_fits_parts.proofs.Needs.{needs, three, two}
 use Rattle.ecma_text_fits_parts.proofs.Sound.{Sound, is_some, or_first, or_second}
 use Rattle.ecma_text_fits_parts.proofs.Throughout.{Throughout, more, none, throughout}
-use Rattle.ecma_fits_clauses.proofs.Walks.{not_true}
+use Rattle.ecma_raw_roles.proofs.Walks.{not_true}
 use Rattle.ecma_text_fits_parts.proofs.Wanted.{Given, Wanted, done, ends, one}
 
 -- which nodes take an `else`

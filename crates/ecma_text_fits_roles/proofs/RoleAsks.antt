@@ -9,7 +9,7 @@ use Rattle.ecma_grammar.specs.trees.Parts.{kind_of, children_of, in_front}
 use Rattle.ecma_grammar.specs.trees.Chains.{in_front_link, is_text_part, steps}
 use Rattle.ecma_fits.specs.declared.role.Role.{Role}
 use Rattle.ecma_fits.specs.declared.role.Role.TheVariants as role
-use Rattle.ecma_fits_clauses.specs.RawRoles.{HasRawRole}
+use Rattle.ecma_raw_roles.specs.RawRoles.{HasRawRole}
 
 pub data Ask : Type 0 where
   any : Ask

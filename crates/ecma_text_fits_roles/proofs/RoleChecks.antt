@@ -10,7 +10,7 @@ use Rattle.ecma_grammar.specs.PartBodies.{part_body}
 use Rattle.ecma_grammar.specs.productions.Modules.{module_body}
 use Rattle.ecma_text_leaves.proofs.Productions.{productions}
 use Rattle.ecma_fits.specs.Roles.{may_be, role_in}
-use Rattle.ecma_fits_clauses.specs.RawRoles.{may_be_raw, raw_role_in, usual_role_in}
+use Rattle.ecma_raw_roles.specs.RawRoles.{may_be_raw, raw_role_in, usual_role_in}
 use Rattle.ecma_text_fits_roles.proofs.RoleAsks.{free, these}
 use Rattle.ecma_text_fits_roles.proofs.RoleNeeds.{keeps, part_keeps}
 

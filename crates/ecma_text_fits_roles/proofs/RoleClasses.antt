@@ -18,8 +18,8 @@ use Rattle.ecma_grammar.specs.trees.Others.{declared, declared_kind, headed, imp
 use Rattle.ecma_rules.specs.Supers as supers
 use Rattle.ecma_fits.specs.declared.role.Role.TheVariants as role
 use Rattle.ecma_fits.specs.Roles.{may_be, role_in}
-use Rattle.ecma_fits_clauses.specs.RawRoles.{HasRawRole, may_be_raw, raw_role_in, usual_role_in}
-use Rattle.ecma_fits_clauses.proofs.Placed.{Along, absent_free, along_same, displaced_by, placed, placed_parts, public_free}
+use Rattle.ecma_raw_roles.specs.RawRoles.{HasRawRole, may_be_raw, raw_role_in, usual_role_in}
+use Rattle.ecma_raw_roles.proofs.Placed.{Along, absent_free, along_same, displaced_by, placed, placed_parts, public_free}
 use Rattle.ecma_text_fits_roles.proofs.RoleAsks.{Ask, Given, MeetAll, Meets, free, head, these, whatever}
 use Rattle.ecma_text_fits_roles.proofs.RoleNeeds.{as_free, class_parts, field_parts, if_so, is_class, method_parts}
 use Rattle.ecma_text_fits_roles.proofs.RoleGiven.{no, two}

@@ -16,13 +16,12 @@ use Rattle.ecma_grammar_laws.proofs.RawShapes.{children_are, in_front_is, kind_i
 use Rattle.ecma_fits.specs.declared.role.Role.{Role}
 use Rattle.ecma_fits.specs.declared.role.Role.TheVariants as role
 use Rattle.ecma_fits.specs.Roles.{may_be, role_in}
-use Rattle.ecma_fits_clauses.specs.RawRoles.{HasRawRole, may_be_raw, raw_role, raw_role_in, usual_role_in}
-use Rattle.ecma_fits_clauses.proofs.Walks.{neither}
-use Rattle.ecma_fits_clauses.proofs.Placed.{displaced_by}
-use Rattle.ecma_fits_clauses.proofs.Placed.{Along, absent_free, along_last, along_same, moved, placed, placed_parts}
+use Rattle.ecma_raw_roles.specs.RawRoles.{HasRawRole, may_be_raw, raw_role, raw_role_in, usual_role_in}
+use Rattle.ecma_raw_roles.proofs.Placed.{displaced_by, Along, absent_free, along_last, along_same, moved, placed, placed_parts}
 use Rattle.ecma_text_fits_roles.proofs.RoleAsks.{Ask, Asked, Chained, Given, IsHead, MeetAll, MeetEach, Meets, any, at, before, behind, both, chain, each, first, first_and_each, free, head, head_rest, is_annotated, link, single, text_or_free, these, whatever, wider, with_default}
 use Rattle.ecma_text_fits_roles.proofs.RoleNeeds.{as_free, ats, bare_kind_needs, boths, chain_at, chain_needs, count, first_kind_needs, if_so, is_loop, kind_needs, list_needs, node_needs, swapped_asked, template_at, template_needs, without_first}
 use Rattle.ecma_text_fits_roles.proofs.RoleGiven.{is_wider, no, two}
+use Rattle.ecma_fits.proofs.Walks.{neither}
 
 pub given_so : (b : Bool) (asked : Asked) (xs : List Node) → Given (if_so b asked) xs → (b ≡ true) × Given asked xs
 given_so true asked xs g = (refl, g)

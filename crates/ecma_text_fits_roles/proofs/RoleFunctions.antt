@@ -16,9 +16,9 @@ use Rattle.ecma_grammar.specs.trees.Functions.{accessibility_of, annotated, anno
 use Rattle.ecma_fits.specs.declared.role.Role.{Role}
 use Rattle.ecma_fits.specs.declared.role.Role.TheVariants as role
 use Rattle.ecma_fits.specs.Roles.{may_be, role_in}
-use Rattle.ecma_fits_clauses.specs.RawRoles.{HasRawRole, may_be_raw, raw_role_in, usual_role_in}
-use Rattle.ecma_fits_clauses.proofs.Walks.{not_true}
-use Rattle.ecma_fits_clauses.proofs.Placed.{Along, absent_placed, along_same, displaced_by, moved, placed, placed_parts}
+use Rattle.ecma_raw_roles.specs.RawRoles.{HasRawRole, may_be_raw, raw_role_in, usual_role_in}
+use Rattle.ecma_raw_roles.proofs.Walks.{not_true}
+use Rattle.ecma_raw_roles.proofs.Placed.{Along, absent_placed, along_same, displaced_by, moved, placed, placed_parts}
 use Rattle.ecma_text_fits_roles.proofs.RoleAsks.{Ask, Given, MeetAll, MeetEach, Meets, any, at, both, free, is_annotated, is_loose, single, takes_defaulted, takes_patterns, these}
 use Rattle.ecma_text_fits_roles.proofs.RoleNeeds.{accessor_parts, annotated_needs, arrow_parts, as_free, declarator_parts, function_parts, if_so, is_function, is_parameter_role, parameter_needs}
 use Rattle.ecma_text_fits_roles.proofs.RoleGiven.{is_wider, no, two}

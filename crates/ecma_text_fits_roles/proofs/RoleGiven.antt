@@ -11,9 +11,9 @@ use Rattle.ecma_fits.specs.declared.role.Role.{Role}
 use Rattle.ecma_fits.specs.declared.role.Role.TheVariants as role
 use Rattle.ecma_fits.specs.Roles.{is_binding, may_be, role_in}
 use Rattle.ecma_lex.specs.Keys.{is_reserved}
-use Rattle.ecma_fits_clauses.specs.RawRoles.{HasRawRole, may_be_raw, raw_role_in, usual_role_in}
-use Rattle.ecma_fits_clauses.proofs.Walks.{not_true}
-use Rattle.ecma_fits_clauses.proofs.Placed.{Along, along_same, displaced_by, moved, placed, placed_parts, same_private}
+use Rattle.ecma_raw_roles.specs.RawRoles.{HasRawRole, may_be_raw, raw_role_in, usual_role_in}
+use Rattle.ecma_raw_roles.proofs.Walks.{not_true}
+use Rattle.ecma_raw_roles.proofs.Placed.{Along, along_same, displaced_by, moved, placed, placed_parts, same_private}
 use Rattle.ecma_text_fits_roles.proofs.RoleAsks.{Ask, Asked, Chained, Given, MeetAll, MeetEach, Meets, all_fit, all_given, any, at, before, behind, both, chain, each, each_fits, first, first_and_each, first_part, fits, free, is_annotated, is_free_role, is_loose, is_one, link, never, none_asked, of_many, of_one, perhaps, second_part, single, takes_defaulted, takes_patterns, takes_private, text_or_free, these, whatever, wider, with_default}
 
 pub no : {A : Type 0} → false ≡ true → A

@@ -35,8 +35,8 @@ use Rattle.ecma_grammar.specs.Grammar.{the_word}
 use Rattle.ecma_fits.specs.declared.role.Role.{Role}
 use Rattle.ecma_fits.specs.declared.role.Role.TheVariants as role
 use Rattle.ecma_fits.specs.Roles.{is_name, may_be}
-use Rattle.ecma_fits_clauses.specs.RawRoles.{HasRawRole, may_be_raw}
-use Rattle.ecma_fits_clauses.proofs.Placed.{absent_placed, displaced_by, placed}
+use Rattle.ecma_raw_roles.specs.RawRoles.{HasRawRole, may_be_raw}
+use Rattle.ecma_raw_roles.proofs.Placed.{absent_placed, displaced_by, placed}
 use Rattle.ecma_text_fits_leaves.proofs.RawTexts.{last_of, next_of, nowhere}
 use Rattle.ecma_text_fits_roles.proofs.RoleAsks.{Ask, Meets, any, at, both, is_loose, text_or_free}
 use Rattle.ecma_text_fits_roles.proofs.RoleNeeds.{flag_meets, leaf_at, leaf_meets, text_at}

@@ -13,8 +13,8 @@ use Rattle.ecma_grammar.specs.trees.Chains.{Callee, call_of, callee_by, callee_o
 use Rattle.ecma_grammar_laws.proofs.RawShapes.{children_are, in_front_is, kind_is}
 use Rattle.ecma_fits.specs.declared.role.Role.TheVariants as role
 use Rattle.ecma_fits.specs.Roles.{may_be, role_in}
-use Rattle.ecma_fits_clauses.specs.RawRoles.{HasRawRole, may_be_raw, raw_role_in, usual_role_in}
-use Rattle.ecma_fits_clauses.proofs.Placed.{Along, absent_free, placed, placed_parts}
+use Rattle.ecma_raw_roles.specs.RawRoles.{HasRawRole, may_be_raw, raw_role_in, usual_role_in}
+use Rattle.ecma_raw_roles.proofs.Placed.{Along, absent_free, placed, placed_parts}
 use Rattle.ecma_text_fits_roles.proofs.RoleAsks.{Ask, Given, MeetAll, Meets, any, at, behind, first_and_each, free, link}
 use Rattle.ecma_text_fits_roles.proofs.RoleNeeds.{as_free, is_optional, kind_needs, link_needs, node_needs, swapped_asked}
 use Rattle.ecma_text_fits_roles.proofs.RoleForms.{freely, node_made, steps_free, swapped_made}

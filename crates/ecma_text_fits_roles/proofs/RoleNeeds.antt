@@ -19,8 +19,8 @@ use Rattle.ecma_grammar.specs.Grammar.{Grammar}
 use Rattle.ecma_fits.specs.declared.role.Role.{Role}
 use Rattle.ecma_fits.specs.declared.role.Role.TheVariants as role
 use Rattle.ecma_fits.specs.Roles.{is_tagged}
-use Rattle.ecma_fits_clauses.specs.RawRoles.{may_be_raw, raw_role_in}
-use Rattle.ecma_fits_clauses.proofs.Placed.{displaced_by}
+use Rattle.ecma_raw_roles.specs.RawRoles.{may_be_raw, raw_role_in}
+use Rattle.ecma_raw_roles.proofs.Placed.{displaced_by}
 use Rattle.ecma_text_fits_roles.proofs.RoleAsks.{Ask, Asked, all_given, any, at, before, behind, both, chain, each, first, first_and_each, first_part, free, head, head_rest, is_annotated, is_loose, is_one, link, never, none_asked, of_many, of_one, second_part, single, takes_defaulted, takes_patterns, text_or_free, these, whatever, wider, with_default}
 
 -- what forms have to be given

@@ -22,7 +22,7 @@ use Rattle.ecma_grammar.specs.PartBodies.{part_body}
 use Rattle.ecma_grammar.specs.productions.Modules.{module_body}
 use Rattle.ecma_grammar.specs.Modules.{answer_of, reads_module}
 use Rattle.ecma_fits.specs.declared.role.Role.TheVariants as role
-use Rattle.ecma_fits_clauses.specs.RawRoles.{HasRawRole}
+use Rattle.ecma_raw_roles.specs.RawRoles.{HasRawRole}
 use Rattle.ecma_text_fits_roles.proofs.RoleAsks.{Ask, Asked, Chained, Given, MeetAll, all_given, at, before, chain, first_part, free, is_one, none_asked, of_many, of_one, second_part, these}
 use Rattle.ecma_text_fits_roles.proofs.RoleNeeds.{flag_meets, keeps, leaf_meets, needs, part_keeps, width}
 use Rattle.ecma_text_fits_roles.proofs.RoleGiven.{given_both, given_more, given_none, given_one, given_wider, two}

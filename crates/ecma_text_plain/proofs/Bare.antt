@@ -33,7 +33,7 @@ use Rattle.ecma_text_fits_finished.proofs.Everywhere.{finished_good}
 use Rattle.ecma_text_fits_leaves.proofs.LineFeeds.{piece_parts}
 use Rattle.ecma_text_fits_finished.proofs.Raws.{of_raw}
 use Rattle.ecma_text_fits_leaves.proofs.ReadingOf.{is_hashbang, read_holds}
-use Rattle.ecma_fits_clauses.proofs.Walks.{not_true}
+use Rattle.ecma_raw_roles.proofs.Walks.{not_true}
 use Rattle.ecma_plain.specs.Forms.{IsBareUnquestioned}
 use Rattle.ecma_text_plain.specs.Laws.{ReadLeavesAreBare}
 use Rattle.ecma_text_plain.proofs.PlainKinds.{IsPlain, everywhere_also}

@@ -18,7 +18,7 @@ use Rattle.ecma_grammar.specs.Grammar as grammar
 use Rattle.ecma_grammar.specs.Grammar.{Grammar, the_word}
 use Rattle.ecma_text_leaves.specs.Everywhere.{Each, Everywhere, more, none}
 use Rattle.ecma_text_leaves.proofs.Trees.{good_absent}
-use Rattle.ecma_fits_clauses.proofs.Walks.{not_true}
+use Rattle.ecma_raw_roles.proofs.Walks.{not_true}
 use Rattle.ecma_text_plain.proofs.PlainKinds.{AbsentAt, AllStatic, IsPlain, IsStatic, StaticFirst, is_plain_kind}
 
 -- a node: nothing is said of it, it is missing, it is the name `static`, it holds such names alone

@@ -18,7 +18,7 @@ use Rattle.ecma_grammar.specs.trees.Parts.{kind_of}
 use Rattle.ecma_grammar.specs.trees.Plain.{plain_kind}
 use Rattle.ecma_grammar.specs.Grammar as grammar
 use Rattle.ecma_grammar.specs.Grammar.{Grammar}
-use Rattle.ecma_fits_clauses.proofs.Walks.{not_true}
+use Rattle.ecma_raw_roles.proofs.Walks.{not_true}
 use Rattle.ecma_plain.specs.Functions.{is_this_name}
 use Rattle.ecma_text_plain.proofs.Given.{is_plain_part}
 use Rattle.ecma_text_plain.proofs.Whole.{A, G, is_specifier, is_unusual, more, none}

@@ -25,7 +25,7 @@ use Rattle.ecma_text_leaves.proofs.Leaves.{Holds, holds_read, holds_then}
 use Rattle.ecma_text_leaves.proofs.Trees.{kind_good, kind_made}
 use Rattle.ecma_text_fits_finished.proofs.Raws.{of_raw}
 use Rattle.ecma_text_fits_leaves.proofs.ReadingOf.{holds_built, holds_followed, holds_or}
-use Rattle.ecma_fits_clauses.proofs.Walks.{free_kind}
+use Rattle.ecma_raw_roles.proofs.Walks.{free_kind}
 use Rattle.ecma_plain.specs.Items.{HasUtf8Hashbang}
 use Rattle.ecma_text_plain.proofs.Bare.{leaf_plain}
 use Rattle.ecma_text_plain.proofs.PlainKinds.{IsPlain, hashbang_read, hashbang_utf8}

@@ -16,10 +16,11 @@ use Rattle.ecma_grammar.specs.trees.Classes.{modified}
 use Rattle.ecma_grammar.specs.trees.Others.{text_of}
 use Rattle.ecma_text_leaves.specs.Everywhere.{Each, Everywhere, everywhere, more, none}
 use Rattle.ecma_text_leaves.proofs.Trees.{kind_made}
-use Rattle.ecma_fits_clauses.proofs.Walks.{neither, not_true}
+use Rattle.ecma_raw_roles.proofs.Walks.{not_true}
 use Rattle.ecma_text_plain.specs.Assignments.{is_assignment_form}
 use Rattle.ecma_plain.specs.Forms.{IsBare, has_type_modifiers, is_of_forms}
 use Rattle.ecma_plain.specs.Items.{HasUtf8Hashbang}
+use Rattle.ecma_fits.proofs.Walks.{neither}
 
 -- no TypeScript but, where they may stand, the assignment forms
 abbrev pub is_plain_kind : Bool → Kind → Bool

@@ -14,7 +14,7 @@ use Rattle.ecma_grammar.specs.trees.Plain.{plain_kind}
 use Rattle.ecma_grammar.specs.Made.{made}
 use Rattle.ecma_text_leaves.specs.Everywhere.{none}
 use Rattle.ecma_text_leaves.proofs.Trees.{children_made, each_take}
-use Rattle.ecma_fits_clauses.proofs.Walks.{not_true}
+use Rattle.ecma_raw_roles.proofs.Walks.{not_true}
 use Rattle.ecma_text_plain.proofs.PlainKinds.{AllStatic, IsPlain, IsRead, is_plain_kind}
 use Rattle.ecma_text_plain.proofs.PlainForms.{all_steps_good, annotated_good, arrow_good, class_good, construction_good, declarator_good, elements_good, field_good, frames, function_good, getter_good, headed_good, import_equals_good, in_front_good, link_good, list_of, logical_good, member_form_good, method_good, module_form_good, node, parameter_good, sequence_good, setter_good, swapped_good, template_good, yield_good}
 use Rattle.ecma_text_plain.proofs.Given.{Given, Good, Has, EachMeets, Meets, anything, missing, static, statics, never, each, exactly, each_met, fact_made, fact_of_list, forget, lacking, lacks, static_first, takes}

@@ -28,7 +28,7 @@ use Rattle.ecma_text_leaves.proofs.Leaves.{Holds, holds_deep, holds_fails, holds
 use Rattle.ecma_text_leaves.proofs.Productions.{productions}
 use Rattle.ecma_text_leaves.proofs.Trees.{good_node}
 use Rattle.ecma_text_fits_leaves.proofs.ReadingOf.{holds_followed, holds_or, holds_built}
-use Rattle.ecma_fits_clauses.proofs.Walks.{not_true}
+use Rattle.ecma_raw_roles.proofs.Walks.{not_true}
 use Rattle.ecma_text_plain.proofs.PlainKinds.{IsPlain, allowed, everywhere_also}
 use Rattle.ecma_text_plain.proofs.Bare.{leaf_plain}
 use Rattle.ecma_text_plain.proofs.Given.{All, Given, Good, Has, Meets, any_nodes, anything, asks_static, exactly, fact_made, flag_gives, followed, forget, gives, is_plain, is_plain_part, joined, keeps_key, never, part_gives, repeated, static, takes}

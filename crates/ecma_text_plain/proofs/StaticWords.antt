@@ -23,7 +23,7 @@ use Rattle.ecma_grammar.specs.Reads.{any_token, kept_leaf, source, token}
 use Rattle.ecma_text_leaves.specs.Everywhere.{none}
 use Rattle.ecma_text_leaves.proofs.Leaves.{Holds, holds_deep, holds_fails, holds_read, holds_then}
 use Rattle.ecma_text_leaves.proofs.Trees.{good_node, kind_made}
-use Rattle.ecma_fits_clauses.proofs.Walks.{not_true}
+use Rattle.ecma_raw_roles.proofs.Walks.{not_true}
 use Rattle.ecma_text_plain.proofs.PlainKinds.{IsPlain}
 use Rattle.ecma_text_plain.proofs.Bare.{piece_utf8}
 use Rattle.ecma_text_plain.proofs.Given.{AllMeet, Meets, asks_static, keeps_key, static}

@@ -9,7 +9,7 @@ use Rattle.ecma_tree.specs.Finding.{enters_all, finds, finds_from, finds_here}
 use Rattle.ecma_text_leaves.specs.Everywhere.{Each, Everywhere, everywhere, more, none}
 use Rattle.ecma_text_leaves.proofs.Trees.{children_good, kind_good}
 use Rattle.ecma_rules.specs.Children.{children_of, kind_of}
-use Rattle.ecma_fits_clauses.proofs.Walks.{not_true}
+use Rattle.ecma_raw_roles.proofs.Walks.{not_true}
 use Rattle.ecma_text_plain.specs.Assignments.{is_assignment_form}
 use Rattle.ecma_text_plain.proofs.PlainKinds.{IsPlain}
 use Rattle.ecma_plain.specs.Forms.{is_of_forms}

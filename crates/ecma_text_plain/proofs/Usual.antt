@@ -7,7 +7,7 @@ use Rattle.ecma_text_plain.specs.Laws.{FunctionsAreUsualByTests}
 use Rattle.ecma_text_plain.specs.Functions.{children_told, has_this_parameter, holds_somewhere, is_bodiless}
 use Rattle.ecma_plain.specs.Functions.{Functions, any_unusual, functions, functions_step}
 use Rattle.ecma_tree.proofs.Layers.{from_leaves_out}
-use Rattle.ecma_fits_clauses.proofs.Walks.{neither}
+use Rattle.ecma_fits.proofs.Walks.{neither}
 
 pub somewhere_out : (test : Node → Bool) (n : Node) → holds_somewhere test n ≡ (test n || list_any (λ b. b) (map (holds_somewhere test) (out-Node n).children))
 somewhere_out test n = from_leaves_out Bool (λ node found. test node || list_any (λ b. b) found) n

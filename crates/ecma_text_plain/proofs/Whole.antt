@@ -10,7 +10,7 @@ use Rattle.ecma_tree.specs.Nodes.{node_of}
 use Rattle.ecma_tree.specs.Sorted.{is_absent}
 use Rattle.ecma_grammar.specs.trees.Parts.{children_of, kind_of}
 use Rattle.ecma_text_leaves.proofs.Trees.{children_made, kind_made}
-use Rattle.ecma_fits_clauses.proofs.Walks.{not_true}
+use Rattle.ecma_raw_roles.proofs.Walks.{not_true}
 use Rattle.ecma_plain.specs.Functions.{is_this_name}
 
 -- a function whose body is missing, or a setter with a parameter `this`

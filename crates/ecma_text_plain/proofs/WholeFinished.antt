@@ -16,7 +16,7 @@ use Rattle.ecma_rules.specs.Targets.{target_in}
 use Rattle.ecma_text_leaves.proofs.Trees as trees
 use Rattle.ecma_text_fits_finished.proofs.Rules.{children_made}
 use Rattle.ecma_text_fits_finished.proofs.Standing.{finished_parts}
-use Rattle.ecma_fits_clauses.proofs.Walks.{not_true, kind_made}
+use Rattle.ecma_raw_roles.proofs.Walks.{not_true, kind_made}
 use Rattle.ecma_plain.specs.Functions.{is_this_name}
 use Rattle.ecma_text_plain.proofs.GivenWhole.{one_full, two_full}
 use Rattle.ecma_text_plain.proofs.Whole.{A, G, View, append_all, is_specifier, is_unusual, more, none, shut, view, whole}

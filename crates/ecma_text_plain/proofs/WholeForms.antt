@@ -16,7 +16,7 @@ use Rattle.ecma_grammar.specs.trees.Functions.{questioned_kind, questioned, ques
 use Rattle.ecma_grammar.specs.trees.Classes.{class, is_constructor_key, is_plain_function, is_private_name, no_modifiers, method_kind, method, field_kind, field, modified, is_constructor, constructor_of, method_by, member_by, member}
 use Rattle.ecma_grammar.specs.trees.Others.{swapped, missing, elements, the_one, sequence, headed, import_equals, text_of, module_of}
 use Rattle.ecma_text_leaves.proofs.Trees.{kind_made}
-use Rattle.ecma_fits_clauses.proofs.Walks.{not_true}
+use Rattle.ecma_raw_roles.proofs.Walks.{not_true}
 use Rattle.ecma_plain.specs.Functions.{is_this_name}
 use Rattle.ecma_text_plain.proofs.GivenWhole.{CalmAt, calm_full, calm_open, calm_there, is_calm, question_aside, question_named, question_shut, two_full}
 use Rattle.ecma_text_plain.proofs.Whole.{A, G, View, append_all, inner, is_specifier, is_unusual, made_of, map_all, more, no_this, none, swap_all, take_all, view, whole}

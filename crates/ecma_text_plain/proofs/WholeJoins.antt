@@ -2,7 +2,7 @@
 use Rattle.std.proofs.Common.{◌≡◌, Bool, true, false, ◌&&◌, List, [], ◌∷◌, ◌++◌, refl}
 use Rattle.std.proofs.lemmas.Bool.{and_parts}
 use Rattle.ecma_tree.specs.declared.node.Node.{Node}
-use Rattle.ecma_fits_clauses.proofs.Walks.{not_true}
+use Rattle.ecma_raw_roles.proofs.Walks.{not_true}
 use Rattle.ecma_text_plain.proofs.GivenWhole.{AllMeet, Fact, Given, Has, Meets, all_met, anything, are_tight, both, calm, exactly, followed, forget, in_front, is_tight, is_tight_list, joined, loose, met, never, pairwise, some, some_has, some_if, sound, weaker}
 use Rattle.ecma_text_plain.proofs.Whole.{append_all, more, none}
 

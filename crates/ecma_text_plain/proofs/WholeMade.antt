@@ -16,7 +16,7 @@ use Rattle.ecma_grammar.specs.trees.Parts.{from_to, in_front, kind_of}
 use Rattle.ecma_grammar.specs.trees.Plain.{plain_kind}
 use Rattle.ecma_grammar.specs.Made.{made}
 use Rattle.ecma_text_leaves.proofs.Trees.{kind_made}
-use Rattle.ecma_fits_clauses.proofs.Walks.{not_true}
+use Rattle.ecma_raw_roles.proofs.Walks.{not_true}
 use Rattle.ecma_text_plain.proofs.WholeForms.{annotated_good, arrow_good, class_good, declarator_good, elements_good, field_good, function_good, getter_good, headed_good, import_equals_good, member_form_good, method_good, module_form_good, parameter_good, sequence_good, setter_good, swapped_good, yield_good}
 use Rattle.ecma_text_plain.proofs.WholeChains.{all_steps_good, construction_good, frames, in_front_good, link_good, list_of, logical_good, template_good}
 use Rattle.ecma_plain.specs.Functions.{is_this_name}

@@ -21,7 +21,7 @@ use Rattle.ecma_rules.specs.Children.{kind_of}
 use Rattle.ecma_modules.specs.Modules.{plain, reads_as}
 use Rattle.ecma_text_sorts.specs.Laws.{ReadModulesAreSorted}
 use Rattle.ecma_text_fits_finished.proofs.Raws.{of_raw}
-use Rattle.ecma_fits_clauses.proofs.Walks.{neither, not_true}
+use Rattle.ecma_raw_roles.proofs.Walks.{not_true}
 use Rattle.ecma_text_plain.specs.Laws.{ReadPlainFunctionsHaveBodies, ReadPlainNamesAreNotThis}
 use Rattle.ecma_text_plain.specs.Functions.{children_told, has_this_parameter, holds_somewhere, is_bodiless}
 use Rattle.ecma_text_plain.proofs.WholeFinished.{finished_whole}
@@ -30,6 +30,7 @@ use Rattle.ecma_text_plain.proofs.WholeReads.{module_reads}
 use Rattle.ecma_text_plain.proofs.Whole.{A, G, View, is_specifier, is_unusual, more, no_this, none, view}
 use Rattle.ecma_text_plain.proofs.Usual.{somewhere_out}
 use Rattle.ecma_plain.specs.Functions.{Functions, body_of, functions, functions_step, is_this_name, lacks_body, takes_this}
+use Rattle.ecma_fits.proofs.Walks.{neither}
 
 -- a node is missing where its kind says so
 missing_told : (n : Node) → (functions n).is_missing ≡ is_absent (kind_of n)

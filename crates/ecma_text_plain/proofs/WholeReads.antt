@@ -38,7 +38,7 @@ use Rattle.ecma_modules.specs.Modules.{plain}
 use Rattle.ecma_text_leaves.proofs.Leaves.{Holds, holds_deep, holds_fails, holds_read, holds_then}
 use Rattle.ecma_text_leaves.proofs.Productions.{productions}
 use Rattle.ecma_text_fits_leaves.proofs.ReadingOf.{holds_followed, holds_or, holds_built}
-use Rattle.ecma_fits_clauses.proofs.Walks.{not_true}
+use Rattle.ecma_raw_roles.proofs.Walks.{not_true}
 use Rattle.ecma_text_plain.proofs.Given.{is_plain_part}
 use Rattle.ecma_text_plain.proofs.WholeMade.{made_meets}
 use Rattle.ecma_plain.specs.Functions.{is_this_name}

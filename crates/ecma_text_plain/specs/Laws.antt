@@ -5,13 +5,12 @@ use Rattle.ecma_tree.specs.declared.node.Node.{Node}
 use Rattle.ecma_grammar.specs.declared.production.Mode.{Mode}
 use Rattle.ecma_text_leaves.specs.Everywhere.{Everywhere}
 use Rattle.ecma_modules.specs.Modules.{reads_as, plain}
-use Rattle.ecma_plain.specs.Forms.{IsTaken}
+use Rattle.ecma_plain.specs.Forms.{IsTaken, IsBareUnquestioned}
 use Rattle.ecma_tree.specs.Finding.{enters_all, finds}
 use Rattle.ecma_rules.specs.Children.{kind_of}
 use Rattle.ecma_plain.specs.Items.{HasUtf8Hashbang, has_plain_items}
 use Rattle.ecma_plain.specs.Functions.{functions}
 use Rattle.ecma_text_plain.specs.Assignments.{is_assignment_form}
-use Rattle.ecma_plain.specs.Forms.{IsBareUnquestioned}
 use Rattle.ecma_text_plain.specs.Functions.{holds_somewhere, is_bodiless, has_this_parameter}
 
 -- each leaf of what is read is bare, in every mode

@@ -6,7 +6,7 @@ use Rattle.ecma_rules.specs.Failing.{failing_here, failing_step, first_failing, 
 use Rattle.ecma_fits.specs.declared.unfit.Where.{Where}
 use Rattle.ecma_fits.specs.Fitting.{where_in}
 use Rattle.ecma_strip_fits.proofs.Walk.{each_none}
-use Rattle.ecma_fits_clauses.proofs.Walks.{neither_least, not_failing}
+use Rattle.ecma_fits.proofs.Walks.{neither_least, not_failing}
 
 module _ (fails : Where → Node → Bool) where
   abbrev tell : Where → Node → Option ℕ

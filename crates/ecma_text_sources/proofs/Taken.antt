@@ -11,7 +11,7 @@ use Rattle.ecma_strip.specs.Staying.{stays}
 use Rattle.ecma_strip_fits.proofs.Walk.{each_none}
 use Rattle.ecma_pipeline_runs.proofs.Nodes.{StaysIn}
 use Rattle.ecma_forms.specs.Forms.{first_untaken, goes, goes_at, inside, is_later, is_odd_by, is_untaken, untaken_here}
-use Rattle.ecma_fits_clauses.proofs.Walks.{neither, neither_least, not_failing}
+use Rattle.ecma_fits.proofs.Walks.{neither, neither_least, not_failing}
 
 abbrev walk : Node → Bool → Option ℕ
 walk = first_failing Bool untaken_here inside

@@ -9,7 +9,6 @@ use Rattle.ecma_tree.specs.declared.node.Node.{Node, out-Node}
 use Rattle.ecma_tree.specs.Laws.{HaveShapes}
 use Rattle.ecma_tree.specs.Sorted.{HasShape, allows, child_shapes, maybe, one}
 use Rattle.ecma_rules.specs.Children.{holds_of, is_present, kind_of, of_kind}
-use Rattle.ecma_rules.specs.Jumps.{first_stray}
 use Rattle.ecma_fits.specs.declared.unfit.Where.{Where}
 use Rattle.ecma_fits.specs.Fitting.{Fits, at_top, first_unfit_in, where_in}
 use Rattle.ecma_strip.specs.Staying.{is_declared, is_this_by, member_stays_by, specifier_stays, stays}
@@ -24,7 +23,8 @@ use Rattle.ecma_text_sources.proofs.Staying.{stays_by, stays_is}
 use Rattle.ecma_text_sources.proofs.Taken.{not_later, not_odd, taken_below}
 use Rattle.ecma_tree.specs.Values.{is_value, value_by}
 use Rattle.ecma_tree.proofs.Valuing.{is_value-out}
-use Rattle.ecma_fits_clauses.proofs.Walks.{neither_least}
+use Rattle.ecma_fits.proofs.Clauses.{none_unfit}
+use Rattle.ecma_fits.proofs.Walks.{neither_least}
 
 unlowered : (k : Kind) → is_later k ≡ false → is_lowered k ≡ false
 unlowered (kind.TsEnumDecl declare is_const) h = absurd (true-false refl h)
@@ -154,5 +154,4 @@ layer_alone n below s w has fits free taken =
 
 pub types_alone : (tree : Node) → Fits tree → first_untaken tree ≡ None → adds_types_alone tree ≡ true
 types_alone tree fits taken =
-    let unfit = (neither_least (first_unfit_in tree at_top) (first_stray tree) fits.fitting).0 in
-    (by-children IsAlone layer_alone tree (one sort.Module) at_top fits.sorted unfit (λ p. absurd (true-false p refl)) taken).0
+    (by-children IsAlone layer_alone tree (one sort.Module) at_top fits.sorted (none_unfit tree fits) (λ p. absurd (true-false p refl)) taken).0

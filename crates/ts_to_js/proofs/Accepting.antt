@@ -6,9 +6,8 @@ use Rattle.ecma_tree.specs.declared.node.Node.{Node}
 use Rattle.ecma_forms.specs.Forms.{first_untaken}
 use Rattle.ecma_scope.specs.Conflicts.{redeclared}
 use Rattle.ecma_scope.specs.Needs.{needed}
-use Rattle.ecma_scope.specs.Resolved.{contexts}
+use Rattle.ecma_scope.specs.Resolved.{contexts, AreGiven}
 use Rattle.ecma_hygiene_exists.specs.Laws.{NeededLeaveSixteen}
-use Rattle.ecma_scope.specs.Resolved.{AreGiven}
 use Rattle.ts_to_js.specs.Refusals.{refused, refused_by}
 
 -- what a tree is that nothing refuses

@@ -6,9 +6,8 @@ use Rattle.ecma_tree.specs.Spans.{without_spans}
 use Rattle.ecma_modules.specs.Modules.{reads_as, typescript, plain, deepest}
 use Rattle.ecma_scope.specs.Conflicts.{redeclared}
 use Rattle.ecma_scope.specs.Laws.{without_contexts}
-use Rattle.ecma_scope.specs.Resolved.{resolved}
+use Rattle.ecma_scope.specs.Resolved.{resolved, AreGiven}
 use Rattle.ecma_print.specs.Explicit.{explicit}
-use Rattle.ecma_scope.specs.Resolved.{AreGiven}
 use Rattle.ecma_runs.specs.declared.config.Config.{Config}
 use Rattle.ecma_runs.specs.declared.script.Script.{Script}
 use Rattle.ecma_runs.specs.declared.observation.Ending.TheVariants.{Outside}

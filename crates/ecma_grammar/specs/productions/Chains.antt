@@ -139,7 +139,7 @@ chain = build form.Links ((super_of_link // import_meta // import_call // constr
 
 -- the links of the callee of `new`
 --   new a.b[c](d);
---   new a?.b();   // refused
+--   new a().b;   // (new a()).b
 unfoldable pub new_links : Grammar
 new_links =
     behind_punct (codes ".") (part.NewLink link.Dot)

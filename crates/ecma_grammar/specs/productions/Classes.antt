@@ -1,11 +1,10 @@
 -- Classes (ECMAScript, 15.7).
-use Rattle.std.specs.Prelude.{Bool, true, false, codes}
+use Rattle.std.specs.Prelude.{Bool, true, false, codes, if◌then◌else◌}
 use Rattle.ecma_grammar.specs.Grammar.{Grammar, same_line, put, ◌▸◌, ◌//◌, many, ahead, marked, build, word, punct, behind_word, optional, maybe, whether, node, bare, list}
 use Rattle.ecma_grammar.specs.declared.production.Part.TheVariants as part
 use Rattle.ecma_grammar.specs.declared.production.Flag.TheVariants.{Absent, Present}
 use Rattle.ecma_grammar.specs.declared.production.Plain.TheVariants as plain
 use Rattle.ecma_grammar.specs.declared.production.Form.TheVariants as form
-use Rattle.std.specs.Prelude.{if◌then◌else◌}
 use Rattle.ecma_kind.specs.declared.operators.MethodKind.TheVariants as method_kind
 use Rattle.ecma_grammar.specs.productions.Names.{assign, type_, a_name, end, ident, kept_word, block, class_element_name, prop_start, member_start}
 use Rattle.ecma_grammar.specs.productions.Types.{type_param_decl, type_param_instantiation, type_list, annotation, some_annotation}

@@ -1,12 +1,11 @@
 -- Operators (ECMAScript, 13.4 to 13.13). Chains go to the left, and each operator stands one level deeper than the one before.
-use Rattle.std.specs.Prelude.{ℕ, List, Bool, true, false, codes}
+use Rattle.std.specs.Prelude.{ℕ, List, Bool, true, false, codes, if◌then◌else◌}
 use Rattle.ecma_grammar.specs.Grammar.{Grammar, nothing, same_line, keep, ◌▸◌, ◌//◌, unless, marked, behind, build, any, word, punct, behind_word, behind_punct, optional, node, bare, item}
 use Rattle.ecma_grammar.specs.declared.production.Part.TheVariants as part
 use Rattle.ecma_grammar.specs.declared.production.TokenKind.TheVariants as token
 use Rattle.ecma_grammar.specs.declared.production.Leaf.TheVariants as leaf
 use Rattle.ecma_grammar.specs.declared.production.Plain.TheVariants as plain
 use Rattle.ecma_grammar.specs.declared.production.Form.TheVariants as form
-use Rattle.std.specs.Prelude.{if◌then◌else◌}
 use Rattle.ecma_kind.specs.declared.operators.UnaryOp.TheVariants as unary
 use Rattle.ecma_kind.specs.declared.operators.UpdateOp.TheVariants as update_op
 use Rattle.ecma_kind.specs.declared.operators.BinaryOp.{BinaryOp}

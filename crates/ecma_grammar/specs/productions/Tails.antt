@@ -1,10 +1,9 @@
 -- What may stand after the first operand of an assignment expression, one precedence of operators after the other: all of it is read after what was read so far, and both are made into one node.
-use Rattle.std.specs.Prelude.{Bool, List, [], ◌∷◌}
+use Rattle.std.specs.Prelude.{Bool, List, [], ◌∷◌, codes}
 use Rattle.ecma_grammar.specs.declared.production.Form.{Form}
 use Rattle.ecma_grammar.specs.declared.production.Form.TheVariants as form
 use Rattle.ecma_grammar.specs.declared.production.Part.TheVariants as part
 use Rattle.ecma_grammar.specs.Grammar.{Grammar, ◌//◌, optional, behind_punct}
-use Rattle.std.specs.Prelude.{codes}
 use Rattle.ecma_grammar.specs.productions.Chains.{links}
 use Rattle.ecma_grammar.specs.productions.Operators.{updates, factors, terms, shifts, relations, equalities, conjunctions, exclusions, disjunctions, coalescing, logicals}
 use Rattle.ecma_grammar.specs.productions.Expressions.{choice, assignments}

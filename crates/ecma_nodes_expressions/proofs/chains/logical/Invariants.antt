@@ -1,6 +1,5 @@
 use Rattle.std.proofs.Common.{◌≡◌, None}
-use Rattle.ecma_grammar.specs.trees.Chains.{steps}
-use Rattle.ecma_grammar.specs.trees.Chains.{in_front_logical}
+use Rattle.ecma_grammar.specs.trees.Chains.{steps, in_front_logical}
 use Rattle.ecma_nodes_expressions.proofs.chains.logical.Given as goal
 
 abbrev pub invariant-loop-node : goal.invariant-loop-node

@@ -1,5 +1,5 @@
 -- Walks over a tree that tell nothing, and children that are finished.
-use Rattle.std.proofs.Common.{◌≡◌, ◌∙◌, ℕ, suc, Bool, true, false, ◌||◌, List, [], ◌∷◌, ◌++◌, map, Option, Some, None, refl, sym, ap, ap₂, subst}
+use Rattle.std.proofs.Common.{◌≡◌, ◌∙◌, ℕ, suc, true, false, List, [], ◌∷◌, ◌++◌, map, Option, None, refl, sym, ap, subst}
 use Rattle.ecma_kind.specs.declared.shapes.Shape.{Shape}
 use Rattle.ecma_tree.specs.declared.node.Node.{Node, Node-F, fold-roll-Node, out-Node, roll-Node}
 use Rattle.ecma_tree.specs.declared.node.Node.TheViews.{out-roll-Node, roll-out-Node}
@@ -7,33 +7,13 @@ use Rattle.ecma_tree.specs.Laws.{HaveShapes}
 use Rattle.ecma_rules.specs.declared.target.Target.{Target}
 use Rattle.ecma_rules.specs.declared.target.Target.TheVariants as target
 use Rattle.ecma_rules.specs.Children.{kind_of}
-use Rattle.ecma_rules.specs.Failing.{failing_here, least, least_from}
+use Rattle.ecma_rules.specs.Failing.{least_from}
 use Rattle.ecma_rules.specs.Finishing.{each_in, finished_at, finished_step}
 use Rattle.ecma_rules.specs.Targets.{target_in}
-
-pub neither : (a b : Bool) → (a || b) ≡ false → (a ≡ false) × (b ≡ false)
-neither true b h = cc
-neither false b h = (refl, h)
-
-pub neither_least : (a b : Option ℕ) → least a b ≡ None → (a ≡ None) × (b ≡ None)
-neither_least None b h = (refl, h)
-neither_least (Some i) None h = cc
-neither_least (Some i) (Some j) h = cc
-
-pub both_none : (a b : Option ℕ) → a ≡ None → b ≡ None → least a b ≡ None
-both_none a b h g = ap₂ least h g
-
-pub not_failing : (b : Bool) (n : Node) → failing_here b n ≡ None → b ≡ false
-not_failing true n h = cc
-not_failing false n h = refl
+use Rattle.ecma_fits.proofs.Walks.{both_none, neither_least}
 
 pub not_true : {A : Type 0} → false ≡ true → A
 not_true h = cc
-
--- in children that are counted from one on
-pub shifted : (A : Type 0) (around : ℕ → A) (k : ℕ) (cs : List (A → Option ℕ)) → least_from A around (suc k) cs ≡ least_from A (λ i. around (suc i)) k cs
-shifted A around k [] = refl
-shifted A around k (c ∷ cs) = ap (least (c (around (suc k)))) (shifted A around (suc k) cs)
 
 -- one more child that tells nothing
 pub one_more : (A : Type 0) (f : Node → A → Option ℕ) (around : ℕ → A) (k : ℕ) (x : Node) → ((a : A) → f x a ≡ None) → (ns : List Node) → least_from A around k (map f ns) ≡ None → least_from A around k (map f (ns ++ x ∷ [])) ≡ None

@@ -1,20 +1,21 @@
--- A tree fits exactly where each clause holds.
-use Rattle.std.proofs.Common.{◌≡◌, ◌∙◌, ℕ, suc, Bool, true, false, ◌||◌, List, [], ◌∷◌, map, Option, Some, None, is_some, refl, sym, ap, subst}
+-- A tree fits exactly where it is a module by its sorts and no place is told.
+use Rattle.std.proofs.Common.{◌≡◌, ◌↔◌, ◌∙◌, ℕ, suc, Bool, true, false, ◌||◌, List, [], ◌∷◌, map, Option, Some, None, is_some, refl, sym, ap, subst}
+use Rattle.ecma_kind.specs.declared.shapes.Sort.TheVariants as sort
+use Rattle.ecma_tree.specs.Sorted.{HasSort}
 use Rattle.ecma_tree.specs.declared.node.Node.{Node, Node-F, ind-Node, roll-Node}
 use Rattle.ecma_rules.specs.Failing.{failing_here, failing_step, first_failing, least_from}
 use Rattle.ecma_rules.specs.Jumps.{first_stray}
 use Rattle.ecma_rules.specs.Members.{second_constructor, has_second_constructor}
+use Rattle.ecma_tree.proofs.Layers.{from_leaves-roll}
 use Rattle.ecma_fits.specs.declared.unfit.Where.{Where}
 use Rattle.ecma_fits.specs.Branches.{is_dangling}
 use Rattle.ecma_fits.specs.Chains.{is_loose}
 use Rattle.ecma_fits.specs.Counts.{is_short}
-use Rattle.ecma_fits.specs.Fitting.{Fits, at_top, breaks_rule, first_unfit_in, is_misplaced, is_misshapen, is_unfit, unfit_here, where_in, NoneFails}
+use Rattle.ecma_fits.specs.Fitting.{Fits, at_top, breaks_rule, first_unfit, first_unfit_in, is_misplaced, is_misshapen, is_unfit, unfit_here, where_in, NoneFails, is_misspelled}
 use Rattle.ecma_fits.specs.Members.{is_misread}
 use Rattle.ecma_fits.specs.Roles.{is_out_of_role}
 use Rattle.ecma_fits.specs.Strays.{is_stray_target}
-use Rattle.ecma_tree.proofs.Layers.{from_leaves-roll}
-use Rattle.ecma_fits_clauses.specs.Clauses.{Clauses, is_misspelled}
-use Rattle.ecma_fits_clauses.proofs.Walks.{both_none, neither, neither_least, not_failing, shifted}
+use Rattle.ecma_fits.proofs.Walks.{both_none, neither, neither_least, not_failing, shifted}
 
 -- a place of each node
 abbrev Place : Type 0
@@ -117,34 +118,42 @@ unfit_parts w n h =
     let c = neither (is_misplaced w n) (is_misspelled w n) b.1 in
     (b.0, c.0, c.1, some_false (second_constructor n) a.1)
 
-pub fits_by_clauses : (tree : Node) → Fits tree ↔ Clauses tree
-fits_by_clauses tree = (to, from)
-  where
-    from : Clauses tree → Fits tree
-    from c =
-        let shape = either_none short (either dangling (either loose misread)) tree c.counts (either_none dangling (either loose misread) tree c.branches (either_none loose misread tree c.chains c.members)) in
-        let place = either_none out_of_role (either stray_target breaks_rule) tree c.roles (either_none stray_target breaks_rule tree c.targets c.rules) in
-        let unfit = all_unfit tree (either_none misshapen (either is_misplaced is_misspelled) tree shape (either_none is_misplaced is_misspelled tree place c.leaves)) in
-        record {
-          sorted = c.sorted;
-          fitting = both_none (first_unfit_in tree at_top) (first_stray tree) (follows (by is_unfit) (by second) unfit_here unfit_none tree at_top unfit c.constructors) c.strays;
-        }
+-- no node of a tree that fits is unfit
+pub none_unfit : (tree : Node) → Fits tree → first_unfit_in tree at_top ≡ None
+none_unfit tree c =
+    let shape = either_none short (either dangling (either loose misread)) tree c.counts (either_none dangling (either loose misread) tree c.branches (either_none loose misread tree c.chains c.members)) in
+    let place = either_none out_of_role (either stray_target breaks_rule) tree c.roles (either_none stray_target breaks_rule tree c.targets c.rules) in
+    let unfit = all_unfit tree (either_none misshapen (either is_misplaced is_misspelled) tree shape (either_none is_misplaced is_misspelled tree place c.leaves)) in
+    follows (by is_unfit) (by second) unfit_here unfit_none tree at_top unfit c.constructors
 
-    to : Fits tree → Clauses tree
-    to f =
-        let a = neither_least (first_unfit_in tree at_top) (first_stray tree) f.fitting in
-        let shape : NoneFails misshapen tree = follows unfit_here unfit_here (by misshapen) (λ w n u v. ap (λ z. failing_here z n) (unfit_parts w n u).0) tree at_top a.0 a.0 in
-        let place : NoneFails is_misplaced tree = follows unfit_here unfit_here (by is_misplaced) (λ w n u v. ap (λ z. failing_here z n) (unfit_parts w n u).1) tree at_top a.0 a.0 in
-        record {
-          sorted = f.sorted;
-          counts = less misshapen short (λ w n h. (neither (is_short n) _ h).0) tree shape;
-          branches = less misshapen dangling (λ w n h. (neither (is_dangling n) _ (neither (is_short n) _ h).1).0) tree shape;
-          chains = less misshapen loose (λ w n h. (neither (is_loose n) _ (neither (is_dangling n) _ (neither (is_short n) _ h).1).1).0) tree shape;
-          members = less misshapen misread (λ w n h. (neither (is_loose n) _ (neither (is_dangling n) _ (neither (is_short n) _ h).1).1).1) tree shape;
-          roles = less is_misplaced out_of_role (λ w n h. (neither (is_out_of_role w.role n) _ h).0) tree place;
-          targets = less is_misplaced stray_target (λ w n h. (neither (is_stray_target w.role w.arguments n) _ (neither (is_out_of_role w.role n) _ h).1).0) tree place;
-          rules = less is_misplaced breaks_rule (λ w n h. (neither (is_stray_target w.role w.arguments n) _ (neither (is_out_of_role w.role n) _ h).1).1) tree place;
-          constructors = follows unfit_here unfit_here (by second) (λ w n u v. ap (λ z. failing_here z n) (unfit_parts w n u).3) tree at_top a.0 a.0;
-          leaves = follows unfit_here unfit_here (by is_misspelled) (λ w n u v. ap (λ z. failing_here z n) (unfit_parts w n u).2) tree at_top a.0 a.0;
-          strays = a.1;
-        }
+-- where none is, it fits
+pub fits_of : (tree : Node) → HasSort sort.Module tree → first_unfit_in tree at_top ≡ None → first_stray tree ≡ None → Fits tree
+fits_of tree sorted none strays =
+    let shape : NoneFails misshapen tree = follows unfit_here unfit_here (by misshapen) (λ w n u v. ap (λ z. failing_here z n) (unfit_parts w n u).0) tree at_top none none in
+    let place : NoneFails is_misplaced tree = follows unfit_here unfit_here (by is_misplaced) (λ w n u v. ap (λ z. failing_here z n) (unfit_parts w n u).1) tree at_top none none in
+    record {
+      sorted = sorted;
+      counts = less misshapen short (λ w n h. (neither (is_short n) _ h).0) tree shape;
+      branches = less misshapen dangling (λ w n h. (neither (is_dangling n) _ (neither (is_short n) _ h).1).0) tree shape;
+      chains = less misshapen loose (λ w n h. (neither (is_loose n) _ (neither (is_dangling n) _ (neither (is_short n) _ h).1).1).0) tree shape;
+      members = less misshapen misread (λ w n h. (neither (is_loose n) _ (neither (is_dangling n) _ (neither (is_short n) _ h).1).1).1) tree shape;
+      roles = less is_misplaced out_of_role (λ w n h. (neither (is_out_of_role w.role n) _ h).0) tree place;
+      targets = less is_misplaced stray_target (λ w n h. (neither (is_stray_target w.role w.arguments n) _ (neither (is_out_of_role w.role n) _ h).1).0) tree place;
+      rules = less is_misplaced breaks_rule (λ w n h. (neither (is_stray_target w.role w.arguments n) _ (neither (is_out_of_role w.role n) _ h).1).1) tree place;
+      constructors = follows unfit_here unfit_here (by second) (λ w n u v. ap (λ z. failing_here z n) (unfit_parts w n u).3) tree at_top none none;
+      leaves = follows unfit_here unfit_here (by is_misspelled) (λ w n u v. ap (λ z. failing_here z n) (unfit_parts w n u).2) tree at_top none none;
+      strays = strays;
+    }
+
+pub fits_where_none_is_told : (tree : Node) → Fits tree ↔ (HasSort sort.Module tree × (first_unfit tree ≡ None))
+fits_where_none_is_told tree = (to, from)
+  where
+    to : Fits tree → HasSort sort.Module tree × (first_unfit tree ≡ None)
+    to f = (f.sorted, both_none (first_unfit_in tree at_top) (first_stray tree) (none_unfit tree f) f.strays)
+
+    from : HasSort sort.Module tree × (first_unfit tree ≡ None) → Fits tree
+    from told =
+        let walk = neither_least (first_unfit_in tree at_top) (first_stray tree) told.1 in
+        fits_of tree told.0 walk.0 walk.1
+
+pub ruleset clauses = (fits_where_none_is_told)

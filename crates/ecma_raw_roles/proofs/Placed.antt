@@ -14,8 +14,9 @@ use Rattle.ecma_grammar.specs.trees.Parts.{kind_of, children_of}
 use Rattle.ecma_fits.specs.declared.role.Role.{Role}
 use Rattle.ecma_fits.specs.declared.role.Role.TheVariants as role
 use Rattle.ecma_fits.specs.Roles.{is_wrong_name, may_be, role_in}
-use Rattle.ecma_fits_clauses.specs.RawRoles.{HasRawRole, inner_role, is_parameter, is_displaced, may_be_raw, raw_role_in, usual_role_in}
-use Rattle.ecma_fits_clauses.proofs.Walks.{both_none, neither_least, not_failing, not_true, shifted, kind_made}
+use Rattle.ecma_raw_roles.specs.RawRoles.{HasRawRole, inner_role, is_parameter, is_displaced, may_be_raw, raw_role_in, usual_role_in}
+use Rattle.ecma_raw_roles.proofs.Walks.{not_true, kind_made}
+use Rattle.ecma_fits.proofs.Walks.{both_none, neither_least, not_failing, shifted}
 
 -- the walk over the raw tree
 
