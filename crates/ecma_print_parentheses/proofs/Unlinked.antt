@@ -11,6 +11,7 @@ use Rattle.ecma_kind.specs.declared.operators.AssignOp.TheVariants as assignment
 use Rattle.ecma_kind.specs.declared.operators.VarDeclKind.TheVariants.{Var, Let, Const}
 use Rattle.ecma_tree.specs.declared.node.Node.{Node}
 use Rattle.ecma_tree.specs.Sorted.{child_shapes}
+use Rattle.ecma_runs.specs.State.{Entered}
 use Rattle.ecma_runs.specs.Run.{◌>>=◌, give, given, loop, outside, return, round, spend, when}
 use Rattle.ecma_runs.specs.Environment.{Reference, ToValue, copy_environment, new_environment}
 use Rattle.ecma_runs.specs.Functions.{read, write}
@@ -212,7 +213,7 @@ field_unlinked : (is_here : Bool) (m : Meaning) (keys : List (List ℕ)) → fie
 field_unlinked is_here m [] = refl
 field_unlinked is_here m (key ∷ keys) = refl
 
-rounds_unlinked : (n : ℕ) (test update body : Meaning) (place : ℕ) → for_rounds n (unlinked test) (unlinked update) (unlinked body) place ≡ for_rounds n test update body place
+rounds_unlinked : (n : ℕ) (test update body : Meaning) (place : Entered) → for_rounds n (unlinked test) (unlinked update) (unlinked body) place ≡ for_rounds n test update body place
 rounds_unlinked zero test update body place = refl
 rounds_unlinked (suc n) test update body place = λ i x. test.test (inside x place) >>= λ v. when (truth_of v)
     (spend >>= λ _. round (body.completion (inside x place)) >>= λ _. copy_environment place >>= λ next. update.effect (inside x next) >>= λ _. rounds_unlinked n test update body next i x) (give tt)

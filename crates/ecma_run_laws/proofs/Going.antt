@@ -14,7 +14,7 @@ use Rattle.ecma_runs.specs.Meaning.{ExecutionContext, Evaluation, Meaning}
 use Rattle.ecma_runs.specs.Declarations.{all_names, all_imported, imported_as, imported_from, is_absent_of}
 use Rattle.ecma_runs.specs.Evaluation.{no_effect, meaning_by, meaning}
 use Rattle.ecma_runs.proofs.Layer.{meaning_out}
-use Rattle.ecma_runs.proofs.Names.{changed_ids, changed_bindings, changed_ids-append, changed_bindings-append}
+use Rattle.ecma_runs.proofs.Names.{changed_ids, changed_scope, changed_bindings, changed_ids-append, changed_bindings-append}
 use Rattle.ecma_runs.proofs.Alike.{Change, Alike, bind_alike, give_alike}
 use Rattle.ecma_runs.proofs.Environments.{initialize_alike}
 use Rattle.ecma_runs.proofs.Meanings.{World, first, empties, imports, undefineds}
@@ -136,7 +136,7 @@ module _ (gone : Id → Bool) (declared : List Id) where
 
   initialized : (ids : List Id) → NoneLeft ids → DoesNothing (λ x. initialize x.scope ids Undefined)
   unfolding DoesNothing
-  initialized ids e w = subst (λ l. Alike c (initialize w.scope ids Undefined) (initialize w.scope l Undefined)) e (initialize_alike c w.scope ids Undefined)
+  initialized ids e w = subst (λ l. Alike c (initialize w.scope ids Undefined) (initialize (changed_scope c.names w.scope) l Undefined)) e (initialize_alike c w.scope ids Undefined)
 
   does_nothing : (e e' : Evaluation (Unit {0})) → e' ≡ e → DoesNothing e → DoesNothing e'
   does_nothing e e' is h = subst DoesNothing (sym is) h

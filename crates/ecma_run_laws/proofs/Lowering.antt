@@ -10,7 +10,7 @@ use Rattle.ecma_tree.specs.Nodes.{node_of, dummy_span, absent, list_node}
 use Rattle.ecma_runs.specs.declared.observation.Ending.{Ending}
 use Rattle.ecma_runs.specs.declared.observation.Ending.TheVariants as ending
 use Rattle.ecma_runs.specs.Values.{Value, Undefined, Own}
-use Rattle.ecma_runs.specs.State.{Id, Activation, Plain, Code, Passed, Object, State}
+use Rattle.ecma_runs.specs.State.{Id, Activation, Plain, Code, Passed, Object, State, Entered}
 use Rattle.ecma_runs.specs.Host.{provided_by}
 use Rattle.ecma_runs.specs.Run.{Stop, TurnsSpent, AnswersSpent, Outside, Done, Run, then_outcome, ◌>>=◌, give, spend, spend_of}
 use Rattle.ecma_runs.specs.Environment.{new_environment}
@@ -21,9 +21,9 @@ use Rattle.ecma_runs.specs.Classes.{body_of}
 use Rattle.ecma_runs.specs.Evaluation.{in_record, as_it_is, called_with, called_block, role_by, meaning_by, meaning, entered, invoke_closure, fields_with, functions_with, apply_at, apply, invoke}
 use Rattle.ecma_runs.specs.Observation.{observe}
 use Rattle.ecma_runs.proofs.Layer.{meaning-roll}
-use Rattle.ecma_runs.proofs.Names.{changed_ids}
+use Rattle.ecma_runs.proofs.Names.{changed_ids, changed_entered}
 use Rattle.ecma_runs.proofs.Alike.{Change, changed, changed_object, AllFine, Good, Follows, Alike, bind_alike, give_alike, return_alike, outside_alike}
-use Rattle.ecma_runs.proofs.Environments.{new_environment_alike}
+use Rattle.ecma_runs.proofs.Environments.{enter_alike}
 use Rattle.ecma_runs.proofs.Objects.{new_object_alike}
 use Rattle.ecma_runs.proofs.Meanings.{FunctionsAlike, World, first, second, Same}
 use Rattle.ecma_runs.proofs.Functions.{new_prototype_alike}
@@ -96,7 +96,7 @@ module _ (items : Node) where
   abbrev called : ExecutionContext → ℕ → Run (Unit {0})
   called x function = call_value x (Own function) Undefined [] >>= λ _. give tt
 
-  abbrev made_and_called : ExecutionContext → ℕ → ℕ → Run (Unit {0})
+  abbrev made_and_called : ExecutionContext → Entered → ℕ → Run (Unit {0})
   made_and_called x outer prototype = new_function (prototype_entries true prototype) None (function_of items) Plain None (inside x outer) >>= λ function. called x function
 
   written_runs : (x : ExecutionContext) → written_meaning.completion x ≡ (new_environment [] None >>= λ outer. new_prototype None >>= λ prototype. made_and_called x outer prototype)
@@ -179,12 +179,12 @@ module _ (declared : List Id) where
       code_alike : (w : World c) → Alike c (code (first c w)) (code' (second c w))
       code_alike w = body_alike c w n tt kind.BlockStmt ((m, m', same) ∷ []) tt []
 
-      module _ (w : World c) (outer prototype : ℕ) where
+      module _ (w : World c) (outer : Entered) (prototype : ℕ) where
         abbrev passed_object : Object
         passed_object = function_object (prototype_entries true prototype) None (Passed (closure_of n Plain None (inside (first c w) outer)))
 
         abbrev written_object : Object
-        written_object = function_object (prototype_entries true prototype) None (Code (closure_of (function_of (lowered items)) Plain None (inside (second c w) outer)))
+        written_object = function_object (prototype_entries true prototype) None (Code (closure_of (function_of (lowered items)) Plain None (inside (second c w) (changed_entered same_names outer))))
 
         abbrev known : FunctionsAlike c w.provided w.functions w.functions'
         known = w.alike refl
@@ -211,7 +211,7 @@ module _ (declared : List Id) where
         }
 
         written_is_changed : changed_object c passed_object ≡ written_object
-        written_is_changed = ap (λ z. function_object (prototype_entries true prototype) None (Code (closure_of z Plain None (inside (second c w) outer)))) node_is
+        written_is_changed = ap (λ z. function_object (prototype_entries true prototype) None (Code (closure_of z Plain None (inside (second c w) (changed_entered same_names outer))))) node_is
 
         module _ (s : State) (g : Good c s) where
           abbrev f : ℕ
@@ -258,7 +258,7 @@ module _ (declared : List Id) where
           made : new_object written_object (changed c s) ≡ Done f (changed c s1)
           made = ap (λ z. new_object z (changed c s)) (sym written_is_changed) ∙ pushed.0
 
-          whole : Follows c (λ a. a) (λ a. Unit {0}) (then_outcome (spend_of s.turns s1) (λ _. rest)) (made_and_called (lowered items) (second c w) outer prototype (changed c s))
+          whole : Follows c (λ a. a) (λ a. Unit {0}) (then_outcome (spend_of s.turns s1) (λ _. rest)) (made_and_called (lowered items) (second c w) (changed_entered same_names outer) prototype (changed c s))
           whole =
               subst (λ r. Follows c (λ a. a) (λ a. Unit {0}) (then_outcome (spend_of s.turns s1) (λ _. rest)) (then_outcome r (λ function. called (lowered items) (second c w) function))) (sym made)
               (subst (λ z. Follows c (λ a. a) (λ a. Unit {0}) (then_outcome (spend_of s.turns s1) (λ _. rest))
@@ -267,13 +267,13 @@ module _ (declared : List Id) where
               (follows s.turns g.1 pushed.1.0)))
 
         made_alike : Alike c (new_object passed_object >>= λ function. spend >>= λ _. in_record [] (Some (called_with Undefined function None [])) code as_it_is (inside (first c w) outer) >>= λ _. give tt)
-            (made_and_called (lowered items) (second c w) outer prototype)
+            (made_and_called (lowered items) (second c w) (changed_entered same_names outer) prototype)
         made_alike = record { at = λ s g. whole s g }
 
       block_alike : (w : World c) → Alike c (called_block n m (first c w)) ((written_meaning (lowered items)).completion (second c w))
       block_alike w =
           subst (λ r. Alike c (called_block n m (first c w)) r) (sym (written_runs (lowered items) (second c w)))
-          (bind_alike c (new_environment_alike c [] None) (λ outer. bind_alike c (new_prototype_alike c None) (λ prototype. made_alike w outer prototype)))
+          (enter_alike c (λ e. new_prototype None >>= λ prototype. made_and_called (lowered items) (second c w) e prototype) [] None (λ outer. bind_alike c (new_prototype_alike c None) (λ prototype. made_alike w outer prototype)))
 
       written_declares : (call_meaning (lowered items)).declared ++ [] ≡ m'.declared
       written_declares = simp append-nil refl

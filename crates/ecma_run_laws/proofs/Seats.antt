@@ -11,7 +11,7 @@ use Rattle.ecma_kind.specs.declared.operators.UnaryOp.TheVariants as operator
 use Rattle.ecma_tree.specs.declared.node.Node.{Node, out-Node}
 use Rattle.ecma_tree.specs.Nodes.{node_of}
 use Rattle.ecma_runs.specs.Values.{Value, truth_of}
-use Rattle.ecma_runs.specs.State.{Id}
+use Rattle.ecma_runs.specs.State.{Entered, Id}
 use Rattle.ecma_runs.specs.Run.{TurnsSpent, ◌>>=◌, give, return, stop, when, given, round, loop, spend}
 use Rattle.ecma_runs.specs.Environment.{Reference, ToValue, new_environment, copy_environment}
 use Rattle.ecma_runs.specs.Meaning.{ExecutionContext, inside, Evaluation, Meaning}
@@ -186,7 +186,7 @@ module _ (swap : Node → Node) (same : (n : Node) → ReadsAlike (meaning n) (m
 
     -- loops and fields
 
-    rounds_same : (k : ℕ) (test update : Node) (body : Meaning) (place : ℕ) (x : ExecutionContext)
+    rounds_same : (k : ℕ) (test update : Node) (body : Meaning) (place : Entered) (x : ExecutionContext)
         → for_rounds k (meaning (swap test)) (meaning (swap update)) body place x ≡ for_rounds k (meaning test) (meaning update) body place x
     rounds_same zero test update body place x = λ i. (same test).test i (inside x place) >>= λ v. when (truth_of v) (stop TurnsSpent) (give tt)
     rounds_same (suc k) test update body place x = λ i.

@@ -6,7 +6,7 @@ use Rattle.ecma_runs.specs.Values.{Value}
 use Rattle.ecma_runs.specs.State.{Id, Closure, Callable, Code, Bound, Passed, Object, State}
 use Rattle.ecma_runs.specs.Run.{Stop, TurnsSpent, Outside, Outcome, Done, Thrown, Returned, Broken, Continued, Ended, Run, then_outcome, ◌>>=◌, give, throw, return, break, continue, stop, outside, when, given_or, given, each, catch_outcome, catching, finally_outcome, finally, round_outcome, round, loop_outcome, loop, body_outcome, returned_by, spend_of, spend}
 use Rattle.ecma_runs.specs.Environment.{is_among}
-use Rattle.ecma_runs.proofs.Names.{Naming, changed_environment}
+use Rattle.ecma_runs.proofs.Names.{Naming, changed_environment, kept_by}
 
 -- how one run differs from another
 pub record Change : Type 1 where
@@ -55,15 +55,15 @@ spends_none more true e s = tt
 spends_none more false (inl none) s = rw none refl
 spends_none more false (inr e) s = absurd (cc)
 
-abbrev pub passed_to : (Node → Node) → Option (Node → Node) → Closure → Callable
-passed_to node None closure = Passed (record closure { node = node closure.node })
-passed_to node (Some function) closure = Code (record closure { node = function closure.node })
+abbrev pub passed_to : Naming → (Node → Node) → Option (Node → Node) → Closure → Callable
+passed_to names node None closure = Passed (kept_by names node closure)
+passed_to names node (Some function) closure = Code (kept_by names function closure)
 
 module _ (c : Change) where
   abbrev pub changed_callable : Callable → Callable
-  changed_callable (Code closure) = Code (record closure { node = c.node closure.node })
+  changed_callable (Code closure) = Code (kept_by c.names c.node closure)
   changed_callable (Bound target this given) = Bound target this given
-  changed_callable (Passed closure) = passed_to c.node c.passed closure
+  changed_callable (Passed closure) = passed_to c.names c.node c.passed closure
 
   abbrev pub changed_object : Object → Object
   changed_object o = record o { callable = option_map changed_callable o.callable }
@@ -158,13 +158,13 @@ module _ (c : Change) where
   excused_alike why {m' = m'} e = record { at = λ s g. (subst (λ b. Unless b (m' (changed s) ≡ Ended why (changed s))) (sym e) tt, g.2) }
 
   passed_by : {A : Type 0} (k : Callable → Run A) (closure : Closure) (o : Option (Node → Node)) → (o ≡ None) ⊎ (c.excused Outside ≡ true)
-      → k (Passed (record closure { node = c.node closure.node })) ≡ outside → Alike outside (k (passed_to c.node o closure))
+      → k (Passed (kept_by c.names c.node closure)) ≡ outside → Alike outside (k (passed_to c.names c.node o closure))
   passed_by k closure None e open' = rw open' outside_alike
   passed_by k closure (Some function) (inl e) open' = absurd (cc)
   passed_by k closure (Some function) (inr e) open' = excused_alike Outside e
 
   -- what is open at a function that is passed over
-  pub passed_alike : {A : Type 0} (k : Callable → Run A) (closure : Closure) → k (Passed (record closure { node = c.node closure.node })) ≡ outside → Alike outside (k (changed_callable (Passed closure)))
+  pub passed_alike : {A : Type 0} (k : Callable → Run A) (closure : Closure) → k (Passed (kept_by c.names c.node closure)) ≡ outside → Alike outside (k (changed_callable (Passed closure)))
   passed_alike k closure open' = passed_by k closure c.passed c.passed_excused open'
 
   pub when_alike : {A : Type 0} {to : A → A} {P : A → Type 0} (b : Bool) {m m' k k' : Run A} → AlikeBy to P m m' → AlikeBy to P k k' → AlikeBy to P (when b m k) (when b m' k')

@@ -6,16 +6,17 @@ use Rattle.ecma_kind.specs.declared.operators.MethodKind.{MethodKind}
 use Rattle.ecma_kind.specs.declared.operators.MethodKind.TheVariants as method
 use Rattle.ecma_tree.specs.declared.node.Node.{Node}
 use Rattle.ecma_runs.specs.Values.{Value, Null, Own, Host, Error}
+use Rattle.ecma_runs.specs.Meaning.{inside}
 use Rattle.ecma_runs.specs.State.{Id, Binding, Sort, Plain, Method, Arrow, BaseClass, DerivedClass}
 use Rattle.ecma_runs.specs.Run.{◌>>=◌, give}
 use Rattle.ecma_runs.specs.Environment.{resolved, empty, except, have_one_of}
 use Rattle.ecma_runs.specs.Objects.{Calling, Function, BoundFunction, define_data, with_getter, with_setter}
 use Rattle.ecma_runs.specs.Functions.{read, first_or_undefined, new_function, prototype_entries}
-use Rattle.ecma_runs.specs.Classes.{made_of, body_of, run_body, run_code, all_code, class_code, code_of, checked_calling, parent_class, parent_prototype, heritage, field_activation, class_value, class_made_of, define_method, literal_key, all_defined, defined_of, define_field, field_with, all_fields, fields_of, all_statics, statics_of}
+use Rattle.ecma_runs.specs.Classes.{class_in, made_of, body_of, run_body, run_code, all_code, class_code, code_of, checked_target, checked_calling, parent_class, parent_prototype, heritage, field_activation, class_value, class_made_of, define_method, literal_key, all_defined, defined_of, define_field, field_with, all_fields, fields_of, all_statics, statics_of}
 use Rattle.ecma_runs.specs.Declarations.{all_shorthands, shorthands_of}
-use Rattle.ecma_runs.proofs.Names.{changed_ids, changed_bindings, changed_bindings-append, except-changed}
+use Rattle.ecma_runs.proofs.Names.{changed_entered, changed_scope, changed_ids, changed_bindings, changed_bindings-append, except-changed}
 use Rattle.ecma_runs.proofs.Alike.{Change, Alike, bind_by, bind_alike, give_alike, throw_alike, return_alike, outside_alike, when_alike}
-use Rattle.ecma_runs.proofs.Environments.{new_environment_alike, set_all_alike, KeepTexts, resolved_alike}
+use Rattle.ecma_runs.proofs.Environments.{enter_alike, set_all_alike, KeepTexts, resolved_alike}
 use Rattle.ecma_runs.proofs.Objects.{calling_at_alike, define_alike, define_data_alike, keep_field_keys_alike}
 use Rattle.ecma_runs.proofs.Meanings.{World, first, second, within, Both, firsts, seconds, empties}
 use Rattle.ecma_runs.proofs.Members.{prototype_property_alike}
@@ -42,7 +43,7 @@ module _ (c : Change) where
         → Alike c (body_of n k (firsts c ps) names (first c w)) (body_of (c.node n) (renamed_kind c k) (seconds c ps) (changed_ids c.names names) (second c w))
     body_alike n fine kind.BlockStmt (statements ∷ []) kept names =
         rw (left_over names statements)
-        (bind_alike c (new_environment_alike c _ None) (λ place. bind_alike c (statements.2.hoisted (within c w place)) (λ _. statements.2.completion (within c w place))))
+        (enter_alike c (λ e. statements.1.hoisted (inside (second c w) e) >>= λ _. statements.1.completion (inside (second c w) e)) _ None (λ place. bind_alike c (statements.2.hoisted (within c w place)) (λ _. statements.2.completion (within c w place))))
     body_alike n fine k ps kept names = bind_alike c (value_alike c w n fine k ps kept) (λ v. return_alike c v)
 
     run_body_alike : (parameters body : Both c) → StillClash c parameters.0 body.0 → Alike c (run_body parameters.0 body.0 (first c w)) (run_body parameters.1 body.1 (second c w))
@@ -71,11 +72,20 @@ module _ (c : Change) where
 
   -- classes
 
+  checked_target_alike : (place : ℕ) (o : Option Calling) → Alike c (checked_target place o) (checked_target place o)
+  checked_target_alike place (Some (Function Plain)) = give_alike c place
+  checked_target_alike place (Some (Function BaseClass)) = give_alike c place
+  checked_target_alike place (Some (Function DerivedClass)) = give_alike c place
+  checked_target_alike place (Some (BoundFunction target this given)) = throw_alike c _
+  checked_target_alike place (Some (Function Method)) = throw_alike c _
+  checked_target_alike place (Some (Function Arrow)) = throw_alike c _
+  checked_target_alike place None = throw_alike c _
+
   checked_calling_alike : (place : ℕ) (o : Option Calling) → Alike c (checked_calling place o) (checked_calling place o)
   checked_calling_alike place (Some (Function Plain)) = give_alike c place
   checked_calling_alike place (Some (Function BaseClass)) = give_alike c place
   checked_calling_alike place (Some (Function DerivedClass)) = give_alike c place
-  checked_calling_alike place (Some (BoundFunction target this given)) = give_alike c place
+  checked_calling_alike place (Some (BoundFunction target this given)) = bind_alike c (calling_at_alike c target) (λ o. checked_target_alike place o)
   checked_calling_alike place (Some (Function Method)) = throw_alike c _
   checked_calling_alike place (Some (Function Arrow)) = throw_alike c _
   checked_calling_alike place None = throw_alike c _
@@ -129,14 +139,14 @@ module _ (c : Change) where
         → Alike c (class_value n super.0 body.0 ids (first c w)) (class_value (c.node n) super.1 body.1 (changed_ids c.names ids) (second c w))
     class_value_alike n super body ids fine texts =
         rw (empties c true ids)
-        (bind_alike c (new_environment_alike c (map (empty true) ids) None) (λ scope.
+        (enter_alike c (λ e. class_in (c.node n) super.1 body.1 (changed_ids c.names ids) e (second c w)) (map (empty true) ids) None (λ scope.
         bind_alike c (heritage_alike (within c w scope) super) (λ parents.
         bind_alike c (new_prototype_alike c parents.1) (λ prototype.
         bind_alike c (class_function_alike (within c w scope) n super.0.is_absent super.1.is_absent super.2.is_absent prototype parents.0 fine) (λ class.
         bind_alike c (body.2.defined texts class prototype (within c w scope)) (λ keys.
         bind_alike c (keep_field_keys_alike c class keys) (λ _.
-        bind_alike c (set_all_alike c ids scope (Own class)) (λ _.
-        bind_alike c (new_environment_alike c [] (Some (field_activation (Own class) (Some class)))) (λ place.
+        bind_alike c (set_all_alike c ids scope.place (Own class)) (λ _.
+        enter_alike c (λ e. body.1.statics keys (Own class) (inside (inside (second c w) (changed_entered c.names scope)) e) >>= λ _. give (Own class)) [] (Some (field_activation (Own class) (Some class))) (λ place.
         bind_alike c (body.2.statics keys (Own class) (within c (within c w scope) place)) (λ _. give_alike c (Own class)))))))))))
 
     pub class_made_alike : (n : Node) → c.fine n → (k : Kind) (ps : List (Both c)) → KeptLayer c k (firsts c ps) → (ids : List Id)
@@ -150,7 +160,7 @@ module _ (c : Change) where
         → Alike c (defined_of n k (firsts c ps) class object (first c w)) (defined_of (c.node n) (renamed_kind c k) (seconds c ps) class object (second c w))
     defined_alike n fine (kind.Ident text ctxt optional) [] kept texts class object =
         subst (λ z. Alike c (defined_of n (kind.Ident text ctxt optional) [] class object (first c w))
-        (literal_key z >>= λ k. resolved w.scope (changed_ids c.names c.declared) (c.names.to (record { sym = text; ctxt = ctxt })) >>= λ r. read (second c w) r >>= λ v. define_data object k v >>= λ _. give [])) (sym texts.0)
+        (literal_key z >>= λ k. resolved (changed_scope c.names w.scope) (changed_ids c.names c.declared) (c.names.to (record { sym = text; ctxt = ctxt })) >>= λ r. read (second c w) r >>= λ v. define_data object k v >>= λ _. give [])) (sym texts.0)
         (bind_alike c (literal_key_alike text) (λ k. bind_by c (λ r. read (second c w) r >>= λ v. define_data object k v >>= λ _. give []) (resolved_alike c w.scope _ kept.0)
         (λ r p. bind_alike c (read_alike c w r p) (λ v. bind_alike c (define_data_alike c object k v) (λ _. give_alike c [])))))
     defined_alike n fine kind.List ps kept texts class object =

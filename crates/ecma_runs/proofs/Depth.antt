@@ -1,13 +1,13 @@
 -- Calls may be defined as deep as one likes: a call is `apply` of calls.
 use Rattle.std.proofs.Common.{add-zero, ◌≡◌, ℕ, zero, suc, ◌≤◌, inl, refl, sym, ap, ap₂, ◌∙◌, subst, List, [], ◌∷◌, map, Option, Some, None, option_map, arith}
 use Rattle.ecma_runs.specs.Values.{Value}
-use Rattle.ecma_runs.specs.State.{Id, Environment, Callable, Code, Bound, Passed, Object, State}
+use Rattle.ecma_runs.specs.State.{Id, Entered, Environment, Callable, Code, Bound, Passed, Object, State}
 use Rattle.ecma_runs.specs.Run.{Outcome, Done, Thrown, Returned, Broken, Continued, Ended, TurnsSpent, Run}
 use Rattle.ecma_runs.specs.Host.{Provided}
 use Rattle.ecma_runs.specs.Meaning.{Invocation}
 use Rattle.ecma_runs.specs.Evaluation.{apply_at, apply, calls, invoke}
 use Rattle.ecma_runs.specs.Laws.{CallsAreApplications}
-use Rattle.ecma_runs.proofs.Names.{changed_ids, changed_environment}
+use Rattle.ecma_runs.proofs.Names.{changed_ids, changed_scope, changed_environment}
 use Rattle.ecma_runs.proofs.Alike.{Change, changed, changed_callable, changed_object, FineCallable, AllFine, Follows, Alike}
 use Rattle.ecma_runs.proofs.Kept.{StepsAlike, apply_at_alike, calls_alike}
 use Rattle.ecma_runs.proofs.Layers.{same_names, same_ids, same_bindings, Telling, images, nothing_excused, itself_layers, layers_alike}
@@ -23,6 +23,10 @@ same_environments : (es : List Environment) → map (changed_environment same_na
 same_environments [] = refl
 same_environments (e ∷ es) = ap₂ (λ bs z. record { bindings = bs; activation = e.activation } ∷ z) (same_bindings e.bindings) (same_environments es)
 
+same_scope : (scope : List Entered) → changed_scope same_names scope ≡ scope
+same_scope [] = refl
+same_scope (e ∷ scope) = ap₂ (λ ids z. record { place = e.place; ids = ids } ∷ z) (same_ids e.ids) (same_scope scope)
+
 module _ (k : ℕ) (declared : List Id) where
   fine_callable : (o : Option Callable) → FineCallable (below k declared) o
   fine_callable None = tt
@@ -36,9 +40,9 @@ module _ (k : ℕ) (declared : List Id) where
 
   same_callable : (o : Option Callable) → option_map (changed_callable (below k declared)) o ≡ o
   same_callable None = refl
-  same_callable (Some (Code closure)) = refl
+  same_callable (Some (Code closure)) = ap (λ z. Some (Code (record closure { scope = z }))) (same_scope closure.scope)
   same_callable (Some (Bound target this given)) = refl
-  same_callable (Some (Passed closure)) = refl
+  same_callable (Some (Passed closure)) = ap (λ z. Some (Passed (record closure { scope = z }))) (same_scope closure.scope)
 
   same_objects : (os : List Object) → map (changed_object (below k declared)) os ≡ os
   same_objects [] = refl

@@ -11,21 +11,34 @@ use Rattle.ecma_runs.specs.declared.script.ImportValue.{ImportValue}
 use Rattle.ecma_runs.specs.declared.shown.Shown.{Shown}
 use Rattle.ecma_runs.specs.declared.shown.Shown.TheVariants as shown
 use Rattle.ecma_runs.specs.Values.{Value, Own}
-use Rattle.ecma_runs.specs.State.{Content, Empty, Holds, Imported, Id, Binding, Activation, Environment, State}
+use Rattle.ecma_runs.specs.State.{Content, Empty, Holds, Imported, Id, Entered, Binding, Activation, Environment, State}
 use Rattle.ecma_runs.specs.Run.{AnswersSpent, Outside, Done, Run, ◌>>=◌, give, outside, when}
 use Rattle.ecma_runs.specs.Host.{import_value, taken_if, own_at, handled, taken, number_own, show_own, show, answered, answer_from, next_answer, add_event, use_host, free_value, fixed_value, free_or, read_free, free_or_undefined, read_free_typed}
-use Rattle.ecma_runs.specs.Environment.{copy_environment, new_environment, bindings_in, variable, with_value, set_variable, Reference, ToVariable, ToFree, ToMember, ToSuper, is_among, resolved, content_value, value_in, read_variable, unless_empty, write_in, write_variable, set_all, initialize_one, initialize, activation_in, activation_at, with_activation, set_activation, activation_or, activation, this, bind_this_in, bind_this}
+use Rattle.ecma_runs.specs.Environment.{ids_of, copy_environment, new_environment, bindings_in, variable, with_value, set_variable, Reference, ToVariable, ToFree, ToMember, ToSuper, is_among, resolved, content_value, value_in, read_variable, unless_empty, write_in, write_variable, set_all, initialize_one, initialize, activation_in, activation_at, with_activation, set_activation, activation_or, activation, this, bind_this_in, bind_this}
 use Rattle.ecma_runs.specs.Names.{TextsStay}
-use Rattle.ecma_runs.proofs.Names.{keep, changed_ids, changed_binding, changed_bindings, changed_environment, binding_of-changed, is_among-changed, set_in-changed, set_in-gone, map-changed_at, map-unchanged_at, map-push, length-map}
-use Rattle.ecma_runs.proofs.Alike.{Change, changed, Good, unless_is, Follows, AlikeBy, Alike, bind_alike, give_by, give_alike, throw_alike, outside_alike, when_alike, given_or_alike}
+use Rattle.ecma_runs.proofs.Names.{keep, changed_ids, changed_entered, changed_scope, ids_of-changed, changed_binding, changed_bindings, changed_environment, binding_of-changed, is_among-changed, set_in-changed, set_in-gone, map-changed_at, map-unchanged_at, map-push, length-map}
+use Rattle.ecma_runs.proofs.Alike.{Change, changed, Good, unless_is, Follows, AlikeBy, Alike, bind_by, bind_alike, give_by, give_alike, throw_alike, outside_alike, when_alike, given_or_alike}
 
 module _ (c : Change) where
   -- environment records
 
-  pub new_environment_alike : (bindings : List Binding) (a : Option Activation) → Alike c (new_environment bindings a) (new_environment (changed_bindings c.names bindings) a)
+  -- runs that give a scope that is entered, and the other with its names changed
+  abbrev EntersAlike : Run Entered → Run Entered → Type 0
+  EntersAlike m m' = AlikeBy c (changed_entered c.names) (λ e. Unit {0}) m m'
+
+  new_environment_alike : (bindings : List Binding) (a : Option Activation) → EntersAlike (new_environment bindings a) (new_environment (changed_bindings c.names bindings) a)
   new_environment_alike bindings a = record {
-    at = λ s g. (rw (length-map (changed_environment c.names) s.environments, map-push (changed_environment c.names) s.environments (record { bindings = bindings; activation = a })) refl, g, tt);
+    at = λ s g. (
+      rw (ids_of-changed c.names bindings, length-map (changed_environment c.names) s.environments, map-push (changed_environment c.names) s.environments (record { bindings = bindings; activation = a })) refl,
+      g,
+      tt,
+    );
   }
+
+  -- a scope is entered, and then alike is done in it
+  pub enter_alike : {A : Type 0} {on : A → A} {Q : A → Type 0} {k : Entered → Run A} (k' : Entered → Run A) (bindings : List Binding) (a : Option Activation)
+      → ((e : Entered) → AlikeBy c on Q (k e) (k' (changed_entered c.names e))) → AlikeBy c on Q (new_environment bindings a >>= k) (new_environment (changed_bindings c.names bindings) a >>= k')
+  enter_alike k' bindings a h = bind_by c k' (new_environment_alike bindings a) (λ e p. h e)
 
   bindings_in-changed : (o : Option Environment) → bindings_in (option_map (changed_environment c.names) o) ≡ changed_bindings c.names (bindings_in o)
   bindings_in-changed None = refl
@@ -37,10 +50,19 @@ module _ (c : Change) where
   variable-changed : (place : ℕ) (id : Id) (s : State) → c.names.kept id ≡ true → variable place (c.names.to id) (changed c s) ≡ option_map (changed_binding c.names) (variable place id s)
   variable-changed place id s kept = rw (bindings_at-changed place s) (binding_of-changed c.names id kept (bindings_in (slice_get s.environments place)))
 
-  pub copy_environment_alike : (place : ℕ) → Alike c (copy_environment place) (copy_environment place)
-  copy_environment_alike place = record {
-    at = λ s g. rw (bindings_at-changed place s) ((new_environment_alike (bindings_in (slice_get s.environments place)) None).at s g);
+  copy_environment_alike : (from : Entered) → EntersAlike (copy_environment from) (copy_environment (changed_entered c.names from))
+  copy_environment_alike from = record {
+    at = λ s g. (
+      rw (bindings_at-changed from.place s, length-map (changed_environment c.names) s.environments, map-push (changed_environment c.names) s.environments (record { bindings = bindings_in (slice_get s.environments from.place); activation = None })) refl,
+      g,
+      tt,
+    );
   }
+
+  -- so it is with a copy of a record
+  pub copy_alike : {A : Type 0} {on : A → A} {Q : A → Type 0} {k : Entered → Run A} (k' : Entered → Run A) (from : Entered)
+      → ((e : Entered) → AlikeBy c on Q (k e) (k' (changed_entered c.names e))) → AlikeBy c on Q (copy_environment from >>= k) (copy_environment (changed_entered c.names from) >>= k')
+  copy_alike k' from h = bind_by c k' (copy_environment_alike from) (λ e p. h e)
 
   -- the values of host and script
 
@@ -114,33 +136,24 @@ module _ (c : Change) where
   set_all_alike [] place v = give_alike c tt
   set_all_alike (id ∷ ids) place v = set_one_alike id ids place v (set_all_alike ids place v) (c.names.kept id) refl
 
-  is_some-map : (o : Option Binding) → is_some (option_map (changed_binding c.names) o) ≡ is_some o
-  is_some-map None = refl
-  is_some-map (Some binding) = refl
-
-  initialize_kept : (scope : List ℕ) (id : Id) (v : Value) → c.names.kept id ≡ true → Alike c (initialize_one scope id v) (initialize_one scope (c.names.to id) v)
+  initialize_kept : (scope : List Entered) (id : Id) (v : Value) → c.names.kept id ≡ true → Alike c (initialize_one scope id v) (initialize_one (changed_scope c.names scope) (c.names.to id) v)
   initialize_kept [] id v kept = give_alike c tt
-  initialize_kept (place ∷ outer) id v kept = record {
-    at = λ s g. rw (variable-changed place id s kept, is_some-map (variable place id s))
-        ((when_alike c (is_some (variable place id s)) (set_variable_alike place id v kept) (initialize_kept outer id v kept)).at s g);
-  }
+  initialize_kept (e ∷ outer) id v kept = rw (is_among-changed c.names id kept e.ids) (when_alike c (is_among id e.ids) (set_variable_alike e.place id v kept) (initialize_kept outer id v kept))
 
   when_given : {A : Type 0} (b : Bool) {m k : Run A} {a : A} → Alike c m (give a) → Alike c k (give a) → Alike c (when b m k) (give a)
   when_given true hm hk = hm
   when_given false hm hk = hk
 
-  initialize_gone : (scope : List ℕ) (id : Id) (v : Value) → c.names.kept id ≡ false → Alike c (initialize_one scope id v) (give tt)
+  initialize_gone : (scope : List Entered) (id : Id) (v : Value) → c.names.kept id ≡ false → Alike c (initialize_one scope id v) (give tt)
   initialize_gone [] id v gone = give_alike c tt
-  initialize_gone (place ∷ outer) id v gone = record {
-    at = λ s g. (when_given (is_some (variable place id s)) (set_variable_gone place id v gone) (initialize_gone outer id v gone)).at s g;
-  }
+  initialize_gone (e ∷ outer) id v gone = when_given (is_among id e.ids) (set_variable_gone e.place id v gone) (initialize_gone outer id v gone)
 
-  initialize_first : (scope : List ℕ) (id : Id) (ids : List Id) (v : Value) → Alike c (initialize scope ids v) (initialize scope (changed_ids c.names ids) v) → (b : Bool) → c.names.kept id ≡ b
-      → Alike c (initialize_one scope id v >>= λ _. initialize scope ids v) (initialize scope (keep b (c.names.to id) (changed_ids c.names ids)) v)
+  initialize_first : (scope : List Entered) (id : Id) (ids : List Id) (v : Value) → Alike c (initialize scope ids v) (initialize (changed_scope c.names scope) (changed_ids c.names ids) v) → (b : Bool) → c.names.kept id ≡ b
+      → Alike c (initialize_one scope id v >>= λ _. initialize scope ids v) (initialize (changed_scope c.names scope) (keep b (c.names.to id) (changed_ids c.names ids)) v)
   initialize_first scope id ids v rest true kept = bind_alike c (initialize_kept scope id v kept) (λ _. rest)
-  initialize_first scope id ids v rest false gone = bind_alike c {k' = λ _. initialize scope (changed_ids c.names ids) v} (initialize_gone scope id v gone) (λ _. rest)
+  initialize_first scope id ids v rest false gone = bind_alike c {k' = λ _. initialize (changed_scope c.names scope) (changed_ids c.names ids) v} (initialize_gone scope id v gone) (λ _. rest)
 
-  pub initialize_alike : (scope : List ℕ) (ids : List Id) (v : Value) → Alike c (initialize scope ids v) (initialize scope (changed_ids c.names ids) v)
+  pub initialize_alike : (scope : List Entered) (ids : List Id) (v : Value) → Alike c (initialize scope ids v) (initialize (changed_scope c.names scope) (changed_ids c.names ids) v)
   initialize_alike scope [] v = give_alike c tt
   initialize_alike scope (id ∷ ids) v = initialize_first scope id ids v (initialize_alike scope ids v) (c.names.kept id) refl
 
@@ -162,18 +175,18 @@ module _ (c : Change) where
   activation_or_alike place (Some a) h = give_alike c (place, a)
   activation_or_alike place None h = h
 
-  pub activation_alike : (scope : List ℕ) → Alike c (activation scope) (activation scope)
+  pub activation_alike : (scope : List Entered) → Alike c (activation scope) (activation (changed_scope c.names scope))
   activation_alike [] = outside_alike c
-  activation_alike (place ∷ outer) = bind_alike c (activation_at_alike place) (λ o. activation_or_alike place o (activation_alike outer))
+  activation_alike (e ∷ outer) = bind_alike c (activation_at_alike e.place) (λ o. activation_or_alike e.place o (activation_alike outer))
 
-  pub this_alike : (scope : List ℕ) → Alike c (this scope) (this scope)
+  pub this_alike : (scope : List Entered) → Alike c (this scope) (this (changed_scope c.names scope))
   this_alike scope = bind_alike c (activation_alike scope) (λ a. given_or_alike c a.1.this (throw_alike c _))
 
   bind_this_in_alike : (place : ℕ) (a : Activation) (v : Value) (o : Option Value) → Alike c (bind_this_in place a v o) (bind_this_in place a v o)
   bind_this_in_alike place a v (Some old) = throw_alike c _
   bind_this_in_alike place a v None = set_activation_alike place _
 
-  pub bind_this_alike : (scope : List ℕ) (v : Value) → Alike c (bind_this scope v) (bind_this scope v)
+  pub bind_this_alike : (scope : List Entered) (v : Value) → Alike c (bind_this scope v) (bind_this (changed_scope c.names scope) v)
   bind_this_alike scope v = bind_alike c (activation_alike scope) (λ a. bind_this_in_alike a.0 a.1 v a.1.this)
 
   -- names whose texts stay
@@ -208,12 +221,9 @@ module _ (c : Change) where
   free_alike id kept true e = outside_alike c
   free_alike id kept false e = rw (c.texts id kept e) (give_by c (ToFree id.sym) tt)
 
-  pub resolved_alike : (scope : List ℕ) (id : Id) → c.names.kept id ≡ true → AlikeReference (resolved scope c.declared id) (resolved scope (changed_ids c.names c.declared) (c.names.to id))
-  resolved_alike [] id kept = record { at = λ s g. rw (is_among-changed c.names id kept c.declared) ((free_alike id kept (is_among id c.declared) refl).at s g) }
-  resolved_alike (place ∷ outer) id kept = record {
-    at = λ s g. rw (variable-changed place id s kept, is_some-map (variable place id s))
-        ((when_alike c (is_some (variable place id s)) (give_by c (ToVariable place id) kept) (resolved_alike outer id kept)).at s g);
-  }
+  pub resolved_alike : (scope : List Entered) (id : Id) → c.names.kept id ≡ true → AlikeReference (resolved scope c.declared id) (resolved (changed_scope c.names scope) (changed_ids c.names c.declared) (c.names.to id))
+  resolved_alike [] id kept = rw (is_among-changed c.names id kept c.declared) (free_alike id kept (is_among id c.declared) refl)
+  resolved_alike (e ∷ outer) id kept = rw (is_among-changed c.names id kept e.ids) (when_alike c (is_among id e.ids) (give_by c (ToVariable e.place id) kept) (resolved_alike outer id kept))
 
   -- the host
 

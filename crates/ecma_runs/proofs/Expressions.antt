@@ -13,16 +13,17 @@ use Rattle.ecma_kind.specs.declared.operators.UnaryOp.TheVariants as operator
 use Rattle.ecma_kind.specs.declared.operators.UpdateOp.{UpdateOp}
 use Rattle.ecma_tree.specs.declared.node.Node.{Node}
 use Rattle.ecma_runs.specs.Values.{Value, Undefined, Null, Truth, Number, Text, Own, Host, Error, truth_of, is_nullish}
+use Rattle.ecma_runs.specs.Meaning.{inside}
 use Rattle.ecma_runs.specs.State.{Id, Plain, Arrow}
 use Rattle.ecma_runs.specs.Run.{Run, ◌>>=◌, give, given}
-use Rattle.ecma_runs.specs.Environment.{Reference, ToVariable, ToFree, ToMember, ToSuper, ToImportMeta, ToValue, empty}
+use Rattle.ecma_runs.specs.Environment.{set_all, Reference, ToVariable, ToFree, ToMember, ToSuper, ToImportMeta, ToMetaMember, ToValue, empty}
 use Rattle.ecma_runs.specs.Operators.{text_from, number_from, key_from, binary_value, operator_of, short_circuit, logical_operator_of, unary_value, updated}
 use Rattle.ecma_runs.specs.Functions.{read, write, read_object, read_typed, delete, Callee, callee_by, call, construct}
 use Rattle.ecma_runs.specs.Expressions.{meta_member, member_of, member_reference, super_reference, chained, call_by, is_in, applied, binary_rest, logical_rest, compound_rest, assign, unary, update, sequence, interleaved, function_value, value_of, reference_of, continued, callee_is_nullish, member_link, call_link, link_of, chain_of, initial_of, all_arguments, arguments_of, all_elements, elements_of, all_texts, texts_of, key_of, test_of}
 use Rattle.ecma_runs.specs.Members.{type_of}
 use Rattle.ecma_runs.proofs.Names.{changed_ids}
 use Rattle.ecma_runs.proofs.Alike.{Change, Alike, bind_by, bind_alike, give_by, give_alike, throw_alike, outside_alike, when_alike, given_alike}
-use Rattle.ecma_runs.proofs.Environments.{new_environment_alike, set_all_alike, activation_alike, this_alike, changed_reference, KeptReference, AlikeReference, resolved_alike}
+use Rattle.ecma_runs.proofs.Environments.{enter_alike, set_all_alike, activation_alike, this_alike, changed_reference, KeptReference, AlikeReference, resolved_alike}
 use Rattle.ecma_runs.proofs.Objects.{new_object_alike, new_array_alike}
 use Rattle.ecma_runs.proofs.Meanings.{World, first, second, within, KeptOption, AlikeChain, Both, firsts, seconds, empties}
 use Rattle.ecma_runs.proofs.Members.{has_member_alike, instance_of_alike, type_of_alike}
@@ -32,7 +33,7 @@ use Rattle.ecma_runs.proofs.Premises.{renamed_kind, KeptLayer}
 
 module _ (c : Change) (w : World c) where
   meta_member_alike : (key : List ℕ) → AlikeReference c (meta_member (first c w) key) (meta_member (second c w) key)
-  meta_member_alike key = when_alike c (bytes_eq key (codes "url")) (give_by c (ToValue (Text w.provided.meta_url)) tt) (outside_alike c)
+  meta_member_alike key = when_alike c (bytes_eq key (codes "url")) (give_by c (ToMetaMember (Text w.provided.meta_url)) tt) (outside_alike c)
 
   plain_member_alike : c.uses ≡ true → (r : Reference) → KeptReference c r → {key key' : Run (List ℕ)} → Alike c key key'
       → AlikeReference c (read_object (first c w) r >>= λ o. key >>= λ k. give (ToMember o k)) (read_object (second c w) (changed_reference c r) >>= λ o. key' >>= λ k. give (ToMember o k))
@@ -44,6 +45,7 @@ module _ (c : Change) (w : World c) where
   member_of_alike u (ToFree name) kept h = plain_member_alike u (ToFree name) kept h
   member_of_alike u (ToMember o key) kept h = plain_member_alike u (ToMember o key) kept h
   member_of_alike u (ToSuper this home key) kept h = plain_member_alike u (ToSuper this home key) kept h
+  member_of_alike u (ToMetaMember v) kept h = plain_member_alike u (ToMetaMember v) kept h
   member_of_alike u (ToValue v) kept h = plain_member_alike u (ToValue v) kept h
 
   member_reference_alike : c.uses ≡ true → (object key : Both c) → AlikeReference c (member_reference object.0 key.0 (first c w)) (member_reference object.1 key.1 (second c w))
@@ -128,8 +130,8 @@ module _ (c : Change) (w : World c) where
   function_value_alike : (ids : List Id) (function : Both c) → Alike c (function_value ids function.0 (first c w)) (function_value (changed_ids c.names ids) function.1 (second c w))
   function_value_alike ids function =
       rw (empties c true ids)
-      (bind_alike c (new_environment_alike c (map (empty true) ids) None) (λ place.
-      bind_alike c (function.2.made Plain None (within c w place)) (λ f. bind_alike c (set_all_alike c ids place (Own f)) (λ _. give_alike c (Own f)))))
+      (enter_alike c (λ e. function.1.made Plain None (inside (second c w) e) >>= λ f. set_all (changed_ids c.names ids) e.place (Own f) >>= λ _. give (Own f)) (map (empty true) ids) None (λ place.
+      bind_alike c (function.2.made Plain None (within c w place)) (λ f. bind_alike c (set_all_alike c ids place.place (Own f)) (λ _. give_alike c (Own f)))))
 
   -- chains
 

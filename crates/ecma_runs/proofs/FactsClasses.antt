@@ -6,7 +6,7 @@ use Rattle.ecma_kind.specs.declared.operators.BinaryOp.TheVariants as binary
 use Rattle.ecma_kind.specs.declared.operators.MetaPropKind.TheVariants.{NewTarget}
 use Rattle.ecma_kind.specs.declared.operators.MethodKind.TheVariants as method
 use Rattle.ecma_kind.specs.declared.operators.UpdateOp.TheVariants as update
-use Rattle.ecma_kind.specs.declared.operators.VarDeclKind.TheVariants.{Let, Const}
+use Rattle.ecma_kind.specs.declared.operators.VarDeclKind.TheVariants.{Let}
 use Rattle.ecma_runs.specs.declared.observation.Event.TheVariants.{HostCall}
 use Rattle.ecma_runs.specs.declared.observation.Ending.TheVariants as ending
 use Rattle.ecma_runs.specs.declared.script.Answer.TheVariants.{Return}
@@ -147,15 +147,25 @@ wants_super_at_all :
     (HostCall 7 shown.Undefined (shown.Num (js_number.Whole (pos 1)) ∷ []) ∷ []) (ending.Thrown (shown.Error error.Reference))
 wants_super_at_all = simp meaning_node refl
 
--- class A { constructor(a) { this.a = a; } } class B extends A { y = 4; constructor() { const h = () => super(3); h(); f(this.y, this.a); } } new B();
+-- class A { constructor(a) { f(a); } } class B extends A { constructor() { (() => super(3))(); } } new B();
 calls_super_in_an_arrow :
     Does 9 nulls []
-    (declare_class (codes "A") absent (constructor' (parameter (binding (codes "a")) ▸ End) (statement (assign (member this' (codes "a")) (ident (codes "a"))) ▸ End) ▸ End)
-    ▸ declare_class (codes "B") (ident (codes "A")) (field false (key (codes "y")) (whole 4) ▸ constructor' End (declare Const (codes "h") (arrow End (call super' (whole 3 ▸ End))) ▸ statement (call (ident (codes "h")) End) ▸ statement (call (ident (codes "f")) (member this' (codes "y") ▸ member this' (codes "a") ▸ End)) ▸ End) ▸ End)
+    (declare_class (codes "A") absent (constructor' (parameter (binding (codes "a")) ▸ End) (statement (call (ident (codes "f")) (ident (codes "a") ▸ End)) ▸ End) ▸ End)
+    ▸ declare_class (codes "B") (ident (codes "A")) (constructor' End (statement (call (parens (arrow End (call super' (whole 3 ▸ End)))) End) ▸ End) ▸ End)
     ▸ statement (new' (ident (codes "B")) End)
     ▸ End)
-    (HostCall 7 shown.Undefined (shown.Num (js_number.Whole (pos 4)) ∷ shown.Num (js_number.Whole (pos 3)) ∷ []) ∷ []) (ending.Done [])
+    (HostCall 7 shown.Undefined (shown.Num (js_number.Whole (pos 3)) ∷ []) ∷ []) (ending.Done [])
 calls_super_in_an_arrow = simp meaning_node refl
+
+-- class A {} class B extends A { y = f(4); constructor() { (() => super())(); } } new B();
+has_fields_when_an_arrow_called_super :
+    Does 9 nulls []
+    (declare_class (codes "A") absent End
+    ▸ declare_class (codes "B") (ident (codes "A")) (field false (key (codes "y")) (call (ident (codes "f")) (whole 4 ▸ End)) ▸ constructor' End (statement (call (parens (arrow End (call super' End))) End) ▸ End) ▸ End)
+    ▸ statement (new' (ident (codes "B")) End)
+    ▸ End)
+    (HostCall 7 shown.Undefined (shown.Num (js_number.Whole (pos 4)) ∷ []) ∷ []) (ending.Done [])
+has_fields_when_an_arrow_called_super = simp meaning_node refl
 
 -- class A { constructor(a, b) { f(a, b); } } class B extends A {} new B(1, 2);
 passes_arguments_on :
@@ -194,6 +204,16 @@ extends_constructors_alone :
     ▸ End)
     [] (ending.Thrown (shown.Error error.Kind))
 extends_constructors_alone = simp meaning_node refl
+
+-- let k = (() => 1).bind(); k.prototype = {}; class A extends k {}
+extends_no_arrow_that_is_bound :
+    Does 9 nulls []
+    (declare Let (codes "k") (call (member (parens (arrow End (whole 1))) (codes "bind")) End)
+    ▸ statement (assign (member (ident (codes "k")) (codes "prototype")) (object End))
+    ▸ declare_class (codes "A") (ident (codes "k")) End
+    ▸ End)
+    [] (ending.Thrown (shown.Error error.Kind))
+extends_no_arrow_that_is_bound = simp meaning_node refl
 
 -- class A {} A.prototype = {};
 does_not_write_the_prototype_of_a_class :
@@ -283,15 +303,25 @@ extends_plain_functions :
     (HostCall 7 shown.Undefined (shown.Num (js_number.Whole (pos 1)) ∷ []) ∷ []) (ending.Done [])
 extends_plain_functions = simp meaning_node refl
 
--- class A { m() { return 1; } static s = 2; } class B extends A { x = super.m(); static y = super.s; } f(new B().x, B.y);
+-- class A { m() { return 1; } } class B extends A { x = super.m(); } f(new B().x);
 has_super_in_fields :
     Does 9 nulls []
-    (declare_class (codes "A") absent (class_method method.Method false (key (codes "m")) End (returns (whole 1) ▸ End) ▸ field true (key (codes "s")) (whole 2) ▸ End)
-    ▸ declare_class (codes "B") (ident (codes "A")) (field false (key (codes "x")) (call (super_member (codes "m")) End) ▸ field true (key (codes "y")) (super_member (codes "s")) ▸ End)
-    ▸ statement (call (ident (codes "f")) (member (new' (ident (codes "B")) End) (codes "x") ▸ member (ident (codes "B")) (codes "y") ▸ End))
+    (declare_class (codes "A") absent (class_method method.Method false (key (codes "m")) End (returns (whole 1) ▸ End) ▸ End)
+    ▸ declare_class (codes "B") (ident (codes "A")) (field false (key (codes "x")) (call (super_member (codes "m")) End) ▸ End)
+    ▸ statement (call (ident (codes "f")) (member (new' (ident (codes "B")) End) (codes "x") ▸ End))
     ▸ End)
-    (HostCall 7 shown.Undefined (shown.Num (js_number.Whole (pos 1)) ∷ shown.Num (js_number.Whole (pos 2)) ∷ []) ∷ []) (ending.Done [])
+    (HostCall 7 shown.Undefined (shown.Num (js_number.Whole (pos 1)) ∷ []) ∷ []) (ending.Done [])
 has_super_in_fields = simp meaning_node refl
+
+-- class A { static s = 2; } class B extends A { static y = super.s; } f(B.y);
+has_super_in_static_fields :
+    Does 9 nulls []
+    (declare_class (codes "A") absent (field true (key (codes "s")) (whole 2) ▸ End)
+    ▸ declare_class (codes "B") (ident (codes "A")) (field true (key (codes "y")) (super_member (codes "s")) ▸ End)
+    ▸ statement (call (ident (codes "f")) (member (ident (codes "B")) (codes "y") ▸ End))
+    ▸ End)
+    (HostCall 7 shown.Undefined (shown.Num (js_number.Whole (pos 2)) ∷ []) ∷ []) (ending.Done [])
+has_super_in_static_fields = simp meaning_node refl
 
 -- class A { x = 1; h = () => this.x; } let h = new A().h; f(h());
 has_arrows_in_fields :

@@ -3,6 +3,7 @@ use Rattle.std.proofs.Common.{refl, pos, [], ◌∷◌, None, true, false, codes
 use Rattle.ecma_number.specs.declared.js_number.JsNumber.TheVariants as js_number
 use Rattle.ecma_kind.specs.declared.kind.Kind.TheVariants as kind
 use Rattle.ecma_kind.specs.declared.operators.BinaryOp.TheVariants as binary
+use Rattle.ecma_kind.specs.declared.operators.MetaPropKind.TheVariants.{ImportMeta}
 use Rattle.ecma_kind.specs.declared.operators.MethodKind.TheVariants as method
 use Rattle.ecma_kind.specs.declared.operators.UnaryOp.TheVariants as unary
 use Rattle.ecma_kind.specs.declared.operators.VarDeclKind.TheVariants.{Var, Let}
@@ -487,6 +488,15 @@ deletion_of_host_members :
     ▸ End)
     (HostCall 7 shown.Undefined (shown.Num (js_number.Whole (pos 1)) ∷ []) ∷ []) (ending.Outside)
 deletion_of_host_members = simp meaning_node refl
+
+-- f(1); delete import.meta.url;
+deletion_of_members_of_meta :
+    Does 9 nulls []
+    (statement (call (ident (codes "f")) (whole 1 ▸ End))
+    ▸ statement (unary unary.Delete (member (tree (kind.MetaPropExpr ImportMeta) End) (codes "url")))
+    ▸ End)
+    (HostCall 7 shown.Undefined (shown.Num (js_number.Whole (pos 1)) ∷ []) ∷ []) (ending.Outside)
+deletion_of_members_of_meta = simp meaning_node refl
 
 -- function h() { f(1); delete arguments.length; } h();
 deletion_of_the_length_of_arguments :

@@ -6,7 +6,7 @@ use Rattle.ecma_runs.specs.Values.{Value, Undefined, Null, Truth, Number, Text, 
 use Rattle.ecma_runs.specs.State.{Arguments, Unbound, Forbidden, Given, Made, Activation, Sort, Plain, Method, Arrow, BaseClass, DerivedClass, Property, Data, Fixed, Accessor, Open, Entry}
 use Rattle.ecma_runs.specs.Run.{Run}
 use Rattle.ecma_runs.specs.Host.{show, is_open_object, is_open_callee}
-use Rattle.ecma_runs.specs.Environment.{Reference, ToVariable, ToFree, ToMember, ToSuper, ToImportMeta, ToValue, with_arguments}
+use Rattle.ecma_runs.specs.Environment.{Reference, ToVariable, ToFree, ToMember, ToSuper, ToImportMeta, ToMetaMember, ToValue, with_arguments}
 use Rattle.ecma_runs.specs.Meaning.{AsCall, AsConstruct}
 use Rattle.ecma_runs.specs.Objects.{new_object, Calling, Function, BoundFunction}
 use Rattle.ecma_runs.specs.Functions.{made_arguments, arguments_by, read_name, read, write, read_object, read_typed, delete, Borrowing, Apply, Bind, Call, Callee, Called, CalledSuper, Borrowed, borrowing_of, own_callee, member_callee, callee_by, call_host, call_function, call_target, call_calling, call_own, call_value, call_super_calling, call_super_value, first_or_undefined, all_but_first, list_from, bound_to, function_object, bind_function, call_borrowed, call, constructed, construct_function, construct_target, construct_calling, construct_own, construct, own, super_call, new_prototype, new_function, function_entries, prototype_entries, make_function, parent_from, prototype_for}
@@ -36,6 +36,7 @@ module _ (c : Change) where
     read_alike (ToMember o key) kept = member_alike c w kept o key
     read_alike (ToSuper this home key) kept = super_member_alike c w kept this home key
     read_alike ToImportMeta kept = outside_alike c
+    read_alike (ToMetaMember v) kept = give_alike c v
     read_alike (ToValue v) kept = give_alike c v
 
     pub write_alike : (r : Reference) → KeptReference c r → (v : Value) → Alike c (write (first c w) r v) (write (second c w) (changed_reference c r) v)
@@ -44,6 +45,7 @@ module _ (c : Change) where
     write_alike (ToMember o key) kept v = set_member_alike c w kept o key v
     write_alike (ToSuper this home key) kept v = set_super_member_alike c w kept this home key v
     write_alike ToImportMeta kept v = outside_alike c
+    write_alike (ToMetaMember old) kept v = outside_alike c
     write_alike (ToValue old) kept v = outside_alike c
 
     pub read_object_alike : (r : Reference) → KeptReference c r → Alike c (read_object (first c w) r) (read_object (second c w) (changed_reference c r))
@@ -52,6 +54,7 @@ module _ (c : Change) where
     read_object_alike (ToMember o key) kept = read_alike (ToMember o key) kept
     read_object_alike (ToSuper this home key) kept = read_alike (ToSuper this home key) kept
     read_object_alike ToImportMeta kept = read_alike ToImportMeta kept
+    read_object_alike (ToMetaMember v) kept = read_alike (ToMetaMember v) kept
     read_object_alike (ToValue v) kept = read_alike (ToValue v) kept
 
     pub read_typed_alike : (r : Reference) → KeptReference c r → Alike c (read_typed (first c w) r) (read_typed (second c w) (changed_reference c r))
@@ -60,6 +63,7 @@ module _ (c : Change) where
     read_typed_alike (ToMember o key) kept = read_alike (ToMember o key) kept
     read_typed_alike (ToSuper this home key) kept = read_alike (ToSuper this home key) kept
     read_typed_alike ToImportMeta kept = read_alike ToImportMeta kept
+    read_typed_alike (ToMetaMember v) kept = read_alike (ToMetaMember v) kept
     read_typed_alike (ToValue v) kept = read_alike (ToValue v) kept
 
   pub delete_alike : (r : Reference) → Alike c (delete r) (delete (changed_reference c r))
@@ -69,6 +73,7 @@ module _ (c : Change) where
   delete_alike (ToFree name) = outside_alike c
   delete_alike (ToSuper this home key) = outside_alike c
   delete_alike ToImportMeta = outside_alike c
+  delete_alike (ToMetaMember v) = outside_alike c
 
   list_from_alike : (v : Value) → Alike c (list_from v) (list_from v)
   list_from_alike Undefined = give_alike c []
@@ -120,6 +125,7 @@ module _ (c : Change) where
     callee_by_alike (ToSuper this home key) kept = bind_alike c (super_member_alike c w u this home key) (λ f. give_alike c (CalledSuper f this))
     callee_by_alike (ToVariable place id) kept = bind_alike c (read_alike w (ToVariable place id) kept) (λ f. give_alike c (Called f Undefined))
     callee_by_alike ToImportMeta kept = bind_alike c (read_alike w ToImportMeta kept) (λ f. give_alike c (Called f Undefined))
+    callee_by_alike (ToMetaMember v) kept = bind_alike c (read_alike w (ToMetaMember v) kept) (λ f. give_alike c (Called f Undefined))
     callee_by_alike (ToValue v) kept = bind_alike c (read_alike w (ToValue v) kept) (λ f. give_alike c (Called f Undefined))
 
     call_host_alike : (number : ℕ) (receiver : Value) (arguments : List Value) → Alike c (call_host number receiver arguments) (call_host number receiver arguments)

@@ -1,5 +1,5 @@
 -- Events only grow: a run does the same behind events that came before, and so its own stand behind them.
-use Rattle.std.proofs.Common.{◌≡◌, ℕ, Some, ◌++◌, inl, refl, subst, sym, List, [], ◌∷◌, append-nil}
+use Rattle.std.proofs.Common.{◌≡◌, ℕ, Some, ◌++◌, inl, refl, subst, subst₂, ap, sym, List, [], ◌∷◌, append-nil}
 use Rattle.ecma_tree.specs.declared.node.Node.{Node}
 use Rattle.ecma_runs.specs.declared.observation.Event.{Event}
 use Rattle.ecma_runs.specs.declared.observation.Ending.{Ending}
@@ -8,7 +8,7 @@ use Rattle.ecma_runs.specs.declared.script.Action.{Action}
 use Rattle.ecma_runs.specs.declared.script.Answer.{Answer}
 use Rattle.ecma_runs.specs.declared.script.Answer.TheVariants as answer
 use Rattle.ecma_runs.specs.declared.script.Script.{Script}
-use Rattle.ecma_runs.specs.State.{Id, State}
+use Rattle.ecma_runs.specs.State.{Id, Entered, State}
 use Rattle.ecma_runs.specs.Run.{Outcome, Done, Thrown, Returned, Broken, Continued, Ended, Run, then_outcome, ◌>>=◌, give, each}
 use Rattle.ecma_runs.specs.Host.{Provided, provided_by}
 use Rattle.ecma_runs.specs.Environment.{new_environment}
@@ -16,9 +16,10 @@ use Rattle.ecma_runs.specs.Evaluation.{meaning}
 use Rattle.ecma_runs.specs.Observation.{module_context, run_body, act, run_actions, module_activation, run_module, start, observed}
 use Rattle.ecma_runs.specs.Laws.{state_behind, Extends, EventsOnlyGrow}
 use Rattle.ecma_runs.proofs.Alike.{Change, changed, Follows, Alike, each_alike}
+use Rattle.ecma_runs.proofs.Names.{changed_entered}
 use Rattle.ecma_runs.proofs.Meanings.{World}
 use Rattle.ecma_runs.proofs.Kept.{StepsAlike, invoke_alike, module_world, act_alike, run_body_alike}
-use Rattle.ecma_runs.proofs.Layers.{same_ids, Telling, always, nothing_excused, images, itself_layers, layers_alike}
+use Rattle.ecma_runs.proofs.Layers.{same_names, same_ids, Telling, always, nothing_excused, images, itself_layers, layers_alike}
 use Rattle.ecma_runs.proofs.Depth.{same_state, fine_all}
 
 -- the same run, behind events that came before
@@ -48,18 +49,21 @@ grows declared m h s =
     follows_extends declared s.events (m (record s { events = [] })) (m s)
     (subst (λ t. Follows (behind declared s.events) (λ a. a) (λ a. Unit {0}) (m (record s { events = [] })) (m t)) (changed_back declared s) ((h s.events).at (record s { events = [] }) (fine_all 0 declared s.objects, tt, tt)))
 
-module _ (provided : Provided) (declared : List Id) (place : ℕ) where
+module _ (provided : Provided) (declared : List Id) (entered : Entered) where
   abbrev behind_world : (before : List Event) → World (behind declared before)
-  behind_world before = module_world (behind declared before) (behind_steps declared before) provided (λ u. invoke_alike (behind declared before) (behind_steps declared before) provided u refl) place
+  behind_world before = module_world (behind declared before) (behind_steps declared before) provided (λ u. invoke_alike (behind declared before) (behind_steps declared before) provided u refl) entered
 
-  act_behind : (a : Action) (before : List Event) → Alike (behind declared before) (act (module_context provided declared place) a) (act (module_context provided declared place) a)
+  entered_is : changed_entered same_names entered ≡ entered
+  entered_is = ap (λ ids. record entered { ids = ids }) (same_ids entered.ids)
+
+  act_behind : (a : Action) (before : List Event) → Alike (behind declared before) (act (module_context provided declared entered) a) (act (module_context provided declared entered) a)
   act_behind a before =
-      subst (λ ids. Alike (behind declared before) (act (module_context provided declared place) a) (act (module_context provided ids place) a)) (same_ids declared)
+      subst₂ (λ ids e. Alike (behind declared before) (act (module_context provided declared entered) a) (act (module_context provided ids e) a)) (same_ids declared) entered_is
       (act_alike (behind declared before) (behind_steps declared before) (behind_world before) refl a)
 
-  body_behind : (m : Node) (before : List Event) → Alike (behind declared before) (run_body (module_context provided declared place) m) (run_body (module_context provided declared place) m)
+  body_behind : (m : Node) (before : List Event) → Alike (behind declared before) (run_body (module_context provided declared entered) m) (run_body (module_context provided declared entered) m)
   body_behind m before =
-      subst (λ ids. Alike (behind declared before) (run_body (module_context provided declared place) m) (run_body (module_context provided ids place) m)) (same_ids declared)
+      subst₂ (λ ids e. Alike (behind declared before) (run_body (module_context provided declared entered) m) (run_body (module_context provided ids e) m)) (same_ids declared) entered_is
       (run_body_alike (behind declared before) (behind_steps declared before) (behind_world before) m tt)
 
 -- a run and another that has the same events, and maybe more
@@ -96,11 +100,11 @@ each_more : {A B : Type 0} (declared : List Id) (run : A → Run B) → ((a : A)
 each_more declared run h [] ys = record { at = λ s. grows declared (each run ys) (λ before. each_alike (behind declared before) run run (λ a. h a before) ys) s }
 each_more declared run h (x ∷ xs) ys = bind_more (run x) (λ b. give_more (λ bs. b ∷ bs) (λ bs. b ∷ bs) _ _ (each_more declared run h xs ys))
 
-actions_more : (provided : Provided) (declared : List Id) (place : ℕ) (actions more : List Action) (outcome : Answer)
-    → HasMore (run_actions (module_context provided declared place) actions outcome) (run_actions (module_context provided declared place) (actions ++ more) outcome)
-actions_more provided declared place actions more (answer.Return v) =
-    give_more ending.Done ending.Done _ _ (each_more declared (act (module_context provided declared place)) (act_behind provided declared place) actions more)
-actions_more provided declared place actions more (answer.Throw v) = record { at = λ s. same_events s.events }
+actions_more : (provided : Provided) (declared : List Id) (entered : Entered) (actions more : List Action) (outcome : Answer)
+    → HasMore (run_actions (module_context provided declared entered) actions outcome) (run_actions (module_context provided declared entered) (actions ++ more) outcome)
+actions_more provided declared entered actions more (answer.Return v) =
+    give_more ending.Done ending.Done _ _ (each_more declared (act (module_context provided declared entered)) (act_behind provided declared entered) actions more)
+actions_more provided declared entered actions more (answer.Throw v) = record { at = λ s. same_events s.events }
 
 module_more : (m : Node) (script : Script) (more : List Action) → HasMore (run_module m script) (run_module m (record script { actions = script.actions ++ more }))
 module_more m script more =
@@ -117,8 +121,8 @@ observed_events (Ended why s) = refl
 
 pub events_only_grow : EventsOnlyGrow
 events_only_grow = record {
-  body = λ provided declared place m s. grows declared _ (body_behind provided declared place m) s;
-  action = λ provided declared place a s. grows declared _ (act_behind provided declared place a) s;
+  body = λ provided declared entered m s. grows declared _ (body_behind provided declared entered m) s;
+  action = λ provided declared entered a s. grows declared _ (act_behind provided declared entered a) s;
   actions = λ turns options m script more.
       let script_more : Script = record script { actions = script.actions ++ more } in
       rw (observed_events (run_module m script (start turns script)), observed_events (run_module m script_more (start turns script)))

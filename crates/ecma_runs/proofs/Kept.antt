@@ -10,18 +10,18 @@ use Rattle.ecma_runs.specs.declared.script.Answer.{Answer}
 use Rattle.ecma_runs.specs.declared.script.Answer.TheVariants as answer
 use Rattle.ecma_runs.specs.declared.script.Script.{Script}
 use Rattle.ecma_runs.specs.Values.{Value, Undefined, Own, Host, Error}
-use Rattle.ecma_runs.specs.State.{Id, Activation, Sort, Plain, Method, Arrow, BaseClass, DerivedClass, Closure, State}
-use Rattle.ecma_runs.specs.Run.{each, Stop, TurnsSpent, Outside, Outcome, Done, Thrown, Returned, Broken, Continued, Ended, Run}
+use Rattle.ecma_runs.specs.State.{Id, Entered, Activation, Sort, Plain, Method, Arrow, BaseClass, DerivedClass, Closure, State}
+use Rattle.ecma_runs.specs.Run.{give, ◌>>=◌, each, Stop, TurnsSpent, Outside, Outcome, Done, Thrown, Returned, Broken, Continued, Ended, Run}
 use Rattle.ecma_runs.specs.Environment.{empty}
 use Rattle.ecma_runs.specs.Host.{Provided, provided_by, taken}
-use Rattle.ecma_runs.specs.Meaning.{Invocation, AsCall, AsConstruct, Functions}
+use Rattle.ecma_runs.specs.Meaning.{inside, Invocation, AsCall, AsConstruct, Functions}
 use Rattle.ecma_runs.specs.Classes.{field_activation}
 use Rattle.ecma_runs.specs.Evaluation.{meaning_by, meaning, entered, as_it_is, called_with, constructed_with, or_object, this_of, or_this, instance_object, construct_base, invoked, class_fields, fields_by, invoke_closure, fields_of_closure, no_fields, fields_with, functions_with, apply_at, calls, invoke}
-use Rattle.ecma_runs.specs.Observation.{outcome_shown, shown_to_host, done_by, act, run_body, run_actions, module_activation, run_module, start, ending_of, observed, observe}
+use Rattle.ecma_runs.specs.Observation.{module_context, outcome_shown, shown_to_host, done_by, act, run_body, run_actions, module_activation, run_module, start, ending_of, observed, observe}
 use Rattle.ecma_runs.proofs.Layer.{meaning-roll}
 use Rattle.ecma_runs.proofs.Names.{changed_ids}
 use Rattle.ecma_runs.proofs.Alike.{Change, changed, Unless, unless_is, unless_map, Follows, Alike, bind_alike, give_alike, throw_alike, outside_alike, excused_alike, given_or_alike, each_alike, spend_alike}
-use Rattle.ecma_runs.proofs.Environments.{new_environment_alike, activation_at_alike, handled_alike, taken_alike, show_alike}
+use Rattle.ecma_runs.proofs.Environments.{enter_alike, activation_at_alike, handled_alike, taken_alike, show_alike}
 use Rattle.ecma_runs.proofs.Objects.{changed_closure, closure_at_alike, new_object_alike}
 use Rattle.ecma_runs.proofs.Meanings.{IsInvoke, FunctionsAlike, World, first, second, within, Same, Both, firsts, seconds, empties}
 use Rattle.ecma_runs.proofs.Members.{member_alike, set_member_alike}
@@ -140,7 +140,7 @@ module _ (c : Change) (steps : StepsAlike c) where
 
     class_fields_alike : (closure : Closure) (object : Value) → Alike c (class_fields p.0 closure object (first c w)) (class_fields p.1 (changed_closure c closure) object (second c w))
     class_fields_alike closure object =
-        bind_alike c (new_environment_alike c [] (Some (field_activation object closure.home))) (λ place. bind_alike c (p.2.fields closure.field_keys object (within c w place)) (λ _. give_alike c tt))
+        enter_alike c (λ e. p.1.fields closure.field_keys object (inside (second c w) e) >>= λ _. give tt) [] (Some (field_activation object closure.home)) (λ place. bind_alike c (p.2.fields closure.field_keys object (within c w place)) (λ _. give_alike c tt))
 
     fields_by_alike : (sort : Sort) (closure : Closure) (object : Value) → Alike c (fields_by p.0 sort closure object (first c w)) (fields_by p.1 sort (changed_closure c closure) object (second c w))
     fields_by_alike BaseClass closure object = class_fields_alike closure object
@@ -150,7 +150,7 @@ module _ (c : Change) (steps : StepsAlike c) where
   module _ (provided : Provided) where
     -- closures that do alike
 
-    abbrev pub world : (f f' : Functions) → (c.uses ≡ true → FunctionsAlike c provided f f') → List ℕ → World c
+    abbrev pub world : (f f' : Functions) → (c.uses ≡ true → FunctionsAlike c provided f f') → List Entered → World c
     world f f' h scope = record { functions = f; functions' = f'; provided = provided; alike = h; scope = scope }
 
     abbrev pub declared' : List Id
@@ -246,7 +246,7 @@ module _ (c : Change) (steps : StepsAlike c) where
   CallsDoAlike provided = c.uses ≡ true → InvokesAlike c (invoke provided c.declared) (invoke provided (declared' provided))
 
   module _ (provided : Provided) (calls_do : CallsDoAlike provided) where
-    abbrev pub module_world : ℕ → World c
+    abbrev pub module_world : Entered → World c
     module_world place = world provided (functions_with (invoke provided c.declared) provided c.declared) (functions_with (invoke provided (declared' provided)) provided (declared' provided))
         (λ u. functions_with_alike provided u (invoke provided c.declared) (invoke provided (declared' provided)) (calls_do u) (λ some. refl)) (place ∷ [])
 
@@ -254,7 +254,7 @@ module _ (c : Change) (steps : StepsAlike c) where
     pub run_module_alike : (n : Node) → c.fine n → (meaning n).declared ≡ c.declared → (c.uses ≡ true) ⊎ (script.actions ≡ []) → Alike c (run_module n script) (run_module (c.node n) script)
     run_module_alike n fine is may =
         rw ((kept n fine).locals, (kept n fine).declared, is)
-        (bind_alike c (new_environment_alike c (meaning n).locals (Some module_activation)) (λ place.
+        (enter_alike c (λ e. run_body (module_context (provided_by script) (declared' (provided_by script)) e) (c.node n) >>= λ outcome. run_actions (module_context (provided_by script) (declared' (provided_by script)) e) script.actions outcome) (meaning n).locals (Some module_activation) (λ place.
         bind_alike c (run_body_alike (module_world (provided_by script) calls_do place) n fine) (λ outcome. run_actions_alike (module_world (provided_by script) calls_do place) script.actions may outcome)))
 
 unless_not : {P : Type 0} (b : Bool) → b ≢ true → Unless b P → P

@@ -2,12 +2,12 @@
 use Rattle.std.proofs.Common.{◌≡◌, ℕ, List, ◌∷◌, map, Option, Some, None, Bool, true, is_some, option_map, refl}
 use Rattle.ecma_runs.specs.Host.{Provided}
 use Rattle.ecma_runs.specs.Values.{Value}
-use Rattle.ecma_runs.specs.State.{Id, Sort}
+use Rattle.ecma_runs.specs.State.{Id, Entered, Sort}
 use Rattle.ecma_runs.specs.Run.{Run}
 use Rattle.ecma_runs.specs.Environment.{Reference, empty, undefined, import_of}
 use Rattle.ecma_runs.specs.Meaning.{Invocation, Functions, ExecutionContext, Meaning}
 use Rattle.ecma_runs.specs.Evaluation.{fields_with, invoke}
-use Rattle.ecma_runs.proofs.Names.{changed_ids, changed_bindings, changed_bindings-map}
+use Rattle.ecma_runs.proofs.Names.{changed_ids, changed_scope, changed_bindings, changed_bindings-map}
 use Rattle.ecma_runs.proofs.Alike.{Change, AlikeBy, Alike}
 use Rattle.ecma_runs.proofs.Environments.{KeepTexts, changed_reference, KeptReference, AlikeReference}
 
@@ -29,16 +29,16 @@ module _ (c : Change) where
     pub functions' : Functions
     pub provided : Provided
     pub alike : c.uses ≡ true → FunctionsAlike provided functions functions'
-    pub scope : List ℕ
+    pub scope : List Entered
 
   abbrev pub first : World → ExecutionContext
   first w = record { functions = w.functions; scope = w.scope; provided = w.provided; declared = c.declared }
 
   abbrev pub second : World → ExecutionContext
-  second w = record { functions = w.functions'; scope = w.scope; provided = w.provided; declared = changed_ids c.names c.declared }
+  second w = record { functions = w.functions'; scope = changed_scope c.names w.scope; provided = w.provided; declared = changed_ids c.names c.declared }
 
-  abbrev pub within : World → ℕ → World
-  within w place = record w { scope = place ∷ w.scope }
+  abbrev pub within : World → Entered → World
+  within w e = record w { scope = e ∷ w.scope }
 
   -- evaluations that do alike
   abbrev pub EvaluatesAlike : {A : Type 0} → (ExecutionContext → Run A) → (ExecutionContext → Run A) → Type 0

@@ -2,9 +2,10 @@
 use Rattle.std.proofs.Common.{◌≡◌, ℕ, zero, suc, refl, sym, ap, ap₂, ◌∙◌, List, [], ◌∷◌, ◌++◌, map, Option, Some, Bool, true, false, cond, not, ◌&&◌, ◌||◌, option_map, length, bytes_eq, nat_eq, eqb-true, eq-eqb}
 use Rattle.std.proofs.lemmas.Slice.Eq.{bytes_eq-Decides}
 use Rattle.ecma_runs.specs.Values.{Value}
-use Rattle.ecma_runs.specs.State.{Id, same_id, Binding, Environment}
+use Rattle.ecma_tree.specs.declared.node.Node.{Node}
+use Rattle.ecma_runs.specs.State.{Id, same_id, Entered, Binding, Environment, Closure}
 use Rattle.ecma_runs.specs.Run.{changed_at}
-use Rattle.ecma_runs.specs.Environment.{binding_of, with_content, set_in, is_among, except}
+use Rattle.ecma_runs.specs.Environment.{ids_of, binding_of, with_content, set_in, is_among, except}
 
 both : (a b : Bool) → a && b ≡ true → (a ≡ true) × (b ≡ true)
 both true b h = (refl, h)
@@ -52,6 +53,26 @@ module _ (names : Naming) where
 
   abbrev pub changed_environment : Environment → Environment
   changed_environment environment = record environment { bindings = changed_bindings environment.bindings }
+
+  -- scopes that were entered
+
+  abbrev pub changed_entered : Entered → Entered
+  changed_entered e = record e { ids = changed_ids e.ids }
+
+  abbrev pub changed_scope : List Entered → List Entered
+  changed_scope scope = map changed_entered scope
+
+  -- a function that keeps another node, in its scopes
+  abbrev pub kept_by : (Node → Node) → Closure → Closure
+  kept_by node closure = record closure { node = node closure.node; scope = changed_scope closure.scope }
+
+  ids_one : (k : Bool) (b : Binding) (bs : List Binding) → ids_of (keep k (changed_binding b) bs) ≡ keep k (names.to b.id) (ids_of bs)
+  ids_one true b bs = refl
+  ids_one false b bs = refl
+
+  pub ids_of-changed : (bs : List Binding) → ids_of (changed_bindings bs) ≡ changed_ids (ids_of bs)
+  ids_of-changed [] = refl
+  ids_of-changed (b ∷ bs) = ids_one (names.kept b.id) b (changed_bindings bs) ∙ ap (keep (names.kept b.id) (names.to b.id)) (ids_of-changed bs)
 
   pub changed_ids-append : (xs ys : List Id) → changed_ids (xs ++ ys) ≡ changed_ids xs ++ changed_ids ys
   changed_ids-append [] ys = refl

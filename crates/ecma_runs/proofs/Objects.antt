@@ -8,7 +8,7 @@ use Rattle.ecma_tree.specs.declared.node.Node.{Node}
 use Rattle.ecma_runs.specs.Run.{Run, outside, changed_at}
 use Rattle.ecma_runs.specs.Objects.{new_object, object_at, callable_in, code_in, closure_at, calling_of, calling_at, prototype_in, prototype_at, extent_in, extent_at, Ancestry, with_object, is_index_below, or_else, own_property, own_in, own_property_at, property_above, no_ancestry, found_from, above, found_above, with_entries, change_entries, put_entry, is_fixed, if_element, define, define_data, elements_by, elements_at, new_array, new_arguments}
 use Rattle.ecma_runs.specs.Classes.{with_field_keys, keeping_keys, keep_field_keys}
-use Rattle.ecma_runs.proofs.Names.{map-changed_at, map-push, length-map}
+use Rattle.ecma_runs.proofs.Names.{kept_by, map-changed_at, map-push, length-map}
 use Rattle.ecma_runs.proofs.Alike.{Change, passed_to, changed, changed_callable, changed_object, FineCallable, AllFine, Alike, bind_alike, give_alike, throw_alike, outside_alike, passed_alike, when_alike}
 
 module _ (c : Change) where
@@ -38,7 +38,7 @@ module _ (c : Change) where
   callable_in-changed (Some object) = refl
 
   abbrev pub changed_closure : Closure → Closure
-  changed_closure closure = record closure { node = c.node closure.node }
+  changed_closure closure = kept_by c.names c.node closure
 
   callable_at-changed : (place : ℕ) (s : State) → callable_in (slice_get (changed c s).objects place) ≡ option_map (changed_callable c) (callable_in (slice_get s.objects place))
   callable_at-changed place s = rw (slice_get-map (changed_object c) s.objects place) (callable_in-changed (slice_get s.objects place))
@@ -158,7 +158,7 @@ module _ (c : Change) where
   pub define_data_alike : (place : ℕ) (key : List ℕ) (v : Value) → Alike c (define_data place key v) (define_data place key v)
   define_data_alike place key v = define_alike place key (λ old. Data v)
 
-  passed_keys : (keys : List (List ℕ)) (closure : Closure) (o : Option (Node → Node)) → Some (passed_to c.node o (record closure { field_keys = keys })) ≡ with_field_keys keys (Some (passed_to c.node o closure))
+  passed_keys : (keys : List (List ℕ)) (closure : Closure) (o : Option (Node → Node)) → Some (passed_to c.names c.node o (record closure { field_keys = keys })) ≡ with_field_keys keys (Some (passed_to c.names c.node o closure))
   passed_keys keys closure None = refl
   passed_keys keys closure (Some function) = refl
 

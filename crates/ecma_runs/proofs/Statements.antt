@@ -5,12 +5,14 @@ use Rattle.ecma_kind.specs.declared.kind.Kind.TheVariants as kind
 use Rattle.ecma_kind.specs.declared.operators.VarDeclKind.TheVariants.{Var, Let, Const}
 use Rattle.ecma_tree.specs.declared.node.Node.{Node}
 use Rattle.ecma_runs.specs.Values.{Value, Own, truth_of}
-use Rattle.ecma_runs.specs.State.{Plain}
-use Rattle.ecma_runs.specs.Run.{TurnsSpent, Run}
-use Rattle.ecma_runs.specs.Environment.{empty}
+use Rattle.ecma_runs.specs.State.{Entered, Plain}
+use Rattle.ecma_runs.specs.Meaning.{inside}
+use Rattle.ecma_runs.proofs.Names.{changed_entered}
+use Rattle.ecma_runs.specs.Run.{◌>>=◌, give, when, TurnsSpent, Run}
+use Rattle.ecma_runs.specs.Environment.{copy_environment, empty}
 use Rattle.ecma_runs.specs.Statements.{rounds, while, do_while, for_rounds, for_loop, block, all_completions, completion_of, effect_of, all_varied, varied_of, all_hoisted, hoisted_of, caught_of}
 use Rattle.ecma_runs.proofs.Alike.{Change, Alike, excused_alike, bind_alike, give_alike, throw_alike, return_alike, break_alike, continue_alike, stop_alike, outside_alike, when_alike, catching_alike, finally_alike, round_alike, loop_alike, spend_alike}
-use Rattle.ecma_runs.proofs.Environments.{new_environment_alike, copy_environment_alike, initialize_alike}
+use Rattle.ecma_runs.proofs.Environments.{enter_alike, copy_alike, initialize_alike}
 use Rattle.ecma_runs.proofs.Meanings.{World, first, second, within, Both, firsts, seconds, empties}
 use Rattle.ecma_runs.proofs.Premises.{renamed_kind, KeptLayer}
 use Rattle.ecma_runs.proofs.Lists.{all_stay, all_completions_alike, all_varied_alike, all_hoisted_alike}
@@ -40,32 +42,33 @@ module _ (c : Change) where
     do_while_alike = loop_alike c (bind_alike c (spend_alike c) (λ _. bind_alike c (round_alike c bodies) (λ _. record { at = λ s g. (rounds_alike s.turns).at s g })))
 
   module _ (w : World c) (test update body : Both c) where
-    last_for_excused : (n place : ℕ) → c.excused TurnsSpent ≡ true → Alike c (for_rounds zero test.0 update.0 body.0 place (first c w)) (for_rounds n test.1 update.1 body.1 place (second c w))
+    last_for_excused : (n : ℕ) (place : Entered) → c.excused TurnsSpent ≡ true → Alike c (for_rounds zero test.0 update.0 body.0 place (first c w)) (for_rounds n test.1 update.1 body.1 (changed_entered c.names place) (second c w))
     last_for_excused zero place e = bind_alike c (test.2.test (within c w place)) (λ v. when_alike c (truth_of v) (stop_alike c TurnsSpent) (give_alike c tt))
     last_for_excused (suc n) place e = bind_alike c (test.2.test (within c w place)) (λ v. when_alike c (truth_of v) (excused_alike c TurnsSpent e) (give_alike c tt))
 
-    last_for : (place : ℕ) → (c.more ≡ 0) ⊎ (c.excused TurnsSpent ≡ true) → Alike c (for_rounds zero test.0 update.0 body.0 place (first c w)) (for_rounds (0 + c.more) test.1 update.1 body.1 place (second c w))
+    last_for : (place : Entered) → (c.more ≡ 0) ⊎ (c.excused TurnsSpent ≡ true) → Alike c (for_rounds zero test.0 update.0 body.0 place (first c w)) (for_rounds (0 + c.more) test.1 update.1 body.1 (changed_entered c.names place) (second c w))
     last_for place (inl none) =
-        subst (λ n. Alike c (for_rounds zero test.0 update.0 body.0 place (first c w)) (for_rounds n test.1 update.1 body.1 place (second c w))) (sym (ap (λ z. 0 + z) none))
+        subst (λ n. Alike c (for_rounds zero test.0 update.0 body.0 place (first c w)) (for_rounds n test.1 update.1 body.1 (changed_entered c.names place) (second c w))) (sym (ap (λ z. 0 + z) none))
         (bind_alike c (test.2.test (within c w place)) (λ v. when_alike c (truth_of v) (stop_alike c TurnsSpent) (give_alike c tt)))
     last_for place (inr e) = last_for_excused (0 + c.more) place e
 
-    for_rounds_alike : (n place : ℕ) → Alike c (for_rounds n test.0 update.0 body.0 place (first c w)) (for_rounds (n + c.more) test.1 update.1 body.1 place (second c w))
+    for_rounds_alike : (n : ℕ) (place : Entered) → Alike c (for_rounds n test.0 update.0 body.0 place (first c w)) (for_rounds (n + c.more) test.1 update.1 body.1 (changed_entered c.names place) (second c w))
     for_rounds_alike zero place = last_for place c.turns_excused
     for_rounds_alike (suc n) place =
         rw (suc-add n c.more)
         (bind_alike c (test.2.test (within c w place)) (λ v. when_alike c (truth_of v)
-        (bind_alike c (spend_alike c) (λ _. bind_alike c (round_alike c (body.2.completion (within c w place))) (λ _. bind_alike c (copy_environment_alike c place) (λ next.
+        (bind_alike c (spend_alike c) (λ _. bind_alike c (round_alike c (body.2.completion (within c w place))) (λ _.
+        copy_alike c (λ next. update.1.effect (inside (second c w) next) >>= λ _. for_rounds (n + c.more) test.1 update.1 body.1 next (second c w)) place (λ next.
         bind_alike c (update.2.effect (within c w next)) (λ _. for_rounds_alike n next))))) (give_alike c tt)))
 
-    for_loop_alike : (place : ℕ) → Alike c (for_loop test.0 update.0 body.0 place (first c w)) (for_loop test.1 update.1 body.1 place (second c w))
+    for_loop_alike : (place : Entered) → Alike c (for_loop test.0 update.0 body.0 place (first c w)) (for_loop test.1 update.1 body.1 (changed_entered c.names place) (second c w))
     for_loop_alike place = record { at = λ s g. (loop_alike c (for_rounds_alike s.turns place)).at s g }
 
   module _ (w : World c) where
     block_alike : (statements : Both c) → Alike c (block statements.0 (first c w)) (block statements.1 (second c w))
     block_alike statements =
         rw (statements.2.lexicals)
-        (bind_alike c (new_environment_alike c statements.0.lexicals None) (λ place. bind_alike c (statements.2.hoisted (within c w place)) (λ _. statements.2.completion (within c w place))))
+        (enter_alike c (λ e. statements.1.hoisted (inside (second c w) e) >>= λ _. statements.1.completion (inside (second c w) e)) statements.0.lexicals None (λ place. bind_alike c (statements.2.hoisted (within c w place)) (λ _. statements.2.completion (within c w place))))
 
     pub completion_alike : (k : Kind) (ps : List (Both c)) → Alike c (completion_of k (firsts c ps) (first c w)) (completion_of (renamed_kind c k) (seconds c ps) (second c w))
     completion_alike kind.Absent ps = give_alike c tt
@@ -83,8 +86,9 @@ module _ (c : Change) where
     completion_alike kind.WhileStmt (test ∷ body ∷ []) = while_alike (test.2.value w) (body.2.completion w)
     completion_alike kind.DoWhileStmt (test ∷ body ∷ []) = do_while_alike (test.2.value w) (body.2.completion w)
     completion_alike kind.ForStmt (init ∷ test ∷ update ∷ body ∷ []) =
-        rw (init.2.lexicals) (bind_alike c (new_environment_alike c init.0.lexicals None) (λ place. bind_alike c (init.2.effect (within c w place)) (λ _.
-        bind_alike c (copy_environment_alike c place) (λ next. for_loop_alike w test update body next))))
+        rw (init.2.lexicals)
+        (enter_alike c (λ e. init.1.effect (inside (second c w) e) >>= λ _. copy_environment e >>= λ next. for_loop test.1 update.1 body.1 next (second c w)) init.0.lexicals None (λ place. bind_alike c (init.2.effect (within c w place)) (λ _.
+        copy_alike c (λ next. for_loop test.1 update.1 body.1 next (second c w)) place (λ next. for_loop_alike w test update body next))))
     completion_alike kind.ReturnStmt (e ∷ []) = bind_alike c (e.2.initial w) (λ v. return_alike c v)
     completion_alike kind.ThrowStmt (e ∷ []) = bind_alike c (e.2.value w) (λ v. throw_alike c v)
     completion_alike kind.BreakStmt (label ∷ []) = rw (label.2.is_absent) (when_alike c label.0.is_absent (break_alike c) (outside_alike c))
@@ -112,7 +116,7 @@ module _ (c : Change) where
     caught_alike kind.Absent ps v = throw_alike c v
     caught_alike kind.CatchClause (parameter ∷ body ∷ []) v =
         rw (parameter.2.names, parameter.2.is_absent, empties c false parameter.0.names)
-        (bind_alike c (new_environment_alike c (map (empty false) parameter.0.names) None) (λ place.
+        (enter_alike c (λ e. when parameter.0.is_absent (give tt) (parameter.1.bound v (inside (second c w) e)) >>= λ _. body.1.completion (inside (second c w) e)) (map (empty false) parameter.0.names) None (λ place.
         bind_alike c (when_alike c parameter.0.is_absent (give_alike c tt) (parameter.2.bound v (within c w place))) (λ _. body.2.completion (within c w place))))
     caught_alike _ ps v = outside_alike c
 

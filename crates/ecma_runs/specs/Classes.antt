@@ -6,7 +6,7 @@ use Rattle.ecma_kind.specs.declared.operators.MethodKind.{MethodKind}
 use Rattle.ecma_kind.specs.declared.operators.MethodKind.TheVariants as method
 use Rattle.ecma_tree.specs.declared.node.Node.{Node}
 use Rattle.ecma_runs.specs.Values.{Value, Undefined, Null, Own, Host, Error}
-use Rattle.ecma_runs.specs.State.{Id, Forbidden, Activation, Callable, Code, Passed, Object, Sort, Plain, Method, BaseClass, DerivedClass}
+use Rattle.ecma_runs.specs.State.{Entered, Id, Forbidden, Activation, Callable, Code, Passed, Object, Sort, Plain, Method, BaseClass, DerivedClass}
 use Rattle.ecma_runs.specs.Run.{Done, Run, ◌>>=◌, give, return, outside, type_error, when, changed_at}
 use Rattle.ecma_runs.specs.Environment.{new_environment, set_all, empty, except, have_one_of}
 use Rattle.ecma_runs.specs.Meaning.{inside, Evaluation, Meaning}
@@ -58,12 +58,18 @@ code_of _ children arguments x = outside
 
 -- classes
 
--- the parent of a class: a constructor; null, a host value or an error is open
+-- the parent of a class: a constructor, or a function that is bound to one; null, a host value or an error is open
+abbrev pub checked_target : ℕ → Option Calling → Run ℕ
+checked_target place (Some (Function Plain)) = give place
+checked_target place (Some (Function BaseClass)) = give place
+checked_target place (Some (Function DerivedClass)) = give place
+checked_target place o = type_error
+
 abbrev pub checked_calling : ℕ → Option Calling → Run ℕ
 checked_calling place (Some (Function Plain)) = give place
 checked_calling place (Some (Function BaseClass)) = give place
 checked_calling place (Some (Function DerivedClass)) = give place
-checked_calling place (Some (BoundFunction target this given)) = give place
+checked_calling place (Some (BoundFunction target this given)) = calling_at target >>= λ o. checked_target place o
 checked_calling place o = type_error
 
 abbrev pub parent_class : Value → Run ℕ
@@ -104,16 +110,18 @@ abbrev pub keep_field_keys : ℕ → List (List ℕ) → Run (Unit {0})
 keep_field_keys place keys s = Done tt (record s { objects = changed_at (keeping_keys keys) place s.objects })
 
 -- 15.7.14 ClassDefinitionEvaluation: heritage, methods and keys, inner name, static fields
-abbrev pub class_value : Node → Meaning → Meaning → List Id → Evaluation Value
-class_value node super body names x =
-    new_environment (map (empty true) names) None >>= λ scope.
+abbrev pub class_in : Node → Meaning → Meaning → List Id → Entered → Evaluation Value
+class_in node super body names scope x =
     heritage super (inside x scope) >>= λ parents.
     new_prototype parents.1 >>= λ prototype.
     new_function (prototype_entries false prototype) parents.0 node (cond super.is_absent BaseClass DerivedClass) (Some prototype) (inside x scope) >>= λ class.
     body.defined class prototype (inside x scope) >>= λ keys. keep_field_keys class keys >>= λ _.
-    set_all names scope (Own class) >>= λ _.
+    set_all names scope.place (Own class) >>= λ _.
     new_environment [] (Some (field_activation (Own class) (Some class))) >>= λ place.
     body.statics keys (Own class) (inside (inside x scope) place) >>= λ _. give (Own class)
+
+abbrev pub class_value : Node → Meaning → Meaning → List Id → Evaluation Value
+class_value node super body names x = new_environment (map (empty true) names) None >>= λ scope. class_in node super body names scope x
 
 abbrev pub class_made_of : Node → Kind → List Meaning → List Id → Evaluation Value
 class_made_of node (kind.Class is_abstract) (super ∷ body ∷ types ∷ super_types ∷ implements ∷ []) names x = class_value node super body names x

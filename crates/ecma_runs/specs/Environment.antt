@@ -3,15 +3,19 @@ use Rattle.std.specs.Prelude.{true, ℕ, List, [], ◌∷◌, ◌++◌, length, 
 use Rattle.std.specs.List.{filter, list_any}
 use Rattle.ecma_runs.specs.declared.script.ImportValue.{ImportValue}
 use Rattle.ecma_runs.specs.Values.{Value, Undefined}
-use Rattle.ecma_runs.specs.State.{Id, same_id, Content, Empty, Holds, Imported, Binding, Arguments, Activation, Environment, State}
+use Rattle.ecma_runs.specs.State.{Id, same_id, Entered, Content, Empty, Holds, Imported, Binding, Arguments, Activation, Environment, State}
 use Rattle.ecma_runs.specs.Run.{Done, Run, ◌>>=◌, give, outside, reference_error, type_error, when, given_or, changed_at}
 use Rattle.ecma_runs.specs.Host.{import_value, taken_if}
 
 -- records
 
-abbrev pub new_environment : List Binding → Option Activation → Run ℕ
+abbrev pub ids_of : List Binding → List Id
+ids_of [] = []
+ids_of (binding ∷ bindings) = binding.id ∷ ids_of bindings
+
+abbrev pub new_environment : List Binding → Option Activation → Run Entered
 new_environment bindings activation s =
-    Done (length s.environments) (record s { environments = s.environments ++ record { bindings = bindings; activation = activation } ∷ [] })
+    Done (record { place = length s.environments; ids = ids_of bindings }) (record s { environments = s.environments ++ record { bindings = bindings; activation = activation } ∷ [] })
 
 abbrev pub binding_of : Id → List Binding → Option Binding
 binding_of id [] = None
@@ -40,8 +44,9 @@ abbrev pub set_variable : ℕ → Id → Value → Run (Unit {0})
 set_variable place id v s = Done tt (record s { environments = changed_at (with_value id v) place s.environments })
 
 -- a new record with the variables of another, as they are (14.7.4.4 CreatePerIterationEnvironment)
-abbrev pub copy_environment : ℕ → Run ℕ
-copy_environment place s = new_environment (bindings_in (slice_get s.environments place)) None s
+abbrev pub copy_environment : Entered → Run Entered
+copy_environment e s = Done (record { place = length s.environments; ids = e.ids })
+    (record s { environments = s.environments ++ record { bindings = bindings_in (slice_get s.environments e.place); activation = None } ∷ [] })
 
 -- variables, as they are when their scope is entered
 
@@ -77,16 +82,17 @@ pub data Reference : Type 0 where
   ToMember : Value → List ℕ → Reference
   -- a `super` member: `this`, the home object, behind which the look-up begins, and the key
   ToSuper : Value → ℕ → List ℕ → Reference
-  -- `import.meta`
+  -- `import.meta`, and a member of it, by its value
   ToImportMeta : Reference
+  ToMetaMember : Value → Reference
   -- no reference, but a value
   ToValue : Value → Reference
 
--- 9.1.2.1 GetIdentifierReference. A name is free if the module declares its id nowhere. One that the module declares, but no scope around, is open:
+-- 9.1.2.1 GetIdentifierReference. What a name refers to is seen from the scope alone. A name is free if the module declares its id nowhere. One that the module declares, but no scope around, is open:
 -- where each binding has an id of its own, no such name stands in a tree.
-abbrev pub resolved : List ℕ → List Id → Id → Run Reference
-resolved [] declared id s = when (is_among id declared) outside (give (ToFree id.sym)) s
-resolved (place ∷ outer) declared id s = when (is_some (variable place id s)) (give (ToVariable place id)) (resolved outer declared id) s
+abbrev pub resolved : List Entered → List Id → Id → Run Reference
+resolved [] declared id = when (is_among id declared) outside (give (ToFree id.sym))
+resolved (e ∷ outer) declared id = when (is_among id e.ids) (give (ToVariable e.place id)) (resolved outer declared id)
 
 abbrev pub content_value : List ImportValue → Content → Run Value
 content_value imports Empty = reference_error
@@ -117,12 +123,12 @@ abbrev pub set_all : List Id → ℕ → Value → Run (Unit {0})
 set_all [] place v = give tt
 set_all (id ∷ ids) place v = set_variable place id v >>= λ _. set_all ids place v
 
--- a declared name gets its first value, in the nearest record that has it (9.4.2 ResolveBinding, 6.2.5.8 InitializeReferencedBinding)
-abbrev pub initialize_one : List ℕ → Id → Value → Run (Unit {0})
-initialize_one [] id v s = give tt s
-initialize_one (place ∷ outer) id v s = when (is_some (variable place id s)) (set_variable place id v) (initialize_one outer id v) s
+-- a declared name gets its first value, in the nearest scope that declares it (9.4.2 ResolveBinding, 6.2.5.8 InitializeReferencedBinding)
+abbrev pub initialize_one : List Entered → Id → Value → Run (Unit {0})
+initialize_one [] id v = give tt
+initialize_one (e ∷ outer) id v = when (is_among id e.ids) (set_variable e.place id v) (initialize_one outer id v)
 
-abbrev pub initialize : List ℕ → List Id → Value → Run (Unit {0})
+abbrev pub initialize : List Entered → List Id → Value → Run (Unit {0})
 initialize scope [] v = give tt
 initialize scope (id ∷ ids) v = initialize_one scope id v >>= λ _. initialize scope ids v
 
@@ -146,12 +152,12 @@ abbrev pub activation_or : ℕ → Option Activation → Run (ℕ × Activation)
 activation_or place (Some a) other = give (place, a)
 activation_or place None other = other
 
-abbrev pub activation : List ℕ → Run (ℕ × Activation)
+abbrev pub activation : List Entered → Run (ℕ × Activation)
 activation [] = outside
-activation (place ∷ outer) = activation_at place >>= λ o. activation_or place o (activation outer)
+activation (e ∷ outer) = activation_at e.place >>= λ o. activation_or e.place o (activation outer)
 
 -- 9.1.1.3.4 GetThisBinding
-abbrev pub this : List ℕ → Run Value
+abbrev pub this : List Entered → Run Value
 this scope = activation scope >>= λ a. given_or a.1.this reference_error
 
 abbrev pub with_this : Value → Activation → Activation
@@ -165,5 +171,5 @@ abbrev pub bind_this_in : ℕ → Activation → Value → Option Value → Run 
 bind_this_in place a v (Some old) = reference_error
 bind_this_in place a v None = set_activation place (with_this v a)
 
-abbrev pub bind_this : List ℕ → Value → Run (Unit {0})
+abbrev pub bind_this : List Entered → Value → Run (Unit {0})
 bind_this scope v = activation scope >>= λ a. bind_this_in a.0 a.1 v a.1.this

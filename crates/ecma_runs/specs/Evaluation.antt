@@ -21,7 +21,7 @@ use Rattle.ecma_runs.specs.Declarations.{names_of, lexicals_of, vars_of, locals_
 -- code runs in a record of its own
 abbrev pub in_record : List Binding → Option Activation → Evaluation (Unit {0}) → (ℕ → Value → Run Value) → ExecutionContext → Run Value
 in_record bindings activation code finish x =
-    new_environment bindings activation >>= λ place. returned_by (λ _. Undefined) (code (inside x place)) >>= λ v. finish place v
+    new_environment bindings activation >>= λ place. returned_by (λ _. Undefined) (code (inside x place)) >>= λ v. finish place.place v
 
 abbrev pub as_it_is : ℕ → Value → Run Value
 as_it_is place v = give v

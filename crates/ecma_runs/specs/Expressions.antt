@@ -15,7 +15,7 @@ use Rattle.ecma_tree.specs.declared.node.Node.{Node}
 use Rattle.ecma_runs.specs.Values.{Value, Undefined, Null, Truth, Number, Text, Own, Host, Error, truth_of, is_nullish}
 use Rattle.ecma_runs.specs.State.{Id, Plain, Arrow, Ordinary}
 use Rattle.ecma_runs.specs.Run.{Run, ◌>>=◌, give, outside, type_error, when, given}
-use Rattle.ecma_runs.specs.Environment.{Reference, ToMember, ToSuper, ToImportMeta, ToValue, resolved, activation, this, new_environment, set_all, empty}
+use Rattle.ecma_runs.specs.Environment.{Reference, ToMember, ToSuper, ToImportMeta, ToMetaMember, ToValue, resolved, activation, this, new_environment, set_all, empty}
 use Rattle.ecma_runs.specs.Meaning.{ExecutionContext, inside, Evaluation, Meaning}
 use Rattle.ecma_runs.specs.Operators.{text_from, number_from, key_from, binary_value, operator_of, short_circuit, logical_operator_of, unary_value, updated}
 use Rattle.ecma_runs.specs.Objects.{new_object, new_array}
@@ -29,7 +29,7 @@ identifier sym ctxt x = resolved x.scope x.declared (record { sym = sym; ctxt = 
 
 -- `import.meta` has one known member: the script's text
 abbrev pub meta_member : ExecutionContext → List ℕ → Run Reference
-meta_member x key = when (bytes_eq key (codes "url")) (give (ToValue (Text x.provided.meta_url))) outside
+meta_member x key = when (bytes_eq key (codes "url")) (give (ToMetaMember (Text x.provided.meta_url))) outside
 
 abbrev pub member_of : ExecutionContext → Reference → Run (List ℕ) → Run Reference
 member_of x ToImportMeta key = key >>= λ k. meta_member x k
@@ -118,7 +118,7 @@ interleaved (part ∷ parts) (text ∷ texts) = part ++ (text ++ interleaved par
 abbrev pub function_value : List Id → Meaning → Evaluation Value
 function_value names function x =
     new_environment (map (empty true) names) None >>= λ place.
-    function.made Plain None (inside x place) >>= λ f. set_all names place (Own f) >>= λ _. give (Own f)
+    function.made Plain None (inside x place) >>= λ f. set_all names place.place (Own f) >>= λ _. give (Own f)
 
 -- the value of an expression
 abbrev pub value_of : Node → Kind → List Meaning → Evaluation Value

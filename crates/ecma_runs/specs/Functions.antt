@@ -6,7 +6,7 @@ use Rattle.ecma_runs.specs.Values.{Value, Undefined, Null, Truth, Own, Host, Err
 use Rattle.ecma_runs.specs.State.{Arguments, Unbound, Forbidden, Given, Made, Activation, Sort, Plain, Method, Arrow, BaseClass, DerivedClass, Closure, Callable, Code, Bound, Passed, Property, Fixed, Open, Entry, Ordinary, Object}
 use Rattle.ecma_runs.specs.Run.{Run, ◌>>=◌, give, outside, type_error, when, given, each}
 use Rattle.ecma_runs.specs.Host.{show, use_host, read_free, read_free_typed, is_open_object, is_open_callee}
-use Rattle.ecma_runs.specs.Environment.{Reference, ToVariable, ToFree, ToMember, ToSuper, ToImportMeta, ToValue, read_variable, write_variable, activation, set_activation, with_arguments, bind_this}
+use Rattle.ecma_runs.specs.Environment.{Reference, ToVariable, ToFree, ToMember, ToSuper, ToImportMeta, ToMetaMember, ToValue, read_variable, write_variable, activation, set_activation, with_arguments, bind_this}
 use Rattle.ecma_runs.specs.Meaning.{AsCall, AsConstruct, ExecutionContext}
 use Rattle.ecma_runs.specs.Objects.{Calling, Function, BoundFunction, new_object, calling_at, prototype_at, found_from, elements_at, new_arguments}
 use Rattle.ecma_runs.specs.Members.{got, member, set_member, super_member, set_super_member, delete_member, prototype_property}
@@ -35,6 +35,7 @@ read x (ToFree name) = read_name x name (read_free x.provided.frees name)
 read x (ToMember o key) = member x o key
 read x (ToSuper this home key) = super_member x this home key
 read x ToImportMeta = outside
+read x (ToMetaMember v) = give v
 read x (ToValue v) = give v
 
 -- 6.2.5.6 PutValue; writing a free name is open
@@ -54,7 +55,7 @@ abbrev pub read_typed : ExecutionContext → Reference → Run Value
 read_typed x (ToFree name) = read_name x name (read_free_typed x.provided.frees name)
 read_typed x r = read x r
 
--- 13.5.1.2 delete; of a name and of a `super` member it is open
+-- 13.5.1.2 delete; of a name, of a `super` member and of `import.meta.url` it is open
 abbrev pub delete : Reference → Run Value
 delete (ToMember o key) = delete_member o key
 delete (ToValue v) = give (Truth true)

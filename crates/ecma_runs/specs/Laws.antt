@@ -8,7 +8,7 @@ use Rattle.ecma_runs.specs.declared.observation.Ending.TheVariants as ending
 use Rattle.ecma_runs.specs.declared.script.Action.{Action}
 use Rattle.ecma_runs.specs.declared.script.Script.{Script}
 use Rattle.ecma_runs.specs.Values.{Value}
-use Rattle.ecma_runs.specs.State.{Id, State}
+use Rattle.ecma_runs.specs.State.{Id, Entered, State}
 use Rattle.ecma_runs.specs.Run.{Outcome, Done, Thrown, Returned, Broken, Continued, Ended}
 use Rattle.ecma_runs.specs.Host.{Provided}
 use Rattle.ecma_runs.specs.Meaning.{Invocation}
@@ -67,9 +67,9 @@ Extends before after = (more : List Event) × (after ≡ before ++ more)
 -- the events before are the first of those behind
 pub record EventsOnlyGrow : Type 0 where
   -- while a module's body runs
-  pub body : (provided : Provided) (declared : List Id) (place : ℕ) (m : Node) (s : State) → Extends s.events (state_behind (run_body (module_context provided declared place) m s)).events
+  pub body : (provided : Provided) (declared : List Id) (entered : Entered) (m : Node) (s : State) → Extends s.events (state_behind (run_body (module_context provided declared entered) m s)).events
   -- while an action is done
-  pub action : (provided : Provided) (declared : List Id) (place : ℕ) (a : Action) (s : State) → Extends s.events (state_behind (act (module_context provided declared place) a s)).events
+  pub action : (provided : Provided) (declared : List Id) (entered : Entered) (a : Action) (s : State) → Extends s.events (state_behind (act (module_context provided declared entered) a s)).events
   -- with more actions behind those of a script
   pub actions : (turns : ℕ) (options : Config) (m : Node) (script : Script) (more : List Action) →
       Extends (observe turns options m script).events (observe turns options m (record script { actions = script.actions ++ more })).events

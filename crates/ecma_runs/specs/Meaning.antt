@@ -1,7 +1,7 @@
 -- What a node means, in each role in which it may stand.
 use Rattle.std.specs.Prelude.{ℕ, List, ◌∷◌, Option, Bool}
 use Rattle.ecma_runs.specs.Values.{Value}
-use Rattle.ecma_runs.specs.State.{Id, Binding, Sort}
+use Rattle.ecma_runs.specs.State.{Id, Entered, Binding, Sort}
 use Rattle.ecma_runs.specs.Run.{Run}
 use Rattle.ecma_runs.specs.Host.{Provided}
 use Rattle.ecma_runs.specs.Environment.{Reference}
@@ -21,16 +21,16 @@ pub record Functions : Type 0 where
 -- what stands around a node when it is evaluated (ECMAScript, 9.4 Execution Contexts)
 pub record ExecutionContext : Type 0 where
   pub functions : Functions
-  -- the places of the environment records in scope, the nearest first
-  pub scope : List ℕ
+  -- the scopes around, the nearest first
+  pub scope : List Entered
   -- what the script provides for names
   pub provided : Provided
   -- the ids that the module declares, in any scope
   pub declared : List Id
 
--- where one more record is the nearest
-abbrev pub inside : ExecutionContext → ℕ → ExecutionContext
-inside x place = record x { scope = place ∷ x.scope }
+-- where one more scope is the nearest
+abbrev pub inside : ExecutionContext → Entered → ExecutionContext
+inside x entered = record x { scope = entered ∷ x.scope }
 
 -- an evaluation that gives an A
 abbrev pub Evaluation : Type 0 → Type 0

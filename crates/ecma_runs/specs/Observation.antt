@@ -12,7 +12,7 @@ use Rattle.ecma_runs.specs.declared.script.Answer.{Answer}
 use Rattle.ecma_runs.specs.declared.script.Answer.TheVariants as answer
 use Rattle.ecma_runs.specs.declared.script.Script.{Script}
 use Rattle.ecma_runs.specs.Values.{Value, Undefined}
-use Rattle.ecma_runs.specs.State.{Id, Unbound, Activation, State}
+use Rattle.ecma_runs.specs.State.{Id, Entered, Unbound, Activation, State}
 use Rattle.ecma_runs.specs.Run.{Outcome, Done, Thrown, Returned, Broken, Continued, Ended, Stop, TurnsSpent, AnswersSpent, Outside, Run, ◌>>=◌, give, each}
 use Rattle.ecma_runs.specs.Environment.{new_environment}
 use Rattle.ecma_runs.specs.Host.{Provided, provided_by, handled, taken, show}
@@ -49,8 +49,8 @@ abbrev pub act : ExecutionContext → Action → Run Answer
 act x a = shown_to_host (done_by x a)
 
 -- the execution context of a module's run
-abbrev pub module_context : Provided → List Id → ℕ → ExecutionContext
-module_context provided declared place = record { functions = functions_with (invoke provided declared) provided declared; scope = place ∷ []; provided = provided; declared = declared }
+abbrev pub module_context : Provided → List Id → Entered → ExecutionContext
+module_context provided declared entered = record { functions = functions_with (invoke provided declared) provided declared; scope = entered ∷ []; provided = provided; declared = declared }
 
 -- the module's body, as the host sees its outcome
 abbrev pub run_body : ExecutionContext → Node → Run Answer

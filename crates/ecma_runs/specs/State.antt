@@ -53,6 +53,11 @@ pub record Environment : Type 0 where
   pub bindings : List Binding
   pub activation : Option Activation
 
+-- a scope that was entered: the place of its record, and the ids that it declares
+pub record Entered : Type 0 where
+  pub place : ℕ
+  pub ids : List Id
+
 -- the kinds of functions (10.2: [[ConstructorKind]], [[IsClassConstructor]], [[ThisMode]])
 pub data Sort : Type 0 where
   Plain : Sort
@@ -61,11 +66,11 @@ pub data Sort : Type 0 where
   BaseClass : Sort
   DerivedClass : Sort
 
--- what a function of the program keeps (10.2 ECMAScript Function Objects): its node, the places of the environment records around it,
+-- what a function of the program keeps (10.2 ECMAScript Function Objects): its node, the scopes around it,
 -- the nearest first, its home object, and of a class the keys of its fields, in order
 pub record Closure : Type 0 where
   pub node : Node
-  pub scope : List ℕ
+  pub scope : List Entered
   pub sort : Sort
   pub home : Option ℕ
   pub field_keys : List (List ℕ)

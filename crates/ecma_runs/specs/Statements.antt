@@ -5,7 +5,7 @@ use Rattle.ecma_kind.specs.declared.kind.Kind.TheVariants as kind
 use Rattle.ecma_kind.specs.declared.operators.VarDeclKind.TheVariants.{Var, Let, Const}
 use Rattle.ecma_tree.specs.declared.node.Node.{Node}
 use Rattle.ecma_runs.specs.Values.{Value, Own, truth_of}
-use Rattle.ecma_runs.specs.State.{Plain}
+use Rattle.ecma_runs.specs.State.{Entered, Plain}
 use Rattle.ecma_runs.specs.Run.{TurnsSpent, Run, ◌>>=◌, give, throw, return, break, continue, stop, outside, when, catching, finally, round, loop, spend}
 use Rattle.ecma_runs.specs.Environment.{initialize, empty, new_environment, copy_environment}
 use Rattle.ecma_runs.specs.Meaning.{inside, Evaluation, Meaning}
@@ -29,13 +29,13 @@ abbrev pub do_while : Run Value → Run (Unit {0}) → Run (Unit {0})
 do_while test body = loop (first_round test body)
 
 -- 14.7.4.3 ForBodyEvaluation: a round has its own copy of the variables that the head declares
-abbrev pub for_rounds : ℕ → Meaning → Meaning → Meaning → ℕ → Evaluation (Unit {0})
+abbrev pub for_rounds : ℕ → Meaning → Meaning → Meaning → Entered → Evaluation (Unit {0})
 for_rounds zero test update body place x = test.test (inside x place) >>= λ v. when (truth_of v) (stop TurnsSpent) (give tt)
 for_rounds (suc n) test update body place x =
     test.test (inside x place) >>= λ v. when (truth_of v)
     (spend >>= λ _. round (body.completion (inside x place)) >>= λ _. copy_environment place >>= λ next. update.effect (inside x next) >>= λ _. for_rounds n test update body next x) (give tt)
 
-abbrev pub for_loop : Meaning → Meaning → Meaning → ℕ → Evaluation (Unit {0})
+abbrev pub for_loop : Meaning → Meaning → Meaning → Entered → Evaluation (Unit {0})
 for_loop test update body place x s = loop (for_rounds s.turns test update body place x) s
 
 -- 14.2.2 Block: Evaluation

@@ -6,8 +6,7 @@ use Rattle.ecma_grammar.specs.Grammar as grammar
 use Rattle.ecma_grammar.specs.Grammar.{Grammar}
 use Rattle.ecma_text_fits_parts.proofs.Grades.{closed, expression, flag_fits, good, leaf_fits, link, mild, pattern}
 use Rattle.ecma_text_fits_parts.proofs.Needs.{needs, six}
-use Rattle.ecma_text_fits_parts.proofs.Wanted.{Wanted, choice, done, each, ends, is_whatever, one, passes, repeats_then, steps, whatever}
-use Rattle.ecma_fits.proofs.Clauses.{either}
+use Rattle.ecma_text_fits_parts.proofs.Wanted.{Wanted, choice, done, each, either, ends, is_whatever, one, passes, repeats_then, steps, whatever}
 
 -- the lists of nodes that a part keeps; those of types go
 abbrev pub part_keeps : Part → Wanted

@@ -21,8 +21,7 @@ use Rattle.ecma_text_fits_parts.proofs.Needs.{declared_needs, five, four, is_qui
 use Rattle.ecma_text_fits_parts.proofs.Sound.{Sound, declared_sound, is_pattern, or_first, or_second, questioned_sound}
 use Rattle.ecma_text_fits_parts.proofs.Throughout.{EachThroughout, Throughout, append_all, below, first_of, here, map_all, more, none, others_of, throughout}
 use Rattle.ecma_raw_roles.proofs.Walks.{not_true}
-use Rattle.ecma_text_fits_parts.proofs.Wanted.{Given, done, one}
-use Rattle.ecma_fits.proofs.Clauses.{either}
+use Rattle.ecma_text_fits_parts.proofs.Wanted.{Given, done, either, one}
 
 absent_sound : Throughout Sound absent
 absent_sound = throughout dummy_span kind.Absent refl none

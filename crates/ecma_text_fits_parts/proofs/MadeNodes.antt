@@ -21,8 +21,7 @@ use Rattle.ecma_text_fits_parts.proofs.Needs.{bare_needs, first_needs, head_need
 use Rattle.ecma_text_fits_parts.proofs.Sound.{Sound, holds_with, is_attribute_list, is_base, is_list_of, is_mild, is_object, is_pair, is_pattern, is_triple, or_first, or_second}
 use Rattle.ecma_text_fits_parts.proofs.Throughout.{EachThroughout, Throughout, more, none, swap_all}
 use Rattle.ecma_raw_roles.proofs.Walks.{not_true}
-use Rattle.ecma_text_fits_parts.proofs.Wanted.{Each, Given, Wanted, done, each, one, whatever}
-use Rattle.ecma_fits.proofs.Clauses.{either}
+use Rattle.ecma_text_fits_parts.proofs.Wanted.{Each, Given, Wanted, done, each, either, one, whatever}
 
 pub given_so : (b : Bool) (w : Wanted) (xs : List Node) → Given (if_so b w) xs → (b ≡ true) × Given w xs
 given_so true w xs k = (refl, k)

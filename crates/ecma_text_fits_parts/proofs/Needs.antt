@@ -12,8 +12,7 @@ use Rattle.ecma_rules.specs.Targets.{is_key_value}
 use Rattle.ecma_fits.specs.Counts.{is_default_import, is_named_export, is_named_import, is_star_export, is_star_import}
 use Rattle.ecma_text_fits_parts.proofs.Grades.{Grade, a_text, absent, attribute, attribute_key, attribute_list, attributes, base, closed, default_import, expression, filled, good, head, imports, is_closed, is_expression, is_link, link, member, mild, named_export, named_exports, named_import, pattern, present, star_export, star_exports, star_import}
 use Rattle.ecma_text_fits_parts.proofs.Sound.{is_base, is_mild, is_object, is_pattern}
-use Rattle.ecma_text_fits_parts.proofs.Wanted.{Wanted, done, each, never, one, some, turns, whatever}
-use Rattle.ecma_fits.proofs.Clauses.{either}
+use Rattle.ecma_text_fits_parts.proofs.Wanted.{Wanted, done, each, either, never, one, some, turns, whatever}
 
 abbrev pub if_so : Bool → Wanted → Wanted
 if_so true w = w

@@ -4,8 +4,7 @@ use Rattle.std.proofs.lemmas.Bool.{and_parts}
 use Rattle.ecma_tree.specs.declared.node.Node.{Node}
 use Rattle.ecma_text_fits_parts.proofs.Grades.{Grade, Meets, expression, fits, fits_sound, last_part, text_part}
 use Rattle.ecma_raw_roles.proofs.Walks.{not_true}
-use Rattle.ecma_text_fits_parts.proofs.Wanted.{Each, Given, Some, Turns, Wanted, again, also, behind_text, done, each, ends, is_turns, is_whatever, never, one, passes, repeats, repeats_then, some, steps, turns, whatever}
-use Rattle.ecma_fits.proofs.Clauses.{either}
+use Rattle.ecma_text_fits_parts.proofs.Wanted.{Each, Given, Some, Turns, Wanted, again, also, behind_text, done, each, either, ends, is_turns, is_whatever, never, one, passes, repeats, repeats_then, some, steps, turns, whatever}
 
 -- in front of what is wanted then, these nodes are wanted now; and a test holds of what is wanted then
 abbrev pub Leaves : (Wanted → Bool) → Wanted → List Node → Type 0
