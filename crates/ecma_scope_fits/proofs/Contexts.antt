@@ -7,12 +7,12 @@ use Rattle.ecma_tree.proofs.ShapeLaws.{contexts_keep_sorts}
 use Rattle.ecma_leaves.specs.Words.{is_spelled}
 use Rattle.ecma_rules.specs.Children.{is_named}
 use Rattle.ecma_rules.specs.Failing.{least}
-use Rattle.ecma_rules.specs.Jumps.{Held, held_in, not_held as no_jump_held, stray_here}
+use Rattle.ecma_rules.specs.Jumps.{Held, first_stray, held_in, not_held as no_jump_held, stray_here}
 use Rattle.ecma_fits.specs.declared.role.Role.{Role}
 use Rattle.ecma_fits.specs.declared.role.Role.TheVariants as role
 use Rattle.ecma_fits.specs.declared.strays.Arguments.{Arguments}
 use Rattle.ecma_fits.specs.declared.unfit.Where.{Where}
-use Rattle.ecma_fits.specs.Fitting.{Fits, at_top, breaks_rule, is_misplaced, is_misshapen, is_unfit, unfit_here, where_in}
+use Rattle.ecma_fits.specs.Fitting.{Fits, at_top, breaks_rule, first_unfit_in, is_misplaced, is_misshapen, is_unfit, unfit_here, where_in}
 use Rattle.ecma_fits.specs.Roles.{is_assigned, is_bound_name, is_out_of_role, is_tagged, is_wrong_name, may_be, role_in, takes}
 use Rattle.ecma_fits.specs.Strays.{arguments_in, is_stray_target}
 use Rattle.ecma_scope.specs.Laws.{without_contexts}
