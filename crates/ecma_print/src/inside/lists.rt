@@ -55,7 +55,7 @@ impl<'f, 'n, F: Fn(&mut Out, &Node, Place, &[u8]) -> Result<(), NoMemory>> Insid
     ghost use Rattle.ecma_tree.specs.declared.node.Node.{size-Node};
     ghost use Rattle.ecma_print.specs.declared.place.Place.TheVariants.{At};
     ghost use Rattle.ecma_print.specs.Pieces.{deeper};
-    ghost use Rattle.ecma_print.specs.Places.{free};
+    ghost use Rattle.ecma_print.specs.Places.{alone};
     ghost use Rattle.ecma_print.specs.Lists.{lines, new_lines, block, commas, arguments, wide_braces, braces, brackets, specifiers, from_specifiers, imports, exports, first_in, listed};
     ghost use Rattle.ecma_print.specs.Layout.{laid, children_of};
     ghost use Rattle.ecma_print.specs.Writing.{Puts, ShowsChildren};
