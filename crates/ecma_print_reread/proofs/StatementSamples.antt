@@ -12,7 +12,7 @@ use Rattle.ecma_shapes.specs.Heads.{any_of, may_hold_in}
 use Rattle.ecma_shapes.specs.Modules.{IsModule, module_of, statement, no_items, more_items}
 use Rattle.ecma_shapes.proofs.ModuleTokens.{module_tokens}
 use Rattle.ecma_print_layouts.proofs.ModuleLayouts.{module_laid}
-use Rattle.ecma_print_layouts.proofs.HeadLayouts.{may_hold_node}
+use Rattle.ecma_shapes.proofs.Heads.{may_hold_node}
 use Rattle.ecma_print_reread.proofs.Samples.{at, a_name, a, out}
 
 target : IsExpression callee a
