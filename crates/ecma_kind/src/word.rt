@@ -1,6 +1,7 @@
 //! Shared texts, such as the symbols of identifiers.
 ghost use Rattle.std.specs.Prelude.{◌≡◌, ℕ, List, IfOk, nat_eq};
 ghost use Rattle.std.specs.Rc.{rc_str_bytes};
+ghost use Rattle.std.specs.Str.{IsUtf8};
 ghost use Rattle.std.specs.Cmp.Lexicographic.{pointwise, nat_list_eq_equiv};
 ghost use Rattle.std.specs.Cmp;
 ghost use Rattle.std.specs.Cmp.Rules.{hashing};
@@ -14,7 +15,7 @@ use std::hash::{Hash, Hasher};
 use std::marker::Model;
 use std::rc::RcStr;
 
-/// A shared text, such as the symbol of an identifier. Contracts see it as its bytes.
+/// A shared text, such as the symbol of an identifier. Contracts see it as its bytes, which are UTF-8.
 #[derive(Debug, Drop)]
 pub struct JsWord {
     text: RcStr,
@@ -24,6 +25,8 @@ impl Model for JsWord {
     ghost Value = { List ℕ };
 
     ghost view = { λ word. rc_str_bytes word.text };
+
+    ghost invariant = { λ word. IsUtf8 (rc_str_bytes word.text) };
 }
 
 impl JsWord {
@@ -37,7 +40,8 @@ impl JsWord {
 
     /// The text that [`JsWord::new`] took.
     pub fn as_str(&self) -> &str
-        ensures { result.now ≡ self.now }
+        ensures value { result.now ≡ self.now }
+        ensures utf8 { IsUtf8 self.now }
     {
         self.text.as_str()
     }

@@ -1,5 +1,6 @@
--- Which items of a module, a block or a namespace are values: all but those that are types, that overload or that are written `type`. Ambient ones are.
-use Rattle.std.specs.Prelude.{ℕ, Bool, true, false, not, List, get_or, map}
+-- Which items of a module, a block or a namespace are values: all but those that are types, that overload or that are written `type`. Ambient ones are,
+-- a function without a body too (docs/SCOPES.md has what TypeScript says of each kind).
+use Rattle.std.specs.Prelude.{ℕ, Bool, true, false, ◌&&◌, ◌||◌, not, List, get_or, map}
 use Rattle.std.specs.List.{list_any}
 use Rattle.ecma_kind.specs.declared.kind.Kind.{Kind}
 use Rattle.ecma_kind.specs.declared.kind.Kind.TheVariants as kind
@@ -29,12 +30,39 @@ value_by kind.TsModuleBlock children = get_or children 0 false
 value_by kind.List children = list_any (λ b. b) children
 value_by _ children = true
 
-abbrev pub value_step : Node-F Bool → Bool
-value_step parts = value_by parts.kind parts.children
+-- whether all that stands in a node is ambient, where the node itself is not
+--   declare namespace N { function f(): void; }   // f is ambient
+abbrev pub holds_ambient : Kind → Bool
+holds_ambient (kind.FnDecl declare) = declare
+holds_ambient (kind.TsModuleDecl declare global) = declare
+holds_ambient (kind.TsNamespaceDecl declare global) = declare
+holds_ambient _ = false
+
+abbrev pub is_function : Kind → Bool
+is_function (kind.Function is_generator is_async) = true
+is_function _ = false
+
+-- where declarations stay, and where all is ambient: there a function is a value without its body too
+abbrev pub value_step : Node-F (Bool → Bool) → Bool → Bool
+value_step parts stays =
+    (is_function parts.kind && not stays) || value_by parts.kind (map (λ child. child (not (holds_ambient parts.kind) && stays)) parts.children)
+
+-- whether a node is a value, in a scope whose declarations stay or in an ambient one
+--   declare namespace N { function f(): void; }   // a value, and so is f
+--   namespace N { function f(): void; }   // none, and nor is f
+abbrev pub is_value_where : Bool → Node → Bool
+is_value_where stays n = fold-Node (Bool → Bool) value_step n stays
 
 abbrev pub is_value : Node → Bool
-is_value = fold-Node Bool value_step
+is_value = is_value_where true
+
+-- which of the children of a node of this kind are values
+abbrev pub values_in : Bool → Kind → List Node → List Bool
+values_in stays k children = map (is_value_where (not (holds_ambient k) && stays)) children
 
 -- whether the child at an index is there and a value
+abbrev pub value_at_where : Bool → ℕ → Node → Bool
+value_at_where stays i n = get_or (map (is_value_where stays) (out-Node n).children) i false
+
 abbrev pub value_at : ℕ → Node → Bool
-value_at i n = get_or (map is_value (out-Node n).children) i false
+value_at = value_at_where true
