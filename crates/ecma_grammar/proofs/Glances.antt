@@ -21,9 +21,9 @@ use Rattle.ecma_grammar.specs.productions.Declarations.{declaration, type_alias,
 off : (b c : ℕ) → b ≢ c → nat_eq b c ≡ false
 off b c h = grind arith
 
-pub assignments-pass : (b : ℕ) (no_in : Bool) → b ≢ 61 → b ≢ 43 → b ≢ 45 → b ≢ 42 → b ≢ 47 → b ≢ 37 → b ≢ 60 → b ≢ 62 → b ≢ 38 → b ≢ 124 → b ≢ 94 → b ≢ 63 → sight b (assignments no_in) ≡ passes
+pub assignments-pass : (b : ℕ) (no_in middle : Bool) → b ≢ 61 → b ≢ 43 → b ≢ 45 → b ≢ 42 → b ≢ 47 → b ≢ 37 → b ≢ 60 → b ≢ 62 → b ≢ 38 → b ≢ 124 → b ≢ 94 → b ≢ 63 → sight b (assignments no_in middle) ≡ passes
 unfolding assignments
-assignments-pass b no_in h1 h2 h3 h4 h5 h6 h7 h8 h9 h10 h11 h12 = rw (off b 61 h1, off b 43 h2, off b 45 h3, off b 42 h4, off b 47 h5, off b 37 h6, off b 60 h7, off b 62 h8, off b 38 h9, off b 124 h10, off b 94 h11, off b 63 h12) refl
+assignments-pass b no_in middle h1 h2 h3 h4 h5 h6 h7 h8 h9 h10 h11 h12 = rw (off b 61 h1, off b 43 h2, off b 45 h3, off b 42 h4, off b 47 h5, off b 37 h6, off b 60 h7, off b 62 h8, off b 38 h9, off b 124 h10, off b 94 h11, off b 63 h12) refl
 
 pub links-pass : (b : ℕ) → b ≢ 46 → b ≢ 63 → b ≢ 91 → b ≢ 40 → b ≢ 96 → b ≢ 33 → b ≢ 60 → sight b links ≡ passes
 unfolding links template_start

@@ -8,11 +8,19 @@ use Rattle.ecma_grammar.specs.Reading.{Outcome, read, fails, too_deep}
 use Rattle.ecma_grammar.specs.trees.Parts.{framed}
 use Rattle.ecma_grammar.specs.trees.Others.{the_one}
 use Rattle.ecma_grammar.specs.productions.Modules.{module_body}
-use Rattle.ecma_grammar.specs.Reads.{reads, levels}
+use Rattle.ecma_grammar.specs.Made.{Making, made, made_with_types}
+use Rattle.ecma_grammar.specs.Reads.{reads_by, levels_by}
 
 -- a text as a module, with at most so many levels
+abbrev pub reads_module_by : Making → List ℕ → Mode → ℕ → Outcome (List Node)
+reads_module_by make text mode bound = reads_by text mode make (levels_by text mode make bound) module_body (record { place = 0; failed = 0 })
+
+-- where types hold nothing, and where they hold what was read in them
 abbrev pub reads_module : List ℕ → Mode → ℕ → Outcome (List Node)
-reads_module text mode bound = reads text mode (levels text mode bound) module_body (record { place = 0; failed = 0 })
+reads_module = reads_module_by made
+
+abbrev pub reads_module_with_types : List ℕ → Mode → ℕ → Outcome (List Node)
+reads_module_with_types = reads_module_by made_with_types
 
 -- the tree, or why there is none
 abbrev pub answer_of : Outcome (List Node) → Result Node RawError

@@ -26,7 +26,7 @@ use Rattle.ecma_grammar.specs.declared.production.Form.{Form}
 use Rattle.ecma_grammar.specs.Reading as reading
 use Rattle.ecma_grammar.specs.Reading.{Position, Outcome, Reading, read, fails, too_deep, pure, ◌>>=◌, followed_on, or_on, many_up_to, ahead_on, unless_on, terminal_on}
 use Rattle.ecma_grammar.specs.trees.Parts.{flag_node}
-use Rattle.ecma_grammar.specs.Made.{at_token, made}
+use Rattle.ecma_grammar.specs.Made.{Making, at_token, made, made_with_types}
 use Rattle.ecma_grammar.specs.Grammar as grammar
 use Rattle.ecma_grammar.specs.Grammar.{Terminal, the_word, the_punct, any, Grammar}
 use Rattle.ecma_grammar.specs.PartBodies.{part_body}
@@ -36,10 +36,16 @@ abbrev pub same_line_on : Position → Skipped → Outcome (List Node)
 same_line_on s before = if before.new_line then fails (max s.failed before.to) else read [] s
 
 -- what is made of what was read from a place on
+abbrev pub built_by : Making → Form → ℕ → Outcome (List Node) → Outcome (List Node)
+built_by make form lo (read xs t) = read (make form lo t.place xs ∷ []) t
+built_by make form lo (fails k) = fails k
+built_by make form lo (too_deep d) = too_deep d
+
 abbrev pub built_on : Form → ℕ → Outcome (List Node) → Outcome (List Node)
-built_on form lo (read xs t) = read (made form lo t.place xs ∷ []) t
-built_on form lo (fails k) = fails k
-built_on form lo (too_deep d) = too_deep d
+built_on = built_by made
+
+abbrev pub built_with_types : Form → ℕ → Outcome (List Node) → Outcome (List Node)
+built_with_types = built_by made_with_types
 
 -- a text part of a template that is the last or not, as is wanted
 abbrev pub part_on : Position → Bool → Result TemplateText NoToken → Outcome TemplateText
@@ -142,25 +148,39 @@ module _ (text : List ℕ) where
   Parts = Part → ℕ → Reading (List Node)
 
   module _ (mode : Mode) where
-    abbrev pub reads : Parts → Grammar → Reading (List Node)
-    reads parts grammar.nothing s = read [] s
-    reads parts grammar.same_line s = same_line_on s (skipped text s.place)
-    reads parts (grammar.take t) s = (token t >>= λ k. pure []) s
-    reads parts (grammar.keep l) s = kept_leaf l s
-    reads parts (grammar.put f) s = read (flag_node f ∷ []) s
-    reads parts (grammar.◌▸◌ a b) s = followed_on (reads parts b) (reads parts a s)
-    reads parts (grammar.◌//◌ a b) s = or_on (reads parts b) s (reads parts a s)
-    reads parts (grammar.many a) s = many_up_to (reads parts a) (length text + 1) s
-    reads parts (grammar.ahead a) s = ahead_on s (reads parts a s)
-    reads parts (grammar.unless a) s = unless_on s (reads parts a s)
-    reads parts (grammar.marked a) s = reading.marked mode.typescript (reads parts a) s
-    reads parts (grammar.assigned a) s = reading.marked mode.assignments (reads parts a) s
-    reads parts (grammar.up u) s = parts u s.place s
-    reads parts (grammar.enter u) s = parts u (next_start s) s
-    reads parts (grammar.behind t u) s = (token t >>= λ k. parts u k.start) s
-    reads parts (grammar.build f a) s = built_on f (next_start s) (reads parts a s)
+    abbrev pub reads_by : Making → Parts → Grammar → Reading (List Node)
+    reads_by make parts grammar.nothing s = read [] s
+    reads_by make parts grammar.same_line s = same_line_on s (skipped text s.place)
+    reads_by make parts (grammar.take t) s = (token t >>= λ k. pure []) s
+    reads_by make parts (grammar.keep l) s = kept_leaf l s
+    reads_by make parts (grammar.put f) s = read (flag_node f ∷ []) s
+    reads_by make parts (grammar.◌▸◌ a b) s = followed_on (reads_by make parts b) (reads_by make parts a s)
+    reads_by make parts (grammar.◌//◌ a b) s = or_on (reads_by make parts b) s (reads_by make parts a s)
+    reads_by make parts (grammar.many a) s = many_up_to (reads_by make parts a) (length text + 1) s
+    reads_by make parts (grammar.ahead a) s = ahead_on s (reads_by make parts a s)
+    reads_by make parts (grammar.unless a) s = unless_on s (reads_by make parts a s)
+    reads_by make parts (grammar.marked a) s = reading.marked mode.typescript (reads_by make parts a) s
+    reads_by make parts (grammar.assigned a) s = reading.marked mode.assignments (reads_by make parts a) s
+    reads_by make parts (grammar.up u) s = parts u s.place s
+    reads_by make parts (grammar.enter u) s = parts u (next_start s) s
+    reads_by make parts (grammar.behind t u) s = (token t >>= λ k. parts u k.start) s
+    reads_by make parts (grammar.build f a) s = built_by make f (next_start s) (reads_by make parts a s)
 
     -- what parts read where so many levels more are allowed
-    unfoldable pub levels : ℕ → Parts
-    levels zero u at s = too_deep at
-    levels (suc n) u at s = reads (levels n) (part_body u) s
+    unfoldable pub levels_by : Making → ℕ → Parts
+    levels_by make zero u at s = too_deep at
+    levels_by make (suc n) u at s = reads_by make (levels_by make n) (part_body u) s
+
+    -- where types hold nothing
+    abbrev pub reads : Parts → Grammar → Reading (List Node)
+    reads = reads_by made
+
+    abbrev pub levels : ℕ → Parts
+    levels = levels_by made
+
+    -- where they hold what was read in them
+    abbrev pub reads_with_types : Parts → Grammar → Reading (List Node)
+    reads_with_types = reads_by made_with_types
+
+    abbrev pub levels_with_types : ℕ → Parts
+    levels_with_types = levels_by made_with_types

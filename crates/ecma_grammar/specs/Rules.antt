@@ -7,13 +7,13 @@ use Rattle.ecma_grammar.specs.declared.productions.names.NameRule.TheVariants as
 use Rattle.ecma_grammar.specs.productions.Names.{binding_ident, computed_prop_name, prop_name, class_element_name, prop_start, member_start, module_export_name, block, expression}
 use Rattle.ecma_grammar.specs.declared.productions.types.TypeRule.{TypeRule}
 use Rattle.ecma_grammar.specs.declared.productions.types.TypeRule.TheVariants as type_name
-use Rattle.ecma_grammar.specs.productions.Types.{type_param, type_params, type_args, entity, type_list, return_type, some_annotation, some_return_annotation, parameter_modifier, rest_pattern, default_value, param, params, parenthesized_params, function_type, intersection_type, union_type, array_suffixes, import_type, tuple_element, mapped_type, signature_type, type_member, object_type, template_type, primary_type, type_operator_body, after_type_args}
+use Rattle.ecma_grammar.specs.productions.Types.{type_param, type_params, type_args, entity, type_list, return_type, some_annotation, some_return_annotation, parameter_modifier, rest_pattern, default_value, param, params, parenthesized_params, call_signature, new_signature, function_type, intersection_type, union_type, array_suffixes, import_type, tuple_element, mapped_type, signature_type, type_member, object_type, template_type, primary_type, type_operator_body, after_type_args}
 use Rattle.ecma_grammar.specs.declared.productions.patterns.PatternRule.{PatternRule}
 use Rattle.ecma_grammar.specs.declared.productions.patterns.PatternRule.TheVariants as pattern_name
 use Rattle.ecma_grammar.specs.productions.Patterns.{pattern_element, array_pattern, pattern_property, object_pattern}
 use Rattle.ecma_grammar.specs.declared.productions.functions.FunctionRule.{FunctionRule}
 use Rattle.ecma_grammar.specs.declared.productions.functions.FunctionRule.TheVariants as function_name
-use Rattle.ecma_grammar.specs.productions.Functions.{signature, function_expression, function_declaration, method_async, getter_property, setter_property, method_property, arrow_rest, arrow}
+use Rattle.ecma_grammar.specs.productions.Functions.{signature, full_signature, function_expression, default_function, function_declaration, method_async, getter_property, setter_property, method_property, arrow_rest, arrow}
 use Rattle.ecma_grammar.specs.declared.productions.primary.PrimaryRule.{PrimaryRule}
 use Rattle.ecma_grammar.specs.declared.productions.primary.PrimaryRule.TheVariants as primary_name
 use Rattle.ecma_grammar.specs.productions.Primary.{spread, element, array, property, object, parenthesized, class_expression, primary, template}
@@ -65,6 +65,8 @@ type_rule type_name.DefaultValue = default_value
 type_rule type_name.Param = param
 type_rule type_name.Params = params
 type_rule type_name.ParenthesizedParams = parenthesized_params
+type_rule type_name.CallSignature = call_signature
+type_rule type_name.NewSignature = new_signature
 type_rule type_name.FunctionType = function_type
 type_rule type_name.IntersectionType = intersection_type
 type_rule type_name.UnionType = union_type
@@ -88,7 +90,9 @@ pattern_rule pattern_name.ObjectPattern = object_pattern
 
 abbrev pub function_rule : FunctionRule → Grammar
 function_rule function_name.Signature = signature
+function_rule function_name.FullSignature = full_signature
 function_rule function_name.FunctionExpression = function_expression
+function_rule function_name.DefaultFunction = default_function
 function_rule function_name.FunctionDeclaration = function_declaration
 function_rule function_name.MethodAsync = method_async
 function_rule function_name.GetterProperty = getter_property
@@ -143,8 +147,8 @@ operator_rule (operator_name.BitOr no_in) = bit_or no_in
 operator_rule (operator_name.ShortCircuit no_in) = short_circuit no_in
 
 abbrev pub expression_rule : ExpressionRule → Grammar
-expression_rule (expression_name.Conditional no_in) = conditional no_in
-expression_rule (expression_name.Assignments no_in) = assignments no_in
+expression_rule (expression_name.Conditional no_in middle) = conditional no_in middle
+expression_rule (expression_name.Assignments no_in middle) = assignments no_in middle
 
 abbrev pub class_rule : ClassRule → Grammar
 class_rule class_name.Modifier = modifier

@@ -228,9 +228,9 @@ pub enum Plain {
 pub enum Form {
     /// A node with these children.
     Node(Plain),
-    /// A node with none of them.
+    /// A type, or what holds some: a node with none of them.
     Bare(Plain),
-    /// A node with the first of them.
+    /// A declaration of a type: a node with the first of them.
     First(Plain),
     /// A node with these children, the last two exchanged.
     Swapped(Plain),
@@ -277,6 +277,10 @@ pub enum Form {
     Modified,
     /// Modifiers, type of the index, annotation.
     IndexSignature,
+    /// A signature inside a type: its key or its type parameters, parameters.
+    Signature(MethodKind),
+    /// The same after `new`.
+    NewSignature,
     /// The head of a loop, its body.
     Headed,
     /// A declaration after `declare`.

@@ -1,13 +1,13 @@
 mod Ends
 mod Moves
 mod Terminals
-mod Productions
+pub mod Productions
 mod Taking
 pub mod Repetitions
 pub mod RawShapes
 pub mod Asks
-mod Needs
-mod Checks
+pub mod Needs
+pub mod Checks
 pub mod Fits
 mod Given
 mod Leaves

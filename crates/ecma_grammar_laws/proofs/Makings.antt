@@ -11,7 +11,7 @@ use Rattle.ecma_grammar_laws.proofs.forms.Nodes.{node_made}
 use Rattle.ecma_grammar_laws.proofs.forms.Lists.{bare_made, first_made, swapped_made, list_made, elements_made, sequence_made}
 use Rattle.ecma_grammar_laws.proofs.forms.Chains.{chain_made, links_made, logical_made, template_made, construction_made, assertion_made}
 use Rattle.ecma_grammar_laws.proofs.forms.Functions.{arrow_made, yield_made, annotated_made, declarator_made, parameter_made, function_made, getter_made, setter_made}
-use Rattle.ecma_grammar_laws.proofs.forms.Classes.{class_made, method_made, field_made, modified_made, signature_made}
+use Rattle.ecma_grammar_laws.proofs.forms.Classes.{class_made, method_made, field_made, modified_made, signature_made, type_signature_made}
 use Rattle.ecma_grammar_laws.proofs.forms.Others.{headed_made, declared_made, namespace_made, import_equals_made, module_made}
 
 pub form_made : (f : Form) (q : Ask) (lo hi : ℕ) (xs : List Node) → Given (needs f q) xs → Meets q (made f lo hi xs)
@@ -41,6 +41,8 @@ form_made (form.Method k) q lo hi xs g = method_made k q (from_to lo hi) xs g
 form_made form.Field q lo hi xs g = field_made q (from_to lo hi) xs g
 form_made form.Modified q lo hi xs g = modified_made q (from_to lo hi) xs g
 form_made form.IndexSignature q lo hi xs g = signature_made q (from_to lo hi) xs g
+form_made (form.Signature k) q lo hi xs g = type_signature_made q _ xs g
+form_made form.NewSignature q lo hi xs g = type_signature_made q _ xs g
 form_made form.Headed q lo hi xs g = headed_made q (from_to lo hi) xs g
 form_made form.Declared q lo hi xs g = declared_made q (from_to lo hi) xs g
 form_made form.Namespace q lo hi xs g = namespace_made q (from_to lo hi) xs g

@@ -98,9 +98,22 @@ abbrev pub is_empty : List RawShape → Bool
 is_empty [] = true
 is_empty (s ∷ ss) = false
 
+-- kinds that hold types, and nothing of their own
+abbrev pub is_type : Kind → Bool
+is_type kind.TsType = true
+is_type kind.TsTypeParamDecl = true
+is_type kind.TsTypeParamInstantiation = true
+is_type _ = false
+
+-- kinds that hold types behind a name
+abbrev pub is_declared_type : Kind → Bool
+is_declared_type (kind.TsInterfaceDecl declare) = true
+is_declared_type (kind.TsTypeAliasDecl declare) = true
+is_declared_type _ = false
+
 abbrev pub bare_kind_needs : Kind → Ask → Asked
-bare_kind_needs k any = whatever
-bare_kind_needs k (shape s) = if_so (allows_raw s k && is_empty (shapes k)) whatever
+bare_kind_needs k any = if_so (is_type k) whatever
+bare_kind_needs k (shape s) = if_so (is_type k && (allows_raw s k && is_empty (shapes k))) whatever
 bare_kind_needs k _ = never
 
 abbrev pub bare_needs : Plain → Ask → Asked
@@ -112,8 +125,8 @@ first_of (s ∷ []) = first_and_each (shape s) any
 first_of _ = never
 
 abbrev pub first_kind_needs : Kind → Ask → Asked
-first_kind_needs k any = whatever
-first_kind_needs k (shape s) = if_so (allows_raw s k) (first_of (shapes k))
+first_kind_needs k any = if_so (is_declared_type k) whatever
+first_kind_needs k (shape s) = if_so (is_declared_type k && allows_raw s k) (first_of (shapes k))
 first_kind_needs k _ = never
 
 abbrev pub first_needs : Plain → Ask → Asked
@@ -189,8 +202,12 @@ annotated_parts = pattern ∷ any ∷ maybe_a sort.TsTypeAnn ∷ []
 abbrev pub declarator_parts : List Ask
 declarator_parts = pattern ∷ any ∷ maybe_a sort.TsTypeAnn ∷ maybe_a sort.Expr ∷ []
 
+-- modifiers are names in a list, or none
+abbrev pub modifier_list : Ask
+modifier_list = shape (shape_of MaybeMany (sorted sort.PropName))
+
 abbrev pub parameter_parts : List Ask
-parameter_parts = any ∷ a sort.Pat ∷ []
+parameter_parts = modifier_list ∷ a sort.Pat ∷ []
 
 abbrev pub accessor_parts : List Ask
 accessor_parts = a sort.PropName ∷ signature
@@ -202,10 +219,18 @@ abbrev pub field_parts : List Ask
 field_parts = key ∷ any ∷ any ∷ maybe_a sort.TsTypeAnn ∷ maybe_a sort.Expr ∷ []
 
 abbrev pub modified_parts : List Ask
-modified_parts = any ∷ a sort.ClassMember ∷ []
+modified_parts = modifier_list ∷ a sort.ClassMember ∷ []
 
 abbrev pub signature_parts : List Ask
-signature_parts = any ∷ any ∷ any ∷ []
+signature_parts = modifier_list ∷ any ∷ any ∷ []
+
+-- a signature inside a type has no sort
+abbrev pub type_signature_parts : List Ask
+type_signature_parts = any ∷ shape (many parameter) ∷ []
+
+abbrev pub type_signature_needs : Ask → Asked
+type_signature_needs any = these type_signature_parts
+type_signature_needs q = never
 
 abbrev pub headed_parts : List Ask
 headed_parts = head ∷ a sort.Stmt ∷ []
@@ -247,6 +272,8 @@ needs (form.Method k) q = if_so (fits (a sort.ClassMember) q) (these method_part
 needs form.Field q = if_so (fits (a sort.ClassMember) q) (these field_parts)
 needs form.Modified q = if_so (fits (a sort.ClassMember) q) (these modified_parts)
 needs form.IndexSignature q = if_so (fits (a sort.ClassMember) q) (these signature_parts)
+needs (form.Signature k) q = type_signature_needs q
+needs form.NewSignature q = type_signature_needs q
 needs form.Headed q = if_so (fits (a sort.Stmt) q) (these headed_parts)
 needs form.Declared q = if_so (fits (a sort.Decl) q) (these declared_parts)
 needs form.Namespace q = if_so (fits (a sort.Decl) q) (some_and_last (a sort.Ident) (a sort.TsNamespaceBody))

@@ -10,7 +10,7 @@ use Rattle.ecma_grammar.specs.declared.production.Part.{Part}
 use Rattle.ecma_grammar.specs.declared.production.Form.{Form}
 use Rattle.ecma_grammar.specs.Grammar.{Grammar, nothing, same_line, take, keep, put, ◌▸◌, ◌//◌, many, ahead, unless, marked, assigned, up, enter, behind, build}
 use Rattle.ecma_grammar.specs.Reading.{Outcome, read, fails, too_deep}
-use Rattle.ecma_grammar.specs.Reads.{reads, levels, Parts, built_on, token, next_start}
+use Rattle.ecma_grammar.specs.Reads.{reads, levels, levels_by, Parts, built_on, token, next_start}
 use Rattle.ecma_grammar.specs.Made.{made}
 use Rattle.ecma_grammar.specs.PartBodies.{part_body}
 use Rattle.ecma_grammar.specs.productions.Modules.{module_body}
@@ -83,7 +83,7 @@ module _ (text : List ℕ) (u : IsUtf8 text) (mode : Mode) where
     moves (build form a) = record { on = λ s i. goes_built form (next_start text s) s.place (least (takes a)) (reads text mode parts a s) ((moves a).on s i) }
 
   levels_move : (n : ℕ) → PartsMove (levels text mode n)
-  unfolding levels
+  unfolding levels_by
   levels_move zero p at = record { on = λ s i. goes_deep text s.place (least (part_takes p)) at }
   levels_move (suc n) p at = record {
     on = λ s i. goes_less text s.place (least (takes (part_body p))) (least (part_takes p)) _ (least_taken (part_takes p) (takes (part_body p)) (parts_take p)) ((moves (levels text mode n) (levels_move n) (part_body p)).on s i);

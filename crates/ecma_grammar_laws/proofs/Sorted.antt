@@ -12,7 +12,7 @@ use Rattle.ecma_grammar.specs.declared.production.Leaf.{Leaf}
 use Rattle.ecma_grammar.specs.Grammar.{Grammar, nothing, same_line, take, keep, put, ◌▸◌, ◌//◌, many, ahead, unless, marked, assigned, up, enter, behind, build}
 use Rattle.ecma_grammar.specs.Reading as reading
 use Rattle.ecma_grammar.specs.Reading.{Position, Outcome, read, fails, too_deep, Reading, then_on, pure, with_front, followed_on, or_on, many_on, many_up_to, ahead_on, unless_on}
-use Rattle.ecma_grammar.specs.Reads.{reads, levels, Parts, built_on, token, next_start, same_line_on, kept_leaf}
+use Rattle.ecma_grammar.specs.Reads.{reads, levels, levels_by, Parts, built_on, token, next_start, same_line_on, kept_leaf}
 use Rattle.ecma_grammar.specs.Made.{made}
 use Rattle.ecma_grammar.specs.trees.Parts.{flag_node}
 use Rattle.ecma_grammar.specs.PartBodies.{part_body}
@@ -29,7 +29,7 @@ use Rattle.ecma_grammar_laws.proofs.Makings.{form_made}
 use Rattle.ecma_grammar_laws.proofs.Checks.{module_keeps, part_kept}
 
 -- what an outcome reads is as asked
-abbrev Reads : Asked → Outcome (List Node) → Type 0
+abbrev pub Reads : Asked → Outcome (List Node) → Type 0
 Reads q o = (xs : List Node) (t : Position) → o ≡ read xs t → Given q xs
 
 reads_this : (q : Asked) (xs : List Node) (s : Position) → Given q xs → Reads q (read xs s)
@@ -99,7 +99,7 @@ reads_built q form lo (fails n) e h = reads_no q n
 reads_built q form lo (too_deep n) e h = reads_none q n
 
 module _ (text : List ℕ) (mode : Mode) where
-  abbrev PartsKeep : Parts text → Type 0
+  abbrev pub PartsKeep : Parts text → Type 0
   PartsKeep parts = (u : Part) (at : ℕ) (s : Position) → Reads (part_keeps u) (parts u at s)
 
   reads_part : (q : Asked) (u : Part) (o : Outcome (List Node)) → all_given (part_keeps u) q ≡ true → Reads (part_keeps u) o → Reads q o
@@ -109,7 +109,7 @@ module _ (text : List ℕ) (mode : Mode) where
   reads_leaf l q s e xs t r = let x = leaf_meets_ask text l (of_one q) e.1 s t xs r in subst (Given q) (sym x.1) (given_one q x.0 e.0 x.2)
 
   module _ (parts : Parts text) (h : PartsKeep parts) where
-    as_asked : (g : Grammar) (q : Asked) → keeps g q ≡ true → (s : Position) → Reads q (reads text mode parts g s)
+    pub as_asked : (g : Grammar) (q : Asked) → keeps g q ≡ true → (s : Position) → Reads q (reads text mode parts g s)
     as_asked nothing q e s = reads_this q [] s (given_none q e)
     as_asked same_line q e s = reads_same_line q s (skipped text s.place) e
     as_asked (take t) q e s = reads_then q (λ k. pure []) (token text t s) (λ k u. reads_this q [] u (given_none q e))
@@ -130,8 +130,8 @@ module _ (text : List ℕ) (mode : Mode) where
     as_asked (behind t u) q e s = reads_then q (λ k. parts u k.start) (token text t s) (λ k v. reads_part q u (parts u k.start v) e (h u k.start v))
     as_asked (build f b) q e s = let w = both (is_one q) (keeps b (needs f (of_one q))) e in reads_built q f (next_start text s) (reads text mode parts b s) w.0 (as_asked b (needs f (of_one q)) w.1 s)
 
-  levels_keep : (n : ℕ) → PartsKeep (levels text mode n)
-  unfolding levels
+  pub levels_keep : (n : ℕ) → PartsKeep (levels text mode n)
+  unfolding levels_by
   levels_keep zero u at s = reads_none (part_keeps u) at
   levels_keep (suc n) u at s = as_asked (levels text mode n) (levels_keep n) (part_body u) (part_keeps u) (part_kept u) s
 

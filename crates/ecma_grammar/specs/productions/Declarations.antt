@@ -91,8 +91,12 @@ declaration =
     // marked abstract_class_declaration // marked type_alias // marked interface // marked enum_ // marked namespace
     // marked (build form.Declared (behind_word (codes "declare") part.Declared))
 
--- ~Decl, after 'declare'
+-- 'global' NsBody
+abbrev pub global : Grammar
+global = node (plain.TsModuleDecl true) (ahead (word (codes "global")) ▸ keep leaf.KeyIdent ▸ body_of_namespace)
+
+-- ~('global' NsBody / Decl), after 'declare'
 --   declare let a: T;
 --   declare = a;   // an assignment
 unfoldable pub declared_body : Grammar
-declared_body = same_line ▸ declaration
+declared_body = same_line ▸ (global // declaration)

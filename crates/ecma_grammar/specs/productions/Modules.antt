@@ -8,7 +8,7 @@ use Rattle.ecma_grammar.specs.declared.production.Flag.TheVariants.{Absent}
 use Rattle.ecma_grammar.specs.declared.production.Plain.TheVariants as plain
 use Rattle.ecma_grammar.specs.declared.production.Form.TheVariants as form
 use Rattle.ecma_grammar.specs.productions.Names.{statement, expression, assign, end, ident, string, module_export_name}
-use Rattle.ecma_grammar.specs.productions.Functions.{function_expression}
+use Rattle.ecma_grammar.specs.productions.Functions.{default_function}
 use Rattle.ecma_grammar.specs.productions.Primary.{class_expression}
 use Rattle.ecma_grammar.specs.productions.Classes.{abstract_class_expression}
 use Rattle.ecma_grammar.specs.productions.Declarations.{interface, declaration}
@@ -125,7 +125,7 @@ export_star = punct (codes "*") ▸ from ▸ end
 unfoldable pub export_default : Grammar
 export_default =
     node plain.ExportDefaultDecl
-    (word (codes "export") ▸ word (codes "default") ▸ (function_expression // class_expression // marked abstract_class_expression // marked interface))
+    (word (codes "export") ▸ word (codes "default") ▸ (default_function // class_expression // marked abstract_class_expression // marked interface))
     // node plain.ExportDefaultExpr (word (codes "export") ▸ word (codes "default") ▸ assign ▸ end)
 
 -- Export

@@ -11,8 +11,12 @@ use Rattle.ecma_grammar.specs.declared.production.Form.TheVariants as form
 abbrev pub assign : Grammar
 assign = up (part.Assign false false)
 
+-- `in` is no operator there; it ends the middle of a conditional expression
+abbrev pub assign_at : Bool → Bool → Grammar
+assign_at no_in middle = up (part.Assign no_in middle)
+
 abbrev pub assign_in : Bool → Grammar
-assign_in no_in = up (part.Assign no_in false)
+assign_in no_in = assign_at no_in false
 
 abbrev pub pattern : Grammar
 pattern = up part.Pattern

@@ -103,7 +103,7 @@ shift = build form.Chain (sum ▸ shifts)
 abbrev pub if_in : Bool → Grammar → Grammar
 if_in no_in g = if no_in then unless nothing else g
 
--- (('<' / '>' / '<=' / '>=' / 'instanceof' / 'in') Shift / T ~'as' ('const' / Type) / T ~'satisfies' Type)*
+-- (('<' / '>' / '<=' / '>=' / 'instanceof' / 'in') Shift / T ~'as' ('const' / Type) Tighter / T ~'satisfies' Type Tighter)*
 --   a < b instanceof c;
 --   a as T as U;
 unfoldable pub relations : Bool → Grammar
@@ -124,15 +124,21 @@ relation no_in =
     build form.Chain
     ((if_in no_in (keep leaf.PrivateName ▸ item (plain.BinExpr binary.In) (word (codes "in") ▸ shift)) // shift) ▸ relations no_in)
 
+-- Tighter = ('**' Exp)? and left chains of `*` `/` `%`, of `+` `-`, of `<<` `>>` `>>>`, whose left operand is all that stands before, and what stands after these
+--   a as T + b * c;   // (a as T) + (b * c)
+--   a + b as T * c < d;   // (((a + b) as T) * c) < d
+abbrev pub behind_type : Bool → Grammar
+behind_type no_in = optional (behind_punct (codes "**") part.Power) ▸ factors ▸ terms ▸ shifts ▸ relations no_in
+
 -- 'const' / Type, after `as`
 --   a as T;
 --   [a] as const;
 abbrev pub as_body : Bool → Grammar
-as_body no_in = (item plain.TsConstAssertion (word (codes "const")) // item plain.TsAsExpr (bare plain.TsType type_)) ▸ relations no_in
+as_body no_in = (item plain.TsConstAssertion (word (codes "const")) // item plain.TsAsExpr (bare plain.TsType type_)) ▸ behind_type no_in
 
 --   a satisfies T;
 abbrev pub satisfies_body : Bool → Grammar
-satisfies_body no_in = item plain.TsSatisfiesExpr (bare plain.TsType type_) ▸ relations no_in
+satisfies_body no_in = item plain.TsSatisfiesExpr (bare plain.TsType type_) ▸ behind_type no_in
 
 -- Eq, BitAnd, BitXor, BitOr = left chains of `==` `!=` `===` `!==`, of `&`, of `^`, of `|`
 --   a == b !== c;   // (a == b) !== c

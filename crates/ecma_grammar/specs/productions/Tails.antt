@@ -19,8 +19,8 @@ abbrev pub links_tail : Tail
 links_tail = tail form.Links links
 
 -- after the links
-abbrev pub tails : Bool → List Tail
-tails no_in =
+abbrev pub tails : Bool → Bool → List Tail
+tails no_in middle =
     tail form.Chain updates
     ∷ tail form.Chain (optional (behind_punct (codes "**") part.Power))
     ∷ tail form.Chain factors
@@ -32,6 +32,6 @@ tails no_in =
     ∷ tail form.Chain (exclusions no_in)
     ∷ tail form.Chain (disjunctions no_in)
     ∷ tail form.Logical (coalescing no_in // logicals no_in)
-    ∷ tail form.Chain (choice no_in)
-    ∷ tail form.Chain (assignments no_in)
+    ∷ tail form.Chain (choice no_in middle)
+    ∷ tail form.Chain (assignments no_in middle)
     ∷ []

@@ -1,5 +1,7 @@
--- Types, of which only the place is kept (TypeScript handbook).
-use Rattle.std.specs.Prelude.{true, false, codes}
+-- Types, of which only the place is kept in the finished tree (TypeScript handbook).
+use Rattle.std.specs.Prelude.{ℕ, true, false, List, codes}
+use Rattle.ecma_kind.specs.declared.operators.MethodKind.{MethodKind}
+use Rattle.ecma_kind.specs.declared.operators.MethodKind.TheVariants as method_kind
 use Rattle.ecma_grammar.specs.Grammar.{Grammar, same_line, keep, put, ◌▸◌, ◌//◌, many, ahead, unless, marked, up, build, word, punct, a, behind_punct, optional, maybe, whether, commas, node, bare, item, list}
 use Rattle.ecma_grammar.specs.declared.production.Part.TheVariants as part
 use Rattle.ecma_grammar.specs.declared.production.TokenKind.TheVariants as token
@@ -56,13 +58,14 @@ type_list = heritage_type ▸ many (punct (codes ",") ▸ heritage_type)
 
 -- annotations
 
--- Ret = 'asserts' ~(Name / 'this') ('is' Type)? / (Name / 'this') ~'is' Type / Type
+-- Ret = (Name / 'this') ~'is' Type / 'asserts' ~(Name / 'this') ('is' Type)? / Type
 --   function f(a): a is T { }
 --   function f(a): asserts a is T { }
+--   function f(asserts): asserts is T { }   // a parameter of the name asserts
 unfoldable pub return_type : Grammar
 return_type =
-    word (codes "asserts") ▸ same_line ▸ (a_name // word (codes "this")) ▸ optional (word (codes "is") ▸ type_)
-    // (a_name // word (codes "this")) ▸ same_line ▸ word (codes "is") ▸ type_
+    (a_name // word (codes "this")) ▸ same_line ▸ word (codes "is") ▸ type_
+    // word (codes "asserts") ▸ same_line ▸ (a_name // word (codes "this")) ▸ optional (word (codes "is") ▸ type_)
     // type_
 
 -- Ann = ':' Type
@@ -122,13 +125,26 @@ params = list (commas param)
 unfoldable pub parenthesized_params : Grammar
 parenthesized_params = punct (codes "(") ▸ params ▸ punct (codes ")")
 
+-- what stands before the parameters of a signature
+abbrev pub type_parameters : Grammar
+type_parameters = maybe (bare plain.TsTypeParamDecl type_params)
+
+--   interface A { <T>(b: T): U }
+--   type A = (...b, c) => d;   // refused, by a context rule
+unfoldable pub call_signature : Grammar
+call_signature = build (form.Signature method_kind.Method) (type_parameters ▸ parenthesized_params)
+
+--   interface A { new (b): C }
+unfoldable pub new_signature : Grammar
+new_signature = build form.NewSignature (word (codes "new") ▸ type_parameters ▸ parenthesized_params)
+
 -- TFun = 'abstract'? 'new' TypeParams? '(' Params ')' '=>' Ret / TypeParams? '(' Params ')' '=>' Ret
 --   type A = <T>(a: T) => T;
 --   type A = abstract new () => B;
 unfoldable pub function_type : Grammar
 function_type =
-    optional (word (codes "abstract")) ▸ word (codes "new") ▸ optional type_params ▸ parenthesized_params ▸ punct (codes "=>") ▸ return_type
-    // optional type_params ▸ parenthesized_params ▸ punct (codes "=>") ▸ return_type
+    optional (word (codes "abstract")) ▸ new_signature ▸ punct (codes "=>") ▸ return_type
+    // call_signature ▸ punct (codes "=>") ▸ return_type
 
 -- TInter = '&'? TOp ('&' TOp)*
 --   type A = B & C;
@@ -144,12 +160,17 @@ union_type = optional (punct (codes "|")) ▸ intersection_type ▸ many (punct 
 abbrev pub unconditional_type : Grammar
 unconditional_type = function_type // union_type
 
--- Type = TFun / TUnion (~'extends' TBase '?' Type ':' Type)?
+-- Type = TFun / TUnion (~'extends' ('infer' Name 'extends' TBase &'?' / TBase) '?' Type ':' Type)?
 --   type A = B extends C ? D : E;
+--   type A = B extends infer C extends D ? C : E;
 unfoldable pub type_body : Grammar
 type_body =
     function_type
-    // union_type ▸ optional (same_line ▸ word (codes "extends") ▸ unconditional_type ▸ punct (codes "?") ▸ type_ ▸ punct (codes ":") ▸ type_)
+    // union_type
+    ▸ optional
+    (same_line ▸ word (codes "extends")
+    ▸ (word (codes "infer") ▸ a_name ▸ word (codes "extends") ▸ unconditional_type ▸ ahead (punct (codes "?")) // unconditional_type)
+    ▸ punct (codes "?") ▸ type_ ▸ punct (codes ":") ▸ type_)
 
 -- (~'[' Type? ']')*
 --   type A = B[]; type C = D["e"];
@@ -186,15 +207,23 @@ mapped_type =
 -- TypeParams? '(' Params ')' RetAnn?
 --   interface A { <T>(b: T): U }
 unfoldable pub signature_type : Grammar
-signature_type = optional type_params ▸ parenthesized_params ▸ optional some_return_annotation
+signature_type = call_signature ▸ optional some_return_annotation
+
+-- ('get' / 'set') &PropStart PName '(' Params ')'
+--   interface A { get b(): C; set b(d) }
+--   interface A { get b(c) }   // refused, by a context rule
+abbrev pub accessor_signature : List ℕ → MethodKind → Grammar
+accessor_signature w k = build (form.Signature k) (word w ▸ ahead prop_start ▸ list prop_name ▸ parenthesized_params)
 
 -- TMember
 --   interface A { readonly b?: C; d(): E; get f(): G }
 --   interface A { new (b): C; [d: string]: E }
 unfoldable pub type_member : Grammar
 type_member =
-    (word (codes "get") // word (codes "set")) ▸ ahead prop_start ▸ prop_name ▸ parenthesized_params ▸ optional some_return_annotation
-    // optional (word (codes "new")) ▸ signature_type
+    accessor_signature (codes "get") method_kind.Getter ▸ optional some_return_annotation
+    // accessor_signature (codes "set") method_kind.Setter ▸ optional some_return_annotation
+    // new_signature ▸ optional some_return_annotation
+    // signature_type
     // optional (word (codes "readonly")) ▸ punct (codes "[") ▸ a_name ▸ punct (codes ":") ▸ type_ ▸ punct (codes "]") ▸ some_annotation
     // optional (word (codes "readonly") ▸ ahead prop_start) ▸ prop_name ▸ optional (punct (codes "?")) ▸ (signature_type // optional some_annotation)
 
@@ -239,11 +268,11 @@ type_operator_body =
     // primary_type ▸ array_suffixes
 
 -- After: what may stand after type arguments in an expression
---   a<T>(b);
+--   a<T>(b); a<T>?.(b);
 --   a<b>c;   // no type arguments: (a < b) > c
 unfoldable pub after_type_args : Grammar
 after_type_args =
-    ahead (punct (codes "(") // a (token.Template (record { first = true; tagged = true; last = true })) // a (token.Template (record { first = true; tagged = true; last = false }))
+    ahead (punct (codes "(") // punct (codes "?.") ▸ (punct (codes "(") // punct (codes "[") // left_angle) // a (token.Template (record { first = true; tagged = true; last = true })) // a (token.Template (record { first = true; tagged = true; last = false }))
     // punct (codes ")") // punct (codes "]") // punct (codes "}") // punct (codes ",") // punct (codes ";") // punct (codes ":")
     // punct (codes "?") // punct (codes "??") // punct (codes "||") // punct (codes "&&") // punct (codes "|") // punct (codes "^") // punct (codes "&")
     // punct (codes "==") // punct (codes "!=") // punct (codes "===") // punct (codes "!==") // punct (codes "*") // punct (codes "%") // punct (codes "**")

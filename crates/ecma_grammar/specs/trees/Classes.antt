@@ -9,7 +9,7 @@ use Rattle.ecma_kind.specs.declared.kind.Kind.TheVariants as kind
 use Rattle.ecma_tree.specs.declared.node.Node.{Node}
 use Rattle.ecma_tree.specs.Nodes.{node_of, absent}
 use Rattle.ecma_grammar.specs.trees.Parts.{kind_of, children_of, is_present, framed}
-use Rattle.ecma_grammar.specs.trees.Functions.{has_word, accessibility_of, function_of}
+use Rattle.ecma_grammar.specs.trees.Functions.{has_word, accessibility_of, function_of, parameters}
 
 -- name, type parameters, heritage, its type arguments, implemented types, members
 abbrev pub class : Span → Kind → Bool → List Node → Node
@@ -98,6 +98,24 @@ member span (modifiers ∷ n ∷ []) = member_by span modifiers (kind_of n) (chi
 member span xs = absent
 
 -- modifiers, type of the index, annotation
+abbrev pub index_signature_of : Span → Node → List Node → Node
+index_signature_of span modifiers types = node_of span (kind.TsIndexSignature (has_word (codes "readonly") modifiers) (has_word (codes "static") modifiers)) types
+
 abbrev pub index_signature : Span → List Node → Node
-index_signature span (modifiers ∷ index ∷ annotation ∷ []) = node_of span (kind.TsIndexSignature (has_word (codes "readonly") modifiers) (has_word (codes "static") modifiers)) []
+index_signature span (modifiers ∷ index ∷ annotation ∷ []) = index_signature_of span modifiers []
 index_signature span xs = absent
+
+abbrev pub index_signature_with_types : Span → List Node → Node
+index_signature_with_types span (modifiers ∷ index ∷ annotation ∷ []) = index_signature_of span modifiers (index ∷ annotation ∷ [])
+index_signature_with_types span xs = absent
+
+-- a signature inside a type stands as a method of a class without a body: key in a list or type parameters, parameters
+abbrev pub type_signature : Span → MethodKind → List Node → Node
+type_signature span k (front ∷ params ∷ []) =
+    node_of span (kind.ClassMethod k (no_modifiers false)) (front ∷ function_of span false false absent params absent absent ∷ [])
+type_signature span k xs = absent
+
+-- and one after `new` as a constructor without a body
+abbrev pub new_signature : Span → List Node → Node
+new_signature span (front ∷ params ∷ []) = node_of span (kind.Constructor None false) (front ∷ parameters params ∷ absent ∷ [])
+new_signature span xs = absent

@@ -185,5 +185,15 @@ static DECLARATION_BODY: Production = first_of!(
     ))
 );
 
-// ~Decl, after 'declare'
-pub(super) static DECLARED_BODY: Production = all!(SameLine, DECLARATION);
+// 'global' NsBody
+pub(super) const GLOBAL: Production = node!(
+    Plain::TsModuleDecl { global: true },
+    all!(
+        Ahead(&word!("global")),
+        Keep(Leaf::KeyIdent),
+        BODY_OF_NAMESPACE
+    )
+);
+
+// ~('global' NsBody / Decl), after 'declare'
+pub(super) static DECLARED_BODY: Production = all!(SameLine, first_of!(GLOBAL, DECLARATION));

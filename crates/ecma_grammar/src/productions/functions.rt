@@ -9,7 +9,9 @@ use super::*;
 #[derive(Clone, Copy, Debug)]
 pub enum FunctionRule {
     Signature,
+    FullSignature,
     FunctionExpression,
+    DefaultFunction,
     FunctionDeclaration,
     MethodAsync,
     GetterProperty,
@@ -20,14 +22,16 @@ pub enum FunctionRule {
 }
 
 /// The production of a name.
-#[tactic(auto, unfolding(crate::specs::productions::Functions::signature, crate::specs::productions::Functions::function_expression, crate::specs::productions::Functions::function_declaration, crate::specs::productions::Functions::method_async, crate::specs::productions::Functions::getter_property, crate::specs::productions::Functions::setter_property, crate::specs::productions::Functions::method_property, crate::specs::productions::Functions::arrow_rest, crate::specs::productions::Functions::arrow))]
+#[tactic(auto, unfolding(crate::specs::productions::Functions::signature, crate::specs::productions::Functions::full_signature, crate::specs::productions::Functions::function_expression, crate::specs::productions::Functions::default_function, crate::specs::productions::Functions::function_declaration, crate::specs::productions::Functions::method_async, crate::specs::productions::Functions::getter_property, crate::specs::productions::Functions::setter_property, crate::specs::productions::Functions::method_property, crate::specs::productions::Functions::arrow_rest, crate::specs::productions::Functions::arrow))]
 pub(super) fn function_rule(rule: FunctionRule) -> &'static Production
     ensures says { written result.now ≡ function_rule rule }
     ensures unnamed { is_name result.now ≡ false }
 {
     match rule {
         FunctionRule::Signature => &SIGNATURE_BODY,
+        FunctionRule::FullSignature => &FULL_SIGNATURE_BODY,
         FunctionRule::FunctionExpression => &FUNCTION_EXPRESSION_BODY,
+        FunctionRule::DefaultFunction => &DEFAULT_FUNCTION_BODY,
         FunctionRule::FunctionDeclaration => &FUNCTION_DECLARATION_BODY,
         FunctionRule::MethodAsync => &METHOD_ASYNC_BODY,
         FunctionRule::GetterProperty => &GETTER_PROPERTY_BODY,
@@ -70,6 +74,10 @@ pub(super) fn function_rule(rule: FunctionRule) -> &'static Production
 
 pub(super) const SIGNATURE: Production = The(Rule::Function(FunctionRule::Signature));
 
+pub(super) const FULL_SIGNATURE: Production = The(Rule::Function(FunctionRule::FullSignature));
+
+pub(super) const DEFAULT_FUNCTION: Production = The(Rule::Function(FunctionRule::DefaultFunction));
+
 pub(super) const FUNCTION_EXPRESSION: Production = The(Rule::Function(
     FunctionRule::FunctionExpression,
 ));
@@ -96,21 +104,36 @@ static SIGNATURE_BODY: Production = all!(
     first_of!(BLOCK, Marked(&all!(END, Put(Flag::Absent))))
 );
 
-// Fun(N) = ('async' ~'function' / 'function') '*'? N Sig
+// FullSig = [TypeParams] '(' Params ')' [RetAnn] Block
+static FULL_SIGNATURE_BODY: Production = all!(
+    TYPE_PARAM_DECL,
+    punct!("("),
+    PARAMS,
+    punct!(")"),
+    RETURN_ANNOTATION,
+    BLOCK
+);
+
+// ('async' ~'function' / 'function') '*'? N, and a signature
 macro_rules! function {
-    ($name:expr) => { all!(first_of!(all!(word!("async"), SameLine, word!("function"), Put(Flag::Present)), all!(word!("function"), Put(Flag::Absent))), whether!(punct!("*")), $name, SIGNATURE) };
+    ($name:expr, $signed:expr) => { all!(first_of!(all!(word!("async"), SameLine, word!("function"), Put(Flag::Present)), all!(word!("function"), Put(Flag::Absent))), whether!(punct!("*")), $name, $signed) };
 }
 
 pub(super) use function;
 
 static FUNCTION_EXPRESSION_BODY: Production = Build(
     Form::Function(Plain::FnExpr),
-    &function!(maybe!(IDENT)),
+    &function!(maybe!(IDENT), FULL_SIGNATURE),
+);
+
+static DEFAULT_FUNCTION_BODY: Production = Build(
+    Form::Function(Plain::FnExpr),
+    &function!(maybe!(IDENT), SIGNATURE),
 );
 
 static FUNCTION_DECLARATION_BODY: Production = Build(
     Form::Function(Plain::FnDecl),
-    &function!(IDENT),
+    &function!(IDENT, SIGNATURE),
 );
 
 // 'async' ~&MStart, or not
@@ -139,12 +162,12 @@ static METHOD_PROPERTY_BODY: Production = Build(
 
 // ABody = Block / !'{' Assign
 macro_rules! arrow_body {
-    ($no_in:tt) => { all!(SameLine, punct!("=>"), first_of!(BLOCK, all!(Unless(&punct!("{")), assign_in!($no_in)))) };
+    ($no_in:tt, $middle:tt) => { all!(SameLine, punct!("=>"), first_of!(BLOCK, all!(Unless(&punct!("{")), assign_at!($no_in, $middle)))) };
 }
 
 pub(super) use arrow_body;
 
-// in the middle of a conditional expression an arrow function with a return annotation is read only before `:`
+// in the middle of a conditional expression, and where that ends, an arrow function with a return annotation is read only before `:`
 macro_rules! before_colon {
     (true) => { Ahead(&punct!(":")) };
     (false) => { Nothing };
@@ -160,7 +183,7 @@ macro_rules! arrow_rest {
 pub(super) use arrow_rest;
 
 macro_rules! arrow_rest_body {
-    ($no_in:tt, $middle:tt) => { first_of!(all!(Put(Flag::Absent), list!(BINDING_IDENT), Put(Flag::Absent), arrow_body!($no_in)), all!(TYPE_PARAM_DECL, punct!("("), PARAMS, punct!(")"), first_of!(all!(Marked(&SOME_RETURN_ANNOTATION), arrow_body!($no_in), before_colon!($middle)), all!(Put(Flag::Absent), arrow_body!($no_in))))) };
+    ($no_in:tt, $middle:tt) => { first_of!(all!(Put(Flag::Absent), list!(BINDING_IDENT), Put(Flag::Absent), arrow_body!($no_in, $middle)), all!(TYPE_PARAM_DECL, punct!("("), PARAMS, punct!(")"), first_of!(all!(Marked(&SOME_RETURN_ANNOTATION), arrow_body!($no_in, $middle), before_colon!($middle)), all!(Put(Flag::Absent), arrow_body!($no_in, $middle))))) };
 }
 
 static ARROW_REST_BODY: Production = arrow_rest_body!(false, false);
@@ -178,14 +201,14 @@ macro_rules! arrow {
 
 pub(super) use arrow;
 
-macro_rules! arrow_body {
+macro_rules! whole_arrow_body {
     ($no_in:tt, $middle:tt) => { first_of!(Build(Form::Arrow, &all!(word!("async"), SameLine, Put(Flag::Present), arrow_rest!($no_in, $middle))), Build(Form::Arrow, &all!(Put(Flag::Absent), arrow_rest!($no_in, $middle)))) };
 }
 
-static ARROW_BODY: Production = arrow_body!(false, false);
+static ARROW_BODY: Production = whole_arrow_body!(false, false);
 
-static ARROW_MIDDLE_BODY: Production = arrow_body!(false, true);
+static ARROW_MIDDLE_BODY: Production = whole_arrow_body!(false, true);
 
-static ARROW_NO_IN_BODY: Production = arrow_body!(true, false);
+static ARROW_NO_IN_BODY: Production = whole_arrow_body!(true, false);
 
-static ARROW_NO_IN_MIDDLE_BODY: Production = arrow_body!(true, true);
+static ARROW_NO_IN_MIDDLE_BODY: Production = whole_arrow_body!(true, true);

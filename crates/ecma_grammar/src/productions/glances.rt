@@ -296,7 +296,7 @@ fn module_glance(rule: ModuleRule, first: u8) -> Glance
     }
 }
 
-#[tactic(auto, unfolding(crate::specs::productions::Types::type_params, crate::specs::productions::Types::type_args, crate::specs::productions::Types::some_annotation, crate::specs::productions::Types::some_return_annotation, crate::specs::productions::Types::function_type, crate::specs::productions::Types::parenthesized_params, crate::specs::productions::Types::import_type, crate::specs::productions::Types::mapped_type, crate::specs::productions::Types::object_type, crate::specs::productions::Types::template_type), using(crate::proofs::Glances::beginning))]
+#[tactic(auto, unfolding(crate::specs::productions::Types::type_params, crate::specs::productions::Types::type_args, crate::specs::productions::Types::some_annotation, crate::specs::productions::Types::some_return_annotation, crate::specs::productions::Types::call_signature, crate::specs::productions::Types::new_signature, crate::specs::productions::Types::function_type, crate::specs::productions::Types::parenthesized_params, crate::specs::productions::Types::import_type, crate::specs::productions::Types::mapped_type, crate::specs::productions::Types::object_type, crate::specs::productions::Types::template_type), using(crate::proofs::Glances::beginning))]
 fn type_glance(rule: TypeRule, first: u8) -> Glance
     ensures { Says result first (type_rule rule) }
 {

@@ -290,7 +290,7 @@ static EXPORT_DEFAULT_BODY: Production = first_of!(
             word!("export"),
             word!("default"),
             first_of!(
-                FUNCTION_EXPRESSION,
+                DEFAULT_FUNCTION,
                 CLASS_EXPRESSION,
                 Marked(&ABSTRACT_CLASS_EXPRESSION),
                 Marked(&INTERFACE)

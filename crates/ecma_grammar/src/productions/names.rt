@@ -60,8 +60,15 @@ pub(super) const ASSIGN: Production = Up(Part::Assign {
     middle: false,
 });
 
+// `in` is no operator there; it ends the middle of a conditional expression
+macro_rules! assign_at {
+    ($no_in:tt, $middle:tt) => { Up(Part::Assign { no_in: $no_in, middle: $middle }) };
+}
+
+pub(super) use assign_at;
+
 macro_rules! assign_in {
-    ($no_in:tt) => { Up(Part::Assign { no_in: $no_in, middle: false }) };
+    ($no_in:tt) => { assign_at!($no_in, false) };
 }
 
 pub(super) use assign_in;

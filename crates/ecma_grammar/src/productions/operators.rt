@@ -225,7 +225,7 @@ macro_rules! if_in {
 
 pub(super) use if_in;
 
-// (('<' / '>' / '<=' / '>=' / 'instanceof' / 'in') Shift / T ~'as' ('const' / Type) / T ~'satisfies' Type)*
+// (('<' / '>' / '<=' / '>=' / 'instanceof' / 'in') Shift / T ~'as' ('const' / Type) Tighter / T ~'satisfies' Type Tighter)*
 macro_rules! relations {
     ($no_in:tt) => { The(Rule::Operator(OperatorRule::Relations { no_in: $no_in })) };
 }
@@ -255,15 +255,22 @@ static RELATION_BODY: Production = relation_body!(false);
 
 static RELATION_NO_IN_BODY: Production = relation_body!(true);
 
+// Tighter = ('**' Exp)? and left chains of `*` `/` `%`, of `+` `-`, of `<<` `>>` `>>>`, whose left operand is all that stands before, and what stands after these
+macro_rules! behind_type {
+    ($no_in:tt) => { all!(optional!(Behind(Terminal::Punct("**"), Part::Power)), FACTORS, TERMS, SHIFTS, relations!($no_in)) };
+}
+
+pub(super) use behind_type;
+
 // 'const' / Type, after `as`
 macro_rules! as_body {
-    ($no_in:tt) => { all!(first_of!(item!(Plain::TsConstAssertion, word!("const")), item!(Plain::TsAsExpr, bare!(Plain::TsType, TYPE_))), relations!($no_in)) };
+    ($no_in:tt) => { all!(first_of!(item!(Plain::TsConstAssertion, word!("const")), item!(Plain::TsAsExpr, bare!(Plain::TsType, TYPE_))), behind_type!($no_in)) };
 }
 
 pub(super) use as_body;
 
 macro_rules! satisfies_body {
-    ($no_in:tt) => { all!(item!(Plain::TsSatisfiesExpr, bare!(Plain::TsType, TYPE_)), relations!($no_in)) };
+    ($no_in:tt) => { all!(item!(Plain::TsSatisfiesExpr, bare!(Plain::TsType, TYPE_)), behind_type!($no_in)) };
 }
 
 pub(super) use satisfies_body;

@@ -13,7 +13,7 @@ pub struct Tail {
 }
 
 macro_rules! tails_of {
-    ($no_in:tt) => {
+    ($no_in:tt, $middle:tt) => {
         [
             Tail { form: Form::Chain, production: UPDATES },
             Tail { form: Form::Chain, production: optional!(Behind(Terminal::Punct("**"), Part::Power)) },
@@ -26,8 +26,8 @@ macro_rules! tails_of {
             Tail { form: Form::Chain, production: exclusions!($no_in) },
             Tail { form: Form::Chain, production: disjunctions!($no_in) },
             Tail { form: Form::Logical, production: first_of!(coalescing!($no_in), logicals!($no_in)) },
-            Tail { form: Form::Chain, production: choice!($no_in) },
-            Tail { form: Form::Chain, production: assignments!($no_in) },
+            Tail { form: Form::Chain, production: choice!($no_in, $middle) },
+            Tail { form: Form::Chain, production: assignments!($no_in, $middle) },
         ]
     };
 }
@@ -37,9 +37,13 @@ static LINKS_TAIL: Tail = Tail {
     production: LINKS,
 };
 
-static TAILS: [Tail; 13] = tails_of!(false);
+static TAILS: [Tail; 13] = tails_of!(false, false);
 
-static TAILS_NO_IN: [Tail; 13] = tails_of!(true);
+static TAILS_MIDDLE: [Tail; 13] = tails_of!(false, true);
+
+static TAILS_NO_IN: [Tail; 13] = tails_of!(true, false);
+
+static TAILS_NO_IN_MIDDLE: [Tail; 13] = tails_of!(true, true);
 
 /// The links after the first operand.
 pub fn links_tail() -> &'static Tail
@@ -48,9 +52,14 @@ pub fn links_tail() -> &'static Tail
     &LINKS_TAIL
 }
 
-/// What stands after a chain of links, up to an assignment: without the operator `in` where `no_in` is set.
-pub fn operator_tails(no_in: bool) -> &'static [Tail]
-    ensures { map written_tail result.now ≡ tails no_in }
+/// What stands after a chain of links, up to an assignment: without the operator `in` where `no_in` is set; in the middle of a conditional expression where `middle` is set.
+pub fn operator_tails(no_in: bool, middle: bool) -> &'static [Tail]
+    ensures { map written_tail result.now ≡ tails no_in middle }
 {
-    if no_in { &TAILS_NO_IN } else { &TAILS }
+    match (no_in, middle) {
+        (false, false) => &TAILS,
+        (false, true) => &TAILS_MIDDLE,
+        (true, false) => &TAILS_NO_IN,
+        (true, true) => &TAILS_NO_IN_MIDDLE,
+    }
 }

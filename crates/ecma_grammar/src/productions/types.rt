@@ -1,4 +1,4 @@
-//! Types, of which only the place is kept (TypeScript handbook).
+//! Types, of which only the place is kept in the finished tree (TypeScript handbook).
 ghost use Rattle.std.specs.Prelude.{◌≡◌, false};
 ghost use Rattle.ecma_grammar.specs.Rules.{type_rule};
 ghost use Rattle.ecma_grammar.specs.Written.{is_name, written};
@@ -22,6 +22,8 @@ pub enum TypeRule {
     Param,
     Params,
     ParenthesizedParams,
+    CallSignature,
+    NewSignature,
     FunctionType,
     IntersectionType,
     UnionType,
@@ -39,7 +41,7 @@ pub enum TypeRule {
 }
 
 /// The production of a name.
-#[tactic(auto, unfolding(crate::specs::productions::Types::type_param, crate::specs::productions::Types::type_params, crate::specs::productions::Types::type_args, crate::specs::productions::Types::entity, crate::specs::productions::Types::type_list, crate::specs::productions::Types::return_type, crate::specs::productions::Types::some_annotation, crate::specs::productions::Types::some_return_annotation, crate::specs::productions::Types::parameter_modifier, crate::specs::productions::Types::rest_pattern, crate::specs::productions::Types::default_value, crate::specs::productions::Types::param, crate::specs::productions::Types::params, crate::specs::productions::Types::parenthesized_params, crate::specs::productions::Types::function_type, crate::specs::productions::Types::intersection_type, crate::specs::productions::Types::union_type, crate::specs::productions::Types::array_suffixes, crate::specs::productions::Types::import_type, crate::specs::productions::Types::tuple_element, crate::specs::productions::Types::mapped_type, crate::specs::productions::Types::signature_type, crate::specs::productions::Types::type_member, crate::specs::productions::Types::object_type, crate::specs::productions::Types::template_type, crate::specs::productions::Types::primary_type, crate::specs::productions::Types::type_operator_body, crate::specs::productions::Types::after_type_args))]
+#[tactic(auto, unfolding(crate::specs::productions::Types::type_param, crate::specs::productions::Types::type_params, crate::specs::productions::Types::type_args, crate::specs::productions::Types::entity, crate::specs::productions::Types::type_list, crate::specs::productions::Types::return_type, crate::specs::productions::Types::some_annotation, crate::specs::productions::Types::some_return_annotation, crate::specs::productions::Types::parameter_modifier, crate::specs::productions::Types::rest_pattern, crate::specs::productions::Types::default_value, crate::specs::productions::Types::param, crate::specs::productions::Types::params, crate::specs::productions::Types::parenthesized_params, crate::specs::productions::Types::call_signature, crate::specs::productions::Types::new_signature, crate::specs::productions::Types::function_type, crate::specs::productions::Types::intersection_type, crate::specs::productions::Types::union_type, crate::specs::productions::Types::array_suffixes, crate::specs::productions::Types::import_type, crate::specs::productions::Types::tuple_element, crate::specs::productions::Types::mapped_type, crate::specs::productions::Types::signature_type, crate::specs::productions::Types::type_member, crate::specs::productions::Types::object_type, crate::specs::productions::Types::template_type, crate::specs::productions::Types::primary_type, crate::specs::productions::Types::type_operator_body, crate::specs::productions::Types::after_type_args))]
 pub(super) fn type_rule(rule: TypeRule) -> &'static Production
     ensures says { written result.now ≡ type_rule rule }
     ensures unnamed { is_name result.now ≡ false }
@@ -59,6 +61,8 @@ pub(super) fn type_rule(rule: TypeRule) -> &'static Production
         TypeRule::Param => &PARAM_BODY,
         TypeRule::Params => &PARAMS_BODY,
         TypeRule::ParenthesizedParams => &PARENTHESIZED_PARAMS_BODY,
+        TypeRule::CallSignature => &CALL_SIGNATURE_BODY,
+        TypeRule::NewSignature => &NEW_SIGNATURE_BODY,
         TypeRule::FunctionType => &FUNCTION_TYPE_BODY,
         TypeRule::IntersectionType => &INTERSECTION_TYPE_BODY,
         TypeRule::UnionType => &UNION_TYPE_BODY,
@@ -105,6 +109,10 @@ pub(super) const PARAM: Production = The(Rule::Type(TypeRule::Param));
 pub(super) const PARAMS: Production = The(Rule::Type(TypeRule::Params));
 
 pub(super) const PARENTHESIZED_PARAMS: Production = The(Rule::Type(TypeRule::ParenthesizedParams));
+
+pub(super) const CALL_SIGNATURE: Production = The(Rule::Type(TypeRule::CallSignature));
+
+pub(super) const NEW_SIGNATURE: Production = The(Rule::Type(TypeRule::NewSignature));
 
 pub(super) const FUNCTION_TYPE: Production = The(Rule::Type(TypeRule::FunctionType));
 
@@ -177,19 +185,19 @@ pub(super) const HERITAGE_TYPE: Production = bare!(Plain::TsType, TYPE_REFERENCE
 static TYPE_LIST_BODY: Production = all!(HERITAGE_TYPE, Many(&all!(punct!(","), HERITAGE_TYPE)));
 
 // annotations
-// Ret = 'asserts' ~(Name / 'this') ('is' Type)? / (Name / 'this') ~'is' Type / Type
+// Ret = (Name / 'this') ~'is' Type / 'asserts' ~(Name / 'this') ('is' Type)? / Type
 static RETURN_TYPE_BODY: Production = first_of!(
-    all!(
-        word!("asserts"),
-        SameLine,
-        first_of!(A_NAME, word!("this")),
-        optional!(all!(word!("is"), TYPE_))
-    ),
     all!(
         first_of!(A_NAME, word!("this")),
         SameLine,
         word!("is"),
         TYPE_
+    ),
+    all!(
+        word!("asserts"),
+        SameLine,
+        first_of!(A_NAME, word!("this")),
+        optional!(all!(word!("is"), TYPE_))
     ),
     TYPE_
 );
@@ -275,22 +283,28 @@ static PARAMS_BODY: Production = list!(commas!(PARAM));
 // types
 static PARENTHESIZED_PARAMS_BODY: Production = all!(punct!("("), PARAMS, punct!(")"));
 
+// what stands before the parameters of a signature
+const TYPE_PARAMETERS: Production = maybe!(bare!(Plain::TsTypeParamDecl, TYPE_PARAMS));
+
+static CALL_SIGNATURE_BODY: Production = Build(
+    Form::Signature(MethodKind::Method),
+    &all!(TYPE_PARAMETERS, PARENTHESIZED_PARAMS),
+);
+
+static NEW_SIGNATURE_BODY: Production = Build(
+    Form::NewSignature,
+    &all!(word!("new"), TYPE_PARAMETERS, PARENTHESIZED_PARAMS),
+);
+
 // TFun = 'abstract'? 'new' TypeParams? '(' Params ')' '=>' Ret / TypeParams? '(' Params ')' '=>' Ret
 static FUNCTION_TYPE_BODY: Production = first_of!(
     all!(
         optional!(word!("abstract")),
-        word!("new"),
-        optional!(TYPE_PARAMS),
-        PARENTHESIZED_PARAMS,
+        NEW_SIGNATURE,
         punct!("=>"),
         RETURN_TYPE
     ),
-    all!(
-        optional!(TYPE_PARAMS),
-        PARENTHESIZED_PARAMS,
-        punct!("=>"),
-        RETURN_TYPE
-    )
+    all!(CALL_SIGNATURE, punct!("=>"), RETURN_TYPE)
 );
 
 // TInter = '&'? TOp ('&' TOp)*
@@ -310,7 +324,7 @@ static UNION_TYPE_BODY: Production = all!(
 // TBase = TFun / TUnion
 pub(super) const UNCONDITIONAL_TYPE: Production = first_of!(FUNCTION_TYPE, UNION_TYPE);
 
-// Type = TFun / TUnion (~'extends' TBase '?' Type ':' Type)?
+// Type = TFun / TUnion (~'extends' ('infer' Name 'extends' TBase &'?' / TBase) '?' Type ':' Type)?
 pub(super) static TYPE_BODY: Production = first_of!(
     FUNCTION_TYPE,
     all!(
@@ -318,7 +332,16 @@ pub(super) static TYPE_BODY: Production = first_of!(
         optional!(all!(
             SameLine,
             word!("extends"),
-            UNCONDITIONAL_TYPE,
+            first_of!(
+                all!(
+                    word!("infer"),
+                    A_NAME,
+                    word!("extends"),
+                    UNCONDITIONAL_TYPE,
+                    Ahead(&punct!("?"))
+                ),
+                UNCONDITIONAL_TYPE
+            ),
             punct!("?"),
             TYPE_,
             punct!(":"),
@@ -383,22 +406,35 @@ static MAPPED_TYPE_BODY: Production = all!(
 );
 
 // TypeParams? '(' Params ')' RetAnn?
-static SIGNATURE_TYPE_BODY: Production = all!(
-    optional!(TYPE_PARAMS),
-    PARENTHESIZED_PARAMS,
-    optional!(SOME_RETURN_ANNOTATION)
+static SIGNATURE_TYPE_BODY: Production = all!(CALL_SIGNATURE, optional!(SOME_RETURN_ANNOTATION));
+
+// ('get' / 'set') &PropStart PName '(' Params ')'
+const GET_SIGNATURE: Production = Build(
+    Form::Signature(MethodKind::Getter),
+    &all!(
+        word!("get"),
+        Ahead(&PROP_START),
+        list!(PROP_NAME),
+        PARENTHESIZED_PARAMS
+    ),
+);
+
+const SET_SIGNATURE: Production = Build(
+    Form::Signature(MethodKind::Setter),
+    &all!(
+        word!("set"),
+        Ahead(&PROP_START),
+        list!(PROP_NAME),
+        PARENTHESIZED_PARAMS
+    ),
 );
 
 // TMember
 static TYPE_MEMBER_BODY: Production = first_of!(
-    all!(
-        first_of!(word!("get"), word!("set")),
-        Ahead(&PROP_START),
-        PROP_NAME,
-        PARENTHESIZED_PARAMS,
-        optional!(SOME_RETURN_ANNOTATION)
-    ),
-    all!(optional!(word!("new")), SIGNATURE_TYPE),
+    all!(GET_SIGNATURE, optional!(SOME_RETURN_ANNOTATION)),
+    all!(SET_SIGNATURE, optional!(SOME_RETURN_ANNOTATION)),
+    all!(NEW_SIGNATURE, optional!(SOME_RETURN_ANNOTATION)),
+    SIGNATURE_TYPE,
     all!(
         optional!(word!("readonly")),
         punct!("["),
@@ -550,6 +586,10 @@ pub(super) static TYPE_OPERATOR_PART: Production = The(Rule::Type(TypeRule::Type
 // After: what may stand after type arguments in an expression
 static AFTER_TYPE_ARGS_BODY: Production = Ahead(&first_of!(
     punct!("("),
+    all!(
+        punct!("?."),
+        first_of!(punct!("("), punct!("["), LEFT_ANGLE)
+    ),
     token!(TokenKind::Template(TemplatePart {
         first: true,
         tagged: true,

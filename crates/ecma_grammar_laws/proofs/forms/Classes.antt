@@ -20,8 +20,8 @@ use Rattle.ecma_grammar.specs.trees.Classes.{class, is_private_name, no_modifier
 use Rattle.ecma_grammar_laws.specs.RawSorts as raw
 use Rattle.ecma_grammar_laws.specs.RawSorts.{RawShape, HasRawSort, belongs_or_super, child_shapes_raw, sorted, one, maybe, many}
 use Rattle.ecma_grammar_laws.proofs.RawShapes.{HaveRaw, node_has, parts_of}
-use Rattle.ecma_grammar_laws.proofs.Asks.{Ask, shape, key, Meets, these, Given, fits}
-use Rattle.ecma_grammar_laws.proofs.Needs.{a, maybe_a, if_so, class_parts, class_needs, method_parts, field_parts, modified_parts, signature_parts}
+use Rattle.ecma_grammar_laws.proofs.Asks.{Ask, any, shape, key, Meets, these, Given, fits}
+use Rattle.ecma_grammar_laws.proofs.Needs.{a, maybe_a, if_so, class_parts, class_needs, method_parts, field_parts, modified_parts, signature_parts, type_signature_needs}
 use Rattle.ecma_grammar_laws.proofs.Fits.{no}
 use Rattle.ecma_grammar_laws.proofs.forms.Making.{given_so, made_sorted, as_sort, as_either, made_of}
 use Rattle.ecma_grammar_laws.proofs.forms.Functions.{function_sorted}
@@ -147,3 +147,8 @@ signature_made q span xs g =
     as_sort sort.ClassMember q (framed 3 (index_signature span) xs) t.0
     (made_of signature_parts (λ ys. HasRawSort sort.ClassMember (framed 3 (index_signature span) ys))
     (λ modifiers hm index hi annotation ha. made_sorted sort.ClassMember span (kind.TsIndexSignature (has_word (codes "readonly") modifiers) (has_word (codes "static") modifiers)) [] refl tt) xs t.1)
+
+-- nothing is asked of a signature inside a type
+pub type_signature_made : (q : Ask) (n : Node) (xs : List Node) → Given (type_signature_needs q) xs → Meets q n
+type_signature_made any n xs g = tt
+type_signature_made _ n xs g = absurd g

@@ -1,5 +1,5 @@
 -- Nodes with some of what was read, with the last two exchanged, or with none; lists and sequences.
-use Rattle.std.proofs.Common.{◌≡◌, ℕ, zero, suc, ◌-◌, Bool, true, false, cond, List, [], ◌∷◌, take, length, replicate, slice_get, nat_eq, refl, arith, sym, ap, ◌∙◌, subst}
+use Rattle.std.proofs.Common.{◌≡◌, ℕ, zero, suc, ◌-◌, Bool, true, false, ◌&&◌, cond, List, [], ◌∷◌, take, length, replicate, slice_get, nat_eq, refl, arith, sym, ap, ◌∙◌, subst}
 use Rattle.ecma_kind.specs.declared.span.Span.{Span}
 use Rattle.ecma_kind.specs.declared.kind.Kind.{Kind}
 use Rattle.ecma_kind.specs.declared.kind.Kind.TheVariants as kind
@@ -13,7 +13,7 @@ use Rattle.ecma_grammar.specs.trees.Others.{swapped, missing, elements, sequence
 use Rattle.ecma_grammar_laws.specs.RawSorts.{RawShape, HasRawSort, allows_raw, child_shapes_raw, item_shape, sorted, one}
 use Rattle.ecma_grammar_laws.proofs.RawShapes.{HaveRaw, both, node_has}
 use Rattle.ecma_grammar_laws.proofs.Asks.{Ask, any, shape, expression, Meets, Each, Asked, these, each, first_and_each, Given, fits}
-use Rattle.ecma_grammar_laws.proofs.Needs.{shapes, is_empty, bare_kind_needs, bare_needs, first_of, first_kind_needs, first_needs, swapped_asked, node_needs, list_needs, if_so}
+use Rattle.ecma_grammar_laws.proofs.Needs.{shapes, is_empty, is_type, is_declared_type, bare_kind_needs, bare_needs, first_of, first_kind_needs, first_needs, swapped_asked, node_needs, list_needs, if_so}
 use Rattle.ecma_grammar_laws.proofs.Fits.{no}
 use Rattle.ecma_grammar_laws.proofs.forms.Making.{given_so, made_sorted, as_sort}
 use Rattle.ecma_grammar_laws.proofs.forms.Nodes.{node_made}
@@ -52,7 +52,7 @@ bare_kind_made : (k : Kind) → ((s : RawShape) → child_shapes_raw k s (length
 bare_kind_made k e any span xs g = tt
 bare_kind_made k e (shape s) span xs g =
     let t = given_so _ _ xs g in
-    let w = both (allows_raw s k) (is_empty (shapes k)) t.0 in
+    let w = both (allows_raw s k) (is_empty (shapes k)) (both (is_type k) (allows_raw s k && is_empty (shapes k)) t.0).1 in
     node_has span k [] s w.0 (subst (λ ss. HaveRaw ss []) (sym (empty_fixed k s (e s) w.1)) (none_have (shapes k) w.1))
 bare_kind_made k e _ span xs g = absurd g
 
@@ -68,7 +68,7 @@ first_have k s (s0 ∷ s1 ∷ ss) e f xs g = absurd g
 
 first_kind_made : (k : Kind) → ((s : RawShape) → child_shapes_raw k s (length (shapes k)) ≡ shapes k) → (q : Ask) (span : Span) (xs : List Node) → Given (first_kind_needs k q) xs → Meets q (node_of span k (take 1 xs))
 first_kind_made k e any span xs g = tt
-first_kind_made k e (shape s) span xs g = let t = given_so _ _ xs g in node_has span k (take 1 xs) s t.0 (first_have k s (shapes k) refl (e s) xs t.1)
+first_kind_made k e (shape s) span xs g = let t = given_so _ _ xs g in let w = both (is_declared_type k) (allows_raw s k) t.0 in node_has span k (take 1 xs) s w.1 (first_have k s (shapes k) refl (e s) xs t.1)
 first_kind_made k e _ span xs g = absurd g
 
 pub first_made : (p : Plain) (q : Ask) (span : Span) (xs : List Node) → Given (first_needs p q) xs → Meets q (node_of span (plain_kind p) (take 1 xs))
