@@ -1,8 +1,10 @@
 pub mod Firsts
 pub mod Heads
 pub mod Levels
+pub mod Memories
 pub mod Operands
 pub mod Outlooks
+pub mod Raising
 pub mod Readings
 pub mod Remainders
 pub mod Sights

@@ -17,7 +17,7 @@ use Rattle.ecma_reader.specs.declared.reader.Reader.{Reader}
 use Rattle.ecma_reader.specs.declared.reader.operands.Operand.{Operand}
 use Rattle.ecma_grammar.specs.Reading as reading
 use Rattle.ecma_grammar.specs.Reading.{Position, Outcome, Reading, read, fails, too_deep, pure, with_front, followed_on, or_on, terminal_on}
-use Rattle.ecma_grammar.specs.Reads.{Parts, reads, kept_leaf, built_on}
+use Rattle.ecma_grammar.specs.Reads.{Parts, reads_with_types, kept_leaf, built_with_types}
 use Rattle.ecma_grammar.specs.Grammar.{Grammar, ◌▸◌, ◌//◌, same_line, item, marked, build, word, punct, keep, put, list, optional, behind_punct, behind_word}
 use Rattle.ecma_grammar.specs.declared.production.Part.{Part}
 use Rattle.ecma_grammar.specs.declared.production.Part.TheVariants as part
@@ -89,8 +89,8 @@ module _ (text : List ℕ) (mode : Mode) (i : ℕ) (clear : IsClear text i) wher
 
   -- what may stand in front of an operand
 
-  yield-fails : (no_in : Bool) → FailsThere (yield_ no_in)
-  yield-fails no_in = build-fails (then-fails (word-fails clear.words.no_yield))
+  yield-fails : (no_in middle : Bool) → FailsThere (yield_ no_in middle)
+  yield-fails no_in middle = build-fails (then-fails (word-fails clear.words.no_yield))
 
   prefixed-fails : mode.typescript ≡ true → FailsThere prefixed
   unfolding prefixed
@@ -148,12 +148,12 @@ module _ (text : List ℕ) (mode : Mode) (i : ℕ) (clear : IsClear text i) wher
 
   module _ (parts : Parts text) where
     abbrev Reads : Grammar → ℕ → Outcome (List Node)
-    Reads g failed = reads text mode parts g (record { place = i; failed = failed })
+    Reads g failed = reads_with_types text mode parts g (record { place = i; failed = failed })
 
     fails-there : {g : Grammar} (failed : ℕ) → FailsThere g → Reads g failed ≡ fails (max failed (skipped text i).to)
     fails-there {g = g} failed h = subst (λ o. Foresees o (record { place = i; failed = failed }) (Reads g failed)) h.is (foreseen text mode parts g (record { place = i; failed = failed }))
 
-    first-fails : {a : Grammar} (b : Grammar) (failed : ℕ) → FailsThere a → or_on (reads text mode parts b) (record { place = i; failed = failed }) (Reads a failed) ≡ Reads b (max failed (skipped text i).to)
+    first-fails : {a : Grammar} (b : Grammar) (failed : ℕ) → FailsThere a → or_on (reads_with_types text mode parts b) (record { place = i; failed = failed }) (Reads a failed) ≡ Reads b (max failed (skipped text i).to)
     first-fails b failed h = rw (fails-there failed h) refl
 
     module _ (failed : ℕ) (above : (skipped text i).to ≤ failed) where
@@ -169,7 +169,7 @@ module _ (text : List ℕ) (mode : Mode) (i : ℕ) (clear : IsClear text i) wher
 
       -- a level of operators: what is read, and a tail behind it
       abbrev On : Form → Grammar → Outcome (List Node) → Outcome (List Node)
-      On f g o = built_on f (skipped text i).to (followed_on (reads text mode parts g) o)
+      On f g o = built_with_types f (skipped text i).to (followed_on (reads_with_types text mode parts g) o)
 
       level : {f : Form} {a t : Grammar} {o : Outcome (List Node)} → ReadsAs a o → ReadsAs (build f (a ▸ t)) (On f t o)
       level {f = f} {a = a} {t = t} r = record { is = ap (λ o. On f t o) r.is }
@@ -228,12 +228,12 @@ module _ (text : List ℕ) (mode : Mode) (i : ℕ) (clear : IsClear text i) wher
         unfolding relation
         relation-reads no_in r = level (private-passed (item (plain.BinExpr binary.In) (word (codes "in") ▸ shift)) no_in r)
 
-        expression-reads : (l : Leaf) (no_in : Bool) → mode.typescript ≡ true → MissesBefore text i l → Finds l
-            → ReadsAs (build form.Chain (conditional no_in ▸ assignments no_in))
-            (On form.Chain (assignments no_in) (On form.Chain (choice no_in) (On form.Logical (coalescing no_in // logicals no_in) (On form.Chain (disjunctions no_in) (On form.Chain (exclusions no_in) (On form.Chain (conjunctions no_in)
+        expression-reads : (l : Leaf) (no_in middle : Bool) → mode.typescript ≡ true → MissesBefore text i l → Finds l
+            → ReadsAs (build form.Chain (conditional no_in middle ▸ assignments no_in middle))
+            (On form.Chain (assignments no_in middle) (On form.Chain (choice no_in middle) (On form.Logical (coalescing no_in // logicals no_in) (On form.Chain (disjunctions no_in) (On form.Chain (exclusions no_in) (On form.Chain (conjunctions no_in)
             (On form.Chain (equalities no_in) (On form.Chain (relations no_in) (On form.Chain shifts (On form.Chain terms (On form.Chain factors (On form.Chain (optional (behind_punct (codes "**") part.Power)) (On form.Chain updates Linked)))))))))))))
         unfolding conditional short_circuit bit_or bit_xor bit_and equality
-        expression-reads l no_in m h e =
+        expression-reads l no_in middle m h e =
             level (level (level (level (level (level (level (relation-reads no_in (shift-reads (exponentiation-reads m (update-reads (chain-reads l h e)))))))))))
 
 -- what is kept before an operand stands in front of all that is read behind it
@@ -248,7 +248,7 @@ front-followed xs q (read ys t) = go (q t)
 front-followed xs q (fails k) = refl
 front-followed xs q (too_deep d) = refl
 
-front-made : (xs : List Node) (operand : Operand) (f : Form) (o : Outcome (List Node)) → operand.count ≡ length xs → with_front xs (built_on f operand.lo o) ≡ made_on f operand (with_front xs o)
+front-made : (xs : List Node) (operand : Operand) (f : Form) (o : Outcome (List Node)) → operand.count ≡ length xs → with_front xs (built_with_types f operand.lo o) ≡ made_on f operand (with_front xs o)
 front-made xs operand f (read ys t) e = rw (e, take-append_seam, drop-append_seam) refl
 front-made xs operand f (fails k) e = refl
 front-made xs operand f (too_deep d) e = refl
@@ -256,13 +256,13 @@ front-made xs operand f (too_deep d) e = refl
 module _ (text : List ℕ) (mode : Mode) (parts : Parts text) (xs : List Node) (operand : Operand) (count : operand.count ≡ length xs) where
   abbrev Behind : List Tail → Outcome (List Node) → Outcome (List Node)
   Behind [] o = o
-  Behind (t ∷ ts) o = Behind ts (built_on t.form operand.lo (followed_on (reads text mode parts t.grammar) o))
+  Behind (t ∷ ts) o = Behind ts (built_with_types t.form operand.lo (followed_on (reads_with_types text mode parts t.grammar) o))
 
   front-tails : (ts : List Tail) (o : Outcome (List Node)) → with_front xs (Behind ts o) ≡ tails_on text mode parts operand ts (with_front xs o)
   front-tails [] o = refl
   front-tails (t ∷ ts) o =
-      front-tails ts (built_on t.form operand.lo (followed_on (reads text mode parts t.grammar) o))
-      ∙ ap (λ r. tails_on text mode parts operand ts r) (front-made xs operand t.form (followed_on (reads text mode parts t.grammar) o) count ∙ ap (λ r. made_on t.form operand r) (front-followed xs (reads text mode parts t.grammar) o))
+      front-tails ts (built_with_types t.form operand.lo (followed_on (reads_with_types text mode parts t.grammar) o))
+      ∙ ap (λ r. tails_on text mode parts operand ts r) (front-made xs operand t.form (followed_on (reads_with_types text mode parts t.grammar) o) count ∙ ap (λ r. made_on t.form operand r) (front-followed xs (reads_with_types text mode parts t.grammar) o))
 
 -- a leaf, read from wherever terminals failed so far
 
@@ -322,23 +322,23 @@ leaf-kept text i failed leaf.Hashbang xs ys t h e = absurd h
 
 -- no `=>` behind a name, so no arrow function begins with it
 
-body-fails : (text : List ℕ) (mode : Mode) (next : ℕ) (no_in : Bool) → found_outlook (lex.punct text next (codes "=>")) ≡ Fails (skipped text next).to
-    → outlook text next mode (arrow_body no_in) ≡ Fails (skipped text next).to
-body-fails text mode next no_in h = go (skipped text next).new_line refl
+body-fails : (text : List ℕ) (mode : Mode) (next : ℕ) (no_in middle : Bool) → found_outlook (lex.punct text next (codes "=>")) ≡ Fails (skipped text next).to
+    → outlook text next mode (arrow_body no_in middle) ≡ Fails (skipped text next).to
+body-fails text mode next no_in middle h = go (skipped text next).new_line refl
   where
-    go : (b : Bool) → (skipped text next).new_line ≡ b → outlook text next mode (arrow_body no_in) ≡ Fails (skipped text next).to
+    go : (b : Bool) → (skipped text next).new_line ≡ b → outlook text next mode (arrow_body no_in middle) ≡ Fails (skipped text next).to
     go true e = rw e refl
     go false e = rw (e, h) (ap Fails (omega arith))
 
 module _ (text : List ℕ) (mode : Mode) (i : ℕ) (clear : IsClear text i) (parts : Parts text) (typescript : mode.typescript ≡ true) (next : ℕ) (name : LeafAt text i leaf.Ident next)
     (no_arrow : found_outlook (lex.punct text next (codes "=>")) ≡ Fails (skipped text next).to) where
-  body-reads : (no_in : Bool) (failed : ℕ) → reads text mode parts (arrow_body no_in) (record { place = next; failed = failed }) ≡ fails (max failed (skipped text next).to)
-  body-reads no_in failed =
-      subst (λ o. Foresees o (record { place = next; failed = failed }) (reads text mode parts (arrow_body no_in) (record { place = next; failed = failed }))) (body-fails text mode next no_in no_arrow) (foreseen text mode parts (arrow_body no_in) (record { place = next; failed = failed }))
+  body-reads : (no_in middle : Bool) (failed : ℕ) → reads_with_types text mode parts (arrow_body no_in middle) (record { place = next; failed = failed }) ≡ fails (max failed (skipped text next).to)
+  body-reads no_in middle failed =
+      subst (λ o. Foresees o (record { place = next; failed = failed }) (reads_with_types text mode parts (arrow_body no_in middle) (record { place = next; failed = failed }))) (body-fails text mode next no_in middle no_arrow) (foreseen text mode parts (arrow_body no_in middle) (record { place = next; failed = failed }))
 
-  named-fails : (no_in : Bool) (failed : ℕ) → reads text mode parts (put Absent ▸ list binding_ident ▸ put Absent ▸ arrow_body no_in) (record { place = i; failed = failed }) ≡ fails (max failed (skipped text next).to)
+  named-fails : (no_in middle : Bool) (failed : ℕ) → reads_with_types text mode parts (put Absent ▸ list binding_ident ▸ put Absent ▸ arrow_body no_in middle) (record { place = i; failed = failed }) ≡ fails (max failed (skipped text next).to)
   unfolding binding_ident
-  named-fails no_in failed = rw (name.reads_at failed, body-reads no_in failed) refl
+  named-fails no_in middle failed = rw (name.reads_at failed, body-reads no_in middle failed) refl
 
   abbrev async_arrow : Bool → Bool → Grammar
   async_arrow no_in middle = build form.Arrow (word (codes "async") ▸ same_line ▸ put Present ▸ arrow_rest no_in middle)
@@ -346,14 +346,14 @@ module _ (text : List ℕ) (mode : Mode) (i : ℕ) (clear : IsClear text i) (par
   abbrev parenthesized_arrow : Bool → Bool → Grammar
   parenthesized_arrow no_in middle =
       type_param_decl ▸ punct (codes "(") ▸ params ▸ punct (codes ")")
-      ▸ (marked some_return_annotation ▸ arrow_body no_in ▸ before_colon middle // put Absent ▸ arrow_body no_in)
+      ▸ (marked some_return_annotation ▸ arrow_body no_in middle ▸ before_colon middle // put Absent ▸ arrow_body no_in middle)
 
-  arrow-passed : (no_in middle : Bool) (failed : ℕ) → reads text mode parts (arrow no_in middle) (record { place = i; failed = failed }) ≡ fails (max (max failed (skipped text i).to) (skipped text next).to)
+  arrow-passed : (no_in middle : Bool) (failed : ℕ) → reads_with_types text mode parts (arrow no_in middle) (record { place = i; failed = failed }) ≡ fails (max (max failed (skipped text i).to) (skipped text next).to)
   unfolding arrow arrow_rest
   arrow-passed no_in middle failed =
       rw (
         fails-there text mode i clear parts {g = async_arrow no_in middle} failed (async-fails text mode i clear),
-        named-fails no_in (max failed (skipped text i).to),
+        named-fails no_in middle (max failed (skipped text i).to),
         fails-there text mode i clear parts {g = parenthesized_arrow no_in middle} (max (max failed (skipped text i).to) (skipped text next).to) (parenthesized-fails text mode i clear typescript),
       )
       (ap fails (absorbed failed (skipped text i).to (skipped text next).to))
@@ -365,7 +365,7 @@ module _ (text : List ℕ) (mode : Mode) (i : ℕ) (clear : IsClear text i) (par
 
 module _ (old mid : Reader) (operand : Operand) (begins : Begins old operand) (l : Leaf) (leads : Leads old.text.now old.place l) (stands : LeafAt old.text.now old.place l mid.place) (one : kept mid ≡ kept old ++ stands.node ∷ []) where
   abbrev Passed : ℕ → Type 0
-  Passed failed = (parts : Parts old.text.now) (no_in middle : Bool) → reads old.text.now old.mode parts (arrow no_in middle) (position old) ≡ fails failed
+  Passed failed = (parts : Parts old.text.now) (no_in middle : Bool) → reads_with_types old.text.now old.mode parts (arrow no_in middle) (position old) ≡ fails failed
 
   operand-kept : (failed : ℕ) → (skipped old.text.now old.place).to ≤ failed → Passed failed → (new : Reader) → kept new ≡ kept mid → position new ≡ record { place = mid.place; failed = failed } → HasOperand old.text.now old.mode (position old) (kept old) new operand
   operand-kept failed above passed new same there = record {
@@ -373,14 +373,14 @@ module _ (old mid : Reader) (operand : Operand) (begins : Begins old operand) (l
     node = stands.node;
     one = same ∙ one;
     whole = λ parts no_in middle.
-        let read_as : ReadsAs old.text.now old.mode old.place leads.clear parts failed above (yield_ no_in // build form.Chain (conditional no_in ▸ assignments no_in)) _ =
-        skip old.text.now old.mode old.place leads.clear parts failed above (yield-fails old.text.now old.mode old.place leads.clear no_in)
-        (expression-reads old.text.now old.mode old.place leads.clear parts failed above stands.node (record { place = mid.place; failed = failed }) l no_in begins.typescript leads.before (stands.reads_at failed)) in
-        ap (λ o. with_front (kept old) (or_on (reads old.text.now old.mode parts (yield_ no_in // build form.Chain (conditional no_in ▸ assignments no_in))) (position old) o)) (passed parts no_in middle)
+        let read_as : ReadsAs old.text.now old.mode old.place leads.clear parts failed above (yield_ no_in middle // build form.Chain (conditional no_in middle ▸ assignments no_in middle)) _ =
+        skip old.text.now old.mode old.place leads.clear parts failed above (yield-fails old.text.now old.mode old.place leads.clear no_in middle)
+        (expression-reads old.text.now old.mode old.place leads.clear parts failed above stands.node (record { place = mid.place; failed = failed }) l no_in middle begins.typescript leads.before (stands.reads_at failed)) in
+        ap (λ o. with_front (kept old) (or_on (reads_with_types old.text.now old.mode parts (yield_ no_in middle // build form.Chain (conditional no_in middle ▸ assignments no_in middle))) (position old) o)) (passed parts no_in middle)
         ∙ ap (λ o. with_front (kept old) o) read_as.is
-        ∙ subst (λ lo. with_front (kept old) (Behind old.text.now old.mode parts (kept old) (record operand { lo = lo }) begins.count (links_tail ∷ tails no_in) (read (stands.node ∷ []) (record { place = mid.place; failed = failed }))) ≡ with_front (kept old) (Behind old.text.now old.mode parts (kept old) operand begins.count (links_tail ∷ tails no_in) (read (stands.node ∷ []) (record { place = mid.place; failed = failed })))) begins.lo refl
-        ∙ front-tails old.text.now old.mode parts (kept old) operand begins.count (links_tail ∷ tails no_in) (read (stands.node ∷ []) (record { place = mid.place; failed = failed }))
-        ∙ ap (λ o. tails_on old.text.now old.mode parts operand (links_tail ∷ tails no_in) o) (ap₂ (λ ys t. read ys t) (sym (same ∙ one)) (sym there));
+        ∙ subst (λ lo. with_front (kept old) (Behind old.text.now old.mode parts (kept old) (record operand { lo = lo }) begins.count (links_tail ∷ tails no_in middle) (read (stands.node ∷ []) (record { place = mid.place; failed = failed }))) ≡ with_front (kept old) (Behind old.text.now old.mode parts (kept old) operand begins.count (links_tail ∷ tails no_in middle) (read (stands.node ∷ []) (record { place = mid.place; failed = failed })))) begins.lo refl
+        ∙ front-tails old.text.now old.mode parts (kept old) operand begins.count (links_tail ∷ tails no_in middle) (read (stands.node ∷ []) (record { place = mid.place; failed = failed }))
+        ∙ ap (λ o. tails_on old.text.now old.mode parts operand (links_tail ∷ tails no_in middle) o) (ap₂ (λ ys t. read ys t) (sym (same ∙ one)) (sym there));
   }
 
 pub literal-operand : (old mid new : Reader) (operand : Operand) (l : Leaf) (there : Bool) → Begins old operand → Leads old.text.now old.place l → Misses old.text.now old.place token_kind.Name → KeptOr old mid l there → there ≡ true

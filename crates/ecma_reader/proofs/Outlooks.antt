@@ -15,9 +15,9 @@ use Rattle.ecma_grammar.specs.Grammar as grammar
 use Rattle.ecma_grammar.specs.Grammar.{Terminal, the_word, the_punct, any, Grammar}
 use Rattle.ecma_grammar.specs.Reading as reading
 use Rattle.ecma_grammar.specs.Reading.{Position, Outcome, Reading, read, fails, pure, followed_on, or_on, many_up_to, ahead_on, unless_on, terminal_on}
-use Rattle.ecma_grammar.specs.Reads.{Parts, reads, token, kept_leaf, part_on, same_line_on, built_on}
+use Rattle.ecma_grammar.specs.Reads.{Parts, reads_with_types, token, kept_leaf, part_on, same_line_on, built_with_types}
 use Rattle.ecma_grammar.specs.trees.Parts.{flag_node}
-use Rattle.ecma_grammar.specs.Made.{made}
+use Rattle.ecma_grammar.specs.Made.{made_with_types}
 use Rattle.ecma_reader.specs.Outlook.{Outlook, Open, Fails, Stays, Passes, then_outlook, or_outlook, many_outlook, ahead_outlook, unless_outlook, build_outlook, found_outlook, unless_begun, line_outlook, token_outlook, leaf_outlook, outlook}
 
 -- where the reading stays, while terminals fail up to a place
@@ -86,11 +86,11 @@ unless-foresees (Fails k) s o h = rw h refl
 unless-foresees (Stays k) s o h = rw h.is refl
 unless-foresees (Passes k) s o h = rw h refl
 
-build-foresees : (x : Outlook) (s : Position) (form : Form) (lo : ℕ) (o : Outcome (List Node)) → Foresees x s o → Foresees (build_outlook x) s (built_on form lo o)
+build-foresees : (x : Outlook) (s : Position) (form : Form) (lo : ℕ) (o : Outcome (List Node)) → Foresees x s o → Foresees (build_outlook x) s (built_with_types form lo o)
 build-foresees Open s form lo o h = tt
 build-foresees (Fails k) s form lo o h = rw h refl
-build-foresees (Stays k) s form lo o h = record { kept = made form lo s.place h.kept ∷ []; is = rw h.is refl }
-build-foresees (Passes k) s form lo o h = record { kept = made form lo s.place [] ∷ []; is = rw h refl }
+build-foresees (Stays k) s form lo o h = record { kept = made_with_types form lo s.place h.kept ∷ []; is = rw h.is refl }
+build-foresees (Passes k) s form lo o h = record { kept = made_with_types form lo s.place [] ∷ []; is = rw h refl }
 
 marked-foresees : (on : Bool) (x : Outlook) (s : Position) (p : Reading (List Node)) → Foresees x s (p s) → Foresees (if on then x else Fails 0) s (reading.marked on p s)
 marked-foresees true x s p h = h
@@ -168,34 +168,34 @@ module _ (text : List ℕ) where
   leaf-foreseen leaf.Import s = kept-foresees s _ _
   leaf-foreseen leaf.Hashbang s = tt
 
-  pub foreseen : (mode : Mode) (parts : Parts text) (g : Grammar) (s : Position) → Foresees (outlook text s.place mode g) s (reads text mode parts g s)
+  pub foreseen : (mode : Mode) (parts : Parts text) (g : Grammar) (s : Position) → Foresees (outlook text s.place mode g) s (reads_with_types text mode parts g s)
   foreseen mode parts grammar.nothing s = ap (λ t. read [] t) (raised-none s)
   foreseen mode parts grammar.same_line s = line-foresees s (skipped text s.place)
   foreseen mode parts (grammar.take t) s = token-foreseen t s (λ k. pure [])
   foreseen mode parts (grammar.keep l) s = leaf-foreseen l s
   foreseen mode parts (grammar.put f) s = record { kept = flag_node f ∷ []; is = ap (λ t. read (flag_node f ∷ []) t) (raised-none s) }
-  foreseen mode parts (grammar.◌▸◌ a b) s = then-foresees (outlook text s.place mode a) (outlook text s.place mode b) s (reads text mode parts b) (reads text mode parts a s) (foreseen mode parts a s) (λ k. foreseen mode parts b (raised k s))
-  foreseen mode parts (grammar.◌//◌ a b) s = or-foresees (outlook text s.place mode a) (outlook text s.place mode b) s (reads text mode parts b) (reads text mode parts a s) (foreseen mode parts a s) (λ k. foreseen mode parts b (raised k s))
-  foreseen mode parts (grammar.many a) s = rw (add-one (length text)) (many-foresees (outlook text s.place mode a) s (reads text mode parts a) (length text) (foreseen mode parts a s))
-  foreseen mode parts (grammar.ahead a) s = ahead-foresees (outlook text s.place mode a) s (reads text mode parts a s) (foreseen mode parts a s)
-  foreseen mode parts (grammar.unless a) s = unless-foresees (outlook text s.place mode a) s (reads text mode parts a s) (foreseen mode parts a s)
-  foreseen mode parts (grammar.marked a) s = marked-foresees mode.typescript (outlook text s.place mode a) s (reads text mode parts a) (foreseen mode parts a s)
-  foreseen mode parts (grammar.assigned a) s = marked-foresees mode.assignments (outlook text s.place mode a) s (reads text mode parts a) (foreseen mode parts a s)
+  foreseen mode parts (grammar.◌▸◌ a b) s = then-foresees (outlook text s.place mode a) (outlook text s.place mode b) s (reads_with_types text mode parts b) (reads_with_types text mode parts a s) (foreseen mode parts a s) (λ k. foreseen mode parts b (raised k s))
+  foreseen mode parts (grammar.◌//◌ a b) s = or-foresees (outlook text s.place mode a) (outlook text s.place mode b) s (reads_with_types text mode parts b) (reads_with_types text mode parts a s) (foreseen mode parts a s) (λ k. foreseen mode parts b (raised k s))
+  foreseen mode parts (grammar.many a) s = rw (add-one (length text)) (many-foresees (outlook text s.place mode a) s (reads_with_types text mode parts a) (length text) (foreseen mode parts a s))
+  foreseen mode parts (grammar.ahead a) s = ahead-foresees (outlook text s.place mode a) s (reads_with_types text mode parts a s) (foreseen mode parts a s)
+  foreseen mode parts (grammar.unless a) s = unless-foresees (outlook text s.place mode a) s (reads_with_types text mode parts a s) (foreseen mode parts a s)
+  foreseen mode parts (grammar.marked a) s = marked-foresees mode.typescript (outlook text s.place mode a) s (reads_with_types text mode parts a) (foreseen mode parts a s)
+  foreseen mode parts (grammar.assigned a) s = marked-foresees mode.assignments (outlook text s.place mode a) s (reads_with_types text mode parts a) (foreseen mode parts a s)
   foreseen mode parts (grammar.up u) s = tt
   foreseen mode parts (grammar.enter u) s = tt
   foreseen mode parts (grammar.behind t u) s = token-foreseen t s (λ k. parts u k.start)
-  foreseen mode parts (grammar.build f a) s = build-foresees (outlook text s.place mode a) s f _ (reads text mode parts a s) (foreseen mode parts a s)
+  foreseen mode parts (grammar.build f a) s = build-foresees (outlook text s.place mode a) s f _ (reads_with_types text mode parts a s) (foreseen mode parts a s)
 
 -- what fails by the tokens ahead, which were looked at there
 pub fails-known : (text seen : List ℕ) (mode seen_mode : Mode) (i : ℕ) (g : Grammar) (s : Position) (at failed k : ℕ) (parts : Parts text)
-    → outlook seen i seen_mode g ≡ Fails at → seen ≡ text → seen_mode ≡ mode → i ≡ s.place → failed ≡ s.failed → k ≡ max failed at → reads text mode parts g s ≡ fails k
+    → outlook seen i seen_mode g ≡ Fails at → seen ≡ text → seen_mode ≡ mode → i ≡ s.place → failed ≡ s.failed → k ≡ max failed at → reads_with_types text mode parts g s ≡ fails k
 fails-known text seen mode seen_mode i g s at failed k parts known same same_mode here before after =
     let fails_there : outlook text s.place mode g ≡ Fails at = rw (same, same_mode, here) at known in
     rw (after, before) (rw fails_there at (foreseen text mode parts g s))
 
 -- what reads nothing by the tokens ahead, which were looked at there
 pub passes-known : (text seen : List ℕ) (mode seen_mode : Mode) (i : ℕ) (g : Grammar) (s t : Position) (at failed : ℕ) (parts : Parts text)
-    → outlook seen i seen_mode g ≡ Passes at → seen ≡ text → seen_mode ≡ mode → i ≡ s.place → failed ≡ s.failed → t.place ≡ i → t.failed ≡ max failed at → reads text mode parts g s ≡ read [] t
+    → outlook seen i seen_mode g ≡ Passes at → seen ≡ text → seen_mode ≡ mode → i ≡ s.place → failed ≡ s.failed → t.place ≡ i → t.failed ≡ max failed at → reads_with_types text mode parts g s ≡ read [] t
 passes-known text seen mode seen_mode i g s t at failed parts known same same_mode here before there after =
     let passes_there : outlook text s.place mode g ≡ Passes at = rw (same, same_mode, here) at known in
     let where_it_stands : raised at s ≡ t = rw (← here, ← before, ← there, ← after) refl in

@@ -10,8 +10,8 @@ use Rattle.ecma_grammar.specs.declared.production.Mode.{Mode}
 use Rattle.ecma_reader.specs.Agreement.{position, kept, SameText, Keeps, parts_in, reads_in}
 use Rattle.ecma_reader.specs.Opening.{built, closed, Within}
 use Rattle.ecma_grammar.specs.Reading.{Position, Outcome, read, fails, too_deep, Reading, with_front, followed_on, or_on, many_up_to, many_on, ahead_on, unless_on}
-use Rattle.ecma_grammar.specs.Made.{made}
-use Rattle.ecma_grammar.specs.Reads.{Parts, reads, built_on}
+use Rattle.ecma_grammar.specs.Made.{made_with_types}
+use Rattle.ecma_grammar.specs.Reads.{Parts, reads_with_types, built_with_types}
 use Rattle.ecma_grammar.specs.Grammar.{Grammar, ◌▸◌}
 
 -- what is read behind what was read stands behind all that was kept
@@ -52,7 +52,7 @@ front-shorter xs m t (read ys u) e = let whole : xs ++ ys ≡ m = cc in rw (← 
 front-shorter xs m t (fails k) e = cc
 front-shorter xs m t (too_deep d) e = cc
 
-pub built-read : (xs m : List Node) (t : Position) (form : Form) (lo : ℕ) (o : Outcome (List Node)) → with_front xs o ≡ read m t → with_front xs (built_on form lo o) ≡ read (take (length xs) m ++ made form lo t.place (drop (length xs) m) ∷ []) t
+pub built-read : (xs m : List Node) (t : Position) (form : Form) (lo : ℕ) (o : Outcome (List Node)) → with_front xs o ≡ read m t → with_front xs (built_with_types form lo o) ≡ read (take (length xs) m ++ made_with_types form lo t.place (drop (length xs) m) ∷ []) t
 built-read xs m t form lo (read ys u) e =
     let same : u ≡ t = cc in
     let whole : xs ++ ys ≡ m = cc in
@@ -91,13 +91,13 @@ closed-none (too_deep d) = refl
 
 -- a node that is begun where so many nodes are kept
 pub opened-read : (xs : List Node) (opened : Opened) (form : Form) (lo : ℕ) (o : Outcome (List Node))
-    → opened.form.now ≡ form → opened.lo ≡ lo → opened.count ≡ length xs → with_front xs (built_on form lo o) ≡ closed_on (Some opened) (with_front xs o)
+    → opened.form.now ≡ form → opened.lo ≡ lo → opened.count ≡ length xs → with_front xs (built_with_types form lo o) ≡ closed_on (Some opened) (with_front xs o)
 opened-read xs opened form lo (read ys u) e f g = rw (e, f, g, take-append_seam, drop-append_seam) refl
 opened-read xs opened form lo (fails k) e f g = refl
 opened-read xs opened form lo (too_deep d) e f g = refl
 
 -- a form that makes of one node that node
-pub alone-kept : (hi : ℕ) (opened : Opened) (xs : List Node) → opened.count + 1 ≡ length xs → ((lo hi : ℕ) (x : Node) → made opened.form.now lo hi (x ∷ []) ≡ x) → built opened hi xs ≡ xs
+pub alone-kept : (hi : ℕ) (opened : Opened) (xs : List Node) → opened.count + 1 ≡ length xs → ((lo hi : ℕ) (x : Node) → made_with_types opened.form.now lo hi (x ∷ []) ≡ x) → built opened hi xs ≡ xs
 alone-kept hi opened xs one same = go (drop opened.count xs) refl
   where
     go : (ys : List Node) → drop opened.count xs ≡ ys → built opened hi xs ≡ xs
@@ -144,11 +144,11 @@ then-goes-on initial now next opened all left g a b is h k =
 -- a choice of which a remainder is read in its place
 pub remains-goes-on : (initial now next : Reader) (opened : Option Opened) (all : Reading (List Node)) (left : ℕ) (g rest : Grammar)
     → GoesOn initial now opened all (reads_in initial left g) → SameText now next → kept next ≡ kept now
-    → ((parts : Parts now.text.now) → reads now.text.now now.mode parts g (position now) ≡ reads now.text.now now.mode parts rest (position next))
+    → ((parts : Parts now.text.now) → reads_with_types now.text.now now.mode parts g (position now) ≡ reads_with_types now.text.now now.mode parts rest (position next))
     → GoesOn initial next opened all (reads_in initial left rest)
 remains-goes-on initial now next opened all left g rest h same alike known =
-    let there : (text : List ℕ) (mode : Mode) → now.text.now ≡ text → now.mode ≡ mode → (parts : Parts text) → reads text mode parts g (position now) ≡ reads text mode parts rest (position next)
-    = λ text mode t m. subst (λ x. (parts : Parts x) → reads x mode parts g (position now) ≡ reads x mode parts rest (position next)) t (subst (λ y. (parts : Parts now.text.now) → reads now.text.now y parts g (position now) ≡ reads now.text.now y parts rest (position next)) m known) in
+    let there : (text : List ℕ) (mode : Mode) → now.text.now ≡ text → now.mode ≡ mode → (parts : Parts text) → reads_with_types text mode parts g (position now) ≡ reads_with_types text mode parts rest (position next)
+    = λ text mode t m. subst (λ x. (parts : Parts x) → reads_with_types x mode parts g (position now) ≡ reads_with_types x mode parts rest (position next)) t (subst (λ y. (parts : Parts now.text.now) → reads_with_types now.text.now y parts g (position now) ≡ reads_with_types now.text.now y parts rest (position next)) m known) in
     record {
       same = (same.0 ∙ h.same.0, same.1 ∙ h.same.1);
       front = rw alike h.front;

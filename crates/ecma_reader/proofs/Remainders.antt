@@ -8,7 +8,7 @@ use Rattle.ecma_reader.specs.FirstByte.{first_byte}
 use Rattle.ecma_grammar.specs.Grammar as grammar
 use Rattle.ecma_grammar.specs.Grammar.{Grammar}
 use Rattle.ecma_grammar.specs.Reading.{Position, fails}
-use Rattle.ecma_grammar.specs.Reads.{Parts, reads}
+use Rattle.ecma_grammar.specs.Reads.{Parts, reads_with_types}
 use Rattle.ecma_grammar.specs.Glance.{Sight, unknown, passes, rests, stays, sight, is_failing, leads_nowhere, remainder, Remains, Says}
 use Rattle.ecma_grammar.specs.Glance as seen
 use Rattle.ecma_reader.specs.Outlook.{Fails, outlook, IsSeen, Tells}
@@ -25,19 +25,19 @@ failing-fails stays h = cc
 
 module _ (text : List ℕ) (mode : Mode) (parts : Parts text) (i : ℕ) (all : IsSeen text i mode) where
   first-fails : (a : Grammar) (failed : ℕ) → is_failing (sight (first_byte text i) a) ≡ true
-      → reads text mode parts a (record { place = i; failed = failed }) ≡ fails (max failed (skipped text i).to)
+      → reads_with_types text mode parts a (record { place = i; failed = failed }) ≡ fails (max failed (skipped text i).to)
   first-fails a failed h =
       let known : outlook text i mode a ≡ Fails (skipped text i).to = sees-fails text i (first_byte text i) mode a refl all.some all.small all.typescript all.assignments (failing-fails (sight (first_byte text i) a) h) in
-      subst (λ o. Foresees o (record { place = i; failed = failed }) (reads text mode parts a (record { place = i; failed = failed }))) known (foreseen text mode parts a (record { place = i; failed = failed }))
+      subst (λ o. Foresees o (record { place = i; failed = failed }) (reads_with_types text mode parts a (record { place = i; failed = failed }))) known (foreseen text mode parts a (record { place = i; failed = failed }))
 
   -- where terminals failed there before
   remainder-same : (g : Grammar) (failed : ℕ) → (skipped text i).to ≤ failed
-      → reads text mode parts g (record { place = i; failed = failed }) ≡ reads text mode parts (remainder (first_byte text i) g) (record { place = i; failed = failed })
+      → reads_with_types text mode parts g (record { place = i; failed = failed }) ≡ reads_with_types text mode parts (remainder (first_byte text i) g) (record { place = i; failed = failed })
   remainder-same (grammar.◌//◌ a b) failed le = go (is_failing (sight (first_byte text i) a)) refl (remainder-same b failed le)
     where
       go : (x : Bool) → is_failing (sight (first_byte text i) a) ≡ x
-          → reads text mode parts b (record { place = i; failed = failed }) ≡ reads text mode parts (remainder (first_byte text i) b) (record { place = i; failed = failed })
-          → reads text mode parts (grammar.◌//◌ a b) (record { place = i; failed = failed }) ≡ reads text mode parts (remainder (first_byte text i) (grammar.◌//◌ a b)) (record { place = i; failed = failed })
+          → reads_with_types text mode parts b (record { place = i; failed = failed }) ≡ reads_with_types text mode parts (remainder (first_byte text i) b) (record { place = i; failed = failed })
+          → reads_with_types text mode parts (grammar.◌//◌ a b) (record { place = i; failed = failed }) ≡ reads_with_types text mode parts (remainder (first_byte text i) (grammar.◌//◌ a b)) (record { place = i; failed = failed })
       go true h rest =
           let same : max failed (skipped text i).to ≡ failed = omega (arith, le) in
           rw (h, first-fails a failed h, same) rest
@@ -59,7 +59,7 @@ module _ (text : List ℕ) (mode : Mode) (parts : Parts text) (i : ℕ) (all : I
   remainder-same (grammar.build f a) failed le = refl
 
   pub remainder-reads : (g : Grammar) (failed : ℕ) → leads_nowhere (first_byte text i) g ≡ true
-      → reads text mode parts g (record { place = i; failed = failed }) ≡ reads text mode parts (remainder (first_byte text i) g) (record { place = i; failed = max failed (skipped text i).to })
+      → reads_with_types text mode parts g (record { place = i; failed = failed }) ≡ reads_with_types text mode parts (remainder (first_byte text i) g) (record { place = i; failed = max failed (skipped text i).to })
   remainder-reads (grammar.◌//◌ a b) failed h = rw (h, first-fails a failed h) (remainder-same b (max failed (skipped text i).to) (omega arith))
   remainder-reads grammar.nothing failed h = cc
   remainder-reads grammar.same_line failed h = cc
@@ -134,13 +134,13 @@ stands-at t place failed h k = rw (← h, ← k) refl
 -- what remains of a choice, whose tokens were looked at there
 pub remains-known : (text seen : List ℕ) (mode seen_mode : Mode) (i : ℕ) (g rest : Grammar) (s t : Position) (failed : ℕ)
     → IsSeen seen i seen_mode × Remains (first_byte seen i) g rest → seen ≡ text → seen_mode ≡ mode → i ≡ s.place → failed ≡ s.failed → t.place ≡ i → t.failed ≡ max failed (skipped seen i).to
-    → Remains (first_byte text s.place) g rest × ((parts : Parts text) → reads text mode parts g s ≡ reads text mode parts rest t)
+    → Remains (first_byte text s.place) g rest × ((parts : Parts text) → reads_with_types text mode parts g s ≡ reads_with_types text mode parts rest t)
 remains-known text seen mode seen_mode i g rest s t failed known same same_mode here before there after =
     let all : IsSeen text s.place mode = rw (← same, ← same_mode, ← here) known.0 in
     let remains : Remains (first_byte text s.place) g rest = rw (← same, ← here) known.1 in
     let at : t ≡ record { place = s.place; failed = max s.failed (skipped text s.place).to } = stands-at t s.place (max s.failed (skipped text s.place).to) (there ∙ here) (after ∙ rw (before, same, here) refl) in (
       remains,
       λ parts.
-          subst (λ x. reads text mode parts g s ≡ reads text mode parts x t) remains.1
-          (subst (λ p. reads text mode parts g s ≡ reads text mode parts (remainder (first_byte text s.place) g) p) (sym at) (remainder-reads text mode parts s.place all g s.failed remains.0)),
+          subst (λ x. reads_with_types text mode parts g s ≡ reads_with_types text mode parts x t) remains.1
+          (subst (λ p. reads_with_types text mode parts g s ≡ reads_with_types text mode parts (remainder (first_byte text s.place) g) p) (sym at) (remainder-reads text mode parts s.place all g s.failed remains.0)),
     )

@@ -10,8 +10,8 @@ use Rattle.ecma_grammar.specs.declared.production.Form.TheVariants as form
 use Rattle.ecma_reader.specs.declared.reader.Reader.{Reader}
 use Rattle.ecma_reader.specs.declared.reader.operands.Operand.{Operand}
 use Rattle.ecma_grammar.specs.Reading.{Position, Outcome, read, fails, too_deep, with_front}
-use Rattle.ecma_grammar.specs.Reads.{Parts, reads, levels}
-use Rattle.ecma_grammar.specs.Made.{made}
+use Rattle.ecma_grammar.specs.Reads.{Parts, reads_with_types, levels_with_types}
+use Rattle.ecma_grammar.specs.Made.{made_with_types}
 use Rattle.ecma_reader.specs.FirstByte.{first_byte}
 use Rattle.ecma_grammar.specs.Glance.{sight, passes}
 use Rattle.ecma_reader.specs.declared.failure.Failure.{Failure}
@@ -29,14 +29,14 @@ use Rattle.ecma_reader.proofs.Readings.{front-kept, front-shorter, front-fails, 
 
 -- one tail was read
 
-pub tail-read : (text : List ℕ) (mode : Mode) (parts : Parts text) (operand : Operand) (t : Tail) (xs m : List Node) (s u : Position) → with_front xs (reads text mode parts t.grammar s) ≡ read m u
-    → tail_on text mode parts operand t (read xs s) ≡ read (take operand.count m ++ made t.form operand.lo u.place (drop operand.count m) ∷ []) u
+pub tail-read : (text : List ℕ) (mode : Mode) (parts : Parts text) (operand : Operand) (t : Tail) (xs m : List Node) (s u : Position) → with_front xs (reads_with_types text mode parts t.grammar s) ≡ read m u
+    → tail_on text mode parts operand t (read xs s) ≡ read (take operand.count m ++ made_with_types t.form operand.lo u.place (drop operand.count m) ∷ []) u
 tail-read text mode parts operand t xs m s u e = ap (λ o. made_on t.form operand o) e
 
-pub tail-fails : (text : List ℕ) (mode : Mode) (parts : Parts text) (operand : Operand) (t : Tail) (xs : List Node) (s : Position) (k : ℕ) → reads text mode parts t.grammar s ≡ fails k → tail_on text mode parts operand t (read xs s) ≡ fails k
+pub tail-fails : (text : List ℕ) (mode : Mode) (parts : Parts text) (operand : Operand) (t : Tail) (xs : List Node) (s : Position) (k : ℕ) → reads_with_types text mode parts t.grammar s ≡ fails k → tail_on text mode parts operand t (read xs s) ≡ fails k
 tail-fails text mode parts operand t xs s k e = rw e refl
 
-pub tail-deep : (text : List ℕ) (mode : Mode) (parts : Parts text) (operand : Operand) (t : Tail) (xs : List Node) (s : Position) (k : ℕ) → reads text mode parts t.grammar s ≡ too_deep k → tail_on text mode parts operand t (read xs s) ≡ too_deep k
+pub tail-deep : (text : List ℕ) (mode : Mode) (parts : Parts text) (operand : Operand) (t : Tail) (xs : List Node) (s : Position) (k : ℕ) → reads_with_types text mode parts t.grammar s ≡ too_deep k → tail_on text mode parts operand t (read xs s) ≡ too_deep k
 tail-deep text mode parts operand t xs s k e = rw e refl
 
 pub front-count : (xs ys : List Node) (n : ℕ) → take (length xs) ys ≡ xs → n ≤ length xs → take n ys ≡ take n xs
@@ -77,17 +77,17 @@ quiet-is byte P h a b c d e f = go (nat_eq byte 44) refl (nat_eq byte 41) refl (
 abbrev AllPass : ℕ → List Tail → Type 0
 AllPass byte ts = map (λ t. sight byte t.grammar) ts ≡ map (λ t. passes) ts
 
-all-pass : (byte : ℕ) → is_quiet byte ≡ true → AllPass byte (tails false)
+all-pass : (byte : ℕ) (middle : Bool) → is_quiet byte ≡ true → AllPass byte (tails false middle)
 unfolding factors terms shifts relations equalities assignments
-all-pass byte h = quiet-is byte (λ b. AllPass b (tails false)) h refl refl refl refl refl refl
+all-pass byte middle h = quiet-is byte (λ b. AllPass b (tails false middle)) h refl refl refl refl refl refl
 
 -- a form makes of one node that node
 abbrev AllAlone : List Tail → Type 0
 AllAlone [] = Unit {0}
-AllAlone (t ∷ ts) = ((lo hi : ℕ) (x : Node) → made t.form lo hi (x ∷ []) ≡ x) × AllAlone ts
+AllAlone (t ∷ ts) = ((lo hi : ℕ) (x : Node) → made_with_types t.form lo hi (x ∷ []) ≡ x) × AllAlone ts
 
-all-alone : AllAlone (tails false)
-all-alone =
+all-alone : (middle : Bool) → AllAlone (tails false middle)
+all-alone middle =
     ((λ lo hi x. refl), ((λ lo hi x. refl), ((λ lo hi x. refl), ((λ lo hi x. refl), ((λ lo hi x. refl), ((λ lo hi x. refl), ((λ lo hi x. refl), ((λ lo hi x. refl), ((λ lo hi x. refl), ((λ lo hi x. refl), ((λ lo hi x. refl), ((λ lo hi x. refl), ((λ lo hi x. refl), tt)))))))))))))
 
 max-twice : (a b : ℕ) → max (max a b) b ≡ max a b
@@ -98,10 +98,10 @@ module _ (text : List ℕ) (mode : Mode) (parts : Parts text) (place : ℕ) (m :
   abbrev At : ℕ → Outcome (List Node)
   At failed = read (xs ++ x ∷ []) (record { place = place; failed = failed })
 
-  tail-passes : (t : Tail) (failed : ℕ) → sight (first_byte text place) t.grammar ≡ passes → ((lo hi : ℕ) (y : Node) → made t.form lo hi (y ∷ []) ≡ y) → tail_on text mode parts operand t (At failed) ≡ At (max failed (skipped text place).to)
+  tail-passes : (t : Tail) (failed : ℕ) → sight (first_byte text place) t.grammar ≡ passes → ((lo hi : ℕ) (y : Node) → made_with_types t.form lo hi (y ∷ []) ≡ y) → tail_on text mode parts operand t (At failed) ≡ At (max failed (skipped text place).to)
   tail-passes t failed h alone =
-      let nothing_read : reads text mode parts t.grammar (record { place = place; failed = failed }) ≡ read [] (record { place = place; failed = max failed (skipped text place).to }) =
-      subst (λ o. Foresees o (record { place = place; failed = failed }) (reads text mode parts t.grammar (record { place = place; failed = failed })))
+      let nothing_read : reads_with_types text mode parts t.grammar (record { place = place; failed = failed }) ≡ read [] (record { place = place; failed = max failed (skipped text place).to }) =
+      subst (λ o. Foresees o (record { place = place; failed = failed }) (reads_with_types text mode parts t.grammar (record { place = place; failed = failed })))
       (sees-passes text place (first_byte text place) mode t.grammar refl some small m n h) (foreseen text mode parts t.grammar (record { place = place; failed = failed })) in
       rw (nothing_read, append-nil, count, take-append_seam, drop-append_seam, alone) refl
 
@@ -141,15 +141,15 @@ byte-some byte h = quiet-is byte (λ b. 0 < b) h (omega arith) (omega arith) (om
 byte-small : (byte : ℕ) → is_quiet byte ≡ true → byte < 128
 byte-small byte h = quiet-is byte (λ b. b < 128) h (omega arith) (omega arith) (omega arith) (omega arith) (omega arith) (omega arith)
 
-behind-quiet : (old new : Reader) (operand : Operand) (no_in : Bool) (parts : Parts old.text.now) → IsQuiet old new operand no_in → kept new ≡ kept old
-    → tails_on old.text.now old.mode parts operand (tails no_in) (read (kept old) (position old)) ≡ read (kept new) (position new)
-behind-quiet old new operand no_in parts quiet same =
+behind-quiet : (old new : Reader) (operand : Operand) (no_in middle : Bool) (parts : Parts old.text.now) → IsQuiet old new operand no_in → kept new ≡ kept old
+    → tails_on old.text.now old.mode parts operand (tails no_in middle) (read (kept old) (position old)) ≡ read (kept new) (position new)
+behind-quiet old new operand no_in middle parts quiet same =
     let ends = ends-in (kept old) operand.count quiet.alone in
     let all = first_byte old.text.now old.place in
-    ap (λ b. tails_on old.text.now old.mode parts operand (tails b) (read (kept old) (position old))) quiet.in_operator
-    ∙ (ap (λ ys. tails_on old.text.now old.mode parts operand (tails false) (read ys (position old))) ends.whole
+    ap (λ b. tails_on old.text.now old.mode parts operand (tails b middle) (read (kept old) (position old))) quiet.in_operator
+    ∙ (ap (λ ys. tails_on old.text.now old.mode parts operand (tails false middle) (read ys (position old))) ends.whole
     ∙ (tails-pass old.text.now old.mode parts old.place quiet.typescript quiet.assignments (byte-some all quiet.byte) (byte-small all quiet.byte) operand ends.front ends.node ends.count
-    (tail form.Chain updates) (rest_of (tails false)) old.failed (all-pass all quiet.byte) all-alone
+    (tail form.Chain updates) (rest_of (tails false middle)) old.failed (all-pass all middle quiet.byte) (all-alone middle)
     ∙ ap₂ (λ ys t. read ys t) (sym (same ∙ ends.whole)) (sym quiet.marked)))
   where
     rest_of : List Tail → List Tail
@@ -185,7 +185,7 @@ pub tails-broken : (initial now new : Reader) (operand : Operand) (left : ℕ) (
 tails-broken initial now new operand left all rest ts t f h is stands = ((stands.0.0 ∙ h.same.0, stands.0.1 ∙ h.same.1), go f stands.1)
   where
     one : List ℕ → Mode → Outcome (List Node)
-    one text mode = tail_on text mode (levels text mode left) operand t (read (kept now) (position now))
+    one text mode = tail_on text mode (levels_with_types text mode left) operand t (read (kept now) (position now))
 
     same : one now.text.now now.mode ≡ one initial.text.now initial.mode
     same = ap (λ x. one x now.mode) h.same.0 ∙ ap (λ m. one initial.text.now m) h.same.1
@@ -210,30 +210,30 @@ pub is-not : (b : Bool) → b ≡ false → IsTrue b → ⊥
 is-not true e h = absurd (cc)
 is-not false e h = absurd (cc)
 
-module _ (old mid : Reader) (operand : Operand) (no_in : Bool) (left : ℕ) (t : Tail) (links : t ≡ links_tail)
+module _ (old mid : Reader) (operand : Operand) (no_in middle : Bool) (left : ℕ) (t : Tail) (links : t ≡ links_tail)
     (stands : StandsAs operand old mid (Ok tt) (tail_on old.text.now old.mode (parts_in old left) operand t (read (kept old) (position old)))) where
   abbrev others : List ℕ → Mode → Outcome (List Node)
-  others text mode = tails_on text mode (levels text mode left) operand (tails no_in) (read (kept mid) (position mid))
+  others text mode = tails_on text mode (levels_with_types text mode left) operand (tails no_in middle) (read (kept mid) (position mid))
 
   abbrev All : Outcome (List Node)
-  All = tails_on old.text.now old.mode (parts_in old left) operand (links_tail ∷ tails no_in) (read (kept old) (position old))
+  All = tails_on old.text.now old.mode (parts_in old left) operand (links_tail ∷ tails no_in middle) (read (kept old) (position old))
 
   all-is : All ≡ others mid.text.now mid.mode
   all-is =
-      ap (λ u. tails_on old.text.now old.mode (parts_in old left) operand (tails no_in) (tail_on old.text.now old.mode (parts_in old left) operand u (read (kept old) (position old)))) (sym links)
-      ∙ (ap (λ o. tails_on old.text.now old.mode (parts_in old left) operand (tails no_in) o) stands.1.0
+      ap (λ u. tails_on old.text.now old.mode (parts_in old left) operand (tails no_in middle) (tail_on old.text.now old.mode (parts_in old left) operand u (read (kept old) (position old)))) (sym links)
+      ∙ (ap (λ o. tails_on old.text.now old.mode (parts_in old left) operand (tails no_in middle) o) stands.1.0
       ∙ (ap (λ x. others x old.mode) (sym stands.0.0) ∙ ap (λ m. others mid.text.now m) (sym stands.0.1)))
 
   pub quiet-stands : (new : Reader) → SameText mid new → kept new ≡ kept mid → IsQuiet mid new operand no_in → StandsAs operand old new (Ok tt) All
   quiet-stands new text same quiet = (
     (text.0 ∙ stands.0.0, text.1 ∙ stands.0.1),
     (
-      all-is ∙ behind-quiet mid new operand no_in (parts_in mid left) quiet same,
+      all-is ∙ behind-quiet mid new operand no_in middle (parts_in mid left) quiet same,
       (subst (λ ys. operand.count ≤ length ys) (sym same) stands.1.1.0, ap (λ ys. take operand.count ys) same ∙ stands.1.1.1),
     ),
   )
 
-  pub others-stand : (now new : Reader) (result : Result Unit Failure) (ts : List Tail) → ts ≡ tails no_in → SameText mid now → kept now ≡ kept mid → position now ≡ position mid
+  pub others-stand : (now new : Reader) (result : Result Unit Failure) (ts : List Tail) → ts ≡ tails no_in middle → SameText mid now → kept now ≡ kept mid → position now ≡ position mid
       → StandsAs operand now new result (tails_on now.text.now now.mode (parts_in now left) operand ts (read (kept now) (position now))) → StandsAs operand old new result All
   others-stand now new result ts are text same place h = ((h.0.0 ∙ (text.0 ∙ stands.0.0), h.0.1 ∙ (text.1 ∙ stands.0.1)), go result h.1)
     where
@@ -241,7 +241,7 @@ module _ (old mid : Reader) (operand : Operand) (no_in : Bool) (left : ℕ) (t :
       is =
           all-is
           ∙ (ap (λ x. others x mid.mode) (sym text.0) ∙ (ap (λ m. others now.text.now m) (sym text.1)
-          ∙ (ap₂ (λ ys s. tails_on now.text.now now.mode (parts_in now left) operand (tails no_in) (read ys s)) (sym same) (sym place)
+          ∙ (ap₂ (λ ys s. tails_on now.text.now now.mode (parts_in now left) operand (tails no_in middle) (read ys s)) (sym same) (sym place)
           ∙ ap (λ us. tails_on now.text.now now.mode (parts_in now left) operand us (read (kept now) (position now))) (sym are))))
 
       front : (ys : List Node) → take operand.count ys ≡ take operand.count (kept now) → take operand.count ys ≡ take operand.count (kept old)
@@ -256,11 +256,11 @@ module _ (old mid : Reader) (operand : Operand) (no_in : Bool) (left : ℕ) (t :
 -- an expression was read, from its first operand on
 
 pub operand-keeps : (old mid new : Reader) (operand : Operand) (result : Result Unit Failure) (left inside at : ℕ) (no_in middle : Bool) → left ≢ zero → inside ≡ left - 1 → HasOperand old.text.now old.mode (position old) (kept old) mid operand → SameText old mid
-    → StandsAs operand mid new result (tails_on mid.text.now mid.mode (parts_in mid inside) operand (links_tail ∷ tails no_in) (read (kept mid) (position mid))) → Keeps old new result (parts_in old left (part.Assign no_in middle) at)
+    → StandsAs operand mid new result (tails_on mid.text.now mid.mode (parts_in mid inside) operand (links_tail ∷ tails no_in middle) (read (kept mid) (position mid))) → Keeps old new result (parts_in old left (part.Assign no_in middle) at)
 operand-keeps old mid new operand result left inside at no_in middle some one has text stands = ((stands.0.0 ∙ text.0, stands.0.1 ∙ text.1), go result stands.1)
   where
     all : List ℕ → Mode → ℕ → Outcome (List Node)
-    all t m n = tails_on t m (levels t m n) operand (links_tail ∷ tails no_in) (read (kept mid) (position mid))
+    all t m n = tails_on t m (levels_with_types t m n) operand (links_tail ∷ tails no_in middle) (read (kept mid) (position mid))
 
     is : with_front (kept old) (parts_in old left (part.Assign no_in middle) at (position old)) ≡ all mid.text.now mid.mode inside
     is =

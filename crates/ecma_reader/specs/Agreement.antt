@@ -15,7 +15,7 @@ use Rattle.ecma_grammar.specs.Grammar.{Grammar}
 use Rattle.ecma_reader.specs.FirstByte.{first_byte}
 use Rattle.ecma_grammar.specs.Glance.{Remains}
 use Rattle.ecma_grammar.specs.Written.{written}
-use Rattle.ecma_grammar.specs.Reads.{Parts, reads, levels}
+use Rattle.ecma_grammar.specs.Reads.{Parts, reads_with_types, levels_with_types}
 
 abbrev pub position : Reader → Position
 position reader = record { place = reader.place; failed = reader.failed }
@@ -55,18 +55,18 @@ Keeps old new result reading = SameText old new × KeepsAs old new result (readi
 
 -- what parts read in the text of a reader, where so many levels more are allowed
 abbrev pub parts_in : Reader → ℕ → Part → ℕ → Reading (List Node)
-parts_in reader left = levels reader.text.now reader.mode left
+parts_in reader left = levels_with_types reader.text.now reader.mode left
 
 -- what a grammar reads in the text of a reader, one level further out
 abbrev pub reads_in : Reader → ℕ → Grammar → Reading (List Node)
-reads_in reader left g = reads reader.text.now reader.mode (parts_in reader left) g
+reads_in reader left g = reads_with_types reader.text.now reader.mode (parts_in reader left) g
 
 -- what is known of a grammar without its being tried, with the reader as it is then
 abbrev pub Knows : Reader → Reader → Grammar → Known → Type 0
 Knows old new g known.Open = new.failed ≡ old.failed
-Knows old new g known.Fails = (parts : Parts old.text.now) → reads old.text.now old.mode parts g (position old) ≡ fails new.failed
-Knows old new g known.Passes = (parts : Parts old.text.now) → reads old.text.now old.mode parts g (position old) ≡ read [] (position new)
-Knows old new g (known.Remains rest) = Remains (first_byte old.text.now old.place) g (written rest.now) × ((parts : Parts old.text.now) → reads old.text.now old.mode parts g (position old) ≡ reads old.text.now old.mode parts (written rest.now) (position new))
+Knows old new g known.Fails = (parts : Parts old.text.now) → reads_with_types old.text.now old.mode parts g (position old) ≡ fails new.failed
+Knows old new g known.Passes = (parts : Parts old.text.now) → reads_with_types old.text.now old.mode parts g (position old) ≡ read [] (position new)
+Knows old new g (known.Remains rest) = Remains (first_byte old.text.now old.place) g (written rest.now) × ((parts : Parts old.text.now) → reads_with_types old.text.now old.mode parts g (position old) ≡ reads_with_types old.text.now old.mode parts (written rest.now) (position new))
 
 -- what a call that reads a part takes, and what it gives
 abbrev pub PartArgs : Type 0

@@ -4,3 +4,5 @@ pub mod Outlook
 pub mod Agreement
 pub mod Operands
 pub mod Raw
+pub mod Attempts
+pub mod Memo

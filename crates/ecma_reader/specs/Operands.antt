@@ -14,8 +14,8 @@ use Rattle.ecma_reader.specs.declared.failure.Failure.TheVariants.{NoMatch, TooD
 use Rattle.ecma_reader.specs.declared.reader.Reader.{Reader}
 use Rattle.ecma_reader.specs.declared.reader.operands.Operand.{Operand}
 use Rattle.ecma_grammar.specs.Reading.{Position, Outcome, read, fails, too_deep, with_front, followed_on}
-use Rattle.ecma_grammar.specs.Made.{made}
-use Rattle.ecma_grammar.specs.Reads.{Parts, reads, kept_leaf, next_start}
+use Rattle.ecma_grammar.specs.Made.{made_with_types}
+use Rattle.ecma_grammar.specs.Reads.{Parts, reads_with_types, kept_leaf, next_start}
 use Rattle.ecma_reader.specs.Outlook.{Fails, found_outlook, kind_outlook, word_outlook}
 use Rattle.ecma_reader.specs.FirstByte.{first_byte}
 use Rattle.ecma_reader.specs.Agreement.{position, kept, SameText}
@@ -24,14 +24,14 @@ use Rattle.ecma_grammar.specs.productions.Expressions.{assign_body}
 
 -- all that is kept from an operand on, made into one node
 abbrev pub made_on : Form → Operand → Outcome (List Node) → Outcome (List Node)
-made_on form operand (read xs t) = read (take operand.count xs ++ made form operand.lo t.place (drop operand.count xs) ∷ []) t
+made_on form operand (read xs t) = read (take operand.count xs ++ made_with_types form operand.lo t.place (drop operand.count xs) ∷ []) t
 made_on form operand (fails k) = fails k
 made_on form operand (too_deep d) = too_deep d
 
 module _ (text : List ℕ) (mode : Mode) (parts : Parts text) where
   -- one tail, behind all that is kept
   abbrev pub tail_on : Operand → Tail → Outcome (List Node) → Outcome (List Node)
-  tail_on operand t o = made_on t.form operand (followed_on (reads text mode parts t.grammar) o)
+  tail_on operand t o = made_on t.form operand (followed_on (reads_with_types text mode parts t.grammar) o)
 
   abbrev pub tails_on : Operand → List Tail → Outcome (List Node) → Outcome (List Node)
   tails_on operand [] o = o
@@ -118,7 +118,7 @@ pub record HasOperand (text : List ℕ) (mode : Mode) (s : Position) (xs : List 
   pub node : Node
   pub one : kept new ≡ xs ++ node ∷ []
   pub whole : (parts : Parts text) (no_in middle : Bool)
-      → with_front xs (reads text mode parts (assign_body no_in middle) s) ≡ tails_on text mode parts operand (links_tail ∷ tails no_in) (read (kept new) (position new))
+      → with_front xs (reads_with_types text mode parts (assign_body no_in middle) s) ≡ tails_on text mode parts operand (links_tail ∷ tails no_in middle) (read (kept new) (position new))
 
 -- it was, or nothing changed
 abbrev pub OperandOr : Reader → Reader → Option Operand → Type 0

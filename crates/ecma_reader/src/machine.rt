@@ -31,11 +31,12 @@ pub(crate) fn read_part(
         part: &inside,
         left,
     };
-    if let Part::Assign { no_in, .. } = part {
+    if let Part::Assign { no_in, middle } = part {
         if let Some(operand) = reader.keep_operand()? {
-            return machine.read_behind(reader, operand, no_in);
+            return machine.read_behind(reader, operand, no_in, middle);
         }
     }
+    reader.begin_part();
     machine.read(reader, part_body(part))
 }
 
@@ -93,12 +94,15 @@ impl<'f, F: Fn(&mut Reader, Part, u32) -> Result<(), Failure>> Machine<'f, F> {
                 Production::Or(first, second) => {
                     if reader.fails_ahead(first) {
                         rest = *second;
+                    } else if reader.has_failed(first, self.left) {
+                        rest = *second;
                     } else {
-                        let (start, count) = (reader.place(), reader.count());
+                        let mark = reader.mark();
                         match self.read(reader, first) {
                             Ok(()) => return Ok(reader.close(opened)?),
                             Err(Failure::NoMatch) => {
-                                reader.go_back(start, count);
+                                reader.remember(first, self.left, mark)?;
+                                reader.go_back(mark.place, mark.count);
                                 rest = *second;
                             }
                             Err(failure) => return Err(failure),
@@ -309,15 +313,21 @@ impl<'f, F: Fn(&mut Reader, Part, u32) -> Result<(), Failure>> Machine<'f, F> {
 
     /// Reads what stands behind the first operand of an assignment expression, up to its end.
     #[tactic(auto, using(crate::proofs::Tails::tailing))]
-    fn read_behind(&self, reader: &mut Reader, operand: Operand, no_in: bool) -> Result<(), Failure>
+    fn read_behind(
+        &self,
+        reader: &mut Reader,
+        operand: Operand,
+        no_in: bool,
+        middle: bool,
+    ) -> Result<(), Failure>
         requires parts { ReadsParts F.Fn self.now }
         requires count { operand.count ≤ length (kept reader.old) }
-        ensures { StandsAs operand reader.old reader.new result (tails_on reader.old.text.now reader.old.mode (parts_in reader.old self.now.left) operand (links_tail ∷ tails no_in) (read (kept reader.old) (position reader.old))) }
+        ensures { StandsAs operand reader.old reader.new result (tails_on reader.old.text.now reader.old.mode (parts_in reader.old self.now.left) operand (links_tail ∷ tails no_in middle) (read (kept reader.old) (position reader.old))) }
     {
         self.read_tail(reader, operand, links_tail())?;
         if reader.is_quiet(operand, no_in) {
             return Ok(());
         }
-        self.read_tails(reader, operand, operator_tails(no_in))
+        self.read_tails(reader, operand, operator_tails(no_in, middle))
     }
 }

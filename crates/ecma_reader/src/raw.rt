@@ -1,6 +1,6 @@
 //! Reads a whole text.
 ghost use Rattle.std.specs.Prelude.{◌≡◌, ◌<◌, ◌^◌, length};
-ghost use Rattle.ecma_grammar.specs.Modules.{Answers, answer_of, reads_module};
+ghost use Rattle.ecma_grammar.specs.Modules.{Answers, answer_of, reads_module_with_types};
 ghost use Rattle.ecma_reader.specs.Raw.{reason_of};
 
 use crate::failure::Failure;
@@ -16,7 +16,7 @@ use std::alloc::Global;
 #[tactic(auto, using(crate::proofs::Readings::whole))]
 pub fn read_raw(alloc: Global, text: &str, mode: Mode, levels: usize) -> Result<Node, RawError>
     requires { length text.now < 2 ^ 32 }
-    ensures { Answers result (answer_of (reads_module text.now mode levels)) }
+    ensures { Answers result (answer_of (reads_module_with_types text.now mode levels)) }
 {
     let mut reader = Reader::new(alloc, text, mode);
     let reading = read_whole(&mut reader, levels);

@@ -2,9 +2,11 @@
 ghost use Rattle.std.specs.Prelude.{◌≡◌, ◌<◌, ◌^◌, length};
 ghost use Rattle.ecma_lex.specs.Looking.{look};
 ghost use Rattle.ecma_reader.specs.FirstByte.{first_byte};
+ghost use Rattle.ecma_reader.specs.Memo.{Remembers};
 
 mod keeping;
 mod leaves;
+mod memo;
 mod operands;
 mod outlook;
 mod recent;
@@ -34,11 +36,15 @@ pub(crate) struct Reader<'a> {
     /// The byte that stands there behind the blanks, or 0.
     first: u8,
     recent: recent::Recent,
+    memo: memo::Memo,
+    /// How many parts were begun, up to a multiple of 2 ^ 32.
+    begun: u32,
     /// The nodes that were kept so far, the last at the end.
     kept: Vec<Node>,
     ghost short: { length text.now < 2 ^ 32 },
     ghost known: { ahead ≡ look text.now ahead.place },
     ghost begins: { first ≡ first_byte text.now ahead.place },
+    ghost remembers: { Remembers text.now mode memo },
 }
 
 impl<'a> Reader<'a> {
@@ -63,6 +69,8 @@ impl<'a> Reader<'a> {
             ahead,
             first,
             recent: recent::Recent::new(alloc),
+            memo: memo::Memo::new(alloc),
+            begun: 0,
             kept: Vec::new(alloc),
         }
     }

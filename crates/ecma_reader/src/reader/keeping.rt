@@ -1,7 +1,7 @@
 //! What was read is kept, and made into nodes.
 ghost use Rattle.std.specs.Prelude.{◌≡◌, ℕ, [], ◌∷◌, IsTrue};
 ghost use Rattle.ecma_tree.specs.declared.node.Node.{Node};
-ghost use Rattle.ecma_grammar.specs.Made.{made};
+ghost use Rattle.ecma_grammar.specs.Made.{made_with_types};
 
 use super::Reader;
 use crate::failure::Failure;
@@ -142,7 +142,7 @@ impl Reader<'_> {
 
 /// Whether a form makes of one node that node.
 fn is_that_one(form: &Form) -> bool
-    ensures { IsTrue result → (lo hi : ℕ) (node : Node) → made form.now lo hi (node ∷ []) ≡ node }
+    ensures { IsTrue result → (lo hi : ℕ) (node : Node) → made_with_types form.now lo hi (node ∷ []) ≡ node }
 {
     matches!(
         form,

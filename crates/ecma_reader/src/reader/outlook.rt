@@ -39,7 +39,7 @@ impl Reader<'_> {
     ghost use Rattle.ecma_reader.specs.Outlook.{Tells};
     ghost use Rattle.ecma_grammar.specs.Written.{written, written_token};
     ghost use Rattle.ecma_grammar.specs.Reading.{fails};
-    ghost use Rattle.ecma_grammar.specs.Reads.{Parts, reads};
+    ghost use Rattle.ecma_grammar.specs.Reads.{Parts, reads_with_types};
     ghost use Rattle.ecma_reader.specs.Outlook.{Fails, found_outlook, kind_outlook, leaf_outlook, outlook, template_outlook, token_outlook, word_outlook};
     ghost use Rattle.ecma_reader.specs.Agreement.{Knows, SameText, kept, position};
 
@@ -196,7 +196,7 @@ impl Reader<'_> {
         ensures text { SameText self.old self.new }
         ensures place { self.new.place ≡ self.old.place }
         ensures kept { kept self.new ≡ kept self.old }
-        ensures fails { IsTrue result → (parts : Parts self.old.text.now) → reads self.old.text.now self.old.mode parts (written production.now) (position self.old) ≡ fails self.new.failed }
+        ensures fails { IsTrue result → (parts : Parts self.old.text.now) → reads_with_types self.old.text.now self.old.mode parts (written production.now) (position self.old) ≡ fails self.new.failed }
         ensures open { (IsTrue result → ⊥) → self.new.failed ≡ self.old.failed }
     {
         self.look();
