@@ -1,6 +1,7 @@
 pub mod Simple
 pub mod Failures
 pub mod Fronted
+pub mod Bared
 pub mod Keeping
 pub mod Seconds
 pub mod Leasts

@@ -86,6 +86,7 @@ unfolding is_watched misfits_by
 unwatched-no-misfit kind.AssignPat n h = cc
 unwatched-no-misfit kind.GetterProp n h = cc
 unwatched-no-misfit kind.SetterProp n h = cc
+unwatched-no-misfit kind.MethodProp n h = cc
 unwatched-no-misfit (kind.ClassMethod k modifiers) n h = cc
 unwatched-no-misfit (kind.PrivateMethod k modifiers) n h = cc
 unwatched-no-misfit _ n h = refl

@@ -10,6 +10,7 @@ pub mod Strays
 pub mod Jumps
 pub mod Frames
 pub mod Rules
+pub mod Baring
 pub mod Finishing
 pub mod Breaking
 pub mod Laws

@@ -84,14 +84,20 @@ fits_kind Setter function = is_one_parameter (parameters_of function)
 abbrev pub takes_not_one : Kind → Bool
 takes_not_one k = is_list k || is_rest_pattern k
 
+-- a function with its body
+abbrev pub has_body : Node → Bool
+has_body function = has_child function 1
+
 -- a rest with a default; a getter with a parameter, or a setter that does not take one argument; those of objects keep the parameters that they may not have
--- as a list
+-- as a list; and a getter, setter or method of an object without a body, which the grammar reads as one of a class
 --   ({ get a() { return 1; }, set a(b) { } });
 --   (...a = b) => c;   // refused
+--   ({ get a(), b() { } });   // refused
 unfoldable pub misfits_by : Kind → Node → Bool
 misfits_by kind.AssignPat node = child_is is_rest_pattern node 0
-misfits_by kind.GetterProp node = has_child node 3
-misfits_by kind.SetterProp node = child_is takes_not_one node 2
+misfits_by kind.GetterProp node = has_child node 3 || not (has_child node 2)
+misfits_by kind.SetterProp node = child_is takes_not_one node 2 || not (has_child node 3)
+misfits_by kind.MethodProp node = not (child_holds has_body node 1)
 misfits_by (kind.ClassMethod k modifiers) node = not (child_holds (fits_kind k) node 1)
 misfits_by (kind.PrivateMethod k modifiers) node = not (child_holds (fits_kind k) node 1)
 misfits_by _ node = false

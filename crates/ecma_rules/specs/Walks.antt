@@ -28,6 +28,7 @@ is_watched (kind.TsParamProp accessibility is_override readonly) = true
 is_watched kind.AssignPat = true
 is_watched kind.GetterProp = true
 is_watched kind.SetterProp = true
+is_watched kind.MethodProp = true
 is_watched (kind.ClassMethod k modifiers) = true
 is_watched (kind.PrivateMethod k modifiers) = true
 is_watched (kind.Function is_generator is_async) = true

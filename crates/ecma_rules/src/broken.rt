@@ -85,6 +85,7 @@ fn is_watched(kind: &Kind) -> bool
             | Kind::AssignPat
             | Kind::GetterProp
             | Kind::SetterProp
+            | Kind::MethodProp
             | Kind::ClassMethod { .. }
             | Kind::PrivateMethod { .. }
             | Kind::Function { .. }

@@ -18,6 +18,7 @@ mod statements;
 mod strays;
 mod supers;
 mod target;
+mod types;
 
 pub use broken::{fails_list, fails_member, fails_statement, first_broken};
 pub use children::{has_child, items_at};
@@ -29,3 +30,4 @@ pub use patterns::finish;
 pub use standing::{Around, Standing, around_in, at_root};
 pub use strays::Strays;
 pub use target::{Target, is_simple_target};
+pub use types::bare_types;

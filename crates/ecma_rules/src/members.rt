@@ -4,7 +4,7 @@ ghost use Rattle.std.specs.List.{list_any};
 ghost use Rattle.ecma_tree.specs.Sorted.{is_list};
 ghost use Rattle.ecma_tree.specs.declared.node.Node.{out-Node};
 ghost use Rattle.ecma_rules.specs.Children.{child_holds, child_is};
-ghost use Rattle.ecma_rules.specs.Members.{behind_first, fits_kind, is_binding_name, is_constructor, is_constructor_key, is_declaring, is_empty_list, is_full_constructor, is_method, is_named_pattern, is_one_parameter, is_plain_parameter, is_property_kind, is_special_by, is_special_constructor, is_special_function, is_stray_property, is_this_by, is_misfit, is_this_parameter, is_this_pattern, misfits_by, misplaces_this, misplaces_this_by, second_constructor, second_of, takes_not_one, takes_one};
+ghost use Rattle.ecma_rules.specs.Members.{behind_first, fits_kind, has_body, is_binding_name, is_constructor, is_constructor_key, is_declaring, is_empty_list, is_full_constructor, is_method, is_named_pattern, is_one_parameter, is_plain_parameter, is_property_kind, is_special_by, is_special_constructor, is_special_function, is_stray_property, is_this_by, is_misfit, is_this_parameter, is_this_pattern, misfits_by, misplaces_this, misplaces_this_by, second_constructor, second_of, takes_not_one, takes_one};
 ghost use Rattle.ecma_rules.specs.Lists.{is_rest_pattern};
 
 use crate::children::{has_child, is_named, items_at};
@@ -139,19 +139,32 @@ fn has_not_one(node: &Node, index: usize) -> bool
     }
 }
 
-/// Whether a node is a rest with a default, a getter with a parameter, or a setter that does not take one argument.
+/// Whether the second child is a function with a body.
+fn has_full_function(node: &Node) -> bool
+    ensures { result ≡ child_holds has_body node.now 1 }
+{
+    match node.children.get(1) {
+        Some(function) => has_child(function, 1),
+        None => false,
+    }
+}
+
+/// Whether a node is a rest with a default, a getter with a parameter, a setter that does not take one argument, or a getter,
+/// setter or method of an object without a body.
 ///
 ///     ({ get a() { return 1; }, set a(b) { } });
 ///     ({ get a(b) { return 1; } });   // refused
 ///     (...a = b) => c;   // refused
+///     ({ get a() });   // refused
 #[tactic(auto, unfolding(crate::specs::Members::misfits_by))]
 pub(crate) fn is_misfit(node: &Node) -> bool
     ensures { result ≡ is_misfit node.now }
 {
     match &node.kind {
         Kind::AssignPat => has_rest_pattern(node),
-        Kind::GetterProp => has_child(node, 3),
-        Kind::SetterProp => has_not_one(node, 2),
+        Kind::GetterProp => has_child(node, 3) || !has_child(node, 2),
+        Kind::SetterProp => has_not_one(node, 2) || !has_child(node, 3),
+        Kind::MethodProp => !has_full_function(node),
         Kind::ClassMethod { kind, .. } => !has_fitting(*kind, node),
         Kind::PrivateMethod { kind, .. } => !has_fitting(*kind, node),
         _ => false,

@@ -14,7 +14,7 @@ use Rattle.ecma_rules.specs.declared.standing.Around.{Around}
 use Rattle.ecma_rules.specs.declared.standing.Standing.{Standing}
 use Rattle.ecma_rules.specs.Children.{is_named, items_at, kind_of}
 use Rattle.ecma_rules.specs.Lists.{is_head, is_one_without_value, is_rest, is_rest_pattern, is_wrong_head}
-use Rattle.ecma_rules.specs.Members.{behind_first, fits_kind, is_binding_name, is_constructor_key, is_declaring, is_empty_list, is_full_constructor, is_constructor, is_method, is_misfit, is_named_pattern, is_one_parameter, is_plain_parameter, is_property_kind, is_special_by, is_special_constructor, is_special_function, is_stray_property, is_this_by, is_this_parameter, is_this_pattern, misfits_by, misplaces_this, misplaces_this_by, parameters_of, second_by, second_constructor, second_of, takes_not_one, takes_one}
+use Rattle.ecma_rules.specs.Members.{behind_first, fits_kind, is_binding_name, is_constructor_key, is_declaring, is_empty_list, is_full_constructor, is_constructor, is_method, is_misfit, is_named_pattern, is_one_parameter, is_plain_parameter, is_property_kind, is_special_by, is_special_constructor, is_special_function, is_stray_property, is_this_by, is_this_parameter, is_this_pattern, misfits_by, misplaces_this, misplaces_this_by, parameters_of, second_by, second_constructor, second_of, takes_not_one, takes_one, has_body}
 use Rattle.ecma_rules.specs.Rules.{fails_list, fails_member, fails_statement, fails_super, fails_target, is_misplaced}
 use Rattle.ecma_rules.specs.Statements.{is_declaration, is_exported, is_body, is_text}
 use Rattle.ecma_rules.specs.Supers.{is_private_name, is_super, is_linked, is_super_member}
@@ -103,8 +103,9 @@ fits-bare Setter n = ap is_one_parameter (bare-items n 0) ∙ one-parameter-bare
 misfits-bare : (k : Kind) (n : Node) → misfits_by k (without_spans n) ≡ misfits_by k n
 unfolding misfits_by
 misfits-bare kind.AssignPat n = bare-child_is is_rest_pattern n 0
-misfits-bare kind.GetterProp n = bare-has_child n 3
-misfits-bare kind.SetterProp n = bare-child_is takes_not_one n 2
+misfits-bare kind.GetterProp n = ap₂ (λ a b. a || not b) (bare-has_child n 3) (bare-has_child n 2)
+misfits-bare kind.SetterProp n = ap₂ (λ a b. a || not b) (bare-child_is takes_not_one n 2) (bare-has_child n 3)
+misfits-bare kind.MethodProp n = ap not (bare-child_holds has_body (λ m. bare-has_child m 1) n 1)
 misfits-bare (kind.ClassMethod k modifiers) n = ap not (bare-child_holds (fits_kind k) (fits-bare k) n 1)
 misfits-bare (kind.PrivateMethod k modifiers) n = ap not (bare-child_holds (fits_kind k) (fits-bare k) n 1)
 misfits-bare k n = refl

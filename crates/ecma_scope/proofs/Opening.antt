@@ -30,13 +30,13 @@ less-left : (b : Bool) (left less : ℕ) → less + cond b 0 1 ≡ left → left
 less-left true left less count = omega arith
 less-left false left less count = omega arith
 
-abbrev drawn_by : Bool → ℕ
+abbrev pub drawn_by : Bool → ℕ
 drawn_by b = cond (not b) 1 0
 
-abbrev left_by : Bool → ℕ
+abbrev pub left_by : Bool → ℕ
 left_by b = cond b 0 1
 
-one-drawn : (b : Bool) → drawn_by b ≡ left_by b
+pub one-drawn : (b : Bool) → drawn_by b ≡ left_by b
 one-drawn true = refl
 one-drawn false = refl
 

@@ -80,7 +80,7 @@ module _ (unresolved top : ℕ) (places : ℕ → Place) where
       ap (λ z. rest_placed z i left) (drop-item nodes i x at)
       ∙ ap₂ (λ k l. resolved_at unresolved top x (places i) left ∷ rest_placed (drop (i + 1) nodes) k l) next rest
 
-  rest_count-next : (nodes : List Node) (i : ℕ) (x : Node) → slice_get nodes i ≡ Some x
+  pub rest_count-next : (nodes : List Node) (i : ℕ) (x : Node) → slice_get nodes i ≡ Some x
       → rest_count (drop i nodes) i ≡ context_count x (places i).role + rest_count (drop (i + 1) nodes) (i + 1)
   rest_count-next nodes i x at =
       let next : suc i ≡ i + 1 = omega arith in

@@ -1,5 +1,5 @@
 -- Declarations that may not stand beside each other.
-use Rattle.std.specs.Prelude.{◌≡◌, ℕ, suc, Bool, true, false, ◌&&◌, ◌||◌, not, List, [], ◌∷◌, ◌++◌, filter, Option, None, Result, Ok, Err, bytes_eq, cond}
+use Rattle.std.specs.Prelude.{ℕ, suc, Bool, true, false, ◌&&◌, ◌||◌, not, List, [], ◌∷◌, ◌++◌, filter, Option, None, bytes_eq, cond}
 use Rattle.std.specs.List.{list_any}
 use Rattle.ecma_tree.specs.declared.node.Node.{Node, out-Node}
 use Rattle.ecma_scope.specs.declared.role.Role.{Role}
@@ -8,8 +8,6 @@ use Rattle.ecma_scope.specs.declared.form.Form.{Form}
 use Rattle.ecma_scope.specs.declared.form.Form.TheVariants as form
 use Rattle.ecma_scope.specs.declared.form.Part.TheVariants as part
 use Rattle.ecma_scope.specs.declared.form.Declaration.{Declaration}
-use Rattle.ecma_scope.specs.declared.error.ScopeError.{ScopeError}
-use Rattle.ecma_scope.specs.declared.error.ScopeError.TheVariants.{Redeclared, NoMemory}
 use Rattle.ecma_scope.specs.declared.index.Index.{Index}
 use Rattle.ecma_scope.specs.Indexed.{states_of}
 use Rattle.ecma_scope.specs.Scopes.{covers, is_ambient, is_root, opens, role_in}
@@ -85,25 +83,29 @@ marked earlier (d ∷ ds) = mark earlier d ∷ marked (earlier ++ mark earlier d
 abbrev pub passing : Role → Node → List Declaration
 passing r node = cond (holds_vars r (out-Node node).kind) [] (filter (λ d. d.stays) (declarations node (record { part = part.Var; stays = not (is_ambient r) })))
 
-abbrev pub is_function_body : Role → Bool
-is_function_body role.Body = true
-is_function_body _ = false
+-- whether parameters are declared in the scope around: the body of a function, and the block of a `catch` (ECMAScript, 15.2.1, 14.15.1)
+abbrev pub has_parameters : Role → Bool
+has_parameters role.Body = true
+has_parameters role.CatchBody = true
+has_parameters _ = false
 
--- a declaration conflicts with one before it, or, where it is lexical in the body of a function, with a parameter
+-- a declaration conflicts with one before it, or, where it is lexical in the body of a function or the block of a `catch`, with a parameter
 --   function f(a) { { let a; } }
 --   function f(a) { let a; }   // refused
+--   try { } catch (a) { { let a; } }
+--   try { } catch (a) { let a; }   // refused
 abbrev pub clashes : Role → (List ℕ → Option Bool) → List Declaration → Declaration → Bool
-clashes r around earlier d = list_any (λ e. conflict r e d) earlier || (is_function_body r && (is_lexical r d.form && is_stated (around d.sym)))
+clashes r around earlier d = list_any (λ e. conflict r e d) earlier || (has_parameters r && (is_lexical r d.form && is_stated (around d.sym)))
 
 -- the texts of the declarations that do, in their order
 abbrev pub clashing : Role → (List ℕ → Option Bool) → List Declaration → List Declaration → List (List ℕ)
 clashing r around earlier [] = []
 clashing r around earlier (d ∷ ds) = cond (clashes r around earlier d) (d.sym ∷ []) [] ++ clashing r around (earlier ++ d ∷ []) ds
 
--- whether a name of this text belongs to a scope further out: a `var` that passes through, or, in the body of a function, a parameter
+-- whether a name of this text belongs to a scope further out: a `var` that passes through, or, in the body of a function or the block of a `catch`, a parameter
 --   { function f(): void; var f; }   // refused
 abbrev pub is_further_out : Role → (List ℕ → Option Bool) → List Declaration → List ℕ → Bool
-is_further_out r around passed sym = declares passed sym || (is_function_body r && is_stated (around sym))
+is_further_out r around passed sym = declares passed sym || (has_parameters r && is_stated (around sym))
 
 -- the declarations that meet in the scope of a node: its own that stay, or go and have the text of a name further out, and the `var` names that pass through
 abbrev pub meeting : Role → (List ℕ → Option Bool) → Node → List Declaration
@@ -134,7 +136,8 @@ clash_step node children s = own_clashes s node ++ clashes_in (surrounds s node)
 abbrev pub redeclared_at : Node → Surrounding → List (List ℕ)
 redeclared_at = from_leaves (Surrounding → List (List ℕ)) clash_step
 
--- the texts that are declared again where they may not be: by scopes in the order of the text, and in each by its declarations
+-- the texts that are declared again where they may not be: by scopes in the order of the text, and in each by its declarations; specs/Clashes says which
+-- is told
 abbrev pub nothing : List ℕ → Option Bool
 nothing sym = None
 
@@ -142,12 +145,6 @@ nothing sym = None
 --   let a; let a;   // refused
 abbrev pub redeclared : Node → List (List ℕ)
 redeclared tree = redeclared_at tree (record { role = role.Root; around = nothing })
-
--- none of them, or the first
-abbrev pub Answers : Result (Unit {0}) ScopeError → List (List ℕ) → Type 0
-Answers (Ok _) texts = texts ≡ []
-Answers (Err (Redeclared name)) texts = (rest : List (List ℕ)) × (texts ≡ name ∷ rest)
-Answers (Err NoMemory) texts = Unit {0}
 
 -- what stands around the children of a node whose scope, if it covers them, declares its own names
 abbrev pub chosen : Bool → Index → Index → Index

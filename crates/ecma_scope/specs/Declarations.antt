@@ -6,7 +6,7 @@ use Rattle.ecma_kind.specs.declared.kind.Kind.TheVariants as kind
 use Rattle.ecma_kind.specs.declared.operators.VarDeclKind.TheVariants as var_kind
 use Rattle.ecma_tree.specs.declared.node.Node.{Node, out-Node}
 use Rattle.ecma_tree.specs.Layers.{from_leaves}
-use Rattle.ecma_tree.specs.Values.{is_value}
+use Rattle.ecma_tree.specs.Values.{is_value_where}
 use Rattle.ecma_scope.specs.declared.role.Role.{Role}
 use Rattle.ecma_scope.specs.declared.role.Role.TheVariants as role
 use Rattle.ecma_scope.specs.declared.form.Form.{Form}
@@ -94,7 +94,7 @@ in_default stays value _ i = None
 
 -- the names of the scope that a node opens, but for its `var` names; the node may be a value
 --   for (let a of b) { }   // the loop declares a
---   try { } catch (c) { let d; }   // the catch declares c and d
+--   try { } catch (c) { let d; }   // the catch declares c, and its block d
 unfoldable pub in_scope : Bool → Bool → Kind → ℕ → Option Sought
 in_scope stays value (kind.Module shebang) i = seek part.Item stays
 in_scope stays value (kind.Script shebang) i = seek part.Item stays
@@ -104,7 +104,7 @@ in_scope stays value kind.SwitchStmt i = seek_at 1 i part.Item stays
 in_scope stays value kind.ForStmt i = seek_at 0 i part.Item stays
 in_scope stays value kind.ForInStmt i = seek_at 0 i part.Item stays
 in_scope stays value (kind.ForOfStmt is_await) i = seek_at 0 i part.Item stays
-in_scope stays value kind.CatchClause i = cond (i == 0) (seek (part.Name form.Catch) stays) (seek part.Scope stays)
+in_scope stays value kind.CatchClause i = seek_at 0 i (part.Name form.Catch) stays
 in_scope stays value (kind.Function is_generator is_async) i = seek_at 0 i (part.Name form.Parameter) stays
 in_scope stays value (kind.ArrowExpr is_async is_generator) i = seek_at 0 i (part.Name form.Parameter) stays
 in_scope stays value (kind.Constructor accessibility is_optional) i = seek_at 1 i (part.Name form.Parameter) stays
@@ -131,8 +131,10 @@ sought_by part.Member stays value k i = in_member stays k i
 sought_by part.Var stays value k i = in_var stays k
 sought_by (part.Name f) stays value k i = in_name f stays k i
 
+-- an ambient scope is one whose declarations do not stay
+--   namespace O { declare namespace N { function f(): void } }   // O declares N, which goes
 unfoldable pub sought_in : Sought → Node → ℕ → Option Sought
-sought_in sought node i = sought_by sought.part sought.stays (is_value node) (out-Node node).kind i
+sought_in sought node i = sought_by sought.part sought.stays (is_value_where sought.stays node) (out-Node node).kind i
 
 abbrev named_by : Part → List ℕ → Bool → List Declaration
 named_by (part.Name f) sym stays = record { sym = sym; form = f; stays = stays } ∷ []

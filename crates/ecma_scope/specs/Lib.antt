@@ -3,8 +3,11 @@ pub mod Declarations
 pub mod Resolved
 pub mod Indexed
 pub mod Frames
+pub mod Drawing
 pub mod Bindings
 pub mod Conflicts
+pub mod Located
+pub mod Clashes
 pub mod Bodies
 pub mod Meetings
 pub mod Needs

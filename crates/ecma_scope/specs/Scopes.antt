@@ -82,10 +82,6 @@ abbrev pub is_default : Role → Bool
 is_default role.Default = true
 is_default _ = false
 
-abbrev pub is_catch_body : Role → Bool
-is_catch_body role.CatchBody = true
-is_catch_body _ = false
-
 -- whether a node of this role and kind opens a scope; a function as an expression may have a name
 --   { let a; } a;   // the last a is free
 --   (function f() { f; }); f;   // so is the last f
@@ -103,7 +99,7 @@ opens_by r kind.FnExpr named = named && not (is_default r)
 opens_by r kind.ClassExpr named = true
 opens_by r (kind.ClassDecl declare) named = true
 opens_by r (kind.TsEnumDecl declare is_const) named = true
-opens_by r kind.BlockStmt named = not (is_catch_body r)
+opens_by r kind.BlockStmt named = true
 opens_by r kind.SwitchStmt named = true
 opens_by r kind.ForStmt named = true
 opens_by r kind.ForInStmt named = true

@@ -1,12 +1,12 @@
 -- Which identifiers are used.
-use Rattle.std.specs.Prelude.{ℕ, suc, Bool, ◌||◌, ◌==◌, not, List, [], ◌∷◌, ◌++◌, cond}
+use Rattle.std.specs.Prelude.{ℕ, Bool, ◌||◌, ◌==◌, not, List, [], ◌∷◌, Option, Some, cond}
 use Rattle.ecma_kind.specs.declared.kind.Kind.{Kind}
 use Rattle.ecma_kind.specs.declared.kind.Kind.TheVariants as kind
 use Rattle.ecma_tree.specs.declared.node.Node.{Node, out-Node}
 use Rattle.ecma_scope.specs.declared.uses.Use.{Use}
 use Rattle.ecma_scope.specs.declared.uses.Use.TheVariants as stands
 use Rattle.ecma_scope.specs.Scopes.{is_there}
-use Rattle.ecma_tree.specs.Layers.{from_leaves}
+use Rattle.ecma_walks.specs.Listing.{listed}
 
 -- the child that is meant stands so, and the others otherwise
 abbrev pub use_at : ℕ → ℕ → Use → Use → Use
@@ -79,16 +79,14 @@ unfoldable pub used_here : Use → Kind → List UsedId
 used_here stands.Used (kind.Ident sym ctxt optional) = (sym, ctxt) ∷ []
 used_here _ _ = []
 
--- what is used in children, of which the first is the one at i
-abbrev pub used_from : (ℕ → Use) → ℕ → List (Use → List UsedId) → List UsedId
-used_from use_of i [] = []
-used_from use_of i (child ∷ children) = child (use_of i) ++ used_from use_of (suc i) children
+abbrev pub used_in_node : Use → Node → List UsedId
+used_in_node use_ node = used_here use_ (out-Node node).kind
 
-abbrev pub used_step : Node → List (Use → List UsedId) → Use → List UsedId
-used_step node children use_ = used_here use_ (out-Node node).kind ++ used_from (use_in use_ node) 0 children
+abbrev pub used_in_child : Use → Node → ℕ → Option Use
+used_in_child use_ node i = Some (use_in use_ node i)
 
 abbrev pub used_at : Node → Use → List UsedId
-used_at = from_leaves (Use → List UsedId) used_step
+used_at = listed Use UsedId used_in_child used_in_node
 
 -- the ids of the identifiers that are used in a tree, in the order of the text: those that stand outside types, imports, type-only exports and
 -- exports with a source, and are no declared names; the first name of `import a = b.c` is used unless it is written `type`

@@ -1,19 +1,22 @@
 //! Declarations that may not stand beside each other.
-ghost use Rattle.std.specs.Prelude.{◌≡◌, ◌<◌, ◌&&◌, ◌||◌, [], ◌∷◌, List, ℕ, IfOk, OnOk, bytes_eq, cond, map, true, false};
-ghost use Rattle.std.specs.List.{list_any};
+ghost use Rattle.std.specs.Prelude.{◌≡◌, ◌<◌, ◌&&◌, ◌||◌, [], List, ℕ, IfOk, OnOk, cond, map, true, false};
+ghost use Rattle.std.specs.Option.{option_map};
 ghost use Rattle.ecma_tree.specs.declared.node.Node.{out-Node};
 ghost use Rattle.ecma_scope.specs.declared.form.Form.TheVariants as form;
 ghost use Rattle.ecma_scope.specs.Declarations.{is_body, is_stated, names, stated};
 ghost use Rattle.ecma_scope.specs.Bodies.{may_hold_body};
 ghost use Rattle.ecma_scope.specs.Indexed.{states_of};
 ghost use Rattle.ecma_scope.specs.Scopes.{opens};
-ghost use Rattle.ecma_scope.specs.Meetings.{clashes_with, meets, met_in};
-ghost use Rattle.ecma_scope.specs.Conflicts.{Answers, clashing, is_catch, is_function_body, is_lexical, is_parameter, child_surrounding, chosen, clashes_in, is_var, mark, marked, may_be_merged, may_merge, meeting, merges, passing, redeclared, redeclared_at, surrounding};
+ghost use Rattle.ecma_scope.specs.Meetings.{clashes_first, meets, met_in};
+ghost use Rattle.ecma_scope.specs.Located.{declarations_of, has_merged, located_marked, located_meeting, located_names, located_passing};
+ghost use Rattle.ecma_scope.specs.Clashes.{Answers, clash_at, clashes_among, clashes_at, clashes_below, first_clash, first_redeclared, name_of};
+ghost use Rattle.ecma_scope.specs.Conflicts.{is_catch, has_parameters, is_lexical, is_parameter, child_surrounding, chosen, is_var, may_be_merged, may_merge, surrounding};
 
+use crate::clash::{Clash, sooner};
 use crate::error::ScopeError;
-use crate::form::{Declaration, Form, Part, Sought};
+use crate::form::{Declaration, Form, Located, Part, Sought};
 use crate::index::{Index, empty_index, index_of, states};
-use crate::meetings::{Meetings, Met, hits, meet, met_in, no_meetings};
+use crate::meetings::{Meetings, Met, hit, lesser, meet, met_in, no_meetings, only};
 use crate::names::push_declarations;
 use crate::role::{Role, covers, is_ambient, is_root, opens, role_in};
 use crate::stated::{holds_vars, is_body, is_stated, own_names};
@@ -68,17 +71,20 @@ fn may_be_merged(form: Form) -> bool
     )
 }
 
-fn is_function_body(role: Role) -> bool
-    ensures { result ≡ is_function_body role }
+/// Whether parameters are declared in the scope around.
+fn has_parameters(role: Role) -> bool
+    ensures { result ≡ has_parameters role }
 {
-    matches!(role, Role::Body)
+    matches!(role, Role::Body | Role::CatchBody)
 }
 
-fn has_merged(earlier: &[Declaration], name: &Declaration) -> bool
-    ensures { result ≡ list_any (λ e. bytes_eq e.sym name.now.sym && may_be_merged e.form) earlier.now }
+fn has_merged(earlier: &[Located], name: &Declaration) -> bool
+    ensures { result ≡ has_merged earlier.now name.now }
 {
     for other in earlier {
-        if other.sym.as_str() == name.sym.as_str() && may_be_merged(other.form) {
+        if other.declaration.sym.as_str() == name.sym.as_str()
+            && may_be_merged(other.declaration.form)
+        {
             return true;
         }
     }
@@ -86,42 +92,46 @@ fn has_merged(earlier: &[Declaration], name: &Declaration) -> bool
 }
 
 /// Whether a declaration merges with one of those before it.
-fn merges(earlier: &[Declaration], name: &Declaration) -> bool
-    ensures { result ≡ merges earlier.now name.now }
+fn merges(earlier: &[Located], name: &Declaration) -> bool
+    ensures { result ≡ (may_merge name.now.form && has_merged earlier.now name.now) }
 {
     may_merge(name.form) && has_merged(earlier, name)
 }
 
-fn clashes(role: Role, around: &Index, met: Met, name: &Declaration) -> bool
-    ensures { result ≡ clashes_with role (states_of around.now) met name.now }
+/// Where a declaration clashes first with one of those that were met, or with a parameter that stands around it.
+fn clashes_first(role: Role, around: &Index, met: Met, name: &Located) -> Option<u32>
+    ensures { result ≡ clashes_first role (states_of around.now) met name.now }
 {
-    hits(role, met, name.form)
-        || (is_function_body(role)
-            && (is_lexical(role, name.form) && is_stated(states(around, &name.sym))))
+    let at = name.at;
+    let declaration = &name.declaration;
+    let before = hit(role, met, declaration.form).map(|other| other.max(at));
+    let in_body = has_parameters(role)
+        && (is_lexical(role, declaration.form) && is_stated(states(around, &declaration.sym)));
+    lesser(before, only(in_body, Some(at)))
 }
 
-fn set_merged(name: &mut Declaration, merged: bool)
-    ensures { name.new ≡ cond merged (record name.old { form = form.Merged }) name.old }
+fn set_merged(name: &mut Located, merged: bool)
+    ensures { name.new ≡ record name.old { declaration = cond merged (record name.old.declaration { form = form.Merged }) name.old.declaration } }
 {
     if merged {
-        name.form = Form::Merged;
+        name.declaration.form = Form::Merged;
     }
 }
 
 /// Marks the declarations that merge with one before them.
-fn mark_merged(names: &mut ItemList<Declaration>)
-    ensures { names.new ≡ marked [] names.old }
+fn mark_merged(names: &mut ItemList<Located>)
+    ensures { names.new ≡ located_marked [] names.old }
 {
     let count = names.len();
     for i in 0..count {
-        let merged = merges(&names.as_slice()[..i], names.at(i));
+        let merged = merges(&names.as_slice()[..i], &names.at(i).declaration);
         set_merged(names.get_mut(i), merged);
     }
 }
 
 /// The `var` names that pass through the scope of a node, as values that stay.
-fn passing(alloc: Global, role: Role, node: &Node) -> Result<ItemList<Declaration>, NoMemory>
-    ensures { IfOk result (λ names. names ≡ passing role node.now) }
+fn passing(alloc: Global, role: Role, node: &Node) -> Result<ItemList<Located>, NoMemory>
+    ensures { IfOk result (λ names. names ≡ located_passing role node.now) }
 {
     let mut names = ItemList::new(alloc);
     if holds_vars(role, &node.kind) {
@@ -130,15 +140,15 @@ fn passing(alloc: Global, role: Role, node: &Node) -> Result<ItemList<Declaratio
     let stays = !is_ambient(role);
     let part = Part::Var;
     push_declarations(Sought { part, stays }, node, &mut names)?;
-    names.retain(|name| name.stays);
+    names.retain(|name| name.declaration.stays);
     Ok(names)
 }
 
 /// Whether a name of this text belongs to a scope further out.
 fn is_further_out(role: Role, around: &Index, passed: &Index, sym: &JsWord) -> bool
-    ensures { result ≡ (is_stated (states_of passed.now sym.now) || (is_function_body role && is_stated (states_of around.now sym.now))) }
+    ensures { result ≡ (is_stated (states_of passed.now sym.now) || (has_parameters role && is_stated (states_of around.now sym.now))) }
 {
-    is_stated(states(passed, sym)) || (is_function_body(role) && is_stated(states(around, sym)))
+    is_stated(states(passed, sym)) || (has_parameters(role) && is_stated(states(around, sym)))
 }
 
 /// The declarations that meet in the scope of a node, which declares these names.
@@ -147,35 +157,38 @@ fn meeting(
     role: Role,
     around: &Index,
     node: &Node,
-    own: ItemList<Declaration>,
-) -> Result<ItemList<Declaration>, NoMemory>
-    requires { own ≡ names role (states_of around.now) node.now }
-    ensures { IfOk result (λ names. names ≡ meeting role (states_of around.now) node.now) }
+    own: ItemList<Located>,
+) -> Result<ItemList<Located>, NoMemory>
+    requires { own ≡ located_names role (states_of around.now) node.now }
+    ensures { IfOk result (λ names. names ≡ located_meeting role (states_of around.now) node.now) }
 {
     let passed = passing(alloc, role, node)?;
     let index = index_of(alloc, &passed)?;
     let mut names = own;
-    names.retain(|name| name.stays || is_further_out(role, around, &index, &name.sym));
+    names.retain(|name| {
+        name.declaration.stays || is_further_out(role, around, &index, &name.declaration.sym)
+    });
     mark_merged(&mut names);
     names.append(passed)?;
     Ok(names)
 }
 
-/// The refusal of a name that is declared again.
-fn refusal(name: &Declaration) -> ScopeError
-    ensures { (rest : List (List ℕ)) → Answers (Err result) (name.now.sym ∷ rest) }
+/// The clash of a declaration, if it clashes at some offset.
+fn clash_of(name: &Located, at: Option<u32>) -> Result<Option<Clash>, NoMemory>
+    ensures { IfOk result (λ clash. clash ≡ option_map (clash_at name.now.declaration.sym) at) }
 {
-    match name.sym.clone() {
-        Ok(name) => ScopeError::Redeclared { name },
-        Err(_) => ScopeError::NoMemory,
-    }
+    let Some(at) = at else {
+        return Ok(None);
+    };
+    let name = name.declaration.sym.clone()?;
+    Ok(Some(Clash { name, at }))
 }
 
 /// Adds a declaration that so many others are still to meet.
 fn meet_before(
     role: Role,
     meetings: &mut Meetings,
-    name: &Declaration,
+    name: &Located,
     others: usize,
 ) -> Result<(), NoMemory>
     ensures { OnOk result (0 < others → (text : List ℕ) → met_in meetings.new text ≡ meets role (met_in meetings.old) name.now text) }
@@ -186,27 +199,26 @@ fn meet_before(
     meet(role, meetings, name)
 }
 
-/// Refuses the first declaration that conflicts with one before it.
-fn check_meeting(
+/// The first clash among these declarations.
+fn first_among(
     alloc: Global,
     role: Role,
     around: &Index,
-    names: &ItemList<Declaration>,
-) -> Result<(), ScopeError>
-    ensures { Answers result (clashing role (states_of around.now) [] names.now) }
+    names: &ItemList<Located>,
+) -> Result<Option<Clash>, NoMemory>
+    ensures { IfOk result (λ first. first ≡ first_clash (clashes_among role (states_of around.now) [] names.now)) }
 {
     let mut meetings = no_meetings(alloc);
+    let mut first = None;
     let count = names.len();
     for i in 0..count {
         let name = names.at(i);
-        if clashes(role, around, met_in(&meetings, &name.sym), name) {
-            return Err(refusal(name));
-        }
-        let Ok(_added) = meet_before(role, &mut meetings, name, count - i - 1) else {
-            return Err(ScopeError::NoMemory);
-        };
+        let met = met_in(&meetings, &name.declaration.sym);
+        let clash = clash_of(name, clashes_first(role, around, met, name))?;
+        first = sooner(first, clash);
+        meet_before(role, &mut meetings, name, count - i - 1)?;
     }
-    Ok(())
+    Ok(first)
 }
 
 fn chosen<'a>(covered: bool, own: &'a Index, around: &'a Index) -> &'a Index
@@ -215,7 +227,7 @@ fn chosen<'a>(covered: bool, own: &'a Index, around: &'a Index) -> &'a Index
     if covered { own } else { around }
 }
 
-/// Whether a node of this kind may have the body of a function as its child.
+/// Whether a node of this kind may have the body of a function, or the block of a `catch`, as its child.
 fn may_hold_body(kind: &Kind) -> bool
     ensures { result ≡ may_hold_body kind.now }
 {
@@ -225,17 +237,14 @@ fn may_hold_body(kind: &Kind) -> bool
         Kind::Constructor { .. } => true,
         Kind::GetterProp => true,
         Kind::SetterProp => true,
+        Kind::CatchClause => true,
         _ => false,
     }
 }
 
 /// An index of these declarations where the node may hold the body of a function, and else of none.
-fn index_for_bodies(
-    alloc: Global,
-    kind: &Kind,
-    own: &ItemList<Declaration>,
-) -> Result<Index, NoMemory>
-    ensures { IfOk result (λ index. may_hold_body kind.now ≡ true → (text : List ℕ) → states_of index text ≡ stated own.now text) }
+fn index_for_bodies(alloc: Global, kind: &Kind, own: &ItemList<Located>) -> Result<Index, NoMemory>
+    ensures { IfOk result (λ index. may_hold_body kind.now ≡ true → (text : List ℕ) → states_of index text ≡ stated (declarations_of own.now) text) }
 {
     if may_hold_body(kind) {
         index_of(alloc, own)
@@ -244,80 +253,97 @@ fn index_for_bodies(
     }
 }
 
-/// Refuses the first declaration in a node that conflicts with one before it.
+/// The first clash in a node.
 #[cycle(checking)]
-fn check_in(alloc: Global, role: Role, around: &Index, node: &Node) -> Result<(), ScopeError>
-    ensures { Answers result (redeclared_at node.now (surrounding role around.now)) }
+fn first_in(
+    alloc: Global,
+    role: Role,
+    around: &Index,
+    node: &Node,
+) -> Result<Option<Clash>, NoMemory>
+    ensures { IfOk result (λ first. first ≡ first_clash (clashes_at node.now (surrounding role around.now))) }
 {
     if opens(role, node) {
-        check_scope(alloc, role, around, node)
+        first_in_scope(alloc, role, around, node)
     } else {
-        check_plain(alloc, role, around, node)
+        first_in_plain(alloc, role, around, node)
     }
 }
 
 /// The same for a node that opens a scope.
 #[cycle(checking)]
-fn check_scope(alloc: Global, role: Role, around: &Index, node: &Node) -> Result<(), ScopeError>
+fn first_in_scope(
+    alloc: Global,
+    role: Role,
+    around: &Index,
+    node: &Node,
+) -> Result<Option<Clash>, NoMemory>
     requires { opens role node.now ≡ true }
-    ensures { Answers result (redeclared_at node.now (surrounding role around.now)) }
+    ensures { IfOk result (λ first. first ≡ first_clash (clashes_at node.now (surrounding role around.now))) }
 {
-    let Ok(own) = own_names(alloc, role, around, node) else {
-        return Err(ScopeError::NoMemory);
-    };
-    let Ok(index) = index_for_bodies(alloc, &node.kind, &own) else {
-        return Err(ScopeError::NoMemory);
-    };
-    let Ok(names) = meeting(alloc, role, around, node, own) else {
-        return Err(ScopeError::NoMemory);
-    };
-    if let Err(error) = check_meeting(alloc, role, around, &names) {
-        return Err(error);
-    }
-    check_children(alloc, role, &index, around, node)
+    let own = own_names(alloc, role, around, node)?;
+    let index = index_for_bodies(alloc, &node.kind, &own)?;
+    let names = meeting(alloc, role, around, node, own)?;
+    let here = first_among(alloc, role, around, &names)?;
+    let below = first_below(alloc, role, &index, around, node)?;
+    Ok(sooner(here, below))
 }
 
 /// The same for a node that opens no scope.
 #[cycle(checking)]
-fn check_plain(alloc: Global, role: Role, around: &Index, node: &Node) -> Result<(), ScopeError>
+fn first_in_plain(
+    alloc: Global,
+    role: Role,
+    around: &Index,
+    node: &Node,
+) -> Result<Option<Clash>, NoMemory>
     requires { opens role node.now ≡ false }
-    ensures { Answers result (redeclared_at node.now (surrounding role around.now)) }
+    ensures { IfOk result (λ first. first ≡ first_clash (clashes_at node.now (surrounding role around.now))) }
 {
+    let mut first = None;
     for i in 0..node.children.len() {
-        let child = node.children.at(i);
-        if let Err(error) = check_in(alloc, role_in(role, node, i), around, child) {
-            return Err(error);
-        }
+        let clash = first_in(alloc, role_in(role, node, i), around, node.children.at(i))?;
+        first = sooner(first, clash);
     }
-    Ok(())
+    Ok(first)
 }
 
 /// The same for the children of a node whose scope declares what an index of its own says.
 #[cycle(checking)]
-fn check_children(
+fn first_below(
     alloc: Global,
     role: Role,
     own: &Index,
     around: &Index,
     node: &Node,
-) -> Result<(), ScopeError>
-    ensures { Answers result (clashes_in (child_surrounding role own.now around.now node.now) 0 (map redeclared_at (out-Node node.now).children)) }
+) -> Result<Option<Clash>, NoMemory>
+    ensures { IfOk result (λ first. first ≡ first_clash (clashes_below (child_surrounding role own.now around.now node.now) 0 (map clashes_at (out-Node node.now).children))) }
 {
+    let mut first = None;
     for i in 0..node.children.len() {
         let inner = chosen(covers(role, &node.kind, i), own, around);
-        let child = node.children.at(i);
-        if let Err(error) = check_in(alloc, role_in(role, node, i), inner, child) {
-            return Err(error);
-        }
+        let clash = first_in(alloc, role_in(role, node, i), inner, node.children.at(i))?;
+        first = sooner(first, clash);
     }
-    Ok(())
+    Ok(first)
 }
 
-/// Whether no name is declared again where it may not be; else `Redeclared` names the first that is, by scopes in the
-/// order of the text, and in each by its declarations.
+/// What a check answers whose first clash is this.
+fn answer(first: Option<Clash>) -> Result<(), ScopeError>
+    ensures { Answers result (option_map name_of first) }
+{
+    match first {
+        None => Ok(()),
+        Some(Clash { name, .. }) => Err(ScopeError::Redeclared { name }),
+    }
+}
+
+/// Whether no name is declared again where it may not be; else `Redeclared` tells the name that is, first in the text: of each two declarations
+/// that may not stand beside each other the later counts.
 pub fn check_scopes(alloc: Global, tree: &Module) -> Result<(), ScopeError>
-    ensures { Answers result (redeclared tree.now) }
+    ensures { Answers result (first_redeclared tree.now) }
 {
     let none = empty_index(alloc);
-    check_in(alloc, Role::Root, &none, tree)
+    let first = first_in(alloc, Role::Root, &none, tree)?;
+    answer(first)
 }

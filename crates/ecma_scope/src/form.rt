@@ -34,6 +34,14 @@ pub struct Declaration {
     pub stays: bool,
 }
 
+/// A declaration, and where its name stands in the text.
+#[derive(Debug, Drop)]
+pub(crate) struct Located {
+    pub(crate) declaration: Declaration,
+    /// The byte offset of the name, from 0 on.
+    pub(crate) at: u32,
+}
+
 /// Which declarations are looked for in a node.
 #[derive(Clone, Copy, Debug)]
 pub enum Part {

@@ -1,10 +1,10 @@
 //! A scope that is in force.
 ghost use Rattle.std.specs.Prelude.{◌≡◌, IfOk};
-ghost use Rattle.ecma_scope.specs.Declarations.{names};
+ghost use Rattle.ecma_scope.specs.Located.{located_names};
 ghost use Rattle.ecma_scope.specs.Resolved.{context_in, innermost};
 ghost use Rattle.ecma_scope.specs.Frames.{scopes_of};
 
-use crate::form::Declaration;
+use crate::form::Located;
 use crate::index::{Index, empty_index, states};
 use crate::role::Role;
 use crate::stated::own_names;
@@ -46,8 +46,8 @@ pub(crate) fn names_inside(
     role: Role,
     frames: &ItemList<Frame>,
     node: &Node,
-) -> Result<ItemList<Declaration>, NoMemory>
-    ensures { IfOk result (λ own. own ≡ names role (innermost (scopes_of frames.now)) node.now) }
+) -> Result<ItemList<Located>, NoMemory>
+    ensures { IfOk result (λ own. own ≡ located_names role (innermost (scopes_of frames.now)) node.now) }
 {
     let count = frames.len();
     if count == 0 {

@@ -2,8 +2,9 @@
 ghost use Rattle.std.specs.Prelude.{◌≡◌, None, List, ℕ, IfOk, OnOk, false, unwrap_or};
 ghost use Rattle.ecma_scope.specs.Declarations.{stated};
 ghost use Rattle.ecma_scope.specs.Indexed.{states_of, adds};
+ghost use Rattle.ecma_scope.specs.Located.{declarations_of};
 
-use crate::form::Declaration;
+use crate::form::{Declaration, Located};
 use ecma_tree::{JsWord, NoMemory};
 use item_list::ItemList;
 use std::alloc::Global;
@@ -59,12 +60,12 @@ fn add(index: &mut Index, name: &Declaration) -> Result<(), NoMemory>
 
 /// Of these declarations.
 #[tactic(auto, using(crate::proofs::Indexing::indexing))]
-pub(crate) fn index_of(alloc: Global, names: &ItemList<Declaration>) -> Result<Index, NoMemory>
-    ensures { IfOk result (λ index. (sym : List ℕ) → states_of index sym ≡ stated names.now sym) }
+pub(crate) fn index_of(alloc: Global, names: &ItemList<Located>) -> Result<Index, NoMemory>
+    ensures { IfOk result (λ index. (sym : List ℕ) → states_of index sym ≡ stated (declarations_of names.now) sym) }
 {
     let mut index = index_for(alloc, names.len())?;
     for i in 0..names.len() {
-        add(&mut index, names.at(i))?;
+        add(&mut index, &names.at(i).declaration)?;
     }
     Ok(index)
 }

@@ -2,7 +2,7 @@
 //!
 //! Each function carries one law, and does nothing.
 ghost use Rattle.ecma_scope.specs.Bindings.{ResolvedFollows};
-ghost use Rattle.ecma_scope.specs.Laws.{ResolvedChangesContexts, ResolvedKeepsSorts};
+ghost use Rattle.ecma_scope.specs.Laws.{ResolvedChangesContexts, ResolvedKeepsSorts, ToldWhereRedeclared};
 ghost use Rattle.ecma_scope.specs.Needs.{NeededSuffice};
 
 /// In a resolved tree the contexts say what identifiers name: a free one, and it alone, has the unresolved context, and two that are
@@ -24,4 +24,10 @@ pub fn needed_contexts_suffice()
 pub fn resolving_changes_contexts_alone()
     ensures tree { ResolvedChangesContexts }
     ensures sorts { ResolvedKeepsSorts }
+{}
+
+/// A check of scopes tells a name exactly where one is declared again where it may not be.
+#[tactic(auto, using(crate::proofs::Telling::telling))]
+pub fn a_name_is_told_where_one_is_redeclared()
+    ensures { ToldWhereRedeclared }
 {}

@@ -1,6 +1,7 @@
 //! Scopes and bindings: which declaration each identifier of a module names.
 #![tactic(auto)]
 
+mod clash;
 mod conflicts;
 mod error;
 mod form;
@@ -18,7 +19,10 @@ mod uses;
 pub use conflicts::check_scopes;
 pub use error::ScopeError;
 pub use form::{Declaration, Form, Part, Sought};
-pub use laws::{ids_follow_bindings, needed_contexts_suffice, resolving_changes_contexts_alone};
+pub use laws::{
+    a_name_is_told_where_one_is_redeclared, ids_follow_bindings, needed_contexts_suffice,
+    resolving_changes_contexts_alone,
+};
 pub use names::sought_in;
 pub use needed::needs;
 pub use resolver::resolve;

@@ -1,11 +1,13 @@
 //! The names that a scope declares.
 ghost use Rattle.std.specs.Prelude.{◌≡◌, ◌++◌, OnOk};
 ghost use Rattle.ecma_tree.specs.declared.node.Node.{out-Node};
-ghost use Rattle.ecma_tree.specs.Values.{is_value};
-ghost use Rattle.ecma_scope.specs.Declarations.{declarations, declared_here, found_at, in_default, in_item, in_member, in_name, in_scope, in_var, seek, seek_at, sought_by, sought_in};
+ghost use Rattle.ecma_tree.specs.Values.{is_value_where};
+ghost use Rattle.ecma_scope.specs.Located.{located, located_here};
+ghost use Rattle.ecma_walks.specs.Listing.{listed_within};
+ghost use Rattle.ecma_scope.specs.Declarations.{declared_here, in_default, in_item, in_member, in_name, in_scope, in_var, seek, seek_at, sought_by, sought_in};
 
-use crate::form::{Declaration, Form, Part, Sought};
-use ecma_tree::{Kind, NoMemory, Node, VarDeclKind, is_value};
+use crate::form::{Declaration, Form, Located, Part, Sought};
+use ecma_tree::{Kind, NoMemory, Node, VarDeclKind, is_value_where};
 use item_list::ItemList;
 
 fn seek(part: Part, stays: bool) -> Option<Sought>
@@ -76,7 +78,7 @@ fn in_var(stays: bool, kind: &Kind) -> Option<Sought>
 
 #[tactic(auto, unfolding(crate::specs::Declarations::in_item))]
 fn in_item(stays: bool, node: &Node, index: usize) -> Option<Sought>
-    ensures { result ≡ in_item stays (is_value node.now) (out-Node node.now).kind index }
+    ensures { result ≡ in_item stays (is_value_where stays node.now) (out-Node node.now).kind index }
 {
     match &node.kind {
         Kind::List => seek(Part::Item, stays),
@@ -110,7 +112,7 @@ fn in_item(stays: bool, node: &Node, index: usize) -> Option<Sought>
             0,
             index,
             Part::Name(Form::Function),
-            stays && (!*declare && is_value(node)),
+            stays && (!*declare && is_value_where(stays, node)),
         ),
         Kind::ClassDecl { declare } => {
             seek_at(0, index, Part::Name(Form::Class), stays && !*declare)
@@ -122,7 +124,7 @@ fn in_item(stays: bool, node: &Node, index: usize) -> Option<Sought>
             declare,
             global: false,
         } => {
-            if is_value(node) {
+            if is_value_where(stays, node) {
                 seek_at(0, index, Part::Name(Form::Namespace), stays && !*declare)
             } else {
                 None
@@ -134,14 +136,14 @@ fn in_item(stays: bool, node: &Node, index: usize) -> Option<Sought>
 
 #[tactic(auto, unfolding(crate::specs::Declarations::in_default))]
 fn in_default(stays: bool, node: &Node, index: usize) -> Option<Sought>
-    ensures { result ≡ in_default stays (is_value node.now) (out-Node node.now).kind index }
+    ensures { result ≡ in_default stays (is_value_where stays node.now) (out-Node node.now).kind index }
 {
     match &node.kind {
         Kind::FnExpr => seek_at(
             0,
             index,
             Part::Name(Form::Function),
-            stays && is_value(node),
+            stays && is_value_where(stays, node),
         ),
         Kind::ClassExpr => seek_at(0, index, Part::Name(Form::Class), stays),
         _ => None,
@@ -150,7 +152,7 @@ fn in_default(stays: bool, node: &Node, index: usize) -> Option<Sought>
 
 #[tactic(auto, unfolding(crate::specs::Declarations::in_scope))]
 fn in_scope(stays: bool, node: &Node, index: usize) -> Option<Sought>
-    ensures { result ≡ in_scope stays (is_value node.now) (out-Node node.now).kind index }
+    ensures { result ≡ in_scope stays (is_value_where stays node.now) (out-Node node.now).kind index }
 {
     match &node.kind {
         Kind::Module { .. } => seek(Part::Item, stays),
@@ -161,13 +163,7 @@ fn in_scope(stays: bool, node: &Node, index: usize) -> Option<Sought>
         Kind::ForStmt => seek_at(0, index, Part::Item, stays),
         Kind::ForInStmt => seek_at(0, index, Part::Item, stays),
         Kind::ForOfStmt { .. } => seek_at(0, index, Part::Item, stays),
-        Kind::CatchClause => {
-            if index == 0 {
-                seek(Part::Name(Form::Catch), stays)
-            } else {
-                seek(Part::Scope, stays)
-            }
-        }
+        Kind::CatchClause => seek_at(0, index, Part::Name(Form::Catch), stays),
         Kind::Function { .. } => seek_at(0, index, Part::Name(Form::Parameter), stays),
         Kind::ArrowExpr { .. } => seek_at(0, index, Part::Name(Form::Parameter), stays),
         Kind::Constructor { .. } => seek_at(1, index, Part::Name(Form::Parameter), stays),
@@ -176,7 +172,7 @@ fn in_scope(stays: bool, node: &Node, index: usize) -> Option<Sought>
         Kind::ClassExpr => seek_at(0, index, Part::Name(Form::Own), stays),
         Kind::TsEnumDecl { .. } => seek_at(1, index, Part::Member, stays),
         Kind::TsNamespaceDecl { .. } => {
-            if is_value(node) {
+            if is_value_where(stays, node) {
                 seek_at(0, index, Part::Name(Form::Namespace), stays)
             } else {
                 None
@@ -214,16 +210,18 @@ pub fn sought_in(sought: Sought, node: &Node, index: usize) -> Option<Sought>
 }
 
 #[tactic(auto, unfolding(crate::specs::Declarations::declared_here))]
-fn push_here(sought: Sought, kind: &Kind, names: &mut ItemList<Declaration>) -> Result<(), NoMemory>
-    ensures { OnOk result (names.new ≡ names.old ++ declared_here sought kind.now) }
+fn push_here(sought: Sought, node: &Node, names: &mut ItemList<Located>) -> Result<(), NoMemory>
+    ensures { OnOk result (names.new ≡ names.old ++ located_here sought node.now) }
 {
-    if let Kind::Ident { sym, .. } = kind {
+    if let Kind::Ident { sym, .. } = &node.kind {
         if let Part::Name(form) = sought.part {
-            names.push(Declaration {
+            let declaration = Declaration {
                 sym: sym.clone()?,
                 form,
                 stays: sought.stays,
-            })?;
+            };
+            let at = node.span.lo;
+            names.push(Located { declaration, at })?;
         }
     }
     Ok(())
@@ -234,9 +232,9 @@ fn push_here(sought: Sought, kind: &Kind, names: &mut ItemList<Declaration>) -> 
 fn push_found(
     sought: Option<Sought>,
     child: &Node,
-    names: &mut ItemList<Declaration>,
+    names: &mut ItemList<Located>,
 ) -> Result<(), NoMemory>
-    ensures { OnOk result (names.new ≡ names.old ++ found_at sought (declarations child.now)) }
+    ensures { OnOk result (names.new ≡ names.old ++ listed_within _ _ sought (located child.now)) }
 {
     match sought {
         Some(sought) => push_declarations(sought, child, names),
@@ -249,11 +247,11 @@ fn push_found(
 pub(crate) fn push_declarations(
     sought: Sought,
     node: &Node,
-    names: &mut ItemList<Declaration>,
+    names: &mut ItemList<Located>,
 ) -> Result<(), NoMemory>
-    ensures { OnOk result (names.new ≡ names.old ++ declarations node.now sought) }
+    ensures { OnOk result (names.new ≡ names.old ++ located node.now sought) }
 {
-    push_here(sought, &node.kind, names)?;
+    push_here(sought, node, names)?;
     for i in 0..node.children.len() {
         push_found(sought_in(sought, node, i), node.children.at(i), names)?;
     }

@@ -2,6 +2,7 @@
 ghost use Rattle.std.specs.Prelude.{◌≡◌, ◌≢◌, ◌+◌, ◌<◌, ◌++◌, [], ◌∷◌, IfOk, OnOk, OnErr, cond, true};
 ghost use Rattle.ecma_kind.specs.Sessions.{HasGiven};
 ghost use Rattle.ecma_scope.specs.Bindings.{FollowBindings};
+ghost use Rattle.ecma_scope.specs.Drawing.{HasGivenAtMost};
 ghost use Rattle.ecma_tree.specs.Nodes.{node_of};
 ghost use Rattle.ecma_tree.specs.declared.node.Node.{out-Node};
 ghost use Rattle.ecma_scope.specs.Scopes.{is_root, opens};
@@ -28,6 +29,8 @@ fn draw(given: &Given, session: &mut Session, role: Role) -> Result<SyntaxContex
     ensures ctxt { IfOk result (λ ctxt. ctxt ≡ cond (is_root role) given.now.top session.old.left) }
     ensures left { OnOk result (session.new.left + cond (is_root role) 0 1 ≡ session.old.left) }
     ensures spent { OnErr result (session.old.left + cond (is_root role) 1 0 ≡ 0) }
+    ensures session { HasGivenAtMost (cond (is_root role) 0 1) session.old session.new }
+    ensures drained { OnErr result (session.new.left ≡ 0) }
 {
     if is_root(role) {
         return Ok(given.top);
@@ -60,6 +63,8 @@ fn resolve_in(
     ensures left { OnOk result (session.new.left + context_count node.old role ≡ session.old.left) }
     ensures frames { OnOk result (frames.new ≡ frames.old) }
     ensures spent { result ≡ Err PassError.Spent → session.old.left < context_count node.old role }
+    ensures session { HasGivenAtMost (context_count node.old role) session.old session.new }
+    ensures drained { result ≡ Err PassError.Spent → session.new.left ≡ 0 }
 {
     resolve_below(given, session, frames, role, node)?;
     set_context(given, frames, role, &mut node.kind);
@@ -79,6 +84,8 @@ fn resolve_below(
     ensures left { OnOk result (session.new.left + context_count node.old role ≡ session.old.left) }
     ensures frames { OnOk result (frames.new ≡ frames.old) }
     ensures spent { result ≡ Err PassError.Spent → session.old.left < context_count node.old role }
+    ensures session { HasGivenAtMost (context_count node.old role) session.old session.new }
+    ensures drained { result ≡ Err PassError.Spent → session.new.left ≡ 0 }
 {
     if opens(role, node) {
         resolve_opening(given, session, frames, role, node)
@@ -101,6 +108,8 @@ fn resolve_opening(
     ensures left { OnOk result (session.new.left + context_count node.old role ≡ session.old.left) }
     ensures frames { OnOk result (frames.new ≡ frames.old) }
     ensures spent { result ≡ Err PassError.Spent → session.old.left < context_count node.old role }
+    ensures session { HasGivenAtMost (context_count node.old role) session.old session.new }
+    ensures drained { result ≡ Err PassError.Spent → session.new.left ≡ 0 }
 {
     let ctxt = draw(given, session, role)?;
     let names = names_inside(given.alloc, role, frames, node)?;
@@ -122,6 +131,8 @@ fn resolve_children(
     ensures left { OnOk result (session.new.left + children_count node.old role ≡ session.old.left) }
     ensures frames { OnOk result (frames.new ≡ frames.old) }
     ensures spent { result ≡ Err PassError.Spent → session.old.left < children_count node.old role }
+    ensures session { HasGivenAtMost (children_count node.old role) session.old session.new }
+    ensures drained { result ≡ Err PassError.Spent → session.new.left ≡ 0 }
 {
     let sourced = is_sourced(node);
     let count = node.children.len();
@@ -146,6 +157,8 @@ fn resolve_scope(
     ensures left { OnOk result (session.new.left + children_count node.old role ≡ session.old.left) }
     ensures frames { OnOk result (frames.new ≡ frames.old) }
     ensures spent { result ≡ Err PassError.Spent → session.old.left < children_count node.old role }
+    ensures session { HasGivenAtMost (children_count node.old role) session.old session.new }
+    ensures drained { result ≡ Err PassError.Spent → session.new.left ≡ 0 }
 {
     let sourced = is_sourced(node);
     let count = node.children.len();
@@ -182,6 +195,8 @@ fn resolve_inside(
     ensures frames { OnOk result (frames.new ≡ frames.old) }
     ensures scope { IfOk result (λ back. back ≡ scope) }
     ensures spent { result ≡ Err PassError.Spent → session.old.left < context_count node.old role }
+    ensures session { HasGivenAtMost (context_count node.old role) session.old session.new }
+    ensures drained { result ≡ Err PassError.Spent → session.new.left ≡ 0 }
 {
     if !covered {
         resolve_in(given, session, frames, role, node)?;
@@ -210,6 +225,9 @@ pub fn resolve(
     ensures left { OnOk result (session.new.left + contexts tree.old ≡ session.old.left) }
     ensures bindings { OnOk result (HasGiven session.old unresolved → HasGiven session.old top → unresolved ≢ top → FollowBindings unresolved tree.new tree.old) }
     ensures spent { result ≡ Err PassError.Spent → session.old.left < contexts tree.old }
+    // Whatever is answered, the session has given contexts, at most one for each scope, and is the same otherwise; where it is spent, none is left.
+    ensures session { HasGivenAtMost (contexts tree.old) session.old session.new }
+    ensures drained { result ≡ Err PassError.Spent → session.new.left ≡ 0 }
 {
     let given = Given {
         alloc,

@@ -20,7 +20,7 @@ pub enum Role {
     Body,
     /// The block of a class's static block.
     StaticBody,
-    /// The block of a `catch`, whose names are those of the clause.
+    /// The block of a `catch`, which stands in the scope of the names that are caught.
     CatchBody,
     /// What is exported as the default: its name is one of the module.
     Default,
@@ -169,7 +169,7 @@ pub fn opens(role: Role, node: &Node) -> bool
         Kind::ClassExpr => true,
         Kind::ClassDecl { .. } => true,
         Kind::TsEnumDecl { .. } => true,
-        Kind::BlockStmt => !matches!(role, Role::CatchBody),
+        Kind::BlockStmt => true,
         Kind::SwitchStmt => true,
         Kind::ForStmt => true,
         Kind::ForInStmt => true,

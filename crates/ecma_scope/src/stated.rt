@@ -1,9 +1,10 @@
 //! What a scope declares.
 ghost use Rattle.std.specs.Prelude.{◌≡◌, ◌++◌, OnOk, IfOk};
 ghost use Rattle.ecma_scope.specs.Indexed.{states_of};
-ghost use Rattle.ecma_scope.specs.Declarations.{holds_vars, is_body, is_hoisted, is_own, is_stated, names, own_part, vars_of};
+ghost use Rattle.ecma_scope.specs.Declarations.{holds_vars, is_body, is_hoisted, is_own, is_stated, own_part};
+ghost use Rattle.ecma_scope.specs.Located.{located_names, located_vars};
 
-use crate::form::{Declaration, Form, Part, Sought};
+use crate::form::{Declaration, Form, Located, Part, Sought};
 use crate::index::{Index, states};
 use crate::names::push_declarations;
 use crate::role::{Role, is_ambient};
@@ -68,9 +69,9 @@ fn push_vars(
     role: Role,
     stays: bool,
     node: &Node,
-    own: &mut ItemList<Declaration>,
+    own: &mut ItemList<Located>,
 ) -> Result<(), NoMemory>
-    ensures { OnOk result (own.new ≡ own.old ++ vars_of role stays node.now) }
+    ensures { OnOk result (own.new ≡ own.old ++ located_vars role stays node.now) }
 {
     if holds_vars(role, &node.kind) {
         let part = Part::Var;
@@ -86,14 +87,14 @@ pub(crate) fn own_names(
     role: Role,
     around: &Index,
     node: &Node,
-) -> Result<ItemList<Declaration>, NoMemory>
-    ensures { IfOk result (λ own. own ≡ names role (states_of around.now) node.now) }
+) -> Result<ItemList<Located>, NoMemory>
+    ensures { IfOk result (λ own. own ≡ located_names role (states_of around.now) node.now) }
 {
     let stays = !is_ambient(role);
     let mut own = ItemList::new(alloc);
     let part = own_part(role);
     push_declarations(Sought { part, stays }, node, &mut own)?;
     push_vars(role, stays, node, &mut own)?;
-    own.retain(|name| is_own(role, around, name));
+    own.retain(|name| is_own(role, around, &name.declaration));
     Ok(own)
 }

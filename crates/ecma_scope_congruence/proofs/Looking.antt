@@ -5,7 +5,6 @@ use Rattle.ecma_kind.specs.declared.kind.Kind.{Kind}
 use Rattle.ecma_kind.specs.declared.kind.Kind.TheVariants as kind
 use Rattle.ecma_kind.specs.declared.operators.VarDeclKind.TheVariants as var_kind
 use Rattle.ecma_print.specs.declared.place.Spot.{Spot}
-use Rattle.ecma_print.specs.Places.{free}
 use Rattle.ecma_print.specs.Laid.{Laid}
 use Rattle.ecma_print.specs.Levels.{in_parentheses}
 use Rattle.ecma_print.specs.Spots.{first_spots, further_spot}
@@ -18,7 +17,9 @@ use Rattle.ecma_scope.specs.declared.form.Part.TheVariants as part
 use Rattle.ecma_scope.specs.declared.form.Sought.{Sought}
 use Rattle.ecma_scope_congruence.specs.Bodies.{is_function_expression}
 use Rattle.ecma_scope.specs.Declarations.{declared_here, in_default, in_item, in_member, in_name, in_scope, in_var, seek, seek_at, sought_by}
+use Rattle.ecma_tree.specs.declared.node.Node.{Node}
 use Rattle.ecma_tree.specs.Values.{value_by}
+use Rattle.ecma_tree.proofs.Valuing.{value_where_by}
 
 -- what is looked for in an expression too: its own name
 abbrev pub is_entering : Part → Bool
@@ -144,29 +145,29 @@ pub parentheses_declare_none : (sought : Sought) → declared_here sought kind.P
 unfolding declared_here
 parentheses_declare_none sought = refl
 
-pub loose_is_value : (k : Kind) (children : List Bool) → is_misreadable k ≡ true → (is_function_expression k ≡ true → value_by k children ≡ true) → value_by k children ≡ true
+pub loose_is_value : (stays : Bool) (k : Kind) (children : List Node) → is_misreadable k ≡ true → (is_function_expression k ≡ true → value_where_by stays k children ≡ true) → value_where_by stays k children ≡ true
 unfolding value_by
-loose_is_value kind.SeqExpr children h full = refl
-loose_is_value (kind.AssignExpr op) children h full = refl
-loose_is_value (kind.ArrowExpr is_async is_generator) children h full = refl
-loose_is_value (kind.YieldExpr delegate) children h full = refl
-loose_is_value kind.CondExpr children h full = refl
-loose_is_value (kind.BinExpr op) children h full = refl
-loose_is_value (kind.UnaryExpr op) children h full = refl
-loose_is_value kind.AwaitExpr children h full = refl
-loose_is_value (kind.UpdateExpr op prefix) children h full = refl
-loose_is_value kind.CallExpr children h full = refl
-loose_is_value (kind.OptChainExpr optional) children h full = refl
-loose_is_value kind.NewExpr children h full = refl
-loose_is_value (kind.Number number raw) children h full = refl
-loose_is_value kind.ObjectLit children h full = refl
-loose_is_value kind.FnExpr children h full = full refl
-loose_is_value kind.ClassExpr children h full = refl
-loose_is_value _ children h full = absurd (cc)
+loose_is_value stays kind.SeqExpr children h full = refl
+loose_is_value stays (kind.AssignExpr op) children h full = refl
+loose_is_value stays (kind.ArrowExpr is_async is_generator) children h full = refl
+loose_is_value stays (kind.YieldExpr delegate) children h full = refl
+loose_is_value stays kind.CondExpr children h full = refl
+loose_is_value stays (kind.BinExpr op) children h full = refl
+loose_is_value stays (kind.UnaryExpr op) children h full = refl
+loose_is_value stays kind.AwaitExpr children h full = refl
+loose_is_value stays (kind.UpdateExpr op prefix) children h full = refl
+loose_is_value stays kind.CallExpr children h full = refl
+loose_is_value stays (kind.OptChainExpr optional) children h full = refl
+loose_is_value stays kind.NewExpr children h full = refl
+loose_is_value stays (kind.Number number raw) children h full = refl
+loose_is_value stays kind.ObjectLit children h full = refl
+loose_is_value stays kind.FnExpr children h full = full refl
+loose_is_value stays kind.ClassExpr children h full = refl
+loose_is_value stays _ children h full = absurd (cc)
 
-pub parentheses_are_value : (children : List Bool) → value_by kind.ParenExpr children ≡ true
+pub parentheses_are_value : (stays : Bool) (children : List Node) → value_where_by stays kind.ParenExpr children ≡ true
 unfolding value_by
-parentheses_are_value children = refl
+parentheses_are_value stays children = refl
 
 -- where one is looked into, no parentheses stand
 
@@ -258,19 +259,8 @@ name_blind f stays kind.AssignPatProp spot i = blind_at 0 i (part.Name f) (stays
 name_blind f stays kind.KeyValuePatProp spot i = blind_at 1 i (part.Name f) (stays) _ refl
 name_blind f stays _ spot i = tt
 
-catch_blind : (stays value : Bool) (children : List Laid) (spot : Spot) (i : ℕ)
-    → BlindAt (in_scope stays value kind.CatchClause i) (spot_at (first_spots kind.CatchClause children spot) (further_spot kind.CatchClause spot) i)
-unfolding in_scope
-catch_blind stays value children spot zero = blind_part (part.Name form.Catch) stays _ refl
-catch_blind stays value children spot (suc i) = go (suc i == 0)
-  where
-    go : (b : Bool) → BlindAt (cond b (seek (part.Name form.Catch) stays) (seek part.Scope stays)) (free 0)
-    go true = blind_part (part.Name form.Catch) stays (free 0) refl
-    go false = λ e. open_where_free
-
 scope_blind : (stays value : Bool) (k : Kind) (children : List Laid) (spot : Spot) (i : ℕ) → BlindAt (in_scope stays value k i) (spot_at (first_spots k children spot) (further_spot k spot) i)
 unfolding in_scope
-scope_blind stays value kind.CatchClause children spot i = catch_blind stays value children spot i
 scope_blind stays value (kind.Module shebang) children spot i = blind_part (part.Item) (stays) _ refl
 scope_blind stays value (kind.Script shebang) children spot i = blind_part (part.Item) (stays) _ refl
 scope_blind stays value kind.TsModuleBlock children spot i = blind_part (part.Item) (stays) _ refl
@@ -279,6 +269,7 @@ scope_blind stays value kind.SwitchStmt children spot i = blind_at 1 i (part.Ite
 scope_blind stays value kind.ForStmt children spot i = blind_at 0 i (part.Item) (stays) _ refl
 scope_blind stays value kind.ForInStmt children spot i = blind_at 0 i (part.Item) (stays) _ refl
 scope_blind stays value (kind.ForOfStmt is_await) children spot i = blind_at 0 i (part.Item) (stays) _ refl
+scope_blind stays value kind.CatchClause children spot i = blind_at 0 i (part.Name form.Catch) (stays) _ refl
 scope_blind stays value (kind.Function is_generator is_async) children spot i = blind_at 0 i (part.Name form.Parameter) (stays) _ refl
 scope_blind stays value (kind.ArrowExpr is_async is_generator) children spot i = blind_at 0 i (part.Name form.Parameter) (stays) _ refl
 scope_blind stays value (kind.Constructor accessibility is_optional) children spot i = blind_at 1 i (part.Name form.Parameter) (stays) _ refl

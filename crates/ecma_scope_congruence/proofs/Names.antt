@@ -1,10 +1,11 @@
 -- A scope declares the same names without spans.
-use Rattle.std.proofs.Common.{◌≡◌, ◌∙◌, ℕ, suc, Bool, List, [], ◌∷◌, ◌++◌, map, Option, Some, None, cond, not, refl, sym, ap, ap₂, subst}
+use Rattle.std.proofs.Common.{◌≡◌, ◌∙◌, ℕ, suc, Bool, ◌&&◌, ◌||◌, List, [], ◌∷◌, ◌++◌, map, Option, Some, None, cond, not, refl, sym, ap, ap₂, subst}
 use Rattle.std.specs.Prelude.{filter}
-use Rattle.ecma_tree.specs.declared.node.Node.{Node, Node-F, fold_out-Node, ind-Node, out-Node, roll-Node}
+use Rattle.ecma_tree.specs.declared.node.Node.{Node, Node-F, ind-Node, out-Node, roll-Node}
 use Rattle.ecma_tree.specs.declared.node.Node.TheViews.{out-roll-Node}
 use Rattle.ecma_tree.specs.Spans.{without_spans}
-use Rattle.ecma_tree.specs.Values.{is_value, value_by, value_step}
+use Rattle.ecma_tree.specs.Values.{holds_ambient, is_function, is_value_where, value_by}
+use Rattle.ecma_tree.proofs.Valuing.{is_value_where-out, value_where_by}
 use Rattle.ecma_tree.proofs.Layers.{from_leaves_out}
 use Rattle.ecma_scope.specs.declared.role.Role.{Role}
 use Rattle.ecma_scope.specs.declared.form.Declaration.{Declaration}
@@ -17,28 +18,31 @@ use Rattle.ecma_scope_congruence.proofs.Bare.{bare-children, bare-kind}
 -- values
 
 abbrev ValuesSame : List Node → Type 0
-ValuesSame nodes = map is_value (map without_spans nodes) ≡ map is_value nodes
+ValuesSame nodes = (stays : Bool) → map (is_value_where stays) (map without_spans nodes) ≡ map (is_value_where stays) nodes
 
-values-same : (ns : List ((n : Node) × (is_value (without_spans n) ≡ is_value n))) → ValuesSame (map (λ e. e.0) ns)
-values-same [] = refl
-values-same (n ∷ ns) = ap₂ (λ a rest. a ∷ rest) n.1 (values-same ns)
+abbrev ValueSame : Node → Type 0
+ValueSame n = (stays : Bool) → is_value_where stays (without_spans n) ≡ is_value_where stays n
 
-value-out : (n : Node) → is_value n ≡ value_by (out-Node n).kind (map is_value (out-Node n).children)
-value-out = fold_out-Node Bool value_step
+values-same : (ns : List ((n : Node) × ValueSame n)) → ValuesSame (map (λ e. e.0) ns)
+values-same [] stays = refl
+values-same (n ∷ ns) stays = ap₂ (λ a rest. a ∷ rest) (n.1 stays) (values-same ns stays)
 
-node-value : (n : Node) → ValuesSame (out-Node n).children → is_value (without_spans n) ≡ is_value n
-node-value n same =
-    value-out (without_spans n) ∙ ap₂ value_by (bare-kind n) (ap (map is_value) (bare-children n) ∙ same) ∙ sym (value-out n)
+node-value : (n : Node) → ValuesSame (out-Node n).children → ValueSame n
+node-value n same stays =
+    is_value_where-out stays (without_spans n)
+    ∙ ap₂ (value_where_by stays) (bare-kind n) (bare-children n)
+    ∙ ap (λ values. (is_function (out-Node n).kind && not stays) || value_by (out-Node n).kind values) (same (not (holds_ambient (out-Node n).kind) && stays))
+    ∙ sym (is_value_where-out stays n)
 
-value-bare : (n : Node) → is_value (without_spans n) ≡ is_value n
-value-bare = ind-Node (λ n. is_value (without_spans n) ≡ is_value n) (λ x y is.
+value-bare : (n : Node) → ValueSame n
+value-bare = ind-Node ValueSame (λ x y is.
     node-value (roll-Node x) (subst (λ (z : Node-F Node). ValuesSame z.children) (is ∙ sym (out-roll-Node x)) (values-same y.children)))
 
 -- declarations
 
 sought-bare : (sought : Sought) (n : Node) (i : ℕ) → sought_in sought (without_spans n) i ≡ sought_in sought n i
 unfolding sought_in
-sought-bare sought n i = ap₂ (λ value k. sought_by sought.part sought.stays value k i) (value-bare n) (bare-kind n)
+sought-bare sought n i = ap₂ (λ value k. sought_by sought.part sought.stays value k i) (value-bare n sought.stays) (bare-kind n)
 
 abbrev Found : Node → Type 0
 Found n = (sought : Sought) → declarations (without_spans n) sought ≡ declarations n sought

@@ -1,4 +1,4 @@
-use Rattle.std.proofs.Common.{rules, ◌≡◌, ◌∙◌, ◌+◌, ◌<◌, OnOk, sym, ap, ap₂, subst, List, ℕ, Some, Err, length, slice_get, arith}
+use Rattle.std.proofs.Common.{rules, refl, ◌≡◌, ◌∙◌, ◌+◌, ◌<◌, OnOk, sym, ap, ap₂, subst, List, ℕ, Some, Err, length, slice_get, arith}
 use Rattle.ecma_kind.specs.declared.error.PassError.TheVariants.{Spent}
 use Rattle.ecma_tree.specs.declared.node.Node.{Node, out-Node}
 use Rattle.ecma_tree.proofs.Weights.{weight-child}
@@ -7,9 +7,13 @@ use Rattle.ecma_scope.specs.declared.role.Role.{Role}
 use Rattle.ecma_scope.specs.Scopes.{covers, role_in}
 use Rattle.ecma_scope.specs.declared.form.Declaration.{Declaration}
 use Rattle.ecma_scope.specs.Declarations.{stated}
-use Rattle.ecma_scope.specs.Resolved.{Place, context_count, kind_at, resolved_at}
-use Rattle.ecma_scope.specs.Frames.{place_inside, place_of, plain_places, scope_places, with_children}
-use Rattle.ecma_scope.proofs.Resolving.{child_at, done-all, done-next, done-spent}
+use Rattle.ecma_scope.specs.Located.{declarations_of}
+use Rattle.ecma_scope.specs.Resolved.{Place, context_count, innermost, kind_at, resolved_at}
+use Rattle.ecma_scope.specs.Drawing.{HasGivenAtMost}
+use Rattle.ecma_scope.specs.Frames.{place_inside, place_of, plain_places, scope_places, scopes_of, with_children}
+use Rattle.ecma_scope.proofs.Drawing.{drawn-below, given-more, given-next, given-none, given-wider}
+use Rattle.ecma_scope.proofs.Locating.{names-alike}
+use Rattle.ecma_scope.proofs.Resolving.{child_at, done-all, done-next, done-none, done-spent}
 use Rattle.ecma_scope.proofs.Opening.{below-opens, below-plain, context_count-plain, count-opens, resolved_at-below, same-cover, same-role-sourced, spent-below, spent-here}
 use Rattle.ecma_scope.proofs.resolver.+resolving.Goals as goal
 
@@ -46,6 +50,9 @@ resolve_children-loop-i-preserved t c =
           (c.in_ok-resolve_in.ensures.node ∙ ap₂ (λ (r : Role) (f : List Frame). resolved_at c.args.given.now.unresolved c.args.given.now.top c.get_mut.result.now (place_of r f) c.loop-i.session.left) inner c.loop-i.invariant.frames)
           (ap (λ (r : Role). c.resolve_in.new.session.left + context_count c.get_mut.result.now r) (sym inner) ∙ c.in_ok-resolve_in.ensures.left);
       frames = c.in_ok-resolve_in.ensures.frames ∙ c.loop-i.invariant.frames;
+      given = given-next c.args.given.now.unresolved c.args.given.now.top places c.args.node.now c.loop-i.node c.loop-i.i c.get_mut.result.now c.args.session.now c.loop-i.session c.resolve_in.new.session
+          c.loop-i.invariant.done c.get_mut.ensures.value c.loop-i.invariant.given
+          (subst (λ (r : Role). HasGivenAtMost (context_count c.get_mut.result.now r) c.loop-i.session c.resolve_in.new.session) inner c.resolve_in.ensures.session);
     }
 
 pub resolve_children-returns-clause-node : goal.resolve_children-returns-clause-node
@@ -83,6 +90,9 @@ resolve_scope-loop-i-preserved t c =
           (ap (λ (r : Role). c.resolve_inside.new.session.left + context_count c.get_mut.result.now r) (sym inner) ∙ c.in_ok-scope.ensures.left);
       frames = c.in_ok-scope.ensures.frames ∙ c.loop-i.invariant.frames;
       scope = c.in_ok-scope.ensures.scope ∙ c.loop-i.invariant.scope;
+      given = given-next c.args.given.now.unresolved c.args.given.now.top places c.args.node.now c.loop-i.node c.loop-i.i c.get_mut.result.now c.args.session.now c.loop-i.session c.resolve_inside.new.session
+          c.loop-i.invariant.done c.get_mut.ensures.value c.loop-i.invariant.given
+          (subst (λ (r : Role). HasGivenAtMost (context_count c.get_mut.result.now r) c.loop-i.session c.resolve_inside.new.session) inner c.resolve_inside.ensures.session);
     }
 
 pub resolve_scope-returns-in_err-scope-clause-spent : goal.resolve_scope-returns-in_err-scope-clause-spent
@@ -128,4 +138,80 @@ resolve_opening-returns-clause-node t c =
     ∙ ap (λ (children : List Node). with_children c.args.node.now children)
     (sym (below-opens c.args.given.now.unresolved c.args.given.now.top c.args.node.now c.args.role c.args.frames.now (record { ctxt = c.in_ok-ctxt.ctxt; index = c.in_ok-index.index })
     c.args.session.now.left c.draw.new.session.left c.requires c.in_ok-ctxt.ensures.ctxt
-    (λ text. c.in_ok-index.ensures {u = tt} text ∙ ap (λ (ds : List Declaration). stated ds text) (c.in_ok-names.ensures {u = tt})) c.in_ok-ctxt.ensures.left))
+    (λ text. c.in_ok-index.ensures {u = tt} text ∙ ap (λ (ds : List Declaration). stated ds text) (ap declarations_of (c.in_ok-names.ensures {u = tt}) ∙ names-alike c.args.role (innermost (scopes_of c.args.frames.now)) c.args.node.now)) c.in_ok-ctxt.ensures.left))
+
+pub resolve_children-loop-i-init : goal.resolve_children-loop-i-init
+resolve_children-loop-i-init t c =
+    record {
+      done = done-none c.args.given.now.unresolved c.args.given.now.top (plain_places c.args.role c.args.frames.now c.args.node.now) c.args.node.now c.args.session.now.left;
+      frames = refl;
+      given = given-none _ c.args.session.now;
+    }
+
+pub resolve_children-returns-in_err-resolve_in-clause-session : goal.resolve_children-returns-in_err-resolve_in-clause-session
+resolve_children-returns-in_err-resolve_in-clause-session t c =
+    let inner : c.role_by-inner.result ≡ role_in c.args.role c.args.node.now c.loop-i.i =
+    same-role-sourced c.args.node.now c.loop-i.node c.args.role c.role_by-inner.result c.is_sourced-sourced.result c.loop-i.i c.loop-i.invariant.done.kind c.is_sourced-sourced.ensures c.role_by-inner.ensures in
+    given-next c.args.given.now.unresolved c.args.given.now.top (plain_places c.args.role c.args.frames.now c.args.node.now) c.args.node.now c.loop-i.node c.loop-i.i c.get_mut.result.now c.args.session.now
+    c.loop-i.session c.resolve_in.new.session c.loop-i.invariant.done c.get_mut.ensures.value c.loop-i.invariant.given
+    (subst (λ (r : Role). HasGivenAtMost (context_count c.get_mut.result.now r) c.loop-i.session c.resolve_in.new.session) inner c.resolve_in.ensures.session)
+
+pub resolve_children-returns-in_err-resolve_in-clause-drained : goal.resolve_children-returns-in_err-resolve_in-clause-drained
+resolve_children-returns-in_err-resolve_in-clause-drained t c = λ h.
+    (let spent : c.resolve_in.result ≡ Err Spent = search rules in
+    c.resolve_in.ensures.drained spent)
+
+pub resolve_children-returns-clause-session : goal.resolve_children-returns-clause-session
+resolve_children-returns-clause-session t c = c.loop-i.invariant.given
+
+pub resolve_scope-loop-i-init : goal.resolve_scope-loop-i-init
+resolve_scope-loop-i-init t c =
+    record {
+      done = done-none c.args.given.now.unresolved c.args.given.now.top (scope_places c.args.role c.args.frames.now c.args.scope c.args.node.now) c.args.node.now c.args.session.now.left;
+      frames = refl;
+      scope = refl;
+      given = given-none _ c.args.session.now;
+    }
+
+pub resolve_scope-returns-in_err-scope-clause-session : goal.resolve_scope-returns-in_err-scope-clause-session
+resolve_scope-returns-in_err-scope-clause-session t c =
+    let inner : c.role_by-inner.result ≡ role_in c.args.role c.args.node.now c.loop-i.i =
+    same-role-sourced c.args.node.now c.loop-i.node c.args.role c.role_by-inner.result c.is_sourced-sourced.result c.loop-i.i c.loop-i.invariant.done.kind c.is_sourced-sourced.ensures c.role_by-inner.ensures in
+    given-next c.args.given.now.unresolved c.args.given.now.top (scope_places c.args.role c.args.frames.now c.args.scope c.args.node.now) c.args.node.now c.loop-i.node c.loop-i.i c.get_mut.result.now c.args.session.now
+    c.loop-i.session c.resolve_inside.new.session c.loop-i.invariant.done c.get_mut.ensures.value c.loop-i.invariant.given
+    (subst (λ (r : Role). HasGivenAtMost (context_count c.get_mut.result.now r) c.loop-i.session c.resolve_inside.new.session) inner c.resolve_inside.ensures.session)
+
+pub resolve_scope-returns-in_err-scope-clause-drained : goal.resolve_scope-returns-in_err-scope-clause-drained
+resolve_scope-returns-in_err-scope-clause-drained t c = λ h.
+    (let spent : c.resolve_inside.result ≡ Err Spent = search rules in
+    c.resolve_inside.ensures.drained spent)
+
+pub resolve_scope-returns-clause-session : goal.resolve_scope-returns-clause-session
+resolve_scope-returns-clause-session t c = c.loop-i.invariant.given
+
+pub resolve_below-returns-else-opens-clause-session : goal.resolve_below-returns-else-opens-clause-session
+resolve_below-returns-else-opens-clause-session t c =
+    let plain = context_count-plain c.args.node.now c.args.role (sym c.opens.ensures ∙ c.if-opens.false) in
+    subst (λ (k : ℕ). HasGivenAtMost k c.args.session.now c.resolve_children.new.session) (sym plain) c.resolve_children.ensures.session
+
+pub resolve_opening-returns-in_err-ctxt-clause-session : goal.resolve_opening-returns-in_err-ctxt-clause-session
+resolve_opening-returns-in_err-ctxt-clause-session t c = given-wider _ _ _ _ _ (drawn-below c.args.node.now c.args.role c.requires) c.draw.ensures.session
+
+pub resolve_opening-returns-in_err-names-clause-session : goal.resolve_opening-returns-in_err-names-clause-session
+resolve_opening-returns-in_err-names-clause-session t c = given-wider _ _ _ _ _ (drawn-below c.args.node.now c.args.role c.requires) c.draw.ensures.session
+
+pub resolve_opening-returns-in_err-index-clause-session : goal.resolve_opening-returns-in_err-index-clause-session
+resolve_opening-returns-in_err-index-clause-session t c = given-wider _ _ _ _ _ (drawn-below c.args.node.now c.args.role c.requires) c.draw.ensures.session
+
+pub resolve_opening-returns-in_err-resolve_scope-clause-session : goal.resolve_opening-returns-in_err-resolve_scope-clause-session
+resolve_opening-returns-in_err-resolve_scope-clause-session t c =
+    given-more _ _ _ _ _ _ (drawn-below c.args.node.now c.args.role c.requires) c.draw.ensures.session c.resolve_scope.ensures.session
+
+pub resolve_opening-returns-in_err-resolve_scope-clause-drained : goal.resolve_opening-returns-in_err-resolve_scope-clause-drained
+resolve_opening-returns-in_err-resolve_scope-clause-drained t c = λ h.
+    (let spent : c.resolve_scope.result ≡ Err Spent = search rules in
+    c.resolve_scope.ensures.drained spent)
+
+pub resolve_opening-returns-clause-session : goal.resolve_opening-returns-clause-session
+resolve_opening-returns-clause-session t c =
+    given-more _ _ _ _ _ _ (drawn-below c.args.node.now c.args.role c.requires) c.draw.ensures.session c.resolve_scope.ensures.session

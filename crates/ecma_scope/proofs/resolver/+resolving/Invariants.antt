@@ -1,5 +1,6 @@
 use Rattle.std.proofs.Common.{◌≡◌, ◌+◌, ◌*◌}
-use Rattle.ecma_scope.specs.Frames.{plain_places, scope_places}
+use Rattle.ecma_scope.specs.Drawing.{HasGivenAtMost}
+use Rattle.ecma_scope.specs.Frames.{children_count, plain_places, scope_places}
 use Rattle.ecma_scope.proofs.Resolving.{Done}
 use Rattle.ecma_tree.proofs.Weights.{weight}
 use Rattle.ecma_scope.proofs.resolver.+resolving.Given as goal
@@ -9,6 +10,7 @@ abbrev pub invariant-resolve_children-loop-i : goal.invariant-resolve_children-l
 invariant-resolve_children-loop-i l = record {
   done : Done l.given.unresolved l.given.top (plain_places l.role l.fn.frames l.fn.node) l.fn.node l.node l.fn.session.left l.i l.session.left;
   frames : l.frames ≡ l.fn.frames;
+  given : HasGivenAtMost (children_count l.fn.node l.role) l.fn.session l.session;
 }
 
 abbrev pub invariant-resolve_scope-loop-i : goal.invariant-resolve_scope-loop-i
@@ -16,6 +18,7 @@ invariant-resolve_scope-loop-i l = record {
   done : Done l.given.unresolved l.given.top (scope_places l.role l.fn.frames l.fn.scope l.fn.node) l.fn.node l.node l.fn.session.left l.i l.session.left;
   frames : l.frames ≡ l.fn.frames;
   scope : l.scope ≡ l.fn.scope;
+  given : HasGivenAtMost (children_count l.fn.node l.role) l.fn.session l.session;
 }
 
 abbrev pub decreases-resolve_in : goal.decreases-resolve_in
