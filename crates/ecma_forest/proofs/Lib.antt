@@ -1,0 +1,13 @@
+pub mod Joining
+pub mod Growing
+pub mod Reading
+pub mod Smaller
+pub mod Walking
+pub mod Rest
+pub mod Induction
+pub mod Keeping
+pub mod Wrapping
+pub mod Places
+pub mod Changed
+pub mod Scans
+pub mod PassingOver
