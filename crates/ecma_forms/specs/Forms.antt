@@ -7,8 +7,9 @@ use Rattle.ecma_kind.specs.declared.shapes.Sort.TheVariants as sort
 use Rattle.ecma_tree.specs.Sorted.{is_list}
 use Rattle.ecma_tree.specs.declared.node.Node.{Node}
 use Rattle.ecma_strip.specs.Staying.{stays}
-use Rattle.ecma_rules.specs.Children.{child_holds, child_is, has_child, kind_of}
+use Rattle.ecma_rules.specs.Children.{child_holds, child_is, kind_of}
 use Rattle.ecma_rules.specs.Failing.{first_failing, failing_here}
+use Rattle.ecma_rules.specs.Members.{has_body}
 
 -- imports and exports (ECMAScript, 16.2.2, 16.2.3; TypeScript handbook, "Modules - Reference"); enums and namespaces; and parameter properties
 --   let a: T = b; class A { c; }   // taken
@@ -43,18 +44,8 @@ abbrev pub is_ambient_variable : Kind → Bool
 is_ambient_variable (kind.VarDecl k declare) = declare
 is_ambient_variable _ = false
 
--- a function with its body
-abbrev pub has_body : Node → Bool
-has_body function = has_child function 1
-
--- a function without a body that could be no declaration, as in `({ get a() })`: the grammar reads it, and TypeScript does not; and what no text has, though no law
--- says so: a variable in the head of a loop after `declare`
---   ({ get a() { return 1; } });   // taken
---   ({ get a() });   // not taken
+-- what no text has, though no law says so: a function expression without a body, and a variable in the head of a loop after `declare`
 abbrev pub is_odd_by : Kind → Node → Bool
-is_odd_by kind.SetterProp node = not (has_child node 3)
-is_odd_by kind.GetterProp node = not (has_child node 2)
-is_odd_by kind.MethodProp node = not (child_holds has_body node 1)
 is_odd_by kind.FnExpr node = not (child_holds has_body node 1)
 is_odd_by kind.ForStmt node = child_is is_ambient_variable node 0
 is_odd_by kind.ForInStmt node = child_is is_ambient_variable node 0

@@ -1,7 +1,8 @@
 //! The forms that are not taken yet, node by node.
 ghost use Rattle.std.specs.Prelude.{◌≡◌};
 ghost use Rattle.ecma_rules.specs.Children.{child_holds, child_is};
-ghost use Rattle.ecma_forms.specs.Forms.{has_body, is_ambient_variable, is_untaken};
+ghost use Rattle.ecma_rules.specs.Members.{has_body};
+ghost use Rattle.ecma_forms.specs.Forms.{is_ambient_variable, is_untaken};
 
 use ecma_rules::has_child;
 use ecma_tree::{Kind, Node};
@@ -36,7 +37,7 @@ fn has_full_function(node: &Node) -> bool
 }
 
 /// Whether a node is of a form that is not taken, as far as its kind and what stands directly in it say: imports and exports, enums and namespaces,
-/// parameter properties, and what no text of TypeScript has.
+/// parameter properties, and what no text has.
 pub(crate) fn is_untaken(node: &Node) -> bool
     ensures { result ≡ is_untaken node.now }
 {
@@ -64,9 +65,7 @@ pub(crate) fn is_untaken(node: &Node) -> bool
         | Kind::TsModuleBlock
         | Kind::TsNamespaceDecl { .. }
         | Kind::TsParamProp { .. } => true,
-        Kind::SetterProp => !has_child(node, 3),
-        Kind::GetterProp => !has_child(node, 2),
-        Kind::MethodProp | Kind::FnExpr => !has_full_function(node),
+        Kind::FnExpr => !has_full_function(node),
         Kind::ForStmt | Kind::ForInStmt | Kind::ForOfStmt { .. } => has_ambient_head(node),
         _ => false,
     }

@@ -18,12 +18,12 @@ use Rattle.ecma_rules.specs.declared.standing.Standing.{Standing}
 use Rattle.ecma_rules.specs.Children.{child_holds, children_of as items_of, holds_of, is_present, items_at, kind_of, of_kind}
 use Rattle.ecma_rules.specs.Finishing.{each_in}
 use Rattle.ecma_rules.specs.Lists.{is_head, is_one_without_value, is_rest_pattern}
-use Rattle.ecma_rules.specs.Members.{behind_first, fits_kind, is_constructor_key, is_declaring, is_method, is_plain_parameter, is_property_kind, is_special_by, is_special_function, is_this_parameter, is_this_pattern, misfits_by, misplaces_this_by, second_by, takes_not_one}
+use Rattle.ecma_rules.specs.Members.{behind_first, fits_kind, is_constructor_key, is_declaring, is_method, is_plain_parameter, is_property_kind, is_special_by, is_special_function, is_this_parameter, is_this_pattern, misfits_by, misplaces_this_by, second_by, takes_not_one, has_body}
 use Rattle.ecma_rules.specs.Supers.{is_private_name}
 use Rattle.ecma_rules.specs.Targets.{is_variables, target_in}
 use Rattle.ecma_covers.specs.Covering.{cover_at}
 use Rattle.ecma_print_fits.proofs.Parts.{children_made, not_true, shape_allows}
-use Rattle.ecma_print_fits.proofs.Tests.{all_stay, further_stay, kind_at, kind_fits, list_single, patterns_stay, plain_parameter, second_in, test_at, this_pattern, without_value}
+use Rattle.ecma_print_fits.proofs.Tests.{all_stay, further_stay, kind_at, kind_fits, list_single, patterns_stay, plain_parameter, second_in, test_at, this_pattern, without_value, body_stays}
 use Rattle.ecma_print_fits.proofs.Fine.{and_no, head_by, no_and, private_by, property_by}
 
 module _ (t : Target) (at : Span) where
@@ -74,11 +74,22 @@ module _ (t : Target) (at : Span) where
   function_fits k (c ∷ []) p h = refl
   function_fits k (c ∷ f ∷ cs) p h = kind_fits k f h.1.0
 
+  function_bodied : (cs : List Node) (p : Shape) → HaveShapes (p ∷ one sort.Function ∷ []) cs
+      → holds_of has_body (slice_get (each_in (λ i. target.Free) (map cover_at cs)) 1) ≡ holds_of has_body (slice_get cs 1)
+  function_bodied [] p h = refl
+  function_bodied (c ∷ []) p h = refl
+  function_bodied (c ∷ f ∷ cs) p h = body_stays f h.1.0
+
   pub accessors_stay : (k : Kind) (cs : List Node) (o : Shape) (n : ℕ) → HaveShapes (child_shapes k o n) cs → misfits_by k (now_node k cs) ≡ misfits_by k (was_node k cs)
   unfolding misfits_by target_in
   accessors_stay kind.AssignPat cs o n h = by_children (λ z. of_kind is_rest_pattern (slice_get z 0)) kind.AssignPat cs (kind_at is_rest_pattern (λ i. target.Free) cs 0 refl)
-  accessors_stay kind.GetterProp cs o n h = by_children (λ z. of_kind is_present (slice_get z 3)) kind.GetterProp cs (kind_at is_present (λ i. target.Free) cs 3 refl)
-  accessors_stay kind.SetterProp cs o n h = by_children (λ z. of_kind takes_not_one (slice_get z 2)) kind.SetterProp cs (kind_at takes_not_one (λ i. target.Free) cs 2 refl)
+  accessors_stay kind.GetterProp cs o n h =
+      by_children (λ z. of_kind is_present (slice_get z 3) || not (of_kind is_present (slice_get z 2))) kind.GetterProp cs
+      (ap₂ (λ a b. a || not b) (kind_at is_present (λ i. target.Free) cs 3 refl) (kind_at is_present (λ i. target.Free) cs 2 refl))
+  accessors_stay kind.SetterProp cs o n h =
+      by_children (λ z. of_kind takes_not_one (slice_get z 2) || not (of_kind is_present (slice_get z 3))) kind.SetterProp cs
+      (ap₂ (λ a b. a || not b) (kind_at takes_not_one (λ i. target.Free) cs 2 refl) (kind_at is_present (λ i. target.Free) cs 3 refl))
+  accessors_stay kind.MethodProp cs o n h = by_children (λ z. not (holds_of has_body (slice_get z 1))) kind.MethodProp cs (ap not (function_bodied cs (one sort.PropName) h))
   accessors_stay (kind.ClassMethod k modifiers) cs o n h = by_children (λ z. not (holds_of (fits_kind k) (slice_get z 1))) (kind.ClassMethod k modifiers) cs (ap not (function_fits k cs (one sort.PropName) h))
   accessors_stay (kind.PrivateMethod k modifiers) cs o n h = by_children (λ z. not (holds_of (fits_kind k) (slice_get z 1))) (kind.PrivateMethod k modifiers) cs (ap not (function_fits k cs (one sort.PrivateName) h))
   accessors_stay _ cs o n h = refl

@@ -20,7 +20,7 @@ use Rattle.ecma_rules.specs.declared.standing.Standing.{Standing}
 use Rattle.ecma_rules.specs.declared.target.Target.{Target}
 use Rattle.ecma_rules.specs.Children.{children_of as items_of, holds_of, is_named, is_present, items_at, kind_of, of_kind}
 use Rattle.ecma_rules.specs.Lists.{is_head, is_item, is_one_without_value, is_rest, is_rest_pattern}
-use Rattle.ecma_rules.specs.Members.{behind_first, fits_kind, is_binding_name, is_constructor_key, is_declaring, is_empty_list, is_method, is_misfit, is_named_pattern, is_one_parameter, is_plain_parameter, is_property_kind, is_special_by, is_special_constructor, is_special_function, is_this_by, is_this_parameter, is_this_pattern, misfits_by, misplaces_this, misplaces_this_by, takes_not_one, takes_one}
+use Rattle.ecma_rules.specs.Members.{behind_first, fits_kind, is_binding_name, is_constructor_key, is_declaring, is_empty_list, is_method, is_misfit, is_named_pattern, is_one_parameter, is_plain_parameter, is_property_kind, is_special_by, is_special_constructor, is_special_function, is_this_by, is_this_parameter, is_this_pattern, misfits_by, misplaces_this, misplaces_this_by, takes_not_one, takes_one, has_body}
 use Rattle.ecma_rules.specs.Statements.{is_body, is_declaration, is_exported, is_text}
 use Rattle.ecma_rules.specs.Targets.{is_variables}
 use Rattle.ecma_print.specs.declared.place.Beside.TheVariants.{NoNeighbor}
@@ -53,8 +53,9 @@ property_by s k ns = is_property_kind k && not (is_declaring s && holds_of is_pl
 
 abbrev misfit_by : Kind → List Node → Bool
 misfit_by kind.AssignPat ns = of_kind is_rest_pattern (slice_get ns 0)
-misfit_by kind.GetterProp ns = of_kind is_present (slice_get ns 3)
-misfit_by kind.SetterProp ns = of_kind takes_not_one (slice_get ns 2)
+misfit_by kind.GetterProp ns = of_kind is_present (slice_get ns 3) || not (of_kind is_present (slice_get ns 2))
+misfit_by kind.SetterProp ns = of_kind takes_not_one (slice_get ns 2) || not (of_kind is_present (slice_get ns 3))
+misfit_by kind.MethodProp ns = not (holds_of has_body (slice_get ns 1))
 misfit_by (kind.ClassMethod k modifiers) ns = not (holds_of (fits_kind k) (slice_get ns 1))
 misfit_by (kind.PrivateMethod k modifiers) ns = not (holds_of (fits_kind k) (slice_get ns 1))
 misfit_by _ ns = false
@@ -85,6 +86,7 @@ misfit_made x = ap (λ k. misfits_by k (roll-Node x)) (kind_made x) ∙ by x.kin
     by kind.AssignPat = ap (λ (p : Node-F Node). misfit_by kind.AssignPat p.children) (out-roll-Node x)
     by kind.GetterProp = ap (λ (p : Node-F Node). misfit_by kind.GetterProp p.children) (out-roll-Node x)
     by kind.SetterProp = ap (λ (p : Node-F Node). misfit_by kind.SetterProp p.children) (out-roll-Node x)
+    by kind.MethodProp = ap (λ (p : Node-F Node). misfit_by kind.MethodProp p.children) (out-roll-Node x)
     by (kind.ClassMethod k modifiers) = ap (λ (p : Node-F Node). misfit_by (kind.ClassMethod k modifiers) p.children) (out-roll-Node x)
     by (kind.PrivateMethod k modifiers) = ap (λ (p : Node-F Node). misfit_by (kind.PrivateMethod k modifiers) p.children) (out-roll-Node x)
     by _ = refl
@@ -335,6 +337,18 @@ fits_here Method f spot fits h = refl
 fits_here Getter f spot fits h = parameters_here is_empty_list (λ ns k have. empty_here ns (free 1)) f spot fits h
 fits_here Setter f spot fits h = parameters_here is_one_parameter (λ ns k have. one_parameter ns k (free 1) refl have) f spot fits h
 
+-- a function keeps its body
+body_by : (k : Kind) (ns : List Node) (ls : List Laid) (spot : Spot) → belongs sort.Function k ≡ true → of_kind is_present (slice_get (spotted ns (first_spots k ls spot) (further_spot k spot)) 1) ≡ of_kind is_present (slice_get ns 1)
+body_by (kind.Function is_generator is_async) ns ls spot b = kind_at is_present present_kept ns [] (free 1) tt refl 1
+body_by _ ns ls spot b = not_true b
+
+body_here : (f : Node) (spot : Spot) → Fits spot → HasShape (one sort.Function) f → has_body ((stood f).at spot) ≡ has_body f
+body_here f spot fits h =
+    let x = out-Node f in
+    let t = shape_parts f (one sort.Function) h in
+    ap (λ (z : List Node). of_kind is_present (slice_get z 1)) (children_in f spot fits (function_opens_there x.kind t.0))
+    ∙ body_by x.kind x.children (laid_children (map stood x.children)) spot t.0
+
 takers_open : NoneClose takes_not_one
 takers_open kind.List h = refl
 takers_open kind.RestPat h = refl
@@ -342,8 +356,12 @@ takers_open _ h = not_true h
 
 misfit_here : (k : Kind) (ns : List Node) (ls : List Laid) (spot : Spot) (o : Shape) (n : ℕ) → HaveShapes (child_shapes k o n) ns → misfit_by k (spotted ns (first_spots k ls spot) (further_spot k spot)) ≡ misfit_by k ns
 misfit_here kind.AssignPat ns ls spot o n have = kind_at is_rest_pattern (kinds_kept is_rest_pattern refl rests_open) ns [] (free 1) tt refl 0
-misfit_here kind.GetterProp ns ls spot o n have = kind_at is_present present_kept ns [] (free 1) tt refl 3
-misfit_here kind.SetterProp ns ls spot o n have = kind_at takes_not_one (kinds_kept takes_not_one refl takers_open) ns [] (free 1) tt refl 2
+misfit_here kind.GetterProp ns ls spot o n have = ap₂ (λ a b. a || not b) (kind_at is_present present_kept ns [] (free 1) tt refl 3) (kind_at is_present present_kept ns [] (free 1) tt refl 2)
+misfit_here kind.SetterProp ns ls spot o n have =
+    ap₂ (λ a b. a || not b) (kind_at takes_not_one (kinds_kept takes_not_one refl takers_open) ns [] (free 1) tt refl 2) (kind_at is_present present_kept ns [] (free 1) tt refl 3)
+misfit_here kind.MethodProp [] ls spot o n have = absurd have
+misfit_here kind.MethodProp (a ∷ []) ls spot o n have = absurd have.1
+misfit_here kind.MethodProp (a ∷ f ∷ ns) ls spot o n have = ap not (body_here f (free 1) refl have.1.0)
 misfit_here (kind.ClassMethod k modifiers) [] ls spot o n have = absurd have
 misfit_here (kind.ClassMethod k modifiers) (a ∷ []) ls spot o n have = absurd have.1
 misfit_here (kind.ClassMethod k modifiers) (a ∷ f ∷ ns) ls spot o n have = ap not (fits_here k f (free 1) refl have.1.0)

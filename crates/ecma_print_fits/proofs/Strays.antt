@@ -117,8 +117,8 @@ module _ (s : Strays) (a : Arguments) (h : Alike s a) where
   alike_in (kind.TsImportEqualsDecl is_export is_type_only) e i = first (i == 0)
   alike_in kind.BreakStmt e i = named
   alike_in kind.ContinueStmt e i = named
-  alike_in (kind.TsInterfaceDecl declare) e i = named
-  alike_in (kind.TsTypeAliasDecl declare) e i = named
+  alike_in (kind.TsInterfaceDecl declare) e i = first (i == 0)
+  alike_in (kind.TsTypeAliasDecl declare) e i = first (i == 0)
   alike_in (kind.ImportNamedSpecifier is_type_only) e i = named
   alike_in kind.ImportDefaultSpecifier e i = named
   alike_in kind.ImportStarAsSpecifier e i = named

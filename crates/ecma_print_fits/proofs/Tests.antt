@@ -18,7 +18,7 @@ use Rattle.ecma_rules.specs.declared.target.Target.TheVariants as target
 use Rattle.ecma_rules.specs.Children.{child_is, children_of as items_of, has_child, holds_of, is_named, is_present, items_at, kind_of, of_kind}
 use Rattle.ecma_rules.specs.Finishing.{each_in}
 use Rattle.ecma_rules.specs.Lists.{is_one_without_value, is_rest_pattern}
-use Rattle.ecma_rules.specs.Members.{behind_first, fits_kind, is_binding_name, is_constructor, is_empty_list, is_full_constructor, is_named_pattern, is_one_parameter, is_plain_parameter, is_this_by, is_this_parameter, is_this_pattern, second_of, takes_one}
+use Rattle.ecma_rules.specs.Members.{behind_first, fits_kind, is_binding_name, is_constructor, is_empty_list, is_full_constructor, is_named_pattern, is_one_parameter, is_plain_parameter, is_this_by, is_this_parameter, is_this_pattern, second_of, takes_one, has_body}
 use Rattle.ecma_rules.specs.Targets.{first_is, is_plain_target, is_simple_target, is_wrapper, simple_step, target_in}
 use Rattle.ecma_covers.specs.Covering.{cover_at, cover_in}
 use Rattle.ecma_covers.proofs.Uncovering.{cover_node, free_kind}
@@ -217,6 +217,16 @@ pub kind_fits : (k : MethodKind) (f : Node) → HasShape (one sort.Function) f �
 kind_fits Method f h = refl
 kind_fits Getter f h = parameters_stay is_empty_list none_stays f h
 kind_fits Setter f h = parameters_stay is_one_parameter one_stays f h
+
+-- a function keeps its body
+
+body_free : (k : Kind) → belongs sort.Function k ≡ true → cover_in target.Free k 1 ≡ target.Free
+unfolding cover_in target_in
+body_free (kind.Function is_generator is_async) h = refl
+body_free _ h = not_true h
+
+pub body_stays : (f : Node) → HasShape (one sort.Function) f → has_body (free f) ≡ has_body f
+body_stays f h = child_kind_at is_present f 1 (body_free (kind_of f) (shape_parts f (one sort.Function) h).0)
 
 -- constructors with bodies
 

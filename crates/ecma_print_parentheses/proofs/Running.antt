@@ -13,19 +13,18 @@ use Rattle.ecma_tree.specs.Laws.{HaveShapes}
 use Rattle.ecma_tree.specs.Nodes.{absent, dummy_span, node_of}
 use Rattle.ecma_tree.specs.Sorted.{HasShape, HasSort, child_shapes, maybe, one}
 use Rattle.ecma_tree.proofs.ShapeLaws.{node_has_shape}
-use Rattle.ecma_runs.specs.declared.config.Config.{Config}
+use Rattle.ecma_config.specs.declared.config.Config.{Config}
 use Rattle.ecma_runs.specs.declared.script.Script.{Script}
-use Rattle.ecma_runs.specs.Observation.{observe}
-use Rattle.ecma_runs.specs.State.{Id}
-use Rattle.ecma_runs.specs.Meaning.{Meaning}
+use Rattle.ecma_runs.specs.Observation.{observe, known_of}
+use Rattle.ecma_runs.specs.Meaning.{Meaning, Known}
 use Rattle.ecma_runs.specs.Evaluation.{ending_chain, meaning_by, meaning}
 use Rattle.ecma_runs.specs.Expressions.{call_by}
 use Rattle.ecma_runs.proofs.Alike.{Change, outside_alike}
-use Rattle.ecma_runs.proofs.Meanings.{Same, Both, firsts, seconds}
+use Rattle.ecma_runs.proofs.Meanings.{Same, Both, pair, firsts, seconds}
 use Rattle.ecma_runs.proofs.Layer.{meaning-roll}
-use Rattle.ecma_runs.proofs.Layers.{images_where, the_same, none_excused, same_kind, kept_layer}
+use Rattle.ecma_runs.proofs.Layers.{plain_starts, images_where, the_same, none_excused, same_kind, kept_layer}
 use Rattle.ecma_runs.proofs.Kept.{StepsAlike, observe_unless}
-use Rattle.ecma_runs.proofs.Steps.{step_same}
+use Rattle.ecma_runs.proofs.Steps.{plain_step}
 use Rattle.ecma_runs.specs.Laws.{ParenthesesDoNotMatter}
 use Rattle.ecma_print_parentheses.proofs.Shaped.{Shaped, AllShaped, all_shaped}
 use Rattle.ecma_print.specs.Explicit.{explicit, parenthesized}
@@ -136,13 +135,13 @@ handed_on n n' kind.TsInstantiation shape _ p h = absurd h
 handed_on n n' kind.TsSatisfiesExpr shape _ p h = absurd h
 handed_on n n' _ shape ms p h = absurd (cc)
 
-module _ (declared : List Id) where
+module _ (known : Known) where
   abbrev c : Change
-  c = images_where Fine ended declared the_same
+  c = images_where Fine ended known the_same
 
   unlinked_same : (m m' : Meaning) → Same c m m' → Same c (unlinked m) (unlinked m')
   unlinked_same m m' same = record {
-    link = λ optional w. outside_alike c;
+    link = λ optional w s. outside_alike _;
     value = same.value;
     reference = same.reference;
     assigned = same.assigned;
@@ -179,6 +178,7 @@ module _ (declared : List Id) where
     text = same.text;
     cooked = same.cooked;
     is_plain = same.is_plain;
+    is_computed = same.is_computed;
     is_super = same.is_super;
     is_absent = same.is_absent;
     is_this = same.is_this;
@@ -189,11 +189,11 @@ module _ (declared : List Id) where
 
   stepped : (z : Node) → Fine z → (k : Kind) (ps : List (Both c)) → Same c (meaning_by z k (firsts c ps)) (meaning_by (ended z) k (seconds c ps))
   stepped z fine k ps =
-      subst (λ k'. Same c (meaning_by z k (firsts c ps)) (meaning_by (ended z) k' (seconds c ps))) (same_kind Fine ended declared the_same k)
-      (step_same c z fine k ps (kept_layer Fine ended declared the_same k (firsts c ps)))
+      subst (λ k'. Same c (meaning_by z k (firsts c ps)) (meaning_by (ended z) k' (seconds c ps))) (same_kind Fine ended known the_same k)
+      (plain_step c refl z fine k ps (kept_layer Fine ended known the_same k (firsts c ps)))
 
   closing_same : (b : Bool) (m m' : Meaning) → Same c m m' → Same c (closing b m) (closing b m')
-  closing_same true m m' same = stepped absent absent_fine kind.ParenExpr ((m, m', same) ∷ [])
+  closing_same true m m' same = stepped absent absent_fine kind.ParenExpr (pair c m m' same ∷ [])
   closing_same false m m' same = same
 
   -- by itself, where it means nothing as a link, and as a link
@@ -210,7 +210,7 @@ module _ (declared : List Id) where
 
   pairs : (ns : List Child) → AllShaped (nodes ns) → List (Both c)
   pairs [] h = []
-  pairs (n ∷ ns) h = (unlinked (meaning n.0), unlinked (run_of n.0), n.1.apart h.0) ∷ pairs ns h.1
+  pairs (n ∷ ns) h = pair c (unlinked (meaning n.0)) (unlinked (run_of n.0)) (n.1.apart h.0) ∷ pairs ns h.1
 
   firsts-pairs : (ns : List Child) (h : AllShaped (nodes ns)) → firsts c (pairs ns h) ≡ all_unlinked (map meaning (nodes ns))
   unfolding pairs
@@ -229,7 +229,7 @@ module _ (declared : List Id) where
   stepped_closed : (z : Node) → Fine z → (k : Kind) (a : Child) (ns : List Child) → AllShaped (nodes (a ∷ ns)) → (b : Bool)
       → Same c (meaning_by z k (all_unlinked (closing b (meaning a.0) ∷ map meaning (nodes ns)))) (meaning_by (ended z) k (all_unlinked (closing b (run_of a.0) ∷ map run_of (nodes ns))))
   stepped_closed z fine k a ns h b =
-      let p : Both c = (closing b (unlinked (meaning a.0)), closing b (unlinked (run_of a.0)), closing_same b (unlinked (meaning a.0)) (unlinked (run_of a.0)) (a.1.apart h.0)) in
+      let p : Both c = pair c (closing b (unlinked (meaning a.0))) (closing b (unlinked (run_of a.0))) (closing_same b (unlinked (meaning a.0)) (unlinked (run_of a.0)) (a.1.apart h.0)) in
       rw (sym (closing_unlinked b (meaning a.0)), sym (closing_unlinked b (run_of a.0)), sym (firsts-pairs ns h.1), sym (seconds-pairs ns h.1)) (stepped z fine k (p ∷ pairs ns h.1))
 
   same_by : {m m' k k' : Meaning} → m ≡ k → m' ≡ k' → Same c m m' → Same c k k'
@@ -312,7 +312,7 @@ module _ (declared : List Id) where
       let base : belongs sort.OptChainBase x.kind ≡ true =
       ((node_has_shape x.span x.kind x.children (one sort.OptChainBase)).0 (subst (HasShape (one sort.OptChainBase)) (sym (roll-out-Node b.0)) sorted)).0 in
       same_by (sym (meaning_of_layer span k (b.0 ∷ []))) (sym (run_of_layer span k (b.0 ∷ [])))
-      (stepped (node_of span k (b.0 ∷ [])) (fine_layer span k (b.0 ∷ []) (shape, h) refl) k ((meaning b.0, meaning (ends_of b.0).link, b.1.link (one sort.OptChainBase, sorted) base) ∷ []))
+      (stepped (node_of span k (b.0 ∷ [])) (fine_layer span k (b.0 ∷ []) (shape, h) refl) k (pair c (meaning b.0) (meaning (ends_of b.0).link) (b.1.link (one sort.OptChainBase, sorted) base) ∷ []))
 
   -- each kind
 
@@ -385,7 +385,7 @@ ended_runs turns options m script h =
     let x = out-Node m in
     let of_module : belongs sort.Module x.kind ≡ true = ((node_has_shape x.span x.kind x.children (one sort.Module)).0 (subst (HasShape (one sort.Module)) (sym (roll-out-Node m)) h)).0 in
     ap (λ n. observe n options (ended m) script) (sym (add-zero turns))
-    ∙ observe_unless (c (meaning m).declared) refl (steps (meaning m).declared) refl refl turns options m script ((one sort.Module, h), module_gives_none x.kind of_module) refl tt tt (none_excused _)
+    ∙ observe_unless (c (known_of m)) refl (steps (known_of m)) refl refl turns options m script ((one sort.Module, h), module_gives_none x.kind of_module) refl plain_starts tt tt (none_excused _)
 
 pub runs_alike : ParenthesesDoNotMatter → RunsAlike
 runs_alike parentheses_do_not_matter turns options m script h =

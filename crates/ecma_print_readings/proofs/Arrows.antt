@@ -90,7 +90,7 @@ module _ (assigned : Bool) where
 
   -- what stands behind the parameters
   pub record ReadsBody (no_in : Bool) (body : Items → Items) (n : Node) : Type 0 where
-    pub reads : (us : Items) (e : Front) → Begins e us → closes_in no_in shapes.assignment e ≡ true → Reads assigned (arrow_body no_in) (body us) (n ∷ []) us
+    pub reads : (us : Items) (e : Front) → Begins e us → closes_in no_in shapes.assignment e ≡ true → Reads assigned (arrow_body no_in false) (body us) (n ∷ []) us
 
   -- an expression
   pub expression_body : {no_in : Bool} {f : Laid} {k : Kind} {ns : List Node} → StandsIn assigned no_in shapes.assignment f k ns → ((g : Gap) (us : Items) → Refuses assigned (punct (codes "{")) (f g us)) → ReadsBody no_in (λ us. it blank (sign (codes "=>")) (f blank us)) (bare k ns)

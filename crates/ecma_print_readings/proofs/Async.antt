@@ -12,7 +12,7 @@ use Rattle.ecma_grammar.specs.Grammar.{Grammar, same_line, keep, put, ◌▸◌,
 use Rattle.ecma_grammar.specs.productions.Names as names
 use Rattle.ecma_grammar.specs.productions.Names.{ident}
 use Rattle.ecma_grammar.specs.productions.Functions as functions
-use Rattle.ecma_grammar.specs.productions.Functions.{arrow, arrow_rest, arrow_body, function, function_expression, signature}
+use Rattle.ecma_grammar.specs.productions.Functions.{arrow, arrow_rest, arrow_body, function_with, function_expression, signature, full_signature}
 use Rattle.ecma_grammar.specs.productions.Primary.{primary, class_expression}
 use Rattle.ecma_grammar.specs.productions.Operators.{prefixed}
 use Rattle.ecma_grammar.specs.productions.Chains.{super_of_member, super_of_link, import_meta, import_call, construction}
@@ -72,16 +72,16 @@ module _ (assigned : Bool) where
 
     -- where no `function` follows
     module _ (h : Refuses assigned (word (codes "function")) us) where
-      function_refused : (k : Made) (name : Grammar) → Refuses assigned (build k (function name)) ts
-      function_refused k name =
+      function_refused : (k : Made) (name signed : Grammar) → Refuses assigned (build k (function_with name signed)) ts
+      function_refused k name signed =
           let I = interp assigned (means assigned) in
           let none = ap (followed_on (I (put Present))) h in
-          ap (built_on k) (ap (followed_on (I (whether (punct (codes "*")) ▸ name ▸ signature))) (ap (or_on (I (word (codes "function") ▸ put Absent)) ts) (async_refused (word (codes "function") ▸ put Present) g us none)))
+          ap (built_on k) (ap (followed_on (I (whether (punct (codes "*")) ▸ name ▸ signed))) (ap (or_on (I (word (codes "function") ▸ put Absent)) ts) (async_refused (word (codes "function") ▸ put Present) g us none)))
 
       pub async_no_declaration : Refuses assigned declaration ts
       unfolding declaration functions.function_declaration classes.class_declaration
       async_no_declaration =
-          ap (or_on (interp assigned (means assigned) (without 2 declaration)) ts) (function_refused (form.Function plain.FnDecl) ident)
+          ap (or_on (interp assigned (means assigned) (without 2 declaration)) ts) (function_refused (form.Function plain.FnDecl) ident signature)
           ∙ refused_at assigned (means assigned) (without 2 declaration) front ts at_token refl
 
       pub async_no_word : Refuses assigned excluded ts
@@ -91,9 +91,9 @@ module _ (assigned : Bool) where
       unfolding primary function_expression is_reserved reserved_words
       async_read =
           let k = front_of us in
-          ap (or_on (interp assigned (means assigned) (without 1 primary)) ts) (function_refused (form.Function plain.FnExpr) (maybe ident)) ∙ climb assigned (means assigned) (primary_tower k.0) ts us (bare (kind.Ident async 0 false) []) at_token k.1 refl
+          ap (or_on (interp assigned (means assigned) (without 1 primary)) ts) (function_refused (form.Function plain.FnExpr) (maybe ident) full_signature) ∙ climb assigned (means assigned) (primary_tower k.0) ts us (bare (kind.Ident async 0 false) []) at_token k.1 refl
 
-    async_no_arrow : (e : Front) → Begins e us → (no_in : Bool) → refuses_at e (arrow_body no_in) ≡ true → Refuses assigned (arrow_rest no_in false) us → Refuses assigned (arrow no_in false) ts
+    async_no_arrow : (e : Front) → Begins e us → (no_in : Bool) → refuses_at e (arrow_body no_in false) ≡ true → Refuses assigned (arrow_rest no_in false) us → Refuses assigned (arrow no_in false) ts
     unfolding arrow
     async_no_arrow e b n z r =
         let I = interp assigned (means assigned) in

@@ -90,18 +90,18 @@ head_is_no_or k h = refl
 abbrev pub Tight : Level → Front → Type 0
 Tight shapes.sequence e = Unit {0}
 Tight shapes.assignment e = Unit {0}
-Tight shapes.short_circuit e = refuses_at e (yield_ false) ≡ true
-Tight shapes.coalescing e = refuses_at e (yield_ false) ≡ true
-Tight shapes.logical_or e = refuses_at e (yield_ false) ≡ true
-Tight shapes.logical_and e = refuses_at e (yield_ false) ≡ true
-Tight shapes.bit_or e = refuses_at e (yield_ false) ≡ true
-Tight shapes.bit_xor e = refuses_at e (yield_ false) ≡ true
-Tight shapes.bit_and e = refuses_at e (yield_ false) ≡ true
-Tight shapes.equality e = refuses_at e (yield_ false) ≡ true
-Tight shapes.relation e = refuses_at e (yield_ false) ≡ true
-Tight l e = (refuses_at e private_in ≡ true) × (refuses_at e (yield_ false) ≡ true)
+Tight shapes.short_circuit e = refuses_at e (yield_ false false) ≡ true
+Tight shapes.coalescing e = refuses_at e (yield_ false false) ≡ true
+Tight shapes.logical_or e = refuses_at e (yield_ false false) ≡ true
+Tight shapes.logical_and e = refuses_at e (yield_ false false) ≡ true
+Tight shapes.bit_or e = refuses_at e (yield_ false false) ≡ true
+Tight shapes.bit_xor e = refuses_at e (yield_ false false) ≡ true
+Tight shapes.bit_and e = refuses_at e (yield_ false false) ≡ true
+Tight shapes.equality e = refuses_at e (yield_ false false) ≡ true
+Tight shapes.relation e = refuses_at e (yield_ false false) ≡ true
+Tight l e = (refuses_at e private_in ≡ true) × (refuses_at e (yield_ false false) ≡ true)
 
-pub tight_by : (e : Front) → only_opens e ≡ true → (refuses_at e private_in ≡ true) × (refuses_at e (yield_ false) ≡ true)
+pub tight_by : (e : Front) → only_opens e ≡ true → (refuses_at e private_in ≡ true) × (refuses_at e (yield_ false false) ≡ true)
 tight_by e z =
     let a = and_parts (opens_plainly e) _ z in
     let b = and_parts (refuses_choices 3 e module_item) _ a.1 in
@@ -156,9 +156,9 @@ assignment_closed : (no_in : Bool) (e : Front) → closes shapes.assignment e �
 unfolding arrow_rest assignments
 assignment_closed no_in e z =
     let s = and_parts (stops e) _ z in
-    let a = and_parts (refuses_at e (arrow_body false)) _ s.1 in
+    let a = and_parts (refuses_at e (arrow_body false false)) _ s.1 in
     let b = and_parts (refuses_at e (arrow_rest false false)) _ a.1 in
-    let c = and_parts (passes_at e (assignments false)) (closes_conditional false e) b.1 in
+    let c = and_parts (passes_at e (assignments false false)) (closes_conditional false e) b.1 in
     both_true _ _ s.0 (both_true _ _ a.0 (both_true _ _ b.0 (both_true _ _ c.0 (conditional_closed no_in e c.1))))
 
 sequence_closed : (no_in : Bool) (e : Front) → closes shapes.sequence e ≡ true → closes_in no_in shapes.sequence e ≡ true
@@ -179,17 +179,17 @@ closed no_in shapes.sequence e z = sequence_closed no_in e z
 closed no_in l e z = z
 
 -- behind an assignment expression stands none of its operators, and none of a conditional one
-ends_parts : (no_in : Bool) (e : Front) → closes_in no_in shapes.assignment e ≡ true → (passes_at e (assignments no_in) ≡ true) × (closes_conditional no_in e ≡ true)
+ends_parts : (no_in : Bool) (e : Front) → closes_in no_in shapes.assignment e ≡ true → (passes_at e (assignments no_in false) ≡ true) × (closes_conditional no_in e ≡ true)
 ends_parts no_in e z =
     let s = and_parts (stops e) _ z in
-    let c = and_parts (refuses_at e (arrow_body no_in)) _ s.1 in
+    let c = and_parts (refuses_at e (arrow_body no_in false)) _ s.1 in
     let d = and_parts (refuses_at e (arrow_rest no_in false)) _ c.1 in
-    and_parts (passes_at e (assignments no_in)) (closes_conditional no_in e) d.1
+    and_parts (passes_at e (assignments no_in false)) (closes_conditional no_in e) d.1
 
 -- nor `=`
 pub ends_no_equals : (e : Front) → Ends e → refuses_at e (punct (codes "=")) ≡ true
 unfolding assignments
-ends_no_equals e z = let c = ends_parts false e z in let a = and_parts (refuses_at e (expressions.assignment (codes "=") Assign false)) _ c.0 in first_refuses e (punct (codes "=")) a.0
+ends_no_equals e z = let c = ends_parts false e z in let a = and_parts (refuses_at e (expressions.assignment (codes "=") Assign false false)) _ c.0 in first_refuses e (punct (codes "=")) a.0
 
 abbrev pub further_out : ℕ → Level → Level
 further_out zero l = l
@@ -329,12 +329,12 @@ module _ (assigned : Bool) where
   related_read true L t d g us e b z = d g us e b z
   related_read false {f} L t d g us e b z = ap (or_on (interp assigned (means assigned) operators.shift) (f g us)) (refused_at assigned (means assigned) private_in L.front (f g us) (L.begins g us) t) ∙ d g us e b z
 
-  pub assignment_read : (no_in : Bool) {f : Laid} {n : Node} (L : Lead assigned f) → NoArrow assigned f → refuses_at (let l = L in l.front) (yield_ false) ≡ true → ((g : Gap) (us : Items) (e : Front) → Begins e us → closes_in no_in shapes.assignment e ≡ true → Reads assigned (expressions.conditional no_in) (f g us) (n ∷ []) us) → Direct no_in shapes.assignment f n
+  pub assignment_read : (no_in : Bool) {f : Laid} {n : Node} (L : Lead assigned f) → NoArrow assigned f → refuses_at (let l = L in l.front) (yield_ false false) ≡ true → ((g : Gap) (us : Items) (e : Front) → Begins e us → closes_in no_in shapes.assignment e ≡ true → Reads assigned (expressions.conditional no_in false) (f g us) (n ∷ []) us) → Direct no_in shapes.assignment f n
   assignment_read no_in {f} {n} L N y D g us e b z =
       let s = and_parts (stops e) _ z in
-      let c = and_parts (refuses_at e (arrow_body no_in)) _ s.1 in
+      let c = and_parts (refuses_at e (arrow_body no_in false)) _ s.1 in
       let d = and_parts (refuses_at e (arrow_rest no_in false)) _ c.1 in
-      let t : Tower L.front e (expressions.conditional no_in) (behind_arrow no_in) = later y (chained (before here (ends_parts no_in e z).0)) in
+      let t : Tower L.front e (expressions.conditional no_in false) (behind_arrow no_in) = later y (chained (before here (ends_parts no_in e z).0)) in
       means_is assigned (part.Assign no_in false) (f g us)
       ∙ (ap (or_on (interp assigned (means assigned) (behind_arrow no_in)) (f g us)) (N no_in g us e b c.0 (refused_at assigned (means assigned) (arrow_rest no_in false) e us b d.0))
       ∙ climb assigned (means assigned) t (f g us) us n (L.begins g us) b (D g us e b z))
@@ -414,12 +414,12 @@ module _ (assigned : Bool) where
         no_or = ap is_or (kind-node dummy_span k ns) ∙ S.no_or;
       }
 
-      pub conditional_read : StandsIn no_in shapes.short_circuit f k ns → (g : Gap) (us : Items) (e : Front) → Begins e us → closes_conditional no_in e ≡ true → Reads assigned (expressions.conditional no_in) (f g us) (bare k ns ∷ []) us
+      pub conditional_read : StandsIn no_in shapes.short_circuit f k ns → (g : Gap) (us : Items) (e : Front) → Begins e us → closes_conditional no_in e ≡ true → Reads assigned (expressions.conditional no_in false) (f g us) (bare k ns ∷ []) us
       unfolding expressions.conditional
       conditional_read S g us e b z =
           let l = S.lead in
           let c = and_parts (passes_at e (choice_tail no_in)) (closes_in no_in shapes.short_circuit e) z in
-          let t : Tower l.front e (operators.short_circuit no_in) (expressions.conditional no_in) = chained (before here c.0) in
+          let t : Tower l.front e (operators.short_circuit no_in) (expressions.conditional no_in false) = chained (before here c.0) in
           climb assigned (means assigned) t (f g us) us (bare k ns) (l.begins g us) b (direct shapes.short_circuit S g us e b c.1)
 
       one_read : StandsIn no_in shapes.assignment f k ns → Direct no_in shapes.sequence f (bare k ns)

@@ -284,13 +284,13 @@ module _ (assigned : Bool) where
   pub name_with_default : (w : List ℕ) → is_reserved w ≡ false → (g : Gap) (ts us : Items) (n : Node) → means assigned (part.Assign false false) ts ≡ read (n ∷ []) us → AsParam assigned (it g (items.key w) (it blank (sign (codes "=")) ts)) us
   name_with_default w z g ts us n h = whole_item (defaulted w n ∷ []) (default_read w z g ts us n h)
 
-  pub name_no_rest : (w : List ℕ) → is_reserved w ≡ false → (no_in : Bool) (g : Gap) (us : Items) (e : Front) → Begins e us → refuses_at e (arrow_body no_in) ≡ true → Refuses assigned (arrow_rest no_in false) (it g (items.key w) us)
+  pub name_no_rest : (w : List ℕ) → is_reserved w ≡ false → (no_in : Bool) (g : Gap) (us : Items) (e : Front) → Begins e us → refuses_at e (arrow_body no_in false) ≡ true → Refuses assigned (arrow_rest no_in false) (it g (items.key w) us)
   unfolding arrow_rest names.binding_ident
-  name_no_rest w n no_in g us e b z = rw (n, refused_at assigned (means assigned) (arrow_body no_in) e us b z) refl
+  name_no_rest w n no_in g us e b z = rw (n, refused_at assigned (means assigned) (arrow_body no_in false) e us b z) refl
 
-  name_no_arrow : (w : List ℕ) → IsName w → (no_in : Bool) (g : Gap) (us : Items) (e : Front) → Begins e us → refuses_at e (arrow_body no_in) ≡ true → Refuses assigned (arrow_rest no_in false) us → Refuses assigned (arrow no_in false) (it g (items.key w) us)
+  name_no_arrow : (w : List ℕ) → IsName w → (no_in : Bool) (g : Gap) (us : Items) (e : Front) → Begins e us → refuses_at e (arrow_body no_in false) ≡ true → Refuses assigned (arrow_rest no_in false) us → Refuses assigned (arrow no_in false) (it g (items.key w) us)
   unfolding arrow arrow_rest names.binding_ident
-  name_no_arrow w n no_in g us e b z r = rw (n.apart (codes "async") async_known, n.free, refused_at assigned (means assigned) (arrow_body no_in) e us b z) refl
+  name_no_arrow w n no_in g us e b z r = rw (n.apart (codes "async") async_known, n.free, refused_at assigned (means assigned) (arrow_body no_in false) e us b z) refl
 
   pub name_no_label : (w : List ℕ) → is_reserved w ≡ false → (g : Gap) (us : Items) (e : Front) → Begins e us → refuses_at e (punct (codes ":")) ≡ true → Refuses assigned labeled (it g (items.key w) us)
   unfolding labeled
@@ -340,7 +340,7 @@ module _ (assigned : Bool) where
     whole_read : (g : Gap) (us : Items) → Reads assigned primary (it g (sign (codes "(")) (f no_gap (s (codes ")") us))) (bare kind.ParenExpr (bare k ns ∷ []) ∷ []) us
     whole_read g us = primary_by opening parenthesized (it g (sign (codes "(")) (f no_gap (s (codes ")") us))) us (bare kind.ParenExpr (bare k ns ∷ [])) parenthesis_tower at_token (parenthesized_read g us)
 
-    parenthesized_no_arrow : (no_in : Bool) (g : Gap) (us : Items) (e : Front) → Begins e us → refuses_at e (arrow_body no_in) ≡ true → Refuses assigned (arrow_rest no_in false) us → Refuses assigned (arrow no_in false) (it g (sign (codes "(")) (f no_gap (s (codes ")") us)))
+    parenthesized_no_arrow : (no_in : Bool) (g : Gap) (us : Items) (e : Front) → Begins e us → refuses_at e (arrow_body no_in false) ≡ true → Refuses assigned (arrow_rest no_in false) us → Refuses assigned (arrow no_in false) (it g (sign (codes "(")) (f no_gap (s (codes ")") us)))
     unfolding arrow
     parenthesized_no_arrow n g us e b z r =
         let end = s (codes ")") us in

@@ -42,7 +42,7 @@ new_heads = super_of_member // import_meta // construction // primary
 
 -- behind `)` of what may be the parameters of an arrow function
 abbrev pub behind_params : Bool → Grammar
-behind_params no_in = punct (codes ")") ▸ (marked some_return_annotation ▸ arrow_body no_in ▸ before_colon false // put Absent ▸ arrow_body no_in)
+behind_params no_in = punct (codes ")") ▸ (marked some_return_annotation ▸ arrow_body no_in false ▸ before_colon false // put Absent ▸ arrow_body no_in false)
 
 -- `in` stands in the body of an arrow function, if at all
 
@@ -111,7 +111,7 @@ module _ (assigned : Bool) where
 
   -- no arrow function begins there, where the body of one does not follow
   abbrev pub NoArrow : Laid → Type 0
-  NoArrow f = (no_in : Bool) (g : Gap) (us : Items) (e : Front) → Begins e us → refuses_at e (arrow_body no_in) ≡ true → Refuses (arrow_rest no_in false) us → Refuses (arrow no_in false) (f g us)
+  NoArrow f = (no_in : Bool) (g : Gap) (us : Items) (e : Front) → Begins e us → refuses_at e (arrow_body no_in false) ≡ true → Refuses (arrow_rest no_in false) us → Refuses (arrow no_in false) (f g us)
 
   -- members, calls and what they begin with, as they are laid out
   pub record Form (f : Laid) (k : Kind) (ns : List Node) : Type 0 where
@@ -173,11 +173,11 @@ module _ (assigned : Bool) where
 
 -- an operator behind an expression: nothing that is tried before an expression goes on with it
 abbrev pub apart : Front → Bool
-apart e = refuses_at e (arrow_body false) && (refuses_at e (arrow_rest false false) && (refuses_at e (punct (codes ":")) && refuses_at e (word (codes "function"))))
+apart e = refuses_at e (arrow_body false false) && (refuses_at e (arrow_rest false false) && (refuses_at e (punct (codes ":")) && refuses_at e (word (codes "function"))))
 
 -- what begins a link
 abbrev pub begins_link : Front → Bool
-begins_link e = refuses_at e (arrow_body false) && (refuses_at e (punct (codes ":")) && refuses_at e (word (codes "function")))
+begins_link e = refuses_at e (arrow_body false false) && (refuses_at e (punct (codes ":")) && refuses_at e (word (codes "function")))
 
 -- and no parameter does
 abbrev pub ends_no_param : Front → Bool
@@ -193,13 +193,13 @@ opens_plainly e =
 
 -- nor what stands in modules alone, `yield`, or a private name
 abbrev pub only_opens : Front → Bool
-only_opens e = opens_plainly e && (refuses_choices 3 e module_item && (refuses_at e private_in && refuses_at e (yield_ false)))
+only_opens e = opens_plainly e && (refuses_choices 3 e module_item && (refuses_at e private_in && refuses_at e (yield_ false false)))
 
 module _ (assigned : Bool) where
   abbrev pub lead_before : {f : Laid} → Lead assigned f → (t : Tok) → apart (exactly t) ≡ true → (h : Gap) (rest : Items → Items) → Lead assigned (λ g us. f g (it h t (rest us)))
   lead_before {f} L t z h rest =
       let e = exactly t in
-      let a = and_parts (refuses_at e (arrow_body false)) _ z in
+      let a = and_parts (refuses_at e (arrow_body false false)) _ z in
       let b = and_parts (refuses_at e (arrow_rest false false)) _ a.1 in
       let c = and_parts (refuses_at e (punct (codes ":"))) _ b.1 in
       record {
@@ -214,7 +214,7 @@ module _ (assigned : Bool) where
   pub no_arrow_before : (f : Laid) → NoArrow assigned f → (t : Tok) → apart (exactly t) ≡ true → (h : Gap) (rest : Items → Items) → NoArrow assigned (λ g us. f g (it h t (rest us)))
   no_arrow_before f N t z h rest n g us k b' r q =
       let e = exactly t in
-      let a = and_parts (refuses_at e (arrow_body false)) _ z in
+      let a = and_parts (refuses_at e (arrow_body false false)) _ z in
       let b = and_parts (refuses_at e (arrow_rest false false)) _ a.1 in
       N n g (it h t (rest us)) e at_token a.0 (refused_at assigned (means assigned) (arrow_rest n false) e (it h t (rest us)) at_token (no_rest_at e b.0 n))
 
@@ -308,11 +308,11 @@ module _ (assigned : Bool) where
 
   -- a link behind a form, by its first token, and by what is tried there before an expression
   abbrev pub link_behind : {f : Laid} {k : Kind} {ns : List Node} → Form assigned f k ns → (t : Tok) → begins_link (exactly t) ≡ true → ends_no_param (exactly t) ≡ true → (rest : Items → Items)
-      → ((n : Bool) (us : Items) (e : Front) → Begins e us → refuses_at e (arrow_body n) ≡ true → Refuses assigned (arrow_rest n false) (it no_gap t (rest us))) → (m : Node) {k' : Kind} {ns' : List Node}
+      → ((n : Bool) (us : Items) (e : Front) → Begins e us → refuses_at e (arrow_body n false) ≡ true → Refuses assigned (arrow_rest n false) (it no_gap t (rest us))) → (m : Node) {k' : Kind} {ns' : List Node}
       → in_front_link (bare k ns) m ≡ bare k' ns' → ((us : Items) (ys : List Node) (vs : Items) → Reads assigned links us ys vs → Reads assigned links (it no_gap t (rest us)) (m ∷ ys) vs) → Form assigned (λ g us. f g (it no_gap t (rest us))) k' ns'
   link_behind F t z w rest no_rest m made link =
       let e = exactly t in
-      let a = and_parts (refuses_at e (arrow_body false)) _ z in
+      let a = and_parts (refuses_at e (arrow_body false false)) _ z in
       let c = and_parts (refuses_at e (punct (codes ":"))) _ a.1 in
       let x = and_parts (refuses_at e (punct (codes "="))) _ w in
       let y = and_parts (refuses_at e (punct (codes ","))) _ x.1 in

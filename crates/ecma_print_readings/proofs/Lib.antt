@@ -2,6 +2,7 @@ pub mod Takes
 pub mod Moves
 pub mod Ranks
 pub mod Levels
+pub mod Middles
 pub mod Unplaced
 pub mod Fronts
 pub mod Towers

@@ -94,7 +94,7 @@ module _ (assigned : Bool) where
   unfolding arrow_rest binding_ident
   parameters_refused no_in g ts h = rw h refl
 
-  pub no_body_behind : (no_in : Bool) (us : Items) (e : Front) → Begins e us → refuses_at e (arrow_body no_in) ≡ true → Refuses assigned (behind_params no_in) (s (codes ")") us)
+  pub no_body_behind : (no_in : Bool) (us : Items) (e : Front) → Begins e us → refuses_at e (arrow_body no_in false) ≡ true → Refuses assigned (behind_params no_in) (s (codes ")") us)
   no_body_behind no_in us e b z =
-      let body : Refuses assigned (arrow_body no_in) us = refused_at assigned (means assigned) (arrow_body no_in) e us b z in
+      let body : Refuses assigned (arrow_body no_in false) us = refused_at assigned (means assigned) (arrow_body no_in false) e us b z in
       rw body refl

@@ -41,7 +41,7 @@ unfolding expressions.conditional expressions.assignments
 all_expressions = tt
 
 unfoldable pub all_functions : Unit {0}
-unfolding functions.signature functions.function_expression functions.function_declaration functions.method_async functions.getter_property functions.setter_property functions.method_property functions.arrow_rest functions.arrow
+unfolding functions.signature functions.full_signature functions.function_expression functions.default_function functions.function_declaration functions.method_async functions.getter_property functions.setter_property functions.method_property functions.arrow_rest functions.arrow
 all_functions = tt
 
 unfoldable pub imports : Unit {0}
@@ -85,7 +85,7 @@ unfolding types.parameter_modifier types.rest_pattern types.default_value types.
 parameters = tt
 
 unfoldable pub operators_of_types : Unit {0}
-unfolding types.function_type types.intersection_type types.union_type types.type_body types.array_suffixes types.array_suffix_body types.type_operator_body types.after_type_args
+unfolding types.call_signature types.new_signature types.function_type types.intersection_type types.union_type types.type_body types.array_suffixes types.array_suffix_body types.type_operator_body types.after_type_args
 operators_of_types = tt
 
 unfoldable pub all_types : Unit {0}

@@ -81,7 +81,7 @@ private_in = keep leaf.PrivateName ▸ item (plain.BinExpr binary.In) (word (cod
 -- what an expression begins with that no operator stands before
 pub record Opens (f : Front) : Type 0 where
   pub no_spread : refuses_at f (punct (codes "...")) ≡ true
-  pub no_yield : refuses_at f (yield_ false) ≡ true
+  pub no_yield : refuses_at f (yield_ false false) ≡ true
   pub no_private : refuses_at f private_in ≡ true
   pub no_prefix : refuses_at f prefixed ≡ true
   pub no_increment : refuses_at f (node (plain.UpdateExpr update_op.PlusPlus true) (behind_punct (codes "++") part.Operand)) ≡ true
@@ -94,7 +94,7 @@ abbrev pub power_tail : Grammar
 power_tail = optional (behind_punct (codes "**") part.Power)
 
 abbrev pub choice_tail : Bool → Grammar
-choice_tail no_in = optional (item plain.CondExpr (punct (codes "?") ▸ grammar.up (part.Assign no_in true) ▸ punct (codes ":") ▸ assign_in no_in))
+choice_tail no_in = optional (item plain.CondExpr (punct (codes "?") ▸ grammar.up (part.Assign false true) ▸ punct (codes ":") ▸ assign_in no_in))
 
 -- what a statement does not begin with, but for a block, a label, a declaration or an expression
 pub record Starts (f : Front) : Type 0 where
@@ -158,7 +158,7 @@ stops e = false
 
 -- and no arrow, and no operand of `yield`
 abbrev closes_assignment : Bool → Front → Bool
-closes_assignment no_in e = stops e && (refuses_at e (arrow_body no_in) && (refuses_at e (arrow_rest no_in false) && (passes_at e (assignments no_in) && closes_conditional no_in e)))
+closes_assignment no_in e = stops e && (refuses_at e (arrow_body no_in false) && (refuses_at e (arrow_rest no_in false) && (passes_at e (assignments no_in false) && closes_conditional no_in e)))
 
 -- and no comma
 abbrev closes_sequence : Bool → Front → Bool
@@ -198,4 +198,4 @@ abbrev pub Ends : Front → Type 0
 Ends e = closes shapes.assignment e ≡ true
 
 abbrev pub behind_arrow : Bool → Grammar
-behind_arrow no_in = yield_ no_in // build form.Chain (conditional no_in ▸ assignments no_in)
+behind_arrow no_in = yield_ no_in false // build form.Chain (conditional no_in false ▸ assignments no_in false)

@@ -8,7 +8,7 @@ use Rattle.ecma_grammar.specs.declared.production.Plain.TheVariants as plain
 use Rattle.ecma_grammar.specs.declared.production.Form.TheVariants as form
 use Rattle.ecma_grammar.specs.Grammar.{put, ◌▸◌, ◌//◌, word, marked, same_line, the_word}
 use Rattle.ecma_grammar.specs.productions.Names.{end}
-use Rattle.ecma_grammar.specs.productions.Functions.{function_expression}
+use Rattle.ecma_grammar.specs.productions.Functions.{default_function}
 use Rattle.ecma_grammar.specs.productions.Primary.{class_expression}
 use Rattle.ecma_grammar.specs.productions.Classes.{abstract_class_expression}
 use Rattle.ecma_grammar.specs.productions.Declarations.{interface}
@@ -34,7 +34,7 @@ use Rattle.ecma_shapes.specs.Starts.{is_declaration_word, start_of}
 use Rattle.ecma_shapes.proofs.Starts.{starts_agree}
 use Rattle.ecma_print_reread.proofs.Undeclared.{undeclared}
 use Rattle.ecma_print_reread.proofs.StatementForms.{expression_form, argument_forms, block_form, member_forms, heritage_form}
-use Rattle.ecma_print_reread_functions.proofs.Functions.{function_expression_read}
+use Rattle.ecma_print_reread_functions.proofs.Functions.{default_function_read}
 use Rattle.ecma_print_reread.proofs.Exports.{export_item}
 
 -- where a choice fails, each of its alternatives does
@@ -72,8 +72,8 @@ module _ (assigned : Bool) where
       no_behind taking.unsure h = h
 
   -- what begins with no `function` and no `class` is no declaration
-  no_default_declaration : (ts : Items) → Refuses assigned excluded ts → Refuses assigned (function_expression // class_expression // marked abstract_class_expression // marked interface) ts
-  unfolding function_expression
+  no_default_declaration : (ts : Items) → Refuses assigned excluded ts → Refuses assigned (default_function // class_expression // marked abstract_class_expression // marked interface) ts
+  unfolding default_function
   no_default_declaration ts h =
       let I = interp assigned (means assigned) in
       let function_word = word (codes "function") in
@@ -114,12 +114,12 @@ module _ (assigned : Bool) where
       (ap (or_on (I (without 1 export)) ts)
       (ap (or_on (I (without 1 export_default)) ts)
       (ap (built_on (form.Node plain.ExportDefaultDecl)) (ap (with_front []) (ap (with_front []) (ap (or_on (I (class_expression // marked abstract_class_expression // marked interface)) e)
-      (function_expression_read assigned ps 0 (argument_forms assigned ps 0) (block_form assigned b 0) x y i blank us)))))))
+      (default_function_read assigned ps 0 (argument_forms assigned ps 0) (block_form assigned b 0) x y i blank us)))))))
 
   pub export_default_class_read : {m n : Node} (i : IsFunctionName m) (is : IsClass n) (g : Gap) (us : Items)
       → Reads assigned module_item (it g (items.key (codes "export")) (spaced_word (codes "default") (spaced_word (codes "class") (function_name_tokens i (class_tokens is 0 us)))))
       (bare kind.ExportDefaultDecl (bare kind.ClassExpr (bare_function_name i ∷ bare_class is ∷ []) ∷ []) ∷ []) us
-  unfolding export export_default function_expression
+  unfolding export export_default default_function
   export_default_class_read i (shapes.class_of at at' at'' {ms = ms'} h ms a a') g us =
       let I = interp assigned (means assigned) in
       let e = spaced_word (codes "class") (function_name_tokens i (class_tokens (shapes.class_of at at' at'' h ms a a') 0 us)) in

@@ -209,7 +209,7 @@ module _ (text : List ℕ) (Good : Items → Type 0) where
       body_simulates u ts l s a = simulates (part_body u) (rank u) ts (part_ranked u).0 l s a
 
     sims_levels : (n m : ℕ) (u : Part) (ts : Items) → 3 * count ts + rank u < n → 3 * count ts + rank u < m → (at : ℕ) (s : Position) → At text Good ts s → Sims (levels assignments n u ts) (reads.levels text (plain assignments) m u at s)
-    unfolding levels reads.levels
+    unfolding levels reads.levels_by
     sims_levels zero m u ts i j at s a = absurd (omega arith)
     sims_levels (suc n) zero u ts i j at s a = absurd (omega arith)
     sims_levels (suc n) (suc m) u ts i j at s a =

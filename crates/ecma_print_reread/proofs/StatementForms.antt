@@ -208,7 +208,7 @@ module _ (assigned : Bool) where
     head_form (shapes.conditional_expression at {test = t'} {first = x'} {second = y'} t x y) depth h S =
         let c = or_parts (may_hold_in t') _ (sym (may_hold_node at kind.CondExpr (t' ∷ x' ∷ y' ∷ [])) ∙ h) in
         let d = or_parts (may_hold_in x') _ c.1 in
-        choice_form assigned (head_form t depth c.0 (expression_form t depth)) (head_form x depth d.0 (expression_form x depth)) (head_form y depth (one_same _ d.1) (expression_form y depth))
+        choice_form assigned (head_form t depth c.0 (expression_form t depth)) (expression_form x depth) (head_form y depth (one_same _ d.1) (expression_form y depth))
     head_form (shapes.assignment_expression at o {target = t'} {value = v'} t v) depth h S =
         let c = or_parts (may_hold_in t') _ (sym (may_hold_node at (kind.AssignExpr o) (t' ∷ v' ∷ [])) ∙ h) in
         record { lead = S.lead; tight = S.tight; no_or = S.no_or; no_arrow = S.no_arrow; param = S.param; reading = whole_read assigned o (head_form t depth c.0 (expression_form t depth)) (head_form v depth (one_same _ c.1) (expression_form v depth)) }

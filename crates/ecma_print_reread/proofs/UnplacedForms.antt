@@ -12,7 +12,7 @@ use Rattle.ecma_kind.specs.declared.operators.MemberModifiers.{MemberModifiers}
 use Rattle.ecma_kind.specs.declared.kind.Kind.{Kind}
 use Rattle.ecma_kind.specs.declared.kind.Kind.TheVariants as kind
 use Rattle.ecma_tree.specs.declared.node.Node.{Node}
-use Rattle.ecma_tree.specs.Nodes.{node_of, dummy_span, list_node}
+use Rattle.ecma_tree.specs.Nodes.{absent, node_of, dummy_span, list_node}
 use Rattle.ecma_tree.specs.Spans.{without_spans}
 use Rattle.ecma_grammar.specs.declared.production.Form.{Form}
 use Rattle.ecma_grammar.specs.declared.production.Form.TheVariants as form
@@ -20,7 +20,7 @@ use Rattle.ecma_grammar.specs.trees.Plain.{plain_kind}
 use Rattle.ecma_grammar.specs.trees.Parts.{kind_of, children_of, from_to, in_front, framed, is_absent, is_present}
 use Rattle.ecma_grammar.specs.trees.Chains.{in_front_logical, in_front_link}
 use Rattle.ecma_grammar.specs.trees.Functions.{has_word, accessibility_of, parameter, wrapped_by, wrapped, parameters, function_of, function, arrow, yield_, getter, is_this_name, is_this_by, is_this, setter_by, setter, annotated, declarator}
-use Rattle.ecma_grammar.specs.trees.Classes.{class, method_kind, no_modifiers, method, field, modified, is_constructor, constructor_of, method_by, member_by, member, index_signature}
+use Rattle.ecma_grammar.specs.trees.Classes.{class, method_kind, no_modifiers, method, field, modified, is_constructor, constructor_of, method_by, member_by, member, index_signature, new_signature, type_signature}
 use Rattle.ecma_grammar.specs.trees.Others.{swapped, missing, elements, the_one, sequence, headed, declared, namespaces, namespace, import_equals, module_of, const_assertion, type_assertion, assertion}
 use Rattle.ecma_grammar.specs.Made.{made}
 use Rattle.ecma_print_readings.proofs.Unplaced.{without_spans-node, kind_same, children_same, span_same, unplacing, absent_same, if_same, map_if, Each, Commutes, framed_same, in_front_same, all_steps_same, in_front_logical_same}
@@ -127,6 +127,17 @@ member_same at m n = member_by_same at m (kind_of n) (children_of n) ∙ simp (k
 index_signature_same : (at : Span) → Each 3 (Commutes (index_signature at) (index_signature dummy_span))
 index_signature_same at m index a = rw (has_word_same (codes "readonly"), has_word_same (codes "static")) (without_spans-node _ _ _)
 
+type_signature_same : (at : Span) (k : MethodKind) → Each 2 (Commutes (type_signature at k) (type_signature dummy_span k))
+type_signature_same at k f p =
+    without_spans-node _ _ _
+    ∙ ap (λ z. node_of dummy_span (kind.ClassMethod k (no_modifiers false)) (without_spans f ∷ z ∷ []))
+    (function_of_same at false false absent p absent absent ∙ ap (λ z. function_of dummy_span false false z (without_spans p) z z) absent_same)
+
+new_signature_same : (at : Span) → Each 2 (Commutes (new_signature at) (new_signature dummy_span))
+new_signature_same at f p =
+    without_spans-node _ _ _
+    ∙ ap₂ (λ z w. node_of dummy_span (kind.Constructor None false) (without_spans f ∷ z ∷ w ∷ [])) (parameters_same p) absent_same
+
 -- lists, sequences, loops, declarations, modules
 
 swap_same : (xs : List Node) (i j : ℕ) → map without_spans (swap xs i j) ≡ swap (map without_spans xs) i j
@@ -211,6 +222,8 @@ made_unplaced (form.Method k) lo hi xs = framed_same 9 (method (from_to lo hi) k
 made_unplaced form.Field lo hi xs = framed_same 5 (field (from_to lo hi)) (field dummy_span) (field_same _) xs
 made_unplaced form.Modified lo hi xs = framed_same 2 (member (from_to lo hi)) (member dummy_span) (member_same _) xs
 made_unplaced form.IndexSignature lo hi xs = framed_same 3 (index_signature (from_to lo hi)) (index_signature dummy_span) (index_signature_same _) xs
+made_unplaced (form.Signature k) lo hi xs = framed_same 2 (type_signature (from_to lo hi) k) (type_signature dummy_span k) (type_signature_same _ k) xs
+made_unplaced form.NewSignature lo hi xs = framed_same 2 (new_signature (from_to lo hi)) (new_signature dummy_span) (new_signature_same _) xs
 made_unplaced form.Headed lo hi xs = framed_same 2 (headed (from_to lo hi)) (headed dummy_span) (headed_same _) xs
 made_unplaced form.Declared lo hi xs = framed_same 1 (declared (from_to lo hi)) (declared dummy_span) (declared_same _) xs
 made_unplaced form.Namespace lo hi xs = namespace_same _ xs

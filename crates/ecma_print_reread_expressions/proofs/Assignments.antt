@@ -70,7 +70,7 @@ assigned_made : (o : AssignOp) (k : Kind) (ns : List Node) (x : Node) → in_fro
 assigned_made o k ns x = simp nodes
 
 module _ (assigned : Bool) where
-  operator_read : (no_in : Bool) (o : AssignOp) (ts us : Items) (n : Node) → means assigned (part.Assign no_in false) ts ≡ read (n ∷ []) us → Reads assigned (assignments no_in) (it blank (assign_token o) ts) (bare (kind.AssignExpr o) (absent ∷ n ∷ []) ∷ []) us
+  operator_read : (no_in : Bool) (o : AssignOp) (ts us : Items) (n : Node) → means assigned (part.Assign no_in false) ts ≡ read (n ∷ []) us → Reads assigned (assignments no_in false) (it blank (assign_token o) ts) (bare (kind.AssignExpr o) (absent ∷ n ∷ []) ∷ []) us
   unfolding assignments
   operator_read no_in Assign ts us n h = rw h refl
   operator_read no_in AddAssign ts us n h = rw h refl
@@ -93,7 +93,7 @@ module _ (assigned : Bool) where
     abbrev pub rest : Items → Items
     rest us = it blank (assign_token o) (f' blank us)
 
-    target_read : (g : Gap) (us : Items) → Reads assigned (expressions.conditional no_in) (f g (rest us)) (bare k ns ∷ []) (rest us)
+    target_read : (g : Gap) (us : Items) → Reads assigned (expressions.conditional no_in false) (f g (rest us)) (bare k ns ∷ []) (rest us)
     target_read g us = conditional_read assigned (go_out assigned 15 shapes.callee T) g (rest us) (exactly (assign_token o)) at_token (conditional_closed no_in (exactly (assign_token o)) (assign_closes o))
 
     pub whole_read : (g : Gap) (us : Items) (e : Front) → Begins e us → closes_in no_in shapes.assignment e ≡ true → means assigned (part.Assign no_in false) (f g (rest us)) ≡ read (bare (kind.AssignExpr o) (bare k ns ∷ bare k' ns' ∷ []) ∷ []) us
@@ -103,12 +103,12 @@ module _ (assigned : Bool) where
         let L = T.lead in
         let y = T.tight in
         let t = exactly (assign_token o) in
-        let a = and_parts (refuses_at t (arrow_body false)) _ (assign_apart o) in
+        let a = and_parts (refuses_at t (arrow_body false false)) _ (assign_apart o) in
         let c = and_parts (refuses_at t (arrow_rest false false)) _ a.1 in
         means_is assigned (part.Assign no_in false) ts
         ∙ (ap (or_on (I (behind_arrow no_in)) ts) (T.no_arrow no_in g (rest us) t at_token a.0 (refused_at assigned (means assigned) (arrow_rest no_in false) t (rest us) at_token (no_rest_at t c.0 no_in)))
-        ∙ (ap (or_on (I (build form.Chain (expressions.conditional no_in ▸ assignments no_in))) ts) (refused_at assigned (means assigned) (yield_ no_in) L.front ts (L.begins g (rest us)) y.1)
-        ∙ (ap (built_on form.Chain) (ap (followed_on (I (assignments no_in))) (target_read g us) ∙ ap (with_front (bare k ns ∷ [])) (operator_read no_in o (f' blank us) us (bare k' ns') (used assigned V blank us e b z)))
+        ∙ (ap (or_on (I (build form.Chain (expressions.conditional no_in false ▸ assignments no_in false))) ts) (refused_at assigned (means assigned) (yield_ no_in false) L.front ts (L.begins g (rest us)) y.1)
+        ∙ (ap (built_on form.Chain) (ap (followed_on (I (assignments no_in false))) (target_read g us) ∙ ap (with_front (bare k ns ∷ [])) (operator_read no_in o (f' blank us) us (bare k' ns') (used assigned V blank us e b z)))
         ∙ ap (λ x. read (x ∷ []) us) (assigned_made o k ns (bare k' ns')))))
 
   module _ (o : AssignOp) {f f' : Laid} {k k' : Kind} {ns ns' : List Node} (T : Stands assigned shapes.callee f k ns) (V : Stands assigned shapes.assignment f' k' ns') where

@@ -90,7 +90,7 @@ module _ (assigned : Bool) where
       let vs = elements_tokens es depth (s (codes ")") us) in
       params_by assigned n (element_tokens e depth no_gap vs) vs (element_param assigned e depth F.0 no_gap vs (more_followed es depth us)) (more_params es depth F.1 n us h)
 
-  pub call_no_rest : {n : Node} (is : IsArguments shapes.values n) (depth : ℕ) → ArgumentForms assigned is depth → (no_in : Bool) (us : Items) (e : Front) → Begins e us → refuses_at e (arrow_body no_in) ≡ true
+  pub call_no_rest : {n : Node} (is : IsArguments shapes.values n) (depth : ℕ) → ArgumentForms assigned is depth → (no_in : Bool) (us : Items) (e : Front) → Begins e us → refuses_at e (arrow_body no_in false) ≡ true
       → Refuses assigned (arrow_rest no_in false) (s (codes "(") (arguments_tokens is depth (s (codes ")") us)))
   call_no_rest is depth A n us e b z = parameters_refused assigned n no_gap (arguments_tokens is depth (s (codes ")") us)) (no_params is depth A n us (no_body_behind assigned n us e b z))
 

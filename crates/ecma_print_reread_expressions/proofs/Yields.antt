@@ -142,12 +142,12 @@ module _ (assigned : Bool) where
   no_star_there no_in us h = on_line (new_line_in us) (punct (codes "*") ▸ put Present ▸ assign_in no_in) us (ap (followed_on (interp assigned (means assigned) (put Present ▸ assign_in no_in))) h)
 
   -- an assignment expression that begins with `yield`
-  by_yield : (no_in : Bool) (g : Gap) (ts us : Items) (n : Node) → Reads assigned (yield_ no_in) (it g (key (codes "yield")) ts) (n ∷ []) us → means assigned (part.Assign no_in false) (it g (key (codes "yield")) ts) ≡ read (n ∷ []) us
+  by_yield : (no_in : Bool) (g : Gap) (ts us : Items) (n : Node) → Reads assigned (yield_ no_in false) (it g (key (codes "yield")) ts) (n ∷ []) us → means assigned (part.Assign no_in false) (it g (key (codes "yield")) ts) ≡ read (n ∷ []) us
   by_yield no_in g ts us n h =
       let I = interp assigned (means assigned) in
       let y = it g (key (codes "yield")) ts in
       means_is assigned (part.Assign no_in false) y
-      ∙ (ap (or_on (I (behind_arrow no_in)) y) (all_refused assigned (arrow no_in false) front y at_token (yield_no_arrow no_in)) ∙ ap (or_on (I (build form.Chain (conditional no_in ▸ assignments no_in))) y) h)
+      ∙ (ap (or_on (I (behind_arrow no_in)) y) (all_refused assigned (arrow no_in false) front y at_token (yield_no_arrow no_in)) ∙ ap (or_on (I (build form.Chain (conditional no_in false ▸ assignments no_in false))) y) h)
 
   module _ (rest : Items → Items) {k : Kind} {ns : List Node} (h : (g : Gap) (us : Items) (e : Front) → Begins e us → Ends e → means assigned (part.Assign false false) (it g (key (codes "yield")) (rest us)) ≡ read (bare k ns ∷ []) us) where
     yield_stands : Stands assigned shapes.assignment (λ g us. it g (key (codes "yield")) (rest us)) k ns

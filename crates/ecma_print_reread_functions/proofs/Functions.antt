@@ -15,7 +15,7 @@ use Rattle.ecma_grammar.specs.trees.Functions.{wrapped, parameters}
 use Rattle.ecma_grammar.specs.Made.{made}
 use Rattle.ecma_grammar.specs.Grammar.{◌//◌}
 use Rattle.ecma_grammar.specs.productions.Names as names
-use Rattle.ecma_grammar.specs.productions.Functions.{signature, function_declaration, function_expression}
+use Rattle.ecma_grammar.specs.productions.Functions.{signature, full_signature, function_declaration, function_expression, default_function}
 use Rattle.ecma_grammar.specs.productions.Declarations.{declaration}
 use Rattle.ecma_grammar.specs.productions.Statements as statements
 use Rattle.ecma_grammar.specs.productions.Statements.{statement_body, labeled, expression_statement}
@@ -118,6 +118,10 @@ module _ (assigned : Bool) where
     unfolding signature
     signature_read us = rw (params_read assigned is depth F (f blank us), B.reads blank us) refl
 
+    pub full_signature_read : (us : Items) → Reads assigned full_signature (rest us) (absent ∷ list_node (bare_arguments is) ∷ absent ∷ n ∷ []) us
+    unfolding full_signature
+    full_signature_read us = rw (params_read assigned is depth F (f blank us), B.reads blank us) refl
+
     module _ (x y : Bool) (w : List ℕ) (free : is_reserved w ≡ false) where
       abbrev name : Node
       name = bare (kind.Ident w 0 false) []
@@ -170,19 +174,41 @@ module _ (assigned : Bool) where
     expression_parts_read : (x y : Bool) {m : Node} (i : IsFunctionName m) (g : Gap) (us : Items)
         → Reads assigned function_expression (function_word x y g (function_name_tokens i (rest us))) (made (form.Function plain.FnExpr) 0 0 (flag y ∷ flag x ∷ bare_function_name i ∷ absent ∷ list_node (bare_arguments is) ∷ absent ∷ n ∷ []) ∷ []) us
     unfolding function_expression
-    expression_parts_read true true (shapes.unnamed a) g us = rw (signature_read us) refl
-    expression_parts_read true false (shapes.unnamed a) g us = rw (signature_read us) refl
-    expression_parts_read false true (shapes.unnamed a) g us = rw (signature_read us) refl
-    expression_parts_read false false (shapes.unnamed a) g us = rw (signature_read us) refl
-    expression_parts_read true true (shapes.function_name (ident at w i)) g us = rw (i.free, signature_read us) refl
-    expression_parts_read true false (shapes.function_name (ident at w i)) g us = rw (i.free, signature_read us) refl
-    expression_parts_read false true (shapes.function_name (ident at w i)) g us = rw (i.free, signature_read us) refl
-    expression_parts_read false false (shapes.function_name (ident at w i)) g us = rw (i.free, signature_read us) refl
+    expression_parts_read true true (shapes.unnamed a) g us = rw (full_signature_read us) refl
+    expression_parts_read true false (shapes.unnamed a) g us = rw (full_signature_read us) refl
+    expression_parts_read false true (shapes.unnamed a) g us = rw (full_signature_read us) refl
+    expression_parts_read false false (shapes.unnamed a) g us = rw (full_signature_read us) refl
+    expression_parts_read true true (shapes.function_name (ident at w i)) g us = rw (i.free, full_signature_read us) refl
+    expression_parts_read true false (shapes.function_name (ident at w i)) g us = rw (i.free, full_signature_read us) refl
+    expression_parts_read false true (shapes.function_name (ident at w i)) g us = rw (i.free, full_signature_read us) refl
+    expression_parts_read false false (shapes.function_name (ident at w i)) g us = rw (i.free, full_signature_read us) refl
 
     pub function_expression_read : (x y : Bool) {m : Node} (i : IsFunctionName m) (g : Gap) (us : Items)
         → Reads assigned function_expression (function_word x y g (function_name_tokens i (rest us))) (bare kind.FnExpr (bare_function_name i ∷ bare (kind.Function x y) (list_node (bare_params (bare_arguments is)) ∷ n ∷ absent ∷ absent ∷ []) ∷ []) ∷ []) us
     function_expression_read x y i g us =
         expression_parts_read x y i g us
+        ∙ ap (λ z. read (z ∷ []) us)
+        (function_made plain.FnExpr x y (bare_function_name i) (list_node (bare_arguments is)) n
+        ∙ ap (λ z. bare kind.FnExpr (bare_function_name i ∷ bare (kind.Function x y) (z ∷ n ∷ absent ∷ absent ∷ []) ∷ [])) (params_made is))
+
+    -- and as a default export
+
+    default_parts_read : (x y : Bool) {m : Node} (i : IsFunctionName m) (g : Gap) (us : Items)
+        → Reads assigned default_function (function_word x y g (function_name_tokens i (rest us))) (made (form.Function plain.FnExpr) 0 0 (flag y ∷ flag x ∷ bare_function_name i ∷ absent ∷ list_node (bare_arguments is) ∷ absent ∷ n ∷ []) ∷ []) us
+    unfolding default_function
+    default_parts_read true true (shapes.unnamed a) g us = rw (signature_read us) refl
+    default_parts_read true false (shapes.unnamed a) g us = rw (signature_read us) refl
+    default_parts_read false true (shapes.unnamed a) g us = rw (signature_read us) refl
+    default_parts_read false false (shapes.unnamed a) g us = rw (signature_read us) refl
+    default_parts_read true true (shapes.function_name (ident at w i)) g us = rw (i.free, signature_read us) refl
+    default_parts_read true false (shapes.function_name (ident at w i)) g us = rw (i.free, signature_read us) refl
+    default_parts_read false true (shapes.function_name (ident at w i)) g us = rw (i.free, signature_read us) refl
+    default_parts_read false false (shapes.function_name (ident at w i)) g us = rw (i.free, signature_read us) refl
+
+    pub default_function_read : (x y : Bool) {m : Node} (i : IsFunctionName m) (g : Gap) (us : Items)
+        → Reads assigned default_function (function_word x y g (function_name_tokens i (rest us))) (bare kind.FnExpr (bare_function_name i ∷ bare (kind.Function x y) (list_node (bare_params (bare_arguments is)) ∷ n ∷ absent ∷ absent ∷ []) ∷ []) ∷ []) us
+    default_function_read x y i g us =
+        default_parts_read x y i g us
         ∙ ap (λ z. read (z ∷ []) us)
         (function_made plain.FnExpr x y (bare_function_name i) (list_node (bare_arguments is)) n
         ∙ ap (λ z. bare kind.FnExpr (bare_function_name i ∷ bare (kind.Function x y) (z ∷ n ∷ absent ∷ absent ∷ []) ∷ [])) (params_made is))

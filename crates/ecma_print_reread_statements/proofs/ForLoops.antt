@@ -216,22 +216,22 @@ module _ (assigned : Bool) where
 
   -- an expression that is assigned to
   module _ {f : Laid} {k : Kind} {ns : List Node} (S : Stands assigned shapes.callee f k ns) (T : StandsIn assigned true shapes.callee f k ns) where
-    target_assign : (g : Gap) (us : Items) (e : Front) → Begins e us → refuses_at e (arrow_body true) ≡ true → passes_at e (assignments true) ≡ true → closes_conditional true e ≡ true → Refuses assigned (arrow_rest true false) us
+    target_assign : (g : Gap) (us : Items) (e : Front) → Begins e us → refuses_at e (arrow_body true false) ≡ true → passes_at e (assignments true false) ≡ true → closes_conditional true e ≡ true → Refuses assigned (arrow_rest true false) us
         → means assigned (part.Assign true false) (f g us) ≡ read (bare k ns ∷ []) us
     target_assign g us e b a p c r =
         let L = T.lead in
         let y = T.tight in
-        let t : Tower L.front e (expressions.conditional true) (behind_arrow true) = later y.1 (chained (before here p)) in
+        let t : Tower L.front e (expressions.conditional true false) (behind_arrow true) = later y.1 (chained (before here p)) in
         means_is assigned (part.Assign true false) (f g us)
         ∙ (ap (or_on (interp assigned (means assigned) (behind_arrow true)) (f g us)) (T.no_arrow true g us e b a r)
         ∙ climb assigned (means assigned) t (f g us) us (bare k ns) (L.begins g us) b (conditional_read assigned (go_out assigned 15 shapes.callee T) g us e b c))
 
-    target_read : (g : Gap) (us : Items) (e : Front) → Begins e us → refuses_at e (arrow_body true) ≡ true → passes_at e (assignments true) ≡ true → closes_conditional true e ≡ true → refuses_at e (punct (codes ",")) ≡ true → Refuses assigned (arrow_rest true false) us
+    target_read : (g : Gap) (us : Items) (e : Front) → Begins e us → refuses_at e (arrow_body true false) ≡ true → passes_at e (assignments true false) ≡ true → closes_conditional true e ≡ true → refuses_at e (punct (codes ",")) ≡ true → Refuses assigned (arrow_rest true false) us
         → Reads assigned (expression true) (f g us) (bare k ns ∷ []) us
     unfolding expression many_up_to
     target_read g us e b a p c m r = rw (target_assign g us e b a p c r, refused_at assigned (means assigned) (punct (codes ",") ▸ assign_in true) e us b (refuses_first e (punct (codes ",")) (assign_in true) m)) refl
 
-    target_left : (word : List ℕ) → passes_at (exactly (items.key word)) (assignments true) ≡ true → closes_conditional true (exactly (items.key word)) ≡ true
+    target_left : (word : List ℕ) → passes_at (exactly (items.key word)) (assignments true false) ≡ true → closes_conditional true (exactly (items.key word)) ≡ true
         → ((us : Items) (e : Front) → Begins e us → refuses_at e (punct (codes "=>")) ≡ true → Refuses assigned (arrow_rest true false) (it blank (items.key word) us)) → ReadAsForLeft word (f no_gap) (bare k ns)
     unfolding for_left
     target_left word p c r = record {

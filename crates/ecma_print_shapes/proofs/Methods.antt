@@ -8,7 +8,7 @@ use Rattle.ecma_tree.specs.declared.node.Node.{Node}
 use Rattle.ecma_tree.specs.Nodes.{node_of}
 use Rattle.ecma_tree.specs.Sorted.{is_list, one}
 use Rattle.ecma_rules.specs.declared.target.Target.TheVariants as target
-use Rattle.ecma_rules.specs.Children.{kind_of, of_kind}
+use Rattle.ecma_rules.specs.Children.{child_is, has_child, kind_of, of_kind}
 use Rattle.ecma_rules.specs.Lists.{is_rest_pattern}
 use Rattle.ecma_rules.specs.Members.{misfits_by, takes_not_one}
 use Rattle.ecma_rules.specs.Targets.{target_in}
@@ -51,7 +51,9 @@ module _ (at : Span) where
 
   one_taken : (cs : List Node) → Here role.Free (free 1) (one sort.PropOrSpread) at kind.SetterProp cs → of_kind takes_not_one (slice_get cs 2) ≡ false
   unfolding misfits_by
-  one_taken cs h = sym (ap (λ ns. of_kind takes_not_one (slice_get ns 2)) (children_made at kind.SetterProp cs)) ∙ fitting_here h
+  one_taken cs h =
+      let setter = node_of at kind.SetterProp cs in
+      sym (ap (λ ns. of_kind takes_not_one (slice_get ns 2)) (children_made at kind.SetterProp cs)) ∙ (either_parts (child_is takes_not_one setter 2) (not (has_child setter 3)) (fitting_here h)).0
 
   pub setter_formed : (cs : List Node) → AllFormed cs → Here role.Free (free 1) (one sort.PropOrSpread) at kind.SetterProp cs → IsProperty values (cover_at (node_of at kind.SetterProp cs) target.Free)
   unfolding cover_in target_in role_in
