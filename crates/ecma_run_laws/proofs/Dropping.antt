@@ -5,14 +5,14 @@ use Rattle.ecma_kind.specs.declared.kind.Kind.TheVariants as kind
 use Rattle.ecma_tree.specs.declared.node.Node.{Node, Node-F, out-Node}
 use Rattle.ecma_tree.specs.Nodes.{node_of}
 use Rattle.ecma_runs.specs.State.{Id}
-use Rattle.ecma_runs.specs.Meaning.{Meaning}
+use Rattle.ecma_runs.specs.Meaning.{Known, Meaning}
 use Rattle.ecma_runs.specs.Evaluation.{meaning_by, meaning}
 use Rattle.ecma_runs.proofs.Layer.{meaning-roll, meaning_out}
 use Rattle.ecma_runs.proofs.Names.{Naming}
 use Rattle.ecma_runs.proofs.Alike.{Change}
-use Rattle.ecma_runs.proofs.Meanings.{Same}
+use Rattle.ecma_runs.proofs.Meanings.{Same, pair}
 use Rattle.ecma_runs.proofs.Lists.{Silent, Item, Stays, Goes, before, behind}
-use Rattle.ecma_runs.proofs.Steps.{list_same}
+use Rattle.ecma_runs.proofs.Steps.{plain_list}
 use Rattle.ecma_runs.proofs.Kept.{AllNodes, Kept}
 use Rattle.ecma_runs.proofs.Layers.{the_same, images_named}
 use Rattle.ecma_runs.proofs.Standing.{Passes, passes_parts}
@@ -24,17 +24,17 @@ module _ (gone : Id → Bool) where
   stands id = not (gone id)
 
   abbrev pub names_left : Naming
-  names_left = record { to = λ id. id; kept = stands; injective = λ a b ka kb e. e }
+  names_left = record { to = λ id. id; kept = stands; plain = true; injective = λ is a b ka kb e. e }
 
   -- functions keep what is left of their nodes, in which no name stands that goes
-  abbrev pub dropping : List Id → Change
-  dropping declared = images_named (λ n. Passes stands (without gone n)) (without gone) names_left declared (λ id kept free. refl) the_same
+  abbrev pub dropping : Known → Change
+  dropping known = images_named (λ n. Passes stands (without gone n)) (without gone) names_left known (λ id kept free. refl) the_same
 
-  module _ (declared : List Id) (goes : Node → Bool) (left : Lessened → Node)
+  module _ (known : Known) (goes : Node → Bool) (left : Lessened → Node)
       (fewer_left : (parts : Node-F Lessened) → left (lessened_step gone parts) ≡ fewer goes parts.span parts.kind parts.children (left_of parts.kind parts.children))
-      (silence : Meaning → Meaning) (silent : (n : Node) → goes n ≡ true → Silent (dropping declared) (silence (meaning n))) where
+      (silence : Meaning → Meaning) (silent : (n : Node) → goes n ≡ true → Silent (dropping known) (silence (meaning n))) where
     abbrev change : Change
-    change = dropping declared
+    change = dropping known
 
     -- the items of a list, of which those that go are silenced
     abbrev pub seen_item : Node → Meaning
@@ -53,7 +53,7 @@ module _ (gone : Id → Bool) where
 
     item_by : (n : Node) → Kept change n → StaysFine n → (b : Bool) → goes n ≡ b → Item change
     item_by n kept fine true e = Goes (silence (meaning n)) (silent n e)
-    item_by n kept fine false e = Stays (meaning n, meaning (without gone n), kept (fine e))
+    item_by n kept fine false e = Stays (pair change (meaning n) (meaning (without gone n)) (kept (fine e)))
 
     items : (ns : List Node) → AllNodes (Kept change) ns → AllNodes StaysFine ns → List (Item change)
     items [] kept fine = []
@@ -102,7 +102,7 @@ module _ (gone : Id → Bool) where
         let m : meaning (left (lessened gone n)) ≡ meaning_by n' kind.List (behind change (items ns kept all)) =
         ap meaning e ∙ meaning-roll (record { span = (out-Node n).span; kind = kind.List; children = stay }) ∙ ap (meaning_by n' kind.List) (sym (behind_items ns kept all)) in
         subst (λ ms. Same change (meaning_by n kind.List ms) (meaning (left (lessened gone n)))) (before_items ns kept all)
-        (subst (Same change (meaning_by n kind.List (before change (items ns kept all)))) (sym m) (list_same change n n' (items ns kept all)))
+        (subst (Same change (meaning_by n kind.List (before change (items ns kept all)))) (sym m) (plain_list change refl n n' (items ns kept all)))
 
     pub seen_alike : (n : Node) → Kept change n → AllNodes (Kept change) (out-Node n).children → Passes stands (left (lessened gone n)) → Same change (seen n) (meaning (left (lessened gone n)))
     seen_alike n kept all fine = go (out-Node n).kind refl

@@ -7,17 +7,17 @@ use Rattle.ecma_kind.specs.declared.operators.VarDeclKind.TheVariants.{Var, Let}
 use Rattle.ecma_tree.specs.declared.node.Node.{Node, out-Node}
 use Rattle.ecma_tree.specs.Nodes.{absent}
 use Rattle.ecma_runs.specs.Values.{Value, Undefined}
-use Rattle.ecma_runs.specs.State.{Id, Binding}
+use Rattle.ecma_runs.specs.State.{Entered, Id, Binding}
 use Rattle.ecma_runs.specs.Run.{◌>>=◌, give}
 use Rattle.ecma_runs.specs.Environment.{initialize, empty, undefined, import_of}
-use Rattle.ecma_runs.specs.Meaning.{ExecutionContext, Evaluation, Meaning}
+use Rattle.ecma_runs.specs.Meaning.{Known, ExecutionContext, Evaluation, Meaning}
 use Rattle.ecma_runs.specs.Declarations.{all_names, all_imported, imported_as, imported_from, is_absent_of}
 use Rattle.ecma_runs.specs.Evaluation.{no_effect, meaning_by, meaning}
 use Rattle.ecma_runs.proofs.Layer.{meaning_out}
 use Rattle.ecma_runs.proofs.Names.{changed_ids, changed_scope, changed_bindings, changed_ids-append, changed_bindings-append}
 use Rattle.ecma_runs.proofs.Alike.{Change, Alike, bind_alike, give_alike}
 use Rattle.ecma_runs.proofs.Environments.{initialize_alike}
-use Rattle.ecma_runs.proofs.Meanings.{World, first, empties, imports, undefineds}
+use Rattle.ecma_runs.proofs.Meanings.{at, World, first, empties, imports, undefineds}
 use Rattle.ecma_runs.proofs.Lists.{Silent}
 use Rattle.ecma_run_laws.proofs.Both.{both_true}
 use Rattle.ecma_run_laws.specs.Lessened.{are_gone, is_name_by, is_name, is_idle_declarator_by, declarator_goes, is_specifier_by, specifier_goes, all_go_by, all_go, is_idle_by, statement_goes}
@@ -40,9 +40,9 @@ silent_declarator m = quiet m.names m.declared [] [] (λ source. []) m.completio
 abbrev pub silent_specifier : Meaning → Meaning
 silent_specifier m = quiet [] m.declared [] [] m.imported nothing nothing nothing
 
-module _ (gone : Id → Bool) (declared : List Id) where
+module _ (gone : Id → Bool) (known : Known) where
   abbrev c : Change
-  c = dropping gone declared
+  c = dropping gone known
 
   abbrev NoneLeft : List Id → Type 0
   NoneLeft ids = changed_ids (names_left gone) ids ≡ []
@@ -51,25 +51,25 @@ module _ (gone : Id → Bool) (declared : List Id) where
   NoBindingLeft bindings = changed_bindings (names_left gone) bindings ≡ []
 
   DoesNothing : Evaluation (Unit {0}) → Type 0
-  DoesNothing e = (w : World c) → Alike c (e (first c w)) (give tt)
+  DoesNothing e = (a : List Entered) (w : World (at c a)) → Alike (at c a) (e (first (at c a) w)) (give tt)
 
   quiet_silent : (names ids : List Id) (lexicals vars : List Binding) (imported : List ℕ → List Binding) (completion varied hoisted : Evaluation (Unit {0}))
       → NoneLeft names → NoneLeft ids → NoBindingLeft lexicals → NoBindingLeft vars → ((source : List ℕ) → NoBindingLeft (imported source)) → DoesNothing completion → DoesNothing varied → DoesNothing hoisted
       → Silent c (quiet names ids lexicals vars imported completion varied hoisted)
   unfolding DoesNothing
   quiet_silent names ids lexicals vars imported completion varied hoisted n d l v i does varies hoists = record {
-    arguments = λ w. give_alike c [];
-    elements = λ w. give_alike c [];
-    texts = λ w. give_alike c [];
-    matched = λ v w. give_alike c tt;
-    targets = λ v w. give_alike c tt;
-    parameters = λ arguments w. give_alike c arguments;
-    completion = does;
-    varied = varies;
-    hoisted = hoists;
-    defined = λ class object w. give_alike c [];
-    fields = λ keys object w. give_alike c keys;
-    statics = λ keys class w. give_alike c keys;
+    arguments = λ w. give_alike (at c _) [];
+    elements = λ w. give_alike (at c _) [];
+    texts = λ w. give_alike (at c _) [];
+    matched = λ v w. give_alike (at c _) tt;
+    targets = λ v w. give_alike (at c _) tt;
+    parameters = λ arguments w. give_alike (at c _) arguments;
+    completion = λ w. does _ w;
+    varied = λ w. varies _ w;
+    hoisted = λ w. hoists _ w;
+    defined = λ class object w. give_alike (at c _) [];
+    fields = λ keys object w. give_alike (at c _) keys;
+    statics = λ keys class w. give_alike (at c _) keys;
     names = n;
     lexicals = l;
     vars = v;
@@ -84,7 +84,7 @@ module _ (gone : Id → Bool) (declared : List Id) where
 
   nothing_done : DoesNothing nothing
   unfolding DoesNothing
-  nothing_done w = give_alike c tt
+  nothing_done a w = give_alike (at c a) tt
 
   -- names of which all go
 
@@ -136,7 +136,7 @@ module _ (gone : Id → Bool) (declared : List Id) where
 
   initialized : (ids : List Id) → NoneLeft ids → DoesNothing (λ x. initialize x.scope ids Undefined)
   unfolding DoesNothing
-  initialized ids e w = subst (λ l. Alike c (initialize w.scope ids Undefined) (initialize (changed_scope c.names w.scope) l Undefined)) e (initialize_alike c w.scope ids Undefined)
+  initialized ids e a w = subst (λ l. Alike (at c a) (initialize w.scope ids Undefined) (initialize (changed_scope c.names w.scope) l Undefined)) e (initialize_alike (at c a) w.scope tt ids (record { free = tt }) Undefined)
 
   does_nothing : (e e' : Evaluation (Unit {0})) → e' ≡ e → DoesNothing e → DoesNothing e'
   does_nothing e e' is h = subst DoesNothing (sym is) h
@@ -199,14 +199,14 @@ module _ (gone : Id → Bool) (declared : List Id) where
 
   declarators : (n : Node) (ns : List Node) → list_all (declarator_goes gone) ns ≡ true → IdleDeclarator (meaning_by n kind.List (map meaning ns))
   unfolding DoesNothing
-  declarators n [] h = record { completion = λ w. give_alike c tt; varied = λ w. give_alike c tt; names = refl }
+  declarators n [] h = record { completion = λ a w. give_alike (at c a) tt; varied = λ a w. give_alike (at c a) tt; names = refl }
   declarators n (d ∷ ns) h =
       let t = both_true (declarator_goes gone d) (list_all (declarator_goes gone) ns) h in
       let one = (declarator d t.0).0 in
       let rest = declarators n ns t.1 in
       record {
-        completion = λ w. bind_alike c {k' = λ _. give tt} (one.completion w) (λ _. rest.completion w);
-        varied = λ w. bind_alike c {k' = λ _. give tt} (one.varied w) (λ _. rest.varied w);
+        completion = λ a w. bind_alike (at c a) {k' = λ _. give tt} (one.completion a w) (λ _. rest.completion a w);
+        varied = λ a w. bind_alike (at c a) {k' = λ _. give tt} (one.varied a w) (λ _. rest.varied a w);
         names = joined (meaning d).names (all_names (map meaning ns)) one.names rest.names;
       }
 

@@ -10,28 +10,28 @@ use Rattle.ecma_tree.specs.Nodes.{node_of, dummy_span, absent, list_node}
 use Rattle.ecma_runs.specs.declared.observation.Ending.{Ending}
 use Rattle.ecma_runs.specs.declared.observation.Ending.TheVariants as ending
 use Rattle.ecma_runs.specs.Values.{Value, Undefined, Own}
-use Rattle.ecma_runs.specs.State.{Id, Activation, Plain, Code, Passed, Object, State, Entered}
+use Rattle.ecma_runs.specs.State.{Activation, Plain, Code, Passed, Object, State, Entered}
 use Rattle.ecma_runs.specs.Host.{provided_by}
 use Rattle.ecma_runs.specs.Run.{Stop, TurnsSpent, AnswersSpent, Outside, Done, Run, then_outcome, ◌>>=◌, give, spend, spend_of}
 use Rattle.ecma_runs.specs.Environment.{new_environment}
 use Rattle.ecma_runs.specs.Objects.{callable_in, code_in, calling_of, new_object}
-use Rattle.ecma_runs.specs.Meaning.{Invocation, AsCall, Functions, ExecutionContext, inside, Evaluation, Meaning}
+use Rattle.ecma_runs.specs.Meaning.{Invocation, AsCall, Functions, ExecutionContext, inside, Evaluation, Meaning, Known}
 use Rattle.ecma_runs.specs.Functions.{function_object, closure_of, prototype_entries, new_prototype, new_function, call_calling, call_value}
 use Rattle.ecma_runs.specs.Classes.{body_of}
 use Rattle.ecma_runs.specs.Evaluation.{in_record, as_it_is, called_with, called_block, role_by, meaning_by, meaning, entered, invoke_closure, fields_with, functions_with, apply_at, apply, invoke}
-use Rattle.ecma_runs.specs.Observation.{observe}
+use Rattle.ecma_runs.specs.Observation.{observe, known_of}
 use Rattle.ecma_runs.proofs.Layer.{meaning-roll}
-use Rattle.ecma_runs.proofs.Names.{changed_ids, changed_entered}
-use Rattle.ecma_runs.proofs.Alike.{Change, changed, changed_object, AllFine, Good, Follows, Alike, bind_alike, give_alike, return_alike, outside_alike}
+use Rattle.ecma_runs.proofs.Names.{changed_ids, changed_entered, changed_known}
+use Rattle.ecma_runs.proofs.Alike.{Change, changed, changed_object, Sound, Good, Follows, Alike, bind_alike, give_alike, return_alike, outside_alike}
 use Rattle.ecma_runs.proofs.Environments.{enter_alike}
 use Rattle.ecma_runs.proofs.Objects.{new_object_alike}
-use Rattle.ecma_runs.proofs.Meanings.{FunctionsAlike, World, first, second, Same}
+use Rattle.ecma_runs.proofs.Meanings.{at, within, later, FunctionsAlike, World, first, second, Same, pair}
 use Rattle.ecma_runs.proofs.Functions.{new_prototype_alike}
 use Rattle.ecma_runs.proofs.Premises.{renamed_kind, KeptLayer}
 use Rattle.ecma_runs.proofs.Classes.{body_alike}
 use Rattle.ecma_runs.proofs.Blocks.{in_record_alike}
 use Rattle.ecma_runs.proofs.Kept.{Kept, StepsAlike, layer_same, IsNotExcused, observe_while}
-use Rattle.ecma_runs.proofs.Layers.{same_names, always, the_same, all_units, same_kind, kept_layer}
+use Rattle.ecma_runs.proofs.Layers.{plain_starts, same_names, always, the_same, all_units, same_kind, kept_layer}
 use Rattle.ecma_runs.proofs.Depth.{invoke-apply}
 use Rattle.ecma_runs.proofs.Turns.{in_turns, calls_in}
 use Rattle.ecma_run_laws.specs.Lowered.{function_of, expression_of, call_of, called_function, lowered_by, lowered_node, lowered}
@@ -126,15 +126,16 @@ only_outside_excused end h TurnsSpent excuse = absurd (cc)
 only_outside_excused end h AnswersSpent excuse = absurd (cc)
 only_outside_excused end h Outside excuse = h
 
-module _ (declared : List Id) where
+module _ (known : Known) where
   -- functions keep the images of their nodes, and what is passed over is a function
   abbrev lowering : Change
   lowering = record {
     node = lowered;
     fine = λ n. Unit {0};
+    around = [];
     passed = Some function_for;
     names = same_names;
-    declared = declared;
+    known = known;
     texts = λ id kept free. refl;
     more = 0;
     before = [];
@@ -152,8 +153,8 @@ module _ (declared : List Id) where
     abbrev c : Change
     c = in_turns lowering k
 
-    abbrev also : List Id
-    also = changed_ids same_names declared
+    abbrev also : Known
+    also = changed_known same_names known
 
     -- a block, its items, and their image
     module _ (span : Span) (items : Node) (same : Same c (meaning items) (meaning (lowered items))) where
@@ -176,44 +177,49 @@ module _ (declared : List Id) where
       abbrev code' : Evaluation (Unit {0})
       code' = body_of (node_of dummy_span kind.BlockStmt (lowered items ∷ [])) kind.BlockStmt (m' ∷ []) []
 
-      code_alike : (w : World c) → Alike c (code (first c w)) (code' (second c w))
-      code_alike w = body_alike c w n tt kind.BlockStmt ((m, m', same) ∷ []) tt []
+      code_alike : (a : List Entered) (w : World (at c a)) → Alike (at c a) (code (first (at c a) w)) (code' (second (at c a) w))
+      code_alike a w = body_alike c w n tt kind.BlockStmt (pair c m m' same ∷ []) tt tt [] [] tt (record { free = tt })
 
-      module _ (w : World c) (outer : Entered) (prototype : ℕ) where
+      module _ (a : List Entered) (w : World (at c a)) (outer : Entered) (prototype : ℕ) where
         abbrev passed_object : Object
-        passed_object = function_object (prototype_entries true prototype) None (Passed (closure_of n Plain None (inside (first c w) outer)))
+        passed_object = function_object (prototype_entries true prototype) None (Passed (closure_of n Plain None (inside (first (at c a) w) outer)))
 
         abbrev written_object : Object
-        written_object = function_object (prototype_entries true prototype) None (Code (closure_of (function_of (lowered items)) Plain None (inside (second c w) (changed_entered same_names outer))))
+        written_object = function_object (prototype_entries true prototype) None (Code (closure_of (function_of (lowered items)) Plain None (inside (second (at c a) w) (changed_entered same_names outer))))
 
-        abbrev known : FunctionsAlike c w.provided w.functions w.functions'
-        known = w.alike refl
+        abbrev do_alike : FunctionsAlike (at c a) w.provided w.functions w.functions'
+        do_alike = w.alike refl
 
         -- the world in which the items run
         abbrev functions' : Functions
         functions' = functions_with (invoke w.provided also) w.provided also
 
-        fields_do : (place : ℕ) (o : Value) → Alike c (w.functions.fields place o) (functions'.fields place o)
-        fields_do place o = subst (λ i. Alike c (w.functions.fields place o) (fields_with i w.provided also place o)) (known.is_invoke refl) (known.fields_as refl place o)
+        fields_do : (b : List Entered) (place : ℕ) (o : Value) → Alike (at c b) (w.functions.fields place o) (functions'.fields place o)
+        fields_do b place o = subst (λ i. Alike (at c b) (w.functions.fields place o) (fields_with i w.provided also place o)) (do_alike.is_invoke refl) (do_alike.fields_as refl place o)
 
-        abbrev body_world : World c
+        invokes_do : (b : List Entered) (place : ℕ) (how : Invocation) (arguments : List Value) → Alike (at c b) (w.functions.invoke place how arguments) (functions'.invoke place how arguments)
+        invokes_do b place how arguments =
+            subst (λ i. Alike (at c b) (w.functions.invoke place how arguments) (i place how arguments)) (do_alike.is_invoke refl) (do_alike.invoke place how arguments)
+
+        abbrev body_world : World (at c a)
         body_world = record {
           functions = w.functions;
           functions' = functions';
           provided = w.provided;
           alike = λ u. record {
-            invoke = λ place how arguments. subst (λ i. Alike c (w.functions.invoke place how arguments) (i place how arguments)) (known.is_invoke refl) (known.invoke place how arguments);
-            fields = fields_do;
+            invoke = λ place how arguments. invokes_do _ place how arguments;
+            fields = λ place o. fields_do _ place o;
             is_invoke = λ some. refl;
-            fields_as = λ some. fields_do;
+            fields_as = λ some place o. fields_do _ place o;
           };
           scope = outer ∷ w.scope;
+          there = tt;
         }
 
         written_is_changed : changed_object c passed_object ≡ written_object
-        written_is_changed = ap (λ z. function_object (prototype_entries true prototype) None (Code (closure_of z Plain None (inside (second c w) (changed_entered same_names outer))))) node_is
+        written_is_changed = ap (λ z. function_object (prototype_entries true prototype) None (Code (closure_of z Plain None (inside (second (at c a) w) (changed_entered same_names outer))))) node_is
 
-        module _ (s : State) (g : Good c s) where
+        module _ (s : State) (g : Good (at c a) s) where
           abbrev f : ℕ
           f = length s.objects
 
@@ -227,90 +233,91 @@ module _ (declared : List Id) where
           entry = Some (called_with Undefined f None [])
 
           abbrev rest : Run (Unit {0})
-          rest = in_record [] entry code as_it_is (inside (first c w) outer) >>= λ _. give tt
+          rest = in_record [] entry code as_it_is (inside (first (at c a) w) outer) >>= λ _. give tt
 
           found : slice_get (changed c s1).objects f ≡ Some written_object
           found = slice_get-map (changed_object c) (s.objects ++ passed_object ∷ []) f ∙ (ap (option_map (changed_object c)) (get-push s.objects passed_object) ∙ ap Some written_is_changed)
 
           -- the call's code is what the items do
           code_is : (t : State) → slice_get t.objects f ≡ Some written_object
-              → apply_at (invoke w.provided also) w.provided also f how [] t ≡ in_record [] entry code' as_it_is (second c body_world) t
+              → apply_at (invoke w.provided also) w.provided also f how [] t ≡ in_record [] entry code' as_it_is (second (at c a) body_world) t
           code_is t is =
               ap (λ z. invoke_closure functions' w.provided also f how [] (code_in (callable_in z)) t) is
-              ∙ ap (λ z. entered z entry [] as_it_is (second c body_world) t) (function_is (lowered items))
+              ∙ ap (λ z. entered z entry [] as_it_is (second (at c a) body_world) t) (function_is (lowered items))
 
-          follows : (left : ℕ) → left ≤ k → AllFine c s1.objects
-              → Follows c (λ a. a) (λ a. Unit {0}) (then_outcome (spend_of left s1) (λ _. rest))
+          follows : (left : ℕ) → left ≤ k → Sound (at c a) s1
+              → Follows (at c a) (λ z. z) (λ z. Unit {0}) (then_outcome (spend_of left s1) (λ _. rest))
               (then_outcome (then_outcome (spend_of (left + 0) (changed c s1)) (λ _. apply_at (invoke w.provided also) w.provided also f how [])) (λ _. give tt))
           follows zero h fine = (refl, tt)
           follows (suc left) h fine =
               let s2 : State = record s1 { turns = left } in
               rw (suc-add left 0)
-              (subst (λ r. Follows c (λ a. a) (λ a. Unit {0}) (rest s2) (then_outcome r (λ _. give tt))) (sym (code_is (changed c s2) found))
-              ((bind_alike c (in_record_alike c body_world [] [] refl entry code code' code_alike as_it_is (λ place v. give_alike c v)) (λ _. give_alike c tt)).at s2 (fine, omega arith, tt)))
+              (subst (λ r. Follows (at c a) (λ z. z) (λ z. Unit {0}) (rest s2) (then_outcome r (λ _. give tt))) (sym (code_is (changed c s2) found))
+              ((bind_alike (at c a) (in_record_alike c body_world [] [] refl entry code code' (λ e ids. code_alike (e ∷ a) (within (at c a) body_world e)) as_it_is (λ b place v. give_alike (at c b) v)) (λ _. give_alike (at c a) tt)).at s2 (fine, omega arith, tt)))
 
           call_is_apply : w.functions'.invoke f how [] ≡ apply (invoke w.provided also) w.provided also f how []
-          call_is_apply = ap (λ i. i f how []) (known.is_invoke refl) ∙ invoke-apply w.provided also f how []
+          call_is_apply = ap (λ i. i f how []) (do_alike.is_invoke refl) ∙ invoke-apply w.provided also f how []
 
-          pushed : Follows c (λ a. a) (λ a. Unit {0}) (new_object passed_object s) (new_object (changed_object c passed_object) (changed c s))
-          pushed = (new_object_alike c passed_object tt).at s g
+          pushed : Follows (at c a) (λ z. z) (λ z. Unit {0}) (new_object passed_object s) (new_object (changed_object c passed_object) (changed c s))
+          pushed = (new_object_alike (at c a) passed_object (λ es around. tt)).at s g
 
           made : new_object written_object (changed c s) ≡ Done f (changed c s1)
           made = ap (λ z. new_object z (changed c s)) (sym written_is_changed) ∙ pushed.0
 
-          whole : Follows c (λ a. a) (λ a. Unit {0}) (then_outcome (spend_of s.turns s1) (λ _. rest)) (made_and_called (lowered items) (second c w) (changed_entered same_names outer) prototype (changed c s))
+          whole : Follows (at c a) (λ z. z) (λ z. Unit {0}) (then_outcome (spend_of s.turns s1) (λ _. rest)) (made_and_called (lowered items) (second (at c a) w) (changed_entered same_names outer) prototype (changed c s))
           whole =
-              subst (λ r. Follows c (λ a. a) (λ a. Unit {0}) (then_outcome (spend_of s.turns s1) (λ _. rest)) (then_outcome r (λ function. called (lowered items) (second c w) function))) (sym made)
-              (subst (λ z. Follows c (λ a. a) (λ a. Unit {0}) (then_outcome (spend_of s.turns s1) (λ _. rest))
-              (then_outcome (then_outcome (calling_of (callable_in z) (changed c s1)) (λ o. call_calling (second c w) f Undefined [] o)) (λ _. give tt))) (sym found)
-              (subst (λ i. Follows c (λ a. a) (λ a. Unit {0}) (then_outcome (spend_of s.turns s1) (λ _. rest)) (then_outcome (i (changed c s1)) (λ _. give tt))) (sym call_is_apply)
+              subst (λ r. Follows (at c a) (λ z. z) (λ z. Unit {0}) (then_outcome (spend_of s.turns s1) (λ _. rest)) (then_outcome r (λ function. called (lowered items) (second (at c a) w) function))) (sym made)
+              (subst (λ z. Follows (at c a) (λ z. z) (λ z. Unit {0}) (then_outcome (spend_of s.turns s1) (λ _. rest))
+              (then_outcome (then_outcome (calling_of (callable_in z) (changed c s1)) (λ o. call_calling (second (at c a) w) f Undefined [] o)) (λ _. give tt))) (sym found)
+              (subst (λ i. Follows (at c a) (λ z. z) (λ z. Unit {0}) (then_outcome (spend_of s.turns s1) (λ _. rest)) (then_outcome (i (changed c s1)) (λ _. give tt))) (sym call_is_apply)
               (follows s.turns g.1 pushed.1.0)))
 
-        made_alike : Alike c (new_object passed_object >>= λ function. spend >>= λ _. in_record [] (Some (called_with Undefined function None [])) code as_it_is (inside (first c w) outer) >>= λ _. give tt)
-            (made_and_called (lowered items) (second c w) (changed_entered same_names outer) prototype)
+        made_alike : Alike (at c a) (new_object passed_object >>= λ function. spend >>= λ _. in_record [] (Some (called_with Undefined function None [])) code as_it_is (inside (first (at c a) w) outer) >>= λ _. give tt)
+            (made_and_called (lowered items) (second (at c a) w) (changed_entered same_names outer) prototype)
         made_alike = record { at = λ s g. whole s g }
 
-      block_alike : (w : World c) → Alike c (called_block n m (first c w)) ((written_meaning (lowered items)).completion (second c w))
-      block_alike w =
-          subst (λ r. Alike c (called_block n m (first c w)) r) (sym (written_runs (lowered items) (second c w)))
-          (enter_alike c (λ e. new_prototype None >>= λ prototype. made_and_called (lowered items) (second c w) e prototype) [] None (λ outer. bind_alike c (new_prototype_alike c None) (λ prototype. made_alike w outer prototype)))
+      block_alike : (a : List Entered) (w : World (at c a)) → Alike (at c a) (called_block n m (first (at c a) w)) ((written_meaning (lowered items)).completion (second (at c a) w))
+      block_alike a w =
+          subst (λ r. Alike (at c a) (called_block n m (first (at c a) w)) r) (sym (written_runs (lowered items) (second (at c a) w)))
+          (enter_alike (at c a) (λ e. new_prototype None >>= λ prototype. made_and_called (lowered items) (second (at c a) w) e prototype) [] None (λ outer ids.
+          bind_alike (at c (outer ∷ a)) (new_prototype_alike (at c (outer ∷ a)) None) (λ prototype. made_alike (outer ∷ a) (later (at c a) w outer) outer prototype)))
 
       written_declares : (call_meaning (lowered items)).declared ++ [] ≡ m'.declared
       written_declares = simp append-nil refl
 
       module _ (values : m.is_type ≡ false) where
-        written_completes : (w : World c) → Alike c ((role_by n kind.TsModuleBlock (m ∷ [])).completion (first c w)) ((written_meaning (lowered items)).completion (second c w))
-        written_completes w = rw values (block_alike w)
+        written_completes : (a : List Entered) (w : World (at c a)) → Alike (at c a) ((role_by n kind.TsModuleBlock (m ∷ [])).completion (first (at c a) w)) ((written_meaning (lowered items)).completion (second (at c a) w))
+        written_completes a w = rw values (block_alike a w)
 
         parts_same : Same c (role_by n kind.TsModuleBlock (m ∷ [])) (written_meaning (lowered items))
         parts_same = record {
-          value = λ w. outside_alike c;
-          reference = λ w. bind_alike c {A = Value} (outside_alike c) (λ v. outside_alike c);
-          assigned = λ get get' h w. outside_alike c;
-          initial = λ w. outside_alike c;
-          arguments = λ w. bind_alike c (outside_alike c) (λ v. give_alike c (v ∷ []));
-          elements = λ w. bind_alike c (outside_alike c) (λ v. give_alike c (Some v ∷ []));
-          texts = λ w. bind_alike c {A = Value} (outside_alike c) (λ v. outside_alike c);
-          key = λ w. outside_alike c;
-          chain = λ w. outside_alike c;
-          link = λ optional w. outside_alike c;
-          bound = λ v w. outside_alike c;
-          matched = λ v w. outside_alike c;
-          targets = λ v w. outside_alike c;
-          parameters = λ arguments w. outside_alike c;
-          completion = written_completes;
-          varied = λ w. outside_alike c;
-          hoisted = λ w. give_alike c tt;
-          effect = λ w. bind_alike c {A = Value} (outside_alike c) (λ _. give_alike c tt);
-          test = λ w. outside_alike c;
-          caught = λ v w. outside_alike c;
-          made = λ sort home w. outside_alike c;
-          class_made = λ ids w. outside_alike c;
-          defined = λ texts class object w. outside_alike c;
-          fields = λ keys object w. outside_alike c;
-          statics = λ keys class w. outside_alike c;
-          code = λ u arguments w. outside_alike c;
-          body = λ names w. bind_alike c {A = Value} (outside_alike c) (λ v. return_alike c v);
+          value = λ w s. outside_alike (at c _);
+          reference = λ w s. bind_alike (at c _) {A = Value} (outside_alike (at c _)) (λ v. outside_alike (at c _));
+          assigned = λ get get' h w s. outside_alike (at c _);
+          initial = λ w s. outside_alike (at c _);
+          arguments = λ w s. bind_alike (at c _) (outside_alike (at c _)) (λ v. give_alike (at c _) (v ∷ []));
+          elements = λ w s. bind_alike (at c _) (outside_alike (at c _)) (λ v. give_alike (at c _) (Some v ∷ []));
+          texts = λ w s. bind_alike (at c _) {A = Value} (outside_alike (at c _)) (λ v. outside_alike (at c _));
+          key = λ w s. outside_alike (at c _);
+          chain = λ w s. outside_alike (at c _);
+          link = λ optional w s. outside_alike (at c _);
+          bound = λ v w s. outside_alike (at c _);
+          matched = λ v w s. outside_alike (at c _);
+          targets = λ v w s. outside_alike (at c _);
+          parameters = λ arguments w s. outside_alike (at c _);
+          completion = λ w s. written_completes _ w;
+          varied = λ w s. outside_alike (at c _);
+          hoisted = λ w s. give_alike (at c _) tt;
+          effect = λ w s. bind_alike (at c _) {A = Value} (outside_alike (at c _)) (λ _. give_alike (at c _) tt);
+          test = λ w s. outside_alike (at c _);
+          caught = λ v w s. outside_alike (at c _);
+          made = λ sort home w s. outside_alike (at c _);
+          class_made = λ ids outer opens w s. outside_alike (at c _);
+          defined = λ texts class object w s. outside_alike (at c _);
+          fields = λ keys object w s. outside_alike (at c _);
+          statics = λ keys class w s. outside_alike (at c _);
+          code = λ u arguments w s. outside_alike (at c _);
+          body = λ names outer opens w s. bind_alike (at c _) {A = Value} (outside_alike (at c _)) (λ v. return_alike (at c _) v);
           names = refl;
           lexicals = refl;
           vars = refl;
@@ -321,6 +328,7 @@ module _ (declared : List Id) where
           text = λ texts. refl;
           cooked = refl;
           is_plain = refl;
+          is_computed = refl;
           is_super = refl;
           is_absent = refl;
           is_this = refl;
@@ -338,14 +346,14 @@ module _ (declared : List Id) where
         block_same = subst₂ (Same c) (sym (meaning-roll (Layer span kind.TsModuleBlock (items ∷ [])))) (sym (ap meaning lowered_is ∙ written_is (lowered items))) parts_same
 
     kind_is : (k' : Kind) → renamed_kind c k' ≡ k'
-    kind_is k' = same_kind (λ n. Unit {0}) lowered declared the_same k'
+    kind_is k' = same_kind (λ n. Unit {0}) lowered known the_same k'
 
     other_step : (span : Span) (k' : Kind) (cs : List Node) (ns : List ((n : Node) × Kept c n)) → map (λ e. e.0) ns ≡ cs → KeptLayer c k' (map meaning cs)
         → lowered_by k' (map lowered cs) (Layer span k' (map lowered cs)) ≡ roll-Node (Layer span k' (map lowered cs))
         → Same c (meaning (roll-Node (Layer span k' cs))) (meaning (lowered (roll-Node (Layer span k' cs))))
     other_step span k' cs ns is kept e =
         let image : lowered (roll-Node (Layer span k' cs)) ≡ roll-Node (Layer span k' (map lowered cs)) = fold-roll-Node Node lowered_node (Layer span k' cs) ∙ e in
-        layer_same c (Layer span k' cs) ns is tt (all_units cs) kept
+        layer_same c (Layer span k' cs) ns is tt (all_units cs) kept tt
         (ap meaning image ∙ meaning-roll (Layer span k' (map lowered cs)) ∙ ap₂ (λ n z. meaning_by n z (map meaning (map lowered cs))) (sym image) (sym (kind_is k')))
 
     block_step : (span : Span) (items : Node) (ns : List ((n : Node) × Kept c n)) → map (λ e. e.0) ns ≡ items ∷ [] → Same c (meaning items) (meaning (lowered items))
@@ -361,14 +369,14 @@ module _ (declared : List Id) where
 
     layer_step : (span : Span) (k' : Kind) (cs : List Node) (ns : List ((n : Node) × Kept c n)) → map (λ e. e.0) ns ≡ cs → Same c (meaning (roll-Node (Layer span k' cs))) (meaning (lowered (roll-Node (Layer span k' cs))))
     layer_step span kind.TsModuleBlock (items ∷ []) ns is = block_step span items ns is (first_same items ns is) (meaning items).is_type refl
-    layer_step span k' cs ns is = other_step span k' cs ns is (kept_layer (λ n. Unit {0}) lowered declared the_same k' (map meaning cs)) refl
+    layer_step span k' cs ns is = other_step span k' cs ns is (kept_layer (λ n. Unit {0}) lowered known the_same k' (map meaning cs)) refl
 
     lowering_steps : StepsAlike c
     lowering_steps x ns is fine fine' = layer_step x.span x.kind x.children ns is
 
 pub blocks_may_be_called_as_functions : BlocksMayBeCalledAsFunctions
 blocks_may_be_called_as_functions turns options m script h =
-    let declared : List Id = (meaning m).declared in
+    let known : Known = known_of m in
     ap (λ n. observe n options (lowered m) script) (sym (add-zero turns))
-    ∙ observe_while (c declared turns) refl (lowering_steps declared turns) refl script (λ u. calls_in (lowering declared) (lowering_steps declared) refl (provided_by script) turns) turns options m tt refl (omega arith) tt
+    ∙ observe_while (c known turns) refl (lowering_steps known turns) refl script (λ u. calls_in (lowering known) (lowering_steps known) refl (provided_by script) turns) turns options m tt refl plain_starts (omega arith) tt
     (only_outside_excused (observe turns options m script).ending h)

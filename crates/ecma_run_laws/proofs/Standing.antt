@@ -86,6 +86,8 @@ module _ (gone : Id → Bool) where
   layer_names n kind.TsTypeAnn cs h all = tt
   layer_names n kind.TsTypeParamDecl cs h all = tt
   layer_names n kind.TsTypeParamInstantiation cs h all = tt
+  layer_names n kind.TsQualifiedName (left ∷ right ∷ []) h all = tt
+  layer_names n (kind.TsImportEqualsDecl false false) (name ∷ source ∷ []) h all = tt
   layer_names n k cs h all = either_names (has_no_effect k (map meaning cs)) (no_effect n) (role_by n k (map meaning cs)) tt (role_names k cs h all)
 
   NamesStandIf : Node → Type 0

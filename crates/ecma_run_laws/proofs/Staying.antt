@@ -69,6 +69,9 @@ module _ (test : Id → Bool) where
   layer_declared n kind.TsTypeAnn cs h = tt
   layer_declared n kind.TsTypeParamDecl cs h = tt
   layer_declared n kind.TsTypeParamInstantiation cs h = tt
+  layer_declared n kind.TsQualifiedName (left ∷ right ∷ []) h = role_declared kind.MemberExpr (left ∷ right ∷ []) h
+  layer_declared n (kind.TsImportEqualsDecl false false) (name ∷ source ∷ []) h =
+      append _ _ (append _ _ (append _ _ h.0.0 (append _ _ (append _ _ h.0.1 tt) h.1.0.1)) tt) tt
   layer_declared n k cs h = either (has_no_effect k (map meaning cs)) (no_effect n) (role_by n k (map meaning cs)) tt (role_declared k cs h)
 
   DeclaredStand : Node → Type 0

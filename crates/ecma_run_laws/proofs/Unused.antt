@@ -10,17 +10,17 @@ use Rattle.ecma_tree.specs.declared.node.Node.TheViews.{out-roll-Node}
 use Rattle.ecma_tree.specs.Nodes.{node_of}
 use Rattle.ecma_runs.specs.State.{Id}
 use Rattle.ecma_runs.specs.Run.{◌>>=◌}
-use Rattle.ecma_runs.specs.Meaning.{Evaluation, Meaning}
+use Rattle.ecma_runs.specs.Meaning.{Known, Evaluation, Meaning}
 use Rattle.ecma_runs.specs.Statements.{all_completions, all_varied, all_hoisted}
 use Rattle.ecma_runs.specs.Declarations.{all_names, all_declared, all_vars, all_lexicals, all_imported, imported_from}
 use Rattle.ecma_runs.specs.Evaluation.{meaning_by, meaning}
-use Rattle.ecma_runs.specs.Observation.{observe}
+use Rattle.ecma_runs.specs.Observation.{known_of, observe}
 use Rattle.ecma_runs.specs.Names.{passes_by}
 use Rattle.ecma_runs.proofs.Layer.{meaning-roll}
 use Rattle.ecma_runs.proofs.Alike.{Change}
-use Rattle.ecma_runs.proofs.Meanings.{Same, Both, firsts, seconds}
+use Rattle.ecma_runs.proofs.Meanings.{Same, Both, pair, firsts, seconds}
 use Rattle.ecma_runs.proofs.Premises.{renamed_kind, StillClash, KeptLayer}
-use Rattle.ecma_runs.proofs.Steps.{step_same}
+use Rattle.ecma_runs.proofs.Steps.{plain_step}
 use Rattle.ecma_runs.proofs.Kept.{AllNodes, Kept, StepsAlike, layer_same, observe_unless}
 use Rattle.ecma_runs.proofs.Layers.{texts_stay, none_excused}
 use Rattle.ecma_runs.proofs.Standing.{Passes}
@@ -34,9 +34,9 @@ use Rattle.ecma_run_laws.proofs.Standing.{Layer, each_of, IsFine, parts_left, pa
 abbrev both_evaluations : Evaluation (Unit {0}) → Evaluation (Unit {0}) → Evaluation (Unit {0})
 both_evaluations e rest x = e x >>= λ _. rest x
 
-module _ (gone : Id → Bool) (declared : List Id) where
+module _ (gone : Id → Bool) (known : Known) where
   abbrev c : Change
-  c = dropping gone declared
+  c = dropping gone known
 
   -- layers of which nothing goes
 
@@ -51,6 +51,7 @@ module _ (gone : Id → Bool) (declared : List Id) where
   layer_kept (kind.Ident text ctxt optional) cs h all = (h, refl)
   layer_kept kind.MemberExpr cs h all = refl
   layer_kept kind.SuperPropExpr cs h all = refl
+  layer_kept kind.TsQualifiedName cs h all = refl
   layer_kept kind.CallExpr cs h all = refl
   layer_kept kind.OptCall cs h all = refl
   layer_kept kind.NewExpr cs h all = refl
@@ -84,7 +85,7 @@ module _ (gone : Id → Bool) (declared : List Id) where
       let x : Node-F Node = Layer span k cs in
       let is : without gone (roll-Node x) ≡ roll-Node (Layer span k (map (without gone) cs)) = image gone x ∙ ap (node_of span k) (e ∙ less_all gone cs) in
       let t = parts_fine gone x e fine in
-      layer_same c x (with_kept cs kept) (with_kept_are cs kept) fine t.1 (layer_kept k cs t.0 t.1)
+      layer_same c x (with_kept cs kept) (with_kept_are cs kept) fine t.1 (layer_kept k cs t.0 t.1) tt
       (ap meaning is ∙ meaning-roll (Layer span k (map (without gone) cs)) ∙ ap₂ (λ n z. meaning_by n z (map meaning (map (without gone) cs))) (sym is) (sym (same_kind k)))
 
   -- layers of which something may go
@@ -100,32 +101,32 @@ module _ (gone : Id → Bool) (declared : List Id) where
       let a : meaning (roll-Node x) ≡ meaning_by (roll-Node x) k (firsts c ps) = meaning-roll x ∙ sym before in
       let b : meaning n' ≡ meaning_by n' (renamed_kind c k) (seconds c ps) =
       ap meaning (image gone x) ∙ meaning-roll (Layer span k left) ∙ ap (λ n. meaning_by n k (map meaning left)) (sym (image gone x)) ∙ ap₂ (λ z ms. meaning_by n' z ms) (sym (same_kind k)) behind in
-      rw (a, b) (step_same c (roll-Node x) fine k ps kept)
+      rw (a, b) (plain_step c refl (roll-Node x) fine k ps kept)
 
   -- what is left of lists of statements, of declarators and of specifiers
 
   abbrev statements_seen : Node → Meaning
-  statements_seen n = seen gone declared (statement_goes gone) (λ l. l.statements) (λ parts. refl) silent_statement (statement_silent gone declared) n
+  statements_seen n = seen gone known (statement_goes gone) (λ l. l.statements) (λ parts. refl) silent_statement (statement_silent gone known) n
 
   abbrev declarators_seen : Node → Meaning
-  declarators_seen n = seen gone declared (declarator_goes gone) (λ l. l.declarators) (λ parts. refl) silent_declarator (declarator_silent gone declared) n
+  declarators_seen n = seen gone known (declarator_goes gone) (λ l. l.declarators) (λ parts. refl) silent_declarator (declarator_silent gone known) n
 
   abbrev specifiers_seen : Node → Meaning
-  specifiers_seen n = seen gone declared (specifier_goes gone) (λ l. l.specifiers) (λ parts. refl) silent_specifier (specifier_silent gone declared) n
+  specifiers_seen n = seen gone known (specifier_goes gone) (λ l. l.specifiers) (λ parts. refl) silent_specifier (specifier_silent gone known) n
 
   module _ {A : Type 0} (role : Meaning → A) (all : List Meaning → A) (is_all : (n : Node) (ms : List Meaning) → role (meaning_by n kind.List ms) ≡ all ms)
       (join : A → A → A) (joined : (m : Meaning) (ms : List Meaning) → all (m ∷ ms) ≡ join (role m) (all ms)) where
     statements_role : ((m : Meaning) → role (silent_statement m) ≡ role m) → (n : Node) → role (statements_seen n) ≡ role (meaning n)
     statements_role alone n =
-        role_seen gone declared (statement_goes gone) (λ l. l.statements) (λ parts. refl) silent_statement (statement_silent gone declared) role all is_all join joined (λ n e. alone (meaning n)) n
+        role_seen gone known (statement_goes gone) (λ l. l.statements) (λ parts. refl) silent_statement (statement_silent gone known) role all is_all join joined (λ n e. alone (meaning n)) n
 
     declarators_role : ((m : Meaning) → role (silent_declarator m) ≡ role m) → (n : Node) → role (declarators_seen n) ≡ role (meaning n)
     declarators_role alone n =
-        role_seen gone declared (declarator_goes gone) (λ l. l.declarators) (λ parts. refl) silent_declarator (declarator_silent gone declared) role all is_all join joined (λ n e. alone (meaning n)) n
+        role_seen gone known (declarator_goes gone) (λ l. l.declarators) (λ parts. refl) silent_declarator (declarator_silent gone known) role all is_all join joined (λ n e. alone (meaning n)) n
 
     specifiers_role : ((m : Meaning) → role (silent_specifier m) ≡ role m) → (n : Node) → role (specifiers_seen n) ≡ role (meaning n)
     specifiers_role alone n =
-        role_seen gone declared (specifier_goes gone) (λ l. l.specifiers) (λ parts. refl) silent_specifier (specifier_silent gone declared) role all is_all join joined (λ n e. alone (meaning n)) n
+        role_seen gone known (specifier_goes gone) (λ l. l.specifiers) (λ parts. refl) silent_specifier (specifier_silent gone known) role all is_all join joined (λ n e. alone (meaning n)) n
 
   -- in the roles in which the list is used it means what it means
 
@@ -193,25 +194,19 @@ module _ (gone : Id → Bool) (declared : List Id) where
   deep_kept (n ∷ cs) deep = (deep.0.0, deep_kept cs deep.1)
 
   abbrev statements_both : (body : Node) → Deep body → Passes (stands gone) (lessened gone body).statements → Both c
-  statements_both body deep fine = (
-    statements_seen body,
-    meaning (lessened gone body).statements,
-    seen_alike gone declared (statement_goes gone) (λ l. l.statements) (λ parts. refl) silent_statement (statement_silent gone declared) body deep.0 deep.1 fine,
-  )
+  statements_both body deep fine =
+      pair c (statements_seen body) (meaning (lessened gone body).statements)
+      (seen_alike gone known (statement_goes gone) (λ l. l.statements) (λ parts. refl) silent_statement (statement_silent gone known) body deep.0 deep.1 fine)
 
   abbrev declarators_both : (ds : Node) → Deep ds → Passes (stands gone) (lessened gone ds).declarators → Both c
-  declarators_both ds deep fine = (
-    declarators_seen ds,
-    meaning (lessened gone ds).declarators,
-    seen_alike gone declared (declarator_goes gone) (λ l. l.declarators) (λ parts. refl) silent_declarator (declarator_silent gone declared) ds deep.0 deep.1 fine,
-  )
+  declarators_both ds deep fine =
+      pair c (declarators_seen ds) (meaning (lessened gone ds).declarators)
+      (seen_alike gone known (declarator_goes gone) (λ l. l.declarators) (λ parts. refl) silent_declarator (declarator_silent gone known) ds deep.0 deep.1 fine)
 
   abbrev specifiers_both : (ss : Node) → Deep ss → Passes (stands gone) (lessened gone ss).specifiers → Both c
-  specifiers_both ss deep fine = (
-    specifiers_seen ss,
-    meaning (lessened gone ss).specifiers,
-    seen_alike gone declared (specifier_goes gone) (λ l. l.specifiers) (λ parts. refl) silent_specifier (specifier_silent gone declared) ss deep.0 deep.1 fine,
-  )
+  specifiers_both ss deep fine =
+      pair c (specifiers_seen ss) (meaning (lessened gone ss).specifiers)
+      (seen_alike gone known (specifier_goes gone) (λ l. l.specifiers) (λ parts. refl) silent_specifier (specifier_silent gone known) ss deep.0 deep.1 fine)
 
   layer_step : (span : Span) (k : Kind) (cs : List Node) → AllNodes Deep cs → IsFine gone (roll-Node (Layer span k cs)) → Step span k cs
   layer_step span (kind.Module shebang) (body ∷ []) deep fine =
@@ -226,8 +221,8 @@ module _ (gone : Id → Bool) (declared : List Id) where
   layer_step span (kind.ImportDecl false) (ss ∷ source ∷ attributes ∷ []) deep fine =
       let t = (parts_left gone (Layer span (kind.ImportDecl false) (ss ∷ source ∷ attributes ∷ [])) fine).1 in
       let p = specifiers_both ss deep.0 t.0 in
-      let q : Both c = (meaning source, meaning (without gone source), deep.1.0.0 t.1.0) in
-      let r : Both c = (meaning attributes, meaning (without gone attributes), deep.1.1.0.0 t.1.1.0) in
+      let q : Both c = pair c (meaning source) (meaning (without gone source)) (deep.1.0.0 t.1.0) in
+      let r : Both c = pair c (meaning attributes) (meaning (without gone attributes)) (deep.1.1.0.0 t.1.1.0) in
       parent_step span (kind.ImportDecl false) (ss ∷ source ∷ attributes ∷ []) (p ∷ q ∷ r ∷ []) fine (texts_stay (meaning source).shorthands) (import_like (roll-Node (Layer span (kind.ImportDecl false) (ss ∷ source ∷ attributes ∷ []))) ss source attributes) refl
   layer_step span k cs deep fine = other_step span k cs (deep_kept cs deep) fine refl
 
@@ -243,4 +238,4 @@ module _ (gone : Id → Bool) (declared : List Id) where
 pub unused_names_do_not_matter : UnusedNamesDoNotMatter
 unused_names_do_not_matter gone turns options m script unused =
     ap (λ n. observe n options (without gone m) script) (sym (add-zero turns))
-    ∙ observe_unless (dropping gone (meaning m).declared) refl (steps gone (meaning m).declared) refl refl turns options m script unused refl tt tt (none_excused _)
+    ∙ observe_unless (dropping gone (known_of m)) refl (steps gone (known_of m)) refl refl turns options m script unused refl (tt, record { free = tt }, tt) tt tt (none_excused _)

@@ -2,7 +2,7 @@
 use Rattle.std.specs.Prelude.{◌≡◌, ℕ, Bool, true, List, not, Option, ◌++◌, ◌≢◌}
 use Rattle.std.specs.List.{list_all}
 use Rattle.ecma_tree.specs.declared.node.Node.{Node}
-use Rattle.ecma_runs.specs.declared.config.Config.{Config}
+use Rattle.ecma_config.specs.declared.config.Config.{Config}
 use Rattle.ecma_runs.specs.declared.script.Script.{Script}
 use Rattle.ecma_runs.specs.Evaluation.{meaning}
 use Rattle.ecma_runs.specs.Observation.{observe}

@@ -1,25 +1,31 @@
 -- Runs that do alike: what a run does from a state, the other does from the changed state. One lemma a combinator.
-use Rattle.std.proofs.Common.{◌≡◌, ℕ, zero, suc, ◌+◌, ◌++◌, ◌⊎◌, inl, inr, refl, sym, subst, List, [], ◌∷◌, map, Option, Some, None, Bool, true, false, option_map, suc-add}
+use Rattle.std.proofs.Common.{◌≡◌, ℕ, zero, suc, ◌+◌, ◌++◌, ◌⊎◌, inl, inr, refl, sym, subst, List, [], ◌∷◌, map, Option, Some, None, Bool, true, false, cond, option_map, suc-add}
 use Rattle.ecma_tree.specs.declared.node.Node.{Node}
 use Rattle.ecma_runs.specs.declared.observation.Event.{Event}
 use Rattle.ecma_runs.specs.Values.{Value}
-use Rattle.ecma_runs.specs.State.{Id, Closure, Callable, Code, Bound, Passed, Object, State}
+use Rattle.ecma_runs.specs.State.{Id, Entered, Environment, Closure, Callable, Code, Bound, Passed, Object, State}
 use Rattle.ecma_runs.specs.Run.{Stop, TurnsSpent, Outside, Outcome, Done, Thrown, Returned, Broken, Continued, Ended, Run, then_outcome, ◌>>=◌, give, throw, return, break, continue, stop, outside, when, given_or, given, each, catch_outcome, catching, finally_outcome, finally, round_outcome, round, loop_outcome, loop, body_outcome, returned_by, spend_of, spend}
 use Rattle.ecma_runs.specs.Environment.{is_among}
-use Rattle.ecma_runs.proofs.Names.{Naming, changed_environment, kept_by}
+use Rattle.ecma_runs.specs.Meaning.{Known}
+use Rattle.ecma_runs.specs.Sought.{Sought, nothing_sought, Seeker, sought_in}
+use Rattle.ecma_runs.specs.Evaluation.{meaning}
+use Rattle.ecma_runs.proofs.Scopes.{AreThere, Stands, Opens}
+use Rattle.ecma_runs.proofs.Names.{Naming, Unless, unless_is, unless_map, changed_environment, kept_by}
 
 -- how one run differs from another
 pub record Change : Type 1 where
   -- each function keeps another node, and these are the nodes that functions keep
   pub node : Node → Node
   pub fine : Node → Type 0
+  -- the scopes of which is known, besides, that they are those of records
+  pub around : List Entered
   -- a function that is passed over is so in the other run too, where this is none, or it is one there that keeps this node
   pub passed : Option (Node → Node)
   -- names are others, or gone
   pub names : Naming
-  -- the ids that the module declares; free names keep their text
-  pub declared : List Id
-  pub texts : (id : Id) → names.kept id ≡ true → is_among id declared ≡ false → (names.to id).sym ≡ id.sym
+  -- what is known of the module; free names keep their text
+  pub known : Known
+  pub texts : (id : Id) → names.kept id ≡ true → is_among id known.declared ≡ false → (names.to id).sym ≡ id.sym
   -- so many turns more are left, and these events came before
   pub more : ℕ
   pub before : List Event
@@ -36,18 +42,6 @@ pub record Change : Type 1 where
   pub uses : Bool
   pub said : List Event → Type 0
   pub adds : uses ≡ true → (events : List Event) (event : Event) → said events → said (events ++ event ∷ [])
-
-abbrev pub Unless : Bool → Type 0 → Type 0
-Unless true P = Unit {0}
-Unless false P = P
-
-pub unless_is : {P : Type 0} (b : Bool) → P → Unless b P
-unless_is true p = tt
-unless_is false p = p
-
-pub unless_map : {P Q : Type 0} (b : Bool) → (P → Q) → Unless b P → Unless b Q
-unless_map true f p = tt
-unless_map false f p = f p
 
 -- without turns, a run stops where it spends one
 pub spends_none : (more : ℕ) (b : Bool) → (more ≡ 0) ⊎ (b ≡ true) → (s : State) → Unless b (spend_of (0 + more) s ≡ Ended TurnsSpent s)
@@ -78,20 +72,42 @@ module _ (c : Change) where
     turns = s.turns + c.more;
   }
 
-  -- functions keep nodes that may be kept
+  -- scopes are those of records, and what a node looks up in them is not caught
 
-  abbrev pub FineCallable : Option Callable → Type 0
-  FineCallable None = Unit {0}
-  FineCallable (Some (Code closure)) = c.fine closure.node
-  FineCallable (Some (Bound target this given)) = Unit {0}
-  FineCallable (Some (Passed closure)) = Unit {0}
+  abbrev pub Around : List Environment → Type 0
+  Around es = Unless c.names.plain (AreThere c.around es)
 
-  abbrev pub AllFine : List Object → Type 0
-  AllFine [] = Unit {0}
-  AllFine (o ∷ os) = FineCallable o.callable × AllFine os
+  abbrev pub Standing : List Entered → List Id → Type 0
+  Standing scope ids = Stands c.names c.known.declared scope ids
+
+  -- what a node looks up: of this nothing is said where names are told apart everywhere
+  abbrev pub seeks : Node → Sought
+  seeks n = cond c.names.plain nothing_sought (sought_in n)
+
+  abbrev pub seeker_of : Node → Seeker
+  seeker_of n = record { meaning = meaning n; seeks = seeks n }
+
+  abbrev pub Keeps : List Environment → Node → List Entered → Type 0
+  Keeps es n scope =
+      AreThere scope es × Standing scope (seeks n).sought × Opens c.names (meaning n).parameter_names (seeks n).sought (seeks n).code_sought
+
+  -- functions keep nodes that may be kept, in scopes in which they stand
+
+  abbrev pub FineCallable : List Environment → Option Callable → Type 0
+  FineCallable es None = Unit {0}
+  FineCallable es (Some (Code closure)) = c.fine closure.node × Unless c.names.plain (Keeps es closure.node closure.scope)
+  FineCallable es (Some (Bound target this given)) = Unit {0}
+  FineCallable es (Some (Passed closure)) = Unit {0}
+
+  abbrev pub AllFine : List Environment → List Object → Type 0
+  AllFine es [] = Unit {0}
+  AllFine es (o ∷ os) = FineCallable es o.callable × AllFine es os
+
+  abbrev pub Sound : State → Type 0
+  Sound s = AllFine s.environments s.objects × Around s.environments
 
   abbrev pub Good : State → Type 0
-  Good s = AllFine s.objects × c.holds s.turns × c.said s.events
+  Good s = Sound s × c.holds s.turns × c.said s.events
 
   -- the second outcome is the first, with what was given mapped, and a changed state
   abbrev pub Follows : {A : Type 0} → (A → A) → (A → Type 0) → Outcome A → Outcome A → Type 0
@@ -239,7 +255,7 @@ module _ (c : Change) where
 
   -- turns
 
-  spend_of_alike : (s : State) → AllFine s.objects → c.said s.events → (left : ℕ) → c.holds left → Follows (λ a. a) (λ a. Unit {0}) (spend_of left s) (spend_of (left + c.more) (changed s))
+  spend_of_alike : (s : State) → Sound s → c.said s.events → (left : ℕ) → c.holds left → Follows (λ a. a) (λ a. Unit {0}) (spend_of left s) (spend_of (left + c.more) (changed s))
   spend_of_alike s g e zero h = (spends_none c.more (c.excused TurnsSpent) c.turns_excused (changed s), e)
   spend_of_alike s g e (suc left) h = rw (suc-add left c.more) (refl, (g, c.falls left h, e), tt)
 

@@ -5,7 +5,8 @@ use Rattle.ecma_kind.specs.declared.kind.Kind.TheVariants as kind
 use Rattle.ecma_kind.specs.declared.operators.VarDeclKind.TheVariants.{Var, Let, Const}
 use Rattle.ecma_runs.specs.State.{Id}
 use Rattle.ecma_runs.specs.Environment.{empty, undefined, import_of}
-use Rattle.ecma_runs.specs.Declarations.{all_names, names_of, all_imported, imported_as, imported_of, imported_from, text_of, all_lexicals, lexicals_of, all_vars, vars_of, locals_of, all_parameter_names, parameter_names_of, all_declared, declared_of, shorthands_of, all_cooked, cooked_of, all_plain, is_plain_of, is_super_of, is_absent_of, is_this_of, all_types, is_type_of, has_body_of, any_constructor, is_constructor_of, has_no_effect}
+use Rattle.ecma_runs.specs.Declarations.{all_names, names_of, all_imported, imported_as, imported_of, imported_from, text_of, all_lexicals, lexicals_of, all_vars, vars_of, locals_of, all_parameter_names, parameter_names_of, all_declared, declared_of, shorthands_of, all_cooked, cooked_of, all_plain, is_plain_of, is_computed_of, is_super_of, is_absent_of, is_this_of, all_types, is_type_of, has_body_of, any_constructor, is_constructor_of, has_no_effect}
+use Rattle.ecma_runs.specs.Sought.{meanings}
 use Rattle.ecma_runs.proofs.Names.{changed_ids, changed_bindings, changed_ids-append}
 use Rattle.ecma_runs.proofs.Alike.{Change}
 use Rattle.ecma_runs.proofs.Environments.{KeepTexts}
@@ -27,7 +28,7 @@ module _ (c : Change) where
   names_same kind.AssignPatProp (name ∷ default ∷ []) kept = name.2.names
   names_same kind.Param (pattern' ∷ []) kept = pattern'.2.names
   names_same (kind.TsParamProp accessibility is_override readonly) (pattern' ∷ []) kept = pattern'.2.names
-  names_same kind.List ps kept = all_stay c (λ ms ms'. all_names ms' ≡ changed_ids c.names (all_names ms)) (all_names_same c) ps
+  names_same kind.List ps kept = all_stay c (λ ls ms'. all_names ms' ≡ changed_ids c.names (all_names (meanings ls))) (all_names_same c) ps
   names_same _ ps kept = refl
 
   -- imports
@@ -41,13 +42,13 @@ module _ (c : Change) where
   either_text false b' e t u p q = rw e q
 
   pub imported_same : (k : Kind) (ps : List (Both c)) → KeptLayer c k (firsts c ps) → (source : List ℕ) → imported_of (renamed_kind c k) (seconds c ps) source ≡ changed_bindings c.names (imported_of k (firsts c ps) source)
-  imported_same kind.List ps kept source = all_stay c (λ ms ms'. all_imported ms' source ≡ changed_bindings c.names (all_imported ms source)) (λ items. all_imported_same c items source) ps
-  imported_same kind.ImportDefaultSpecifier (local ∷ []) kept source = ap (map (import_of source (codes "default"))) local.2.names ∙ imports c source (codes "default") local.0.names
-  imported_same kind.ImportStarAsSpecifier (local ∷ []) kept source = ap (map (import_of source (codes "*"))) local.2.names ∙ imports c source (codes "*") local.0.names
+  imported_same kind.List ps kept source = all_stay c (λ ls ms'. all_imported ms' source ≡ changed_bindings c.names (all_imported (meanings ls) source)) (λ items. all_imported_same c items source) ps
+  imported_same kind.ImportDefaultSpecifier (local ∷ []) kept source = ap (map (import_of source (codes "default"))) local.2.names ∙ imports c source (codes "default") local.0.meaning.names
+  imported_same kind.ImportStarAsSpecifier (local ∷ []) kept source = ap (map (import_of source (codes "*"))) local.2.names ∙ imports c source (codes "*") local.0.meaning.names
   imported_same (kind.ImportNamedSpecifier false) (local ∷ name ∷ []) kept source =
       ap (imported_as (cond name.1.is_absent local.1.text name.1.text) source) local.2.names
-      ∙ imported_as_same (cond name.0.is_absent local.0.text name.0.text) (cond name.1.is_absent local.1.text name.1.text)
-      (either_text name.0.is_absent name.1.is_absent name.2.is_absent local.0.text name.0.text (local.2.text kept.0) (name.2.text kept.1)) source local.0.names
+      ∙ imported_as_same (cond name.0.meaning.is_absent local.0.meaning.text name.0.meaning.text) (cond name.1.is_absent local.1.text name.1.text)
+      (either_text name.0.meaning.is_absent name.1.is_absent name.2.is_absent local.0.meaning.text name.0.meaning.text (local.2.text kept.0) (name.2.text kept.1)) source local.0.meaning.names
   imported_same _ ps kept source = refl
 
   pub text_same : (k : Kind) (ps : List (Both c)) → KeepTexts c (shorthands_of k (firsts c ps)) → text_of (renamed_kind c k) (seconds c ps) ≡ text_of k (firsts c ps)
@@ -57,27 +58,27 @@ module _ (c : Change) where
   text_same kind.BindingIdent (id ∷ annotation ∷ []) texts = id.2.text texts
   text_same _ ps texts = refl
 
-  imported_from_same : (o o' : Option (List ℕ)) → o' ≡ o → (specifiers : Both c) → imported_from o' specifiers.1 ≡ changed_bindings c.names (imported_from o specifiers.0)
+  imported_from_same : (o o' : Option (List ℕ)) → o' ≡ o → (specifiers : Both c) → imported_from o' specifiers.1 ≡ changed_bindings c.names (imported_from o specifiers.0.meaning)
   imported_from_same None o' e specifiers = rw e refl
   imported_from_same (Some source) o' e specifiers = rw e (specifiers.2.imported source)
 
   -- variables
 
   pub lexicals_same : (k : Kind) (ps : List (Both c)) → KeptLayer c k (firsts c ps) → lexicals_of (renamed_kind c k) (seconds c ps) ≡ changed_bindings c.names (lexicals_of k (firsts c ps))
-  lexicals_same kind.List ps kept = all_stay c (λ ms ms'. all_lexicals ms' ≡ changed_bindings c.names (all_lexicals ms)) (all_lexicals_same c) ps
-  lexicals_same (kind.VarDecl Let false) (declarators ∷ []) kept = ap (map (empty false)) declarators.2.names ∙ empties c false declarators.0.names
-  lexicals_same (kind.VarDecl Const false) (declarators ∷ []) kept = ap (map (empty true)) declarators.2.names ∙ empties c true declarators.0.names
-  lexicals_same (kind.ImportDecl false) (specifiers ∷ source ∷ attributes ∷ []) kept = imported_from_same source.0.text source.1.text (source.2.text kept) specifiers
-  lexicals_same (kind.FnDecl false) (name ∷ function ∷ []) kept = ap (map (empty false)) name.2.names ∙ empties c false name.0.names
-  lexicals_same (kind.ClassDecl false) (name ∷ class ∷ []) kept = ap (map (empty false)) name.2.names ∙ empties c false name.0.names
+  lexicals_same kind.List ps kept = all_stay c (λ ls ms'. all_lexicals ms' ≡ changed_bindings c.names (all_lexicals (meanings ls))) (all_lexicals_same c) ps
+  lexicals_same (kind.VarDecl Let false) (declarators ∷ []) kept = ap (map (empty false)) declarators.2.names ∙ empties c false declarators.0.meaning.names
+  lexicals_same (kind.VarDecl Const false) (declarators ∷ []) kept = ap (map (empty true)) declarators.2.names ∙ empties c true declarators.0.meaning.names
+  lexicals_same (kind.ImportDecl false) (specifiers ∷ source ∷ attributes ∷ []) kept = imported_from_same source.0.meaning.text source.1.text (source.2.text kept) specifiers
+  lexicals_same (kind.FnDecl false) (name ∷ function ∷ []) kept = ap (map (empty false)) name.2.names ∙ empties c false name.0.meaning.names
+  lexicals_same (kind.ClassDecl false) (name ∷ class ∷ []) kept = ap (map (empty false)) name.2.names ∙ empties c false name.0.meaning.names
   lexicals_same _ ps kept = refl
 
   all_vars_stay : (ps : List (Both c)) → all_vars (seconds c ps) ≡ changed_bindings c.names (all_vars (firsts c ps))
-  all_vars_stay ps = all_stay c (λ ms ms'. all_vars ms' ≡ changed_bindings c.names (all_vars ms)) (all_vars_same c) ps
+  all_vars_stay ps = all_stay c (λ ls ms'. all_vars ms' ≡ changed_bindings c.names (all_vars (meanings ls))) (all_vars_same c) ps
 
   pub vars_same : (k : Kind) (ps : List (Both c)) → vars_of (renamed_kind c k) (seconds c ps) ≡ changed_bindings c.names (vars_of k (firsts c ps))
   vars_same kind.List ps = all_vars_stay ps
-  vars_same (kind.VarDecl Var false) (declarators ∷ []) = ap (map undefined) declarators.2.names ∙ undefineds c declarators.0.names
+  vars_same (kind.VarDecl Var false) (declarators ∷ []) = ap (map undefined) declarators.2.names ∙ undefineds c declarators.0.meaning.names
   vars_same kind.BlockStmt ps = all_vars_stay ps
   vars_same kind.IfStmt ps = all_vars_stay ps
   vars_same kind.WhileStmt ps = all_vars_stay ps
@@ -103,7 +104,7 @@ module _ (c : Change) where
   parameter_names_same kind.SetterProp (key ∷ this_parameter ∷ parameter ∷ body ∷ []) = parameter.2.names
   parameter_names_same (kind.Constructor accessibility is_optional) (key ∷ parameters ∷ body ∷ []) = parameters.2.names
   parameter_names_same (kind.Class is_abstract) (super ∷ body ∷ types ∷ super_types ∷ implements ∷ []) = body.2.parameter_names
-  parameter_names_same kind.List ps = all_stay c (λ ms ms'. all_parameter_names ms' ≡ changed_ids c.names (all_parameter_names ms)) (all_parameter_names_same c) ps
+  parameter_names_same kind.List ps = all_stay c (λ ls ms'. all_parameter_names ms' ≡ changed_ids c.names (all_parameter_names (meanings ls))) (all_parameter_names_same c) ps
   parameter_names_same _ ps = refl
 
   -- declared ids
@@ -133,22 +134,26 @@ module _ (c : Change) where
   declared_same (kind.TsImportEqualsDecl is_export false) (name ∷ source ∷ []) = name.2.names
   declared_same (kind.TsTypeAliasDecl declare) ps = refl
   declared_same kind.Absent ps = refl
-  declared_same _ ps = all_stay c (λ ms ms'. all_declared ms' ≡ changed_ids c.names (all_declared ms)) (all_declared_same c) ps
+  declared_same _ ps = all_stay c (λ ls ms'. all_declared ms' ≡ changed_ids c.names (all_declared (meanings ls))) (all_declared_same c) ps
 
   -- what else is known
 
   pub cooked_same : (k : Kind) (ps : List (Both c)) → cooked_of (renamed_kind c k) (seconds c ps) ≡ cooked_of k (firsts c ps)
   cooked_same (kind.TplElement raw (Some text) tail) ps = refl
   cooked_same (kind.TplElement raw None tail) ps = refl
-  cooked_same kind.List ps = all_stay c (λ ms ms'. all_cooked ms' ≡ all_cooked ms) (all_cooked_same c) ps
+  cooked_same kind.List ps = all_stay c (λ ls ms'. all_cooked ms' ≡ all_cooked (meanings ls)) (all_cooked_same c) ps
   cooked_same _ ps = refl
 
   pub is_plain_same : (k : Kind) (ps : List (Both c)) → is_plain_of (renamed_kind c k) (seconds c ps) ≡ is_plain_of k (firsts c ps)
   is_plain_same kind.BindingIdent ps = refl
   is_plain_same kind.Param (pattern' ∷ []) = pattern'.2.is_plain
-  is_plain_same kind.List ps = all_stay c (λ ms ms'. all_plain ms' ≡ all_plain ms) (all_plain_same c) ps
+  is_plain_same kind.List ps = all_stay c (λ ls ms'. all_plain ms' ≡ all_plain (meanings ls)) (all_plain_same c) ps
   is_plain_same (kind.TsTypeAliasDecl declare) ps = refl
   is_plain_same _ ps = refl
+
+  pub is_computed_same : (k : Kind) → is_computed_of (renamed_kind c k) ≡ is_computed_of k
+  is_computed_same kind.ComputedPropName = refl
+  is_computed_same _ = refl
 
   pub is_super_same : (k : Kind) → is_super_of (renamed_kind c k) ≡ is_super_of k
   is_super_same kind.Super = refl
@@ -168,7 +173,7 @@ module _ (c : Change) where
   has_body_same _ ps = refl
 
   pub is_type_same : (k : Kind) (ps : List (Both c)) → is_type_of (renamed_kind c k) (seconds c ps) ≡ is_type_of k (firsts c ps)
-  is_type_same kind.List ps = all_stay c (λ ms ms'. all_types ms' ≡ all_types ms) (all_types_same c) ps
+  is_type_same kind.List ps = all_stay c (λ ls ms'. all_types ms' ≡ all_types (meanings ls)) (all_types_same c) ps
   is_type_same kind.ExportDecl (declaration ∷ []) = declaration.2.is_type
   is_type_same kind.ExportDefaultDecl (declaration ∷ []) = declaration.2.is_type
   is_type_same (kind.FnDecl false) (name ∷ function ∷ []) = ap not function.2.has_body
@@ -188,7 +193,7 @@ module _ (c : Change) where
 
   pub is_constructor_same : (k : Kind) (ps : List (Both c)) → is_constructor_of (renamed_kind c k) (seconds c ps) ≡ is_constructor_of k (firsts c ps)
   is_constructor_same (kind.Constructor accessibility is_optional) ps = refl
-  is_constructor_same kind.List ps = all_stay c (λ ms ms'. any_constructor ms' ≡ any_constructor ms) (any_constructor_same c) ps
+  is_constructor_same kind.List ps = all_stay c (λ ls ms'. any_constructor ms' ≡ any_constructor (meanings ls)) (any_constructor_same c) ps
   is_constructor_same _ ps = refl
 
   pub has_no_effect_same : (k : Kind) (ps : List (Both c)) → has_no_effect (renamed_kind c k) (seconds c ps) ≡ has_no_effect k (firsts c ps)

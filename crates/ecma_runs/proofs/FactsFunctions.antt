@@ -6,8 +6,9 @@ use Rattle.ecma_kind.specs.declared.operators.BinaryOp.TheVariants as binary
 use Rattle.ecma_kind.specs.declared.operators.MetaPropKind.TheVariants.{NewTarget}
 use Rattle.ecma_kind.specs.declared.operators.UpdateOp.TheVariants as update
 use Rattle.ecma_kind.specs.declared.operators.VarDeclKind.TheVariants.{Var, Let}
-use Rattle.ecma_runs.specs.declared.observation.Event.TheVariants.{HostCall}
+use Rattle.ecma_runs.specs.declared.observation.Event.TheVariants.{HostGet, HostCall}
 use Rattle.ecma_runs.specs.declared.observation.Ending.TheVariants as ending
+use Rattle.ecma_runs.specs.declared.script.Answer.TheVariants.{Return}
 use Rattle.ecma_runs.specs.declared.shown.ErrorKind.TheVariants as error
 use Rattle.ecma_runs.specs.declared.shown.Shown.TheVariants as shown
 use Rattle.ecma_runs.proofs.Trees.{End, ◌▸◌, tree, absent, list, ident, key, computed, binding, whole, null, this', member, call, new', assign, binary, parens, array, object, property, statement, block, returns, declare, parameter, declare_function, function_expression, arrow, meaning_node}
@@ -213,6 +214,24 @@ passes_arguments_by_apply :
     (HostCall 7 shown.Undefined (shown.Num (js_number.Whole (pos 1)) ∷ shown.Num (js_number.Whole (pos 2)) ∷ shown.Num (js_number.Whole (pos 3)) ∷ []) ∷ []) (ending.Done [])
 unfolding digits
 passes_arguments_by_apply = simp meaning_node refl
+
+-- function h() { f(1); } h.apply(null, 5);
+wants_a_list_for_apply :
+    Does 9 nulls []
+    (declare_function (codes "h") End (statement (call (ident (codes "f")) (whole 1 ▸ End)) ▸ End)
+    ▸ statement (call (member (ident (codes "h")) (codes "apply")) (null ▸ whole 5 ▸ End))
+    ▸ End)
+    [] (ending.Thrown (shown.Error error.Kind))
+wants_a_list_for_apply = simp meaning_node refl
+
+-- f(g.call); g.call(1);
+gets_methods_of_host_functions :
+    Does 9 (Return (shown.Num (js_number.Whole (pos 2))) ∷ Return shown.Null ∷ Return (shown.Host 9) ∷ Return (shown.Num (js_number.Whole (pos 3))) ∷ []) []
+    (statement (call (ident (codes "f")) (member (ident (codes "g")) (codes "call") ▸ End))
+    ▸ statement (call (member (ident (codes "g")) (codes "call")) (whole 1 ▸ End))
+    ▸ End)
+    (HostGet 8 (codes "call") ∷ HostCall 7 shown.Undefined (shown.Num (js_number.Whole (pos 2)) ∷ []) ∷ HostGet 8 (codes "call") ∷ HostCall 9 (shown.Host 8) (shown.Num (js_number.Whole (pos 1)) ∷ []) ∷ []) (ending.Done [])
+gets_methods_of_host_functions = simp meaning_node refl
 
 -- let h = (a) => (b) => a - b; f(h(5)(2)); f([h][0](1)(1));
 gives_functions_as_values :

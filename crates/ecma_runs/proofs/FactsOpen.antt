@@ -11,7 +11,7 @@ use Rattle.ecma_runs.specs.declared.observation.Event.TheVariants.{HostCall, Hos
 use Rattle.ecma_runs.specs.declared.observation.Ending.TheVariants as ending
 use Rattle.ecma_runs.specs.declared.script.Answer.TheVariants.{Return}
 use Rattle.ecma_runs.specs.declared.shown.Shown.TheVariants as shown
-use Rattle.ecma_runs.proofs.Trees.{End, ◌▸◌, tree, absent, list, ident, key, computed, binding, whole, truth, string, null, member, super_member, call, new', assign, unary, binary, parens, array, object, property, statement, block, returns, declare, parameter, function, declare_function, arrow, class_method, field, constructor', class', declare_class, meaning_node}
+use Rattle.ecma_runs.proofs.Trees.{End, ◌▸◌, tree, absent, list, ident, key, computed, binding, whole, truth, string, null, member, super_member, call, new', assign, unary, binary, parens, array, object, statement, block, returns, declare, parameter, function, declare_function, arrow, class_method, field, constructor', class', declare_class, meaning_node}
 use Rattle.ecma_runs.proofs.Scripts.{Does, nulls}
 use Rattle.std.specs.Fmt.{digits}
 use Rattle.ecma_number.specs.Arithmetic.{quotient_of}
@@ -52,15 +52,6 @@ results_outside_the_domain :
     (HostCall 7 shown.Undefined (shown.Num (js_number.Whole (pos 1)) ∷ []) ∷ []) (ending.Outside)
 unfolding quotient_of
 results_outside_the_domain = simp meaning_node refl
-
--- f(1); ({ __proto__: f(2) });
-proto_in_object_literals :
-    Does 9 nulls []
-    (statement (call (ident (codes "f")) (whole 1 ▸ End))
-    ▸ statement (parens (object (property (key (codes "__proto__")) (call (ident (codes "f")) (whole 2 ▸ End)) ▸ End)))
-    ▸ End)
-    (HostCall 7 shown.Undefined (shown.Num (js_number.Whole (pos 1)) ∷ []) ∷ []) (ending.Outside)
-proto_in_object_literals = simp meaning_node refl
 
 -- f(1); x = f(2);
 writes_of_free_names :

@@ -3,14 +3,17 @@ use Rattle.std.proofs.Common.{◌≡◌, ℕ, ◌++◌, refl, subst, List, [], O
 use Rattle.ecma_tree.specs.declared.node.Node.{Node}
 use Rattle.ecma_runs.specs.declared.observation.Event.TheVariants as event
 use Rattle.ecma_runs.specs.Values.{Value, Undefined, Null, Truth, Number, Text, Own, Host, Error}
-use Rattle.ecma_runs.specs.State.{Arguments, Unbound, Forbidden, Given, Made, Activation, Sort, Plain, Method, Arrow, BaseClass, DerivedClass, Property, Data, Fixed, Accessor, Open, Entry}
+use Rattle.ecma_runs.specs.State.{Environment, Arguments, Unbound, Forbidden, Given, Made, Activation, Sort, Plain, Method, Arrow, BaseClass, DerivedClass, Property, Data, Fixed, Accessor, Open, Entry}
 use Rattle.ecma_runs.specs.Run.{Run}
 use Rattle.ecma_runs.specs.Host.{show, is_open_object, is_open_callee}
-use Rattle.ecma_runs.specs.Environment.{Reference, ToVariable, ToFree, ToMember, ToSuper, ToImportMeta, ToMetaMember, ToValue, with_arguments}
+use Rattle.ecma_runs.specs.Environment.{Reference, ToVariable, ToFree, ToMember, ToSuper, ToImportMeta, ToMetaMember, ToValue, read_variable, write_variable, with_arguments}
 use Rattle.ecma_runs.specs.Meaning.{AsCall, AsConstruct}
 use Rattle.ecma_runs.specs.Objects.{new_object, Calling, Function, BoundFunction}
 use Rattle.ecma_runs.specs.Functions.{made_arguments, arguments_by, read_name, read, write, read_object, read_typed, delete, Borrowing, Apply, Bind, Call, Callee, Called, CalledSuper, Borrowed, borrowing_of, own_callee, member_callee, callee_by, call_host, call_function, call_target, call_calling, call_own, call_value, call_super_calling, call_super_value, first_or_undefined, all_but_first, list_from, bound_to, function_object, bind_function, call_borrowed, call, constructed, construct_function, construct_target, construct_calling, construct_own, construct, own, super_call, new_prototype, new_function, function_entries, prototype_entries, make_function, parent_from, prototype_for}
-use Rattle.ecma_runs.proofs.Alike.{Change, changed_callable, FineCallable, Alike, bind_alike, give_alike, throw_alike, outside_alike, when_alike, given_alike, each_alike}
+use Rattle.ecma_runs.specs.Evaluation.{meaning}
+use Rattle.ecma_runs.proofs.Names.{Unless, unless_three}
+use Rattle.ecma_runs.proofs.Scopes.{Opens}
+use Rattle.ecma_runs.proofs.Alike.{Change, Standing, seeks, changed_callable, FineCallable, Alike, bind_alike, give_alike, throw_alike, outside_alike, when_alike, given_alike, each_alike}
 use Rattle.ecma_runs.proofs.Environments.{read_variable_alike, write_variable_alike, activation_alike, set_activation_alike, bind_this_alike, changed_reference, KeptReference, show_alike, use_host_alike, read_free_alike, read_free_typed_alike}
 use Rattle.ecma_runs.proofs.Objects.{new_object_alike, calling_at_alike, prototype_at_alike, found_from_alike, elements_at_alike, new_arguments_alike}
 use Rattle.ecma_runs.proofs.Meanings.{World, first, second}
@@ -31,19 +34,21 @@ module _ (c : Change) where
     read_name_alike name h = when_alike c (bytes_eq name (codes "arguments")) (bind_alike c (activation_alike c w.scope) (λ a. arguments_by_alike a.0 a.1 a.1.arguments h)) h
 
     pub read_alike : (r : Reference) → KeptReference c r → Alike c (read (first c w) r) (read (second c w) (changed_reference c r))
-    read_alike (ToVariable place id) kept = read_variable_alike c w.provided.imports place id kept
+    read_alike (ToVariable place id) kept =
+        subst (λ p. Alike c (read_variable w.provided.imports p id) (read_variable w.provided.imports p (c.names.to id))) kept.1.1 (read_variable_alike c kept.1.0 kept.1.2 id kept.1.3 w.provided.imports kept.0)
     read_alike (ToFree name) kept = read_name_alike name (read_free_alike c w.provided.frees name)
     read_alike (ToMember o key) kept = member_alike c w kept o key
-    read_alike (ToSuper this home key) kept = super_member_alike c w kept this home key
+    read_alike (ToSuper this base key) kept = super_member_alike c w kept this base key
     read_alike ToImportMeta kept = outside_alike c
     read_alike (ToMetaMember v) kept = give_alike c v
     read_alike (ToValue v) kept = give_alike c v
 
     pub write_alike : (r : Reference) → KeptReference c r → (v : Value) → Alike c (write (first c w) r v) (write (second c w) (changed_reference c r) v)
-    write_alike (ToVariable place id) kept v = write_variable_alike c place id v kept
+    write_alike (ToVariable place id) kept v =
+        subst (λ p. Alike c (write_variable p id v) (write_variable p (c.names.to id) v)) kept.1.1 (write_variable_alike c kept.1.0 kept.1.2 id kept.1.3 v kept.0)
     write_alike (ToFree name) kept v = outside_alike c
     write_alike (ToMember o key) kept v = set_member_alike c w kept o key v
-    write_alike (ToSuper this home key) kept v = set_super_member_alike c w kept this home key v
+    write_alike (ToSuper this base key) kept v = set_super_member_alike c w kept this base key v
     write_alike ToImportMeta kept v = outside_alike c
     write_alike (ToMetaMember old) kept v = outside_alike c
     write_alike (ToValue old) kept v = outside_alike c
@@ -52,7 +57,7 @@ module _ (c : Change) where
     read_object_alike (ToFree name) kept = when_alike c (is_open_object name) (outside_alike c) (read_alike (ToFree name) kept)
     read_object_alike (ToVariable place id) kept = read_alike (ToVariable place id) kept
     read_object_alike (ToMember o key) kept = read_alike (ToMember o key) kept
-    read_object_alike (ToSuper this home key) kept = read_alike (ToSuper this home key) kept
+    read_object_alike (ToSuper this base key) kept = read_alike (ToSuper this base key) kept
     read_object_alike ToImportMeta kept = read_alike ToImportMeta kept
     read_object_alike (ToMetaMember v) kept = read_alike (ToMetaMember v) kept
     read_object_alike (ToValue v) kept = read_alike (ToValue v) kept
@@ -61,7 +66,7 @@ module _ (c : Change) where
     read_typed_alike (ToFree name) kept = read_name_alike name (read_free_typed_alike c w.provided.frees name)
     read_typed_alike (ToVariable place id) kept = read_alike (ToVariable place id) kept
     read_typed_alike (ToMember o key) kept = read_alike (ToMember o key) kept
-    read_typed_alike (ToSuper this home key) kept = read_alike (ToSuper this home key) kept
+    read_typed_alike (ToSuper this base key) kept = read_alike (ToSuper this base key) kept
     read_typed_alike ToImportMeta kept = read_alike ToImportMeta kept
     read_typed_alike (ToMetaMember v) kept = read_alike (ToMetaMember v) kept
     read_typed_alike (ToValue v) kept = read_alike (ToValue v) kept
@@ -71,7 +76,7 @@ module _ (c : Change) where
   delete_alike (ToValue v) = give_alike c _
   delete_alike (ToVariable place id) = outside_alike c
   delete_alike (ToFree name) = outside_alike c
-  delete_alike (ToSuper this home key) = outside_alike c
+  delete_alike (ToSuper this base key) = outside_alike c
   delete_alike ToImportMeta = outside_alike c
   delete_alike (ToMetaMember v) = outside_alike c
 
@@ -79,12 +84,14 @@ module _ (c : Change) where
   list_from_alike Undefined = give_alike c []
   list_from_alike Null = give_alike c []
   list_from_alike (Own place) = elements_at_alike c place
-  list_from_alike _ = outside_alike c
+  list_from_alike (Host number) = outside_alike c
+  list_from_alike (Error error_kind) = outside_alike c
+  list_from_alike _ = throw_alike c _
 
-  fine_bound : (place : ℕ) (this : Value) (given : List Value) (o : Option Calling) → FineCallable c (Some (bound_to place this given o))
-  fine_bound place this given None = tt
-  fine_bound place this given (Some (Function sort)) = tt
-  fine_bound place this given (Some (BoundFunction target this' given')) = tt
+  fine_bound : (es : List Environment) (place : ℕ) (this : Value) (given : List Value) (o : Option Calling) → FineCallable c es (Some (bound_to place this given o))
+  fine_bound es place this given None = tt
+  fine_bound es place this given (Some (Function sort)) = tt
+  fine_bound es place this given (Some (BoundFunction target this' given')) = tt
 
   bound-changed : (place : ℕ) (this : Value) (given : List Value) (o : Option Calling) → changed_callable c (bound_to place this given o) ≡ bound_to place this given o
   bound-changed place this given None = refl
@@ -94,7 +101,7 @@ module _ (c : Change) where
   bind_function_alike : (place : ℕ) (this : Value) (given : List Value) → Alike c (bind_function place this given) (bind_function place this given)
   bind_function_alike place this given =
       bind_alike c (calling_at_alike c place) (λ o. bind_alike c (prototype_at_alike c place) (λ p.
-      bind_alike c (subst (λ z. Alike c (new_object (function_object function_entries p (bound_to place this given o))) (new_object (function_object function_entries p z))) (bound-changed place this given o) (new_object_alike c _ (fine_bound place this given o)))
+      bind_alike c (subst (λ z. Alike c (new_object (function_object function_entries p (bound_to place this given o))) (new_object (function_object function_entries p z))) (bound-changed place this given o) (new_object_alike c _ (λ es around. fine_bound es place this given o)))
       (λ f. give_alike c (Own f))))
 
   module _ (w : World c) (u : c.uses ≡ true) where
@@ -122,7 +129,7 @@ module _ (c : Change) where
     pub callee_by_alike : (r : Reference) → KeptReference c r → Alike c (callee_by (first c w) r) (callee_by (second c w) (changed_reference c r))
     callee_by_alike (ToFree name) kept = when_alike c (is_open_callee name) (outside_alike c) (bind_alike c (read_alike w (ToFree name) kept) (λ f. give_alike c (Called f Undefined)))
     callee_by_alike (ToMember o key) kept = member_callee_alike o key
-    callee_by_alike (ToSuper this home key) kept = bind_alike c (super_member_alike c w u this home key) (λ f. give_alike c (CalledSuper f this))
+    callee_by_alike (ToSuper this base key) kept = bind_alike c (super_member_alike c w u this base key) (λ f. give_alike c (CalledSuper f this))
     callee_by_alike (ToVariable place id) kept = bind_alike c (read_alike w (ToVariable place id) kept) (λ f. give_alike c (Called f Undefined))
     callee_by_alike ToImportMeta kept = bind_alike c (read_alike w ToImportMeta kept) (λ f. give_alike c (Called f Undefined))
     callee_by_alike (ToMetaMember v) kept = bind_alike c (read_alike w (ToMetaMember v) kept) (λ f. give_alike c (Called f Undefined))
@@ -228,18 +235,22 @@ module _ (c : Change) where
   -- functions
 
   pub new_prototype_alike : (parent : Option ℕ) → Alike c (new_prototype parent) (new_prototype parent)
-  new_prototype_alike parent = new_object_alike c _ tt
+  new_prototype_alike parent = new_object_alike c _ (λ es around. tt)
 
-  pub new_function_alike : (w : World c) (entries : List Entry) (parent : Option ℕ) (n : Node) (sort : Sort) (home : Option ℕ) → c.fine n
+  -- a node that a function may keep in this scope
+  abbrev pub MayKeep : World c → Node → Type 0
+  MayKeep w n = Unless c.names.plain (Standing c w.scope (seeks c n).sought × Opens c.names (meaning n).parameter_names (seeks c n).sought (seeks c n).code_sought)
+
+  pub new_function_alike : (w : World c) (entries : List Entry) (parent : Option ℕ) (n : Node) (sort : Sort) (home : Option ℕ) → c.fine n → MayKeep w n
       → Alike c (new_function entries parent n sort home (first c w)) (new_function entries parent (c.node n) sort home (second c w))
-  new_function_alike w entries parent n sort home fine = new_object_alike c _ fine
+  new_function_alike w entries parent n sort home fine keeps = new_object_alike c _ (λ es around. (fine, unless_three c.names.plain (λ there here k. (there es here, k.0, k.1)) w.there around keeps))
 
-  pub make_function_alike : (w : World c) (n : Node) (sort : Sort) (home : Option ℕ) → c.fine n → Alike c (make_function n sort home (first c w)) (make_function (c.node n) sort home (second c w))
-  make_function_alike w n Plain home fine = bind_alike c (new_prototype_alike None) (λ place. new_function_alike w (prototype_entries true place) None n Plain home fine)
-  make_function_alike w n Method home fine = new_function_alike w function_entries None n Method home fine
-  make_function_alike w n Arrow home fine = new_function_alike w function_entries None n Arrow home fine
-  make_function_alike w n BaseClass home fine = new_function_alike w function_entries None n BaseClass home fine
-  make_function_alike w n DerivedClass home fine = new_function_alike w function_entries None n DerivedClass home fine
+  pub make_function_alike : (w : World c) (n : Node) (sort : Sort) (home : Option ℕ) → c.fine n → MayKeep w n → Alike c (make_function n sort home (first c w)) (make_function (c.node n) sort home (second c w))
+  make_function_alike w n Plain home fine keeps = bind_alike c (new_prototype_alike None) (λ place. new_function_alike w (prototype_entries true place) None n Plain home fine keeps)
+  make_function_alike w n Method home fine keeps = new_function_alike w function_entries None n Method home fine keeps
+  make_function_alike w n Arrow home fine keeps = new_function_alike w function_entries None n Arrow home fine keeps
+  make_function_alike w n BaseClass home fine keeps = new_function_alike w function_entries None n BaseClass home fine keeps
+  make_function_alike w n DerivedClass home fine keeps = new_function_alike w function_entries None n DerivedClass home fine keeps
 
   parent_from_alike : (v : Value) → Alike c (parent_from v) (parent_from v)
   parent_from_alike (Own place) = give_alike c _

@@ -1,5 +1,5 @@
 -- Events only grow: a run does the same behind events that came before, and so its own stand behind them.
-use Rattle.std.proofs.Common.{◌≡◌, ℕ, Some, ◌++◌, inl, refl, subst, subst₂, ap, sym, List, [], ◌∷◌, append-nil}
+use Rattle.std.proofs.Common.{◌≡◌, Some, ◌++◌, inl, refl, subst, subst₂, ap, sym, List, [], ◌∷◌, append-nil}
 use Rattle.ecma_tree.specs.declared.node.Node.{Node}
 use Rattle.ecma_runs.specs.declared.observation.Event.{Event}
 use Rattle.ecma_runs.specs.declared.observation.Ending.{Ending}
@@ -8,63 +8,64 @@ use Rattle.ecma_runs.specs.declared.script.Action.{Action}
 use Rattle.ecma_runs.specs.declared.script.Answer.{Answer}
 use Rattle.ecma_runs.specs.declared.script.Answer.TheVariants as answer
 use Rattle.ecma_runs.specs.declared.script.Script.{Script}
-use Rattle.ecma_runs.specs.State.{Id, Entered, State}
+use Rattle.ecma_runs.specs.State.{Entered, State}
 use Rattle.ecma_runs.specs.Run.{Outcome, Done, Thrown, Returned, Broken, Continued, Ended, Run, then_outcome, ◌>>=◌, give, each}
 use Rattle.ecma_runs.specs.Host.{Provided, provided_by}
 use Rattle.ecma_runs.specs.Environment.{new_environment}
+use Rattle.ecma_runs.specs.Meaning.{Known}
 use Rattle.ecma_runs.specs.Evaluation.{meaning}
-use Rattle.ecma_runs.specs.Observation.{module_context, run_body, act, run_actions, module_activation, run_module, start, observed}
+use Rattle.ecma_runs.specs.Observation.{known_of, module_context, run_body, act, run_actions, module_activation, run_module, start, observed}
 use Rattle.ecma_runs.specs.Laws.{state_behind, Extends, EventsOnlyGrow}
 use Rattle.ecma_runs.proofs.Alike.{Change, changed, Follows, Alike, each_alike}
 use Rattle.ecma_runs.proofs.Names.{changed_entered}
 use Rattle.ecma_runs.proofs.Meanings.{World}
 use Rattle.ecma_runs.proofs.Kept.{StepsAlike, invoke_alike, module_world, act_alike, run_body_alike}
-use Rattle.ecma_runs.proofs.Layers.{same_names, same_ids, Telling, always, nothing_excused, images, itself_layers, layers_alike}
+use Rattle.ecma_runs.proofs.Layers.{same_names, same_ids, same_known, Telling, always, nothing_excused, images, itself_layers, layers_alike}
 use Rattle.ecma_runs.proofs.Depth.{same_state, fine_all}
 
 -- the same run, behind events that came before
 abbrev after : List Event → Telling
 after before = record { more = 0; before = before; excused = nothing_excused; turns_excused = inl refl; holds = always; falls = λ n h. tt }
 
-abbrev behind : List Id → List Event → Change
-behind declared before = images (λ n. n) declared (after before)
+abbrev behind : Known → List Event → Change
+behind known before = images (λ n. n) known (after before)
 
-behind_steps : (declared : List Id) (before : List Event) → StepsAlike (behind declared before)
-behind_steps declared before = layers_alike (λ n. n) declared (after before) itself_layers
+behind_steps : (known : Known) (before : List Event) → StepsAlike (behind known before)
+behind_steps known before = layers_alike (λ n. n) known (after before) itself_layers
 
 -- a state is what it is without its events, behind them
-changed_back : (declared : List Id) (s : State) → changed (behind declared s.events) (record s { events = [] }) ≡ s
-changed_back declared s = λ i. record (same_state 0 declared s i) { events = append-nil s.events i }
+changed_back : (known : Known) (s : State) → changed (behind known s.events) (record s { events = [] }) ≡ s
+changed_back known s = λ i. record (same_state 0 known s i) { events = append-nil s.events i }
 
-follows_extends : {A : Type 0} (declared : List Id) (before : List Event) (r r' : Outcome A) → Follows (behind declared before) (λ a. a) (λ a. Unit {0}) r r' → Extends before (state_behind r').events
-follows_extends declared before (Done a s) r' e = rw e.0 (s.events, refl)
-follows_extends declared before (Thrown v s) r' e = rw e.0 (s.events, refl)
-follows_extends declared before (Returned v s) r' e = rw e.0 (s.events, refl)
-follows_extends declared before (Broken s) r' e = rw e.0 (s.events, refl)
-follows_extends declared before (Continued s) r' e = rw e.0 (s.events, refl)
-follows_extends declared before (Ended why s) r' e = rw e.0 (s.events, refl)
+follows_extends : {A : Type 0} (known : Known) (before : List Event) (r r' : Outcome A) → Follows (behind known before) (λ a. a) (λ a. Unit {0}) r r' → Extends before (state_behind r').events
+follows_extends known before (Done a s) r' e = rw e.0 (s.events, refl)
+follows_extends known before (Thrown v s) r' e = rw e.0 (s.events, refl)
+follows_extends known before (Returned v s) r' e = rw e.0 (s.events, refl)
+follows_extends known before (Broken s) r' e = rw e.0 (s.events, refl)
+follows_extends known before (Continued s) r' e = rw e.0 (s.events, refl)
+follows_extends known before (Ended why s) r' e = rw e.0 (s.events, refl)
 
-grows : {A : Type 0} (declared : List Id) (m : Run A) → ((before : List Event) → Alike (behind declared before) m m) → (s : State) → Extends s.events (state_behind (m s)).events
-grows declared m h s =
-    follows_extends declared s.events (m (record s { events = [] })) (m s)
-    (subst (λ t. Follows (behind declared s.events) (λ a. a) (λ a. Unit {0}) (m (record s { events = [] })) (m t)) (changed_back declared s) ((h s.events).at (record s { events = [] }) (fine_all 0 declared s.objects, tt, tt)))
+grows : {A : Type 0} (known : Known) (m : Run A) → ((before : List Event) → Alike (behind known before) m m) → (s : State) → Extends s.events (state_behind (m s)).events
+grows known m h s =
+    follows_extends known s.events (m (record s { events = [] })) (m s)
+    (subst (λ t. Follows (behind known s.events) (λ a. a) (λ a. Unit {0}) (m (record s { events = [] })) (m t)) (changed_back known s) ((h s.events).at (record s { events = [] }) ((fine_all 0 known s.environments s.objects, tt), tt, tt)))
 
-module _ (provided : Provided) (declared : List Id) (entered : Entered) where
-  abbrev behind_world : (before : List Event) → World (behind declared before)
-  behind_world before = module_world (behind declared before) (behind_steps declared before) provided (λ u. invoke_alike (behind declared before) (behind_steps declared before) provided u refl) entered
+module _ (provided : Provided) (known : Known) (entered : Entered) where
+  abbrev behind_world : (before : List Event) → World (behind known before)
+  behind_world before = module_world (behind known before) (behind_steps known before) provided (λ u. invoke_alike (behind known before) (behind_steps known before) provided u refl) entered tt
 
   entered_is : changed_entered same_names entered ≡ entered
   entered_is = ap (λ ids. record entered { ids = ids }) (same_ids entered.ids)
 
-  act_behind : (a : Action) (before : List Event) → Alike (behind declared before) (act (module_context provided declared entered) a) (act (module_context provided declared entered) a)
+  act_behind : (a : Action) (before : List Event) → Alike (behind known before) (act (module_context provided known entered) a) (act (module_context provided known entered) a)
   act_behind a before =
-      subst₂ (λ ids e. Alike (behind declared before) (act (module_context provided declared entered) a) (act (module_context provided ids e) a)) (same_ids declared) entered_is
-      (act_alike (behind declared before) (behind_steps declared before) (behind_world before) refl a)
+      subst₂ (λ z e. Alike (behind known before) (act (module_context provided known entered) a) (act (module_context provided z e) a)) (same_known known) entered_is
+      (act_alike (behind known before) (behind_steps known before) (behind_world before) refl a)
 
-  body_behind : (m : Node) (before : List Event) → Alike (behind declared before) (run_body (module_context provided declared entered) m) (run_body (module_context provided declared entered) m)
+  body_behind : (m : Node) (before : List Event) → Alike (behind known before) (run_body (module_context provided known entered) m) (run_body (module_context provided known entered) m)
   body_behind m before =
-      subst₂ (λ ids e. Alike (behind declared before) (run_body (module_context provided declared entered) m) (run_body (module_context provided ids e) m)) (same_ids declared) entered_is
-      (run_body_alike (behind declared before) (behind_steps declared before) (behind_world before) m tt)
+      subst₂ (λ z e. Alike (behind known before) (run_body (module_context provided known entered) m) (run_body (module_context provided z e) m)) (same_known known) entered_is
+      (run_body_alike (behind known before) (behind_steps known before) (behind_world before) m tt (record { free = tt }))
 
 -- a run and another that has the same events, and maybe more
 record HasMore {A B : Type 0} (m : Run A) (m' : Run B) : Type 0 where
@@ -96,20 +97,20 @@ give_behind g (Ended why s) = refl
 give_more : {A B C D : Type 0} (g : A → C) (g' : B → D) (m : Run A) (m' : Run B) → HasMore m m' → HasMore (m >>= λ a. give (g a)) (m' >>= λ a. give (g' a))
 give_more g g' m m' h = record { at = λ s. rw (give_behind g (m s), give_behind g' (m' s)) (h.at s) }
 
-each_more : {A B : Type 0} (declared : List Id) (run : A → Run B) → ((a : A) (before : List Event) → Alike (behind declared before) (run a) (run a)) → (xs ys : List A) → HasMore (each run xs) (each run (xs ++ ys))
-each_more declared run h [] ys = record { at = λ s. grows declared (each run ys) (λ before. each_alike (behind declared before) run run (λ a. h a before) ys) s }
-each_more declared run h (x ∷ xs) ys = bind_more (run x) (λ b. give_more (λ bs. b ∷ bs) (λ bs. b ∷ bs) _ _ (each_more declared run h xs ys))
+each_more : {A B : Type 0} (known : Known) (run : A → Run B) → ((a : A) (before : List Event) → Alike (behind known before) (run a) (run a)) → (xs ys : List A) → HasMore (each run xs) (each run (xs ++ ys))
+each_more known run h [] ys = record { at = λ s. grows known (each run ys) (λ before. each_alike (behind known before) run run (λ a. h a before) ys) s }
+each_more known run h (x ∷ xs) ys = bind_more (run x) (λ b. give_more (λ bs. b ∷ bs) (λ bs. b ∷ bs) _ _ (each_more known run h xs ys))
 
-actions_more : (provided : Provided) (declared : List Id) (entered : Entered) (actions more : List Action) (outcome : Answer)
-    → HasMore (run_actions (module_context provided declared entered) actions outcome) (run_actions (module_context provided declared entered) (actions ++ more) outcome)
-actions_more provided declared entered actions more (answer.Return v) =
-    give_more ending.Done ending.Done _ _ (each_more declared (act (module_context provided declared entered)) (act_behind provided declared entered) actions more)
-actions_more provided declared entered actions more (answer.Throw v) = record { at = λ s. same_events s.events }
+actions_more : (provided : Provided) (known : Known) (entered : Entered) (actions more : List Action) (outcome : Answer)
+    → HasMore (run_actions (module_context provided known entered) actions outcome) (run_actions (module_context provided known entered) (actions ++ more) outcome)
+actions_more provided known entered actions more (answer.Return v) =
+    give_more ending.Done ending.Done _ _ (each_more known (act (module_context provided known entered)) (act_behind provided known entered) actions more)
+actions_more provided known entered actions more (answer.Throw v) = record { at = λ s. same_events s.events }
 
 module_more : (m : Node) (script : Script) (more : List Action) → HasMore (run_module m script) (run_module m (record script { actions = script.actions ++ more }))
 module_more m script more =
-    bind_more (new_environment (meaning m).locals (Some module_activation)) (λ place. bind_more (run_body (module_context (provided_by script) (meaning m).declared place) m) (λ outcome.
-    actions_more (provided_by script) (meaning m).declared place script.actions more outcome))
+    bind_more (new_environment (meaning m).locals (Some module_activation)) (λ place. bind_more (run_body (module_context (provided_by script) (known_of m) place) m) (λ outcome.
+    actions_more (provided_by script) (known_of m) place script.actions more outcome))
 
 pub observed_events : (r : Outcome Ending) → (observed r).events ≡ (state_behind r).events
 observed_events (Done end s) = refl
@@ -121,8 +122,8 @@ observed_events (Ended why s) = refl
 
 pub events_only_grow : EventsOnlyGrow
 events_only_grow = record {
-  body = λ provided declared entered m s. grows declared _ (body_behind provided declared entered m) s;
-  action = λ provided declared entered a s. grows declared _ (act_behind provided declared entered a) s;
+  body = λ provided known entered m s. grows known _ (body_behind provided known entered m) s;
+  action = λ provided known entered a s. grows known _ (act_behind provided known entered a) s;
   actions = λ turns options m script more.
       let script_more : Script = record script { actions = script.actions ++ more } in
       rw (observed_events (run_module m script (start turns script)), observed_events (run_module m script_more (start turns script)))

@@ -5,22 +5,23 @@ use Rattle.ecma_kind.specs.declared.kind.Kind.TheVariants as kind
 use Rattle.ecma_tree.specs.declared.node.Node.{Node, Node-F, fold-roll-Node, roll-Node}
 use Rattle.ecma_tree.specs.Rewritten.{rewritten}
 use Rattle.ecma_tree.specs.Spans.{unplaced, without_spans}
-use Rattle.ecma_runs.specs.declared.config.Config.{Config}
+use Rattle.ecma_config.specs.declared.config.Config.{Config}
 use Rattle.ecma_runs.specs.declared.observation.Event.{Event}
 use Rattle.ecma_runs.specs.declared.observation.Ending.{Ending}
 use Rattle.ecma_runs.specs.declared.observation.Ending.TheVariants as ending
 use Rattle.ecma_runs.specs.declared.script.Script.{Script}
-use Rattle.ecma_runs.specs.State.{Id, Binding}
+use Rattle.ecma_runs.specs.State.{Id, Entered, Binding}
 use Rattle.ecma_runs.specs.Run.{Stop, TurnsSpent, AnswersSpent, Outside}
 use Rattle.ecma_runs.specs.Environment.{have_one_of, is_among}
-use Rattle.ecma_runs.specs.Meaning.{Meaning}
+use Rattle.ecma_runs.specs.Meaning.{Known, Meaning}
 use Rattle.ecma_runs.specs.Evaluation.{meaning_by, meaning}
-use Rattle.ecma_runs.specs.Observation.{observe}
+use Rattle.ecma_runs.specs.Observation.{known_of, observe}
 use Rattle.ecma_runs.specs.Sources.{unsourced, unsourced_node, without_sources}
 use Rattle.ecma_runs.specs.Wrappers.{unwrapped_by, unwrapped, without_wrappers}
 use Rattle.ecma_runs.specs.Laws.{SpansAndSourcesDoNotMatter, WrappersDoNotMatter, SpareTurnsDoNotMatter}
 use Rattle.ecma_runs.proofs.Layer.{meaning-roll}
-use Rattle.ecma_runs.proofs.Names.{Naming, changed_ids, changed_bindings}
+use Rattle.ecma_runs.proofs.Names.{Naming, changed_ids, changed_known, changed_bindings}
+use Rattle.ecma_runs.proofs.Scopes.{Stands}
 use Rattle.ecma_runs.proofs.Alike.{Change}
 use Rattle.ecma_runs.specs.Names.{TextsStay}
 use Rattle.ecma_runs.proofs.Premises.{renamed_kind, StillClash, KeptLayer}
@@ -29,11 +30,14 @@ use Rattle.ecma_runs.proofs.Kept.{AllNodes, StepsAlike, layer_same, IsNotExcused
 -- where no name is changed
 
 abbrev pub same_names : Naming
-same_names = record { to = λ id. id; kept = λ id. true; injective = λ a b ka kb e. e }
+same_names = record { to = λ id. id; kept = λ id. true; plain = true; injective = λ is a b ka kb e. e }
 
 pub same_ids : (ids : List Id) → changed_ids same_names ids ≡ ids
 same_ids [] = refl
 same_ids (id ∷ ids) = ap (λ z. id ∷ z) (same_ids ids)
+
+pub same_known : (known : Known) → changed_known same_names known ≡ known
+same_known known = ap (λ ids. record known { declared = ids }) (same_ids known.declared)
 
 pub same_bindings : (bindings : List Binding) → changed_bindings same_names bindings ≡ bindings
 same_bindings [] = refl
@@ -63,13 +67,14 @@ abbrev pub the_same : Telling
 the_same = record { more = 0; before = []; excused = nothing_excused; turns_excused = inl refl; holds = always; falls = λ n h. tt }
 
 -- functions keep the images of their nodes, of these something is true, and names are mapped
-abbrev pub images_named : (Node → Type 0) → (Node → Node) → (names : Naming) (declared : List Id) → ((id : Id) → names.kept id ≡ true → is_among id declared ≡ false → (names.to id).sym ≡ id.sym) → Telling → Change
-images_named fine f names declared texts t = record {
+abbrev pub images_named : (Node → Type 0) → (Node → Node) → (names : Naming) (known : Known) → ((id : Id) → names.kept id ≡ true → is_among id known.declared ≡ false → (names.to id).sym ≡ id.sym) → Telling → Change
+images_named fine f names known texts t = record {
   node = f;
   fine = fine;
+  around = [];
   passed = None;
   names = names;
-  declared = declared;
+  known = known;
   texts = texts;
   more = t.more;
   before = t.before;
@@ -83,11 +88,15 @@ images_named fine f names declared texts t = record {
   adds = λ u events event h. tt;
 }
 
-abbrev pub images_where : (Node → Type 0) → (Node → Node) → List Id → Telling → Change
-images_where fine f declared t = images_named fine f same_names declared (λ id kept free. refl) t
+abbrev pub images_where : (Node → Type 0) → (Node → Node) → Known → Telling → Change
+images_where fine f known t = images_named fine f same_names known (λ id kept free. refl) t
 
-abbrev pub images : (Node → Node) → List Id → Telling → Change
+abbrev pub images : (Node → Node) → Known → Telling → Change
 images = images_where (λ n. Unit {0})
+
+-- where names are told apart everywhere, nothing has to be known before a module runs
+abbrev pub plain_starts : {declared : List Id} {scope : List Entered} {ids : List Id} → Unit {0} × Stands same_names declared scope ids × Unit {0}
+plain_starts = (tt, record { free = tt }, tt)
 
 pub none_excused : (end : Ending) → IsNotExcused nothing_excused end
 none_excused end why excuse = absurd (cc)
@@ -100,9 +109,9 @@ all_units (n ∷ ns) = (tt, all_units ns)
 abbrev pub KeepsLayers : (Node → Node) → Type 0
 KeepsLayers f = (x : Node-F Node) → meaning (f (roll-Node x)) ≡ meaning_by (f (roll-Node x)) x.kind (map meaning (map f x.children))
 
-module _ (fine : Node → Type 0) (f : Node → Node) (declared : List Id) (t : Telling) where
+module _ (fine : Node → Type 0) (f : Node → Node) (known : Known) (t : Telling) where
   abbrev of : Change
-  of = images_where fine f declared t
+  of = images_where fine f known t
 
   pub same_kind : (k : Kind) → renamed_kind of k ≡ k
   same_kind (kind.Ident text ctxt optional) = refl
@@ -115,6 +124,7 @@ module _ (fine : Node → Type 0) (f : Node → Node) (declared : List Id) (t : 
   kept_layer (kind.Ident text ctxt optional) ms = (refl, refl)
   kept_layer kind.MemberExpr ms = refl
   kept_layer kind.SuperPropExpr ms = refl
+  kept_layer kind.TsQualifiedName ms = refl
   kept_layer kind.CallExpr ms = refl
   kept_layer kind.OptCall ms = refl
   kept_layer kind.NewExpr ms = refl
@@ -130,17 +140,17 @@ module _ (fine : Node → Type 0) (f : Node → Node) (declared : List Id) (t : 
   kept_layer (kind.Constructor accessibility is_optional) (key ∷ parameters ∷ body ∷ []) = still parameters body
   kept_layer _ ms = tt
 
-module _ (f : Node → Node) (declared : List Id) (t : Telling) where
-  pub layers_alike : KeepsLayers f → StepsAlike (images f declared t)
+module _ (f : Node → Node) (known : Known) (t : Telling) where
+  pub layers_alike : KeepsLayers f → StepsAlike (images f known t)
   layers_alike layers x ns is fine fine' =
-      layer_same (images f declared t) x ns is tt (all_units x.children) (kept_layer (λ n. Unit {0}) f declared t x.kind (map meaning x.children))
-      (layers x ∙ ap (λ k. meaning_by (f (roll-Node x)) k (map meaning (map f x.children))) (sym (same_kind (λ n. Unit {0}) f declared t x.kind)))
+      layer_same (images f known t) x ns is tt (all_units x.children) (kept_layer (λ n. Unit {0}) f known t x.kind (map meaning x.children)) tt
+      (layers x ∙ ap (λ k. meaning_by (f (roll-Node x)) k (map meaning (map f x.children))) (sym (same_kind (λ n. Unit {0}) f known t x.kind)))
 
 -- a map of trees that keeps the meaning of each layer keeps what is observed
 pub observe_kept : (f : Node → Node) → KeepsLayers f → (turns : ℕ) (options : Config) (m : Node) (script : Script) → observe turns options (f m) script ≡ observe turns options m script
 observe_kept f layers turns options m script =
     ap (λ n. observe n options (f m) script) (sym (add-zero turns))
-    ∙ observe_unless (images f (meaning m).declared the_same) refl (layers_alike f (meaning m).declared the_same layers) refl refl turns options m script tt refl tt tt (none_excused _)
+    ∙ observe_unless (images f (known_of m) the_same) refl (layers_alike f (known_of m) the_same layers) refl refl turns options m script tt refl plain_starts tt tt (none_excused _)
 
 -- what a rule makes of a layer means what the layer does: then so does what rewriting by the rule makes of a tree
 pub rewritten_layers : (rule : Node-F Node → Node) → ((x : Node-F Node) → meaning (rule x) ≡ meaning_by (rule x) x.kind (map meaning x.children)) → KeepsLayers (rewritten rule)
@@ -208,5 +218,5 @@ with_turns more = record { more = more; before = []; excused = turns_only; turns
 
 pub spare_turns_do_not_matter : SpareTurnsDoNotMatter
 spare_turns_do_not_matter turns more options m script h =
-    observe_unless (images (λ n. n) (meaning m).declared (with_turns more)) refl (layers_alike (λ n. n) (meaning m).declared (with_turns more) itself_layers) refl refl turns options m script tt refl tt tt
+    observe_unless (images (λ n. n) (known_of m) (with_turns more)) refl (layers_alike (λ n. n) (known_of m) (with_turns more) itself_layers) refl refl turns options m script tt refl plain_starts tt tt
     (only_turns_excused (observe turns options m script).ending h)

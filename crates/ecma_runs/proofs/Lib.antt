@@ -1,4 +1,5 @@
 pub mod Names
+pub mod Scopes
 pub mod Alike
 pub mod Environments
 pub mod Objects
@@ -15,12 +16,14 @@ pub mod Declarations
 pub mod Blocks
 pub mod Steps
 pub mod Layer
+pub mod Seeking
 pub mod Kept
 pub mod Layers
 mod Parentheses
 pub mod Types
 pub mod Standing
 mod Renaming
+mod Meeting
 pub mod Depth
 pub mod Turns
 mod Growing
@@ -30,9 +33,24 @@ mod Scripts
 mod FactsNames
 mod FactsOperators
 mod FactsObjects
+mod FactsProto
 mod FactsFunctions
 mod FactsClasses
 mod FactsStatements
+mod FactsCatch
 mod FactsTypes
 mod FactsOpen
 mod FactsOpenKinds
+mod FactsCompound
+mod FactsFlow
+mod FactsScopes
+mod FactsMembers
+mod FactsMethods
+mod FactsErased
+mod FactsOpenKeys
+mod FactsOpenPlaces
+mod FactsOpenNames
+mod FactsAliases
+mod FactsHeirs
+mod FactsOpenElements
+mod FactsMeeting

@@ -1,7 +1,8 @@
 -- Lists of which items may go: they do alike in each role that a list has.
 use Rattle.std.proofs.Common.{◌≡◌, ℕ, ◌++◌, ◌||◌, ◌&&◌, refl, sym, ap, ap₂, ◌∙◌, subst, subst₂, List, [], ◌∷◌, map, Option, Some, None, true, false}
 use Rattle.ecma_runs.specs.Values.{Value}
-use Rattle.ecma_runs.specs.State.{Id, Binding}
+use Rattle.ecma_runs.specs.State.{Id, Entered, Binding}
+use Rattle.ecma_runs.specs.Sought.{nothing_sought, Seeker, meanings, all_sought, all_code_sought}
 use Rattle.ecma_runs.specs.Run.{Outcome, Done, Thrown, Returned, Broken, Continued, Ended, then_outcome, Run, ◌>>=◌, give}
 use Rattle.ecma_runs.specs.Meaning.{Meaning}
 use Rattle.ecma_runs.specs.Expressions.{all_arguments, all_elements, all_texts}
@@ -10,25 +11,26 @@ use Rattle.ecma_runs.specs.Classes.{all_code, all_defined, all_fields, all_stati
 use Rattle.ecma_runs.specs.Statements.{all_completions, all_varied, all_hoisted}
 use Rattle.ecma_runs.specs.Declarations.{all_names, all_imported, all_lexicals, all_vars, all_parameter_names, all_declared, all_shorthands, joined_parts, all_cooked, all_plain, all_types, any_constructor}
 use Rattle.ecma_runs.proofs.Names.{changed_ids, changed_bindings, changed_ids-append, changed_bindings-append}
-use Rattle.ecma_runs.proofs.Alike.{Change, Alike, bind_alike, give_alike, outside_alike, when_alike}
+use Rattle.ecma_runs.proofs.Scopes.{one, rest}
+use Rattle.ecma_runs.proofs.Alike.{Change, Standing, Alike, bind_alike, give_alike, outside_alike, when_alike}
 use Rattle.ecma_runs.proofs.Environments.{KeepTexts, keep_first, keep_rest}
-use Rattle.ecma_runs.proofs.Meanings.{World, first, second, Both, firsts, seconds}
+use Rattle.ecma_runs.proofs.Meanings.{at, World, first, second, Both, seekers, seconds}
 
 module _ (c : Change) where
   -- what does nothing in a list, and declares nothing that is kept
   pub record Silent (m : Meaning) : Type 0 where
-    pub arguments : (w : World c) → Alike c (m.arguments (first c w)) (give [])
-    pub elements : (w : World c) → Alike c (m.elements (first c w)) (give [])
-    pub texts : (w : World c) → Alike c (m.texts (first c w)) (give [])
-    pub matched : (v : Value) (w : World c) → Alike c (m.matched v (first c w)) (give tt)
-    pub targets : (v : Value) (w : World c) → Alike c (m.targets v (first c w)) (give tt)
-    pub parameters : (arguments : List Value) (w : World c) → Alike c (m.parameters arguments (first c w)) (give arguments)
-    pub completion : (w : World c) → Alike c (m.completion (first c w)) (give tt)
-    pub varied : (w : World c) → Alike c (m.varied (first c w)) (give tt)
-    pub hoisted : (w : World c) → Alike c (m.hoisted (first c w)) (give tt)
-    pub defined : (class object : ℕ) (w : World c) → Alike c (m.defined class object (first c w)) (give [])
-    pub fields : (keys : List (List ℕ)) (object : Value) (w : World c) → Alike c (m.fields keys object (first c w)) (give keys)
-    pub statics : (keys : List (List ℕ)) (class : Value) (w : World c) → Alike c (m.statics keys class (first c w)) (give keys)
+    pub arguments : {a : List Entered} (w : World (at c a)) → Alike (at c a) (m.arguments (first (at c a) w)) (give [])
+    pub elements : {a : List Entered} (w : World (at c a)) → Alike (at c a) (m.elements (first (at c a) w)) (give [])
+    pub texts : {a : List Entered} (w : World (at c a)) → Alike (at c a) (m.texts (first (at c a) w)) (give [])
+    pub matched : {a : List Entered} (v : Value) (w : World (at c a)) → Alike (at c a) (m.matched v (first (at c a) w)) (give tt)
+    pub targets : {a : List Entered} (v : Value) (w : World (at c a)) → Alike (at c a) (m.targets v (first (at c a) w)) (give tt)
+    pub parameters : {a : List Entered} (arguments : List Value) (w : World (at c a)) → Alike (at c a) (m.parameters arguments (first (at c a) w)) (give arguments)
+    pub completion : {a : List Entered} (w : World (at c a)) → Alike (at c a) (m.completion (first (at c a) w)) (give tt)
+    pub varied : {a : List Entered} (w : World (at c a)) → Alike (at c a) (m.varied (first (at c a) w)) (give tt)
+    pub hoisted : {a : List Entered} (w : World (at c a)) → Alike (at c a) (m.hoisted (first (at c a) w)) (give tt)
+    pub defined : {a : List Entered} (class object : ℕ) (w : World (at c a)) → Alike (at c a) (m.defined class object (first (at c a) w)) (give [])
+    pub fields : {a : List Entered} (keys : List (List ℕ)) (object : Value) (w : World (at c a)) → Alike (at c a) (m.fields keys object (first (at c a) w)) (give keys)
+    pub statics : {a : List Entered} (keys : List (List ℕ)) (class : Value) (w : World (at c a)) → Alike (at c a) (m.statics keys class (first (at c a) w)) (give keys)
     pub names : changed_ids c.names m.names ≡ []
     pub lexicals : changed_bindings c.names m.lexicals ≡ []
     pub vars : changed_bindings c.names m.vars ≡ []
@@ -44,10 +46,14 @@ module _ (c : Change) where
     Stays : Both c → Item
     Goes : (m : Meaning) → Silent m → Item
 
+  -- what goes looks up nothing
+  abbrev pub seekers_before : List Item → List Seeker
+  seekers_before [] = []
+  seekers_before (Stays p ∷ items) = p.0 ∷ seekers_before items
+  seekers_before (Goes m silent ∷ items) = record { meaning = m; seeks = nothing_sought } ∷ seekers_before items
+
   abbrev pub before : List Item → List Meaning
-  before [] = []
-  before (Stays p ∷ items) = p.0 ∷ before items
-  before (Goes m silent ∷ items) = m ∷ before items
+  before items = meanings (seekers_before items)
 
   abbrev pub behind : List Item → List Meaning
   behind [] = []
@@ -68,100 +74,22 @@ module _ (c : Change) where
   then_give : {A : Type 0} (m : Run A) → (m >>= give) ≡ m
   then_give m = λ i s. give_end (m s) i
 
-  module _ (w : World c) where
-    pub all_arguments_alike : (items : List Item) → Alike c (all_arguments (before items) (first c w)) (all_arguments (behind items) (second c w))
-    all_arguments_alike [] = give_alike c []
-    all_arguments_alike (Stays p ∷ items) = bind_alike c (p.2.arguments w) (λ vs. bind_alike c (all_arguments_alike items) (λ ws. give_alike c (vs ++ ws)))
-    all_arguments_alike (Goes m silent ∷ items) =
-        subst (λ r. Alike c (m.arguments (first c w) >>= λ vs. all_arguments (before items) (first c w) >>= λ ws. give (vs ++ ws)) r) (then_give (all_arguments (behind items) (second c w)))
-        (skip [] (λ vs. all_arguments (behind items) (second c w) >>= λ ws. give (vs ++ ws)) (silent.arguments w) (λ vs. bind_alike c (all_arguments_alike items) (λ ws. give_alike c (vs ++ ws))))
-
-    pub all_elements_alike : (items : List Item) → Alike c (all_elements (before items) (first c w)) (all_elements (behind items) (second c w))
-    all_elements_alike [] = give_alike c []
-    all_elements_alike (Stays p ∷ items) = bind_alike c (p.2.elements w) (λ vs. bind_alike c (all_elements_alike items) (λ ws. give_alike c (vs ++ ws)))
-    all_elements_alike (Goes m silent ∷ items) =
-        subst (λ r. Alike c (m.elements (first c w) >>= λ vs. all_elements (before items) (first c w) >>= λ ws. give (vs ++ ws)) r) (then_give (all_elements (behind items) (second c w)))
-        (skip [] (λ vs. all_elements (behind items) (second c w) >>= λ ws. give (vs ++ ws)) (silent.elements w) (λ vs. bind_alike c (all_elements_alike items) (λ ws. give_alike c (vs ++ ws))))
-
-    pub all_texts_alike : (items : List Item) → Alike c (all_texts (before items) (first c w)) (all_texts (behind items) (second c w))
-    all_texts_alike [] = give_alike c []
-    all_texts_alike (Stays p ∷ items) = bind_alike c (p.2.texts w) (λ vs. bind_alike c (all_texts_alike items) (λ ws. give_alike c (vs ++ ws)))
-    all_texts_alike (Goes m silent ∷ items) =
-        subst (λ r. Alike c (m.texts (first c w) >>= λ vs. all_texts (before items) (first c w) >>= λ ws. give (vs ++ ws)) r) (then_give (all_texts (behind items) (second c w)))
-        (skip [] (λ vs. all_texts (behind items) (second c w) >>= λ ws. give (vs ++ ws)) (silent.texts w) (λ vs. bind_alike c (all_texts_alike items) (λ ws. give_alike c (vs ++ ws))))
-
-    pub all_completions_alike : (items : List Item) → Alike c (all_completions (before items) (first c w)) (all_completions (behind items) (second c w))
-    all_completions_alike [] = give_alike c tt
-    all_completions_alike (Stays p ∷ items) = bind_alike c (p.2.completion w) (λ _. all_completions_alike items)
-    all_completions_alike (Goes m silent ∷ items) = skip tt (λ _. all_completions (behind items) (second c w)) (silent.completion w) (λ _. all_completions_alike items)
-
-    pub all_varied_alike : (items : List Item) → Alike c (all_varied (before items) (first c w)) (all_varied (behind items) (second c w))
-    all_varied_alike [] = give_alike c tt
-    all_varied_alike (Stays p ∷ items) = bind_alike c (p.2.varied w) (λ _. all_varied_alike items)
-    all_varied_alike (Goes m silent ∷ items) = skip tt (λ _. all_varied (behind items) (second c w)) (silent.varied w) (λ _. all_varied_alike items)
-
-    pub all_hoisted_alike : (items : List Item) → Alike c (all_hoisted (before items) (first c w)) (all_hoisted (behind items) (second c w))
-    all_hoisted_alike [] = give_alike c tt
-    all_hoisted_alike (Stays p ∷ items) = bind_alike c (p.2.hoisted w) (λ _. all_hoisted_alike items)
-    all_hoisted_alike (Goes m silent ∷ items) = skip tt (λ _. all_hoisted (behind items) (second c w)) (silent.hoisted w) (λ _. all_hoisted_alike items)
-
-    pub all_matched_alike : (items : List Item) (v : Value) → Alike c (all_matched (before items) v (first c w)) (all_matched (behind items) v (second c w))
-    all_matched_alike [] v = give_alike c tt
-    all_matched_alike (Stays p ∷ items) v = bind_alike c (p.2.matched v w) (λ _. all_matched_alike items v)
-    all_matched_alike (Goes m silent ∷ items) v = skip tt (λ _. all_matched (behind items) v (second c w)) (silent.matched v w) (λ _. all_matched_alike items v)
-
-    pub all_targets_alike : (items : List Item) (v : Value) → Alike c (all_targets (before items) v (first c w)) (all_targets (behind items) v (second c w))
-    all_targets_alike [] v = give_alike c tt
-    all_targets_alike (Stays p ∷ items) v = bind_alike c (p.2.targets v w) (λ _. all_targets_alike items v)
-    all_targets_alike (Goes m silent ∷ items) v = skip tt (λ _. all_targets (behind items) v (second c w)) (silent.targets v w) (λ _. all_targets_alike items v)
-
-    pub all_parameters_alike : (items : List Item) (arguments : List Value) → Alike c (all_parameters (before items) arguments (first c w)) (all_parameters (behind items) arguments (second c w))
-    all_parameters_alike [] arguments = give_alike c arguments
-    all_parameters_alike (Stays p ∷ items) arguments = bind_alike c (p.2.parameters arguments w) (λ left. all_parameters_alike items left)
-    all_parameters_alike (Goes m silent ∷ items) arguments =
-        skip arguments (λ left. all_parameters (behind items) left (second c w)) (silent.parameters arguments w) (λ left. all_parameters_alike items left)
-
-    pub all_fields_alike : (items : List Item) (keys : List (List ℕ)) (object : Value) → Alike c (all_fields (before items) keys object (first c w)) (all_fields (behind items) keys object (second c w))
-    all_fields_alike [] keys object = give_alike c keys
-    all_fields_alike (Stays p ∷ items) keys object = bind_alike c (p.2.fields keys object w) (λ left. all_fields_alike items left object)
-    all_fields_alike (Goes m silent ∷ items) keys object = skip keys (λ left. all_fields (behind items) left object (second c w)) (silent.fields keys object w) (λ left. all_fields_alike items left object)
-
-    pub all_statics_alike : (items : List Item) (keys : List (List ℕ)) (class : Value) → Alike c (all_statics (before items) keys class (first c w)) (all_statics (behind items) keys class (second c w))
-    all_statics_alike [] keys class = give_alike c keys
-    all_statics_alike (Stays p ∷ items) keys class = bind_alike c (p.2.statics keys class w) (λ left. all_statics_alike items left class)
-    all_statics_alike (Goes m silent ∷ items) keys class = skip keys (λ left. all_statics (behind items) left class (second c w)) (silent.statics keys class w) (λ left. all_statics_alike items left class)
-
-    pub all_defined_alike : (items : List Item) → KeepTexts c (all_shorthands (before items)) → (class object : ℕ) → Alike c (all_defined (before items) class object (first c w)) (all_defined (behind items) class object (second c w))
-    all_defined_alike [] texts class object = give_alike c []
-    all_defined_alike (Stays p ∷ items) texts class object =
-        bind_alike c (p.2.defined (keep_first c p.0.shorthands (all_shorthands (before items)) texts) class object w) (λ ks.
-        bind_alike c (all_defined_alike items (keep_rest c p.0.shorthands (all_shorthands (before items)) texts) class object) (λ ls. give_alike c (ks ++ ls)))
-    all_defined_alike (Goes m silent ∷ items) texts class object =
-        subst (λ r. Alike c (m.defined class object (first c w) >>= λ ks. all_defined (before items) class object (first c w) >>= λ ls. give (ks ++ ls)) r) (then_give (all_defined (behind items) class object (second c w)))
-        (skip [] (λ ks. all_defined (behind items) class object (second c w) >>= λ ls. give (ks ++ ls)) (silent.defined class object w) (λ ks.
-        bind_alike c (all_defined_alike items (keep_rest c m.shorthands (all_shorthands (before items)) texts) class object) (λ ls. give_alike c (ks ++ ls))))
-
-    pub all_code_alike : c.uses ≡ true → (items : List Item) (arguments : List Value) → Alike c (all_code (before items) arguments (first c w)) (all_code (behind items) arguments (second c w))
-    all_code_alike u [] arguments = outside_alike c
-    all_code_alike u (Stays p ∷ items) arguments = rw (p.2.is_constructor) (when_alike c p.0.is_constructor (p.2.code u arguments w) (all_code_alike u items arguments))
-    all_code_alike u (Goes m silent ∷ items) arguments = rw (silent.is_constructor) (all_code_alike u items arguments)
-
   module _ (of : Meaning → List Id) (all : List Meaning → List Id) (none : all [] ≡ []) (more : (m : Meaning) (ms : List Meaning) → all (m ∷ ms) ≡ of m ++ all ms)
-      (stays' : (p : Both c) → of p.1 ≡ changed_ids c.names (of p.0)) (goes : (m : Meaning) → Silent m → changed_ids c.names (of m) ≡ []) where
+      (stays' : (p : Both c) → of p.1 ≡ changed_ids c.names (of p.0.meaning)) (goes : (m : Meaning) → Silent m → changed_ids c.names (of m) ≡ []) where
     all_ids : (items : List Item) → all (behind items) ≡ changed_ids c.names (all (before items))
     all_ids [] = rw (none) refl
     all_ids (Stays p ∷ items) =
-        more p.1 (behind items) ∙ ap₂ (λ a b. a ++ b) (stays' p) (all_ids items) ∙ sym (changed_ids-append c.names (of p.0) (all (before items))) ∙ ap (changed_ids c.names) (sym (more p.0 (before items)))
+        more p.1 (behind items) ∙ ap₂ (λ a b. a ++ b) (stays' p) (all_ids items) ∙ sym (changed_ids-append c.names (of p.0.meaning) (all (before items))) ∙ ap (changed_ids c.names) (sym (more p.0.meaning (before items)))
     all_ids (Goes m silent ∷ items) =
         all_ids items ∙ ap (λ z. z ++ changed_ids c.names (all (before items))) (sym (goes m silent)) ∙ sym (changed_ids-append c.names (of m) (all (before items)))
         ∙ ap (changed_ids c.names) (sym (more m (before items)))
 
   module _ (of : Meaning → List Binding) (all : List Meaning → List Binding) (none : all [] ≡ []) (more : (m : Meaning) (ms : List Meaning) → all (m ∷ ms) ≡ of m ++ all ms)
-      (stays' : (p : Both c) → of p.1 ≡ changed_bindings c.names (of p.0)) (goes : (m : Meaning) → Silent m → changed_bindings c.names (of m) ≡ []) where
+      (stays' : (p : Both c) → of p.1 ≡ changed_bindings c.names (of p.0.meaning)) (goes : (m : Meaning) → Silent m → changed_bindings c.names (of m) ≡ []) where
     all_bindings : (items : List Item) → all (behind items) ≡ changed_bindings c.names (all (before items))
     all_bindings [] = rw (none) refl
     all_bindings (Stays p ∷ items) =
-        more p.1 (behind items) ∙ ap₂ (λ a b. a ++ b) (stays' p) (all_bindings items) ∙ sym (changed_bindings-append c.names (of p.0) (all (before items))) ∙ ap (changed_bindings c.names) (sym (more p.0 (before items)))
+        more p.1 (behind items) ∙ ap₂ (λ a b. a ++ b) (stays' p) (all_bindings items) ∙ sym (changed_bindings-append c.names (of p.0.meaning) (all (before items))) ∙ ap (changed_bindings c.names) (sym (more p.0.meaning (before items)))
     all_bindings (Goes m silent ∷ items) =
         all_bindings items ∙ ap (λ z. z ++ changed_bindings c.names (all (before items))) (sym (goes m silent)) ∙ sym (changed_bindings-append c.names (of m) (all (before items)))
         ∙ ap (changed_bindings c.names) (sym (more m (before items)))
@@ -210,7 +138,7 @@ module _ (c : Change) where
 
   -- where all items stay
 
-  pub stays_before : (ps : List (Both c)) → before (map Stays ps) ≡ firsts c ps
+  pub stays_before : (ps : List (Both c)) → seekers_before (map Stays ps) ≡ seekers c ps
   stays_before [] = refl
   stays_before (p ∷ ps) = ap (λ z. p.0 ∷ z) (stays_before ps)
 
@@ -218,5 +146,86 @@ module _ (c : Change) where
   stays_behind [] = refl
   stays_behind (p ∷ ps) = ap (λ z. p.1 ∷ z) (stays_behind ps)
 
-  abbrev pub all_stay : (P : List Meaning → List Meaning → Type 0) → ((items : List Item) → P (before items) (behind items)) → (ps : List (Both c)) → P (firsts c ps) (seconds c ps)
+  abbrev pub all_stay : (P : List Seeker → List Meaning → Type 0) → ((items : List Item) → P (seekers_before items) (behind items)) → (ps : List (Both c)) → P (seekers c ps) (seconds c ps)
   all_stay P h ps = subst₂ P (stays_before ps) (stays_behind ps) (h (map Stays ps))
+
+module _ (c : Change) {a : List Entered} (w : World (at c a)) where
+  abbrev d : Change
+  d = at c a
+
+  pub all_arguments_alike : (items : List (Item c)) → Standing c w.scope (all_sought (seekers_before c items)) → Alike d (all_arguments (before c items) (first d w)) (all_arguments (behind c items) (second d w))
+  all_arguments_alike [] h = give_alike d []
+  all_arguments_alike (Stays p ∷ items) h = bind_alike d (p.2.arguments w (one c.names _ _ h)) (λ vs. bind_alike d (all_arguments_alike items (rest c.names _ _ h)) (λ ws. give_alike d (vs ++ ws)))
+  all_arguments_alike (Goes m silent ∷ items) h =
+      subst (λ r. Alike d (m.arguments (first d w) >>= λ vs. all_arguments (before c items) (first d w) >>= λ ws. give (vs ++ ws)) r) (then_give c (all_arguments (behind c items) (second d w)))
+      (skip d [] (λ vs. all_arguments (behind c items) (second d w) >>= λ ws. give (vs ++ ws)) (silent.arguments w) (λ vs. bind_alike d (all_arguments_alike items h) (λ ws. give_alike d (vs ++ ws))))
+
+  pub all_elements_alike : (items : List (Item c)) → Standing c w.scope (all_sought (seekers_before c items)) → Alike d (all_elements (before c items) (first d w)) (all_elements (behind c items) (second d w))
+  all_elements_alike [] h = give_alike d []
+  all_elements_alike (Stays p ∷ items) h = bind_alike d (p.2.elements w (one c.names _ _ h)) (λ vs. bind_alike d (all_elements_alike items (rest c.names _ _ h)) (λ ws. give_alike d (vs ++ ws)))
+  all_elements_alike (Goes m silent ∷ items) h =
+      subst (λ r. Alike d (m.elements (first d w) >>= λ vs. all_elements (before c items) (first d w) >>= λ ws. give (vs ++ ws)) r) (then_give c (all_elements (behind c items) (second d w)))
+      (skip d [] (λ vs. all_elements (behind c items) (second d w) >>= λ ws. give (vs ++ ws)) (silent.elements w) (λ vs. bind_alike d (all_elements_alike items h) (λ ws. give_alike d (vs ++ ws))))
+
+  pub all_texts_alike : (items : List (Item c)) → Standing c w.scope (all_sought (seekers_before c items)) → Alike d (all_texts (before c items) (first d w)) (all_texts (behind c items) (second d w))
+  all_texts_alike [] h = give_alike d []
+  all_texts_alike (Stays p ∷ items) h = bind_alike d (p.2.texts w (one c.names _ _ h)) (λ vs. bind_alike d (all_texts_alike items (rest c.names _ _ h)) (λ ws. give_alike d (vs ++ ws)))
+  all_texts_alike (Goes m silent ∷ items) h =
+      subst (λ r. Alike d (m.texts (first d w) >>= λ vs. all_texts (before c items) (first d w) >>= λ ws. give (vs ++ ws)) r) (then_give c (all_texts (behind c items) (second d w)))
+      (skip d [] (λ vs. all_texts (behind c items) (second d w) >>= λ ws. give (vs ++ ws)) (silent.texts w) (λ vs. bind_alike d (all_texts_alike items h) (λ ws. give_alike d (vs ++ ws))))
+
+  pub all_completions_alike : (items : List (Item c)) → Standing c w.scope (all_sought (seekers_before c items)) → Alike d (all_completions (before c items) (first d w)) (all_completions (behind c items) (second d w))
+  all_completions_alike [] h = give_alike d tt
+  all_completions_alike (Stays p ∷ items) h = bind_alike d (p.2.completion w (one c.names _ _ h)) (λ _. all_completions_alike items (rest c.names _ _ h))
+  all_completions_alike (Goes m silent ∷ items) h = skip d tt (λ _. all_completions (behind c items) (second d w)) (silent.completion w) (λ _. all_completions_alike items h)
+
+  pub all_varied_alike : (items : List (Item c)) → Standing c w.scope (all_sought (seekers_before c items)) → Alike d (all_varied (before c items) (first d w)) (all_varied (behind c items) (second d w))
+  all_varied_alike [] h = give_alike d tt
+  all_varied_alike (Stays p ∷ items) h = bind_alike d (p.2.varied w (one c.names _ _ h)) (λ _. all_varied_alike items (rest c.names _ _ h))
+  all_varied_alike (Goes m silent ∷ items) h = skip d tt (λ _. all_varied (behind c items) (second d w)) (silent.varied w) (λ _. all_varied_alike items h)
+
+  pub all_hoisted_alike : (items : List (Item c)) → Standing c w.scope (all_sought (seekers_before c items)) → Alike d (all_hoisted (before c items) (first d w)) (all_hoisted (behind c items) (second d w))
+  all_hoisted_alike [] h = give_alike d tt
+  all_hoisted_alike (Stays p ∷ items) h = bind_alike d (p.2.hoisted w (one c.names _ _ h)) (λ _. all_hoisted_alike items (rest c.names _ _ h))
+  all_hoisted_alike (Goes m silent ∷ items) h = skip d tt (λ _. all_hoisted (behind c items) (second d w)) (silent.hoisted w) (λ _. all_hoisted_alike items h)
+
+  pub all_matched_alike : (items : List (Item c)) → Standing c w.scope (all_sought (seekers_before c items)) → (v : Value) → Alike d (all_matched (before c items) v (first d w)) (all_matched (behind c items) v (second d w))
+  all_matched_alike [] h v = give_alike d tt
+  all_matched_alike (Stays p ∷ items) h v = bind_alike d (p.2.matched v w (one c.names _ _ h)) (λ _. all_matched_alike items (rest c.names _ _ h) v)
+  all_matched_alike (Goes m silent ∷ items) h v = skip d tt (λ _. all_matched (behind c items) v (second d w)) (silent.matched v w) (λ _. all_matched_alike items h v)
+
+  pub all_targets_alike : (items : List (Item c)) → Standing c w.scope (all_sought (seekers_before c items)) → (v : Value) → Alike d (all_targets (before c items) v (first d w)) (all_targets (behind c items) v (second d w))
+  all_targets_alike [] h v = give_alike d tt
+  all_targets_alike (Stays p ∷ items) h v = bind_alike d (p.2.targets v w (one c.names _ _ h)) (λ _. all_targets_alike items (rest c.names _ _ h) v)
+  all_targets_alike (Goes m silent ∷ items) h v = skip d tt (λ _. all_targets (behind c items) v (second d w)) (silent.targets v w) (λ _. all_targets_alike items h v)
+
+  pub all_parameters_alike : (items : List (Item c)) → Standing c w.scope (all_sought (seekers_before c items)) → (arguments : List Value) → Alike d (all_parameters (before c items) arguments (first d w)) (all_parameters (behind c items) arguments (second d w))
+  all_parameters_alike [] h arguments = give_alike d arguments
+  all_parameters_alike (Stays p ∷ items) h arguments = bind_alike d (p.2.parameters arguments w (one c.names _ _ h)) (λ left. all_parameters_alike items (rest c.names _ _ h) left)
+  all_parameters_alike (Goes m silent ∷ items) h arguments =
+      skip d arguments (λ left. all_parameters (behind c items) left (second d w)) (silent.parameters arguments w) (λ left. all_parameters_alike items h left)
+
+  pub all_fields_alike : (items : List (Item c)) → Standing c w.scope (all_sought (seekers_before c items)) → (keys : List (List ℕ)) (object : Value) → Alike d (all_fields (before c items) keys object (first d w)) (all_fields (behind c items) keys object (second d w))
+  all_fields_alike [] h keys object = give_alike d keys
+  all_fields_alike (Stays p ∷ items) h keys object = bind_alike d (p.2.fields keys object w (one c.names _ _ h)) (λ left. all_fields_alike items (rest c.names _ _ h) left object)
+  all_fields_alike (Goes m silent ∷ items) h keys object = skip d keys (λ left. all_fields (behind c items) left object (second d w)) (silent.fields keys object w) (λ left. all_fields_alike items h left object)
+
+  pub all_statics_alike : (items : List (Item c)) → Standing c w.scope (all_sought (seekers_before c items)) → (keys : List (List ℕ)) (class : Value) → Alike d (all_statics (before c items) keys class (first d w)) (all_statics (behind c items) keys class (second d w))
+  all_statics_alike [] h keys class = give_alike d keys
+  all_statics_alike (Stays p ∷ items) h keys class = bind_alike d (p.2.statics keys class w (one c.names _ _ h)) (λ left. all_statics_alike items (rest c.names _ _ h) left class)
+  all_statics_alike (Goes m silent ∷ items) h keys class = skip d keys (λ left. all_statics (behind c items) left class (second d w)) (silent.statics keys class w) (λ left. all_statics_alike items h left class)
+
+  pub all_defined_alike : (items : List (Item c)) → Standing c w.scope (all_sought (seekers_before c items)) → KeepTexts c (all_shorthands (before c items)) → (class object : ℕ) → Alike d (all_defined (before c items) class object (first d w)) (all_defined (behind c items) class object (second d w))
+  all_defined_alike [] h texts class object = give_alike d []
+  all_defined_alike (Stays p ∷ items) h texts class object =
+      bind_alike d (p.2.defined (keep_first c p.0.meaning.shorthands (all_shorthands (before c items)) texts) class object w (one c.names _ _ h)) (λ ks.
+      bind_alike d (all_defined_alike items (rest c.names _ _ h) (keep_rest c p.0.meaning.shorthands (all_shorthands (before c items)) texts) class object) (λ ls. give_alike d (ks ++ ls)))
+  all_defined_alike (Goes m silent ∷ items) h texts class object =
+      subst (λ r. Alike d (m.defined class object (first d w) >>= λ ks. all_defined (before c items) class object (first d w) >>= λ ls. give (ks ++ ls)) r) (then_give c (all_defined (behind c items) class object (second d w)))
+      (skip d [] (λ ks. all_defined (behind c items) class object (second d w) >>= λ ls. give (ks ++ ls)) (silent.defined class object w) (λ ks.
+      bind_alike d (all_defined_alike items h (keep_rest c m.shorthands (all_shorthands (before c items)) texts) class object) (λ ls. give_alike d (ks ++ ls))))
+
+  pub all_code_alike : c.uses ≡ true → (items : List (Item c)) → Standing c w.scope (all_code_sought (seekers_before c items)) → (arguments : List Value) → Alike d (all_code (before c items) arguments (first d w)) (all_code (behind c items) arguments (second d w))
+  all_code_alike u [] h arguments = outside_alike d
+  all_code_alike u (Stays p ∷ items) h arguments = rw (p.2.is_constructor) (when_alike d p.0.meaning.is_constructor (p.2.code u arguments w (one c.names _ _ h)) (all_code_alike u items (rest c.names _ _ h) arguments))
+  all_code_alike u (Goes m silent ∷ items) h arguments = rw (silent.is_constructor) (all_code_alike u items h arguments)

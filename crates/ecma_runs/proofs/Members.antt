@@ -5,12 +5,12 @@ use Rattle.ecma_runs.specs.declared.observation.Event.TheVariants as event
 use Rattle.ecma_runs.specs.Values.{Value, Undefined, Null, Truth, Number, Text, Own, Host, Error, length_of}
 use Rattle.ecma_runs.specs.State.{Property, Data, Fixed, Accessor, Open, Extent, Ordinary, Array, ArgumentList, Object}
 use Rattle.ecma_runs.specs.Meaning.{AsCall}
-use Rattle.ecma_runs.specs.Objects.{object_at, Calling, Function, BoundFunction, has_elements, is_open_element, put_entry, without_entry}
+use Rattle.ecma_runs.specs.Objects.{object_at, Base, Calling, Function, BoundFunction, has_elements, is_open_element, put_entry, without_entry}
 use Rattle.ecma_runs.specs.Members.{got, text_member, member, written, put_over, put_on, set_by, set_member, super_member, set_super_member, delete_own, delete_member, is_there, has_member, is_above, is_place, inherits, prototype_value, prototype_property, instance_by, instance_of_function, instance_of_calling, instance_of, type_by, type_of}
 use Rattle.ecma_runs.proofs.Names.{length-map}
 use Rattle.ecma_runs.proofs.Alike.{Change, changed_object, Alike, bind_alike, give_alike, throw_alike, outside_alike, when_alike, given_alike}
 use Rattle.ecma_runs.proofs.Environments.{show_alike, use_host_alike}
-use Rattle.ecma_runs.proofs.Objects.{object_at-changed, calling_at_alike, extent_at_alike, own_property_at_alike, found_from_alike, found_above_alike, change_entries_alike, changed_element_alike}
+use Rattle.ecma_runs.proofs.Objects.{object_at-changed, calling_at_alike, extent_at_alike, own_property_at_alike, found_from_alike, found_from_base_alike, change_entries_alike, changed_element_alike}
 use Rattle.ecma_runs.proofs.Meanings.{World, first, second}
 
 module _ (c : Change) where
@@ -36,8 +36,8 @@ module _ (c : Change) where
     member_alike (Host number) key = use_host_alike c u (event.HostGet number key)
     member_alike _ key = outside_alike c
 
-    pub super_member_alike : (receiver : Value) (home : ℕ) (key : List ℕ) → Alike c (super_member (first c w) receiver home key) (super_member (second c w) receiver home key)
-    super_member_alike receiver home key = bind_alike c (found_above_alike c home key) (λ p. got_alike receiver p)
+    pub super_member_alike : (receiver : Value) (base : Base) (key : List ℕ) → Alike c (super_member (first c w) receiver base key) (super_member (second c w) receiver base key)
+    super_member_alike receiver base key = bind_alike c (found_from_base_alike c base key) (λ p. got_alike receiver p)
 
     -- setting
 
@@ -67,9 +67,9 @@ module _ (c : Change) where
     set_member_alike (Host number) key v = bind_alike c (show_alike c v) (λ z. bind_alike c (use_host_alike c u (event.HostSet number key z)) (λ _. give_alike c tt))
     set_member_alike _ key v = outside_alike c
 
-    pub set_super_member_alike : (receiver : Value) (home : ℕ) (key : List ℕ) (v : Value) → Alike c (set_super_member (first c w) receiver home key v) (set_super_member (second c w) receiver home key v)
-    set_super_member_alike (Own place) home key v = bind_alike c (found_above_alike c home key) (λ p. set_by_alike key (Own place) v p)
-    set_super_member_alike _ home key v = outside_alike c
+    pub set_super_member_alike : (receiver : Value) (base : Base) (key : List ℕ) (v : Value) → Alike c (set_super_member (first c w) receiver base key v) (set_super_member (second c w) receiver base key v)
+    set_super_member_alike (Own place) base key v = bind_alike c (found_from_base_alike c base key) (λ p. set_by_alike key (Own place) v p)
+    set_super_member_alike _ base key v = outside_alike c
 
   -- deleting
 

@@ -3,32 +3,32 @@ use Rattle.std.proofs.Common.{◌≡◌, ℕ, zero, suc, ◌++◌, ◌||◌, ref
 use Rattle.std.proofs.lemmas.Option.{slice_get-map}
 use Rattle.ecma_runs.specs.declared.shown.ErrorKind.TheVariants as error
 use Rattle.ecma_runs.specs.Values.{Value, Error}
-use Rattle.ecma_runs.specs.State.{Closure, Callable, Code, Bound, Passed, Property, Data, Entry, Extent, Ordinary, Array, ArgumentList, Object, State}
+use Rattle.ecma_runs.specs.State.{Environment, Closure, Callable, Code, Bound, Passed, Property, Data, Entry, Extent, Ordinary, Array, ArgumentList, Object, State}
 use Rattle.ecma_tree.specs.declared.node.Node.{Node}
 use Rattle.ecma_runs.specs.Run.{Run, outside, changed_at}
-use Rattle.ecma_runs.specs.Objects.{new_object, object_at, callable_in, code_in, closure_at, calling_of, calling_at, prototype_in, prototype_at, extent_in, extent_at, Ancestry, with_object, is_index_below, or_else, own_property, own_in, own_property_at, property_above, no_ancestry, found_from, above, found_above, with_entries, change_entries, put_entry, is_fixed, if_element, define, define_data, elements_by, elements_at, new_array, new_arguments}
+use Rattle.ecma_runs.specs.Objects.{new_object, object_at, callable_in, code_in, closure_at, calling_of, calling_at, prototype_in, prototype_at, extent_in, extent_at, Ancestry, with_object, is_index_below, or_else, own_property, own_in, own_property_at, property_above, no_ancestry, found_from, Base, ObjectBase, BuiltInBase, base_from, base_of, super_base, found_from_base, with_entries, change_entries, put_entry, is_fixed, if_element, define, define_data, elements_by, elements_at, new_array, new_arguments}
 use Rattle.ecma_runs.specs.Classes.{with_field_keys, keeping_keys, keep_field_keys}
-use Rattle.ecma_runs.proofs.Names.{kept_by, map-changed_at, map-push, length-map}
-use Rattle.ecma_runs.proofs.Alike.{Change, passed_to, changed, changed_callable, changed_object, FineCallable, AllFine, Alike, bind_alike, give_alike, throw_alike, outside_alike, passed_alike, when_alike}
+use Rattle.ecma_runs.proofs.Names.{Unless, kept_by, map-changed_at, map-push, length-map}
+use Rattle.ecma_runs.proofs.Alike.{Change, passed_to, changed, changed_callable, changed_object, Around, Keeps, FineCallable, AllFine, Good, Follows, Alike, bind_alike, give_alike, throw_alike, outside_alike, passed_alike, when_alike}
 
 module _ (c : Change) where
-  all_fine-push : (os : List Object) (o : Object) → AllFine c os → FineCallable c o.callable → AllFine c (os ++ o ∷ [])
-  all_fine-push [] o all one = (one, tt)
-  all_fine-push (p ∷ os) o all one = (all.0, all_fine-push os o all.1 one)
+  all_fine-push : (es : List Environment) (os : List Object) (o : Object) → AllFine c es os → FineCallable c es o.callable → AllFine c es (os ++ o ∷ [])
+  all_fine-push es [] o all one = (one, tt)
+  all_fine-push es (p ∷ os) o all one = (all.0, all_fine-push es os o all.1 one)
 
-  all_fine-changed : (f : Object → Object) → ((o : Object) → FineCallable c o.callable → FineCallable c (f o).callable) → (n : ℕ) (os : List Object) → AllFine c os → AllFine c (changed_at f n os)
-  all_fine-changed f h n [] all = tt
-  all_fine-changed f h zero (o ∷ os) all = (h o all.0, all.1)
-  all_fine-changed f h (suc n) (o ∷ os) all = (all.0, all_fine-changed f h n os all.1)
+  all_fine-changed : (es : List Environment) (f : Object → Object) → ((o : Object) → FineCallable c es o.callable → FineCallable c es (f o).callable) → (n : ℕ) (os : List Object) → AllFine c es os → AllFine c es (changed_at f n os)
+  all_fine-changed es f h n [] all = tt
+  all_fine-changed es f h zero (o ∷ os) all = (h o all.0, all.1)
+  all_fine-changed es f h (suc n) (o ∷ os) all = (all.0, all_fine-changed es f h n os all.1)
 
-  pub all_fine-at : (os : List Object) (n : ℕ) → AllFine c os → FineCallable c (callable_in (slice_get os n))
-  all_fine-at [] n all = tt
-  all_fine-at (o ∷ os) zero all = all.0
-  all_fine-at (o ∷ os) (suc n) all = all_fine-at os n all.1
+  pub all_fine-at : (es : List Environment) (os : List Object) (n : ℕ) → AllFine c es os → FineCallable c es (callable_in (slice_get os n))
+  all_fine-at es [] n all = tt
+  all_fine-at es (o ∷ os) zero all = all.0
+  all_fine-at es (o ∷ os) (suc n) all = all_fine-at es os n all.1
 
-  pub new_object_alike : (o : Object) → FineCallable c o.callable → Alike c (new_object o) (new_object (changed_object c o))
+  pub new_object_alike : (o : Object) → ((es : List Environment) → Around c es → FineCallable c es o.callable) → Alike c (new_object o) (new_object (changed_object c o))
   new_object_alike o fine = record {
-    at = λ s g. (rw (length-map (changed_object c) s.objects, map-push (changed_object c) s.objects o) refl, (all_fine-push s.objects o g.0 fine, g.1, g.2), tt);
+    at = λ s g. (rw (length-map (changed_object c) s.objects, map-push (changed_object c) s.objects o) refl, ((all_fine-push s.environments s.objects o g.0.0 (fine s.environments g.0.1), g.0.1), g.1, g.2), tt);
   }
 
   -- what can be called
@@ -44,16 +44,16 @@ module _ (c : Change) where
   callable_at-changed place s = rw (slice_get-map (changed_object c) s.objects place) (callable_in-changed (slice_get s.objects place))
 
   -- what is done with the closure of a function, and is open without one
-  module _ {A : Type 0} (k k' : Option Closure → Run A) (none : k None ≡ outside) (none' : k' None ≡ outside) (some : (closure : Closure) → c.fine closure.node → Alike c (k (Some closure)) (k' (Some (changed_closure closure)))) where
-    closure_in_alike : (o : Option Callable) → FineCallable c o → Alike c (k (code_in o)) (k' (code_in (option_map (changed_callable c) o)))
-    closure_in_alike None fine = subst₂ (Alike c) (sym none) (sym none') (outside_alike c)
-    closure_in_alike (Some (Code closure)) fine = some closure fine
-    closure_in_alike (Some (Bound target this given)) fine = subst₂ (Alike c) (sym none) (sym none') (outside_alike c)
-    closure_in_alike (Some (Passed closure)) fine = rw none (passed_alike c (λ z. k' (code_in (Some z))) closure none')
+  module _ {A : Type 0} (k k' : Option Closure → Run A) (none : k None ≡ outside) (none' : k' None ≡ outside) (some : (closure : Closure) → (s : State) → Good c s → c.fine closure.node → Unless c.names.plain (Keeps c s.environments closure.node closure.scope) → Follows c (λ a. a) (λ a. Unit {0}) (k (Some closure) s) (k' (Some (changed_closure closure)) (changed c s))) where
+    closure_in_alike : (s : State) → Good c s → (o : Option Callable) → FineCallable c s.environments o → Follows c (λ a. a) (λ a. Unit {0}) (k (code_in o) s) (k' (code_in (option_map (changed_callable c) o)) (changed c s))
+    closure_in_alike s g None fine = (subst₂ (Alike c) (sym none) (sym none') (outside_alike c)).at s g
+    closure_in_alike s g (Some (Code closure)) fine = some closure s g fine.0 fine.1
+    closure_in_alike s g (Some (Bound target this given)) fine = (subst₂ (Alike c) (sym none) (sym none') (outside_alike c)).at s g
+    closure_in_alike s g (Some (Passed closure)) fine = rw none ((passed_alike c (λ z. k' (code_in (Some z))) closure none').at s g)
 
     pub closure_at_alike : (place : ℕ) → Alike c (λ s. k (closure_at place s) s) (λ s. k' (closure_at place s) s)
     closure_at_alike place = record {
-      at = λ s g. rw (callable_at-changed place s) ((closure_in_alike (callable_in (slice_get s.objects place)) (all_fine-at s.objects place g.0)).at s g);
+      at = λ s g. rw (callable_at-changed place s) (closure_in_alike s g (callable_in (slice_get s.objects place)) (all_fine-at s.environments s.objects place g.0.0));
     }
 
   calling_of_alike : (o : Option Callable) → Alike c (calling_of o) (calling_of (option_map (changed_callable c) o))
@@ -117,19 +117,22 @@ module _ (c : Change) where
     );
   }
 
-  above-changed : (objects : List Object) (key : List ℕ) (n : ℕ) (o : Option Object) → above (map (changed_object c) objects) key n (option_map (changed_object c) o) ≡ above objects key n o
-  above-changed objects key n None = refl
-  above-changed objects key n (Some object) =
-      rw (with_object-changed object no_ancestry, object_at-changed objects object.prototype) (property_above-changed objects key (with_object object no_ancestry) n (object_at objects object.prototype))
+  base_from-changed : (o : Object) (p : Option ℕ) → base_from (changed_object c o) p ≡ base_from o p
+  base_from-changed o (Some place) = refl
+  base_from-changed o None = ap BuiltInBase (with_object-changed o no_ancestry)
 
-  pub found_above_alike : (place : ℕ) (key : List ℕ) → Alike c (found_above place key) (found_above place key)
-  found_above_alike place key = record {
-    at = λ s g. (
-      rw (length-map (changed_object c) s.objects, slice_get-map (changed_object c) s.objects place, above-changed s.objects key (suc (length s.objects)) (slice_get s.objects place)) refl,
-      g,
-      tt,
-    );
+  base_of-changed : (o : Option Object) → base_of (option_map (changed_object c) o) ≡ base_of o
+  base_of-changed None = refl
+  base_of-changed (Some object) = base_from-changed object object.prototype
+
+  pub super_base_alike : (home : ℕ) → Alike c (super_base home) (super_base home)
+  super_base_alike home = record {
+    at = λ s g. (rw (slice_get-map (changed_object c) s.objects home, base_of-changed (slice_get s.objects home)) refl, g, tt);
   }
+
+  pub found_from_base_alike : (base : Base) (key : List ℕ) → Alike c (found_from_base base key) (found_from_base base key)
+  found_from_base_alike (ObjectBase place) key = found_from_alike place key
+  found_from_base_alike (BuiltInBase ancestry) key = give_alike c _
 
   -- changes
 
@@ -137,7 +140,7 @@ module _ (c : Change) where
   change_entries_alike place change = record {
     at = λ s g. (
       rw (map-changed_at (changed_object c) (with_entries change) (with_entries change) (λ o. refl) place s.objects) refl,
-      (all_fine-changed (with_entries change) (λ o fine. fine) place s.objects g.0, g.1, g.2),
+      ((all_fine-changed s.environments (with_entries change) (λ o fine. fine) place s.objects g.0.0, g.0.1), g.1, g.2),
       tt,
     );
   }
@@ -168,18 +171,18 @@ module _ (c : Change) where
   with_field_keys-changed keys (Some (Bound target this given)) = refl
   with_field_keys-changed keys (Some (Passed closure)) = passed_keys keys closure c.passed
 
-  fine_keys : (keys : List (List ℕ)) (o : Option Callable) → FineCallable c o → FineCallable c (with_field_keys keys o)
-  fine_keys keys None fine = tt
-  fine_keys keys (Some (Code closure)) fine = fine
-  fine_keys keys (Some (Bound target this given)) fine = tt
-  fine_keys keys (Some (Passed closure)) fine = tt
+  fine_keys : (es : List Environment) (keys : List (List ℕ)) (o : Option Callable) → FineCallable c es o → FineCallable c es (with_field_keys keys o)
+  fine_keys es keys None fine = tt
+  fine_keys es keys (Some (Code closure)) fine = fine
+  fine_keys es keys (Some (Bound target this given)) fine = tt
+  fine_keys es keys (Some (Passed closure)) fine = tt
 
   pub keep_field_keys_alike : (place : ℕ) (keys : List (List ℕ)) → Alike c (keep_field_keys place keys) (keep_field_keys place keys)
   keep_field_keys_alike place keys = record {
     at = λ s g. (
       rw (map-changed_at (changed_object c) (keeping_keys keys) (keeping_keys keys)
           (λ o. ap (λ z. record { entries = o.entries; prototype = o.prototype; callable = z; extent = o.extent }) (with_field_keys-changed keys o.callable)) place s.objects) refl,
-      (all_fine-changed (keeping_keys keys) (λ o fine. fine_keys keys o.callable fine) place s.objects g.0, g.1, g.2),
+      ((all_fine-changed s.environments (keeping_keys keys) (λ o fine. fine_keys s.environments keys o.callable fine) place s.objects g.0.0, g.0.1), g.1, g.2),
       tt,
     );
   }
@@ -187,10 +190,10 @@ module _ (c : Change) where
   -- arrays
 
   pub new_array_alike : (elements : List (Option Value)) → Alike c (new_array elements) (new_array elements)
-  new_array_alike elements = new_object_alike _ tt
+  new_array_alike elements = new_object_alike _ (λ es around. tt)
 
   pub new_arguments_alike : (arguments : List Value) → Alike c (new_arguments arguments) (new_arguments arguments)
-  new_arguments_alike arguments = new_object_alike _ tt
+  new_arguments_alike arguments = new_object_alike _ (λ es around. tt)
 
   elements_by_alike : (o : Option Object) (extent : Extent) → Alike c (elements_by o extent) (elements_by (option_map (changed_object c) o) extent)
   elements_by_alike None extent = outside_alike c

@@ -1,12 +1,18 @@
 -- What a law has to show of a kind and of what the children mean, so that the kind's lines hold.
-use Rattle.std.proofs.Common.{◌≡◌, List, [], ◌∷◌, Option, Some, true, false, bytes_eq, codes}
+use Rattle.std.proofs.Common.{◌≡◌, ◌++◌, List, [], ◌∷◌, Option, Some, true, false, bytes_eq, codes}
 use Rattle.ecma_kind.specs.declared.kind.Kind.{Kind}
 use Rattle.ecma_kind.specs.declared.kind.Kind.TheVariants as kind
 use Rattle.ecma_tree.specs.declared.node.Node.{Node}
-use Rattle.ecma_runs.specs.Environment.{have_one_of}
+use Rattle.ecma_runs.specs.State.{Id, Entered}
+use Rattle.ecma_runs.specs.Environment.{ids_of, except, have_one_of}
+use Rattle.ecma_runs.specs.Declarations.{parameter_names_of}
+use Rattle.ecma_runs.specs.Sought.{Seeker, meanings, outside_of, all_sought, sought_by_body, code_sought_of, sought_of, role_sought}
+use Rattle.ecma_runs.specs.Evaluation.{role_by, meaning}
 use Rattle.ecma_runs.specs.Meaning.{Meaning}
-use Rattle.ecma_runs.proofs.Names.{changed_ids, changed_bindings}
-use Rattle.ecma_runs.proofs.Alike.{Change}
+use Rattle.ecma_runs.proofs.Names.{Unless, changed_ids, changed_bindings}
+use Rattle.ecma_runs.proofs.Scopes.{Opens}
+use Rattle.ecma_runs.proofs.Alike.{Change, Standing, seeks}
+use Rattle.ecma_runs.proofs.Meanings.{BodyOpens}
 use Rattle.ecma_runs.proofs.Environments.{KeepTexts}
 
 -- what is passed over by the block of a namespace is so in the other run too, or the block is of types alone
@@ -31,6 +37,7 @@ module _ (c : Change) where
       (c.names.kept (record { sym = sym; ctxt = ctxt }) ≡ true) × (bytes_eq (c.names.to (record { sym = sym; ctxt = ctxt })).sym (codes "this") ≡ bytes_eq sym (codes "this"))
   KeptLayer kind.MemberExpr ms = c.uses ≡ true
   KeptLayer kind.SuperPropExpr ms = c.uses ≡ true
+  KeptLayer kind.TsQualifiedName ms = c.uses ≡ true
   KeptLayer kind.CallExpr ms = c.uses ≡ true
   KeptLayer kind.OptCall ms = c.uses ≡ true
   KeptLayer kind.NewExpr ms = c.uses ≡ true
@@ -46,3 +53,52 @@ module _ (c : Change) where
   KeptLayer (kind.Constructor accessibility is_optional) (key ∷ parameters ∷ body ∷ []) = StillClash parameters body
   KeptLayer kind.TsModuleBlock ms = PassesToo c.passed ms
   KeptLayer k ms = Unit {0}
+
+  -- records with these names may be made: for the code of a function, and for a body
+
+  abbrev pub CodeOpens : Kind → List Seeker → Type 0
+  CodeOpens k ls = Opens c.names (parameter_names_of k (meanings ls)) (sought_of k ls) (code_sought_of k ls)
+
+  abbrev pub InBody : List Id → Seeker → Type 0
+  InBody names body = BodyOpens c names body.meaning body.seeks (sought_by_body names body)
+
+  abbrev pub FunctionBody : List Seeker → Type 0
+  FunctionBody (parameters ∷ body ∷ types ∷ return_type ∷ []) = InBody parameters.meaning.names body
+  FunctionBody ls = Unit {0}
+
+  -- in each record that a node makes, what is looked up is told from the others
+  abbrev pub OpensLayer : Kind → List Seeker → Type 0
+  OpensLayer (kind.Function false false) ls = CodeOpens (kind.Function false false) ls × FunctionBody ls
+  OpensLayer (kind.ArrowExpr false false) ls = CodeOpens (kind.ArrowExpr false false) ls × FunctionBody ls
+  OpensLayer kind.GetterProp (key ∷ type ∷ body ∷ []) = CodeOpens kind.GetterProp (key ∷ type ∷ body ∷ []) × InBody [] body
+  OpensLayer kind.SetterProp (key ∷ this_parameter ∷ parameter ∷ body ∷ []) = CodeOpens kind.SetterProp (key ∷ this_parameter ∷ parameter ∷ body ∷ []) × InBody parameter.meaning.names body
+  OpensLayer (kind.Constructor accessibility is_optional) (key ∷ parameters ∷ body ∷ []) = InBody parameters.meaning.names body
+  OpensLayer (kind.Class is_abstract) ls = CodeOpens (kind.Class is_abstract) ls
+  OpensLayer kind.BlockStmt (statements ∷ []) = Opens c.names (ids_of statements.meaning.lexicals) (sought_of kind.BlockStmt (statements ∷ [])) statements.seeks.sought
+  OpensLayer kind.ForStmt (init ∷ test ∷ update ∷ body ∷ []) =
+      Opens c.names (ids_of init.meaning.lexicals) (sought_of kind.ForStmt (init ∷ test ∷ update ∷ body ∷ [])) (all_sought (init ∷ test ∷ update ∷ body ∷ []))
+  OpensLayer kind.CatchClause (parameter ∷ body ∷ []) = Opens c.names parameter.meaning.names (sought_of kind.CatchClause (parameter ∷ body ∷ [])) (parameter.seeks.sought ++ body.seeks.sought)
+  OpensLayer kind.TsModuleBlock (items ∷ []) = Opens c.names (ids_of (except [] (items.meaning.vars ++ items.meaning.lexicals))) (sought_of kind.TsModuleBlock (items ∷ [])) items.seeks.sought
+  OpensLayer kind.FnExpr (name ∷ function ∷ []) = Opens c.names name.meaning.names (sought_of kind.FnExpr (name ∷ function ∷ [])) (name.meaning.names ++ function.seeks.sought)
+  OpensLayer (kind.ClassDecl false) (name ∷ class ∷ []) = Opens c.names name.meaning.names (outside_of name.meaning.names class.seeks.sought) (name.meaning.names ++ class.seeks.sought)
+  OpensLayer kind.ClassExpr (name ∷ class ∷ []) = Opens c.names name.meaning.names (sought_of kind.ClassExpr (name ∷ class ∷ [])) (name.meaning.names ++ class.seeks.sought)
+  OpensLayer k ls = Unit {0}
+
+  -- of a node that functions keep, what it means, and what it looks up
+  abbrev pub IsLayer : Node → Kind → List Seeker → Type 0
+  IsLayer n k ls = (meaning n ≡ role_by n k (meanings ls)) × (seeks c n ≡ role_sought k ls)
+
+  abbrev pub Outlined : Node → Kind → List Seeker → Type 0
+  Outlined n (kind.Function is_async is_generator) ls = IsLayer n (kind.Function is_async is_generator) ls
+  Outlined n (kind.ArrowExpr is_async is_generator) ls = IsLayer n (kind.ArrowExpr is_async is_generator) ls
+  Outlined n kind.GetterProp ls = IsLayer n kind.GetterProp ls
+  Outlined n kind.SetterProp ls = IsLayer n kind.SetterProp ls
+  Outlined n (kind.Class is_abstract) ls = IsLayer n (kind.Class is_abstract) ls
+  Outlined n k ls = Unit {0}
+
+  -- a node stands in a scope, and makes records that it may
+  abbrev pub Placed : List Entered → Kind → List Seeker → Type 0
+  Placed scope k ls = Standing c scope (sought_of k ls) × Unless c.names.plain (OpensLayer k ls)
+
+  abbrev pub PlacedNode : Node → List Entered → Kind → List Seeker → Type 0
+  PlacedNode n scope k ls = Placed scope k ls × Unless c.names.plain (Outlined n k ls)

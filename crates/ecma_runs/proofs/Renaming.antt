@@ -3,14 +3,14 @@ use Rattle.std.proofs.Common.{◌≡◌, ℕ, ◌++◌, refl, sym, ap, ap₂, �
 use Rattle.ecma_kind.specs.declared.kind.Kind.{Kind}
 use Rattle.ecma_kind.specs.declared.kind.Kind.TheVariants as kind
 use Rattle.ecma_tree.specs.declared.node.Node.{Node, Node-F, fold-roll-Node, ind-Node, roll-Node}
-use Rattle.ecma_runs.specs.declared.config.Config.{Config}
+use Rattle.ecma_config.specs.declared.config.Config.{Config}
 use Rattle.ecma_runs.specs.declared.script.Script.{Script}
 use Rattle.ecma_runs.specs.State.{Id, Binding}
 use Rattle.ecma_runs.specs.Environment.{have_one_of}
 use Rattle.ecma_runs.specs.Meaning.{Meaning}
 use Rattle.ecma_runs.specs.Declarations.{all_shorthands, has_no_effect}
 use Rattle.ecma_runs.specs.Evaluation.{role_by, no_effect, meaning_by, meaning}
-use Rattle.ecma_runs.specs.Observation.{observe}
+use Rattle.ecma_runs.specs.Observation.{known_of, observe}
 use Rattle.ecma_runs.specs.Names.{renamed_ident, renamed_node, renamed, passes_by, Keys, all_here, all_below, here_by, at_keys, keys_by, keys, keys_in, TextsStay, IsRenaming}
 use Rattle.ecma_runs.specs.Laws.{NamesDoNotMatter}
 use Rattle.ecma_runs.proofs.Layer.{meaning-roll}
@@ -49,9 +49,11 @@ here_layer n kind.TsSatisfiesExpr (e ∷ type ∷ []) = e.1
 here_layer n kind.TsTypeAnn ns = refl
 here_layer n kind.TsTypeParamDecl ns = refl
 here_layer n kind.TsTypeParamInstantiation ns = refl
+here_layer n kind.TsQualifiedName (left ∷ right ∷ []) = refl
+here_layer n (kind.TsImportEqualsDecl false false) (name ∷ source ∷ []) = refl
 here_layer n k ns = none_listed (has_no_effect k (map meaning (map (λ e. e.0) ns))) (no_effect n) (role_by n k (map meaning (map (λ e. e.0) ns))) refl refl
 
-here_is : (n : Node) → Listed n
+pub here_is : (n : Node) → Listed n
 here_is = ind-Node Listed (λ x y is.
     ap (λ m. m.shorthands) (meaning-roll x)
     ∙ ap (λ z. (meaning_by (roll-Node x) x.kind (map meaning z.children)).shorthands) (sym is)
@@ -59,24 +61,24 @@ here_is = ind-Node Listed (λ x y is.
     ∙ ap (λ z. here_by x.kind (map keys z.children)) is
     ∙ ap (λ z. z.here) (sym (fold-roll-Node Keys keys_by x)))
 
-stay_first : (to : Id → Id) (xs ys : List Id) → TextsStay to (xs ++ ys) → TextsStay to xs
+pub stay_first : (to : Id → Id) (xs ys : List Id) → TextsStay to (xs ++ ys) → TextsStay to xs
 stay_first to [] ys h = tt
 stay_first to (x ∷ xs) ys h = (h.0, stay_first to xs ys h.1)
 
-stay_rest : (to : Id → Id) (xs ys : List Id) → TextsStay to (xs ++ ys) → TextsStay to ys
+pub stay_rest : (to : Id → Id) (xs ys : List Id) → TextsStay to (xs ++ ys) → TextsStay to ys
 stay_rest to [] ys h = h
 stay_rest to (x ∷ xs) ys h = stay_rest to xs ys h.1
 
-stay_below : (to : Id → Id) (cs : List Node) → TextsStay to (all_below (map keys cs)) → AllNodes (λ n. TextsStay to (keys_in n)) cs
+pub stay_below : (to : Id → Id) (cs : List Node) → TextsStay to (all_below (map keys cs)) → AllNodes (λ n. TextsStay to (keys_in n)) cs
 stay_below to [] h = tt
 stay_below to (n ∷ cs) h = (stay_first to (keys_in n) (all_below (map keys cs)) h, stay_below to cs (stay_rest to (keys_in n) (all_below (map keys cs)) h))
 
 module _ (to : Id → Id) (m : Node) (renaming : IsRenaming to m) where
   abbrev new_names : Naming
-  new_names = record { to = to; kept = renaming.stands; injective = renaming.one_to_one }
+  new_names = record { to = to; kept = renaming.stands; plain = true; injective = λ is. renaming.one_to_one }
 
   abbrev renaming_change : Change
-  renaming_change = images_named (λ n. Passes renaming.stands n × TextsStay to (keys_in n)) (renamed to) new_names (meaning m).declared renaming.free_texts the_same
+  renaming_change = images_named (λ n. Passes renaming.stands n × TextsStay to (keys_in n)) (renamed to) new_names (known_of m) renaming.free_texts the_same
 
   both_all : (cs : List Node) → AllNodes (Passes renaming.stands) cs → AllNodes (λ n. TextsStay to (keys_in n)) cs → AllNodes (λ n. Passes renaming.stands n × TextsStay to (keys_in n)) cs
   both_all [] p q = tt
@@ -88,7 +90,7 @@ module _ (to : Id → Id) (m : Node) (renaming : IsRenaming to m) where
 
   clash_step : (names : List Id) (b : Binding) (bs : List Binding) → renaming.stands b.id ≡ true → have_one_of (changed_ids new_names names) (changed_bindings new_names bs) ≡ have_one_of names bs
       → have_one_of (changed_ids new_names names) (changed_bindings new_names (b ∷ bs)) ≡ have_one_of names (b ∷ bs)
-  clash_step names b bs k rest = rw (k, is_among-changed new_names b.id k names, rest) refl
+  clash_step names b bs k rest = rw (k, is_among-changed new_names b.id k names tt, rest) refl
 
   clashes : (names : List Id) (bs : List Binding) → BindingsPass renaming.stands bs → have_one_of (changed_ids new_names names) (changed_bindings new_names bs) ≡ have_one_of names bs
   clashes names [] p = refl
@@ -104,6 +106,7 @@ module _ (to : Id → Id) (m : Node) (renaming : IsRenaming to m) where
   layer_kept (kind.Ident text ctxt optional) cs h p t = (h, renaming.this_stays (record { sym = text; ctxt = ctxt }) h)
   layer_kept kind.MemberExpr cs h p t = refl
   layer_kept kind.SuperPropExpr cs h p t = refl
+  layer_kept kind.TsQualifiedName cs h p t = refl
   layer_kept kind.CallExpr cs h p t = refl
   layer_kept kind.OptCall cs h p t = refl
   layer_kept kind.NewExpr cs h p t = refl
@@ -130,11 +133,11 @@ module _ (to : Id → Id) (m : Node) (renaming : IsRenaming to m) where
       let t = passes_parts renaming.stands x fine.0 in
       let z : TextsStay to (at_keys x.kind (map keys x.children) ++ all_below (map keys x.children)) = subst (λ z. TextsStay to z.all) (fold-roll-Node Keys keys_by x) fine.1 in
       layer_same renaming_change x ns is fine (both_all x.children t.1 (stay_below to x.children (stay_rest to (at_keys x.kind (map keys x.children)) (all_below (map keys x.children)) z)))
-      (layer_kept x.kind x.children t.0 t.1 (stay_first to (at_keys x.kind (map keys x.children)) (all_below (map keys x.children)) z)) (renamed_layer x)
+      (layer_kept x.kind x.children t.0 t.1 (stay_first to (at_keys x.kind (map keys x.children)) (all_below (map keys x.children)) z)) tt (renamed_layer x)
 
   pub renamed_kept : (turns : ℕ) (options : Config) (script : Script) → observe turns options (renamed to m) script ≡ observe turns options m script
   renamed_kept turns options script =
-      ap (λ n. observe n options (renamed to m) script) (sym (add-zero turns)) ∙ observe_unless renaming_change refl renaming_steps refl refl turns options m script (renaming.all_stand, renaming.key_texts) refl tt tt (none_excused _)
+      ap (λ n. observe n options (renamed to m) script) (sym (add-zero turns)) ∙ observe_unless renaming_change refl renaming_steps refl refl turns options m script (renaming.all_stand, renaming.key_texts) refl (tt, record { free = tt }, tt) tt tt (none_excused _)
 
 pub names_do_not_matter : NamesDoNotMatter
 names_do_not_matter turns options m script to renaming = renamed_kept to m renaming turns options script

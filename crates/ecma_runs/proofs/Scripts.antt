@@ -1,6 +1,9 @@
 -- The script of the facts about small modules.
-use Rattle.std.proofs.Common.{◌≡◌, ℕ, pos, List, [], ◌∷◌, codes}
+use Rattle.std.proofs.Common.{◌≡◌, ℕ, pos, List, [], ◌∷◌, false, codes}
 use Rattle.ecma_number.specs.declared.js_number.JsNumber.TheVariants.{Whole}
+use Rattle.ecma_config.specs.declared.config.Config.{Config}
+use Rattle.ecma_config.specs.declared.config.ImportsNotUsedAsValues.TheVariants.{Remove}
+use Rattle.ecma_config.specs.declared.config.TsImportExportAssignConfig.TheVariants.{Classic}
 use Rattle.ecma_runs.specs.declared.observation.Event.{Event}
 use Rattle.ecma_runs.specs.declared.observation.Ending.{Ending}
 use Rattle.ecma_runs.specs.declared.script.Action.{Action}
@@ -27,7 +30,17 @@ null_answer = Return shown.Null
 abbrev pub nulls : List Answer
 nulls = null_answer ∷ null_answer ∷ null_answer ∷ null_answer ∷ null_answer ∷ null_answer ∷ null_answer ∷ null_answer ∷ null_answer ∷ null_answer ∷ null_answer ∷ null_answer ∷ []
 
+-- each option is off
+abbrev pub usual : Config
+usual = record {
+  verbatim_module_syntax = false;
+  import_not_used_as_values = Remove;
+  no_empty_export = false;
+  import_export_assign_config = Classic;
+  ts_enum_is_mutable = false;
+}
+
 -- that the module with this body has these events and this ending, in so many turns, where the host gives these answers and then does these actions
 abbrev pub Does : ℕ → List Answer → List Action → Trees → List Event → Ending → Type 0
 Does turns answers actions body events end =
-    observe turns (record {}) (module' body) (record { imports = imports; meta_url = codes "file:///m.js"; frees = frees; answers = answers; actions = actions }) ≡ record { events = events; ending = end }
+    observe turns usual (module' body) (record { imports = imports; meta_url = codes "file:///m.js"; frees = frees; answers = answers; actions = actions }) ≡ record { events = events; ending = end }

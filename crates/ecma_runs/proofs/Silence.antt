@@ -5,11 +5,10 @@ use Rattle.ecma_kind.specs.declared.kind.Kind.{Kind}
 use Rattle.ecma_kind.specs.declared.kind.Kind.TheVariants as kind
 use Rattle.ecma_tree.specs.declared.node.Node.{Node, fold-roll-Node, roll-Node}
 use Rattle.ecma_runs.specs.declared.script.Script.{Script}
-use Rattle.ecma_runs.specs.State.{Id}
 use Rattle.ecma_runs.specs.Run.{Outcome, Done, Thrown, Returned, Broken, Continued, Ended}
-use Rattle.ecma_runs.specs.Meaning.{Meaning}
+use Rattle.ecma_runs.specs.Meaning.{Known, Meaning}
 use Rattle.ecma_runs.specs.Evaluation.{meaning_by, meaning}
-use Rattle.ecma_runs.specs.Observation.{run_module, start}
+use Rattle.ecma_runs.specs.Observation.{known_of, run_module, start}
 use Rattle.ecma_runs.specs.Uses.{uses_nothing_by, uses_nothing_step, uses_nothing}
 use Rattle.ecma_runs.specs.Laws.{state_behind, DeclarationsAloneHaveNoEvents}
 use Rattle.ecma_runs.proofs.Alike.{Change, Follows}
@@ -22,13 +21,14 @@ none_used : false ≡ true → ⊥
 none_used u = cc
 
 -- the same run, in which nothing is used, and of which is said that there are no events
-abbrev quiet : List Id → Change
-quiet declared = record {
+abbrev quiet : Known → Change
+quiet known = record {
   node = λ n. n;
   fine = λ n. uses_nothing n ≡ true;
+  around = [];
   passed = None;
   names = same_names;
-  declared = declared;
+  known = known;
   texts = λ id kept free. refl;
   more = 0;
   before = [];
@@ -50,37 +50,38 @@ all_quiet : (ns : List Node) → list_all (λ b. b) (map uses_nothing ns) ≡ tr
 all_quiet [] h = tt
 all_quiet (n ∷ ns) h = let t = both_true (uses_nothing n) (list_all (λ b. b) (map uses_nothing ns)) h in (t.0, all_quiet ns t.1)
 
-module _ (declared : List Id) where
-  quiet_layer : (k : Kind) (ms : List Meaning) → uses_nothing_by k ≡ true → KeptLayer (quiet declared) k ms
+module _ (known : Known) where
+  quiet_layer : (k : Kind) (ms : List Meaning) → uses_nothing_by k ≡ true → KeptLayer (quiet known) k ms
   quiet_layer kind.MemberExpr ms h = absurd (cc)
   quiet_layer kind.SuperPropExpr ms h = absurd (cc)
+  quiet_layer kind.TsQualifiedName ms h = absurd (cc)
   quiet_layer kind.KeyValuePatProp ms h = absurd (cc)
   quiet_layer kind.AssignPatProp ms h = absurd (cc)
   quiet_layer kind.CallExpr ms h = absurd (cc)
   quiet_layer kind.OptCall ms h = absurd (cc)
   quiet_layer kind.NewExpr ms h = absurd (cc)
-  quiet_layer k ms h = kept_layer (λ n. Unit {0}) (λ n. n) declared the_same k ms
+  quiet_layer k ms h = kept_layer (λ n. Unit {0}) (λ n. n) known the_same k ms
 
-  quiet_kind : (k : Kind) → renamed_kind (quiet declared) k ≡ k
-  quiet_kind k = same_kind (λ n. Unit {0}) (λ n. n) declared the_same k
+  quiet_kind : (k : Kind) → renamed_kind (quiet known) k ≡ k
+  quiet_kind k = same_kind (λ n. Unit {0}) (λ n. n) known the_same k
 
-  quiet_steps : StepsAlike (quiet declared)
+  quiet_steps : StepsAlike (quiet known)
   quiet_steps x ns is fine fine' =
       let t = both_true (uses_nothing_by x.kind) (list_all (λ b. b) (map uses_nothing x.children)) (sym (fold-roll-Node Bool uses_nothing_step x) ∙ fine) in
-      layer_same (quiet declared) x ns is fine (all_quiet x.children t.1) (quiet_layer x.kind (map meaning x.children) t.0)
+      layer_same (quiet known) x ns is fine (all_quiet x.children t.1) (quiet_layer x.kind (map meaning x.children) t.0) tt
       (itself_layers x ∙ ap (λ k. meaning_by (roll-Node x) k (map meaning (map (λ n. n) x.children))) (sym (quiet_kind x.kind)))
 
-no_events : {A : Type 0} (declared : List Id) (r r' : Outcome A) → Follows (quiet declared) (λ a. a) (λ a. Unit {0}) r r' → (state_behind r).events ≡ []
-no_events declared (Done a s) r' e = e.1.2
-no_events declared (Thrown v s) r' e = e.1.2
-no_events declared (Returned v s) r' e = e.1.2
-no_events declared (Broken s) r' e = e.1.2
-no_events declared (Continued s) r' e = e.1.2
-no_events declared (Ended why s) r' e = e.1
+no_events : {A : Type 0} (known : Known) (r r' : Outcome A) → Follows (quiet known) (λ a. a) (λ a. Unit {0}) r r' → (state_behind r).events ≡ []
+no_events known (Done a s) r' e = e.1.2
+no_events known (Thrown v s) r' e = e.1.2
+no_events known (Returned v s) r' e = e.1.2
+no_events known (Broken s) r' e = e.1.2
+no_events known (Continued s) r' e = e.1.2
+no_events known (Ended why s) r' e = e.1
 
 pub declarations_alone_have_no_events : DeclarationsAloneHaveNoEvents
 declarations_alone_have_no_events turns options m script h =
     let quiet_script : Script = record script { actions = [] } in
-    let c : Change = quiet (meaning m).declared in
+    let c : Change = quiet (known_of m) in
     observed_events (run_module m quiet_script (start turns quiet_script))
-    ∙ no_events (meaning m).declared _ _ ((run_module_alike c (quiet_steps (meaning m).declared) quiet_script (λ u. absurd (none_used u)) m h refl (inr refl)).at (start turns quiet_script) (tt, tt, refl))
+    ∙ no_events (known_of m) _ _ ((run_module_alike c (quiet_steps (known_of m)) quiet_script (λ u. absurd (none_used u)) m h refl tt (record { free = tt }) (inr refl)).at (start turns quiet_script) ((tt, tt), tt, refl))

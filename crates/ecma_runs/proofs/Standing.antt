@@ -9,7 +9,7 @@ use Rattle.ecma_runs.specs.State.{Id, Binding}
 use Rattle.ecma_runs.specs.Environment.{empty, undefined, import_of}
 use Rattle.ecma_runs.specs.Meaning.{Meaning}
 use Rattle.ecma_runs.specs.Declarations.{all_names, names_of, all_imported, imported_as, imported_of, imported_from, all_lexicals, lexicals_of, all_vars, vars_of, locals_of, has_no_effect}
-use Rattle.ecma_runs.specs.Evaluation.{role_by, no_effect, meaning_by, meaning}
+use Rattle.ecma_runs.specs.Evaluation.{role_by, no_effect, constant_meaning, meaning_by, meaning}
 use Rattle.ecma_runs.specs.Names.{passes_by, passes_here, ids_pass}
 use Rattle.ecma_runs.proofs.Layer.{meaning-roll}
 use Rattle.ecma_runs.proofs.Kept.{AllNodes}
@@ -157,6 +157,15 @@ module _ (test : Id → Bool) where
   role_declares : (n : Node) (k : Kind) (ps : List Part) → passes_by test k ≡ true → Declares (role_by n k (parts ps))
   role_declares n k ps h = record { names = names_pass k ps h; lexicals = lexicals_pass k ps; vars = vars_pass k ps; locals = locals_pass k ps; imported = imported_pass k ps }
 
+  abbrev role_part : Node → (k : Kind) (ps : List Part) → passes_by test k ≡ true → Part
+  role_part n k ps h = (role_by n k (parts ps), role_declares n k ps h)
+
+  constant_declares : (n : Node) (name source : Part) → Declares (constant_meaning n name.0 source.0)
+  constant_declares n name source =
+      let binding : Part = role_part n kind.BindingIdent (name ∷ role_part n kind.Absent [] refl ∷ []) refl in
+      let declarator : Part = role_part n (kind.VarDeclarator false) (binding ∷ source ∷ []) refl in
+      role_declares n (kind.VarDecl Const false) (role_part n kind.List (declarator ∷ []) refl ∷ []) refl
+
   either_declares : (b : Bool) (m m' : Meaning) → Declares m → Declares m' → Declares (cond b m m')
   either_declares true m m' hm hk = hm
   either_declares false m m' hm hk = hk
@@ -172,6 +181,8 @@ module _ (test : Id → Bool) where
   layer_declares n kind.TsTypeAnn ps h = role_declares n kind.Absent [] refl
   layer_declares n kind.TsTypeParamDecl ps h = role_declares n kind.Absent [] refl
   layer_declares n kind.TsTypeParamInstantiation ps h = role_declares n kind.Absent [] refl
+  layer_declares n kind.TsQualifiedName (left ∷ right ∷ []) h = role_declares n kind.MemberExpr (left ∷ right ∷ []) refl
+  layer_declares n (kind.TsImportEqualsDecl false false) (name ∷ source ∷ []) h = constant_declares n name source
   layer_declares n k ps h = either_declares (has_no_effect k (parts ps)) (no_effect n) (role_by n k (parts ps)) (role_declares n (kind.TsTypeAliasDecl false) [] refl) (role_declares n k ps h)
 
   -- a tree whose identifiers pass

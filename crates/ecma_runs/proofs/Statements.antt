@@ -1,5 +1,5 @@
 -- Statements do alike where their parts do.
-use Rattle.std.proofs.Common.{◌≡◌, ℕ, zero, suc, ◌+◌, ◌⊎◌, inl, inr, sym, ap, subst, suc-add, List, [], ◌∷◌, map, None, true, false}
+use Rattle.std.proofs.Common.{◌≡◌, ℕ, zero, suc, ◌+◌, ◌⊎◌, inl, inr, sym, ap, subst, suc-add, ◌++◌, ◌∙◌, List, [], ◌∷◌, map, None, true, false}
 use Rattle.ecma_kind.specs.declared.kind.Kind.{Kind}
 use Rattle.ecma_kind.specs.declared.kind.Kind.TheVariants as kind
 use Rattle.ecma_kind.specs.declared.operators.VarDeclKind.TheVariants.{Var, Let, Const}
@@ -11,10 +11,15 @@ use Rattle.ecma_runs.proofs.Names.{changed_entered}
 use Rattle.ecma_runs.specs.Run.{◌>>=◌, give, when, TurnsSpent, Run}
 use Rattle.ecma_runs.specs.Environment.{copy_environment, empty}
 use Rattle.ecma_runs.specs.Statements.{rounds, while, do_while, for_rounds, for_loop, block, all_completions, completion_of, effect_of, all_varied, varied_of, all_hoisted, hoisted_of, caught_of}
-use Rattle.ecma_runs.proofs.Alike.{Change, Alike, excused_alike, bind_alike, give_alike, throw_alike, return_alike, break_alike, continue_alike, stop_alike, outside_alike, when_alike, catching_alike, finally_alike, round_alike, loop_alike, spend_alike}
-use Rattle.ecma_runs.proofs.Environments.{enter_alike, copy_alike, initialize_alike}
-use Rattle.ecma_runs.proofs.Meanings.{World, first, second, within, Both, firsts, seconds, empties}
-use Rattle.ecma_runs.proofs.Premises.{renamed_kind, KeptLayer}
+use Rattle.ecma_runs.specs.State.{Id}
+use Rattle.ecma_runs.specs.Environment.{ids_of}
+use Rattle.ecma_runs.specs.Sought.{meanings, all_sought, sought_of}
+use Rattle.ecma_runs.proofs.Names.{Unless}
+use Rattle.ecma_runs.proofs.Scopes.{ids_of-empties, Opens, opened, same_ids_stand, for_parts, one, two, three, rest}
+use Rattle.ecma_runs.proofs.Alike.{Change, Standing, Alike, excused_alike, bind_alike, give_alike, throw_alike, return_alike, break_alike, continue_alike, stop_alike, outside_alike, when_alike, catching_alike, finally_alike, round_alike, loop_alike, spend_alike}
+use Rattle.ecma_runs.proofs.Environments.{beside, Knows, enter_alike, copy_alike, initialize_alike}
+use Rattle.ecma_runs.proofs.Meanings.{at, World, first, second, inward, later, newest, within, Both, seekers, firsts, seconds, empties}
+use Rattle.ecma_runs.proofs.Premises.{renamed_kind, KeptLayer, Placed, PlacedNode}
 use Rattle.ecma_runs.proofs.Lists.{all_stay, all_completions_alike, all_varied_alike, all_hoisted_alike}
 use Rattle.ecma_runs.proofs.Expressions.{value_alike}
 
@@ -41,86 +46,107 @@ module _ (c : Change) where
     do_while_alike : Alike c (do_while test body) (do_while test' body')
     do_while_alike = loop_alike c (bind_alike c (spend_alike c) (λ _. bind_alike c (round_alike c bodies) (λ _. record { at = λ s g. (rounds_alike s.turns).at s g })))
 
-  module _ (w : World c) (test update body : Both c) where
-    last_for_excused : (n : ℕ) (place : Entered) → c.excused TurnsSpent ≡ true → Alike c (for_rounds zero test.0 update.0 body.0 place (first c w)) (for_rounds n test.1 update.1 body.1 (changed_entered c.names place) (second c w))
-    last_for_excused zero place e = bind_alike c (test.2.test (within c w place)) (λ v. when_alike c (truth_of v) (stop_alike c TurnsSpent) (give_alike c tt))
-    last_for_excused (suc n) place e = bind_alike c (test.2.test (within c w place)) (λ v. when_alike c (truth_of v) (excused_alike c TurnsSpent e) (give_alike c tt))
+module _ (c : Change) (test update body : Both c) where
+  -- in a copy of the record of the loop
+  module _ {a : List Entered} (w : World (at c a)) (e : Entered) (knows : Knows (at c a) e) (s : Standing c (e ∷ w.scope) (test.0.seeks.sought ++ (update.0.seeks.sought ++ body.0.seeks.sought))) where
+    abbrev v : World (at c a)
+    v = inward (at c a) w e knows
 
-    last_for : (place : Entered) → (c.more ≡ 0) ⊎ (c.excused TurnsSpent ≡ true) → Alike c (for_rounds zero test.0 update.0 body.0 place (first c w)) (for_rounds (0 + c.more) test.1 update.1 body.1 (changed_entered c.names place) (second c w))
-    last_for place (inl none) =
-        subst (λ n. Alike c (for_rounds zero test.0 update.0 body.0 place (first c w)) (for_rounds n test.1 update.1 body.1 (changed_entered c.names place) (second c w))) (sym (ap (λ z. 0 + z) none))
-        (bind_alike c (test.2.test (within c w place)) (λ v. when_alike c (truth_of v) (stop_alike c TurnsSpent) (give_alike c tt)))
-    last_for place (inr e) = last_for_excused (0 + c.more) place e
+    tests : Alike (at c a) (test.0.meaning.test (first (at c a) v)) (test.1.test (second (at c a) v))
+    tests = test.2.test v (one c.names _ _ s)
 
-    for_rounds_alike : (n : ℕ) (place : Entered) → Alike c (for_rounds n test.0 update.0 body.0 place (first c w)) (for_rounds (n + c.more) test.1 update.1 body.1 (changed_entered c.names place) (second c w))
-    for_rounds_alike zero place = last_for place c.turns_excused
-    for_rounds_alike (suc n) place =
-        rw (suc-add n c.more)
-        (bind_alike c (test.2.test (within c w place)) (λ v. when_alike c (truth_of v)
-        (bind_alike c (spend_alike c) (λ _. bind_alike c (round_alike c (body.2.completion (within c w place))) (λ _.
-        copy_alike c (λ next. update.1.effect (inside (second c w) next) >>= λ _. for_rounds (n + c.more) test.1 update.1 body.1 next (second c w)) place (λ next.
-        bind_alike c (update.2.effect (within c w next)) (λ _. for_rounds_alike n next))))) (give_alike c tt)))
+    last_for_excused : (n : ℕ) → c.excused TurnsSpent ≡ true → Alike (at c a) (for_rounds zero test.0.meaning update.0.meaning body.0.meaning e (first (at c a) w)) (for_rounds n test.1 update.1 body.1 (changed_entered c.names e) (second (at c a) w))
+    last_for_excused zero x = bind_alike (at c a) tests (λ v. when_alike (at c a) (truth_of v) (stop_alike (at c a) TurnsSpent) (give_alike (at c a) tt))
+    last_for_excused (suc n) x = bind_alike (at c a) tests (λ v. when_alike (at c a) (truth_of v) (excused_alike (at c a) TurnsSpent x) (give_alike (at c a) tt))
 
-    for_loop_alike : (place : Entered) → Alike c (for_loop test.0 update.0 body.0 place (first c w)) (for_loop test.1 update.1 body.1 (changed_entered c.names place) (second c w))
-    for_loop_alike place = record { at = λ s g. (loop_alike c (for_rounds_alike s.turns place)).at s g }
+    last_for : (c.more ≡ 0) ⊎ (c.excused TurnsSpent ≡ true) → Alike (at c a) (for_rounds zero test.0.meaning update.0.meaning body.0.meaning e (first (at c a) w)) (for_rounds (0 + c.more) test.1 update.1 body.1 (changed_entered c.names e) (second (at c a) w))
+    last_for (inl none) =
+        subst (λ n. Alike (at c a) (for_rounds zero test.0.meaning update.0.meaning body.0.meaning e (first (at c a) w)) (for_rounds n test.1 update.1 body.1 (changed_entered c.names e) (second (at c a) w))) (sym (ap (λ z. 0 + z) none))
+        (bind_alike (at c a) tests (λ v. when_alike (at c a) (truth_of v) (stop_alike (at c a) TurnsSpent) (give_alike (at c a) tt)))
+    last_for (inr x) = last_for_excused (0 + c.more) x
 
-  module _ (w : World c) where
-    block_alike : (statements : Both c) → Alike c (block statements.0 (first c w)) (block statements.1 (second c w))
-    block_alike statements =
-        rw (statements.2.lexicals)
-        (enter_alike c (λ e. statements.1.hoisted (inside (second c w) e) >>= λ _. statements.1.completion (inside (second c w) e)) statements.0.lexicals None (λ place. bind_alike c (statements.2.hoisted (within c w place)) (λ _. statements.2.completion (within c w place))))
+  for_rounds_alike : (n : ℕ) {a : List Entered} (w : World (at c a)) (e : Entered) → Knows (at c a) e → Standing c (e ∷ w.scope) (test.0.seeks.sought ++ (update.0.seeks.sought ++ body.0.seeks.sought))
+      → Alike (at c a) (for_rounds n test.0.meaning update.0.meaning body.0.meaning e (first (at c a) w)) (for_rounds (n + c.more) test.1 update.1 body.1 (changed_entered c.names e) (second (at c a) w))
+  for_rounds_alike zero w e knows s = last_for w e knows s c.turns_excused
+  for_rounds_alike (suc n) {a} w e knows s =
+      let v : World (at c a) = inward (at c a) w e knows in
+      rw (suc-add n c.more)
+      (bind_alike (at c a) (test.2.test v (one c.names _ _ s)) (λ u. when_alike (at c a) (truth_of u)
+      (bind_alike (at c a) (spend_alike (at c a)) (λ _. bind_alike (at c a) (round_alike (at c a) (body.2.completion v (rest c.names (update.0.seeks.sought) _ (rest c.names (test.0.seeks.sought) _ s)))) (λ _.
+      copy_alike (at c a) (λ next. update.1.effect (inside (second (at c a) w) next) >>= λ _. for_rounds (n + c.more) test.1 update.1 body.1 next (second (at c a) w)) e knows (λ next is.
+      let z = same_ids_stand c.names e next is s in
+      bind_alike (at c (next ∷ a)) (update.2.effect (within (at c a) w next) (one c.names (update.0.seeks.sought) _ (rest c.names (test.0.seeks.sought) _ z))) (λ _. for_rounds_alike n (later (at c a) w next) next (newest (at c a) next) z))))) (give_alike (at c a) tt)))
 
-    pub completion_alike : (k : Kind) (ps : List (Both c)) → Alike c (completion_of k (firsts c ps) (first c w)) (completion_of (renamed_kind c k) (seconds c ps) (second c w))
-    completion_alike kind.Absent ps = give_alike c tt
-    completion_alike kind.List ps = all_stay c (λ ms ms'. Alike c (all_completions ms (first c w)) (all_completions ms' (second c w))) (all_completions_alike c w) ps
-    completion_alike (kind.Module shebang) (body ∷ []) = body.2.completion w
-    completion_alike kind.ExprStmt (e ∷ []) = bind_alike c (e.2.value w) (λ _. give_alike c tt)
-    completion_alike (kind.VarDecl Var false) (declarators ∷ []) = declarators.2.varied w
-    completion_alike (kind.VarDecl Let false) (declarators ∷ []) = declarators.2.completion w
-    completion_alike (kind.VarDecl Const false) (declarators ∷ []) = declarators.2.completion w
-    completion_alike (kind.VarDeclarator definite) (name ∷ init ∷ []) = bind_alike c (init.2.initial w) (λ v. name.2.bound v w)
-    completion_alike (kind.FnDecl false) ps = give_alike c tt
-    completion_alike (kind.ClassDecl false) (name ∷ class ∷ []) = rw (name.2.names) (bind_alike c (class.2.class_made name.0.names w) (λ v. initialize_alike c w.scope name.0.names v))
-    completion_alike kind.BlockStmt (statements ∷ []) = block_alike statements
-    completion_alike kind.IfStmt (test ∷ yes' ∷ no' ∷ []) = bind_alike c (test.2.value w) (λ v. when_alike c (truth_of v) (yes'.2.completion w) (no'.2.completion w))
-    completion_alike kind.WhileStmt (test ∷ body ∷ []) = while_alike (test.2.value w) (body.2.completion w)
-    completion_alike kind.DoWhileStmt (test ∷ body ∷ []) = do_while_alike (test.2.value w) (body.2.completion w)
-    completion_alike kind.ForStmt (init ∷ test ∷ update ∷ body ∷ []) =
-        rw (init.2.lexicals)
-        (enter_alike c (λ e. init.1.effect (inside (second c w) e) >>= λ _. copy_environment e >>= λ next. for_loop test.1 update.1 body.1 next (second c w)) init.0.lexicals None (λ place. bind_alike c (init.2.effect (within c w place)) (λ _.
-        copy_alike c (λ next. for_loop test.1 update.1 body.1 next (second c w)) place (λ next. for_loop_alike w test update body next))))
-    completion_alike kind.ReturnStmt (e ∷ []) = bind_alike c (e.2.initial w) (λ v. return_alike c v)
-    completion_alike kind.ThrowStmt (e ∷ []) = bind_alike c (e.2.value w) (λ v. throw_alike c v)
-    completion_alike kind.BreakStmt (label ∷ []) = rw (label.2.is_absent) (when_alike c label.0.is_absent (break_alike c) (outside_alike c))
-    completion_alike kind.ContinueStmt (label ∷ []) = rw (label.2.is_absent) (when_alike c label.0.is_absent (continue_alike c) (outside_alike c))
-    completion_alike kind.TryStmt (body ∷ handler ∷ last ∷ []) = finally_alike c (catching_alike c (body.2.completion w) (λ v. handler.2.caught v w)) (last.2.completion w)
-    completion_alike (kind.ImportDecl false) ps = give_alike c tt
-    completion_alike (kind.TsTypeAliasDecl declare) ps = give_alike c tt
-    completion_alike _ ps = outside_alike c
+  for_loop_alike : {a : List Entered} (w : World (at c a)) (e : Entered) → Knows (at c a) e → Standing c (e ∷ w.scope) (test.0.seeks.sought ++ (update.0.seeks.sought ++ body.0.seeks.sought))
+      → Alike (at c a) (for_loop test.0.meaning update.0.meaning body.0.meaning e (first (at c a) w)) (for_loop test.1 update.1 body.1 (changed_entered c.names e) (second (at c a) w))
+  for_loop_alike {a} w e knows z = record { at = λ s g. (loop_alike (at c a) (for_rounds_alike s.turns w e knows z)).at s g }
 
-    pub varied_alike : (k : Kind) (ps : List (Both c)) → Alike c (varied_of k (firsts c ps) (first c w)) (varied_of (renamed_kind c k) (seconds c ps) (second c w))
-    varied_alike kind.List ps = all_stay c (λ ms ms'. Alike c (all_varied ms (first c w)) (all_varied ms' (second c w))) (all_varied_alike c w) ps
-    varied_alike (kind.VarDeclarator definite) (name ∷ init ∷ []) =
-        rw (init.2.is_absent) (when_alike c init.0.is_absent (give_alike c tt)
-        (bind_alike c (name.2.assigned (init.0.value (first c w)) (init.1.value (second c w)) (init.2.value w) w) (λ _. give_alike c tt)))
-    varied_alike (kind.TsTypeAliasDecl declare) ps = give_alike c tt
-    varied_alike _ ps = outside_alike c
+module _ (c : Change) {a : List Entered} (w : World (at c a)) where
+  abbrev d : Change
+  d = at c a
 
-    pub hoisted_alike : (k : Kind) (ps : List (Both c)) → Alike c (hoisted_of k (firsts c ps) (first c w)) (hoisted_of (renamed_kind c k) (seconds c ps) (second c w))
-    hoisted_alike kind.List ps = all_stay c (λ ms ms'. Alike c (all_hoisted ms (first c w)) (all_hoisted ms' (second c w))) (all_hoisted_alike c w) ps
-    hoisted_alike (kind.Module shebang) (body ∷ []) = body.2.hoisted w
-    hoisted_alike (kind.FnDecl false) (name ∷ function ∷ []) = rw (name.2.names) (bind_alike c (function.2.made Plain None w) (λ f. initialize_alike c w.scope name.0.names (Own f)))
-    hoisted_alike _ ps = give_alike c tt
+  block_alike : (statements : Both c) (outer : List Id) → Unless c.names.plain (Opens c.names (ids_of statements.0.meaning.lexicals) outer statements.0.seeks.sought) → Standing c w.scope outer → Alike d (block statements.0.meaning (first d w)) (block statements.1 (second d w))
+  block_alike statements outer opens s =
+      rw (statements.2.lexicals)
+      (enter_alike d (λ e. statements.1.hoisted (inside (second d w) e) >>= λ _. statements.1.completion (inside (second d w) e)) statements.0.meaning.lexicals None (λ e is.
+      let z : Standing c (e ∷ w.scope) statements.0.seeks.sought = opened c.names opens s e is in
+      bind_alike (beside d e) (statements.2.hoisted (within d w e) z) (λ _. statements.2.completion (within d w e) z)))
 
-    pub caught_alike : (k : Kind) (ps : List (Both c)) (v : Value) → Alike c (caught_of k (firsts c ps) v (first c w)) (caught_of (renamed_kind c k) (seconds c ps) v (second c w))
-    caught_alike kind.Absent ps v = throw_alike c v
-    caught_alike kind.CatchClause (parameter ∷ body ∷ []) v =
-        rw (parameter.2.names, parameter.2.is_absent, empties c false parameter.0.names)
-        (enter_alike c (λ e. when parameter.0.is_absent (give tt) (parameter.1.bound v (inside (second c w) e)) >>= λ _. body.1.completion (inside (second c w) e)) (map (empty false) parameter.0.names) None (λ place.
-        bind_alike c (when_alike c parameter.0.is_absent (give_alike c tt) (parameter.2.bound v (within c w place))) (λ _. body.2.completion (within c w place))))
-    caught_alike _ ps v = outside_alike c
+  pub completion_alike : (k : Kind) (ps : List (Both c)) → Placed c w.scope k (seekers c ps) → Alike d (completion_of k (firsts c ps) (first d w)) (completion_of (renamed_kind c k) (seconds c ps) (second d w))
+  completion_alike kind.Absent ps h = give_alike d tt
+  completion_alike kind.List ps h = all_stay c (λ ls ms'. Standing c w.scope (all_sought ls) → Alike d (all_completions (meanings ls) (first d w)) (all_completions ms' (second d w))) (all_completions_alike c w) ps h.0
+  completion_alike (kind.Module shebang) (body ∷ []) h = body.2.completion w (one c.names _ _ h.0)
+  completion_alike kind.ExprStmt (e ∷ []) h = bind_alike d (e.2.value w (one c.names _ _ h.0)) (λ _. give_alike d tt)
+  completion_alike (kind.VarDecl Var false) (declarators ∷ []) h = declarators.2.varied w (one c.names _ _ h.0)
+  completion_alike (kind.VarDecl Let false) (declarators ∷ []) h = declarators.2.completion w (one c.names _ _ h.0)
+  completion_alike (kind.VarDecl Const false) (declarators ∷ []) h = declarators.2.completion w (one c.names _ _ h.0)
+  completion_alike (kind.VarDeclarator definite) (name ∷ init ∷ []) h = bind_alike d (init.2.initial w (two c.names _ _ _ h.0)) (λ v. name.2.bound v w (one c.names _ _ h.0))
+  completion_alike (kind.FnDecl false) ps h = give_alike d tt
+  completion_alike (kind.ClassDecl false) (name ∷ class ∷ []) h = rw (name.2.names) (bind_alike d (class.2.class_made name.0.meaning.names _ h.1 w (rest c.names (name.0.meaning.names) _ h.0)) (λ v. initialize_alike d w.scope w.there name.0.meaning.names (one c.names (name.0.meaning.names) _ h.0) v))
+  completion_alike kind.BlockStmt (statements ∷ []) h = block_alike statements _ h.1 h.0
+  completion_alike kind.IfStmt (test ∷ yes' ∷ no' ∷ []) h = bind_alike d (test.2.value w (one c.names _ _ h.0)) (λ v. when_alike d (truth_of v) (yes'.2.completion w (two c.names _ _ _ h.0)) (no'.2.completion w (three c.names _ _ _ _ h.0)))
+  completion_alike kind.WhileStmt (test ∷ body ∷ []) h = while_alike d (test.2.value w (one c.names _ _ h.0)) (body.2.completion w (two c.names _ _ _ h.0))
+  completion_alike kind.DoWhileStmt (test ∷ body ∷ []) h = do_while_alike d (test.2.value w (one c.names _ _ h.0)) (body.2.completion w (two c.names _ _ _ h.0))
+  completion_alike kind.ForStmt (init ∷ test ∷ update ∷ body ∷ []) h =
+      rw (init.2.lexicals)
+      (enter_alike d (λ e. init.1.effect (inside (second d w) e) >>= λ _. copy_environment e >>= λ next. for_loop test.1 update.1 body.1 next (second d w)) init.0.meaning.lexicals None (λ e is.
+      let z : Standing c (e ∷ w.scope) (init.0.seeks.sought ++ (test.0.seeks.sought ++ (update.0.seeks.sought ++ (body.0.seeks.sought ++ [])))) = opened c.names h.1 h.0 e is in
+      bind_alike (beside d e) (init.2.effect (within d w e) (one c.names (init.0.seeks.sought) _ z)) (λ _.
+      copy_alike (beside d e) (λ next. for_loop test.1 update.1 body.1 next (second d w)) e (newest d e) (λ next copied.
+      for_loop_alike c test update body (later (beside d e) (later d w e) next) next (newest (beside d e) next) (for_parts c.names test.0.seeks.sought update.0.seeks.sought body.0.seeks.sought (same_ids_stand c.names e next copied (rest c.names (init.0.seeks.sought) _ z)))))))
+  completion_alike kind.ReturnStmt (e ∷ []) h = bind_alike d (e.2.initial w (one c.names _ _ h.0)) (λ v. return_alike d v)
+  completion_alike kind.ThrowStmt (e ∷ []) h = bind_alike d (e.2.value w (one c.names _ _ h.0)) (λ v. throw_alike d v)
+  completion_alike kind.BreakStmt (label ∷ []) h = rw (label.2.is_absent) (when_alike d label.0.meaning.is_absent (break_alike d) (outside_alike d))
+  completion_alike kind.ContinueStmt (label ∷ []) h = rw (label.2.is_absent) (when_alike d label.0.meaning.is_absent (continue_alike d) (outside_alike d))
+  completion_alike kind.TryStmt (body ∷ handler ∷ last ∷ []) h = finally_alike d (catching_alike d (body.2.completion w (one c.names _ _ h.0)) (λ v. handler.2.caught v w (two c.names _ _ _ h.0))) (last.2.completion w (three c.names _ _ _ _ h.0))
+  completion_alike (kind.ImportDecl false) ps h = give_alike d tt
+  completion_alike (kind.TsTypeAliasDecl declare) ps h = give_alike d tt
+  completion_alike _ ps h = outside_alike d
 
-    pub effect_alike : (n : Node) → c.fine n → (k : Kind) (ps : List (Both c)) → KeptLayer c k (firsts c ps) → Alike c (effect_of n k (firsts c ps) (first c w)) (effect_of (c.node n) (renamed_kind c k) (seconds c ps) (second c w))
-    effect_alike n fine kind.Absent ps kept = give_alike c tt
-    effect_alike n fine (kind.VarDecl word declare) ps kept = completion_alike (kind.VarDecl word declare) ps
-    effect_alike n fine k ps kept = bind_alike c (value_alike c w n fine k ps kept) (λ _. give_alike c tt)
+  pub varied_alike : (k : Kind) (ps : List (Both c)) → Standing c w.scope (sought_of k (seekers c ps)) → Alike d (varied_of k (firsts c ps) (first d w)) (varied_of (renamed_kind c k) (seconds c ps) (second d w))
+  varied_alike kind.List ps s = all_stay c (λ ls ms'. Standing c w.scope (all_sought ls) → Alike d (all_varied (meanings ls) (first d w)) (all_varied ms' (second d w))) (all_varied_alike c w) ps s
+  varied_alike (kind.VarDeclarator definite) (name ∷ init ∷ []) s =
+      rw (init.2.is_absent) (when_alike d init.0.meaning.is_absent (give_alike d tt)
+      (bind_alike d (name.2.assigned (init.0.meaning.value (first d w)) (init.1.value (second d w)) (init.2.value w (two c.names _ _ _ s)) w (one c.names _ _ s)) (λ _. give_alike d tt)))
+  varied_alike (kind.TsTypeAliasDecl declare) ps s = give_alike d tt
+  varied_alike _ ps s = outside_alike d
+
+  pub hoisted_alike : (k : Kind) (ps : List (Both c)) → Standing c w.scope (sought_of k (seekers c ps)) → Alike d (hoisted_of k (firsts c ps) (first d w)) (hoisted_of (renamed_kind c k) (seconds c ps) (second d w))
+  hoisted_alike kind.List ps s = all_stay c (λ ls ms'. Standing c w.scope (all_sought ls) → Alike d (all_hoisted (meanings ls) (first d w)) (all_hoisted ms' (second d w))) (all_hoisted_alike c w) ps s
+  hoisted_alike (kind.Module shebang) (body ∷ []) s = body.2.hoisted w (one c.names _ _ s)
+  hoisted_alike (kind.FnDecl false) (name ∷ function ∷ []) s = rw (name.2.names) (bind_alike d (function.2.made Plain None w (rest c.names (name.0.meaning.names) _ s)) (λ f. initialize_alike d w.scope w.there name.0.meaning.names (one c.names (name.0.meaning.names) _ s) (Own f)))
+  hoisted_alike _ ps s = give_alike d tt
+
+  pub caught_alike : (k : Kind) (ps : List (Both c)) → Placed c w.scope k (seekers c ps) → (v : Value) → Alike d (caught_of k (firsts c ps) v (first d w)) (caught_of (renamed_kind c k) (seconds c ps) v (second d w))
+  caught_alike kind.Absent ps h v = throw_alike d v
+  caught_alike kind.CatchClause (parameter ∷ body ∷ []) h v =
+      rw (parameter.2.names, parameter.2.is_absent, empties c false parameter.0.meaning.names)
+      (enter_alike d (λ e. when parameter.0.meaning.is_absent (give tt) (parameter.1.bound v (inside (second d w) e)) >>= λ _. body.1.completion (inside (second d w) e)) (map (empty false) parameter.0.meaning.names) None (λ e is.
+      let z : Standing c (e ∷ w.scope) (parameter.0.seeks.sought ++ body.0.seeks.sought) = opened c.names h.1 h.0 e (is ∙ ids_of-empties false parameter.0.meaning.names) in
+      bind_alike (beside d e) (when_alike (beside d e) parameter.0.meaning.is_absent (give_alike (beside d e) tt) (parameter.2.bound v (within d w e) (one c.names _ _ z))) (λ _. body.2.completion (within d w e) (rest c.names (parameter.0.seeks.sought) _ z))))
+  caught_alike _ ps h v = outside_alike d
+
+  pub effect_alike : (n : Node) → c.fine n → (k : Kind) (ps : List (Both c)) → KeptLayer c k (firsts c ps) → PlacedNode c n w.scope k (seekers c ps) → Alike d (effect_of n k (firsts c ps) (first d w)) (effect_of (c.node n) (renamed_kind c k) (seconds c ps) (second d w))
+  effect_alike n fine kind.Absent ps kept h = give_alike d tt
+  effect_alike n fine (kind.VarDecl word declare) ps kept h = completion_alike (kind.VarDecl word declare) ps h.0
+  effect_alike n fine k ps kept h = bind_alike d (value_alike c w n fine k ps kept h) (λ _. give_alike d tt)

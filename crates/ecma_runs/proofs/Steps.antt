@@ -1,56 +1,61 @@
 -- A node means alike where its children do, and a list does as it does without items that do nothing.
-use Rattle.std.proofs.Common.{◌≡◌, refl, List, [], ◌∷◌, Some, Bool, true, false, cond}
+use Rattle.std.proofs.Common.{◌≡◌, ◌++◌, refl, ap, ◌∙◌, subst, List, [], ◌∷◌, Some, Bool, true, false, cond, append-nil}
 use Rattle.ecma_kind.specs.declared.kind.Kind.{Kind}
 use Rattle.ecma_kind.specs.declared.kind.Kind.TheVariants as kind
+use Rattle.ecma_kind.specs.declared.operators.VarDeclKind.TheVariants.{Const}
 use Rattle.ecma_tree.specs.declared.node.Node.{Node}
 use Rattle.ecma_runs.specs.Values.{Value}
 use Rattle.ecma_runs.specs.Run.{◌>>=◌, give, outside}
 use Rattle.ecma_runs.specs.Environment.{Reference, ToValue}
 use Rattle.ecma_runs.specs.Meaning.{Meaning}
 use Rattle.ecma_runs.specs.Declarations.{has_no_effect}
-use Rattle.ecma_runs.specs.Evaluation.{role_by, ending_chain, no_effect, meaning_by}
+use Rattle.ecma_runs.specs.Sought.{Sought, nothing_sought, role_sought, sought_by}
+use Rattle.ecma_runs.specs.Evaluation.{role_by, ending_chain, no_effect, constant_meaning, meaning_by}
+use Rattle.ecma_runs.specs.State.{Id, Entered}
+use Rattle.ecma_runs.proofs.Names.{Unless, unless_is, unless_both, unless_plain}
 use Rattle.ecma_runs.proofs.Alike.{Change, bind_by, bind_alike, give_by, give_alike, return_alike, outside_alike}
 use Rattle.ecma_runs.proofs.Environments.{AlikeReference}
-use Rattle.ecma_runs.proofs.Meanings.{World, Same, Both, firsts, seconds}
-use Rattle.ecma_runs.proofs.Premises.{renamed_kind, KeptLayer}
-use Rattle.ecma_runs.proofs.Lists.{Item, before, behind, all_arguments_alike, all_elements_alike, all_texts_alike, all_completions_alike, all_varied_alike, all_hoisted_alike, all_matched_alike, all_targets_alike, all_parameters_alike, all_fields_alike, all_statics_alike, all_defined_alike, all_code_alike, all_names_same, all_declared_same, all_parameter_names_same, all_lexicals_same, all_vars_same, all_imported_same, all_cooked_same, all_plain_same, all_types_same, any_constructor_same}
+use Rattle.ecma_runs.proofs.Meanings.{at, World, SameSeeking, Same, any_seeking, Both, seekers, firsts, seconds}
+use Rattle.ecma_runs.proofs.Premises.{renamed_kind, KeptLayer, OpensLayer, Outlined}
+use Rattle.ecma_runs.proofs.Lists.{Item, seekers_before, before, behind, all_arguments_alike, all_elements_alike, all_texts_alike, all_completions_alike, all_varied_alike, all_hoisted_alike, all_matched_alike, all_targets_alike, all_parameters_alike, all_fields_alike, all_statics_alike, all_defined_alike, all_code_alike, all_names_same, all_declared_same, all_parameter_names_same, all_lexicals_same, all_vars_same, all_imported_same, all_cooked_same, all_plain_same, all_types_same, any_constructor_same}
 use Rattle.ecma_runs.proofs.Expressions.{link_alike, value_alike, reference_alike, chain_alike, test_alike, initial_alike, arguments_alike, elements_alike, texts_alike, key_alike}
 use Rattle.ecma_runs.proofs.Patterns.{assigned_alike, targets_alike, matched_alike, bound_alike, parameters_alike}
 use Rattle.ecma_runs.proofs.Classes.{made_alike, body_alike, code_alike, class_made_alike, defined_alike, fields_alike, statics_alike}
 use Rattle.ecma_runs.proofs.Blocks.{completed_alike}
 use Rattle.ecma_runs.proofs.Statements.{varied_alike, hoisted_alike, caught_alike, effect_alike}
-use Rattle.ecma_runs.proofs.Declarations.{names_same, imported_same, text_same, lexicals_same, vars_same, locals_same, parameter_names_same, declared_same, cooked_same, is_plain_same, is_super_same, is_absent_same, is_this_same, is_type_same, has_body_same, is_constructor_same, has_no_effect_same}
+use Rattle.ecma_runs.proofs.Declarations.{names_same, imported_same, text_same, lexicals_same, vars_same, locals_same, parameter_names_same, declared_same, cooked_same, is_plain_same, is_computed_same, is_super_same, is_absent_same, is_this_same, is_type_same, has_body_same, is_constructor_same, has_no_effect_same}
 
 module _ (c : Change) where
-  role_same : (n : Node) → c.fine n → (k : Kind) (ps : List (Both c)) → KeptLayer c k (firsts c ps) → Same c (role_by n k (firsts c ps)) (role_by (c.node n) (renamed_kind c k) (seconds c ps))
-  role_same n fine k ps kept = record {
-    value = λ w. value_alike c w n fine k ps kept;
-    reference = λ w. reference_alike c w n fine k ps kept;
-    assigned = λ get get' h w. assigned_alike c w n fine k ps kept get get' h;
-    initial = λ w. initial_alike c w n fine k ps kept;
-    arguments = λ w. arguments_alike c w n fine k ps kept;
-    elements = λ w. elements_alike c w n fine k ps kept;
-    texts = λ w. texts_alike c w n fine k ps kept;
-    key = λ w. key_alike c w k ps;
-    chain = λ w. chain_alike c w n fine k ps kept;
-    link = λ optional w. link_alike c w k ps kept optional;
-    bound = λ v w. bound_alike c w k ps v;
-    matched = λ v w. matched_alike c w k ps kept v;
-    targets = λ v w. targets_alike c w k ps kept v;
-    parameters = λ arguments w. parameters_alike c w k ps arguments;
-    completion = λ w. completed_alike c w n fine k ps kept;
-    varied = λ w. varied_alike c w k ps;
-    hoisted = λ w. hoisted_alike c w k ps;
-    effect = λ w. effect_alike c w n fine k ps kept;
-    test = λ w. test_alike c w n fine k ps kept;
-    caught = λ v w. caught_alike c w k ps v;
-    made = λ sort home w. made_alike c w n fine k ps sort home;
-    class_made = λ ids w. class_made_alike c w n fine k ps kept ids;
-    defined = λ texts class object w. defined_alike c w n fine k ps kept texts class object;
-    fields = λ keys object w. fields_alike c w k ps keys object;
-    statics = λ keys class w. statics_alike c w k ps keys class;
-    code = λ u arguments w. code_alike c w k ps kept u arguments;
-    body = λ names w. body_alike c w n fine k ps kept names;
+  role_same : (n : Node) → c.fine n → (k : Kind) (ps : List (Both c)) → KeptLayer c k (firsts c ps) → Unless c.names.plain (OpensLayer c k (seekers c ps)) → Unless c.names.plain (Outlined c n k (seekers c ps))
+      → SameSeeking c (role_by n k (firsts c ps)) (role_sought k (seekers c ps)) (role_by (c.node n) (renamed_kind c k) (seconds c ps))
+  role_same n fine k ps kept o l = record {
+    value = λ w s. value_alike c w n fine k ps kept ((s, o), l);
+    reference = λ w s. reference_alike c w n fine k ps kept ((s, o), l);
+    assigned = λ get get' h w s. assigned_alike c w n fine k ps kept ((s, o), l) get get' h;
+    initial = λ w s. initial_alike c w n fine k ps kept ((s, o), l);
+    arguments = λ w s. arguments_alike c w n fine k ps kept ((s, o), l);
+    elements = λ w s. elements_alike c w n fine k ps kept ((s, o), l);
+    texts = λ w s. texts_alike c w n fine k ps kept ((s, o), l);
+    key = λ w s. key_alike c w k ps s;
+    chain = λ w s. chain_alike c w n fine k ps kept ((s, o), l);
+    link = λ optional w s. link_alike c w k ps kept s optional;
+    bound = λ v w s. bound_alike c w k ps s v;
+    matched = λ v w s. matched_alike c w k ps kept s v;
+    targets = λ v w s. targets_alike c w k ps kept s v;
+    parameters = λ arguments w s. parameters_alike c w k ps s arguments;
+    completion = λ w s. completed_alike c w n fine k ps kept (s, o);
+    varied = λ w s. varied_alike c w k ps s;
+    hoisted = λ w s. hoisted_alike c w k ps s;
+    effect = λ w s. effect_alike c w n fine k ps kept ((s, o), l);
+    test = λ w s. test_alike c w n fine k ps kept ((s, o), l);
+    caught = λ v w s. caught_alike c w k ps (s, o) v;
+    made = λ sort home w s. made_alike c w n fine k ps ((s, o), l) sort home;
+    class_made = λ ids outer opens w s. class_made_alike c w n fine k ps kept o l ids outer opens s;
+    defined = λ texts class object w s. defined_alike c w n fine k ps kept ((s, o), l) texts class object;
+    fields = λ keys object w s. fields_alike c w k ps s keys object;
+    statics = λ keys class w s. statics_alike c w k ps s keys class;
+    code = λ u arguments w s. code_alike c w k ps kept o s u arguments;
+    body = λ names outer opens w s. body_alike c w n fine k ps kept (unless_both c.names.plain (λ p q. (p, q)) o l) names outer opens s;
     names = names_same c k ps kept;
     lexicals = lexicals_same c k ps kept;
     vars = vars_same c k ps;
@@ -61,6 +66,7 @@ module _ (c : Change) where
     text = text_same c k ps;
     cooked = cooked_same c k ps;
     is_plain = is_plain_same c k ps;
+    is_computed = is_computed_same c k;
     is_super = is_super_same c k;
     is_absent = is_absent_same c k;
     is_this = is_this_same c k ps kept;
@@ -69,8 +75,8 @@ module _ (c : Change) where
     is_constructor = is_constructor_same c k ps;
   }
 
-  ending_same : (m m' : Meaning) → Same c m m' → Same c (ending_chain m) (ending_chain m')
-  ending_same m m' same = record {
+  ending_same : (m : Meaning) (s : Sought) (m' : Meaning) → SameSeeking c m s m' → SameSeeking c (ending_chain m) s (ending_chain m')
+  ending_same m s m' same = record {
     value = same.value;
     reference = same.reference;
     assigned = same.assigned;
@@ -107,73 +113,100 @@ module _ (c : Change) where
     text = same.text;
     cooked = same.cooked;
     is_plain = same.is_plain;
+    is_computed = same.is_computed;
     is_super = same.is_super;
     is_absent = same.is_absent;
     is_this = same.is_this;
     is_type = same.is_type;
     has_body = same.has_body;
     is_constructor = same.is_constructor;
-    chain = λ w. bind_by c (λ r. give (Some r)) (same.reference w) (λ r p. give_by c (Some r) p);
+    chain = λ w s. bind_by (at c _) (λ r. give (Some r)) (same.reference w s) (λ r p. give_by (at c _) (Some r) p);
   }
 
   no_effect_same : (n : Node) → c.fine n → Same c (no_effect n) (no_effect (c.node n))
-  no_effect_same n fine = role_same n fine (kind.TsTypeAliasDecl false) [] tt
+  no_effect_same n fine = role_same n fine (kind.TsTypeAliasDecl false) [] tt (unless_is c.names.plain tt) (unless_is c.names.plain tt)
 
-  either_same : (b b' : Bool) → b' ≡ b → {m m' k k' : Meaning} → Same c m m' → Same c k k' → Same c (cond b m k) (cond b' m' k')
+  either_same : (b b' : Bool) → b' ≡ b → {m m' k k' : Meaning} {s t : Sought} → SameSeeking c m s m' → SameSeeking c k t k' → SameSeeking c (cond b m k) (cond b s t) (cond b' m' k')
   either_same true b' e hm hk = rw e hm
   either_same false b' e hm hk = rw e hk
 
-  kind_same : (n : Node) → c.fine n → (k : Kind) (ps : List (Both c)) → KeptLayer c k (firsts c ps)
-      → Same c (cond (has_no_effect k (firsts c ps)) (no_effect n) (role_by n k (firsts c ps))) (cond (has_no_effect (renamed_kind c k) (seconds c ps)) (no_effect (c.node n)) (role_by (c.node n) (renamed_kind c k) (seconds c ps)))
-  kind_same n fine k ps kept = either_same (has_no_effect k (firsts c ps)) (has_no_effect (renamed_kind c k) (seconds c ps)) (has_no_effect_same c k ps) (no_effect_same n fine) (role_same n fine k ps kept)
+  kind_same : (n : Node) → c.fine n → (k : Kind) (ps : List (Both c)) → KeptLayer c k (firsts c ps) → Unless c.names.plain (OpensLayer c k (seekers c ps)) → Unless c.names.plain (Outlined c n k (seekers c ps))
+      → SameSeeking c (cond (has_no_effect k (firsts c ps)) (no_effect n) (role_by n k (firsts c ps))) (cond (has_no_effect k (firsts c ps)) nothing_sought (role_sought k (seekers c ps)))
+      (cond (has_no_effect (renamed_kind c k) (seconds c ps)) (no_effect (c.node n)) (role_by (c.node n) (renamed_kind c k) (seconds c ps)))
+  kind_same n fine k ps kept o l = either_same (has_no_effect k (firsts c ps)) (has_no_effect (renamed_kind c k) (seconds c ps)) (has_no_effect_same c k ps) (no_effect_same n fine) (role_same n fine k ps kept o l)
 
-  pub step_same : (n : Node) → c.fine n → (k : Kind) (ps : List (Both c)) → KeptLayer c k (firsts c ps) → Same c (meaning_by n k (firsts c ps)) (meaning_by (c.node n) (renamed_kind c k) (seconds c ps))
-  step_same n fine kind.ParenExpr (e ∷ []) kept = ending_same e.0 e.1 e.2
-  step_same n fine kind.TsAsExpr (e ∷ type ∷ []) kept = e.2
-  step_same n fine kind.TsTypeAssertion (e ∷ type ∷ []) kept = e.2
-  step_same n fine kind.TsConstAssertion (e ∷ []) kept = e.2
-  step_same n fine kind.TsNonNullExpr (e ∷ []) kept = e.2
-  step_same n fine kind.TsInstantiation (e ∷ types ∷ []) kept = e.2
-  step_same n fine kind.TsSatisfiesExpr (e ∷ type ∷ []) kept = e.2
-  step_same n fine kind.TsTypeAnn ps kept = role_same n fine kind.Absent [] tt
-  step_same n fine kind.TsTypeParamDecl ps kept = role_same n fine kind.Absent [] tt
-  step_same n fine kind.TsTypeParamInstantiation ps kept = role_same n fine kind.Absent [] tt
-  step_same n fine k ps kept = kind_same n fine k ps kept
+  -- what neither keeps names nor makes records
+  abbrev role_both : (n : Node) → c.fine n → (k : Kind) (ps : List (Both c)) → KeptLayer c k (firsts c ps) → Unless c.names.plain (OpensLayer c k (seekers c ps)) → Unless c.names.plain (Outlined c n k (seekers c ps)) → Both c
+  role_both n fine k ps kept o l = (record { meaning = role_by n k (firsts c ps); seeks = role_sought k (seekers c ps) }, role_by (c.node n) (renamed_kind c k) (seconds c ps), role_same n fine k ps kept o l)
+
+  constant_sought : (a b : List Id) → ((a ++ (b ++ [])) ++ []) ++ [] ≡ a ++ b
+  constant_sought a b = append-nil ((a ++ (b ++ [])) ++ []) ∙ append-nil (a ++ (b ++ [])) ∙ ap (λ z. a ++ z) (append-nil b)
+
+  constant_same : (n : Node) → c.fine n → (name source : Both c)
+      → SameSeeking c (constant_meaning n name.0.meaning source.0.meaning) (role_sought (kind.TsImportEqualsDecl false false) (name.0 ∷ source.0 ∷ [])) (constant_meaning (c.node n) name.1 source.1)
+  constant_same n fine name source =
+      let u : Unless c.names.plain (Unit {0}) = unless_is c.names.plain tt in
+      let binding : Both c = role_both n fine kind.BindingIdent (name ∷ role_both n fine kind.Absent [] tt u u ∷ []) tt u u in
+      let declarator : Both c = role_both n fine (kind.VarDeclarator false) (binding ∷ source ∷ []) tt u u in
+      subst (λ l. SameSeeking c (constant_meaning n name.0.meaning source.0.meaning) (record { sought = l; code_sought = []; body_sought = l }) (constant_meaning (c.node n) name.1 source.1))
+      (constant_sought (name.0.meaning.names ++ name.0.seeks.sought) source.0.seeks.sought)
+      (role_same n fine (kind.VarDecl Const false) (role_both n fine kind.List (declarator ∷ []) tt u u ∷ []) tt u u)
+
+  pub step_same : (n : Node) → c.fine n → (k : Kind) (ps : List (Both c)) → KeptLayer c k (firsts c ps) → Unless c.names.plain (OpensLayer c k (seekers c ps)) → Unless c.names.plain (Outlined c n k (seekers c ps))
+      → SameSeeking c (meaning_by n k (firsts c ps)) (sought_by k (seekers c ps)) (meaning_by (c.node n) (renamed_kind c k) (seconds c ps))
+  step_same n fine kind.ParenExpr (e ∷ []) kept o l = ending_same e.0.meaning e.0.seeks e.1 e.2
+  step_same n fine kind.TsAsExpr (e ∷ type ∷ []) kept o l = e.2
+  step_same n fine kind.TsTypeAssertion (e ∷ type ∷ []) kept o l = e.2
+  step_same n fine kind.TsConstAssertion (e ∷ []) kept o l = e.2
+  step_same n fine kind.TsNonNullExpr (e ∷ []) kept o l = e.2
+  step_same n fine kind.TsInstantiation (e ∷ types ∷ []) kept o l = e.2
+  step_same n fine kind.TsSatisfiesExpr (e ∷ type ∷ []) kept o l = e.2
+  step_same n fine kind.TsTypeAnn ps kept o l = role_same n fine kind.Absent [] tt (unless_is c.names.plain tt) (unless_is c.names.plain tt)
+  step_same n fine kind.TsTypeParamDecl ps kept o l = role_same n fine kind.Absent [] tt (unless_is c.names.plain tt) (unless_is c.names.plain tt)
+  step_same n fine kind.TsTypeParamInstantiation ps kept o l = role_same n fine kind.Absent [] tt (unless_is c.names.plain tt) (unless_is c.names.plain tt)
+  step_same n fine kind.TsQualifiedName (left ∷ right ∷ []) kept o l = role_same n fine kind.MemberExpr (left ∷ right ∷ []) kept o l
+  step_same n fine (kind.TsImportEqualsDecl false false) (name ∷ source ∷ []) kept o l = constant_same n fine name source
+  step_same n fine k ps kept o l = kind_same n fine k ps kept o l
+
+  -- where names are told apart everywhere
+  pub plain_step : c.names.plain ≡ true → (n : Node) → c.fine n → (k : Kind) (ps : List (Both c)) → KeptLayer c k (firsts c ps) → Same c (meaning_by n k (firsts c ps)) (meaning_by (c.node n) (renamed_kind c k) (seconds c ps))
+  plain_step plain n fine k ps kept =
+      any_seeking c plain (step_same n fine k ps kept (unless_plain c.names.plain plain (OpensLayer c k (seekers c ps))) (unless_plain c.names.plain plain (Outlined c n k (seekers c ps))))
 
   -- lists
 
-  no_reference : (w : World c) → AlikeReference c (outside {A = Value} >>= λ v. give (ToValue v)) (outside {A = Value} >>= λ v. give (ToValue v))
-  no_reference w = bind_alike c (outside_alike c) (λ v. give_by c (ToValue v) tt)
+  no_reference : {a : List Entered} (w : World (at c a)) (ids : List Id) → AlikeReference (at c a) (outside {A = Value} >>= λ v. give (ToValue v)) (outside {A = Value} >>= λ v. give (ToValue v))
+  no_reference {a} w ids = bind_alike (at c a) (outside_alike (at c a)) (λ v. give_by (at c a) (ToValue v) tt)
 
-  pub list_same : (n n' : Node) (items : List (Item c)) → Same c (meaning_by n kind.List (before c items)) (meaning_by n' kind.List (behind c items))
+  pub list_same : (n n' : Node) (items : List (Item c)) → SameSeeking c (meaning_by n kind.List (before c items)) (sought_by kind.List (seekers_before c items)) (meaning_by n' kind.List (behind c items))
   list_same n n' items = record {
-    value = λ w. outside_alike c;
-    reference = no_reference;
-    assigned = λ get get' h w. bind_alike c {A = Reference} (outside_alike c) (λ r. outside_alike c);
-    initial = λ w. outside_alike c;
-    arguments = λ w. all_arguments_alike c w items;
-    elements = λ w. all_elements_alike c w items;
-    texts = λ w. all_texts_alike c w items;
-    key = λ w. outside_alike c;
-    chain = λ w. bind_alike c {A = Reference} (outside_alike c) (λ r. outside_alike c);
-    link = λ optional w. outside_alike c;
-    bound = λ v w. outside_alike c;
-    matched = λ v w. all_matched_alike c w items v;
-    targets = λ v w. all_targets_alike c w items v;
-    parameters = λ arguments w. all_parameters_alike c w items arguments;
-    completion = λ w. all_completions_alike c w items;
-    varied = λ w. all_varied_alike c w items;
-    hoisted = λ w. all_hoisted_alike c w items;
-    effect = λ w. bind_alike c {A = Value} (outside_alike c) (λ _. give_alike c tt);
-    test = λ w. outside_alike c;
-    caught = λ v w. outside_alike c;
-    made = λ sort home w. outside_alike c;
-    class_made = λ ids w. outside_alike c;
-    defined = λ texts class object w. all_defined_alike c w items texts class object;
-    fields = λ keys object w. all_fields_alike c w items keys object;
-    statics = λ keys class w. all_statics_alike c w items keys class;
-    code = λ u arguments w. all_code_alike c w u items arguments;
-    body = λ names w. bind_alike c {A = Value} (outside_alike c) (λ v. return_alike c v);
+    value = λ w s. outside_alike (at c _);
+    reference = λ w s. no_reference w [];
+    assigned = λ get get' h w s. bind_alike (at c _) {A = Reference} (outside_alike (at c _)) (λ r. outside_alike (at c _));
+    initial = λ w s. outside_alike (at c _);
+    arguments = λ w s. all_arguments_alike c w items s;
+    elements = λ w s. all_elements_alike c w items s;
+    texts = λ w s. all_texts_alike c w items s;
+    key = λ w s. outside_alike (at c _);
+    chain = λ w s. bind_alike (at c _) {A = Reference} (outside_alike (at c _)) (λ r. outside_alike (at c _));
+    link = λ optional w s. outside_alike (at c _);
+    bound = λ v w s. outside_alike (at c _);
+    matched = λ v w s. all_matched_alike c w items s v;
+    targets = λ v w s. all_targets_alike c w items s v;
+    parameters = λ arguments w s. all_parameters_alike c w items s arguments;
+    completion = λ w s. all_completions_alike c w items s;
+    varied = λ w s. all_varied_alike c w items s;
+    hoisted = λ w s. all_hoisted_alike c w items s;
+    effect = λ w s. bind_alike (at c _) {A = Value} (outside_alike (at c _)) (λ _. give_alike (at c _) tt);
+    test = λ w s. outside_alike (at c _);
+    caught = λ v w s. outside_alike (at c _);
+    made = λ sort home w s. outside_alike (at c _);
+    class_made = λ ids outer opens w s. outside_alike (at c _);
+    defined = λ texts class object w s. all_defined_alike c w items s texts class object;
+    fields = λ keys object w s. all_fields_alike c w items s keys object;
+    statics = λ keys class w s. all_statics_alike c w items s keys class;
+    code = λ u arguments w s. all_code_alike c w u items s arguments;
+    body = λ names outer opens w s. bind_alike (at c _) {A = Value} (outside_alike (at c _)) (λ v. return_alike (at c _) v);
     names = all_names_same c items;
     lexicals = all_lexicals_same c items;
     vars = all_vars_same c items;
@@ -184,6 +217,7 @@ module _ (c : Change) where
     text = λ texts. refl;
     cooked = all_cooked_same c items;
     is_plain = all_plain_same c items;
+    is_computed = refl;
     is_super = refl;
     is_absent = refl;
     is_this = refl;
@@ -191,3 +225,6 @@ module _ (c : Change) where
     has_body = refl;
     is_constructor = any_constructor_same c items;
   }
+
+  pub plain_list : c.names.plain ≡ true → (n n' : Node) (items : List (Item c)) → Same c (meaning_by n kind.List (before c items)) (meaning_by n' kind.List (behind c items))
+  plain_list plain n n' items = any_seeking c plain (list_same n n' items)

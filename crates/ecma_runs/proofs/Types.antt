@@ -6,19 +6,19 @@ use Rattle.ecma_kind.specs.declared.span.Span.{Span}
 use Rattle.ecma_tree.specs.declared.node.Node.{Node, Node-F, fold-roll-Node, roll-Node, out-Node}
 use Rattle.ecma_tree.specs.Nodes.{absent, node_of}
 use Rattle.ecma_runs.specs.Erasure.{stays_by, stays, erased_by, erased, without_types}
-use Rattle.ecma_runs.specs.State.{Id}
-use Rattle.ecma_runs.specs.Meaning.{Meaning}
+use Rattle.ecma_runs.specs.Meaning.{Known, Meaning}
 use Rattle.ecma_runs.specs.Evaluation.{meaning_by, meaning}
-use Rattle.ecma_runs.specs.Observation.{observe}
+use Rattle.ecma_runs.specs.Observation.{known_of, observe}
 use Rattle.ecma_runs.specs.Laws.{TypesDoNotMatter}
 use Rattle.ecma_runs.proofs.Layer.{meaning-roll, meaning_out}
-use Rattle.ecma_runs.proofs.Alike.{Change}
+use Rattle.ecma_runs.proofs.Scopes.{none_stand}
+use Rattle.ecma_runs.proofs.Alike.{Change, seeker_of}
 use Rattle.ecma_runs.proofs.Environments.{KeepTexts}
 use Rattle.ecma_runs.proofs.Meanings.{Same}
 use Rattle.ecma_runs.proofs.Lists.{Silent, Item, Stays, Goes, before, behind}
-use Rattle.ecma_runs.proofs.Steps.{list_same}
+use Rattle.ecma_runs.proofs.Steps.{plain_list}
 use Rattle.ecma_runs.proofs.Kept.{AllNodes, Kept, StepsAlike, layer_same, observe_unless}
-use Rattle.ecma_runs.proofs.Layers.{images, texts_stay, the_same, none_excused, all_units, same_kind, kept_layer}
+use Rattle.ecma_runs.proofs.Layers.{plain_starts, images, texts_stay, the_same, none_excused, all_units, same_kind, kept_layer}
 
 -- of the images of a list's items those stay that `stays` tells; the others do nothing
 module _ (c : Change) (stay : Node → Bool) (silent : (n : Node) → Kept c n → stay (c.node n) ≡ false → Silent c (meaning n)) where
@@ -27,7 +27,7 @@ module _ (c : Change) (stay : Node → Bool) (silent : (n : Node) → Kept c n �
   Fine n = stay (c.node n) ≡ true → c.fine n
 
   item_by : (n : Node) → Kept c n → Fine n → (b : Bool) → stay (c.node n) ≡ b → Item c
-  item_by n kept fine true e = Stays (meaning n, meaning (c.node n), kept (fine e))
+  item_by n kept fine true e = Stays (seeker_of c n, meaning (c.node n), kept (fine e))
   item_by n kept fine false e = Goes (meaning n) (silent n kept e)
 
   pub items : (ns : List ((n : Node) × Kept c n)) → AllNodes Fine (map (λ e. e.0) ns) → List (Item c)
@@ -55,27 +55,27 @@ module _ (c : Change) (stay : Node → Bool) (silent : (n : Node) → Kept c n �
   behind_items [] fine = refl
   behind_items (n ∷ ns) fine = behind_by n.0 n.1 fine.0 (stay (c.node n.0)) refl (items ns fine.1) _ (behind_items ns fine.1)
 
-  pub filtered_same : (n n' : Node) (ns : List ((n : Node) × Kept c n)) → AllNodes Fine (map (λ e. e.0) ns)
+  pub filtered_same : c.names.plain ≡ true → (n n' : Node) (ns : List ((n : Node) × Kept c n)) → AllNodes Fine (map (λ e. e.0) ns)
       → Same c (meaning_by n kind.List (map meaning (map (λ e. e.0) ns))) (meaning_by n' kind.List (map meaning (filter stay (map c.node (map (λ e. e.0) ns)))))
-  filtered_same n n' ns fine =
+  filtered_same plain n n' ns fine =
       subst (λ l. Same c (meaning_by n kind.List l) (meaning_by n' kind.List (map meaning (filter stay (map c.node (map (λ e. e.0) ns)))))) (before_items ns fine)
-      (subst (λ l. Same c (meaning_by n kind.List (before c (items ns fine))) (meaning_by n' kind.List l)) (behind_items ns fine) (list_same c n n' (items ns fine)))
+      (subst (λ l. Same c (meaning_by n kind.List (before c (items ns fine))) (meaning_by n' kind.List l)) (behind_items ns fine) (plain_list c plain n n' (items ns fine)))
 
 -- what does as an alias does nothing
 pub alias_silent : (c : Change) (n' : Node) (m : Meaning) → KeepTexts c m.shorthands → Same c m (meaning_by n' (kind.TsTypeAliasDecl false) []) → Silent c m
 alias_silent c n' m texts same = record {
-  arguments = same.arguments;
-  elements = same.elements;
-  texts = same.texts;
-  matched = same.matched;
-  targets = same.targets;
-  parameters = same.parameters;
-  completion = same.completion;
-  varied = same.varied;
-  hoisted = same.hoisted;
-  defined = same.defined texts;
-  fields = same.fields;
-  statics = same.statics;
+  arguments = λ w. same.arguments w (none_stand c.names);
+  elements = λ w. same.elements w (none_stand c.names);
+  texts = λ w. same.texts w (none_stand c.names);
+  matched = λ v w. same.matched v w (none_stand c.names);
+  targets = λ v w. same.targets v w (none_stand c.names);
+  parameters = λ arguments w. same.parameters arguments w (none_stand c.names);
+  completion = λ w. same.completion w (none_stand c.names);
+  varied = λ w. same.varied w (none_stand c.names);
+  hoisted = λ w. same.hoisted w (none_stand c.names);
+  defined = λ class object w. same.defined texts class object w (none_stand c.names);
+  fields = λ keys object w. same.fields keys object w (none_stand c.names);
+  statics = λ keys class w. same.statics keys class w (none_stand c.names);
   names = sym same.names;
   lexicals = sym same.lexicals;
   vars = sym same.vars;
@@ -97,9 +97,9 @@ alias_by n _ ms e = absurd (cc)
 abbrev Layer : Span → Kind → List Node → Node-F Node
 Layer span k ns = record { span = span; kind = k; children = ns }
 
-module _ (declared : List Id) where
+module _ (known : Known) where
   abbrev untyped : Change
-  untyped = images without_types declared the_same
+  untyped = images without_types known the_same
 
   gone_silent : (n : Node) → Kept untyped n → stays (without_types n) ≡ false → Silent untyped (meaning n)
   gone_silent n kept e =
@@ -116,8 +116,8 @@ module _ (declared : List Id) where
       → meaning (without_types (roll-Node (Layer span k cs))) ≡ meaning_by (without_types (roll-Node (Layer span k cs))) k (map meaning (map without_types cs))
       → Same untyped (meaning (roll-Node (Layer span k cs))) (meaning (without_types (roll-Node (Layer span k cs))))
   other_same span k cs ns is e =
-      layer_same untyped (Layer span k cs) ns is tt (all_units cs) (kept_layer (λ n. Unit {0}) without_types declared the_same k (map meaning cs))
-      (e ∙ ap (λ z. meaning_by (without_types (roll-Node (Layer span k cs))) z (map meaning (map without_types cs))) (sym (same_kind (λ n. Unit {0}) without_types declared the_same k)))
+      layer_same untyped (Layer span k cs) ns is tt (all_units cs) (kept_layer (λ n. Unit {0}) without_types known the_same k (map meaning cs)) tt
+      (e ∙ ap (λ z. meaning_by (without_types (roll-Node (Layer span k cs))) z (map meaning (map without_types cs))) (sym (same_kind (λ n. Unit {0}) without_types known the_same k)))
 
   erased_meaning : (span : Span) (k : Kind) (cs : List Node) → erased_by k (map without_types cs) (Layer span k (map without_types cs)) ≡ roll-Node (Layer span k (map without_types cs))
       → meaning (without_types (roll-Node (Layer span k cs))) ≡ meaning_by (without_types (roll-Node (Layer span k cs))) k (map meaning (map without_types cs))
@@ -143,7 +143,7 @@ module _ (declared : List Id) where
       let b : meaning (without_types (roll-Node (Layer span kind.List cs))) ≡ meaning_by n' kind.List (map meaning (filter stays (map without_types (map (λ e. e.0) ns)))) =
       ap meaning (fold-roll-Node Node erased (Layer span kind.List cs)) ∙ meaning-roll (Layer span kind.List (filter stays (map without_types cs)))
       ∙ ap (λ l. meaning_by n' kind.List (map meaning (filter stays (map without_types l)))) (sym is) in
-      rw (a, b) (filtered_same untyped stays gone_silent (roll-Node (Layer span kind.List cs)) n' ns (all_fine (map (λ e. e.0) ns)))
+      rw (a, b) (filtered_same untyped stays gone_silent refl (roll-Node (Layer span kind.List cs)) n' ns (all_fine (map (λ e. e.0) ns)))
 
   layer_step : (span : Span) (k : Kind) (cs : List Node) (ns : List ((n : Node) × Kept untyped n)) → map (λ e. e.0) ns ≡ cs
       → Same untyped (meaning (roll-Node (Layer span k cs))) (meaning (without_types (roll-Node (Layer span k cs))))
@@ -165,4 +165,4 @@ module _ (declared : List Id) where
 pub types_do_not_matter : TypesDoNotMatter
 types_do_not_matter turns options m script =
     ap (λ n. observe n options (without_types m) script) (sym (add-zero turns))
-    ∙ observe_unless (untyped (meaning m).declared) refl (types_steps (meaning m).declared) refl refl turns options m script tt refl tt tt (none_excused _)
+    ∙ observe_unless (untyped (known_of m)) refl (types_steps (known_of m)) refl refl turns options m script tt refl plain_starts tt tt (none_excused _)

@@ -1,5 +1,5 @@
 -- What properties of objects, classes and their members do, and the code of functions (ECMAScript, 13.2.5, 15.2 to 15.7).
-use Rattle.std.specs.Prelude.{ℕ, List, [], ◌∷◌, ◌++◌, map, Option, Some, None, Bool, true, false, not, cond, ◌||◌, bytes_eq, codes}
+use Rattle.std.specs.Prelude.{ℕ, List, [], ◌∷◌, ◌++◌, map, Option, Some, None, Bool, true, false, not, cond, ◌||◌, ◌&&◌, bytes_eq, codes}
 use Rattle.ecma_kind.specs.declared.kind.Kind.{Kind}
 use Rattle.ecma_kind.specs.declared.kind.Kind.TheVariants as kind
 use Rattle.ecma_kind.specs.declared.operators.MethodKind.{MethodKind}
@@ -22,7 +22,7 @@ abbrev pub made_of : Node → Kind → List Meaning → Sort → Option ℕ → 
 made_of node (kind.Function false false) children sort home x = make_function node sort home x
 made_of node _ children sort home x = outside
 
--- 10.2.3 EvaluateBody, in a record of the body's own, in which a `var` or function with a parameter's name is the parameter; the body of an arrow may be an expression
+-- 10.2.1.3 EvaluateBody, in a record of the body's own, in which a `var` or function with a parameter's name is the parameter; the body of an arrow may be an expression
 abbrev pub body_of : Node → Kind → List Meaning → List Id → Evaluation (Unit {0})
 body_of node kind.BlockStmt (statements ∷ []) names x =
     new_environment (except names (statements.vars ++ statements.lexicals)) None >>= λ place.
@@ -109,7 +109,8 @@ keeping_keys keys object = record object { callable = with_field_keys keys objec
 abbrev pub keep_field_keys : ℕ → List (List ℕ) → Run (Unit {0})
 keep_field_keys place keys s = Done tt (record s { objects = changed_at (keeping_keys keys) place s.objects })
 
--- 15.7.14 ClassDefinitionEvaluation: heritage, methods and keys, inner name, static fields
+-- 15.7.14 ClassDefinitionEvaluation: heritage, methods and keys, inner name, static fields. The heritage is checked before a key is evaluated (step 8);
+-- node evaluates the keys first, so there is no fact of a heritage that throws beside keys that have events.
 abbrev pub class_in : Node → Meaning → Meaning → List Id → Entered → Evaluation Value
 class_in node super body names scope x =
     heritage super (inside x scope) >>= λ parents.
@@ -135,9 +136,14 @@ define_method method.Method object key f = define_data object key (Own f)
 define_method method.Getter object key f = define object key (with_getter f)
 define_method method.Setter object key f = define object key (with_setter f)
 
--- the key `__proto__` of an object literal is open
-abbrev pub literal_key : List ℕ → Run (List ℕ)
-literal_key key = when (bytes_eq key (codes "__proto__")) outside (give key)
+-- whether a key with a value sets the prototype, in the place of making a property: `__proto__` in no brackets
+-- (B.3.1 __proto__ Property Names in Object Initializers)
+abbrev pub sets_prototype : Bool → List ℕ → Bool
+sets_prototype is_computed key = not is_computed && bytes_eq key (codes "__proto__")
+
+-- the key of `key: value`; where it sets the prototype, that is open
+abbrev pub literal_key : Bool → List ℕ → Run (List ℕ)
+literal_key is_computed key = when (sets_prototype is_computed key) outside (give key)
 
 abbrev pub all_defined : List Meaning → ℕ → ℕ → Evaluation (List (List ℕ))
 all_defined [] class object x = give []
@@ -149,15 +155,15 @@ abbrev pub defined_of : Node → Kind → List Meaning → ℕ → ℕ → Evalu
 defined_of node kind.List items class object x = all_defined items class object x
 -- a shorthand
 defined_of node (kind.Ident sym ctxt optional) [] class object x =
-    literal_key sym >>= λ k. identifier sym ctxt x >>= λ r. read x r >>= λ v. define_data object k v >>= λ _. give []
+    identifier sym ctxt x >>= λ r. read x r >>= λ v. define_data object sym v >>= λ _. give []
 defined_of node kind.KeyValueProp (key ∷ value ∷ []) class object x =
-    key.key x >>= λ k. literal_key k >>= λ k. value.value x >>= λ v. define_data object k v >>= λ _. give []
+    key.key x >>= λ k. literal_key key.is_computed k >>= λ k. value.value x >>= λ v. define_data object k v >>= λ _. give []
 defined_of node kind.MethodProp (key ∷ function ∷ []) class object x =
-    key.key x >>= λ k. literal_key k >>= λ k. function.made Method (Some object) x >>= λ f. define_method method.Method object k f >>= λ _. give []
+    key.key x >>= λ k. function.made Method (Some object) x >>= λ f. define_method method.Method object k f >>= λ _. give []
 defined_of node kind.GetterProp (key ∷ type ∷ body ∷ []) class object x =
-    key.key x >>= λ k. literal_key k >>= λ k. make_function node Method (Some object) x >>= λ f. define_method method.Getter object k f >>= λ _. give []
+    key.key x >>= λ k. make_function node Method (Some object) x >>= λ f. define_method method.Getter object k f >>= λ _. give []
 defined_of node kind.SetterProp (key ∷ this_parameter ∷ parameter ∷ body ∷ []) class object x =
-    key.key x >>= λ k. literal_key k >>= λ k. make_function node Method (Some object) x >>= λ f. define_method method.Setter object k f >>= λ _. give []
+    key.key x >>= λ k. make_function node Method (Some object) x >>= λ f. define_method method.Setter object k f >>= λ _. give []
 defined_of node (kind.ClassMethod sort modifiers) (key ∷ function ∷ []) class object x =
     key.key x >>= λ k. function.made Method (Some (cond modifiers.is_static class object)) x >>= λ f.
     define_method sort (cond modifiers.is_static class object) k f >>= λ _. give []
@@ -174,7 +180,7 @@ abbrev pub define_field : Value → List ℕ → Value → Run (Unit {0})
 define_field (Own place) key v = define_data place key v
 define_field object key v = outside
 
--- a field takes the first key that is left, and is defined if it is one of these (7.3.31 DefineField)
+-- a field takes the first key that is left, and is defined if it is one of these (7.3, DefineField)
 abbrev pub field_with : Bool → Meaning → List (List ℕ) → Value → Evaluation (List (List ℕ))
 field_with is_here value [] object x = outside
 field_with is_here value (key ∷ keys) object x = when is_here (value.initial x >>= λ v. define_field object key v) (give tt) >>= λ _. give keys

@@ -39,7 +39,7 @@ abbrev pub imported_as : Option (List ℕ) → List ℕ → List Id → List Bin
 imported_as None source ids = []
 imported_as (Some name) source ids = map (import_of source name) ids
 
--- 16.2.2.2 ImportEntriesForModule
+-- 16.2.2.3 ImportEntriesForModule
 abbrev pub imported_of : Kind → List Meaning → List ℕ → List Binding
 imported_of kind.List items source = all_imported items source
 imported_of kind.ImportDefaultSpecifier (local ∷ []) source = map (import_of source (codes "default")) local.names
@@ -179,6 +179,11 @@ is_plain_of kind.Param (pattern' ∷ []) = pattern'.is_plain
 is_plain_of kind.List items = all_plain items
 is_plain_of (kind.TsTypeAliasDecl declare) children = true
 is_plain_of _ children = false
+
+-- 13.2.5.2 IsComputedPropertyKey
+abbrev pub is_computed_of : Kind → Bool
+is_computed_of kind.ComputedPropName = true
+is_computed_of _ = false
 
 abbrev pub is_super_of : Kind → Bool
 is_super_of kind.Super = true

@@ -6,6 +6,7 @@ use Rattle.ecma_runs.specs.Values.{Value, Undefined}
 use Rattle.ecma_runs.specs.State.{Id, same_id, Entered, Content, Empty, Holds, Imported, Binding, Arguments, Activation, Environment, State}
 use Rattle.ecma_runs.specs.Run.{Done, Run, ◌>>=◌, give, outside, reference_error, type_error, when, given_or, changed_at}
 use Rattle.ecma_runs.specs.Host.{import_value, taken_if}
+use Rattle.ecma_runs.specs.Objects.{Base}
 
 -- records
 
@@ -80,8 +81,8 @@ pub data Reference : Type 0 where
   ToFree : List ℕ → Reference
   -- a member of a value
   ToMember : Value → List ℕ → Reference
-  -- a `super` member: `this`, the home object, behind which the look-up begins, and the key
-  ToSuper : Value → ℕ → List ℕ → Reference
+  -- a `super` member: `this`, the base, and the key
+  ToSuper : Value → Base → List ℕ → Reference
   -- `import.meta`, and a member of it, by its value
   ToImportMeta : Reference
   ToMetaMember : Value → Reference

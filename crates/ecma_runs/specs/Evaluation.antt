@@ -2,21 +2,22 @@
 use Rattle.std.specs.Prelude.{ℕ, zero, suc, List, [], ◌∷◌, map, Option, Some, None, false, cond}
 use Rattle.ecma_kind.specs.declared.kind.Kind.{Kind}
 use Rattle.ecma_kind.specs.declared.kind.Kind.TheVariants as kind
+use Rattle.ecma_kind.specs.declared.operators.VarDeclKind.TheVariants.{Const}
 use Rattle.ecma_tree.specs.declared.node.Node.{Node, Node-F, fold-Node}
 use Rattle.ecma_tree.specs.Nodes.{node_of}
 use Rattle.ecma_runs.specs.Values.{Value, Undefined, Own, Host, Error}
-use Rattle.ecma_runs.specs.State.{Id, Binding, Given, Activation, Sort, Plain, Method, Arrow, BaseClass, DerivedClass, Closure, Object, Ordinary}
+use Rattle.ecma_runs.specs.State.{Binding, Given, Activation, Sort, Plain, Method, Arrow, BaseClass, DerivedClass, Closure, Object, Ordinary}
 use Rattle.ecma_runs.specs.Run.{Ended, TurnsSpent, Run, ◌>>=◌, give, outside, reference_error, type_error, when, given_or, returned_by, spend}
 use Rattle.ecma_runs.specs.Host.{Provided}
 use Rattle.ecma_runs.specs.Environment.{empty, new_environment, activation_at}
-use Rattle.ecma_runs.specs.Meaning.{Invocation, AsCall, AsConstruct, Functions, ExecutionContext, inside, Evaluation, Meaning}
+use Rattle.ecma_runs.specs.Meaning.{Invocation, AsCall, AsConstruct, Functions, ExecutionContext, inside, Evaluation, Meaning, Known}
 use Rattle.ecma_runs.specs.Objects.{new_object, closure_at}
 use Rattle.ecma_runs.specs.Functions.{pass_function, prototype_for}
 use Rattle.ecma_runs.specs.Expressions.{value_of, reference_of, initial_of, arguments_of, elements_of, texts_of, key_of, chain_of, link_of, test_of}
 use Rattle.ecma_runs.specs.Patterns.{assigned_of, bound_of, matched_of, targets_of, parameters_of}
 use Rattle.ecma_runs.specs.Classes.{made_of, class_made_of, defined_of, fields_of, statics_of, code_of, body_of, field_activation}
 use Rattle.ecma_runs.specs.Statements.{completion_of, varied_of, hoisted_of, effect_of, caught_of}
-use Rattle.ecma_runs.specs.Declarations.{names_of, lexicals_of, vars_of, locals_of, parameter_names_of, declared_of, shorthands_of, imported_of, text_of, cooked_of, is_plain_of, is_super_of, is_absent_of, is_this_of, is_type_of, has_body_of, is_constructor_of, has_no_effect}
+use Rattle.ecma_runs.specs.Declarations.{names_of, lexicals_of, vars_of, locals_of, parameter_names_of, declared_of, shorthands_of, imported_of, text_of, cooked_of, is_plain_of, is_computed_of, is_super_of, is_absent_of, is_this_of, is_type_of, has_body_of, is_constructor_of, has_no_effect}
 
 -- code runs in a record of its own
 abbrev pub in_record : List Binding → Option Activation → Evaluation (Unit {0}) → (ℕ → Value → Run Value) → ExecutionContext → Run Value
@@ -82,6 +83,7 @@ role_by node k children = record {
   text = text_of k children;
   cooked = cooked_of k children;
   is_plain = is_plain_of k children;
+  is_computed = is_computed_of k;
   is_super = is_super_of k;
   is_absent = is_absent_of k;
   is_this = is_this_of k children;
@@ -98,6 +100,12 @@ ending_chain m = record m { chain = λ x. m.reference x >>= λ r. give (Some r) 
 abbrev pub no_effect : Node → Meaning
 no_effect node = role_by node (kind.TsTypeAliasDecl false) []
 
+-- what `const name = value` means
+abbrev pub constant_meaning : Node → Meaning → Meaning → Meaning
+constant_meaning node name value =
+    role_by node (kind.VarDecl Const false)
+    (role_by node kind.List (role_by node (kind.VarDeclarator false) (role_by node kind.BindingIdent (name ∷ role_by node kind.Absent [] ∷ []) ∷ value ∷ []) ∷ []) ∷ [])
+
 -- an expression with a type means what the expression means, annotations, type parameters and type arguments what a missing child means, and what has no effect what an alias means, in every role
 abbrev pub meaning_by : Node → Kind → List Meaning → Meaning
 meaning_by node kind.ParenExpr (e ∷ []) = ending_chain e
@@ -110,6 +118,9 @@ meaning_by node kind.TsSatisfiesExpr (e ∷ type ∷ []) = e
 meaning_by node kind.TsTypeAnn children = role_by node kind.Absent []
 meaning_by node kind.TsTypeParamDecl children = role_by node kind.Absent []
 meaning_by node kind.TsTypeParamInstantiation children = role_by node kind.Absent []
+-- a dotted name behind `import a =` means a member, and the import a constant (TypeScript handbook, "Namespaces", "Aliases")
+meaning_by node kind.TsQualifiedName (left ∷ right ∷ []) = role_by node kind.MemberExpr (left ∷ right ∷ [])
+meaning_by node (kind.TsImportEqualsDecl false false) (name ∷ source ∷ []) = constant_meaning node name source
 meaning_by node k children = cond (has_no_effect k children) (no_effect node) (role_by node k children)
 
 -- a node, and what it means
@@ -182,43 +193,43 @@ fields_by m DerivedClass closure object x = class_fields m closure object x
 fields_by m sort closure object x = give tt
 
 -- what a closure does where its scope is around, and calls do what is given
-abbrev pub closure_context : Functions → Provided → List Id → Closure → ExecutionContext
-closure_context functions provided declared closure = record { functions = functions; scope = closure.scope; provided = provided; declared = declared }
+abbrev pub closure_context : Functions → Provided → Known → Closure → ExecutionContext
+closure_context functions provided known closure = record { functions = functions; scope = closure.scope; provided = provided; known = known }
 
-abbrev pub invoke_closure : Functions → Provided → List Id → ℕ → Invocation → List Value → Option Closure → Run Value
-invoke_closure functions provided declared function how arguments None = outside
-invoke_closure functions provided declared function how arguments (Some closure) =
-    invoked (meaning closure.node) function closure.home closure.sort how arguments (closure_context functions provided declared closure)
+abbrev pub invoke_closure : Functions → Provided → Known → ℕ → Invocation → List Value → Option Closure → Run Value
+invoke_closure functions provided known function how arguments None = outside
+invoke_closure functions provided known function how arguments (Some closure) =
+    invoked (meaning closure.node) function closure.home closure.sort how arguments (closure_context functions provided known closure)
 
-abbrev pub fields_of_closure : Functions → Provided → List Id → Value → Option Closure → Run (Unit {0})
-fields_of_closure functions provided declared object None = outside
-fields_of_closure functions provided declared object (Some closure) =
-    fields_by (meaning closure.node) closure.sort closure object (closure_context functions provided declared closure)
+abbrev pub fields_of_closure : Functions → Provided → Known → Value → Option Closure → Run (Unit {0})
+fields_of_closure functions provided known object None = outside
+fields_of_closure functions provided known object (Some closure) =
+    fields_by (meaning closure.node) closure.sort closure object (closure_context functions provided known closure)
 
 -- within the fields of a class no super() stands
 abbrev pub no_fields : ℕ → Value → Run (Unit {0})
 no_fields function object = outside
 
-abbrev pub fields_with : (ℕ → Invocation → List Value → Run Value) → Provided → List Id → ℕ → Value → Run (Unit {0})
-fields_with invoke provided declared function object s =
-    fields_of_closure (record { invoke = invoke; fields = no_fields }) provided declared object (closure_at function s) s
+abbrev pub fields_with : (ℕ → Invocation → List Value → Run Value) → Provided → Known → ℕ → Value → Run (Unit {0})
+fields_with invoke provided known function object s =
+    fields_of_closure (record { invoke = invoke; fields = no_fields }) provided known object (closure_at function s) s
 
-abbrev pub functions_with : (ℕ → Invocation → List Value → Run Value) → Provided → List Id → Functions
-functions_with invoke provided declared = record { invoke = invoke; fields = fields_with invoke provided declared }
+abbrev pub functions_with : (ℕ → Invocation → List Value → Run Value) → Provided → Known → Functions
+functions_with invoke provided known = record { invoke = invoke; fields = fields_with invoke provided known }
 
 -- a call: a turn, and then what the function does
-abbrev pub apply_at : (ℕ → Invocation → List Value → Run Value) → Provided → List Id → ℕ → Invocation → List Value → Run Value
-apply_at invoke provided declared function how arguments s =
-    invoke_closure (functions_with invoke provided declared) provided declared function how arguments (closure_at function s) s
+abbrev pub apply_at : (ℕ → Invocation → List Value → Run Value) → Provided → Known → ℕ → Invocation → List Value → Run Value
+apply_at invoke provided known function how arguments s =
+    invoke_closure (functions_with invoke provided known) provided known function how arguments (closure_at function s) s
 
-abbrev pub apply : (ℕ → Invocation → List Value → Run Value) → Provided → List Id → ℕ → Invocation → List Value → Run Value
-apply invoke provided declared function how arguments = spend >>= λ _. apply_at invoke provided declared function how arguments
+abbrev pub apply : (ℕ → Invocation → List Value → Run Value) → Provided → Known → ℕ → Invocation → List Value → Run Value
+apply invoke provided known function how arguments = spend >>= λ _. apply_at invoke provided known function how arguments
 
 -- calls that stand so deep in one another
-abbrev pub calls : Provided → List Id → ℕ → ℕ → Invocation → List Value → Run Value
-calls provided declared zero function how arguments s = Ended TurnsSpent s
-calls provided declared (suc n) function how arguments s = apply (calls provided declared n) provided declared function how arguments s
+abbrev pub calls : Provided → Known → ℕ → ℕ → Invocation → List Value → Run Value
+calls provided known zero function how arguments s = Ended TurnsSpent s
+calls provided known (suc n) function how arguments s = apply (calls provided known n) provided known function how arguments s
 
 -- what a call does: each spends a turn, so no more stand in one another than turns are left. It is `apply` of itself (the law `CallsAreApplications`).
-abbrev pub invoke : Provided → List Id → ℕ → Invocation → List Value → Run Value
-invoke provided declared function how arguments s = calls provided declared s.turns function how arguments s
+abbrev pub invoke : Provided → Known → ℕ → Invocation → List Value → Run Value
+invoke provided known function how arguments s = calls provided known s.turns function how arguments s

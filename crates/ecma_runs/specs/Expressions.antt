@@ -18,14 +18,14 @@ use Rattle.ecma_runs.specs.Run.{Run, ◌>>=◌, give, outside, type_error, when,
 use Rattle.ecma_runs.specs.Environment.{Reference, ToMember, ToSuper, ToImportMeta, ToMetaMember, ToValue, resolved, activation, this, new_environment, set_all, empty}
 use Rattle.ecma_runs.specs.Meaning.{ExecutionContext, inside, Evaluation, Meaning}
 use Rattle.ecma_runs.specs.Operators.{text_from, number_from, key_from, binary_value, operator_of, short_circuit, logical_operator_of, unary_value, updated}
-use Rattle.ecma_runs.specs.Objects.{new_object, new_array}
+use Rattle.ecma_runs.specs.Objects.{super_base, new_object, new_array}
 use Rattle.ecma_runs.specs.Members.{has_member, instance_of, type_of}
 use Rattle.ecma_runs.specs.Functions.{read, write, read_object, read_typed, delete, Callee, Called, CalledSuper, Borrowed, callee_by, call, construct, super_call, make_function}
 
 -- names and members
 
 abbrev pub identifier : List ℕ → ℕ → Evaluation Reference
-identifier sym ctxt x = resolved x.scope x.declared (record { sym = sym; ctxt = ctxt })
+identifier sym ctxt x = resolved x.scope x.known.declared (record { sym = sym; ctxt = ctxt })
 
 -- `import.meta` has one known member: the script's text
 abbrev pub meta_member : ExecutionContext → List ℕ → Run Reference
@@ -39,10 +39,11 @@ member_of x r key = read_object x r >>= λ o. key >>= λ k. give (ToMember o k)
 abbrev pub member_reference : Meaning → Meaning → Evaluation Reference
 member_reference object key x = object.reference x >>= λ r. member_of x r (key.key x)
 
--- 13.3.7.3 MakeSuperPropertyReference; before super() has returned it is open
+-- 13.3.7.3 MakeSuperPropertyReference: the base is taken here, behind the key; before super() has returned it is open
 abbrev pub super_reference : Meaning → Evaluation Reference
 super_reference key x =
-    activation x.scope >>= λ a. given a.1.this >>= λ receiver. key.key x >>= λ k. given a.1.home >>= λ home. give (ToSuper receiver home k)
+    activation x.scope >>= λ a. given a.1.this >>= λ receiver. key.key x >>= λ k.
+    given a.1.home >>= λ home. super_base home >>= λ base. give (ToSuper receiver base k)
 
 -- what a chain gives that may have ended
 abbrev pub chained : Option Reference → Reference

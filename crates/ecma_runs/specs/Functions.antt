@@ -33,7 +33,7 @@ abbrev pub read : ExecutionContext → Reference → Run Value
 read x (ToVariable place id) = read_variable x.provided.imports place id
 read x (ToFree name) = read_name x name (read_free x.provided.frees name)
 read x (ToMember o key) = member x o key
-read x (ToSuper this home key) = super_member x this home key
+read x (ToSuper this base key) = super_member x this base key
 read x ToImportMeta = outside
 read x (ToMetaMember v) = give v
 read x (ToValue v) = give v
@@ -42,7 +42,7 @@ read x (ToValue v) = give v
 abbrev pub write : ExecutionContext → Reference → Value → Run (Unit {0})
 write x (ToVariable place id) v = write_variable place id v
 write x (ToMember o key) v = set_member x o key v
-write x (ToSuper this home key) v = set_super_member x this home key v
+write x (ToSuper this base key) v = set_super_member x this base key v
 write x r v = outside
 
 -- the object of a member, and the operand of `new`: free `Math` and `Date` are open
@@ -93,7 +93,7 @@ member_callee x o key = member x o key >>= λ f. give (Called f o)
 abbrev pub callee_by : ExecutionContext → Reference → Run Callee
 callee_by x (ToFree name) = when (is_open_callee name) outside (read x (ToFree name) >>= λ f. give (Called f Undefined))
 callee_by x (ToMember o key) = member_callee x o key
-callee_by x (ToSuper this home key) = super_member x this home key >>= λ f. give (CalledSuper f this)
+callee_by x (ToSuper this base key) = super_member x this base key >>= λ f. give (CalledSuper f this)
 callee_by x r = read x r >>= λ f. give (Called f Undefined)
 
 -- calls
@@ -149,12 +149,14 @@ abbrev pub all_but_first : List Value → List Value
 all_but_first [] = []
 all_but_first (v ∷ vs) = vs
 
--- 7.3.18 CreateListFromArrayLike, of an array or `arguments`; of others it is open
+-- CreateListFromArrayLike (7.3), of an array or `arguments`; of another object it is open
 abbrev pub list_from : Value → Run (List Value)
 list_from Undefined = give []
 list_from Null = give []
 list_from (Own place) = elements_at place
-list_from v = outside
+list_from (Host number) = outside
+list_from (Error error_kind) = outside
+list_from v = type_error
 
 -- what is bound, with more arguments
 abbrev pub bound_to : ℕ → Value → List Value → Option Calling → Callable

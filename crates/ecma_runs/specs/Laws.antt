@@ -2,7 +2,7 @@
 use Rattle.std.specs.Prelude.{◌≡◌, ◌≢◌, ℕ, ◌+◌, List, [], ◌++◌, IsTrue}
 use Rattle.ecma_tree.specs.declared.node.Node.{Node}
 use Rattle.ecma_runs.specs.Erasure.{without_types}
-use Rattle.ecma_runs.specs.declared.config.Config.{Config}
+use Rattle.ecma_config.specs.declared.config.Config.{Config}
 use Rattle.ecma_runs.specs.declared.observation.Event.{Event}
 use Rattle.ecma_runs.specs.declared.observation.Ending.TheVariants as ending
 use Rattle.ecma_runs.specs.declared.script.Action.{Action}
@@ -11,10 +11,11 @@ use Rattle.ecma_runs.specs.Values.{Value}
 use Rattle.ecma_runs.specs.State.{Id, Entered, State}
 use Rattle.ecma_runs.specs.Run.{Outcome, Done, Thrown, Returned, Broken, Continued, Ended}
 use Rattle.ecma_runs.specs.Host.{Provided}
-use Rattle.ecma_runs.specs.Meaning.{Invocation}
+use Rattle.ecma_runs.specs.Meaning.{Invocation, Known}
 use Rattle.ecma_runs.specs.Evaluation.{apply, invoke}
 use Rattle.ecma_runs.specs.Observation.{observe, module_context, run_body, act}
 use Rattle.ecma_runs.specs.Names.{renamed, IsRenaming}
+use Rattle.ecma_runs.specs.Meeting.{MayMeet}
 use Rattle.ecma_runs.specs.Sources.{AgreeUpToSources}
 use Rattle.ecma_runs.specs.Uses.{uses_nothing}
 use Rattle.ecma_runs.specs.Wrappers.{without_wrappers, without_parentheses}
@@ -39,6 +40,10 @@ ParenthesesDoNotMatter = (turns : ℕ) (options : Config) (m : Node) (script : S
 abbrev pub NamesDoNotMatter : Type 0
 NamesDoNotMatter = (turns : ℕ) (options : Config) (m : Node) (script : Script) (to : Id → Id) → IsRenaming to m → observe turns options (renamed to m) script ≡ observe turns options m script
 
+-- names may also be mapped several to one, where no identifier is caught
+abbrev pub NamesMayMeet : Type 0
+NamesMayMeet = (turns : ℕ) (options : Config) (m : Node) (script : Script) (to : Id → Id) → MayMeet to m → observe turns options (renamed to m) script ≡ observe turns options m script
+
 -- a run that did not want for turns is the same with more
 abbrev pub SpareTurnsDoNotMatter : Type 0
 SpareTurnsDoNotMatter =
@@ -48,8 +53,8 @@ SpareTurnsDoNotMatter =
 -- a call is a turn, and then what the function does, in which calls are calls again: it does not matter how deep they stand
 abbrev pub CallsAreApplications : Type 0
 CallsAreApplications =
-    (provided : Provided) (declared : List Id) (function : ℕ) (how : Invocation) (arguments : List Value) →
-    invoke provided declared function how arguments ≡ apply (invoke provided declared) provided declared function how arguments
+    (provided : Provided) (known : Known) (function : ℕ) (how : Invocation) (arguments : List Value) →
+    invoke provided known function how arguments ≡ apply (invoke provided known) provided known function how arguments
 
 -- the state in which a part of a run comes out
 abbrev pub state_behind : {A : Type 0} → Outcome A → State
@@ -67,9 +72,9 @@ Extends before after = (more : List Event) × (after ≡ before ++ more)
 -- the events before are the first of those behind
 pub record EventsOnlyGrow : Type 0 where
   -- while a module's body runs
-  pub body : (provided : Provided) (declared : List Id) (entered : Entered) (m : Node) (s : State) → Extends s.events (state_behind (run_body (module_context provided declared entered) m s)).events
+  pub body : (provided : Provided) (known : Known) (entered : Entered) (m : Node) (s : State) → Extends s.events (state_behind (run_body (module_context provided known entered) m s)).events
   -- while an action is done
-  pub action : (provided : Provided) (declared : List Id) (entered : Entered) (a : Action) (s : State) → Extends s.events (state_behind (act (module_context provided declared entered) a s)).events
+  pub action : (provided : Provided) (known : Known) (entered : Entered) (a : Action) (s : State) → Extends s.events (state_behind (act (module_context provided known entered) a s)).events
   -- with more actions behind those of a script
   pub actions : (turns : ℕ) (options : Config) (m : Node) (script : Script) (more : List Action) →
       Extends (observe turns options m script).events (observe turns options m (record script { actions = script.actions ++ more })).events

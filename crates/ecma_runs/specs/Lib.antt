@@ -19,5 +19,7 @@ pub mod Sources
 pub mod Wrappers
 pub mod Erasure
 pub mod Names
+pub mod Sought
+pub mod Meeting
 pub mod Uses
 pub mod Laws

@@ -15,8 +15,13 @@ pub data Invocation : Type 0 where
 pub record Functions : Type 0 where
   -- [[Call]] and [[Construct]] (10.2.1, 10.2.2)
   pub invoke : ℕ → Invocation → List Value → Run Value
-  -- the fields of a class are defined on an object (7.3.32 InitializeInstanceElements)
+  -- the fields of a class are defined on an object (7.3, InitializeInstanceElements)
   pub fields : ℕ → Value → Run (Unit {0})
+
+-- what is known of a module before it runs
+pub record Known : Type 0 where
+  -- the ids that it declares, in any scope
+  pub declared : List Id
 
 -- what stands around a node when it is evaluated (ECMAScript, 9.4 Execution Contexts)
 pub record ExecutionContext : Type 0 where
@@ -25,8 +30,8 @@ pub record ExecutionContext : Type 0 where
   pub scope : List Entered
   -- what the script provides for names
   pub provided : Provided
-  -- the ids that the module declares, in any scope
-  pub declared : List Id
+  -- what is known of the module
+  pub known : Known
 
 -- where one more scope is the nearest
 abbrev pub inside : ExecutionContext → Entered → ExecutionContext
@@ -82,7 +87,7 @@ pub record Meaning : Type 0 where
   -- as fields with these keys that are defined on an object, and on the class; it gives the keys that are left
   pub fields : List (List ℕ) → Value → Evaluation (List (List ℕ))
   pub statics : List (List ℕ) → Value → Evaluation (List (List ℕ))
-  -- as a function whose code runs on arguments, in its own record (10.2.3 EvaluateBody)
+  -- as a function whose code runs on arguments, in its own record (10.2.1.3 EvaluateBody)
   pub code : List Value → Evaluation (Unit {0})
   -- as the body of a function with parameters of these names
   pub body : List Id → Evaluation (Unit {0})
@@ -106,6 +111,8 @@ pub record Meaning : Type 0 where
   pub cooked : Option (List (List ℕ))
   -- parameters that are names without defaults
   pub is_plain : Bool
+  -- a key in brackets (13.2.5.2 IsComputedPropertyKey)
+  pub is_computed : Bool
   -- `super`, a child that is missing, a parameter that types `this`
   pub is_super : Bool
   pub is_absent : Bool

@@ -6,7 +6,7 @@ use Rattle.ecma_runs.specs.State.{Property, Data, Fixed, Accessor, Open, Extent,
 use Rattle.ecma_runs.specs.Run.{Done, Run, ◌>>=◌, give, outside, type_error, when, given}
 use Rattle.ecma_runs.specs.Host.{show, use_host}
 use Rattle.ecma_runs.specs.Meaning.{AsCall, ExecutionContext}
-use Rattle.ecma_runs.specs.Objects.{Calling, Function, BoundFunction, calling_at, object_at, has_elements, is_open_element, found_from, found_above, own_property_at, extent_at, if_element, change_entries, put_entry, without_entry}
+use Rattle.ecma_runs.specs.Objects.{Calling, Function, BoundFunction, calling_at, object_at, has_elements, is_open_element, found_from, Base, found_from_base, own_property_at, extent_at, if_element, change_entries, put_entry, without_entry}
 
 -- reading
 
@@ -65,15 +65,15 @@ set_member x (Own place) key v = found_from place key >>= λ p. set_by x key (Ow
 set_member x (Host number) key v = show v >>= λ w. use_host (event.HostSet number key w) >>= λ _. give tt
 set_member x o key v = outside
 
--- `super` members: the look-up begins behind the home object, and the receiver is `this` (13.3.7.3 MakeSuperPropertyReference)
+-- `super` members: the look-up begins at the base of the reference, and the receiver is `this` (6.2.5.5 GetValue, 6.2.5.6 PutValue)
 
-abbrev pub super_member : ExecutionContext → Value → ℕ → List ℕ → Run Value
-super_member x receiver home key = found_above home key >>= λ p. got x receiver p
+abbrev pub super_member : ExecutionContext → Value → Base → List ℕ → Run Value
+super_member x receiver base key = found_from_base base key >>= λ p. got x receiver p
 
 -- a receiver that is no own object is open
-abbrev pub set_super_member : ExecutionContext → Value → ℕ → List ℕ → Value → Run (Unit {0})
-set_super_member x (Own place) home key v = found_above home key >>= λ p. set_by x key (Own place) v p
-set_super_member x receiver home key v = outside
+abbrev pub set_super_member : ExecutionContext → Value → Base → List ℕ → Value → Run (Unit {0})
+set_super_member x (Own place) base key v = found_from_base base key >>= λ p. set_by x key (Own place) v p
+set_super_member x receiver base key v = outside
 
 -- deleting
 
@@ -130,7 +130,7 @@ instance_by place (Host number) = outside
 instance_by place (Error error_kind) = outside
 instance_by place v = type_error
 
--- 7.3.22 OrdinaryHasInstance, of a function; a host value or an error on the left is open
+-- OrdinaryHasInstance (7.3), of a function; a host value or an error on the left is open
 abbrev pub instance_of_function : Value → ℕ → Run Value
 instance_of_function (Own place) function = prototype_property function >>= λ v. instance_by place v
 instance_of_function (Host number) function = outside

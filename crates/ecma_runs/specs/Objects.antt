@@ -154,13 +154,27 @@ no_ancestry = record { has_function = false; has_elements = false }
 abbrev pub found_from : ℕ → List ℕ → Run (Option Property)
 found_from place key s = Done (property_above s.objects key no_ancestry (suc (length s.objects)) (slice_get s.objects place)) s
 
-abbrev pub above : List Object → List ℕ → ℕ → Option Object → Option Property
-above objects key n None = missing no_ancestry key
-above objects key n (Some object) = property_above objects key (with_object object no_ancestry) n (object_at objects object.prototype)
+-- where the look-up of a `super` member begins: at an object, or, above an object that has no prototype of the program's, at what all such objects have
+pub data Base : Type 0 where
+  ObjectBase : ℕ → Base
+  BuiltInBase : Ancestry → Base
 
--- what a look-up finds that begins at the prototype of an object
-abbrev pub found_above : ℕ → List ℕ → Run (Option Property)
-found_above place key s = Done (above s.objects key (suc (length s.objects)) (slice_get s.objects place)) s
+abbrev pub base_from : Object → Option ℕ → Base
+base_from object (Some place) = ObjectBase place
+base_from object None = BuiltInBase (with_object object no_ancestry)
+
+abbrev pub base_of : Option Object → Base
+base_of None = BuiltInBase no_ancestry
+base_of (Some object) = base_from object object.prototype
+
+-- the prototype of a home object (9.1.1.3.5 GetSuperBase)
+abbrev pub super_base : ℕ → Run Base
+super_base home s = Done (base_of (slice_get s.objects home)) s
+
+-- what a look-up finds that begins at a base
+abbrev pub found_from_base : Base → List ℕ → Run (Option Property)
+found_from_base (ObjectBase place) key = found_from place key
+found_from_base (BuiltInBase ancestry) key = give (missing ancestry key)
 
 -- changes
 
@@ -188,7 +202,7 @@ if_element Ordinary key change = change
 if_element (Array n) key change = when (is_index_below n key) change outside
 if_element (ArgumentList n) key change = when (is_index_below n key) change outside
 
--- 10.1.6 [[DefineOwnProperty]], of a property that can be redefined: what can not be throws (7.3.8 DefinePropertyOrThrow)
+-- 10.1.6 [[DefineOwnProperty]], of a property that can be redefined: what can not be throws (7.3, DefinePropertyOrThrow)
 abbrev pub define : ℕ → List ℕ → (Option Property → Property) → Run (Unit {0})
 define place key to =
     own_property_at place key >>= λ p. extent_at place >>= λ extent.

@@ -2,7 +2,7 @@
 -- All of it is this project's own, but for the order of a module's run (ECMAScript, 16.2.1.6 Source Text Module Records).
 use Rattle.std.specs.Prelude.{ℕ, List, [], ◌∷◌, Some, None}
 use Rattle.ecma_tree.specs.declared.node.Node.{Node}
-use Rattle.ecma_runs.specs.declared.config.Config.{Config}
+use Rattle.ecma_config.specs.declared.config.Config.{Config}
 use Rattle.ecma_runs.specs.declared.observation.Event.{Event}
 use Rattle.ecma_runs.specs.declared.observation.Ending.{Ending}
 use Rattle.ecma_runs.specs.declared.observation.Ending.TheVariants as ending
@@ -12,11 +12,11 @@ use Rattle.ecma_runs.specs.declared.script.Answer.{Answer}
 use Rattle.ecma_runs.specs.declared.script.Answer.TheVariants as answer
 use Rattle.ecma_runs.specs.declared.script.Script.{Script}
 use Rattle.ecma_runs.specs.Values.{Value, Undefined}
-use Rattle.ecma_runs.specs.State.{Id, Entered, Unbound, Activation, State}
+use Rattle.ecma_runs.specs.State.{Entered, Unbound, Activation, State}
 use Rattle.ecma_runs.specs.Run.{Outcome, Done, Thrown, Returned, Broken, Continued, Ended, Stop, TurnsSpent, AnswersSpent, Outside, Run, ◌>>=◌, give, each}
 use Rattle.ecma_runs.specs.Environment.{new_environment}
 use Rattle.ecma_runs.specs.Host.{Provided, provided_by, handled, taken, show}
-use Rattle.ecma_runs.specs.Meaning.{ExecutionContext}
+use Rattle.ecma_runs.specs.Meaning.{Known, ExecutionContext}
 use Rattle.ecma_runs.specs.Members.{member, set_member}
 use Rattle.ecma_runs.specs.Functions.{call_value, construct}
 use Rattle.ecma_runs.specs.Evaluation.{meaning, invoke, functions_with}
@@ -48,9 +48,13 @@ done_by x (action.New handle arguments) = handled handle >>= λ f. each taken ar
 abbrev pub act : ExecutionContext → Action → Run Answer
 act x a = shown_to_host (done_by x a)
 
+-- what is known of a module
+abbrev pub known_of : Node → Known
+known_of m = record { declared = (meaning m).declared }
+
 -- the execution context of a module's run
-abbrev pub module_context : Provided → List Id → Entered → ExecutionContext
-module_context provided declared entered = record { functions = functions_with (invoke provided declared) provided declared; scope = entered ∷ []; provided = provided; declared = declared }
+abbrev pub module_context : Provided → Known → Entered → ExecutionContext
+module_context provided known entered = record { functions = functions_with (invoke provided known) provided known; scope = entered ∷ []; provided = provided; known = known }
 
 -- the module's body, as the host sees its outcome
 abbrev pub run_body : ExecutionContext → Node → Run Answer
@@ -69,8 +73,8 @@ module_activation = record { this = Some Undefined; function = None; home = None
 abbrev pub run_module : Node → Script → Run Ending
 run_module m script =
     new_environment (meaning m).locals (Some module_activation) >>= λ place.
-    run_body (module_context (provided_by script) (meaning m).declared place) m >>= λ outcome.
-    run_actions (module_context (provided_by script) (meaning m).declared place) script.actions outcome
+    run_body (module_context (provided_by script) (known_of m) place) m >>= λ outcome.
+    run_actions (module_context (provided_by script) (known_of m) place) script.actions outcome
 
 -- the state in which a run begins
 abbrev pub start : ℕ → Script → State

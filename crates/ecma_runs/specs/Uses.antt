@@ -5,10 +5,11 @@ use Rattle.ecma_kind.specs.declared.kind.Kind.{Kind}
 use Rattle.ecma_kind.specs.declared.kind.Kind.TheVariants as kind
 use Rattle.ecma_tree.specs.declared.node.Node.{Node, Node-F, fold-Node}
 
--- neither a member nor a call: no property access, no property of a pattern, no call and no construction
+-- neither a member nor a call: no property access, no dotted name, no property of a pattern, no call and no construction
 abbrev pub uses_nothing_by : Kind → Bool
 uses_nothing_by kind.MemberExpr = false
 uses_nothing_by kind.SuperPropExpr = false
+uses_nothing_by kind.TsQualifiedName = false
 uses_nothing_by kind.KeyValuePatProp = false
 uses_nothing_by kind.AssignPatProp = false
 uses_nothing_by kind.CallExpr = false

@@ -1,5 +1,5 @@
 //! The laws of `observe`, each the contract of a function that does nothing.
-ghost use Rattle.ecma_runs.specs.Laws.{SpansAndSourcesDoNotMatter, TypesDoNotMatter, WrappersDoNotMatter, ParenthesesDoNotMatter, NamesDoNotMatter, SpareTurnsDoNotMatter, CallsAreApplications, EventsOnlyGrow, DeclarationsAloneHaveNoEvents};
+ghost use Rattle.ecma_runs.specs.Laws.{SpansAndSourcesDoNotMatter, TypesDoNotMatter, WrappersDoNotMatter, ParenthesesDoNotMatter, NamesDoNotMatter, NamesMayMeet, SpareTurnsDoNotMatter, CallsAreApplications, EventsOnlyGrow, DeclarationsAloneHaveNoEvents};
 
 /// Trees that are equal up to the places of their nodes and the source texts of their literals
 /// run alike.
@@ -26,6 +26,11 @@ pub fn parentheses_do_not_matter()
 /// A tree runs as it does with other names, where free ones and those that are keys keep their texts.
 pub fn names_do_not_matter()
     ensures { NamesDoNotMatter }
+{}
+
+/// So it does where several names become one, as long as no identifier is caught.
+pub fn names_may_meet()
+    ensures { NamesMayMeet }
 {}
 
 /// A run that did not want for turns is the same with more of them.

@@ -4,13 +4,12 @@
 //! No code here runs a module. docs/RUNS.md explains the definitions.
 #![tactic(auto)]
 
-mod config;
 pub mod laws;
 mod observation;
 mod script;
 mod shown;
 
-pub use config::Config;
+pub use ecma_config::Config;
 pub use observation::{Ending, Event};
 pub use script::{
     Action, Actions, Answer, Answers, FreeValue, FreeValues, ImportValue, ImportValues, Script,

@@ -69,6 +69,5 @@ fn endings_are_made_and_let_go_of(rt: HostRuntime) -> Result<(), Fail> {
     let answers = ItemList::from_array(rt.alloc(), [Answer::Return(Shown::Undefined)])?;
     assert_eq!(rt; answers.len(), 1);
     let _ending = Ending::Done(answers);
-    let _options = Config {};
     Ok(())
 }
