@@ -2,13 +2,15 @@
 #![tactic(auto)]
 
 ghost use Rattle.std.specs.Prelude.{◌≡◌, IfOk};
-ghost use Rattle.ecma_grammar.specs.Made.{made};
+ghost use Rattle.ecma_grammar.specs.Made.{made_with_types};
 
 mod parts;
 mod plain;
 
 use ecma_grammar::Form;
-use ecma_nodes_classes::{class, field, index_signature, member, method};
+use ecma_nodes_classes::{
+    class, field, index_signature, member, method, new_signature, type_signature,
+};
 pub use ecma_nodes_expressions::only;
 use ecma_nodes_expressions::{
     assertion, chained, construction, elements, links, logical, sequence, swapped, template,
@@ -19,19 +21,18 @@ use ecma_nodes_functions::{
 use ecma_nodes_statements::{declared, headed, import_equals, module_of, namespace};
 use ecma_tree::{NoMemory, Node, Nodes, Span};
 pub use parts::flag_node;
-use parts::{bare_node, first_alone};
 use plain::plain_kind;
 use std::alloc::Global;
 
-/// What a form makes of the nodes that were read, from a place to a place.
+/// What a form makes of the nodes that were read, from a place to a place; types hold what was read in them.
 pub fn made(alloc: Global, form: Form, lo: u32, hi: u32, items: Nodes) -> Result<Node, NoMemory>
-    ensures { IfOk result (λ node. node ≡ made form lo hi items) }
+    ensures { IfOk result (λ node. node ≡ made_with_types form lo hi items) }
 {
     let span = Span { lo, hi };
     match form {
-        Form::Node(plain) => Ok(Node::new(span, plain_kind(plain), items)),
-        Form::Bare(plain) => Ok(bare_node(alloc, span, plain_kind(plain), items)),
-        Form::First(plain) => Ok(Node::new(span, plain_kind(plain), first_alone(items))),
+        Form::Node(plain) | Form::Bare(plain) | Form::First(plain) => {
+            Ok(Node::new(span, plain_kind(plain), items))
+        }
         Form::Swapped(plain) => Ok(Node::new(span, plain_kind(plain), swapped(items))),
         Form::List => Ok(Node::list(items)),
         Form::Elements => Ok(Node::list(elements(items))),
@@ -56,7 +57,9 @@ pub fn made(alloc: Global, form: Form, lo: u32, hi: u32, items: Nodes) -> Result
         Form::Method(kind) => method(alloc, span, kind, items),
         Form::Field => field(alloc, span, items),
         Form::Modified => member(alloc, span, items),
-        Form::IndexSignature => Ok(index_signature(alloc, span, items)),
+        Form::IndexSignature => index_signature(alloc, span, items),
+        Form::Signature(kind) => type_signature(alloc, span, kind, items),
+        Form::NewSignature => new_signature(alloc, span, items),
         Form::Headed => headed(alloc, span, items),
         Form::Declared => Ok(declared(alloc, span, items)),
         Form::Namespace => namespace(alloc, span, items),

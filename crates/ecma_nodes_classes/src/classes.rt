@@ -1,11 +1,11 @@
 //! Classes and their members.
 ghost use Rattle.std.specs.Prelude.{◌≡◌, IfOk};
 ghost use Rattle.ecma_grammar.specs.trees.Parts.{framed, kind_of};
-ghost use Rattle.ecma_grammar.specs.trees.Classes.{class, constructor_of, field, field_kind, index_signature, is_constructor, is_constructor_key, is_plain_function, is_private_name, member, member_by, method, method_by, method_kind, modified, no_modifiers};
+ghost use Rattle.ecma_grammar.specs.trees.Classes.{class, constructor_of, field, field_kind, index_signature_with_types, is_constructor, is_constructor_key, is_plain_function, is_private_name, member, member_by, method, method_by, method_kind, modified, new_signature, no_modifiers, type_signature};
 
 use ecma_nodes_parts::{
-    Signature, accessibility_of, five, four, function_of, has_word, is_present, let_go, nine, six,
-    three, two,
+    Signature, accessibility_of, five, four, function_of, has_word, is_present, let_go, nine,
+    parameters, six, three, two,
 };
 use ecma_tree::{Kind, MemberModifiers, MethodKind, NoMemory, Node, Nodes, Span};
 use std::alloc::Global;
@@ -285,18 +285,57 @@ pub fn member(alloc: Global, span: Span, items: Nodes) -> Result<Node, NoMemory>
     member_by(alloc, span, &modifiers, kind, children)
 }
 
-/// An index signature.
-pub fn index_signature(alloc: Global, span: Span, items: Nodes) -> Node
-    ensures { result ≡ framed 3 (index_signature span) items }
+/// An index signature, which holds its types.
+pub fn index_signature(alloc: Global, span: Span, items: Nodes) -> Result<Node, NoMemory>
+    ensures { IfOk result (λ x. x ≡ framed 3 (index_signature_with_types span) items) }
 {
     let Some((modifiers, index, annotation)) = three(items) else {
-        return Node::absent(alloc);
+        return Ok(Node::absent(alloc));
     };
-    let_go(index);
-    let_go(annotation);
     let kind = Kind::TsIndexSignature {
         readonly: has_word(&modifiers, "readonly"),
         is_static: has_word(&modifiers, "static"),
     };
-    Node::leaf(alloc, span, kind)
+    Node::of(alloc, span, kind, [index, annotation])
+}
+
+/// A signature inside a type, as a method without a body.
+pub fn type_signature(
+    alloc: Global,
+    span: Span,
+    kind: MethodKind,
+    items: Nodes,
+) -> Result<Node, NoMemory>
+    ensures { IfOk result (λ x. x ≡ framed 2 (type_signature span kind) items) }
+{
+    let Some((front, params)) = two(items) else {
+        return Ok(Node::absent(alloc));
+    };
+    let signature = Signature {
+        type_params: Node::absent(alloc),
+        params,
+        return_type: Node::absent(alloc),
+        body: Node::absent(alloc),
+    };
+    let function = function_of(alloc, span, false, false, signature)?;
+    let kind = Kind::ClassMethod {
+        kind,
+        modifiers: no_modifiers(false),
+    };
+    Node::of(alloc, span, kind, [front, function])
+}
+
+/// One after `new`, as a constructor without a body.
+pub fn new_signature(alloc: Global, span: Span, items: Nodes) -> Result<Node, NoMemory>
+    ensures { IfOk result (λ x. x ≡ framed 2 (new_signature span) items) }
+{
+    let Some((front, params)) = two(items) else {
+        return Ok(Node::absent(alloc));
+    };
+    let kind = Kind::Constructor {
+        accessibility: None,
+        is_optional: false,
+    };
+    let params = parameters(alloc, params)?;
+    Node::of(alloc, span, kind, [front, params, Node::absent(alloc)])
 }

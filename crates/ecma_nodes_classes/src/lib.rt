@@ -3,4 +3,4 @@
 
 mod classes;
 
-pub use classes::{class, field, index_signature, member, method};
+pub use classes::{class, field, index_signature, member, method, new_signature, type_signature};

@@ -9,4 +9,4 @@ mod signatures;
 pub use frames::{five, four, nine, one, seven, six, three, two};
 pub use modifiers::{accessibility_of, has_word};
 pub use presence::{is_absent, is_present, let_go};
-pub use signatures::{Signature, function_of};
+pub use signatures::{Signature, function_of, parameters};

@@ -18,7 +18,7 @@ fn wrapped(alloc: Global, pattern: Node) -> Result<Node, NoMemory>
 
 /// The parameters of a list of patterns.
 #[tactic(auto, using(ecma_grammar::proofs::Steps::mapping))]
-fn parameters(alloc: Global, patterns: Node) -> Result<Node, NoMemory>
+pub fn parameters(alloc: Global, patterns: Node) -> Result<Node, NoMemory>
     ensures { IfOk result (λ x. x ≡ parameters patterns) }
 {
     let Node { children, .. } = patterns;
