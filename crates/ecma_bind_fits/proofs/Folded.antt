@@ -17,22 +17,22 @@ use Rattle.ecma_bind.specs.Binding.{binds, bound_at, is_name_under_types, is_typ
 use Rattle.ecma_bind_fits.proofs.Alike.{Alike, Same, Six, quiet_usual, six_at, typed_parts}
 use Rattle.ecma_bind_fits.proofs.Bound.{bound_each, by_children, children_of, typed_is, usual_is}
 
-module _ (step : Node-F Bool → Bool) where
-  abbrev folded : Node → Bool
-  folded = fold-Node Bool step
+module _ {A : Type 0} (step : Node-F A → A) where
+  abbrev folded : Node → A
+  folded = fold-Node A step
 
   abbrev AllSame : Node → Type 0
   AllSame n = (r : Role) → folded (bound_at n r) ≡ folded n
 
-  each_folded : (cs : List Node) (roles : ℕ → Role) → ((i : ℕ) (c : Node) → slice_get cs i ≡ Some c → folded (bound_at c (roles i)) ≡ folded c) → map (fold-Node Bool step) (bound_each roles cs) ≡ map (fold-Node Bool step) cs
+  each_folded : (cs : List Node) (roles : ℕ → Role) → ((i : ℕ) (c : Node) → slice_get cs i ≡ Some c → folded (bound_at c (roles i)) ≡ folded c) → map (fold-Node A step) (bound_each roles cs) ≡ map (fold-Node A step) cs
   each_folded [] roles s = refl
   each_folded (c ∷ cs) roles s = ap₂ (λ a b. a ∷ b) (s 0 c refl) (each_folded cs (λ i. roles (suc i)) (λ i d at. s (suc i) d at))
 
   usual_folded : (n : Node) (r : Role) → is_typed_name r n ≡ false → folded (bound_at n r)
-      ≡ step (record { span = (out-Node n).span; kind = kind_of n; children = map (fold-Node Bool step) (bound_each (role_in r (kind_of n)) (children_of n)) })
+      ≡ step (record { span = (out-Node n).span; kind = kind_of n; children = map (fold-Node A step) (bound_each (role_in r (kind_of n)) (children_of n)) })
   usual_folded n r u =
-      ap (fold-Node Bool step) (usual_is n r u)
-      ∙ fold-roll-Node Bool step (record { span = (out-Node n).span; kind = kind_of n; children = bound_each (role_in r (kind_of n)) (children_of n) })
+      ap (fold-Node A step) (usual_is n r u)
+      ∙ fold-roll-Node A step (record { span = (out-Node n).span; kind = kind_of n; children = bound_each (role_in r (kind_of n)) (children_of n) })
 
   pub fold_same : ((n : Node) (r : Role) → is_typed_name r n ≡ true → folded (bound_at n r) ≡ folded n) → (n : Node) (r : Role) → folded (bound_at n r) ≡ folded n
   fold_same typed = by_children AllSame (λ n below r. by n below r (is_typed_name r n) refl)
@@ -41,8 +41,8 @@ module _ (step : Node-F Bool → Bool) where
       by n below r true e = typed n r e
       by n below r false e =
           usual_folded n r e
-          ∙ ap (λ (z : List Bool). step (record { span = (out-Node n).span; kind = kind_of n; children = z })) (each_folded (children_of n) (role_in r (kind_of n)) (λ i c at. below i c at (role_in r (kind_of n) i)))
-          ∙ sym (fold_out-Node Bool step n)
+          ∙ ap (λ (z : List A). step (record { span = (out-Node n).span; kind = kind_of n; children = z })) (each_folded (children_of n) (role_in r (kind_of n)) (λ i c at. below i c at (role_in r (kind_of n) i)))
+          ∙ sym (fold_out-Node A step n)
 
 -- ---- what takes an `else`
 

@@ -16,7 +16,7 @@ use Rattle.ecma_rules.specs.declared.standing.Around.{Around}
 use Rattle.ecma_rules.specs.Children.{child_holds, child_is, children_of as items_of, holds_of, is_named, items_at, kind_of, of_kind}
 use Rattle.ecma_rules.specs.Finishing.{binding}
 use Rattle.ecma_rules.specs.Lists.{is_rest_pattern}
-use Rattle.ecma_rules.specs.Members.{behind_first, fits_kind, is_binding_name, is_constructor_key, is_declaring, is_empty_list, is_method, is_named_pattern, is_one_parameter, is_plain_parameter, is_property_kind, is_special_by, is_special_function, is_this_by, is_this_parameter, is_this_pattern, misfits_by, misplaces_this_by, takes_not_one, takes_one}
+use Rattle.ecma_rules.specs.Members.{behind_first, fits_kind, is_binding_name, is_constructor_key, is_declaring, is_empty_list, is_method, is_named_pattern, is_one_parameter, is_plain_parameter, is_property_kind, is_special_by, is_special_function, is_this_by, is_this_parameter, is_this_pattern, misfits_by, misplaces_this_by, takes_not_one, takes_one, has_body}
 use Rattle.ecma_rules.specs.Rules.{fails_member}
 use Rattle.ecma_rules.specs.Targets.{first_is}
 use Rattle.ecma_fits.specs.declared.role.Role.{Role}
@@ -186,11 +186,18 @@ method_same k n p g u free shape = holds_where (fits_kind k) n p.where_at.role u
         let allowed : belongs sort.Function (kind_of c) ≡ true = ap (λ o. allows o (kind_of c)) (sym is) ∙ (shape_parts c q.0 q.2.shaped).0 in
         accessor_same k c (inside p n 1 q.0) q.2 (quiet_usual c (role_in p.where_at.role (kind_of n) 1) (ap binds free)) (function_free (kind_of c) allowed (role_in p.where_at.role (kind_of n) 1))
 
+body_same : (n : Node) (p : Place) → Good n p → is_typed_name p.where_at.role n ≡ false → role_in p.where_at.role (kind_of n) 1 ≡ role.Free
+    → child_holds has_body (bound_at n p.where_at.role) 1 ≡ child_holds has_body n 1
+body_same n p g u free =
+    holds_where has_body n p.where_at.role u 1 (λ c at. has_same 1 c (role_in p.where_at.role (kind_of n) 1) (quiet_usual c (role_in p.where_at.role (kind_of n) 1) (ap binds free)))
+
 misfits_same : (k : Kind) (n : Node) (p : Place) → Good n p → kind_of n ≡ k → is_typed_name p.where_at.role n ≡ false → misfits_by k (bound_at n p.where_at.role) ≡ misfits_by k n
 unfolding misfits_by role_in
 misfits_same kind.AssignPat n p g e u = child_same is_rest_pattern (refl, refl, refl, refl, refl, refl) 0 n p.where_at.role u
-misfits_same kind.GetterProp n p g e u = has_same 3 n p.where_at.role u
-misfits_same kind.SetterProp n p g e u = child_same takes_not_one (refl, refl, refl, refl, refl, refl) 2 n p.where_at.role u
+misfits_same kind.GetterProp n p g e u = ap₂ (λ x y. x || not y) (has_same 3 n p.where_at.role u) (has_same 2 n p.where_at.role u)
+misfits_same kind.SetterProp n p g e u = ap₂ (λ x y. x || not y) (child_same takes_not_one (refl, refl, refl, refl, refl, refl) 2 n p.where_at.role u) (has_same 3 n p.where_at.role u)
+misfits_same kind.MethodProp n p g e u =
+    ap not (body_same n p g u (ap (λ z. role_in p.where_at.role z 1) e))
 misfits_same (kind.ClassMethod k modifiers) n p g e u =
     ap not (method_same k n p g u (ap (λ z. role_in p.where_at.role z 1) e) (ap (λ z. slice_get (child_shapes z p.shape (length (children_of n))) 1) e))
 misfits_same (kind.PrivateMethod k modifiers) n p g e u =

@@ -5,9 +5,10 @@ use Rattle.ecma_kind.specs.Sorts.{belongs, is_type_wrapper}
 use Rattle.ecma_kind.specs.declared.kind.Kind.{Kind}
 use Rattle.ecma_kind.specs.declared.kind.Kind.TheVariants as kind
 use Rattle.ecma_kind.specs.declared.shapes.Sort.TheVariants as sort
-use Rattle.ecma_tree.specs.declared.node.Node.{Node, fold-roll-Node, fold_out-Node, out-Node}
+use Rattle.ecma_tree.specs.declared.node.Node.{Node, out-Node}
 use Rattle.ecma_tree.specs.Nodes.{absent}
-use Rattle.ecma_tree.specs.Values.{is_value, value_at, value_by, value_step}
+use Rattle.ecma_tree.specs.Values.{is_value, is_value_where, value_at, value_by, value_step}
+use Rattle.ecma_tree.proofs.Valuing.{is_value_where-out, is_value_where-roll, value_where_by}
 use Rattle.ecma_rules.specs.Children.{kind_of}
 use Rattle.ecma_fits.specs.declared.role.Role.{Role}
 use Rattle.ecma_fits.specs.Roles.{role_in}
@@ -28,23 +29,28 @@ bound_child (c ∷ cs) roles (suc i) d at = bound_child cs (λ j. roles (suc j))
 
 -- ---- values
 
-value_six : (vs : List Bool) → Six Bool (λ k. value_by k vs) true
+value_six : (stays : Bool) (cs : List Node) → Six Bool (λ k. value_where_by stays k cs) true
 unfolding value_by
-value_six vs = (refl, refl, refl, refl, refl, refl)
+value_six true cs = (refl, refl, refl, refl, refl, refl)
+value_six false cs = (refl, refl, refl, refl, refl, refl)
 
-value_bound : (vs : List Bool) → value_by kind.BindingIdent vs ≡ true
+value_bound : (stays : Bool) (cs : List Node) → value_where_by stays kind.BindingIdent cs ≡ true
 unfolding value_by
-value_bound vs = refl
+value_bound true cs = refl
+value_bound false cs = refl
 
-value_typed : (n : Node) (r : Role) → is_typed_name r n ≡ true → is_value (bound_at n r) ≡ is_value n
-value_typed n r t =
-    ap is_value (typed_is n r t)
-    ∙ fold-roll-Node Bool value_step (record { span = (out-Node (under_types n)).span; kind = kind.BindingIdent; children = under_types n ∷ absent ∷ [] })
-    ∙ value_bound (map is_value (under_types n ∷ absent ∷ []))
-    ∙ sym (fold_out-Node Bool value_step n ∙ six_at Bool (λ k. value_by k (map is_value (children_of n))) true (value_six (map is_value (children_of n))) (kind_of n) (typed_parts n r t).1)
+value_typed : (stays : Bool) (n : Node) (r : Role) → is_typed_name r n ≡ true → is_value_where stays (bound_at n r) ≡ is_value_where stays n
+value_typed stays n r t =
+    ap (is_value_where stays) (typed_is n r t)
+    ∙ is_value_where-roll stays (out-Node (under_types n)).span kind.BindingIdent (under_types n ∷ absent ∷ [])
+    ∙ value_bound stays (under_types n ∷ absent ∷ [])
+    ∙ sym (is_value_where-out stays n ∙ six_at Bool (λ k. value_where_by stays k (children_of n)) true (value_six stays (children_of n)) (kind_of n) (typed_parts n r t).1)
+
+pub value_where_same : (stays : Bool) → Same (is_value_where stays)
+value_where_same stays n r = ap (λ value. value stays) (fold_same value_step (λ m q t j stays. value_typed stays m q t j) n r)
 
 pub value_same : Same is_value
-value_same = fold_same value_step value_typed
+value_same = value_where_same true
 
 values_same : (cs : List Node) (roles : ℕ → Role) → map is_value (bound_each roles cs) ≡ map is_value cs
 values_same [] roles = refl

@@ -7,12 +7,12 @@ use Rattle.ecma_tree.specs.declared.node.Node.TheViews.{out-roll-Node}
 use Rattle.ecma_tree.specs.Sorted.{HasShape, child_shapes, one}
 use Rattle.ecma_rules.specs.Children.{kind_of}
 use Rattle.ecma_fits.specs.declared.role.Role.TheVariants as role
-use Rattle.ecma_runs.specs.declared.config.Config.{Config}
+use Rattle.ecma_config.specs.declared.config.Config.{Config}
 use Rattle.ecma_runs.specs.declared.script.Script.{Script}
 use Rattle.ecma_runs.specs.Evaluation.{meaning, meaning_by}
-use Rattle.ecma_runs.specs.Observation.{observe}
+use Rattle.ecma_runs.specs.Observation.{known_of, observe}
 use Rattle.ecma_runs.proofs.Kept.{AllNodes, StepsAlike, layer_same, observe_unless}
-use Rattle.ecma_runs.proofs.Layers.{images_where, kept_layer, none_excused, same_kind, the_same}
+use Rattle.ecma_runs.proofs.Layers.{plain_starts, images_where, kept_layer, none_excused, same_kind, the_same}
 use Rattle.ecma_strip_fits.proofs.Lists.{have_at}
 use Rattle.ecma_strip_fits.proofs.Walk.{shape_parts}
 use Rattle.ecma_bind.specs.Binding.{with_bound_names}
@@ -43,13 +43,13 @@ image n s =
     ∙ free_same (with_bound_names n) (kind_of n) (children_of n) (λ i c at. let t = child_shaped n s i c at in near_anywhere c t.0 t.1)
     ∙ ap (λ (z : List Node). meaning_by (with_bound_names n) (kind_of n) (map meaning z)) (free_map (children_of n))
 
-steps : (m : Node) → StepsAlike (images_where Shaped with_bound_names (meaning m).declared the_same)
+steps : (m : Node) → StepsAlike (images_where Shaped with_bound_names (known_of m) the_same)
 steps m x ns is shaped shaped' =
-    let d = (meaning m).declared in
+    let d = known_of m in
     let parts : out-Node (roll-Node x) ≡ x = out-roll-Node x in
     layer_same (images_where Shaped with_bound_names d the_same) x ns is shaped
     (all_shaped x.children (λ i c at. child_shaped (roll-Node x) shaped i c (ap (λ (z : Node-F Node). slice_get z.children i) parts ∙ at)))
-    (kept_layer Shaped with_bound_names d the_same x.kind (map meaning x.children))
+    (kept_layer Shaped with_bound_names d the_same x.kind (map meaning x.children)) tt
     (image (roll-Node x) shaped
     ∙ ap (λ (z : Node-F Node). meaning_by (with_bound_names (roll-Node x)) z.kind (map meaning (map with_bound_names z.children))) parts
     ∙ ap (λ k. meaning_by (with_bound_names (roll-Node x)) k (map meaning (map with_bound_names x.children))) (sym (same_kind Shaped with_bound_names d the_same x.kind)))
@@ -57,7 +57,7 @@ steps m x ns is shaped shaped' =
 pub observed_alike : (m : Node) → Shaped m → (turns : ℕ) (options : Config) (script : Script) → observe turns options (with_bound_names m) script ≡ observe turns options m script
 observed_alike m shaped turns options script =
     ap (λ n. observe n options (with_bound_names m) script) (sym (add-zero turns))
-    ∙ observe_unless (images_where Shaped with_bound_names (meaning m).declared the_same) refl (steps m) refl refl turns options m script shaped refl tt tt (none_excused _)
+    ∙ observe_unless (images_where Shaped with_bound_names (known_of m) the_same) refl (steps m) refl refl turns options m script shaped refl plain_starts tt tt (none_excused _)
 
 pub runs_alike : BoundNamesRunAlike
 runs_alike tree sorted = observed_alike tree (one sort.Module, sorted)

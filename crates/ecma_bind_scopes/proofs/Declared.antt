@@ -7,7 +7,7 @@ use Rattle.ecma_kind.specs.declared.kind.Kind.{Kind}
 use Rattle.ecma_kind.specs.declared.kind.Kind.TheVariants as kind
 use Rattle.ecma_kind.specs.declared.operators.AssignOp.{AssignOp}
 use Rattle.ecma_tree.specs.declared.node.Node.{Node, Node-F}
-use Rattle.ecma_tree.specs.Values.{is_value}
+use Rattle.ecma_tree.specs.Values.{is_value_where}
 use Rattle.ecma_tree.proofs.Layers.{from_leaves_out}
 use Rattle.ecma_rules.specs.Children.{kind_of}
 use Rattle.ecma_rules.specs.Finishing.{binding}
@@ -27,7 +27,7 @@ use Rattle.ecma_bind_fits.proofs.Alike.{bound_parts, six_at, typed_parts, usual_
 use Rattle.ecma_bind_fits.proofs.Bound.{bound_each, by_children, children_of, typed_is}
 use Rattle.ecma_bind_runs.proofs.Quiet.{AsGood, Quiet, as_good, assigns, hands_on, quiet_binds, quiet_in}
 use Rattle.ecma_bind_runs.proofs.Tops.{free_quiet, takes_target}
-use Rattle.ecma_bind_scopes.proofs.Sights.{value_same}
+use Rattle.ecma_bind_fits.proofs.StayingItems.{value_where_same}
 
 -- ---- where names are looked for, nothing is assigned to
 
@@ -122,13 +122,13 @@ sought_none : (s : Sought) (n : Node) → is_type_wrapper (kind_of n) ≡ true �
 unfolding sought_in in_scope in_item in_default in_member in_var in_name
 sought_none s n w i = by s.part
   where
-    by : (p : Part) → sought_by p s.stays (is_value n) (kind_of n) i ≡ None
-    by part.Scope = six_at (Option Sought) (λ k. sought_by part.Scope s.stays (is_value n) k i) None (refl, refl, refl, refl, refl, refl) (kind_of n) w
-    by part.Item = six_at (Option Sought) (λ k. sought_by part.Item s.stays (is_value n) k i) None (refl, refl, refl, refl, refl, refl) (kind_of n) w
-    by part.Default = six_at (Option Sought) (λ k. sought_by part.Default s.stays (is_value n) k i) None (refl, refl, refl, refl, refl, refl) (kind_of n) w
-    by part.Member = six_at (Option Sought) (λ k. sought_by part.Member s.stays (is_value n) k i) None (refl, refl, refl, refl, refl, refl) (kind_of n) w
-    by part.Var = six_at (Option Sought) (λ k. sought_by part.Var s.stays (is_value n) k i) None (refl, refl, refl, refl, refl, refl) (kind_of n) w
-    by (part.Name f) = six_at (Option Sought) (λ k. sought_by (part.Name f) s.stays (is_value n) k i) None (refl, refl, refl, refl, refl, refl) (kind_of n) w
+    by : (p : Part) → sought_by p s.stays (is_value_where s.stays n) (kind_of n) i ≡ None
+    by part.Scope = six_at (Option Sought) (λ k. sought_by part.Scope s.stays (is_value_where s.stays n) k i) None (refl, refl, refl, refl, refl, refl) (kind_of n) w
+    by part.Item = six_at (Option Sought) (λ k. sought_by part.Item s.stays (is_value_where s.stays n) k i) None (refl, refl, refl, refl, refl, refl) (kind_of n) w
+    by part.Default = six_at (Option Sought) (λ k. sought_by part.Default s.stays (is_value_where s.stays n) k i) None (refl, refl, refl, refl, refl, refl) (kind_of n) w
+    by part.Member = six_at (Option Sought) (λ k. sought_by part.Member s.stays (is_value_where s.stays n) k i) None (refl, refl, refl, refl, refl, refl) (kind_of n) w
+    by part.Var = six_at (Option Sought) (λ k. sought_by part.Var s.stays (is_value_where s.stays n) k i) None (refl, refl, refl, refl, refl, refl) (kind_of n) w
+    by (part.Name f) = six_at (Option Sought) (λ k. sought_by (part.Name f) s.stays (is_value_where s.stays n) k i) None (refl, refl, refl, refl, refl, refl) (kind_of n) w
 
 wrapper_none : (n : Node) (s : Sought) → is_type_wrapper (kind_of n) ≡ true → declarations n s ≡ []
 wrapper_none n s w = decl-out n s ∙ ap₂ (λ a b. a ++ b) (here_none s (kind_of n) w) (found_none (sought_in s n) (sought_none s n w) 0 (map declarations (children_of n)))
@@ -146,7 +146,7 @@ bound_sought part.Member n stays value i = refl
 bound_sought part.Var n stays value i = refl
 bound_sought (part.Name f) n stays value i = cc
 
-sought_is : (s : Sought) (n : Node) (i : ℕ) → sought_in s n i ≡ sought_by s.part s.stays (is_value n) (kind_of n) i
+sought_is : (s : Sought) (n : Node) (i : ℕ) → sought_in s n i ≡ sought_by s.part s.stays (is_value_where s.stays n) (kind_of n) i
 unfolding sought_in
 sought_is s n i = refl
 
@@ -155,7 +155,7 @@ binding_none u s p =
     let k : kind_of (binding u) ≡ kind.BindingIdent = ap (λ (z : Node-F Node). z.kind) (bound_parts u) in
     decl-out (binding u) s
     ∙ ap₂ (λ a b. a ++ b) (ap (declared_here s) k ∙ bound_here s)
-    (found_none (sought_in s (binding u)) (λ i. sought_is s (binding u) i ∙ ap (λ z. sought_by s.part s.stays (is_value (binding u)) z i) k ∙ bound_sought s.part p s.stays (is_value (binding u)) i) 0 (map declarations (children_of (binding u))))
+    (found_none (sought_in s (binding u)) (λ i. sought_is s (binding u) i ∙ ap (λ z. sought_by s.part s.stays (is_value_where s.stays (binding u)) z i) k ∙ bound_sought s.part p s.stays (is_value_where s.stays (binding u)) i) 0 (map declarations (children_of (binding u))))
 
 -- i and j more
 abbrev after : ℕ → ℕ → ℕ
@@ -202,9 +202,9 @@ declared_same = by_children Declares (λ n below r s okay. by n below r s okay (
         ∙ ap₂ (λ a b. a ++ b) (ap (declared_here s) (usual_kind n r t))
         (ap (λ (z : List Node). found_in (sought_in s (bound_at n r)) 0 (map declarations z)) (usual_children n r t)
         ∙ found_same (sought_in s (bound_at n r)) (sought_in s n)
-        (λ j. sought_is s (bound_at n r) j ∙ ap₂ (λ v k. sought_by s.part s.stays v k j) (value_same n r) (usual_kind n r t) ∙ sym (sought_is s n j))
+        (λ j. sought_is s (bound_at n r) j ∙ ap₂ (λ v k. sought_by s.part s.stays v k j) (value_where_same s.stays n r) (usual_kind n r t) ∙ sym (sought_is s n j))
         (children_of n) (role_in r (kind_of n)) 0
-        (λ j c at s' is. below j c at (role_in r (kind_of n) j) s' (λ e. okay_in r s.part s.stays (is_value n) (kind_of n) j okay (ap seeks_name (sym (sought_is s n j) ∙ ap (sought_in s n) (sym (after_zero j)) ∙ is) ∙ e))))
+        (λ j c at s' is. below j c at (role_in r (kind_of n) j) s' (λ e. okay_in r s.part s.stays (is_value_where s.stays n) (kind_of n) j okay (ap seeks_name (sym (sought_is s n j) ∙ ap (sought_in s n) (sym (after_zero j)) ∙ is) ∙ e))))
         ∙ sym (decl-out n s)
 
 -- ---- what a scope declares

@@ -1,15 +1,13 @@
 -- What scopes see of a node is the same of a tree with bound names.
-use Rattle.std.proofs.Common.{◌≡◌, ◌∙◌, ◌⊎◌, inl, inr, ℕ, zero, suc, Bool, true, false, not, List, [], ◌∷◌, map, length, Some, refl, sym, ap, ap₂, slice_get, subst}
+use Rattle.std.proofs.Common.{◌≡◌, ◌∙◌, ◌⊎◌, inl, inr, ℕ, zero, suc, Bool, true, false, not, List, [], ◌∷◌, length, Some, refl, sym, ap, ap₂, slice_get, subst}
 use Rattle.ecma_kind.specs.Sorts.{belongs, is_type_wrapper}
 use Rattle.ecma_kind.specs.declared.kind.Kind.{Kind}
 use Rattle.ecma_kind.specs.declared.kind.Kind.TheVariants as kind
 use Rattle.ecma_kind.specs.declared.shapes.Shape.{Shape}
 use Rattle.ecma_kind.specs.declared.shapes.Sort.TheVariants as sort
-use Rattle.ecma_tree.specs.declared.node.Node.{Node, fold-roll-Node, fold_out-Node, out-Node}
+use Rattle.ecma_tree.specs.declared.node.Node.{Node}
 use Rattle.ecma_tree.specs.Laws.{HaveShapes}
-use Rattle.ecma_tree.specs.Nodes.{absent}
 use Rattle.ecma_tree.specs.Sorted.{HasShape, child_shapes, is_absent, one}
-use Rattle.ecma_tree.specs.Values.{is_value, value_by, value_step}
 use Rattle.ecma_rules.specs.Children.{kind_of}
 use Rattle.ecma_fits.specs.declared.role.Role.{Role}
 use Rattle.ecma_fits.specs.Roles.{is_name, role_in}
@@ -19,30 +17,9 @@ use Rattle.ecma_scope.specs.Scopes.{is_there, opens, opens_by, role_by, role_in 
 use Rattle.ecma_strip_fits.proofs.Lists.{have_at}
 use Rattle.ecma_strip_fits.proofs.Walk.{shape_parts}
 use Rattle.ecma_bind.specs.Binding.{bound_at, is_name_under_types, is_typed_name, under_types}
-use Rattle.ecma_bind_fits.proofs.Alike.{Six, is_same, six_at, typed_parts, usual_children, usual_kind}
-use Rattle.ecma_bind_fits.proofs.Bound.{bound_each, by_children, children_of, typed_is}
-use Rattle.ecma_bind_fits.proofs.Folded.{fold_same}
+use Rattle.ecma_bind_fits.proofs.Alike.{is_same, six_at, usual_children, usual_kind}
+use Rattle.ecma_bind_fits.proofs.Bound.{bound_each, by_children, children_of}
 use Rattle.ecma_bind_fits.proofs.Names.{bare_is, front, under_name}
-
--- ---- values
-
-value_six : (vs : List Bool) → Six Bool (λ k. value_by k vs) true
-unfolding value_by
-value_six vs = (refl, refl, refl, refl, refl, refl)
-
-value_bound : (vs : List Bool) → value_by kind.BindingIdent vs ≡ true
-unfolding value_by
-value_bound vs = refl
-
-value_typed : (n : Node) (r : Role) → is_typed_name r n ≡ true → is_value (bound_at n r) ≡ is_value n
-value_typed n r t =
-    ap is_value (typed_is n r t)
-    ∙ fold-roll-Node Bool value_step (record { span = (out-Node (under_types n)).span; kind = kind.BindingIdent; children = under_types n ∷ absent ∷ [] })
-    ∙ value_bound (map is_value (under_types n ∷ absent ∷ []))
-    ∙ sym (fold_out-Node Bool value_step n ∙ six_at Bool (λ k. value_by k (map is_value (children_of n))) true (value_six (map is_value (children_of n))) (kind_of n) (typed_parts n r t).1)
-
-pub value_same : (n : Node) (r : Role) → is_value (bound_at n r) ≡ is_value n
-value_same = fold_same value_step value_typed
 
 -- ---- scopes that are opened, and roles
 

@@ -13,7 +13,8 @@ use Rattle.ecma_rules.specs.Finishing.{binding}
 use Rattle.ecma_fits.specs.declared.role.Role.{Role}
 use Rattle.ecma_fits.specs.declared.role.Role.TheVariants as role
 use Rattle.ecma_fits.specs.Roles.{role_in}
-use Rattle.ecma_forms.specs.Forms.{first_untaken, goes, goes_at, has_body, inside, is_ambient_variable, is_later, is_odd_by, is_untaken, untaken_here}
+use Rattle.ecma_rules.specs.Members.{has_body}
+use Rattle.ecma_forms.specs.Forms.{first_untaken, goes, goes_at, inside, is_ambient_variable, is_later, is_odd_by, is_untaken, untaken_here}
 use Rattle.ecma_strip_fits.proofs.Strays.{none_failing, not_failing}
 use Rattle.ecma_bind.specs.Binding.{binds, bound_at, is_typed_name}
 use Rattle.ecma_bind_fits.proofs.Alike.{bound_parts, child_same, has_same, holds_where, quiet_usual, six_at, usual_children, usual_kind}
@@ -83,9 +84,6 @@ body_same n r t q = holds_where has_body n r t 1 (λ c at. has_same 1 c (role_in
 
 odd_same : (k : Kind) (n : Node) → kind_of n ≡ k → (r : Role) → is_typed_name r n ≡ false → is_odd_by k (bound_at n r) ≡ is_odd_by k n
 unfolding role_in
-odd_same kind.SetterProp n e r t = ap not (has_same 3 n r t)
-odd_same kind.GetterProp n e r t = ap not (has_same 2 n r t)
-odd_same kind.MethodProp n e r t = ap not (body_same n r t (ap (λ k. binds (role_in r k 1)) e))
 odd_same kind.FnExpr n e r t = ap not (body_same n r t (ap (λ k. binds (role_in r k 1)) e))
 odd_same kind.ForStmt n e r t = child_same is_ambient_variable (refl, refl, refl, refl, refl, refl) 0 n r t
 odd_same kind.ForInStmt n e r t = child_same is_ambient_variable (refl, refl, refl, refl, refl, refl) 0 n r t

@@ -1,0 +1,4 @@
+pub mod Everywhere
+pub mod Read
+pub mod Staying
+pub mod Taken

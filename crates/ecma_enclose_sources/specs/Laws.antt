@@ -1,0 +1,16 @@
+-- What is read as a module, with parentheses that keep what is written from being read as something else.
+use Rattle.std.specs.Prelude.{◌≡◌, None}
+use Rattle.ecma_kind.specs.declared.shapes.Sort.TheVariants as sort
+use Rattle.ecma_tree.specs.declared.node.Node.{Node}
+use Rattle.ecma_tree.specs.Sorted.{HasSort}
+use Rattle.ecma_forms.specs.Forms.{first_untaken}
+use Rattle.ecma_plain.specs.Read.{IsRead}
+use Rattle.ecma_enclose.specs.Enclosing.{enclosed}
+
+-- a tree as it is read is one with them
+abbrev pub EnclosedTreesAreRead : Type 0
+EnclosedTreesAreRead = (tree : Node) → IsRead tree → IsRead (enclosed tree)
+
+-- and where each of its forms is taken, each is then
+abbrev pub EnclosedTreesAreTaken : Type 0
+EnclosedTreesAreTaken = (tree : Node) → HasSort sort.Module tree → first_untaken tree ≡ None → first_untaken (enclosed tree) ≡ None
