@@ -1,5 +1,5 @@
 -- A tree with other texts for its identifiers, in which the names that it has for others and its keys stay.
-use Rattle.std.specs.Prelude.{ℕ, suc, Bool, true, false, ◌==◌, List, [], ◌∷◌, Option, Some, None, bytes_eq, cond, unwrap_or}
+use Rattle.std.specs.Prelude.{ℕ, suc, Bool, true, false, ◌==◌, List, [], ◌∷◌, Option, Some, None, bytes_eq, codes, cond, unwrap_or}
 use Rattle.ecma_kind.specs.declared.kind.Kind.{Kind}
 use Rattle.ecma_kind.specs.declared.kind.Kind.TheVariants as kind
 use Rattle.ecma_kind.specs.declared.span.Span.{Span}
@@ -97,6 +97,26 @@ kind_with_text texts _ k = k
 abbrev pub key_of : OldName → Node
 key_of old = node_of old.span (kind.IdentName old.text) []
 
+-- the key that sets the prototype where it stands in no brackets (ECMAScript, B.3.1)
+abbrev pub proto : List ℕ
+proto = codes "__proto__"
+
+-- that text between quotes
+abbrev pub quoted_proto : List ℕ
+quoted_proto = codes "\"__proto__\""
+
+-- the text of it
+abbrev pub proto_literal : Kind
+proto_literal = kind.Str proto (Some quoted_proto)
+
+--   ["__proto__"]
+abbrev pub proto_in_brackets : Span → Node
+proto_in_brackets span = node_of span kind.ComputedPropName (node_of span proto_literal [] ∷ [])
+
+-- the key of a property that is written in the place of a shorthand: it makes a property, as the shorthand does (ECMAScript, 13.2.5.5)
+abbrev pub property_key : OldName → Node
+property_key old = cond (bytes_eq old.text proto) (proto_in_brackets old.span) (key_of old)
+
 -- the name as it was, for others
 abbrev pub name_of : OldName → Node
 name_of old = node_of old.span (kind.Ident old.text 0 false) []
@@ -115,9 +135,10 @@ two_patterns old written children = written
 
 -- a node that is written so, with the old text of its shared name beside the new one
 --   ({ x });   // where x gets x1: ({ x: x1 })
+--   ({ __proto__ });   // where __proto__ gets __proto__1: ({ ["__proto__"]: __proto__1 })
 --   export { x }; import { y } from "m";   // where y gets y1: export { x1 as x }; import { y as y1 } from "m"
 unfoldable pub expanded_by : Kind → OldName → Node → Node
-expanded_by (kind.Ident sym ctxt optional) old written = node_of (out-Node written).span kind.KeyValueProp (key_of old ∷ written ∷ [])
+expanded_by (kind.Ident sym ctxt optional) old written = node_of (out-Node written).span kind.KeyValueProp (property_key old ∷ written ∷ [])
 expanded_by (kind.ImportNamedSpecifier is_type_only) old written = node_of (out-Node written).span (out-Node written).kind (two_names old (out-Node written).children)
 expanded_by (kind.ExportNamedSpecifier is_type_only) old written = node_of (out-Node written).span (out-Node written).kind (two_names old (out-Node written).children)
 expanded_by kind.AssignPatProp old written = two_patterns old written (out-Node written).children

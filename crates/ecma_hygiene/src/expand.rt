@@ -3,7 +3,7 @@ ghost use Rattle.std.specs.Prelude.{◌≡◌, [], ◌∷◌, IfOk, OnOk};
 ghost use Rattle.ecma_kind.specs.declared.kind.Kind.TheVariants as kind;
 ghost use Rattle.ecma_tree.specs.declared.node.Node.{out-Node};
 ghost use Rattle.ecma_tree.specs.Nodes.{node_of};
-ghost use Rattle.ecma_hygiene.specs.Renamed.{expanded, expanded_by, key_of, kind_is_absent, name_of, two_names, two_patterns, with_default};
+ghost use Rattle.ecma_hygiene.specs.Renamed.{expanded, expanded_by, key_of, kind_is_absent, name_of, property_key, proto_in_brackets, two_names, two_patterns, with_default};
 
 use ecma_tree::{JsWord, Kind, NoMemory, Node, Nodes, Span, SyntaxContext};
 use std::alloc::Global;
@@ -21,6 +21,27 @@ fn key_of(alloc: Global, old: OldName) -> Node
 {
     let OldName { text, span } = old;
     Node::leaf(alloc, span, Kind::IdentName { sym: text })
+}
+
+/// `["__proto__"]`, in the place of an identifier.
+fn proto_in_brackets(alloc: Global, span: Span) -> Result<Node, NoMemory>
+    ensures { IfOk result (λ node. node ≡ proto_in_brackets span) }
+{
+    let value = JsWord::new(alloc, "__proto__")?;
+    let raw = Some(JsWord::new(alloc, "\"__proto__\"")?);
+    let text = Node::leaf(alloc, span, Kind::Str { value, raw });
+    Node::of(alloc, span, Kind::ComputedPropName, [text])
+}
+
+/// The key of a property that is written in the place of a shorthand. `__proto__` stands in brackets: as a plain key it would set
+/// the prototype (ECMAScript, B.3.1).
+fn property_key(alloc: Global, old: OldName) -> Result<Node, NoMemory>
+    ensures { IfOk result (λ key. key ≡ property_key old) }
+{
+    if old.text.as_str() == "__proto__" {
+        return proto_in_brackets(alloc, old.span);
+    }
+    Ok(key_of(alloc, old))
 }
 
 fn name_of(alloc: Global, old: OldName) -> Node
@@ -48,10 +69,10 @@ pub(crate) fn is_absent(node: &Node) -> bool
 
 /// A shorthand becomes a key with its value.
 fn expand_shorthand(alloc: Global, old: OldName, node: &mut Node) -> Result<(), NoMemory>
-    ensures { OnOk result (node.new ≡ node_of (out-Node node.old).span kind.KeyValueProp (key_of old ∷ node.old ∷ [])) }
+    ensures { OnOk result (node.new ≡ node_of (out-Node node.old).span kind.KeyValueProp (property_key old ∷ node.old ∷ [])) }
 {
     let span = node.span;
-    let key = key_of(alloc, old);
+    let key = property_key(alloc, old)?;
     let value = mem::replace(node, Node::absent(alloc));
     *node = Node::of(alloc, span, Kind::KeyValueProp, [key, value])?;
     Ok(())

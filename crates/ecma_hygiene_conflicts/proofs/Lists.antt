@@ -8,20 +8,20 @@ use Rattle.ecma_scope.specs.declared.form.Declaration.{Declaration}
 use Rattle.ecma_scope.specs.declared.form.Form.{Form}
 use Rattle.ecma_scope.specs.declared.form.Form.TheVariants as form
 use Rattle.ecma_scope.specs.declared.role.Role.{Role}
-use Rattle.ecma_scope.specs.Conflicts.{clashes, clashing, conflict, is_catch, is_function_body, is_lexical, is_parameter, mark, marked, may_be_merged, may_merge, may_not_meet, merges}
+use Rattle.ecma_scope.specs.Conflicts.{clashes, clashing, conflict, has_parameters, is_catch, is_lexical, is_parameter, mark, marked, may_be_merged, may_merge, may_not_meet, merges}
 use Rattle.ecma_scope.specs.Declarations.{is_hoisted, is_own, is_stated}
-use Rattle.ecma_hygiene.specs.Ids.{Id, has_context}
+use Rattle.ecma_hygiene.specs.Ids.{Id, has_context, is_function_body}
 use Rattle.ecma_hygiene.specs.Renamed.{Texts, text_of}
 use Rattle.ecma_hygiene.proofs.Telling.{and-both, and-left, and-right, or-first, or-second, true-false}
 use Rattle.ecma_hygiene_scopes.specs.DeclaredIds.{DeclaredId, with_text}
 use Rattle.ecma_hygiene_scopes.proofs.Sameness.{no_text}
 use Rattle.ecma_strip_conflicts.proofs.Fewer.{or-left, or-right}
-use Rattle.ecma_hygiene_conflicts.proofs.Marks.{Any, Below, and-none, any-holds, any-last, any-more, below-merged, both-none, first-none, hoisted-lexical, hoisted-plain, lexical-more, mark-below, mark-hoisted, mark-sym, mark-uncaught, more-meets, neither, never, none-meet, not-false, not-true, or-either, own-is, rest-none}
+use Rattle.ecma_hygiene_conflicts.proofs.Marks.{Any, Below, and-none, any-holds, any-last, any-more, below-merged, body-parameters, both-none, first-none, hoisted-lexical, hoisted-plain, lexical-more, mark-below, mark-hoisted, mark-sym, mark-uncaught, more-meets, neither, never, none-meet, not-false, not-true, or-either, own-is, rest-none}
 
 module _ (r : Role) (before after : List ℕ → Option Bool) (texts : Texts) (body : Bool) (contexts : List ℕ) (seen binding : Id → Bool)
     (tell : (a b : Id) → seen a ≡ true → binding b ≡ true → text_of texts a ≡ text_of texts b → a.0 ≡ b.0)
     (one : (c d : ℕ) → has_context c contexts ≡ true → has_context d contexts ≡ true → c ≡ d)
-    (sound : is_function_body r ≡ true → (x : Id) → binding x ≡ true → is_stated (after (text_of texts x)) ≡ true → is_stated (before x.0) ≡ true) where
+    (sound : has_parameters r ≡ true → (x : Id) → binding x ≡ true → is_stated (after (text_of texts x)) ≡ true → is_stated (before x.0) ≡ true) where
   abbrev pub old : DeclaredId → Declaration
   old = with_text no_text
 
@@ -45,7 +45,7 @@ module _ (r : Role) (before after : List ℕ → Option Bool) (texts : Texts) (b
     is : a.sym ≡ text_of texts id
     seen_it : seen id ≡ true
     bound : (binding id ≡ true) ⊎ (a.form ≡ form.Var)
-    quiet : is_function_body r ≡ true → is_stated (before id.0) ≡ true → is_lexical r a.form ≡ false
+    quiet : has_parameters r ≡ true → is_stated (before id.0) ≡ true → is_lexical r a.form ≡ false
     uncaught : body ≡ true → is_catch a.form ≡ false
 
   -- a `var` or a function with the text of a parameter, which was the parameter before
@@ -90,7 +90,7 @@ module _ (r : Role) (before after : List ℕ → Option Bool) (texts : Texts) (b
   no-parameters a b x (inl f) = ap (λ (p : Bool). p && is_parameter b) (hoisted-plain a f.hoisted)
   no-parameters a b x (inr f) = ap (λ (p : Bool). is_parameter a && p) (hoisted-plain b f.hoisted) ∙ and-none (is_parameter a)
 
-  quiet-both : (a b : Declaration) (k : Known a) (l : Known b) (x : Id) → k.id.0 ≡ x.0 → l.id.0 ≡ x.0 → Further x a.form ⊎ Further x b.form → body ≡ true → is_function_body r ≡ true → is_stated (before x.0) ≡ true → may_not_meet r a.form b.form ≡ false
+  quiet-both : (a b : Declaration) (k : Known a) (l : Known b) (x : Id) → k.id.0 ≡ x.0 → l.id.0 ≡ x.0 → Further x a.form ⊎ Further x b.form → body ≡ true → has_parameters r ≡ true → is_stated (before x.0) ≡ true → may_not_meet r a.form b.form ≡ false
   quiet-both a b k l x same also further block in_body stated =
       none-meet r a.form b.form
       (k.quiet in_body (ap (λ (t : List ℕ). is_stated (before t)) same ∙ stated))
@@ -110,9 +110,9 @@ module _ (r : Role) (before after : List ℕ → Option Bool) (texts : Texts) (b
           (λ b w. and-both (bytes_eq b.sym s.sym) (may_not_meet r b.form s.form) ((bytes_eq-Decides b.sym s.sym).1 (w.0 ∙ base ∙ sym is)) (more-meets r e.form a.form b.form s.form w.1 below meets)) was)
           none
       contra k base meets (inr further) other =
-          true-false meets (quiet-both e a k l k.id refl (sym base) (inl further) further.block further.in_body further.stated)
+          true-false meets (quiet-both e a k l k.id refl (sym base) (inl further) further.block (body-parameters r further.in_body) further.stated)
       contra k base meets (inl was) (inr further) =
-          true-false meets (quiet-both e a k l l.id base refl (inr further) further.block further.in_body further.stated)
+          true-false meets (quiet-both e a k l l.id base refl (inr further) further.block (body-parameters r further.in_body) further.stated)
 
       by : (t m : Bool) → bytes_eq e.sym a.sym ≡ t → may_not_meet r e.form a.form ≡ m → (t && m) ≡ false
       by false m same meets = refl
@@ -175,10 +175,10 @@ module _ (r : Role) (before after : List ℕ → Option Bool) (texts : Texts) (b
   all-last : (P : Declaration → Type 0) (xs : List Declaration) (a : Declaration) → All P xs → P a → All P (xs ++ a ∷ [])
   all-last P xs a all h = All-append P xs (a ∷ []) all (All-cons P a [] h (All-nil P))
 
-  -- nothing that is lexical in the body of a function has the text of a parameter
-  no-parameter : (a : Declaration) (k : Known a) → binding k.id ≡ true → (is_function_body r && (is_lexical r a.form && is_stated (after a.sym))) ≡ false
+  -- nothing that is lexical in the body of a function or the block of a `catch` has the text of a parameter
+  no-parameter : (a : Declaration) (k : Known a) → binding k.id ≡ true → (has_parameters r && (is_lexical r a.form && is_stated (after a.sym))) ≡ false
   no-parameter a k bound =
-      never (is_function_body r) (is_lexical r a.form) (is_stated (after a.sym))
+      never (has_parameters r) (is_lexical r a.form) (is_stated (after a.sym))
       (λ in_body lexical stated. true-false lexical (k.quiet in_body (sound in_body k.id bound (ap (λ (t : List ℕ). is_stated (after t)) (sym k.is) ∙ stated))))
 
   -- ---- the `var` names that pass through
@@ -200,11 +200,11 @@ module _ (r : Role) (before after : List ℕ → Option Bool) (texts : Texts) (b
       let p = All-head Passed d ds passed in
       let k = passed-known d p in
       let test : clashes r before ys (old d) ≡ false = first-none (clashes r before ys (old d)) d.id.0 (clashing r before (ys ++ old d ∷ []) (map old ds)) h in
-      let none = or-left (list_any (λ e. conflict r e (old d)) ys) (is_function_body r && (is_lexical r d.form && is_stated (before d.id.0))) test in
+      let none = or-left (list_any (λ e. conflict r e (old d)) ys) (has_parameters r && (is_lexical r d.form && is_stated (before d.id.0))) test in
       both-none (clashes r after xs (new d)) (new d).sym (clashing r after (xs ++ new d ∷ []) (map new ds))
-      (neither (list_any (λ e. conflict r e (new d)) xs) (is_function_body r && (is_lexical r d.form && is_stated (after (new d).sym)))
+      (neither (list_any (λ e. conflict r e (new d)) xs) (has_parameters r && (is_lexical r d.form && is_stated (after (new d).sym)))
       (none-conflict ys xs (new d) origins k (inl (old d, refl, inl refl, none)))
-      (never (is_function_body r) (is_lexical r d.form) (is_stated (after (new d).sym)) (λ in_body lexical stated. true-false lexical (ap (is_lexical r) p.is))))
+      (never (has_parameters r) (is_lexical r d.form) (is_stated (after (new d).sym)) (λ in_body lexical stated. true-false lexical (ap (is_lexical r) p.is))))
       (passed-clear ds (xs ++ new d ∷ []) (ys ++ old d ∷ [])
       (all-last (Origin (ys ++ old d ∷ [])) xs (new d) (origins-more ys (old d) xs origins) (k, inl (any-last (Was d.id d.form) ys (old d) (refl, inl refl))))
       (All-tail Passed d ds passed)
@@ -221,7 +221,7 @@ module _ (r : Role) (before after : List ℕ → Option Bool) (texts : Texts) (b
     own-both own =
         own-is r after (new d)
         ∙ ap not (never (is_function_body r) (is_hoisted d.form) (is_stated (after (text_of texts d.id)))
-        (λ in_body hoisted stated. true-false own (own-is r before (old d) ∙ (λ j. not (in_body j && (hoisted j && sound in_body d.id known.bound stated j))))))
+        (λ in_body hoisted stated. true-false own (own-is r before (old d) ∙ (λ j. not (in_body j && (hoisted j && sound (body-parameters r in_body) d.id known.bound stated j))))))
 
     further : is_own r before (old d) ≡ false → Further d.id d.form
     further none =
@@ -244,8 +244,8 @@ module _ (r : Role) (before after : List ℕ → Option Bool) (texts : Texts) (b
         let rest_old : List Declaration = marked (ys ++ b ∷ []) (filter (is_own r before) (map old ds)) ++ map old ps in
         let rest_new : List Declaration = marked (xs ++ a ∷ []) (filter (is_own r after) (map new ds)) ++ map new ps in
         let test : clashes r before ys b ≡ false = first-none (clashes r before ys b) b.sym (clashing r before (ys ++ b ∷ []) rest_old) h in
-        let none : list_any (λ e. conflict r e b) ys ≡ false = or-left (list_any (λ e. conflict r e b) ys) (is_function_body r && (is_lexical r b.form && is_stated (before b.sym))) test in
-        let alone : (is_function_body r && (is_lexical r b.form && is_stated (before b.sym))) ≡ false = or-right (list_any (λ e. conflict r e b) ys) (is_function_body r && (is_lexical r b.form && is_stated (before b.sym))) test in
+        let none : list_any (λ e. conflict r e b) ys ≡ false = or-left (list_any (λ e. conflict r e b) ys) (has_parameters r && (is_lexical r b.form && is_stated (before b.sym))) test in
+        let alone : (has_parameters r && (is_lexical r b.form && is_stated (before b.sym))) ≡ false = or-right (list_any (λ e. conflict r e b) ys) (has_parameters r && (is_lexical r b.form && is_stated (before b.sym))) test in
         let below : Below a.form b.form = mark-below xs ys (new d) (old d) refl (merges-too xs ys d (known.own own) became) in
         let k : Known a = record {
           id = d.id;
@@ -253,13 +253,13 @@ module _ (r : Role) (before after : List ℕ → Option Bool) (texts : Texts) (b
           seen_it = known.seen_it;
           bound = inl known.bound;
           quiet = λ in_body stated. not-true (is_lexical r a.form) (λ lexical. true-false
-              (and-both (is_function_body r) (is_lexical r b.form && is_stated (before b.sym)) in_body
+              (and-both (has_parameters r) (is_lexical r b.form && is_stated (before b.sym)) in_body
               (and-both (is_lexical r b.form) (is_stated (before b.sym)) (lexical-more r a.form b.form below lexical) (ap (λ (t : List ℕ). is_stated (before t)) (mark-sym ys (old d)) ∙ stated))) alone);
           uncaught = λ block. mark-uncaught xs (new d) (known.uncaught block);
         } in
         let f : Declaration → Bool = λ e. bytes_eq e.sym (text_of texts d.id) && may_be_merged e.form in
         both-none (clashes r after xs a) a.sym (clashing r after (xs ++ a ∷ []) rest_new)
-        (neither (list_any (λ e. conflict r e a) xs) (is_function_body r && (is_lexical r a.form && is_stated (after a.sym)))
+        (neither (list_any (λ e. conflict r e a) xs) (has_parameters r && (is_lexical r a.form && is_stated (after a.sym)))
         (none-conflict ys xs a origins k (inl (b, mark-sym ys (old d), below, none))) (no-parameter a k known.bound))
         (rec (xs ++ a ∷ []) (ys ++ b ∷ [])
         (all-last (Origin (ys ++ b ∷ [])) xs a (origins-more ys b xs origins) (k, inl (any-last (Was d.id a.form) ys b (mark-sym ys (old d), below))))
@@ -279,7 +279,7 @@ module _ (r : Role) (before after : List ℕ → Option Bool) (texts : Texts) (b
       is = refl;
       seen_it = known.seen_it;
       bound = inl known.bound;
-      quiet = λ in_body stated. hoisted-lexical r d.form in_body f.hoisted;
+      quiet = λ has stated. hoisted-lexical r d.form f.in_body f.hoisted;
       uncaught = known.uncaught;
     }
 
@@ -292,7 +292,7 @@ module _ (r : Role) (before after : List ℕ → Option Bool) (texts : Texts) (b
         let rest : List Declaration → List Declaration = λ zs. marked zs (filter (is_own r after) (map new ds)) ++ map new ps in
         ap (λ (z : Declaration). clashing r after xs (z ∷ rest (xs ++ z ∷ []))) (mark-hoisted xs (new d) f.hoisted)
         ∙ both-none (clashes r after xs (new d)) (new d).sym (clashing r after (xs ++ new d ∷ []) (rest (xs ++ new d ∷ [])))
-        (neither (list_any (λ e. conflict r e (new d)) xs) (is_function_body r && (is_lexical r d.form && is_stated (after (new d).sym)))
+        (neither (list_any (λ e. conflict r e (new d)) xs) (has_parameters r && (is_lexical r d.form && is_stated (after (new d).sym)))
         (none-conflict ys xs (new d) origins k (inr f)) (no-parameter (new d) k known.bound))
         (rec (xs ++ new d ∷ []) ys (all-last (Origin ys) xs (new d) origins (k, inr f)) (became-more xs (new d) ys became) h)
 

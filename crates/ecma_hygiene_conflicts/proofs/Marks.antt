@@ -6,8 +6,9 @@ use Rattle.ecma_scope.specs.declared.form.Form.{Form}
 use Rattle.ecma_scope.specs.declared.form.Form.TheVariants as form
 use Rattle.ecma_scope.specs.declared.role.Role.{Role}
 use Rattle.ecma_scope.specs.declared.role.Role.TheVariants as role
-use Rattle.ecma_scope.specs.Conflicts.{is_catch, is_function_body, is_lexical, is_parameter, is_var, mark, may_be_merged, may_merge, may_not_meet, merges}
+use Rattle.ecma_scope.specs.Conflicts.{has_parameters, is_catch, is_lexical, is_parameter, is_var, mark, may_be_merged, may_merge, may_not_meet, merges}
 use Rattle.ecma_scope.specs.Declarations.{is_hoisted, is_own, is_stated}
+use Rattle.ecma_hygiene.specs.Ids.{is_function_body}
 use Rattle.ecma_hygiene.proofs.Telling.{or-first, or-second, true-false}
 
 -- ---- tests
@@ -56,6 +57,10 @@ hoisted-stays : (f : Form) → is_hoisted f ≡ true → may_merge f ≡ false
 hoisted-stays form.Enum h = absurd (true-false h refl)
 hoisted-stays form.Namespace h = absurd (true-false h refl)
 hoisted-stays _ h = refl
+
+pub body-parameters : (r : Role) → is_function_body r ≡ true → has_parameters r ≡ true
+body-parameters role.Body h = refl
+body-parameters _ h = absurd (true-false h refl)
 
 pub hoisted-lexical : (r : Role) (f : Form) → is_function_body r ≡ true → is_hoisted f ≡ true → is_lexical r f ≡ false
 hoisted-lexical role.Body form.Var body h = refl

@@ -14,7 +14,7 @@ use Rattle.ecma_scope.specs.declared.form.Part.TheVariants as part
 use Rattle.ecma_scope.specs.declared.form.Sought.{Sought}
 use Rattle.ecma_scope.specs.declared.role.Role.{Role}
 use Rattle.ecma_scope.specs.declared.role.Role.TheVariants as role
-use Rattle.ecma_scope.specs.Conflicts.{clashing, is_catch, is_function_body, is_further_out, marked, meeting, own_clashes, passing, surrounds}
+use Rattle.ecma_scope.specs.Conflicts.{clashing, has_parameters, is_catch, is_further_out, marked, meeting, own_clashes, passing, surrounds}
 use Rattle.ecma_scope.specs.Declarations.{declares, holds_vars, is_hoisted, is_own, is_stated, keeps, names, stated}
 use Rattle.ecma_scope.specs.Resolved.{is_name}
 use Rattle.ecma_scope.specs.Scopes.{covers, is_ambient, is_there, opens, opens_by, role_by, role_in}
@@ -43,11 +43,9 @@ use Rattle.ecma_hygiene_scopes.proofs.Parts.{children-of, kind-of}
 use Rattle.ecma_hygiene_scopes.proofs.Passing.{block-list, list-forms}
 use Rattle.ecma_hygiene_scopes.proofs.Sameness.{declares-ids, no_text}
 use Rattle.ecma_hygiene_scopes.proofs.Scoping.{plain-names-again, there-again}
-use Rattle.ecma_hygiene_scopes.proofs.Settling.{HasBody}
 use Rattle.ecma_hygiene_scopes.proofs.Stopping.{IsAmong, all-among}
 use Rattle.ecma_hygiene_scopes.proofs.Written.{children_again, own_kind}
-use Rattle.ecma_strip_conflicts.proofs.Bodies.{is-body}
-use Rattle.ecma_strip_conflicts.proofs.HasBody.{has-body}
+use Rattle.ecma_strip_conflicts.proofs.HasParameters.{HasParameters, has-parameters}
 use Rattle.ecma_strip_conflicts.proofs.Scope.{names-ids}
 use Rattle.ecma_hygiene_conflicts.proofs.Lists.{Declared, Passed, clear}
 use Rattle.ecma_hygiene_conflicts.proofs.Marks.{never, not-true, or-either, own-is}
@@ -71,6 +69,10 @@ inner-last (v ∷ u ∷ scopes) w = inner-last (u ∷ scopes) w
 block-role : (r : Role) (k : Kind) → is_body_block r k ≡ true → r ≡ role.Body
 block-role role.Body k h = refl
 block-role _ k h = absurd (true-false h refl)
+
+is-body : (r : Role) → ids.is_function_body r ≡ true → r ≡ role.Body
+is-body role.Body h = refl
+is-body _ h = absurd (true-false h refl)
 
 block-holds : (k : Kind) → is_block k ≡ true → holds_vars role.Body k ≡ true
 unfolding holds_vars
@@ -105,10 +107,10 @@ module _ (seen : List Sight) (met : List Meeting) (names_of : List Named) (are :
       by true is = (bytes_eq-Decides a.0 b.0).0 is
       by false is = absurd (texts-tell-apart seen met names_of a b are sees binds (λ equal. differ is (ap (λ (i : Id). i.0) equal)) (λ old also equal. absurd (differ is equal)) same)
 
-  -- what scopes around the body of a function state, by the texts before and by final texts, and what the innermost scope declares
+  -- what scopes around the body of a function or the block of a `catch` state, by the texts before and by final texts, and what the innermost scope declares
   pub record Sound (r : Role) (before after : List ℕ → Option Bool) (scope : Scope) : Type 0 where
-    pub written : r ≡ role.Body → (x : Id) → is_bound seen x ≡ true → is_stated (after (text_of texts x)) ≡ true → is_stated (before x.0) ≡ true
-    pub declared : r ≡ role.Body → (x : Id) → has_context x.1 (scope x.0) ≡ true → is_stated (before x.0) ≡ true
+    pub written : has_parameters r ≡ true → (x : Id) → is_bound seen x ≡ true → is_stated (after (text_of texts x)) ≡ true → is_stated (before x.0) ≡ true
+    pub declared : has_parameters r ≡ true → (x : Id) → has_context x.1 (scope x.0) ≡ true → is_stated (before x.0) ≡ true
     pub bound : (x : Id) → has_context x.1 (scope x.0) ≡ true → is_bound seen x ≡ true
 
   module _ (free : ℕ) (n : Node) (s : Around) (at : Spot) (left : ℕ) (before after : List ℕ → Option Bool) where
@@ -255,13 +257,13 @@ module _ (seen : List Sight) (met : List Meeting) (names_of : List Named) (are :
             no-parameter : body ≡ true → has_context d.id.1 (innermost s.scopes d.id.0) ≡ true → ⊥
             no-parameter block has =
                 let is_body : r ≡ role.Body = block-role r k block in
-                true-false own (own-is r before (old d) ∙ (λ j. not (is_function_body (is_body j) && (parameter block has j && sound.declared is_body d.id has j))))
+                true-false own (own-is r before (old d) ∙ (λ j. not (ids.is_function_body (is_body j) && (parameter block has j && sound.declared (ap has_parameters is_body) d.id has j))))
 
         abbrev IsDeclared : DeclaredId → Type 0
-        IsDeclared = Declared r before after texts body (own_contexts stop) (is_seen seen) (is_bound seen) tell scoped.one (λ in_body. sound.written (is-body r in_body))
+        IsDeclared = Declared r before after texts body (own_contexts stop) (is_seen seen) (is_bound seen) tell scoped.one sound.written
 
         abbrev IsPassed : DeclaredId → Type 0
-        IsPassed = Passed r before after texts body (own_contexts stop) (is_seen seen) (is_bound seen) tell scoped.one (λ in_body. sound.written (is-body r in_body))
+        IsPassed = Passed r before after texts body (own_contexts stop) (is_seen seen) (is_bound seen) tell scoped.one sound.written
 
         uncaught : body ≡ true → All Uncaught all
         uncaught block = subst (λ (z : Role). All Uncaught (scope_ids z n)) (sym (block-role r k block)) (body-uncaught n (block-is r k block))
@@ -295,19 +297,19 @@ module _ (seen : List Sight) (met : List Meeting) (names_of : List Named) (are :
         clashing-none : clashing r before [] (meeting r before n) ≡ [] → clashing r after [] (meeting r after plain) ≡ []
         clashing-none h =
             ap (clashing r after []) (meeting-after stay)
-            ∙ clear r before after texts body (own_contexts stop) (is_seen seen) (is_bound seen) tell scoped.one (λ in_body. sound.written (is-body r in_body)) all passed all-declared all-passed
+            ∙ clear r before after texts body (own_contexts stop) (is_seen seen) (is_bound seen) tell scoped.one sound.written all passed all-declared all-passed
             (sym (ap (clashing r before []) (meeting-before stay)) ∙ h)
 
-        -- ---- around the body of a function
+        -- ---- around the body of a function and the block of a `catch`
 
-        module _ (i : ℕ) (has : HasBody r k i) where
+        module _ (i : ℕ) (has : HasParameters r k i) where
           all-own : All (λ d. is_own r before (old d) ≡ true) all
           all-own j d lt = own-one (get_or all j d) (λ is. (scoped.declares opened).blocks is j d lt)
             where
               own-one : (d : DeclaredId) → (r ≡ role.Body → is_hoisted d.form ≡ true → is_block k ≡ true) → is_own r before (old d) ≡ true
               own-one d blocks =
                   own-is r before (old d)
-                  ∙ ap not (never (is_function_body r) (is_hoisted d.form) (is_stated (before d.id.0))
+                  ∙ ap not (never (ids.is_function_body r) (is_hoisted d.form) (is_stated (before d.id.0))
                   (λ in_body hoisted stated.
                   (let is : r ≡ role.Body = is-body r in_body in
                   true-false (ap (λ (z : Role). holds_vars z k) is ∙ block-holds k (blocks is hoisted)) has.holds)))
@@ -366,10 +368,10 @@ module _ (seen : List Sight) (met : List Meeting) (names_of : List Named) (are :
               before-is x.0
               ∙ declares-kept x all all-own (and-left (list_any (is_kept x) all) (ids.is_own body (innermost s.scopes) x) (sym (own-agrees x r s.scopes n) ∙ sym (ap (λ (w : Scope). has_context x.1 (w x.0)) inner-is) ∙ h))
 
-      has-of : (i : ℕ) → role_in r n i ≡ role.Body → HasBody r k i
-      has-of i is = has-body r k (is_there (out-Node n).children 1) i is
+      has-of : (i : ℕ) → has_parameters (role_in r n i) ≡ true → HasParameters r k i
+      has-of i is = has-parameters r k (is_there (out-Node n).children 1) i is
 
-      opens-of : (i : ℕ) → HasBody r k i → opens r n ≡ true
+      opens-of : (i : ℕ) → HasParameters r k i → opens r n ≡ true
       opens-of i has = has.opens (is_there (out-Node n).children 0)
 
       inner-bound : (i : ℕ) (o c : Bool) → opens r n ≡ o → (x : Id) → has_context x.1 (innermost (cond (o && c) (s.scopes ++ own_scope r s.scopes n ∷ []) s.scopes) x.0) ≡ true → is_bound seen x ≡ true

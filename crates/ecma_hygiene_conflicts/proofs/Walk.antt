@@ -8,7 +8,7 @@ use Rattle.ecma_tree.specs.declared.node.Node.{Node, Node-F, ind-Node, out-Node,
 use Rattle.ecma_tree.specs.declared.node.Node.TheViews.{out-roll-Node}
 use Rattle.ecma_scope.specs.declared.role.Role.{Role}
 use Rattle.ecma_scope.specs.declared.role.Role.TheVariants as role
-use Rattle.ecma_scope.specs.Conflicts.{Surrounding, clashes_in, own_clashes, redeclared, redeclared_at, surrounds}
+use Rattle.ecma_scope.specs.Conflicts.{Surrounding, clashes_in, has_parameters, own_clashes, redeclared, redeclared_at, surrounds}
 use Rattle.ecma_scope.specs.Laws.{without_contexts}
 use Rattle.ecma_scope.specs.Resolved.{context_count, taken}
 use Rattle.ecma_scope.proofs.Clashing.{redeclared_at-out}
@@ -107,7 +107,7 @@ root-sound seen met names are = record {
   bound = λ x h. absurd (true-false h refl);
 }
   where
-    no-body : role.Root ≡ role.Body → ⊥
+    no-body : has_parameters role.Root ≡ true → ⊥
     no-body h = cc
 
 pub final-not-redeclared : FinalTextsAreNotRedeclared

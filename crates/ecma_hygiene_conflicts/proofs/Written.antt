@@ -1,5 +1,5 @@
 -- A shorthand that is written out declares nothing again where its parts do not.
-use Rattle.std.proofs.Common.{◌≡◌, ℕ, Bool, true, false, ◌&&◌, cond, List, [], ◌∷◌, ◌++◌, map, Option, Some, None, refl, sym, ap, ap₂, ◌∙◌}
+use Rattle.std.proofs.Common.{◌≡◌, ℕ, Bool, true, false, ◌&&◌, cond, List, [], ◌∷◌, ◌++◌, map, Option, Some, None, bytes_eq, refl, sym, ap, ap₂, ◌∙◌}
 use Rattle.ecma_kind.specs.declared.kind.Kind.{Kind}
 use Rattle.ecma_kind.specs.declared.kind.Kind.TheVariants as kind
 use Rattle.ecma_kind.specs.declared.span.Span.{Span}
@@ -10,7 +10,7 @@ use Rattle.ecma_scope.specs.Conflicts.{Surrounding, clashes_in, clashing, meetin
 use Rattle.ecma_scope.specs.Declarations.{names, stated}
 use Rattle.ecma_scope.specs.Scopes.{covers, is_there, opens_by, role_by}
 use Rattle.ecma_scope.proofs.Clashing.{redeclared_at-out}
-use Rattle.ecma_hygiene.specs.Renamed.{key_of, kind_is_absent, name_of, two_names, with_default}
+use Rattle.ecma_hygiene.specs.Renamed.{key_of, kind_is_absent, name_of, property_key, proto, proto_in_brackets, proto_literal, two_names, with_default}
 use Rattle.ecma_hygiene_scopes.proofs.Growing.{OldName, grown, grown_by, grown_pattern}
 use Rattle.ecma_hygiene_scopes.proofs.Parts.{children-of, kind-of}
 use Rattle.ecma_strip_conflicts.proofs.Quiet.{both-none, first-none, second-none}
@@ -55,6 +55,19 @@ key-quiet : (t : Surrounding) (old : OldName) → redeclared_at (key_of old) t �
 unfolding opens_by
 key-quiet t old = shut-of t old.span (kind.IdentName old.text) [] refl
 
+brackets-quiet : (t : Surrounding) (span : Span) → redeclared_at (proto_in_brackets span) t ≡ []
+unfolding opens_by role_by
+brackets-quiet t span =
+    shut-of t span kind.ComputedPropName (node_of span proto_literal [] ∷ []) refl
+    ∙ both-none (redeclared_at (node_of span proto_literal []) (plain t)) [] (shut-of (plain t) span proto_literal [] refl) refl
+
+key-quiet-by : (b : Bool) (t : Surrounding) (old : OldName) → redeclared_at (cond b (proto_in_brackets old.span) (key_of old)) t ≡ []
+key-quiet-by true t old = brackets-quiet t old.span
+key-quiet-by false t old = key-quiet t old
+
+property-key-quiet : (t : Surrounding) (old : OldName) → redeclared_at (property_key old) t ≡ []
+property-key-quiet t old = key-quiet-by (bytes_eq old.text proto) t old
+
 name-quiet : (t : Surrounding) (old : OldName) → redeclared_at (name_of old) t ≡ []
 unfolding opens_by
 name-quiet t old = shut-of t old.span (kind.Ident old.text 0 false) [] refl
@@ -91,8 +104,8 @@ by-clear : (t : Surrounding) (old : OldName) (span : Span) (k : Kind) (cs : List
 unfolding opens_by role_by
 by-clear t old span (kind.Ident s c o) cs h =
     let id : Node = node_of span (kind.Ident s c o) cs in
-    shut-of t span kind.KeyValueProp (key_of old ∷ id ∷ []) refl
-    ∙ both-none (redeclared_at (key_of old) (plain t)) (redeclared_at id (plain t) ++ []) (key-quiet (plain t) old)
+    shut-of t span kind.KeyValueProp (property_key old ∷ id ∷ []) refl
+    ∙ both-none (redeclared_at (property_key old) (plain t)) (redeclared_at id (plain t) ++ []) (property-key-quiet (plain t) old)
     (both-none (redeclared_at id (plain t)) [] (shut-of (plain t) span (kind.Ident s c o) cs refl ∙ sym (shut-of t span (kind.Ident s c o) cs refl) ∙ h) refl)
 by-clear t old span (kind.ImportNamedSpecifier y) cs h =
     shut-of t span (kind.ImportNamedSpecifier y) (two_names old cs) refl

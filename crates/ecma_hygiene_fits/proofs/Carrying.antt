@@ -1,5 +1,5 @@
 -- A test of nodes and of what stands around them, that no node fails, no node fails with other texts.
-use Rattle.std.proofs.Common.{◌≡◌, ◌∙◌, ℕ, suc, Bool, true, false, ◌==◌, cond, List, [], ◌∷◌, map, length, Option, Some, None, refl, sym, ap, ap₂, slice_get, subst}
+use Rattle.std.proofs.Common.{◌≡◌, ◌∙◌, ℕ, suc, Bool, true, false, ◌==◌, cond, List, [], ◌∷◌, map, length, Option, Some, None, bytes_eq, refl, sym, ap, ap₂, slice_get, subst}
 use Rattle.std.proofs.lemmas.Bool.{false≢true}
 use Rattle.ecma_kind.specs.Sorts.{belongs}
 use Rattle.ecma_kind.specs.declared.kind.Kind.{Kind}
@@ -19,7 +19,7 @@ use Rattle.ecma_scope.specs.Resolved.{is_name}
 use Rattle.ecma_hygiene.specs.declared.spot.Spot.{Spot}
 use Rattle.ecma_hygiene.specs.declared.spot.Spot.TheVariants as spot
 use Rattle.ecma_hygiene.specs.declared.spot.Standing.{Standing}
-use Rattle.ecma_hygiene.specs.Renamed.{Texts, at_root, key_of, kind_is_absent, kind_with_text, name_of, old_name, renamed, shared_by, shorthand, spot_in, standing_in, text_of, two_names, with_default}
+use Rattle.ecma_hygiene.specs.Renamed.{Texts, at_root, key_of, kind_is_absent, kind_with_text, name_of, old_name, property_key, proto, proto_in_brackets, proto_literal, renamed, shared_by, shorthand, spot_in, standing_in, text_of, two_names, with_default}
 use Rattle.ecma_hygiene_scopes.proofs.Growing.{OldName, grown, grown_pattern}
 use Rattle.ecma_hygiene_scopes.proofs.Parts.{children-of, kind-of}
 use Rattle.ecma_hygiene_fits.proofs.Becoming.{all_become, become, become-out, children_become, children_stay, is_touched, kind_stays, old_of}
@@ -35,6 +35,7 @@ is_known kind.KeyValuePatProp = true
 is_known (kind.ImportNamedSpecifier is_type_only) = true
 is_known (kind.ExportNamedSpecifier is_type_only) = true
 is_known (kind.IdentName sym) = true
+is_known kind.ComputedPropName = true
 is_known kind.AssignPat = true
 is_known _ = false
 
@@ -90,6 +91,8 @@ module _ (texts : Texts) (A : Type 0) (inside : A → Node → ℕ → A) (fails
     pub written : (a : A) → Fine a → by a kind.KeyValueProp ≡ false
     pub value : (a : A) (sym : List ℕ) (ctxt : ℕ) (optional : Bool) → Fine a → by a (kind.Ident sym ctxt optional) ≡ false → by (at a kind.KeyValueProp 1) (kind.Ident sym ctxt optional) ≡ false
     pub keys : (a : A) (sym : List ℕ) → (by (at a kind.KeyValueProp 0) (kind.IdentName sym) ≡ false) × (by (at a kind.KeyValuePatProp 0) (kind.IdentName sym) ≡ false)
+    pub brackets : (a : A) → by (at a kind.KeyValueProp 0) kind.ComputedPropName ≡ false
+    pub quoted : (a : A) (n : Node) → kind_of n ≡ proto_literal → fails (at (at a kind.KeyValueProp 0) kind.ComputedPropName 0) n ≡ false
     -- a shorthand pattern passes written out
     pub pattern : (a : A) → by a kind.AssignPatProp ≡ false → by a kind.KeyValuePatProp ≡ false
     pub default : (a : A) → by (at a kind.KeyValuePatProp 1) kind.AssignPat ≡ false
@@ -166,6 +169,23 @@ module _ (texts : Texts) (A : Type 0) (inside : A → Node → ℕ → A) (fails
     unfolding is_known
     key_passes old a h = of_known old.span (kind.IdentName old.text) [] a refl refl h tt
 
+    text_passes : (span : Span) (a : A) → first (node_of span proto_literal []) (at (at a kind.KeyValueProp 0) kind.ComputedPropName 0) ≡ None
+    text_passes span a =
+        let n = node_of span proto_literal [] in
+        let inner = at (at a kind.KeyValueProp 0) kind.ComputedPropName 0 in
+        passes n inner (carries.quoted a n (kind-of span proto_literal []))
+        (subst (AllPass (inside inner n) 0) (sym (children-of span proto_literal [])) tt)
+
+    property_key_passes : (old : OldName) (a : A) → first (property_key old) (at a kind.KeyValueProp 0) ≡ None
+    unfolding is_known
+    property_key_passes old a = go (bytes_eq old.text proto)
+      where
+        go : (b : Bool) → first (cond b (proto_in_brackets old.span) (key_of old)) (at a kind.KeyValueProp 0) ≡ None
+        go true =
+            of_known old.span kind.ComputedPropName (node_of old.span proto_literal [] ∷ []) (at a kind.KeyValueProp 0) refl refl (carries.brackets a)
+            (text_passes old.span a, tt)
+        go false = key_passes old (at a kind.KeyValueProp 0) (carries.keys a old.text).0
+
     name_passes : (old : OldName) (a : A) → by a (kind.Ident old.text 0 false) ≡ false → first (name_of old) a ≡ None
     unfolding is_known
     name_passes old a h = of_known old.span (kind.Ident old.text 0 false) [] a refl refl h tt
@@ -198,8 +218,8 @@ module _ (texts : Texts) (A : Type 0) (inside : A → Node → ℕ → A) (fails
     unfolding is_known
     ident_passes None span a text ctxt optional h ready = of_known span (kind.Ident text ctxt optional) [] a refl refl h tt
     ident_passes (Some old) span a text ctxt optional h ready =
-        of_known span kind.KeyValueProp (key_of old ∷ node_of span (kind.Ident text ctxt optional) [] ∷ []) a refl refl (carries.written a ready) (
-          key_passes old (at a kind.KeyValueProp 0) (carries.keys a old.text).0,
+        of_known span kind.KeyValueProp (property_key old ∷ node_of span (kind.Ident text ctxt optional) [] ∷ []) a refl refl (carries.written a ready) (
+          property_key_passes old a,
           (of_known span (kind.Ident text ctxt optional) [] (at a kind.KeyValueProp 1) refl refl (carries.value a text ctxt optional ready h) tt, tt),
         )
 

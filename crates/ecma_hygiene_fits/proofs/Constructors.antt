@@ -10,7 +10,7 @@ use Rattle.ecma_tree.specs.Sorted.{child_shapes}
 use Rattle.ecma_rules.specs.Children.{children_of as items_of, has_child, is_present, kind_of}
 use Rattle.ecma_rules.specs.Members.{is_constructor, is_full_constructor, second_by, second_of}
 use Rattle.ecma_hygiene.specs.declared.spot.Standing.{Standing}
-use Rattle.ecma_hygiene.specs.Renamed.{Texts, standing_in}
+use Rattle.ecma_hygiene.specs.Renamed.{Texts, proto_literal, standing_in}
 use Rattle.ecma_hygiene_fits.specs.Laws.{FinalTextsKeepConstructors}
 use Rattle.ecma_hygiene_fits.proofs.Becoming.{Quiet, Silent, present_quiet, all_become, become, child_same, children_stay, is_touched, kind_same}
 use Rattle.ecma_hygiene_fits.proofs.Everywhere.{children_of}
@@ -68,6 +68,10 @@ never_second : (text : List ℕ) (n : Node) → (has_second (kind.IdentName text
 unfolding has_second
 never_second text n = (refl, refl)
 
+brackets_alone : (n : Node) → (has_second kind.ComputedPropName n ≡ false) × (has_second proto_literal n ≡ false)
+unfolding has_second
+brackets_alone n = (refl, refl)
+
 second_same : (texts : Texts) (k : Kind) (s : Shape) (n m : Node) (stands : ℕ → Standing) → HaveShapes (child_shapes k s (length (children_of n))) (children_of n) → children_of m ≡ all_become texts stands 0 (children_of n)
     → has_second k m ≡ has_second k n
 unfolding has_second
@@ -80,5 +84,5 @@ second_same texts _ s n m stands has is = refl
 pub constructors_kept : FinalTextsKeepConstructors
 unfolding has_second
 constructors_kept texts =
-    test_kept texts has_second second_quiet (λ text n. (never_second text n).0) (λ n. (never_second [] n).1)
+    test_kept texts has_second second_quiet (λ text n. (never_second text n).0) (λ n. (never_second [] n).1) brackets_alone
     (λ n s stands has u none. second_same texts (kind_of n) s n (become texts n stands) (standing_in stands n) (shape_parts n s has).1 (children_stay texts n stands u) ∙ none)

@@ -13,7 +13,7 @@ use Rattle.ecma_rules.specs.Children.{children_of as items_of, has_child, holds_
 use Rattle.ecma_rules.specs.Targets.{is_key_value}
 use Rattle.ecma_fits.specs.Counts.{are_exports, are_imports, are_stars_or_names, ends_once, ends_template, holds_attributes, is_attribute, is_attribute_key, is_default_import, is_empty, is_full_by, is_named_export, is_named_import, is_star_export, is_star_import, is_star_of, is_text, is_whole_template}
 use Rattle.ecma_hygiene.specs.declared.spot.Standing.{Standing}
-use Rattle.ecma_hygiene.specs.Renamed.{Texts, standing_in}
+use Rattle.ecma_hygiene.specs.Renamed.{Texts, proto_literal, standing_in}
 use Rattle.ecma_hygiene_fits.specs.Laws.{FinalTextsKeepCounts}
 use Rattle.ecma_hygiene_fits.proofs.Becoming.{Silent, present_quiet, all_become, become, child_same, children_stay, is_changed, is_touched, kind_unchanged}
 use Rattle.ecma_hygiene_fits.proofs.Everywhere.{children_of}
@@ -197,6 +197,10 @@ never_short : (text : List ℕ) (n : Node) → (short_by (kind.IdentName text) n
 unfolding short_by is_full_by
 never_short text n = (refl, refl)
 
+brackets_full : (n : Node) → (short_by kind.ComputedPropName n ≡ false) × (short_by proto_literal n ≡ false)
+unfolding short_by is_full_by
+brackets_full n = (refl, refl)
+
 not_false : (b : Bool) → not b ≡ false → b ≡ true
 not_false true h = refl
 not_false false h = cc
@@ -204,7 +208,7 @@ not_false false h = cc
 pub counts_kept : FinalTextsKeepCounts
 unfolding short_by
 counts_kept texts =
-    test_kept texts short_by short_quiet (λ text n. (never_short text n).0) (λ n. (never_short [] n).1)
+    test_kept texts short_by short_quiet (λ text n. (never_short text n).0) (λ n. (never_short [] n).1) brackets_full
     (λ n s stands has u none.
     ap not (full_stays texts n (become texts n stands) s (standing_in stands n) (children_stay texts n stands u) (child_same texts is_present true present_quiet n stands u) (kind_of n) (shape_parts n s has).1
     (not_false (is_full_by (kind_of n) n) none)))

@@ -19,6 +19,7 @@ pub mod NoThis
 pub mod Numbered
 pub mod Strays
 pub mod SpelledRoles
+mod SpelledProto
 pub mod Spelled
 pub mod SpelledNumbers
 pub mod SpelledNames

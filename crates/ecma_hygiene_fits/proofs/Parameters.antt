@@ -15,13 +15,13 @@ use Rattle.ecma_kind.specs.declared.shapes.Sort.TheVariants as sort
 use Rattle.ecma_tree.specs.declared.node.Node.{Node}
 use Rattle.ecma_tree.specs.Laws.{HaveShapes}
 use Rattle.ecma_tree.specs.Sorted.{HasShape, child_shapes, is_list, many, one}
-use Rattle.ecma_rules.specs.Children.{children_of as items_of, holds_of, kind_of}
+use Rattle.ecma_rules.specs.Children.{children_of as items_of, holds_of, kind_of, is_present}
 use Rattle.ecma_rules.specs.Lists.{is_rest_pattern}
-use Rattle.ecma_rules.specs.Members.{behind_first, fits_kind, is_binding_name, is_empty_list, is_named_pattern, is_one_parameter, is_plain_parameter, is_this_by, is_this_parameter, is_this_pattern, takes_one}
+use Rattle.ecma_rules.specs.Members.{behind_first, fits_kind, is_binding_name, is_empty_list, is_named_pattern, is_one_parameter, is_plain_parameter, is_this_by, is_this_parameter, is_this_pattern, takes_one, has_body}
 use Rattle.ecma_hygiene.specs.declared.spot.Standing.{Standing}
 use Rattle.ecma_hygiene.specs.Renamed.{Texts, standing_in, text_of}
 use Rattle.ecma_hygiene_fits.specs.Unreserved.{AreUnreserved, IsUnreserved}
-use Rattle.ecma_hygiene_fits.proofs.Becoming.{Quiet, all_become, become, child_same, children_stay, is_touched, kind_stays, stays_touched}
+use Rattle.ecma_hygiene_fits.proofs.Becoming.{Quiet, all_become, become, child_same, children_stay, is_touched, kind_stays, stays_touched, present_quiet}
 use Rattle.ecma_hygiene_fits.proofs.Everywhere.{Each, children_of}
 use Rattle.ecma_hygiene_fits.proofs.Listed.{list_untouched}
 use Rattle.ecma_hygiene_fits.proofs.Named.{child_unnamed}
@@ -98,6 +98,11 @@ items_shaped σ l has =
 pub behind_none : (test : Node → Bool) (cs : List Node) → list_any test cs ≡ false → list_any test (behind_first cs) ≡ false
 behind_none test [] h = h
 behind_none test (c ∷ cs) h = (or_parts (test c) (list_any test cs) h).1
+
+function_untouched : (k : Kind) → belongs sort.Function k ≡ true → is_touched k ≡ false
+unfolding is_touched
+function_untouched (kind.Function is_generator is_async) b = refl
+function_untouched _ b = absurd (false≢true b)
 
 module _ (texts : Texts) (unreserved : AreUnreserved texts) where
   not_this : (sym : List ℕ) (ctxt : ℕ) → bytes_eq sym (codes "this") ≡ false → bytes_eq (text_of texts (sym, ctxt)) (codes "this") ≡ false
@@ -219,11 +224,6 @@ module _ (texts : Texts) (unreserved : AreUnreserved texts) where
 
     -- ---- functions
 
-    function_untouched : (k : Kind) → belongs sort.Function k ≡ true → is_touched k ≡ false
-    unfolding is_touched
-    function_untouched (kind.Function is_generator is_async) b = refl
-    function_untouched _ b = absurd (false≢true b)
-
     abbrev Counted : Option Node → Option Node → Type 0
     Counted d c = (is_one_parameter (items_of d) ≡ is_one_parameter (items_of c)) × (is_empty_list (items_of d) ≡ is_empty_list (items_of c))
 
@@ -249,3 +249,7 @@ module _ (texts : Texts) (unreserved : AreUnreserved texts) where
         go Method = refl
         go Getter = ap (λ (z : List Node). is_empty_list (items_of (slice_get z 0))) stay ∙ counted.1
         go Setter = ap (λ (z : List Node). is_one_parameter (items_of (slice_get z 0))) stay ∙ counted.0
+
+-- a function keeps its body
+pub body_same : (texts : Texts) (f : Node) → HasShape (one sort.Function) f → (stands : Standing) → has_body (become texts f stands) ≡ has_body f
+body_same texts f has stands = child_same texts is_present true present_quiet f stands (function_untouched (kind_of f) (shape_parts f (one sort.Function) has).0) 1

@@ -204,6 +204,8 @@ module _ (texts : Texts) (unreserved : AreUnreserved texts) where
     value = λ w text ctxt optional p h.
         sym (ap (λ r. is_wrong_name r (kind.Ident text ctxt optional) || not (may_be r (kind.Ident text ctxt optional) || (takes r (kind.Ident text ctxt optional) && true))) p) ∙ h;
     keys = λ w text. (refl, refl);
+    brackets = λ w. refl;
+    quoted = λ w n is. ap (λ k. is_wrong_name role.Free k || not (may_be role.Free k || (takes role.Free k && is_simple_target n))) is;
     pattern = λ w h. sym (pattern_may_be w.role) ∙ h;
     default = λ w.
         ap (λ b. not (b || (takes (cond (is_assigned w.role) role.AssignedValue role.DeclaredValue) kind.AssignPat && false))) (default_may_be (is_assigned w.role));

@@ -13,7 +13,7 @@ use Rattle.ecma_tree.specs.Laws.{HaveShapes}
 use Rattle.ecma_tree.specs.Sorted.{HasShape, child_shapes, is_list, many, one}
 use Rattle.ecma_rules.specs.Children.{child_holds, children_of as items_of, holds_of, is_present, items_at, kind_of, of_kind}
 use Rattle.ecma_rules.specs.Lists.{is_head, is_item, is_one_without_value, is_rest, is_rest_pattern, last_by}
-use Rattle.ecma_rules.specs.Members.{fits_kind, is_binding_name, is_constructor_key, is_declaring, is_method, is_plain_parameter, is_property_kind, is_special_by, is_special_function, is_this_by, is_this_parameter, is_this_pattern, misfits_by, misplaces_this_by, takes_not_one}
+use Rattle.ecma_rules.specs.Members.{fits_kind, is_binding_name, is_constructor_key, is_declaring, is_method, is_plain_parameter, is_property_kind, is_special_by, is_special_function, is_this_by, is_this_parameter, is_this_pattern, misfits_by, misplaces_this_by, takes_not_one, has_body}
 use Rattle.ecma_rules.specs.Statements.{is_body, is_declaration, is_exported, is_text}
 use Rattle.ecma_rules.specs.Surroundings.{standing_by}
 use Rattle.ecma_rules.specs.Targets.{is_variables, target_in}
@@ -22,7 +22,7 @@ use Rattle.ecma_fits.specs.Fitting.{at_top, breaks_rule, where_in}
 use Rattle.ecma_fits.specs.Roles.{role_in}
 use Rattle.ecma_fits.specs.Strays.{arguments_in}
 use Rattle.ecma_hygiene.specs.declared.spot.Standing.{Standing}
-use Rattle.ecma_hygiene.specs.Renamed.{Texts, renamed, standing_in}
+use Rattle.ecma_hygiene.specs.Renamed.{Texts, proto_literal, renamed, standing_in}
 use Rattle.ecma_hygiene_fits.specs.Unreserved.{AreUnreserved}
 use Rattle.ecma_hygiene_fits.specs.Laws.{FinalTextsKeepRules}
 use Rattle.ecma_hygiene_fits.proofs.Becoming.{Quiet, all_become, become, child_same, children_stay, holds_same, is_touched, kind_stays, present_quiet}
@@ -30,7 +30,7 @@ use Rattle.ecma_hygiene_fits.proofs.Carrying.{AllPass, Carries, carried, default
 use Rattle.ecma_hygiene_fits.proofs.Everywhere.{Each, children_of}
 use Rattle.ecma_hygiene_fits.proofs.Joining.{both_kept, weaker_kept}
 use Rattle.ecma_hygiene_fits.proofs.Listed.{list_untouched}
-use Rattle.ecma_hygiene_fits.proofs.Parameters.{behind_none, child_met, fits_same, items_shaped, no_pattern_in, no_this_in, params_untouched, param_untouched, pattern_stays, plain_same, rest_quiet}
+use Rattle.ecma_hygiene_fits.proofs.Parameters.{behind_none, child_met, fits_same, items_shaped, no_pattern_in, no_this_in, params_untouched, param_untouched, pattern_stays, plain_same, rest_quiet, body_same}
 use Rattle.ecma_hygiene_fits.proofs.Surroundings.{bound_inside, where_known, where_stays, within}
 use Rattle.ecma_hygiene_fits.proofs.Tests.{function_quiet, key_quiet}
 use Rattle.ecma_hygiene_fits.proofs.Walk.{shape_parts}
@@ -87,10 +87,16 @@ ruled_known w (kind.ExportNamedSpecifier is_type_only) n t named =
     quiet (is_head w.around.target) (is_item w.around.target) (is_exported w.around.standing) (is_body w.around.standing) (not (is_one_without_value (items_at n 0))) (not w.around.is_last)
 ruled_known w (kind.IdentName text) n t named =
     quiet (is_head w.around.target) (is_item w.around.target) (is_exported w.around.standing) (is_body w.around.standing) (not (is_one_without_value (items_at n 0))) (not w.around.is_last)
+ruled_known w kind.ComputedPropName n t named =
+    quiet (is_head w.around.target) (is_item w.around.target) (is_exported w.around.standing) (is_body w.around.standing) (not (is_one_without_value (items_at n 0))) (not w.around.is_last)
 ruled_known w kind.AssignPat n t named =
     ap (λ b. list_by w kind.AssignPat n || ((b || false) || statement_by w kind.AssignPat)) (name_no_rest (slice_get (children_of n) 0) named)
     ∙ quiet (is_head w.around.target) (is_item w.around.target) (is_exported w.around.standing) (is_body w.around.standing) (not (is_one_without_value (items_at n 0))) (not w.around.is_last)
 ruled_known w _ n t named = absurd (false≢true t)
+
+quoted_known : (w : Where) (n : Node) → ruled_by (within (within w kind.KeyValueProp 0) kind.ComputedPropName 0) proto_literal n ≡ false
+unfolding role_in target_in standing_by last_by arguments_in misfits_by misplaces_this_by is_declaration
+quoted_known w n = refl
 
 -- ---- what is not touched breaks none that it did not break
 
@@ -166,8 +172,11 @@ module _ (texts : Texts) (unreserved : AreUnreserved texts) where
     misfits_same : (k : Kind) → Have k → misfits_by k m ≡ misfits_by k n
     unfolding misfits_by
     misfits_same kind.AssignPat has = child_same texts is_rest_pattern false rest_quiet n stands u 0
-    misfits_same kind.GetterProp has = child_same texts is_present true present_quiet n stands u 3
-    misfits_same kind.SetterProp has = child_same texts takes_not_one false not_one_quiet n stands u 2
+    misfits_same kind.GetterProp has = ap₂ (λ a b. a || not b) (child_same texts is_present true present_quiet n stands u 3) (child_same texts is_present true present_quiet n stands u 2)
+    misfits_same kind.SetterProp has = ap₂ (λ a b. a || not b) (child_same texts takes_not_one false not_one_quiet n stands u 2) (child_same texts is_present true present_quiet n stands u 3)
+    misfits_same kind.MethodProp has =
+        ap not
+        (met (λ d c. holds_of has_body d ≡ holds_of has_body c) (one sort.Function) refl (λ f h q st. body_same texts f h st) (child_shapes kind.MethodProp s (length (children_of n))) has 1 refl)
     misfits_same (kind.ClassMethod k modifiers) has =
         ap not
         (met (λ d c. holds_of (fits_kind k) d ≡ holds_of (fits_kind k) c) (one sort.Function) refl (λ f h q st. fits_same texts unreserved Calm here below k f h q st)
@@ -232,6 +241,8 @@ module _ (texts : Texts) (unreserved : AreUnreserved texts) where
     written = λ w p. refl;
     value = λ w text ctxt optional p h. refl;
     keys = λ w text. (refl, refl);
+    brackets = λ w. refl;
+    quoted = λ w n is. ap (λ k. ruled_by (within (within w kind.KeyValueProp 0) kind.ComputedPropName 0) k n) is ∙ quoted_known w n;
     pattern = λ w h. refl;
     default = λ w. refl;
     defaulted = λ w. refl;

@@ -1,5 +1,5 @@
 -- A module by its sorts is one with other texts: what is put in has the shape that its place asks for.
-use Rattle.std.proofs.Common.{◌≡◌, ◌∙◌, ℕ, zero, suc, Bool, true, false, ◌||◌, cond, List, [], ◌∷◌, length, replicate, Option, Some, None, refl, sym, ap, subst}
+use Rattle.std.proofs.Common.{◌≡◌, ◌∙◌, ℕ, zero, suc, Bool, true, false, ◌||◌, cond, List, [], ◌∷◌, length, replicate, Option, Some, None, bytes_eq, refl, sym, ap, subst}
 use Rattle.ecma_kind.specs.Sorts.{belongs}
 use Rattle.ecma_kind.specs.declared.kind.Kind.{Kind}
 use Rattle.ecma_kind.specs.declared.kind.Kind.TheVariants as kind
@@ -20,7 +20,7 @@ use Rattle.ecma_scope.specs.Resolved.{is_name}
 use Rattle.ecma_hygiene.specs.declared.spot.Spot.{Spot}
 use Rattle.ecma_hygiene.specs.declared.spot.Spot.TheVariants as spot
 use Rattle.ecma_hygiene.specs.declared.spot.Standing.{Standing}
-use Rattle.ecma_hygiene.specs.Renamed.{Texts, at_root, key_of, kind_is_absent, kind_with_text, name_of, old_name, shared_by, shorthand, spot_in, standing_in, text_of, two_names, with_default}
+use Rattle.ecma_hygiene.specs.Renamed.{Texts, at_root, key_of, kind_is_absent, kind_with_text, name_of, old_name, property_key, proto, proto_in_brackets, proto_literal, shared_by, shorthand, spot_in, standing_in, text_of, two_names, with_default}
 use Rattle.ecma_hygiene_scopes.proofs.Growing.{OldName, grown, grown_by, grown_pattern}
 use Rattle.ecma_hygiene_fits.specs.Laws.{FinalTextsKeepSorts}
 use Rattle.ecma_hygiene_fits.proofs.Becoming.{all_become, become, become-out, children_become, old_of, own_kind}
@@ -83,6 +83,19 @@ there_is_expression _ e b n = (b, refl)
 key_shaped : (old : OldName) → HasShape (one sort.PropName) (key_of old)
 key_shaped old = of_parts old.span (kind.IdentName old.text) [] (one sort.PropName) refl tt
 
+text_shaped : (span : Span) → HasShape (one sort.Expr) (node_of span proto_literal [])
+text_shaped span = of_parts span proto_literal [] (one sort.Expr) refl tt
+
+brackets_shaped : (span : Span) → HasShape (one sort.PropName) (proto_in_brackets span)
+brackets_shaped span = of_parts span kind.ComputedPropName (node_of span proto_literal [] ∷ []) (one sort.PropName) refl (text_shaped span, tt)
+
+property_key_shaped : (old : OldName) → HasShape (one sort.PropName) (property_key old)
+property_key_shaped old = by (bytes_eq old.text proto)
+  where
+    by : (b : Bool) → HasShape (one sort.PropName) (cond b (proto_in_brackets old.span) (key_of old))
+    by true = brackets_shaped old.span
+    by false = key_shaped old
+
 name_shaped : (old : OldName) → HasShape (maybe sort.ModuleExportName) (name_of old)
 name_shaped old = of_parts old.span (kind.Ident old.text 0 false) [] (maybe sort.ModuleExportName) refl tt
 
@@ -120,8 +133,8 @@ Ready _ o s = Unit {0}
 
 grown_by_shaped : (old : OldName) (span : Span) (k : Kind) (cs : List Node) (s : Shape) → allows s k ≡ true → HaveShapes (child_shapes k s (length cs)) cs → Ready k (Some old) s → HasShape s (grown_by old span k cs)
 grown_by_shaped old span (kind.Ident text ctxt optional) cs s a has ready =
-    of_parts span kind.KeyValueProp (key_of old ∷ node_of span (kind.Ident text ctxt optional) cs ∷ []) s (ap (λ z. allows z kind.KeyValueProp) ready)
-    (key_shaped old, (of_parts span (kind.Ident text ctxt optional) cs (one sort.Expr) refl has, tt))
+    of_parts span kind.KeyValueProp (property_key old ∷ node_of span (kind.Ident text ctxt optional) cs ∷ []) s (ap (λ z. allows z kind.KeyValueProp) ready)
+    (property_key_shaped old, (of_parts span (kind.Ident text ctxt optional) cs (one sort.Expr) refl has, tt))
 grown_by_shaped old span (kind.ImportNamedSpecifier is_type_only) cs s a has ready = of_parts span (kind.ImportNamedSpecifier is_type_only) (two_names old cs) s a (names_shaped sort.Ident old cs has)
 grown_by_shaped old span (kind.ExportNamedSpecifier is_type_only) cs s a has ready =
     of_parts span (kind.ExportNamedSpecifier is_type_only) (two_names old cs) s a (names_shaped sort.ModuleExportName old cs has)

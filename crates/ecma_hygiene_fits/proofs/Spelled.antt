@@ -17,11 +17,12 @@ use Rattle.ecma_scope.specs.Resolved.{is_name}
 use Rattle.ecma_hygiene.specs.declared.spot.Spot.{Spot}
 use Rattle.ecma_hygiene.specs.declared.spot.Spot.TheVariants as spot
 use Rattle.ecma_hygiene.specs.declared.spot.Standing.{Standing}
-use Rattle.ecma_hygiene.specs.Renamed.{Texts, at_root, changed_from, first_item, is_sourced, key_name, key_of, kind_is_absent, kind_with_text, lone_name, name_of, old_name, old_name_by, shared_by, shorthand, standing_in, two_names, with_default}
+use Rattle.ecma_hygiene.specs.Renamed.{Texts, at_root, changed_from, first_item, is_sourced, key_name, key_of, kind_is_absent, kind_with_text, lone_name, name_of, old_name, old_name_by, property_key, proto, proto_in_brackets, proto_literal, shared_by, shorthand, standing_in, two_names, with_default}
 use Rattle.ecma_hygiene_scopes.proofs.Growing.{OldName, grown, grown_by, grown_pattern}
 use Rattle.ecma_hygiene_scopes.proofs.Parts.{children-of, kind-of}
 use Rattle.ecma_hygiene_fits.specs.Spelled.{AreSpelled, is_misspelled, is_spelled_text}
 use Rattle.ecma_hygiene_fits.specs.Laws.{FinalTextsKeepSpelling}
+use Rattle.ecma_hygiene_fits.proofs.SpelledProto.{proto_spelled}
 use Rattle.ecma_hygiene_fits.proofs.Becoming.{all_become, become, become-out, children_become, old_of, own_kind}
 use Rattle.ecma_hygiene_fits.proofs.Everywhere.{Each, children_of, everywhere}
 use Rattle.ecma_hygiene_fits.proofs.SpelledRoles.{Alike, alike_same, alike_then, default_alike, value_alike}
@@ -138,6 +139,18 @@ module _ (old : OldName) (spelled : is_spelled_text old.text ≡ true) where
   good_key : (r : Role) → Good r (key_of old)
   good_key r = good_leaf r old.span (kind.IdentName old.text) spelled
 
+  good_brackets : (r : Role) (span : Span) → Good r (proto_in_brackets span)
+  good_brackets r span =
+      good_parts r span kind.ComputedPropName (node_of span proto_literal [] ∷ []) refl
+      (good_leaf (role_in r kind.ComputedPropName 0) span proto_literal proto_spelled, tt)
+
+  good_property_key : (r : Role) → Good r (property_key old)
+  good_property_key r = by_text (bytes_eq old.text proto)
+    where
+      by_text : (b : Bool) → Good r (cond b (proto_in_brackets old.span) (key_of old))
+      by_text true = good_brackets r old.span
+      by_text false = good_key r
+
   good_name : (r : Role) → Good r (name_of old)
   good_name r = good_leaf r old.span (kind.Ident old.text 0 false) spelled
 
@@ -162,8 +175,8 @@ module _ (old : OldName) (spelled : is_spelled_text old.text ≡ true) where
   good_grown : (r : Role) (span : Span) (k : Kind) (cs : List Node) → is_spelled (is_tagged r) k ≡ true → Under (role_in r k) 0 cs → Good r (grown_by old span k cs)
   unfolding role_in
   good_grown r span (kind.Ident sym_ ctxt optional) cs s u =
-      good_parts r span kind.KeyValueProp (key_of old ∷ node_of span (kind.Ident sym_ ctxt optional) cs ∷ []) refl
-      (good_key role.Free, (good_parts role.Free span (kind.Ident sym_ ctxt optional) cs s u, tt))
+      good_parts r span kind.KeyValueProp (property_key old ∷ node_of span (kind.Ident sym_ ctxt optional) cs ∷ []) refl
+      (good_property_key role.Free, (good_parts role.Free span (kind.Ident sym_ ctxt optional) cs s u, tt))
   good_grown r span (kind.ImportNamedSpecifier t) cs s u = good_parts r span (kind.ImportNamedSpecifier t) (two_names old cs) s (good_names (role_in r (kind.ImportNamedSpecifier t)) cs u)
   good_grown r span (kind.ExportNamedSpecifier t) cs s u = good_parts r span (kind.ExportNamedSpecifier t) (two_names old cs) s (good_names (role_in r (kind.ExportNamedSpecifier t)) cs u)
   good_grown r span kind.AssignPatProp cs s u = good_pattern r span cs u

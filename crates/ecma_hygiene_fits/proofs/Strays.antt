@@ -19,7 +19,7 @@ use Rattle.ecma_scope.specs.Scopes.{is_there, role_by}
 use Rattle.ecma_hygiene.specs.declared.spot.Spot.{Spot}
 use Rattle.ecma_hygiene.specs.declared.spot.Spot.TheVariants as spot
 use Rattle.ecma_hygiene.specs.declared.spot.Standing.{Standing}
-use Rattle.ecma_hygiene.specs.Renamed.{Texts, kind_with_text, old_name, shared_by, shorthand, spot_in, standing_in, text_of}
+use Rattle.ecma_hygiene.specs.Renamed.{Texts, kind_with_text, old_name, proto_literal, shared_by, shorthand, spot_in, standing_in, text_of}
 use Rattle.ecma_hygiene_scopes.proofs.Growing.{grown}
 use Rattle.ecma_hygiene_scopes.proofs.Parts.{kind-of}
 use Rattle.ecma_hygiene_fits.specs.Unreserved.{AreUnreserved}
@@ -74,6 +74,10 @@ unfolding is_stray_in is_known
 stray_known held kind.BreakStmt label t = absurd (false≢true t)
 stray_known held kind.ContinueStmt label t = absurd (false≢true t)
 stray_known held _ label t = refl
+
+quoted_known : (held : Held) (label : Option (List ℕ)) → is_stray_in held proto_literal label ≡ is_stray held.strays proto_literal
+unfolding is_stray_in
+quoted_known held label = refl
 
 label_known : (k : Kind) (label : Option (List ℕ)) → is_known k ≡ true → own_label k label ≡ None
 unfolding is_known
@@ -148,6 +152,10 @@ module _ (texts : Texts) (unreserved : AreUnreserved texts) where
     written = λ a p. refl;
     value = λ a text ctxt optional p h. h;
     keys = λ a text. (refl, refl);
+    brackets = λ a. refl;
+    quoted = λ a n is.
+        ap (λ k. is_stray_in (behind (behind a kind.KeyValueProp 0) kind.ComputedPropName 0) k (label_of n)) is
+        ∙ quoted_known (behind (behind a kind.KeyValueProp 0) kind.ComputedPropName 0) (label_of n);
     pattern = λ a h. refl;
     default = λ a. refl;
     defaulted = λ a. refl;

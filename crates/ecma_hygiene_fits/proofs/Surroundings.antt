@@ -18,7 +18,7 @@ use Rattle.ecma_fits.specs.Fitting.{at_top, where_in, NoneFails}
 use Rattle.ecma_fits.specs.Roles.{in_default, is_assigned, role_in}
 use Rattle.ecma_fits.specs.Strays.{arguments_in}
 use Rattle.ecma_hygiene.specs.declared.spot.Standing.{Standing}
-use Rattle.ecma_hygiene.specs.Renamed.{Texts, renamed, standing_in}
+use Rattle.ecma_hygiene.specs.Renamed.{Texts, proto_literal, renamed, standing_in}
 use Rattle.ecma_hygiene_fits.proofs.Becoming.{become, child_same, children_stay, is_touched, kind_stays, present_quiet}
 use Rattle.ecma_hygiene_fits.proofs.Carrying.{Carries, carried, is_known, parts_pass}
 use Rattle.ecma_hygiene_fits.proofs.Everywhere.{children_of}
@@ -107,6 +107,7 @@ bound_inside w p is i =
 
 module _ (texts : Texts) (fails : Kind → Node → Bool) (quiet : (k : Kind) (n : Node) → is_touched k ≡ true → fails k n ≡ false) (keys : (text : List ℕ) (n : Node) → fails (kind.IdentName text) n ≡ false)
     (defaults : (n : Node) → fails kind.AssignPat n ≡ false)
+    (brackets : (n : Node) → (fails kind.ComputedPropName n ≡ false) × (fails proto_literal n ≡ false))
     (stays : (n : Node) (s : Shape) (stands : Standing) → HasShape s n → is_touched (kind_of n) ≡ false → fails (kind_of n) n ≡ false → fails (kind_of n) (become texts n stands) ≡ false) where
   abbrev by_kind : Where → Node → Bool
   by_kind w n = fails (kind_of n) n
@@ -114,6 +115,7 @@ module _ (texts : Texts) (fails : Kind → Node → Bool) (quiet : (k : Kind) (n
   fails_known : (k : Kind) (n : Node) → is_known k ≡ true → fails k n ≡ false
   unfolding is_known is_touched
   fails_known (kind.IdentName text) n t = keys text n
+  fails_known kind.ComputedPropName n t = (brackets n).0
   fails_known kind.AssignPat n t = defaults n
   fails_known (kind.Ident text ctxt optional) n t = quiet (kind.Ident text ctxt optional) n refl
   fails_known kind.KeyValueProp n t = quiet kind.KeyValueProp n refl
@@ -138,6 +140,8 @@ module _ (texts : Texts) (fails : Kind → Node → Bool) (quiet : (k : Kind) (n
     written = λ w p. refl;
     value = λ w text ctxt optional p h. refl;
     keys = λ w text. (refl, refl);
+    brackets = λ w. refl;
+    quoted = λ w n is. ap (λ k. fails k n) is ∙ (brackets n).1;
     pattern = λ w h. refl;
     default = λ w. refl;
     defaulted = λ w. refl;

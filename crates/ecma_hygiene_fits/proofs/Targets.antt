@@ -10,6 +10,7 @@ use Rattle.ecma_rules.specs.Surroundings.{standing_by}
 use Rattle.ecma_rules.specs.Targets.{target_in}
 use Rattle.ecma_fits.specs.declared.unfit.Where.{Where}
 use Rattle.ecma_fits.specs.Fitting.{at_top, where_in}
+use Rattle.ecma_fits.specs.declared.role.Role.TheVariants as role
 use Rattle.ecma_fits.specs.Roles.{is_assigned, is_bound_name, role_in}
 use Rattle.ecma_fits.specs.Strays.{arguments_in, is_stray_target}
 use Rattle.ecma_hygiene.specs.declared.spot.Standing.{Standing}
@@ -62,6 +63,10 @@ module _ (texts : Texts) (unreserved : AreUnreserved texts) where
     written = λ w p. refl;
     value = λ w text ctxt optional p h. refl;
     keys = λ w text. (refl, refl);
+    brackets = λ w. refl;
+    quoted = λ w n is.
+        ap (λ k. w.arguments.stray && (is_assigned role.Free && (is_bound_name k && child_is (is_named (codes "arguments")) n 0))) is
+        ∙ unbound w.arguments.stray (is_assigned role.Free) (child_is (is_named (codes "arguments")) n 0);
     pattern = λ w h. refl;
     default = λ w. refl;
     defaulted = λ w. refl;

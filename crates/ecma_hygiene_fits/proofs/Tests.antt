@@ -15,7 +15,7 @@ use Rattle.ecma_fits.specs.Branches.{holds_at_last, is_choice, last_part, takes_
 use Rattle.ecma_fits.specs.Chains.{goes_on, goes_on_step, is_behind_chain, is_link, is_loose_by, keeps_chain}
 use Rattle.ecma_fits.specs.Members.{is_misread_by}
 use Rattle.ecma_hygiene.specs.declared.spot.Standing.{Standing}
-use Rattle.ecma_hygiene.specs.Renamed.{Texts, standing_in}
+use Rattle.ecma_hygiene.specs.Renamed.{Texts, proto_literal, standing_in}
 use Rattle.ecma_hygiene_fits.specs.Laws.{FinalTextsKeepBranches, FinalTextsKeepChains, FinalTextsKeepMembers}
 use Rattle.ecma_hygiene_fits.proofs.Becoming.{Quiet, Silent, all_become, become, child_same, children_stay, holds_same, is_touched, made_same, present_quiet}
 use Rattle.ecma_hygiene_fits.proofs.Everywhere.{children_of}
@@ -50,7 +50,7 @@ else_same texts = made_same texts takes_else takes_else_of (fold_out-Node Bool t
 
 pub branches_kept : FinalTextsKeepBranches
 branches_kept texts =
-    test_kept texts dangles dangling_quiet (λ text n. refl) (λ n. refl)
+    test_kept texts dangles dangling_quiet (λ text n. refl) (λ n. refl) (λ n. (refl, refl))
     (λ n s stands has u none. ap₂ (λ a b. is_choice (kind_of n) && (a && b)) (child_same texts is_present true present_quiet n stands u 2) (holds_same texts takes_else (else_same texts) n stands u 1) ∙ none)
 
 -- ---- members
@@ -77,6 +77,10 @@ never_misread : (text : List ℕ) (n : Node) → (is_misread_by (kind.IdentName 
 unfolding is_misread_by
 never_misread text n = (refl, refl)
 
+brackets_read : (n : Node) → (is_misread_by kind.ComputedPropName n ≡ false) × (is_misread_by proto_literal n ≡ false)
+unfolding is_misread_by
+brackets_read n = (refl, refl)
+
 misread_by : (k : Kind) (n m : Node) → child_is is_constructor_key m 0 ≡ child_is is_constructor_key n 0 → child_is is_special_function m 1 ≡ child_is is_special_function n 1 → is_misread_by k m ≡ is_misread_by k n
 unfolding is_misread_by
 misread_by (kind.Constructor accessibility is_optional) n m key function = ap not key
@@ -86,7 +90,7 @@ misread_by _ n m key function = refl
 
 pub members_kept : FinalTextsKeepMembers
 members_kept texts =
-    test_kept texts is_misread_by misread_quiet (λ text n. (never_misread text n).0) (λ n. (never_misread [] n).1)
+    test_kept texts is_misread_by misread_quiet (λ text n. (never_misread text n).0) (λ n. (never_misread [] n).1) brackets_read
     (λ n s stands has u none.
     misread_by (kind_of n) n (become texts n stands) (child_same texts is_constructor_key false key_quiet n stands u 0) (child_same texts is_special_function false function_quiet n stands u 1) ∙ none)
 
@@ -130,5 +134,5 @@ loose_by texts _ s n m stands has is = refl
 
 pub chains_kept : FinalTextsKeepChains
 chains_kept texts =
-    test_kept texts is_loose_by loose_quiet (λ text n. refl) (λ n. refl)
+    test_kept texts is_loose_by loose_quiet (λ text n. refl) (λ n. refl) (λ n. (refl, refl))
     (λ n s stands has u none. loose_by texts (kind_of n) s n (become texts n stands) (standing_in stands n) (shape_parts n s has).1 (children_stay texts n stands u) ∙ none)

@@ -55,6 +55,8 @@ layer-sub n kind.TsSatisfiesExpr cs shape named j f h = absurd (cc)
 layer-sub n kind.TsTypeAnn cs shape named j f h = absurd (cc)
 layer-sub n kind.TsTypeParamDecl cs shape named j f h = absurd (cc)
 layer-sub n kind.TsTypeParamInstantiation cs shape named j f h = absurd (cc)
+layer-sub n (kind.TsImportEqualsDecl x y) cs shape named j f h = absurd (cc)
+layer-sub n kind.TsQualifiedName (left ∷ right ∷ []) shape named j f h = sub-same (layer kind.TsQualifiedName (left ∷ right ∷ []) named) _ refl
 layer-sub n k cs shape named j f h =
     sub-same (layer k cs named) _ (ap (λ b. (cond b (no_effect n) (role_by n k (map meaning cs))).declared ++ cond named (cond b (no_effect n) (role_by n k (map meaning cs))).names []) (sym f))
 

@@ -12,12 +12,12 @@ use Rattle.ecma_tree.specs.Sorted.{is_absent}
 use Rattle.ecma_hygiene.specs.declared.spot.Spot.{Spot}
 use Rattle.ecma_hygiene.specs.declared.spot.Spot.TheVariants as spot
 use Rattle.ecma_hygiene.specs.declared.spot.Standing.{Standing}
-use Rattle.ecma_hygiene.specs.Renamed.{Texts, changed_from, kind_is_absent, name_of, text_of, with_default}
+use Rattle.ecma_hygiene.specs.Renamed.{Texts, changed_from, kind_is_absent, name_of, proto, proto_in_brackets, proto_literal, text_of, with_default}
 use Rattle.ecma_hygiene_scopes.proofs.Growing.{OldName}
 use Rattle.ecma_hygiene_scopes.proofs.KindsTurned.{turned_kind}
 use Rattle.ecma_runs.specs.State.{Id}
 use Rattle.ecma_runs.specs.Names.{renamed, renamed_ident}
-use Rattle.ecma_hygiene_runs.specs.WrittenOut.{identifier_by, key_node, leaf_text, name_node, other_by, other_out, pattern_by, pattern_with, property_out, written_out}
+use Rattle.ecma_hygiene_runs.specs.WrittenOut.{identifier_by, key_node, leaf_text, name_node, other_by, other_out, pattern_by, pattern_with, property_key_node, property_out, written_out}
 use Rattle.ecma_hygiene_runs.specs.FinalTexts.{final_id, has_text, is_outer, is_text}
 use Rattle.ecma_hygiene_runs.proofs.Parts.{all_become, become, contexts, default-out, finished, out-flag, out-of, parts_of, properties-of, properties_of, property-of, property_of, renamed-absent, renamed-default, renamed-flag, renamed-of}
 
@@ -127,11 +127,32 @@ module _ (onto : ℕ → ℕ) (texts : Texts) (none : onto 0 ≡ 0) (empty : (te
 
   -- keys and names for others stay
 
-  pub key-out : (span : Span) (text : List ℕ) → written_out (key_node span text) ≡ key_node span text
+  key-out : (span : Span) (text : List ℕ) → written_out (key_node span text) ≡ key_node span text
   key-out span text = out-of span (kind.IdentName text) []
 
-  pub key-renamed : (span : Span) (text : List ℕ) → renamed to (key_node span text) ≡ key_node span text
+  key-renamed : (span : Span) (text : List ℕ) → renamed to (key_node span text) ≡ key_node span text
   key-renamed span text = renamed-of to span (kind.IdentName text) []
+
+  brackets-out : (span : Span) → written_out (proto_in_brackets span) ≡ proto_in_brackets span
+  brackets-out span = out-of span kind.ComputedPropName (node_of span proto_literal [] ∷ []) ∙ ap (λ n. node_of span kind.ComputedPropName (n ∷ [])) (out-of span proto_literal [])
+
+  brackets-renamed : (span : Span) → renamed to (proto_in_brackets span) ≡ proto_in_brackets span
+  brackets-renamed span =
+      renamed-of to span kind.ComputedPropName (node_of span proto_literal [] ∷ []) ∙ ap (λ n. node_of span kind.ComputedPropName (n ∷ [])) (renamed-of to span proto_literal [])
+
+  pub property-key-out : (span : Span) (text : List ℕ) → written_out (property_key_node span text) ≡ property_key_node span text
+  property-key-out span text = by (bytes_eq text proto)
+    where
+      by : (b : Bool) → written_out (cond b (proto_in_brackets span) (key_node span text)) ≡ cond b (proto_in_brackets span) (key_node span text)
+      by true = brackets-out span
+      by false = key-out span text
+
+  pub property-key-renamed : (span : Span) (text : List ℕ) → renamed to (property_key_node span text) ≡ property_key_node span text
+  property-key-renamed span text = by (bytes_eq text proto)
+    where
+      by : (b : Bool) → renamed to (cond b (proto_in_brackets span) (key_node span text)) ≡ cond b (proto_in_brackets span) (key_node span text)
+      by true = brackets-renamed span
+      by false = key-renamed span text
 
   pub name-out : (span : Span) (text : List ℕ) → written_out (name_node span text) ≡ name_node span text
   name-out span text = out-of span (kind.Ident text 0 false) []

@@ -23,12 +23,12 @@ use Rattle.ecma_hygiene_scopes.proofs.Membership.{id-same}
 use Rattle.ecma_hygiene_scopes.proofs.Parts.{contexts-of}
 use Rattle.ecma_hygiene_scopes.proofs.ReadingAgain.{is-read-again}
 use Rattle.ecma_hygiene_scopes.proofs.Stopping.{IsAmong, all-among}
-use Rattle.ecma_runs.specs.declared.config.Config.{Config}
+use Rattle.ecma_config.specs.declared.config.Config.{Config}
 use Rattle.ecma_runs.specs.declared.script.Script.{Script}
 use Rattle.ecma_runs.specs.State.{Id}
 use Rattle.ecma_runs.specs.Environment.{is_among}
 use Rattle.ecma_runs.specs.Evaluation.{meaning}
-use Rattle.ecma_runs.specs.Observation.{observe}
+use Rattle.ecma_runs.specs.Observation.{known_of, observe}
 use Rattle.ecma_runs.specs.Names.{TextsStay}
 use Rattle.ecma_runs.proofs.Kept.{kept}
 use Rattle.ecma_runs.proofs.Standing.{Passes}
@@ -46,7 +46,7 @@ use Rattle.ecma_hygiene_runs.proofs.WritingOut.{written_out_layers, written_out_
 
 -- the ids that a tree declares stay, with its shorthands written out
 declared-out : (n : Node) → (meaning (written_out n)).declared ≡ (meaning n).declared
-declared-out n = (kept (images written_out [] the_same) (layers_alike written_out [] the_same written_out_layers) n tt).declared ∙ same_ids (meaning n).declared
+declared-out n = (kept (images written_out (known_of n) the_same) (layers_alike written_out (known_of n) the_same written_out_layers) n tt).declared ∙ same_ids (meaning n).declared
 
 module _ (onto : ℕ → ℕ) (tree : Node) (names : List Named) (are : HygienicTexts tree names) (is : IsResolved tree) (keeps : KeepsApart onto tree) where
   abbrev texts : Texts

@@ -18,10 +18,10 @@ use Rattle.ecma_hygiene.specs.Renamed.{Texts, changed_from, is_sourced, first_it
 use Rattle.ecma_hygiene.proofs.Telling.{and-left, and-right}
 use Rattle.ecma_hygiene_scopes.proofs.Growing.{OldName, grown}
 use Rattle.ecma_runs.specs.Names.{renamed, renamed_ident}
-use Rattle.ecma_hygiene_runs.specs.WrittenOut.{key_node, other_out, properties_out, property_out, written_out}
+use Rattle.ecma_hygiene_runs.specs.WrittenOut.{other_out, properties_out, property_key_node, property_out, written_out}
 use Rattle.ecma_hygiene_runs.specs.FinalTexts.{all_named, has_name, is_named_at, is_outer}
 use Rattle.ecma_hygiene_runs.proofs.Parts.{all_become, become, final-roll, finished, named-roll, out-of, parts_of, properties-of, properties_of, property-of, property_of, renamed-of, shared_of, standing_of}
-use Rattle.ecma_hygiene_runs.proofs.FinalParts.{Final, Known, Named, Olds, Stand, all-elsewhere, all-properties, all-stand, finished-plain, is_ident, key-out, key-renamed, kind-final, named, olds, others-agree, outer-stays, pattern-changes, pattern-renamed, pattern-stays, pattern-written, pattern_final, second_of, to}
+use Rattle.ecma_hygiene_runs.proofs.FinalParts.{Final, Known, Named, Olds, Stand, all-elsewhere, all-properties, all-stand, finished-plain, is_ident, kind-final, named, olds, others-agree, outer-stays, pattern-changes, pattern-renamed, pattern-stays, pattern-written, pattern_final, property-key-out, property-key-renamed, second_of, to}
 
 module _ (onto : ℕ → ℕ) (texts : Texts) (none : onto 0 ≡ 0) (empty : (text : List ℕ) → text_of texts (text, 0) ≡ text) where
   abbrev on : Node → Node
@@ -75,22 +75,22 @@ module _ (onto : ℕ → ℕ) (texts : Texts) (none : onto 0 ≡ 0) (empty : (te
       ident-renamed = renamed-of (to onto texts none empty) span own ds
 
       abbrev shown : Node
-      shown = node_of span kind.KeyValueProp (key_node span text ∷ node_of span its (map on ds) ∷ [])
+      shown = node_of span kind.KeyValueProp (property_key_node span text ∷ node_of span its (map on ds) ∷ [])
 
       property-right : on (property_out (written_out (node_of span own cs))) ≡ shown
       property-right =
-          ap on (ap property_out (out-of span own cs) ∙ property-of span own ds) ∙ renamed-of (to onto texts none empty) span kind.KeyValueProp (key_node span text ∷ node_of span own ds ∷ [])
-          ∙ ap₂ (λ a b. node_of span kind.KeyValueProp (a ∷ b ∷ [])) (key-renamed onto texts none empty span text) ident-renamed
+          ap on (ap property_out (out-of span own cs) ∙ property-of span own ds) ∙ renamed-of (to onto texts none empty) span kind.KeyValueProp (property_key_node span text ∷ node_of span own ds ∷ [])
+          ∙ ap₂ (λ a b. node_of span kind.KeyValueProp (a ∷ b ∷ [])) (property-key-renamed onto texts none empty span text) ident-renamed
 
       property-stays : text_of texts (text, ctxt) ≡ text → property_out (written_out (node_of span its hs)) ≡ shown
       property-stays stays =
-          ap property_out ident-written ∙ property-of span its (map on ds) ∙ ap (λ t. node_of span kind.KeyValueProp (key_node span t ∷ node_of span its (map on ds) ∷ [])) stays
+          ap property_out ident-written ∙ property-of span its (map on ds) ∙ ap (λ t. node_of span kind.KeyValueProp (property_key_node span t ∷ node_of span its (map on ds) ∷ [])) stays
 
-      property-changes : property_out (written_out (node_of span kind.KeyValueProp (key_node span text ∷ node_of span its hs ∷ []))) ≡ shown
+      property-changes : property_out (written_out (node_of span kind.KeyValueProp (property_key_node span text ∷ node_of span its hs ∷ []))) ≡ shown
       property-changes =
-          ap property_out (out-of span kind.KeyValueProp (key_node span text ∷ node_of span its hs ∷ [])
-          ∙ ap₂ (λ a b. node_of span kind.KeyValueProp (a ∷ b ∷ [])) (key-out onto texts none empty span text) ident-written)
-          ∙ property-of span kind.KeyValueProp (key_node span text ∷ node_of span its (map on ds) ∷ [])
+          ap property_out (out-of span kind.KeyValueProp (property_key_node span text ∷ node_of span its hs ∷ [])
+          ∙ ap₂ (λ a b. node_of span kind.KeyValueProp (a ∷ b ∷ [])) (property-key-out onto texts none empty span text) ident-written)
+          ∙ property-of span kind.KeyValueProp (property_key_node span text ∷ node_of span its (map on ds) ∷ [])
 
     ident-turns : (s : Spot) → FinalBelow r s own cs → Turns r s span own cs
     ident-turns spot.Elsewhere final = ident-written spot.Elsewhere final ∙ sym (ap on (out-of span own cs) ∙ ident-renamed spot.Elsewhere final)

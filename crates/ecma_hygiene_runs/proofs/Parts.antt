@@ -20,7 +20,7 @@ use Rattle.ecma_hygiene_scopes.proofs.KindsTurned.{turned_kind}
 use Rattle.ecma_hygiene_scopes.proofs.Written.{again, again-out, all_again}
 use Rattle.ecma_runs.specs.State.{Id}
 use Rattle.ecma_runs.specs.Names.{renamed, renamed_ident, renamed_node}
-use Rattle.ecma_hygiene_runs.specs.WrittenOut.{identifier_by, key_node, leaf_text, out_by, out_here, pattern_by, pattern_with, properties_by, properties_out, property_by, property_out, written_out}
+use Rattle.ecma_hygiene_runs.specs.WrittenOut.{identifier_by, leaf_text, out_by, out_here, pattern_by, pattern_with, properties_by, properties_out, property_by, property_key_node, property_out, written_out}
 use Rattle.ecma_hygiene_runs.specs.FinalTexts.{is_named_at, is_outer, has_name, all_named, named_step}
 
 abbrev pub parts_of : Span → Kind → List Node → Node-F Node
@@ -36,7 +36,7 @@ out-of span k cs = out-roll (parts_of span k cs)
 
 -- a property, and properties, of these parts
 abbrev pub property_of : Span → Kind → List Node → Node
-property_of span (kind.Ident text ctxt optional) cs = node_of span kind.KeyValueProp (key_node span text ∷ node_of span (kind.Ident text ctxt optional) cs ∷ [])
+property_of span (kind.Ident text ctxt optional) cs = node_of span kind.KeyValueProp (property_key_node span text ∷ node_of span (kind.Ident text ctxt optional) cs ∷ [])
 property_of span k cs = node_of span k cs
 
 abbrev pub properties_of : Span → Kind → List Node → Node

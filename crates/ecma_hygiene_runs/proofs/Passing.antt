@@ -1,5 +1,5 @@
 -- Where each identifier of a tree passes a test, so does each of the tree written out; and identifiers are seen, or have the empty context.
-use Rattle.std.proofs.Common.{◌≡◌, refl, sym, ap, ◌∙◌, subst, ℕ, suc, ◌==◌, List, [], ◌∷◌, map, Option, Some, None, Bool, true, false, cond, ◌&&◌}
+use Rattle.std.proofs.Common.{◌≡◌, refl, sym, ap, ◌∙◌, subst, ℕ, suc, ◌==◌, List, [], ◌∷◌, map, Option, Some, None, Bool, true, false, cond, ◌&&◌, bytes_eq}
 use Rattle.std.specs.List.{All, list_all, list_any}
 use Rattle.std.proofs.lemmas.List.Elements.{All-head}
 use Rattle.ecma_kind.specs.declared.kind.Kind.{Kind}
@@ -12,7 +12,7 @@ use Rattle.ecma_scope.specs.Resolved.{is_name}
 use Rattle.ecma_scope.specs.Scopes.{is_there, role_by}
 use Rattle.ecma_hygiene.specs.declared.sight.Sight.{Sight}
 use Rattle.ecma_hygiene.specs.Ids.{declares}
-use Rattle.ecma_hygiene.specs.Renamed.{kind_is_absent, with_default}
+use Rattle.ecma_hygiene.specs.Renamed.{kind_is_absent, proto, proto_in_brackets, proto_literal, with_default}
 use Rattle.ecma_hygiene.specs.Sights.{Around, around_child, sight_by, sight_here, sights_at}
 use Rattle.ecma_hygiene.specs.Walks.{gathered_from}
 use Rattle.ecma_hygiene.proofs.Telling.{and-both, and-left, and-right}
@@ -22,7 +22,7 @@ use Rattle.ecma_runs.specs.State.{Id}
 use Rattle.ecma_runs.specs.Names.{ids_pass, passes_by, passes_here}
 use Rattle.ecma_runs.proofs.Kept.{AllNodes}
 use Rattle.ecma_runs.proofs.Standing.{Passes, passes_parts}
-use Rattle.ecma_hygiene_runs.specs.WrittenOut.{identifier_by, key_node, leaf_text, name_node, other_by, other_out, out_by, pattern_by, pattern_with, properties_by, properties_out, property_by, property_out, written_out}
+use Rattle.ecma_hygiene_runs.specs.WrittenOut.{identifier_by, key_node, leaf_text, name_node, other_by, other_out, out_by, pattern_by, pattern_with, properties_by, properties_out, property_by, property_key_node, property_out, written_out}
 use Rattle.ecma_hygiene_runs.specs.FinalTexts.{all_named, has_name, is_named_at, is_outer}
 use Rattle.ecma_hygiene_runs.proofs.Parts.{named-roll, out-roll, parts_of}
 
@@ -41,11 +41,21 @@ module _ (test : Id → Bool) where
     key-passes : (span : Span) (text : List ℕ) → Passes test (key_node span text)
     key-passes span text = pass-of span (kind.IdentName text) [] refl tt
 
+    either : (b : Bool) (m n : Node) → Passes test m → Passes test n → Passes test (cond b m n)
+    either true m n p q = p
+    either false m n p q = q
+
+    brackets-pass : (span : Span) → Passes test (proto_in_brackets span)
+    brackets-pass span = pass-of span kind.ComputedPropName (node_of span proto_literal [] ∷ []) refl (pass-of span proto_literal [] refl tt, tt)
+
+    property-key-passes : (span : Span) (text : List ℕ) → Passes test (property_key_node span text)
+    property-key-passes span text = either (bytes_eq text proto) (proto_in_brackets span) (key_node span text) (brackets-pass span) (key-passes span text)
+
     name-passes : (span : Span) (text : List ℕ) → Passes test (name_node span text)
     name-passes span text = pass-of span (kind.Ident text 0 false) [] (outer text) tt
 
     property-by : (k : Kind) (span : Span) (n : Node) → Passes test n → Passes test (property_by k span n)
-    property-by (kind.Ident text ctxt optional) span n h = pass-of span kind.KeyValueProp (key_node span text ∷ n ∷ []) refl (key-passes span text, (h, tt))
+    property-by (kind.Ident text ctxt optional) span n h = pass-of span kind.KeyValueProp (property_key_node span text ∷ n ∷ []) refl (property-key-passes span text, (h, tt))
     property-by _ span n h = h
 
     properties-pass : (ns : List Node) → AllNodes (Passes test) ns → AllNodes (Passes test) (map property_out ns)
@@ -59,10 +69,6 @@ module _ (test : Id → Bool) where
     other-by : (k : Kind) (span : Span) (other : Node) → Passes test other → Passes test (other_by k span other)
     other-by (kind.Ident text ctxt optional) span other h = name-passes span text
     other-by _ span other h = h
-
-    either : (b : Bool) (m n : Node) → Passes test m → Passes test n → Passes test (cond b m n)
-    either true m n p q = p
-    either false m n p q = q
 
     default-passes : (span : Span) (name default : Node) → Passes test name → Passes test default → Passes test (with_default span name default)
     default-passes span name default p q = either (kind_is_absent default) name (node_of span kind.AssignPat (name ∷ default ∷ [])) p (pass-of span kind.AssignPat (name ∷ default ∷ []) refl (p, (q, tt)))

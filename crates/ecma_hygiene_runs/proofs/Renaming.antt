@@ -4,7 +4,7 @@ use Rattle.ecma_kind.specs.declared.kind.Kind.{Kind}
 use Rattle.ecma_kind.specs.declared.kind.Kind.TheVariants as kind
 use Rattle.ecma_tree.specs.declared.node.Node.{Node, Node-F, fold-roll-Node, ind-Node, out-Node, roll-Node}
 use Rattle.ecma_tree.specs.declared.node.Node.TheViews.{roll-out-Node}
-use Rattle.ecma_runs.specs.declared.config.Config.{Config}
+use Rattle.ecma_config.specs.declared.config.Config.{Config}
 use Rattle.ecma_runs.specs.declared.script.Script.{Script}
 use Rattle.ecma_runs.specs.State.{Id, Binding}
 use Rattle.ecma_runs.specs.Run.{outside}
@@ -12,14 +12,14 @@ use Rattle.ecma_runs.specs.Environment.{have_one_of, is_among}
 use Rattle.ecma_runs.specs.Meaning.{Meaning}
 use Rattle.ecma_runs.specs.Declarations.{all_shorthands, has_no_effect, imported_as}
 use Rattle.ecma_runs.specs.Evaluation.{role_by, no_effect, meaning_by, meaning}
-use Rattle.ecma_runs.specs.Observation.{observe}
+use Rattle.ecma_runs.specs.Observation.{observe, known_of}
 use Rattle.ecma_runs.specs.Names.{renamed_ident, renamed_node, renamed, passes_by, ids_pass, Keys, all_here, all_below, here_by, TextsStay}
 use Rattle.ecma_runs.proofs.Layer.{meaning-roll, meaning_out}
 use Rattle.ecma_runs.proofs.Names.{Naming, changed_ids, changed_bindings, is_among-changed}
 use Rattle.ecma_runs.proofs.Alike.{Change, outside_alike}
-use Rattle.ecma_runs.proofs.Meanings.{Same}
+use Rattle.ecma_runs.proofs.Meanings.{at, Same, any_seeking, pair}
 use Rattle.ecma_runs.proofs.Premises.{renamed_kind, StillClash, KeptLayer}
-use Rattle.ecma_runs.proofs.Steps.{step_same}
+use Rattle.ecma_runs.proofs.Steps.{plain_step}
 use Rattle.ecma_runs.proofs.Kept.{AllNodes, Kept, StepsAlike, layer_same, observe_unless}
 use Rattle.ecma_runs.proofs.Layers.{the_same, images_named, none_excused}
 use Rattle.ecma_runs.proofs.Standing.{Passes, passes_parts, BindingsPass, declares}
@@ -56,6 +56,8 @@ here_layer n kind.TsSatisfiesExpr (e ∷ type ∷ []) = e.1
 here_layer n kind.TsTypeAnn ns = refl
 here_layer n kind.TsTypeParamDecl ns = refl
 here_layer n kind.TsTypeParamInstantiation ns = refl
+here_layer n kind.TsQualifiedName (left ∷ right ∷ []) = refl
+here_layer n (kind.TsImportEqualsDecl false false) (name ∷ source ∷ []) = refl
 here_layer n k ns = none_listed (has_no_effect k (map meaning (map (λ e. e.0) ns))) (no_effect n) (role_by n k (map meaning (map (λ e. e.0) ns))) refl refl
 
 here_is : (n : Node) → Listed n
@@ -130,7 +132,7 @@ mute_same c m m' same = record {
   caught = same.caught;
   made = same.made;
   class_made = same.class_made;
-  defined = λ texts class object w. outside_alike c;
+  defined = λ texts class object w s. outside_alike (at c _);
   fields = same.fields;
   statics = same.statics;
   code = same.code;
@@ -145,6 +147,7 @@ mute_same c m m' same = record {
   text = λ texts. refl;
   cooked = same.cooked;
   is_plain = same.is_plain;
+  is_computed = same.is_computed;
   is_super = same.is_super;
   is_absent = same.is_absent;
   is_this = same.is_this;
@@ -154,9 +157,9 @@ mute_same c m m' same = record {
 }
 
 -- children that are kept
-all_kept : (c : Change) (ns : List ((n : Node) × Kept c n)) → AllNodes c.fine (map (λ e. e.0) ns) → AllNodes (λ n. Same c (meaning n) (meaning (c.node n))) (map (λ e. e.0) ns)
-all_kept c [] fine = tt
-all_kept c (n ∷ ns) fine = (n.1 fine.0, all_kept c ns fine.1)
+all_kept : (c : Change) → c.names.plain ≡ true → (ns : List ((n : Node) × Kept c n)) → AllNodes c.fine (map (λ e. e.0) ns) → AllNodes (λ n. Same c (meaning n) (meaning (c.node n))) (map (λ e. e.0) ns)
+all_kept c plain [] fine = tt
+all_kept c plain (n ∷ ns) fine = (any_seeking c plain (n.1 fine.0), all_kept c plain ns fine.1)
 
 -- a map of names that is one to one on a set of names in which each identifier of the tree stands; it keeps the texts of keys and of names that the
 -- tree declares nowhere, and which names are `this`
@@ -170,10 +173,10 @@ pub record Renames (to : Id → Id) (m : Node) : Type 0 where
 
 module _ (to : Id → Id) (m : Node) (renaming : Renames to m) where
   abbrev new_names : Naming
-  new_names = record { to = to; kept = renaming.stands; injective = renaming.one_to_one }
+  new_names = record { to = to; kept = renaming.stands; plain = true; injective = λ is. renaming.one_to_one }
 
   abbrev change : Change
-  change = images_named (λ n. Passes renaming.stands n × TextsStay to (key_names_in n)) (renamed to) new_names (meaning m).declared renaming.free_texts the_same
+  change = images_named (λ n. Passes renaming.stands n × TextsStay to (key_names_in n)) (renamed to) new_names (known_of m) renaming.free_texts the_same
 
   both_all : (cs : List Node) → AllNodes (Passes renaming.stands) cs → AllNodes (λ n. TextsStay to (key_names_in n)) cs → AllNodes change.fine cs
   both_all [] p q = tt
@@ -185,7 +188,7 @@ module _ (to : Id → Id) (m : Node) (renaming : Renames to m) where
 
   clash_step : (names : List Id) (b : Binding) (bs : List Binding) → renaming.stands b.id ≡ true → have_one_of (changed_ids new_names names) (changed_bindings new_names bs) ≡ have_one_of names bs
       → have_one_of (changed_ids new_names names) (changed_bindings new_names (b ∷ bs)) ≡ have_one_of names (b ∷ bs)
-  clash_step names b bs k rest = rw (k, is_among-changed new_names b.id k names, rest) refl
+  clash_step names b bs k rest = rw (k, is_among-changed new_names b.id k names tt, rest) refl
 
   clashes : (names : List Id) (bs : List Binding) → BindingsPass renaming.stands bs → have_one_of (changed_ids new_names names) (changed_bindings new_names bs) ≡ have_one_of names bs
   clashes names [] p = refl
@@ -211,6 +214,7 @@ module _ (to : Id → Id) (m : Node) (renaming : Renames to m) where
   layer_kept (kind.Ident text ctxt optional) cs o h p t = (h, renaming.this_stays (record { sym = text; ctxt = ctxt }) h)
   layer_kept kind.MemberExpr cs o h p t = refl
   layer_kept kind.SuperPropExpr cs o h p t = refl
+  layer_kept kind.TsQualifiedName cs o h p t = refl
   layer_kept kind.CallExpr cs o h p t = refl
   layer_kept kind.OptCall cs o h p t = refl
   layer_kept kind.NewExpr cs o h p t = refl
@@ -241,7 +245,7 @@ module _ (to : Id → Id) (m : Node) (renaming : Renames to m) where
       let there = is_there name e in
       let a = muted n is_type_only (meaning local) (meaning name) there in
       let b = muted (renamed to n) is_type_only (meaning (renamed to local)) (meaning (renamed to name)) (hn.is_absent ∙ there) in
-      rw (a, b) (step_same change n fine k ((mute (meaning local), mute (meaning (renamed to local)), mute_same change (meaning local) (meaning (renamed to local)) hl) ∷ (meaning name, meaning (renamed to name), hn) ∷ []) (tt, listed name t))
+      rw (a, b) (plain_step change refl n fine k (pair change (mute (meaning local)) (mute (meaning (renamed to local))) (mute_same change (meaning local) (meaning (renamed to local)) hl) ∷ pair change (meaning name) (meaning (renamed to name)) hn ∷ []) (tt, listed name t))
 
   steps_by : (x : Node-F Node) (ns : List ((n : Node) × Kept change n)) → map (λ e. e.0) ns ≡ x.children → change.fine (roll-Node x) → AllNodes change.fine x.children
       → (k : Kind) (cs : List Node) → x.kind ≡ k → x.children ≡ cs → TextsStay to (at_names k (map key_names cs)) → (IsOther k cs → Same change (meaning (roll-Node x)) (meaning (renamed to (roll-Node x)))) → Same change (meaning (roll-Node x)) (meaning (renamed to (roll-Node x)))
@@ -250,7 +254,7 @@ module _ (to : Id → Id) (m : Node) (renaming : Renames to m) where
       by : (b : Bool) → (key_names name).is_name ≡ b → TextsStay to (cond b (keys_of name).here ((keys_of local).here ++ (keys_of name).here)) → Same change (meaning (roll-Node x)) (meaning (renamed to (roll-Node x)))
       by false e t = other e
       by true e t =
-          let kept = subst (AllNodes (λ n. Same change (meaning n) (meaning (renamed to n)))) (are ∙ same) (all_kept change ns (subst (AllNodes change.fine) (sym are) all)) in
+          let kept = subst (AllNodes (λ n. Same change (meaning n) (meaning (renamed to n)))) (are ∙ same) (all_kept change refl ns (subst (AllNodes change.fine) (sym are) all)) in
           let k = kind.ImportNamedSpecifier is_type_only in
           let a : meaning (roll-Node x) ≡ meaning_by (roll-Node x) k (meaning local ∷ meaning name ∷ []) = meaning-roll x ∙ ap₂ (λ z zs. meaning_by (roll-Node x) z (map meaning zs)) is same in
           let b : meaning (renamed to (roll-Node x)) ≡ meaning_by (renamed to (roll-Node x)) k (meaning (renamed to local) ∷ meaning (renamed to name) ∷ []) =
@@ -266,9 +270,9 @@ module _ (to : Id → Id) (m : Node) (renaming : Renames to m) where
       let z : TextsStay to (own ++ below) = subst (λ z. TextsStay to z.keys.all) (fold-roll-Node KeyNames key_names_by x) fine.1 in
       let all = both_all x.children t.1 (stay_below to x.children (stay_rest to own below z)) in
       let first = stay_first to own below z in
-      steps_by x ns is fine all x.kind x.children refl refl first (λ other. layer_same change x ns is fine all (layer_kept x.kind x.children other t.0 t.1 first) (renamed_layer x))
+      steps_by x ns is fine all x.kind x.children refl refl first (λ other. layer_same change x ns is fine all (layer_kept x.kind x.children other t.0 t.1 first) tt (renamed_layer x))
 
   pub renamed_kept : (turns : ℕ) (options : Config) (script : Script) → observe turns options (renamed to m) script ≡ observe turns options m script
   renamed_kept turns options script =
       ap (λ n. observe n options (renamed to m) script) (sym (add-zero turns))
-      ∙ observe_unless change refl renaming_steps refl refl turns options m script (renaming.all_stand, renaming.key_texts) refl tt tt (none_excused _)
+      ∙ observe_unless change refl renaming_steps refl refl turns options m script (renaming.all_stand, renaming.key_texts) refl (tt, record { free = tt }, tt) tt tt (none_excused _)

@@ -4,14 +4,14 @@ use Rattle.std.specs.List.{list_any}
 use Rattle.ecma_kind.specs.declared.kind.Kind.{Kind}
 use Rattle.ecma_kind.specs.declared.kind.Kind.TheVariants as kind
 use Rattle.ecma_tree.specs.declared.node.Node.{Node, out-Node}
-use Rattle.ecma_tree.specs.Values.{is_value}
+use Rattle.ecma_tree.specs.Values.{is_value_where}
 use Rattle.ecma_scope.specs.declared.form.Form.{Form}
 use Rattle.ecma_scope.specs.declared.form.Part.{Part}
 use Rattle.ecma_scope.specs.declared.form.Part.TheVariants as part
 use Rattle.ecma_scope.specs.declared.form.Sought.{Sought}
 use Rattle.ecma_scope.specs.declared.role.Role.{Role}
 use Rattle.ecma_scope.specs.declared.role.Role.TheVariants as role
-use Rattle.ecma_scope.specs.Declarations.{holds_vars, in_default, in_item, in_member, in_name, in_scope, in_var, own_part, seek, sought_by, sought_in}
+use Rattle.ecma_scope.specs.Declarations.{holds_vars, in_default, in_item, in_member, in_name, in_scope, in_var, own_part, sought_by, sought_in}
 use Rattle.ecma_scope.specs.Scopes.{is_ambient}
 use Rattle.ecma_hygiene.specs.Ids.{found, is_name_part, scope_soughts, soughts_in, var_sought}
 use Rattle.ecma_hygiene.specs.Sights.{inner_soughts}
@@ -67,10 +67,6 @@ at-none : (b : Bool) (s : Sought) → is_name_part s.part ≡ false → seeks_na
 at-none true s e h = absurd (cc)
 at-none false s e h = absurd (cc)
 
-at-caught : (b stays : Bool) (f : Form) → seeks_name (cond b (seek (part.Name f) stays) (seek part.Scope stays)) ≡ true → b ≡ true
-at-caught true stays f h = refl
-at-caught false stays f h = absurd (cc)
-
 at-value : (value b : Bool) (s : Sought) → seeks_name (cond value (cond b (Some s) None) None) ≡ true → b ≡ true
 at-value true b s h = at-name b s h
 at-value false b s h = absurd (cc)
@@ -81,7 +77,7 @@ in-scope stays value kind.SwitchStmt i h = absurd (at-none (i == 1) _ refl h)
 in-scope stays value kind.ForStmt i h = absurd (at-none (i == 0) _ refl h)
 in-scope stays value kind.ForInStmt i h = absurd (at-none (i == 0) _ refl h)
 in-scope stays value (kind.ForOfStmt a) i h = absurd (at-none (i == 0) _ refl h)
-in-scope stays value kind.CatchClause i h = at-caught (i == 0) stays _ h
+in-scope stays value kind.CatchClause i h = at-name (i == 0) _ h
 in-scope stays value (kind.Function g a) i h = at-name (i == 0) _ h
 in-scope stays value (kind.ArrowExpr a g) i h = at-name (i == 0) _ h
 in-scope stays value (kind.Constructor a o) i h = at-name (i == 1) _ h
@@ -176,7 +172,7 @@ unfolding sought_in
 soughts-name [] n i named h e = absurd (cc)
 soughts-name (s ∷ ss) n i named h e =
     append-cases (found (sought_in s n i)) (soughts_in ss n i) (may_name (out-Node n).kind i named ≡ true)
-    (λ f. sought-name s.part s.stays (is_value n) (out-Node n).kind i named (λ p. h (or-first (is_name_part s.part) (any_name ss) p)) (found-name (sought_in s n i) f))
+    (λ f. sought-name s.part s.stays (is_value_where s.stays n) (out-Node n).kind i named (λ p. h (or-first (is_name_part s.part) (any_name ss) p)) (found-name (sought_in s n i) f))
     (soughts-name ss n i named (λ p. h (or-second (is_name_part s.part) (any_name ss) p))) e
 
 own-none : (r : Role) → is_name_part (own_part r) ≡ true → ⊥

@@ -1,5 +1,5 @@
 -- In a sorted tree the names in patterns are names, and written out it has keys in imports alone.
-use Rattle.std.proofs.Common.{◌≡◌, refl, sym, ap, ap₂, ◌∙◌, subst, ℕ, suc, List, [], ◌∷◌, ◌++◌, map, length, Bool, true, false, cond, ◌&&◌, ◌||◌}
+use Rattle.std.proofs.Common.{◌≡◌, refl, sym, ap, ap₂, ◌∙◌, subst, ℕ, suc, List, [], ◌∷◌, ◌++◌, map, length, Bool, true, false, cond, ◌&&◌, ◌||◌, bytes_eq}
 use Rattle.std.specs.List.{All}
 use Rattle.std.proofs.lemmas.Bool.{eqb-true}
 use Rattle.std.proofs.lemmas.List.{append-nil}
@@ -20,12 +20,12 @@ use Rattle.ecma_scope.specs.declared.role.Role.{Role}
 use Rattle.ecma_scope.specs.declared.role.Role.TheVariants as role
 use Rattle.ecma_scope.specs.Resolved.{is_name}
 use Rattle.ecma_scope.specs.Scopes.{is_there, role_by}
-use Rattle.ecma_hygiene.specs.Renamed.{kind_is_absent, with_default}
+use Rattle.ecma_hygiene.specs.Renamed.{kind_is_absent, proto, proto_in_brackets, proto_literal, with_default}
 use Rattle.ecma_hygiene.proofs.Telling.{and-both, and-left, and-right}
 use Rattle.ecma_runs.specs.State.{Id}
 use Rattle.ecma_runs.specs.Names.{Keys, all_below, all_here, here_by}
 use Rattle.ecma_runs.proofs.Kept.{AllNodes}
-use Rattle.ecma_hygiene_runs.specs.WrittenOut.{identifier_by, key_node, leaf_text, name_node, other_by, other_out, out_by, properties_out, property_by, property_out, written_out}
+use Rattle.ecma_hygiene_runs.specs.WrittenOut.{identifier_by, key_node, leaf_text, name_node, other_by, other_out, out_by, properties_out, property_by, property_key_node, property_out, written_out}
 use Rattle.ecma_hygiene_runs.specs.FinalTexts.{all_named, has_name, has_text, is_named_at, is_outer, is_text}
 use Rattle.ecma_hygiene_runs.specs.KeyNames.{KeyNames, at_names, is_name_by, key_names, key_names_by, key_names_in}
 use Rattle.ecma_hygiene_runs.specs.Laws.{SortedNamesAreOuter}
@@ -223,16 +223,27 @@ property-kind kind.SpreadElement e = refl
 property-kind _ e = absurd (cc)
 
 property-here : (n : Node) (k : Kind) → (out-Node n).kind ≡ k → is_listed k ≡ true → (keys_of (property_by k (out-Node n).span n)).here ≡ []
-property-here n (kind.Ident text ctxt optional) is e = ap (λ z. z.keys.here) (keys-roll (out-Node n).span kind.KeyValueProp (key_node (out-Node n).span text ∷ n ∷ []))
+property-here n (kind.Ident text ctxt optional) is e = ap (λ z. z.keys.here) (keys-roll (out-Node n).span kind.KeyValueProp (property_key_node (out-Node n).span text ∷ n ∷ []))
 property-here n k is e = here-none n (ap no_here is ∙ e)
 
 key-all : (span : Span) (text : List ℕ) → key_names_in (key_node span text) ≡ []
 key-all span text = ap (λ z. z.keys.all) (keys-roll span (kind.IdentName text) [])
 
+brackets-all : (span : Span) → key_names_in (proto_in_brackets span) ≡ []
+brackets-all span =
+    ap (λ z. z.keys.all) (keys-roll span kind.ComputedPropName (node_of span proto_literal [] ∷ [])) ∙ ap (λ z. z.keys.all ++ []) (keys-roll span proto_literal [])
+
+property-key-all : (span : Span) (text : List ℕ) → key_names_in (property_key_node span text) ≡ []
+property-key-all span text = by (bytes_eq text proto)
+  where
+    by : (b : Bool) → key_names_in (cond b (proto_in_brackets span) (key_node span text)) ≡ []
+    by true = brackets-all span
+    by false = key-all span text
+
 property-all : (n : Node) (k : Kind) → key_names_in (property_by k (out-Node n).span n) ≡ key_names_in n
 property-all n (kind.Ident text ctxt optional) =
     let span = (out-Node n).span in
-    ap (λ z. z.keys.all) (keys-roll span kind.KeyValueProp (key_node span text ∷ n ∷ [])) ∙ ap (λ ids. ids ++ (key_names_in n ++ [])) (key-all span text) ∙ append-nil (key_names_in n)
+    ap (λ z. z.keys.all) (keys-roll span kind.KeyValueProp (property_key_node span text ∷ n ∷ [])) ∙ ap (λ ids. ids ++ (key_names_in n ++ [])) (property-key-all span text) ∙ append-nil (key_names_in n)
 property-all n _ = refl
 
 properties-all : (ns : List Node) → all_below (keys_all (map property_out ns)) ≡ all_below (keys_all ns)

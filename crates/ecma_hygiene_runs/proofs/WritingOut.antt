@@ -1,6 +1,7 @@
 -- A tree means what it means with its shorthands written out, layer by layer.
-use Rattle.std.proofs.Common.{◌≡◌, refl, sym, ap, ap₂, ◌∙◌, ℕ, List, [], ◌∷◌, ◌++◌, map, Option, Some, None, Bool, true, false, cond, bytes_eq, codes}
+use Rattle.std.proofs.Common.{◌≡◌, refl, sym, ap, ap₂, ◌∙◌, ℕ, List, [], ◌∷◌, ◌++◌, map, Option, Some, None, Bool, true, false, cond, bytes_eq, subst}
 use Rattle.std.proofs.lemmas.List.{append-nil}
+use Rattle.std.proofs.lemmas.Slice.Eq.{bytes_eq-Decides}
 use Rattle.ecma_kind.specs.declared.kind.Kind.{Kind}
 use Rattle.ecma_kind.specs.declared.kind.Kind.TheVariants as kind
 use Rattle.ecma_kind.specs.declared.span.Span.{Span}
@@ -8,7 +9,6 @@ use Rattle.ecma_tree.specs.declared.node.Node.{Node, Node-F, out-Node, roll-Node
 use Rattle.ecma_tree.specs.Nodes.{node_of}
 use Rattle.ecma_tree.specs.Sorted.{is_absent}
 use Rattle.ecma_runs.specs.Values.{Value, Undefined, is_undefined}
-use Rattle.ecma_runs.specs.Environment.{Reference}
 use Rattle.ecma_runs.specs.Run.{Outcome, Done, Thrown, Returned, Broken, Continued, Ended, Run, then_outcome, ◌>>=◌, give, outside, when, given}
 use Rattle.ecma_runs.specs.Meaning.{Meaning, ExecutionContext}
 use Rattle.ecma_runs.specs.Objects.{define_data}
@@ -22,8 +22,8 @@ use Rattle.ecma_runs.specs.Evaluation.{meaning_by, meaning}
 use Rattle.ecma_runs.specs.Observation.{observe}
 use Rattle.ecma_runs.proofs.Layer.{meaning-roll, meaning_out}
 use Rattle.ecma_runs.proofs.Layers.{observe_kept, rewritten_layers, KeepsLayers}
-use Rattle.ecma_hygiene.specs.Renamed.{kind_is_absent, with_default}
-use Rattle.ecma_hygiene_runs.specs.WrittenOut.{key_node, name_node, property_by, property_out, properties_by, properties_out, other_by, other_out, leaf_text, identifier_by, pattern_with, pattern_by, out_by, out_here, written_out}
+use Rattle.ecma_hygiene.specs.Renamed.{kind_is_absent, proto, proto_in_brackets, proto_literal, with_default}
+use Rattle.ecma_hygiene_runs.specs.WrittenOut.{key_node, name_node, property_by, property_key_node, property_out, properties_by, properties_out, other_by, other_out, leaf_text, identifier_by, pattern_with, pattern_by, out_by, out_here, written_out}
 use Rattle.ecma_hygiene_runs.specs.Laws.{ShorthandsDoNotMatter, WrittenOutShorthandsDoNotMatter}
 
 -- runs one after the other
@@ -70,32 +70,51 @@ key_means span text = meaning-roll (record { span = span; kind = kind.IdentName 
 property_declared : (n : Node) → all_declared (meaning n ∷ []) ≡ (meaning n).declared
 property_declared n = append-nil (meaning n).declared
 
--- a value that is read and then defined
-abbrev shorthand_defined : List ℕ → Run Value → ℕ → Run (List (List ℕ))
-shorthand_defined text value object = literal_key text >>= λ k. value >>= λ v. define_data object k v >>= λ _. give []
+-- a key makes a property of a text, and declares nothing
+record Keyed (key : Meaning) (text : List ℕ) : Type 0 where
+  named : (x : ExecutionContext) (next : List ℕ → Run (List (List ℕ))) → (key.key x >>= λ k. literal_key key.is_computed k >>= next) ≡ next text
+  alone : key.declared ≡ []
 
-read_defined : (text : List ℕ) (r : Run Reference) (x : ExecutionContext) (object : ℕ)
-    → shorthand_defined text (r >>= λ r. read x r) object ≡ (literal_key text >>= λ k. r >>= λ r. read x r >>= λ v. define_data object k v >>= λ _. give [])
-read_defined text r x object = λ i. literal_key text >>= λ k. after r (λ r. read x r) (λ v. define_data object k v >>= λ _. give {A = List (List ℕ)} []) i
+key_keyed : (span : Span) (text : List ℕ) → bytes_eq text proto ≡ false → Keyed (meaning (key_node span text)) text
+key_keyed span text e =
+    subst (λ m. Keyed m text) (sym (key_means span text)) (record { named = λ x next. ap (λ b. when b (outside {A = List ℕ}) (give text) >>= next) e; alone = refl })
 
-outside_by : (b : Bool) (text : List ℕ) → (when b (outside {A = List ℕ}) (give text) >>= λ k. outside {A = List (List ℕ)}) ≡ outside {A = List (List ℕ)}
-outside_by true text = refl
-outside_by false text = refl
+brackets_mean : (span : Span) → meaning (proto_in_brackets span) ≡ meaning_by (proto_in_brackets span) kind.ComputedPropName (meaning_by (node_of span proto_literal []) proto_literal [] ∷ [])
+brackets_mean span =
+    meaning-roll (record { span = span; kind = kind.ComputedPropName; children = node_of span proto_literal [] ∷ [] })
+    ∙ ap (λ m. meaning_by (proto_in_brackets span) kind.ComputedPropName (m ∷ [])) (meaning-roll (record { span = span; kind = proto_literal; children = [] }))
+
+brackets_keyed : (span : Span) (text : List ℕ) → bytes_eq text proto ≡ true → Keyed (meaning (proto_in_brackets span)) text
+brackets_keyed span text e =
+    subst (Keyed (meaning (proto_in_brackets span))) (sym ((bytes_eq-Decides text proto).0 e))
+    (subst (λ m. Keyed m proto) (sym (brackets_mean span)) (record { named = λ x next. refl; alone = refl }))
+
+property_keyed : (span : Span) (text : List ℕ) → Keyed (meaning (property_key_node span text)) text
+property_keyed span text = by (bytes_eq text proto) refl
+  where
+    by : (b : Bool) → bytes_eq text proto ≡ b → Keyed (meaning (cond b (proto_in_brackets span) (key_node span text))) text
+    by true e = brackets_keyed span text e
+    by false e = key_keyed span text e
 
 value_defined : (n : Node) (text : List ℕ) (ctxt : ℕ) (optional : Bool) (cs : List Node) (class object : ℕ) (x : ExecutionContext)
-    → shorthand_defined text ((meaning_by n (kind.Ident text ctxt optional) (map meaning cs)).value x) object ≡ (meaning_by n (kind.Ident text ctxt optional) (map meaning cs)).defined class object x
-value_defined n text ctxt optional [] class object x = read_defined text (identifier text ctxt x) x object
-value_defined n text ctxt optional (c ∷ cs) class object x = outside_by (bytes_eq text (codes "__proto__")) text
+    → ((meaning_by n (kind.Ident text ctxt optional) (map meaning cs)).value x >>= λ v. define_data object text v >>= λ _. give {A = List (List ℕ)} [])
+    ≡ (meaning_by n (kind.Ident text ctxt optional) (map meaning cs)).defined class object x
+value_defined n text ctxt optional [] class object x = after (identifier text ctxt x) (λ r. read x r) (λ v. define_data object text v >>= λ _. give {A = List (List ℕ)} [])
+value_defined n text ctxt optional (c ∷ cs) class object x = refl
 
 property_defines : (n : Node) (k : Kind) (cs : List Node) → meaning n ≡ meaning_by n k (map meaning cs) → Defines (meaning n) (meaning (property_by k (out-Node n).span n))
 property_defines n (kind.Ident text ctxt optional) cs is =
     let span = (out-Node n).span in
-    let m : meaning (property_by (kind.Ident text ctxt optional) (out-Node n).span n) ≡ meaning_by (property_by (kind.Ident text ctxt optional) (out-Node n).span n) kind.KeyValueProp (key_of_text span text ∷ meaning n ∷ []) =
-    meaning-roll (record { span = span; kind = kind.KeyValueProp; children = key_node span text ∷ n ∷ [] })
-    ∙ ap (λ key. meaning_by (property_by (kind.Ident text ctxt optional) (out-Node n).span n) kind.KeyValueProp (key ∷ meaning n ∷ [])) (key_means span text) in
+    let keyed = property_keyed span text in
+    let m : meaning (property_by (kind.Ident text ctxt optional) (out-Node n).span n)
+    ≡ meaning_by (property_by (kind.Ident text ctxt optional) (out-Node n).span n) kind.KeyValueProp (meaning (property_key_node span text) ∷ meaning n ∷ []) =
+    meaning-roll (record { span = span; kind = kind.KeyValueProp; children = property_key_node span text ∷ n ∷ [] }) in
     record {
-      defined = ap (λ z. z.defined) m ∙ (λ i class object x. shorthand_defined text ((is i).value x) object) ∙ (λ i class object x. value_defined n text ctxt optional cs class object x i) ∙ sym (ap (λ z. z.defined) is);
-      declared = ap (λ z. z.declared) m ∙ property_declared n;
+      defined = ap (λ z. z.defined) m
+          ∙ (λ i class object x. keyed.named x (λ k. (meaning n).value x >>= λ v. define_data object k v >>= λ _. give []) i)
+          ∙ (λ i class object x. (is i).value x >>= λ v. define_data object text v >>= λ _. give [])
+          ∙ (λ i class object x. value_defined n text ctxt optional cs class object x i) ∙ sym (ap (λ z. z.defined) is);
+      declared = ap (λ z. z.declared) m ∙ ap (λ ids. ids ++ ((meaning n).declared ++ [])) keyed.alone ∙ property_declared n;
     }
 property_defines n _ cs is = record { defined = refl; declared = refl }
 

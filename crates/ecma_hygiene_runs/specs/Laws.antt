@@ -10,7 +10,7 @@ use Rattle.ecma_hygiene.specs.Renamed.{renamed}
 use Rattle.ecma_hygiene.specs.Sights.{sights}
 use Rattle.ecma_hygiene.specs.Texts.{HygienicTexts, is_bound, text_in}
 use Rattle.ecma_hygiene_scopes.specs.Stops.{IsRight, stops}
-use Rattle.ecma_runs.specs.declared.config.Config.{Config}
+use Rattle.ecma_config.specs.declared.config.Config.{Config}
 use Rattle.ecma_runs.specs.declared.script.Script.{Script}
 use Rattle.ecma_runs.specs.Environment.{is_among}
 use Rattle.ecma_runs.specs.Evaluation.{meaning}

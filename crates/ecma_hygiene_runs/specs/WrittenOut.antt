@@ -1,12 +1,12 @@
 -- Trees whose shorthands are written out: `{ a }` as `{ a: a }` in object literals and patterns, and specifiers with both names.
-use Rattle.std.specs.Prelude.{ℕ, List, [], ◌∷◌, map, Option, Some, None, false, cond}
+use Rattle.std.specs.Prelude.{ℕ, List, [], ◌∷◌, map, Option, Some, None, false, bytes_eq, cond}
 use Rattle.ecma_kind.specs.declared.kind.Kind.{Kind}
 use Rattle.ecma_kind.specs.declared.kind.Kind.TheVariants as kind
 use Rattle.ecma_kind.specs.declared.span.Span.{Span}
 use Rattle.ecma_tree.specs.declared.node.Node.{Node, Node-F, out-Node, roll-Node}
 use Rattle.ecma_tree.specs.Nodes.{node_of}
 use Rattle.ecma_tree.specs.Rewritten.{rewritten}
-use Rattle.ecma_hygiene.specs.Renamed.{kind_is_absent, with_default}
+use Rattle.ecma_hygiene.specs.Renamed.{kind_is_absent, proto, proto_in_brackets, with_default}
 
 -- a text as a key, and as a name for others
 abbrev pub key_node : Span → List ℕ → Node
@@ -17,8 +17,12 @@ name_node span text = node_of span (kind.Ident text 0 false) []
 
 -- the properties of an object literal (ECMAScript, 13.2.5)
 
+-- a text as the key of a property with a value; `__proto__` in no brackets would set the prototype (ECMAScript, B.3.1)
+abbrev pub property_key_node : Span → List ℕ → Node
+property_key_node span text = cond (bytes_eq text proto) (proto_in_brackets span) (key_node span text)
+
 abbrev pub property_by : Kind → Span → Node → Node
-property_by (kind.Ident sym ctxt optional) span n = node_of span kind.KeyValueProp (key_node span sym ∷ n ∷ [])
+property_by (kind.Ident sym ctxt optional) span n = node_of span kind.KeyValueProp (property_key_node span sym ∷ n ∷ [])
 property_by _ span n = n
 
 -- an identifier as a property becomes a key with its value

@@ -9,7 +9,7 @@ use Rattle.ecma_scope.specs.declared.form.Form.{Form}
 use Rattle.ecma_scope.specs.declared.form.Form.TheVariants as form
 use Rattle.ecma_scope.specs.declared.role.Role.{Role}
 use Rattle.ecma_scope.specs.Declarations.{declares, is_stated}
-use Rattle.ecma_scope.specs.Conflicts.{clashes, clashing, conflict, is_function_body, is_further_out, is_lexical, mark, marked, may_be_merged, may_merge, may_not_meet, merges}
+use Rattle.ecma_scope.specs.Conflicts.{clashes, clashing, conflict, has_parameters, is_further_out, is_lexical, mark, marked, may_be_merged, may_merge, may_not_meet, merges}
 use Rattle.ecma_hygiene.proofs.Telling.{and-both, or-first, or-second, text-refl, true-false}
 
 abbrev pub Stays : Declaration → Type 0
@@ -39,7 +39,7 @@ module _ (P : Declaration → Type 0) where
 
 module _ (r : Role) (around : List ℕ → Option Bool) where
   abbrev test : List Declaration → Declaration → Bool
-  test earlier d = list_any (λ e. conflict r e d) earlier || (is_function_body r && (is_lexical r d.form && is_stated (around d.sym)))
+  test earlier d = list_any (λ e. conflict r e d) earlier || (has_parameters r && (is_lexical r d.form && is_stated (around d.sym)))
 
   first-none : (b : Bool) (text : List ℕ) (rest : List (List ℕ)) → cond b (text ∷ []) [] ++ rest ≡ [] → b ≡ false
   first-none true text rest h = cc
@@ -65,8 +65,8 @@ module _ (r : Role) (around : List ℕ → Option Bool) where
       weaker earlier d [] all = All-nil (λ e. test earlier e ≡ false)
       weaker earlier d (x ∷ xs) all =
           All-cons (λ e. test earlier e ≡ false) x xs
-          (fewer (list_any (λ e. conflict r e x) earlier) (conflict r d x || false) (is_function_body r && (is_lexical r x.form && is_stated (around x.sym)))
-          (ap (λ (b : Bool). b || (is_function_body r && (is_lexical r x.form && is_stated (around x.sym)))) (sym (list_any-append (λ e. conflict r e x) earlier (d ∷ []))) ∙ All-head (λ e. test (earlier ++ d ∷ []) e ≡ false) x xs all))
+          (fewer (list_any (λ e. conflict r e x) earlier) (conflict r d x || false) (has_parameters r && (is_lexical r x.form && is_stated (around x.sym)))
+          (ap (λ (b : Bool). b || (has_parameters r && (is_lexical r x.form && is_stated (around x.sym)))) (sym (list_any-append (λ e. conflict r e x) earlier (d ∷ []))) ∙ All-head (λ e. test (earlier ++ d ∷ []) e ≡ false) x xs all))
           (weaker earlier d xs (All-tail (λ e. test (earlier ++ d ∷ []) e ≡ false) x xs all))
 
   clashing-behind : (earlier front bs : List Declaration) → clashing r around earlier (front ++ bs) ≡ [] → clashing r around (earlier ++ front) bs ≡ []
@@ -174,12 +174,12 @@ module _ (r : Role) (around : List ℕ → Option Bool) (own passing : List Decl
       own-none : (d : Declaration) → d.form ≡ form.Var → declares passing d.sym ≡ true → test r around (marked [] counted) d ≡ false → declares own d.sym ≡ true → ⊥
       own-none d is passed free there =
           let all_count : (e : Declaration) → e.sym ≡ d.sym → counts e ≡ true =
-          (λ e same. or-second e.stays (is_further_out r around passing e.sym) (or-first (declares passing e.sym) (is_function_body r && is_stated (around e.sym)) (ap (declares passing) same ∙ passed))) in
+          (λ e same. or-second e.stays (is_further_out r around passing e.sym) (or-first (declares passing e.sym) (has_parameters r && is_stated (around e.sym)) (ap (declares passing) same ∙ passed))) in
           let wanted : All (λ e. bytes_eq e.sym d.sym ≡ true → may_not_meet r e.form form.Var ≡ true) counted =
           all-filter (λ e. bytes_eq e.sym d.sym ≡ true → may_not_meet r e.form form.Var ≡ true) counts own (λ k e lt kept same. meets k e lt) in
           true-false (first-wanted d.sym (λ f. may_not_meet r f form.Var) [] counted refl (still-declared counts d.sym all_count own there) wanted)
           (ap (λ (f : Form). list_any (λ e. bytes_eq e.sym d.sym && may_not_meet r e.form f) (marked [] counted)) (sym is)
-          ∙ or-left (list_any (λ e. conflict r e d) (marked [] counted)) (is_function_body r && (is_lexical r d.form && is_stated (around d.sym))) free)
+          ∙ or-left (list_any (λ e. conflict r e d) (marked [] counted)) (has_parameters r && (is_lexical r d.form && is_stated (around d.sym))) free)
 
       pub passes-none : All (λ d. declares own d.sym ≡ false) passing
       passes-none k d lt =
@@ -187,7 +187,7 @@ module _ (r : Role) (around : List ℕ → Option Bool) (own passing : List Decl
           declares-by own x.sym (declares own x.sym) refl (own-none x (vars k d lt) (all-declared passing k d lt) (conflict-free k d lt))
 
     -- no name of a body is that of a parameter
-    module _ (body : is_function_body r ≡ true) where
+    module _ (body : has_parameters r ≡ true) where
       own-part : All (λ d. test r around [] d ≡ false) (marked [] counted)
       own-part = first-part (marked [] counted) passing (clashing-none r around [] (marked [] counted ++ passing) none)
         where
@@ -213,8 +213,8 @@ module _ (r : Role) (around : List ℕ → Option Bool) (own passing : List Decl
       pub body-none : (text : List ℕ) → is_stated (around text) ≡ true → All (λ e. bytes_eq e.sym text ≡ true → is_lexical r e.form ≡ true) own → declares own text ≡ false
       body-none text stated lexical =
           let all_count : (e : Declaration) → e.sym ≡ text → counts e ≡ true =
-          (λ e same. or-second e.stays (is_further_out r around passing e.sym) (or-second (declares passing e.sym) (is_function_body r && is_stated (around e.sym))
-          (and-both (is_function_body r) (is_stated (around e.sym)) body (ap (λ (t : List ℕ). is_stated (around t)) same ∙ stated)))) in
+          (λ e same. or-second e.stays (is_further_out r around passing e.sym) (or-second (declares passing e.sym) (has_parameters r && is_stated (around e.sym))
+          (and-both (has_parameters r) (is_stated (around e.sym)) body (ap (λ (t : List ℕ). is_stated (around t)) same ∙ stated)))) in
           let wanted : All (λ e. bytes_eq e.sym text ≡ true → is_lexical r e.form ≡ true) counted =
           all-filter (λ e. bytes_eq e.sym text ≡ true → is_lexical r e.form ≡ true) counts own (λ k e lt kept. lexical k e lt) in
           declares-by own text (declares own text) refl (λ there. true-false (first-wanted text (is_lexical r) [] counted refl (still-declared counts text all_count own there) wanted)

@@ -7,7 +7,7 @@ use Rattle.ecma_kind.specs.declared.span.Span.{Span}
 use Rattle.ecma_tree.specs.declared.node.Node.{Node, Node-F, ind-Node, out-Node, roll-Node}
 use Rattle.ecma_tree.specs.declared.node.Node.TheViews.{out-roll-Node}
 use Rattle.ecma_tree.specs.Nodes.{node_of}
-use Rattle.ecma_tree.specs.Values.{is_value, value_by}
+use Rattle.ecma_tree.specs.Values.{is_value_where, value_by}
 use Rattle.ecma_tree.proofs.Layers.{from_leaves_out}
 use Rattle.ecma_scope.specs.declared.form.Form.{Form}
 use Rattle.ecma_scope.specs.declared.form.Part.{Part}
@@ -20,7 +20,7 @@ use Rattle.ecma_hygiene.specs.declared.spot.Spot.{Spot}
 use Rattle.ecma_hygiene.specs.declared.spot.Spot.TheVariants as spot
 use Rattle.ecma_hygiene.specs.declared.spot.Standing.{Standing}
 use Rattle.ecma_hygiene.specs.Ids.{is_name_part}
-use Rattle.ecma_hygiene.specs.Renamed.{Texts, key_of, kind_is_absent, name_of, old_name, shared_by, shorthand, spot_in, standing_in, two_names, with_default}
+use Rattle.ecma_hygiene.specs.Renamed.{Texts, key_of, kind_is_absent, name_of, old_name, property_key, shared_by, shorthand, spot_in, standing_in, two_names, with_default}
 use Rattle.ecma_hygiene.proofs.Roles.{seeks_name, sought-no-name}
 use Rattle.ecma_hygiene.proofs.Telling.{true-false}
 use Rattle.ecma_hygiene.proofs.Walking.{append-none}
@@ -108,8 +108,8 @@ by-found : (old : OldName) (span : Span) (k : Kind) (cs : List Node) (sought : S
     → declarations (grown_by old span k cs) sought ≡ parts_declare k cs sought
 unfolding declared_here value_by
 by-found old span (kind.Ident s c o) cs sought other =
-    declarations-of span kind.KeyValueProp (key_of old ∷ node_of span (kind.Ident s c o) cs ∷ []) sought
-    ∙ found-none (seeks sought kind.KeyValueProp (key_of old ∷ node_of span (kind.Ident s c o) cs ∷ [])) 0 (key_of old ∷ node_of span (kind.Ident s c o) cs ∷ []) (no-keys sought.part sought.stays _)
+    declarations-of span kind.KeyValueProp (property_key old ∷ node_of span (kind.Ident s c o) cs ∷ []) sought
+    ∙ found-none (seeks sought kind.KeyValueProp (property_key old ∷ node_of span (kind.Ident s c o) cs ∷ [])) 0 (property_key old ∷ node_of span (kind.Ident s c o) cs ∷ []) (no-keys sought.part sought.stays _)
     ∙ sym (ap₂ (λ (x y : List Declaration). x ++ y) (no-name-here sought.part sought.stays s c o (other refl)) (found-none (seeks sought (kind.Ident s c o) cs) 0 cs (no-ident sought.part sought.stays _ s c o)))
 by-found old span (kind.ImportNamedSpecifier t) cs sought other =
     declarations-of span (kind.ImportNamedSpecifier t) (two_names old cs) sought
@@ -150,7 +150,7 @@ compatible-child : (sought : Sought) (n : Node) (stands : Standing) → Compatib
 unfolding sought_in
 compatible-child sought n stands c i found is h =
     let seeks_it : seeks_name (sought_in sought n i) ≡ true = ap seeks_name is ∙ h in
-    (sought-no-name sought stands.role n i seeks_it, elsewhere sought.part sought.stays (is_value n) (out-Node n).kind i stands.spot seeks_it (λ name. (c name).1))
+    (sought-no-name sought stands.role n i seeks_it, elsewhere sought.part sought.stays (is_value_where sought.stays n) (out-Node n).kind i stands.spot seeks_it (λ name. (c name).1))
 
 module _ (context_of : List ℕ → ℕ → ℕ) (texts : Texts) (empty : (text : List ℕ) → context_of text 0 ≡ 0) where
   no-old : (stands : Standing) (named : Bool) (n : Node) (k : Kind) → is_ident (turned_kind context_of texts named k) ≡ true → stands.spot ≡ spot.Elsewhere → old_name texts (shared_by stands k n) ≡ None
@@ -197,8 +197,8 @@ module _ (context_of : List ℕ → ℕ → ℕ) (texts : Texts) (empty : (text 
   seeks-here : (n : Node) (stands : Standing) (sought : Sought) (i : ℕ) → seeks sought (own_kind context_of texts n stands) (children_again context_of texts n stands) i ≡ sought_in sought n i
   unfolding sought_in
   seeks-here n stands sought i =
-      ap (λ (b : Bool). sought_by sought.part sought.stays b (own_kind context_of texts n stands) i) (own-value context_of texts empty n stands)
-      ∙ seeks-same context_of texts sought.part sought.stays (is_value n) (is_name stands.role) (out-Node n).kind i
+      ap (λ (b : Bool). sought_by sought.part sought.stays b (own_kind context_of texts n stands) i) (own-value context_of texts empty sought.stays n stands)
+      ∙ seeks-same context_of texts sought.part sought.stays (is_value_where sought.stays n) (is_name stands.role) (out-Node n).kind i
 
   parts-again : (n : Node) → AllDeclare (out-Node n).children → (stands : Standing) (sought : Sought) → Compatible sought stands
       → parts_declare (own_kind context_of texts n stands) (children_again context_of texts n stands) sought ≡ map (with_text texts) (ids_declared n sought)

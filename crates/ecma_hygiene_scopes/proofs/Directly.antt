@@ -6,7 +6,7 @@ use Rattle.ecma_kind.specs.declared.kind.Kind.{Kind}
 use Rattle.ecma_kind.specs.declared.kind.Kind.TheVariants as kind
 use Rattle.ecma_tree.specs.declared.node.Node.{Node, Node-F, ind-Node, out-Node, roll-Node}
 use Rattle.ecma_tree.specs.declared.node.Node.TheViews.{out-roll-Node}
-use Rattle.ecma_tree.specs.Values.{is_value}
+use Rattle.ecma_tree.specs.Values.{is_value_where}
 use Rattle.ecma_tree.proofs.Layers.{from_leaves_out}
 use Rattle.ecma_scope.specs.declared.form.Part.{Part}
 use Rattle.ecma_scope.specs.declared.form.Part.TheVariants as part
@@ -81,12 +81,12 @@ module _ (unresolved top : ℕ) where
   unfolding sought_in
   shut-place m r frames left q way i next h =
       ap (λ (b : Bool). place_in (role_in r m i) (cond b (frames ++ scope_at top (place_in r frames) m left ∷ []) frames))
-      (shut q.part r q.stays (is_value m) (out-Node m).kind (is_there (out-Node m).children 0) i next way h)
+      (shut q.part r q.stays (is_value_where q.stays m) (out-Node m).kind (is_there (out-Node m).children 0) i next way h)
 
   way-below : (m : Node) (r : Role) (q : Sought) → Way q.part r → (i : ℕ) (next : Sought) → sought_in q m i ≡ Some next → Way next.part (role_in r m i)
   unfolding sought_in
   way-below m r q way i next h =
-      next-way q.part r q.stays (is_value m) (out-Node m).kind (is_there (out-Node m).children 1) i next way h
+      next-way q.part r q.stays (is_value_where q.stays m) (out-Node m).kind (is_there (out-Node m).children 1) i next way h
       (λ f is. sought-no-name q r m i (ap seeks_name h ∙ ap (λ (p : Part). seeks_name (Some (record { part = p; stays = next.stays }))) is))
 
   layer-finds : (m : Node) → AllFind (out-Node m).children → Finds m

@@ -7,7 +7,7 @@ use Rattle.ecma_kind.specs.declared.kind.Kind.TheVariants as kind
 use Rattle.ecma_kind.specs.declared.operators.VarDeclKind.TheVariants as var_kind
 use Rattle.ecma_tree.specs.declared.node.Node.{Node, Node-F, ind-Node, out-Node, roll-Node}
 use Rattle.ecma_tree.specs.declared.node.Node.TheViews.{out-roll-Node}
-use Rattle.ecma_tree.specs.Values.{is_value}
+use Rattle.ecma_tree.specs.Values.{is_value_where}
 use Rattle.ecma_scope.specs.declared.form.Form.{Form}
 use Rattle.ecma_scope.specs.declared.form.Form.TheVariants as form
 use Rattle.ecma_scope.specs.declared.form.Part.{Part}
@@ -136,7 +136,7 @@ unfolding sought_in
 layer-forms m children q =
     subst (All (Formed q.part)) (sym (ids-out m q))
     (All-append (Formed q.part) (id_here q (out-Node m).kind) (ids_in (sought_in q m) 0 (map ids_declared (out-Node m).children)) (forms-here q.part q.stays (out-Node m).kind)
-    (children (sought_in q m) q.part 0 (λ j found is g a. allowed-step q.part q.stays (is_value m) (out-Node m).kind j found is g a)))
+    (children (sought_in q m) q.part 0 (λ j found is g a. allowed-step q.part q.stays (is_value_where q.stays m) (out-Node m).kind j found is g a)))
 
 pub forms : (m : Node) → Forms m
 forms = ind-Node Forms (λ x y is.

@@ -7,7 +7,7 @@ use Rattle.ecma_kind.specs.declared.kind.Kind.TheVariants as kind
 use Rattle.ecma_kind.specs.declared.operators.VarDeclKind.TheVariants as var_kind
 use Rattle.ecma_tree.specs.declared.node.Node.{Node, Node-F, ind-Node, out-Node, roll-Node}
 use Rattle.ecma_tree.specs.declared.node.Node.TheViews.{out-roll-Node}
-use Rattle.ecma_tree.specs.Values.{is_value}
+use Rattle.ecma_tree.specs.Values.{is_value_where}
 use Rattle.ecma_scope.specs.declared.form.Form.{Form}
 use Rattle.ecma_scope.specs.declared.form.Part.{Part}
 use Rattle.ecma_scope.specs.declared.form.Part.TheVariants as part
@@ -106,10 +106,6 @@ gone-member kind.List i q h = gone-some _ _ q refl h
 gone-member kind.TsEnumMember i q h = gone-at (i == 0) _ _ q refl h
 gone-member _ i q h = none-some q h
 
-gone-catch : (b : Bool) (p r : Part) (q : Sought) → ◌≡◌ {A = Option Sought} (cond b (Some (record { part = p; stays = false })) (Some (record { part = r; stays = false }))) (Some q) → q.stays ≡ false
-gone-catch true p r q h = gone-some p false q refl h
-gone-catch false p r q h = gone-some r false q refl h
-
 gone-scope : (v : Bool) (k : Kind) (i : ℕ) (q : Sought) → in_scope false v k i ≡ Some q → q.stays ≡ false
 unfolding in_scope
 gone-scope v (kind.Module s) i q h = gone-some _ _ q refl h
@@ -120,7 +116,7 @@ gone-scope v kind.SwitchStmt i q h = gone-at (i == 1) _ _ q refl h
 gone-scope v kind.ForStmt i q h = gone-at (i == 0) _ _ q refl h
 gone-scope v kind.ForInStmt i q h = gone-at (i == 0) _ _ q refl h
 gone-scope v (kind.ForOfStmt a) i q h = gone-at (i == 0) _ _ q refl h
-gone-scope v kind.CatchClause i q h = gone-catch (i == 0) _ _ q h
+gone-scope v kind.CatchClause i q h = gone-at (i == 0) _ _ q refl h
 gone-scope v (kind.Function g a) i q h = gone-at (i == 0) _ _ q refl h
 gone-scope v (kind.ArrowExpr a g) i q h = gone-at (i == 0) _ _ q refl h
 gone-scope v (kind.Constructor a o) i q h = gone-at (i == 1) _ _ q refl h
@@ -187,7 +183,7 @@ here-gone q k gone = ap (λ (s : Bool). kept (id_here (record { part = q.part; s
 
 next-gone : (n : Node) (q : Sought) → q.stays ≡ false → (j : ℕ) (next : Sought) → sought_in q n j ≡ Some next → next.stays ≡ false
 unfolding sought_in
-next-gone n q gone j next h = gone-by q.part (is_value n) (out-Node n).kind j next (sym (ap (λ (s : Bool). sought_by q.part s (is_value n) (out-Node n).kind j) gone) ∙ h)
+next-gone n q gone j next h = gone-by q.part (is_value_where false n) (out-Node n).kind j next (sym (ap (λ (s : Bool). sought_by q.part s (is_value_where s n) (out-Node n).kind j) gone) ∙ h)
 
 layer-gone : (n : Node) → AllGone (out-Node n).children → Gone n
 layer-gone n children q gone =

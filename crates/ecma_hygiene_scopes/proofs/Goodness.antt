@@ -11,7 +11,6 @@ use Rattle.ecma_scope.specs.declared.role.Role.TheVariants as role
 use Rattle.ecma_scope.specs.Conflicts.{Surrounding, clash_step, clashes_in, own_clashes, redeclared_at, surrounds}
 use Rattle.ecma_scope.specs.Resolved.{Scope as Frame, innermost, is_name, scope_at}
 use Rattle.ecma_scope.specs.Scopes.{covers, is_ambient, opens, role_in}
-use Rattle.ecma_hygiene.specs.Ids.{is_block}
 use Rattle.ecma_hygiene.specs.Renamed.{kind_is_absent}
 use Rattle.ecma_hygiene.specs.Walks.{gathered_from}
 use Rattle.ecma_hygiene.proofs.Walking.{gathered-out}
@@ -38,18 +37,12 @@ abbrev pub is_class_expr : Kind → Bool
 is_class_expr kind.ClassExpr = true
 is_class_expr _ = false
 
--- what a `catch` has as children
-abbrev pub Caught : List Node → Type 0
-Caught (parameter ∷ body ∷ []) = is_block (out-Node body).kind ≡ true
-Caught _ = ⊥
-
 abbrev pub Nested : List Node → Type 0
 Nested [] = Unit {0}
 Nested (x ∷ xs) = (is_module_kind (out-Node x).kind ≡ false) × Nested xs
 
 pub record Fits (seat : Seat) : Type 0 where
   pub absent : kind_is_absent seat.node ≡ true → (out-Node seat.node).children ≡ []
-  pub caught : (out-Node seat.node).kind ≡ kind.CatchClause → Caught (out-Node seat.node).children
   pub default : seat.role ≡ role.Default → opens seat.role seat.node ≡ true → is_class_expr (out-Node seat.node).kind ≡ true
   pub body : seat.role ≡ role.Body → opens seat.role seat.node ≡ true → is_body_kind (out-Node seat.node).kind ≡ true
   pub nested : is_some (next_var (out-Node seat.node).kind) ≡ true → Nested (out-Node seat.node).children

@@ -1,5 +1,5 @@
 -- Shorthands that are written out, by their parts.
-use Rattle.std.proofs.Common.{◌≡◌, ℕ, Bool, true, false, cond, List, [], ◌∷◌, map, Option, Some, None, refl, sym, ap, ap₂, ◌∙◌}
+use Rattle.std.proofs.Common.{◌≡◌, ℕ, Bool, true, false, cond, List, [], ◌∷◌, map, Option, Some, None, bytes_eq, refl, sym, ap, ap₂, ◌∙◌}
 use Rattle.ecma_kind.specs.declared.kind.Kind.{Kind}
 use Rattle.ecma_kind.specs.declared.kind.Kind.TheVariants as kind
 use Rattle.ecma_kind.specs.declared.span.Span.{Span}
@@ -9,7 +9,7 @@ use Rattle.ecma_tree.specs.Contexts.{kind_with_context, with_contexts}
 use Rattle.ecma_tree.specs.Nodes.{node_of}
 use Rattle.ecma_tree.specs.Sorted.{is_absent}
 use Rattle.ecma_tree.proofs.Changing.{changed-parts}
-use Rattle.ecma_hygiene.specs.Renamed.{expanded, expanded_by, key_of, kind_is_absent, name_of, two_names, two_patterns, with_default}
+use Rattle.ecma_hygiene.specs.Renamed.{expanded, expanded_by, key_of, kind_is_absent, name_of, property_key, proto, proto_in_brackets, proto_literal, two_names, two_patterns, with_default}
 use Rattle.ecma_hygiene_scopes.proofs.Parts.{children-of, contexts-of, kind-of, parts_of}
 
 -- the old text of an identifier, and where it stands, as "expanded" takes it
@@ -26,7 +26,7 @@ grown_pattern old span children = node_of span kind.AssignPatProp children
 
 -- a node of these parts, with the old text of its shared name beside the new one
 abbrev pub grown_by : OldName → Span → Kind → List Node → Node
-grown_by old span (kind.Ident sym ctxt optional) children = node_of span kind.KeyValueProp (key_of old ∷ node_of span (kind.Ident sym ctxt optional) children ∷ [])
+grown_by old span (kind.Ident sym ctxt optional) children = node_of span kind.KeyValueProp (property_key old ∷ node_of span (kind.Ident sym ctxt optional) children ∷ [])
 grown_by old span (kind.ImportNamedSpecifier is_type_only) children = node_of span (kind.ImportNamedSpecifier is_type_only) (two_names old children)
 grown_by old span (kind.ExportNamedSpecifier is_type_only) children = node_of span (kind.ExportNamedSpecifier is_type_only) (two_names old children)
 grown_by old span kind.AssignPatProp children = grown_pattern old span children
@@ -46,7 +46,7 @@ patterns-of old span all (a ∷ b ∷ c ∷ cs) is = ap (λ (zs : List Node). no
 by-kind : (old : OldName) (span : Span) (k : Kind) (children : List Node) → expanded_by k old (node_of span k children) ≡ grown_by old span k children
 unfolding expanded_by
 by-kind old span (kind.Ident sym_ ctxt optional) children =
-    ap (λ (z : Node-F Node). node_of z.span kind.KeyValueProp (key_of old ∷ node_of span (kind.Ident sym_ ctxt optional) children ∷ [])) (out-roll-Node (parts_of span (kind.Ident sym_ ctxt optional) children))
+    ap (λ (z : Node-F Node). node_of z.span kind.KeyValueProp (property_key old ∷ node_of span (kind.Ident sym_ ctxt optional) children ∷ [])) (out-roll-Node (parts_of span (kind.Ident sym_ ctxt optional) children))
 by-kind old span (kind.ImportNamedSpecifier t) children =
     ap (λ (z : Node-F Node). node_of z.span z.kind (two_names old z.children)) (out-roll-Node (parts_of span (kind.ImportNamedSpecifier t) children))
 by-kind old span (kind.ExportNamedSpecifier t) children =
@@ -74,6 +74,18 @@ module _ (context_of : List ℕ → ℕ → ℕ) (empty : (text : List ℕ) → 
 
   pub key-stays : (old : OldName) → turned (key_of old) ≡ key_of old
   key-stays old = contexts-of context_of old.span (kind.IdentName old.text) []
+
+  brackets-stay : (span : Span) → turned (proto_in_brackets span) ≡ proto_in_brackets span
+  brackets-stay span =
+      contexts-of context_of span kind.ComputedPropName (node_of span proto_literal [] ∷ [])
+      ∙ ap (λ (z : Node). node_of span kind.ComputedPropName (z ∷ [])) (contexts-of context_of span proto_literal [])
+
+  key-by : (b : Bool) (old : OldName) → turned (cond b (proto_in_brackets old.span) (key_of old)) ≡ cond b (proto_in_brackets old.span) (key_of old)
+  key-by true old = brackets-stay old.span
+  key-by false old = key-stays old
+
+  pub property-key-stays : (old : OldName) → turned (property_key old) ≡ property_key old
+  property-key-stays old = key-by (bytes_eq old.text proto) old
 
   names-turned : (old : OldName) (cs : List Node) → map turned (two_names old cs) ≡ two_names old (map turned cs)
   names-turned old [] = refl
@@ -105,8 +117,8 @@ module _ (context_of : List ℕ → ℕ → ℕ) (empty : (text : List ℕ) → 
 
   by-turned : (old : OldName) (span : Span) (k : Kind) (cs : List Node) → turned (grown_by old span k cs) ≡ grown_by old span (kind_with_context context_of k) (map turned cs)
   by-turned old span (kind.Ident sym_ ctxt optional) cs =
-      contexts-of context_of span kind.KeyValueProp (key_of old ∷ node_of span (kind.Ident sym_ ctxt optional) cs ∷ [])
-      ∙ ap₂ (λ (y z : Node). node_of span kind.KeyValueProp (y ∷ z ∷ [])) (key-stays old) (contexts-of context_of span (kind.Ident sym_ ctxt optional) cs)
+      contexts-of context_of span kind.KeyValueProp (property_key old ∷ node_of span (kind.Ident sym_ ctxt optional) cs ∷ [])
+      ∙ ap₂ (λ (y z : Node). node_of span kind.KeyValueProp (y ∷ z ∷ [])) (property-key-stays old) (contexts-of context_of span (kind.Ident sym_ ctxt optional) cs)
   by-turned old span (kind.ImportNamedSpecifier t) cs =
       contexts-of context_of span (kind.ImportNamedSpecifier t) (two_names old cs) ∙ ap (λ (zs : List Node). node_of span (kind.ImportNamedSpecifier t) zs) (names-turned old cs)
   by-turned old span (kind.ExportNamedSpecifier t) cs =

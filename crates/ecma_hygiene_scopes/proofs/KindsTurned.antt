@@ -2,9 +2,11 @@
 use Rattle.std.proofs.Common.{◌≡◌, ℕ, Bool, true, false, List, None, refl, sym, ◌∙◌}
 use Rattle.ecma_kind.specs.declared.kind.Kind.{Kind}
 use Rattle.ecma_kind.specs.declared.kind.Kind.TheVariants as kind
+use Rattle.ecma_tree.specs.declared.node.Node.{Node}
 use Rattle.ecma_tree.specs.Contexts.{kind_with_context}
 use Rattle.ecma_tree.specs.Sorted.{is_absent}
 use Rattle.ecma_tree.specs.Values.{value_by}
+use Rattle.ecma_tree.proofs.Valuing.{value_where_by}
 use Rattle.ecma_scope.specs.declared.form.Part.{Part}
 use Rattle.ecma_scope.specs.declared.form.Part.TheVariants as part
 use Rattle.ecma_scope.specs.declared.role.Role.{Role}
@@ -46,9 +48,9 @@ module _ (context_of : List ℕ → ℕ → ℕ) (texts : Texts) where
   unfolding holds_vars
   holds-same named r k = kind-same (λ (z : Kind). holds_vars r z) (λ s t c d o. refl) named k
 
-  pub value-same : (named : Bool) (k : Kind) (values : List Bool) → value_by (turned_kind named k) values ≡ value_by k values
+  pub value-same : (stays named : Bool) (k : Kind) (children : List Node) → value_where_by stays (turned_kind named k) children ≡ value_where_by stays k children
   unfolding value_by
-  value-same named k values = kind-same (λ (z : Kind). value_by z values) (λ s t c d o. refl) named k
+  value-same stays named k children = kind-same (λ (z : Kind). value_where_by stays z children) (λ s t c d o. refl) named k
 
   pub absent-same : (named : Bool) (k : Kind) → is_absent (turned_kind named k) ≡ is_absent k
   absent-same named k = kind-same is_absent (λ s t c d o. refl) named k

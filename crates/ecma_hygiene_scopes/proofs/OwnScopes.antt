@@ -7,7 +7,7 @@ use Rattle.std.proofs.lemmas.Slice.Eq.{bytes_eq-Decides}
 use Rattle.ecma_kind.specs.declared.kind.Kind.{Kind}
 use Rattle.ecma_kind.specs.declared.kind.Kind.TheVariants as kind
 use Rattle.ecma_tree.specs.declared.node.Node.{Node, out-Node}
-use Rattle.ecma_tree.specs.Values.{is_value}
+use Rattle.ecma_tree.specs.Values.{is_value_where}
 use Rattle.ecma_scope.specs.declared.form.Declaration.{Declaration}
 use Rattle.ecma_scope.specs.declared.form.Form.{Form}
 use Rattle.ecma_scope.specs.declared.form.Form.TheVariants as form
@@ -15,7 +15,7 @@ use Rattle.ecma_scope.specs.declared.form.Part.TheVariants as part
 use Rattle.ecma_scope.specs.declared.form.Sought.{Sought}
 use Rattle.ecma_scope.specs.declared.role.Role.{Role}
 use Rattle.ecma_scope.specs.declared.role.Role.TheVariants as role
-use Rattle.ecma_scope.specs.Conflicts.{clashing, is_function_body, is_lexical, marked, meeting, passing}
+use Rattle.ecma_scope.specs.Conflicts.{clashing, has_parameters, is_lexical, marked, meeting, passing}
 use Rattle.ecma_scope.specs.Declarations.{declarations, declares, holds_vars, in_scope, is_hoisted, is_own as is_own_name, is_stated, keeps, names, own_part, sought_in, vars_of}
 use Rattle.ecma_scope.specs.Resolved.{Scope as Frame, context_in, given, innermost as innermost_states, resolved_at}
 use Rattle.ecma_scope.specs.Scopes.{is_ambient, opens}
@@ -147,7 +147,7 @@ module _ (unresolved top : ℕ) where
     -- a text of a parameter is declared by no name of the body
     parameter-none : is_block (out-Node m).kind ≡ true → r ≡ role.Body → (text : List ℕ) → is_stated (around text) ≡ true → declares (names r around m) text ≡ false
     parameter-none block is text stated_ =
-        body-none r around (names r around m) (passing r m) clear (ap is_function_body is) text stated_
+        body-none r around (names r around m) (passing r m) clear (ap has_parameters is) text stated_
         (all-filter (λ e. bytes_eq e.sym text ≡ true → is_lexical r e.form ≡ true) (is_own_name r around) (all_names r m)
         (λ k d lt passes same. subst (λ (q : Role). is_lexical q (get_or (all_names r m) k d).form ≡ true) (sym is)
         (lexical-by (get_or (all_names r m) k d).form (body-forms block is k d lt)
@@ -215,7 +215,7 @@ module _ (unresolved top : ℕ) where
     named-blocks is g other none step =
         let s : Bool = not (is_ambient r) in
         let scope : Sought = record { part = part.Scope; stays = s } in
-        let named = forms-by n scope (part.Name g) (no-item s (out-Node n).kind g) (λ j found h k a. step s (is_value n) j found h k a) in
+        let named = forms-by n scope (part.Name g) (no-item s (out-Node n).kind g) (λ j found h k a. step s (is_value_where s n) j found h k a) in
         All-append Blocks (ids_declared n (record { part = own_part r; stays = s })) (cond (holds_vars r (out-Node n).kind) (ids_declared n (record { part = part.Var; stays = s })) [])
         (subst (λ (q : Role). All Blocks (ids_declared n (record { part = own_part q; stays = s }))) (sym is) (λ k d lt hoisted. absurd (true-false hoisted (ap is_hoisted (named k d lt) ∙ other))))
         (cond-hoisted Blocks (holds_vars r (out-Node n).kind) (ids_declared n (record { part = part.Var; stays = s })) none)

@@ -1,29 +1,27 @@
 -- What a scope declares has the context that the scope gives its text.
-use Rattle.std.proofs.Common.{◌≡◌, ℕ, ◌-◌, ◌==◌, Bool, true, false, ◌&&◌, not, cond, List, [], ◌∷◌, ◌++◌, map, Option, Some, None, refl, sym, ap, ap₂, ◌∙◌, subst}
+use Rattle.std.proofs.Common.{◌≡◌, ℕ, ◌-◌, ◌==◌, Bool, true, false, ◌&&◌, not, cond, List, [], ◌∷◌, ◌++◌, map, Option, Some, None, refl, sym, ap, ◌∙◌, subst}
 use Rattle.std.specs.List.{All}
 use Rattle.std.proofs.lemmas.Bool.{eqb-true}
 use Rattle.std.proofs.lemmas.List.Elements.{All-append, All-nil}
 use Rattle.ecma_kind.specs.declared.kind.Kind.{Kind}
 use Rattle.ecma_kind.specs.declared.kind.Kind.TheVariants as kind
 use Rattle.ecma_tree.specs.declared.node.Node.{Node, out-Node}
-use Rattle.ecma_tree.specs.Values.{is_value}
-use Rattle.ecma_scope.specs.declared.form.Form.TheVariants as form
+use Rattle.ecma_tree.specs.Values.{is_value_where}
 use Rattle.ecma_scope.specs.declared.form.Part.{Part}
 use Rattle.ecma_scope.specs.declared.form.Part.TheVariants as part
 use Rattle.ecma_scope.specs.declared.form.Sought.{Sought}
 use Rattle.ecma_scope.specs.declared.role.Role.{Role}
 use Rattle.ecma_scope.specs.declared.role.Role.TheVariants as role
 use Rattle.ecma_scope.specs.Declarations.{holds_vars, in_item, in_scope, in_var, own_part, sought_in}
-use Rattle.ecma_scope.specs.Resolved.{Place, Scope as Frame, context_count, innermost, inside, is_name, kind_at, placed, resolved_at, taken}
-use Rattle.ecma_scope.specs.Scopes.{covers, is_ambient, is_default, is_there, opens, opens_by, role_by, role_in}
-use Rattle.ecma_hygiene.specs.Ids.{is_block}
+use Rattle.ecma_scope.specs.Resolved.{Place, Scope as Frame, innermost, inside, is_name, kind_at, resolved_at, taken}
+use Rattle.ecma_scope.specs.Scopes.{covers, is_ambient, is_default, is_there, opens, role_in}
 use Rattle.ecma_hygiene.proofs.Roles.{seeks_name, sought-no-name}
 use Rattle.ecma_hygiene.proofs.Telling.{true-false}
 use Rattle.ecma_hygiene_scopes.specs.DeclaredIds.{DeclaredId, id_here, ids_declared, ids_in, scope_ids}
 use Rattle.ecma_hygiene_scopes.proofs.Crossing.{Around, each-passes, named-child, none-in, some-next, var-here}
-use Rattle.ecma_hygiene_scopes.proofs.Directly.{Given, Step, each-find, finds, ids-resolved, place_in}
+use Rattle.ecma_hygiene_scopes.proofs.Directly.{Given, Step, each-find, ids-resolved, place_in}
 use Rattle.ecma_hygiene_scopes.proofs.Gone.{gone, kept-none}
-use Rattle.ecma_hygiene_scopes.proofs.Goodness.{Caught, Fits, Good, fits-here, frame_of, frames_in, good-inside, is_class_expr}
+use Rattle.ecma_hygiene_scopes.proofs.Goodness.{Fits, Good, fits-here, frame_of, frames_in, good-inside, is_class_expr}
 use Rattle.ecma_hygiene_scopes.proofs.Passing.{VarNext, further, nothing, pattern, var-nexts, var-role}
 use Rattle.ecma_hygiene_scopes.proofs.Sameness.{children_resolved, kind-resolved}
 use Rattle.ecma_hygiene_scopes.proofs.Ways.{Way}
@@ -67,30 +65,26 @@ easy-both : (v b : Bool) (p : Part) (s : Bool) (q : Sought) → is_easy p ≡ tr
 easy-both true b p s q is h = easy-at b p s q is h
 easy-both false b p s q is h = cc
 
-abbrev is_catch_clause : Kind → Bool
-is_catch_clause kind.CatchClause = true
-is_catch_clause _ = false
-
-scope-easy : (s v : Bool) (k : Kind) (i : ℕ) (q : Sought) → is_catch_clause k ≡ false → in_scope s v k i ≡ Some q → is_easy q.part ≡ true
+scope-easy : (s v : Bool) (k : Kind) (i : ℕ) (q : Sought) → in_scope s v k i ≡ Some q → is_easy q.part ≡ true
 unfolding in_scope
-scope-easy s v (kind.Module x) i q other h = easy-some _ _ q refl h
-scope-easy s v (kind.Script x) i q other h = easy-some _ _ q refl h
-scope-easy s v kind.TsModuleBlock i q other h = easy-some _ _ q refl h
-scope-easy s v kind.BlockStmt i q other h = easy-some _ _ q refl h
-scope-easy s v kind.SwitchStmt i q other h = easy-at (i == 1) _ _ q refl h
-scope-easy s v kind.ForStmt i q other h = easy-at (i == 0) _ _ q refl h
-scope-easy s v kind.ForInStmt i q other h = easy-at (i == 0) _ _ q refl h
-scope-easy s v (kind.ForOfStmt a) i q other h = easy-at (i == 0) _ _ q refl h
-scope-easy s v kind.CatchClause i q other h = absurd (true-false refl other)
-scope-easy s v (kind.Function g a) i q other h = easy-at (i == 0) _ _ q refl h
-scope-easy s v (kind.ArrowExpr a g) i q other h = easy-at (i == 0) _ _ q refl h
-scope-easy s v (kind.Constructor a o) i q other h = easy-at (i == 1) _ _ q refl h
-scope-easy s v kind.SetterProp i q other h = easy-at (i == 2) _ _ q refl h
-scope-easy s v kind.FnExpr i q other h = easy-at (i == 0) _ _ q refl h
-scope-easy s v kind.ClassExpr i q other h = easy-at (i == 0) _ _ q refl h
-scope-easy s v (kind.TsEnumDecl d c) i q other h = easy-at (i == 1) _ _ q refl h
-scope-easy s v (kind.TsNamespaceDecl d g) i q other h = easy-both v (i == 0) _ _ q refl h
-scope-easy s v _ i q other h = cc
+scope-easy s v (kind.Module x) i q h = easy-some _ _ q refl h
+scope-easy s v (kind.Script x) i q h = easy-some _ _ q refl h
+scope-easy s v kind.TsModuleBlock i q h = easy-some _ _ q refl h
+scope-easy s v kind.BlockStmt i q h = easy-some _ _ q refl h
+scope-easy s v kind.SwitchStmt i q h = easy-at (i == 1) _ _ q refl h
+scope-easy s v kind.ForStmt i q h = easy-at (i == 0) _ _ q refl h
+scope-easy s v kind.ForInStmt i q h = easy-at (i == 0) _ _ q refl h
+scope-easy s v (kind.ForOfStmt a) i q h = easy-at (i == 0) _ _ q refl h
+scope-easy s v kind.CatchClause i q h = easy-at (i == 0) _ _ q refl h
+scope-easy s v (kind.Function g a) i q h = easy-at (i == 0) _ _ q refl h
+scope-easy s v (kind.ArrowExpr a g) i q h = easy-at (i == 0) _ _ q refl h
+scope-easy s v (kind.Constructor a o) i q h = easy-at (i == 1) _ _ q refl h
+scope-easy s v kind.SetterProp i q h = easy-at (i == 2) _ _ q refl h
+scope-easy s v kind.FnExpr i q h = easy-at (i == 0) _ _ q refl h
+scope-easy s v kind.ClassExpr i q h = easy-at (i == 0) _ _ q refl h
+scope-easy s v (kind.TsEnumDecl d c) i q h = easy-at (i == 1) _ _ q refl h
+scope-easy s v (kind.TsNamespaceDecl d g) i q h = easy-both v (i == 0) _ _ q refl h
+scope-easy s v _ i q h = cc
 
 easy-way : (p : Part) (r : Role) → is_easy p ≡ true → ((f : _) → p ≡ part.Name f → is_name r ≡ false) → Way p r
 easy-way part.Item r is name = tt
@@ -140,91 +134,21 @@ module _ (unresolved top : ℕ) (m : Node) (r : Role) (frames : List Frame) (lef
   item-here s _ = All-nil G
 
   -- the names of the scope but for `var`
-  step : (s : Bool) → is_default r ≡ false → is_catch_clause (out-Node m).kind ≡ false → Step unresolved top (sought_in (record { part = part.Scope; stays = s }) m) (inside top place m left) more
+  step : (s : Bool) → is_default r ≡ false → Step unresolved top (sought_in (record { part = part.Scope; stays = s }) m) (inside top place m left) more
   unfolding sought_in
-  step s plain other = record {
+  step s plain = record {
     role = role_in r m;
-    place = λ j q h. ap (place_in unresolved top (role_in r m j)) (covered j (scope-covers r s (is_value m) (out-Node m).kind j q plain h));
-    way = λ j q h. easy-way q.part (role_in r m j) (scope-easy s (is_value m) (out-Node m).kind j q other h)
+    place = λ j q h. ap (place_in unresolved top (role_in r m j)) (covered j (scope-covers r s (is_value_where s m) (out-Node m).kind j q plain h));
+    way = λ j q h. easy-way q.part (role_in r m j) (scope-easy s (is_value_where s m) (out-Node m).kind j q h)
         (λ f is. sought-no-name (record { part = part.Scope; stays = s }) r m j (ap seeks_name h ∙ ap (λ (p : Part). seeks_name (Some (record { part = p; stays = q.stays }))) is));
   }
 
-  easy-given : (s : Bool) → is_default r ≡ false → is_catch_clause (out-Node m).kind ≡ false → All G (ids_declared n (record { part = part.Scope; stays = s }))
-  easy-given s plain other =
+  scope-given : (s : Bool) → is_default r ≡ false → All G (ids_declared n (record { part = part.Scope; stays = s }))
+  scope-given s plain =
       subst (All G) (sym (ids-resolved unresolved top m place left (record { part = part.Scope; stays = s })))
       (All-append G (id_here (record { part = part.Scope; stays = s }) (kind_at unresolved place (out-Node m).kind)) (ids_in (sought_in (record { part = part.Scope; stays = s }) m) 0 (map ids_declared (children_resolved unresolved top m place left)))
       (scope-here part.Scope s refl (kind_at unresolved place (out-Node m).kind))
-      (each-find unresolved top (out-Node m).children (sought_in (record { part = part.Scope; stays = s }) m) (inside top place m left) more 0 (left - taken r m) (step s plain other)))
-
-  -- the block of a `catch`
-  block-step : (b : Node) (s : Bool) (less : ℕ) → (out-Node b).kind ≡ kind.BlockStmt → Step unresolved top (sought_in (record { part = part.Scope; stays = s }) b) (inside top (place_in unresolved top role.CatchBody more) b less) more
-  unfolding sought_in in_scope opens_by
-  block-step b s less is = record {
-    role = role_in role.CatchBody b;
-    place = λ j q h. ap (λ (t : Bool). place_in unresolved top (role_in role.CatchBody b j) (cond (t && covers role.CatchBody (out-Node b).kind j) (more ++ frame_of top b role.CatchBody more less ∷ []) more))
-        (ap (λ (k : Kind). opens_by role.CatchBody k (is_there (out-Node b).children 0)) is);
-    way = λ j q h. easy-way q.part (role_in role.CatchBody b j) (easy-some part.Item s q refl (ap (λ (k : Kind). in_scope s (is_value b) k j) (sym is) ∙ h))
-        (λ f is. sought-no-name (record { part = part.Scope; stays = s }) role.CatchBody b j (ap seeks_name h ∙ ap (λ (p : Part). seeks_name (Some (record { part = p; stays = q.stays }))) is));
-  }
-
-  block-given : (b : Node) (s : Bool) (less : ℕ) → (out-Node b).kind ≡ kind.BlockStmt → All G (ids_declared (resolved_at unresolved top b (place_in unresolved top role.CatchBody more) less) (record { part = part.Scope; stays = s }))
-  block-given b s less is =
-      subst (All G) (sym (ids-resolved unresolved top b (place_in unresolved top role.CatchBody more) less (record { part = part.Scope; stays = s })))
-      (All-append G (id_here (record { part = part.Scope; stays = s }) (kind_at unresolved (place_in unresolved top role.CatchBody more) (out-Node b).kind))
-      (ids_in (sought_in (record { part = part.Scope; stays = s }) b) 0 (map ids_declared (children_resolved unresolved top b (place_in unresolved top role.CatchBody more) less)))
-      (scope-here part.Scope s refl (kind_at unresolved (place_in unresolved top role.CatchBody more) (out-Node b).kind))
-      (each-find unresolved top (out-Node b).children (sought_in (record { part = part.Scope; stays = s }) b) (inside top (place_in unresolved top role.CatchBody more) b less) more 0 (less - taken role.CatchBody b) (block-step b s less is)))
-
-  is-block : (k : Kind) → is_block k ≡ true → k ≡ kind.BlockStmt
-  is-block kind.BlockStmt h = refl
-  is-block _ h = absurd (true-false h refl)
-
-  catch-covers : (k : Kind) (i : ℕ) → k ≡ kind.CatchClause → covers r k i ≡ true
-  unfolding covers
-  catch-covers k i is = ap (λ (z : Kind). covers r z i) is
-
-  catch-first : (k : Kind) (t : Bool) → k ≡ kind.CatchClause → role_by r k t 0 ≡ role.Plain
-  unfolding role_by
-  catch-first k t is = ap (λ (z : Kind). role_by r z t 0) is
-
-  catch-second : (k : Kind) (t : Bool) → k ≡ kind.CatchClause → role_by r k t 1 ≡ role.CatchBody
-  unfolding role_by
-  catch-second k t is = ap (λ (z : Kind). role_by r z t 1) is
-
-  catch-given : (s : Bool) (cs : List Node) → (out-Node m).kind ≡ kind.CatchClause → (out-Node m).children ≡ cs → Caught cs → All G (ids_declared n (record { part = part.Scope; stays = s }))
-  unfolding sought_in in_scope
-  catch-given s [] is are caught = absurd caught
-  catch-given s (a ∷ []) is are caught = absurd caught
-  catch-given s (a ∷ b ∷ []) is are caught =
-      let q : Sought = record { part = part.Scope; stays = s } in
-      let name : Sought = record { part = part.Name form.Catch; stays = s } in
-      let places : ℕ → Place = inside top place m left in
-      let one : ℕ = left - taken r m in
-      let two : ℕ = one - context_count a (places 0).role in
-      let parts : ids_declared n q ≡ id_here q (kind_at unresolved place (out-Node m).kind) ++ (ids_declared (resolved_at unresolved top a (places 0) one) name ++ (ids_declared (resolved_at unresolved top b (places 1) two) q ++ [])) =
-      ids-resolved unresolved top m place left q
-      ∙ ap₂ (λ (k : Kind) (cs : List Node). id_here q (kind_at unresolved place (out-Node m).kind) ++ ids_in (λ i. in_scope s (is_value m) k i) 0 (map ids_declared (placed places 0 cs (map (resolved_at unresolved top) cs) one))) is are in
-      let there : Bool = is_there (out-Node m).children 1 in
-      let first : places 0 ≡ place_in unresolved top role.Plain more = (λ j. place_in unresolved top (catch-first (out-Node m).kind there is j) (covered 0 (catch-covers (out-Node m).kind 0 is) j)) in
-      let second : places 1 ≡ place_in unresolved top role.CatchBody more = (λ j. place_in unresolved top (catch-second (out-Node m).kind there is j) (covered 1 (catch-covers (out-Node m).kind 1 is) j)) in
-      subst (All G) (sym parts)
-      (All-append G (id_here q (kind_at unresolved place (out-Node m).kind)) (ids_declared (resolved_at unresolved top a (places 0) one) name ++ (ids_declared (resolved_at unresolved top b (places 1) two) q ++ []))
-      (scope-here part.Scope s refl (kind_at unresolved place (out-Node m).kind))
-      (All-append G (ids_declared (resolved_at unresolved top a (places 0) one) name) (ids_declared (resolved_at unresolved top b (places 1) two) q ++ [])
-      (subst (λ (z : Place). All G (ids_declared (resolved_at unresolved top a z one) name)) (sym first) (finds unresolved top a name role.Plain more one refl))
-      (All-append G (ids_declared (resolved_at unresolved top b (places 1) two) q) []
-      (subst (λ (z : Place). All G (ids_declared (resolved_at unresolved top b z two) q)) (sym second) (block-given b s two (is-block (out-Node b).kind caught))) (All-nil G))))
-  catch-given s (a ∷ b ∷ c ∷ cs) is are caught = absurd caught
-
-  catch-kind : (k : Kind) → is_catch_clause k ≡ true → k ≡ kind.CatchClause
-  catch-kind kind.CatchClause h = refl
-  catch-kind _ h = absurd (true-false h refl)
-
-  scope-given : (s t : Bool) → is_default r ≡ false → is_catch_clause (out-Node m).kind ≡ t → All G (ids_declared n (record { part = part.Scope; stays = s }))
-  scope-given s false plain is = easy-given s plain is
-  scope-given s true plain is =
-      let k = catch-kind (out-Node m).kind is in
-      catch-given s (out-Node m).children k refl (fits.caught k)
+      (each-find unresolved top (out-Node m).children (sought_in (record { part = part.Scope; stays = s }) m) (inside top place m left) more 0 (left - taken r m) (step s plain)))
 
   -- a class that is a default export declares nothing
   class-none : (k : Kind) (s v : Bool) (j : ℕ) → is_class_expr k ≡ true → in_item s v k j ≡ None
@@ -238,12 +162,12 @@ module _ (unresolved top : ℕ) (m : Node) (r : Role) (frames : List Frame) (lef
       subst (All G) (sym (ids-resolved unresolved top m place left (record { part = part.Item; stays = s })))
       (All-append G (id_here (record { part = part.Item; stays = s }) (kind_at unresolved place (out-Node m).kind)) (ids_in (sought_in (record { part = part.Item; stays = s }) m) 0 (map ids_declared (children_resolved unresolved top m place left)))
       (item-here s (kind_at unresolved place (out-Node m).kind))
-      (none-in unresolved top G (sought_in (record { part = part.Item; stays = s }) m) 0 (children_resolved unresolved top m place left) (λ j. class-none (out-Node m).kind s (is_value m) j is)))
+      (none-in unresolved top G (sought_in (record { part = part.Item; stays = s }) m) 0 (children_resolved unresolved top m place left) (λ j. class-none (out-Node m).kind s (is_value_where s m) j is)))
 
   own-by : (q : Role) → r ≡ q → (s : Bool) → All G (ids_declared n (record { part = own_part q; stays = s }))
   own-by role.Default is s = class-given s (fits.default is opened)
-  own-by role.Plain is s = scope-given s (is_catch_clause (out-Node m).kind) (ap is_default is) refl
-  own-by _ is s = scope-given s (is_catch_clause (out-Node m).kind) (ap is_default is) refl
+  own-by role.Plain is s = scope-given s (ap is_default is)
+  own-by _ is s = scope-given s (ap is_default is)
 
   -- and its `var` names
   vars-around : is_ambient r ≡ false → holds_vars r (out-Node m).kind ≡ true → (next : VarNext (in_var true (out-Node m).kind)) → Around unresolved top (in_var true (out-Node m).kind) more (role_in r m) (frames_in top m r frames left) false f

@@ -7,9 +7,8 @@ use Rattle.ecma_tree.specs.declared.node.Node.TheViews.{out-roll-Node}
 use Rattle.ecma_tree.specs.Contexts.{kind_with_context, with_contexts}
 use Rattle.ecma_tree.specs.Nodes.{node_of}
 use Rattle.ecma_tree.proofs.Changing.{changed-parts}
-use Rattle.ecma_tree.specs.Values.{is_value, value_by}
 use Rattle.ecma_tree.proofs.Layers.{from_leaves-roll}
-use Rattle.ecma_tree.proofs.Valuing.{is_value-out}
+use Rattle.ecma_tree.proofs.Valuing.{is_value_where-roll, value_where_by}
 use Rattle.ecma_scope.specs.declared.form.Declaration.{Declaration}
 use Rattle.ecma_scope.specs.declared.form.Sought.{Sought}
 use Rattle.ecma_scope.specs.Declarations.{declarations, declared_here, declared_step, found_in, sought_by, sought_in}
@@ -29,17 +28,13 @@ contexts-of context_of span k children =
     changed-parts (λ span. span) (kind_with_context context_of) (node_of span k children)
     ∙ ap (λ (z : Node-F Node). node_of z.span (kind_with_context context_of z.kind) (map (with_contexts context_of) z.children)) (out-roll-Node (parts_of span k children))
 
-pub value-of : (span : Span) (k : Kind) (children : List Node) → is_value (node_of span k children) ≡ value_by k (map is_value children)
-value-of span k children =
-    is_value-out (node_of span k children) ∙ ap (λ (z : Node-F Node). value_by z.kind (map is_value z.children)) (out-roll-Node (parts_of span k children))
-
 -- what is looked for in the children of a node of these parts
 abbrev pub seeks : Sought → Kind → List Node → ℕ → Option Sought
-seeks sought k children i = sought_by sought.part sought.stays (value_by k (map is_value children)) k i
+seeks sought k children i = sought_by sought.part sought.stays (value_where_by sought.stays k children) k i
 
 pub seeks-of : (sought : Sought) (span : Span) (k : Kind) (children : List Node) (i : ℕ) → sought_in sought (node_of span k children) i ≡ seeks sought k children i
 unfolding sought_in
-seeks-of sought span k children i = (λ j. sought_by sought.part sought.stays (value-of span k children j) (kind-of span k children j) i)
+seeks-of sought span k children i = (λ j. sought_by sought.part sought.stays (is_value_where-roll sought.stays span k children j) (kind-of span k children j) i)
 
 pub declarations-of : (span : Span) (k : Kind) (children : List Node) (sought : Sought)
     → declarations (node_of span k children) sought ≡ declared_here sought k ++ found_in (seeks sought k children) 0 (map declarations children)

@@ -1,15 +1,16 @@
 -- A `var` is resolved as it stands in the scope that it belongs to: no scope that it passes has its text.
-use Rattle.std.proofs.Common.{◌≡◌, ℕ, ◌==◌, Bool, true, false, ◌&&◌, ◌||◌, not, cond, filter, List, [], ◌∷◌, ◌++◌, map, Option, Some, None, is_some, refl, sym, ap, ap₂, ◌∙◌, subst, get_or}
+use Rattle.std.proofs.Common.{◌≡◌, ℕ, ◌==◌, Bool, true, false, ◌&&◌, ◌||◌, not, cond, filter, List, [], ◌∷◌, ◌++◌, map, Option, Some, None, is_some, refl, sym, ap, ◌∙◌, subst, get_or}
 use Rattle.std.specs.List.{All}
-use Rattle.std.proofs.lemmas.List.Elements.{All-append, All-cons, All-head, All-nil, All-tail}
+use Rattle.std.proofs.lemmas.List.Elements.{All-cons, All-head, All-nil, All-tail}
 use Rattle.ecma_kind.specs.declared.kind.Kind.{Kind}
 use Rattle.ecma_kind.specs.declared.kind.Kind.TheVariants as kind
 use Rattle.ecma_kind.specs.declared.operators.VarDeclKind.TheVariants as var_kind
 use Rattle.ecma_tree.specs.declared.node.Node.{Node, out-Node}
-use Rattle.ecma_tree.specs.Values.{is_value}
+use Rattle.ecma_tree.specs.Values.{is_value_where}
 use Rattle.ecma_scope.specs.declared.form.Declaration.{Declaration}
 use Rattle.ecma_scope.specs.declared.form.Form.{Form}
 use Rattle.ecma_scope.specs.declared.form.Form.TheVariants as form
+use Rattle.ecma_scope.specs.declared.form.Part.{Part}
 use Rattle.ecma_scope.specs.declared.form.Part.TheVariants as part
 use Rattle.ecma_scope.specs.declared.form.Sought.{Sought}
 use Rattle.ecma_scope.specs.declared.role.Role.{Role}
@@ -20,12 +21,12 @@ use Rattle.ecma_scope.specs.Resolved.{Scope as Frame, innermost, resolved_at}
 use Rattle.ecma_scope.specs.Scopes.{at_child, is_ambient, is_root, opens, opens_by, passes_ambient, passes_in_list, role_by}
 use Rattle.ecma_hygiene.specs.Ids.{is_block}
 use Rattle.ecma_hygiene.proofs.Telling.{true-false}
-use Rattle.ecma_hygiene_scopes.specs.DeclaredIds.{DeclaredId, id_here, ids_declared, ids_in, with_text}
+use Rattle.ecma_hygiene_scopes.specs.DeclaredIds.{DeclaredId, id_here, ids_declared, with_text}
 use Rattle.ecma_hygiene_scopes.specs.Seats.{all_names}
 use Rattle.ecma_hygiene_scopes.proofs.Clashes.{all-back, all-filter, counted, passes-none}
-use Rattle.ecma_hygiene_scopes.proofs.Directly.{ids-out, place_in}
+use Rattle.ecma_hygiene_scopes.proofs.Directly.{place_in}
 use Rattle.ecma_hygiene_scopes.proofs.Forms.{Allowed, Formed, forms, forms-by, is_item_form}
-use Rattle.ecma_hygiene_scopes.proofs.Goodness.{Caught, Fits, Good, fits-here, frame_of, is_module_kind, own-clear}
+use Rattle.ecma_hygiene_scopes.proofs.Goodness.{Good, frame_of, is_module_kind, own-clear}
 use Rattle.ecma_hygiene_scopes.proofs.Sameness.{declares-ids, declares-resolved, no_text}
 use Rattle.ecma_hygiene_scopes.proofs.Ways.{next_var}
 
@@ -156,12 +157,12 @@ Meets d = is_meeting d.form ≡ true
 item-meeting : (g : Form) → is_item_form g ≡ true → is_meeting g ≡ true
 item-meeting g h = ap (λ (b : Bool). b || is_catch g) h
 
-item-same : (s : Bool) (q : Sought) → ◌≡◌ {A = Option Sought} (Some (record { part = part.Item; stays = s })) (Some q) → q.part ≡ part.Item
-item-same s q h = cc
+part-same : (p : Part) (s : Bool) (q : Sought) → ◌≡◌ {A = Option Sought} (Some (record { part = p; stays = s })) (Some q) → q.part ≡ p
+part-same p s q h = cc
 
-item-at : (b : Bool) (s : Bool) (q : Sought) → ◌≡◌ {A = Option Sought} (cond b (Some (record { part = part.Item; stays = s })) None) (Some q) → q.part ≡ part.Item
-item-at true s q h = item-same s q h
-item-at false s q h = cc
+part-at : (b : Bool) (p : Part) (s : Bool) (q : Sought) → ◌≡◌ {A = Option Sought} (cond b (Some (record { part = p; stays = s })) None) (Some q) → q.part ≡ p
+part-at true p s q h = part-same p s q h
+part-at false p s q h = cc
 
 -- the scopes that are lists of statements, and loops
 abbrev is_list_scope : Kind → Bool
@@ -174,11 +175,11 @@ is_list_scope _ = false
 
 list-items : (k : Kind) (s v : Bool) (i : ℕ) (q : Sought) → is_list_scope k ≡ true → in_scope s v k i ≡ Some q → q.part ≡ part.Item
 unfolding in_scope
-list-items kind.BlockStmt s v i q is h = item-same s q h
-list-items kind.SwitchStmt s v i q is h = item-at (i == 1) s q h
-list-items kind.ForStmt s v i q is h = item-at (i == 0) s q h
-list-items kind.ForInStmt s v i q is h = item-at (i == 0) s q h
-list-items (kind.ForOfStmt a) s v i q is h = item-at (i == 0) s q h
+list-items kind.BlockStmt s v i q is h = part-same part.Item s q h
+list-items kind.SwitchStmt s v i q is h = part-at (i == 1) part.Item s q h
+list-items kind.ForStmt s v i q is h = part-at (i == 0) part.Item s q h
+list-items kind.ForInStmt s v i q is h = part-at (i == 0) part.Item s q h
+list-items (kind.ForOfStmt a) s v i q is h = part-at (i == 0) part.Item s q h
 list-items _ s v i q is h = absurd (true-false is refl)
 
 scope-here : (s : Bool) (k : Kind) → All (Formed part.Item) (id_here (record { part = part.Scope; stays = s }) k)
@@ -189,7 +190,7 @@ pub list-forms : (m : Node) (s : Bool) → is_list_scope (out-Node m).kind ≡ t
 unfolding sought_in
 list-forms m s is =
     forms-by m (record { part = part.Scope; stays = s }) part.Item (scope-here s (out-Node m).kind)
-    (λ j found h g a. subst (λ p. Allowed p g) (list-items (out-Node m).kind s (is_value m) j found is h) a)
+    (λ j found h g a. subst (λ p. Allowed p g) (list-items (out-Node m).kind s (is_value_where s m) j found is h) a)
 
 list-meets : (m : Node) (s : Bool) → is_list_scope (out-Node m).kind ≡ true → All Meets (ids_declared m (record { part = part.Scope; stays = s }))
 list-meets m s is = λ k d lt. item-meeting (get_or (ids_declared m (record { part = part.Scope; stays = s })) k d).form (list-forms m s is k d lt)
@@ -198,44 +199,42 @@ pub block-list : (k : Kind) → is_block k ≡ true → is_list_scope k ≡ true
 block-list kind.BlockStmt h = refl
 block-list _ h = absurd (true-false h refl)
 
-catch-ids : (m : Node) (s : Bool) (cs : List Node) → (out-Node m).kind ≡ kind.CatchClause → (out-Node m).children ≡ cs → Caught cs → All Meets (ids_declared m (record { part = part.Scope; stays = s }))
-unfolding sought_in in_scope
-catch-ids m s [] is are caught = absurd caught
-catch-ids m s (a ∷ []) is are caught = absurd caught
-catch-ids m s (a ∷ b ∷ []) is are caught =
-    let q : Sought = record { part = part.Scope; stays = s } in
-    let names : All Meets (ids_declared a (record { part = part.Name form.Catch; stays = s })) =
-    (λ k d lt. ap is_meeting (forms a (record { part = part.Name form.Catch; stays = s }) k d lt)) in
-    let items : All Meets (ids_declared b (record { part = part.Scope; stays = s })) = list-meets b s (block-list (out-Node b).kind caught) in
-    let parts : ids_declared m q ≡ ids_declared a (record { part = part.Name form.Catch; stays = s }) ++ (ids_declared b (record { part = part.Scope; stays = s }) ++ []) =
-    ids-out m q ∙ ap₂ (λ (k : Kind) (cs : List Node). id_here q k ++ ids_in (λ i. in_scope s (is_value m) k i) 0 (map ids_declared cs)) is are in
-    subst (All Meets) (sym parts)
-    (All-append Meets (ids_declared a (record { part = part.Name form.Catch; stays = s })) (ids_declared b (record { part = part.Scope; stays = s }) ++ []) names
-    (All-append Meets (ids_declared b (record { part = part.Scope; stays = s })) [] items (All-nil Meets)))
-catch-ids m s (a ∷ b ∷ c ∷ cs) is are caught = absurd caught
+catch-names : (s v : Bool) (i : ℕ) (q : Sought) → in_scope s v kind.CatchClause i ≡ Some q → q.part ≡ part.Name form.Catch
+unfolding in_scope
+catch-names s v i q h = part-at (i == 0) (part.Name form.Catch) s q h
 
-scope-meets : (m : Node) (r : Role) (s : Bool) (k : Kind) → (out-Node m).kind ≡ k → (there : Bool) → is_some (next_var k) ≡ true → opens_by r k there ≡ true → is_module_kind k ≡ false → (k ≡ kind.CatchClause → Caught (out-Node m).children)
+catch-here : (s : Bool) (k : Kind) → All (Formed (part.Name form.Catch)) (id_here (record { part = part.Scope; stays = s }) k)
+catch-here s (kind.Ident t c o) = All-nil (Formed (part.Name form.Catch))
+catch-here s _ = All-nil (Formed (part.Name form.Catch))
+
+catch-meets : (m : Node) (s : Bool) → (out-Node m).kind ≡ kind.CatchClause → All Meets (ids_declared m (record { part = part.Scope; stays = s }))
+unfolding sought_in
+catch-meets m s is = λ k d lt. ap is_meeting (forms-by m (record { part = part.Scope; stays = s }) (part.Name form.Catch) (catch-here s (out-Node m).kind)
+    (λ j found h g a. subst (λ p. Allowed p g) (catch-names s (is_value_where s m) j found (ap (λ (z : Kind). in_scope s (is_value_where s m) z j) (sym is) ∙ h)) a) k d lt)
+
+-- a list of statements, a loop, or the names that are caught
+scope-meets : (m : Node) (r : Role) (s : Bool) (k : Kind) → (out-Node m).kind ≡ k → (there : Bool) → is_some (next_var k) ≡ true → opens_by r k there ≡ true → is_module_kind k ≡ false
     → All Meets (ids_declared m (record { part = part.Scope; stays = s }))
 unfolding opens_by
-scope-meets m r s kind.BlockStmt is there var opened other caught = list-meets m s (ap is_list_scope is)
-scope-meets m r s kind.SwitchStmt is there var opened other caught = list-meets m s (ap is_list_scope is)
-scope-meets m r s kind.ForStmt is there var opened other caught = list-meets m s (ap is_list_scope is)
-scope-meets m r s kind.ForInStmt is there var opened other caught = list-meets m s (ap is_list_scope is)
-scope-meets m r s (kind.ForOfStmt a) is there var opened other caught = list-meets m s (ap is_list_scope is)
-scope-meets m r s kind.CatchClause is there var opened other caught = catch-ids m s (out-Node m).children is refl (caught refl)
-scope-meets m r s (kind.Module x) is there var opened other caught = absurd (true-false refl other)
-scope-meets m r s (kind.Script x) is there var opened other caught = absurd (true-false refl other)
-scope-meets m r s kind.TsModuleBlock is there var opened other caught = absurd (true-false refl other)
-scope-meets m r s (kind.VarDecl v d) is there var opened other caught = absurd (true-false opened refl)
-scope-meets m r s kind.List is there var opened other caught = absurd (true-false opened refl)
-scope-meets m r s kind.ExportDecl is there var opened other caught = absurd (true-false opened refl)
-scope-meets m r s kind.IfStmt is there var opened other caught = absurd (true-false opened refl)
-scope-meets m r s kind.WhileStmt is there var opened other caught = absurd (true-false opened refl)
-scope-meets m r s kind.DoWhileStmt is there var opened other caught = absurd (true-false opened refl)
-scope-meets m r s kind.LabeledStmt is there var opened other caught = absurd (true-false opened refl)
-scope-meets m r s kind.TryStmt is there var opened other caught = absurd (true-false opened refl)
-scope-meets m r s kind.SwitchCase is there var opened other caught = absurd (true-false opened refl)
-scope-meets m r s _ is there var opened other caught = absurd (true-false var refl)
+scope-meets m r s kind.BlockStmt is there var opened other = list-meets m s (ap is_list_scope is)
+scope-meets m r s kind.SwitchStmt is there var opened other = list-meets m s (ap is_list_scope is)
+scope-meets m r s kind.ForStmt is there var opened other = list-meets m s (ap is_list_scope is)
+scope-meets m r s kind.ForInStmt is there var opened other = list-meets m s (ap is_list_scope is)
+scope-meets m r s (kind.ForOfStmt a) is there var opened other = list-meets m s (ap is_list_scope is)
+scope-meets m r s kind.CatchClause is there var opened other = catch-meets m s is
+scope-meets m r s (kind.Module x) is there var opened other = absurd (true-false refl other)
+scope-meets m r s (kind.Script x) is there var opened other = absurd (true-false refl other)
+scope-meets m r s kind.TsModuleBlock is there var opened other = absurd (true-false refl other)
+scope-meets m r s (kind.VarDecl v d) is there var opened other = absurd (true-false opened refl)
+scope-meets m r s kind.List is there var opened other = absurd (true-false opened refl)
+scope-meets m r s kind.ExportDecl is there var opened other = absurd (true-false opened refl)
+scope-meets m r s kind.IfStmt is there var opened other = absurd (true-false opened refl)
+scope-meets m r s kind.WhileStmt is there var opened other = absurd (true-false opened refl)
+scope-meets m r s kind.DoWhileStmt is there var opened other = absurd (true-false opened refl)
+scope-meets m r s kind.LabeledStmt is there var opened other = absurd (true-false opened refl)
+scope-meets m r s kind.TryStmt is there var opened other = absurd (true-false opened refl)
+scope-meets m r s kind.SwitchCase is there var opened other = absurd (true-false opened refl)
+scope-meets m r s _ is there var opened other = absurd (true-false var refl)
 
 -- ---- lists
 
@@ -266,9 +265,6 @@ module _ (unresolved top : ℕ) where
     abbrev around : List ℕ → Option Bool
     around = innermost frames
 
-    fits : Fits (record { role = r; node = m })
-    fits = fits-here m r around good
-
     all-same : all_names r m ≡ declarations m scope
     all-same =
         (λ j. declarations m (record { part = passes-part r passed j; stays = not (passes-calm r passed j) }) ++ cond (holds-none r (out-Node m).kind passed other j) (declarations m (record { part = part.Var; stays = not (is_ambient r) })) [])
@@ -292,7 +288,7 @@ module _ (unresolved top : ℕ) where
         let meet : All (λ e. may_not_meet r e.form form.Var ≡ true) (declarations m scope) =
         subst (All (λ e. may_not_meet r e.form form.Var ≡ true)) (sym (declares-ids m scope))
         (map-all (λ e. may_not_meet r e.form form.Var ≡ true) (with_text no_text) (ids_declared m scope)
-        (λ k d lt. meets-by r _ passed (scope-meets m r true (out-Node m).kind refl _ var opened other fits.caught k d lt))) in
+        (λ k d lt. meets-by r _ passed (scope-meets m r true (out-Node m).kind refl _ var opened other k d lt))) in
         let are : All (λ d. d.form ≡ form.Var) (declarations m vars) =
         subst (All (λ d. d.form ≡ form.Var)) (sym (declares-ids m vars)) (map-all (λ d. d.form ≡ form.Var) (with_text no_text) (ids_declared m vars) (forms m vars)) in
         let none : clashing r around [] (marked [] (counted r around (declarations m scope) passed_vars) ++ passed_vars) ≡ [] =

@@ -20,7 +20,7 @@ use Rattle.ecma_hygiene.specs.Texts.{text_in}
 use Rattle.ecma_hygiene.specs.Walks.{gathered_from}
 use Rattle.ecma_hygiene.proofs.Walking.{gathered-out}
 use Rattle.ecma_hygiene_scopes.specs.Lasting.{IsCheckedModule}
-use Rattle.ecma_hygiene_scopes.specs.PlainModules.{IsPlainModule}
+use Rattle.ecma_hygiene_scopes.specs.StayingModules.{IsStayingModule}
 use Rattle.ecma_hygiene_scopes.specs.Laws.{ResolvedFollowsItsTexts, ResolvedIsReadAgain, ResolvedIsRight}
 use Rattle.ecma_hygiene_scopes.specs.Seats.{Seat, seat_here, seats_at}
 use Rattle.ecma_hygiene_scopes.proofs.Goodness.{Fits}
@@ -94,7 +94,6 @@ fit source checked =
     let empty = empties source role.Root checked.bare in
     λ k d lt. record {
       absent = (shaped k d lt).absent;
-      caught = (shaped k d lt).caught;
       default = (shaped k d lt).default;
       body = (shaped k d lt).body;
       nested = (shaped k d lt).nested;
@@ -106,7 +105,7 @@ pub resolved-is-placed : (unresolved top left : ℕ) (source : Node) → IsCheck
 resolved-is-placed unresolved top left source checked = rights unresolved top source nowhere [] left tt settled-root (record { all = fit source checked; clear = checked.clear })
 
 -- a module in which nothing goes is one of these
-pub checked : (source : Node) → IsPlainModule source → IsCheckedModule source
+pub checked : (source : Node) → IsStayingModule source → IsCheckedModule source
 checked source plain = record { sorted = plain.sorted; bare = plain.bare; clear = plain.clear }
 
 pub resolved-is-right : ResolvedIsRight

@@ -1,5 +1,5 @@
 -- A shorthand that is written out is resolved as the shorthand is.
-use Rattle.std.proofs.Common.{◌≡◌, ℕ, ◌+◌, ◌-◌, Bool, true, false, ◌&&◌, not, cond, List, [], ◌∷◌, ◌++◌, map, Option, Some, None, refl, sym, ap, ap₂, ◌∙◌, arith}
+use Rattle.std.proofs.Common.{◌≡◌, ℕ, ◌+◌, ◌-◌, Bool, true, false, ◌&&◌, not, cond, List, [], ◌∷◌, ◌++◌, map, Option, Some, None, bytes_eq, refl, sym, ap, ap₂, ◌∙◌, arith}
 use Rattle.ecma_kind.specs.declared.kind.Kind.{Kind}
 use Rattle.ecma_kind.specs.declared.kind.Kind.TheVariants as kind
 use Rattle.ecma_kind.specs.declared.span.Span.{Span}
@@ -12,7 +12,7 @@ use Rattle.ecma_scope.specs.declared.role.Role.TheVariants as role
 use Rattle.ecma_scope.specs.Resolved.{Place, context_in, inside, is_name, kind_at, placed, resolved_at, scope_at, taken, context_count, counted}
 use Rattle.ecma_scope.specs.Scopes.{covers, is_root, is_there, of_specifier, opens_by, role_by}
 use Rattle.ecma_scope.proofs.Opening.{context_count-out, resolved_at-out}
-use Rattle.ecma_hygiene.specs.Renamed.{key_of, kind_is_absent, name_of, two_names, with_default}
+use Rattle.ecma_hygiene.specs.Renamed.{key_of, kind_is_absent, name_of, property_key, proto, proto_in_brackets, proto_literal, two_names, with_default}
 use Rattle.ecma_hygiene_scopes.proofs.Declaring.{is_ident}
 use Rattle.ecma_hygiene_scopes.proofs.Growing.{OldName, grown, grown_by, grown_pattern}
 use Rattle.ecma_hygiene_scopes.proofs.Parts.{children-of, kind-of, parts_of}
@@ -56,6 +56,19 @@ key-none : (r : Role) (old : OldName) → context_count (key_of old) r ≡ 0
 unfolding opens_by
 key-none r old = count-of r old.span (kind.IdentName old.text) []
 
+brackets-none : (r : Role) (span : Span) → context_count (proto_in_brackets span) r ≡ 0
+unfolding opens_by role_by
+brackets-none r span =
+    count-of r span kind.ComputedPropName (node_of span proto_literal [] ∷ [])
+    ∙ ap (λ (n : ℕ). 0 + (n + 0)) (count-of role.Plain span proto_literal [])
+
+key-none-by : (b : Bool) (r : Role) (old : OldName) → context_count (cond b (proto_in_brackets old.span) (key_of old)) r ≡ 0
+key-none-by true r old = brackets-none r old.span
+key-none-by false r old = key-none r old
+
+property-key-none : (r : Role) (old : OldName) → context_count (property_key old) r ≡ 0
+property-key-none r old = key-none-by (bytes_eq old.text proto) r old
+
 names-count : (role_of : ℕ → Role) (old : OldName) (cs : List Node) → AbsentTakesNone cs → SecondAbsent cs → counted role_of 0 (map context_count (two_names old cs)) ≡ counted role_of 0 (map context_count cs)
 names-count role_of old [] none second = refl
 names-count role_of old (a ∷ []) none second = refl
@@ -89,10 +102,11 @@ by-count : (r : Role) (old : OldName) (span : Span) (k : Kind) (cs : List Node) 
 unfolding opens_by role_by
 by-count r old span (kind.Ident s c o) cs none second =
     let idn : Node = node_of span (kind.Ident s c o) cs in
-    let all : context_count (node_of span kind.KeyValueProp (key_of old ∷ idn ∷ [])) r ≡ 0 + (context_count (key_of old) role.Plain + (context_count idn role.Plain + 0)) = count-of r span kind.KeyValueProp (key_of old ∷ idn ∷ []) in
-    let key = key-none role.Plain old in
+    let all : context_count (node_of span kind.KeyValueProp (property_key old ∷ idn ∷ [])) r ≡ 0 + (context_count (property_key old) role.Plain + (context_count idn role.Plain + 0)) =
+    count-of r span kind.KeyValueProp (property_key old ∷ idn ∷ []) in
+    let key = property-key-none role.Plain old in
     let own : context_count idn role.Plain ≡ 0 + counted (λ i. role.Plain) 0 (map context_count cs) = count-of role.Plain span (kind.Ident s c o) cs in
-    let whole : context_count (node_of span kind.KeyValueProp (key_of old ∷ idn ∷ [])) r ≡ 0 + counted (λ i. role.Plain) 0 (map context_count cs) = omega arith in
+    let whole : context_count (node_of span kind.KeyValueProp (property_key old ∷ idn ∷ [])) r ≡ 0 + counted (λ i. role.Plain) 0 (map context_count cs) = omega arith in
     whole
 by-count r old span (kind.ImportNamedSpecifier t) cs none second =
     count-of r span (kind.ImportNamedSpecifier t) (two_names old cs)
@@ -158,6 +172,21 @@ module _ (unresolved top : ℕ) where
   unfolding opens_by
   key-resolved old place left = closed-of old.span (kind.IdentName old.text) [] place left refl
 
+  brackets-resolved : (span : Span) (place : Place) (left : ℕ) → resolved_at unresolved top (proto_in_brackets span) place left ≡ proto_in_brackets span
+  unfolding opens_by role_by
+  brackets-resolved span place left =
+      let plain : Place = record { role = role.Plain; scopes = place.scopes } in
+      closed-of span kind.ComputedPropName (node_of span proto_literal [] ∷ []) place left refl
+      ∙ ap (λ (z : Node). node_of span kind.ComputedPropName (z ∷ [])) (closed-of span proto_literal [] plain left refl)
+
+  key-resolved-by : (b : Bool) (old : OldName) (place : Place) (left : ℕ)
+      → resolved_at unresolved top (cond b (proto_in_brackets old.span) (key_of old)) place left ≡ cond b (proto_in_brackets old.span) (key_of old)
+  key-resolved-by true old place left = brackets-resolved old.span place left
+  key-resolved-by false old place left = key-resolved old place left
+
+  property-key-resolved : (old : OldName) (place : Place) (left : ℕ) → resolved_at unresolved top (property_key old) place left ≡ property_key old
+  property-key-resolved old place left = key-resolved-by (bytes_eq old.text proto) old place left
+
   name-by : (old : OldName) (place : Place) (left : ℕ) (named : Bool) → named ≡ true
       → ◌≡◌ {A = Node} (node_of old.span (kind.Ident old.text (cond named 0 (context_in unresolved place.scopes old.text unresolved)) false) []) (name_of old)
   name-by old place left named is = ap (λ (b : Bool). node_of old.span (kind.Ident old.text (cond b 0 (context_in unresolved place.scopes old.text unresolved)) false) []) is
@@ -218,9 +247,9 @@ module _ (unresolved top : ℕ) where
   by-resolved place old span (kind.Ident s c o) cs left other =
       let plain : Place = record { role = role.Plain; scopes = place.scopes } in
       let idn : Node = node_of span (kind.Ident s c o) cs in
-      let less : left - context_count (key_of old) role.Plain ≡ left = ap (λ (n : ℕ). left - n) (key-none role.Plain old) ∙ none-less left in
-      closed-of span kind.KeyValueProp (key_of old ∷ idn ∷ []) place left refl
-      ∙ ap₂ (λ (y z : Node). node_of span kind.KeyValueProp (y ∷ z ∷ [])) (key-resolved old plain left)
+      let less : left - context_count (property_key old) role.Plain ≡ left = ap (λ (n : ℕ). left - n) (property-key-none role.Plain old) ∙ none-less left in
+      closed-of span kind.KeyValueProp (property_key old ∷ idn ∷ []) place left refl
+      ∙ ap₂ (λ (y z : Node). node_of span kind.KeyValueProp (y ∷ z ∷ [])) (property-key-resolved old plain left)
       (ap (resolved_at unresolved top idn plain) less
       ∙ closed-of span (kind.Ident s c o) cs plain left refl
       ∙ ap₂ (λ (b : Bool) (zs : List Node). node_of span (kind.Ident s (cond b c (context_in unresolved place.scopes s unresolved)) o) zs) (sym (other refl)) (sym (below-closed place span (kind.Ident s c o) cs left refl)))

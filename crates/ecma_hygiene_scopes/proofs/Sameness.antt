@@ -8,7 +8,7 @@ use Rattle.ecma_tree.specs.declared.node.Node.TheViews.{out-roll-Node, roll-out-
 use Rattle.ecma_tree.specs.Contexts.{kind_with_context, with_contexts}
 use Rattle.ecma_tree.specs.Nodes.{node_of}
 use Rattle.ecma_tree.proofs.Changing.{changed-parts}
-use Rattle.ecma_tree.specs.Values.{is_value}
+use Rattle.ecma_tree.specs.Values.{is_value_where}
 use Rattle.ecma_tree.proofs.Layers.{from_leaves_out}
 use Rattle.ecma_scope.specs.declared.role.Role.{Role}
 use Rattle.ecma_scope.specs.declared.role.Role.TheVariants as role
@@ -98,8 +98,8 @@ plainly = record { role = role.Plain; spot = spot.Elsewhere }
 abbrev empty : List ℕ → ℕ → ℕ
 empty text ctxt = 0
 
-bare-value : (n : Node) → is_value (without_contexts n) ≡ is_value n
-bare-value n = ap (λ (z : Node). is_value (without_contexts z)) (sym (stays n plainly)) ∙ value-again empty no_text (λ text. refl) n plainly
+bare-value : (s : Bool) (n : Node) → is_value_where s (without_contexts n) ≡ is_value_where s n
+bare-value s n = ap (λ (z : Node). is_value_where s (without_contexts z)) (sym (stays n plainly)) ∙ value-again empty no_text (λ text. refl) n s plainly
 
 bare-opens : (r : Role) (n : Node) → opens r (without_contexts n) ≡ opens r n
 bare-opens r n = ap (λ (z : Node). opens r (without_contexts z)) (sym (stays n plainly)) ∙ opens-again empty no_text (λ text. refl) n plainly r
@@ -145,8 +145,8 @@ module _ (unresolved top : ℕ) where
   kept = ind-Node Kept (λ x y is.
       layer-kept (roll-Node x) (subst AllKept (ap (λ (z : Node-F Node). z.children) is ∙ sym (ap (λ (z : Node-F Node). z.children) (out-roll-Node x))) (all-kept y.children)))
 
-  pub value-resolved : (m : Node) (place : Place) (left : ℕ) → is_value (res m place left) ≡ is_value m
-  value-resolved m place left = sym (bare-value (res m place left)) ∙ ap is_value (kept m place left) ∙ bare-value m
+  pub value-resolved : (s : Bool) (m : Node) (place : Place) (left : ℕ) → is_value_where s (res m place left) ≡ is_value_where s m
+  value-resolved s m place left = sym (bare-value s (res m place left)) ∙ ap (is_value_where s) (kept m place left) ∙ bare-value s m
 
   pub opens-resolved : (m : Node) (place : Place) (left : ℕ) (r : Role) → opens r (res m place left) ≡ opens r m
   opens-resolved m place left r = sym (bare-opens r (res m place left)) ∙ ap (opens r) (kept m place left) ∙ bare-opens r m
@@ -189,8 +189,8 @@ module _ (unresolved top : ℕ) where
   pub sought-resolved : (m : Node) (place : Place) (left : ℕ) (q : Sought) (i : ℕ) → sought_in q (res m place left) i ≡ sought_in q m i
   unfolding sought_in
   sought-resolved m place left q i =
-      ap (λ (b : Bool). sought_by q.part q.stays b (out-Node (res m place left)).kind i) (value-resolved m place left)
-      ∙ kind-resolved (λ (k : Kind). sought_by q.part q.stays (is_value m) k i) (λ s t c d o. ident-seeks (λ text ctxt. 0) no_text q.part q.stays (is_value m) i s c o ∙ sym (ident-seeks (λ text ctxt. 0) no_text q.part q.stays (is_value m) i t d o)) m place left
+      ap (λ (b : Bool). sought_by q.part q.stays b (out-Node (res m place left)).kind i) (value-resolved q.stays m place left)
+      ∙ kind-resolved (λ (k : Kind). sought_by q.part q.stays (is_value_where q.stays m) k i) (λ s t c d o. ident-seeks (λ text ctxt. 0) no_text q.part q.stays (is_value_where q.stays m) i s c o ∙ sym (ident-seeks (λ text ctxt. 0) no_text q.part q.stays (is_value_where q.stays m) i t d o)) m place left
 
   -- and takes as many contexts
   abbrev Counts : Node → Type 0

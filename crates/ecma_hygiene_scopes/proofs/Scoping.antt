@@ -17,7 +17,7 @@ use Rattle.ecma_scope.specs.Resolved.{is_name}
 use Rattle.ecma_scope.specs.Scopes.{is_ambient, is_there, opens, opens_by}
 use Rattle.ecma_hygiene.specs.declared.spot.Standing.{Standing}
 use Rattle.ecma_hygiene.specs.Ids.{is_name_part}
-use Rattle.ecma_hygiene.specs.Renamed.{Texts, key_of, kind_is_absent, standing_in, two_names, with_default}
+use Rattle.ecma_hygiene.specs.Renamed.{Texts, key_of, kind_is_absent, property_key, standing_in, two_names, with_default}
 use Rattle.ecma_hygiene.proofs.Telling.{true-false}
 use Rattle.ecma_hygiene_scopes.specs.DeclaredIds.{DeclaredId, ids_declared, scope_ids, with_text}
 use Rattle.ecma_hygiene_scopes.specs.Laws.{ScopesDeclareFinalTexts}
@@ -40,7 +40,7 @@ module _ {A : Type 0} (f : Kind → A) where
   pub grown-kind : (o : Option OldName) (span : Span) (k : Kind) (cs : List Node) → ((s : List ℕ) (c : ℕ) (b : Bool) → f kind.KeyValueProp ≡ f (kind.Ident s c b)) → f kind.KeyValuePatProp ≡ f kind.AssignPatProp
       → f (out-Node (grown o span k cs)).kind ≡ f k
   grown-kind None span k cs names patterns = ap f (kind-of span k cs)
-  grown-kind (Some old) span (kind.Ident s c b) cs names patterns = ap f (kind-of span kind.KeyValueProp (key_of old ∷ node_of span (kind.Ident s c b) cs ∷ [])) ∙ names s c b
+  grown-kind (Some old) span (kind.Ident s c b) cs names patterns = ap f (kind-of span kind.KeyValueProp (property_key old ∷ node_of span (kind.Ident s c b) cs ∷ [])) ∙ names s c b
   grown-kind (Some old) span (kind.ImportNamedSpecifier t) cs names patterns = ap f (kind-of span (kind.ImportNamedSpecifier t) (two_names old cs))
   grown-kind (Some old) span (kind.ExportNamedSpecifier t) cs names patterns = ap f (kind-of span (kind.ExportNamedSpecifier t) (two_names old cs))
   grown-kind (Some old) span kind.AssignPatProp cs names patterns = grown-pattern-kind old span cs patterns
@@ -59,7 +59,7 @@ pattern-opens r old span (a ∷ b ∷ c ∷ cs) = opens-of r span kind.AssignPat
 pub grown-opens : (r : Role) (o : Option OldName) (span : Span) (k : Kind) (cs : List Node) → opens r (grown o span k cs) ≡ opens_by r k (is_there cs 0)
 unfolding opens_by
 grown-opens r None span k cs = opens-of r span k cs
-grown-opens r (Some old) span (kind.Ident s c b) cs = opens-of r span kind.KeyValueProp (key_of old ∷ node_of span (kind.Ident s c b) cs ∷ [])
+grown-opens r (Some old) span (kind.Ident s c b) cs = opens-of r span kind.KeyValueProp (property_key old ∷ node_of span (kind.Ident s c b) cs ∷ [])
 grown-opens r (Some old) span (kind.ImportNamedSpecifier t) cs = opens-of r span (kind.ImportNamedSpecifier t) (two_names old cs)
 grown-opens r (Some old) span (kind.ExportNamedSpecifier t) cs = opens-of r span (kind.ExportNamedSpecifier t) (two_names old cs)
 grown-opens r (Some old) span kind.AssignPatProp cs = pattern-opens r old span cs

@@ -7,7 +7,7 @@ use Rattle.ecma_kind.specs.declared.kind.Kind.{Kind}
 use Rattle.ecma_kind.specs.declared.kind.Kind.TheVariants as kind
 use Rattle.ecma_tree.specs.declared.node.Node.{Node, Node-F, ind-Node, out-Node, roll-Node}
 use Rattle.ecma_tree.specs.declared.node.Node.TheViews.{out-roll-Node}
-use Rattle.ecma_tree.specs.Values.{is_value}
+use Rattle.ecma_tree.specs.Values.{is_value_where}
 use Rattle.ecma_tree.proofs.Layers.{from_leaves_out}
 use Rattle.ecma_scope.specs.declared.form.Declaration.{Declaration}
 use Rattle.ecma_scope.specs.declared.form.Form.{Form}
@@ -195,8 +195,8 @@ module _ (m : Node) (r : Role) (i : ℕ) (has : HasBody r (out-Node m).kind i) w
 
   own-stays : (q : Role) → All Stays (declarations m (scope_of_part (own_part q)))
   unfolding sought_in
-  own-stays role.Default = part-stays part.Item (λ j q is. absurd (none-some q (sym (has.items (is_value m) j) ∙ is))) (has.leaf part.Item true)
-  own-stays _ = part-stays part.Scope (λ j q is. has.seeks (is_value m) j q is) (has.leaf part.Scope true)
+  own-stays role.Default = part-stays part.Item (λ j q is. absurd (none-some q (sym (has.items (is_value_where true m) j) ∙ is))) (has.leaf part.Item true)
+  own-stays _ = part-stays part.Scope (λ j q is. has.seeks (is_value_where true m) j q is) (has.leaf part.Scope true)
 
   all-stays : is_ambient r ≡ false → All Stays (all_names r m)
   all-stays calm =

@@ -19,13 +19,12 @@ use Rattle.ecma_tree.proofs.ShapeLaws.{node_has_shape}
 use Rattle.ecma_scope.specs.declared.role.Role.{Role}
 use Rattle.ecma_scope.specs.declared.role.Role.TheVariants as role
 use Rattle.ecma_scope.specs.Scopes.{at_child, is_ambient, is_there, of_exports, of_specifier, opens, opens_by, passes_ambient, passes_in_list, role_by, role_in}
-use Rattle.ecma_hygiene.specs.Ids.{is_block}
 use Rattle.ecma_hygiene.specs.Renamed.{kind_is_absent}
 use Rattle.ecma_hygiene.specs.Walks.{gathered_from}
 use Rattle.ecma_hygiene.proofs.Telling.{and-left, and-right, true-false}
 use Rattle.ecma_hygiene.proofs.Walking.{gathered-out}
 use Rattle.ecma_hygiene_scopes.specs.Seats.{Seat, seat_here, seats_at}
-use Rattle.ecma_hygiene_scopes.proofs.Goodness.{Caught, Nested, is_body_kind, is_class_expr, is_module_kind}
+use Rattle.ecma_hygiene_scopes.proofs.Goodness.{Nested, is_body_kind, is_class_expr, is_module_kind}
 use Rattle.ecma_hygiene_scopes.proofs.Ways.{next_var}
 
 -- ---- sorts of which no module is
@@ -367,7 +366,6 @@ not-ambient _ shape k sourced i fits h is = refl
 
 pub record Shaped (seat : Seat) : Type 0 where
   pub absent : kind_is_absent seat.node ≡ true → (out-Node seat.node).children ≡ []
-  pub caught : (out-Node seat.node).kind ≡ kind.CatchClause → Caught (out-Node seat.node).children
   pub default : seat.role ≡ role.Default → opens seat.role seat.node ≡ true → is_class_expr (out-Node seat.node).kind ≡ true
   pub body : seat.role ≡ role.Body → opens seat.role seat.node ≡ true → is_body_kind (out-Node seat.node).kind ≡ true
   pub nested : is_some (next_var (out-Node seat.node).kind) ≡ true → Nested (out-Node seat.node).children
@@ -380,19 +378,6 @@ absent-none : (k : Kind) (shape : Shape) (n : ℕ) (cs : List Node) → is_absen
 absent-none kind.Absent shape n [] h have = refl
 absent-none kind.Absent shape n (c ∷ cs) h have = absurd have
 absent-none _ shape n cs h have = absurd (true-false h refl)
-
-is-block : (k : Kind) → belongs sort.BlockStmt k ≡ true → is_block k ≡ true
-is-block kind.BlockStmt h = refl
-is-block _ h = absurd (true-false h refl)
-
-caught-by : (k : Kind) (shape : Shape) (n : ℕ) (cs : List Node) → k ≡ kind.CatchClause → HaveShapes (child_shapes k shape n) cs → Caught cs
-caught-by k shape n cs is have = by cs (subst (λ (z : Kind). HaveShapes (child_shapes z shape n) cs) is have)
-  where
-    by : (cs : List Node) → HaveShapes (child_shapes kind.CatchClause shape n) cs → Caught cs
-    by [] have = absurd have
-    by (a ∷ []) have = absurd have.1
-    by (a ∷ b ∷ []) have = is-block (out-Node b).kind (parts-have b (one sort.BlockStmt) have.1.0).0
-    by (a ∷ b ∷ c ∷ cs) have = absurd have.1.1
 
 nested-by : (shapes : List Shape) (cs : List Node) → list_all tame_here shapes ≡ true → HaveShapes shapes cs → Nested cs
 nested-by [] [] t have = tt
@@ -408,7 +393,6 @@ shaped-here m r shape has list fits =
     let n : ℕ = length (out-Node m).children in
     record {
       absent = λ gone. absent-none k shape n (out-Node m).children gone parts.1;
-      caught = λ is. caught-by k shape n (out-Node m).children is parts.1;
       default = λ is opened. default-kind k (is_there (out-Node m).children 0) (default-allows shape.count shape.sort k (subst (λ (q : Role). RoleShape q shape) is fits) parts.0) (subst (λ (q : Role). opens q m ≡ true) is opened);
       body = λ is opened. body-kind k (is_there (out-Node m).children 0) (body-allows shape.count shape.sort k (subst (λ (q : Role). RoleShape q shape) is fits) parts.0) (subst (λ (q : Role). opens q m ≡ true) is opened);
       nested = λ var. nested-by (child_shapes k shape n) (out-Node m).children (var-tame k shape n var list) parts.1;

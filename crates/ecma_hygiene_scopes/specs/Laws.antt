@@ -14,7 +14,7 @@ use Rattle.ecma_hygiene.specs.Texts.{HygienicTexts, text_in}
 use Rattle.ecma_hygiene.specs.Hygienic.{IsHygienic}
 use Rattle.ecma_hygiene_scopes.specs.Stops.{IsRight, stops}
 use Rattle.ecma_hygiene_scopes.specs.Apart.{TellsScopesApart, IsMap}
-use Rattle.ecma_hygiene_scopes.specs.PlainModules.{IsPlainModule}
+use Rattle.ecma_hygiene_scopes.specs.StayingModules.{IsStayingModule}
 use Rattle.ecma_hygiene_scopes.specs.FinalTexts.{DeclaresFinalTexts}
 use Rattle.ecma_hygiene_scopes.specs.ApartTexts.{StayApart}
 use Rattle.ecma_hygiene_scopes.specs.Lasting.{KeepsScopesApart, IsCheckedModule}
@@ -41,16 +41,16 @@ IdsStayApart = (tree : Node) (names : List Named) → HygienicTexts tree names �
 
 -- the ids of a plain module, once it is resolved, say which scopes declare its names
 abbrev pub ResolvedIsRight : Type 0
-ResolvedIsRight = (unresolved top left : ℕ) (source : Node) → IsPlainModule source → All (IsRight unresolved top (λ ctxt. ctxt)) (stops left (resolved unresolved top left source))
+ResolvedIsRight = (unresolved top left : ℕ) (source : Node) → IsStayingModule source → All (IsRight unresolved top (λ ctxt. ctxt)) (stops left (resolved unresolved top left source))
 
 -- so with its final texts, read again and resolved with the same contexts, it is the same tree
 abbrev pub ResolvedIsReadAgain : Type 0
-ResolvedIsReadAgain = (unresolved top left : ℕ) (source written : Node) → IsPlainModule source → IsHygienic (resolved unresolved top left source) written
+ResolvedIsReadAgain = (unresolved top left : ℕ) (source written : Node) → IsStayingModule source → IsHygienic (resolved unresolved top left source) written
     → resolved unresolved top left (without_contexts written) ≡ written
 
 -- and its ids say what its texts name
 abbrev pub ResolvedFollowsItsTexts : Type 0
-ResolvedFollowsItsTexts = (unresolved top left : ℕ) (source written : Node) → IsPlainModule source → IsHygienic (resolved unresolved top left source) written
+ResolvedFollowsItsTexts = (unresolved top left : ℕ) (source written : Node) → IsStayingModule source → IsHygienic (resolved unresolved top left source) written
     → left < unresolved → left < top → unresolved ≢ top → contexts source ≤ left → FollowBindings unresolved written (without_contexts written)
 
 -- once a module is resolved in which declarations may go, its scopes are kept apart, where there were contexts enough
@@ -70,5 +70,5 @@ TextsNameWhatIdsDo = (free left : ℕ) (tree : Node) (names : List Named) → Hy
 
 -- the contexts of a resolved plain module tell its scopes apart, where there were contexts enough
 abbrev pub ResolvedTellsScopesApart : Type 0
-ResolvedTellsScopesApart = (unresolved top left : ℕ) (source : Node) → IsPlainModule source → left < unresolved → left < top → unresolved ≢ top → contexts source ≤ left
+ResolvedTellsScopesApart = (unresolved top left : ℕ) (source : Node) → IsStayingModule source → left < unresolved → left < top → unresolved ≢ top → contexts source ≤ left
     → TellsScopesApart unresolved left (resolved unresolved top left source)

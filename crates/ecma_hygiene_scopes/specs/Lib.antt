@@ -5,5 +5,5 @@ pub mod Apart
 pub mod Lasting
 pub mod ApartTexts
 pub mod FinalTexts
-pub mod PlainModules
+pub mod StayingModules
 pub mod Laws

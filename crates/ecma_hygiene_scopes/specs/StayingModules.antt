@@ -8,7 +8,7 @@ use Rattle.ecma_scope.specs.Laws.{without_contexts}
 use Rattle.ecma_hygiene_scopes.specs.Seats.{NothingGoes}
 
 -- a module as it is read, with the empty context for each identifier, in which no name is declared again where it may not be, and no declaration goes
-pub record IsPlainModule (source : Node) : Type 0 where
+pub record IsStayingModule (source : Node) : Type 0 where
   pub sorted : HasSort sort.Module source
   pub bare : without_contexts source ≡ source
   pub clear : redeclared source ≡ []

@@ -1,0 +1,18 @@
+//! Names that share a text may become one name: over the definitions of `ecma_hygiene`, `ecma_scope` and `ecma_runs`.
+//!
+//! Each function carries one law, and does nothing. The laws are stated in `specs/Laws.antt`.
+#![tactic(auto)]
+
+ghost use Rattle.ecma_hygiene_meeting.specs.Laws.{FinalTextsMayMeet, WhatIsNotCapturedMayMeet};
+
+/// In a module in which each scope for which the evaluator makes a record is that record, texts by which nothing is captured, with one map of contexts that
+/// keeps free names apart, are a map under which names may meet: scopes may share contexts, as those of a parameter and of the variable outside do that an
+/// enum is written with.
+pub fn what_is_not_captured_may_meet()
+    ensures { WhatIsNotCapturedMayMeet }
+{}
+
+/// So are the final texts of such a module.
+pub fn final_texts_may_meet()
+    ensures { FinalTextsMayMeet }
+{}
