@@ -14,8 +14,8 @@ use Rattle.ecma_tree.specs.Nodes.{absent, dummy_span, node_of}
 use Rattle.ecma_tree.specs.Sorted.{allows_by, is_absent, is_list}
 use Rattle.ecma_tree.specs.declared.node.Node.{Node, Node-F, fold-roll-Node, out-Node}
 use Rattle.ecma_tree.specs.declared.node.Node.TheViews.{out-roll-Node}
-use Rattle.ecma_tree.specs.Values.{is_value, value_by, value_step}
-use Rattle.ecma_tree.proofs.Valuing.{is_value-out}
+use Rattle.ecma_tree.specs.Values.{is_value, is_value_where, value_by, values_in}
+use Rattle.ecma_tree.proofs.Valuing.{is_value-out, is_value-roll}
 use Rattle.ecma_strip.specs.Laws.{is_item_sort, is_type_part}
 use Rattle.ecma_strip.specs.Staying.{if_there, is_declared, is_empty_stmt, is_export, is_this_param, item_stays, member_stays, member_stays_by, specifier_stays, stays}
 use Rattle.ecma_strip.specs.Stripping.{body_of, plain, plain_children, plain_kind, staying_nodes, stripped}
@@ -217,7 +217,7 @@ stays_by k cs v =
     cond (is_empty_stmt k) true (cond (belongs sort.ModuleItem k) (v && not (cond (is_export k) (if_there (slice_get cs 0) (λ x. is_declared (out-Node x).kind)) (is_declared k))) true)
 
 -- what stays in a list is no such node
-sound-by : (k : Kind) (cs : List Node) (n : Node) → stays_by k cs (value_by k (map is_value cs)) ≡ true → member_stays_by k n ≡ true → specifier_stays k ≡ true → unsound_by k cs ≡ false
+sound-by : (k : Kind) (cs : List Node) (n : Node) → stays_by k cs (value_by k (values_in true k cs)) ≡ true → member_stays_by k n ≡ true → specifier_stays k ≡ true → unsound_by k cs ≡ false
 unfolding value_by is_declared member_stays_by specifier_stays
 sound-by (kind.TsInterfaceDecl d) cs n item member specifier = cc
 sound-by (kind.TsTypeAliasDecl d) cs n item member specifier = cc
@@ -235,22 +235,22 @@ sound-by (kind.ImportNamedSpecifier true) cs n item member specifier = cc
 sound-by (kind.ImportNamedSpecifier false) cs n item member specifier = refl
 sound-by (kind.ExportNamedSpecifier true) cs n item member specifier = cc
 sound-by (kind.ExportNamedSpecifier false) cs n item member specifier = refl
-sound-by (kind.FnDecl true) cs n item member specifier = let no : false ≡ true = (both (get_or (map is_value cs) 1 false) false item).1 in cc
+sound-by (kind.FnDecl true) cs n item member specifier = let no : false ≡ true = (both (get_or (map (is_value_where false) cs) 1 false) false item).1 in cc
 sound-by (kind.FnDecl false) cs n item member specifier = refl
 sound-by (kind.ClassDecl true) cs n item member specifier = cc
 sound-by (kind.ClassDecl false) cs n item member specifier = refl
 sound-by (kind.TsEnumDecl true c) cs n item member specifier = cc
 sound-by (kind.TsEnumDecl false c) cs n item member specifier = refl
-sound-by (kind.TsModuleDecl true g) cs n item member specifier = let no : false ≡ true = (both (get_or (map is_value cs) 1 false) false item).1 in cc
+sound-by (kind.TsModuleDecl true g) cs n item member specifier = let no : false ≡ true = (both (get_or (map (is_value_where false) cs) 1 false) false item).1 in cc
 sound-by (kind.TsModuleDecl false g) cs n item member specifier = refl
 sound-by kind.ExportDecl [] n item member specifier = refl
 sound-by kind.ExportDecl (d ∷ ds) n item member specifier =
     let parts = both (is_value d) (not (is_declared (out-Node d).kind)) item in
-    value-item (out-Node d).kind (is_value d) (map is_value (out-Node d).children) (is_value-out d) parts.0 (not-false (is_declared (out-Node d).kind) parts.1)
+    value-item (out-Node d).kind (is_value d) (values_in true (out-Node d).kind (out-Node d).children) (is_value-out d) parts.0 (not-false (is_declared (out-Node d).kind) parts.1)
 sound-by kind.ExportDefaultDecl [] n item member specifier = refl
 sound-by kind.ExportDefaultDecl (d ∷ ds) n item member specifier =
     let parts = both (is_value d) true item in
-    interface-value (out-Node d).kind (is_value d) (map is_value (out-Node d).children) (is_value-out d) parts.0
+    interface-value (out-Node d).kind (is_value d) (values_in true (out-Node d).kind (out-Node d).children) (is_value-out d) parts.0
 sound-by _ cs n item member specifier = refl
 
 pub stays-sound : (n : Node) → stays n ≡ true → unsound n ≡ false
@@ -261,10 +261,10 @@ stays-sound n h =
     let third = both (item_stays n) (member_stays n) second.0 in
     sound-by (out-Node n).kind (out-Node n).children n (subst (λ v. stays_by (out-Node n).kind (out-Node n).children v ≡ true) (is_value-out n) third.0) third.1 second.1
 
-item_stays-roll : (span : Span) (k : Kind) (cs : List Node) → item_stays (node_of span k cs) ≡ stays_by k cs (value_by k (map is_value cs))
+item_stays-roll : (span : Span) (k : Kind) (cs : List Node) → item_stays (node_of span k cs) ≡ stays_by k cs (value_by k (values_in true k cs))
 item_stays-roll span k cs =
     let parts : Node-F Node = record { span = span; kind = k; children = cs } in
-    ap₂ (λ (z : Node-F Node) (v : Bool). stays_by z.kind z.children v) (out-roll-Node parts) (fold-roll-Node Bool value_step parts)
+    ap₂ (λ (z : Node-F Node) (v : Bool). stays_by z.kind z.children v) (out-roll-Node parts) (is_value-roll span k cs)
 
 pub empty-clean : (span : Span) → Clean (node_of span kind.EmptyStmt [])
 unfolding is_type_part
@@ -293,13 +293,13 @@ body-by : (span : Span) (k : Kind) (cs children : List Node) → (is_absent k ||
 unfolding plain plain_kind plain_children value_by is_declared
 body-by span (kind.TsInterfaceDecl d) cs children allowed h = gone (node_of span (kind.TsInterfaceDecl d) cs) (item_stays-roll span (kind.TsInterfaceDecl d) cs)
 body-by span (kind.TsTypeAliasDecl d) cs children allowed h = gone (node_of span (kind.TsTypeAliasDecl d) cs) (item_stays-roll span (kind.TsTypeAliasDecl d) cs)
-body-by span (kind.FnDecl true) cs children allowed h = gone (node_of span (kind.FnDecl true) cs) (item_stays-roll span (kind.FnDecl true) cs ∙ and-false (get_or (map is_value cs) 1 false))
+body-by span (kind.FnDecl true) cs children allowed h = gone (node_of span (kind.FnDecl true) cs) (item_stays-roll span (kind.FnDecl true) cs ∙ and-false (get_or (map (is_value_where false) cs) 1 false))
 body-by span (kind.FnDecl false) cs children allowed h = cc
 body-by span (kind.ClassDecl true) cs children allowed h = gone (node_of span (kind.ClassDecl true) cs) (item_stays-roll span (kind.ClassDecl true) cs)
 body-by span (kind.ClassDecl false) cs children allowed h = cc
 body-by span (kind.TsEnumDecl true c) cs children allowed h = gone (node_of span (kind.TsEnumDecl true c) cs) (item_stays-roll span (kind.TsEnumDecl true c) cs)
 body-by span (kind.TsEnumDecl false c) cs children allowed h = cc
-body-by span (kind.TsModuleDecl true g) cs children allowed h = gone (node_of span (kind.TsModuleDecl true g) cs) (item_stays-roll span (kind.TsModuleDecl true g) cs ∙ and-false (get_or (map is_value cs) 1 false))
+body-by span (kind.TsModuleDecl true g) cs children allowed h = gone (node_of span (kind.TsModuleDecl true g) cs) (item_stays-roll span (kind.TsModuleDecl true g) cs ∙ and-false (get_or (map (is_value_where false) cs) 1 false))
 body-by span (kind.TsModuleDecl false g) cs children allowed h = cc
 body-by span _ cs children allowed h = cc
 

@@ -1,4 +1,4 @@
--- Around the body of a function all that is declared stays, so what lasts of it states the same texts, but for those that go.
+-- Around the body of a function or the block of a `catch` all that is declared stays, so what lasts of it states the same texts, but for those that go.
 use Rattle.std.proofs.Common.{◌≡◌, ℕ, Bool, true, false, ◌||◌, not, cond, bytes_eq, filter, map, List, [], ◌∷◌, ◌++◌, Option, Some, None, refl, sym, ap, ◌∙◌, subst}
 use Rattle.std.specs.List.{All}
 use Rattle.std.proofs.lemmas.List.Elements.{All-append, All-head, All-nil, All-tail}
@@ -8,27 +8,22 @@ use Rattle.ecma_kind.specs.declared.kind.Kind.TheVariants as kind
 use Rattle.ecma_tree.specs.declared.node.Node.{Node, out-Node}
 use Rattle.ecma_tree.specs.Values.{is_value}
 use Rattle.ecma_scope.specs.declared.form.Declaration.{Declaration}
-use Rattle.ecma_scope.specs.declared.form.Form.TheVariants as form
+use Rattle.ecma_scope.specs.declared.form.Form.{Form}
 use Rattle.ecma_scope.specs.declared.form.Part.TheVariants as part
 use Rattle.ecma_scope.specs.declared.form.Sought.{Sought}
 use Rattle.ecma_scope.specs.declared.role.Role.{Role}
 use Rattle.ecma_scope.specs.declared.role.Role.TheVariants as role
-use Rattle.ecma_scope.specs.Conflicts.{is_function_body}
 use Rattle.ecma_scope.specs.Declarations.{declares, holds_vars, is_own, is_stated, keeps, names, own_part, sought_in, stated}
 use Rattle.ecma_scope.specs.Scopes.{is_ambient}
 use Rattle.ecma_hygiene.proofs.Telling.{and-both, true-false}
 use Rattle.ecma_hygiene_scopes.specs.DeclaredIds.{id_here, ids_declared, scope_ids}
 use Rattle.ecma_hygiene_scopes.proofs.Passing.{map-all}
-use Rattle.ecma_hygiene_scopes.proofs.Settling.{HasBody}
 use Rattle.ecma_strip_scopes.proofs.ScopesSame.{goes}
 use Rattle.ecma_strip_conflicts.proofs.Counted.{all-passed}
 use Rattle.ecma_strip_conflicts.proofs.Fewer.{last}
+use Rattle.ecma_strip_conflicts.proofs.HasParameters.{HasParameters}
 use Rattle.ecma_strip_conflicts.proofs.Scope.{names-ids, plainly}
 use Rattle.ecma_strip_conflicts.proofs.Unmerged.{Stays, good_at, names-stay, stays_named}
-
-pub is-body : (r : Role) → is_function_body r ≡ true → r ≡ role.Body
-is-body role.Body h = refl
-is-body _ h = absurd (true-false h refl)
 
 item-here : (s : Bool) (k : Kind) → id_here (record { part = part.Item; stays = s }) k ≡ []
 item-here s (kind.Ident t c o) = refl
@@ -38,18 +33,18 @@ scope-here : (s : Bool) (k : Kind) → id_here (record { part = part.Scope; stay
 scope-here s (kind.Ident t c o) = refl
 scope-here s _ = refl
 
-named-good : (o : Option Sought) → ((q : Sought) → o ≡ Some q → q ≡ record { part = part.Name form.Parameter; stays = true }) → good_at stays_named o ≡ true
-named-good (Some q) is = ap stays_named (is q refl)
-named-good None is = refl
+named-good : (f : Form) (o : Option Sought) → ((q : Sought) → o ≡ Some q → q ≡ record { part = part.Name f; stays = true }) → good_at stays_named o ≡ true
+named-good f (Some q) is = ap stays_named (is q refl)
+named-good f None is = refl
 
 none-good : (o : Option Sought) → o ≡ None → good_at stays_named o ≡ true
 none-good o is = ap (good_at stays_named) is
 
-module _ (n : Node) (r : Role) (i : ℕ) (has : HasBody r (out-Node n).kind i) (calm : is_ambient r ≡ false) where
+module _ (n : Node) (r : Role) (i : ℕ) (has : HasParameters r (out-Node n).kind i) (calm : is_ambient r ≡ false) where
   own-stays : (q : Role) → All Stays (ids_declared n (record { part = own_part q; stays = true }))
   unfolding sought_in
   own-stays role.Default = names-stay n (record { part = part.Item; stays = true }) (item-here true (out-Node n).kind) (λ j. none-good (sought_in (record { part = part.Item; stays = true }) n j) (has.items (is_value n) j))
-  own-stays _ = names-stay n (record { part = part.Scope; stays = true }) (scope-here true (out-Node n).kind) (λ j. named-good (sought_in (record { part = part.Scope; stays = true }) n j) (has.seeks (is_value n) j))
+  own-stays _ = names-stay n (record { part = part.Scope; stays = true }) (scope-here true (out-Node n).kind) (λ j. named-good has.declared_as (sought_in (record { part = part.Scope; stays = true }) n j) (has.seeks (is_value n) j))
 
   ids-stay : All Stays (scope_ids r n)
   ids-stay =

@@ -8,7 +8,7 @@ use Rattle.ecma_scope.specs.declared.form.Form.{Form}
 use Rattle.ecma_scope.specs.declared.form.Form.TheVariants as form
 use Rattle.ecma_scope.specs.declared.role.Role.{Role}
 use Rattle.ecma_scope.specs.declared.role.Role.TheVariants as role
-use Rattle.ecma_scope.specs.Conflicts.{clashing, conflict, is_function_body, is_further_out, is_lexical, marked, may_be_merged, may_not_meet}
+use Rattle.ecma_scope.specs.Conflicts.{clashing, conflict, has_parameters, is_further_out, is_lexical, marked, may_be_merged, may_not_meet}
 use Rattle.ecma_scope.specs.Declarations.{declares, is_body, is_hoisted, is_own, is_stated}
 use Rattle.ecma_scope.specs.Scopes.{is_root}
 use Rattle.ecma_hygiene.proofs.Telling.{and-both, or-first, or-second, text-refl, true-false}
@@ -72,11 +72,12 @@ not-both : (a b : Bool) → not (a && b) ≡ true → b ≡ true → a ≡ false
 not-both true b own is = absurd (true-false own (ap not is))
 not-both false b own is = refl
 
--- in the body of a function a declaration with a parameter's text
-body-meets : (r : Role) (around : List ℕ → Option Bool) (z : Declaration) → is_function_body r ≡ true → is_own r around z ≡ true → is_stated (around z.sym) ≡ true → may_be_merged z.form ≡ true → is_raw z.form ≡ true
+-- in the body of a function or the block of a `catch` a declaration with a parameter's text
+body-meets : (r : Role) (around : List ℕ → Option Bool) (z : Declaration) → has_parameters r ≡ true → is_own r around z ≡ true → is_stated (around z.sym) ≡ true → may_be_merged z.form ≡ true → is_raw z.form ≡ true
     → meets_around r around z ≡ true
 body-meets role.Body around z body own is may raw =
     and-both (is_lexical role.Body z.form) (is_stated (around z.sym)) (body-lexical z.form may raw (not-both (is_hoisted z.form) (is_stated (around z.sym)) own is)) is
+body-meets role.CatchBody around z body own is may raw = and-both (is_lexical role.CatchBody z.form) (is_stated (around z.sym)) (lexical-by role.CatchBody z.form may raw refl refl) is
 body-meets _ around z body own is may raw = absurd (true-false body refl)
 
 module _ (r : Role) (around : List ℕ → Option Bool) (own passing : List Declaration) where
@@ -133,13 +134,13 @@ module _ (r : Role) (around : List ℕ → Option Bool) (own passing : List Decl
         inside plain there =
             var-meets z.found text z.is (lexical-by r z.found.form z.may z.as_declared.0 (or-right (is_root r) (is_body r) plain) (or-left (is_root r) (is_body r) plain)) passing z.as_marked.1 there
 
-        stated : (a b : Bool) → is_function_body r ≡ a → is_stated (around text) ≡ b → (a && b) ≡ true → ⊥
+        stated : (a b : Bool) → has_parameters r ≡ a → is_stated (around text) ≡ b → (a && b) ≡ true → ⊥
         stated true true body is h =
             true-false (body-meets r around z.found body z.as_declared.1 (ap (λ (t : List ℕ). is_stated (around t)) z.is ∙ is) z.may z.as_declared.0) z.as_marked.0
         stated true false body is h = true-false h refl
         stated false b body is h = true-false h refl
 
-        by : (b : Bool) → declares passing text ≡ b → (b || (is_function_body r && is_stated (around text))) ≡ true → ⊥
+        by : (b : Bool) → declares passing text ≡ b → (b || (has_parameters r && is_stated (around text))) ≡ true → ⊥
         by true there h = elim (test (is_root r || is_body r)) [
           | inl is ↦ true-false there (ap (λ (ps : List Declaration). declares ps text) (safe is))
           | inr is ↦ inside is there
@@ -148,7 +149,7 @@ module _ (r : Role) (around : List ℕ → Option Bool) (own passing : List Decl
             test : (b : Bool) → (b ≡ true) ⊎ (b ≡ false)
             test true = inl refl
             test false = inr refl
-        by false there h = stated (is_function_body r) (is_stated (around text)) refl refl h
+        by false there h = stated (has_parameters r) (is_stated (around text)) refl refl h
 
     pub loose : All Loose counted
     loose k y lt goes =

@@ -9,7 +9,7 @@ use Rattle.ecma_scope.specs.declared.form.Form.{Form}
 use Rattle.ecma_scope.specs.declared.form.Form.TheVariants as form
 use Rattle.ecma_scope.specs.declared.role.Role.{Role}
 use Rattle.ecma_scope.specs.Declarations.{is_stated}
-use Rattle.ecma_scope.specs.Conflicts.{clashes, clashing, conflict, is_function_body, is_lexical, mark, marked, may_be_merged, may_merge, merges}
+use Rattle.ecma_scope.specs.Conflicts.{clashes, clashing, conflict, has_parameters, is_lexical, mark, marked, may_be_merged, may_merge, merges}
 use Rattle.ecma_hygiene.proofs.Telling.{and-both, and-left, and-right, or-first, or-second, true-false}
 use Rattle.ecma_strip_scopes.proofs.ScopesSame.{goes}
 
@@ -120,7 +120,7 @@ module _ (t : Bool) where
 
 -- in this role, and where so much is stated around, a declaration clashes with what stands around
 abbrev pub meets_around : Role → (List ℕ → Option Bool) → Declaration → Bool
-meets_around r around d = is_function_body r && (is_lexical r d.form && is_stated (around d.sym))
+meets_around r around d = has_parameters r && (is_lexical r d.form && is_stated (around d.sym))
 
 cond-none : (b : Bool) (text : List ℕ) (rest : List (List ℕ)) → cond b (text ∷ []) [] ++ rest ≡ [] → (b ≡ false) × (rest ≡ [])
 cond-none true text rest h = absurd (never h)

@@ -5,7 +5,7 @@ pub mod Scope
 pub mod Meeting
 pub mod Paths
 pub mod Safe
-pub mod HasBody
+pub mod HasParameters
 pub mod Bodies
 pub mod Contexts
 pub mod Quiet

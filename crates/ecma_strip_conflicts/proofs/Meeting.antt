@@ -13,7 +13,7 @@ use Rattle.ecma_scope.specs.declared.form.Part.TheVariants as part
 use Rattle.ecma_scope.specs.declared.form.Sought.{Sought}
 use Rattle.ecma_scope.specs.declared.role.Role.{Role}
 use Rattle.ecma_scope.specs.declared.role.Role.TheVariants as role
-use Rattle.ecma_scope.specs.Conflicts.{clashing, is_function_body, is_further_out, is_lexical, mark, marked, meeting, merges, passing}
+use Rattle.ecma_scope.specs.Conflicts.{clashing, has_parameters, is_further_out, is_lexical, mark, marked, meeting, merges, passing}
 use Rattle.ecma_scope.specs.Declarations.{declarations, holds_vars, in_var, is_body, is_hoisted, is_own, is_stated, names, own_part, sought_in}
 use Rattle.ecma_scope.specs.Scopes.{is_ambient, is_root, opens}
 use Rattle.ecma_strip.specs.Stripping.{plain_kind}
@@ -67,7 +67,7 @@ expr-vars n s h = silent n (record { part = part.Var; stays = s }) (var-here s (
 
 -- ---- what is a scope's own
 
-own-same : (r : Role) (around around' : List ℕ → Option Bool) (d : Declaration) → (is_function_body r ≡ true → is_stated (around' d.sym) ≡ is_stated (around d.sym)) → is_own r around' d ≡ is_own r around d
+own-same : (r : Role) (around around' : List ℕ → Option Bool) (d : Declaration) → (has_parameters r ≡ true → is_stated (around' d.sym) ≡ is_stated (around d.sym)) → is_own r around' d ≡ is_own r around d
 own-same role.Body around around' d h = ap (λ (b : Bool). not (is_hoisted d.form && b)) (h refl)
 own-same _ around around' d h = refl
 
@@ -81,8 +81,9 @@ calm-own role.Plain free around' d h = refl
 calm-own role.Body free around' d h = ap (λ (b : Bool). not (b && is_stated (around' d.sym))) (unhoisted d.form h)
 calm-own _ free around' d h = absurd (true-false free refl)
 
-meets-same : (r : Role) (around around' : List ℕ → Option Bool) (d : Declaration) → (is_function_body r ≡ true → is_stated (around' d.sym) ≡ is_stated (around d.sym)) → meets_around r around' d ≡ meets_around r around d
+meets-same : (r : Role) (around around' : List ℕ → Option Bool) (d : Declaration) → (has_parameters r ≡ true → is_stated (around' d.sym) ≡ is_stated (around d.sym)) → meets_around r around' d ≡ meets_around r around d
 meets-same role.Body around around' d h = ap (λ (b : Bool). is_lexical role.Body d.form && b) (h refl)
+meets-same role.CatchBody around around' d h = ap (λ (b : Bool). is_lexical role.CatchBody d.form && b) (h refl)
 meets-same _ around around' d h = refl
 
 calm-lexical : (f : Form) → is_calm f ≡ true → is_lexical role.Body f ≡ false
@@ -115,7 +116,7 @@ own-raw _ = refl
 
 -- with `t` of the texts that are no `this`
 module _ (t : Bool) (n m : Node) (r q : Role) (around around' : List ℕ → Option Bool) (near : Near r q (out-Node n).kind) (kind_st : (out-Node m).kind ≡ plain_kind (out-Node n).kind)
-    (agrees : is_function_body q ≡ true → (text : List ℕ) → goes t text ≡ false → is_stated (around' text) ≡ is_stated (around text)) (opened : opens r n ≡ true) (calm : is_ambient r ≡ false)
+    (agrees : has_parameters q ≡ true → (text : List ℕ) → goes t text ≡ false → is_stated (around' text) ≡ is_stated (around text)) (opened : opens r n ≡ true) (calm : is_ambient r ≡ false)
     (ids : scope_ids q m ≡ lasting t (scope_ids r n)) where
   abbrev k : Kind
   k = (out-Node n).kind
@@ -137,7 +138,7 @@ module _ (t : Bool) (n m : Node) (r q : Role) (around around' : List ℕ → Opt
   own-agree : All (λ d. last t d ≡ true → is_own q around' d ≡ is_own r around d) all
   own-agree = elim near [
     | inl same ↦ λ i e lt stays. ap (λ (z : Role). is_own z around' (get_or all i e)) same
-        ∙ own-same r around around' (get_or all i e) (λ body. agrees (ap is_function_body same ∙ body) (get_or all i e).sym (last-other t (get_or all i e) stays))
+        ∙ own-same r around around' (get_or all i e) (λ body. agrees (ap has_parameters same ∙ body) (get_or all i e).sym (last-other t (get_or all i e) stays))
     | inr is ↦ λ i e lt stays. calm-own q is.1 around' (get_or all i e) (calm-all is.0 is.2 i e lt) ∙ sym (ap (λ (z : Role). is_own z around (get_or all i e)) is.0)
   ]
 
@@ -243,7 +244,7 @@ module _ (t : Bool) (n m : Node) (r q : Role) (around around' : List ℕ → Opt
       less : All Less (marked [] among ++ passed)
       less = elim near [
         | inl same ↦ λ i e lt lasts h. sym (meets-same r around around' (get_or (marked [] among ++ passed) i e)
-            (λ body. agrees (ap is_function_body same ∙ body) (get_or (marked [] among ++ passed) i e).sym (last-other t (get_or (marked [] among ++ passed) i e) lasts)))
+            (λ body. agrees (ap has_parameters same ∙ body) (get_or (marked [] among ++ passed) i e).sym (last-other t (get_or (marked [] among ++ passed) i e) lasts)))
             ∙ ap (λ (z : Role). meets_around z around' (get_or (marked [] among ++ passed) i e)) (sym same) ∙ h
         | inr is ↦ All-append Less (marked [] among) passed
             (λ i e lt lasts h. absurd (none-meets q is.1 around' (get_or (marked [] among) i e) (marked-all [] among (unlexical is.0 is.2) i e lt) h))

@@ -18,8 +18,8 @@ use Rattle.ecma_scope.specs.declared.form.Part.TheVariants as part
 use Rattle.ecma_scope.specs.declared.form.Sought.{Sought}
 use Rattle.ecma_scope.specs.declared.role.Role.{Role}
 use Rattle.ecma_scope.specs.declared.role.Role.TheVariants as role
-use Rattle.ecma_scope.specs.Declarations.{holds_vars, in_var, is_body, sought_in}
-use Rattle.ecma_scope.specs.Scopes.{is_ambient, is_catch_body, opens_by, passes_ambient, role_by}
+use Rattle.ecma_scope.specs.Declarations.{holds_vars, in_var, sought_in}
+use Rattle.ecma_scope.specs.Scopes.{is_ambient, opens_by, passes_ambient, role_by}
 use Rattle.ecma_strip.specs.Staying.{is_this_param, stays}
 use Rattle.ecma_strip.specs.Stripping.{plain_kind}
 use Rattle.ecma_hygiene.proofs.Telling.{and-both, and-left, and-right, true-false}
@@ -335,18 +335,13 @@ no-way n h = silent n var (var-here (out-Node n).kind) (λ j. none-is (in_var tr
 pub way-plain : (k : Kind) → is_way (plain_kind k) ≡ is_way k
 way-plain k = ap is_some (seeks-plain part.Var true true true k 0 (λ h. refl))
 
-body-shut : (r : Role) → is_body r ≡ true → not (is_catch_body r) ≡ true
-body-shut role.Body h = refl
-body-shut role.StaticBody h = refl
-body-shut _ h = absurd (true-false h refl)
-
 -- what holds `var` names is a scope
 pub holds-opens : (r : Role) (k : Kind) (named : Bool) → holds_vars r k ≡ true → opens_by r k named ≡ true
 unfolding holds_vars opens_by
 holds-opens r (kind.Module s) named h = refl
 holds-opens r (kind.Script s) named h = refl
 holds-opens r kind.TsModuleBlock named h = refl
-holds-opens r kind.BlockStmt named h = body-shut r h
+holds-opens r kind.BlockStmt named h = refl
 holds-opens r _ named h = absurd (true-false h refl)
 
 root-fine : Fine role.Root (one sort.Module)

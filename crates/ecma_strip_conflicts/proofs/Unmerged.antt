@@ -7,7 +7,7 @@ use Rattle.ecma_kind.specs.declared.kind.Kind.TheVariants as kind
 use Rattle.ecma_kind.specs.declared.operators.VarDeclKind.TheVariants as var_kind
 use Rattle.ecma_tree.specs.declared.node.Node.{Node, Node-F, ind-Node, out-Node, roll-Node}
 use Rattle.ecma_tree.specs.declared.node.Node.TheViews.{out-roll-Node}
-use Rattle.ecma_tree.specs.Values.{is_value}
+use Rattle.ecma_tree.specs.Values.{is_value_where}
 use Rattle.ecma_scope.specs.declared.form.Form.{Form}
 use Rattle.ecma_scope.specs.declared.form.Form.TheVariants as form
 use Rattle.ecma_scope.specs.declared.form.Part.{Part}
@@ -34,10 +34,6 @@ at : (b : Bool) (p : Part) (s : Bool) → raw_part p ≡ true → raw_at (cond b
 at true p s h = h
 at false p s h = refl
 
-either : (b : Bool) (p q : Part) (s : Bool) → raw_part p ≡ true → raw_part q ≡ true → raw_at (cond b (Some (record { part = p; stays = s })) (Some (record { part = q; stays = s }))) ≡ true
-either true p q s h k = h
-either false p q s h k = k
-
 within : (b : Bool) (o : Option Sought) → raw_at o ≡ true → raw_at (cond b o None) ≡ true
 within true o h = h
 within false o h = refl
@@ -48,7 +44,7 @@ scope-raw s v kind.SwitchStmt i = at (i == 1) part.Item s refl
 scope-raw s v kind.ForStmt i = at (i == 0) part.Item s refl
 scope-raw s v kind.ForInStmt i = at (i == 0) part.Item s refl
 scope-raw s v (kind.ForOfStmt a) i = at (i == 0) part.Item s refl
-scope-raw s v kind.CatchClause i = either (i == 0) (part.Name form.Catch) part.Scope s refl refl
+scope-raw s v kind.CatchClause i = at (i == 0) (part.Name form.Catch) s refl
 scope-raw s v (kind.Function g a) i = at (i == 0) (part.Name form.Parameter) s refl
 scope-raw s v (kind.ArrowExpr a g) i = at (i == 0) (part.Name form.Parameter) s refl
 scope-raw s v (kind.Constructor a o) i = at (i == 1) (part.Name form.Parameter) s refl
@@ -142,7 +138,7 @@ module _ (good : Sought → Bool) (P : DeclaredId → Type 0) (here : (q : Sough
   layer-good n children q h =
       subst (All P) (sym (ids-out n q))
       (All-append P (id_here q (out-Node n).kind) (ids_in (sought_in q n) 0 (map ids_declared (out-Node n).children)) (here q (out-Node n).kind h)
-      (children (sought_in q n) 0 (λ j. step q (is_value n) (out-Node n).kind j h)))
+      (children (sought_in q n) 0 (λ j. step q (is_value_where q.stays n) (out-Node n).kind j h)))
 
   is-good : (n : Node) → IsGood n
   is-good = ind-Node IsGood (λ x y is.

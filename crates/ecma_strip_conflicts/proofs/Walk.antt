@@ -16,7 +16,7 @@ use Rattle.ecma_tree.specs.declared.node.Node.TheViews.{out-roll-Node}
 use Rattle.ecma_scope.specs.declared.form.Part.TheVariants as part
 use Rattle.ecma_scope.specs.declared.role.Role.{Role}
 use Rattle.ecma_scope.specs.declared.role.Role.TheVariants as role
-use Rattle.ecma_scope.specs.Conflicts.{Surrounding, clashes_in, clashing, is_function_body, meeting, own_clashes, redeclared_at, surrounds}
+use Rattle.ecma_scope.specs.Conflicts.{Surrounding, clashes_in, clashing, has_parameters, meeting, own_clashes, redeclared_at, surrounds}
 use Rattle.ecma_scope.specs.Declarations.{holds_vars, is_stated, names, sought_in, stated}
 use Rattle.ecma_scope.specs.Resolved.{Place, resolved}
 use Rattle.ecma_scope.specs.Scopes.{covers, is_there, opens, opens_by, role_by, role_in}
@@ -29,7 +29,6 @@ use Rattle.ecma_hygiene.proofs.Telling.{true-false}
 use Rattle.ecma_hygiene_scopes.specs.DeclaredIds.{ids_declared, scope_ids}
 use Rattle.ecma_hygiene_scopes.specs.Seats.{Seat}
 use Rattle.ecma_hygiene_scopes.proofs.Parts.{children-of, kind-of, parts_of}
-use Rattle.ecma_hygiene_scopes.proofs.Settling.{HasBody}
 use Rattle.ecma_strip_scopes.specs.Apart.{IsClearSeat, IsWrapped}
 use Rattle.ecma_strip_scopes.specs.Standing.{clear_in, is_clear}
 use Rattle.ecma_strip_scopes.specs.Staying.{staying_seats}
@@ -45,9 +44,9 @@ use Rattle.ecma_strip_scopes.proofs.Standing.{list-kind}
 use Rattle.ecma_strip_scopes.proofs.StayingSeats.{staying-among, staying-first, staying-out, staying-rest, staying_below}
 use Rattle.ecma_strip_scopes.proofs.Wrapping.{module-wraps}
 use Rattle.ecma_strip_conflicts.specs.Laws.{StrippedIsNotRedeclared, StrippedModulesAreNotRedeclared}
-use Rattle.ecma_strip_conflicts.proofs.Bodies.{body-stays, is-body, states-last}
+use Rattle.ecma_strip_conflicts.proofs.Bodies.{body-stays, states-last}
 use Rattle.ecma_strip_conflicts.proofs.Fewer.{last}
-use Rattle.ecma_strip_conflicts.proofs.HasBody.{has-body}
+use Rattle.ecma_strip_conflicts.proofs.HasParameters.{HasParameters, has-parameters}
 use Rattle.ecma_strip_conflicts.proofs.Meeting.{names-last, scope-clear}
 use Rattle.ecma_strip_conflicts.proofs.Contexts.{told}
 use Rattle.ecma_strip_conflicts.proofs.Paths.{AllItems, AllPath, Next, Path, clear-inside, clear-items, clear-path, ends, ends-path, further, further-in, holds-opens, is_way, list-way, nexts, no-way, path-still, root-path, still-items, var, way-plain}
@@ -67,7 +66,7 @@ module _ (receivers : Bool) where
 
   -- in the body of a function the parameters are the same, but for those that go
   abbrev Agrees : Surrounding → Surrounding → Type 0
-  Agrees s t = is_function_body t.role ≡ true → (text : List ℕ) → goes receivers text ≡ false → is_stated (t.around text) ≡ is_stated (s.around text)
+  Agrees s t = has_parameters t.role ≡ true → (text : List ℕ) → goes receivers text ≡ false → is_stated (t.around text) ≡ is_stated (s.around text)
 
   -- a node that becomes this one without types
   abbrev Becoming : Node → Node → Type 0
@@ -247,7 +246,7 @@ module _ (receivers : Bool) where
       -- around the body of a function the same is stated, but for what goes
       body-agrees : (i : ℕ) → role_in t.role m i ≡ role_in s.role n i → covers t.role (out-Node m).kind i ≡ covers s.role k i → Agrees (surrounds s n i) (surrounds t m i)
       body-agrees i same covered body text other =
-          let body_role : HasBody s.role k i = has-body s.role k (is_there (out-Node n).children 1) i (sym same ∙ is-body (role_in t.role m i) body) in
+          let body_role : HasParameters s.role k i = has-parameters s.role k (is_there (out-Node n).children 1) i (ap has_parameters (sym same) ∙ body) in
           let is : opens s.role n ≡ true = body_role.opens (is_there (out-Node n).children 0) in
           let names_st : names t.role t.around m ≡ filter (last receivers) (names s.role s.around n) = names-last receivers n m s.role t.role s.around t.around near kind_st agrees is (here.0 is).0 (ids is) in
           (λ j. is_stated (cond (opened j && covered j) (stated (names_st j)) t.around text))
@@ -312,13 +311,13 @@ module _ (receivers : Bool) where
         let closed : opens t.role m ≡ false = list-opens t.role (out-Node m).kind (is_there (out-Node m).children 0) kind_m in
         let roles : (i j : ℕ) → role_in t.role m j ≡ role_in s.role n i = (λ i j. ap (λ (z : Kind). role_by t.role z (is_there (out-Node m).children 1) j) (kind_m ∙ sym is)
         ∙ list-role t.role k (is_there (out-Node m).children 1) (is_there (out-Node n).children 1) j i is ∙ alike.inner (is_there (out-Node n).children 1) i) in
-        let never : (i j : ℕ) → Agrees (surrounds s n i) (surrounds t m j) = (λ i j body text other. absurd (no-body i (sym (roles i j) ∙ is-body (role_in t.role m j) body))) in
+        let never : (i j : ℕ) → Agrees (surrounds s n i) (surrounds t m j) = (λ i j body text other. absurd (no-body i (ap has_parameters (sym (roles i j)) ∙ body))) in
         whole m (ap (λ (b : Bool). cond b (clashing t.role t.around [] (meeting t.role t.around m)) []) closed)
         (subst (λ (z : List Node). clashes_in (surrounds t m) 0 (map redeclared_at z) ≡ []) (sym children_st)
         (walk-items (surrounds s n) (surrounds t m) test (item_shape shape) (λ i. item-holds i) roles never ns (subst (λ (z : Kind). HaveShapes (child_shapes z shape (length (nodes ns))) (nodes ns)) is parts) 0 0 (items is) clear-inner (seats-inner true (ap is_list is))))
       where
-        no-body : (i : ℕ) → role_in s.role n i ≡ role.Body → ⊥
-        no-body i h = (let body : HasBody s.role k i = has-body s.role k (is_there (out-Node n).children 1) i h in true-false (body.opens (is_there (out-Node n).children 0)) (shut is))
+        no-body : (i : ℕ) → has_parameters (role_in s.role n i) ≡ true → ⊥
+        no-body i h = (let body : HasParameters s.role k i = has-parameters s.role k (is_there (out-Node n).children 1) i h in true-false (body.opens (is_there (out-Node n).children 0)) (shut is))
 
         item-holds : (i : ℕ) → Holds (role_in s.role n i) (item_shape shape)
         item-holds i = subst (λ (r : Role). Holds r (item_shape shape)) (list-role s.role k (is_there (out-Node n).children 1) (is_there (out-Node n).children 1) 0 i is)

@@ -15,7 +15,7 @@ use Rattle.ecma_runs.proofs.Layer.{meaning_out}
 use Rattle.ecma_strip.specs.Staying.{if_there, is_empty_stmt, is_declared, is_export, is_this, is_this_by, is_this_ident, is_this_param, is_this_param_by, item_stays, member_stays_by, specifier_stays, stays}
 use Rattle.ecma_strip_runs.specs.OnlyTypes.{does_nothing}
 use Rattle.ecma_strip_runs.proofs.Valueless.{shape_out, body_absent, function_bodiless, valueless, typed, child_valueless, body_valueless}
-use Rattle.ecma_tree.specs.Values.{is_value, value_by}
+use Rattle.ecma_tree.specs.Values.{is_value, value_by, values_in}
 use Rattle.ecma_tree.proofs.Valuing.{is_value-out}
 
 -- nodes of two shapes are two
@@ -67,7 +67,7 @@ abbrev ambient_by : Kind → List Node → Bool
 ambient_by k cs = cond (is_export k) (if_there (slice_get cs 0) (λ x. is_declared (out-Node x).kind)) (is_declared k)
 
 abbrev pub item_by : Kind → List Node → Bool
-item_by k cs = cond (is_empty_stmt k) true (cond (belongs sort.ModuleItem k) (value_by k (map is_value cs) && not (ambient_by k cs)) true)
+item_by k cs = cond (is_empty_stmt k) true (cond (belongs sort.ModuleItem k) (value_by k (values_in true k cs) && not (ambient_by k cs)) true)
 
 abbrev pub value_of : ℕ → List Node → Bool
 value_of i cs = get_or (map is_value cs) i false

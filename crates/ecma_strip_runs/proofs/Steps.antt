@@ -9,8 +9,7 @@ use Rattle.ecma_tree.specs.declared.node.Node.{Node, Node-F, ind-Node, roll-Node
 use Rattle.ecma_tree.specs.declared.node.Node.TheViews.{out-roll-Node}
 use Rattle.ecma_tree.specs.Nodes.{absent, node_of}
 use Rattle.ecma_tree.specs.Sorted.{is_list}
-use Rattle.ecma_runs.specs.State.{Id}
-use Rattle.ecma_runs.specs.Meaning.{Meaning}
+use Rattle.ecma_runs.specs.Meaning.{Known, Meaning}
 use Rattle.ecma_runs.specs.Declarations.{has_no_effect}
 use Rattle.ecma_runs.specs.Evaluation.{role_by, no_effect, meaning_by, meaning}
 use Rattle.ecma_runs.proofs.Layer.{meaning-roll, meaning_out}
@@ -18,11 +17,11 @@ use Rattle.ecma_runs.proofs.Alike.{Change}
 use Rattle.ecma_runs.proofs.Meanings.{Same}
 use Rattle.ecma_runs.proofs.Premises.{KeptLayer}
 use Rattle.ecma_runs.proofs.Lists.{Silent}
-use Rattle.ecma_runs.proofs.Steps.{step_same}
+use Rattle.ecma_runs.proofs.Steps.{plain_step}
 use Rattle.ecma_runs.proofs.Types.{alias_silent}
-use Rattle.ecma_runs.specs.Observation.{observe}
+use Rattle.ecma_runs.specs.Observation.{known_of, observe}
 use Rattle.ecma_runs.proofs.Kept.{StepsAlike, observe_unless}
-use Rattle.ecma_runs.proofs.Layers.{images_where, texts_stay, the_same, none_excused, same_kind, kept_layer}
+use Rattle.ecma_runs.proofs.Layers.{plain_starts, images_where, texts_stay, the_same, none_excused, same_kind, kept_layer}
 use Rattle.ecma_strip.specs.Staying.{is_empty_stmt, item_stays, stays}
 use Rattle.ecma_strip.specs.Stripping.{body_of, plain, plain_children, plain_kind, stripped, without_empty, without_this}
 use Rattle.ecma_strip.proofs.Stripping.{stripped-roll}
@@ -51,6 +50,8 @@ nothing_meaning n kind.TsConstAssertion ms h = absurd (cc)
 nothing_meaning n kind.TsNonNullExpr ms h = absurd (cc)
 nothing_meaning n kind.TsInstantiation ms h = absurd (cc)
 nothing_meaning n kind.TsSatisfiesExpr ms h = absurd (cc)
+nothing_meaning n kind.TsQualifiedName ms h = absurd (cc)
+nothing_meaning n (kind.TsImportEqualsDecl false false) ms h = absurd (cc)
 nothing_meaning n k ms h = cond_true (has_no_effect k ms) h (no_effect n) (role_by n k ms)
 
 does_nothing_means : (n : Node) → does_nothing n ≡ true → meaning n ≡ no_effect absent
@@ -74,9 +75,9 @@ Layer span k ns = record { span = span; kind = k; children = ns }
 setter_meaning : (n : Node) (key type other parameter body : Meaning) → meaning_by n kind.SetterProp (key ∷ type ∷ parameter ∷ body ∷ []) ≡ meaning_by n kind.SetterProp (key ∷ other ∷ parameter ∷ body ∷ [])
 setter_meaning n key type other parameter body = refl
 
-module _ (declared : List Id) where
+module _ (known : Known) where
   abbrev pub stripping : Change
-  stripping = images_where Fine stripped declared the_same
+  stripping = images_where Fine stripped known the_same
 
   abbrev Same' : Node → Node → Type 0
   Same' n n' = Same stripping (meaning n) (meaning n')
@@ -93,20 +94,20 @@ module _ (declared : List Id) where
   nodes children = map (λ child. child.0) children
 
   kept_kind : (k : Kind) (ms : List Meaning) → KeptLayer stripping k ms
-  kept_kind k ms = kept_layer Fine stripped declared the_same k ms
+  kept_kind k ms = kept_layer Fine stripped known the_same k ms
 
   absent_fine : Fine absent
   unfolding fine_by
   absent_fine = only_types_go-roll (Layer (record { lo = 0; hi = 0 }) kind.Absent [])
 
   nothing_same : Same stripping (no_effect absent) (no_effect absent)
-  nothing_same = step_same stripping absent absent_fine (kind.TsTypeAliasDecl false) [] tt
+  nothing_same = plain_step stripping refl absent absent_fine (kind.TsTypeAliasDecl false) [] tt
 
   missing : meaning absent ≡ role_by absent kind.Absent []
   missing = meaning-roll (Layer (record { lo = 0; hi = 0 }) kind.Absent [])
 
   missing_same : Same stripping (role_by absent kind.Absent []) (role_by absent kind.Absent [])
-  missing_same = step_same stripping absent absent_fine kind.Absent [] tt
+  missing_same = plain_step stripping refl absent absent_fine kind.Absent [] tt
 
   absent_same : Same' absent absent
   absent_same = subst (λ m. Same stripping m m) (sym missing) missing_same
@@ -173,8 +174,8 @@ module _ (declared : List Id) where
       let n = node_of span k ns in
       let image : meaning (stripped n) ≡ meaning_by (stripped n) k (map meaning ns') =
       rw e (meaning-roll (Layer span (plain_kind k) ns') ∙ plain_meaning (node_of span (plain_kind k) ns') k (map meaning ns') concrete) in
-      let same = layer_alike stripping n fine k alike (kept_kind k (map meaning ns)) in
-      rw (meaning-roll (Layer span k ns), image) (subst (λ k'. Same stripping (meaning_by n k (map meaning ns)) (meaning_by (stripped n) k' (map meaning ns'))) (same_kind Fine stripped declared the_same k) same)
+      let same = layer_alike stripping refl n fine k alike (kept_kind k (map meaning ns)) in
+      rw (meaning-roll (Layer span k ns), image) (subst (λ k'. Same stripping (meaning_by n k (map meaning ns)) (meaning_by (stripped n) k' (map meaning ns'))) (same_kind Fine stripped known the_same k) same)
 
   missing_step : (span : Span) (k : Kind) (children : List Child) → ((n : Node) (ms : List Meaning) → meaning_by n k ms ≡ role_by absent kind.Absent []) → stripped (node_of span k (nodes children)) ≡ absent
       → Same' (node_of span k (nodes children)) (stripped (node_of span k (nodes children)))
@@ -225,7 +226,7 @@ module _ (declared : List Id) where
       ∙ setter_meaning (node_of span kind.SetterProp ns') (meaning (stripped key.0)) (meaning (without_this (stripped receiver.0))) (meaning absent) (meaning (stripped parameter.0)) (meaning (stripped body.0))) in
       let alike : Alike stripping (key.0 ∷ absent ∷ parameter.0 ∷ body.0 ∷ []) (stripped key.0 ∷ absent ∷ stripped parameter.0 ∷ stripped body.0 ∷ []) =
       more (key.1.same first.0) (more absent_same (more (parameter.1.same second.0) (more (body.1.same second.1) none))) in
-      rw (here, image) (layer_alike stripping n fine kind.SetterProp alike (kept_kind kind.SetterProp (map meaning (key.0 ∷ absent ∷ parameter.0 ∷ body.0 ∷ []))))
+      rw (here, image) (layer_alike stripping refl n fine kind.SetterProp alike (kept_kind kind.SetterProp (map meaning (key.0 ∷ absent ∷ parameter.0 ∷ body.0 ∷ []))))
 
   step : (span : Span) (k : Kind) (children : List Child) → fine_by k (map seen (nodes children)) ≡ true → Fine (node_of span k (nodes children))
       → Same' (node_of span k (nodes children)) (stripped (node_of span k (nodes children)))
@@ -234,7 +235,7 @@ module _ (declared : List Id) where
       let e = stripped-roll (Layer span kind.List (nodes children)) in
       let n = node_of span kind.List (nodes children) in
       let ns' = map stripped (filter stays (nodes children)) in
-      rw (meaning-roll (Layer span kind.List (nodes children)), ap meaning e ∙ meaning-roll (Layer span kind.List ns')) (list_alike stripping n (node_of span kind.List ns') (lessened children h))
+      rw (meaning-roll (Layer span kind.List (nodes children)), ap meaning e ∙ meaning-roll (Layer span kind.List ns')) (list_alike stripping refl n (node_of span kind.List ns') (lessened children h))
   step span kind.TsTypeAnn children h fine = missing_step span kind.TsTypeAnn children (λ n ms. refl) (stripped-roll (Layer span kind.TsTypeAnn (nodes children)))
   step span kind.TsTypeParamDecl children h fine = missing_step span kind.TsTypeParamDecl children (λ n ms. refl) (stripped-roll (Layer span kind.TsTypeParamDecl (nodes children)))
   step span kind.TsTypeParamInstantiation children h fine = missing_step span kind.TsTypeParamInstantiation children (λ n ms. refl) (stripped-roll (Layer span kind.TsTypeParamInstantiation (nodes children)))
@@ -355,7 +356,7 @@ module _ (declared : List Id) where
           let ns' = map stripped (filter stays (nodes children)) in
           let image : without_empty (stripped n) ≡ node_of span kind.List (without_empty_ones ns') = ap without_empty e ∙ ap (λ parts. node_of parts.span parts.kind (without_empty_ones parts.children)) (out-roll-Node (Layer span kind.List ns')) in
           rw (meaning-roll (Layer span kind.List (nodes children)), ap meaning image ∙ meaning-roll (Layer span kind.List (without_empty_ones ns')))
-          (list_alike stripping n (node_of span kind.List (without_empty_ones ns')) (tidied (lessened children h)))
+          (list_alike stripping refl n (node_of span kind.List (without_empty_ones ns')) (tidied (lessened children h)))
       list_tidy span _ l h = absurd (cc)
 
       whole : (span : Span) (k : Kind) → Stripped (node_of span k (nodes children))
@@ -375,4 +376,4 @@ module _ (declared : List Id) where
 pub stripping_keeps_runs : StrippingKeepsRuns
 stripping_keeps_runs turns options m script h =
     ap (λ n. observe n options (stripped m) script) (sym (add-zero turns))
-    ∙ observe_unless (stripping (meaning m).declared) refl (steps (meaning m).declared) refl refl turns options m script h refl tt tt (none_excused _)
+    ∙ observe_unless (stripping (known_of m)) refl (steps (known_of m)) refl refl turns options m script h refl plain_starts tt tt (none_excused _)

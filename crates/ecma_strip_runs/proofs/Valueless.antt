@@ -1,5 +1,5 @@
 -- What is no value is a type alone, as runs have it.
-use Rattle.std.proofs.Common.{◌≡◌, refl, sym, ap, ◌∙◌, subst, List, [], ◌∷◌, map, Bool, true, false, ◌||◌, cond, length, replicate}
+use Rattle.std.proofs.Common.{◌≡◌, refl, sym, ap, ◌∙◌, subst, List, [], ◌∷◌, map, Bool, true, false, ◌&&◌, ◌||◌, not, cond, length, replicate}
 use Rattle.std.specs.List.{list_any}
 use Rattle.ecma_kind.specs.Sorts.{belongs}
 use Rattle.ecma_kind.specs.declared.kind.Kind.{Kind}
@@ -15,8 +15,8 @@ use Rattle.ecma_tree.specs.Laws.{HaveShapes}
 use Rattle.ecma_tree.specs.Nodes.{node_of}
 use Rattle.ecma_tree.specs.Sorted.{HasShape, allows, allows_by, child_shapes, item_shape, is_absent, one, maybe, many}
 use Rattle.ecma_tree.proofs.ShapeLaws.{node_has_shape}
-use Rattle.ecma_tree.specs.Values.{is_value, value_by}
-use Rattle.ecma_tree.proofs.Valuing.{is_value-out}
+use Rattle.ecma_tree.specs.Values.{is_value, value_by, values_in}
+use Rattle.ecma_tree.proofs.Valuing.{is_value-out, valueless_everywhere}
 use Rattle.ecma_runs.specs.Meaning.{Meaning}
 use Rattle.ecma_runs.specs.Declarations.{all_types, is_type_of, has_no_effect}
 use Rattle.ecma_runs.specs.Evaluation.{role_by, no_effect, meaning_by, meaning}
@@ -32,7 +32,7 @@ pub body_absent : (b : Node) → HasShape (maybe sort.BlockStmt) b → is_value 
 unfolding value_by
 body_absent b h v =
     ap (λ m. m.is_absent) (meaning_out b)
-    ∙ go (out-Node b).kind (map is_value (out-Node b).children) (map meaning (out-Node b).children) (shape_out (maybe sort.BlockStmt) b h).0 (sym (is_value-out b) ∙ v)
+    ∙ go (out-Node b).kind (values_in true (out-Node b).kind (out-Node b).children) (map meaning (out-Node b).children) (shape_out (maybe sort.BlockStmt) b h).0 (sym (is_value-out b) ∙ v)
   where
     go : (k : Kind) (vs : List Bool) (ms : List Meaning) → allows (maybe sort.BlockStmt) k ≡ true → value_by k vs ≡ false → (meaning_by b k ms).is_absent ≡ true
     go kind.Absent vs ms a w = refl
@@ -46,7 +46,7 @@ function_bodiless f h v =
     ap (λ m. m.has_body) (meaning_out f)
     ∙ (let s = shape_out (one sort.Function) f h in go (out-Node f).kind (out-Node f).children s.0 s.1 (sym (is_value-out f) ∙ v))
   where
-    go : (k : Kind) (cs : List Node) → allows (one sort.Function) k ≡ true → HaveShapes (child_shapes k (one sort.Function) (length cs)) cs → value_by k (map is_value cs) ≡ false → (meaning_by f k (map meaning cs)).has_body ≡ false
+    go : (k : Kind) (cs : List Node) → allows (one sort.Function) k ≡ true → HaveShapes (child_shapes k (one sort.Function) (length cs)) cs → value_by k (values_in true k cs) ≡ false → (meaning_by f k (map meaning cs)).has_body ≡ false
     go (kind.Function is_generator is_async) (parameters ∷ body ∷ types ∷ result ∷ []) a s w = rw (body_absent body s.1.0 w) refl
     go (kind.Function is_generator is_async) [] a s w = absurd s
     go (kind.Function is_generator is_async) (p ∷ []) a s w = absurd s.1
@@ -136,6 +136,8 @@ typed n kind.TsSatisfiesExpr ms h = absurd (cc)
 typed n kind.TsTypeAnn ms h = absurd (cc)
 typed n kind.TsTypeParamDecl ms h = absurd (cc)
 typed n kind.TsTypeParamInstantiation ms h = absurd (cc)
+typed n kind.TsQualifiedName ms h = absurd (cc)
+typed n (kind.TsImportEqualsDecl false false) ms h = absurd (cc)
 typed n k ms h = chosen (has_no_effect k ms) h
   where
     chosen : (b : Bool) → b || is_type_of k ms ≡ true → (cond b (no_effect n) (role_by n k ms)).is_type ≡ true
@@ -217,7 +219,7 @@ abbrev Wanted : Kind → List Child → Type 0
 Wanted k children = has_no_effect k (map meaning (nodes children)) || is_type_of k (map meaning (nodes children)) ≡ true
 
 by_child : (k : Kind) (children : List Child) (shape : Shape) → allows shape k ≡ true → HaveShapes (child_shapes k shape (length (nodes children))) (nodes children) → is_item_shape shape.count shape.sort ≡ true
-    → is_absent k ≡ false → depends k ≡ true → value_by k (map is_value (nodes children)) ≡ false → Wanted k children
+    → is_absent k ≡ false → depends k ≡ true → value_by k (values_in true k (nodes children)) ≡ false → Wanted k children
 unfolding value_by
 by_child kind.Absent children shape a s i there d v = absurd (cc)
 by_child kind.ExportDecl (c ∷ []) shape a s i there d v = rw (child_valueless sort.Decl c refl s.0 v) refl
@@ -238,7 +240,7 @@ by_child (kind.TsModuleDecl false global) (name ∷ body ∷ []) shape a s i the
 by_child (kind.TsModuleDecl false global) [] shape a s i there d v = absurd s
 by_child (kind.TsModuleDecl false global) (c ∷ []) shape a s i there d v = absurd s.1
 by_child (kind.TsModuleDecl false global) (c ∷ e ∷ f ∷ others) shape a s i there d v = absurd s.1.1
-by_child (kind.TsNamespaceDecl declare global) (name ∷ body ∷ []) shape a s i there d v = child_valueless sort.TsNamespaceBody body refl s.1.0 v
+by_child (kind.TsNamespaceDecl declare global) (name ∷ body ∷ []) shape a s i there d v = child_valueless sort.TsNamespaceBody body refl s.1.0 (valueless_everywhere (not declare && true) body.0 v)
 by_child (kind.TsNamespaceDecl declare global) [] shape a s i there d v = absurd s
 by_child (kind.TsNamespaceDecl declare global) (c ∷ []) shape a s i there d v = absurd s.1
 by_child (kind.TsNamespaceDecl declare global) (c ∷ e ∷ f ∷ others) shape a s i there d v = absurd s.1.1
@@ -250,12 +252,12 @@ by_child (kind.Function is_generator is_async) children shape a s i there d v = 
 by_child _ children shape a s i there d v = absurd (cc)
 
 step : (k : Kind) (children : List Child) (shape : Shape) → allows shape k ≡ true → HaveShapes (child_shapes k shape (length (nodes children))) (nodes children) → is_item_shape shape.count shape.sort ≡ true
-    → is_absent k ≡ false → value_by k (map is_value (nodes children)) ≡ false → Wanted k children
+    → is_absent k ≡ false → value_by k (values_in true k (nodes children)) ≡ false → Wanted k children
 step k children shape a s i there v = go (depends k) refl
   where
     go : (b : Bool) → depends k ≡ b → Wanted k children
     go true e = by_child k children shape a s i there e v
-    go false e = by_kind k (map is_value (nodes children)) (map meaning (nodes children)) e v
+    go false e = by_kind k (values_in true k (nodes children)) (map meaning (nodes children)) e v
 
 pub valueless : (n : Node) → Valueless n
 valueless = ind-Node Valueless (λ x y is. subst (λ ns. Valueless (node_of x.span x.kind ns)) (ap (λ z. z.children) is) (λ shape h i there v.
@@ -263,4 +265,4 @@ valueless = ind-Node Valueless (λ x y is. subst (λ ns. Valueless (node_of x.sp
     let e = out-roll-Node (record { span = x.span; kind = x.kind; children = nodes y.children }) in
     let s = (node_has_shape x.span x.kind (nodes y.children) shape).0 h in
     ap (λ m. m.is_type) (meaning_out n ∙ ap (λ parts. meaning_by n parts.kind (map meaning parts.children)) e)
-    ∙ typed n x.kind (map meaning (nodes y.children)) (step x.kind y.children shape s.0 s.1 i (sym (ap (λ parts. is_absent parts.kind) e) ∙ there) (sym (ap (λ parts. value_by parts.kind (map is_value parts.children)) e) ∙ (sym (is_value-out n) ∙ v)))))
+    ∙ typed n x.kind (map meaning (nodes y.children)) (step x.kind y.children shape s.0 s.1 i (sym (ap (λ parts. is_absent parts.kind) e) ∙ there) (sym (ap (λ parts. value_by parts.kind (values_in true parts.kind parts.children)) e) ∙ (sym (is_value-out n) ∙ v)))))

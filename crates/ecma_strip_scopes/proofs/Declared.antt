@@ -29,7 +29,7 @@ use Rattle.ecma_strip_scopes.proofs.Going.{parts-have}
 use Rattle.ecma_strip_scopes.proofs.Lasting.{here-lasts, lasting, lasting-append, none-lasts, param-goes}
 use Rattle.ecma_strip_scopes.proofs.Standing.{body-same, changed-declares, full-declares, is-none, list-kind, list-sought, silent, value-free}
 use Rattle.ecma_strip_scopes.proofs.Seeking.{Becomes, becomes, here-plain, itself, list, seeks-plain, setter-seeks, typed, wrapper}
-use Rattle.ecma_tree.specs.Values.{is_value}
+use Rattle.ecma_tree.specs.Values.{is_value, is_value_where}
 use Rattle.ecma_tree.proofs.Layers.{from_leaves_out}
 
 -- ---- the children that become plain
@@ -117,7 +117,7 @@ absent-none : (q : Sought) → ids_declared absent q ≡ []
 unfolding sought_in
 absent-none q =
     silent absent q (ap (id_here q) (kind-of _ kind.Absent []))
-    (λ j. ap (λ (k : Kind). sought_by q.part q.stays (is_value absent) k j) (kind-of _ kind.Absent []) ∙ absent-by q.part q.stays (is_value absent) j)
+    (λ j. ap (λ (k : Kind). sought_by q.part q.stays (is_value_where q.stays absent) k j) (kind-of _ kind.Absent []) ∙ absent-by q.part q.stays (is_value_where q.stays absent) j)
 
 pub not-list : (k : Kind) (cs : List Node) → is_list k ≡ false → staying_nodes k cs ≡ cs
 not-list kind.List cs h = absurd (true-false refl h)
@@ -230,13 +230,16 @@ module _ (t : Bool) where
 
     nothing-here : ((p : Part) (s v : Bool) (i : ℕ) → sought_by p s v k i ≡ None) → ((q : Sought) → id_here q k ≡ []) → lasting t (ids_declared m q) ≡ []
     unfolding sought_in
-    nothing-here none no_id = ap (lasting t) (silent m q (no_id q) (λ j. none q.part q.stays (is_value m) j))
+    nothing-here none no_id = ap (lasting t) (silent m q (no_id q) (λ j. none q.part q.stays (is_value_where q.stays m) j))
 
     value-same : is_type_wrapper k ≡ false → has_value k ≡ true → is_value (stripped m) ≡ is_value m
     value-same other =
         same-by (has_value k) (is_value (stripped m)) (is_value m)
         (and-left (not (has_value k) || same (is_value (stripped m)) (is_value m)) (bodies_stay k (map stripped (out-Node m).children))
         (chosen-right (is_type_wrapper k) (is_none (ids_declared (stripped m) q)) ((not (has_value k) || same (is_value (stripped m)) (is_value m)) && bodies_stay k (map stripped (out-Node m).children)) other here-kind))
+
+    value-there : is_value (stripped m) ≡ is_value m → is_value_where q.stays (stripped m) ≡ is_value_where q.stays m
+    value-there = subst (λ (s : Bool). is_value_where s (stripped m) ≡ is_value_where s m) (sym stay)
 
     bodies : is_type_wrapper k ≡ false → bodies_stay k (map stripped (nodes ns)) ≡ true
     bodies other =
@@ -246,7 +249,7 @@ module _ (t : Bool) where
 
     setter-none : k ≡ kind.SetterProp → sought_in q m 1 ≡ None
     unfolding sought_in
-    setter-none is = ap (λ (z : Kind). sought_by q.part q.stays (is_value m) z 1) is ∙ setter-seeks q.part q.stays (is_value m)
+    setter-none is = ap (λ (z : Kind). sought_by q.part q.stays (is_value_where q.stays m) z 1) is ∙ setter-seeks q.part q.stays (is_value_where q.stays m)
 
     -- of what is no list
     itself-declares : ((cs : List Node) → plain (out-Node m).span k cs ≡ node_of (out-Node m).span (plain_kind k) (plain_children k cs)) → is_list k ≡ false → is_type_wrapper k ≡ false → ids_declared (stripped m) q ≡ lasting t (ids_declared m q)
@@ -257,8 +260,8 @@ module _ (t : Bool) where
         ∙ ap (λ (z : List Node). node_of (out-Node m).span (plain_kind k) (plain_children k (map stripped z))) (not-list k (out-Node m).children no_list ∙ are) in
         let kind_st : (out-Node (stripped m)).kind ≡ plain_kind k = ap (λ (z : Node). (out-Node z).kind) st ∙ kind-of (out-Node m).span (plain_kind k) cs in
         let children_st : (out-Node (stripped m)).children ≡ cs = ap (λ (z : Node). (out-Node z).children) st ∙ children-of (out-Node m).span (plain_kind k) cs in
-        let seeks : (i : ℕ) → sought_in q (stripped m) i ≡ sought_in q m i = (λ i. ap (λ (z : Kind). sought_by q.part q.stays (is_value (stripped m)) z i) kind_st
-        ∙ seeks-plain q.part q.stays (is_value m) (is_value (stripped m)) k i (value-same other)) in
+        let seeks : (i : ℕ) → sought_in q (stripped m) i ≡ sought_in q m i = (λ i. ap (λ (z : Kind). sought_by q.part q.stays (is_value_where q.stays (stripped m)) z i) kind_st
+        ∙ seeks-plain q.part q.stays (is_value_where q.stays m) (is_value_where q.stays (stripped m)) k i (λ v. value-there (value-same other v))) in
         ids-out (stripped m) q
         ∙ (λ j. id_here q (kind_st j) ++ ids_in (λ i. seeks i j) 0 (map ids_declared (children_st j)))
         ∙ ap₂ (λ (a b : List DeclaredId). a ++ b) (here-plain q k)
@@ -271,15 +274,15 @@ module _ (t : Bool) where
     unfolding plain plain_kind plain_children
     list-declares is =
         let cs : List Node = map stripped (filter stays (nodes ns)) in
-        let o : Option Sought = sought_by q.part q.stays (is_value m) kind.List 0 in
+        let o : Option Sought = sought_by q.part q.stays (is_value_where q.stays m) kind.List 0 in
         let st : stripped m ≡ node_of (out-Node m).span kind.List cs = stripped-out m ∙ (λ j. plain (out-Node m).span (is j) (map stripped (staying_nodes (is j) (are j)))) in
         let kind_st : (out-Node (stripped m)).kind ≡ kind.List = ap (λ (z : Node). (out-Node z).kind) st ∙ kind-of (out-Node m).span kind.List cs in
         let children_st : (out-Node (stripped m)).children ≡ cs = ap (λ (z : Node). (out-Node z).children) st ∙ children-of (out-Node m).span kind.List cs in
         ids-out (stripped m) q
         ∙ ap₂ (λ (z : Kind) (ms : List Node). id_here q z ++ ids_in (sought_in q (stripped m)) 0 (map ids_declared ms)) (kind_st ∙ sym is) children_st
         ∙ ap (λ (ds : List DeclaredId). id_here q k ++ ds)
-        (items (item_shape shape) (sought_in q m) (sought_in q (stripped m)) o (list-sought m q is) (λ j. list-sought (stripped m) q kind_st j ∙ value-free q.part q.stays (is_value (stripped m)) (is_value m))
-        (list-part q.part q.stays (is_value m)) ns (subst (λ (z : Kind). HaveShapes (child_shapes z shape (length (nodes ns))) (nodes ns)) is have) 0 0
+        (items (item_shape shape) (sought_in q m) (sought_in q (stripped m)) o (list-sought m q is) (λ j. list-sought (stripped m) q kind_st j ∙ value-free q.part q.stays (is_value_where q.stays (stripped m)) (is_value_where q.stays m))
+        (list-part q.part q.stays (is_value_where q.stays m)) ns (subst (λ (z : Kind). HaveShapes (child_shapes z shape (length (nodes ns))) (nodes ns)) is have) 0 0
         (subst (λ (b : Bool). clear_in t b (sought_in q m) 0 (nodes ns) (map (is_clear t) (nodes ns)) ≡ true) (ap is_list is) inner))
         ∙ sym kept-out
 

@@ -18,10 +18,10 @@ use Rattle.ecma_hygiene_scopes.specs.DeclaredIds.{DeclaredId, id_here, ids_at, i
 use Rattle.ecma_hygiene_scopes.proofs.Directly.{ids-out}
 use Rattle.ecma_strip_scopes.specs.Laws.{WhatGoesDeclaresNothing}
 use Rattle.ecma_strip_scopes.specs.Going.{is_list_part}
-use Rattle.ecma_hygiene_scopes.proofs.Gone.{below-gone, gone-at, kept, none-append, none-some}
+use Rattle.ecma_hygiene_scopes.proofs.Gone.{below-gone, gone, gone-at, kept, none-append, none-some}
 use Rattle.ecma_strip_scopes.proofs.Going.{and-none, apart, decl-gone, decl-item, is_exporting, is_ident, is_silent, member-silent, no-id, no-scope, only, parts-have, silent-by, specifier-by}
 use Rattle.ecma_tree.proofs.Valuing.{is_value-out}
-use Rattle.ecma_tree.specs.Values.{is_value, value_by}
+use Rattle.ecma_tree.specs.Values.{is_value, is_value_where, value_by, values_in}
 
 -- ---- the default export
 
@@ -37,9 +37,10 @@ default-by s v _ vs i q val not_v h = none-some q h
 
 default-gone : (d : Node) (s : Bool) → is_value d ≡ false → kept (ids_declared d (record { part = part.Default; stays = s })) ≡ []
 unfolding sought_in
-default-gone d s val =
-    below-gone d (record { part = part.Default; stays = s }) (default-here s (out-Node d).kind)
-    (λ j next h. default-by s (is_value d) (out-Node d).kind (map is_value (out-Node d).children) j next (sym (is_value-out d) ∙ val) val h)
+default-gone d true val =
+    below-gone d (record { part = part.Default; stays = true }) (default-here true (out-Node d).kind)
+    (λ j next h. default-by true (is_value d) (out-Node d).kind (values_in true (out-Node d).kind (out-Node d).children) j next (sym (is_value-out d) ∙ val) val h)
+default-gone d false val = gone d (record { part = part.Default; stays = false }) refl
 
 -- ---- what an export declares, its declaration does
 
@@ -65,12 +66,12 @@ default-at part.Scope s v d list gone = no-scope list
 default-at part.Default s v d list gone = no-scope list
 
 -- the ids of a node with one child
-one-child : (n d : Node) (k : Kind) (q : Sought) → (out-Node n).kind ≡ k → id_here q k ≡ [] → (out-Node n).children ≡ d ∷ [] → ids_declared n q ≡ ids_at (sought_by q.part q.stays (is_value n) k 0) (ids_declared d) ++ []
+one-child : (n d : Node) (k : Kind) (q : Sought) → (out-Node n).kind ≡ k → id_here q k ≡ [] → (out-Node n).children ≡ d ∷ [] → ids_declared n q ≡ ids_at (sought_by q.part q.stays (is_value_where q.stays n) k 0) (ids_declared d) ++ []
 unfolding sought_in
 one-child n d k q is here are =
     ids-out n q
-    ∙ (λ j. id_here q (is j) ++ ids_in (λ i. sought_by q.part q.stays (is_value n) (is j) i) 0 (map ids_declared (are j)))
-    ∙ ap (λ (ds : List DeclaredId). ds ++ (ids_at (sought_by q.part q.stays (is_value n) k 0) (ids_declared d) ++ [])) here
+    ∙ (λ j. id_here q (is j) ++ ids_in (λ i. sought_by q.part q.stays (is_value_where q.stays n) (is j) i) 0 (map ids_declared (are j)))
+    ∙ ap (λ (ds : List DeclaredId). ds ++ (ids_at (sought_by q.part q.stays (is_value_where q.stays n) k 0) (ids_declared d) ++ [])) here
 
 -- why an item goes
 abbrev Goes : Node → Type 0
@@ -83,22 +84,22 @@ export-gone : (n d : Node) (q : Sought) → (out-Node n).kind ≡ kind.ExportDec
 unfolding value_by
 export-gone n d q is are has list goes =
     ap kept (one-child n d kind.ExportDecl q is refl are)
-    ∙ export-at q.part q.stays (is_value n) d list (λ next part_list. decl-gone d next part_list item.0 item.1 (reason goes))
+    ∙ export-at q.part q.stays (is_value_where q.stays n) d list (λ next part_list. decl-gone d next part_list item.0 item.1 (reason goes))
   where
     item : (belongs sort.ModuleItem (out-Node d).kind ≡ true) × (is_exporting (out-Node d).kind ≡ false)
     item = decl-item (out-Node d).kind (parts-have d (one sort.Decl) has).0
 
     reason : Goes n → (is_value d ≡ false) ⊎ (is_declared (out-Node d).kind ≡ true)
-    reason (inl val) = inl (sym (is_value-out n ∙ (λ j. value_by (is j) (map is_value (are j)))) ∙ val)
+    reason (inl val) = inl (sym (is_value-out n ∙ (λ j. value_by (is j) (values_in true (is j) (are j)))) ∙ val)
     reason (inr ambient) = inr (sym (λ j. cond (is_export (is j)) (if_there (slice_get (are j) 0) (λ x. is_declared (out-Node x).kind)) (is_declared (is j))) ∙ ambient)
 
 default-export-gone : (n d : Node) (q : Sought) → (out-Node n).kind ≡ kind.ExportDefaultDecl → (out-Node n).children ≡ d ∷ [] → is_list_part q.part ≡ true → Goes n → kept (ids_declared n q) ≡ []
 unfolding value_by is_declared
 default-export-gone n d q is are list goes =
-    ap kept (one-child n d kind.ExportDefaultDecl q is refl are) ∙ default-at q.part q.stays (is_value n) d list (default-gone d q.stays (reason goes))
+    ap kept (one-child n d kind.ExportDefaultDecl q is refl are) ∙ default-at q.part q.stays (is_value_where q.stays n) d list (default-gone d q.stays (reason goes))
   where
     reason : Goes n → is_value d ≡ false
-    reason (inl val) = sym (is_value-out n ∙ (λ j. value_by (is j) (map is_value (are j)))) ∙ val
+    reason (inl val) = sym (is_value-out n ∙ (λ j. value_by (is j) (values_in true (is j) (are j)))) ∙ val
     reason (inr ambient) = absurd (true-false (sym (λ j. cond (is_export (is j)) (if_there (slice_get (are j) 0) (λ x. is_declared (out-Node x).kind)) (is_declared (is j))) ∙ ambient) refl)
 
 -- ---- items
@@ -155,8 +156,8 @@ what-goes-declares-nothing shape n q has goes this list =
     elim (reasons (item_stays n) (member_stays n) (specifier_stays (out-Node n).kind) (not (is_this_param n)) (ap not this) goes) [
       | inl item ↦ (let why = item-reasons (is_empty_stmt (out-Node n).kind) (belongs sort.ModuleItem (out-Node n).kind) (is_value n) (is_ambient n) item in item-gone n shape q has list why.0 why.1 (exports (out-Node n).kind))
       | inr rest ↦ elim rest [
-        | inl member ↦ (let silent = member-silent (out-Node n).kind n member in below-gone n q (no-id q (out-Node n).kind (silent-ident (out-Node n).kind silent)) (λ j next h. silent-by q.part q.stays (is_value n) (out-Node n).kind j next list silent h))
+        | inl member ↦ (let silent = member-silent (out-Node n).kind n member in below-gone n q (no-id q (out-Node n).kind (silent-ident (out-Node n).kind silent)) (λ j next h. silent-by q.part q.stays (is_value_where q.stays n) (out-Node n).kind j next list silent h))
         | inr specifier ↦ below-gone n q (no-id q (out-Node n).kind (apart (λ (z : Kind). not (specifier_stays z)) (out-Node n).kind specifier-ident (ap not specifier)))
-            (λ j next h. specifier-by q.part q.stays (is_value n) (out-Node n).kind j next list specifier h)
+            (λ j next h. specifier-by q.part q.stays (is_value_where q.stays n) (out-Node n).kind j next list specifier h)
       ]
     ]

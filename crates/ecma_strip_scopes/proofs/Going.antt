@@ -1,5 +1,5 @@
 -- What goes with the types of a tree declares no value that stays.
-use Rattle.std.proofs.Common.{◌≡◌, ◌⊎◌, inl, inr, ℕ, ◌==◌, Bool, true, false, ◌&&◌, not, cond, List, [], ◌∷◌, map, length, Option, Some, None, refl, sym, ap, ◌∙◌, subst}
+use Rattle.std.proofs.Common.{◌≡◌, ◌⊎◌, inl, inr, ℕ, ◌==◌, Bool, true, false, ◌&&◌, not, cond, List, [], ◌∷◌, length, Option, Some, None, refl, sym, ap, ◌∙◌, subst}
 use Rattle.ecma_kind.specs.Sorts.{belongs}
 use Rattle.ecma_kind.specs.declared.kind.Kind.{Kind}
 use Rattle.ecma_kind.specs.declared.kind.Kind.TheVariants as kind
@@ -18,11 +18,11 @@ use Rattle.ecma_scope.specs.declared.form.Sought.{Sought}
 use Rattle.ecma_scope.specs.Declarations.{in_default, in_item, in_member, in_name, in_var, sought_by, sought_in}
 use Rattle.ecma_strip.specs.Staying.{is_declared, member_stays_by, specifier_stays}
 use Rattle.ecma_tree.proofs.Valuing.{is_value-out}
-use Rattle.ecma_tree.specs.Values.{is_value, value_by}
+use Rattle.ecma_tree.specs.Values.{is_value, is_value_where, value_by, values_in}
 use Rattle.ecma_hygiene.proofs.Telling.{true-false}
 use Rattle.ecma_hygiene_scopes.specs.DeclaredIds.{id_here, ids_declared}
 use Rattle.ecma_strip_scopes.specs.Going.{is_list_part}
-use Rattle.ecma_hygiene_scopes.proofs.Gone.{below-gone, gone-at, gone-both, gone-some, kept, none-some}
+use Rattle.ecma_hygiene_scopes.proofs.Gone.{below-gone, gone, gone-at, gone-both, gone-some, kept, none-some}
 
 pub and-none : (s x : Bool) → x ≡ false → (s && x) ≡ false
 and-none true x h = h
@@ -243,12 +243,16 @@ apart test _ other h is = true-false is refl
 pub decl-gone : (n : Node) (q : Sought) → is_list_part q.part ≡ true → belongs sort.ModuleItem (out-Node n).kind ≡ true → is_exporting (out-Node n).kind ≡ false → (is_value n ≡ false) ⊎ (is_declared (out-Node n).kind ≡ true)
     → kept (ids_declared n q) ≡ []
 unfolding sought_in
-decl-gone n q list item other (inl val) =
-    below-gone n q (no-id q (out-Node n).kind (apart (belongs sort.ModuleItem) (out-Node n).kind (λ s c o. refl) item))
-    (λ j next h. valueless-by q.part q.stays (is_value n) (out-Node n).kind (map is_value (out-Node n).children) j next list item (sym (is_value-out n) ∙ val) val other h)
+decl-gone n q list item other (inl val) = by q.stays refl
+  where
+    by : (s : Bool) → q.stays ≡ s → kept (ids_declared n q) ≡ []
+    by true stays =
+        below-gone n q (no-id q (out-Node n).kind (apart (belongs sort.ModuleItem) (out-Node n).kind (λ s c o. refl) item))
+        (λ j next h. valueless-by q.part q.stays (is_value_where q.stays n) (out-Node n).kind (values_in true (out-Node n).kind (out-Node n).children) j next list item (sym (is_value-out n) ∙ val) (ap (λ (s : Bool). is_value_where s n) stays ∙ val) other h)
+    by false goes = gone n q goes
 decl-gone n q list item other (inr is) =
     below-gone n q (no-id q (out-Node n).kind (apart (belongs sort.ModuleItem) (out-Node n).kind (λ s c o. refl) item))
-    (λ j next h. declared-by q.part q.stays (is_value n) (out-Node n).kind j next list item is h)
+    (λ j next h. declared-by q.part q.stays (is_value_where q.stays n) (out-Node n).kind j next list item is h)
 
 pub decl-item : (k : Kind) → belongs sort.Decl k ≡ true → (belongs sort.ModuleItem k ≡ true) × (is_exporting k ≡ false)
 decl-item (kind.ClassDecl d) h = (refl, refl)

@@ -4,7 +4,7 @@ use Rattle.std.proofs.lemmas.Bool.{eqb-true}
 use Rattle.ecma_kind.specs.declared.kind.Kind.{Kind}
 use Rattle.ecma_kind.specs.declared.kind.Kind.TheVariants as kind
 use Rattle.ecma_tree.specs.declared.node.Node.{Node, out-Node}
-use Rattle.ecma_tree.specs.Values.{is_value}
+use Rattle.ecma_tree.specs.Values.{is_value_where}
 use Rattle.ecma_scope.specs.declared.form.Part.{Part}
 use Rattle.ecma_scope.specs.declared.form.Part.TheVariants as part
 use Rattle.ecma_scope.specs.declared.form.Sought.{Sought}
@@ -78,7 +78,7 @@ outer-goes : (n : Node) (k : Kind) → (out-Node n).kind ≡ k → ((q : Sought)
 unfolding sought_in
 outer-goes n k is here none goes q =
     ap (lasting true) (ids-out n q ∙ ap (λ (ds : List DeclaredId). ds ++ ids_in (sought_in q n) 0 (map ids_declared (out-Node n).children)) (ap (id_here q) is ∙ here q))
-    ∙ first-goes (sought_in q n) (out-Node n).children (λ j. ap (λ (z : Kind). sought_by q.part q.stays (is_value n) z (suc j)) is ∙ none q.part q.stays (is_value n) j) goes
+    ∙ first-goes (sought_in q n) (out-Node n).children (λ j. ap (λ (z : Kind). sought_by q.part q.stays (is_value_where q.stays n) z (suc j)) is ∙ none q.part q.stays (is_value_where q.stays n) j) goes
 
 no-ident : (s : List ℕ) (c : ℕ) (o : Bool) (p : Part) (stays v : Bool) (i : ℕ) → sought_by p stays v (kind.Ident s c o) i ≡ None
 unfolding in_scope in_item in_default in_member in_var in_name
@@ -133,7 +133,7 @@ name-goes n = by (out-Node n).kind refl
         (ap (lasting true) (none-all (sought_in q n) 0 (out-Node n).children none))
       where
         none : (j : ℕ) → sought_in q n j ≡ None
-        none j = ap (λ (z : Kind). sought_by q.part q.stays (is_value n) z j) is ∙ no-ident s c o q.part q.stays (is_value n) j
+        none j = ap (λ (z : Kind). sought_by q.part q.stays (is_value_where q.stays n) z j) is ∙ no-ident s c o q.part q.stays (is_value_where q.stays n) j
     by _ is this q = absurd (true-false this refl)
 
 if-true : (o : Option Node) (test : Node → Bool) (c : Node) → if_there o test ≡ true → o ≡ Some c → test c ≡ true

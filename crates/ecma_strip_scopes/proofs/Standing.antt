@@ -5,7 +5,7 @@ use Rattle.ecma_kind.specs.declared.kind.Kind.TheVariants as kind
 use Rattle.ecma_tree.specs.Nodes.{node_of}
 use Rattle.ecma_tree.specs.Sorted.{is_list}
 use Rattle.ecma_tree.specs.declared.node.Node.{Node, out-Node}
-use Rattle.ecma_tree.specs.Values.{is_value}
+use Rattle.ecma_tree.specs.Values.{is_value_where}
 use Rattle.ecma_scope.specs.declared.form.Part.{Part}
 use Rattle.ecma_scope.specs.declared.form.Part.TheVariants as part
 use Rattle.ecma_scope.specs.declared.form.Sought.{Sought}
@@ -66,7 +66,7 @@ empty-here q _ h = refl
 
 empty-none : (n : Node) (o : Option Sought) → is_empty_stmt (out-Node n).kind ≡ true → ids_at o (ids_declared n) ≡ []
 unfolding sought_in
-empty-none n (Some q) h = silent n q (empty-here q (out-Node n).kind h) (λ j. empty-by (out-Node n).kind h q.part q.stays (is_value n) j)
+empty-none n (Some q) h = silent n q (empty-here q (out-Node n).kind h) (λ j. empty-by (out-Node n).kind h q.part q.stays (is_value_where q.stays n) j)
 empty-none n None h = refl
 
 module _ (into to : ℕ → Option Sought) (o : Option Sought) (is : (j : ℕ) → into j ≡ o) (is_to : (j : ℕ) → to j ≡ o) where
@@ -86,9 +86,9 @@ pub list-kind : (k : Kind) → is_list k ≡ true → k ≡ kind.List
 list-kind kind.List h = refl
 list-kind _ h = absurd (true-false h refl)
 
-pub list-sought : (n : Node) (q : Sought) → (out-Node n).kind ≡ kind.List → (j : ℕ) → sought_in q n j ≡ sought_by q.part q.stays (is_value n) kind.List 0
+pub list-sought : (n : Node) (q : Sought) → (out-Node n).kind ≡ kind.List → (j : ℕ) → sought_in q n j ≡ sought_by q.part q.stays (is_value_where q.stays n) kind.List 0
 unfolding sought_in
-list-sought n q is j = ap (λ (k : Kind). sought_by q.part q.stays (is_value n) k j) is ∙ list-seeks q.part q.stays (is_value n) j 0
+list-sought n q is j = ap (λ (k : Kind). sought_by q.part q.stays (is_value_where q.stays n) k j) is ∙ list-seeks q.part q.stays (is_value_where q.stays n) j 0
 
 pub value-free : (p : Part) (s v w : Bool) → sought_by p s v kind.List 0 ≡ sought_by p s w kind.List 0
 unfolding in_scope in_item in_default in_member in_var in_name
@@ -108,5 +108,5 @@ full-declares x is q =
     ids-out y q
     ∙ ap₂ (λ (z : Kind) (ns : List Node). id_here q z ++ ids_in (sought_in q y) 0 (map ids_declared ns)) (kind_y ∙ sym k) (children-of (out-Node x).span (out-Node x).kind cs)
     ∙ ap (λ (ds : List DeclaredId). id_here q (out-Node x).kind ++ ds)
-    (full (sought_in q x) (sought_in q y) (sought_by q.part q.stays (is_value x) kind.List 0) (list-sought x q k) (λ j. list-sought y q kind_y j ∙ value-free q.part q.stays (is_value y) (is_value x)) (out-Node x).children 0 0)
+    (full (sought_in q x) (sought_in q y) (sought_by q.part q.stays (is_value_where q.stays x) kind.List 0) (list-sought x q k) (λ j. list-sought y q kind_y j ∙ value-free q.part q.stays (is_value_where q.stays y) (is_value_where q.stays x)) (out-Node x).children 0 0)
     ∙ sym (ids-out x q)

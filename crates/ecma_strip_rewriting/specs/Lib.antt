@@ -1,0 +1,4 @@
+pub mod Commuting
+pub mod Remaining
+pub mod Names
+pub mod Imports
