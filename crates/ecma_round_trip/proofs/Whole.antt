@@ -1,5 +1,5 @@
 -- What fits is read again, since the raw tree of it with explicit parentheses has the shapes that are read again.
-use Rattle.std.proofs.Common.{◌≡◌, ◌∙◌, ◌≤◌, refl, sym, ap, subst, ℕ, Bool, true, false, List, [], ◌∷◌, None, Ok}
+use Rattle.std.proofs.Common.{arith, ◌≡◌, ◌∙◌, ◌≤◌, refl, sym, ap, subst, ℕ, Bool, true, false, List, [], ◌∷◌, None, Ok}
 use Rattle.ecma_kind.specs.declared.kind.Kind.{Kind}
 use Rattle.ecma_kind.specs.declared.kind.Kind.TheVariants as kind
 use Rattle.ecma_kind.specs.declared.shapes.Sort.TheVariants as sort
@@ -16,7 +16,8 @@ use Rattle.ecma_covers.proofs.Uncovering.{finishing_uncovers}
 use Rattle.ecma_grammar.specs.Modules as grammar
 use Rattle.ecma_grammar.specs.Modules.{reads_module}
 use Rattle.ecma_grammar.specs.Reading.{Position, read}
-use Rattle.ecma_modules.specs.Modules.{answer_by, kept_by, plain, reads_as}
+use Rattle.ecma_modules.specs.Modules.{plain, reads_as}
+use Rattle.ecma_text_types.proofs.Plain.{plain_modules}
 use Rattle.ecma_text_leaves.specs.Everywhere.{Everywhere}
 use Rattle.ecma_scope.specs.Laws.{without_contexts}
 use Rattle.ecma_print.specs.Layout.{layout}
@@ -34,6 +35,8 @@ use Rattle.ecma_print_fits.proofs.Usual.{what_fits_has_usual_defaults}
 use Rattle.ecma_print_explicit.proofs.Explicit.{trees_fit}
 use Rattle.ecma_print_shapes.proofs.Forming.{modules_have_shapes}
 use Rattle.ecma_print_reread.proofs.Law.{modules_read}
+use Rattle.ecma_plain.specs.Texts.{IsPlainModule}
+use Rattle.ecma_text_levels.proofs.Levels.{more_levels_read_the_same}
 use Rattle.ecma_round_trip.specs.Laws.{IsReadAgain, WhatFitsIsReadAgain}
 use Rattle.ecma_round_trip.proofs.Functions.{functions_stay}
 use Rattle.ecma_round_trip.proofs.Items.{kind_free, plain_items_stay}
@@ -41,7 +44,7 @@ use Rattle.ecma_round_trip.proofs.Standing.{everywhere_explicit, not_found}
 use Rattle.ecma_plain.specs.Forms.{IsTaken}
 use Rattle.ecma_plain.specs.Items.{HasUtf8Hashbang}
 use Rattle.ecma_shapes.specs.Modules.{IsModule}
-use Rattle.ecma_plain.specs.Plain.{IsPlain}
+use Rattle.ecma_plain.specs.Read.{IsReadPlain}
 
 -- no pattern of what is plain has a `?`
 no_optional_pattern : (k : Kind) → IsTaken k → is_optional_pattern k ≡ false
@@ -53,9 +56,9 @@ no_optional_pattern k h = refl
 
 -- a raw tree that keeps the rules is read and finished
 finished_as : (text : List ℕ) (assignments : Bool) (bound : ℕ) (raw : Node) (s : Position) → reads_module text (plain assignments) bound ≡ read (raw ∷ []) s → first_broken raw ≡ None → reads_as text (plain assignments) bound ≡ Ok (finished raw)
-finished_as text assignments bound raw s e keeps = ap (λ o. answer_by (grammar.answer_of o)) e ∙ ap (kept_by raw) keeps
+finished_as text assignments bound raw s e keeps = plain_modules text assignments bound raw (ap grammar.answer_of e) keeps
 
-module _ (assignments : Bool) (tree : Node) (p : IsPlain assignments tree) where
+module _ (assignments : Bool) (tree : Node) (p : IsReadPlain assignments tree) where
   -- the tree without contexts, with explicit parentheses
   abbrev bare : Node
   bare = without_contexts tree
@@ -91,17 +94,15 @@ module _ (assignments : Bool) (tree : Node) (p : IsPlain assignments tree) where
   keeps_rules : first_broken (cover whole) ≡ None
   keeps_rules = unbroken_covers whole fits no_optional_patterns
 
-  read_again : (enough : ℕ) × ((bound : ℕ) → enough ≤ bound → (again : Node) × (reads_as (layout tree) (plain assignments) bound ≡ Ok again) × IsReadAgain tree again)
+  read_again : (again : Node) × IsPlainModule assignments (layout tree) again × IsReadAgain tree again
   read_again =
-      let g = modules_read assignments (cover whole) shapes in (
-        g.0,
-        λ bound e.
-            (let r = g.1 bound e in
-            let text_read = ap (λ text. reads_module text (plain assignments) bound) text_is ∙ r.2 in (
-              finished r.0,
-              finished_as (layout tree) assignments bound r.0 r.1 text_read (spans_do_not_matter_to_rules (cover whole) r.0 r.3 keeps_rules),
-              spans_do_not_matter_to_finishing (cover whole) r.0 r.3 ∙ finishing_uncovers whole stands,
-            )),
+      let g = modules_read assignments (cover whole) shapes in
+      let r = g.1 g.0 (omega arith) in
+      let text_read = ap (λ text. reads_module text (plain assignments) g.0) text_is ∙ r.2 in
+      let first = finished_as (layout tree) assignments g.0 r.0 r.1 text_read (spans_do_not_matter_to_rules (cover whole) r.0 r.3 keeps_rules) in (
+        finished r.0,
+        record { levels = g.0; read_plain = λ bound e. more_levels_read_the_same (layout tree) (plain assignments) g.0 bound (finished r.0) e first },
+        spans_do_not_matter_to_finishing (cover whole) r.0 r.3 ∙ finishing_uncovers whole stands,
       )
 
 pub what_fits_read_again : WhatFitsIsReadAgain

@@ -5,7 +5,8 @@
 
 ghost use Rattle.ecma_round_trip.specs.Laws.{WhatFitsIsReadAgain};
 
-/// The layout of a plain module that fits is read, with enough levels, as the module with the parentheses of its layout, up to spans and contexts.
+/// The layout of a plain module that fits is read, with enough levels and with any more, as the module with the parentheses of its layout, up to spans and
+/// contexts.
 pub fn what_fits_is_read_again()
     ensures { WhatFitsIsReadAgain }
 {}

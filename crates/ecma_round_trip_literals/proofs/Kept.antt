@@ -26,7 +26,8 @@ use Rattle.ecma_fits.specs.declared.unfit.Where.{Where}
 use Rattle.ecma_fits.specs.Fitting.{at_top, breaks_rule, first_unfit_in, is_misplaced, is_misshapen, is_unfit, unfit_here, where_in}
 use Rattle.ecma_fits.specs.Roles.{is_assigned, is_bound_name, is_out_of_role, is_tagged, is_wrong_name, may_be, role_in, takes}
 use Rattle.ecma_fits.specs.Strays.{arguments_in, is_stray_target}
-use Rattle.ecma_round_trip_literals.specs.Sources.{KeepsSpelling, IsWritable, with_source, with_sources}
+use Rattle.ecma_round_trip_literals.specs.Sources.{KeepsSpelling, with_source, with_sources}
+use Rattle.ecma_plain.specs.Writable.{IsWritable}
 use Rattle.ecma_round_trip_literals.specs.Laws.{WhatFitsFitsWithSources}
 use Rattle.ecma_round_trip_literals.proofs.Moved.{Blind, Same, blind, child_same, children_moved, children_of, kind_moved, kind_same, to, walk_same}
 use Rattle.ecma_round_trip_literals.proofs.Spelled.{writable_literals_keep_spelling}

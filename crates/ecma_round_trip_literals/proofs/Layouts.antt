@@ -19,7 +19,8 @@ use Rattle.ecma_print.specs.Literals.{big_literal, literal, number_literal, text
 use Rattle.ecma_print.specs.Escapes.{made_text}
 use Rattle.ecma_number.specs.declared.js_number.JsNumber.{JsNumber}
 use Rattle.ecma_round_trip_literals.specs.Laws.{SourcesDoNotMatterToLayouts}
-use Rattle.ecma_round_trip_literals.specs.Sources.{big_text, number_source, source_or, with_source, with_sources}
+use Rattle.ecma_round_trip_literals.specs.Sources.{number_source, source_or, with_source, with_sources}
+use Rattle.ecma_plain.specs.Writable.{big_text}
 use Rattle.ecma_round_trip_literals.proofs.Telling.{is_absent_told, is_computed_told, is_object_pattern_told, parts_told, told}
 use Rattle.ecma_round_trip_literals.proofs.Lists.{listed_told}
 use Rattle.ecma_round_trip_literals.proofs.Expressions.{operation_told, link_told, primary_told}
@@ -73,7 +74,7 @@ misread_told kind.NewExpr children spot = ap (λ lacks. is_headed spot.beside &&
 misread_told (kind.AssignExpr op) children spot = ap (λ brace. opens_a_block spot.begins && brace) (begins_with_brace_told children)
 misread_told _ children spot = refl
 
-parentheses_told : (k : Kind) (children : List Laid) (spot : Spot) → in_parentheses (with_source k) (map told children) spot ≡ in_parentheses k children spot
+pub parentheses_told : (k : Kind) (children : List Laid) (spot : Spot) → in_parentheses (with_source k) (map told children) spot ≡ in_parentheses k children spot
 parentheses_told k children spot = λ i. ltb (level_told k i) spot.level || misread_told k children spot i
 
 standing_told : (k : Kind) (children : List Laid) (spot : Spot) → standing (with_source k) (map told children) spot ≡ standing k children spot

@@ -1,4 +1,4 @@
-mod Telling
+pub mod Telling
 mod Lists
 mod Expressions
 mod Functions
@@ -13,9 +13,10 @@ pub mod Characters
 pub mod Reading
 pub mod Texts
 pub mod Spelled
-mod Moved
+pub mod Moved
 mod Tests
 mod Rules
 pub mod Kept
-mod PlainTrees
+mod Contexts
+pub mod PlainTrees
 pub mod Again

@@ -14,7 +14,8 @@ use Rattle.ecma_rules.specs.Children.{child_holds, child_is, children_of as item
 use Rattle.ecma_rules.specs.Failing.{failing_step, first_failing, least, least_from}
 use Rattle.ecma_number.specs.declared.js_number.JsNumber.{JsNumber}
 use Rattle.ecma_print.specs.Escapes.{made_text}
-use Rattle.ecma_round_trip_literals.specs.Sources.{big_text, number_source, source_or, with_source, with_sources}
+use Rattle.ecma_round_trip_literals.specs.Sources.{number_source, source_or, with_source, with_sources}
+use Rattle.ecma_plain.specs.Writable.{big_text}
 
 -- the source text of a literal is nothing to it
 abbrev pub Blind : (A : Type 0) → (Kind → A) → Type 0

@@ -31,7 +31,7 @@ use Rattle.ecma_print_tokens.specs.Items.{big_int as big_token, number as number
 use Rattle.ecma_print_tokens.proofs.Numerals.{big_again}
 use Rattle.ecma_leaves.specs.Words.{digits_of, is_decimal, is_empty, is_natural, is_no_separator, is_number, is_one, is_readable, is_value, is_whole}
 use Rattle.ecma_round_trip_literals.specs.Laws.{WrittenBigIntsAreSpelled, WrittenNumbersAreSpelled}
-use Rattle.ecma_round_trip_literals.specs.Sources.{big_text}
+use Rattle.ecma_plain.specs.Writable.{big_text}
 use Rattle.ecma_round_trip_literals.proofs.Digits.{are_digits, digit_in_range, integer_before_mark, number_alone, whole_number}
 use Rattle.ecma_round_trip_literals.proofs.Plain.{plain_ascii}
 use Rattle.ecma_round_trip_literals.proofs.Tokens.{by_itself}

@@ -13,7 +13,7 @@ use Rattle.ecma_rules.specs.declared.strays.Strays.{Strays}
 use Rattle.ecma_rules.specs.Children.{has_child, is_named, items_at, kind_of}
 use Rattle.ecma_rules.specs.Jumps.{Held, ends_jumps, held_behind, held_in, is_held_stray, is_stray_in, label_of, own_label, stray_here, text_by, text_of}
 use Rattle.ecma_rules.specs.Lists.{is_head, is_one_without_value, is_rest, is_rest_pattern, last_by, last_in}
-use Rattle.ecma_rules.specs.Members.{behind_first, fits_kind, is_binding_name, is_constructor_key, is_declaring, is_empty_list, is_full_constructor, is_constructor, is_method, is_named_pattern, is_one_parameter, is_plain_parameter, is_property_kind, is_special_by, is_special_function, is_this_by, is_this_parameter, is_this_pattern, misfits_by, misplaces_this_by, second_by, second_constructor, second_of, takes_not_one, takes_one}
+use Rattle.ecma_rules.specs.Members.{behind_first, fits_kind, is_binding_name, is_constructor_key, is_declaring, is_empty_list, is_full_constructor, is_constructor, is_method, is_named_pattern, is_one_parameter, is_plain_parameter, is_property_kind, is_special_by, is_special_function, is_this_by, is_this_parameter, is_this_pattern, misfits_by, misplaces_this_by, second_by, second_constructor, second_of, takes_not_one, takes_one, has_body}
 use Rattle.ecma_rules.specs.Rules.{fails_list, fails_member, fails_statement}
 use Rattle.ecma_rules.specs.Statements.{is_body, is_declaration, is_exported, is_text}
 use Rattle.ecma_rules.specs.Strays.{in_named, is_stray, strays_in}
@@ -79,8 +79,9 @@ accessor_fits Setter n = ap is_one_parameter (items_same n 0) ∙ one_parameter_
 misfits_same : (k : Kind) (n : Node) → misfits_by k (to n) ≡ misfits_by k n
 unfolding misfits_by
 misfits_same kind.AssignPat n = child_same is_rest_pattern (λ v r s. refl, λ v r s. refl, λ v r s. refl) n 0
-misfits_same kind.GetterProp n = has_same n 3
-misfits_same kind.SetterProp n = child_same takes_not_one (λ v r s. refl, λ v r s. refl, λ v r s. refl) n 2
+misfits_same kind.GetterProp n = ap₂ (λ x y. x || not y) (has_same n 3) (has_same n 2)
+misfits_same kind.SetterProp n = ap₂ (λ x y. x || not y) (child_same takes_not_one (λ v r s. refl, λ v r s. refl, λ v r s. refl) n 2) (has_same n 3)
+misfits_same kind.MethodProp n = ap not (holds_same has_body (λ m. has_same m 1) n 1)
 misfits_same (kind.ClassMethod k modifiers) n = ap not (holds_same (fits_kind k) (accessor_fits k) n 1)
 misfits_same (kind.PrivateMethod k modifiers) n = ap not (holds_same (fits_kind k) (accessor_fits k) n 1)
 misfits_same _ n = refl

@@ -1,5 +1,5 @@
--- What is said of the texts that are written for literals, and that a module whose literals lack source texts is read again as it is printed.
-use Rattle.std.specs.Prelude.{◌≡◌, ℕ, Bool, true, List, Some, ◌≤◌, Ok}
+-- What is said of the texts that are written for literals, and that what fits and is plain is read again as it is printed.
+use Rattle.std.specs.Prelude.{◌≡◌, ℕ, Bool, true, List, Some}
 use Rattle.std.specs.Str.{IsUtf8}
 use Rattle.ecma_number.specs.declared.js_number.JsNumber.{JsNumber}
 use Rattle.ecma_number.specs.JsNumber.{value_of}
@@ -12,10 +12,11 @@ use Rattle.ecma_leaves.specs.Words.{is_big_int, is_decimal, is_natural, is_numbe
 use Rattle.ecma_fits.specs.Fitting.{Fits}
 use Rattle.ecma_print.specs.Escapes.{made_text}
 use Rattle.ecma_print.specs.Layout.{layout}
-use Rattle.ecma_modules.specs.Modules.{plain, reads_as}
+use Rattle.ecma_plain.specs.Texts.{IsPlainModule}
 use Rattle.ecma_round_trip.specs.Laws.{IsReadAgain}
-use Rattle.ecma_round_trip_literals.specs.Sources.{IsWritable, big_text, with_sources, KeepsSpelling}
-use Rattle.ecma_round_trip_literals.specs.Writable.{IsPlainWithoutSources}
+use Rattle.ecma_plain.specs.Plain.{IsPlain}
+use Rattle.ecma_plain.specs.Writable.{IsWritable, big_text}
+use Rattle.ecma_round_trip_literals.specs.Sources.{with_sources, KeepsSpelling}
 
 -- a layout shows each literal by its source text, or else by that very text
 abbrev pub SourcesDoNotMatterToLayouts : Type 0
@@ -41,7 +42,10 @@ WritableLiteralsKeepSpelling = (k : Kind) → IsWritable k → KeepsSpelling k
 abbrev pub WhatFitsFitsWithSources : Type 0
 WhatFitsFitsWithSources = (tree : Node) → Everywhere IsWritable tree → Fits tree → Fits (with_sources tree)
 
--- the layout of a module is read again as the tree with source texts, with some number of levels and with any larger one
-abbrev pub WrittenLiteralsAreReadAgain : Type 0
-WrittenLiteralsAreReadAgain = (assignments : Bool) (tree : Node) → IsPlainWithoutSources assignments tree
-    → (enough : ℕ) × ((bound : ℕ) → enough ≤ bound → (again : Node) × (reads_as (layout tree) (plain assignments) bound ≡ Ok again) × IsReadAgain (with_sources tree) again)
+-- what fits and is plain (that is what the calls `fits` and `is_plain` say) is printed as a text that is read as a plain module,
+-- with some number of levels and with any larger one, as that tree: up to spans, contexts, the parentheses of the layout, and source
+-- texts that literals lack
+abbrev pub WhatFitsAndIsPlainIsReadAgain : Type 0
+WhatFitsAndIsPlainIsReadAgain =
+    (keep_assign : Bool) (tree : Node) → Fits tree → IsPlain keep_assign tree
+    → (again : Node) × IsPlainModule keep_assign (layout tree) again × IsReadAgain (with_sources tree) again

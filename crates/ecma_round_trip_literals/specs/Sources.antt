@@ -1,16 +1,14 @@
 -- Trees whose literals have source texts: a literal without one gets the text that is written for it (ECMAScript, 12.9.3, 12.9.4).
-use Rattle.std.specs.Prelude.{◌≡◌, ℕ, true, List, ◌++◌, Option, Some, None, codes, Bool}
-use Rattle.std.specs.Str.{IsUtf8}
+use Rattle.std.specs.Prelude.{◌≡◌, ℕ, true, List, Option, Some, None, Bool}
 use Rattle.ecma_number.specs.declared.js_number.JsNumber.{JsNumber}
-use Rattle.ecma_number.specs.JsNumber.{value_of}
-use Rattle.ecma_number.specs.SafeInt.{IsSafe}
 use Rattle.ecma_number.specs.Text.{text_of}
 use Rattle.ecma_kind.specs.declared.kind.Kind.{Kind}
 use Rattle.ecma_kind.specs.declared.kind.Kind.TheVariants.{Str, Number, BigInt}
 use Rattle.ecma_tree.specs.declared.node.Node.{Node}
 use Rattle.ecma_tree.specs.Changing.{changed}
-use Rattle.ecma_leaves.specs.Words.{is_readable, is_spelled}
+use Rattle.ecma_leaves.specs.Words.{is_spelled}
 use Rattle.ecma_print.specs.Escapes.{made_text}
+use Rattle.ecma_plain.specs.Writable.{big_text}
 
 -- the source text that is there, or else this one
 abbrev pub source_or : List ℕ → Option (List ℕ) → Option (List ℕ)
@@ -22,10 +20,6 @@ abbrev pub number_source : Option JsNumber → Option (List ℕ) → Option (Lis
 number_source None raw = raw
 number_source (Some value) raw = source_or (text_of value) raw
 
--- the digits of a BigInt, and its `n`
-abbrev pub big_text : List ℕ → List ℕ
-big_text value = value ++ codes "n"
-
 abbrev pub with_source : Kind → Kind
 with_source (Str value raw) = Str value (source_or (made_text value) raw)
 with_source (Number value raw) = Number value (number_source value raw)
@@ -35,13 +29,6 @@ with_source kind = kind
 -- the tree in which each literal has its source text, or else the one that is written for it
 abbrev pub with_sources : Node → Node
 with_sources = changed (λ span. span) with_source
-
--- of a literal without source text: a text is UTF-8, a number is in the domain, and what is written for a text or a BigInt can be read at all
-abbrev pub IsWritable : Kind → Type 0
-IsWritable (Str value None) = IsUtf8 value × (is_readable (made_text value) ≡ true)
-IsWritable (Number (Some value) None) = IsSafe (value_of value)
-IsWritable (BigInt value None) = is_readable (big_text value) ≡ true
-IsWritable _ = Unit {0}
 
 -- with its source text a literal is spelled as without
 abbrev pub KeepsSpelling : Kind → Type 0

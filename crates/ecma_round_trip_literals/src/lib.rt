@@ -3,7 +3,7 @@
 //! Each function carries laws over the definitions, and does nothing. The laws are stated in `specs/Laws.antt`.
 #![tactic(auto)]
 
-ghost use Rattle.ecma_round_trip_literals.specs.Laws.{SourcesDoNotMatterToLayouts, WhatFitsFitsWithSources, WritableLiteralsKeepSpelling, WrittenBigIntsAreSpelled, WrittenLiteralsAreReadAgain, WrittenNumbersAreSpelled, WrittenTextsAreSpelled};
+ghost use Rattle.ecma_round_trip_literals.specs.Laws.{SourcesDoNotMatterToLayouts, WhatFitsAndIsPlainIsReadAgain, WhatFitsFitsWithSources, WritableLiteralsKeepSpelling, WrittenBigIntsAreSpelled, WrittenNumbersAreSpelled, WrittenTextsAreSpelled};
 
 use ecma_round_trip::what_fits_is_read_again;
 
@@ -25,9 +25,10 @@ pub fn what_fits_fits_with_sources()
     ensures { WhatFitsFitsWithSources }
 {}
 
-/// The layout of a module of which literals lack source texts is read again as the module with those that are written for them.
-pub fn written_literals_are_read_again()
-    ensures { WrittenLiteralsAreReadAgain }
+/// What fits and is plain is read again as it is printed, with enough levels and with any more: as that tree, up to spans,
+/// contexts, the parentheses of its layout, and source texts that literals lack. The same where import and export assignments stay.
+pub fn what_fits_and_is_plain_is_read_again()
+    ensures { WhatFitsAndIsPlainIsReadAgain }
 {
     what_fits_is_read_again();
 }

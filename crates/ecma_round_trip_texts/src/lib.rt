@@ -8,7 +8,7 @@ ghost use Rattle.ecma_round_trip_texts.specs.Laws.{RelaidModulesAreReadAgain};
 use ecma_round_trip::what_fits_is_read_again;
 use ecma_text_plain::{
     functions_are_usual_by_tests, plain_functions_that_are_read_have_bodies,
-    plain_names_that_are_read_are_not_this, plain_texts_without_assignments_have_plain_items,
+    plain_modules_that_are_read_have_plain_items, plain_names_that_are_read_are_not_this,
     plain_trees_that_are_read_are_taken,
 };
 use ecma_text_sources::trees_that_are_read_are_read;
@@ -19,7 +19,7 @@ pub fn relaid_modules_are_read_again()
 {
     trees_that_are_read_are_read();
     plain_trees_that_are_read_are_taken();
-    plain_texts_without_assignments_have_plain_items();
+    plain_modules_that_are_read_have_plain_items();
     plain_functions_that_are_read_have_bodies();
     plain_names_that_are_read_are_not_this();
     functions_are_usual_by_tests();

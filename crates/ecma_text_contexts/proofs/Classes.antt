@@ -1,5 +1,5 @@
 -- Classes and their members weigh no more than their parts and one.
-use Rattle.std.proofs.Common.{◌≤◌, ◌+◌, Bool, false, List, [], ◌∷◌, codes, arith}
+use Rattle.std.proofs.Common.{◌≤◌, ◌+◌, Bool, false, List, [], ◌∷◌, None, codes, arith}
 use Rattle.ecma_kind.specs.declared.span.Span.{Span}
 use Rattle.ecma_kind.specs.declared.operators.MethodKind.{MethodKind}
 use Rattle.ecma_kind.specs.declared.operators.MethodKind.TheVariants.{Method, Getter, Setter}
@@ -7,13 +7,13 @@ use Rattle.ecma_kind.specs.declared.operators.MemberModifiers.{MemberModifiers}
 use Rattle.ecma_kind.specs.declared.kind.Kind.{Kind}
 use Rattle.ecma_kind.specs.declared.kind.Kind.TheVariants as kind
 use Rattle.ecma_tree.specs.declared.node.Node.{Node}
-use Rattle.ecma_tree.specs.Nodes.{node_of}
+use Rattle.ecma_tree.specs.Nodes.{absent, node_of}
 use Rattle.ecma_grammar.specs.trees.Parts.{children_of, is_present, kind_of}
-use Rattle.ecma_grammar.specs.trees.Functions.{accessibility_of, function_of, has_word}
-use Rattle.ecma_grammar.specs.trees.Classes.{class, constructor_of, field, field_kind, index_signature, is_constructor, member, member_by, method, method_by, method_kind, modified, no_modifiers}
+use Rattle.ecma_grammar.specs.trees.Functions.{accessibility_of, function_of, has_word, parameters}
+use Rattle.ecma_grammar.specs.trees.Classes.{class, constructor_of, field, field_kind, index_signature, is_constructor, member, member_by, method, method_by, method_kind, modified, new_signature, no_modifiers, type_signature}
 use Rattle.ecma_text_contexts.proofs.Weights.{either_weighs, here_at_most_one, missing_weighs_little, weight, weight_made, weight_parts, weights, worth}
 use Rattle.ecma_text_contexts.proofs.Chains.{framed_weighs}
-use Rattle.ecma_text_contexts.proofs.Functions.{function_of_light}
+use Rattle.ecma_text_contexts.proofs.Functions.{function_of_light, parameters_light}
 
 pub class_light : (at : Span) (k : Kind) (is_abstract : Bool) (xs : List Node) → weight (class at k is_abstract xs) ≤ worth xs
 class_light at k is_abstract (name ∷ type_params ∷ super_class ∷ super_type_params ∷ implements ∷ members ∷ []) =
@@ -80,3 +80,21 @@ member_light at xs = missing_weighs_little _
 pub index_light : (at : Span) (xs : List Node) → weight (index_signature at xs) ≤ worth xs
 index_light at (modifiers ∷ index ∷ annotation ∷ []) = let a = weight_made at (kind.TsIndexSignature (has_word (codes "readonly") modifiers) (has_word (codes "static") modifiers)) [] in omega arith
 index_light at xs = missing_weighs_little _
+
+pub type_signature_light : (at : Span) (m : MethodKind) (xs : List Node) → weight (type_signature at m xs) ≤ worth xs
+type_signature_light at m (front ∷ params ∷ []) =
+    let made = function_of at false false absent params absent absent in
+    let a = weight_made at (kind.ClassMethod m (no_modifiers false)) (front ∷ made ∷ []) in
+    let b = function_of_light at false false absent params absent absent in
+    let c = here_at_most_one (kind.ClassMethod m (no_modifiers false)) in
+    let d = missing_weighs_little 0 in
+    omega arith
+type_signature_light at m xs = missing_weighs_little _
+
+pub new_signature_light : (at : Span) (xs : List Node) → weight (new_signature at xs) ≤ worth xs
+new_signature_light at (front ∷ params ∷ []) =
+    let a = weight_made at (kind.Constructor None false) (front ∷ parameters params ∷ absent ∷ []) in
+    let b = parameters_light params in
+    let d = missing_weighs_little 0 in
+    omega arith
+new_signature_light at xs = missing_weighs_little _

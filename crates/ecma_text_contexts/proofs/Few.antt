@@ -11,7 +11,8 @@ use Rattle.ecma_grammar.specs.trees.Others.{the_one}
 use Rattle.ecma_grammar.specs.trees.Parts.{framed}
 use Rattle.ecma_rules.specs.Finishing.{finished}
 use Rattle.ecma_rules.specs.Rules.{first_broken}
-use Rattle.ecma_modules.specs.Modules.{answer_by, kept_by, reads_as}
+use Rattle.ecma_modules.specs.Modules.{reads_as}
+use Rattle.ecma_text_types.proofs.Raws.{of_raw}
 use Rattle.ecma_text_contexts.specs.Laws.{NeededIsBoundedByTheText}
 use Rattle.ecma_text_contexts.proofs.Weights.{weight, weights, worth}
 use Rattle.ecma_text_contexts.proofs.Chains.{framed_weighs}
@@ -49,19 +50,13 @@ module _ (text : List ℕ) (mode : Mode) (bound : ℕ) (utf8 : IsUtf8 text) wher
       by_outcome (too_deep at) h f = cc
 
   tree_weight : (tree : Node) → reads_as text mode bound ≡ Ok tree → weight tree ≤ most
-  tree_weight tree e = of_answer (grammar.answer_of (reads_module text mode bound)) (λ raw is. raw_weight raw is) e
-    where
-      kept : (raw : Node) (broken : Option ℕ) → weight raw ≤ most → kept_by raw broken ≡ Ok tree → weight tree ≤ most
-      kept raw None h f =
-          let is : finished raw ≡ tree = cc in
-          let same = ap weight is in
-          let a = finished_weight raw in
-          omega arith
-      kept raw (Some at) h f = cc
-
-      of_answer : (a : Result Node RawError) → ((raw : Node) → a ≡ Ok raw → weight raw ≤ most) → answer_by a ≡ Ok tree → weight tree ≤ most
-      of_answer (Ok raw) h f = kept raw (first_broken raw) (h raw refl) f
-      of_answer (Err reason) h f = cc
+  tree_weight tree e =
+      of_raw (λ n. weight n ≤ most) text mode bound tree
+      (λ raw h b is.
+      (let same = ap weight is in
+      let a = finished_weight raw in
+      let c = raw_weight raw h in
+      omega arith)) e
 
 pub needed_is_bounded : NeededIsBoundedByTheText
 needed_is_bounded text mode bound tree utf8 e =

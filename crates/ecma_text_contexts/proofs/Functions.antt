@@ -76,7 +76,7 @@ all_wrapped_light (n ∷ ns) =
     let d = sum_by-cons weight (wrapped n) (map wrapped ns) in
     omega arith
 
-parameters_light : (n : Node) → weight (parameters n) ≤ weight n
+pub parameters_light : (n : Node) → weight (parameters n) ≤ weight n
 parameters_light n =
     let a = list_weight (map wrapped (children_of n)) in
     let b = all_wrapped_light (children_of n) in

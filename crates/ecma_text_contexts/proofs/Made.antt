@@ -15,13 +15,13 @@ use Rattle.ecma_grammar.specs.declared.production.Form.TheVariants as form
 use Rattle.ecma_grammar.specs.trees.Parts.{children_of, framed, from_to, is_present, kind_of, span_of}
 use Rattle.ecma_grammar.specs.trees.Plain.{plain_kind}
 use Rattle.ecma_grammar.specs.trees.Functions.{annotated, arrow, declarator, function, getter, parameter, setter, yield_}
-use Rattle.ecma_grammar.specs.trees.Classes.{class, field, index_signature, member, method}
+use Rattle.ecma_grammar.specs.trees.Classes.{class, field, index_signature, member, method, new_signature, type_signature}
 use Rattle.ecma_grammar.specs.trees.Others.{assertion, const_assertion, declared, declared_kind, elements, headed, import_equals, missing, module_of, namespace, namespaces, sequence, swapped, text_of, the_one, type_assertion}
 use Rattle.ecma_grammar.specs.Made.{made}
 use Rattle.ecma_text_contexts.proofs.Weights.{either_weigh, either_weighs, here, here_at_most_one, list_weight, missing_weighs_little, weight, weight_made, weight_parts, weights, worth}
 use Rattle.ecma_text_contexts.proofs.Chains.{chained_light, construction_light, framed_weighs, links_light, logical_light, template_light}
 use Rattle.ecma_text_contexts.proofs.Functions.{annotated_light, arrow_light, declarator_light, function_light, getter_light, parameter_light, setter_light, yield_light}
-use Rattle.ecma_text_contexts.proofs.Classes.{class_light, field_light, index_light, member_light, method_light}
+use Rattle.ecma_text_contexts.proofs.Classes.{class_light, field_light, index_light, new_signature_light, member_light, method_light, type_signature_light}
 
 swapped_light : (xs : List Node) → weights (swapped xs) ≤ weights xs
 swapped_light xs = go (nat_le 2 (length xs)) refl
@@ -167,6 +167,8 @@ module _ (lo hi : ℕ) (xs : List Node) where
   made_light form.Field = framed_of 5 (field at) (field_light at xs)
   made_light form.Modified = framed_of 2 (member at) (member_light at xs)
   made_light form.IndexSignature = framed_of 3 (index_signature at) (index_light at xs)
+  made_light (form.Signature k) = framed_of 2 (type_signature at k) (type_signature_light at k xs)
+  made_light form.NewSignature = framed_of 2 (new_signature at) (new_signature_light at xs)
   made_light form.Headed = framed_within 2 (headed at) (headed_light at xs)
   made_light form.Declared = framed_within 1 (declared at) (declared_light at xs)
   made_light form.Namespace = worthy _ (namespace_light at xs)

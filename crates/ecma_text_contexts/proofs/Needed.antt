@@ -8,7 +8,7 @@ use Rattle.ecma_tree.specs.declared.node.Node.TheViews.{out-roll-Node}
 use Rattle.ecma_tree.proofs.Layers.{from_leaves-roll}
 use Rattle.ecma_scope.specs.declared.role.Role.{Role}
 use Rattle.ecma_scope.specs.declared.role.Role.TheVariants as role
-use Rattle.ecma_scope.specs.Scopes.{is_catch_body, is_default, is_there, opens_by, role_in}
+use Rattle.ecma_scope.specs.Scopes.{is_default, is_there, opens_by, role_in}
 use Rattle.ecma_scope.specs.Needs.{has_computed_key, helpers_by, needed, needed_at, needed_here, needed_in, needed_step}
 use Rattle.ecma_text_contexts.proofs.Weights.{here, weight, weights, weight_rolled}
 
@@ -22,7 +22,6 @@ one_and_none b = let a = one_at_most b in omega arith
 kind_needs : (r : Role) (k : Kind) (named computed : Bool) → cond (opens_by r k named) 1 0 + helpers_by k computed ≤ here k
 unfolding opens_by helpers_by
 kind_needs r kind.FnExpr named computed = one_and_none (named && not (is_default r))
-kind_needs r kind.BlockStmt named computed = one_and_none (not (is_catch_body r))
 kind_needs r (kind.ClassProp modifiers readonly declare definite) named computed = let a = one_at_most computed in omega arith
 kind_needs r _ named computed = omega arith
 

@@ -18,7 +18,7 @@ use Rattle.ecma_grammar.specs.Made.{made}
 use Rattle.ecma_grammar.specs.PartBodies.{part_body}
 use Rattle.ecma_grammar.specs.Reading as reading
 use Rattle.ecma_grammar.specs.Reading.{Outcome, Position, Reading, ahead_on, fails, followed_on, many_on, many_up_to, or_on, pure, read, then_on, too_deep, unless_on, with_front}
-use Rattle.ecma_grammar.specs.Reads.{Parts, built_on, kept_leaf, levels, next_start, same_line_on, token}
+use Rattle.ecma_grammar.specs.Reads.{Parts, built_on, kept_leaf, levels, levels_by, next_start, same_line_on, token}
 use Rattle.ecma_grammar.specs.productions.Modules.{module_body}
 use Rattle.ecma_grammar_laws.specs.Repetitions.{reads_with}
 use Rattle.ecma_grammar_laws.specs.Takes.{terminal_takes}
@@ -211,7 +211,7 @@ module _ (text : List ℕ) where
       pays (build f a) s i h = pays_built f (next_start text s) s.place (balance a) (R a s) (pays a s i h)
 
     levels_pay : (n : ℕ) → PartsPay (levels text mode n)
-    unfolding levels
+    unfolding levels_by
     levels_pay zero u at s i = pays_deep s.place (part_balance u) at
     levels_pay (suc n) u at s i =
         let w = and_parts (repeats_pay (part_body u)) (is_least (part_balance u) (balance (part_body u))) (parts_pay u) in

@@ -37,7 +37,7 @@ use Rattle.ecma_raw_roles.specs.RawRoles.{is_unvalued}
 use Rattle.ecma_text_fits_finished.proofs.Constructors.{one_constructor}
 use Rattle.ecma_text_fits_finished.proofs.Everywhere.{finished_good}
 use Rattle.ecma_text_fits_leaves.proofs.RawTexts.{untagged}
-use Rattle.ecma_text_fits_finished.proofs.Raws.{of_raw}
+use Rattle.ecma_text_types.proofs.Raws.{of_raw}
 use Rattle.ecma_text_fits_leaves.proofs.Programs.{inner_children, inner_kind, is_inner, module_children}
 use Rattle.ecma_text_fits_leaves.proofs.ReadHashbangs.{IsModule, module_told}
 use Rattle.ecma_text_fits_leaves.proofs.ReadLeaves.{Told, leaf_told}

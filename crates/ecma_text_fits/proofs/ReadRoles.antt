@@ -10,7 +10,7 @@ use Rattle.ecma_fits.specs.Strays.{is_stray_target}
 use Rattle.ecma_text_fits.specs.Laws.{FinishedTargetsAreNoStrays, FinishedTreesHaveTheirRoles, ReadTargetsAreNoStrays, ReadTreesHaveTheirRoles}
 use Rattle.ecma_fits.specs.Fitting.{NoneFails}
 use Rattle.ecma_text_fits_finished.proofs.FinishedRoles.{roles_finished}
-use Rattle.ecma_text_fits_finished.proofs.Raws.{of_raw}
+use Rattle.ecma_text_types.proofs.Raws.{of_raw}
 use Rattle.ecma_text_fits_roles.proofs.RoleReads.{modules_placed}
 use Rattle.ecma_fits.proofs.Clauses.{less, out_of_role, stray_target}
 use Rattle.ecma_fits.proofs.Walks.{neither}

@@ -27,7 +27,7 @@ use Rattle.ecma_text_fits.specs.Laws.{ReadTreesKeepRules, ReadBranchesTakeTheirE
 use Rattle.ecma_text_fits.proofs.SoundStays.{finished_sound}
 use Rattle.ecma_tree.proofs.Layers.{from_leaves-roll}
 use Rattle.ecma_text_fits_parts.proofs.RawSound.{raw_sound}
-use Rattle.ecma_text_fits_finished.proofs.Raws.{of_raw}
+use Rattle.ecma_text_types.proofs.Raws.{of_raw}
 use Rattle.ecma_text_fits_parts.proofs.Sound.{Sound, are_attributes, are_several, has, holds_with, is_attribute_list, is_base, is_choice, is_export, is_export_all, is_function, is_import, is_linked, is_list_of, is_method_pair, is_named_well, is_object, is_template, items, may_be_named}
 use Rattle.ecma_text_fits_parts.proofs.Steps.{one_true}
 use Rattle.ecma_text_fits_parts.proofs.Throughout.{EachThroughout, Throughout, below, here, more}

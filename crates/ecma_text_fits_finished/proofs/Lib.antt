@@ -5,7 +5,6 @@ pub mod Rules
 pub mod Constructors
 pub mod Everywhere
 pub mod Strays
-pub mod Raws
 pub mod TextParts
 pub mod RoleKinds
 pub mod RoleChildren

@@ -21,7 +21,7 @@ use Rattle.ecma_rules.specs.Children.{child_holds, child_is, children_of as item
 use Rattle.ecma_rules.specs.Finishing.{each_in, finished_at, finished}
 use Rattle.ecma_rules.specs.Jumps.{first_stray}
 use Rattle.ecma_rules.specs.Lists.{is_early_rest, is_head, is_item, is_one_without_value, is_rest, is_rest_pattern, is_wrong_head}
-use Rattle.ecma_rules.specs.Members.{behind_first, fits_kind, is_constructor_key, is_declaring, is_method, is_misfit, is_plain_parameter, is_property_kind, is_special_by, is_special_constructor, is_special_function, is_stray_property, is_this_parameter, is_this_pattern, misfits_by, misplaces_this, misplaces_this_by, takes_not_one}
+use Rattle.ecma_rules.specs.Members.{behind_first, fits_kind, is_constructor_key, is_declaring, is_method, is_misfit, is_plain_parameter, is_property_kind, is_special_by, is_special_constructor, is_special_function, is_stray_property, is_this_parameter, is_this_pattern, misfits_by, misplaces_this, misplaces_this_by, takes_not_one, has_body}
 use Rattle.ecma_rules.specs.Rules.{first_misplaced, is_misplaced, first_broken}
 use Rattle.ecma_rules.specs.Statements.{is_body, is_declaration, is_exported, is_text}
 use Rattle.ecma_rules.specs.Surroundings.{at_root}
@@ -30,7 +30,7 @@ use Rattle.ecma_fits.specs.declared.unfit.Where.{Where}
 use Rattle.ecma_fits.specs.Fitting.{at_top, breaks_rule, NoneFails}
 use Rattle.ecma_raw_roles.proofs.Walks.{not_true, kind_made}
 use Rattle.ecma_text_fits_finished.proofs.Standing.{Stands, as_last, keeps_last, kept_rules, presence, shown}
-use Rattle.ecma_text_fits_finished.proofs.Tests.{all_stay, further_stay, kind_at, kind_fits, patterns_stay, plain_parameter, test_at, this_pattern, without_value}
+use Rattle.ecma_text_fits_finished.proofs.Tests.{all_stay, further_stay, kind_at, kind_fits, patterns_stay, plain_parameter, test_at, this_pattern, without_value, free_has_child}
 use Rattle.ecma_text_fits_finished.proofs.Ruled.{is_made, ruled}
 use Rattle.ecma_fits.proofs.Walks.{neither, neither_least}
 
@@ -173,11 +173,22 @@ module _ (t : Target) (span : Span) where
   function_fits k (c ∷ []) p h = refl
   function_fits k (c ∷ f ∷ cs) p h = kind_fits k f h.1.0
 
+  function_bodied : (cs : List Node) (p : Shape) → HaveShapes (p ∷ one sort.Function ∷ []) (each_in (λ i. target.Free) (map finished_at cs))
+      → holds_of has_body (slice_get (each_in (λ i. target.Free) (map finished_at cs)) 1) ≡ holds_of has_body (slice_get cs 1)
+  function_bodied [] p h = refl
+  function_bodied (c ∷ []) p h = refl
+  function_bodied (c ∷ f ∷ cs) p h = free_has_child f 1
+
   accessors_stay : (k : Kind) (cs : List Node) (o : Shape) (n : ℕ) → HaveShapes (child_shapes k o n) (kids k cs) → misfits_by k (now_node k cs) ≡ misfits_by k (was_node k cs)
   unfolding misfits_by target_in
   accessors_stay kind.AssignPat cs o n h = by_children (λ z. of_kind is_rest_pattern (slice_get z 0)) kind.AssignPat cs (kind_at is_rest_pattern (λ i. target.Free) cs 0 refl)
-  accessors_stay kind.GetterProp cs o n h = by_children (λ z. of_kind is_present (slice_get z 3)) kind.GetterProp cs (presence (λ i. target.Free) cs 3)
-  accessors_stay kind.SetterProp cs o n h = by_children (λ z. of_kind takes_not_one (slice_get z 2)) kind.SetterProp cs (kind_at takes_not_one (λ i. target.Free) cs 2 refl)
+  accessors_stay kind.GetterProp cs o n h =
+      by_children (λ z. of_kind is_present (slice_get z 3) || not (of_kind is_present (slice_get z 2))) kind.GetterProp cs
+      (ap₂ (λ a b. a || not b) (presence (λ i. target.Free) cs 3) (presence (λ i. target.Free) cs 2))
+  accessors_stay kind.SetterProp cs o n h =
+      by_children (λ z. of_kind takes_not_one (slice_get z 2) || not (of_kind is_present (slice_get z 3))) kind.SetterProp cs
+      (ap₂ (λ a b. a || not b) (kind_at takes_not_one (λ i. target.Free) cs 2 refl) (presence (λ i. target.Free) cs 3))
+  accessors_stay kind.MethodProp cs o n h = by_children (λ z. not (holds_of has_body (slice_get z 1))) kind.MethodProp cs (ap not (function_bodied cs (one sort.PropName) h))
   accessors_stay (kind.ClassMethod k modifiers) cs o n h = by_children (λ z. not (holds_of (fits_kind k) (slice_get z 1))) (kind.ClassMethod k modifiers) cs (ap not (function_fits k cs (one sort.PropName) h))
   accessors_stay (kind.PrivateMethod k modifiers) cs o n h = by_children (λ z. not (holds_of (fits_kind k) (slice_get z 1))) (kind.PrivateMethod k modifiers) cs (ap not (function_fits k cs (one sort.PrivateName) h))
   accessors_stay _ cs o n h = refl

@@ -23,7 +23,7 @@ use Rattle.ecma_fits.specs.Roles.{at_child, bound_name_of, by, in_default, in_li
 use Rattle.ecma_tree.proofs.Layers.{from_leaves-roll}
 use Rattle.ecma_raw_roles.specs.RawRoles.{HasRawRole, is_parameter, is_unvalued, may_be_raw, may_stand, raw_role, raw_role_in, usual_role_in}
 use Rattle.ecma_raw_roles.proofs.Placed.{Along, least_along, raw_parts}
-use Rattle.ecma_text_fits_finished.proofs.Raws.{of_raw}
+use Rattle.ecma_text_types.proofs.Raws.{of_raw}
 use Rattle.ecma_text_fits_finished.proofs.Standing.{finished_parts}
 use Rattle.ecma_raw_roles.proofs.Walks.{kind_made, not_true}
 use Rattle.ecma_grammar.specs.Modules.{answer_of, reads_module}

@@ -28,7 +28,7 @@ use Rattle.ecma_grammar.specs.Reading.{Position, Outcome, read, fails, too_deep,
 use Rattle.ecma_grammar.specs.Grammar as grammar
 use Rattle.ecma_grammar.specs.Grammar.{Grammar}
 use Rattle.ecma_grammar.specs.Made.{made}
-use Rattle.ecma_grammar.specs.Reads.{reads, levels, Parts, token, same_line_on, built_on, next_start, kept_leaf, leaf_node}
+use Rattle.ecma_grammar.specs.Reads.{reads, levels, levels_by, Parts, token, same_line_on, built_on, next_start, kept_leaf, leaf_node}
 use Rattle.ecma_grammar.specs.PartBodies.{part_body}
 use Rattle.ecma_grammar.specs.productions.Modules.{module_body, module_item}
 use Rattle.ecma_text_leaves.specs.Everywhere.{Each, Everywhere, none, more}
@@ -209,7 +209,7 @@ module _ (P : Kind → Type 0) (others : (k : Kind) → is_leaf k ≡ false → 
       reads_hold (grammar.build f a) s h = holds_built All All f (next_start text s) (reads text mode parts a s) (reads_hold a s h) (λ hi xs q. more (node_made f (next_start text s) hi q) none)
 
     levels_hold : (n : ℕ) (p : Part) (at : ℕ) (s : Position) → Holds (levels text mode n p at s) All
-    unfolding levels
+    unfolding levels_by
     levels_hold zero p at s = holds_deep All at
     levels_hold (suc n) p at s = reads_hold (levels text mode n) (levels_hold n) (part_body p) s (part_no_hashbang p)
 

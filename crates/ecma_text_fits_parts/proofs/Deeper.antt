@@ -22,7 +22,7 @@ use Rattle.ecma_grammar.specs.Grammar.{Grammar, Terminal, any, the_punct, the_wo
 use Rattle.ecma_grammar.specs.Made.{made}
 use Rattle.ecma_grammar.specs.PartBodies.{part_body}
 use Rattle.ecma_grammar.specs.Reading.{Outcome, Position, Reading, ahead_on, fails, followed_on, many_on, many_up_to, marked, or_on, pure, read, terminal_on, then_on, too_deep, unless_on, with_front, ◌>>=◌}
-use Rattle.ecma_grammar.specs.Reads.{Parts, any_token, built_on, hashbang_token, leaf_node, levels, next_start, part_on, reads, regex_token, same_line_on, template_part, token, word_token}
+use Rattle.ecma_grammar.specs.Reads.{Parts, any_token, built_on, hashbang_token, leaf_node, levels, levels_by, next_start, part_on, reads, regex_token, same_line_on, template_part, token, word_token}
 
 -- the second reads what the first reads, up to the same place, and fails where that fails
 abbrev pub Like : {A : Type 0} → Outcome A → Outcome A → Type 0
@@ -221,7 +221,7 @@ module _ (text : List ℕ) where
 
     -- with more levels
     pub same_levels : (n m : ℕ) → n ≤ m → (p : Part) (at to : ℕ) → SameFrom (levels text mode n p at) (levels text mode m p to)
-    unfolding levels
+    unfolding levels_by
     same_levels zero m l p at to s t e = tt
     same_levels (suc n) zero l p at to s t e = absurd (omega arith)
     same_levels (suc n) (suc m) l p at to s t e = same_reads (levels text mode n) (levels text mode m) (same_levels n m (omega arith)) (part_body p) s t e

@@ -22,7 +22,7 @@ use Rattle.ecma_grammar.specs.productions.Declarations.{declaration}
 use Rattle.ecma_grammar.specs.productions.Names.{assign, block, ident, statement}
 use Rattle.ecma_grammar.specs.productions.Statements.{do_while, expression_statement, for_, for_await, for_head, for_left, if_, in_parentheses, jump, labeled, statement_body, switch, try_, while_}
 use Rattle.ecma_grammar.specs.Reading.{Outcome, Position, Reading, fails, followed_on, or_on, read, too_deep, with_front}
-use Rattle.ecma_grammar.specs.Reads.{built_on, levels, next_start, reads}
+use Rattle.ecma_grammar.specs.Reads.{built_on, levels, levels_by, next_start, reads}
 use Rattle.ecma_grammar.specs.trees.Others.{headed}
 use Rattle.ecma_grammar.specs.trees.Parts.{children_of, framed, from_to, kind_of}
 use Rattle.ecma_fits.specs.Branches.{holds_at_last, last_part, takes_else, takes_else_step}
@@ -378,7 +378,7 @@ module _ (text : List ℕ) (mode : Mode) where
   Level n = ((p : Part) (at : ℕ) (s : Position) → Holds (levels text mode n p at s) (Given (part_keeps p))) × ((at : ℕ) (s : Position) → HoldsAt (levels text mode n part.Statement at s) (IsStatement n))
 
   first_level : Level zero
-  unfolding levels
+  unfolding levels_by
   first_level = (λ p at s. holds_deep (Given (part_keeps p)) at, λ at s t xs e. cc)
 
   part_given : (n : ℕ) → Level n → (p : Part) (at : ℕ) (s : Position) → Holds (At n (part_body p) s) (Given (part_keeps p))
@@ -386,7 +386,7 @@ module _ (text : List ℕ) (mode : Mode) where
   part_given n l p at s = given n l.0 l.1 (part_body p) (part_keeps p) s (part_kept p refl)
 
   next_level : (n : ℕ) → Level n → Level (suc n)
-  unfolding levels
+  unfolding levels_by
   next_level n l = (part_given n l, λ at s. deeper n (At n statement_body s) (one_statement n l.0 l.1 s))
 
   every_level : (n : ℕ) → Level n

@@ -20,8 +20,8 @@ use Rattle.ecma_fits.specs.declared.role.Role.TheVariants as role
 use Rattle.ecma_fits.specs.Roles.{may_be, role_in}
 use Rattle.ecma_raw_roles.specs.RawRoles.{HasRawRole, may_be_raw, raw_role_in, usual_role_in}
 use Rattle.ecma_raw_roles.proofs.Placed.{Along, absent_free, along_same, displaced_by, placed, placed_parts, public_free}
-use Rattle.ecma_text_fits_roles.proofs.RoleAsks.{Ask, Given, MeetAll, Meets, free, head, these, whatever}
-use Rattle.ecma_text_fits_roles.proofs.RoleNeeds.{as_free, class_parts, field_parts, if_so, is_class, method_parts}
+use Rattle.ecma_text_fits_roles.proofs.RoleAsks.{Ask, Given, MeetAll, Meets, free, head, these, whatever, any}
+use Rattle.ecma_text_fits_roles.proofs.RoleNeeds.{as_free, class_parts, field_parts, if_so, is_class, method_parts, type_signature_needs}
 use Rattle.ecma_text_fits_roles.proofs.RoleGiven.{no, two}
 use Rattle.ecma_text_fits_roles.proofs.RoleForms.{framed_free, freely, made_of}
 use Rattle.ecma_text_fits_roles.proofs.RoleFunctions.{function_free}
@@ -145,6 +145,11 @@ signature_free span (a ∷ b ∷ c ∷ d ∷ ds) = absent_free
 
 pub signature_made : (q : Ask) (span : Span) (xs : List Node) → Given (as_free q whatever) xs → Meets q (framed 3 (index_signature span) xs)
 signature_made q span xs g = freely q whatever (framed 3 (index_signature span) xs) xs (λ m. framed_free 3 (index_signature span) xs (signature_free span xs)) g
+
+-- nothing is asked of a signature inside a type
+pub type_signature_made : (q : Ask) (n : Node) (xs : List Node) → Given (type_signature_needs q) xs → Meets q n
+type_signature_made any n xs g = tt
+type_signature_made _ n xs g = absurd g
 
 -- loops, and what stands behind `declare`
 

@@ -11,7 +11,7 @@ use Rattle.ecma_text_fits_roles.proofs.RoleNeeds.{needs}
 use Rattle.ecma_text_fits_roles.proofs.RoleForms.{assertion_made, bare_made, chain_made, construction_made, elements_made, first_made, list_made, logical_made, namespace_made, sequence_made, template_made}
 use Rattle.ecma_text_fits_roles.proofs.RoleLinks.{any_node_made, any_swapped_made, links_made}
 use Rattle.ecma_text_fits_roles.proofs.RoleFunctions.{annotated_made, arrow_made, declarator_made, function_made, getter_made, parameter_made, setter_made, yield_made}
-use Rattle.ecma_text_fits_roles.proofs.RoleClasses.{class_made, declared_made, field_made, headed_made, import_equals_made, method_made, modified_made, module_made, signature_made}
+use Rattle.ecma_text_fits_roles.proofs.RoleClasses.{class_made, declared_made, field_made, headed_made, import_equals_made, method_made, modified_made, module_made, signature_made, type_signature_made}
 
 pub form_made : (f : Form) (q : Ask) (lo hi : ℕ) (xs : List Node) → Given (needs f q) xs → Meets q (made f lo hi xs)
 form_made (form.Node p) q lo hi xs g = any_node_made p q (from_to lo hi) xs g
@@ -40,6 +40,8 @@ form_made (form.Method k) q lo hi xs g = method_made k q (from_to lo hi) xs g
 form_made form.Field q lo hi xs g = field_made q (from_to lo hi) xs g
 form_made form.Modified q lo hi xs g = modified_made q (from_to lo hi) xs g
 form_made form.IndexSignature q lo hi xs g = signature_made q (from_to lo hi) xs g
+form_made (form.Signature k) q lo hi xs g = type_signature_made q _ xs g
+form_made form.NewSignature q lo hi xs g = type_signature_made q _ xs g
 form_made form.Headed q lo hi xs g = headed_made q (from_to lo hi) xs g
 form_made form.Declared q lo hi xs g = declared_made q (from_to lo hi) xs g
 form_made form.Namespace q lo hi xs g = namespace_made q (from_to lo hi) xs g

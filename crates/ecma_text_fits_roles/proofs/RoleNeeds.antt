@@ -183,6 +183,11 @@ field_parts = at role.Private ∷ free ∷ free ∷ free ∷ free ∷ []
 abbrev pub declarator_parts : List Ask
 declarator_parts = single role.Declared ∷ free ∷ free ∷ free ∷ []
 
+-- a signature inside a type has no role
+abbrev pub type_signature_needs : Ask → Asked
+type_signature_needs any = whatever
+type_signature_needs _ = never
+
 -- what a form has to be given, where what it makes has to meet an ask
 abbrev pub needs : Form → Ask → Asked
 needs (form.Node p) q = node_needs p q
@@ -211,6 +216,8 @@ needs (form.Method k) q = as_free q (these method_parts)
 needs form.Field q = as_free q (these field_parts)
 needs form.Modified q = as_free q (these (free ∷ free ∷ []))
 needs form.IndexSignature q = as_free q whatever
+needs (form.Signature k) q = type_signature_needs q
+needs form.NewSignature q = type_signature_needs q
 needs form.Headed q = as_free q (these (head ∷ free ∷ []))
 needs form.Declared q = as_free q (these (free ∷ []))
 needs form.Namespace q = as_free q (each free)

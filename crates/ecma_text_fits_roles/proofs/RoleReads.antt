@@ -15,7 +15,7 @@ use Rattle.ecma_grammar.specs.Grammar as grammar
 use Rattle.ecma_grammar.specs.Grammar.{Grammar}
 use Rattle.ecma_grammar.specs.Reading as reading
 use Rattle.ecma_grammar.specs.Reading.{Position, Outcome, read, fails, too_deep, Reading, then_on, pure, with_front, followed_on, or_on, many_on, many_up_to, ahead_on, unless_on}
-use Rattle.ecma_grammar.specs.Reads.{reads, levels, Parts, built_on, token, next_start, same_line_on, kept_leaf}
+use Rattle.ecma_grammar.specs.Reads.{reads, levels, levels_by, Parts, built_on, token, next_start, same_line_on, kept_leaf}
 use Rattle.ecma_grammar.specs.Made.{made}
 use Rattle.ecma_grammar.specs.trees.Parts.{flag_node, in_front}
 use Rattle.ecma_grammar.specs.PartBodies.{part_body}
@@ -172,7 +172,7 @@ module _ (text : List ℕ) (mode : Mode) where
     as_asked (grammar.build f b) q e s = let w = two (is_one q) (keeps b (needs f (of_one q))) e in reads_built q f (next_start text s) (R b s) w.0 (as_asked b (needs f (of_one q)) w.1 s)
 
   levels_keep : (n : ℕ) → PartsKeep (levels text mode n)
-  unfolding levels
+  unfolding levels_by
   levels_keep zero u m s = reads_none (part_keeps u) m
   levels_keep (suc n) u m s = as_asked (levels text mode n) (levels_keep n) (part_body u) (part_keeps u) (part_kept u) s
 

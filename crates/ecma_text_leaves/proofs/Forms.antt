@@ -19,7 +19,7 @@ use Rattle.ecma_grammar.specs.trees.Parts.{kind_of, span_of, children_of, from_t
 use Rattle.ecma_grammar.specs.trees.Plain.{plain_kind}
 use Rattle.ecma_grammar.specs.trees.Chains.{steps, all_steps, is_and, is_or, right_in_front, in_front_logical, goes_on, linked, Callee, instantiated, callee_by, callee_of, member_of, call_of, tagged_of, optional_of, link_by, in_front_link, new_expr, construction, template, is_substitution, is_text_part}
 use Rattle.ecma_grammar.specs.trees.Functions.{questioned_kind, questioned, questioned_part, annotated_of, annotated_pattern, annotated, end_of, declarator, accessibility_of, parameter, wrapped_by, wrapped, parameters, function_of, function, arrow, yield_, getter, is_this, setter_of, setter_by, setter}
-use Rattle.ecma_grammar.specs.trees.Classes.{class, is_private_name, no_modifiers, method_kind, method, field_kind, field, modified, is_constructor, constructor_of, method_by, member_by, member, index_signature}
+use Rattle.ecma_grammar.specs.trees.Classes.{class, is_private_name, no_modifiers, method_kind, method, field_kind, field, modified, is_constructor, constructor_of, method_by, member_by, member, index_signature, new_signature, type_signature}
 use Rattle.ecma_grammar.specs.trees.Others.{swapped, missing, elements, the_one, sequence, headed, declared_kind, declared, nested, namespaces, namespace, import_equals, text_of, module_of, const_assertion, type_assertion, assertion}
 use Rattle.ecma_grammar.specs.Made.{made}
 use Rattle.ecma_text_leaves.specs.Everywhere.{none, more}
@@ -347,6 +347,19 @@ module _ (P : Kind → Type 0) (others : (k : Kind) → is_leaf k ≡ false → 
   index_good at (more a (more b (more c none))) = node at (kind.TsIndexSignature _ _) refl none
   index_good at (more a (more b (more c (more d h)))) = missing_node
 
+  type_signature_good : (at : Span) (m : MethodKind) {xs : List Node} → A xs → G (type_signature at m xs)
+  type_signature_good at m none = missing_node
+  type_signature_good at m (more a none) = missing_node
+  type_signature_good at m (more a (more b none)) =
+      node at (kind.ClassMethod m (no_modifiers false)) refl (more a (more (function_of_good at false false missing_node b missing_node missing_node) none))
+  type_signature_good at m (more a (more b (more c h))) = missing_node
+
+  new_signature_good : (at : Span) {xs : List Node} → A xs → G (new_signature at xs)
+  new_signature_good at none = missing_node
+  new_signature_good at (more a none) = missing_node
+  new_signature_good at (more a (more b none)) = node at (kind.Constructor None false) refl (more a (more (parameters_good b) (more missing_node none)))
+  new_signature_good at (more a (more b (more c h))) = missing_node
+
   -- lists, sequences, loops, ambient declarations, namespaces, imports by `=`, modules
 
   swapped_good : {xs : List Node} → A xs → A (swapped xs)
@@ -456,6 +469,8 @@ module _ (P : Kind → Type 0) (others : (k : Kind) → is_leaf k ≡ false → 
   made_good form.Field lo hi h = frames 5 _ h (λ k. field_good _ k)
   made_good form.Modified lo hi h = frames 2 _ h (λ k. member_form_good _ k)
   made_good form.IndexSignature lo hi h = frames 3 _ h (λ k. index_good _ k)
+  made_good (form.Signature k) lo hi h = frames 2 _ h (λ c. type_signature_good _ k c)
+  made_good form.NewSignature lo hi h = frames 2 _ h (λ k. new_signature_good _ k)
   made_good form.Headed lo hi h = frames 2 _ h (λ k. headed_good _ k)
   made_good form.Declared lo hi h = frames 1 _ h (λ k. declared_good _ k)
   made_good form.Namespace lo hi h = namespace_good _ h

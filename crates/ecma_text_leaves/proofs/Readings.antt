@@ -28,7 +28,7 @@ use Rattle.ecma_grammar.specs.Reading.{Position, Outcome, read, fails, too_deep,
 use Rattle.ecma_grammar.specs.Grammar as grammar
 use Rattle.ecma_grammar.specs.Grammar.{Grammar}
 use Rattle.ecma_grammar.specs.Made.{made}
-use Rattle.ecma_grammar.specs.Reads.{reads, levels, Parts, token, same_line_on, built_on, next_start, kept_leaf, leaf_node}
+use Rattle.ecma_grammar.specs.Reads.{reads, levels, levels_by, Parts, token, same_line_on, built_on, next_start, kept_leaf, leaf_node}
 use Rattle.ecma_grammar.specs.PartBodies.{part_body}
 use Rattle.ecma_grammar.specs.productions.Modules.{module_body, module_item}
 use Rattle.ecma_text_leaves.specs.Everywhere.{Each, none, more}
@@ -216,7 +216,7 @@ module _ (text : List ℕ) (u : IsUtf8 text) (mode : Mode) where
     reads_spelled (grammar.build f a) s h = holds_built AllSpelled AllSpelled f (next_start text s) (reads text mode parts a s) (reads_spelled a s h) (λ hi xs q. more (made_spelled f (next_start text s) hi q) none)
 
   levels_spelled : (n : ℕ) (p : Part) (at : ℕ) (s : Position) → Holds (levels text mode n p at s) AllSpelled
-  unfolding levels
+  unfolding levels_by
   levels_spelled zero p at s = holds_deep AllSpelled at
   levels_spelled (suc n) p at s = reads_spelled (levels text mode n) (levels_spelled n) (part_body p) s (part_no_hashbang p)
 

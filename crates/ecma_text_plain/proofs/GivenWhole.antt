@@ -1,6 +1,6 @@
--- What is said of the nodes that a grammar reads in plain mode: whether they are whole, how many they are where that is fixed, and which are there and neither
--- functions nor specifiers.
-use Rattle.std.proofs.Common.{◌≡◌, ◌∙◌, ℕ, zero, suc, Bool, true, false, ◌&&◌, ◌||◌, cond, List, [], ◌∷◌, ◌++◌, refl, sym}
+-- What is said of the nodes that a grammar reads in plain mode: whether they are whole, how many they are where that is fixed, which are there and neither
+-- functions nor specifiers nor imports by `=`, and which are a `require("m")`.
+use Rattle.std.proofs.Common.{◌≡◌, ◌∙◌, ℕ, zero, suc, Bool, true, false, not, ◌&&◌, ◌||◌, cond, List, [], ◌∷◌, ◌++◌, ap, refl, sym}
 use Rattle.std.specs.Prelude.{slice_set}
 use Rattle.std.proofs.lemmas.Bool.{and_parts}
 use Rattle.ecma_kind.specs.declared.kind.Kind.{Kind}
@@ -13,6 +13,8 @@ use Rattle.ecma_grammar.specs.declared.production.Leaf.{Leaf}
 use Rattle.ecma_grammar.specs.declared.production.Leaf.TheVariants as leaf
 use Rattle.ecma_grammar.specs.declared.production.Form.{Form}
 use Rattle.ecma_grammar.specs.declared.production.Form.TheVariants as form
+use Rattle.ecma_grammar.specs.declared.production.Plain.{Plain}
+use Rattle.ecma_grammar.specs.declared.production.Plain.TheVariants as plain
 use Rattle.ecma_grammar.specs.trees.Functions.{questioned_kind}
 use Rattle.ecma_grammar.specs.trees.Parts.{kind_of}
 use Rattle.ecma_grammar.specs.trees.Plain.{plain_kind}
@@ -20,10 +22,11 @@ use Rattle.ecma_grammar.specs.Grammar as grammar
 use Rattle.ecma_grammar.specs.Grammar.{Grammar}
 use Rattle.ecma_raw_roles.proofs.Walks.{not_true}
 use Rattle.ecma_plain.specs.Functions.{is_this_name}
+use Rattle.ecma_plain.specs.Items.{is_external}
 use Rattle.ecma_text_plain.proofs.Given.{is_plain_part}
 use Rattle.ecma_text_plain.proofs.Whole.{A, G, is_specifier, is_unusual, more, none}
 
--- it is there, no function that may lack its body, and no specifier
+-- it is there, no function that may lack its body, no specifier, and no import by `=`
 abbrev pub is_calm : Kind → Bool
 is_calm kind.Absent = false
 is_calm (kind.Function is_generator is_async) = false
@@ -33,6 +36,7 @@ is_calm kind.SetterProp = false
 is_calm (kind.ImportNamedSpecifier is_type_only) = false
 is_calm (kind.ExportNamedSpecifier is_type_only) = false
 is_calm kind.ExportNamespaceSpecifier = false
+is_calm (kind.TsImportEqualsDecl is_export is_type_only) = false
 is_calm _ = true
 
 pub calm_full : (k : Kind) (cs : List Node) → is_calm k ≡ true → is_unusual k cs ≡ false
@@ -40,6 +44,7 @@ calm_full (kind.Function is_generator is_async) cs h = not_true h
 calm_full (kind.Constructor accessibility is_optional) cs h = not_true h
 calm_full kind.GetterProp cs h = not_true h
 calm_full kind.SetterProp cs h = not_true h
+calm_full (kind.TsImportEqualsDecl is_export is_type_only) cs h = not_true h
 calm_full _ cs h = refl
 
 pub calm_there : (k : Kind) → is_calm k ≡ true → is_absent k ≡ false
@@ -52,6 +57,23 @@ calm_open (kind.ExportNamedSpecifier is_type_only) h = not_true h
 calm_open kind.ExportNamespaceSpecifier h = not_true h
 calm_open _ h = refl
 
+-- no import by `=`
+abbrev pub is_other : Kind → Bool
+is_other (kind.TsImportEqualsDecl is_export is_type_only) = false
+is_other _ = true
+
+pub calm_other : (k : Kind) → is_calm k ≡ true → is_other k ≡ true
+calm_other (kind.TsImportEqualsDecl is_export is_type_only) h = not_true h
+calm_other _ h = refl
+
+pub plain_other : (k : Plain) → is_other (plain_kind k) ≡ true
+plain_other plain.BindingIdent = refl
+plain_other _ = refl
+
+pub external_calm : (k : Kind) → is_external k ≡ true → is_calm k ≡ true
+external_calm kind.TsExternalModuleRef h = refl
+external_calm _ h = not_true h
+
 -- with fewer than three children none is lacking
 
 pub bare_full : (k : Kind) → is_unusual k [] ≡ false
@@ -62,15 +84,22 @@ pub one_full : (k : Kind) (a : Node) → is_unusual k (a ∷ []) ≡ false
 one_full kind.Absent a = refl
 one_full _ a = refl
 
-pub two_full : (k : Kind) (a b : Node) → is_unusual k (a ∷ b ∷ []) ≡ false
-two_full kind.Absent a b = refl
-two_full _ a b = refl
+pub two_full : (k : Kind) (a b : Node) → is_other k ≡ true → is_unusual k (a ∷ b ∷ []) ≡ false
+two_full kind.Absent a b h = refl
+two_full (kind.TsImportEqualsDecl is_export is_type_only) a b h = not_true h
+two_full _ a b h = refl
+
+-- what an import by `=` imports is told by its second child
+pub two_alike : (k : Kind) (a b x y : Node) → is_external (kind_of y) ≡ is_external (kind_of b) → is_unusual k (x ∷ y ∷ []) ≡ is_unusual k (a ∷ b ∷ [])
+two_alike kind.Absent a b x y h = refl
+two_alike (kind.TsImportEqualsDecl is_export is_type_only) a b x y h = ap not h
+two_alike _ a b x y h = refl
 
 -- the first child does not matter
 pub first_aside : (k : Kind) (cs : List Node) (x : Node) → is_unusual k (slice_set cs 0 x) ≡ is_unusual k cs
 first_aside k [] x = refl
 first_aside k (a ∷ []) x = one_full k x ∙ sym (one_full k a)
-first_aside k (a ∷ b ∷ []) x = two_full k x b ∙ sym (two_full k a b)
+first_aside k (a ∷ b ∷ []) x = two_alike k a b x b refl
 first_aside kind.Absent (a ∷ b ∷ c ∷ []) x = refl
 first_aside _ (a ∷ b ∷ c ∷ []) x = refl
 first_aside kind.Absent (a ∷ b ∷ c ∷ d ∷ []) x = refl
@@ -96,15 +125,17 @@ question_shut optional (kind.ArrayPat before) = refl
 question_shut optional (kind.ObjectPat before) = refl
 question_shut optional _ = refl
 
--- a node: any, a whole one, a whole one that is calm
+-- a node: any, a whole one, a whole one that is calm, a `require("m")`
 pub data Fact : Type 0 where
-  loose sound calm : Fact
+  loose sound calm external : Fact
 
 abbrev pub is_tight : Fact → Bool
 is_tight loose = false
 is_tight f = true
 
 abbrev pub weaker : Fact → Fact → Fact
+weaker external g = g
+weaker calm external = calm
 weaker calm calm = calm
 weaker loose g = loose
 weaker f loose = loose
@@ -154,18 +185,29 @@ joined g h = both g h
 
 abbrev pub is_calm_fact : Fact → Bool
 is_calm_fact calm = true
+is_calm_fact external = true
 is_calm_fact f = false
 
-abbrev pub calm_at : ℕ → List Fact → Bool
-calm_at i [] = true
-calm_at zero (f ∷ fs) = is_calm_fact f
-calm_at (suc i) (f ∷ fs) = calm_at i fs
+abbrev pub is_external_fact : Fact → Bool
+is_external_fact external = true
+is_external_fact f = false
+
+abbrev pub fact_at : (Fact → Bool) → ℕ → List Fact → Bool
+fact_at p i [] = true
+fact_at p zero (f ∷ fs) = p f
+fact_at p (suc i) (f ∷ fs) = fact_at p i fs
+
+abbrev pub given_at : (Fact → Bool) → ℕ → Given → Bool
+given_at p i never = true
+given_at p i anything = false
+given_at p i some = false
+given_at p i (exactly fs) = fact_at p i fs
 
 abbrev pub is_calm_at : ℕ → Given → Bool
-is_calm_at i never = true
-is_calm_at i anything = false
-is_calm_at i some = false
-is_calm_at i (exactly fs) = calm_at i fs
+is_calm_at i g = given_at is_calm_fact i g
+
+abbrev pub is_external_at : ℕ → Given → Bool
+is_external_at i g = given_at is_external_fact i g
 
 -- one behind another, and nothing more
 abbrev pub second_calm : Given → Bool
@@ -182,6 +224,11 @@ abbrev pub fact_if : Bool → Fact
 fact_if true = calm
 fact_if false = sound
 
+-- what is said of what a form makes
+abbrev pub fact_made : Form → Given → Fact
+fact_made (form.Node plain.TsExternalModuleRef) g = external
+fact_made f g = fact_if (makes_calm f g)
+
 -- what a form is given, so that what it makes is whole
 abbrev pub takes : Form → Given → Bool
 takes (form.Node k) g = is_specifier (plain_kind k) || (is_calm (plain_kind k) && is_tight_list g)
@@ -192,8 +239,13 @@ takes form.Getter g = is_tight_list g && is_calm_at 4 g
 takes form.Setter g = is_tight_list g && (is_calm_at 2 g && is_calm_at 4 g)
 takes (form.Method k) g = is_tight_list g && (is_calm_at 6 g && is_calm_at 8 g)
 takes form.Headed g = is_tight_list g && is_calm_at 0 g
+takes form.Annotated g = is_tight_list g && is_calm_at 0 g
+takes form.Declarator g = is_tight_list g && is_calm_at 0 g
+takes form.ImportEquals g = is_tight_list g && is_external_at 3 g
 takes form.Assertion g = false
 takes form.IndexSignature g = false
+takes (form.Signature k) g = false
+takes form.NewSignature g = false
 takes form.Declared g = false
 takes form.Namespace g = false
 takes _ g = is_tight_list g
@@ -220,7 +272,7 @@ gives assignments (grammar.assigned x) = cond assignments (gives assignments x) 
 gives assignments (grammar.up u) = part_gives u
 gives assignments (grammar.enter u) = part_gives u
 gives assignments (grammar.behind t u) = part_gives u
-gives assignments (grammar.build f x) = exactly (fact_if (makes_calm f (gives assignments x)) ∷ [])
+gives assignments (grammar.build f x) = exactly (fact_made f (gives assignments x) ∷ [])
 gives assignments _ = exactly []
 
 -- grammars of plain modules whose nodes are whole
@@ -241,6 +293,7 @@ abbrev pub Meets : Fact → Node → Type 0
 Meets loose n = Unit {0}
 Meets sound n = G n
 Meets calm n = G n × (is_calm (kind_of n) ≡ true)
+Meets external n = G n × (is_external (kind_of n) ≡ true)
 
 abbrev pub AllMeet : List Fact → List Node → Type 0
 AllMeet [] [] = Unit {0}
@@ -257,6 +310,7 @@ pub met : (f : Fact) (x : Node) → is_tight f ≡ true → Meets f x → G x
 met loose x t h = not_true t
 met sound x t h = h
 met calm x t h = h.0
+met external x t h = h.0
 
 pub all_met : (fs : List Fact) (xs : List Node) → are_tight fs ≡ true → AllMeet fs xs → A xs
 all_met [] [] t h = none
@@ -274,25 +328,45 @@ pub some_has : (b : Bool) (xs : List Node) → (b ≡ true → A xs) → Has (so
 some_has true xs f = f refl
 some_has false xs f = tt
 
--- where there are so many, the node at an index is calm
+-- where there are so many, the node at an index has such a kind
+abbrev pub KindAt : (Kind → Bool) → ℕ → List Node → Type 0
+KindAt q i [] = Unit {0}
+KindAt q zero (x ∷ xs) = q (kind_of x) ≡ true
+KindAt q (suc i) (x ∷ xs) = KindAt q i xs
+
 abbrev pub CalmAt : ℕ → List Node → Type 0
-CalmAt i [] = Unit {0}
-CalmAt zero (x ∷ xs) = is_calm (kind_of x) ≡ true
-CalmAt (suc i) (x ∷ xs) = CalmAt i xs
+CalmAt i xs = KindAt is_calm i xs
+
+abbrev pub ExternalAt : ℕ → List Node → Type 0
+ExternalAt i xs = KindAt is_external i xs
 
 calm_met : (f : Fact) (x : Node) → is_calm_fact f ≡ true → Meets f x → is_calm (kind_of x) ≡ true
 calm_met loose x e h = not_true e
 calm_met sound x e h = not_true e
 calm_met calm x e h = h.1
+calm_met external x e h = external_calm (kind_of x) h.1
 
-all_calm : (i : ℕ) (fs : List Fact) (xs : List Node) → calm_at i fs ≡ true → AllMeet fs xs → CalmAt i xs
-all_calm i fs [] e h = tt
-all_calm i [] (x ∷ xs) e h = absurd h
-all_calm zero (f ∷ fs) (x ∷ xs) e h = calm_met f x e h.0
-all_calm (suc i) (f ∷ fs) (x ∷ xs) e h = all_calm i fs xs e h.1
+external_met : (f : Fact) (x : Node) → is_external_fact f ≡ true → Meets f x → is_external (kind_of x) ≡ true
+external_met loose x e h = not_true e
+external_met sound x e h = not_true e
+external_met calm x e h = not_true e
+external_met external x e h = h.1
+
+module _ (p : Fact → Bool) (q : Kind → Bool) (each : (f : Fact) (x : Node) → p f ≡ true → Meets f x → q (kind_of x) ≡ true) where
+  all_at : (i : ℕ) (fs : List Fact) (xs : List Node) → fact_at p i fs ≡ true → AllMeet fs xs → KindAt q i xs
+  all_at i fs [] e h = tt
+  all_at i [] (x ∷ xs) e h = absurd h
+  all_at zero (f ∷ fs) (x ∷ xs) e h = each f x e h.0
+  all_at (suc i) (f ∷ fs) (x ∷ xs) e h = all_at i fs xs e h.1
+
+  there_at : (i : ℕ) (g : Given) (xs : List Node) → given_at p i g ≡ true → Has g xs → KindAt q i xs
+  there_at i never xs e h = absurd h
+  there_at i anything xs e h = not_true e
+  there_at i some xs e h = not_true e
+  there_at i (exactly fs) xs e h = all_at i fs xs e h
 
 pub calm_there_at : (i : ℕ) (g : Given) (xs : List Node) → is_calm_at i g ≡ true → Has g xs → CalmAt i xs
-calm_there_at i never xs e h = absurd h
-calm_there_at i anything xs e h = not_true e
-calm_there_at i some xs e h = not_true e
-calm_there_at i (exactly fs) xs e h = all_calm i fs xs e h
+calm_there_at i g xs e h = there_at is_calm_fact is_calm calm_met i g xs e h
+
+pub external_there_at : (i : ℕ) (g : Given) (xs : List Node) → is_external_at i g ≡ true → Has g xs → ExternalAt i xs
+external_there_at i g xs e h = there_at is_external_fact is_external external_met i g xs e h

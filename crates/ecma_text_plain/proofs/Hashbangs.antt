@@ -23,7 +23,7 @@ use Rattle.ecma_modules.specs.Modules.{reads_as}
 use Rattle.ecma_text_leaves.specs.Everywhere.{Everywhere}
 use Rattle.ecma_text_leaves.proofs.Leaves.{Holds, holds_read, holds_then}
 use Rattle.ecma_text_leaves.proofs.Trees.{kind_good, kind_made}
-use Rattle.ecma_text_fits_finished.proofs.Raws.{of_raw}
+use Rattle.ecma_text_types.proofs.Raws.{of_raw}
 use Rattle.ecma_text_fits_leaves.proofs.ReadingOf.{holds_built, holds_followed, holds_or}
 use Rattle.ecma_raw_roles.proofs.Walks.{free_kind}
 use Rattle.ecma_plain.specs.Items.{HasUtf8Hashbang}

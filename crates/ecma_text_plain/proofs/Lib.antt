@@ -19,3 +19,4 @@ pub mod WholeFinished
 pub mod Usual
 pub mod WholeModules
 pub mod Plain
+pub mod PlainTrees

@@ -1,5 +1,5 @@
 -- What is read as a plain module is plain.
-use Rattle.std.proofs.Common.{◌≡◌, ℕ, Bool, true, false, List, inl, inr, refl, subst, Ok}
+use Rattle.std.proofs.Common.{◌≡◌, ℕ, Bool, List, refl, subst, Ok}
 use Rattle.std.specs.Str.{IsUtf8}
 use Rattle.std.proofs.lemmas.Bool.{and_parts}
 use Rattle.ecma_kind.specs.declared.kind.Kind.{Kind}
@@ -15,12 +15,12 @@ use Rattle.ecma_modules.specs.Modules.{plain, reads_as}
 use Rattle.ecma_text_leaves.specs.Everywhere.{Each, Everywhere, more, none}
 use Rattle.ecma_text_leaves.proofs.Trees.{good_absent, good_framed}
 use Rattle.ecma_text_fits_finished.proofs.Everywhere.{finished_good}
-use Rattle.ecma_text_fits_finished.proofs.Raws.{of_raw}
-use Rattle.ecma_text_plain.specs.Laws.{PlainTextsWithoutAssignmentsHavePlainItems, ReadPlainModulesHaveUtf8Hashbangs, ReadPlainTreesAreTaken, ReadPlainTreesKeepAssignmentForms}
+use Rattle.ecma_text_plain.specs.Laws.{ReadPlainModulesHaveUtf8Hashbangs, ReadPlainTreesAreTaken, ReadPlainTreesHaveNoOtherTypeScript}
+use Rattle.ecma_text_types.proofs.Raws.{of_raw}
 use Rattle.ecma_text_plain.proofs.Hashbangs.{read_utf8}
 use Rattle.ecma_text_plain.proofs.PlainKinds.{IsPlain, bare_of, everywhere_also}
 use Rattle.ecma_text_plain.proofs.PlainReads.{module_reads}
-use Rattle.ecma_text_plain.proofs.Unfound.{items_unfound, unfound}
+use Rattle.ecma_text_plain.proofs.Unfound.{unfound}
 use Rattle.ecma_plain.specs.Forms.{IsTaken, is_of_forms}
 
 module _ (assignments : Bool) where
@@ -56,19 +56,13 @@ module _ (assignments : Bool) where
 pub read_taken : ReadPlainTreesAreTaken
 read_taken text assignments bound tree u e = everywhere_also (IsPlain assignments) IsTaken (taken assignments) (tree_plain assignments text bound tree u e)
 
-pub assignments_kept : ReadPlainTreesKeepAssignmentForms
-assignments_kept text true bound tree u e = inl refl
-assignments_kept text false bound tree u e = inr (unfound (tree_plain false text bound tree u e))
+pub assignments_kept : ReadPlainTreesHaveNoOtherTypeScript
+assignments_kept text keep_assign bound tree u e = unfound keep_assign (tree_plain keep_assign text bound tree u e)
 
 pub hashbangs_utf8 : ReadPlainModulesHaveUtf8Hashbangs
 hashbangs_utf8 text assignments bound tree u e = read_utf8 text (plain assignments) bound tree u e
 
-pub plain_items : PlainTextsWithoutAssignmentsHavePlainItems
-plain_items text bound tree u e = items_unfound (tree_plain false text bound tree u e)
-
 pub ruleset hashbangs = (hashbangs_utf8)
-
-pub ruleset items = (plain_items)
 
 pub ruleset forms_kept = (assignments_kept)
 

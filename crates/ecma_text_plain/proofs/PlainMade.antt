@@ -62,6 +62,8 @@ module _ (allowed : Bool) where
       frames allowed 5 _ (forget allowed g xs p) (λ k. field_good allowed _ k (lacking allowed 1 g xs both.0 p) (lacking allowed 2 g xs both.1 p))
   made_plain form.Modified g e lo hi xs p = frames allowed 2 _ (forget allowed g xs p) (λ k. member_form_good allowed _ k (static_first allowed g xs e p))
   made_plain form.IndexSignature g e lo hi xs p = not_true e
+  made_plain (form.Signature k) g e lo hi xs p = not_true e
+  made_plain form.NewSignature g e lo hi xs p = not_true e
   made_plain form.Headed g e lo hi xs p = frames allowed 2 _ (forget allowed g xs p) (λ k. headed_good allowed _ k)
   made_plain form.Declared g e lo hi xs p = not_true e
   made_plain form.Namespace g e lo hi xs p = not_true e

@@ -19,7 +19,7 @@ use Rattle.ecma_grammar.specs.trees.Parts.{flag_node}
 use Rattle.ecma_grammar.specs.Reading.{Position, Outcome, Reading, ahead_on, fails, followed_on, many_on, many_up_to, marked, read, too_deep, unless_on, with_front}
 use Rattle.ecma_grammar.specs.Grammar as grammar
 use Rattle.ecma_grammar.specs.Grammar.{Grammar, the_word}
-use Rattle.ecma_grammar.specs.Reads.{Parts, kept_leaf, leaf_node, levels, next_start, reads, same_line_on, token}
+use Rattle.ecma_grammar.specs.Reads.{Parts, kept_leaf, leaf_node, levels, levels_by, next_start, reads, same_line_on, token}
 use Rattle.ecma_grammar.specs.PartBodies.{part_body}
 use Rattle.ecma_grammar.specs.productions.Modules.{module_body}
 use Rattle.ecma_modules.specs.Modules.{plain}
@@ -249,7 +249,7 @@ module _ (text : List ℕ) (u : IsUtf8 text) (assignments : Bool) where
         (λ hi xs q. (made_meets assignments f (gives assignments x) both.1 (next_start text s) hi xs q, tt))
 
   levels_plain : (n : ℕ) (p : Part) (at : ℕ) (s : Position) → is_plain_part p ≡ true → Holds (levels text (plain assignments) n p at s) (H (part_gives p))
-  unfolding levels
+  unfolding levels_by
   levels_plain zero p at s h = holds_deep (H (part_gives p)) at
   levels_plain (suc n) p at s h =
       holds_also (H (gives assignments (part_body p))) (H (part_gives p)) _ (plain_read (levels text (plain assignments) n) (levels_plain n) (part_body p) (body_plain assignments p h) s) (λ xs q. body_has assignments p xs q)

@@ -1,4 +1,5 @@
--- Trees in which each function has its body, no setter a parameter `this`, and no identifier is `this`, but for the names that specifiers of imports and exports hold.
+-- Trees in which each function has its body, no setter a parameter `this`, each import by `=` a module, and no identifier is `this`, but for the names that specifiers of imports
+-- and exports hold.
 use Rattle.std.proofs.Common.{◌≡◌, ◌∙◌, ◌⊎◌, ℕ, zero, suc, Bool, true, false, ◌||◌, cond, not, List, [], ◌∷◌, ◌++◌, filter, inl, inr, map, refl, subst, sym, take}
 use Rattle.std.specs.Prelude.{slice_index_or, slice_set}
 use Rattle.std.specs.List.{swap}
@@ -12,13 +13,15 @@ use Rattle.ecma_grammar.specs.trees.Parts.{children_of, kind_of}
 use Rattle.ecma_text_leaves.proofs.Trees.{children_made, kind_made}
 use Rattle.ecma_raw_roles.proofs.Walks.{not_true}
 use Rattle.ecma_plain.specs.Functions.{is_this_name}
+use Rattle.ecma_plain.specs.Items.{is_external}
 
--- a function whose body is missing, or a setter with a parameter `this`
+-- a function whose body is missing, a setter with a parameter `this`, or an import by `=` of a name
 abbrev pub is_unusual : Kind → List Node → Bool
 is_unusual (kind.Function is_generator is_async) (params ∷ body ∷ type_params ∷ return_type ∷ []) = is_absent (kind_of body)
 is_unusual (kind.Constructor accessibility is_optional) (key ∷ params ∷ body ∷ []) = is_absent (kind_of body)
 is_unusual kind.GetterProp (key ∷ return_type ∷ body ∷ []) = is_absent (kind_of body)
 is_unusual kind.SetterProp (key ∷ this_param ∷ param ∷ body ∷ []) = not (is_absent (kind_of this_param)) || is_absent (kind_of body)
+is_unusual (kind.TsImportEqualsDecl is_export is_type_only) (name ∷ reference ∷ []) = not (is_external (kind_of reference))
 is_unusual _ children = false
 
 -- what holds names of modules, which may be any words

@@ -1,5 +1,6 @@
 -- What links, chains and templates make of whole nodes is whole.
 use Rattle.std.proofs.Common.{◌≡◌, ◌∙◌, Bool, true, false, ◌&&◌, ℕ, List, [], ◌∷◌, inl, inr, length, refl, subst, sym, Some, None}
+use Rattle.std.proofs.lemmas.Bool.{and_parts}
 use Rattle.std.specs.Prelude.{slice_set, unwrap_or, if◌then◌else◌, ◌==◌}
 use Rattle.ecma_kind.specs.declared.span.Span.{Span}
 use Rattle.ecma_kind.specs.declared.kind.Kind.{Kind}
@@ -9,7 +10,8 @@ use Rattle.ecma_tree.specs.declared.node.Node.{Node}
 use Rattle.ecma_tree.specs.Nodes.{absent, list_node, dummy_span}
 use Rattle.ecma_grammar.specs.trees.Parts.{by_frame, kind_of, span_of, children_of, from_to, in_front, framed}
 use Rattle.ecma_grammar.specs.trees.Chains.{steps, all_steps, is_and, is_or, right_in_front, in_front_logical, goes_on, linked, Callee, instantiated, callee_by, callee_of, member_of, call_of, tagged_of, optional_of, link_by, in_front_link, new_expr, construction, template, is_substitution, is_text_part}
-use Rattle.ecma_text_plain.proofs.GivenWhole.{first_aside, two_full}
+use Rattle.ecma_raw_roles.proofs.Walks.{not_true}
+use Rattle.ecma_text_plain.proofs.GivenWhole.{first_aside, is_other, two_full}
 use Rattle.ecma_text_plain.proofs.Whole.{A, G, View, filter_all, inner, is_specifier, made_of, more, none, set_all, shut, view, whole}
 
 pub missing_node : G absent
@@ -21,6 +23,11 @@ list_of h = whole dummy_span kind.List refl refl h
 pub one_of : (b : Bool) (x y : Node) → G x → G y → G (if b then x else y)
 one_of true x y g k = g
 one_of false x y g k = k
+
+-- the first is chosen for a reason alone
+one_where : (b : Bool) (x y : Node) → (b ≡ true → G x) → G y → G (if b then x else y)
+one_where true x y g k = g refl
+one_where false x y g k = k
 
 pub framed_good : (n : ℕ) (f : List Node → Node) (xs : List Node) → G (f xs) → G (framed n f xs)
 framed_good n f xs g = go (length xs == n)
@@ -50,18 +57,26 @@ module _ (step : Node → Node → Node) (keeps : (x n : Node) → G x → G n �
   all_steps_good none = missing_node
   all_steps_good (more {n = n} a h) = steps_some n a h
 
-right_good : (at : Span) (k : Kind) {n : Node} → G n → (children : List Node) → View k children → G (right_in_front at k n children)
-right_good at k g [] v = missing_node
-right_good at k g (a ∷ []) v = missing_node
-right_good at k {n = n} g (a ∷ b ∷ []) (inl t) = whole at k (two_full k _ _) t.1 (go t.2)
+right_good : (at : Span) (k : Kind) {n : Node} → is_other k ≡ true → G n → (children : List Node) → View k children → G (right_in_front at k n children)
+right_good at k o g [] v = missing_node
+right_good at k o g (a ∷ []) v = missing_node
+right_good at k {n = n} o g (a ∷ b ∷ []) (inl t) = whole at k (two_full k _ _ o) t.1 (go t.2)
   where
     go : A (a ∷ b ∷ []) → A (a ∷ in_front b n ∷ [])
     go (more x (more y none)) = more x (more (in_front_good y g) none)
-right_good at k {n = n} g (a ∷ b ∷ []) (inr s) = shut at k (a ∷ in_front b n ∷ []) s
-right_good at k g (a ∷ b ∷ c ∷ cs) v = missing_node
+right_good at k {n = n} o g (a ∷ b ∷ []) (inr s) = shut at k (a ∷ in_front b n ∷ []) s
+right_good at k o g (a ∷ b ∷ c ∷ cs) v = missing_node
+
+or_other : (k : Kind) → is_or k ≡ true → is_other k ≡ true
+or_other (kind.TsImportEqualsDecl is_export is_type_only) h = not_true h
+or_other _ h = refl
 
 pub logical_good : {x n : Node} → G x → G n → G (in_front_logical x n)
-logical_good {x} {n} g k = one_of (is_and (kind_of n) && is_or (kind_of x)) _ _ (framed_good 2 (right_in_front (from_to (span_of x).lo (span_of n).hi) (kind_of x) n) (children_of x) (right_good _ (kind_of x) k (children_of x) (view g))) (in_front_good g k)
+logical_good {x} {n} g k =
+    one_where (is_and (kind_of n) && is_or (kind_of x)) _ _
+    (λ e. framed_good 2 (right_in_front (from_to (span_of x).lo (span_of n).hi) (kind_of x) n) (children_of x)
+    (right_good _ (kind_of x) (or_other (kind_of x) (and_parts (is_and (kind_of n)) (is_or (kind_of x)) e).1) k (children_of x) (view g)))
+    (in_front_good g k)
 
 linked_good : {n : Node} → G n → G (linked n)
 linked_good {n} g = whole (span_of n) (kind.OptChainExpr false) refl refl (more g none)

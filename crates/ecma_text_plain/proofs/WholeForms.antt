@@ -18,7 +18,7 @@ use Rattle.ecma_grammar.specs.trees.Others.{swapped, missing, elements, the_one,
 use Rattle.ecma_text_leaves.proofs.Trees.{kind_made}
 use Rattle.ecma_raw_roles.proofs.Walks.{not_true}
 use Rattle.ecma_plain.specs.Functions.{is_this_name}
-use Rattle.ecma_text_plain.proofs.GivenWhole.{CalmAt, calm_full, calm_open, calm_there, is_calm, question_aside, question_named, question_shut, two_full}
+use Rattle.ecma_text_plain.proofs.GivenWhole.{CalmAt, ExternalAt, calm_full, calm_open, calm_other, calm_there, is_calm, is_other, question_aside, question_named, question_shut, two_full}
 use Rattle.ecma_text_plain.proofs.Whole.{A, G, View, append_all, inner, is_specifier, is_unusual, made_of, map_all, more, no_this, none, swap_all, take_all, view, whole}
 use Rattle.ecma_text_plain.proofs.WholeChains.{framed_good, frames, list_of, missing_node, one_of}
 
@@ -35,33 +35,34 @@ questioned_part_good : (optional : Bool) (k : Kind) {n : Node} → G n → G (qu
 questioned_part_good optional kind.BindingIdent g = questioned_good optional g
 questioned_part_good optional _ g = g
 
-annotated_of_good : (at : Span) (k : Kind) (optional : Bool) (annotation : Node) → G annotation → (xs : List Node) → View k xs → G (annotated_of at k optional annotation xs)
-annotated_of_good at k optional annotation g [] v = missing_node
-annotated_of_good at k optional annotation g (a ∷ []) v = missing_node
-annotated_of_good at k optional annotation g (a ∷ b ∷ []) v = made_of at (questioned_kind optional k) (question_view optional k (λ p. two_full k _ _) go v)
+annotated_of_good : (at : Span) (k : Kind) (optional : Bool) (annotation : Node) → is_calm k ≡ true → G annotation → (xs : List Node) → View k xs → G (annotated_of at k optional annotation xs)
+annotated_of_good at k optional annotation t g [] v = missing_node
+annotated_of_good at k optional annotation t g (a ∷ []) v = missing_node
+annotated_of_good at k optional annotation t g (a ∷ b ∷ []) v = made_of at (questioned_kind optional k) (question_view optional k (λ p. two_full k _ _ (calm_other k t)) go v)
   where
     go : A (a ∷ b ∷ []) → A (questioned_part optional k a ∷ annotation ∷ [])
     go (more x (more y none)) = more (questioned_part_good optional k x) (more g none)
-annotated_of_good at k optional annotation g (a ∷ b ∷ c ∷ cs) v = missing_node
+annotated_of_good at k optional annotation t g (a ∷ b ∷ c ∷ cs) v = missing_node
 
-annotated_pattern_good : (at : Span) (pattern : Node) (optional : Bool) (annotation : Node) → G pattern → G annotation → G (annotated_pattern at pattern optional annotation)
-annotated_pattern_good at pattern optional annotation g a = framed_good 2 (annotated_of at (kind_of pattern) optional annotation) (children_of pattern) (annotated_of_good at (kind_of pattern) optional annotation a (children_of pattern) (view g))
+annotated_pattern_good : (at : Span) (pattern : Node) (optional : Bool) (annotation : Node) → is_calm (kind_of pattern) ≡ true → G pattern → G annotation → G (annotated_pattern at pattern optional annotation)
+annotated_pattern_good at pattern optional annotation t g a =
+    framed_good 2 (annotated_of at (kind_of pattern) optional annotation) (children_of pattern) (annotated_of_good at (kind_of pattern) optional annotation t a (children_of pattern) (view g))
 
-pub annotated_good : (at : Span) {xs : List Node} → A xs → G (annotated at xs)
-annotated_good at none = missing_node
-annotated_good at (more a none) = missing_node
-annotated_good at (more a (more b none)) = missing_node
-annotated_good at (more {n = x} a (more {n = y} b (more {n = z} c none))) = annotated_pattern_good at x (is_present y) z a c
-annotated_good at (more a (more b (more c (more d h)))) = missing_node
+pub annotated_good : (at : Span) {xs : List Node} → A xs → CalmAt 0 xs → G (annotated at xs)
+annotated_good at none t = missing_node
+annotated_good at (more a none) t = missing_node
+annotated_good at (more a (more b none)) t = missing_node
+annotated_good at (more {n = x} a (more {n = y} b (more {n = z} c none))) t = annotated_pattern_good at x (is_present y) z t a c
+annotated_good at (more a (more b (more c (more d h)))) t = missing_node
 
-pub declarator_good : (at : Span) {xs : List Node} → A xs → G (declarator at xs)
-declarator_good at none = missing_node
-declarator_good at (more a none) = missing_node
-declarator_good at (more a (more b none)) = missing_node
-declarator_good at (more a (more b (more c none))) = missing_node
-declarator_good at (more {n = x} a (more {n = y} b (more {n = z} c (more d none)))) =
-    whole at (kind.VarDeclarator (is_present y)) refl refl (more (annotated_pattern_good (from_to (span_of x).lo (end_of x z)) x false z a c) (more d none))
-declarator_good at (more a (more b (more c (more d (more e h))))) = missing_node
+pub declarator_good : (at : Span) {xs : List Node} → A xs → CalmAt 0 xs → G (declarator at xs)
+declarator_good at none t = missing_node
+declarator_good at (more a none) t = missing_node
+declarator_good at (more a (more b none)) t = missing_node
+declarator_good at (more a (more b (more c none))) t = missing_node
+declarator_good at (more {n = x} a (more {n = y} b (more {n = z} c (more d none)))) t =
+    whole at (kind.VarDeclarator (is_present y)) refl refl (more (annotated_pattern_good (from_to (span_of x).lo (end_of x z)) x false z t a c) (more d none))
+declarator_good at (more a (more b (more c (more d (more e h))))) t = missing_node
 
 pub parameter_good : (at : Span) {xs : List Node} → A xs → G (parameter at xs)
 parameter_good at none = missing_node
@@ -83,16 +84,16 @@ function_of_good : (at : Span) (is_async is_generator : Bool) {type_params param
     → G (function_of at is_async is_generator type_params params return_type body)
 function_of_good at is_async is_generator {body = body} a b c d t there = whole at (kind.Function is_generator is_async) (calm_there (kind_of body) there) refl (more (parameters_good b t) (more d (more a (more c none))))
 
-pub function_good : (at : Span) (k : Kind) → is_this_name k ≡ false → {xs : List Node} → A xs → CalmAt 4 xs → CalmAt 6 xs → G (function at k xs)
-function_good at k q none s t = missing_node
-function_good at k q (more a none) s t = missing_node
-function_good at k q (more a (more b none)) s t = missing_node
-function_good at k q (more a (more b (more c none))) s t = missing_node
-function_good at k q (more a (more b (more c (more d none)))) s t = missing_node
-function_good at k q (more a (more b (more c (more d (more f none))))) s t = missing_node
-function_good at k q (more a (more b (more c (more d (more f (more g none)))))) s t = missing_node
-function_good at k q (more a (more b (more c (more d (more f (more g (more i none))))))) s t = whole at k (two_full k _ _) q (more c (more (function_of_good at _ _ d f g i s t) none))
-function_good at k q (more a (more b (more c (more d (more f (more g (more i (more j h)))))))) s t = missing_node
+pub function_good : (at : Span) (k : Kind) → is_other k ≡ true → is_this_name k ≡ false → {xs : List Node} → A xs → CalmAt 4 xs → CalmAt 6 xs → G (function at k xs)
+function_good at k o q none s t = missing_node
+function_good at k o q (more a none) s t = missing_node
+function_good at k o q (more a (more b none)) s t = missing_node
+function_good at k o q (more a (more b (more c none))) s t = missing_node
+function_good at k o q (more a (more b (more c (more d none)))) s t = missing_node
+function_good at k o q (more a (more b (more c (more d (more f none))))) s t = missing_node
+function_good at k o q (more a (more b (more c (more d (more f (more g none)))))) s t = missing_node
+function_good at k o q (more a (more b (more c (more d (more f (more g (more i none))))))) s t = whole at k (two_full k _ _ o) q (more c (more (function_of_good at _ _ d f g i s t) none))
+function_good at k o q (more a (more b (more c (more d (more f (more g (more i (more j h)))))))) s t = missing_node
 
 pub arrow_good : (at : Span) {xs : List Node} → A xs → G (arrow at xs)
 arrow_good at none = missing_node
@@ -164,19 +165,23 @@ setter_good at (more a (more b (more c (more d (more e (more f h)))))) s t = mis
 
 -- classes
 
-pub class_good : (at : Span) (k : Kind) → is_this_name k ≡ false → (is_abstract : Bool) {xs : List Node} → A xs → G (class at k is_abstract xs)
-class_good at k q b none = missing_node
-class_good at k q b (more a none) = missing_node
-class_good at k q b (more a (more c none)) = missing_node
-class_good at k q b (more a (more c (more d none))) = missing_node
-class_good at k q b (more a (more c (more d (more f none)))) = missing_node
-class_good at k q b (more a (more c (more d (more f (more g none))))) = missing_node
-class_good at k q b (more a (more c (more d (more f (more g (more i none)))))) = whole at k (two_full k _ _) q (more a (more (whole at (kind.Class b) refl refl (more d (more i (more c (more f (more g none)))))) none))
-class_good at k q b (more a (more c (more d (more f (more g (more i (more j h))))))) = missing_node
+pub class_good : (at : Span) (k : Kind) → is_other k ≡ true → is_this_name k ≡ false → (is_abstract : Bool) {xs : List Node} → A xs → G (class at k is_abstract xs)
+class_good at k o q b none = missing_node
+class_good at k o q b (more a none) = missing_node
+class_good at k o q b (more a (more c none)) = missing_node
+class_good at k o q b (more a (more c (more d none))) = missing_node
+class_good at k o q b (more a (more c (more d (more f none)))) = missing_node
+class_good at k o q b (more a (more c (more d (more f (more g none))))) = missing_node
+class_good at k o q b (more a (more c (more d (more f (more g (more i none)))))) = whole at k (two_full k _ _ o) q (more a (more (whole at (kind.Class b) refl refl (more d (more i (more c (more f (more g none)))))) none))
+class_good at k o q b (more a (more c (more d (more f (more g (more i (more j h))))))) = missing_node
 
 method_named : (b : Bool) (m : MethodKind) (modifiers : MemberModifiers) → is_this_name (if b then kind.PrivateMethod m modifiers else kind.ClassMethod m modifiers) ≡ false
 method_named true m modifiers = refl
 method_named false m modifiers = refl
+
+method_other : (b : Bool) (m : MethodKind) (modifiers : MemberModifiers) → is_other (if b then kind.PrivateMethod m modifiers else kind.ClassMethod m modifiers) ≡ true
+method_other true m modifiers = refl
+method_other false m modifiers = refl
 
 pub method_good : (at : Span) (m : MethodKind) {xs : List Node} → A xs → CalmAt 6 xs → CalmAt 8 xs → G (method at m xs)
 method_good at m none s t = missing_node
@@ -189,7 +194,7 @@ method_good at m (more a (more b (more c (more d (more e (more f none)))))) s t 
 method_good at m (more a (more b (more c (more d (more e (more f (more g none))))))) s t = missing_node
 method_good at m (more a (more b (more c (more d (more e (more f (more g (more i none)))))))) s t = missing_node
 method_good at m (more a (more b (more {n = key} c (more {n = question} d (more e (more f (more g (more i (more j none))))))))) s t =
-    whole at (method_kind key m (no_modifiers (is_present question))) (two_full (method_kind key m (no_modifiers (is_present question))) _ _) (method_named (is_private_name (kind_of key)) m (no_modifiers (is_present question))) (more c (more (function_of_good at _ _ f g i j s t) none))
+    whole at (method_kind key m (no_modifiers (is_present question))) (two_full (method_kind key m (no_modifiers (is_present question))) _ _ (method_other (is_private_name (kind_of key)) m (no_modifiers (is_present question)))) (method_named (is_private_name (kind_of key)) m (no_modifiers (is_present question))) (more c (more (function_of_good at _ _ f g i j s t) none))
 method_good at m (more a (more b (more c (more d (more e (more f (more g (more i (more j (more k h)))))))))) s t = missing_node
 
 either_field : (b : Bool) (modifiers : MemberModifiers) (readonly declare definite : Bool) (cs : List Node) → is_unusual (if b then kind.PrivateProp modifiers readonly declare definite else kind.ClassProp modifiers readonly declare definite) cs ≡ false
@@ -294,13 +299,13 @@ headed_good at (more {n = x} a (more {n = y} b none)) t = made_of at (kind_of x)
     go (inr s) = inr s
 headed_good at (more a (more b (more c h))) t = missing_node
 
-pub import_equals_good : (at : Span) {xs : List Node} → A xs → G (import_equals at xs)
-import_equals_good at none = missing_node
-import_equals_good at (more a none) = missing_node
-import_equals_good at (more a (more b none)) = missing_node
-import_equals_good at (more a (more b (more c none))) = missing_node
-import_equals_good at (more {n = x} a (more {n = y} b (more c (more d none)))) = whole at (kind.TsImportEqualsDecl (is_present x) (is_present y)) refl refl (more c (more d none))
-import_equals_good at (more a (more b (more c (more d (more f h))))) = missing_node
+pub import_equals_good : (at : Span) {xs : List Node} → A xs → ExternalAt 3 xs → G (import_equals at xs)
+import_equals_good at none t = missing_node
+import_equals_good at (more a none) t = missing_node
+import_equals_good at (more a (more b none)) t = missing_node
+import_equals_good at (more a (more b (more c none))) t = missing_node
+import_equals_good at (more {n = x} a (more {n = y} b (more c (more d none)))) t = whole at (kind.TsImportEqualsDecl (is_present x) (is_present y)) (ap not t) refl (more c (more d none))
+import_equals_good at (more a (more b (more c (more d (more f h))))) t = missing_node
 
 pub module_form_good : (at : Span) {xs : List Node} → A xs → G (module_of at xs)
 module_form_good at none = missing_node

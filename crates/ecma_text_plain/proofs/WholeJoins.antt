@@ -2,8 +2,9 @@
 use Rattle.std.proofs.Common.{◌≡◌, Bool, true, false, ◌&&◌, List, [], ◌∷◌, ◌++◌, refl}
 use Rattle.std.proofs.lemmas.Bool.{and_parts}
 use Rattle.ecma_tree.specs.declared.node.Node.{Node}
+use Rattle.ecma_grammar.specs.trees.Parts.{kind_of}
 use Rattle.ecma_raw_roles.proofs.Walks.{not_true}
-use Rattle.ecma_text_plain.proofs.GivenWhole.{AllMeet, Fact, Given, Has, Meets, all_met, anything, are_tight, both, calm, exactly, followed, forget, in_front, is_tight, is_tight_list, joined, loose, met, never, pairwise, some, some_has, some_if, sound, weaker}
+use Rattle.ecma_text_plain.proofs.GivenWhole.{AllMeet, Fact, Given, Has, Meets, all_met, anything, are_tight, both, calm, exactly, external, external_calm, followed, forget, in_front, is_tight, is_tight_list, joined, loose, met, never, pairwise, some, some_has, some_if, sound, weaker}
 use Rattle.ecma_text_plain.proofs.Whole.{append_all, more, none}
 
 -- one behind the other
@@ -40,18 +41,27 @@ repeated_none false = tt
 -- the first or the second
 
 weaker_left : (f g : Fact) (x : Node) → Meets f x → Meets (weaker f g) x
+weaker_left external external x m = m
+weaker_left external calm x m = (m.0, external_calm (kind_of x) m.1)
+weaker_left external sound x m = m.0
+weaker_left external loose x m = tt
+weaker_left calm external x m = m
 weaker_left calm calm x m = m
 weaker_left calm sound x m = m.0
 weaker_left calm loose x m = tt
+weaker_left sound external x m = m
 weaker_left sound calm x m = m
 weaker_left sound sound x m = m
 weaker_left sound loose x m = tt
 weaker_left loose g x m = tt
 
 weaker_right : (f g : Fact) (x : Node) → Meets g x → Meets (weaker f g) x
+weaker_right external g x m = m
+weaker_right calm external x m = (m.0, external_calm (kind_of x) m.1)
 weaker_right calm calm x m = m
 weaker_right calm sound x m = m
 weaker_right calm loose x m = tt
+weaker_right sound external x m = m.0
 weaker_right sound calm x m = m.0
 weaker_right sound sound x m = m
 weaker_right sound loose x m = tt

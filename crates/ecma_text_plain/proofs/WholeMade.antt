@@ -20,7 +20,8 @@ use Rattle.ecma_raw_roles.proofs.Walks.{not_true}
 use Rattle.ecma_text_plain.proofs.WholeForms.{annotated_good, arrow_good, class_good, declarator_good, elements_good, field_good, function_good, getter_good, headed_good, import_equals_good, member_form_good, method_good, module_form_good, parameter_good, sequence_good, setter_good, swapped_good, yield_good}
 use Rattle.ecma_text_plain.proofs.WholeChains.{all_steps_good, construction_good, frames, in_front_good, link_good, list_of, logical_good, template_good}
 use Rattle.ecma_plain.specs.Functions.{is_this_name}
-use Rattle.ecma_text_plain.proofs.GivenWhole.{Given, Has, Meets, anything, bare_full, calm, calm_full, calm_there_at, exactly, fact_if, forget, is_calm, is_calm_at, is_tight_list, loose, makes_calm, never, one_full, some, sound, takes}
+use Rattle.ecma_plain.specs.Items.{is_external}
+use Rattle.ecma_text_plain.proofs.GivenWhole.{Given, Has, Meets, anything, bare_full, calm, calm_full, calm_there_at, exactly, external, external_calm, external_there_at, fact_if, fact_made, forget, is_calm, is_calm_at, is_external_at, is_tight_list, loose, makes_calm, never, one_full, plain_other, some, sound, takes}
 use Rattle.ecma_text_plain.proofs.Whole.{A, G, is_specifier, is_unusual, none, shut, take_all, whole}
 
 first_full : (k : Kind) (xs : List Node) → is_unusual k (take 1 xs) ≡ false
@@ -55,13 +56,17 @@ made_good form.Arrow g e lo hi xs p = frames 5 _ (forget g xs e p) (λ k. arrow_
 made_good form.Yield g e lo hi xs p = frames 2 _ (forget g xs e p) (λ k. yield_good _ k)
 made_good form.New g e lo hi xs p = construction_good _ (forget g xs e p)
 made_good form.Assertion g e lo hi xs p = not_true e
-made_good form.Annotated g e lo hi xs p = frames 3 _ (forget g xs e p) (λ k. annotated_good _ k)
-made_good form.Declarator g e lo hi xs p = frames 4 _ (forget g xs e p) (λ k. declarator_good _ k)
+made_good form.Annotated g e lo hi xs p =
+    let t = and_parts (is_tight_list g) (is_calm_at 0 g) e in
+    frames 3 _ (forget g xs t.0 p) (λ k. annotated_good _ k (calm_there_at 0 g xs t.1 p))
+made_good form.Declarator g e lo hi xs p =
+    let t = and_parts (is_tight_list g) (is_calm_at 0 g) e in
+    frames 4 _ (forget g xs t.0 p) (λ k. declarator_good _ k (calm_there_at 0 g xs t.1 p))
 made_good form.Param g e lo hi xs p = frames 2 _ (forget g xs e p) (λ k. parameter_good _ k)
 made_good (form.Function k) g e lo hi xs p =
     let t = and_parts (is_tight_list g) (is_calm_at 4 g && is_calm_at 6 g) e in
     let c = and_parts (is_calm_at 4 g) (is_calm_at 6 g) t.1 in
-    frames 7 _ (forget g xs t.0 p) (λ a. function_good _ (plain_kind k) (plain_named k) a (calm_there_at 4 g xs c.0 p) (calm_there_at 6 g xs c.1 p))
+    frames 7 _ (forget g xs t.0 p) (λ a. function_good _ (plain_kind k) (plain_other k) (plain_named k) a (calm_there_at 4 g xs c.0 p) (calm_there_at 6 g xs c.1 p))
 made_good form.Getter g e lo hi xs p =
     let t = and_parts (is_tight_list g) (is_calm_at 4 g) e in
     frames 5 _ (forget g xs t.0 p) (λ k. getter_good _ k (calm_there_at 4 g xs t.1 p))
@@ -69,7 +74,7 @@ made_good form.Setter g e lo hi xs p =
     let t = and_parts (is_tight_list g) (is_calm_at 2 g && is_calm_at 4 g) e in
     let c = and_parts (is_calm_at 2 g) (is_calm_at 4 g) t.1 in
     frames 5 _ (forget g xs t.0 p) (λ k. setter_good _ k (calm_there_at 2 g xs c.0 p) (calm_there_at 4 g xs c.1 p))
-made_good (form.Class k is_abstract) g e lo hi xs p = frames 6 _ (forget g xs e p) (λ c. class_good _ (plain_kind k) (plain_named k) is_abstract c)
+made_good (form.Class k is_abstract) g e lo hi xs p = frames 6 _ (forget g xs e p) (λ c. class_good _ (plain_kind k) (plain_other k) (plain_named k) is_abstract c)
 made_good (form.Method k) g e lo hi xs p =
     let t = and_parts (is_tight_list g) (is_calm_at 6 g && is_calm_at 8 g) e in
     let c = and_parts (is_calm_at 6 g) (is_calm_at 8 g) t.1 in
@@ -77,12 +82,16 @@ made_good (form.Method k) g e lo hi xs p =
 made_good form.Field g e lo hi xs p = frames 5 _ (forget g xs e p) (λ k. field_good _ k)
 made_good form.Modified g e lo hi xs p = frames 2 _ (forget g xs e p) (λ k. member_form_good _ k)
 made_good form.IndexSignature g e lo hi xs p = not_true e
+made_good (form.Signature k) g e lo hi xs p = not_true e
+made_good form.NewSignature g e lo hi xs p = not_true e
 made_good form.Headed g e lo hi xs p =
     let t = and_parts (is_tight_list g) (is_calm_at 0 g) e in
     frames 2 _ (forget g xs t.0 p) (λ k. headed_good _ k (calm_there_at 0 g xs t.1 p))
 made_good form.Declared g e lo hi xs p = not_true e
 made_good form.Namespace g e lo hi xs p = not_true e
-made_good form.ImportEquals g e lo hi xs p = frames 4 _ (forget g xs e p) (λ k. import_equals_good _ k)
+made_good form.ImportEquals g e lo hi xs p =
+    let t = and_parts (is_tight_list g) (is_external_at 3 g) e in
+    frames 4 _ (forget g xs t.0 p) (λ k. import_equals_good _ k (external_there_at 3 g xs t.1 p))
 made_good form.Module g e lo hi xs p = frames 2 _ (forget g xs e p) (λ k. module_form_good _ k)
 
 -- and where it is said that what a form makes is there and no function, it is
@@ -103,6 +112,10 @@ chained (exactly (f ∷ calm ∷ [])) lo hi [] p e = absurd p
 chained (exactly (f ∷ calm ∷ [])) lo hi (x ∷ []) p e = absurd p.1
 chained (exactly (f ∷ calm ∷ [])) lo hi (x ∷ y ∷ []) p e = let second = p.1 in ap is_calm (kind_made _ (kind_of y) _) ∙ second.0.1
 chained (exactly (f ∷ calm ∷ [])) lo hi (x ∷ y ∷ z ∷ xs) p e = let rest = p.1 in absurd rest.1
+chained (exactly (f ∷ external ∷ [])) lo hi [] p e = absurd p
+chained (exactly (f ∷ external ∷ [])) lo hi (x ∷ []) p e = absurd p.1
+chained (exactly (f ∷ external ∷ [])) lo hi (x ∷ y ∷ []) p e = let second = p.1 in ap is_calm (kind_made _ (kind_of y) _) ∙ external_calm (kind_of y) second.0.1
+chained (exactly (f ∷ external ∷ [])) lo hi (x ∷ y ∷ z ∷ xs) p e = let rest = p.1 in absurd rest.1
 chained (exactly (f ∷ g ∷ h ∷ fs)) lo hi xs p e = not_true e
 
 made_calm : (f : Form) (g : Given) (lo hi : ℕ) (xs : List Node) → Has g xs → makes_calm f g ≡ true → is_calm (kind_of (made f lo hi xs)) ≡ true
@@ -111,5 +124,7 @@ made_calm form.List g lo hi xs p e = ap is_calm (kind_made dummy_span kind.List 
 made_calm form.Chain g lo hi xs p e = chained g lo hi xs p e
 made_calm f g lo hi xs p e = not_true e
 
-pub made_meets : (f : Form) (g : Given) → takes f g ≡ true → (lo hi : ℕ) (xs : List Node) → Has g xs → Meets (fact_if (makes_calm f g)) (made f lo hi xs)
+pub made_meets : (f : Form) (g : Given) → takes f g ≡ true → (lo hi : ℕ) (xs : List Node) → Has g xs → Meets (fact_made f g) (made f lo hi xs)
+made_meets (form.Node plain.TsExternalModuleRef) g e lo hi xs p =
+    (made_good (form.Node plain.TsExternalModuleRef) g e lo hi xs p, ap is_external (kind_made (from_to lo hi) kind.TsExternalModuleRef xs))
 made_meets f g e lo hi xs p = calm_of (makes_calm f g) (made f lo hi xs) (made_good f g e lo hi xs p) (made_calm f g lo hi xs p)

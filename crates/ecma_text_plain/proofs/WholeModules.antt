@@ -1,5 +1,5 @@
--- Each function of what is read as a plain module has its body, and no parameter is `this`.
-use Rattle.std.proofs.Common.{◌≡◌, ◌∙◌, ℕ, Bool, true, false, not, List, [], ◌∷◌, inl, inr, map, length, Ok, refl, sym, ap, subst}
+-- Each function of what is read as a plain module has its body, no parameter is `this`, and each import by `=` is one of an external module.
+use Rattle.std.proofs.Common.{◌≡◌, ◌∙◌, ℕ, Bool, true, false, not, List, [], ◌∷◌, inl, inr, map, length, Ok, refl, sym, ap, slice_get, subst}
 use Rattle.std.specs.Str.{IsUtf8}
 use Rattle.std.specs.List.{list_any}
 use Rattle.ecma_kind.specs.declared.kind.Kind.{Kind}
@@ -17,18 +17,20 @@ use Rattle.ecma_grammar.specs.Reading.{Outcome, Position, fails, read, too_deep}
 use Rattle.ecma_grammar.specs.trees.Others.{the_one}
 use Rattle.ecma_grammar.specs.trees.Parts.{framed}
 use Rattle.ecma_rules.specs.declared.target.Target.TheVariants as target
-use Rattle.ecma_rules.specs.Children.{kind_of}
+use Rattle.ecma_rules.specs.Children.{kind_of, of_kind}
 use Rattle.ecma_modules.specs.Modules.{plain, reads_as}
 use Rattle.ecma_text_sorts.specs.Laws.{ReadModulesAreSorted}
-use Rattle.ecma_text_fits_finished.proofs.Raws.{of_raw}
+use Rattle.ecma_text_types.proofs.Raws.{of_raw}
 use Rattle.ecma_raw_roles.proofs.Walks.{not_true}
-use Rattle.ecma_text_plain.specs.Laws.{ReadPlainFunctionsHaveBodies, ReadPlainNamesAreNotThis}
+use Rattle.ecma_text_plain.specs.Assignments.{is_inner_import, is_inner_import_by}
+use Rattle.ecma_text_plain.specs.Laws.{ReadPlainFunctionsHaveBodies, ReadPlainImportsAreExternal, ReadPlainNamesAreNotThis}
 use Rattle.ecma_text_plain.specs.Functions.{children_told, has_this_parameter, holds_somewhere, is_bodiless}
 use Rattle.ecma_text_plain.proofs.WholeFinished.{finished_whole}
 use Rattle.ecma_text_plain.proofs.WholeChains.{frames, missing_node}
 use Rattle.ecma_text_plain.proofs.WholeReads.{module_reads}
 use Rattle.ecma_text_plain.proofs.Whole.{A, G, View, is_specifier, is_unusual, more, no_this, none, view}
 use Rattle.ecma_text_plain.proofs.Usual.{somewhere_out}
+use Rattle.ecma_plain.specs.Items.{is_external}
 use Rattle.ecma_plain.specs.Functions.{Functions, body_of, functions, functions_step, is_this_name, lacks_body, takes_this}
 use Rattle.ecma_fits.proofs.Walks.{neither}
 
@@ -205,6 +207,32 @@ whole_names =
     nowhere_whole has_this_parameter (λ n i. name_without (kind_of n) (children_told n) i) (λ n i. specifier_without (kind_of n) (children_told n) i)
     (λ n o s e h. told_without (kind_of n) (out-Node n).children e h)
 
+-- imports
+
+name_no_import : (k : Kind) (n : Node) → is_name k ≡ true → is_inner_import_by k n ≡ false
+name_no_import kind.Absent n i = refl
+name_no_import (kind.Ident text ctxt optional) n i = refl
+name_no_import (kind.Str value raw) n i = refl
+name_no_import _ n i = not_true i
+
+specifier_no_import : (k : Kind) (n : Node) → is_specifier k ≡ true → is_inner_import_by k n ≡ false
+specifier_no_import (kind.ImportNamedSpecifier is_type_only) n i = refl
+specifier_no_import (kind.ExportNamedSpecifier is_type_only) n i = refl
+specifier_no_import kind.ExportNamespaceSpecifier n i = refl
+specifier_no_import _ n i = not_true i
+
+told_external : (n : Node) (k : Kind) (cs : List Node) (o : Shape) → (out-Node n).children ≡ cs → HaveShapes (child_shapes k o (length cs)) cs → is_unusual k cs ≡ false → is_inner_import_by k n ≡ false
+told_external n (kind.TsImportEqualsDecl is_export is_type_only) [] o c h e = absurd h
+told_external n (kind.TsImportEqualsDecl is_export is_type_only) (a ∷ []) o c h e = absurd h.1
+told_external n (kind.TsImportEqualsDecl is_export is_type_only) (a ∷ b ∷ []) o c h e = ap (λ (z : List Node). not (of_kind is_external (slice_get z 1))) c ∙ e
+told_external n (kind.TsImportEqualsDecl is_export is_type_only) (a ∷ b ∷ d ∷ cs) o c h e = absurd h.1.1
+told_external n _ cs o c h e = refl
+
+whole_imports : (n : Node) (o : Shape) → HasShape o n → G n → holds_somewhere is_inner_import n ≡ false
+whole_imports =
+    nowhere_whole is_inner_import (λ n i. name_no_import (kind_of n) n i) (λ n i. specifier_no_import (kind_of n) n i)
+    (λ n o s e h. told_external n (kind_of n) (out-Node n).children o refl (shape_parts n o s).1 e)
+
 the_one_full : {xs : List Node} → A xs → G (the_one xs)
 the_one_full none = missing_node
 the_one_full (more a none) = a
@@ -226,3 +254,6 @@ read_bodies sorted text assignments bound tree u e = whole_bodies tree (one sort
 
 pub read_names : ReadModulesAreSorted → ReadPlainNamesAreNotThis
 read_names sorted text assignments bound tree u e = whole_names tree (one sort.Module) (sorted text (plain assignments) bound tree e) (tree_whole text u assignments bound tree e)
+
+pub read_imports : ReadModulesAreSorted → ReadPlainImportsAreExternal
+read_imports sorted text keep_assign bound tree u e = whole_imports tree (one sort.Module) (sorted text (plain keep_assign) bound tree e) (tree_whole text u keep_assign bound tree e)

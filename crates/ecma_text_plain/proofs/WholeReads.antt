@@ -30,7 +30,7 @@ use Rattle.ecma_grammar.specs.trees.Parts.{flag_node}
 use Rattle.ecma_grammar.specs.Reading.{Position, Outcome, Reading, ◌>>=◌, ahead_on, fails, many_on, many_up_to, marked, pure, read, terminal_on, too_deep, unless_on, with_front}
 use Rattle.ecma_grammar.specs.Grammar as grammar
 use Rattle.ecma_grammar.specs.Grammar.{Grammar}
-use Rattle.ecma_grammar.specs.Reads.{Parts, any_token, hashbang_token, kept_leaf, leaf_node, levels, next_start, reads, regex_token, same_line_on, template_part, token, word_token}
+use Rattle.ecma_grammar.specs.Reads.{Parts, any_token, hashbang_token, kept_leaf, leaf_node, levels, levels_by, next_start, reads, regex_token, same_line_on, template_part, token, word_token}
 use Rattle.ecma_grammar.specs.Made.{at_token}
 use Rattle.ecma_grammar.specs.PartBodies.{part_body}
 use Rattle.ecma_grammar.specs.productions.Modules.{module_body}
@@ -42,7 +42,7 @@ use Rattle.ecma_raw_roles.proofs.Walks.{not_true}
 use Rattle.ecma_text_plain.proofs.Given.{is_plain_part}
 use Rattle.ecma_text_plain.proofs.WholeMade.{made_meets}
 use Rattle.ecma_plain.specs.Functions.{is_this_name}
-use Rattle.ecma_text_plain.proofs.GivenWhole.{Given, Has, Meets, bare_full, calm, exactly, fact_if, followed, forget, gives, is_full, is_tight_list, joined, leaf_gives, makes_calm, never, part_gives, some_if, sound, takes}
+use Rattle.ecma_text_plain.proofs.GivenWhole.{Given, Has, Meets, bare_full, calm, exactly, fact_made, followed, forget, gives, is_full, is_tight_list, joined, leaf_gives, never, part_gives, some_if, sound, takes}
 use Rattle.ecma_text_plain.proofs.WholeJoins.{followed_has, joined_left, joined_right, repeated_more, repeated_none}
 use Rattle.ecma_text_plain.proofs.Whole.{A, G, none, whole}
 
@@ -359,12 +359,12 @@ module _ (text : List ℕ) (u : IsUtf8 text) (assignments : Bool) where
     full_read (grammar.behind t p) h s = holds_then _ (λ k. Unit {0}) (H (part_gives p)) (token text t s) (λ q x e. tt) (λ k t q. inside p k.start t h)
     full_read (grammar.build f x) h s =
         let both = and_parts (is_full assignments x) (takes f (gives assignments x)) h in
-        let fact = fact_if (makes_calm f (gives assignments x)) in
+        let fact = fact_made f (gives assignments x) in
         holds_built (H (gives assignments x)) (H (exactly (fact ∷ []))) f (next_start text s) (R x s) (full_read x both.0 s)
         (λ hi xs q. (made_meets f (gives assignments x) both.1 (next_start text s) hi xs q, tt))
 
   levels_full : (n : ℕ) (p : Part) (at : ℕ) (s : Position) → is_plain_part p ≡ true → Holds (levels text (plain assignments) n p at s) (H (part_gives p))
-  unfolding levels
+  unfolding levels_by
   levels_full zero p at s h = holds_deep (H (part_gives p)) at
   levels_full (suc n) p at s h =
       holds_also (H (gives assignments (part_body p))) (H (part_gives p)) _ (full_read (levels text (plain assignments) n) (levels_full n) (part_body p) (body_full assignments p h) s) (λ xs q. body_has assignments p xs h q)

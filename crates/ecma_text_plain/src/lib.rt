@@ -1,9 +1,10 @@
-//! Laws of what is read as a module: its leaves are bare, and what is read as a plain one is no TypeScript but the two assignment forms, with the functions of one.
+//! Laws of what is read as a module: its leaves are bare, and what is read as a plain one is no TypeScript but the two assignment forms, with the functions of one;
+//! so it is a plain tree.
 //!
 //! Each function carries one law over the definitions, and does nothing. The laws are stated in `specs/Laws.antt`.
 #![tactic(auto)]
 
-ghost use Rattle.ecma_text_plain.specs.Laws.{FunctionsAreUsualByTests, PlainTextsWithoutAssignmentsHavePlainItems, ReadLeavesAreBare, ReadPlainFunctionsHaveBodies, ReadPlainModulesHaveUtf8Hashbangs, ReadPlainNamesAreNotThis, ReadPlainTreesAreTaken, ReadPlainTreesKeepAssignmentForms};
+ghost use Rattle.ecma_text_plain.specs.Laws.{FunctionsAreUsualByTests, ReadLeavesAreBare, ReadPlainFunctionsHaveBodies, ReadPlainImportsAreExternal, ReadPlainModulesHavePlainItems, ReadPlainModulesHaveUtf8Hashbangs, ReadPlainNamesAreNotThis, ReadPlainTreesArePlain, ReadPlainTreesAreTaken, ReadPlainTreesHaveNoOtherTypeScript};
 
 use ecma_text_sorts::modules_that_are_read_are_sorted;
 
@@ -20,10 +21,11 @@ pub fn plain_trees_that_are_read_are_taken()
     ensures { ReadPlainTreesAreTaken }
 {}
 
-/// Import and export assignments stand in what is read as a plain module only where they may stay.
+/// Nothing of TypeScript stands in what is read as a plain module but import and export assignments, where these stay; and where
+/// they do not, nothing at all.
 #[tactic(auto, using(crate::proofs::Plain::forms_kept))]
-pub fn plain_trees_that_are_read_keep_assignment_forms()
-    ensures { ReadPlainTreesKeepAssignmentForms }
+pub fn plain_trees_that_are_read_have_no_other_typescript()
+    ensures { ReadPlainTreesHaveNoOtherTypeScript }
 {}
 
 /// What stands behind `#!` in what is read as a plain module is UTF-8.
@@ -32,11 +34,19 @@ pub fn plain_modules_that_are_read_have_utf8_hashbangs()
     ensures { ReadPlainModulesHaveUtf8Hashbangs }
 {}
 
-/// Where import and export assignments may not stay, the items of what is read as a plain module are plain.
-#[tactic(auto, using(crate::proofs::Plain::items))]
-pub fn plain_texts_without_assignments_have_plain_items()
-    ensures { PlainTextsWithoutAssignmentsHavePlainItems }
-{}
+/// Each import by `=` in what is read as a plain module is one of an external module, `require("m")`.
+pub fn plain_imports_that_are_read_are_external()
+    ensures { ReadPlainImportsAreExternal }
+{
+    modules_that_are_read_are_sorted();
+}
+
+/// The items of what is read as a plain module are plain, where import and export assignments may stay and where they may not.
+pub fn plain_modules_that_are_read_have_plain_items()
+    ensures { ReadPlainModulesHavePlainItems }
+{
+    modules_that_are_read_are_sorted();
+}
 
 /// Each function, constructor, getter and setter of what is read as a plain module has its body.
 pub fn plain_functions_that_are_read_have_bodies()
@@ -57,3 +67,10 @@ pub fn plain_names_that_are_read_are_not_this()
 pub fn functions_are_usual_by_tests()
     ensures { FunctionsAreUsualByTests }
 {}
+
+/// What is read as a plain module is a plain tree, as `is_plain` of `ecma_plain` tells one.
+pub fn plain_trees_that_are_read_are_plain()
+    ensures { ReadPlainTreesArePlain }
+{
+    modules_that_are_read_are_sorted();
+}

@@ -5,7 +5,7 @@ use Rattle.ecma_grammar.specs.declared.production.Mode.{Mode}
 use Rattle.ecma_modules.specs.Modules.{reads_as}
 use Rattle.ecma_strip.specs.Stripping.{stripped}
 use Rattle.ecma_strip_runs.specs.UsualBodies.{has_usual_bodies}
-use Rattle.ecma_runs.specs.declared.config.Config.{Config}
+use Rattle.ecma_config.specs.declared.config.Config.{Config}
 use Rattle.ecma_runs.specs.declared.script.Script.{Script}
 use Rattle.ecma_runs.specs.Observation.{observe}
 

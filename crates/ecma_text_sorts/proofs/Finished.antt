@@ -16,14 +16,11 @@ use Rattle.ecma_rules.specs.Lists.{last_by}
 use Rattle.ecma_rules.specs.Rules.{first_broken, first_misplaced}
 use Rattle.ecma_rules.specs.Surroundings.{around_in, at_root}
 use Rattle.ecma_rules.specs.Targets.{target_in}
-use Rattle.ecma_grammar.specs.Modules as grammar
-use Rattle.ecma_grammar.specs.Modules.{reads_module}
-use Rattle.ecma_grammar.specs.declared.error.RawError.{RawError}
 use Rattle.ecma_grammar_laws.specs.RawSorts as raw
 use Rattle.ecma_grammar_laws.specs.RawSorts.{HasRawShape, HasRawSort, RawShape, sorted, allows_raw, child_shapes_raw}
 use Rattle.ecma_grammar_laws.proofs.RawShapes.{HaveRaw, both, parts_of}
 use Rattle.ecma_grammar_laws.proofs.Sorted.{modules_sorted}
-use Rattle.ecma_modules.specs.Modules.{answer_by, kept_by}
+use Rattle.ecma_text_types.proofs.Raws.{of_raw}
 use Rattle.ecma_text_sorts.specs.Laws.{FinishedModulesAreSorted, ReadModulesAreSorted}
 use Rattle.ecma_text_sorts.proofs.Turning.{all_turn, refined, turns, wanted}
 use Rattle.ecma_text_sorts.proofs.KindsTurned.{allowed}
@@ -93,12 +90,4 @@ finished_sorted tree h broken =
     finishes tree at_root (raw.one (sorted sort.Module)) (one sort.Module) refl h w.0
 
 pub read_sorted : ReadModulesAreSorted
-read_sorted text mode bound tree e = of_answer (grammar.answer_of (reads_module text mode bound)) (λ t r. modules_sorted text mode bound t r) e
-  where
-    kept : (r : Node) (broken : Option ℕ) → first_broken r ≡ broken → HasRawSort sort.Module r → kept_by r broken ≡ Ok tree → HasSort sort.Module tree
-    kept r None b h f = let is : finished r ≡ tree = cc in subst (HasSort sort.Module) is (finished_sorted r h b)
-    kept r (Some at) b h f = cc
-
-    of_answer : (a : Result Node RawError) → ((t : Node) → a ≡ Ok t → HasRawSort sort.Module t) → answer_by a ≡ Ok tree → HasSort sort.Module tree
-    of_answer (Ok r) h f = kept r (first_broken r) refl (h r refl) f
-    of_answer (Err reason) h f = cc
+read_sorted text mode bound tree e = of_raw (HasSort sort.Module) text mode bound tree (λ r h b is. subst (HasSort sort.Module) is (finished_sorted r (modules_sorted text mode bound r h) b)) e

@@ -6,7 +6,7 @@ use Rattle.ecma_tree.specs.declared.node.Node.TheViews.{out-roll-Node}
 use Rattle.ecma_tree.specs.Sorted.{is_list}
 use Rattle.ecma_tree.proofs.Layers.{from_leaves-roll}
 use Rattle.ecma_rules.specs.declared.standing.Around.{Around}
-use Rattle.ecma_rules.specs.Children.{holds_of, is_present, of_kind}
+use Rattle.ecma_rules.specs.Children.{holds_of, is_present, of_kind, child_is, has_child}
 use Rattle.ecma_rules.specs.Failing.{failing_here, failing_step, least, least_from}
 use Rattle.ecma_rules.specs.Lists.{is_rest_pattern}
 use Rattle.ecma_rules.specs.Members.{is_declaring, is_misfit, is_plain_parameter, is_property_kind, is_special_constructor, is_stray_property, misfits_by, misplaces_this, second_constructor, takes_not_one}
@@ -73,13 +73,13 @@ module _ (around : Around) (x : Node-F Node) where
   unfolding misfits_by
   getter_is h e =
       let k : (out-Node n).kind ≡ kind.GetterProp = ap (λ p. p.kind) is ∙ e in
-      subst (λ (p : Node-F Node). of_kind is_present (slice_get p.children 3) ≡ false) is (subst (λ z. misfits_by z n ≡ false) k h)
+      subst (λ (p : Node-F Node). of_kind is_present (slice_get p.children 3) ≡ false) is (neither (has_child n 3) (not (has_child n 2)) (subst (λ z. misfits_by z n ≡ false) k h)).0
 
   setter_is : is_misfit n ≡ false → x.kind ≡ kind.SetterProp → of_kind is_list (slice_get x.children 2) ≡ false
   unfolding misfits_by
   setter_is h e =
       let k : (out-Node n).kind ≡ kind.SetterProp = ap (λ p. p.kind) is ∙ e in
-      no_list (slice_get x.children 2) (subst (λ (p : Node-F Node). of_kind takes_not_one (slice_get p.children 2) ≡ false) is (subst (λ z. misfits_by z n ≡ false) k h))
+      no_list (slice_get x.children 2) (subst (λ (p : Node-F Node). of_kind takes_not_one (slice_get p.children 2) ≡ false) is (neither (child_is takes_not_one n 2) (not (has_child n 3)) (subst (λ z. misfits_by z n ≡ false) k h)).0)
 
   fine_where : is_misplaced around n ≡ false → Fine around x
   unfolding is_misplaced

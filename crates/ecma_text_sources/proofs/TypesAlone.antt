@@ -1,5 +1,5 @@
 -- In a tree that fits, and of which each form is taken, all that is TypeScript is types.
-use Rattle.std.proofs.Common.{◌≡◌, ◌∙◌, ℕ, suc, Bool, true, false, ◌&&◌, not, List, [], ◌∷◌, Some, None, map, length, refl, sym, ap, slice_get}
+use Rattle.std.proofs.Common.{◌≡◌, ◌∙◌, ℕ, suc, Bool, true, false, ◌&&◌, not, List, [], ◌∷◌, Some, None, length, refl, sym, ap, slice_get}
 use Rattle.std.specs.List.{list_any}
 use Rattle.ecma_kind.specs.declared.kind.Kind.{Kind}
 use Rattle.ecma_kind.specs.declared.kind.Kind.TheVariants as kind
@@ -17,11 +17,12 @@ use Rattle.ecma_strip_scopes.proofs.Going.{parts-have}
 use Rattle.ecma_sources.specs.TypesAlone.{adds_types_alone, has_ambient_head, has_bodiless, has_stray_receiver, is_lowered, lacks_body, lacks_body_by}
 use Rattle.ecma_pipeline_runs.proofs.Clearing.{fits-below}
 use Rattle.ecma_pipeline_runs.proofs.Nodes.{StaysIn, alone-made, by-children, child-shape, not-false}
-use Rattle.ecma_forms.specs.Forms.{first_untaken, has_body, is_ambient_variable, is_later, is_odd_by}
+use Rattle.ecma_rules.specs.Members.{has_body}
+use Rattle.ecma_forms.specs.Forms.{first_untaken, is_ambient_variable, is_later, is_odd_by}
 use Rattle.ecma_text_sources.proofs.Receivers.{IsFree, child_free, no_stray}
 use Rattle.ecma_text_sources.proofs.Staying.{stays_by, stays_is}
 use Rattle.ecma_text_sources.proofs.Taken.{not_later, not_odd, taken_below}
-use Rattle.ecma_tree.specs.Values.{is_value, value_by}
+use Rattle.ecma_tree.specs.Values.{is_value, value_by, values_in}
 use Rattle.ecma_tree.proofs.Valuing.{is_value-out}
 use Rattle.ecma_fits.proofs.Clauses.{none_unfit}
 use Rattle.ecma_fits.proofs.Walks.{neither_least}
@@ -76,9 +77,9 @@ block_value kind.Absent children h there = absurd (true-false there refl)
 block_value _ children h there = absurd (true-false h refl)
 
 body_value : (b : Node) → HasShape (maybe sort.BlockStmt) b → is_present (kind_of b) ≡ true → is_value b ≡ true
-body_value b h there = is_value-out b ∙ block_value (kind_of b) (map is_value (out-Node b).children) (parts-have b (maybe sort.BlockStmt) h).0 there
+body_value b h there = is_value-out b ∙ block_value (kind_of b) (values_in true (kind_of b) (out-Node b).children) (parts-have b (maybe sort.BlockStmt) h).0 there
 
-function_by : (k : Kind) (cs : List Node) → allows (one sort.Function) k ≡ true → HaveShapes (child_shapes k (one sort.Function) (length cs)) cs → of_kind is_present (slice_get cs 1) ≡ true → value_by k (map is_value cs) ≡ true
+function_by : (k : Kind) (cs : List Node) → allows (one sort.Function) k ≡ true → HaveShapes (child_shapes k (one sort.Function) (length cs)) cs → of_kind is_present (slice_get cs 1) ≡ true → value_by k (values_in true k cs) ≡ true
 unfolding value_by
 function_by (kind.Function is_generator is_async) (p ∷ b ∷ cs) is h there = body_value b h.1.0 there
 function_by (kind.Function is_generator is_async) [] is h there = absurd h
@@ -89,7 +90,7 @@ function_value : (f : Node) → HasShape (one sort.Function) f → has_body f �
 function_value f h there = let parts = parts-have f (one sort.Function) h in is_value-out f ∙ function_by (kind_of f) (out-Node f).children parts.0 parts.1 there
 
 module _ (n : Node) (s : Shape) where
-  full_by : (k : Kind) (cs : List Node) → (out-Node n).children ≡ cs → HaveShapes (child_shapes k s (length cs)) cs → is_odd_by k n ≡ false → is_value n ≡ value_by k (map is_value cs) → lacks_body_by k (is_value n) ≡ false
+  full_by : (k : Kind) (cs : List Node) → (out-Node n).children ≡ cs → HaveShapes (child_shapes k s (length cs)) cs → is_odd_by k n ≡ false → is_value n ≡ value_by k (values_in true k cs) → lacks_body_by k (is_value n) ≡ false
   unfolding value_by
   full_by kind.FnExpr (name ∷ f ∷ cs) e h odd is =
       let there : has_body f ≡ true = ap (λ (z : List Node). holds_of has_body (slice_get z 1)) (sym e) ∙ not-false (holds_of has_body (slice_get (out-Node n).children 1)) odd in

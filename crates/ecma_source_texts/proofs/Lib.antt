@@ -1,0 +1,5 @@
+pub mod Names
+pub mod Contexts
+pub mod Conflicts
+pub mod Parentheses
+pub mod Runs

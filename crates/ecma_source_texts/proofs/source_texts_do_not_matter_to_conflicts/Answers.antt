@@ -1,0 +1,5 @@
+use Rattle.ecma_source_texts.proofs.Conflicts as law
+use Rattle.ecma_source_texts.proofs.source_texts_do_not_matter_to_conflicts.Goals as goal
+
+pub returns : goal.returns
+returns c = law.sources_do_not_matter_to_conflicts

@@ -1,0 +1,2 @@
+mod Deeper
+pub mod Levels
