@@ -1,0 +1,7 @@
+pub mod Naming
+pub mod Knowing
+pub mod Equations
+pub mod Fronted
+pub mod Smaller
+pub mod Sorting
+pub mod Quiet
