@@ -1,0 +1,10 @@
+pub mod Assignments
+pub mod Items
+pub mod Checking
+pub mod Seats
+pub mod Writing
+pub mod Names
+pub mod Moving
+pub mod Heads
+pub mod Lowered
+pub mod Marking
