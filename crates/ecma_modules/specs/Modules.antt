@@ -1,12 +1,13 @@
--- The reading of a whole text as a module: by the grammar, then the context rules, then the literals that are patterns become such.
+-- The reading of a whole text as a module: by the grammar, then the context rules, then what types hold goes, and the literals that are patterns become such.
 use Rattle.std.specs.Prelude.{◌≡◌, ℕ, Bool, true, false, List, Option, Some, None, Result, Ok, Err}
 use Rattle.ecma_tree.specs.declared.node.Node.{Node}
 use Rattle.ecma_grammar.specs.declared.error.RawError.{RawError}
 use Rattle.ecma_grammar.specs.declared.error.RawError.TheVariants as raw_error
 use Rattle.ecma_grammar.specs.declared.production.Mode.{Mode}
 use Rattle.ecma_grammar.specs.Modules as grammar
-use Rattle.ecma_grammar.specs.Modules.{reads_module}
+use Rattle.ecma_grammar.specs.Modules.{reads_module_with_types}
 use Rattle.ecma_rules.specs.Rules.{first_broken}
+use Rattle.ecma_rules.specs.Baring.{bared}
 use Rattle.ecma_rules.specs.Finishing.{finished}
 use Rattle.ecma_modules.specs.declared.error.ReadError.{ReadError}
 use Rattle.ecma_modules.specs.declared.error.ReadError.TheVariants as error
@@ -20,7 +21,7 @@ plain keep_assign = record { typescript = false; assignments = keep_assign }
 
 -- a raw tree that keeps the context rules is finished; else it breaks one at a place
 abbrev pub kept_by : Node → Option ℕ → Result Node ReadError
-kept_by raw None = Ok (finished raw)
+kept_by raw None = Ok (finished (bared raw))
 kept_by raw (Some at) = Err (error.Syntax at)
 
 abbrev pub reason_of : RawError → ReadError
@@ -35,7 +36,7 @@ answer_by (Err reason) = Err (reason_of reason)
 
 -- a text as a module, with at most so many levels
 abbrev pub reads_as : List ℕ → Mode → ℕ → Result Node ReadError
-reads_as text mode bound = answer_by (grammar.answer_of (reads_module text mode bound))
+reads_as text mode bound = answer_by (grammar.answer_of (reads_module_with_types text mode bound))
 
 -- the deepest level
 abbrev pub deepest : ℕ

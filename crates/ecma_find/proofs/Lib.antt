@@ -1,0 +1,5 @@
+pub mod Finding
+pub mod Naming
+pub mod Declaring
+pub mod Calling
+pub mod Terminating

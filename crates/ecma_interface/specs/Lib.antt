@@ -1,0 +1,4 @@
+pub mod Interface
+pub mod Names
+pub mod Reading
+pub mod Laws

@@ -1,0 +1,4 @@
+pub mod Renaming
+pub mod Renamers
+pub mod Walked
+pub mod Laws

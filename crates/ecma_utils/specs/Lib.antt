@@ -1,0 +1,13 @@
+pub mod Functions
+pub mod Expressions
+pub mod Indirect
+pub mod PropNames
+pub mod Constructors
+pub mod Statements
+pub mod Emptiness
+pub mod Directives
+pub mod Names
+pub mod Quotes
+pub mod Aliases
+pub mod IgnoringSpans
+pub mod IgnoringLaws
