@@ -1,0 +1,14 @@
+pub mod Contexts
+pub mod Parts
+pub mod Judgement
+pub mod PureCallees
+pub mod Effects
+pub mod Values
+pub mod Types
+pub mod Truths
+pub mod Numbers
+pub mod Texts
+pub mod Judged
+pub mod Extraction
+pub mod Simple
+pub mod Literals
