@@ -1,5 +1,9 @@
 pub mod Receivers
 pub mod Fits
 pub mod Runs
+pub mod ReadySources
 pub mod Conflicts
+pub mod Interfaces
+pub mod Sourced
+pub mod Written
 pub mod Whole

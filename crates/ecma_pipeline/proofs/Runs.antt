@@ -3,32 +3,23 @@ use Rattle.std.proofs.Common.{◌∙◌, ◌≤◌, ℕ, sym, ap, subst}
 use Rattle.ecma_kind.specs.declared.shapes.Sort.TheVariants as sort
 use Rattle.ecma_tree.specs.declared.node.Node.{Node}
 use Rattle.ecma_tree.specs.Sorted.{HasSort}
-use Rattle.ecma_fits.specs.declared.role.Role.TheVariants as role
 use Rattle.ecma_runs.specs.Observation.{observe}
 use Rattle.ecma_scope.specs.Resolved.{resolved, AreGiven}
 use Rattle.ecma_scope.proofs.Unchanged.{keeps-sorts}
-use Rattle.ecma_sources.specs.Sources.{IsSource}
-use Rattle.ecma_pipeline_runs.specs.Laws.{PassesKeepRuns}
 use Rattle.ecma_bind.specs.Binding.{with_bound_names}
 use Rattle.ecma_bind_runs.proofs.Runs.{runs_alike}
 use Rattle.ecma_bind_scopes.proofs.Placed.{resolve_alike}
-use Rattle.ecma_pipeline.specs.Laws.{BoundPassesKeepRuns, BoundSourcesRunAlike}
-use Rattle.ecma_bind_sources.proofs.Sources.{sources_are_sources}
+use Rattle.ecma_pipeline.specs.Laws.{BoundSourcesRunAlike}
 
 pub sources_run_alike : BoundSourcesRunAlike
 sources_run_alike source is unresolved top left turns options script =
     let sorted : HasSort sort.Module (resolved unresolved top left source) = (keeps-sorts unresolved top left source sort.Module).1 is.fits.sorted in
     ap (λ (z : Node). observe turns options z script) ((resolve_alike source is.fits.sorted).same unresolved top left) ∙ runs_alike (resolved unresolved top left source) sorted turns options script
 
-pub bound_given : (unresolved top left : ℕ) (source : Node) → IsSource source → AreGiven unresolved top left source → AreGiven unresolved top left (with_bound_names source)
-bound_given unresolved top left source is given = record {
+pub bound_given : (unresolved top left : ℕ) (source : Node) → HasSort sort.Module source → AreGiven unresolved top left source → AreGiven unresolved top left (with_bound_names source)
+bound_given unresolved top left source sorted given = record {
   unresolved_above = given.unresolved_above;
   top_above = given.top_above;
   apart = given.apart;
-  enough = subst (λ (n : ℕ). n ≤ left) (sym (resolve_alike source is.fits.sorted).count) given.enough;
+  enough = subst (λ (n : ℕ). n ≤ left) (sym (resolve_alike source sorted).count) given.enough;
 }
-
-pub passes_alike : PassesKeepRuns → BoundPassesKeepRuns
-passes_alike passes unresolved top left source final written is given hygienic reading unresolved' top' left' given' turns options script =
-    passes unresolved top left (with_bound_names source) final written (sources_are_sources source is) (bound_given unresolved top left source is given) hygienic reading unresolved' top' left' given' turns options script
-    ∙ sources_run_alike source is unresolved top left turns options script

@@ -3,3 +3,4 @@ pub mod Reading
 pub mod Contexts
 pub mod Stripping
 pub mod Binding
+pub mod Enclosing

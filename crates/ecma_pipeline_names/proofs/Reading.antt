@@ -26,7 +26,7 @@ use Rattle.ecma_text_leaves.proofs.Forms.{is_leaf}
 use Rattle.ecma_text_leaves.proofs.Leaves.{Holds, holds_read, holds_then}
 use Rattle.ecma_text_leaves.proofs.Trees.{good_framed}
 use Rattle.ecma_text_fits_finished.proofs.Everywhere.{finished_good}
-use Rattle.ecma_text_fits_finished.proofs.Raws.{of_raw}
+use Rattle.ecma_text_types.proofs.Raws.{of_raw}
 use Rattle.ecma_text_fits_leaves.proofs.ReadingOf.{read_holds}
 use Rattle.ecma_raw_roles.proofs.Walks.{not_true}
 use Rattle.ecma_pipeline_names.specs.Laws.{NamesThatAreReadAreShort}

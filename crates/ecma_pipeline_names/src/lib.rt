@@ -1,9 +1,9 @@
-//! No identifier of what a program reads, resolves, binds and strips is long: its text has fewer than 2^32 - 64 bytes.
+//! No identifier of what a program reads, encloses, resolves, binds and strips is long: its text has fewer than 2^32 - 64 bytes.
 //!
 //! Each function carries one law over the definitions, and does nothing. The laws are stated in `specs/Laws.antt`.
 #![tactic(auto)]
 
-ghost use Rattle.ecma_pipeline_names.specs.Laws.{BindingKeepsNamesShort, ContextsKeepNamesShort, NamesThatAreReadAreShort, StrippingKeepsNamesShort};
+ghost use Rattle.ecma_pipeline_names.specs.Laws.{BindingKeepsNamesShort, ContextsKeepNamesShort, EnclosingKeepsNamesShort, NamesThatAreReadAreShort, StrippingKeepsNamesShort};
 
 /// No identifier is long in what is read, in either mode and with any number of levels, of a text with fewer than 2^32 - 64 bytes.
 #[tactic(auto, using(crate::proofs::Reading::names_read))]
@@ -27,4 +27,10 @@ pub fn stripping_keeps_names_short()
 #[tactic(auto, using(crate::proofs::Binding::names_bound))]
 pub fn binding_keeps_names_short()
     ensures { BindingKeepsNamesShort }
+{}
+
+/// Where no identifier of a module is long, none is in the module with its parentheses.
+#[tactic(auto, using(crate::proofs::Enclosing::names_enclosed))]
+pub fn enclosing_keeps_names_short()
+    ensures { EnclosingKeepsNamesShort }
 {}

@@ -9,7 +9,7 @@ use Rattle.ecma_text_leaves.specs.Everywhere.{Each, Everywhere, more, none}
 use Rattle.ecma_plain.specs.Items.{has_plain_items, is_plain_item, is_plain_kind}
 use Rattle.ecma_forms.specs.Forms.{is_later}
 use Rattle.ecma_hygiene.proofs.Telling.{and-both, true-false}
-use Rattle.ecma_pipeline_plain.proofs.KindsSaid.{IsNotLater}
+use Rattle.ecma_pipeline_plain.specs.Laws.{IsNotLater}
 use Rattle.ecma_pipeline_plain.proofs.Everywhere.{parts}
 
 plain_by : (assignments : Bool) (k : Kind) (item : Node) → is_later k ≡ false → is_plain_kind assignments k item ≡ true

@@ -1,6 +1,8 @@
 -- What is said of the kinds of a source, of what is left of it without types, and of it with its final texts.
 use Rattle.std.proofs.Common.{◌≡◌, refl, ap, ℕ, Bool, true, false, not, List, bytes_eq, codes}
-use Rattle.std.specs.Str.{IsUtf8}
+use Rattle.std.specs.Str.{IsUtf8, chars, is_utf8}
+use lib.Utf8.{encode}
+use Rattle.std.proofs.lemmas.Str.{IsUtf8-from_is_utf8}
 use Rattle.ecma_kind.specs.declared.kind.Kind.{Kind}
 use Rattle.ecma_kind.specs.declared.kind.Kind.TheVariants as kind
 use Rattle.ecma_tree.specs.Contexts.{kind_with_context}
@@ -10,7 +12,8 @@ use Rattle.ecma_forms.specs.Forms.{is_ambient_variable, is_later}
 use Rattle.ecma_strip.specs.Laws.{is_type_part}
 use Rattle.ecma_strip.specs.Stripping.{plain_kind}
 use Rattle.ecma_hygiene.proofs.Telling.{true-false}
-use Rattle.ecma_hygiene.specs.Renamed.{Texts, kind_with_text, text_of}
+use Rattle.ecma_pipeline_plain.specs.Laws.{IsNotLater}
+use Rattle.ecma_hygiene.specs.Renamed.{Texts, kind_with_text, proto_literal, quoted_proto, text_of}
 
 abbrev pub empty : List ℕ → ℕ → ℕ
 empty text ctxt = 0
@@ -35,9 +38,6 @@ is_barred k = is_later k
 -- of what is left of it without types
 abbrev pub IsLeft : Kind → Type 0
 IsLeft k = IsTaken (bare k) × (is_barred k ≡ false)
-
-abbrev pub IsNotLater : Kind → Type 0
-IsNotLater k = is_later k ≡ false
 
 -- ---- a source
 
@@ -139,6 +139,13 @@ module _ (texts : Texts) (utf8 : (text : List ℕ) (ctxt : ℕ) → IsUtf8 text 
 
 pub left_old : (text : List ℕ) (ctxt : ℕ) (optional : Bool) → IsLeft (kind.Ident text ctxt optional) → IsLeft (kind.IdentName text) × IsLeft (kind.Ident text 0 false)
 left_old text ctxt optional p = (((p.0.0.0, refl), refl), (((p.0.0.0, refl, refl), refl), p.1))
+
+pub quoted_proto_is_utf8 : is_utf8 quoted_proto ≡ true
+unfolding chars is_utf8 encode
+quoted_proto_is_utf8 = refl
+
+pub left_brackets : IsLeft kind.ComputedPropName × IsLeft proto_literal
+left_brackets = (((tt, refl), refl), ((IsUtf8-from_is_utf8 quoted_proto quoted_proto_is_utf8, refl), refl))
 
 -- ---- contexts, and names
 

@@ -5,7 +5,8 @@ use Rattle.ecma_tree.specs.Sorted.{one}
 use Rattle.ecma_tree.specs.declared.node.Node.{Node}
 use Rattle.ecma_rules.specs.Children.{kind_of}
 use Rattle.ecma_text_leaves.specs.Everywhere.{Everywhere}
-use Rattle.ecma_fits.specs.Fitting.{Fits}
+use Rattle.ecma_fits.specs.Fitting.{Fits, at_top}
+use Rattle.ecma_fits.proofs.Clauses.{none_unfit}
 use Rattle.ecma_scope.specs.Laws.{without_contexts}
 use Rattle.ecma_scope.specs.Resolved.{resolved}
 use Rattle.ecma_strip.specs.Stripping.{stripped}
@@ -15,16 +16,15 @@ use Rattle.ecma_hygiene.specs.Renamed.{renamed}
 use Rattle.ecma_hygiene.specs.Texts.{text_in}
 use Rattle.ecma_forms.specs.Forms.{first_untaken}
 use Rattle.ecma_plain.specs.Read.{IsRead}
-use Rattle.ecma_pipeline_plain.specs.Laws.{FinalTreesArePlain}
+use Rattle.ecma_pipeline_plain.specs.Laws.{FinalTreesArePlain, FinalTreesHaveNoLaterForms, IsNotLater}
 use Rattle.ecma_pipeline_plain.proofs.Everywhere.{everywhere_moved}
 use Rattle.ecma_pipeline_plain.proofs.Hashbang.{hashbang_stays}
 use Rattle.ecma_pipeline_plain.proofs.Items.{items_are_plain}
-use Rattle.ecma_pipeline_plain.proofs.KindsSaid.{IsLeft, IsNotLater, empty, later_bare, left_other}
+use Rattle.ecma_pipeline_plain.proofs.KindsSaid.{IsLeft, empty, later_bare, left_other}
 use Rattle.ecma_pipeline_plain.proofs.Ordinary.{functions_alike, ordinary_usual}
 use Rattle.ecma_pipeline_plain.proofs.OrdinaryRenamed.{ordinary_renamed}
 use Rattle.ecma_pipeline_plain.proofs.OrdinaryStripped.{stripped_ordinary, stripped_parts}
 use Rattle.ecma_pipeline_plain.proofs.Taken.{left_renamed, resolved_fits, stripped_full}
-use Rattle.ecma_pipeline_plain.proofs.Untaken.{resolved_taken}
 use Rattle.ecma_plain.specs.Forms.{IsTaken}
 use Rattle.ecma_plain.specs.Functions.{Functions, functions}
 use Rattle.ecma_plain.specs.Items.{HasUtf8Hashbang, has_plain_items}
@@ -48,8 +48,14 @@ module _ (unresolved top left : ℕ) (source final : Node) (read : IsRead source
   hashbang : HasUtf8Hashbang (kind_of (without_contexts final))
   hashbang = of_h (λ n. HasUtf8Hashbang (kind_of (without_contexts n))) (hashbang_stays unresolved top left source (text_in hygienic.names) read.fits read.hashbang)
 
+  later_h : Everywhere IsNotLater (without_contexts h)
+  later_h = everywhere_moved IsLeft IsNotLater empty later_bare left_h
+
+  none_later : Everywhere IsNotLater (without_contexts final)
+  none_later = of_h (λ n. Everywhere IsNotLater (without_contexts n)) later_h
+
   items : has_plain_items false (without_contexts final) ≡ true
-  items = of_h (λ n. has_plain_items false (without_contexts n) ≡ true) (items_are_plain false (without_contexts h) (everywhere_moved IsLeft IsNotLater empty later_bare left_h))
+  items = of_h (λ n. has_plain_items false (without_contexts n) ≡ true) (items_are_plain false (without_contexts h) later_h)
 
   taken_there : Everywhere IsTaken (without_contexts final)
   taken_there = of_h (λ n. Everywhere IsTaken (without_contexts n)) (everywhere_moved IsLeft IsTaken empty (λ k p. p.0) left_h)
@@ -63,7 +69,7 @@ module _ (unresolved top left : ℕ) (source final : Node) (read : IsRead source
       (ap (λ (f : Functions). f.has_unusual) (functions_alike h)
       ∙ ordinary_usual IsLeft left_other h
       (ordinary_renamed (text_in hygienic.names) s
-      (stripped_ordinary s (sorts_kept r fits) (stripped_full unresolved top left source read taken) (stripped_parts r (one sort.Module) fits.sorted (resolved_taken unresolved top left source taken))))
+      (stripped_ordinary s (sorts_kept r fits) (stripped_full unresolved top left source read taken) (stripped_parts r (one sort.Module) at_top fits.sorted (none_unfit r fits))))
       left_h)
 
 pub final_trees_plain : FinalTreesArePlain
@@ -74,3 +80,6 @@ final_trees_plain unresolved top left source final read taken hygienic fits = re
   items = items unresolved top left source final read taken hygienic;
   hashbang = hashbang unresolved top left source final read taken hygienic;
 }
+
+pub final_trees_have_no_later_forms : FinalTreesHaveNoLaterForms
+final_trees_have_no_later_forms unresolved top left source final read taken hygienic = none_later unresolved top left source final read taken hygienic

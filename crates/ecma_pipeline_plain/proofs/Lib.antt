@@ -11,4 +11,8 @@ pub mod OrdinaryRenamed
 pub mod OrdinaryParts
 pub mod OrdinaryStripped
 pub mod Untaken
+pub mod Leaving
+pub mod WrittenTexts
 pub mod Law
+pub mod ReadyKinds
+pub mod ReadyPlain

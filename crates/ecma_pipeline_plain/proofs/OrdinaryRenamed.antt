@@ -1,5 +1,5 @@
 -- Functions stay as they are with other texts.
-use Rattle.std.proofs.Common.{◌≡◌, ◌∙◌, refl, sym, ap, ℕ, zero, suc, Bool, true, false, ◌&&◌, not, cond, List, [], ◌∷◌, Option, Some, None, slice_get}
+use Rattle.std.proofs.Common.{◌≡◌, ◌∙◌, refl, sym, ap, ℕ, zero, suc, Bool, true, false, ◌&&◌, not, cond, List, [], ◌∷◌, Option, Some, None, bytes_eq, slice_get}
 use Rattle.std.specs.List.{list_all}
 use Rattle.ecma_kind.specs.declared.kind.Kind.{Kind}
 use Rattle.ecma_kind.specs.declared.kind.Kind.TheVariants as kind
@@ -11,7 +11,7 @@ use Rattle.ecma_rules.specs.Children.{is_present, kind_of, of_kind}
 use Rattle.ecma_scope.specs.Resolved.{is_name}
 use Rattle.ecma_strip_runs.proofs.Telling.{holds-roll}
 use Rattle.ecma_hygiene.specs.declared.spot.Standing.{Standing}
-use Rattle.ecma_hygiene.specs.Renamed.{Texts, at_root, key_of, kind_is_absent, kind_with_text, name_of, renamed, standing_in, two_names, with_default}
+use Rattle.ecma_hygiene.specs.Renamed.{Texts, at_root, key_of, kind_is_absent, kind_with_text, name_of, property_key, proto, proto_in_brackets, proto_literal, renamed, standing_in, two_names, with_default}
 use Rattle.ecma_hygiene.proofs.Telling.{and-both, and-left, and-right}
 use Rattle.ecma_hygiene_scopes.proofs.Growing.{OldName, grown, grown_pattern}
 use Rattle.ecma_hygiene_fits.proofs.Becoming.{all_become, become, become-out, children_become, old_of, own_kind}
@@ -31,6 +31,18 @@ ordinary_made span k cs h hs = holds-roll ordinary_by (record { span = span; kin
 module _ (old : OldName) (span : Span) where
   key_ordinary : is_ordinary (key_of old) ≡ true
   key_ordinary = ordinary_made old.span (kind.IdentName old.text) [] refl refl
+
+  brackets_ordinary : (place : Span) → is_ordinary (proto_in_brackets place) ≡ true
+  brackets_ordinary place =
+      let text = node_of place proto_literal [] in
+      ordinary_made place kind.ComputedPropName (text ∷ []) refl (and-both (is_ordinary text) true (ordinary_made place proto_literal [] refl refl) refl)
+
+  property_key_by : (b : Bool) → is_ordinary (cond b (proto_in_brackets old.span) (key_of old)) ≡ true
+  property_key_by true = brackets_ordinary old.span
+  property_key_by false = key_ordinary
+
+  property_key_ordinary : is_ordinary (property_key old) ≡ true
+  property_key_ordinary = property_key_by (bytes_eq old.text proto)
 
   name_ordinary : is_ordinary (name_of old) ≡ true
   name_ordinary = ordinary_made old.span (kind.Ident old.text 0 false) [] refl refl
@@ -62,7 +74,7 @@ grown_ordinary : (o : Option OldName) (span : Span) (k : Kind) (cs : List Node) 
 grown_ordinary None span k cs h hs = ordinary_made span k cs h hs
 grown_ordinary (Some old) span (kind.Ident text ctxt optional) cs h hs =
     let named = node_of span (kind.Ident text ctxt optional) cs in
-    ordinary_made span kind.KeyValueProp (key_of old ∷ named ∷ []) refl (two old span (key_of old) named (key_ordinary old span) (ordinary_made span (kind.Ident text ctxt optional) cs refl hs))
+    ordinary_made span kind.KeyValueProp (property_key old ∷ named ∷ []) refl (two old span (property_key old) named (property_key_ordinary old span) (ordinary_made span (kind.Ident text ctxt optional) cs refl hs))
 grown_ordinary (Some old) span (kind.ImportNamedSpecifier is_type_only) cs h hs = ordinary_made span (kind.ImportNamedSpecifier is_type_only) (two_names old cs) refl (names_ordinary old span cs hs)
 grown_ordinary (Some old) span (kind.ExportNamedSpecifier is_type_only) cs h hs = ordinary_made span (kind.ExportNamedSpecifier is_type_only) (two_names old cs) refl (names_ordinary old span cs hs)
 grown_ordinary (Some old) span kind.AssignPatProp cs h hs = pattern_ordinary old span cs hs

@@ -18,23 +18,25 @@ use Rattle.ecma_rules.specs.Children.{is_present, kind_of}
 use Rattle.ecma_runs.specs.Evaluation.{meaning, meaning_by}
 use Rattle.ecma_runs.specs.Meaning.{Meaning}
 use Rattle.ecma_runs.proofs.Layer.{meaning_out}
-use Rattle.ecma_forms.specs.Forms.{first_untaken, has_body}
-use Rattle.ecma_text_sources.proofs.Taken.{not_odd, taken_below}
+use Rattle.ecma_rules.specs.Members.{has_body}
+use Rattle.ecma_fits.specs.declared.unfit.Where.{Where}
+use Rattle.ecma_fits.specs.Fitting.{first_unfit_in, where_in}
 use Rattle.ecma_strip.specs.Stripping.{plain_children, plain_kind, stripped}
 use Rattle.ecma_strip_runs.specs.UsualBodies.{holds_throughout}
 use Rattle.ecma_strip_runs.proofs.Telling.{holds-roll}
 use Rattle.ecma_strip_scopes.proofs.Going.{parts-have}
 use Rattle.ecma_hygiene.proofs.Telling.{and-both, and-left, and-right, true-false}
 use Rattle.ecma_hygiene_fits.proofs.Everywhere.{children_of}
+use Rattle.ecma_pipeline_runs.proofs.Clearing.{fits-below}
 use Rattle.ecma_pipeline_runs.proofs.FullParts.{full_by, is_full, lacks}
 use Rattle.ecma_pipeline_runs.proofs.Nodes.{by-children, child-shape, holds-out, none-some, not-false, not-true, some-same, test-below, test-here}
 use Rattle.ecma_pipeline_runs.proofs.Plainness.{full-lacks}
 use Rattle.ecma_pipeline_runs.proofs.Remaining.{is_many, restless}
 use Rattle.ecma_pipeline_plain.proofs.Ordinary.{is_ordinary, is_there, ordinary_by}
-use Rattle.ecma_pipeline_plain.proofs.OrdinaryParts.{partly, partly_by}
+use Rattle.ecma_pipeline_plain.proofs.OrdinaryParts.{no_misfit, partly, partly_by}
 use Rattle.ecma_pipeline_plain.proofs.Stripping.{Says, kept}
 
--- ---- what is left of nodes of which nothing is odd
+-- ---- what is left of nodes that fit
 
 abbrev pub is_partly : Node → Bool
 is_partly = holds_throughout partly_by
@@ -49,21 +51,22 @@ IsPartly n = is_partly n ≡ true
 partly_made : (span : Span) (k : Kind) (cs : List Node) → partly_by k cs ≡ true → ((i : ℕ) (c : Node) → slice_get cs i ≡ Some c → IsPartly c) → IsPartly (node_of span k cs)
 partly_made span k cs h each = holds-roll partly_by (record { span = span; kind = k; children = cs }) ∙ and-both (partly_by k cs) (list_all is_partly cs) h (all_hold is_partly cs each)
 
-abbrev IsTaken : Node → Type 0
-IsTaken n = first_untaken n ≡ None
+-- it fits where it stands
+abbrev Fitting : Node → Type 0
+Fitting n = (w : Where) × (first_unfit_in n w ≡ None)
 
-taken_says : Says IsTaken IsPartly
-taken_says = record {
-  below = λ n taken i c at stay. taken_below n taken i c at stay;
+fitting_says : Says Fitting IsPartly
+fitting_says = record {
+  below = λ n fits i c at stay. (where_in fits.0 n i, fits-below fits.0 n fits.1 i c at);
   missing = partly_made dummy_span kind.Absent [] refl (λ i c at. none-some at);
   empty = λ span. partly_made span kind.EmptyStmt [] refl (λ i c at. none-some at);
   lists = λ span cs each. partly_made span kind.List cs refl each;
-  usual = λ n s u has taken each.
-      partly_made (out-Node n).span (plain_kind (kind_of n)) (plain_children (kind_of n) (map stripped (children_of n))) (partly n (kind_of n) s (children_of n) refl (parts-have n s has).1 (not_odd n taken)) each;
+  usual = λ n s u has fits each.
+      partly_made (out-Node n).span (plain_kind (kind_of n)) (plain_children (kind_of n) (map stripped (children_of n))) (partly n (kind_of n) s (children_of n) refl (parts-have n s has).1 (no_misfit fits.0 n fits.1)) each;
 }
 
-pub stripped_parts : (tree : Node) (s : Shape) → HasShape s tree → first_untaken tree ≡ None → is_partly (stripped tree) ≡ true
-stripped_parts tree s has taken = (kept IsTaken IsPartly taken_says tree s has taken).0
+pub stripped_parts : (tree : Node) (s : Shape) (w : Where) → HasShape s tree → first_unfit_in tree w ≡ None → is_partly (stripped tree) ≡ true
+stripped_parts tree s w has fits = (kept Fitting IsPartly fitting_says tree s has (w, fits)).0
 
 -- ---- bodies, as runs have them
 

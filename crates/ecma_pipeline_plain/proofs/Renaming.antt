@@ -11,7 +11,7 @@ use Rattle.ecma_scope.specs.Resolved.{is_name}
 use Rattle.ecma_hygiene.specs.declared.spot.Spot.{Spot}
 use Rattle.ecma_hygiene.specs.declared.spot.Spot.TheVariants as spot
 use Rattle.ecma_hygiene.specs.declared.spot.Standing.{Standing}
-use Rattle.ecma_hygiene.specs.Renamed.{Texts, at_root, changed_from, first_item, is_sourced, key_name, key_of, kind_is_absent, kind_with_text, lone_name, old_name, old_name_by, renamed, shared_by, shorthand, standing_in, two_names, with_default}
+use Rattle.ecma_hygiene.specs.Renamed.{Texts, at_root, changed_from, first_item, is_sourced, key_name, key_of, kind_is_absent, kind_with_text, lone_name, old_name, old_name_by, property_key, proto, proto_in_brackets, proto_literal, renamed, shared_by, shorthand, standing_in, two_names, with_default}
 use Rattle.ecma_hygiene_scopes.proofs.Growing.{OldName, grown, grown_pattern}
 use Rattle.ecma_hygiene_fits.proofs.Becoming.{all_become, become, become-out, children_become, old_of, own_kind}
 use Rattle.ecma_hygiene_fits.proofs.Everywhere.{Each as EachChild, children_of, everywhere as from_children}
@@ -19,7 +19,7 @@ use Rattle.ecma_pipeline_plain.proofs.Everywhere.{parts}
 
 module _ (P Q : Kind → Type 0) (texts : Texts) (written : (named : Bool) (k : Kind) → P k → Q (kind_with_text texts named k))
     (old : (text : List ℕ) (ctxt : ℕ) (optional : Bool) → P (kind.Ident text ctxt optional) → Q (kind.IdentName text) × Q (kind.Ident text 0 false))
-    (property : Q kind.KeyValueProp) (pattern_property : Q kind.KeyValuePatProp) (default : Q kind.AssignPat) where
+    (brackets : Q kind.ComputedPropName × Q proto_literal) (property : Q kind.KeyValueProp) (pattern_property : Q kind.KeyValuePatProp) (default : Q kind.AssignPat) where
   -- ---- the old text of a shared name
 
   abbrev GoodName : Option OldName → Type 0
@@ -95,6 +95,16 @@ module _ (P Q : Kind → Type 0) (texts : Texts) (written : (named : Bool) (k : 
     key_of_good : Everywhere Q (key_of o)
     key_of_good = everywhere o.span (kind.IdentName o.text) good.0 none
 
+    brackets_good : (place : Span) → Everywhere Q (proto_in_brackets place)
+    brackets_good place = everywhere place kind.ComputedPropName brackets.0 (more (everywhere place proto_literal brackets.1 none) none)
+
+    property_key_good : Everywhere Q (property_key o)
+    property_key_good = by (bytes_eq o.text proto)
+      where
+        by : (b : Bool) → Everywhere Q (cond b (proto_in_brackets o.span) (key_of o))
+        by true = brackets_good o.span
+        by false = key_of_good
+
     names_good : (cs : List Node) → Each Q cs → Each Q (two_names o cs)
     names_good [] h = h
     names_good (a ∷ []) h = h
@@ -109,7 +119,7 @@ module _ (P Q : Kind → Type 0) (texts : Texts) (written : (named : Bool) (k : 
 
   grown_good : (o : Option OldName) → GoodName o → (span : Span) (k : Kind) (cs : List Node) → Q k → Each Q cs → Everywhere Q (grown o span k cs)
   grown_good None g span k cs q h = everywhere span k q h
-  grown_good (Some o) g span (kind.Ident text ctxt optional) cs q h = everywhere span kind.KeyValueProp property (more (key_of_good o g span) (more (everywhere span (kind.Ident text ctxt optional) q h) none))
+  grown_good (Some o) g span (kind.Ident text ctxt optional) cs q h = everywhere span kind.KeyValueProp property (more (property_key_good o g span) (more (everywhere span (kind.Ident text ctxt optional) q h) none))
   grown_good (Some o) g span (kind.ImportNamedSpecifier is_type_only) cs q h = everywhere span (kind.ImportNamedSpecifier is_type_only) q (names_good o g span cs h)
   grown_good (Some o) g span (kind.ExportNamedSpecifier is_type_only) cs q h = everywhere span (kind.ExportNamedSpecifier is_type_only) q (names_good o g span cs h)
   grown_good (Some o) g span kind.AssignPatProp cs q h = pattern_good o g span cs q h

@@ -41,7 +41,7 @@ use Rattle.ecma_text_sources.proofs.Quiet.{not_this}
 use Rattle.ecma_text_sources.proofs.Taken.{not_later, taken_below}
 use Rattle.ecma_text_sources.proofs.TypesAlone.{types_alone}
 use Rattle.ecma_pipeline_plain.proofs.Everywhere.{each_at, each_of, everywhere_made, everywhere_moved, everywhere_returned, parts}
-use Rattle.ecma_pipeline_plain.proofs.KindsSaid.{HasTexts, IsGiven, IsLeft, IsNotThis, bare_texts, empty, given_left, given_plain, left_old, left_written, texts_bare}
+use Rattle.ecma_pipeline_plain.proofs.KindsSaid.{HasTexts, IsGiven, IsLeft, IsNotThis, bare_texts, empty, given_left, given_plain, left_brackets, left_old, left_written, texts_bare}
 use Rattle.ecma_pipeline_plain.proofs.Renaming.{everywhere_renamed}
 use Rattle.ecma_pipeline_plain.proofs.Stripping.{Says, kept}
 use Rattle.ecma_pipeline_plain.proofs.Texts.{final_text_utf8}
@@ -66,14 +66,14 @@ asked_says = record {
 
 -- ---- what is left without types
 
-constant : (k : Kind) (ms : List Meaning) → lacks k ms ≡ false → is_ambient_variable k ≡ false
+pub constant : (k : Kind) (ms : List Meaning) → lacks k ms ≡ false → is_ambient_variable k ≡ false
 constant (kind.VarDecl word declare) ms h = h
 constant _ ms h = refl
 
 pub full_native : (n : Node) → is_full n ≡ true → is_foreign (kind_of n) ≡ false
 full_native n full = not-true (is_foreign (kind_of n)) (and-left (not (is_foreign (kind_of n))) _ (test-here full_by n full))
 
-native_other : (k : Kind) → is_foreign k ≡ false → is_this_name k ≡ false
+pub native_other : (k : Kind) → is_foreign k ≡ false → is_this_name k ≡ false
 native_other (kind.Ident text ctxt optional) h = h
 native_other _ h = refl
 
@@ -133,4 +133,4 @@ module _ (unresolved top left : ℕ) (source : Node) (read : IsRead source) (tak
         go (inr free) = not_this (text_of texts (text, ctxt)) free.unreserved
 
     pub left_renamed : Everywhere IsLeft (renamed texts s)
-    left_renamed = everywhere_renamed IsLeft IsLeft texts (left_written texts utf8 other) left_old ((tt, refl), refl) ((tt, refl), refl) ((tt, refl), refl) s left_stripped
+    left_renamed = everywhere_renamed IsLeft IsLeft texts (left_written texts utf8 other) left_old left_brackets ((tt, refl), refl) ((tt, refl), refl) ((tt, refl), refl) s left_stripped

@@ -11,16 +11,14 @@ use Rattle.ecma_scope_fits.proofs.Moved.{Same, child_same, has_same, holds_same,
 use Rattle.ecma_scope.specs.Resolved.{resolved}
 use Rattle.ecma_scope.proofs.Unchanged.{changes-contexts}
 use Rattle.ecma_pipeline_runs.proofs.Contexts.{stays-turned}
-use Rattle.ecma_forms.specs.Forms.{first_untaken, goes, has_body, inside, is_ambient_variable, is_later, is_odd_by, is_untaken, untaken_here}
+use Rattle.ecma_rules.specs.Members.{has_body}
+use Rattle.ecma_forms.specs.Forms.{first_untaken, goes, inside, is_ambient_variable, is_later, is_odd_by, is_untaken, untaken_here}
 use Rattle.ecma_pipeline_plain.proofs.KindsSaid.{bare, empty}
 
 abbrev moved : Node → Node
 moved = to empty
 
 odd_by : (k : Kind) (n : Node) → is_odd_by (bare k) (moved n) ≡ is_odd_by k n
-odd_by kind.SetterProp n = ap not (has_same empty n 3)
-odd_by kind.GetterProp n = ap not (has_same empty n 2)
-odd_by kind.MethodProp n = ap not (holds_same empty has_body (λ m. has_same empty m 1) n 1)
 odd_by kind.FnExpr n = ap not (holds_same empty has_body (λ m. has_same empty m 1) n 1)
 odd_by kind.ForStmt n = child_same empty is_ambient_variable (λ text a b optional. refl) n 0
 odd_by kind.ForInStmt n = child_same empty is_ambient_variable (λ text a b optional. refl) n 0

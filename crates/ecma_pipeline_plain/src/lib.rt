@@ -1,11 +1,21 @@
-//! A law of the tree that is written for a module: it is plain.
+//! Laws of the tree that is written for a module: it is plain; and where each form of its source is taken, it imports and exports nothing.
 //!
-//! The function carries the law over the definitions, and does nothing. The law is stated in `specs/Laws.antt`.
+//! Each function carries one law over the definitions, and does nothing. The laws are stated in `specs/Laws.antt`.
 #![tactic(auto)]
 
-ghost use Rattle.ecma_pipeline_plain.specs.Laws.{FinalTreesArePlain};
+ghost use Rattle.ecma_pipeline_plain.specs.Laws.{FinalTreesArePlain, FinalTreesHaveNoLaterForms, ReadyTreesArePlain};
 
 /// A module of which each form is taken, resolved, stripped of its types and given its final texts, is plain where it fits.
 pub fn final_trees_are_plain()
     ensures { FinalTreesArePlain }
+{}
+
+/// No node of it is an import or an export, nor of another form that is not taken.
+pub fn final_trees_have_no_later_forms()
+    ensures { FinalTreesHaveNoLaterForms }
+{}
+
+/// A tree that is ready, stripped of its types and given its final texts, is plain: whether or not its literals have source texts.
+pub fn ready_trees_are_plain()
+    ensures { ReadyTreesArePlain }
 {}

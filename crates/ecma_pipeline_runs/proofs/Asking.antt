@@ -304,38 +304,25 @@ default-got kind.FnExpr scoped value s m r i c o q is val at h = got-at c (role_
 default-got kind.ClassExpr scoped value s m r i c o q is val at h = got-at c (role_in r kind.ClassExpr) 0 (child_shapes kind.ClassExpr s m) (maybe sort.Ident) refl i o at (part.Name form.Class) true q refl refl h
 default-got _ scoped value s m r i c o q is val at h = none-some h
 
-block-unwrapped : (k : Kind) → belongs sort.BlockStmt k ≡ true → is_type_wrapper k ≡ false
-block-unwrapped kind.BlockStmt h = refl
-block-unwrapped _ h = absurd (true-false h refl)
-
--- the name that is caught, and the block
-catch-got : (s : Shape) (m : ℕ) (r : Role) (i : ℕ) (c : Node) (o : Shape) (q : Sought) → HasShape o c → slice_get (child_shapes kind.CatchClause s m) i ≡ Some o → in_scope true true kind.CatchClause i ≡ Some q
-    → Got c o (role_in r kind.CatchClause i) q
-unfolding in_scope role_in
-catch-got s m r zero c o q has at h = got-some c o role.Declared (part.Name form.Catch) true q refl (subst (λ (z : Shape). declaring z role.Declared ≡ true) (some-same at) refl) h
-catch-got s m r (suc zero) c o q has at h =
-    got-some c o (role_in r kind.CatchClause 1) part.Scope true q refl (block-unwrapped (out-Node c).kind (parts-have c (one sort.BlockStmt) (subst (λ (z : Shape). HasShape z c) (sym (some-same at)) has)).0) h
-catch-got s m r (suc (suc i)) c o q has at h = none-some at
-
-pub scope-got : (k : Kind) (scoped value ambient : Bool) (s : Shape) (m : ℕ) (r : Role) (i : ℕ) (c : Node) (o : Shape) (q : Sought) → is_lowered k ≡ false → (remains_by k value ambient ≡ true → holds_items k ≡ true → remains c ≡ true) → HasShape o c
+pub scope-got : (k : Kind) (scoped value ambient : Bool) (s : Shape) (m : ℕ) (r : Role) (i : ℕ) (c : Node) (o : Shape) (q : Sought) → is_lowered k ≡ false → (remains_by k value ambient ≡ true → holds_items k ≡ true → remains c ≡ true)
     → slice_get (child_shapes k s m) i ≡ Some o → in_scope true scoped k i ≡ Some q → Got c o (role_in r k i) q
 unfolding in_scope role_in
-scope-got (kind.Module x) scoped value ambient s m r i c o q low child has at h = got-some c o (role_in r (kind.Module x) i) part.Item true q refl (child refl refl) h
-scope-got (kind.Script x) scoped value ambient s m r i c o q low child has at h = got-some c o (role_in r (kind.Script x) i) part.Item true q refl (child refl refl) h
-scope-got kind.TsModuleBlock scoped value ambient s m r i c o q low child has at h = got-some c o (role_in r kind.TsModuleBlock i) part.Item true q refl (child refl refl) h
-scope-got kind.BlockStmt scoped value ambient s m r i c o q low child has at h = got-some c o (role_in r kind.BlockStmt i) part.Item true q refl (child refl refl) h
-scope-got kind.SwitchStmt scoped value ambient s m r i c o q low child has at h = got-at c (role_in r kind.SwitchStmt) 1 (child_shapes kind.SwitchStmt s m) (many sort.SwitchCase) refl i o at part.Item true q refl (child refl refl) h
-scope-got kind.ForStmt scoped value ambient s m r i c o q low child has at h = got-at c (role_in r kind.ForStmt) 0 (child_shapes kind.ForStmt s m) (maybe sort.VarDeclOrExpr) refl i o at part.Item true q refl (child refl refl) h
-scope-got kind.ForInStmt scoped value ambient s m r i c o q low child has at h = got-at c (role_in r kind.ForInStmt) 0 (child_shapes kind.ForInStmt s m) (one sort.ForHead) refl i o at part.Item true q refl (child refl refl) h
-scope-got (kind.ForOfStmt w) scoped value ambient s m r i c o q low child has at h = got-at c (role_in r (kind.ForOfStmt w)) 0 (child_shapes (kind.ForOfStmt w) s m) (one sort.ForHead) refl i o at part.Item true q refl (child refl refl) h
-scope-got kind.CatchClause scoped value ambient s m r i c o q low child has at h = catch-got s m r i c o q has at h
-scope-got (kind.Function g a) scoped value ambient s m r i c o q low child has at h = got-at c (role_in r (kind.Function g a)) 0 (child_shapes (kind.Function g a) s m) (many sort.Param) refl i o at (part.Name form.Parameter) true q refl refl h
-scope-got (kind.ArrowExpr a g) scoped value ambient s m r i c o q low child has at h = got-at c (role_in r (kind.ArrowExpr a g)) 0 (child_shapes (kind.ArrowExpr a g) s m) (many sort.Pat) refl i o at (part.Name form.Parameter) true q refl refl h
-scope-got (kind.Constructor a p) scoped value ambient s m r i c o q low child has at h =
+scope-got (kind.Module x) scoped value ambient s m r i c o q low child at h = got-some c o (role_in r (kind.Module x) i) part.Item true q refl (child refl refl) h
+scope-got (kind.Script x) scoped value ambient s m r i c o q low child at h = got-some c o (role_in r (kind.Script x) i) part.Item true q refl (child refl refl) h
+scope-got kind.TsModuleBlock scoped value ambient s m r i c o q low child at h = got-some c o (role_in r kind.TsModuleBlock i) part.Item true q refl (child refl refl) h
+scope-got kind.BlockStmt scoped value ambient s m r i c o q low child at h = got-some c o (role_in r kind.BlockStmt i) part.Item true q refl (child refl refl) h
+scope-got kind.SwitchStmt scoped value ambient s m r i c o q low child at h = got-at c (role_in r kind.SwitchStmt) 1 (child_shapes kind.SwitchStmt s m) (many sort.SwitchCase) refl i o at part.Item true q refl (child refl refl) h
+scope-got kind.ForStmt scoped value ambient s m r i c o q low child at h = got-at c (role_in r kind.ForStmt) 0 (child_shapes kind.ForStmt s m) (maybe sort.VarDeclOrExpr) refl i o at part.Item true q refl (child refl refl) h
+scope-got kind.ForInStmt scoped value ambient s m r i c o q low child at h = got-at c (role_in r kind.ForInStmt) 0 (child_shapes kind.ForInStmt s m) (one sort.ForHead) refl i o at part.Item true q refl (child refl refl) h
+scope-got (kind.ForOfStmt w) scoped value ambient s m r i c o q low child at h = got-at c (role_in r (kind.ForOfStmt w)) 0 (child_shapes (kind.ForOfStmt w) s m) (one sort.ForHead) refl i o at part.Item true q refl (child refl refl) h
+scope-got kind.CatchClause scoped value ambient s m r i c o q low child at h = got-at c (role_in r kind.CatchClause) 0 (child_shapes kind.CatchClause s m) (maybe sort.Pat) refl i o at (part.Name form.Catch) true q refl refl h
+scope-got (kind.Function g a) scoped value ambient s m r i c o q low child at h = got-at c (role_in r (kind.Function g a)) 0 (child_shapes (kind.Function g a) s m) (many sort.Param) refl i o at (part.Name form.Parameter) true q refl refl h
+scope-got (kind.ArrowExpr a g) scoped value ambient s m r i c o q low child at h = got-at c (role_in r (kind.ArrowExpr a g)) 0 (child_shapes (kind.ArrowExpr a g) s m) (many sort.Pat) refl i o at (part.Name form.Parameter) true q refl refl h
+scope-got (kind.Constructor a p) scoped value ambient s m r i c o q low child at h =
     got-at c (role_in r (kind.Constructor a p)) 1 (child_shapes (kind.Constructor a p) s m) (many sort.ParamOrTsParamProp) refl i o at (part.Name form.Parameter) true q refl refl h
-scope-got kind.SetterProp scoped value ambient s m r i c o q low child has at h = got-at c (role_in r kind.SetterProp) 2 (child_shapes kind.SetterProp s m) (one sort.Pat) refl i o at (part.Name form.Parameter) true q refl refl h
-scope-got kind.FnExpr scoped value ambient s m r i c o q low child has at h = got-at c (role_in r kind.FnExpr) 0 (child_shapes kind.FnExpr s m) (maybe sort.Ident) refl i o at (part.Name form.Own) true q refl refl h
-scope-got kind.ClassExpr scoped value ambient s m r i c o q low child has at h = got-at c (role_in r kind.ClassExpr) 0 (child_shapes kind.ClassExpr s m) (maybe sort.Ident) refl i o at (part.Name form.Own) true q refl refl h
-scope-got (kind.TsEnumDecl d e) scoped value ambient s m r i c o q low child has at h = absurd (true-false refl low)
-scope-got (kind.TsNamespaceDecl d g) scoped value ambient s m r i c o q low child has at h = absurd (true-false refl low)
-scope-got _ scoped value ambient s m r i c o q low child has at h = none-some h
+scope-got kind.SetterProp scoped value ambient s m r i c o q low child at h = got-at c (role_in r kind.SetterProp) 2 (child_shapes kind.SetterProp s m) (one sort.Pat) refl i o at (part.Name form.Parameter) true q refl refl h
+scope-got kind.FnExpr scoped value ambient s m r i c o q low child at h = got-at c (role_in r kind.FnExpr) 0 (child_shapes kind.FnExpr s m) (maybe sort.Ident) refl i o at (part.Name form.Own) true q refl refl h
+scope-got kind.ClassExpr scoped value ambient s m r i c o q low child at h = got-at c (role_in r kind.ClassExpr) 0 (child_shapes kind.ClassExpr s m) (maybe sort.Ident) refl i o at (part.Name form.Own) true q refl refl h
+scope-got (kind.TsEnumDecl d e) scoped value ambient s m r i c o q low child at h = absurd (true-false refl low)
+scope-got (kind.TsNamespaceDecl d g) scoped value ambient s m r i c o q low child at h = absurd (true-false refl low)
+scope-got _ scoped value ambient s m r i c o q low child at h = none-some h

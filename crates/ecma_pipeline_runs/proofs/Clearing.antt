@@ -40,7 +40,7 @@ use Rattle.ecma_pipeline_runs.proofs.Asking.{Asked, Got, Valued, declares-no-wra
 use Rattle.ecma_pipeline_runs.proofs.Strays.{child-other, is_spared, item-other}
 use Rattle.ecma_pipeline_runs.proofs.Values.{bodies-stay, named-kept}
 use Rattle.ecma_tree.proofs.Layers.{from_leaves_out}
-use Rattle.ecma_tree.specs.Values.{is_value, value_by}
+use Rattle.ecma_tree.specs.Values.{is_value, is_value_where, value_by, values_in}
 use Rattle.ecma_tree.proofs.Valuing.{is_value-out}
 
 -- ---- a node that fits
@@ -149,7 +149,7 @@ default-unwrapped (kind.TsInterfaceDecl d) h = refl
 default-unwrapped _ h = absurd (true-false h refl)
 
 -- what is exported as the default
-pub default-child : (k : Kind) (cs : List Node) (s : Shape) (m : ℕ) → is_default_export k ≡ true → HaveShapes (child_shapes k s m) cs → remains_by k (value_by k (map is_value cs)) (first_declared cs) ≡ true
+pub default-child : (k : Kind) (cs : List Node) (s : Shape) (m : ℕ) → is_default_export k ≡ true → HaveShapes (child_shapes k s m) cs → remains_by k (value_by k (values_in true k cs)) (first_declared cs) ≡ true
     → (i : ℕ) (c : Node) → slice_get cs i ≡ Some c → (belongs sort.DefaultDecl (out-Node c).kind ≡ true) × (is_value c ≡ true)
 unfolding value_by
 default-child kind.ExportDefaultDecl (x ∷ []) s m e have h zero c at =
@@ -175,7 +175,7 @@ module _ (n : Node) (s : Shape) (w : Where) (is : Stands n s w) where
   valued : Valued k (is_value n) (is_value n)
   valued = λ named. refl
 
-  by-parts : remains n ≡ true → remains_by k (value_by k (map is_value cs)) (first_declared cs) ≡ true
+  by-parts : remains n ≡ true → remains_by k (value_by k (values_in true k cs)) (first_declared cs) ≡ true
   by-parts h = ap (λ (v : Bool). remains_by k v (first_declared cs)) (sym (is_value-out n)) ∙ h
 
   remain : remains n ≡ true → holds_items k ≡ true → (i : ℕ) (c : Node) → slice_get cs i ≡ Some c → remains c ≡ true
@@ -185,7 +185,7 @@ module _ (n : Node) (s : Shape) (w : Where) (is : Stands n s w) where
   got-by : (p : Part) → is_list k ≡ false → Asked p n s w.role → (i : ℕ) (c : Node) (o : Shape) (q : Sought) → slice_get cs i ≡ Some c → HasShape o c → slice_get (child_shapes k s m) i ≡ Some o
       → sought_by p true (is_value n) k i ≡ Some q → Got c o (role_in w.role k i) q
   got-by part.Scope l asked i c o q there has at h =
-      scope-got k (is_value n) (is_value n) (first_declared cs) s m w.role i c o q (not-lowered n is.alone) (λ r p. remain r p i c there) has at h
+      scope-got k (is_value n) (is_value n) (first_declared cs) s m w.role i c o q (not-lowered n is.alone) (λ r p. remain r p i c there) at h
   got-by part.Item l asked i c o q there has at h =
       item-got k (is_value n) (is_value n) (first_declared cs) s m w.role i c o q l (not-lowered n is.alone) valued asked (λ p. remain asked p i c there) (λ e. default-child k cs s m e have (by-parts asked) i c there) at h
   got-by part.Default l asked i c o q there has at h = default-got k (is_value n) (is_value n) s m w.role i c o q valued asked.1 at h
@@ -242,11 +242,11 @@ layer-clears n below s w q is free stay asked =
         by : (k : Kind) → (out-Node n).kind ≡ k → (b : Bool) → (j == 1) ≡ b → is_spared k j ≡ false
         by kind.SetterProp e false is = is
         by kind.SetterProp e true is =
-            none-some (sym (ap (λ (z : Kind). sought_by q.part q.stays (is_value n) z 1) e ∙ setter-seeks q.part q.stays (is_value n)) ∙ sym (ap (sought_in q n) (eqb-true j 1 is)) ∙ h)
+            none-some (sym (ap (λ (z : Kind). sought_by q.part q.stays (is_value_where q.stays n) z 1) e ∙ setter-seeks q.part q.stays (is_value_where q.stays n)) ∙ sym (ap (sought_in q n) (eqb-true j 1 is)) ∙ h)
         by k e b is = refl
 
     true-stays : (i : ℕ) (o : Option Sought) → sought_in q n i ≡ o → sought_by q.part true (is_value n) (out-Node n).kind i ≡ o
-    true-stays i o h = ap (λ (b : Bool). sought_by q.part b (is_value n) (out-Node n).kind i) (sym stay) ∙ h
+    true-stays i o h = ap (λ (b : Bool). sought_by q.part b (is_value_where b n) (out-Node n).kind i) (sym stay) ∙ h
 
     by : (b : Bool) → is_list (out-Node n).kind ≡ b → clear_in true b (sought_in q n) 0 (out-Node n).children (map (is_clear true) (out-Node n).children) ≡ true
     by false l =

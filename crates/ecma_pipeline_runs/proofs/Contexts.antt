@@ -17,8 +17,8 @@ use Rattle.ecma_strip.specs.Staying.{if_there, is_ambient, is_declared, is_empty
 use Rattle.ecma_hygiene_scopes.proofs.Parts.{children-of, kind-of}
 use Rattle.ecma_sources.specs.TypesAlone.{adds_types_alone, adds_types_by, has_ambient_head, has_bodiless, has_stray_receiver, is_lone_receiver, is_lowered, is_receiver, lacks_body, lacks_body_by, staying_hold}
 use Rattle.ecma_pipeline_runs.proofs.Nodes.{alone-out}
-use Rattle.ecma_tree.specs.Values.{is_value, value_at, value_by}
-use Rattle.ecma_tree.proofs.Valuing.{is_value-out}
+use Rattle.ecma_tree.specs.Values.{holds_ambient, is_function, is_value, is_value_where, value_at, value_by}
+use Rattle.ecma_tree.proofs.Valuing.{is_value_where-out, value_where_by}
 
 module _ (context_of : List ℕ → ℕ → ℕ) where
   abbrev turned : Node → Node
@@ -34,27 +34,32 @@ module _ (context_of : List ℕ → ℕ → ℕ) where
   children-turned n = ap (λ (z : Node). (out-Node z).children) (parts-turned n) ∙ children-of (out-Node n).span (kind_with_context context_of (out-Node n).kind) (map turned (out-Node n).children)
 
   -- values
-  value-by : (k : Kind) (vs : List Bool) → value_by (kind_with_context context_of k) vs ≡ value_by k vs
+  value-by : (stays : Bool) (k : Kind) (cs : List Node) → value_where_by stays (kind_with_context context_of k) cs ≡ value_where_by stays k cs
   unfolding value_by
-  value-by (kind.Ident s c o) vs = refl
-  value-by _ vs = refl
+  value-by stays (kind.Ident s c o) cs = refl
+  value-by stays _ cs = refl
 
   abbrev Valued : Node → Type 0
-  Valued n = is_value (turned n) ≡ is_value n
+  Valued n = (stays : Bool) → is_value_where stays (turned n) ≡ is_value_where stays n
 
-  all-valued : (ns : List ((n : Node) × Valued n)) → map is_value (map turned (map (λ e. e.0) ns)) ≡ map is_value (map (λ e. e.0) ns)
-  all-valued [] = refl
-  all-valued (n ∷ ns) = ap₂ (λ (a : Bool) (rest : List Bool). a ∷ rest) n.1 (all-valued ns)
+  abbrev AllValued : List Node → Type 0
+  AllValued ns = (stays : Bool) → map (is_value_where stays) (map turned ns) ≡ map (is_value_where stays) ns
 
-  layer-valued : (n : Node) → map is_value (map turned (out-Node n).children) ≡ map is_value (out-Node n).children → Valued n
-  layer-valued n children =
-      is_value-out (turned n)
-      ∙ ap₂ (λ (k : Kind) (cs : List Node). value_by k (map is_value cs)) (kind-turned n) (children-turned n)
-      ∙ value-by (out-Node n).kind (map is_value (map turned (out-Node n).children)) ∙ ap (value_by (out-Node n).kind) children ∙ sym (is_value-out n)
+  all-valued : (ns : List ((n : Node) × Valued n)) → AllValued (map (λ e. e.0) ns)
+  all-valued [] stays = refl
+  all-valued (n ∷ ns) stays = ap₂ (λ (a : Bool) (rest : List Bool). a ∷ rest) (n.1 stays) (all-valued ns stays)
+
+  layer-valued : (n : Node) → AllValued (out-Node n).children → Valued n
+  layer-valued n children stays =
+      let k = (out-Node n).kind in
+      is_value_where-out stays (turned n)
+      ∙ ap₂ (value_where_by stays) (kind-turned n) (children-turned n)
+      ∙ value-by stays k (map turned (out-Node n).children)
+      ∙ ap (λ (vs : List Bool). (is_function k && not stays) || value_by k vs) (children (not (holds_ambient k) && stays)) ∙ sym (is_value_where-out stays n)
 
   valued : (n : Node) → Valued n
   valued = ind-Node Valued (λ x y is.
-      layer-valued (roll-Node x) (subst (λ (cs : List Node). map is_value (map turned cs) ≡ map is_value cs) (ap (λ (z : Node-F Node). z.children) is ∙ sym (ap (λ (z : Node-F Node). z.children) (out-roll-Node x))) (all-valued y.children)))
+      layer-valued (roll-Node x) (subst AllValued (ap (λ (z : Node-F Node). z.children) is ∙ sym (ap (λ (z : Node-F Node). z.children) (out-roll-Node x))) (all-valued y.children)))
 
   -- the test
   lowered-by : (k : Kind) → is_lowered (kind_with_context context_of k) ≡ is_lowered k
@@ -74,7 +79,7 @@ module _ (context_of : List ℕ → ℕ → ℕ) where
   body-by _ value = refl
 
   body-turned : (n : Node) → lacks_body (turned n) ≡ lacks_body n
-  body-turned n = ap₂ lacks_body_by (kind-turned n) (valued n) ∙ body-by (out-Node n).kind (is_value n)
+  body-turned n = ap₂ lacks_body_by (kind-turned n) (valued n true) ∙ body-by (out-Node n).kind (is_value n)
 
   bodies-turned : (cs : List Node) → list_any lacks_body (map turned cs) ≡ list_any lacks_body cs
   bodies-turned [] = refl
@@ -164,12 +169,12 @@ module _ (context_of : List ℕ → ℕ → ℕ) where
 
   item-turned : (n : Node) → item_stays (turned n) ≡ item_stays n
   item-turned n =
-      ap₂ (λ (v a : Bool). cond (is_empty_stmt (out-Node (turned n)).kind) true (cond (belongs sort.ModuleItem (out-Node (turned n)).kind) (v && not a) true)) (valued n) (ambient-turned n)
+      ap₂ (λ (v a : Bool). cond (is_empty_stmt (out-Node (turned n)).kind) true (cond (belongs sort.ModuleItem (out-Node (turned n)).kind) (v && not a) true)) (valued n true) (ambient-turned n)
       ∙ ap (λ (k : Kind). cond (is_empty_stmt k) true (cond (belongs sort.ModuleItem k) (is_value n && not (is_ambient n)) true)) (kind-turned n) ∙ item-by (out-Node n).kind (is_value n) (is_ambient n)
 
   values-turned : (cs : List Node) → map is_value (map turned cs) ≡ map is_value cs
   values-turned [] = refl
-  values-turned (c ∷ cs) = ap₂ (λ (a : Bool) (rest : List Bool). a ∷ rest) (valued c) (values-turned cs)
+  values-turned (c ∷ cs) = ap₂ (λ (a : Bool) (rest : List Bool). a ∷ rest) (valued c true) (values-turned cs)
 
   value-at-turned : (i : ℕ) (n : Node) → value_at i (turned n) ≡ value_at i n
   value-at-turned i n = ap (λ (vs : List Bool). get_or vs i false) (ap (map is_value) (children-turned n) ∙ values-turned (out-Node n).children)

@@ -30,7 +30,7 @@ use Rattle.ecma_pipeline_runs.proofs.Nodes.{any-at, by-children, in-no-list, nei
 use Rattle.ecma_pipeline_runs.proofs.Strays.{child-other, is_spared, item-other, module-other}
 use Rattle.ecma_pipeline_runs.proofs.Remaining.{all-calm-remain, children-remain, first_declared, holds_items, remains, remains_by, stays-remains}
 use Rattle.ecma_pipeline_runs.proofs.FullParts.{absent-full, absent-other, alive, alive-from, alive_by, children-memberless, full-here, full-of, is_full, member-by, memberless-at, native, others-calm, spared-full}
-use Rattle.ecma_tree.specs.Values.{is_value, value_by}
+use Rattle.ecma_tree.specs.Values.{is_value, value_by, values_in}
 use Rattle.ecma_tree.proofs.Valuing.{is_value-out}
 
 bodied : (k : Kind) (cs : List Node) → is_default_export k ≡ false → has_bodiless k cs ≡ false → list_any lacks_body cs ≡ false
@@ -73,7 +73,7 @@ module _ (n : Node) (below : (i : ℕ) (c : Node) → slice_get (out-Node n).chi
   have : HaveShapes (child_shapes k s m) cs
   have = (parts-have n s is.has).1
 
-  by-parts : remains_by k (value_by k (map is_value cs)) (first_declared cs) ≡ true
+  by-parts : remains_by k (value_by k (values_in true k cs)) (first_declared cs) ≡ true
   by-parts = ap (λ (v : Bool). remains_by k v (first_declared cs)) (sym (is_value-out n)) ∙ rem
 
   child-remains : is_list k ≡ false → (b : Bool) → holds_items k ≡ b → (i : ℕ) (c : Node) → slice_get cs i ≡ Some c → remains c ≡ true

@@ -31,7 +31,7 @@ use Rattle.ecma_sources.specs.TypesAlone.{is_lowered, is_receiver, lacks_body, l
 use Rattle.ecma_pipeline_runs.proofs.Strays.{is_spared}
 use Rattle.ecma_pipeline_runs.proofs.Nodes.{holds-out, none-some, not-false, not-true, some-same}
 use Rattle.ecma_pipeline_runs.proofs.Remaining.{all_calm, first_declared, holds_items, is_many, remains, remains_by, restless}
-use Rattle.ecma_tree.specs.Values.{is_value, value_by}
+use Rattle.ecma_tree.specs.Values.{is_value, value_by, values_in}
 use Rattle.ecma_tree.proofs.Valuing.{is_value-out}
 
 -- what a node lacks when it runs
@@ -81,12 +81,12 @@ body-by span _ cs vs a v = absurd (true-false a refl)
 body-there : (b : Node) → HasShape (maybe sort.BlockStmt) b → is_value b ≡ true → (meaning (stripped b)).is_absent ≡ false
 body-there b has v =
     ap (λ (z : Node). (meaning z).is_absent) (stripped-out b)
-    ∙ body-by (out-Node b).span (out-Node b).kind (map stripped (staying_nodes (out-Node b).kind (out-Node b).children)) (map is_value (out-Node b).children) (parts-have b (maybe sort.BlockStmt) has).0 (sym (is_value-out b) ∙ v)
+    ∙ body-by (out-Node b).span (out-Node b).kind (map stripped (staying_nodes (out-Node b).kind (out-Node b).children)) (values_in true (out-Node b).kind (out-Node b).children) (parts-have b (maybe sort.BlockStmt) has).0 (sym (is_value-out b) ∙ v)
 
 function-of : (span : Span) (g a : Bool) (p b t r : Node) → (meaning b).is_absent ≡ false → (meaning (node_of span (kind.Function g a) (p ∷ b ∷ t ∷ r ∷ []))).has_body ≡ true
 function-of span g a p b t r h = ap (λ (m : Meaning). m.has_body) (meaning-roll (record { span = span; kind = kind.Function g a; children = p ∷ b ∷ t ∷ r ∷ [] })) ∙ ap not h
 
-function-by : (span : Span) (k : Kind) (cs : List Node) → allows (one sort.Function) k ≡ true → HaveShapes (child_shapes k (one sort.Function) (length cs)) cs → value_by k (map is_value cs) ≡ true
+function-by : (span : Span) (k : Kind) (cs : List Node) → allows (one sort.Function) k ≡ true → HaveShapes (child_shapes k (one sort.Function) (length cs)) cs → value_by k (values_in true k cs) ≡ true
     → (meaning (plain span k (map stripped (staying_nodes k cs)))).has_body ≡ true
 unfolding plain plain_kind plain_children value_by
 function-by span (kind.Function g a) (p ∷ b ∷ t ∷ r ∷ []) is have v = function-of span g a (stripped p) (stripped b) (stripped t) (stripped r) (body-there b have.1.0 v)
@@ -116,9 +116,10 @@ alive_by k cs = true
 abbrev pub alive : Node → Bool
 alive n = alive_by (out-Node n).kind (out-Node n).children
 
-alive-of : (n : Node) (k : Kind) (value ambient : Bool) → value ≡ value_by k (map is_value (out-Node n).children) → remains_by k value ambient ≡ true → member_stays_by k n ≡ true → lacks_body_by k value ≡ false → alive_by k (out-Node n).children ≡ true
+alive-of : (n : Node) (k : Kind) (value ambient : Bool) → value ≡ value_by k (values_in true k (out-Node n).children) → remains_by k value ambient ≡ true → member_stays_by k n ≡ true → lacks_body_by k value ≡ false → alive_by k (out-Node n).children ≡ true
 unfolding value_by member_stays_by
-alive-of n (kind.FnDecl d) value ambient is r m b = sym is ∙ and-left value (not d) r
+alive-of n (kind.FnDecl true) value ambient is r m b = absurd (true-false (and-right value false r) refl)
+alive-of n (kind.FnDecl false) value ambient is r m b = sym is ∙ and-left value true r
 alive-of n kind.FnExpr value ambient is r m b = sym is ∙ not-false value b
 alive-of n (kind.ClassMethod s o) value ambient is r m b = and-right (not o.is_abstract) (get_or (map is_value (out-Node n).children) 1 false) m
 alive-of n (kind.PrivateMethod s o) value ambient is r m b = and-right (not o.is_abstract) (get_or (map is_value (out-Node n).children) 1 false) m

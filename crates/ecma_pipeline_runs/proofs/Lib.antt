@@ -17,6 +17,8 @@ pub mod Names
 pub mod Renaming
 pub mod Keeping
 pub mod Receivers
+pub mod Ready
+pub mod Recounted
 pub mod Chain
 pub mod Counting
 pub mod Passes

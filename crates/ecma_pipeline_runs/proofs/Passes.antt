@@ -1,31 +1,26 @@
 -- What a module does is kept the whole way.
-use Rattle.ecma_scope_fits.proofs.Contexts.{resolved_fit_alike}
 use Rattle.ecma_print_parentheses.specs.Laws.{RunsAlike}
 use Rattle.ecma_runs.proofs.Layers.{without_spans_kept}
-use Rattle.ecma_scope.proofs.Unchanged.{changes-contexts, keeps-sorts}
+use Rattle.ecma_scope.proofs.Unchanged.{keeps-sorts}
 use Rattle.ecma_scope_congruence.proofs.ExplicitContexts.{parentheses_do_not_matter_to_contexts}
 use Rattle.ecma_scope_congruence.proofs.Resolved.{spans_do_not_matter_to_contexts}
 use Rattle.ecma_strip_fits.proofs.SortsKept.{sorts_kept}
 use Rattle.ecma_strip_runs.proofs.Sorted.{only_types_go_from_modules}
 use Rattle.ecma_strip_runs.proofs.Steps.{stripping_keeps_runs}
-use Rattle.ecma_strip_scopes.proofs.StrippedModules.{stripped-modules-tell-apart}
 use Rattle.ecma_hygiene_scopes.proofs.Seeing.{contexts-are-mapped}
 use Rattle.ecma_hygiene_runs.specs.Laws.{ReadingAgainKeepsRuns, PlainModulesAreResolved}
 use Rattle.ecma_pipeline_runs.specs.Laws.{PassesKeepRuns}
 use Rattle.ecma_pipeline_runs.proofs.Chain.{Laws, keep-runs}
-use Rattle.ecma_pipeline_runs.proofs.ClearSeats.{modules-are-clear}
 use Rattle.ecma_pipeline_runs.proofs.Counting.{counts}
 use Rattle.ecma_pipeline_runs.proofs.PlainModules.{modules-are-plain}
+use Rattle.ecma_pipeline_runs.proofs.Ready.{ready-tells-apart}
 
 laws : RunsAlike → ReadingAgainKeepsRuns → PlainModulesAreResolved → Laws
 laws alike again resolves = record {
-  changes = changes-contexts;
   sorted = keeps-sorts;
-  fit = resolved_fit_alike;
   strip_sorts = sorts_kept;
-  clear = modules-are-clear;
   plain = modules-are-plain;
-  tells = stripped-modules-tell-apart;
+  tells = ready-tells-apart;
   maps = contexts-are-mapped;
   counts = counts;
   again = again;

@@ -1,5 +1,5 @@
 -- Nodes that remain where their types go, and their children.
-use Rattle.std.proofs.Common.{◌≡◌, ℕ, zero, suc, Bool, true, false, ◌&&◌, ◌||◌, not, cond, List, [], ◌∷◌, map, Some, refl, sym, ap, ◌∙◌, slice_get}
+use Rattle.std.proofs.Common.{◌≡◌, ℕ, zero, suc, Bool, true, false, ◌&&◌, ◌||◌, not, cond, List, [], ◌∷◌, Some, refl, sym, ap, ◌∙◌, slice_get}
 use Rattle.ecma_kind.specs.Sorts.{belongs}
 use Rattle.ecma_kind.specs.declared.kind.Kind.{Kind}
 use Rattle.ecma_kind.specs.declared.kind.Kind.TheVariants as kind
@@ -19,7 +19,7 @@ use Rattle.ecma_hygiene.proofs.Telling.{and-left, and-right, or-first, or-second
 use Rattle.ecma_strip_scopes.proofs.Going.{parts-have}
 use Rattle.ecma_sources.specs.TypesAlone.{has_ambient_head}
 use Rattle.ecma_pipeline_runs.proofs.Nodes.{none-some, not-true, or-right, some-same}
-use Rattle.ecma_tree.specs.Values.{is_value, value_by}
+use Rattle.ecma_tree.specs.Values.{is_value, value_by, values_in}
 use Rattle.ecma_tree.proofs.Valuing.{is_value-out}
 
 -- whether a node of this kind, which is a value or not and whose first child is written `declare` or not, remains by itself
@@ -60,7 +60,7 @@ unfolding stays
 stays-remains n h =
     let three = and-left ((item_stays n && member_stays n) && specifier_stays (out-Node n).kind) (not (is_this_param n)) h in
     let two = and-left (item_stays n && member_stays n) (specifier_stays (out-Node n).kind) three in
-    stays-by (out-Node n).kind (is_value n) (first_declared (out-Node n).children) (map is_value (out-Node n).children) (is_value-out n)
+    stays-by (out-Node n).kind (is_value n) (first_declared (out-Node n).children) (values_in true (out-Node n).kind (out-Node n).children) (is_value-out n)
     (and-left (item_stays n) (member_stays n) two) (and-right (item_stays n && member_stays n) (specifier_stays (out-Node n).kind) three)
 
 -- ---- so does what is of a sort that has no items
@@ -244,7 +244,7 @@ calm-expression : (c : Node) → HasShape (one sort.Expr) c → remains c ≡ tr
 calm-expression c has = calm-remains c (one sort.Expr) has refl
 
 pub children-remain : (k : Kind) (cs : List Node) (s : Shape) (m : ℕ) → holds_items k ≡ true → HaveShapes (child_shapes k s m) cs → declares_no_body k cs ≡ true → has_ambient_head k cs ≡ false
-    → remains_by k (value_by k (map is_value cs)) (first_declared cs) ≡ true → Remain cs
+    → remains_by k (value_by k (values_in true k cs)) (first_declared cs) ≡ true → Remain cs
 unfolding value_by
 children-remain (kind.Module x) cs s m p have b h r = all-calm-remain (child_shapes (kind.Module x) s m) cs have refl
 children-remain (kind.Script x) cs s m p have b h r = all-calm-remain (child_shapes (kind.Script x) s m) cs have refl

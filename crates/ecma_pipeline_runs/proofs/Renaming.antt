@@ -1,5 +1,5 @@
 -- A sorted tree with other texts and contexts is sorted, and its function expressions have bodies.
-use Rattle.std.proofs.Common.{◌≡◌, ℕ, zero, suc, Bool, true, false, ◌||◌, cond, List, [], ◌∷◌, map, length, replicate, Option, Some, None, refl, sym, ap, ◌∙◌, subst, slice_get}
+use Rattle.std.proofs.Common.{◌≡◌, ℕ, zero, suc, Bool, true, false, ◌||◌, cond, List, [], ◌∷◌, map, length, replicate, Option, Some, None, bytes_eq, refl, sym, ap, ◌∙◌, subst, slice_get}
 use Rattle.ecma_kind.specs.Sorts.{belongs}
 use Rattle.ecma_kind.specs.declared.kind.Kind.{Kind}
 use Rattle.ecma_kind.specs.declared.kind.Kind.TheVariants as kind
@@ -25,19 +25,18 @@ use Rattle.ecma_scope_congruence.specs.Bodies.HasBodies.{with_bodies}
 use Rattle.ecma_hygiene.specs.declared.spot.Spot.{Spot}
 use Rattle.ecma_hygiene.specs.declared.spot.Spot.TheVariants as spot
 use Rattle.ecma_hygiene.specs.declared.spot.Standing.{Standing}
-use Rattle.ecma_hygiene.specs.Renamed.{Texts, key_of, kind_is_absent, name_of, old_name, shared_by, shorthand, spot_in, standing_in, with_default}
+use Rattle.ecma_hygiene.specs.Renamed.{Texts, key_of, kind_is_absent, name_of, property_key, proto, proto_in_brackets, proto_literal, old_name, shared_by, shorthand, spot_in, standing_in, with_default}
 use Rattle.ecma_hygiene.proofs.Telling.{true-false}
 use Rattle.ecma_hygiene_scopes.proofs.Growing.{OldName, grown, grown_by}
 use Rattle.ecma_hygiene_scopes.proofs.KindsTurned.{kind-same, turned_kind}
-use Rattle.ecma_hygiene_scopes.proofs.Parts.{value-of}
 use Rattle.ecma_hygiene_scopes.proofs.Values.{own-value}
 use Rattle.ecma_hygiene_scopes.proofs.Written.{again, again-out, all_again, children_again, old_of, own_kind}
 use Rattle.ecma_strip_scopes.proofs.Going.{parts-have}
 use Rattle.ecma_pipeline_runs.proofs.FullParts.{full_by, is_full, lacks}
 use Rattle.ecma_pipeline_runs.proofs.Nodes.{none-some, not-false, not-true, test-below}
 use Rattle.ecma_pipeline_runs.proofs.Plainness.{full-lacks}
-use Rattle.ecma_tree.specs.Values.{is_value, value_by}
-use Rattle.ecma_tree.proofs.Valuing.{is_value-out}
+use Rattle.ecma_tree.specs.Values.{is_value, value_by, values_in}
+use Rattle.ecma_tree.proofs.Valuing.{is_value-out, is_value_where-roll}
 
 -- ---- function expressions of what is full are values
 
@@ -50,9 +49,9 @@ block-by b _ vs ms a h = absurd (true-false a refl)
 block-valued : (b : Node) → HasShape (maybe sort.BlockStmt) b → (meaning b).is_absent ≡ false → is_value b ≡ true
 block-valued b has h =
     is_value-out b
-    ∙ block-by b (out-Node b).kind (map is_value (out-Node b).children) (map meaning (out-Node b).children) (parts-have b (maybe sort.BlockStmt) has).0 (sym (ap (λ (m : Meaning). m.is_absent) (meaning_out b)) ∙ h)
+    ∙ block-by b (out-Node b).kind (values_in true (out-Node b).kind (out-Node b).children) (map meaning (out-Node b).children) (parts-have b (maybe sort.BlockStmt) has).0 (sym (ap (λ (m : Meaning). m.is_absent) (meaning_out b)) ∙ h)
 
-function-by : (f : Node) (k : Kind) (cs : List Node) → allows (one sort.Function) k ≡ true → HaveShapes (child_shapes k (one sort.Function) (length cs)) cs → (meaning_by f k (map meaning cs)).has_body ≡ true → value_by k (map is_value cs) ≡ true
+function-by : (f : Node) (k : Kind) (cs : List Node) → allows (one sort.Function) k ≡ true → HaveShapes (child_shapes k (one sort.Function) (length cs)) cs → (meaning_by f k (map meaning cs)).has_body ≡ true → value_by k (values_in true k cs) ≡ true
 unfolding value_by
 function-by f (kind.Function g a) (p ∷ b ∷ t ∷ r ∷ []) is have h = block-valued b have.1.0 (not-true (meaning b).is_absent h)
 function-by f (kind.Function g a) [] is have h = absurd have
@@ -67,7 +66,7 @@ function-valued f has h =
     let parts = parts-have f (one sort.Function) has in
     is_value-out f ∙ function-by f (out-Node f).kind (out-Node f).children parts.0 parts.1 (sym (ap (λ (m : Meaning). m.has_body) (meaning_out f)) ∙ h)
 
-expression-by : (k : Kind) (s : Shape) (m : ℕ) (cs : List Node) → is_function_expression k ≡ true → HaveShapes (child_shapes k s m) cs → lacks k (map meaning cs) ≡ false → value_by k (map is_value cs) ≡ true
+expression-by : (k : Kind) (s : Shape) (m : ℕ) (cs : List Node) → is_function_expression k ≡ true → HaveShapes (child_shapes k s m) cs → lacks k (map meaning cs) ≡ false → value_by k (values_in true k cs) ≡ true
 unfolding value_by
 expression-by kind.FnExpr s m (a ∷ f ∷ []) is have l = function-valued f have.1.0 (not-false (meaning f).has_body l)
 expression-by kind.FnExpr s m [] is have l = absurd have
@@ -130,6 +129,20 @@ make s span k cs a have bodies valued = ((node_has_shape span k cs s).1 (a, have
 key-made : (old : OldName) → Made (one sort.PropName) (key_of old)
 key-made old = make (one sort.PropName) old.span (kind.IdentName old.text) [] refl tt none (λ h. absurd (true-false h refl))
 
+text-made : (span : Span) → Made (one sort.Expr) (node_of span proto_literal [])
+text-made span = make (one sort.Expr) span proto_literal [] refl tt none (λ h. absurd (true-false h refl))
+
+brackets-made : (span : Span) → Made (one sort.PropName) (proto_in_brackets span)
+brackets-made span =
+    make (one sort.PropName) span kind.ComputedPropName (node_of span proto_literal [] ∷ []) refl ((text-made span).0, tt) (more (text-made span).1 none) (λ h. absurd (true-false h refl))
+
+key-made-by : (b : Bool) (old : OldName) → Made (one sort.PropName) (cond b (proto_in_brackets old.span) (key_of old))
+key-made-by true old = brackets-made old.span
+key-made-by false old = key-made old
+
+property-key-made : (old : OldName) → Made (one sort.PropName) (property_key old)
+property-key-made old = key-made-by (bytes_eq old.text proto) old
+
 name-made : (old : OldName) → Made (maybe sort.ModuleExportName) (name_of old)
 name-made old = make (maybe sort.ModuleExportName) old.span (kind.Ident old.text 0 false) [] refl tt none (λ h. absurd (true-false h refl))
 
@@ -184,7 +197,7 @@ grown-some : (old : OldName) (span : Span) (s : Shape) (k : Kind) (cs : List Nod
     → (is_ident k ≡ true → allows s kind.KeyValueProp ≡ true) → Made s (grown_by old span k cs)
 grown-some old span s (kind.Ident t c o) cs a have bodies valued fit =
     let id = make (one sort.Expr) span (kind.Ident t c o) cs refl have bodies valued in
-    make s span kind.KeyValueProp (key_of old ∷ node_of span (kind.Ident t c o) cs ∷ []) (fit refl) ((key-made old).0, (id.0, tt)) (more (key-made old).1 (more id.1 none)) (λ h. absurd (true-false h refl))
+    make s span kind.KeyValueProp (property_key old ∷ node_of span (kind.Ident t c o) cs ∷ []) (fit refl) ((property-key-made old).0, (id.0, tt)) (more (property-key-made old).1 (more id.1 none)) (λ h. absurd (true-false h refl))
 grown-some old span s (kind.ImportNamedSpecifier t) (x ∷ y ∷ []) a have (more hx hs) valued fit =
     make s span (kind.ImportNamedSpecifier t) (x ∷ name_of old ∷ []) a (have.0, ((name-made old).0, tt)) (more hx (more (name-made old).1 none)) (λ h. absurd (true-false h refl))
 grown-some old span s (kind.ImportNamedSpecifier t) [] a have bodies valued fit = absurd have
@@ -266,7 +279,7 @@ module _ (context_of : List ℕ → ℕ → ℕ) (texts : Texts) (empty : (text 
       subst (Made s) (sym (again-out context_of texts empty n stands))
       (grown-made n stands s (out-Node n).span k (children_again context_of texts n stands) (old_of context_of texts n stands) refl fit parts.0
       (subst (λ (l : ℕ). HaveShapes (child_shapes k s l) (children_again context_of texts n stands)) (sym made.same) made.have) made.bodies
-      (λ h. value-of (out-Node n).span (own_kind context_of texts n stands) (children_again context_of texts n stands) ∙ own-value context_of texts empty n stands ∙ expression-valued n s has full h))
+      (λ h. is_value_where-roll true (out-Node n).span (own_kind context_of texts n stands) (children_again context_of texts n stands) ∙ own-value context_of texts empty true n stands ∙ expression-valued n s has full h))
 
   pub kept : (n : Node) → Kept n
   kept = ind-Node Kept (λ x y is.

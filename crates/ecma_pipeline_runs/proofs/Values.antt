@@ -6,7 +6,7 @@ use Rattle.ecma_kind.specs.declared.kind.Kind.TheVariants as kind
 use Rattle.ecma_kind.specs.declared.shapes.Shape.{Shape}
 use Rattle.ecma_kind.specs.declared.shapes.Sort.TheVariants as sort
 use Rattle.ecma_kind.specs.declared.span.Span.{Span}
-use Rattle.ecma_tree.specs.declared.node.Node.{Node, Node-F, fold-roll-Node, out-Node}
+use Rattle.ecma_tree.specs.declared.node.Node.{Node, Node-F, out-Node}
 use Rattle.ecma_tree.specs.declared.node.Node.TheViews.{out-roll-Node}
 use Rattle.ecma_tree.specs.Laws.{HaveShapes}
 use Rattle.ecma_tree.specs.Nodes.{node_of}
@@ -17,49 +17,50 @@ use Rattle.ecma_strip.specs.Stripping.{plain, plain_children, plain_kind, stayin
 use Rattle.ecma_strip.proofs.Stripping.{stripped-out}
 use Rattle.ecma_strip_runs.specs.UsualBodies.{declares_no_body, is_declaration}
 use Rattle.ecma_hygiene.proofs.Telling.{and-both, and-left, and-right, true-false}
-use Rattle.ecma_hygiene_scopes.proofs.Parts.{value-of}
 use Rattle.ecma_strip_scopes.specs.Standing.{bodies_stay}
 use Rattle.ecma_strip_scopes.proofs.Going.{is_named, parts-have}
 use Rattle.ecma_pipeline_runs.proofs.Nodes.{not-true}
-use Rattle.ecma_tree.specs.Values.{is_value, value_by, value_step}
-use Rattle.ecma_tree.proofs.Valuing.{is_value-out}
+use Rattle.ecma_tree.specs.Values.{is_value, is_value_where, value_by, values_in}
+use Rattle.ecma_tree.proofs.Valuing.{is_value-out, is_value-roll, is_value_where-out, is_value_where-roll, value_where_by}
 
 -- ---- values, to scopes
 
-body-by : (span : Span) (k : Kind) (cs : List Node) (vs : List Bool) → allows (maybe sort.BlockStmt) k ≡ true → is_value (plain span k cs) ≡ value_by k vs
+body-by : (stays : Bool) (span : Span) (k : Kind) (cs ds : List Node) → allows (maybe sort.BlockStmt) k ≡ true → is_value_where stays (plain span k cs) ≡ value_where_by stays k ds
 unfolding plain plain_kind plain_children value_by
-body-by span kind.Absent cs vs a = value-of span kind.Absent cs
-body-by span kind.BlockStmt cs vs a = value-of span kind.BlockStmt _
-body-by span _ cs vs a = absurd (true-false a refl)
+body-by stays span kind.Absent cs ds a = is_value_where-roll stays span kind.Absent cs
+body-by stays span kind.BlockStmt cs ds a = is_value_where-roll stays span kind.BlockStmt (plain_children kind.BlockStmt cs)
+body-by stays span _ cs ds a = absurd (true-false a refl)
 
-body-kept : (b : Node) → HasShape (maybe sort.BlockStmt) b → is_value (stripped b) ≡ is_value b
-body-kept b has =
-    ap is_value (stripped-out b)
-    ∙ body-by (out-Node b).span (out-Node b).kind (map stripped (staying_nodes (out-Node b).kind (out-Node b).children)) (map is_value (out-Node b).children) (parts-have b (maybe sort.BlockStmt) has).0
-    ∙ sym (is_value-out b)
+body-kept : (stays : Bool) (b : Node) → HasShape (maybe sort.BlockStmt) b → is_value_where stays (stripped b) ≡ is_value_where stays b
+body-kept stays b has =
+    ap (is_value_where stays) (stripped-out b)
+    ∙ body-by stays (out-Node b).span (out-Node b).kind (map stripped (staying_nodes (out-Node b).kind (out-Node b).children)) (out-Node b).children (parts-have b (maybe sort.BlockStmt) has).0
+    ∙ sym (is_value_where-out stays b)
 
-function-by : (span : Span) (k : Kind) (cs : List Node) → allows (one sort.Function) k ≡ true → HaveShapes (child_shapes k (one sort.Function) (length cs)) cs → is_value (plain span k (map stripped (staying_nodes k cs))) ≡ value_by k (map is_value cs)
+function-by : (stays : Bool) (span : Span) (k : Kind) (cs : List Node) → allows (one sort.Function) k ≡ true → HaveShapes (child_shapes k (one sort.Function) (length cs)) cs
+    → is_value_where stays (plain span k (map stripped (staying_nodes k cs))) ≡ value_where_by stays k cs
 unfolding plain plain_kind plain_children value_by
-function-by span (kind.Function g a) (p ∷ b ∷ t ∷ r ∷ []) is have = value-of span (kind.Function g a) (map stripped (p ∷ b ∷ t ∷ r ∷ [])) ∙ body-kept b have.1.0
-function-by span (kind.Function g a) [] is have = absurd have
-function-by span (kind.Function g a) (p ∷ []) is have = absurd have.1
-function-by span (kind.Function g a) (p ∷ b ∷ []) is have = absurd have.1.1
-function-by span (kind.Function g a) (p ∷ b ∷ t ∷ []) is have = absurd have.1.1.1
-function-by span (kind.Function g a) (p ∷ b ∷ t ∷ r ∷ u ∷ others) is have = absurd have.1.1.1.1
-function-by span _ cs is have = absurd (true-false is refl)
+function-by stays span (kind.Function g a) (p ∷ b ∷ t ∷ r ∷ []) is have =
+    is_value_where-roll stays span (kind.Function g a) (map stripped (p ∷ b ∷ t ∷ r ∷ [])) ∙ ap (λ (v : Bool). not stays || v) (body-kept stays b have.1.0)
+function-by stays span (kind.Function g a) [] is have = absurd have
+function-by stays span (kind.Function g a) (p ∷ []) is have = absurd have.1
+function-by stays span (kind.Function g a) (p ∷ b ∷ []) is have = absurd have.1.1
+function-by stays span (kind.Function g a) (p ∷ b ∷ t ∷ []) is have = absurd have.1.1.1
+function-by stays span (kind.Function g a) (p ∷ b ∷ t ∷ r ∷ u ∷ others) is have = absurd have.1.1.1.1
+function-by stays span _ cs is have = absurd (true-false is refl)
 
-function-kept : (f : Node) → HasShape (one sort.Function) f → is_value (stripped f) ≡ is_value f
-function-kept f has =
+function-kept : (stays : Bool) (f : Node) → HasShape (one sort.Function) f → is_value_where stays (stripped f) ≡ is_value_where stays f
+function-kept stays f has =
     let parts = parts-have f (one sort.Function) has in
-    ap is_value (stripped-out f) ∙ function-by (out-Node f).span (out-Node f).kind (out-Node f).children parts.0 parts.1 ∙ sym (is_value-out f)
+    ap (is_value_where stays) (stripped-out f) ∙ function-by stays (out-Node f).span (out-Node f).kind (out-Node f).children parts.0 parts.1 ∙ sym (is_value_where-out stays f)
 
-named-by : (span : Span) (k : Kind) (s : Shape) (cs : List Node) → is_named k ≡ true → HaveShapes (child_shapes k s (length cs)) cs → is_value (plain span k (map stripped (staying_nodes k cs))) ≡ value_by k (map is_value cs)
+named-by : (span : Span) (k : Kind) (s : Shape) (cs : List Node) → is_named k ≡ true → HaveShapes (child_shapes k s (length cs)) cs → is_value (plain span k (map stripped (staying_nodes k cs))) ≡ value_by k (values_in true k cs)
 unfolding plain plain_kind plain_children value_by
-named-by span (kind.FnDecl d) s (i ∷ f ∷ []) is have = value-of span (kind.FnDecl d) (map stripped (i ∷ f ∷ [])) ∙ function-kept f have.1.0
+named-by span (kind.FnDecl d) s (i ∷ f ∷ []) is have = is_value-roll span (kind.FnDecl d) (map stripped (i ∷ f ∷ [])) ∙ function-kept (not d && true) f have.1.0
 named-by span (kind.FnDecl d) s [] is have = absurd have
 named-by span (kind.FnDecl d) s (i ∷ []) is have = absurd have.1
 named-by span (kind.FnDecl d) s (i ∷ f ∷ g ∷ others) is have = absurd have.1.1
-named-by span kind.FnExpr s (i ∷ f ∷ []) is have = value-of span kind.FnExpr (map stripped (i ∷ f ∷ [])) ∙ function-kept f have.1.0
+named-by span kind.FnExpr s (i ∷ f ∷ []) is have = is_value-roll span kind.FnExpr (map stripped (i ∷ f ∷ [])) ∙ function-kept true f have.1.0
 named-by span kind.FnExpr s [] is have = absurd have
 named-by span kind.FnExpr s (i ∷ []) is have = absurd have.1
 named-by span kind.FnExpr s (i ∷ f ∷ g ∷ others) is have = absurd have.1.1
@@ -75,10 +76,10 @@ abbrev item_by : Kind → List Node → Bool → Bool
 item_by k cs value =
     cond (is_empty_stmt k) true (cond (belongs sort.ModuleItem k) (value && not (cond (is_export k) (if_there (slice_get cs 0) (λ x. is_declared (out-Node x).kind)) (is_declared k))) true)
 
-item-of : (span : Span) (k : Kind) (cs : List Node) → item_stays (node_of span k cs) ≡ item_by k cs (value_by k (map is_value cs))
+item-of : (span : Span) (k : Kind) (cs : List Node) → item_stays (node_of span k cs) ≡ item_by k cs (value_by k (values_in true k cs))
 item-of span k cs =
     let parts : Node-F Node = record { span = span; kind = k; children = cs } in
-    ap₂ (λ (z : Node-F Node) (v : Bool). item_by z.kind z.children v) (out-roll-Node parts) (fold-roll-Node Bool value_step parts)
+    ap₂ (λ (z : Node-F Node) (v : Bool). item_by z.kind z.children v) (out-roll-Node parts) (is_value-roll span k cs)
 
 stay-by : (span : Span) (k : Kind) (cs : List Node) → (is_absent k || belongs sort.Stmt k) ≡ true → declares_kind k ≡ false → item_stays (plain span k cs) ≡ true
 unfolding plain plain_kind plain_children value_by is_declared declares_kind

@@ -1,5 +1,5 @@
--- A module that is read, resolved, stripped of its types, given its final texts, written, read again and resolved again does what it did.
-use Rattle.std.specs.Prelude.{◌≡◌, true, ℕ}
+-- A tree that is ready, stripped of its types, given its final texts, written, read again and resolved does what it did.
+use Rattle.std.specs.Prelude.{◌≡◌, Bool, true, ℕ}
 use Rattle.std.specs.List.{All}
 use Rattle.ecma_tree.specs.declared.node.Node.{Node}
 use Rattle.ecma_fits.specs.Fitting.{Fits}
@@ -8,13 +8,14 @@ use Rattle.ecma_strip_scopes.specs.Apart.{IsClearSeat}
 use Rattle.ecma_strip_scopes.specs.Staying.{staying_seats}
 use Rattle.ecma_strip.specs.Stripping.{stripped}
 use Rattle.ecma_hygiene_runs.specs.Plain.{is_plain}
-use Rattle.ecma_runs.specs.declared.config.Config.{Config}
+use Rattle.ecma_config.specs.declared.config.Config.{Config}
 use Rattle.ecma_runs.specs.declared.script.Script.{Script}
 use Rattle.ecma_runs.specs.Observation.{observe}
 use Rattle.ecma_scope.specs.Resolved.{resolved, AreGiven}
 use Rattle.ecma_hygiene.specs.Hygienic.{IsHygienic}
 use Rattle.ecma_sources.specs.TypesAlone.{adds_types_alone}
-use Rattle.ecma_sources.specs.Sources.{IsSource, IsReading}
+use Rattle.ecma_sources.specs.Sources.{IsReading}
+use Rattle.ecma_ready.specs.Ready.{HasOwnContexts, IsReady}
 
 -- in a module that fits, and in which all that is TypeScript is types, it is clear what each scope that stays declares without types
 abbrev pub ModulesAreClear : Type 0
@@ -24,9 +25,9 @@ ModulesAreClear = (tree : Node) → Fits tree → adds_types_alone tree ≡ true
 abbrev pub StrippedModulesArePlain : Type 0
 StrippedModulesArePlain = (tree : Node) → Fits tree → adds_types_alone tree ≡ true → is_plain (stripped tree) ≡ true
 
--- what is observed of the written module, resolved with whatever contexts, is what is observed of the resolved source
+-- what is observed of the written module, resolved with whatever contexts, is what is observed of a tree that is ready
 abbrev pub PassesKeepRuns : Type 0
 PassesKeepRuns =
-    (unresolved top left : ℕ) (source final written : Node) → IsSource source → AreGiven unresolved top left source → IsHygienic (stripped (resolved unresolved top left source)) final → IsReading final written
-    → (unresolved' top' left' : ℕ) → AreGiven unresolved' top' left' written
-    → (turns : ℕ) (options : Config) (script : Script) → observe turns options (resolved unresolved' top' left' written) script ≡ observe turns options (resolved unresolved top left source) script
+    (assignments : Bool) (free : ℕ) (tree final written : Node) → IsReady assignments free tree → HasOwnContexts tree → IsHygienic (stripped tree) final → IsReading final written
+    → (unresolved top left : ℕ) → AreGiven unresolved top left written
+    → (turns : ℕ) (options : Config) (script : Script) → observe turns options (resolved unresolved top left written) script ≡ observe turns options tree script

@@ -1,4 +1,4 @@
-//! Laws of a module's whole way: read, resolved, stripped of its types, given its final texts, written, read again and resolved again.
+//! Laws of a tree's way from where it is ready: stripped of its types, given its final texts, written, read again and resolved.
 //!
 //! Each function carries one law over the definitions, and does nothing. The laws are stated in `specs/Laws.antt`.
 #![tactic(auto)]
@@ -18,8 +18,8 @@ pub fn stripped_modules_are_plain()
     ensures { StrippedModulesArePlain }
 {}
 
-/// Such a module, resolved, stripped of its types and given its final texts, is observed to do what the resolved source does, once it is read again from its
-/// layout and resolved: where no name of the source is declared again where it may not be, and there were contexts enough.
+/// A tree that is ready, and whose scopes have contexts of their own, is observed to do what it does once it is stripped of its types, given its final texts,
+/// read again from its layout and resolved: where there were contexts enough for what is read.
 pub fn passes_keep_runs()
     ensures { PassesKeepRuns }
 {
