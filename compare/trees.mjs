@@ -85,7 +85,7 @@ function functionNode(n) {
 }
 
 function classMember(n) {
-  if (n.type === "PropertyDefinition" && n.key.name in members) return members[n.key.name]();
+  if (n.type === "PropertyDefinition" && Object.hasOwn(members, n.key.name)) return members[n.key.name]();
   if (n.type === "StaticBlock") return tree("kind.StaticBlock", `block ${trees(n.body.map(statement))}`);
   const is_private = n.key.type === "PrivateIdentifier";
   if (n.type === "PropertyDefinition") {
@@ -104,8 +104,15 @@ function classMember(n) {
 
 const classNode = (n) => `${n.superClass ? inner(expression(n.superClass)) : "absent"} ${trees(n.body.body.map(classMember))}`;
 
+/** A name. `$1_x` stands for `x` in the context 1. */
+function ident(text) {
+  const [, context, sym] = /^\$(\d+)_(.*)$/.exec(text) ?? [];
+  return context ? tree(`kind.Ident ${bytes(sym)} ${context} false`) : `ident ${bytes(text)}`;
+}
+
 /** A pattern, declared or assigned. */
 function pattern(n) {
+  if (n.type === "Identifier" && /^\$\d/.test(n.name)) return tree("kind.BindingIdent", ident(n.name), "absent");
   if (n.type === "Identifier" && n.name.startsWith("$typed_")) return tree("kind.BindingIdent", `ident ${bytes(n.name.slice("$typed_".length))}`, tree("kind.TsTypeAnn", "type'"));
   if (n.type === "Identifier") return `binding ${bytes(n.name === "$this" ? "this" : n.name)}`;
   if (n.type === "AssignmentPattern") return tree("kind.AssignPat", pattern(n.left), expression(n.right));
@@ -125,7 +132,7 @@ function patternProperty(n) {
 }
 
 /** The target of an assignment. */
-const target = (n) => (n.type === "Identifier" ? `ident ${bytes(n.name)}` : n.type.endsWith("Pattern") ? pattern(n) : expression(n));
+const target = (n) => (n.type === "Identifier" ? ident(n.name) : n.type.endsWith("Pattern") ? pattern(n) : expression(n));
 
 function number(n) {
   if (!Number.isSafeInteger(n)) return tree("kind.Number None None");
@@ -146,7 +153,7 @@ const template = (n) => tree("kind.Tpl", list(n.expressions.map(expression)), li
 
 function expression(n) {
   switch (n.type) {
-    case "Identifier": return `ident ${bytes(n.name)}`;
+    case "Identifier": return ident(n.name);
     case "Literal": return literal(n);
     case "TemplateLiteral": return template(n);
     case "TaggedTemplateExpression": return tree("kind.TaggedTpl", expression(n.tag), "absent", template(n.quasi));
@@ -176,7 +183,9 @@ function expression(n) {
     case "MemberExpression": return member(n, n.object.type === "Super" ? "super'" : expression(n.object));
     case "CallExpression":
       return `call ${inner(expression(n.callee))} ${trees(n.arguments.map(argument))}`;
-    case "NewExpression": return `new' ${inner(expression(n.callee))} ${trees(n.arguments.map(argument))}`;
+    case "NewExpression":
+      if (n.end === n.callee.end) return tree("kind.NewExpr", expression(n.callee), "absent", "absent");
+      return `new' ${inner(expression(n.callee))} ${trees(n.arguments.map(argument))}`;
     case "MetaProperty": return tree(`kind.MetaPropExpr ${n.meta.name === "new" ? "NewTarget" : "ImportMeta"}`);
     case "ParenthesizedExpression": return `parens ${inner(expression(n.expression))}`;
     case "AwaitExpression": return tree("kind.AwaitExpr", expression(n.argument));
@@ -185,12 +194,19 @@ function expression(n) {
   }
 }
 
+/** A dotted name, as it stands behind `import a =`. */
+function dotted(n) {
+  return n.type === "Identifier" ? `ident ${bytes(n.name)}` : tree("kind.TsQualifiedName", dotted(n.object), `key ${bytes(n.property.name)}`);
+}
+
 function declaration(n) {
   const word = `${words[n.kind]}`;
   if (n.declarations.length === 1) {
     const { id, init } = n.declarations[0];
+    // `const $import_a = b.c` stands for `import a = b.c`
+    if (id.name?.startsWith("$import_")) return tree("kind.TsImportEqualsDecl false false", `ident ${bytes(id.name.slice("$import_".length))}`, dotted(init));
     const value = init ? inner(expression(init)) : "absent";
-    if (id.type === "Identifier" && !id.name.startsWith("$typed_")) return `declare ${word} ${bytes(id.name)} ${value}`;
+    if (id.type === "Identifier" && !/^\$(typed_|\d)/.test(id.name)) return `declare ${word} ${bytes(id.name)} ${value}`;
     return `declare_pattern ${word} ${inner(pattern(id))} ${value}`;
   }
   const declarators = n.declarations.map((d) => tree("kind.VarDeclarator false", pattern(d.id), d.init ? expression(d.init) : "absent"));
@@ -204,6 +220,8 @@ function specifier(n) {
   const local = `ident ${bytes(n.local.name)}`;
   if (n.type === "ImportDefaultSpecifier") return tree("kind.ImportDefaultSpecifier", local);
   if (n.type === "ImportNamespaceSpecifier") return tree("kind.ImportStarAsSpecifier", local);
+  // `$type_x` stands for `type x`
+  if (n.local.name.startsWith("$type_")) return tree("kind.ImportNamedSpecifier true", `ident ${bytes(n.local.name.slice("$type_".length))}`, "absent");
   const imported = n.imported.start === n.local.start ? "absent" : n.imported.type === "Literal" ? expression(n.imported) : `ident ${bytes(n.imported.name)}`;
   return tree("kind.ImportNamedSpecifier false", local, imported);
 }
@@ -221,11 +239,30 @@ const declarations = {
   $enum: (id) => tree("kind.TsEnumDecl false false", id, "list End"),
   $type_namespace: (id) => tree("kind.TsModuleDecl false false", id, tree("kind.TsModuleBlock", list([tree("kind.TsInterfaceDecl false", id)]))),
   $exported_type: (id) => tree("kind.ExportDecl", tree("kind.TsInterfaceDecl false", id)),
+  $type_import_equals: (id) => tree("kind.TsImportEqualsDecl false true", id, id),
+  $import_require: (id) => tree("kind.TsImportEqualsDecl false false", id, tree("kind.TsExternalModuleRef", `string ${bytes("m")}`)),
+  $exported_import_equals: (id) => tree("kind.TsImportEqualsDecl true false", id, id),
+  $type_named_export: (id) => tree("kind.NamedExport true", list([tree("kind.ExportNamedSpecifier false", id, "absent")]), "absent", "absent"),
+  $type_export_all: () => tree("kind.ExportAll true", `string ${bytes("m")}`, "absent"),
+  $export_as_namespace: (id) => tree("kind.TsNamespaceExportDecl", id),
+  $default_overload: (id) => tree("kind.ExportDefaultDecl", tree("kind.FnExpr", id, tree("kind.Function false false", "list End", "absent", "absent", "absent"))),
+  $bodiless_namespace: (id) => tree("kind.TsModuleDecl false false", id, "absent"),
+  $ambient_namespace: (id) => tree("kind.TsModuleDecl true false", id, tree("kind.TsModuleBlock", list([tree("kind.ExprStmt", "whole 1")]))),
+  $type_namespace_path: (id) => tree("kind.TsModuleDecl false false", id, tree("kind.TsNamespaceDecl false false", id, tree("kind.TsModuleBlock", list([tree("kind.TsInterfaceDecl false", id)])))),
+  $namespace_path: (id) => tree("kind.TsModuleDecl false false", id, tree("kind.TsNamespaceDecl false false", id, tree("kind.TsModuleBlock", list([tree("kind.ExprStmt", "whole 1")])))),
   $break: () => tree("kind.BreakStmt", "absent"),
   $continue: () => tree("kind.ContinueStmt", "absent"),
+  $break_label: (id) => tree("kind.BreakStmt", id),
+  $continue_label: (id) => tree("kind.ContinueStmt", id),
+  $yield: () => `statement (${tree("kind.YieldExpr false", "whole 1")})`,
+  $delete: (id) => `statement (unary unary.Delete (${id}))`,
+  $private: (id) => `statement (${tree("kind.MemberExpr", id, tree(`kind.PrivateName ${bytes("x")}`))})`,
+  $private_in: (id) => `statement (binary binary.In (${tree(`kind.PrivateName ${bytes("x")}`)}) (${id}))`,
   $new_target: () => `statement (${tree("kind.MetaPropExpr NewTarget")})`,
   $super: () => `statement (super_member ${bytes("x")})`,
   $escape: () => `statement (${tree("kind.Tpl", "list End", list([tree(`kind.TplElement ${bytes("\\u")} None true`)]))})`,
+  $escape_and_call: (id) =>
+    `statement (${tree("kind.Tpl", list([`call (${id}) End`]), list([tree(`kind.TplElement ${bytes("\\u")} None false`), tree(`kind.TplElement ${bytes("")} (Some ${bytes("")}) true`)]))})`,
   $namespace: (id) => tree("kind.TsModuleDecl false false", id, tree("kind.TsModuleBlock", list([tree("kind.ExprStmt", "whole 1")]))),
 };
 
@@ -235,7 +272,16 @@ const members = {
   $abstract: () => tree("kind.ClassProp (record (modifiers false) { is_abstract = true }) false false false", `key ${bytes("x")}`, "absent", "type'"),
   $declared: () => tree("kind.ClassProp (modifiers false) false true false", `key ${bytes("x")}`, "absent", "type'"),
   $overload: () => tree("kind.ClassMethod method.Method (modifiers false)", `key ${bytes("x")}`, tree("kind.Function false false", "list End", "absent", "absent", "absent")),
+  $abstract_method: () => tree("kind.ClassMethod method.Method (record (modifiers false) { is_abstract = true })", `key ${bytes("x")}`, "function End End"),
+  $private_declared: () => tree("kind.PrivateProp (modifiers false) false true false", tree(`kind.PrivateName ${bytes("x")}`), "absent", "type'"),
+  $private_abstract: () => tree("kind.PrivateProp (record (modifiers false) { is_abstract = true }) false false false", tree(`kind.PrivateName ${bytes("x")}`), "absent", "type'"),
+  $private_overload: () => tree("kind.PrivateMethod method.Method (modifiers false)", tree(`kind.PrivateName ${bytes("x")}`), tree("kind.Function false false", "list End", "absent", "absent", "absent")),
+  $private_abstract_method: () => tree("kind.PrivateMethod method.Method (record (modifiers false) { is_abstract = true })", tree(`kind.PrivateName ${bytes("x")}`), "function End End"),
   $arguments: () => `field false (key ${bytes("x")}) (ident ${bytes("arguments")})`,
+  $read_property: () => {
+    const read = tree("kind.Param", tree("kind.AssignPat", `binding ${bytes("a")}`, `ident ${bytes("x")}`));
+    return tree("kind.Constructor None false", `key ${bytes("constructor")}`, list([read, tree("kind.TsParamProp None false false", `binding ${bytes("x")}`)]), "block End");
+  },
   $property: () => tree("kind.Constructor None false", `key ${bytes("constructor")}`, list([tree("kind.TsParamProp None false false", `binding ${bytes("x")}`)]), "block End"),
   $overloaded: () => tree("kind.Constructor None false", `key ${bytes("constructor")}`, "list End", "absent"),
 };

@@ -2,6 +2,7 @@
 use crate::notation::show_node;
 use ecma_grammar::{Mode, RawError};
 use ecma_reader::read_raw;
+use ecma_rules::bare_types;
 use std::alloc::Global;
 use std::io::{self, Write};
 
@@ -33,7 +34,7 @@ fn parts(case: &str) -> Option<Case<'_>> {
     Some(Case { mode, levels, text })
 }
 
-/// Writes one line: the tree of a module, or why there is none.
+/// Writes one line: the tree of a module, in which types hold nothing, or why there is none.
 pub fn show<W: Write>(alloc: Global, out: &mut W, case: &str) -> io::Result<()> {
     let Some(case) = parts(case) else {
         return writeln!(out, "no case");
@@ -42,7 +43,9 @@ pub fn show<W: Write>(alloc: Global, out: &mut W, case: &str) -> io::Result<()> 
         return writeln!(out, "too long");
     }
     match read_raw(alloc, case.text, case.mode, case.levels) {
-        Ok(module) => {
+        Ok(raw) => {
+            let mut module = raw;
+            bare_types(alloc, &mut module);
             show_node(out, &module)?;
             writeln!(out)
         }

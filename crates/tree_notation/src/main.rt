@@ -1,4 +1,4 @@
-//! Reads modules from standard input, and writes the raw tree of each in one line, or why it was refused.
+//! Reads modules from standard input, and writes the raw tree of each in one line, in which types hold nothing, or why it was refused.
 //!
 //! Modules stand apart by a line `=-=-=`. The first line of each says how it is read, `plain` or `typescript`, and how many levels
 //! are allowed; what is behind that line is its text.

@@ -15,7 +15,8 @@ use Rattle.ts_to_js.specs.declared.error.TsError.{TsError}
 use Rattle.ts_to_js.specs.declared.error.TsError.TheVariants as error
 use Rattle.ts_to_js.specs.Answer.{AnswersBy}
 use Rattle.ts_to_js.specs.Conversion.{ComesOf, ComesOfReading, IsConverted, IsFinal, byte_limit}
-use Rattle.ts_to_js.specs.Headline.{IsValidModule, IsValid, IsPlainModule, IsConversion}
+use Rattle.ecma_plain.specs.Texts.{IsPlainModule}
+use Rattle.ts_to_js.specs.Headline.{IsValidModule, IsValid, IsConversion}
 use Rattle.ts_to_js.specs.Refusals.{refused}
 use Rattle.ts_to_js.proofs.Accepting.{accepted, given}
 
@@ -71,12 +72,12 @@ is_conversion law left src text converted =
       source = parts.source;
       valid = record { short = short; utf8 = utf8; reads_as = parts.read_as; taken = is.taken };
       written = whole.written;
-      plain = subst (λ t. IsPlainModule t whole.written) (sym is.text_is) (record { levels = whole.levels; read_plain = whole.read_plain });
+      plain = subst (λ t. IsPlainModule false t whole.written) (sym is.text_is) whole.plain;
       final = is.final;
       is_final = is.is;
       tree = whole.tree;
       distinct = whole.distinct;
-      interface = λ options. refl;
+      interface = whole.interface;
       runs = λ options turns script unresolved top contexts given. inr (whole.runs unresolved top contexts given turns options script);
     }
 

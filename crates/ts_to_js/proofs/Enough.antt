@@ -8,7 +8,7 @@ use Rattle.ecma_tree.specs.declared.node.Node.{Node}
 use Rattle.ecma_modules.specs.declared.error.ReadError.{ReadError}
 use Rattle.ecma_modules.specs.declared.error.ReadError.TheVariants as reading
 use Rattle.ecma_modules.specs.Modules.{deepest, reads_as, typescript}
-use Rattle.ecma_scope.specs.Conflicts.{redeclared}
+use Rattle.ecma_scope.specs.Clashes.{first_redeclared}
 use Rattle.ecma_scope.specs.Needs.{needed}
 use Rattle.ecma_forms.specs.Forms.{first_untaken}
 use Rattle.ecma_text_contexts.specs.Laws.{NeededIsBoundedByTheText}
@@ -20,10 +20,10 @@ use Rattle.ts_to_js.specs.Refusals.{refusal_of, refused_by}
 use Rattle.ts_to_js.specs.Running.{NoRunIsSpent, contexts_of_a_run, expected_of}
 
 -- a tree for which contexts enough are left
-enough_left : (left : ℕ) (tree : Node) (untaken : Option ℕ) (names : List (List ℕ)) (answer : Result (List ℕ) TsError) → ComesOf left (refused_by untaken false names) tree answer → answer ≢ Err error.Spent
-enough_left left tree (Some at) names answer is spent = cc
-enough_left left tree None [] answer (final, is_final, is) spent = cc
-enough_left left tree None (name ∷ names) answer is spent = cc
+enough_left : (left : ℕ) (tree : Node) (untaken : Option ℕ) (told : Option (List ℕ)) (answer : Result (List ℕ) TsError) → ComesOf left (refused_by untaken false told) tree answer → answer ≢ Err error.Spent
+enough_left left tree (Some at) told answer is spent = cc
+enough_left left tree None None answer (final, is_final, is) spent = cc
+enough_left left tree None (Some name) answer is spent = cc
 
 -- a text that is not read
 not_read : (reason : ReadError) → refusal_of reason ≢ error.Spent
@@ -43,8 +43,8 @@ module _ (law : NeededIsBoundedByTheText) (src : List ℕ) (answer : Result (Lis
   by_reading : (read : Result Node ReadError) → ((tree : Node) → read ≡ Ok tree → nat_lt contexts_of_a_run (needed tree) ≡ false) → ComesOfReading contexts_of_a_run read answer → answer ≢ Err error.Spent
   by_reading (Ok tree) few comes =
       let untaken = first_untaken tree in
-      let names = redeclared tree in
-      enough_left contexts_of_a_run tree untaken names answer (subst (λ short. ComesOf contexts_of_a_run (refused_by untaken short names) tree answer) (few tree refl) comes)
+      let told = first_redeclared tree in
+      enough_left contexts_of_a_run tree untaken told answer (subst (λ short. ComesOf contexts_of_a_run (refused_by untaken short told) tree answer) (few tree refl) comes)
   by_reading (Err reason) few is = λ spent. not_read reason (same_refusal answer (refusal_of reason) error.Spent is spent)
 
   by_tests : (long utf8 : Bool) → nat_lt byte_limit (length src) ≡ long → is_utf8 src ≡ utf8

@@ -3,18 +3,20 @@ use Rattle.std.specs.Prelude.{◌≡◌, ◌⊎◌, ◌≤◌, ℕ, false, List,
 use Rattle.std.specs.Str.{IsUtf8}
 use Rattle.ecma_tree.specs.declared.node.Node.{Node}
 use Rattle.ecma_tree.specs.Spans.{without_spans}
-use Rattle.ecma_modules.specs.Modules.{reads_as, typescript, plain, deepest}
+use Rattle.ecma_modules.specs.Modules.{reads_as, typescript, deepest}
+use Rattle.ecma_plain.specs.Texts.{IsPlainModule}
 use Rattle.ecma_scope.specs.Conflicts.{redeclared}
 use Rattle.ecma_scope.specs.Laws.{without_contexts}
 use Rattle.ecma_scope.specs.Resolved.{resolved, AreGiven}
 use Rattle.ecma_print.specs.Explicit.{explicit}
-use Rattle.ecma_runs.specs.declared.config.Config.{Config}
+use Rattle.ecma_interface.specs.Reading.{interface_of, own_text}
+use Rattle.ecma_pipeline.specs.Ways.{final_text}
+use Rattle.ecma_config.specs.declared.config.Config.{Config}
 use Rattle.ecma_runs.specs.declared.script.Script.{Script}
 use Rattle.ecma_runs.specs.declared.observation.Ending.TheVariants.{Outside}
 use Rattle.ecma_runs.specs.Observation.{Observation, observe}
 use Rattle.ts_to_js.specs.Conversion.{IsFinal, byte_limit, with_bindings}
 use Rattle.ts_to_js.specs.Refusals.{refused}
-use Rattle.ts_to_js.specs.UseRule.{kept_interface, interface_of}
 
 -- bytes are a valid module, of this tree, where so many contexts are left
 pub record IsValidModule (left : ℕ) (src : List ℕ) (tree : Node) : Type 0 where
@@ -26,11 +28,6 @@ pub record IsValidModule (left : ℕ) (src : List ℕ) (tree : Node) : Type 0 wh
 abbrev pub IsValid : ℕ → List ℕ → Type 0
 IsValid left src = (tree : Node) × IsValidModule left src tree
 
--- a text is a plain module, of this tree: it is read without TypeScript, with as many levels as it takes
-pub record IsPlainModule (text : List ℕ) (tree : Node) : Type 0 where
-  pub levels : ℕ
-  pub read_plain : reads_as text (plain false) levels ≡ Ok tree
-
 -- what is observed of the written module is what is observed of its source, unless that leaves the described language
 abbrev pub KeepsRun : Observation → Observation → Type 0
 KeepsRun source written = (source.ending ≡ Outside) ⊎ (written ≡ source)
@@ -40,15 +37,15 @@ pub record IsConversion (left : ℕ) (src text : List ℕ) : Type 0 where
   pub source : Node
   pub valid : IsValidModule left src source
   pub written : Node
-  pub plain : IsPlainModule text written
+  pub plain : IsPlainModule false text written
   -- the tree that is written for the source, up to spans, contexts and the parentheses of the layout
   pub final : Node
   pub is_final : IsFinal left source final
   pub tree : without_spans written ≡ without_spans (explicit (without_contexts final))
   -- no name is declared again where it may not be
   pub distinct : redeclared written ≡ []
-  -- the imports and exports that the use rule keeps
-  pub interface : (options : Config) → interface_of written ≡ kept_interface options source
+  -- its imports and exports are those of the source, whose variables have the texts that are written for them
+  pub interface : interface_of own_text written ≡ interface_of (final_text is_final) (with_bindings left source)
   -- for every script of host answers, every number of turns, and with whatever contexts the written module gets its bindings
   pub runs : (options : Config) (turns : ℕ) (script : Script) (unresolved top given : ℕ) → AreGiven unresolved top given written
       → KeepsRun (observe turns options (with_bindings left source) script) (observe turns options (resolved unresolved top given written) script)

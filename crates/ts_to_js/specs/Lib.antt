@@ -1,7 +1,6 @@
 pub mod Refusals
 pub mod Conversion
 pub mod Answer
-pub mod UseRule
 pub mod Headline
 pub mod Lines
 pub mod Running

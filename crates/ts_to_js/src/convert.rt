@@ -3,16 +3,18 @@ ghost use Rattle.std.specs.Prelude.{◌≡◌, ◌<◌, ◌≤◌, ◌↔◌, �
 ghost use Rattle.std.specs.Str.{is_utf8};
 ghost use Rattle.ecma_kind.specs.declared.shapes.Sort.TheVariants as sort;
 ghost use Rattle.ecma_tree.specs.Sorted.{HasSort};
+ghost use Rattle.ecma_scope.specs.Drawing.{HasGivenAtMost};
 ghost use Rattle.ecma_scope.specs.Needs.{needed};
 ghost use Rattle.ecma_scope.specs.Resolved.{contexts};
 ghost use Rattle.ecma_modules.specs.Modules.{deepest, reads_as, typescript};
 ghost use Rattle.ts_to_js.specs.Answer.{AnswersBy};
-ghost use Rattle.ts_to_js.specs.Conversion.{ComesOf, ComesOfReading, HasDrawn, HasGivenFor, IsConverted, IsFinal, with_bindings};
+ghost use Rattle.ts_to_js.specs.Conversion.{ComesOf, ComesOfReading, HasGivenFor, IsConverted, IsFinal, Leaves, with_bindings};
 ghost use Rattle.ts_to_js.specs.Headline.{IsConversion, IsValid};
 ghost use Rattle.ts_to_js.specs.Refusals.{ReadingNeedsAtMost, refused};
 
 use crate::error::TsError;
 use ecma_bind::bind_names;
+use ecma_enclose::enclose;
 use ecma_forms::first_untaken;
 use ecma_hygiene::hygiene;
 use ecma_pipeline::written_modules_do_what_their_sources_do;
@@ -49,8 +51,9 @@ pub fn ts_to_js(
     // It is a plain module that does what the source does.
     ensures conversion { IfOk result (λ text. IsConversion session.old.left src.now text.items) }
     ensures valid { IsValid session.old.left src.now → (IsOk result) ⊎ (result ≡ Err TsError.NoMemory) }
-    // Two contexts are drawn, and one for each scope.
-    ensures session { OnOk result (HasDrawn session.old.left session.new.left src.now) }
+    // With the text, two contexts are drawn, and one for each scope; with a refusal, none. Where memory runs out it is so many at most. Nothing else of
+    // the session changes.
+    ensures session { Leaves result src.now session.old session.new }
 {
     written_modules_do_what_their_sources_do();
     convert_bytes(alloc, session, src, options)
@@ -63,7 +66,7 @@ fn convert_bytes(
     options: &Options,
 ) -> Result<Vec<u8>, TsError>
     ensures text { AnswersBy result (IsConverted session.old.left src.now) }
-    ensures session { OnOk result (HasDrawn session.old.left session.new.left src.now) }
+    ensures session { Leaves result src.now session.old session.new }
 {
     if src.len() > LIMIT {
         return Err(TsError::TooLong);
@@ -93,7 +96,7 @@ fn convert_text(
 ) -> Result<Vec<u8>, TsError>
     requires { length text.now ≤ LIMIT }
     ensures text { AnswersBy result (ComesOfReading session.old.left (reads_as text.now typescript deepest)) }
-    ensures session { OnOk result (HasDrawn session.old.left session.new.left text.now) }
+    ensures session { Leaves result text.now session.old session.new }
 {
     let tree = read_module(alloc, text)?;
     convert_tree(alloc, session, tree, text, options)
@@ -111,7 +114,7 @@ fn convert_tree(
     requires read { reads_as text.now typescript deepest ≡ Ok tree }
     requires sorted { HasSort sort.Module tree }
     ensures text { AnswersBy result (ComesOf session.old.left (refused session.old.left tree) tree) }
-    ensures session { OnOk result (HasGivenFor session.old.left session.new.left tree) }
+    ensures session { Leaves result text.now session.old session.new }
 {
     accept(alloc, session, &tree, text)?;
     convert_accepted(alloc, session, tree, options)
@@ -165,6 +168,7 @@ fn convert_accepted(
     requires accepted { refused session.old.left tree ≡ None }
     ensures text { AnswersBy result (ComesOf session.old.left None tree) }
     ensures session { OnOk result (HasGivenFor session.old.left session.new.left tree) }
+    ensures most { HasGivenAtMost (contexts tree + 2) session.old session.new }
 {
     if options.program_ends {
         let mut left = ManuallyDrop::new(tree);
@@ -180,18 +184,22 @@ fn written(alloc: Global, session: &mut Session, tree: &mut Module) -> Result<Ve
     requires accepted { refused session.old.left tree.old ≡ None }
     ensures text { AnswersBy result (ComesOf session.old.left None tree.old) }
     ensures session { OnOk result (HasGivenFor session.old.left session.new.left tree.old) }
+    ensures most { HasGivenAtMost (contexts tree.old + 2) session.old session.new }
 {
     finish(alloc, session, tree)?;
     Ok(print_module(alloc, tree)?)
 }
 
-/// Binds names with types round them, gives the tree its bindings, takes its types out, and gives the bindings their final texts.
+/// Encloses what would be read as something else, binds names with types round them, gives the tree its bindings, takes its types out, and gives
+/// the bindings their final texts.
 fn finish(alloc: Global, session: &mut Session, tree: &mut Module) -> Result<(), NoMemory>
     requires sorted { HasSort sort.Module tree.old }
     requires enough { needed tree.old ≤ session.old.left }
     ensures tree { OnOk result (IsFinal session.old.left tree.old tree.new) }
     ensures session { OnOk result (HasGivenFor session.old.left session.new.left tree.old) }
+    ensures most { HasGivenAtMost (contexts tree.old + 2) session.old session.new }
 {
+    enclose(alloc, tree)?;
     bind_names(alloc, tree)?;
     resolve_names(alloc, session, tree)?;
     strip_type().visit_mut_module(alloc, tree)?;
@@ -203,6 +211,7 @@ fn resolve_names(alloc: Global, session: &mut Session, tree: &mut Module) -> Res
     requires { contexts tree.old + 2 ≤ session.old.left }
     ensures tree { OnOk result (tree.new ≡ with_bindings session.old.left tree.old) }
     ensures session { OnOk result (HasGivenFor session.old.left session.new.left tree.old) }
+    ensures most { HasGivenAtMost (contexts tree.old + 2) session.old session.new }
 {
     let (Ok(unresolved), Ok(top)) = (session.fresh_mark(), session.fresh_mark()) else {
         unreachable!()

@@ -26,7 +26,7 @@ pub enum TsError {
     /// The session has fewer marks left than the module needs (`ecma_scope::needs`).
     #[error("too few contexts are left")]
     Spent,
-    /// This name is declared again where it may not be; it is the first such name (`ecma_scope::check_scopes`).
+    /// This name is declared again where it may not be; it is the first such name in the text (`ecma_scope::check_scopes`).
     #[error("{name:?} is declared again")]
     Redeclared { name: JsWord },
     /// There was no memory. This alone has no cause in the source.

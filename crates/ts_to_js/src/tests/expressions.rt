@@ -1,7 +1,7 @@
 //! Expressions and patterns, and what is written for them: the trees are those that TypeScript makes of them, the bytes are by hand.
 use super::Case;
 
-pub(super) const EXPRESSIONS: [Case; 27] = [
+pub(super) const EXPRESSIONS: [Case; 30] = [
     // objects
     Case {
         src: r#"x = { a, b: c as T, "d": 1, 2: e!, [f as any]: <g>h, ...i as any, get j(): T { return 1 }, set j(v: T) {}, k<T>(l: T): void {}, async m() {}, *n() {}, async *o() {}, get: 1, set: 2, async: 3, get() {}, async async() {}, "p"() {}, 3() {}, [q]() {}, }; y = {}; ({ z })"#,
@@ -210,6 +210,43 @@ function f() {
     "use strict";
     return "c";
 }
+"#,
+    },
+    // texts that are no directives
+    Case {
+        src: r#"function f(a = 1) { ; "use strict"; } function g(a = 1) { "use strict" as any; } let h = (a = 1) => { type T = U; <T>"use strict"!; "b" as T }; class A { static { ; "c" } } { ; "d" }"#,
+        want: r#"function f(a = 1) {
+    ("use strict");
+}
+function g(a = 1) {
+    ("use strict");
+}
+let h = (a = 1) => {
+    ("use strict");
+    "b";
+};
+class A {
+    static {
+        "c";
+    }
+}
+{
+    "d";
+}
+"#,
+    },
+    Case {
+        src: r#""a"; ; "b""#,
+        want: r#""a";
+("b");
+"#,
+    },
+    Case {
+        src: r#"type A = 1; "use strict"; for (async! of [1]); for (async! in a); for (of! of b);"#,
+        want: r#"("use strict");
+for ((async) of [1]) ;
+for (async in a) ;
+for (of of b) ;
 "#,
     },
     // what is for types alone

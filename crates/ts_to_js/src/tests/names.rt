@@ -1,7 +1,7 @@
 //! Names that are declared more than once: what a JavaScript engine says of plain ones, and TypeScript of others.
 use super::Case;
 
-pub(super) const NAMES: [Case; 42] = [
+pub(super) const NAMES: [Case; 55] = [
     // two let
     Case {
         src: "let a; let a;",
@@ -156,6 +156,24 @@ let e = function e() {};
     // catch and let
     Case {
         src: "try {} catch (e) { let e; }",
+        want: r#"error: Redeclared e
+"#,
+    },
+    // catch pattern and let
+    Case {
+        src: "try {} catch ([e, { f = e }]) { let f; }",
+        want: r#"error: Redeclared f
+"#,
+    },
+    // catch and function
+    Case {
+        src: "try {} catch (e) { function e() {} }",
+        want: r#"error: Redeclared e
+"#,
+    },
+    // catch and a let that goes
+    Case {
+        src: "try {} catch (e) { declare let e: any; e(); }",
         want: r#"error: Redeclared e
 "#,
     },
@@ -336,6 +354,54 @@ const b = 1;
         want: r#"error: Syntax at 14
 "#,
     },
+    // the first in the text is told, inside
+    Case {
+        src: "{ let b; let b; } let a; let a;",
+        want: r#"error: Redeclared b
+"#,
+    },
+    // between two of another name
+    Case {
+        src: "let a; { let b; let b; } let a;",
+        want: r#"error: Redeclared b
+"#,
+    },
+    // and outside
+    Case {
+        src: "let a; let a; { let b; let b; }",
+        want: r#"error: Redeclared a
+"#,
+    },
+    // of a var and a let the later counts
+    Case {
+        src: "var a; let b; let b; let a;",
+        want: r#"error: Redeclared b
+"#,
+    },
+    // also where the var is further in
+    Case {
+        src: "{ { var a; } let a; let b; let b; }",
+        want: r#"error: Redeclared a
+"#,
+    },
+    // and where it passes through
+    Case {
+        src: "var a; { let b; { var b; } } let a;",
+        want: r#"error: Redeclared b
+"#,
+    },
+    // parameters before what follows
+    Case {
+        src: "let b; function f(a, { a }) {} let b;",
+        want: r#"error: Redeclared a
+"#,
+    },
+    // a body's names before a parameter that is declared again
+    Case {
+        src: "function f(a, b) { let c; let c; let a; }",
+        want: r#"error: Redeclared c
+"#,
+    },
     // an ambient namespace shadows a name, and binds none
     Case {
         src: "{ declare namespace a { let b } a; } let a = 1;",
@@ -343,6 +409,30 @@ const b = 1;
     a;
 }
 let a1 = 1;
+"#,
+    },
+    // so does one of functions without bodies, and none of types
+    Case {
+        src: "{ declare namespace a { function b(): void } a.b(); { declare namespace c { type d = e } c(); } } let a, c;",
+        want: r#"{
+    a.b();
+    {
+        c();
+    }
+}
+let a1, c;
+"#,
+    },
+    // a key `__proto__` would set the prototype in a literal, and sets none in a pattern
+    Case {
+        src: "{ declare const __proto__: any; f(__proto__); } let __proto__ = 1, a = { __proto__ }; f(a); ({ __proto__ } = a); f(__proto__);",
+        want: r#"{
+    f(__proto__);
+}
+let __proto__1 = 1, a = { ["__proto__"]: __proto__1 };
+f(a);
+({ __proto__: __proto__1 } = a);
+f(__proto__1);
 "#,
     },
 ];

@@ -1,7 +1,7 @@
 //! Modules that are refused: forms that are not taken, and what is no module.
 use super::Case;
 
-pub(super) const REFUSED: [Case; 21] = [
+pub(super) const REFUSED: [Case; 22] = [
     // import
     Case {
         src: r#"f(); import { a } from "m";"#,
@@ -30,6 +30,11 @@ pub(super) const REFUSED: [Case; 21] = [
     Case {
         src: "declare namespace N { let a } namespace N { declare let b }",
         want: r#"error: Syntax at 30
+"#,
+    },
+    Case {
+        src: "declare namespace N { function a(): void } namespace N { declare function b(): void }",
+        want: r#"error: Syntax at 43
 "#,
     },
     // import and export of types
@@ -104,7 +109,7 @@ pub(super) const REFUSED: [Case; 21] = [
     },
     Case {
         src: "f(function()\n)",
-        want: r#"error: Syntax at 2
+        want: r#"error: Syntax at 13
 "#,
     },
     // two constructors

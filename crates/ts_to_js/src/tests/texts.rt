@@ -1,7 +1,7 @@
 //! Names that need another text once types are gone.
 use super::Case;
 
-pub(super) const TEXTS: [Case; 14] = [
+pub(super) const TEXTS: [Case; 15] = [
     // base
     Case {
         src: "{ declare const f: any; f(); } let f = 1; f1: for (;;) { o.f1(f); break f1; }",
@@ -114,17 +114,29 @@ let e = class C1 {
     },
     // loop and catch
     Case {
-        src: "for (let i of xs) { declare let i: any; i(); } try {} catch (e) { declare let e: any; e(); } try {} catch (e) { { declare let e: any; e(); } }",
+        src: "for (let i of xs) { declare let i: any; i(); } try {} catch (e) { { declare let e: any; e(); } }",
         want: r#"for (let i1 of xs) {
     i();
-}
-try {} catch (e) {
-    e();
 }
 try {} catch (e1) {
     {
         e();
     }
+}
+"#,
+    },
+    // default in the pattern of a catch
+    Case {
+        src: "let f = 5; try { throw {} } catch ({ a = f }) { { declare const f; f('x') } let f = 1; log(a, f) }",
+        want: r#"let f1 = 5;
+try {
+    throw {};
+} catch ({ a = f1 }) {
+    {
+        f('x');
+    }
+    let f2 = 1;
+    log(a, f2);
 }
 "#,
     },
