@@ -4,7 +4,13 @@
 #[cfg(test)]
 mod binding;
 #[cfg(test)]
+mod eliding;
+#[cfg(test)]
 mod fitting;
+#[cfg(test)]
+mod lowering;
+#[cfg(test)]
+mod plain;
 #[cfg(test)]
 mod printing;
 #[cfg(test)]

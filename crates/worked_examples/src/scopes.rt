@@ -69,6 +69,24 @@ fn ambient(alloc: Global) -> Result<Node, NoMemory> {
     Node::module(alloc, DUMMY_SP, None, body)
 }
 
+/// `namespace O { namespace N { function f(); } N; } let N;`, with `declare` before the inner namespace or without.
+fn namespaces(alloc: Global, declare: bool) -> Result<Node, NoMemory> {
+    let parameters = Nodes::new(alloc);
+    let function = Node::function(alloc, DUMMY_SP, false, false, parameters, None, None, None)?;
+    let function = Node::fn_decl(alloc, DUMMY_SP, false, name(alloc, "f")?, function)?;
+    let items = Nodes::from_array(alloc, [function])?;
+    let block = Node::ts_module_block(alloc, DUMMY_SP, items)?;
+    let inner = name(alloc, "N")?;
+    let inner = Node::ts_module_decl(alloc, DUMMY_SP, declare, false, inner, Some(block))?;
+    let items = Nodes::from_array(alloc, [inner, read(alloc, "N")?])?;
+    let block = Node::ts_module_block(alloc, DUMMY_SP, items)?;
+    let outer = name(alloc, "O")?;
+    let outer = Node::ts_module_decl(alloc, DUMMY_SP, false, false, outer, Some(block))?;
+    let variable = variable(alloc, VarDeclKind::Let, false, "N")?;
+    let body = Nodes::from_array(alloc, [outer, variable])?;
+    Node::module(alloc, DUMMY_SP, None, body)
+}
+
 /// `{ function text(); var other; }`
 fn passed_by(alloc: Global, text: &str, other: &str) -> Result<Node, NoMemory> {
     let parameters = Nodes::new(alloc);
@@ -99,6 +117,24 @@ fn shadowed(alloc: Global, word: VarDeclKind, text: &str) -> Result<Node, NoMemo
     let body = Nodes::from_array(alloc, inside)?;
     let function = function(alloc, "g", parameter(alloc, "a", "b")?, body)?;
     Node::module(alloc, DUMMY_SP, None, Nodes::from_array(alloc, [function])?)
+}
+
+/// `try { } catch ([a = b]) { word text; b; }`
+fn caught(alloc: Global, word: VarDeclKind, text: &str) -> Result<Node, NoMemory> {
+    let default = Node::assign_pat(alloc, DUMMY_SP, pattern(alloc, "a")?, name(alloc, "b")?)?;
+    let elements = Nodes::from_array(alloc, [default])?;
+    let parameter = Node::array_pat(alloc, DUMMY_SP, false, elements, None)?;
+    let inside = [variable(alloc, word, false, text)?, read(alloc, "b")?];
+    let body = Node::block_stmt(alloc, DUMMY_SP, Nodes::from_array(alloc, inside)?)?;
+    let handler = Node::catch_clause(alloc, DUMMY_SP, Some(parameter), body)?;
+    let block = Node::block_stmt(alloc, DUMMY_SP, Nodes::new(alloc))?;
+    let statement = Node::try_stmt(alloc, DUMMY_SP, block, Some(handler), None)?;
+    Node::module(
+        alloc,
+        DUMMY_SP,
+        None,
+        Nodes::from_array(alloc, [statement])?,
+    )
 }
 
 /// `var a; word a;`
@@ -154,6 +190,21 @@ fn an_ambient_name_hides_and_binds_nothing(rt: HostRuntime) -> Result<(), Fail> 
 }
 
 #[test]
+fn a_namespace_of_ambient_functions_has_a_value(rt: HostRuntime) -> Result<(), Fail> {
+    let alloc = rt.alloc();
+    let [unresolved, top, _, _] = first_contexts()?;
+    let mut tree = namespaces(alloc, true)?;
+    let found = resolved_contexts(alloc, &mut tree)?;
+    let wanted = [top, unresolved, unresolved, unresolved, top];
+    assert_eq!(rt; found.as_slice(), wanted.as_slice());
+    let mut tree = namespaces(alloc, false)?;
+    let found = resolved_contexts(alloc, &mut tree)?;
+    let wanted = [top, top, unresolved, top, top];
+    assert_eq!(rt; found.as_slice(), wanted.as_slice());
+    Ok(())
+}
+
+#[test]
 fn a_default_does_not_see_the_body(rt: HostRuntime) -> Result<(), Fail> {
     let alloc = rt.alloc();
     let [unresolved, top, parameters, body] = first_contexts()?;
@@ -172,6 +223,28 @@ fn a_var_with_a_parameters_name_is_the_parameter(rt: HostRuntime) -> Result<(), 
     let found = resolved_contexts(alloc, &mut tree)?;
     let wanted = [
         top, parameters, unresolved, parameters, parameters, unresolved,
+    ];
+    assert_eq!(rt; found.as_slice(), wanted.as_slice());
+    Ok(())
+}
+
+#[test]
+fn a_default_of_a_catch_does_not_see_its_block(rt: HostRuntime) -> Result<(), Fail> {
+    let alloc = rt.alloc();
+    let mut session = Session::new(10);
+    let unresolved = session.fresh_mark()?;
+    let top = session.fresh_mark()?;
+    let _tried = session.fresh_mark()?;
+    let clause = session.fresh_mark()?;
+    let block = session.fresh_mark()?;
+    let empty = SyntaxContext::empty();
+    let mut tree = caught(alloc, VarDeclKind::Let, "b")?;
+    let found = resolved_contexts(alloc, &mut tree)?;
+    let wanted = [
+        empty.apply_mark(clause),
+        empty.apply_mark(unresolved),
+        empty.apply_mark(block),
+        empty.apply_mark(block),
     ];
     assert_eq!(rt; found.as_slice(), wanted.as_slice());
     Ok(())
@@ -218,6 +291,16 @@ fn a_body_does_not_declare_a_parameter_again(rt: HostRuntime) -> Result<(), Fail
 }
 
 #[test]
+fn a_block_does_not_declare_a_caught_name_again(rt: HostRuntime) -> Result<(), Fail> {
+    let alloc = rt.alloc();
+    let a = JsWord::new(alloc, "a")?;
+    assert!(rt; refused(alloc, &caught(alloc, VarDeclKind::Let, "a")?)? == Some(a.clone()?));
+    assert!(rt; refused(alloc, &caught(alloc, VarDeclKind::Var, "a")?)? == Some(a));
+    assert!(rt; refused(alloc, &caught(alloc, VarDeclKind::Let, "b")?)?.is_none());
+    Ok(())
+}
+
+#[test]
 fn a_name_further_out_does_not_meet_one_that_goes(rt: HostRuntime) -> Result<(), Fail> {
     let alloc = rt.alloc();
     let x = JsWord::new(alloc, "x")?;
@@ -234,6 +317,7 @@ fn a_declaration_needs_seventeen_contexts(rt: HostRuntime) -> Result<(), Fail> {
     let alloc = rt.alloc();
     assert_eq!(rt; needs(&twice(alloc, VarDeclKind::Var)?), 17);
     assert_eq!(rt; needs(&ambient(alloc)?), 18);
+    assert_eq!(rt; needs(&caught(alloc, VarDeclKind::Let, "b")?), 20);
     Ok(())
 }
 
