@@ -1,20 +1,39 @@
--- What is lent under its own name ends as what is written.
+-- A node that is lent as the one or the other.
 use Rattle.std.proofs.Common.{[], ◌∷◌, refl}
-use base.Logic.{ent, emp, wand}
-use base.Fml.{Fml, GName, ftrue, fsep, feq, fauth, fres, fex}
+use Rattle.std.proofs.result.Result.TheLaws.{the_row_laws as result_laws}
+use Rattle.std.specs.Prelude.{Result}
+use Rattle.std.specs.contracts.result.Result as result
 use seplogic.Ra.Ura.{Ura}
-use types.Logic.{Logic, sem}
-use types.Kit.{‵, ◌$◌, ◌∵◌, !, qed, done, drop, each, assume, fjoin, feq_i, fpack}
-use denote.Follow.{follows}
+use lib.Dec.{T}
+use mir.Syntax.{named}
+use mir.Val.{Val, has_ty, WT}
+use base.Fml.{Lft}
+use types.Logic.{Logic}
+use denote.Laws.{Is}
+use denote.Param.{layout}
+use denote.Param.Laws.{Laws, of_field, row_shared}
+use denote.Param.Shared.{mut_ref_shared}
 use denote.RattleType.{RattleType}
+use denote.Ref.{MutBor, MutRef, NamedLft}
+use denote.Struct.Field.{mut_ref_field}
+use denote.Struct.Laws.{mut_ref_laws}
+use Rattle.ecma_tree.proofs.node.Node.TheLaws.{the_row_laws}
+use Rattle.ecma_tree.specs.contracts.node.Node.{the_row}
+use Rattle.ecma_tree.specs.declared.node.Node.{Node}
 
-module _ {M : Type 1} {𝓤 : Ura M} (𝓛 : Logic 𝓤) (R : RattleType) (γ : GName) where
-  open 𝓛 use {A}
+-- the type of what is lent, and of what holds it
+abbrev pub Lent : Lft → RattleType
+Lent κ = MutRef (named 0) κ the_row
 
-  pub follows_itself : ent 𝓤 (emp 𝓤) (sem 𝓛 (follows R R γ γ (λ w. w)))
-  follows_itself =
-      let From : R.Denot → R.Denot → Fml = λ z w. fsep (feq R.Denot z w) (fauth γ (R.coded.code w)) in
-      let said = qed 𝓛 (‵ ftrue ∷ []) ∵ drop ! $ each ! (λ (w : R.Denot). wand 𝓤 (A.res γ (R.coded.code w)) (A.res γ (R.coded.code w))) (λ w. assume ! (‵ (fres γ (R.coded.code w))) $ done !) in
-      let back = qed 𝓛 (‵ ftrue ∷ []) ∵ drop ! $ each ! (λ (z : R.Denot). wand 𝓤 (A.auth γ (R.coded.code z)) (sem 𝓛 (fex R.Denot (From z)))) (λ z. assume ! (‵ (fauth γ (R.coded.code z))) $
-      feq_i ! R.Denot z z refl $ fjoin ! $ fpack ! R.Denot (From z) z $ done !) in
-      record { apply = λ a p. (said.apply a p, back.apply a p) }
+abbrev pub Either : Lft → RattleType
+Either κ = result.the_row (Lent κ) (Lent κ)
+
+lent_laws : (κ : Lft) → Laws (Lent κ)
+lent_laws κ =
+    let at : NamedLft = record { mir = named 0; lft = κ } in
+    of_field (mut_ref_field at the_row tt) (mut_ref_laws at the_row tt) refl (mut_ref_shared at the_row tt (row_shared the_row the_row_laws))
+
+-- the machine value of what holds it is of its type
+pub either_typed : {M : Type 1} {𝓤 : Ura M} (𝓛 : Logic 𝓤) (κ : Lft) (r : Result (MutBor Node) (MutBor Node)) (v : Val)
+    → Is (Either κ) r (v ∷ []) → T (has_ty (layout (Either κ)) v) × WT v
+either_typed 𝓛 κ r v is = (((result_laws (Lent κ) (Lent κ) (lent_laws κ) (lent_laws κ)).lawful 𝓛).typed r (v ∷ []) is).0

@@ -4,6 +4,7 @@ pub mod Indirect
 pub mod PropNames
 pub mod Constructors
 pub mod Statements
+pub mod Lending
 pub mod Emptiness
 pub mod Directives
 pub mod Names

@@ -8,6 +8,7 @@ ghost use Rattle.std.specs.Option.{option_copied, option_copied_mut};
 ghost use Rattle.std.specs.Result.{result_copied, result_copied_mut};
 ghost use Rattle.ecma_tree.specs.contracts.node.Node.{the_row};
 ghost use Rattle.ecma_tree.specs.declared.node.Node.{Node};
+ghost use Rattle.ecma_utils.specs.Lending.{LendsEither, lent_name};
 ghost use Rattle.ecma_utils.specs.Statements.{is_declaration, is_statement, some_if};
 
 use ecma_tree::{ModuleDecl, Node, Sort, Stmt, belongs};
@@ -36,6 +37,24 @@ fn is_declaration(node: &Node) -> bool
     ensures { result ≡ is_declaration node.now }
 {
     belongs(Sort::ModuleDecl, &node.kind)
+}
+
+/// A node, lent under its own name: as a statement, or else as a module declaration.
+fn lent_as(is_statement: bool, node: &mut Node) -> Result<&mut Stmt, &mut ModuleDecl>
+    ensures name { lent_name result ≡ node.entry.ghost_name }
+    ensures value { result_copied_mut result
+        ≡ (if is_statement then Ok node.old else Err node.old) }
+{
+    if is_statement { Ok(node) } else { Err(node) }
+}
+
+/// The same by its kind.
+fn lent_item(item: &mut Node) -> Result<&mut Stmt, &mut ModuleDecl>
+    ensures name { lent_name result ≡ item.entry.ghost_name }
+    ensures value { result_copied_mut result
+        ≡ (if is_statement item.old then Ok item.old else Err item.old) }
+{
+    lent_as(is_statement(item), item)
 }
 
 /// What may be a statement. None of the calls takes memory.
@@ -99,6 +118,9 @@ pub trait StmtOrModuleItem: Sized {
     /// The node that a value is.
     ghost node: { Self → Node };
 
+    /// The value with another node in its node's place.
+    ghost with_node: { Self → Node → Self };
+
     /// Whether that is a statement, and else a module declaration.
     ghost is_statement: { Self → Bool };
 
@@ -117,9 +139,11 @@ pub trait StmtOrModuleItem: Sized {
         ensures { result_copied result
             ≡ (if is_statement self.now then Ok (node self.now) else Err (node self.now)) };
 
-    /// The statement, to be written; `Err` with the module declaration, to be written, exactly where the value is none.
+    /// The statement, to be written; `Err` with the module declaration, to be written, exactly where the value is none. In either case
+    /// what is written becomes the value's node.
     fn as_stmt_mut(&mut self) -> Result<&mut Stmt, &mut ModuleDecl>
-        ensures { result_copied_mut result
+        ensures* writes_back { sem 𝓛 (LendsEither Self.row the_row self.entry result (with_node self.old)) }
+        ensures value { result_copied_mut result
             ≡ (if is_statement self.old then Ok (node self.old) else Err (node self.old)) };
 
     /// The value that a statement is.
@@ -211,6 +235,8 @@ impl ModuleItemLike for Node {
 impl StmtOrModuleItem for Statement {
     ghost node = { λ statement. statement.node };
 
+    ghost with_node = { λ statement node. record statement { node = node } };
+
     ghost is_statement = { λ _. true };
 
     ghost of_stmt = { λ node. record { node = node } };
@@ -227,7 +253,7 @@ impl StmtOrModuleItem for Statement {
     }
 
     fn as_stmt_mut(&mut self) -> Result<&mut Stmt, &mut ModuleDecl> {
-        Ok(&mut self.node)
+        lent_as(true, self.node_mut())
     }
 
     fn from_stmt(stmt: Stmt) -> Statement {
@@ -241,6 +267,8 @@ impl StmtOrModuleItem for Statement {
 
 impl StmtOrModuleItem for Node {
     ghost node = { λ node. node };
+
+    ghost with_node = { λ _ node. node };
 
     ghost is_statement = { is_statement };
 
@@ -265,11 +293,7 @@ impl StmtOrModuleItem for Node {
     }
 
     fn as_stmt_mut(&mut self) -> Result<&mut Stmt, &mut ModuleDecl> {
-        if is_statement(self) {
-            Ok(self)
-        } else {
-            Err(self)
-        }
+        lent_item(self)
     }
 
     fn from_stmt(stmt: Stmt) -> Node {

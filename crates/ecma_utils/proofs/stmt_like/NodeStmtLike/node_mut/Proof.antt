@@ -15,7 +15,7 @@ use denote.Steps.{nothing}
 use denote.Triple.Walked.{Stays, stay_dropped, Goes-spent_ref, ends_at, says, walk_of}
 use Rattle.ecma_tree.specs.contracts.node.Node.{the_row}
 use Rattle.ecma_utils.specs.contracts.stmt_like.NodeStmtLike.node_mut as f
-use Rattle.ecma_utils.proofs.Lending.{follows_itself}
+use borrow.Follows.Kept.{follows_itself}
 use Rattle.ecma_utils.proofs.stmt_like.NodeStmtLike.node_mut.Statement.{statement}
 use Rattle.ecma_utils.proofs.stmt_like.NodeStmtLike.node_mut.Code as code
 
