@@ -1,6 +1,5 @@
 -- An item of a module as it is written, and without types.
-use Rattle.std.proofs.Common.{◌≡◌, ◌∙◌, ◌⊎◌, inl, inr, ℕ, Bool, true, false, ◌&&◌, ◌||◌, cond, refl, sym, ap, subst, List, [], ◌∷◌, map, length}
-use Rattle.std.specs.Option.{option_map_or}
+use Rattle.std.proofs.Common.{◌≡◌, ◌∙◌, ◌⊎◌, inl, inr, Bool, true, false, ◌&&◌, ◌||◌, refl, sym, ap, subst, List, [], ◌∷◌, map, length}
 use Rattle.ecma_kind.specs.Sorts.{belongs}
 use Rattle.ecma_kind.specs.declared.kind.Kind.{Kind}
 use Rattle.ecma_kind.specs.declared.kind.Kind.TheVariants as kind
@@ -20,7 +19,7 @@ use Rattle.ecma_strip_rewriting.proofs.PlainKinds.{full-roll, no, shape-out, str
 use Rattle.ecma_strip_rewriting.proofs.Stays.{kind-roll, stays-roll}
 use Rattle.ecma_lower.specs.declared.names.Names.{Names}
 use Rattle.ecma_lower.specs.declared.seat.Seat.TheVariants as seat
-use Rattle.ecma_lower.specs.Assignments.{is_export_assignment, is_export_by, is_import_by, is_required, is_required_import, requires_by}
+use Rattle.ecma_lower.specs.Assignments.{is_export_assignment, is_export_by, is_import_by, is_required, is_required_import}
 use Rattle.ecma_lower.specs.Seats.{seat_in}
 use Rattle.ecma_lower.specs.Writing.{export_of, import_of, written}
 use Rattle.ecma_lower.proofs.Singles.{write}

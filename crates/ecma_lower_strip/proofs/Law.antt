@@ -1,5 +1,5 @@
 -- Assignments are written before types are stripped or after.
-use Rattle.std.proofs.Common.{◌≡◌, ◌∙◌, ℕ, ◌-◌, suc, Bool, true, false, ◌&&◌, not, cond, codes, refl, sym, ap, ap₂, subst, List, [], ◌∷◌, map, filter, length, replicate, Option, Some, None}
+use Rattle.std.proofs.Common.{◌≡◌, ◌∙◌, ℕ, ◌-◌, Bool, true, false, cond, codes, refl, sym, ap, ap₂, subst, List, [], ◌∷◌, map, filter, length, replicate, Option, Some, None}
 use Rattle.std.specs.List.{list_any}
 use Rattle.std.specs.Option.{option_map}
 use Rattle.ecma_config.specs.declared.config.TsImportExportAssignConfig.{TsImportExportAssignConfig}
@@ -14,15 +14,15 @@ use Rattle.ecma_kind.specs.declared.span.Span.{Span}
 use Rattle.ecma_tree.specs.Idents.{ident_node}
 use Rattle.ecma_tree.specs.Laws.{HaveShapes}
 use Rattle.ecma_tree.specs.Nodes.{absent, dummy_span, list_node, node_of}
-use Rattle.ecma_tree.specs.Sorted.{HasShape, HasSort, child_shapes, is_list, item_shape, many, one}
+use Rattle.ecma_tree.specs.Sorted.{HasSort, child_shapes, many, one}
 use Rattle.ecma_tree.specs.Values.{value_by}
 use Rattle.ecma_tree.specs.declared.node.Node.{Node, Node-F, out-Node}
 use Rattle.ecma_tree.specs.declared.node.Node.TheViews.{out-roll-Node, roll-out-Node}
 use Rattle.ecma_utils.specs.Expressions.{call_of, key_of, member_of}
 use Rattle.ecma_utils.specs.Quotes.{name_of, quoted_ident, text_of}
 use Rattle.ecma_rewriting.proofs.Equations.{list-kind}
-use Rattle.ecma_strip.specs.Staying.{is_declared, is_empty_stmt, specifier_stays, stays}
-use Rattle.ecma_strip.specs.Stripping.{plain, plain_children, plain_kind, staying_nodes, stripped, without_empty}
+use Rattle.ecma_strip.specs.Staying.{is_declared, specifier_stays, stays}
+use Rattle.ecma_strip.specs.Stripping.{plain, plain_children, plain_kind, stripped, without_empty}
 use Rattle.ecma_strip_rewriting.specs.Commuting.{is_full}
 use Rattle.ecma_strip_rewriting.proofs.Commuting.{stripped-absent}
 use Rattle.ecma_strip_rewriting.proofs.PlainKinds.{full-roll, no, shape-out, stripped-list, stripped-other}
@@ -32,10 +32,10 @@ use Rattle.ecma_lower.specs.declared.names.Names.{Names}
 use Rattle.ecma_lower.specs.declared.seat.Seat.TheVariants as seat
 use Rattle.ecma_lower.specs.Assignments.{is_required_import}
 use Rattle.ecma_lower.specs.Heads.{behind_directives, create_import, create_specifier, require_constant, url_of_module}
-use Rattle.ecma_lower.specs.Items.{first_with, in_items, items_by, items_of, with_children}
+use Rattle.ecma_lower.specs.Items.{first_with, in_items, items_by, items_of}
 use Rattle.ecma_lower.specs.Lowered.{headed, transformed}
-use Rattle.ecma_lower.specs.Moving.{exports_last, with_exports_last}
-use Rattle.ecma_lower.specs.Names.{head_by, head_of, makes_require, names_of}
+use Rattle.ecma_lower.specs.Moving.{exports_last}
+use Rattle.ecma_lower.specs.Names.{head_by, makes_require, names_of}
 use Rattle.ecma_lower.specs.Seats.{seat_in}
 use Rattle.ecma_lower.specs.Writing.{with_assignments, written}
 use Rattle.ecma_lower.proofs.Singles.{each_at, write}
@@ -43,7 +43,7 @@ use Rattle.ecma_lower_strip.specs.Converting.{lowered}
 use Rattle.ecma_lower_strip.specs.Laws.{AssignmentsBeforeOrAfter, KeepsFront, in_front}
 use Rattle.ecma_lower_strip.proofs.Items.{keeps, keeps-so}
 use Rattle.ecma_lower_strip.proofs.Lists.{AreItems, bare, bare-is, bare-moved, bare-put, bare-requires, bare-written, front, front-bare-written, front-put, front-written, items-moved}
-use Rattle.ecma_lower_strip.proofs.Plain.{PlainNames, constants, constants-last, front-roll, is_front, plain-bound, plain-call, plain-constants, plain-key, plain-list, plain-member, plain-name, plain-node, plain-text}
+use Rattle.ecma_lower_strip.proofs.Plain.{PlainNames, constants, constants-last, is_front, plain-bound, plain-call, plain-constants, plain-key, plain-list, plain-member, plain-name, plain-node, plain-text}
 use Rattle.ecma_lower_strip.proofs.Resting.{one-child, write-roll}
 
 -- ---- a module, by the list of its items

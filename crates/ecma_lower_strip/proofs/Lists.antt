@@ -15,8 +15,8 @@ use Rattle.ecma_lower.specs.Assignments.{is_export_assignment, is_required_impor
 use Rattle.ecma_lower.specs.Heads.{behind_directives}
 use Rattle.ecma_lower.specs.Moving.{exports_last}
 use Rattle.ecma_lower.proofs.Singles.{write}
-use Rattle.ecma_lower_strip.proofs.Items.{Alike, export-kept, fronts-so, items-alike, keeps, keeps-so, requires-alike}
-use Rattle.ecma_lower_strip.proofs.Plain.{Lasts, PlainNames, is_front}
+use Rattle.ecma_lower_strip.proofs.Items.{Alike, export-kept, fronts-so, items-alike, keeps, requires-alike}
+use Rattle.ecma_lower_strip.proofs.Plain.{PlainNames, is_front}
 
 -- items that are kept, without types
 abbrev pub bare : List Node → List Node

@@ -20,7 +20,7 @@ use Rattle.ecma_utils.specs.Directives.{is_special_call, is_text, kind_passes, s
 use Rattle.ecma_utils.specs.Expressions.{assign_of, call_of, key_of, member_of}
 use Rattle.ecma_utils.specs.Quotes.{name_of}
 use Rattle.ecma_utils.specs.Statements.{is_statement}
-use Rattle.ecma_strip.specs.Staying.{is_declared, is_empty_stmt, specifier_stays, stays}
+use Rattle.ecma_strip.specs.Staying.{is_declared, specifier_stays, stays}
 use Rattle.ecma_strip.specs.Stripping.{plain, plain_children, plain_kind, stripped}
 use Rattle.ecma_strip_rewriting.specs.Commuting.{is_full}
 use Rattle.ecma_strip_rewriting.proofs.Commuting.{stripped-absent}

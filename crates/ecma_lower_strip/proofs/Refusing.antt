@@ -1,5 +1,5 @@
 -- What is told of a program that is refused.
-use Rattle.std.proofs.Common.{◌≡◌, ◌<◌, ℕ, None, Some, Err, refl}
+use Rattle.std.proofs.Common.{◌≡◌, ◌<◌, ℕ, None, Err, refl}
 use Rattle.ecma_config.specs.declared.config.Config.{Config}
 use Rattle.ecma_kind.specs.Sessions.{SessionState}
 use Rattle.ecma_kind.specs.declared.error.PassError.{PassError}

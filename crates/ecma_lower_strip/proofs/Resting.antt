@@ -1,5 +1,5 @@
 -- Where nothing is written a node stays, and what is written for the right side of an import.
-use Rattle.std.proofs.Common.{◌≡◌, ◌∙◌, ℕ, suc, Bool, true, false, ◌==◌, cond, refl, sym, ap, ap₂, subst, List, [], ◌∷◌, map, Some, None, slice_get}
+use Rattle.std.proofs.Common.{◌≡◌, ◌∙◌, ℕ, suc, Bool, true, false, refl, sym, ap, ap₂, subst, List, [], ◌∷◌, map, Some, slice_get}
 use Rattle.ecma_kind.specs.Sorts.{belongs}
 use Rattle.ecma_kind.specs.declared.kind.Kind.{Kind}
 use Rattle.ecma_kind.specs.declared.kind.Kind.TheVariants as kind

@@ -1,5 +1,5 @@
 -- Why a program is not written as ECMAScript.
-use Rattle.std.specs.Prelude.{◌≡◌, ◌<◌, ℕ, List, Option, Some, None, Result, Ok, Err}
+use Rattle.std.specs.Prelude.{◌≡◌, ◌<◌, ℕ, List, Option, Some, None, Result, Err}
 use Rattle.ecma_config.specs.declared.config.Config.{Config}
 use Rattle.ecma_tree.specs.declared.node.Node.{Node}
 use Rattle.ecma_kind.specs.declared.error.PassError.{PassError}
