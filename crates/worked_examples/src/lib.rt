@@ -14,6 +14,8 @@ mod plain;
 #[cfg(test)]
 mod printing;
 #[cfg(test)]
+mod programs;
+#[cfg(test)]
 mod rules;
 #[cfg(test)]
 mod scopes;

@@ -1,0 +1,6 @@
+pub mod Refusing
+pub mod Plain
+pub mod Resting
+pub mod Items
+pub mod Lists
+pub mod Law

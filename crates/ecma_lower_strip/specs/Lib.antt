@@ -1,0 +1,3 @@
+pub mod Converting
+pub mod Refusals
+pub mod Laws
