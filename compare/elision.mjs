@@ -1,10 +1,10 @@
-// Asks TypeScript what it leaves of the imports and exports of the modules in the table of crates/worked_examples/src/eliding.rt.
+// Asks TypeScript what it leaves of the imports and exports of the modules in the table of crates/lowering_examples/src/eliding.rt.
 //   node --expose-internals compare/elision.mjs
 // What is compared are trees, printed by TypeScript: of what it writes for a module, without the `export {}` that it adds, and of what is wanted there.
 import { readFileSync } from "node:fs";
 import { ts } from "./typescript_expressions.mjs";
 
-const path = new URL("../crates/worked_examples/src/eliding.rt", import.meta.url);
+const path = new URL("../crates/lowering_examples/src/eliding.rt", import.meta.url);
 const source = readFileSync(path, "utf8");
 const table = source.slice(source.indexOf("const ROWS"), source.indexOf("#[test]"));
 const row = /\(\s*("(?:[^"\\]|\\.)*"),\s*("(?:[^"\\]|\\.)*"),?\s*\)/g;

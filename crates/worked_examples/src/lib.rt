@@ -4,17 +4,11 @@
 #[cfg(test)]
 mod binding;
 #[cfg(test)]
-mod eliding;
-#[cfg(test)]
 mod fitting;
-#[cfg(test)]
-mod lowering;
 #[cfg(test)]
 mod plain;
 #[cfg(test)]
 mod printing;
-#[cfg(test)]
-mod programs;
 #[cfg(test)]
 mod rules;
 #[cfg(test)]

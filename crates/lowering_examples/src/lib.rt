@@ -1,0 +1,9 @@
+//! Worked examples of eliding and of lowering: tests alone, with values from outside.
+#![tactic(auto)]
+
+#[cfg(test)]
+mod eliding;
+#[cfg(test)]
+mod lowering;
+#[cfg(test)]
+mod programs;
