@@ -1,0 +1,42 @@
+-- The laws.
+use Rattle.ecma_runs.specs.Run.{Run}
+use Rattle.ecma_runs.specs.State.{State}
+use Rattle.ecma_runs.specs.Laws.{state_behind}
+use Rattle.ecma_runs.specs.Evaluation.{meaning}
+use Rattle.ecma_judge_runs.specs.Still.{Still}
+use Rattle.ecma_judge_runs.specs.Laws.{WhatHasNoEffectsIsStill, ClassesWithoutEffectsAreStill, CallsOfPureCalleesAreStill, WhatIsKnownIsSo, WhatIsPureIsStill}
+use Rattle.ecma_judge_runs.proofs.Fronts.{still_itself}
+use Rattle.ecma_judge_runs.proofs.Leaving.{Leaves, behind}
+use Rattle.ecma_judge_runs.proofs.Nodes.{claim}
+use Rattle.ecma_judge.specs.Judged.{judged}
+use Rattle.ecma_judge_runs.specs.Known.{IsAsJudged}
+use Rattle.ecma_judge_runs.proofs.Giving.{gave_done}
+use Rattle.ecma_judge_runs.proofs.ValuedNodes.{valued}
+use Rattle.ecma_judge_runs.proofs.Steady.{steady}
+use Rattle.std.proofs.Common.{refl, sym, ◌∙◌, subst}
+use Rattle.ecma_tree.specs.declared.node.Node.{out-Node}
+use Rattle.ecma_judge.proofs.Judging.{callee-out}
+use Rattle.ecma_runs.proofs.Layer.{meaning_out}
+use Rattle.ecma_judge_runs.specs.Called.{called}
+use Rattle.ecma_judge_runs.proofs.Callees.{pure_call}
+
+-- what leaves all as it was from a state leaves that state as it was
+still_behind : {A : Type 0} (m : Run A) (s : State) → Leaves s m → Still s (state_behind (m s))
+still_behind m s h = behind s (λ a. Unit {0}) (m s) (h.at s (still_itself s))
+
+pub what_has_no_effects_is_still : WhatHasNoEffectsIsStill
+what_has_no_effects_is_still ctx e x s off taken none = still_behind ((meaning e).value x) s (((claim ctx off x e).quiet none taken).value s x.scope)
+
+pub classes_without_effects_are_still : ClassesWithoutEffectsAreStill
+classes_without_effects_are_still ctx class names x s off taken none = still_behind ((meaning class).class_made names x) s (((claim ctx off x class).quiet none taken).class_made names s x.scope)
+
+pub what_is_known_is_so : WhatIsKnownIsSo
+what_is_known_is_so ctx e x s t v apart told done = gave_done (IsAsJudged (judged ctx e)) ((meaning e).value x s) v t done (((valued ctx x apart e).value told).at s)
+
+pub what_is_pure_is_still : WhatIsPureIsStill
+what_is_pure_is_still ctx e x s off apart taken told calm pure = still_behind ((meaning e).value x) s ((steady ctx off x apart e).at taken told calm pure s)
+
+pub calls_of_pure_callees_are_still : CallsOfPureCalleesAreStill
+calls_of_pure_callees_are_still ctx e x arguments s apart other pure =
+    still_behind (called (meaning e) arguments x) s
+    (subst (λ m. Leaves s (called m arguments x)) (sym (meaning_out e)) (pure_call ctx s x apart arguments e (out-Node e).kind (out-Node e).children refl other (sym (callee-out ctx e) ∙ pure)))

@@ -1,0 +1,142 @@
+-- What is known of an expression, as it is so of its value; and the expressions of which it is said.
+use Rattle.std.specs.Prelude.{◌≡◌, ℕ, Bool, true, false, not, ◌&&◌, ◌==◌, List, [], ◌∷◌, Some}
+use Rattle.std.specs.List.{list_all}
+use Rattle.ecma_number.specs.declared.js_number.JsNumber.{JsNumber}
+use Rattle.ecma_number.specs.declared.types.JsType.{JsType}
+use Rattle.ecma_number.specs.declared.types.JsType.TheVariants as js_type
+use Rattle.ecma_number.specs.declared.value.Value.{Value as KnownOr}
+use Rattle.ecma_number.specs.declared.value.Value.TheVariants.{Known, Unknown}
+use Rattle.ecma_kind.specs.declared.kind.Kind.{Kind}
+use Rattle.ecma_kind.specs.declared.kind.Kind.TheVariants as kind
+use Rattle.ecma_kind.specs.declared.operators.BinaryOp.{BinaryOp}
+use Rattle.ecma_kind.specs.declared.operators.BinaryOp.TheVariants as binary
+use Rattle.ecma_kind.specs.declared.operators.UnaryOp.{UnaryOp}
+use Rattle.ecma_kind.specs.declared.operators.UnaryOp.TheVariants as operator
+use Rattle.ecma_tree.specs.declared.node.Node.{Node, Node-F, fold-Node}
+use Rattle.ecma_judge.specs.declared.ctx.ExprCtx.{ExprCtx}
+use Rattle.ecma_judge.specs.Judgement.{Judged}
+use Rattle.ecma_runs.specs.Values.{Value, Undefined, Null, Truth, Number, Text, Own, Host, Error, truth_of}
+use Rattle.ecma_runs.specs.State.{Id, Entered}
+use Rattle.ecma_runs.specs.Operators.{number_from, text_from}
+
+-- ---- of a value
+
+-- whether it counts as true (ECMAScript, 7.1.2 ToBoolean)
+abbrev pub HasTruth : KnownOr Bool → Value → Type 0
+HasTruth (Known truth) v = truth_of v ≡ truth
+HasTruth Unknown v = Unit {0}
+
+-- its Number (7.1.4 ToNumber), unless that is open, as it is of objects
+abbrev pub HasNumber : KnownOr JsNumber → Value → Type 0
+HasNumber (Known number) v = (n : JsNumber) → number_from v ≡ Some n → n ≡ number
+HasNumber Unknown v = Unit {0}
+
+-- its text (7.1.17 ToString), unless that is open, as it is of objects
+abbrev pub HasText : KnownOr (List ℕ) → Value → Type 0
+HasText (Known text) v = (t : List ℕ) → text_from v ≡ Some t → t ≡ text
+HasText Unknown v = Unit {0}
+
+-- 6.1 ECMAScript Language Types; an object of the program, a host value and an error are objects
+abbrev pub is_of_type : JsType → Value → Bool
+is_of_type js_type.Undefined Undefined = true
+is_of_type js_type.Null Null = true
+is_of_type js_type.Bool (Truth truth) = true
+is_of_type js_type.Str (Text text) = true
+is_of_type js_type.Num (Number number) = true
+is_of_type js_type.Obj (Own place) = true
+is_of_type js_type.Obj (Host number) = true
+is_of_type js_type.Obj (Error error_kind) = true
+is_of_type _ _ = false
+
+abbrev pub HasType : KnownOr JsType → Value → Type 0
+HasType (Known type) v = is_of_type type v ≡ true
+HasType Unknown v = Unit {0}
+
+-- a value is what is known of it
+pub record IsAsJudged (j : Judged) (v : Value) : Type 0 where
+  pub truth : HasTruth j.truth.1 v
+  pub number : HasNumber j.number.1 v
+  pub text : HasText j.text v
+  pub type : HasType j.type v
+
+-- ---- of expressions
+
+-- but for `typeof` and `delete`, of which the same is told whatever the operand is
+abbrev pub is_told_of : UnaryOp → Bool → Bool
+is_told_of operator.TypeOf operand = true
+is_told_of operator.Delete operand = true
+is_told_of op operand = operand
+
+-- but for `/`, whose arithmetic these laws leave out
+abbrev pub is_spoken_of : BinaryOp → Bool
+is_spoken_of binary.Div = false
+is_spoken_of op = true
+
+-- what is known of a node
+pub record Marks : Type 0 where
+  -- what is judged of it is told from what these laws speak of
+  pub valued : Bool
+  -- as a target it has no default
+  pub assignable : Bool
+  -- nor is a difference among what its truth is told from
+  pub steady : Bool
+
+-- the last of several, if there is one
+abbrev pub last_or : Bool → List Marks → Bool
+last_or b [] = b
+last_or b (m ∷ ms) = last_or m.valued ms
+
+-- by what its children are, of those from which something is told: no construction and no member
+abbrev pub is_valued_by : Kind → List Marks → Bool
+is_valued_by kind.NewExpr children = false
+is_valued_by kind.MemberExpr children = false
+is_valued_by (kind.AssignExpr op) (target ∷ right ∷ rest) = target.assignable && right.valued
+is_valued_by kind.ParenExpr (e ∷ rest) = e.valued
+is_valued_by (kind.UnaryExpr op) (operand ∷ rest) = is_told_of op operand.valued
+is_valued_by (kind.BinExpr op) (left ∷ right ∷ rest) = is_spoken_of op && (left.valued && right.valued)
+is_valued_by kind.CondExpr (test ∷ yes' ∷ no' ∷ rest) = yes'.valued && no'.valued
+is_valued_by kind.SeqExpr children = last_or true children
+is_valued_by k children = true
+
+abbrev pub is_assignable_by : Kind → List Marks → Bool
+is_assignable_by kind.AssignPat children = false
+is_assignable_by kind.ParenExpr (e ∷ rest) = e.assignable
+is_assignable_by kind.TsTypeAssertion (e ∷ rest) = e.assignable
+is_assignable_by kind.TsConstAssertion (e ∷ rest) = e.assignable
+is_assignable_by kind.TsNonNullExpr (e ∷ rest) = e.assignable
+is_assignable_by kind.TsAsExpr (e ∷ rest) = e.assignable
+is_assignable_by kind.TsInstantiation (e ∷ rest) = e.assignable
+is_assignable_by kind.TsSatisfiesExpr (e ∷ rest) = e.assignable
+is_assignable_by k children = true
+
+abbrev pub is_no_difference : BinaryOp → Bool
+is_no_difference binary.Sub = false
+is_no_difference binary.Div = false
+is_no_difference op = true
+
+abbrev pub is_steady_by : Kind → List Marks → Bool
+is_steady_by kind.ParenExpr (e ∷ rest) = e.steady
+is_steady_by (kind.UnaryExpr op) (operand ∷ rest) = operand.steady
+is_steady_by (kind.BinExpr op) (left ∷ right ∷ rest) = is_no_difference op && (left.steady && right.steady)
+is_steady_by k children = true
+
+abbrev pub marks_by : Kind → List Marks → Marks
+marks_by k children = record { valued = is_valued_by k children; assignable = is_assignable_by k children; steady = is_steady_by k children }
+
+abbrev pub marks_step : Node-F Marks → Marks
+marks_step parts = marks_by parts.kind parts.children
+
+abbrev pub marks : Node → Marks
+marks = fold-Node Marks marks_step
+
+-- what is known of it is told from no construction, member and quotient, and no target of an assignment has a default
+abbrev pub is_valued : Node → Bool
+is_valued n = (marks n).valued
+
+-- and its truth is told from no difference
+abbrev pub is_steady : Node → Bool
+is_steady n = (marks n).steady
+
+-- no scope around declares a name with the context of what is not resolved
+abbrev pub declares_no_global : ExprCtx → List Entered → Bool
+declares_no_global ctx scope = list_all (λ (e : Entered). list_all (λ (id : Id). not (id.ctxt == ctx.unresolved_ctxt)) e.ids) scope

@@ -1,0 +1,46 @@
+-- What is judged of expressions is so when they run.
+use Rattle.std.specs.Prelude.{◌≡◌, List, true, false, IsTrue}
+use Rattle.ecma_number.specs.declared.types.Purity.TheVariants.{Pure}
+use Rattle.ecma_tree.specs.declared.node.Node.{Node, out-Node}
+use Rattle.ecma_judge.specs.declared.ctx.ExprCtx.{ExprCtx}
+use Rattle.ecma_judge.specs.Judged.{judged}
+use Rattle.ecma_runs.specs.Values.{Value}
+use Rattle.ecma_runs.specs.State.{Id, State}
+use Rattle.ecma_runs.specs.Run.{Done}
+use Rattle.ecma_runs.specs.Meaning.{ExecutionContext}
+use Rattle.ecma_runs.specs.Evaluation.{meaning}
+use Rattle.ecma_runs.specs.Laws.{state_behind}
+use Rattle.ecma_judge_runs.specs.Still.{Still}
+use Rattle.ecma_judge_runs.specs.Taken.{is_taken}
+use Rattle.ecma_judge_runs.specs.Called.{is_function_expression, declares_no_loose, called}
+use Rattle.ecma_judge_runs.specs.Known.{IsAsJudged, is_valued, is_steady, declares_no_global}
+
+-- where a name that no scope declares may not be read wherever it stands, an expression that is said to have no effects leaves all as it was, however it comes out: with a value, with what is thrown, or with what is open
+abbrev pub WhatHasNoEffectsIsStill : Type 0
+WhatHasNoEffectsIsStill =
+    (ctx : ExprCtx) (e : Node) (x : ExecutionContext) (s : State) → ctx.is_unresolved_ref_safe ≡ false → IsTrue (is_taken ctx x.known.declared e) → (judged ctx e).effects ≡ false →
+    Still s (state_behind ((meaning e).value x s))
+
+-- and so does the definition of a class that is said to have none, with whatever inner name
+abbrev pub ClassesWithoutEffectsAreStill : Type 0
+ClassesWithoutEffectsAreStill =
+    (ctx : ExprCtx) (class : Node) (names : List Id) (x : ExecutionContext) (s : State) → ctx.is_unresolved_ref_safe ≡ false → IsTrue (is_taken ctx x.known.declared class) →
+    (judged ctx class).effects ≡ false → Still s (state_behind ((meaning class).class_made names x s))
+
+-- and so does a call, on any values, of an expression that is said to be a pure callee and is no function expression
+abbrev pub CallsOfPureCalleesAreStill : Type 0
+CallsOfPureCalleesAreStill =
+    (ctx : ExprCtx) (e : Node) (x : ExecutionContext) (arguments : List Value) (s : State) → IsTrue (declares_no_loose ctx x.scope) → is_function_expression (out-Node e).kind ≡ false →
+    (judged ctx e).pure_callee ≡ true → Still s (state_behind (called (meaning e) arguments x s))
+
+-- a value that an expression gives is as the expression is judged: the truth, the Number, the text and the type that are known are its own
+abbrev pub WhatIsKnownIsSo : Type 0
+WhatIsKnownIsSo =
+    (ctx : ExprCtx) (e : Node) (x : ExecutionContext) (s t : State) (v : Value) → IsTrue (declares_no_global ctx x.scope) → IsTrue (is_valued e) → (meaning e).value x s ≡ Done v t →
+    IsAsJudged (judged ctx e) v
+
+-- what tells whether an expression counts as true leaves all as it was, where it is said to be pure, known or not, and however it comes out
+abbrev pub WhatIsPureIsStill : Type 0
+WhatIsPureIsStill =
+    (ctx : ExprCtx) (e : Node) (x : ExecutionContext) (s : State) → ctx.is_unresolved_ref_safe ≡ false → IsTrue (declares_no_global ctx x.scope) → IsTrue (is_taken ctx x.known.declared e) → IsTrue (is_valued e) → IsTrue (is_steady e) →
+    (judged ctx e).truth.0 ≡ Pure → Still s (state_behind ((meaning e).value x s))

@@ -1,0 +1,36 @@
+//! What is judged of expressions, by the tables of `ecma_judge`, is so when they run by the definitions of `ecma_runs`.
+//!
+//! Each function carries one law, and does nothing. The laws are stated in `specs/Laws.antt`.
+#![tactic(auto)]
+
+ghost use Rattle.ecma_judge_runs.specs.Laws.{CallsOfPureCalleesAreStill, ClassesWithoutEffectsAreStill, WhatHasNoEffectsIsStill, WhatIsKnownIsSo, WhatIsPureIsStill};
+
+/// An expression that is said to have no effects changes nothing when it is evaluated: no variable, no object, and nothing that the host sees; however it comes
+/// out. It may make objects and environment records. Asked is that its names are told, and that it has no member, call or optional chain outside of functions.
+pub fn what_has_no_effects_is_still()
+    ensures { WhatHasNoEffectsIsStill }
+{}
+
+/// So it is with the definition of a class.
+pub fn classes_without_effects_are_still()
+    ensures { ClassesWithoutEffectsAreStill }
+{}
+
+/// So it is with a call, on values that are there, of a callee that is said to be pure: `Date`, a member of `Math` by its name, a method of a text literal that
+/// only reads it. A function expression that does nothing is left out. Asked is that no scope around declares a name with the context of what is not resolved or
+/// the empty one.
+pub fn calls_of_pure_callees_are_still()
+    ensures { CallsOfPureCalleesAreStill }
+{}
+
+/// A value that an expression gives is as the expression is judged. Asked is that no scope around declares a name with the context of what is not resolved, that
+/// no target of an assignment has a default, and that what is known is told from no construction, member or quotient.
+pub fn what_is_known_is_so()
+    ensures { WhatIsKnownIsSo }
+{}
+
+/// Where the purity of an expression's truth is that of what is pure, the evaluation changes nothing, even where an operand that is left out has effects, as in
+/// `true || f()`. Asked is what the two laws on effects and on values ask, and that its truth is told from no difference.
+pub fn what_is_pure_is_still()
+    ensures { WhatIsPureIsStill }
+{}
