@@ -1,3 +1,4 @@
+pub mod Deepening
 pub mod Firsts
 pub mod Heads
 pub mod Levels

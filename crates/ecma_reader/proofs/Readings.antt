@@ -7,7 +7,9 @@ use Rattle.ecma_reader.specs.declared.reader.Reader.{Reader}
 use Rattle.ecma_grammar.specs.declared.production.Form.{Form}
 use Rattle.ecma_reader.specs.declared.reader.keeping.Opened.{Opened}
 use Rattle.ecma_grammar.specs.declared.production.Mode.{Mode}
-use Rattle.ecma_reader.specs.Agreement.{position, kept, SameText, Keeps, parts_in, reads_in}
+use Rattle.std.specs.Fn.{Shared}
+use Rattle.ecma_reader.specs.declared.machine.Machine.{Machine}
+use Rattle.ecma_reader.specs.Agreement.{position, kept, SameText, Keeps, parts_in, reads_in, PartArgs, PartResult, ReadsParts}
 use Rattle.ecma_reader.specs.Opening.{built, closed, Within}
 use Rattle.ecma_grammar.specs.Reading.{Position, Outcome, read, fails, too_deep, Reading, with_front, followed_on, or_on, many_up_to, many_on, ahead_on, unless_on}
 use Rattle.ecma_grammar.specs.Made.{made_with_types}
@@ -186,16 +188,29 @@ many-read xs m s t rest (read ys u) e = followed-read xs m t rest (read ys u) e
 many-read xs m s t rest (fails k) e = cc
 many-read xs m s t rest (too_deep d) e = cc
 
-pub ruleset reading = (followed-read, followed-fails, followed-deep, front-kept, front-shorter, front-through, front-all, front-length, built-read, or-read, closed-none, opened-read, front-fails, front-deep, append-nil)
-
-pub ruleset looking = (front-kept, front-through, front-all, followed-read, ahead-read, unless-read, append-nil)
-
-pub ruleset repeating = (many_up_to-none, many_up_to-more, many-read, front-kept, front-through, front-all, append-nil)
-
 -- behind nothing stands what is read
 pub front-none : (o : Outcome (List Node)) → with_front [] o ≡ o
 front-none (read xs t) = refl
 front-none (fails k) = refl
 front-none (too_deep d) = refl
+
+-- the same function, where fewer levels are left
+pub reads-fewer : {F : Type 0} (calls : Shared F PartArgs PartResult) (machine : Machine F) (left : ℕ) → ReadsParts calls machine → left ≤ machine.left → ReadsParts calls (record { part = machine.part; left = left })
+reads-fewer calls machine left h less =
+    record {
+      callable = λ reader part at allowed few. h.callable reader part at allowed (omega (arith, few, less));
+      exact = λ old new part at allowed result few post. h.exact old new part at allowed result (omega (arith, few, less)) post;
+    }
+
+pub all-levels : (n : ℕ) → n ≤ n
+all-levels n = omega arith
+
+pub ruleset again = (reads-fewer, front-none, front-all)
+
+pub ruleset reading = (followed-read, followed-fails, followed-deep, front-kept, front-shorter, front-through, front-all, front-length, built-read, or-read, closed-none, opened-read, front-fails, front-deep, append-nil)
+
+pub ruleset looking = (all-levels, front-kept, front-through, front-all, followed-read, ahead-read, unless-read, append-nil)
+
+pub ruleset repeating = (many_up_to-none, many_up_to-more, many-read, front-kept, front-through, front-all, append-nil)
 
 pub ruleset whole = (front-none)

@@ -16,6 +16,7 @@ use Rattle.ecma_reader.specs.FirstByte.{first_byte}
 use Rattle.ecma_grammar.specs.Glance.{sight, passes}
 use Rattle.ecma_reader.specs.declared.failure.Failure.{Failure}
 use Rattle.ecma_reader.specs.declared.failure.Failure.TheVariants.{NoMatch, TooDeep, NoMemory}
+use Rattle.ecma_grammar.specs.declared.production.Part.{Part}
 use Rattle.ecma_grammar.specs.declared.production.Part.TheVariants as part
 use Rattle.ecma_reader.specs.Agreement.{position, kept, SameText, Keeps, KeepsAs, parts_in}
 use Rattle.ecma_reader.proofs.Levels.{levels-inside}
@@ -252,6 +253,25 @@ module _ (old mid : Reader) (operand : Operand) (no_in middle : Bool) (left : �
       go (Err NoMatch) e = (is ∙ e.0, front (kept new) e.1)
       go (Err (TooDeep at)) e = is ∙ e
       go (Err NoMemory) e = tt
+
+-- what was read where the reader still stood as before
+pub stood-keeps : (first old new : Reader) (result : Result Unit Failure) (left : ℕ) (p : Part) (at : ℕ) → SameText first old → position old ≡ position first → kept old ≡ kept first → Keeps old new result (parts_in old left p at) → Keeps first new result (parts_in first left p at)
+stood-keeps first old new result left p at same stood alike h = ((h.0.0 ∙ same.0, h.0.1 ∙ same.1), go result h.1)
+  where
+    before : Outcome (List Node)
+    before = parts_in first left p at (position first)
+
+    after : Outcome (List Node)
+    after = parts_in old left p at (position old)
+
+    is : after ≡ before
+    is = rw (same.0, same.1, stood) refl
+
+    go : (r : Result Unit Failure) → KeepsAs old new r after → KeepsAs first new r before
+    go (Ok x) k = ap₂ (λ xs o. with_front xs o) (sym alike) (sym is) ∙ k
+    go (Err NoMatch) k = (sym is ∙ k.0, ap (λ xs. take (length xs) (kept new)) (sym alike) ∙ (k.1 ∙ alike))
+    go (Err (TooDeep at)) k = sym is ∙ k
+    go (Err NoMemory) k = tt
 
 -- an expression was read, from its first operand on
 

@@ -1,5 +1,5 @@
 -- That a method of the reader does what a reading says.
-use Rattle.std.specs.Prelude.{◌≡◌, ℕ, List, [], length, take, Result, Ok, Err}
+use Rattle.std.specs.Prelude.{◌≡◌, ◌≤◌, ℕ, List, [], length, take, Result, Ok, Err}
 use Rattle.std.specs.Borrow.{MutBor}
 use Rattle.std.specs.Fn.{Shared}
 use Rattle.ecma_tree.specs.declared.node.Node.{Node}
@@ -70,13 +70,13 @@ Knows old new g (known.Remains rest) = Remains (first_byte old.text.now old.plac
 
 -- what a call that reads a part takes, and what it gives
 abbrev pub PartArgs : Type 0
-PartArgs = MutBor Reader × (Part × (ℕ × Unit {0}))
+PartArgs = MutBor Reader × (Part × (ℕ × (ℕ × Unit {0})))
 
 abbrev pub PartResult : Type 0
 PartResult = Result Unit Failure × (MutBor Reader × Unit {0})
 
--- the function of a level reads each part as the grammar says, at the levels that are left
+-- the function of a level reads each part as the grammar says, where no more levels are allowed than are left
 pub record ReadsParts {F : Type 0} (calls : Shared F PartArgs PartResult) (machine : Machine F) : Type 0 where
-  pub callable : (reader : MutBor Reader) (part : Part) (at : ℕ) → calls.pre machine.part.now (reader, (part, (at, tt)))
-  pub exact : (old new : MutBor Reader) (part : Part) (at : ℕ) (result : Result Unit Failure)
-      → calls.post machine.part.now (old, (part, (at, tt))) (result, (new, tt)) → Keeps old.now new.now result (parts_in old.now machine.left part at)
+  pub callable : (reader : MutBor Reader) (part : Part) (at allowed : ℕ) → allowed ≤ machine.left → calls.pre machine.part.now (reader, (part, (at, (allowed, tt))))
+  pub exact : (old new : MutBor Reader) (part : Part) (at allowed : ℕ) (result : Result Unit Failure) → allowed ≤ machine.left
+      → calls.post machine.part.now (old, (part, (at, (allowed, tt)))) (result, (new, tt)) → Keeps old.now new.now result (parts_in old.now allowed part at)

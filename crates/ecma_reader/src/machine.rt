@@ -1,12 +1,14 @@
 //! The machine. Only `read_part` calls itself, through the closure that it hands to what is read inside.
+ghost use Rattle.std.specs.Prelude.{◌≤◌};
 ghost use Rattle.ecma_reader.specs.Agreement.{Keeps, parts_in, reads_in};
 ghost use Rattle.ecma_grammar.specs.productions.Modules.{module_body};
 
 use crate::failure::Failure;
-use crate::reader::{Known, Opened, Operand, Reader};
+use crate::reader::{Known, Mark, Opened, Operand, Reader};
 use ecma_grammar::{
     Form, Part, Production, Tail, links_tail, module_body, operator_tails, part_body, rule_body,
 };
+use ecma_tree::NoMemory;
 
 /// Reads a part, where so many levels more are allowed; a use that is too deep is told at a place. An assignment expression that is seen to begin with a
 /// leaf is read from there on: none of what may stand before a first operand is tried, and its levels of operators are read one behind the other.
@@ -24,9 +26,14 @@ pub(crate) fn read_part(
         return Err(Failure::TooDeep(at));
     }
     let left = left - 1;
-    let inside = |reader: &mut Reader, part: Part, at: u32| -> Result<(), Failure>
-        ensures { Keeps reader.entry.now reader.exit.now result (parts_in reader.entry.now left part at) }
-    { read_part(reader, part, at, left) };
+    reader.go_in(left);
+    let inside = |reader: &mut Reader, part: Part, at: u32, allowed: usize| -> Result<(), Failure>
+        requires { allowed ≤ left }
+        ensures { Keeps reader.entry.now reader.exit.now result (parts_in reader.entry.now allowed part at) }
+    {
+        let _ = &left;
+        read_part(reader, part, at, allowed)
+    };
     let machine = Machine {
         part: &inside,
         left,
@@ -44,9 +51,13 @@ pub(crate) fn read_part(
 pub(crate) fn read_whole(reader: &mut Reader, left: usize) -> Result<(), Failure>
     ensures { Keeps reader.old reader.new result (reads_in reader.old left module_body) }
 {
-    let inside = |reader: &mut Reader, part: Part, at: u32| -> Result<(), Failure>
-        ensures { Keeps reader.entry.now reader.exit.now result (parts_in reader.entry.now left part at) }
-    { read_part(reader, part, at, left) };
+    let inside = |reader: &mut Reader, part: Part, at: u32, allowed: usize| -> Result<(), Failure>
+        requires { allowed ≤ left }
+        ensures { Keeps reader.entry.now reader.exit.now result (parts_in reader.entry.now allowed part at) }
+    {
+        let _ = &left;
+        read_part(reader, part, at, allowed)
+    };
     let machine = Machine {
         part: &inside,
         left,
@@ -61,11 +72,11 @@ pub(crate) struct Machine<'f, F> {
     left: usize,
 }
 
-impl<'f, F: Fn(&mut Reader, Part, u32) -> Result<(), Failure>> Machine<'f, F> {
+impl<'f, F: Fn(&mut Reader, Part, u32, usize) -> Result<(), Failure>> Machine<'f, F> {
     ghost use Rattle.std.specs.Prelude.{◌≡◌, ◌≤◌, ◌∷◌, false, length, map};
     ghost use Rattle.ecma_grammar.specs.Written.{goes_on, written, written_tail};
     ghost use Rattle.ecma_grammar.specs.Grammar.{ahead, build, many};
-    ghost use Rattle.ecma_reader.specs.Agreement.{Keeps, ReadsParts, kept, parts_in, position, reads_in};
+    ghost use Rattle.ecma_reader.specs.Agreement.{Keeps, ReadsParts, SameText, kept, parts_in, position, reads_in};
     ghost use Rattle.ecma_reader.specs.Operands.{StandsAs, tail_on, tails_on};
     ghost use Rattle.ecma_grammar.specs.Reading.{read};
     ghost use Rattle.ecma_grammar.specs.productions.Tails.{links_tail, tails};
@@ -101,7 +112,7 @@ impl<'f, F: Fn(&mut Reader, Part, u32) -> Result<(), Failure>> Machine<'f, F> {
                         match self.read(reader, first) {
                             Ok(()) => return Ok(reader.close(opened)?),
                             Err(Failure::NoMatch) => {
-                                reader.remember(first, self.left, mark)?;
+                                self.remember(reader, first, mark)?;
                                 reader.go_back(mark.place, mark.count);
                                 rest = *second;
                             }
@@ -168,7 +179,7 @@ impl<'f, F: Fn(&mut Reader, Part, u32) -> Result<(), Failure>> Machine<'f, F> {
             Production::Take(terminal) => reader.take_token(*terminal),
             Production::Keep(leaf) => reader.keep_leaf(*leaf),
             Production::Put(flag) => Ok(reader.put(*flag)?),
-            Production::Up(part) => (self.part)(reader, *part, reader.place()),
+            Production::Up(part) => (self.part)(reader, *part, reader.place(), self.left),
             _ => self.read(reader, production),
         }
     }
@@ -183,14 +194,14 @@ impl<'f, F: Fn(&mut Reader, Part, u32) -> Result<(), Failure>> Machine<'f, F> {
         ensures { Keeps reader.old reader.new result (reads_in reader.old self.now.left (written production.now)) }
     {
         match production {
-            Production::Up(part) => (self.part)(reader, *part, reader.place()),
+            Production::Up(part) => (self.part)(reader, *part, reader.place(), self.left),
             Production::Enter(part) => {
                 let start = reader.next_start();
-                (self.part)(reader, *part, start)
+                (self.part)(reader, *part, start, self.left)
             }
             Production::Behind(terminal, part) => {
                 let token = reader.token(*terminal)?;
-                (self.part)(reader, *part, token.start)
+                (self.part)(reader, *part, token.start, self.left)
             }
             Production::Many(part) => self.read_many(reader, part),
             Production::Ahead(part) => self.read_ahead(reader, part),
@@ -270,6 +281,43 @@ impl<'f, F: Fn(&mut Reader, Part, u32) -> Result<(), Failure>> Machine<'f, F> {
             }
         }
         Ok(())
+    }
+
+    /// Remembers an attempt that failed after it was begun at a mark, where it began many parts. It is read once more, to see how many
+    /// levels it takes, and then where only these are allowed, since what fails so fails where more are.
+    #[tactic(auto, using(crate::proofs::Readings::again))]
+    #[cycle(reading)]
+    #[inline(never)]
+    fn remember(
+        &self,
+        reader: &mut Reader,
+        production: &'static Production,
+        from: Mark,
+    ) -> Result<(), NoMemory>
+        requires { ReadsParts F.Fn self.now }
+        ensures text { SameText reader.old reader.new }
+        ensures position { position reader.new ≡ position reader.old }
+        ensures kept { kept reader.new ≡ kept reader.old }
+    {
+        if !reader.is_large(production, from) {
+            return Ok(());
+        }
+        let aside = reader.set_aside(from.place, self.left);
+        let _ = self.read(reader, production);
+        let left = reader.levels_taken(self.left);
+        let fewer = Machine {
+            part: self.part,
+            left,
+        };
+        reader.go_back(from.place, 0);
+        let before = reader.failed();
+        let result = match fewer.read(reader, production) {
+            Err(Failure::NoMatch) => reader.remember(production, left, from.place, before),
+            Err(Failure::NoMemory) => Err(NoMemory),
+            Err(Failure::TooDeep(_)) | Ok(()) => Ok(()),
+        };
+        reader.stand_again(aside);
+        result
     }
 
     /// Reads what may stand behind an operand, and makes the two into one node.

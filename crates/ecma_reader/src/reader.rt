@@ -4,6 +4,7 @@ ghost use Rattle.ecma_lex.specs.Looking.{look};
 ghost use Rattle.ecma_reader.specs.FirstByte.{first_byte};
 ghost use Rattle.ecma_reader.specs.Memo.{Remembers};
 
+mod attempts;
 mod keeping;
 mod leaves;
 mod memo;
@@ -16,6 +17,7 @@ use ecma_grammar::Mode;
 use ecma_lex::Upcoming;
 use ecma_tree::{Node, Nodes};
 pub(crate) use keeping::Opened;
+pub(crate) use memo::Mark;
 pub(crate) use operands::Operand;
 pub(crate) use outlook::Known;
 use std::alloc::Global;
@@ -39,6 +41,8 @@ pub(crate) struct Reader<'a> {
     memo: memo::Memo,
     /// How many parts were begun, up to a multiple of 2 ^ 32.
     begun: u32,
+    /// The fewest levels that were left inside a part since something was set aside.
+    least: usize,
     /// The nodes that were kept so far, the last at the end.
     kept: Vec<Node>,
     ghost short: { length text.now < 2 ^ 32 },
@@ -71,6 +75,7 @@ impl<'a> Reader<'a> {
             recent: recent::Recent::new(alloc),
             memo: memo::Memo::new(alloc),
             begun: 0,
+            least: 0,
             kept: Vec::new(alloc),
         }
     }

@@ -34,3 +34,7 @@ invariant-read-going g l =
 
 abbrev pub invariant-read_many-loop-i : goal.invariant-read_many-loop-i
 invariant-read_many-loop-i g l = IsFront l.initial.reader l.reader l.i (reads_in l.initial.reader l.self.left (written l.part))
+
+-- what failed is read again
+abbrev pub decreases-remember : goal.decreases-remember
+decreases-remember g l = left_to_read l.production.now * 4 + 3
