@@ -1,0 +1,13 @@
+mod Walks
+mod Parts
+mod Apart
+mod Patterns
+mod Quiet
+mod Variables
+mod Items
+mod Members
+mod Scopes
+mod Standing
+mod Locals
+mod Records
+mod Meeting
