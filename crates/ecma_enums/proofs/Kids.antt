@@ -1,5 +1,5 @@
 -- The equations of what an expression folds to: of the node itself, of the child at an index, and of an item of the list that is that child.
-use Rattle.std.proofs.Common.{◌≡◌, ◌∙◌, ℕ, zero, suc, List, [], ◌∷◌, map, get_or, length, Option, Some, None, refl, ap, slice_get}
+use Rattle.std.proofs.Common.{◌≡◌, if◌then◌else◌, ◌∙◌, ℕ, zero, suc, List, [], ◌∷◌, map, get_or, length, Option, Some, None, refl, ap, slice_get}
 use Rattle.std.specs.Option.{option_map_or}
 use Rattle.std.proofs.lemmas.List.{length-map}
 use Rattle.ecma_tree.proofs.Layers.{from_leaves_out}
@@ -7,6 +7,7 @@ use Rattle.ecma_tree.specs.declared.node.Node.{Node, out-Node}
 use Rattle.ecma_enums.specs.declared.computer.EnumValueComputer.{EnumValueComputer}
 use Rattle.ecma_enums.specs.declared.folded.Folded.{Folded}
 use Rattle.ecma_enums.specs.declared.folded.Folded.TheVariants.{Opaque}
+use Rattle.ecma_enums.specs.Folded.{is_plain, plain, text_alone}
 use Rattle.ecma_enums.specs.Folding.{Folding, count_at, folding, folding_by, key_by, kid, kids_of, nothing, value_by}
 use Rattle.ecma_enums.proofs.At.{get_or-none, get_or-some}
 
@@ -75,4 +76,11 @@ module _ (c : EnumValueComputer) where
 pub count : (c : EnumValueComputer) (n : Node) (l : ℕ) → length (kid (kids_of c n) l).items ≡ count_at n l
 count c n l = count-kid c (out-Node n).children l
 
-pub ruleset folding = (value-out, value-some, value-none, key-out, key-some, key-none, item-some, item-none)
+pub plain-out : (c : EnumValueComputer) (n : Node) → plain (kid (kids_of c n) 0).items (kid (kids_of c n) 1).items
+    ≡ (if is_plain (count_at n 0) (count_at n 1) then text_alone (get_or (kid (kids_of c n) 1).items 0 Opaque) else None)
+unfolding plain
+plain-out c n =
+    ap (λ (e : ℕ). if is_plain e (length (kid (kids_of c n) 1).items) then text_alone (get_or (kid (kids_of c n) 1).items 0 Opaque) else None) (count c n 0)
+    ∙ ap (λ (p : ℕ). if is_plain (count_at n 0) p then text_alone (get_or (kid (kids_of c n) 1).items 0 Opaque) else None) (count c n 1)
+
+pub ruleset kids = (value-out, value-some, value-none, key-out, key-some, key-none, item-some, item-none, count, plain-out)

@@ -62,6 +62,7 @@ fn automatic(at: u32, next: Option<TsEnumRecordValue>) -> Result<TsEnumRecordVal
 }
 
 /// The value of a member, of which the automatic value is told.
+#[tactic(auto, using(crate::proofs::Recording::answers_same))]
 fn member_value(
     alloc: Global,
     computer: &EnumValueComputer,
@@ -93,6 +94,21 @@ fn entry_of(
     Ok(TsEnumRecordEntry { key, value })
 }
 
+/// What is known behind a member of this value.
+fn with_member(
+    alloc: Global,
+    computer: EnumValueComputer,
+    member: &Node,
+    value: TsEnumRecordValue,
+) -> Result<EnumValueComputer, NoMemory>
+    ensures { IfOk result (λ after. after ≡ table.with_member computer member.now value) }
+{
+    let mut after = computer;
+    let entry = entry_of(alloc, &after.enum_id, member, value)?;
+    after.members.push(entry)?;
+    Ok(after)
+}
+
 /// The members that stand before, with those of a list behind them.
 #[tactic(auto, using(crate::proofs::Recording::recording))]
 fn with_members(
@@ -107,8 +123,7 @@ fn with_members(
     for member in members {
         let value = member_value(alloc, &computer, next, member)?;
         next = value.inc();
-        let entry = entry_of(alloc, &computer.enum_id, member, value)?;
-        computer.members.push(entry)?;
+        computer = with_member(alloc, computer, member, value)?;
     }
     Ok(computer.members)
 }
@@ -135,6 +150,7 @@ fn items_at(node: &Node, index: usize) -> &[Node]
 /// The members that stand before in the text, with those of an enum declaration behind them, in order, each with what is known of its value. Of an
 /// ambient declaration, and of what is none, there are none. `EnumNumber` comes exactly where a number of it is beyond those that are computed;
 /// it tells the first in the text.
+#[tactic(auto, using(crate::proofs::Recording::answers_same))]
 pub fn record_enum(
     alloc: Global,
     unresolved_mark: Mark,

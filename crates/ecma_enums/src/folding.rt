@@ -1,14 +1,14 @@
 //! Folding an expression: what is known of its value before the program runs.
-ghost use Rattle.std.specs.Prelude.{◌≡◌, IfOk, get_or};
+ghost use Rattle.std.specs.Prelude.{◌≡◌, [], IfOk, get_or};
 ghost use Rattle.ecma_tree.specs.declared.node.Node.{out-Node};
 ghost use Rattle.ecma_enums.specs.declared.folded.Folded.TheVariants as folded;
-ghost use Rattle.ecma_enums.specs.Folded.{binary_by, plain, template, unary_by};
+ghost use Rattle.ecma_enums.specs.Folded.{binary_by, is_plain, plain, template, unary_by};
 ghost use Rattle.ecma_enums.specs.Folding as table;
 ghost use Rattle.ecma_enums.specs.Folding.{count_at, folding, free_value, kid, kids_of, name_value, own_member, read, read_by};
 ghost use Rattle.ecma_enums.specs.Names.{name_at};
 
 use crate::computer::EnumValueComputer;
-use crate::folded::{Folded, known, number_or_beyond};
+use crate::folded::{Folded, known, number_or_beyond, text_alone};
 use crate::joined::Joined;
 use crate::names::name_at;
 use crate::operators::{complement, is_arithmetic, minus, plus, sides};
@@ -88,9 +88,16 @@ fn count_at(node: &Node, index: usize) -> usize
     }
 }
 
+/// Whether a template with so many expressions and text parts is one part alone.
+fn is_plain(expressions: usize, parts: usize) -> bool
+    ensures { result ≡ is_plain expressions parts }
+{
+    expressions == 0 && parts == 1
+}
+
 /// What is known of the child at an index.
 #[cycle(folding)]
-#[tactic(auto, using(crate::proofs::Kids::folding))]
+#[tactic(auto, using(crate::proofs::Kids::kids))]
 fn fold_at(
     alloc: Global,
     computer: &EnumValueComputer,
@@ -107,7 +114,7 @@ fn fold_at(
 
 /// What is known of an item of the list that is the child at an index.
 #[cycle(folding)]
-#[tactic(auto, using(crate::proofs::Kids::folding))]
+#[tactic(auto, using(crate::proofs::Kids::kids))]
 fn item_at(
     alloc: Global,
     computer: &EnumValueComputer,
@@ -126,7 +133,7 @@ fn item_at(
 
 /// The key of a member that is the child at an index.
 #[cycle(folding)]
-#[tactic(auto, using(crate::proofs::Kids::folding))]
+#[tactic(auto, using(crate::proofs::Kids::kids))]
 fn key_at(
     alloc: Global,
     computer: &EnumValueComputer,
@@ -143,7 +150,7 @@ fn key_at(
 
 /// The text of a template without expressions.
 #[cycle(folding)]
-#[tactic(auto, using(crate::proofs::Kids::folding))]
+#[tactic(auto, using(crate::proofs::Kids::kids))]
 fn plain(
     alloc: Global,
     computer: &EnumValueComputer,
@@ -152,18 +159,16 @@ fn plain(
     ensures { IfOk result (λ key. key
         ≡ plain (kid (kids_of computer.now node.now) 0).items (kid (kids_of computer.now node.now) 1).items) }
 {
-    if count_at(node, 0) != 0 || count_at(node, 1) != 1 {
+    if !is_plain(count_at(node, 0), count_at(node, 1)) {
         return Ok(None);
     }
-    match item_at(alloc, computer, node, 1, 0)? {
-        Folded::Text(text) => Ok(Some(text)),
-        _ => Ok(None),
-    }
+    let part = item_at(alloc, computer, node, 1, 0)?;
+    Ok(text_alone(part))
 }
 
 /// The text that a node is as the key of a member.
 #[cycle(folding)]
-#[tactic(auto, using(crate::proofs::Kids::folding), unfolding(crate::specs::Folding::key_by))]
+#[tactic(auto, using(crate::proofs::Kids::kids), unfolding(crate::specs::Folding::key_by))]
 fn key(
     alloc: Global,
     computer: &EnumValueComputer,
@@ -188,7 +193,7 @@ fn key(
 
 /// A member of what a name stands for.
 #[cycle(folding)]
-#[tactic(auto, using(crate::proofs::Kids::folding))]
+#[tactic(auto, using(crate::proofs::Kids::kids))]
 fn member(
     alloc: Global,
     computer: &EnumValueComputer,
@@ -208,6 +213,7 @@ fn member(
 
 /// A unary operator and its operand, which is looked at behind `+`, `-` and `~` alone.
 #[cycle(folding)]
+#[tactic(auto, using(crate::proofs::Kids::kids))]
 fn unary(
     alloc: Global,
     computer: &EnumValueComputer,
@@ -226,6 +232,7 @@ fn unary(
 
 /// A binary operator and its sides, which are looked at beside arithmetic alone.
 #[cycle(folding)]
+#[tactic(auto, using(crate::proofs::Kids::kids))]
 fn binary(
     alloc: Global,
     computer: &EnumValueComputer,
@@ -243,9 +250,27 @@ fn binary(
     sides(alloc, node.span.lo, op, &left, &right)
 }
 
+/// What stands behind a text part of a template: an expression, and nothing behind the last.
+#[cycle(folding)]
+#[tactic(auto, using(crate::proofs::Kids::kids, crate::proofs::Joining::joining))]
+fn value_behind(
+    alloc: Global,
+    computer: &EnumValueComputer,
+    node: &Node,
+    index: usize,
+) -> Result<Folded, NoMemory>
+    ensures { IfOk result (λ known. known
+        ≡ get_or (kid (kids_of computer.now node.now) 0).items index (folded.Text [])) }
+{
+    if index < count_at(node, 0) {
+        return item_at(alloc, computer, node, 0, index);
+    }
+    Ok(Folded::Text(JsWord::new(alloc, "")?))
+}
+
 /// A template: its text parts with its expressions between them.
 #[cycle(folding)]
-#[tactic(auto, using(crate::proofs::Kids::folding, crate::proofs::Joining::joining))]
+#[tactic(auto, using(crate::proofs::Kids::kids, crate::proofs::Joining::joining))]
 fn template(
     alloc: Global,
     computer: &EnumValueComputer,
@@ -255,22 +280,18 @@ fn template(
         ≡ template (kid (kids_of computer.now node.now) 1).items (kid (kids_of computer.now node.now) 0).items) }
 {
     let parts = count_at(node, 1);
-    let expressions = count_at(node, 0);
     let mut text = Joined::new(alloc);
     for i in 0..parts {
         let part = item_at(alloc, computer, node, 1, i)?;
-        text = text.with(alloc, &part)?;
-        if i < expressions {
-            let value = item_at(alloc, computer, node, 0, i)?;
-            text = text.with(alloc, &value)?;
-        }
+        let value = value_behind(alloc, computer, node, i)?;
+        text = text.with(alloc, &part)?.with(alloc, &value)?;
     }
     text.into_folded(alloc)
 }
 
 /// What is known of an expression.
 #[cycle(folding)]
-#[tactic(auto, using(crate::proofs::Kids::folding), unfolding(crate::specs::Folding::value_by))]
+#[tactic(auto, using(crate::proofs::Kids::kids), unfolding(crate::specs::Folding::value_by))]
 pub(crate) fn fold(
     alloc: Global,
     computer: &EnumValueComputer,

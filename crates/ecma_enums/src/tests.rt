@@ -92,19 +92,24 @@ fn around(
     stack: &mut Vec<Node>,
     word: &str,
 ) -> Result<Option<Node>, Fail> {
-    let ty = Node::leaf(alloc, span, Kind::TsType);
     Ok(match word {
         "()" => Some(Node::paren_expr(alloc, span, popped(stack)?)?),
-        "as" => Some(Node::ts_as_expr(alloc, span, popped(stack)?, ty)?),
+        "as" => {
+            let expr = popped(stack)?;
+            let ty = Node::leaf(alloc, span, Kind::TsType);
+            Some(Node::ts_as_expr(alloc, span, expr, ty)?)
+        }
         "!!" => Some(Node::ts_non_null_expr(alloc, span, popped(stack)?)?),
         "call" => {
-            let args = Nodes::from_array(alloc, [popped(stack)?])?;
+            let arg = popped(stack)?;
             let callee = popped(stack)?;
+            let args = Nodes::from_array(alloc, [arg])?;
             Some(Node::call_expr(alloc, span, callee, args, None)?)
         }
         "[]" => {
-            let key = Node::computed_prop_name(alloc, span, popped(stack)?)?;
+            let text = popped(stack)?;
             let object = popped(stack)?;
+            let key = Node::computed_prop_name(alloc, span, text)?;
             Some(Node::member_expr(alloc, span, object, key)?)
         }
         _ => None,
@@ -126,9 +131,9 @@ fn literal(
         return Ok(Some(template(alloc, span, stack, text)?));
     }
     if let Some(text) = word.strip_prefix(".") {
+        let object = popped(stack)?;
         let sym = JsWord::new(alloc, text)?;
         let key = Node::leaf(alloc, span, Kind::IdentName { sym });
-        let object = popped(stack)?;
         return Ok(Some(Node::member_expr(alloc, span, object, key)?));
     }
     match word.as_bytes().first() {
@@ -258,15 +263,18 @@ fn members_have_their_values(rt: HostRuntime) -> Result<(), Fail> {
     Ok(())
 }
 
-/// What the value of an initialiser is written as.
-fn written(alloc: Global, free: Mark, words: &str) -> Result<Expr, Fail> {
-    let expr = expression(alloc, free, words)?.ok_or("no words")?;
-    let computer = EnumValueComputer {
+fn computer(alloc: Global, free: Mark) -> Result<EnumValueComputer, Fail> {
+    Ok(EnumValueComputer {
         enum_id: (JsWord::new(alloc, "E")?, SyntaxContext::empty()),
         unresolved_mark: free,
         members: TsEnumRecord::new(alloc),
-    };
-    let value = match computer.compute(alloc, &expr) {
+    })
+}
+
+/// What the value of an initialiser is written as.
+fn written(alloc: Global, free: Mark, words: &str) -> Result<Expr, Fail> {
+    let expr = expression(alloc, free, words)?.ok_or("no words")?;
+    let value = match computer(alloc, free)?.compute(alloc, &expr) {
         Ok(value) => value,
         Err(error) => return Err(Fail::from(refused(alloc, error)?)),
     };

@@ -2,6 +2,7 @@
 ghost use Rattle.std.specs.Prelude.{◌≡◌, IfOk, None, Some, [], ◌∷◌};
 ghost use Rattle.ecma_kind.specs.declared.operators.BinaryOp.TheVariants as binary;
 ghost use Rattle.ecma_kind.specs.declared.operators.UnaryOp.TheVariants as unary;
+ghost use Rattle.ecma_enums.specs.Values as table;
 ghost use Rattle.ecma_enums.specs.Values.{divided_by_zero, expression, has_value, increased, is_constant, is_text, minus, number_expression, numeral, text_literal, undefined, whole_expression};
 
 use ecma_number::{JsNumber, SafeInt};
@@ -76,18 +77,38 @@ fn whole_expression(alloc: Global, number: SafeInt) -> Result<Expr, NoMemory>
     Ok(numeral(alloc, Some(whole)))
 }
 
+/// `0`
+fn zero(alloc: Global) -> Expr
+    ensures { result ≡ numeral (Some table.zero) }
+{
+    numeral(alloc, Some(JsNumber::from(0u32)))
+}
+
+/// `1`
+fn one(alloc: Global) -> Expr
+    ensures { result ≡ numeral (Some table.one) }
+{
+    numeral(alloc, Some(JsNumber::from(1u32)))
+}
+
+/// `-1 / 0`
+fn minus_infinity(alloc: Global) -> Result<Expr, NoMemory>
+    ensures { IfOk result (λ node. node ≡ divided_by_zero (minus (numeral (Some table.one)))) }
+{
+    let e = minus(alloc, one(alloc))?;
+    divided_by_zero(alloc, e)
+}
+
 /// A number as an expression of literals and operators.
 fn number_expression(alloc: Global, number: JsNumber) -> Result<Expr, NoMemory>
     ensures { IfOk result (λ node. node ≡ number_expression number) }
 {
-    let zero = numeral(alloc, Some(JsNumber::from(0u32)));
-    let one = numeral(alloc, Some(JsNumber::from(1u32)));
     match number {
         JsNumber::Whole(number) => whole_expression(alloc, number),
-        JsNumber::NegZero => minus(alloc, zero),
-        JsNumber::NaN => divided_by_zero(alloc, zero),
-        JsNumber::Infinity => divided_by_zero(alloc, one),
-        JsNumber::NegInfinity => divided_by_zero(alloc, minus(alloc, one)?),
+        JsNumber::NegZero => minus(alloc, zero(alloc)),
+        JsNumber::NaN => divided_by_zero(alloc, zero(alloc)),
+        JsNumber::Infinity => divided_by_zero(alloc, one(alloc)),
+        JsNumber::NegInfinity => minus_infinity(alloc),
     }
 }
 

@@ -33,6 +33,9 @@ decreases-unary l = 8 * size-Node l.node.now + 3
 abbrev pub decreases-binary : goal.decreases-binary
 decreases-binary l = 8 * size-Node l.node.now + 3
 
+abbrev pub decreases-value_behind : goal.decreases-value_behind
+decreases-value_behind l = 8 * size-Node l.node.now + 2
+
 abbrev pub decreases-item_at : goal.decreases-item_at
 decreases-item_at l = 8 * size-Node l.node.now + 1
 
