@@ -1,0 +1,5 @@
+pub mod At
+pub mod Joining
+pub mod Naming
+pub mod Kids
+pub mod Recording

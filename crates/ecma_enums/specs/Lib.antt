@@ -1,0 +1,7 @@
+pub mod Values
+pub mod Folded
+pub mod Joined
+pub mod Records
+pub mod Names
+pub mod Folding
+pub mod Declarations
