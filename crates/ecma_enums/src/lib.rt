@@ -17,6 +17,3 @@ pub use declaration::record_enum;
 pub use error::EnumError;
 pub use record::{TsEnumRecord, TsEnumRecordEntry, TsEnumRecordKey};
 pub use value::TsEnumRecordValue;
-
-#[cfg(test)]
-mod tests;
