@@ -147,20 +147,32 @@ fn expression(alloc: Global, row: usize) -> Result<Expr, NoMemory> {
     }
 }
 
+fn variable(alloc: Global) -> Result<Stmt, NoMemory> {
+    name(alloc, "x")?.into_var_decl(alloc, VarDeclKind::Let, name(alloc, "p")?)
+}
+
+fn function_declaration(alloc: Global) -> Result<Stmt, NoMemory> {
+    empty_function(alloc)?.into_fn_decl(alloc, ident(alloc, "f")?)
+}
+
+fn class_named(alloc: Global, class: Class) -> Result<Stmt, NoMemory> {
+    Node::class_decl(alloc, DUMMY_SP, false, name(alloc, "x")?, class)
+}
+
+fn class_declaration(alloc: Global, has_super: bool) -> Result<Stmt, NoMemory> {
+    class_named(
+        alloc,
+        class_of(alloc, default_constructor(alloc, has_super)?)?,
+    )
+}
+
 fn statement(alloc: Global, row: usize) -> Result<Stmt, NoMemory> {
-    let x = name(alloc, "x")?;
     match row {
-        0 => x.into_stmt(alloc),
-        1 => x.into_var_decl(alloc, VarDeclKind::Let, name(alloc, "p")?),
-        2 => empty_function(alloc)?.into_fn_decl(alloc, ident(alloc, "f")?),
-        3 => {
-            let member = default_constructor(alloc, true)?;
-            Node::class_decl(alloc, DUMMY_SP, false, x, class_of(alloc, member)?)
-        }
-        _ => {
-            let member = default_constructor(alloc, false)?;
-            Node::class_decl(alloc, DUMMY_SP, false, x, class_of(alloc, member)?)
-        }
+        0 => name(alloc, "x")?.into_stmt(alloc),
+        1 => variable(alloc),
+        2 => function_declaration(alloc),
+        3 => class_declaration(alloc, true),
+        _ => class_declaration(alloc, false),
     }
 }
 

@@ -19,6 +19,9 @@ use std::test::Fail;
 /// The longest text that is read.
 const MOST: usize = 0xffff_ffff;
 
+// A function that may let go of a node is proved for every kind that it may have: so this one alone does.
+fn let_go(_tree: Module) {}
+
 fn read(alloc: Global, text: &str) -> Option<Module> {
     if MOST < text.len() {
         return None;
@@ -42,20 +45,32 @@ fn name(alloc: Global, text: &str) -> Result<Node, NoMemory> {
     Ok(expr_of_ident(alloc, ident))
 }
 
+fn printed(alloc: Global, item: Node) -> Result<Vec<u8>, NoMemory> {
+    let items = Nodes::from_array(alloc, [item])?;
+    let written = Node::module(alloc, DUMMY_SP, None, items)?;
+    let bytes = print_module(alloc, &written);
+    let_go(written);
+    bytes
+}
+
 /// The text of what `var` declares in the first statement.
+fn vars_in(alloc: Global, module: &Module) -> Result<Option<Vec<u8>>, NoMemory> {
+    let Some(stmt) = first_stmt(module) else {
+        return Ok(None);
+    };
+    match stmt.extract_var_ids_as_var(alloc)? {
+        Some(var) => Ok(Some(printed(alloc, var)?)),
+        None => Ok(None),
+    }
+}
+
 fn vars(alloc: Global, text: &str) -> Result<Option<Vec<u8>>, NoMemory> {
     let Some(module) = read(alloc, text) else {
         return Ok(None);
     };
-    let Some(stmt) = first_stmt(&module) else {
-        return Ok(None);
-    };
-    let Some(var) = stmt.extract_var_ids_as_var(alloc)? else {
-        return Ok(None);
-    };
-    let items = Nodes::from_array(alloc, [var])?;
-    let written = Node::module(alloc, DUMMY_SP, None, items)?;
-    Ok(Some(print_module(alloc, &written)?))
+    let found = vars_in(alloc, &module);
+    let_go(module);
+    found
 }
 
 #[test]
@@ -131,44 +146,43 @@ fn texts_are_names_and_keys(rt: HostRuntime) -> Result<(), Fail> {
     Ok(())
 }
 
-/// `{ return; a(); }`, `if (a) throw b; else return;`, `if (a) return;`
-fn statement(alloc: Global, row: usize) -> Result<Stmt, NoMemory> {
-    let a = name(alloc, "a")?;
-    let jump = Node::return_stmt(alloc, DUMMY_SP, None)?;
-    match row {
-        0 => {
-            let call = a.as_iife(alloc)?.into_stmt(alloc)?;
-            let stmts = Nodes::from_array(alloc, [jump, call])?;
-            Node::block_stmt(alloc, DUMMY_SP, stmts)
-        }
-        1 => {
-            let throw = Node::throw_stmt(alloc, DUMMY_SP, name(alloc, "b")?)?;
-            Node::if_stmt(alloc, DUMMY_SP, a, throw, Some(jump))
-        }
-        _ => Node::if_stmt(alloc, DUMMY_SP, a, jump, None),
-    }
+/// Whether nothing behind the first statement of a text is done.
+fn ends(alloc: Global, text: &str) -> Option<bool> {
+    let module = read(alloc, text)?;
+    let found = first_stmt(&module).map(|stmt| stmt.terminates());
+    let_go(module);
+    found
 }
 
 #[test]
 fn jumps_end_statements(rt: HostRuntime) -> Result<(), Fail> {
-    let rows: [bool; 3] = [true, true, false];
-    for (row, want) in rows.iter().enumerate() {
-        let stmt = statement(rt.alloc(), row)?;
-        assert_eq!(rt; stmt.terminates(), *want);
+    let rows: [(&str, bool); 3] = [
+        ("{ throw a; b(); }", true),
+        ("if (a) throw b; else throw c;", true),
+        ("if (a) throw b;", false),
+    ];
+    for row in rows.iter() {
+        assert_eq!(rt; ends(rt.alloc(), row.0), Some(row.1));
     }
     Ok(())
 }
 
 /// The text with `y` for `x`.
-fn renamed(alloc: Global, text: &str) -> Result<Option<Vec<u8>>, NoMemory> {
-    let Some(module) = read(alloc, text) else {
-        return Ok(None);
-    };
-    let mut module = module;
+fn rename(alloc: Global, module: &mut Module) -> Result<(), NoMemory> {
     let mut ids: HashMap<Id, Id> = HashMap::new(alloc);
     ids.insert(id_of(alloc, "x")?, id_of(alloc, "y")?)?;
-    IdentRenamer::new(&ids).visit_mut_module(alloc, &mut module)?;
-    Ok(Some(print_module(alloc, &module)?))
+    IdentRenamer::new(&ids).visit_mut_module(alloc, module)
+}
+
+fn renamed(alloc: Global, text: &str) -> Result<Option<Vec<u8>>, NoMemory> {
+    let Some(mut module) = read(alloc, text) else {
+        return Ok(None);
+    };
+    let done = rename(alloc, &mut module);
+    let written = print_module(alloc, &module);
+    let_go(module);
+    done?;
+    Ok(Some(written?))
 }
 
 #[test]
@@ -211,18 +225,34 @@ fn kept_at<'a>(alloc: Global, node: &'a Node, asked: &'a Node) -> Result<Option<
     Ok(kept.get(&NodeIgnoringSpan::borrowed(asked)).copied())
 }
 
-/// What is kept for an expression, asked for by another one.
-fn kept_for(alloc: Global, text: &str, other: &str) -> Result<Option<u8>, NoMemory> {
-    let (Some(module), Some(asked)) = (read(alloc, text), read(alloc, other)) else {
-        return Ok(None);
-    };
-    let (Some(stmt), Some(asked)) = (first_stmt(&module), first_stmt(&asked)) else {
+/// What is kept for the expression of a module, asked for by that of another one.
+fn kept_in(alloc: Global, module: &Module, asked: &Module) -> Result<Option<u8>, NoMemory> {
+    let (Some(stmt), Some(asked)) = (first_stmt(module), first_stmt(asked)) else {
         return Ok(None);
     };
     match (stmt.children.get(0), asked.children.get(0)) {
         (Some(e), Some(asked)) => kept_at(alloc, e, asked),
         _ => Ok(None),
     }
+}
+
+fn kept_beside(alloc: Global, module: &Module, other: &str) -> Result<Option<u8>, NoMemory> {
+    let Some(asked) = read(alloc, other) else {
+        return Ok(None);
+    };
+    let kept = kept_in(alloc, module, &asked);
+    let_go(asked);
+    kept
+}
+
+/// What is kept for an expression, asked for by another one.
+fn kept_for(alloc: Global, text: &str, other: &str) -> Result<Option<u8>, NoMemory> {
+    let Some(module) = read(alloc, text) else {
+        return Ok(None);
+    };
+    let kept = kept_beside(alloc, &module, other);
+    let_go(module);
+    kept
 }
 
 #[test]
