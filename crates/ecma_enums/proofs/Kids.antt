@@ -45,7 +45,6 @@ key-none c n i at = ap (λ (k : Folding). k.key) (kid-none c n i at)
 
 -- ---- items
 
-
 items-out : (c : EnumValueComputer) (n : Node) → (folding c n).items ≡ map (λ (k : Folding). k.value) (kids_of c n)
 items-out c n = ap (λ (k : Folding). k.items) (folding-out c n)
 

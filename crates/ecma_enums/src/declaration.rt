@@ -40,13 +40,7 @@ fn initialiser(member: &Node) -> Option<&Node>
     ensures { option_copied result ≡ initialiser member.now }
 {
     match member.children.get(1) {
-        Some(expr) => {
-            if is_there(expr) {
-                Some(expr)
-            } else {
-                None
-            }
-        }
+        Some(expr) => { if is_there(expr) { Some(expr) } else { None } }
         None => None,
     }
 }

@@ -169,11 +169,7 @@ fn plain(
 /// The text that a node is as the key of a member.
 #[cycle(folding)]
 #[tactic(auto, using(crate::proofs::Kids::kids), unfolding(crate::specs::Folding::key_by))]
-fn key(
-    alloc: Global,
-    computer: &EnumValueComputer,
-    node: &Node,
-) -> Result<Option<JsWord>, NoMemory>
+fn key(alloc: Global, computer: &EnumValueComputer, node: &Node) -> Result<Option<JsWord>, NoMemory>
     ensures { IfOk result (λ key. key ≡ (folding computer.now node.now).key) }
 {
     match &node.kind {
@@ -194,11 +190,7 @@ fn key(
 /// A member of what a name stands for.
 #[cycle(folding)]
 #[tactic(auto, using(crate::proofs::Kids::kids))]
-fn member(
-    alloc: Global,
-    computer: &EnumValueComputer,
-    node: &Node,
-) -> Result<Folded, NoMemory>
+fn member(alloc: Global, computer: &EnumValueComputer, node: &Node) -> Result<Folded, NoMemory>
     ensures { IfOk result (λ known. known
         ≡ read_by computer.now (name_at node.now 0) (kid (kids_of computer.now node.now) 1).key) }
 {
@@ -271,11 +263,7 @@ fn value_behind(
 /// A template: its text parts with its expressions between them.
 #[cycle(folding)]
 #[tactic(auto, using(crate::proofs::Kids::kids, crate::proofs::Joining::joining))]
-fn template(
-    alloc: Global,
-    computer: &EnumValueComputer,
-    node: &Node,
-) -> Result<Folded, NoMemory>
+fn template(alloc: Global, computer: &EnumValueComputer, node: &Node) -> Result<Folded, NoMemory>
     ensures { IfOk result (λ known. known
         ≡ template (kid (kids_of computer.now node.now) 1).items (kid (kids_of computer.now node.now) 0).items) }
 {

@@ -88,12 +88,7 @@ fn result_of(op: BinaryOp, left: JsNumber, right: JsNumber) -> Option<JsNumber>
 
 /// `+` with a text on one side; of sides that are not known, which of them is beyond the numbers that are computed.
 #[tactic(auto, using(crate::proofs::Joining::joining))]
-fn texts(
-    alloc: Global,
-    op: BinaryOp,
-    left: &Folded,
-    right: &Folded,
-) -> Result<Folded, NoMemory>
+fn texts(alloc: Global, op: BinaryOp, left: &Folded, right: &Folded) -> Result<Folded, NoMemory>
     ensures { IfOk result (λ known. known ≡ texts_by op left.now right.now) }
 {
     match op {

@@ -59,17 +59,17 @@ const ROWS: [(&str, Told); 14] = [
     ("type q = 1; export { q }", Told::Nothing),
     ("export { type q }", Told::Nothing),
     ("declare const q: any; export { q }", Told::Unbound("q")),
-    ("import { q } from \"m\"; export { q, r as s, t }", Told::Unbound("r")),
+    (
+        "import { q } from \"m\"; export { q, r as s, t }",
+        Told::Unbound("r"),
+    ),
     (
         "{ declare const f: any; f(); } export let f = 1;",
         Told::Captured("f"),
     ),
     ("export let f = 1; f();", Told::Nothing),
     ("{ let f; f(); } export let f = 1;", Told::Nothing),
-    (
-        "{ declare const f: any; } export let f = 1;",
-        Told::Nothing,
-    ),
+    ("{ declare const f: any; } export let f = 1;", Told::Nothing),
     (
         "{ declare let a: any; a; } export const b = 1, { c: [a] } = b;",
         Told::Captured("a"),

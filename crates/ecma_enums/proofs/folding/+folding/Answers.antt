@@ -8,6 +8,6 @@ use Rattle.ecma_enums.proofs.folding.+folding.Goals as goal
 pub template-loop-i-preserved : goal.template-loop-i-preserved
 template-loop-i-preserved t c =
     sym (template-next (kid (kids_of c.args.computer.now c.args.node.now) 1).items (kid (kids_of c.args.computer.now c.args.node.now) 0).items
-      c.loop-i.i c.count_at-parts.result c.loop-i.text c.in_ok-with.field-0 c.in_ok-text.text c.in_ok-part.part c.in_ok-value.value
-      (count c.args.computer.now c.args.node.now 1 ∙ sym c.count_at-parts.ensures) c.loop-i-test.true c.in_ok-part.ensures c.in_ok-value.ensures c.in_ok-with.ensures c.in_ok-text.ensures)
+    c.loop-i.i c.count_at-parts.result c.loop-i.text c.in_ok-with.field-0 c.in_ok-text.text c.in_ok-part.part c.in_ok-value.value
+    (count c.args.computer.now c.args.node.now 1 ∙ sym c.count_at-parts.ensures) c.loop-i-test.true c.in_ok-part.ensures c.in_ok-value.ensures c.in_ok-with.ensures c.in_ok-text.ensures)
     ∙ c.loop-i.invariant
