@@ -1,9 +1,11 @@
 pub mod Names
 pub mod Scopes
+pub mod Exports
 pub mod Alike
 pub mod Environments
 pub mod Objects
 pub mod Meanings
+pub mod Reading
 pub mod Members
 pub mod Functions
 pub mod Premises
@@ -51,6 +53,7 @@ mod FactsOpenKeys
 mod FactsOpenPlaces
 mod FactsOpenNames
 mod FactsAliases
+mod FactsExports
 mod FactsHeirs
 mod FactsOpenElements
 mod FactsMeeting
