@@ -344,10 +344,13 @@ module _ (c : Change) (steps : StepsAlike c) where
   known_alike n fine is =
       let one : known_of (c.node n) ≡ changed_known c.names (known_of n) = λ i. record { declared = (kept n fine).declared i } in one ∙ ap (changed_known c.names) is
 
+  exports_alike : (n : Node) → c.fine n → exports_in (c.node n) ≡ changed_exports c.names (exports_in n)
+  exports_alike n fine = (kept n fine).exports None
+
   module _ (script : Script) (calls_do : CallsDoAlike (provided_by script)) where
     pub run_module_alike : (n : Node) → c.fine n → known_of n ≡ c.known → Unless c.names.plain (Opens c.names (ids_of (meaning n).locals) (left_free c n) (seeks c n).sought) → Standing c [] (left_free c n) → KeepsExports c.names (ids_of (meaning n).locals) (exports_in n) → (c.uses ≡ true) ⊎ (script.actions ≡ []) → Alike c (run_module n script) (run_module (c.node n) script)
     run_module_alike n fine is opens s keeps may =
-        rw ((kept n fine).locals, known_alike n fine is, is, (kept n fine).exports None)
+        rw ((kept n fine).locals, known_alike n fine is, is, exports_alike n fine)
         (enter_alike c (λ e. run_body (module_context (provided_by script) (known' (provided_by script)) e) (c.node n) >>= λ outcome. run_actions (module_context (provided_by script) (known' (provided_by script)) e) (changed_exports c.names (exports_in n)) script.actions outcome) (meaning n).locals (Some module_activation) (λ e ids.
         bind_alike (beside c e) (run_body_alike (module_world (provided_by script) calls_do e (newest c e)) n fine (opened c.names opens s e ids)) (λ outcome. run_actions_alike (module_world (provided_by script) calls_do e (newest c e)) ids (exports_in n) keeps script.actions may outcome)))
 
