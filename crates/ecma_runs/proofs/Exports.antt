@@ -1,5 +1,5 @@
 -- What a map of names does to exports, and what it has to keep of them.
-use Rattle.std.proofs.Common.{◌≡◌, ℕ, refl, sym, ap, ◌∙◌, List, [], ◌∷◌, ◌++◌, map, Option, Some, None, Bool, true, false}
+use Rattle.std.proofs.Common.{◌≡◌, ℕ, refl, ap, ◌∙◌, List, [], ◌∷◌, ◌++◌, map, Option, Some, None, Bool, true, false}
 use Rattle.ecma_runs.specs.State.{Id, default_name}
 use Rattle.ecma_runs.specs.Names.{TextsStay}
 use Rattle.ecma_runs.specs.Exports.{Exported, Local, Indirect, Star, local_name, local_as, indirect_as, local_ids, export_names, has_star}

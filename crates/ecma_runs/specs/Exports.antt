@@ -1,5 +1,5 @@
 -- What a module exports (ECMAScript, 16.2.3 Exports, 16.2.1.6 Source Text Module Records).
-use Rattle.std.specs.Prelude.{List, [], ◌∷◌, ◌++◌, ℕ, Bool, true, false, Option, Some, None, map}
+use Rattle.std.specs.Prelude.{List, [], ◌∷◌, ℕ, Bool, true, false, Option, Some, None, map}
 use Rattle.ecma_runs.specs.State.{Id}
 
 -- an entry of what a module exports
