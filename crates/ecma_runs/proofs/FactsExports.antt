@@ -9,6 +9,7 @@ use Rattle.ecma_runs.specs.declared.script.Action.TheVariants as action
 use Rattle.ecma_runs.specs.declared.script.Answer.TheVariants.{Return}
 use Rattle.ecma_runs.specs.declared.shown.Shown.TheVariants as shown
 use Rattle.ecma_runs.proofs.Trees.{End, ◌▸◌, tree, absent, list, ident, key, binding, whole, string, call, assign, object, property, statement, declare_pattern, declare, declare_function, constructor', declare_class, meaning_node}
+use Rattle.ecma_runs.proofs.ExportTrees.{exports_node}
 use Rattle.ecma_runs.proofs.Scripts.{Does, nulls}
 
 -- export let a = 1; export function h() { a = 2; }
@@ -18,7 +19,7 @@ reads_exported_variables_then :
     ▸ tree kind.ExportDecl (declare_function (codes "h") End (statement (assign (ident (codes "a")) (whole 2)) ▸ End) ▸ End)
     ▸ End)
     [] (ending.Done (Return (shown.Num (js_number.Whole (pos 1))) ∷ Return (shown.Handle 0) ∷ Return shown.Undefined ∷ Return (shown.Num (js_number.Whole (pos 2))) ∷ []))
-reads_exported_variables_then = simp meaning_node refl
+reads_exported_variables_then = simp (meaning_node, exports_node) refl
 
 -- let a = 1; function h() { a = f(a); } export { a as b, h as "c d" };
 exports_under_other_names :
@@ -28,7 +29,7 @@ exports_under_other_names :
     ▸ tree (kind.NamedExport false) (list (tree (kind.ExportNamedSpecifier false) (ident (codes "a") ▸ ident (codes "b") ▸ End) ▸ tree (kind.ExportNamedSpecifier false) (ident (codes "h") ▸ string (codes "c d") ▸ End) ▸ End) ▸ absent ▸ absent ▸ End)
     ▸ End)
     (HostCall 7 shown.Undefined (shown.Num (js_number.Whole (pos 1)) ∷ []) ∷ []) (ending.Done (Return (shown.Num (js_number.Whole (pos 1))) ∷ Return (shown.Handle 0) ∷ Return shown.Undefined ∷ Return shown.Null ∷ Return shown.Undefined ∷ []))
-exports_under_other_names = simp meaning_node refl
+exports_under_other_names = simp (meaning_node, exports_node) refl
 
 -- export const { a, b: c } = { a: 1, b: 2 };
 exports_the_names_of_a_pattern :
@@ -36,7 +37,7 @@ exports_the_names_of_a_pattern :
     (tree kind.ExportDecl (declare_pattern Const (tree (kind.ObjectPat false) (list (tree kind.AssignPatProp (binding (codes "a") ▸ absent ▸ End) ▸ tree kind.KeyValuePatProp (key (codes "b") ▸ binding (codes "c") ▸ End) ▸ End) ▸ absent ▸ End)) (object (property (key (codes "a")) (whole 1) ▸ property (key (codes "b")) (whole 2) ▸ End)) ▸ End)
     ▸ End)
     [] (ending.Done (Return (shown.Num (js_number.Whole (pos 1))) ∷ Return shown.Undefined ∷ Return (shown.Num (js_number.Whole (pos 2))) ∷ []))
-exports_the_names_of_a_pattern = simp meaning_node refl
+exports_the_names_of_a_pattern = simp (meaning_node, exports_node) refl
 
 -- export class A { constructor() { v = 3; } } export var v;
 exports_classes_and_var :
@@ -45,7 +46,7 @@ exports_classes_and_var :
     ▸ tree kind.ExportDecl (declare Var (codes "v") absent ▸ End)
     ▸ End)
     [] (ending.Done (Return shown.Undefined ∷ Return (shown.Handle 0) ∷ Return (shown.Handle 1) ∷ Return (shown.Num (js_number.Whole (pos 3))) ∷ []))
-exports_classes_and_var = simp meaning_node refl
+exports_classes_and_var = simp (meaning_node, exports_node) refl
 
 -- let a = 1; export default a; export { a }; a = f;
 exports_a_default_value :
@@ -56,7 +57,7 @@ exports_a_default_value :
     ▸ statement (assign (ident (codes "a")) (ident (codes "f")))
     ▸ End)
     [] (ending.Done (Return (shown.Num (js_number.Whole (pos 1))) ∷ Return (shown.Host 7) ∷ []))
-exports_a_default_value = simp meaning_node refl
+exports_a_default_value = simp (meaning_node, exports_node) refl
 
 -- import { a as q } from "m"; export { q }; export { a as b, default } from "m"; f(q);
 exports_imports :
@@ -67,7 +68,7 @@ exports_imports :
     ▸ statement (call (ident (codes "f")) (ident (codes "q") ▸ End))
     ▸ End)
     (HostCall 7 shown.Undefined (shown.Num (js_number.Whole (pos 5)) ∷ []) ∷ []) (ending.Done (Return (shown.Num (js_number.Whole (pos 5))) ∷ Return (shown.Num (js_number.Whole (pos 5))) ∷ Return (shown.Host 9) ∷ []))
-exports_imports = simp meaning_node refl
+exports_imports = simp (meaning_node, exports_node) refl
 
 -- f(1);
 exports_no_types :
@@ -77,7 +78,7 @@ exports_no_types :
     ▸ statement (call (ident (codes "f")) (whole 1 ▸ End))
     ▸ End)
     (HostCall 7 shown.Undefined (shown.Num (js_number.Whole (pos 1)) ∷ []) ∷ []) (ending.Done (Return shown.Undefined ∷ Return shown.Undefined ∷ []))
-exports_no_types = simp meaning_node refl
+exports_no_types = simp (meaning_node, exports_node) refl
 
 -- export let a = 1;
 exports_a_variable_twice_under_a_name :
@@ -86,7 +87,7 @@ exports_a_variable_twice_under_a_name :
     ▸ tree (kind.NamedExport false) (list (tree (kind.ExportNamedSpecifier false) (ident (codes "a") ▸ absent ▸ End) ▸ End) ▸ absent ▸ absent ▸ End)
     ▸ End)
     [] (ending.Done (Return (shown.Num (js_number.Whole (pos 1))) ∷ []))
-exports_a_variable_twice_under_a_name = simp meaning_node refl
+exports_a_variable_twice_under_a_name = simp (meaning_node, exports_node) refl
 
 -- f(1);
 exports_no_two_under_a_name :
@@ -97,7 +98,7 @@ exports_no_two_under_a_name :
     ▸ statement (call (ident (codes "f")) (whole 1 ▸ End))
     ▸ End)
     (HostCall 7 shown.Undefined (shown.Num (js_number.Whole (pos 1)) ∷ []) ∷ []) (ending.Outside)
-exports_no_two_under_a_name = simp meaning_node refl
+exports_no_two_under_a_name = simp (meaning_node, exports_node) refl
 
 -- export * from "m"; export let b = 1;
 reads_its_own_exports_beside_all_of_another_module :
@@ -106,7 +107,7 @@ reads_its_own_exports_beside_all_of_another_module :
     ▸ tree kind.ExportDecl (declare Let (codes "b") (whole 1) ▸ End)
     ▸ End)
     [] (ending.Done (Return (shown.Num (js_number.Whole (pos 1))) ∷ []))
-reads_its_own_exports_beside_all_of_another_module = simp meaning_node refl
+reads_its_own_exports_beside_all_of_another_module = simp (meaning_node, exports_node) refl
 
 -- f(1);
 knows_no_others_beside_all_of_another_module :
@@ -115,4 +116,4 @@ knows_no_others_beside_all_of_another_module :
     ▸ statement (call (ident (codes "f")) (whole 1 ▸ End))
     ▸ End)
     (HostCall 7 shown.Undefined (shown.Num (js_number.Whole (pos 1)) ∷ []) ∷ []) (ending.Outside)
-knows_no_others_beside_all_of_another_module = simp meaning_node refl
+knows_no_others_beside_all_of_another_module = simp (meaning_node, exports_node) refl

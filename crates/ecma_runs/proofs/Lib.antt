@@ -31,6 +31,7 @@ pub mod Turns
 mod Growing
 mod Silence
 mod Trees
+mod ExportTrees
 mod Scripts
 mod FactsNames
 mod FactsOperators
