@@ -9,7 +9,7 @@ use Rattle.ecma_kind.specs.declared.shapes.Shape.{Shape}
 use Rattle.ecma_kind.specs.declared.shapes.Sort.TheVariants as sort
 use Rattle.ecma_tree.specs.declared.node.Node.{Node, out-Node}
 use Rattle.ecma_tree.specs.Laws.{HaveShapes}
-use Rattle.ecma_tree.specs.Sorted.{HasShape, allows, child_shapes, is_absent, is_list, maybe, one, shape_of}
+use Rattle.ecma_tree.specs.Sorted.{HasShape, allows, child_shapes, is_list, maybe, one, shape_of}
 use Rattle.ecma_tree.specs.Values.{is_value_where, value_by}
 use Rattle.ecma_tree.proofs.Valuing.{is_value_where-out, value_where_by}
 use Rattle.ecma_fits.specs.declared.unfit.Where.{Where}
