@@ -41,6 +41,7 @@ const modules = [
     "End ◌▸◌ tree absent list ident key computed binding whole truth string null type' this' super' member super_member call new' assign unary binary parens array object property " +
       "statement block returns declare_pattern declare parameter function declare_function function_expression arrow modifiers class_method field constructor' class' declare_class meaning_node",
   ],
+  ["ecma_runs.proofs.ExportTrees", "exports_node"],
   ["ecma_runs.proofs.Scripts", "Does nulls"],
   ["std.specs.Fmt", "digits"],
   ["std.specs.Str", "chars"],
@@ -82,7 +83,7 @@ for (const { file, title, facts } of topics) {
     text += `${name} :\n    Does ${turns} ${answers ? `(${listText(answers.map(answerText))})` : "nulls"} ${actions.length ? `(${listText(actions.map(actionText))})` : "[]"}\n`;
     text += `    (${[...items, "End"].join("\n    ▸ ")})\n`;
     text += `    ${events} (${ending ? `ending.${ending}` : seen.ending})\n`;
-    text += `${unfold ? `unfolding ${unfold}\n` : ""}${name} = simp meaning_node refl\n\n`;
+    text += `${unfold ? `unfolding ${unfold}\n` : ""}${name} = simp ${actions.some(([kind]) => kind === "ReadExport") ? "(meaning_node, exports_node)" : "meaning_node"} refl\n\n`;
     count += 1;
   }
   const head = `-- ${title}: each fact is a small module and what node observes of it, by computing. Written by compare/facts.mjs.`;

@@ -229,6 +229,31 @@ export const topics = [
     ],
   },
   {
+    file: "FactsExports",
+    title: "Exports",
+    facts: [
+      ["reads_exported_variables_then", `export let a = 1; export function h() { a = 2; }`, {
+        actions: [["ReadExport", "a"], ["ReadExport", "h"], ["Call", 0, undefined, []], ["ReadExport", "a"]],
+      }],
+      ["exports_under_other_names", `let a = 1; function h() { a = f(a); } export { a as b, h as "c d" };`, {
+        actions: [["ReadExport", "b"], ["ReadExport", "c d"], ["Call", 0, undefined, []], ["ReadExport", "b"], ["ReadExport", "a"]],
+      }],
+      ["exports_the_names_of_a_pattern", `export const { a, b: c } = { a: 1, b: 2 };`, { actions: [["ReadExport", "a"], ["ReadExport", "b"], ["ReadExport", "c"]] }],
+      ["exports_classes_and_var", `export class A { constructor() { v = 3; } } export var v;`, {
+        actions: [["ReadExport", "v"], ["ReadExport", "A"], ["New", 0, []], ["ReadExport", "v"]],
+      }],
+      ["exports_a_default_value", `let a = 1; export default a; export { a }; a = f;`, { actions: [["ReadExport", "default"], ["ReadExport", "a"]] }],
+      ["exports_imports", `import { a as q } from "m"; export { q }; export { a as b, default } from "m"; f(q);`, {
+        actions: [["ReadExport", "q"], ["ReadExport", "b"], ["ReadExport", "default"]],
+      }],
+      ["exports_no_types", `f(1);`, { tree: `$exported_type.J; $type_named_export.q; f(1);`, actions: [["ReadExport", "J"], ["ReadExport", "q"]] }],
+      ["exports_a_variable_twice_under_a_name", `export let a = 1;`, { tree: `export let a = 1; $export_again.a;`, actions: [["ReadExport", "a"]] }],
+      ["exports_no_two_under_a_name", `f(1);`, { tree: `export let a = 1; let q = 2; $export_q_as.a; f(1);`, actions: [["ReadExport", "a"]], ending: "Outside" }],
+      ["reads_its_own_exports_beside_all_of_another_module", `export * from "m"; export let b = 1;`, { actions: [["ReadExport", "b"]] }],
+      ["knows_no_others_beside_all_of_another_module", `f(1);`, { tree: `export * from "m"; f(1);`, actions: [["ReadExport", "q"]], ending: "Outside" }],
+    ],
+  },
+  {
     file: "FactsProto",
     title: "Properties with the name `__proto__`",
     facts: [
@@ -333,7 +358,7 @@ export const topics = [
       ["labels", `f(1); a: f(2);`],
       ["debugger_statements", `f(1); debugger;`],
       ["returns_of_modules", `f(1); return 2;`],
-      ["exports", `f(1); export let a = f(2);`],
+      ["default_exports_of_classes", `f(1); export default class {}`],
       ["required_modules", `f(1); $import_require.q;`],
       ["enums", `f(1); $enum.E;`],
       ["namespaces", `f(1); $namespace.N;`],

@@ -226,6 +226,10 @@ function specifier(n) {
   return tree("kind.ImportNamedSpecifier false", local, imported);
 }
 
+/** The name of an export. */
+const exportName = (n) => (n.type === "Literal" ? expression(n) : ident(n.name));
+const exportSpecifier = (n) => tree("kind.ExportNamedSpecifier false", exportName(n.local), n.exported.start === n.local.start ? "absent" : exportName(n.exported));
+
 /** What stands for declarations of types, for what is ambient and for what no parser takes in the sources of facts: `$interface.I;` and so on. */
 const declarations = {
   $interface: (id) => tree("kind.TsInterfaceDecl false", id),
@@ -243,6 +247,9 @@ const declarations = {
   $import_require: (id) => tree("kind.TsImportEqualsDecl false false", id, tree("kind.TsExternalModuleRef", `string ${bytes("m")}`)),
   $exported_import_equals: (id) => tree("kind.TsImportEqualsDecl true false", id, id),
   $type_named_export: (id) => tree("kind.NamedExport true", list([tree("kind.ExportNamedSpecifier false", id, "absent")]), "absent", "absent"),
+  // `export { a };` and `export { q as a };` beside another export of that name
+  $export_again: (id) => tree("kind.NamedExport false", list([tree("kind.ExportNamedSpecifier false", id, "absent")]), "absent", "absent"),
+  $export_q_as: (id) => tree("kind.NamedExport false", list([tree("kind.ExportNamedSpecifier false", `ident ${bytes("q")}`, id)]), "absent", "absent"),
   $type_export_all: () => tree("kind.ExportAll true", `string ${bytes("m")}`, "absent"),
   $export_as_namespace: (id) => tree("kind.TsNamespaceExportDecl", id),
   $default_overload: (id) => tree("kind.ExportDefaultDecl", tree("kind.FnExpr", id, tree("kind.Function false false", "list End", "absent", "absent", "absent"))),
@@ -290,7 +297,13 @@ function statement(n) {
   const e = n.expression;
   if (n.type === "ExpressionStatement" && e.type === "MemberExpression" && e.object.name in declarations) return declarations[e.object.name](`ident ${bytes(e.property.name)}`);
   switch (n.type) {
-    case "ExportNamedDeclaration": return tree("kind.ExportDecl", statement(n.declaration));
+    case "ExportNamedDeclaration":
+      if (n.declaration) return tree("kind.ExportDecl", statement(n.declaration));
+      return tree("kind.NamedExport false", list(n.specifiers.map(exportSpecifier)), n.source ? expression(n.source) : "absent", "absent");
+    case "ExportDefaultDeclaration":
+      if (n.declaration.type === "ClassDeclaration") return tree("kind.ExportDefaultDecl", tree("kind.ClassExpr", n.declaration.id ? ident(n.declaration.id.name) : "absent", `class' ${classNode(n.declaration)}`));
+      return tree("kind.ExportDefaultExpr", expression(n.declaration));
+    case "ExportAllDeclaration": return tree("kind.ExportAll false", expression(n.source), "absent");
     case "ExpressionStatement": return `statement ${inner(expression(n.expression))}`;
     case "EmptyStatement": return tree("kind.EmptyStmt");
     case "DebuggerStatement": return tree("kind.DebuggerStmt");

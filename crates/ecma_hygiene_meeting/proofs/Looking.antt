@@ -1,5 +1,5 @@
 -- What a node looks up is caught by no scope around, and in each record that it makes none is caught.
-use Rattle.std.proofs.Common.{◌≡◌, inl, inr, refl, sym, ap, ◌∙◌, subst, ℕ, suc, List, [], ◌∷◌, ◌++◌, map, Option, Bool, true, false, cond, not, ◌&&◌}
+use Rattle.std.proofs.Common.{◌≡◌, inl, inr, refl, sym, ap, ◌∙◌, subst, ℕ, suc, List, [], ◌∷◌, ◌++◌, map, Option, Bool, true, false, cond, not, ◌&&◌, append-nil}
 use Rattle.ecma_kind.specs.Sorts.{belongs}
 use Rattle.ecma_kind.specs.declared.kind.Kind.{Kind}
 use Rattle.ecma_kind.specs.declared.kind.Kind.TheVariants as kind
@@ -14,7 +14,7 @@ use Rattle.ecma_hygiene.specs.Ids.{Scope, innermost, is_block, is_body_block, is
 use Rattle.ecma_hygiene.specs.Renamed.{Texts}
 use Rattle.ecma_hygiene.proofs.Telling.{and-both, and-left, or-left, or-right, or-second, true-false}
 use Rattle.ecma_hygiene.proofs.Walking.{append-none}
-use Rattle.ecma_runs.specs.State.{Id, Binding, same_id}
+use Rattle.ecma_runs.specs.State.{Id, default_name, Binding, same_id}
 use Rattle.ecma_runs.specs.Environment.{except, ids_of, is_among}
 use Rattle.ecma_runs.specs.Declarations.{all_parameter_names, has_no_effect}
 use Rattle.ecma_runs.specs.Evaluation.{meaning, meaning_by, no_effect, role_by as role_meaning}
@@ -216,6 +216,9 @@ module _ (texts : Texts) (free : ℕ) (onto : ℕ → ℕ) (keeps : KeepsFreeApa
         both-known S (sought_in key).sought (outside_of (meaning parameter).names ((sought_in parameter).sought ++ sought_by_body (meaning parameter).names (seeker block))) (plain S key below.0)
         (called-left (meaning parameter).names (sought_in parameter).sought block (on refl) (agree refl refl) (plain (S ++ own ∷ []) parameter below.1.1.0) below.1.1.1.0)
     looks-of kind.SetterProp cs agree on below leaf m p root body = λ id h. absurd (true-false p refl)
+    looks-of kind.ExportDefaultExpr (e ∷ []) agree on below leaf m p root body =
+        both-known S (default_name ∷ []) (sought_in e).sought (λ id h. subst (K S) (among-one default_name id h) (inl refl))
+        (subst (AllKnown S) (append-nil (sought_in e).sought) (all-look kind.ExportDefaultExpr (is_there (e ∷ []) 1) (opens_by r kind.ExportDefaultExpr (is_there (e ∷ []) 0)) refl (agree refl) 0 (e ∷ []) below))
     looks-of (kind.TsImportEqualsDecl is_export false) (name ∷ source ∷ []) agree on below leaf m p root body =
         both-known S ((meaning name).names ++ (sought_in name).sought) (sought_in source).sought
         (both-known S (meaning name).names (sought_in name).sought (plain-names S name below.0) (plain S name below.0)) (plain S source below.1.0)

@@ -12,10 +12,12 @@ use Rattle.ecma_hygiene.specs.Sights.{nowhere, own_scope}
 use Rattle.ecma_hygiene.specs.Texts.{text_in}
 use Rattle.ecma_hygiene.proofs.Capturing.{nothing-is-captured}
 use Rattle.ecma_hygiene.proofs.Telling.{and-both, true-false}
-use Rattle.ecma_runs.specs.State.{Id}
+use Rattle.ecma_runs.specs.State.{Id, default_name}
+use Rattle.ecma_runs.specs.Exports.{export_names}
+use Rattle.ecma_runs.specs.Observation.{exports_in}
 use Rattle.ecma_runs.specs.Environment.{ids_of, is_among}
 use Rattle.ecma_runs.specs.Evaluation.{meaning}
-use Rattle.ecma_runs.specs.Meeting.{MayMeet, catches_none, module_meets}
+use Rattle.ecma_runs.specs.Meeting.{MayMeet, catches_none, exports_meet, module_meets}
 use Rattle.ecma_runs.specs.Names.{TextsStay, ids_pass, keys_in, passes_by, passes_here}
 use Rattle.ecma_runs.specs.Sought.{outside_of, seeker, sought_in}
 use Rattle.ecma_hygiene_meeting.specs.Laws.{FinalTextsMayMeet, WhatIsNotCapturedMayMeet}
@@ -50,7 +52,8 @@ stand = ind-Node (λ n. ids_pass any n ≡ true) (λ x y is.
     ∙ and-both (passes_by any x.kind) (list_all (λ b. b) (map (ids_pass any) x.children)) (kind-stands x.kind)
     (subst (λ cs. list_all (λ b. b) (map (ids_pass any) cs) ≡ true) (ap (λ (z : Node-F Node). z.children) is) (all-stand y.children)))
 
-module _ (texts : Texts) (free : ℕ) (onto : ℕ → ℕ) (tree : Node) (records : RecordsAreScopes tree) (read : IsReadByTexts texts free tree) (keeps : KeepsFreeApart onto free) where
+module _ (texts : Texts) (free : ℕ) (onto : ℕ → ℕ) (tree : Node) (records : RecordsAreScopes tree) (read : IsReadByTexts texts free tree) (keeps : KeepsFreeApart onto free)
+    (stays : onto 0 ≡ 0) (exportless : exports_in tree ≡ []) where
   abbrev to : Id → Id
   to = sent onto texts
 
@@ -116,10 +119,14 @@ module _ (texts : Texts) (free : ℕ) (onto : ℕ → ℕ) (tree : Node) (record
     key_texts = keys-stay (keys_in tree) read.names.keys;
     free_texts = λ id s none. stays-by id (texts (id.sym, id.ctxt)) refl (λ h. true-false h none);
     this_stays = λ id s. this-by id (texts (id.sym, id.ctxt)) refl;
+    exports_apart = ap (exports_meet to locals) exportless;
+    export_texts = subst (λ entries. TextsStay to (export_names entries)) (sym exportless) tt;
+    default_stays = (refl, λ i. record { sym = empty default_name.sym i; ctxt = stays i });
   }
 
 pub what_is_not_captured_may_meet : WhatIsNotCapturedMayMeet
-what_is_not_captured_may_meet texts free to tree records read keeps = may-meet texts free to tree records read keeps
+what_is_not_captured_may_meet texts free to tree records read keeps stays exportless = may-meet texts free to tree records read keeps stays exportless
 
 pub final_texts_may_meet : FinalTextsMayMeet
-final_texts_may_meet names free to tree are records told keeps = may-meet (text_in names) free to tree records (record { not_captured = nothing-is-captured tree names are; names = told }) keeps
+final_texts_may_meet names free to tree are records told keeps stays exportless =
+    may-meet (text_in names) free to tree records (record { not_captured = nothing-is-captured tree names are; names = told }) keeps stays exportless

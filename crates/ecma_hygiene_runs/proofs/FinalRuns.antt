@@ -25,14 +25,14 @@ use Rattle.ecma_hygiene_scopes.proofs.ReadingAgain.{is-read-again}
 use Rattle.ecma_hygiene_scopes.proofs.Stopping.{IsAmong, all-among}
 use Rattle.ecma_config.specs.declared.config.Config.{Config}
 use Rattle.ecma_runs.specs.declared.script.Script.{Script}
-use Rattle.ecma_runs.specs.State.{Id}
+use Rattle.ecma_runs.specs.State.{Id, default_name}
 use Rattle.ecma_runs.specs.Environment.{is_among}
 use Rattle.ecma_runs.specs.Evaluation.{meaning}
-use Rattle.ecma_runs.specs.Observation.{known_of, observe}
+use Rattle.ecma_runs.specs.Observation.{known_of, exports_in, observe}
 use Rattle.ecma_runs.specs.Names.{TextsStay}
 use Rattle.ecma_runs.proofs.Kept.{kept}
 use Rattle.ecma_runs.proofs.Standing.{Passes}
-use Rattle.ecma_runs.proofs.Layers.{images, layers_alike, same_ids, the_same}
+use Rattle.ecma_runs.proofs.Layers.{images, layers_alike, same_exports, same_ids, the_same}
 use Rattle.ecma_hygiene_runs.specs.FinalTexts.{final_id}
 use Rattle.ecma_hygiene_runs.specs.KeyNames.{key_names_in}
 use Rattle.ecma_hygiene_runs.specs.Laws.{FinalTextsKeepRuns, ReadingAgainKeepsRuns}
@@ -47,6 +47,10 @@ use Rattle.ecma_hygiene_runs.proofs.WritingOut.{written_out_layers, written_out_
 -- the ids that a tree declares stay, with its shorthands written out
 declared-out : (n : Node) → (meaning (written_out n)).declared ≡ (meaning n).declared
 declared-out n = (kept (images written_out (known_of n) the_same) (layers_alike written_out (known_of n) the_same written_out_layers) n tt).declared ∙ same_ids (meaning n).declared
+
+-- and what it exports
+exports-out : (n : Node) → exports_in (written_out n) ≡ exports_in n
+exports-out n = (kept (images written_out (known_of n) the_same) (layers_alike written_out (known_of n) the_same written_out_layers) n tt).exports None ∙ same_exports (exports_in n)
 
 module _ (onto : ℕ → ℕ) (tree : Node) (names : List Named) (are : HygienicTexts tree names) (is : IsResolved tree) (keeps : KeepsApart onto tree) where
   abbrev texts : Texts
@@ -157,6 +161,8 @@ module _ (onto : ℕ → ℕ) (tree : Node) (names : List Named) (are : Hygienic
     key_texts = keys-stay (key_names_in (written_out tree)) is.keys;
     free_texts = λ id s free. free-by id free (texts (id.sym, id.ctxt)) refl;
     this_stays = λ id s. this-by id (texts (id.sym, id.ctxt)) refl;
+    default_stays = (outer default_name.sym 0 refl, λ i. record { sym = empty default_name.sym i; ctxt = keeps.none i });
+    exports = exports-out tree ∙ is.exports;
   }
 
   pub final_runs : (turns : ℕ) (options : Config) (script : Script) → observe turns options (with_contexts (λ text ctxt. onto ctxt) (hygiene.renamed texts tree)) script ≡ observe turns options tree script

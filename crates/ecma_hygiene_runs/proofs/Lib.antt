@@ -6,6 +6,7 @@ mod Renaming
 mod GivenTexts
 mod Passing
 mod FinalRuns
+pub mod Exports
 mod Sorted
 mod Seeking
 mod Covering

@@ -6,13 +6,14 @@ use Rattle.ecma_tree.specs.declared.node.Node.{Node, Node-F, fold-roll-Node, ind
 use Rattle.ecma_tree.specs.declared.node.Node.TheViews.{roll-out-Node}
 use Rattle.ecma_config.specs.declared.config.Config.{Config}
 use Rattle.ecma_runs.specs.declared.script.Script.{Script}
-use Rattle.ecma_runs.specs.State.{Id, Binding}
+use Rattle.ecma_runs.specs.State.{Id, default_name, Binding}
 use Rattle.ecma_runs.specs.Run.{outside}
-use Rattle.ecma_runs.specs.Environment.{have_one_of, is_among}
+use Rattle.ecma_runs.specs.Environment.{ids_of, have_one_of, is_among}
 use Rattle.ecma_runs.specs.Meaning.{Meaning}
 use Rattle.ecma_runs.specs.Declarations.{all_shorthands, has_no_effect, imported_as}
 use Rattle.ecma_runs.specs.Evaluation.{role_by, no_effect, meaning_by, meaning}
-use Rattle.ecma_runs.specs.Observation.{observe, known_of}
+use Rattle.ecma_runs.specs.Observation.{observe, known_of, exports_in}
+use Rattle.ecma_runs.proofs.Exports.{KeepsEach}
 use Rattle.ecma_runs.specs.Names.{renamed_ident, renamed_node, renamed, passes_by, ids_pass, Keys, all_here, all_below, here_by, TextsStay}
 use Rattle.ecma_runs.proofs.Layer.{meaning-roll, meaning_out}
 use Rattle.ecma_runs.proofs.Names.{Naming, changed_ids, changed_bindings, is_among-changed}
@@ -144,6 +145,7 @@ mute_same c m m' same = record {
   parameter_names = same.parameter_names;
   declared = same.declared;
   imported = same.imported;
+  exports = same.exports;
   text = λ texts. refl;
   cooked = same.cooked;
   is_plain = same.is_plain;
@@ -162,7 +164,7 @@ all_kept c plain [] fine = tt
 all_kept c plain (n ∷ ns) fine = (any_seeking c plain (n.1 fine.0), all_kept c plain ns fine.1)
 
 -- a map of names that is one to one on a set of names in which each identifier of the tree stands; it keeps the texts of keys and of names that the
--- tree declares nowhere, and which names are `this`
+-- tree declares nowhere, and which names are `this`; the tree exports nothing
 pub record Renames (to : Id → Id) (m : Node) : Type 0 where
   pub stands : Id → Bool
   pub all_stand : ids_pass stands m ≡ true
@@ -170,6 +172,8 @@ pub record Renames (to : Id → Id) (m : Node) : Type 0 where
   pub key_texts : TextsStay to (key_names_in m)
   pub free_texts : (id : Id) → stands id ≡ true → is_among id (meaning m).declared ≡ false → (to id).sym ≡ id.sym
   pub this_stays : (id : Id) → stands id ≡ true → bytes_eq (to id).sym (codes "this") ≡ bytes_eq id.sym (codes "this")
+  pub default_stays : (stands default_name ≡ true) × (to default_name ≡ default_name)
+  pub exports : exports_in m ≡ []
 
 module _ (to : Id → Id) (m : Node) (renaming : Renames to m) where
   abbrev new_names : Naming
@@ -195,7 +199,7 @@ module _ (to : Id → Id) (m : Node) (renaming : Renames to m) where
   clashes names (b ∷ bs) p = clash_step names b bs p.0 (clashes names bs p.1)
 
   still : (parameters body : Node) → Passes renaming.stands body → StillClash change (meaning parameters) (meaning body)
-  still parameters body p = clashes (meaning parameters).names (meaning body).locals (declares renaming.stands body p).locals
+  still parameters body p = clashes (meaning parameters).names (meaning body).locals ((declares renaming.stands body p).locals renaming.default_stays.0)
 
   listed : (n : Node) → TextsStay to (keys_of n).here → TextsStay to (meaning n).shorthands
   listed n h = subst (TextsStay to) (sym (here_is n)) h
@@ -212,6 +216,10 @@ module _ (to : Id → Id) (m : Node) (renaming : Renames to m) where
 
   layer_kept : (k : Kind) (cs : List Node) → IsOther k cs → passes_by renaming.stands k ≡ true → AllNodes (Passes renaming.stands) cs → TextsStay to (at_names k (map key_names cs)) → KeptLayer change k (map meaning cs)
   layer_kept (kind.Ident text ctxt optional) cs o h p t = (h, renaming.this_stays (record { sym = text; ctxt = ctxt }) h)
+  layer_kept kind.ExportDefaultExpr cs o h p t = renaming.default_stays
+  layer_kept (kind.NamedExport type_only) (specifiers ∷ source ∷ attributes ∷ []) o h p t = listed source t
+  layer_kept (kind.ExportNamedSpecifier is_type_only) (exported ∷ name ∷ []) o h p t = (listed exported (stay_first to (keys_of exported).here (keys_of name).here t), listed name (stay_rest to (keys_of exported).here (keys_of name).here t))
+  layer_kept kind.ExportNamespaceSpecifier (name ∷ []) o h p t = listed name t
   layer_kept kind.MemberExpr cs o h p t = refl
   layer_kept kind.SuperPropExpr cs o h p t = refl
   layer_kept kind.TsQualifiedName cs o h p t = refl
@@ -275,4 +283,5 @@ module _ (to : Id → Id) (m : Node) (renaming : Renames to m) where
   pub renamed_kept : (turns : ℕ) (options : Config) (script : Script) → observe turns options (renamed to m) script ≡ observe turns options m script
   renamed_kept turns options script =
       ap (λ n. observe n options (renamed to m) script) (sym (add-zero turns))
-      ∙ observe_unless change refl renaming_steps refl refl turns options m script (renaming.all_stand, renaming.key_texts) refl (tt, record { free = tt }, tt) tt tt (none_excused _)
+      ∙ observe_unless change refl renaming_steps refl refl turns options m script (renaming.all_stand, renaming.key_texts) refl
+      (tt, record { free = tt }, tt, record { each = subst (KeepsEach new_names (ids_of (meaning m).locals)) (sym renaming.exports) tt }) tt tt (none_excused _)

@@ -1,6 +1,6 @@
 -- In a sorted tree the names in patterns are names, and written out it has keys in imports alone.
 use Rattle.std.proofs.Common.{◌≡◌, refl, sym, ap, ap₂, ◌∙◌, subst, ℕ, suc, List, [], ◌∷◌, ◌++◌, map, length, Bool, true, false, cond, ◌&&◌, ◌||◌, bytes_eq}
-use Rattle.std.specs.List.{All}
+use Rattle.std.specs.List.{All, list_all}
 use Rattle.std.proofs.lemmas.Bool.{eqb-true}
 use Rattle.std.proofs.lemmas.List.{append-nil}
 use Rattle.std.proofs.lemmas.List.Elements.{All-cons, All-nil}
@@ -27,6 +27,8 @@ use Rattle.ecma_runs.specs.Names.{Keys, all_below, all_here, here_by}
 use Rattle.ecma_runs.proofs.Kept.{AllNodes}
 use Rattle.ecma_hygiene_runs.specs.WrittenOut.{identifier_by, key_node, leaf_text, name_node, other_by, other_out, out_by, properties_out, property_by, property_key_node, property_out, written_out}
 use Rattle.ecma_hygiene_runs.specs.FinalTexts.{all_named, has_name, has_text, is_named_at, is_outer, is_text}
+use Rattle.ecma_hygiene_runs.specs.Exports.{exports_nothing, is_export}
+use Rattle.ecma_hygiene_runs.proofs.Exports.{exportless-parts}
 use Rattle.ecma_hygiene_runs.specs.KeyNames.{KeyNames, at_names, is_name_by, key_names, key_names_by, key_names_in}
 use Rattle.ecma_hygiene_runs.specs.Laws.{SortedNamesAreOuter}
 use Rattle.ecma_hygiene_runs.specs.OuterNames.{has_outer_names_at, outer_step}
@@ -347,10 +349,6 @@ import-keys : (span : Span) (t : Bool) (name other : Node) → NoKeys name → O
 import-keys span t name other kn o =
     no-keys span (kind.ImportNamedSpecifier t) (name ∷ other ∷ []) (subst (λ b. Empty (cond b (keys_of other).here ((keys_of name).here ++ (keys_of other).here))) (sym o.0) o.1) (kn, (o.2, tt))
 
-other-by : (k : Kind) (span : Span) (other : Node) → NoKeys other → NoKeys (other_by k span other)
-other-by (kind.Ident text ctxt optional) span other h = (name-kept span text).2
-other-by _ span other h = h
-
 -- the layers
 
 map-all : (cs : List Node) → AllNodes (λ c. NoKeys (written_out c)) cs → AllNodes NoKeys (map written_out cs)
@@ -370,60 +368,61 @@ import-outer r t name other o =
     let own : b ≡ true = and-left b true (and-right a (b && true) o) in
     and-left (is_outer true z.kind) _ (sym (outer-roll z role.Name) ∙ ap (λ m. has_outer_names_at m role.Name) (roll-out-Node other) ∙ own)
 
-layer-keys : (r : Role) (span : Span) (k : Kind) (shape : Shape) (cs : List Node) → HaveShapes (child_shapes k shape (length cs)) cs → Outer r k cs → AllNodes (λ c. NoKeys (written_out c)) cs
+layer-keys : (r : Role) (span : Span) (k : Kind) (shape : Shape) (cs : List Node) → HaveShapes (child_shapes k shape (length cs)) cs → Outer r k cs → is_export k ≡ false → AllNodes (λ c. NoKeys (written_out c)) cs
     → NoKeys (out_by k (map written_out cs) (parts_of span k (map written_out cs)))
-layer-keys r span kind.ObjectLit shape (p ∷ []) h o all =
+layer-keys r span kind.ObjectLit shape (p ∷ []) h o e all =
     no-keys span kind.ObjectLit (properties_out (written_out p) ∷ []) (subst Empty (sym (object-here p h.0)) tt) (subst Empty (sym (object-all p h.0)) all.0, tt)
-layer-keys r span kind.ObjectLit shape [] h o all = absurd h
-layer-keys r span kind.ObjectLit shape (p ∷ q ∷ others) h o all = absurd h.1
-layer-keys r span kind.AssignPatProp shape (name ∷ default ∷ []) h o all = pattern-keys span name default (has-by kind.AssignPatProp shape (name ∷ default ∷ []) h) all.0 all.1.0
-layer-keys r span kind.AssignPatProp shape [] h o all = absurd h
-layer-keys r span kind.AssignPatProp shape (a ∷ []) h o all = absurd h.1
-layer-keys r span kind.AssignPatProp shape (a ∷ b ∷ c ∷ others) h o all = absurd h.1.1
-layer-keys r span (kind.ImportNamedSpecifier t) shape (name ∷ other ∷ []) h o all =
+layer-keys r span kind.ObjectLit shape [] h o e all = absurd h
+layer-keys r span kind.ObjectLit shape (p ∷ q ∷ others) h o e all = absurd h.1
+layer-keys r span kind.AssignPatProp shape (name ∷ default ∷ []) h o e all = pattern-keys span name default (has-by kind.AssignPatProp shape (name ∷ default ∷ []) h) all.0 all.1.0
+layer-keys r span kind.AssignPatProp shape [] h o e all = absurd h
+layer-keys r span kind.AssignPatProp shape (a ∷ []) h o e all = absurd h.1
+layer-keys r span kind.AssignPatProp shape (a ∷ b ∷ c ∷ others) h o e all = absurd h.1.1
+layer-keys r span (kind.ImportNamedSpecifier t) shape (name ∷ other ∷ []) h o e all =
     import-keys span t (written_out name) (other_out (written_out name) (written_out other)) all.0 (other-is name other h.0 h.1.0 (import-outer r t name other o) all.1.0)
-layer-keys r span (kind.ImportNamedSpecifier t) shape [] h o all = absurd h
-layer-keys r span (kind.ImportNamedSpecifier t) shape (a ∷ []) h o all = absurd h.1
-layer-keys r span (kind.ImportNamedSpecifier t) shape (a ∷ b ∷ c ∷ others) h o all = absurd h.1.1
-layer-keys r span (kind.ExportNamedSpecifier t) shape (name ∷ other ∷ []) h o all =
-    let n = written_out name in
-    no-keys span (kind.ExportNamedSpecifier t) (n ∷ other_out n (written_out other) ∷ []) tt
-    (all.0, (either (kind_is_absent (written_out other)) _ (written_out other) (other-by (out-Node n).kind (out-Node n).span (written_out other) all.1.0) all.1.0, tt))
-layer-keys r span (kind.Class is_abstract) shape (super ∷ body ∷ types ∷ super_types ∷ implements ∷ []) h o all =
+layer-keys r span (kind.ImportNamedSpecifier t) shape [] h o e all = absurd h
+layer-keys r span (kind.ImportNamedSpecifier t) shape (a ∷ []) h o e all = absurd h.1
+layer-keys r span (kind.ImportNamedSpecifier t) shape (a ∷ b ∷ c ∷ others) h o e all = absurd h.1.1
+layer-keys r span (kind.ExportNamedSpecifier t) shape cs h o e all = absurd (cc)
+layer-keys r span (kind.NamedExport t) shape cs h o e all = absurd (cc)
+layer-keys r span kind.ExportNamespaceSpecifier shape cs h o e all = absurd (cc)
+layer-keys r span (kind.Class is_abstract) shape (super ∷ body ∷ types ∷ super_types ∷ implements ∷ []) h o e all =
     let cs = super ∷ body ∷ types ∷ super_types ∷ implements ∷ [] in
     no-keys span (kind.Class is_abstract) (map written_out cs) (subst Empty (sym (body-here body h.1.0)) tt) (map-all cs all)
-layer-keys r span (kind.ImportDecl type_only) shape (specifiers ∷ source ∷ attributes ∷ []) h o all =
+layer-keys r span (kind.ImportDecl type_only) shape (specifiers ∷ source ∷ attributes ∷ []) h o e all =
     let cs = specifiers ∷ source ∷ attributes ∷ [] in
     no-keys span (kind.ImportDecl type_only) (map written_out cs) (subst Empty (sym (here-out source (text-kind (out-Node source).kind (shape_out (one sort.Str) source h.1.0).0))) tt) (map-all cs all)
   where
     text-kind : (k : Kind) → belongs sort.Str k ≡ true → no_here k ≡ true
     text-kind (kind.Str text raw) e = refl
     text-kind _ e = absurd (cc)
-layer-keys r span k shape cs h o all = no-keys span k (map written_out cs) tt (map-all cs all)
+layer-keys r span k shape cs h o e all = no-keys span k (map written_out cs) tt (map-all cs all)
 
 abbrev Keyless : Node → Type 0
-Keyless n = (shape : Shape) → HasShape shape n → (r : Role) → has_outer_names_at n r ≡ true → NoKeys (written_out n)
+Keyless n = (shape : Shape) → HasShape shape n → (r : Role) → has_outer_names_at n r ≡ true → exports_nothing n ≡ true → NoKeys (written_out n)
 
 all-keyless : (ns : List ((n : Node) × Keyless n)) (shapes : List Shape) (roles : ℕ → Role) (i : ℕ) → HaveShapes shapes (map (λ e. e.0) ns) → all_named roles i (map has_outer_names_at (map (λ e. e.0) ns)) ≡ true
-    → AllNodes (λ c. NoKeys (written_out c)) (map (λ e. e.0) ns)
-all-keyless [] shapes roles i h o = tt
-all-keyless (n ∷ ns) [] roles i h o = absurd h
-all-keyless (n ∷ ns) (shape ∷ shapes) roles i h o =
+    → list_all (λ b. b) (map exports_nothing (map (λ e. e.0) ns)) ≡ true → AllNodes (λ c. NoKeys (written_out c)) (map (λ e. e.0) ns)
+all-keyless [] shapes roles i h o p = tt
+all-keyless (n ∷ ns) [] roles i h o p = absurd h
+all-keyless (n ∷ ns) (shape ∷ shapes) roles i h o p =
     let a = has_outer_names_at n.0 (roles i) in
     let b = all_named roles (suc i) (map has_outer_names_at (map (λ e. e.0) ns)) in
-    (n.1 shape h.0 (roles i) (and-left a b o), all-keyless ns shapes roles (suc i) h.1 (and-right a b o))
+    let rest = list_all (λ b. b) (map exports_nothing (map (λ e. e.0) ns)) in
+    (n.1 shape h.0 (roles i) (and-left a b o) (and-left (exports_nothing n.0) rest p), all-keyless ns shapes roles (suc i) h.1 (and-right a b o) (and-right (exports_nothing n.0) rest p))
 
 keyless : (n : Node) → Keyless n
-keyless = ind-Node Keyless (λ x y is shape h r o.
+keyless = ind-Node Keyless (λ x y is shape h r o p.
+    let bare = exportless-parts x p in
     let s = (node_has_shape x.span x.kind x.children shape).0 h in
     let a = is_outer (is_name r) x.kind in
     let b = all_named (role_by r x.kind (is_there x.children 1)) 0 (map has_outer_names_at x.children) in
     let outer : b ≡ true = and-right a b (sym (outer-roll x r) ∙ o) in
     let below = subst (λ cs. HaveShapes (child_shapes x.kind shape (length x.children)) cs → all_named (role_by r x.kind (is_there x.children 1)) 0 (map has_outer_names_at cs) ≡ true
-    → AllNodes (λ c. NoKeys (written_out c)) cs) (ap (λ z. z.children) is)
-    (all-keyless y.children (child_shapes x.kind shape (length x.children)) (role_by r x.kind (is_there x.children 1)) 0) s.1 outer in
-    subst NoKeys (sym (out-roll x)) (layer-keys r x.span x.kind shape x.children s.1 outer below))
+    → list_all (λ b. b) (map exports_nothing cs) ≡ true → AllNodes (λ c. NoKeys (written_out c)) cs) (ap (λ z. z.children) is)
+    (all-keyless y.children (child_shapes x.kind shape (length x.children)) (role_by r x.kind (is_there x.children 1)) 0) s.1 outer bare.1 in
+    subst NoKeys (sym (out-roll x)) (layer-keys r x.span x.kind shape x.children s.1 outer bare.0 below))
 
 pub sorted_names_are_outer : SortedNamesAreOuter
-sorted_names_are_outer tree h o =
-    record { named = names-fine tree (one sort.Module) h role.Root o; keys = empty-all (key_names_in (written_out tree)) (keyless tree (one sort.Module) h role.Root o) }
+sorted_names_are_outer tree h bare o =
+    record { named = names-fine tree (one sort.Module) h role.Root o; keys = empty-all (key_names_in (written_out tree)) (keyless tree (one sort.Module) h role.Root o bare) }

@@ -17,7 +17,7 @@ use Rattle.ecma_runs.specs.Functions.{read}
 use Rattle.ecma_runs.specs.Expressions.{identifier}
 use Rattle.ecma_runs.specs.Patterns.{or_default}
 use Rattle.ecma_runs.specs.Classes.{literal_key, all_defined}
-use Rattle.ecma_runs.specs.Declarations.{all_declared}
+use Rattle.ecma_runs.specs.Declarations.{all_declared, exported_from}
 use Rattle.ecma_runs.specs.Evaluation.{meaning_by, meaning}
 use Rattle.ecma_runs.specs.Observation.{observe}
 use Rattle.ecma_runs.proofs.Layer.{meaning-roll, meaning_out}
@@ -204,11 +204,21 @@ specifier_means n name other text ctxt optional cs ms place true = refl
 specifier_means n name other text ctxt optional [] ms place false = refl
 specifier_means n name other text ctxt optional (c ∷ cs) ms place false = refl
 
-export_means : (n name other : Node) (m : Meaning) (text : List ℕ) (ms : List Meaning) (place : Span) (is_type_only : Bool)
-    → meaning_by n (kind.ExportNamedSpecifier is_type_only) (m ∷ meaning_by (name_node place text) (kind.Ident text 0 false) [] ∷ [])
-    ≡ meaning_by n (kind.ExportNamedSpecifier is_type_only) (m ∷ meaning_by other kind.Absent ms ∷ [])
-export_means n name other m text ms place true = refl
-export_means n name other m text ms place false = refl
+-- what is no name exports nothing, under whatever name
+nothing_exported : (name : Node) (text : List ℕ) (ctxt : ℕ) (optional : Bool) (m : Meaning) (ms : List Meaning) (source : Option (List ℕ))
+    → exported_from source (Some text) (meaning_by name (kind.Ident text ctxt optional) (m ∷ ms)) ≡ exported_from source None (meaning_by name (kind.Ident text ctxt optional) (m ∷ ms))
+nothing_exported name text ctxt optional m ms None = refl
+nothing_exported name text ctxt optional m ms (Some source) = refl
+
+export_means : (n name other : Node) (text : List ℕ) (ctxt : ℕ) (optional : Bool) (cs : List Node) (ms : List Meaning) (place : Span) (is_type_only : Bool)
+    → meaning_by n (kind.ExportNamedSpecifier is_type_only) (meaning_by name (kind.Ident text ctxt optional) (map meaning cs) ∷ meaning_by (name_node place text) (kind.Ident text 0 false) [] ∷ [])
+    ≡ meaning_by n (kind.ExportNamedSpecifier is_type_only) (meaning_by name (kind.Ident text ctxt optional) (map meaning cs) ∷ meaning_by other kind.Absent ms ∷ [])
+export_means n name other text ctxt optional cs ms place true = refl
+export_means n name other text ctxt optional [] ms place false = refl
+export_means n name other text ctxt optional (c ∷ cs) ms place false =
+    λ i. record (meaning_by n (kind.ExportNamedSpecifier false) (meaning_by name (kind.Ident text ctxt optional) (map meaning (c ∷ cs)) ∷ meaning_by other kind.Absent ms ∷ [])) {
+      exports = λ source. nothing_exported name text ctxt optional (meaning c) (map meaning cs) source i;
+    }
 
 abbrev name_means : (place : Span) (text : List ℕ) → meaning (name_node place text) ≡ meaning_by (name_node place text) (kind.Ident text 0 false) []
 name_means place text = meaning-roll (record { span = place; kind = kind.Ident text 0 false; children = [] })
@@ -225,11 +235,13 @@ module _ (n name other : Node) (is_type_only : Bool) where
       (specifier_means n name other text ctxt optional (out-Node name).children (map meaning (out-Node other).children) (out-Node name).span is_type_only)
   import_by e _ is = refl
 
-  export_by : kind_is_absent other ≡ true → (k : Kind)
+  export_by : kind_is_absent other ≡ true → (k : Kind) → (out-Node name).kind ≡ k
       → meaning_by n (kind.ExportNamedSpecifier is_type_only) (meaning name ∷ meaning (other_by k (out-Node name).span other) ∷ []) ≡ meaning_by n (kind.ExportNamedSpecifier is_type_only) (meaning name ∷ meaning other ∷ [])
-  export_by e (kind.Ident text ctxt optional) =
-      rw (missing_means other e, name_means (out-Node name).span text) (export_means n name other (meaning name) text (map meaning (out-Node other).children) (out-Node name).span is_type_only)
-  export_by e _ = refl
+  export_by e (kind.Ident text ctxt optional) is =
+      let m : meaning name ≡ meaning_by name (kind.Ident text ctxt optional) (map meaning (out-Node name).children) = meaning_out name ∙ ap (λ k. meaning_by name k (map meaning (out-Node name).children)) is in
+      rw (m, missing_means other e, name_means (out-Node name).span text)
+      (export_means n name other text ctxt optional (out-Node name).children (map meaning (out-Node other).children) (out-Node name).span is_type_only)
+  export_by e _ is = refl
 
   import_out : (b : Bool) → kind_is_absent other ≡ b → meaning_by n (kind.ImportNamedSpecifier is_type_only) (meaning name ∷ meaning (cond b (other_by (out-Node name).kind (out-Node name).span other) other) ∷ [])
       ≡ meaning_by n (kind.ImportNamedSpecifier is_type_only) (meaning name ∷ meaning other ∷ [])
@@ -238,7 +250,7 @@ module _ (n name other : Node) (is_type_only : Bool) where
 
   export_out : (b : Bool) → kind_is_absent other ≡ b → meaning_by n (kind.ExportNamedSpecifier is_type_only) (meaning name ∷ meaning (cond b (other_by (out-Node name).kind (out-Node name).span other) other) ∷ [])
       ≡ meaning_by n (kind.ExportNamedSpecifier is_type_only) (meaning name ∷ meaning other ∷ [])
-  export_out true e = export_by e (out-Node name).kind
+  export_out true e = export_by e (out-Node name).kind refl
   export_out false e = refl
 
 -- the rule keeps what a layer means

@@ -21,20 +21,21 @@ use Rattle.ecma_hygiene_runs.specs.WrittenOut.{written_out}
 use Rattle.ecma_hygiene_runs.specs.Resolved.{IsResolved, KeepsApart}
 use Rattle.ecma_hygiene_runs.specs.OuterNames.{has_outer_names, NamesAreOuter}
 use Rattle.ecma_hygiene_runs.specs.Plain.{is_plain}
+use Rattle.ecma_hygiene_runs.specs.Exports.{exports_nothing}
 
--- in a sorted module whose names outside of variables have the empty context, patterns have names, and keys beside shorthands have that context
+-- in a sorted module without exports whose names outside of variables have the empty context, patterns have names, and keys beside shorthands have that context
 abbrev pub SortedNamesAreOuter : Type 0
-SortedNamesAreOuter = (tree : Node) → HasSort sort.Module tree → has_outer_names tree ≡ true → NamesAreOuter tree
+SortedNamesAreOuter = (tree : Node) → HasSort sort.Module tree → exports_nothing tree ≡ true → has_outer_names tree ≡ true → NamesAreOuter tree
 
 -- each binding of a plain module is declared where the module runs
 abbrev pub BindingsAreDeclared : Type 0
 BindingsAreDeclared =
     (tree : Node) → HasSort sort.Module tree → is_plain tree ≡ true → (id : Id) → is_bound (sights tree) id ≡ true → is_among (record { sym = id.0; ctxt = id.1 }) (meaning tree).declared ≡ true
 
--- a sorted module is resolved where it is plain, what is no name of a variable has the empty context, and no binding has it or is `this`
+-- a sorted module without exports is resolved where it is plain, what is no name of a variable has the empty context, and no binding has it or is `this`
 abbrev pub PlainModulesAreResolved : Type 0
 PlainModulesAreResolved =
-    (tree : Node) → HasSort sort.Module tree → is_plain tree ≡ true → has_outer_names tree ≡ true
+    (tree : Node) → HasSort sort.Module tree → is_plain tree ≡ true → exports_nothing tree ≡ true → has_outer_names tree ≡ true
     → ((id : Id) → is_bound (sights tree) id ≡ true → (id.1 ≢ 0) × (bytes_eq id.0 (codes "this") ≡ false)) → IsResolved tree
 
 -- trees that are equal with their shorthands written out run alike

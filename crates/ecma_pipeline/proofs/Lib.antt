@@ -6,4 +6,5 @@ pub mod Conflicts
 pub mod Interfaces
 pub mod Sourced
 pub mod Written
+pub mod Exportless
 pub mod Whole

@@ -9,7 +9,7 @@ use Rattle.ecma_kind.specs.declared.shapes.Shape.{Shape}
 use Rattle.ecma_kind.specs.declared.shapes.Sort.TheVariants as sort
 use Rattle.ecma_tree.specs.declared.node.Node.{Node, out-Node}
 use Rattle.ecma_tree.specs.Laws.{HaveShapes}
-use Rattle.ecma_tree.specs.Sorted.{HasShape, allows, child_shapes, is_absent, is_list, maybe, one, shape_of}
+use Rattle.ecma_tree.specs.Sorted.{HasShape, allows, child_shapes, is_list, maybe, one, shape_of}
 use Rattle.ecma_tree.specs.Values.{is_value_where, value_by}
 use Rattle.ecma_tree.proofs.Valuing.{is_value_where-out, value_where_by}
 use Rattle.ecma_fits.specs.declared.unfit.Where.{Where}
@@ -96,6 +96,7 @@ is_item kind.List = false
 is_item kind.SwitchCase = false
 is_item kind.ExportDecl = false
 is_item kind.ExportDefaultDecl = false
+is_item kind.ExportDefaultExpr = false
 is_item (kind.ImportDecl type_only) = false
 is_item (kind.ImportNamedSpecifier is_type_only) = false
 is_item kind.ImportDefaultSpecifier = false
@@ -183,6 +184,7 @@ module _ (id : Id) where
   item-by value n kind.SwitchCase shape cs around i v p h plain here = absurd (true-false i refl)
   item-by value n kind.ExportDecl shape cs around i v p h plain here = absurd (true-false i refl)
   item-by value n kind.ExportDefaultDecl shape cs around i v p h plain here = absurd (true-false i refl)
+  item-by value n kind.ExportDefaultExpr shape cs around i v p h plain here = absurd (true-false i refl)
   item-by value n (kind.ImportDecl t) shape cs around i v p h plain here = absurd (true-false i refl)
   item-by value n (kind.ImportNamedSpecifier t) shape cs around i v p h plain here = absurd (true-false i refl)
   item-by value n kind.ImportDefaultSpecifier shape cs around i v p h plain here = absurd (true-false i refl)
@@ -207,6 +209,7 @@ module _ (id : Id) where
   statement-item kind.SwitchCase a j = absurd (true-false a refl)
   statement-item kind.ExportDecl a j = absurd (true-false a refl)
   statement-item kind.ExportDefaultDecl a j = absurd (true-false a refl)
+  statement-item kind.ExportDefaultExpr a j = absurd (true-false a refl)
   statement-item (kind.ImportDecl t) a j = absurd (true-false a refl)
   statement-item (kind.ImportNamedSpecifier t) a j = absurd (true-false a refl)
   statement-item kind.ImportDefaultSpecifier a j = absurd (true-false a refl)
@@ -221,6 +224,7 @@ module _ (id : Id) where
   head-item kind.SwitchCase a = absurd (true-false a refl)
   head-item kind.ExportDecl a = absurd (true-false a refl)
   head-item kind.ExportDefaultDecl a = absurd (true-false a refl)
+  head-item kind.ExportDefaultExpr a = absurd (true-false a refl)
   head-item (kind.ImportDecl t) a = absurd (true-false a refl)
   head-item (kind.ImportNamedSpecifier t) a = absurd (true-false a refl)
   head-item kind.ImportDefaultSpecifier a = absurd (true-false a refl)

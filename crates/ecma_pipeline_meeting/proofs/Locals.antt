@@ -1,5 +1,6 @@
--- The variables of a module are declared in its scope.
+-- The variables of a module that exports no value as the default are declared in its scope.
 use Rattle.std.proofs.Common.{◌≡◌, ◌⊎◌, inl, inr, refl, sym, ap, ◌∙◌, ℕ, suc, List, [], ◌∷◌, ◌++◌, map, length, replicate, Option, Some, None, Bool, true, false, cond, ◌||◌, codes}
+use Rattle.std.proofs.lemmas.Bool.{or_parts}
 use Rattle.ecma_kind.specs.Sorts.{belongs}
 use Rattle.ecma_kind.specs.declared.kind.Kind.{Kind}
 use Rattle.ecma_kind.specs.declared.kind.Kind.TheVariants as kind
@@ -21,19 +22,21 @@ use Rattle.ecma_hygiene.specs.Sights.{own_scope}
 use Rattle.ecma_hygiene.proofs.Telling.{and-both, or-first, or-second, true-false}
 use Rattle.ecma_hygiene_scopes.specs.DeclaredIds.{DeclaredId, id_here, ids_declared, ids_in, scope_ids}
 use Rattle.ecma_hygiene_scopes.proofs.Membership.{own-agrees}
-use Rattle.ecma_hygiene_runs.specs.Plain.{is_plain, plain_by}
-use Rattle.ecma_runs.specs.State.{Binding, Id}
+use Rattle.ecma_hygiene_runs.specs.Plain.{is_plain, is_plain_kind, plain_by}
+use Rattle.ecma_runs.specs.State.{Binding, Id, default_name}
+use Rattle.ecma_runs.specs.Exports.{Exported, Local, Indirect, Star, local_ids}
 use Rattle.ecma_runs.specs.Environment.{ids_of, import_of, is_among}
 use Rattle.ecma_runs.specs.Meaning.{Meaning}
-use Rattle.ecma_runs.specs.Declarations.{all_imported, all_lexicals, all_vars, has_no_effect, imported_as, imported_from}
-use Rattle.ecma_runs.specs.Evaluation.{meaning, meaning_by, role_by}
+use Rattle.ecma_runs.specs.Declarations.{all_exports, all_imported, all_lexicals, all_vars, has_no_effect, imported_as, imported_from}
+use Rattle.ecma_runs.specs.Evaluation.{meaning, meaning_by, no_effect, role_by}
+use Rattle.ecma_runs.specs.Observation.{exports_in}
 use Rattle.ecma_runs.proofs.Layer.{meaning_out}
 use Rattle.ecma_hygiene_meeting.specs.Records.{declares_id}
 use Rattle.ecma_pipeline_meeting.proofs.Items.{is_item, item-are, none-lexicals}
 use Rattle.ecma_pipeline_meeting.proofs.Parts.{AllPlain, among-append, ids-append, ids-made, kept, kept-append, kept-nil, kept-out, plain-effect, plain-head, plain-kind, plain-out, plain-tail, sound-out}
 use Rattle.ecma_pipeline_meeting.proofs.Patterns.{ident-named, name_sought, shape_out}
 use Rattle.ecma_pipeline_meeting.proofs.Scopes.{Placed, own-found, scope-kept}
-use Rattle.ecma_pipeline_meeting.proofs.Variables.{has-vars, is_inner, item_sought, none-vars, var_sought}
+use Rattle.ecma_pipeline_meeting.proofs.Variables.{has-vars, inner-kind, is_inner, item_sought, var_sought}
 use Rattle.ecma_pipeline_meeting.proofs.Walks.{Each}
 
 or-cases : (a b : Bool) → (a || b) ≡ true → (a ≡ true) ⊎ (b ≡ true)
@@ -43,6 +46,34 @@ or-cases false b h = inr h
 either : (a b : Bool) (A : Type 0) → (a || b) ≡ true → (a ≡ true → A) → (b ≡ true → A) → A
 either true b A h f g = f refl
 either false b A h f g = g h
+
+-- ---- exports
+
+-- none of them is that of a value as the default
+abbrev NoDefault : List Exported → Type 0
+NoDefault entries = is_among default_name (local_ids entries) ≡ false
+
+local-append : (xs ys : List Exported) → local_ids (xs ++ ys) ≡ local_ids xs ++ local_ids ys
+local-append [] ys = refl
+local-append (Local name id ∷ xs) ys = ap (λ ids. id ∷ ids) (local-append xs ys)
+local-append (Indirect name source imported ∷ xs) ys = local-append xs ys
+local-append (Star ∷ xs) ys = local-append xs ys
+
+neither-default : (xs ys : List Exported) → NoDefault (xs ++ ys) → NoDefault xs × NoDefault ys
+neither-default xs ys h =
+    or_parts (is_among default_name (local_ids xs)) (is_among default_name (local_ids ys))
+    (sym (ap (is_among default_name) (local-append xs ys) ∙ among-append default_name (local_ids xs) (local_ids ys)) ∙ h)
+
+-- a declaration that is exported
+exported-item : (k : Kind) → belongs sort.Decl k ≡ true → is_plain_kind k ≡ true → is_item k ≡ true
+exported-item (kind.ClassDecl d) a j = refl
+exported-item (kind.FnDecl d) a j = refl
+exported-item (kind.VarDecl w d) a j = refl
+exported-item (kind.TsInterfaceDecl d) a j = refl
+exported-item (kind.TsTypeAliasDecl d) a j = refl
+exported-item (kind.TsEnumDecl x y) a j = absurd (true-false j refl)
+exported-item (kind.TsModuleDecl x y) a j = absurd (true-false j refl)
+exported-item _ a j = absurd (true-false a refl)
 
 module _ (id : Id) where
   -- the ids of variables among which it is
@@ -64,23 +95,38 @@ module _ (id : Id) where
 
   -- ---- `var`
 
-  outer-none : (n : Node) (k : Kind) (ms : List Meaning) → is_inner k ≡ false → is_among id (ids_of (meaning_by n k ms).vars) ≡ false
-  outer-none n (kind.Module s) ms e = refl
-  outer-none n (kind.Script s) ms e = refl
-  outer-none n kind.TsModuleBlock ms e = refl
-  outer-none n kind.ExportDecl ms e = none-vars id (has_no_effect kind.ExportDecl ms) n (role_by n kind.ExportDecl ms) refl
-  outer-none n _ ms e = absurd (true-false refl e)
+  exported-vars : (b : Bool) (n : Node) (m : Meaning) → Among (cond b (no_effect n) (role_by n kind.ExportDecl (m ∷ []))).vars → Among m.vars
+  exported-vars true n m a = absurd (true-false a refl)
+  exported-vars false n m a = a
+
+  outer-vars : (n : Node) (k : Kind) (cs : List Node) (around : ℕ → Where) → is_inner k ≡ false → Each (λ i c. Placed (around i) c) 0 cs → HaveShapes (child_shapes k (one sort.ModuleItem) (length cs)) cs → AllPlain cs
+      → Among (meaning_by n k (map meaning cs)).vars → Kept (id_here var_sought k ++ ids_in (λ i. in_var true k) 0 (map ids_declared cs))
+  unfolding in_var
+  outer-vars n (kind.Module s) cs around e p h plain a = absurd (true-false a refl)
+  outer-vars n (kind.Script s) cs around e p h plain a = absurd (true-false a refl)
+  outer-vars n kind.TsModuleBlock cs around e p h plain a = absurd (true-false a refl)
+  outer-vars n kind.ExportDecl (d ∷ []) around e p h plain a =
+      kept-nil id (ids_declared d var_sought)
+      ∙ has-vars id d (around 0) (one sort.Decl) (inner-kind count.One sort.Decl (out-Node d).kind refl (shape_out (one sort.Decl) d h.0).0) (λ l. refl) p.0 h.0 (plain-head d [] plain)
+      ∙ exported-vars (has_no_effect kind.ExportDecl (meaning d ∷ [])) n (meaning d) a
+  outer-vars n kind.ExportDecl [] around e p h plain a = absurd h
+  outer-vars n kind.ExportDecl (c ∷ d ∷ cs) around e p h plain a = absurd h.1
+  outer-vars n _ cs around e p h plain a = absurd (true-false refl e)
 
   no-list : (k : Kind) → belongs sort.ModuleItem k ≡ true → is_list k ≡ true → ⊥
   no-list kind.List a l = true-false a refl
   no-list _ a l = true-false l refl
 
   item-vars : (w : Where) (c : Node) → Placed w c → HasShape (one sort.ModuleItem) c → is_plain c ≡ true → Among (meaning c).vars → Kept (ids_declared c var_sought)
+  unfolding sought_in
   item-vars w c p h plain a = go (is_inner (out-Node c).kind) refl
     where
       go : (b : Bool) → is_inner (out-Node c).kind ≡ b → Kept (ids_declared c var_sought)
       go true e = has-vars id c w (one sort.ModuleItem) e (λ l. absurd (no-list (out-Node c).kind (shape_out (one sort.ModuleItem) c h).0 l)) p h plain ∙ a
-      go false e = absurd (true-false (sym (ap (λ m. is_among id (ids_of m.vars)) (meaning_out c)) ∙ a) (outer-none c (out-Node c).kind (map meaning (out-Node c).children) e))
+      go false e =
+          kept-out id c var_sought
+          ∙ outer-vars c (out-Node c).kind (out-Node c).children (where_in w c) e (sound-out (λ w node. is_out_of_role w.role node) w c p).1 (shape_out (one sort.ModuleItem) c h).1 (plain-out c plain).1
+          (sym (ap (λ m. is_among id (ids_of m.vars)) (meaning_out c)) ∙ a)
 
   each-vars : (around : ℕ → Where) (i : ℕ) (cs : List Node) → Each (λ j c. Placed (around j) c) i cs → HaveShapes (replicate (length cs) (one sort.ModuleItem)) cs → AllPlain cs
       → Among (all_vars (map meaning cs)) → Kept (ids_in (λ j. Some var_sought) i (map ids_declared cs))
@@ -171,33 +217,52 @@ module _ (id : Id) where
 
   -- ---- items
 
-  outer-by : (value : Bool) (n : Node) (k : Kind) (cs : List Node) → belongs sort.ModuleItem k ≡ true → is_item k ≡ false → HaveShapes (child_shapes k (one sort.ModuleItem) (length cs)) cs → AllPlain cs → plain_by k cs ≡ true
+  exported-lexicals : (b : Bool) (n : Node) (m : Meaning) → Among (cond b (no_effect n) (role_by n kind.ExportDecl (m ∷ []))).lexicals → Among m.lexicals
+  exported-lexicals true n m a = absurd (true-false a refl)
+  exported-lexicals false n m a = a
+
+  default-none : (b : Bool) (n : Node) (m : Meaning) → NoDefault ((cond b (no_effect n) (role_by n kind.ExportDefaultExpr (m ∷ []))).exports None)
+      → Among (cond b (no_effect n) (role_by n kind.ExportDefaultExpr (m ∷ []))).lexicals → ⊥
+  default-none true n m none a = true-false a refl
+  default-none false n m none a = true-false refl none
+
+  outer-by : (value : Bool) (n : Node) (k : Kind) (cs : List Node) (around : ℕ → Where) → Each (λ i c. Placed (around i) c) 0 cs → NoDefault ((meaning_by n k (map meaning cs)).exports None)
+      → belongs sort.ModuleItem k ≡ true → is_item k ≡ false → HaveShapes (child_shapes k (one sort.ModuleItem) (length cs)) cs → AllPlain cs → plain_by k cs ≡ true
       → Among (meaning_by n k (map meaning cs)).lexicals → Kept (id_here item_sought k ++ ids_in (λ i. in_item true value k i) 0 (map ids_declared cs))
   unfolding in_item
-  outer-by value n (kind.ImportDecl true) [] b i h plain p a = absurd h
-  outer-by value n (kind.ImportDecl true) (c ∷ cs) b i h plain p a = absurd (true-false refl (plain-effect (kind.ImportDecl true) c cs p))
-  outer-by value n (kind.ImportDecl false) (specifiers ∷ source ∷ attributes ∷ []) b i h plain p a =
+  outer-by value n (kind.ImportDecl true) [] around placed none b i h plain p a = absurd h
+  outer-by value n (kind.ImportDecl true) (c ∷ cs) around placed none b i h plain p a = absurd (true-false refl (plain-effect (kind.ImportDecl true) c cs p))
+  outer-by value n (kind.ImportDecl false) (specifiers ∷ source ∷ attributes ∷ []) around placed none b i h plain p a =
       kept-nil id (ids_declared specifiers item_sought) ∙ from-by (meaning source).text specifiers h.0 (plain-head specifiers (source ∷ attributes ∷ []) plain) a
-  outer-by value n (kind.ImportDecl false) [] b i h plain p a = absurd h
-  outer-by value n (kind.ImportDecl false) (c ∷ []) b i h plain p a = absurd h.1
-  outer-by value n (kind.ImportDecl false) (c ∷ d ∷ []) b i h plain p a = absurd h.1.1
-  outer-by value n (kind.ImportDecl false) (c ∷ d ∷ e ∷ f ∷ cs) b i h plain p a = absurd h.1.1.1
-  outer-by value n kind.ExportDecl cs b i h plain p a = absurd (true-false a (none-lexicals id (has_no_effect kind.ExportDecl (map meaning cs)) n (role_by n kind.ExportDecl (map meaning cs)) refl))
-  outer-by value n kind.ExportDefaultDecl cs b i h plain p a =
+  outer-by value n (kind.ImportDecl false) [] around placed none b i h plain p a = absurd h
+  outer-by value n (kind.ImportDecl false) (c ∷ []) around placed none b i h plain p a = absurd h.1
+  outer-by value n (kind.ImportDecl false) (c ∷ d ∷ []) around placed none b i h plain p a = absurd h.1.1
+  outer-by value n (kind.ImportDecl false) (c ∷ d ∷ e ∷ f ∷ cs) around placed none b i h plain p a = absurd h.1.1.1
+  outer-by value n kind.ExportDecl (d ∷ []) around placed none b i h plain p a =
+      let s = shape_out (one sort.Decl) d h.0 in
+      kept-nil id (ids_declared d item_sought)
+      ∙ item-are id (around 0) (one sort.Decl) d (exported-item (out-Node d).kind s.0 (plain-kind (out-Node d).kind (out-Node d).children (plain-out d (plain-head d [] plain)).0)) placed.0 h.0 (plain-head d [] plain)
+      ∙ exported-lexicals (has_no_effect kind.ExportDecl (meaning d ∷ [])) n (meaning d) a
+  outer-by value n kind.ExportDecl [] around placed none b i h plain p a = absurd h
+  outer-by value n kind.ExportDecl (c ∷ d ∷ cs) around placed none b i h plain p a = absurd h.1
+  outer-by value n kind.ExportDefaultExpr (e ∷ []) around placed none b i h plain p a = absurd (default-none (has_no_effect kind.ExportDefaultExpr (meaning e ∷ [])) n (meaning e) none a)
+  outer-by value n kind.ExportDefaultExpr [] around placed none b i h plain p a = absurd h
+  outer-by value n kind.ExportDefaultExpr (c ∷ d ∷ cs) around placed none b i h plain p a = absurd h.1
+  outer-by value n kind.ExportDefaultDecl cs around placed none b i h plain p a =
       absurd (true-false a (none-lexicals id (has_no_effect kind.ExportDefaultDecl (map meaning cs)) n (role_by n kind.ExportDefaultDecl (map meaning cs)) refl))
-  outer-by value n (kind.TsImportEqualsDecl x y) cs b i h plain p a = absurd (true-false (plain-kind (kind.TsImportEqualsDecl x y) cs p) refl)
-  outer-by value n (kind.TsEnumDecl x y) cs b i h plain p a = absurd (true-false (plain-kind (kind.TsEnumDecl x y) cs p) refl)
-  outer-by value n (kind.TsModuleDecl x y) cs b i h plain p a = absurd (true-false (plain-kind (kind.TsModuleDecl x y) cs p) refl)
-  outer-by value n kind.List cs b i h plain p a = absurd (true-false b refl)
-  outer-by value n kind.SwitchCase cs b i h plain p a = absurd (true-false b refl)
-  outer-by value n (kind.ImportNamedSpecifier t) cs b i h plain p a = absurd (true-false b refl)
-  outer-by value n kind.ImportDefaultSpecifier cs b i h plain p a = absurd (true-false b refl)
-  outer-by value n kind.ImportStarAsSpecifier cs b i h plain p a = absurd (true-false b refl)
-  outer-by value n _ cs b i h plain p a = absurd (true-false refl i)
+  outer-by value n (kind.TsImportEqualsDecl x y) cs around placed none b i h plain p a = absurd (true-false (plain-kind (kind.TsImportEqualsDecl x y) cs p) refl)
+  outer-by value n (kind.TsEnumDecl x y) cs around placed none b i h plain p a = absurd (true-false (plain-kind (kind.TsEnumDecl x y) cs p) refl)
+  outer-by value n (kind.TsModuleDecl x y) cs around placed none b i h plain p a = absurd (true-false (plain-kind (kind.TsModuleDecl x y) cs p) refl)
+  outer-by value n kind.List cs around placed none b i h plain p a = absurd (true-false b refl)
+  outer-by value n kind.SwitchCase cs around placed none b i h plain p a = absurd (true-false b refl)
+  outer-by value n (kind.ImportNamedSpecifier t) cs around placed none b i h plain p a = absurd (true-false b refl)
+  outer-by value n kind.ImportDefaultSpecifier cs around placed none b i h plain p a = absurd (true-false b refl)
+  outer-by value n kind.ImportStarAsSpecifier cs around placed none b i h plain p a = absurd (true-false b refl)
+  outer-by value n _ cs around placed none b i h plain p a = absurd (true-false refl i)
 
-  item-lexicals : (w : Where) (c : Node) → Placed w c → HasShape (one sort.ModuleItem) c → is_plain c ≡ true → Among (meaning c).lexicals → Kept (ids_declared c item_sought)
+  item-lexicals : (w : Where) (c : Node) → Placed w c → HasShape (one sort.ModuleItem) c → is_plain c ≡ true → NoDefault ((meaning c).exports None) → Among (meaning c).lexicals → Kept (ids_declared c item_sought)
   unfolding sought_in
-  item-lexicals w c p h plain a = go (is_item (out-Node c).kind) refl
+  item-lexicals w c p h plain none a = go (is_item (out-Node c).kind) refl
     where
       go : (b : Bool) → is_item (out-Node c).kind ≡ b → Kept (ids_declared c item_sought)
       go true e = item-are id w (one sort.ModuleItem) c e p h plain ∙ a
@@ -205,52 +270,55 @@ module _ (id : Id) where
           (let s = shape_out (one sort.ModuleItem) c h in
           let t = plain-out c plain in
           kept-out id c item_sought
-          ∙ outer-by (is_value_where true c) c (out-Node c).kind (out-Node c).children s.0 e s.1 t.1 t.0 (sym (ap (λ m. is_among id (ids_of m.lexicals)) (meaning_out c)) ∙ a))
+          ∙ outer-by (is_value_where true c) c (out-Node c).kind (out-Node c).children (where_in w c) (sound-out (λ w node. is_out_of_role w.role node) w c p).1
+          (sym (ap (λ m. is_among default_name (local_ids (m.exports None))) (meaning_out c)) ∙ none) s.0 e s.1 t.1 t.0 (sym (ap (λ m. is_among id (ids_of m.lexicals)) (meaning_out c)) ∙ a))
 
   each-lexical : (around : ℕ → Where) (i : ℕ) (cs : List Node) → Each (λ j c. Placed (around j) c) i cs → HaveShapes (replicate (length cs) (one sort.ModuleItem)) cs → AllPlain cs
-      → Among (all_lexicals (map meaning cs)) → Kept (ids_in (λ j. Some item_sought) i (map ids_declared cs))
-  each-lexical around i [] p h plain a = absurd (true-false a refl)
-  each-lexical around i (c ∷ cs) p h plain a =
+      → NoDefault (all_exports (map meaning cs) None) → Among (all_lexicals (map meaning cs)) → Kept (ids_in (λ j. Some item_sought) i (map ids_declared cs))
+  each-lexical around i [] p h plain none a = absurd (true-false a refl)
+  each-lexical around i (c ∷ cs) p h plain none a =
+      let neither = neither-default ((meaning c).exports None) (all_exports (map meaning cs) None) none in
       let xs = ids_declared c item_sought in
       let ys = ids_in (λ j. Some item_sought) (suc i) (map ids_declared cs) in
       either-of (meaning c).lexicals (all_lexicals (map meaning cs)) (Kept (xs ++ ys)) a
-      (λ e. kept-first xs ys (item-lexicals (around i) c p.0 h.0 (plain-head c cs plain) e))
-      (λ e. kept-second xs ys (each-lexical around (suc i) cs p.1 h.1 (plain-tail c cs plain) e))
+      (λ e. kept-first xs ys (item-lexicals (around i) c p.0 h.0 (plain-head c cs plain) neither.0 e))
+      (λ e. kept-second xs ys (each-lexical around (suc i) cs p.1 h.1 (plain-tail c cs plain) neither.1 e))
 
   lexicals-by : (value : Bool) (n : Node) (k : Kind) (cs : List Node) (around : ℕ → Where) → is_list k ≡ true → Each (λ j c. Placed (around j) c) 0 cs
-      → HaveShapes (child_shapes k (shape_of count.Many sort.ModuleItem) (length cs)) cs → AllPlain cs → Among (meaning_by n k (map meaning cs)).lexicals
+      → HaveShapes (child_shapes k (shape_of count.Many sort.ModuleItem) (length cs)) cs → AllPlain cs → NoDefault ((meaning_by n k (map meaning cs)).exports None) → Among (meaning_by n k (map meaning cs)).lexicals
       → Kept (id_here item_sought k ++ ids_in (λ i. in_item true value k i) 0 (map ids_declared cs))
   unfolding in_item
-  lexicals-by value n kind.List cs around b p h plain a = each-lexical around 0 cs p h plain a
-  lexicals-by value n _ cs around b p h plain a = absurd (true-false b refl)
+  lexicals-by value n kind.List cs around b p h plain none a = each-lexical around 0 cs p h plain none a
+  lexicals-by value n _ cs around b p h plain none a = absurd (true-false b refl)
 
-  body-lexicals : (w : Where) (body : Node) → Placed w body → HasShape (shape_of count.Many sort.ModuleItem) body → is_plain body ≡ true → Among (meaning body).lexicals → Kept (ids_declared body item_sought)
+  body-lexicals : (w : Where) (body : Node) → Placed w body → HasShape (shape_of count.Many sort.ModuleItem) body → is_plain body ≡ true → NoDefault ((meaning body).exports None)
+      → Among (meaning body).lexicals → Kept (ids_declared body item_sought)
   unfolding sought_in
-  body-lexicals w body p h plain a =
+  body-lexicals w body p h plain none a =
       let s = shape_out (shape_of count.Many sort.ModuleItem) body h in
       kept-out id body item_sought
       ∙ lexicals-by (is_value_where true body) body (out-Node body).kind (out-Node body).children (where_in w body) s.0 (sound-out (λ w node. is_out_of_role w.role node) w body p).1 s.1 (plain-out body plain).1
-      (sym (ap (λ m. is_among id (ids_of m.lexicals)) (meaning_out body)) ∙ a)
+      (sym (ap (λ m. is_among default_name (local_ids (m.exports None))) (meaning_out body)) ∙ none) (sym (ap (λ m. is_among id (ids_of m.lexicals)) (meaning_out body)) ∙ a)
 
   -- ---- the module
 
   module-by : (value : Bool) (n : Node) (k : Kind) (cs : List Node) (around : ℕ → Where) (found : List DeclaredId) → belongs sort.Module k ≡ true → Each (λ j c. Placed (around j) c) 0 cs
       → HaveShapes (child_shapes k (one sort.Module) (length cs)) cs → AllPlain cs
-      → kept id found ≡ kept id (id_here var_sought k ++ ids_in (λ i. in_var true k) 0 (map ids_declared cs)) → Among (meaning_by n k (map meaning cs)).locals
+      → kept id found ≡ kept id (id_here var_sought k ++ ids_in (λ i. in_var true k) 0 (map ids_declared cs)) → NoDefault ((meaning_by n k (map meaning cs)).exports None) → Among (meaning_by n k (map meaning cs)).locals
       → (kept id (id_here (record { part = part.Scope; stays = true }) k ++ ids_in (λ i. in_scope true value k i) 0 (map ids_declared cs)) || kept id (cond (holds_vars role.Root k) found [])) ≡ true
   unfolding in_scope in_var holds_vars
-  module-by value n (kind.Module s) (body ∷ []) around found b p h plain f a =
+  module-by value n (kind.Module s) (body ∷ []) around found b p h plain f none a =
       let items = kept id (ids_declared body item_sought ++ []) in
       either-of (meaning body).vars (meaning body).lexicals ((items || kept id found) ≡ true) a
       (λ e. or-second items (kept id found) (f ∙ kept-nil id (ids_declared body var_sought) ∙ body-vars (around 0) body p.0 h.0 (plain-head body [] plain) e))
-      (λ e. or-first items (kept id found) (kept-nil id (ids_declared body item_sought) ∙ body-lexicals (around 0) body p.0 h.0 (plain-head body [] plain) e))
-  module-by value n (kind.Module s) [] around found b p h plain f a = absurd h
-  module-by value n (kind.Module s) (c ∷ d ∷ cs) around found b p h plain f a = absurd h.1
-  module-by value n _ cs around found b p h plain f a = absurd (true-false b refl)
+      (λ e. or-first items (kept id found) (kept-nil id (ids_declared body item_sought) ∙ body-lexicals (around 0) body p.0 h.0 (plain-head body [] plain) none e))
+  module-by value n (kind.Module s) [] around found b p h plain f none a = absurd h
+  module-by value n (kind.Module s) (c ∷ d ∷ cs) around found b p h plain f none a = absurd h.1
+  module-by value n _ cs around found b p h plain f none a = absurd (true-false b refl)
 
-  pub module-declares : (w : Where) (tree : Node) → Placed w tree → HasShape (one sort.Module) tree → is_plain tree ≡ true → Among (meaning tree).locals → declares_id (own_scope role.Root [] tree) id ≡ true
+  pub module-declares : (w : Where) (tree : Node) → Placed w tree → HasShape (one sort.Module) tree → is_plain tree ≡ true → NoDefault (exports_in tree) → Among (meaning tree).locals → declares_id (own_scope role.Root [] tree) id ≡ true
   unfolding sought_in
-  module-declares w tree p h plain a =
+  module-declares w tree p h plain none a =
       let s = shape_out (one sort.Module) tree h in
       let k = (out-Node tree).kind in
       own-agrees (id.sym, id.ctxt) role.Root [] tree
@@ -258,5 +326,5 @@ module _ (id : Id) where
       (scope-kept id role.Root tree refl
       ∙ ap (λ b. b || kept id (cond (holds_vars role.Root k) (ids_declared tree var_sought) [])) (own-found id role.Root part.Scope tree refl)
       ∙ module-by (is_value_where true tree) tree k (out-Node tree).children (where_in w tree) (ids_declared tree var_sought) s.0 (sound-out (λ w node. is_out_of_role w.role node) w tree p).1 s.1 (plain-out tree plain).1
-      (kept-out id tree var_sought) (sym (ap (λ m. is_among id (ids_of m.locals)) (meaning_out tree)) ∙ a))
+      (kept-out id tree var_sought) (sym (ap (λ m. is_among default_name (local_ids (m.exports None))) (meaning_out tree)) ∙ none) (sym (ap (λ m. is_among id (ids_of m.locals)) (meaning_out tree)) ∙ a))
       refl

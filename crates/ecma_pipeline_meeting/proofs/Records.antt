@@ -1,4 +1,4 @@
--- In a plain module that fits, each scope for which the evaluator makes a record is that record.
+-- In a plain module that fits and exports no value as the default, each scope for which the evaluator makes a record is that record.
 use Rattle.std.proofs.Common.{◌≡◌, refl, sym, ap, ◌∙◌, subst, List, [], ◌++◌, map, Bool, true, false, cond, ◌&&◌, ◌||◌}
 use Rattle.ecma_kind.specs.Sorts.{belongs}
 use Rattle.ecma_kind.specs.declared.kind.Kind.{Kind}
@@ -120,12 +120,12 @@ module-opens (kind.Module s) there e = refl
 module-opens _ there e = absurd (true-false e refl)
 
 pub plain_modules_have_records_of_scopes : BindingsAreDeclared → PlainModulesHaveRecordsOfScopes
-plain_modules_have_records_of_scopes bindings tree fits plain =
+plain_modules_have_records_of_scopes bindings tree fits plain none =
     let stands = root-stands tree fits plain in
     let whole : belongs sort.Module (out-Node tree).kind ≡ true = (shape_out (one sort.Module) tree fits.sorted).0 in
     record {
       whole = whole;
-      locals = λ id h. module-declares id at_top tree fits.roles fits.sorted plain h;
+      locals = λ id h. module-declares id at_top tree fits.roles fits.sorted plain none h;
       declared = λ id h. bindings tree fits.sorted plain (id.sym, id.ctxt) (own-bound tree nowhere (id.sym, id.ctxt) (module-opens (out-Node tree).kind (is_there (out-Node tree).children 0) whole) h);
       formed = held Stands IsFormed down formed tree nowhere stands;
       records = held Stands IsRecord down is-record tree nowhere stands;

@@ -88,7 +88,7 @@ by-count count.Many σ k a l b = l
 by-count count.MaybeMany σ k a l b = (λ j. a j || l j)
 by-count count.Holes σ k a l b = l
 
-inner-kind : (c : Count) (σ : Sort) (k : Kind) → is_inner_sort σ ≡ true → allows_by c σ k ≡ true → is_inner k ≡ true
+pub inner-kind : (c : Count) (σ : Sort) (k : Kind) → is_inner_sort σ ≡ true → allows_by c σ k ≡ true → is_inner k ≡ true
 inner-kind c σ (kind.Module s) i a = absurd (true-false a (by-count c σ (kind.Module s) refl refl (no-module σ s i)))
 inner-kind c σ (kind.Script s) i a = absurd (true-false a (by-count c σ (kind.Script s) refl refl (no-script σ s i)))
 inner-kind c σ kind.TsModuleBlock i a = absurd (true-false a (by-count c σ kind.TsModuleBlock refl refl (no-block σ i)))
@@ -132,7 +132,7 @@ module _ (id : Id) where
     pub plain : AllPlain cs
     pub here : plain_by k cs ≡ true
 
-  pub none-vars : (b : Bool) (n : Node) (m : Meaning) → m.vars ≡ [] → is_among id (ids_of (cond b (no_effect n) m).vars) ≡ false
+  none-vars : (b : Bool) (n : Node) (m : Meaning) → m.vars ≡ [] → is_among id (ids_of (cond b (no_effect n) m).vars) ≡ false
   none-vars true n m e = refl
   none-vars false n m e = ap (λ z. is_among id (ids_of z)) e
 

@@ -9,7 +9,8 @@ use ecma_hygiene_fits::final_texts_are_unreserved;
 use ecma_hygiene_meeting::final_texts_may_meet;
 use ecma_hygiene_runs::bindings_are_declared;
 
-/// In a module that fits, and has neither types nor enums, namespaces or `import a =`, each scope for which the evaluator makes a record declares the names of that record.
+/// In a module that fits, and has neither types nor enums, namespaces or `import a =`, each scope for which the evaluator makes a record declares the names of that record. Asked is that the
+/// module exports no value as the default: `export default 1;` makes the variable `*default*`, which no scope declares.
 pub fn plain_modules_have_records_of_scopes()
     ensures { PlainModulesHaveRecordsOfScopes }
 {
@@ -26,7 +27,7 @@ pub fn final_texts_tell_names_from_parameters()
     ensures { FinalTextsTellNamesFromParameters }
 {}
 
-/// So names may meet under the final texts of such a module, where its ids say which scopes declare its names.
+/// So names may meet under the final texts of such a module that exports nothing, where its ids say which scopes declare its names, with a map of contexts that keeps the empty one.
 pub fn plain_final_texts_may_meet()
     ensures { PlainFinalTextsMayMeet }
 {

@@ -115,7 +115,7 @@ module _ (unresolved top left : ℕ) (source : Node) (read : IsRead source) (tak
   given_stripped : Everywhere IsGiven s
   given_stripped = (kept Asked (Everywhere IsGiven) asked_says r (one sort.Module) resolved_fits.sorted (texts_resolved, resolved_taken unresolved top left source taken)).0
 
-  left_stripped : Everywhere IsLeft s
+  pub left_stripped : Everywhere IsLeft s
   left_stripped = leaves s given_stripped free stripped_full
 
   module _ (final : Node) (hygienic : IsHygienic s final) where

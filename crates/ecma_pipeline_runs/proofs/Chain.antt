@@ -25,6 +25,7 @@ use Rattle.ecma_hygiene.specs.Texts.{HygienicTexts, is_bound, text_in}
 use Rattle.ecma_hygiene_scopes.specs.Laws.{ContextsAreMapped}
 use Rattle.ecma_hygiene_scopes.specs.Apart.{IsMap, TellsScopesApart}
 use Rattle.ecma_hygiene_scopes.specs.Stops.{IsRight, stops}
+use Rattle.ecma_hygiene_runs.specs.Exports.{exports_nothing}
 use Rattle.ecma_hygiene_runs.specs.Resolved.{IsResolved, KeepsApart}
 use Rattle.ecma_hygiene_runs.specs.Laws.{ReadingAgainKeepsRuns, PlainModulesAreResolved}
 use Rattle.ecma_pipeline_runs.specs.Laws.{PassesKeepRuns, StrippedModulesArePlain}
@@ -73,7 +74,7 @@ above n = omega arith
 two-apart : (n : ℕ) → n + 2 ≡ n + 1 → ⊥
 two-apart n h = omega arith
 
-module _ (laws : Laws) (assignments : Bool) (free : ℕ) (r : Node) (is : IsReady assignments free r) (own : HasOwnContexts r) where
+module _ (laws : Laws) (assignments : Bool) (free : ℕ) (r : Node) (is : IsReady assignments free r) (own : HasOwnContexts r) (bare : exports_nothing (stripped r) ≡ true) where
   abbrev s : Node
   s = stripped r
 
@@ -107,11 +108,11 @@ module _ (laws : Laws) (assignments : Bool) (free : ℕ) (r : Node) (is : IsRead
         self n = omega arith
 
     module _ (written : Node) (reading : IsReading h written) (unresolved top left : ℕ) (given : AreGiven unresolved top left written) where
-      abbrev bare : Node
-      bare = without_contexts h
+      abbrev uncontexted : Node
+      uncontexted = without_contexts h
 
       enough : contexts s ≤ left
-      enough = subst (λ (n : ℕ). n ≤ left) ((laws.spans written (explicit bare) reading).count ∙ (laws.parentheses bare bare-made.1).count ∙ counted) given.enough
+      enough = subst (λ (n : ℕ). n ≤ left) ((laws.spans written (explicit uncontexted) reading).count ∙ (laws.parentheses uncontexted bare-made.1).count ∙ counted) given.enough
 
       map-of : (to : ℕ → ℕ) × IsMap unresolved top free left s to
       map-of = laws.maps unresolved top free left s (apart left) given.unresolved_above given.top_above given.apart enough
@@ -121,7 +122,7 @@ module _ (laws : Laws) (assignments : Bool) (free : ℕ) (r : Node) (is : IsRead
 
       resolved-there : IsResolved s
       resolved-there =
-          laws.resolves s sorted (laws.plain r is.fits is.types) (outer s nowhere left (λ k d lt. ((apart left).scoped k d lt).names)) (λ id bound. (inner id bound, bound-other s id (modules-are-full r is.fits is.types) bound))
+          laws.resolves s sorted (laws.plain r is.fits is.types) bare (outer s nowhere left (λ k d lt. ((apart left).scoped k d lt).names)) (λ id bound. (inner id bound, bound-other s id (modules-are-full r is.fits is.types) bound))
 
       keeps : KeepsApart map-of.0 s
       keeps = record {
@@ -131,20 +132,20 @@ module _ (laws : Laws) (assignments : Bool) (free : ℕ) (r : Node) (is : IsRead
       }
 
       module _ (turns : ℕ) (options : Config) (script : Script) where
-        bare-runs : observe turns options (resolved unresolved top left bare) script ≡ observe turns options r script
+        bare-runs : observe turns options (resolved unresolved top left uncontexted) script ≡ observe turns options r script
         bare-runs = laws.again turns options unresolved top left map-of.0 s names script texts map-of.1.right resolved-there keeps ∙ strip-runs turns options script
 
-        explicit-runs : observe turns options (resolved unresolved top left (explicit bare)) script ≡ observe turns options r script
+        explicit-runs : observe turns options (resolved unresolved top left (explicit uncontexted)) script ≡ observe turns options r script
         explicit-runs =
-            ap (λ n. observe turns options n script) ((laws.parentheses bare bare-made.1).same unresolved top left)
-            ∙ laws.alike turns options (resolved unresolved top left bare) script ((laws.sorted unresolved top left bare sort.Module).1 bare-made.0) ∙ bare-runs
+            ap (λ n. observe turns options n script) ((laws.parentheses uncontexted bare-made.1).same unresolved top left)
+            ∙ laws.alike turns options (resolved unresolved top left uncontexted) script ((laws.sorted unresolved top left uncontexted sort.Module).1 bare-made.0) ∙ bare-runs
 
         written-runs : observe turns options (resolved unresolved top left written) script ≡ observe turns options r script
         written-runs =
             sym (laws.places turns options (resolved unresolved top left written) script)
-            ∙ ap (λ n. observe turns options n script) ((laws.spans written (explicit bare) reading).same unresolved top left)
-            ∙ laws.places turns options (resolved unresolved top left (explicit bare)) script ∙ explicit-runs
+            ∙ ap (λ n. observe turns options n script) ((laws.spans written (explicit uncontexted) reading).same unresolved top left)
+            ∙ laws.places turns options (resolved unresolved top left (explicit uncontexted)) script ∙ explicit-runs
 
 pub keep-runs : Laws → PassesKeepRuns
-keep-runs laws assignments free tree final written is own hygienic reading unresolved top left given turns options script =
-    written-runs laws assignments free tree is own hygienic.names hygienic.texts written (subst (λ n. IsReading n written) hygienic.is reading) unresolved top left given turns options script
+keep-runs laws assignments free tree final written is own bare hygienic reading unresolved top left given turns options script =
+    written-runs laws assignments free tree is own bare hygienic.names hygienic.texts written (subst (λ n. IsReading n written) hygienic.is reading) unresolved top left given turns options script

@@ -176,6 +176,7 @@ module _ (known : Known) where
     declared = same.declared;
     imported = same.imported;
     text = same.text;
+    exports = same.exports;
     cooked = same.cooked;
     is_plain = same.is_plain;
     is_computed = same.is_computed;

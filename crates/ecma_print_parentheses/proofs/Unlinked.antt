@@ -20,7 +20,7 @@ use Rattle.ecma_runs.specs.Meaning.{Evaluation, Meaning, inside}
 use Rattle.ecma_runs.specs.Evaluation.{meaning_by, no_effect, role_by}
 use Rattle.ecma_runs.specs.Values.{Value, truth_of}
 use Rattle.ecma_runs.specs.Classes.{all_code, all_defined, all_fields, all_statics, field_with}
-use Rattle.ecma_runs.specs.Declarations.{all_names, all_imported, all_lexicals, all_vars, all_parameter_names, all_declared, all_shorthands, all_cooked, all_plain, all_types, any_constructor, joined_parts, imported_from}
+use Rattle.ecma_runs.specs.Declarations.{all_names, all_imported, all_lexicals, all_vars, all_parameter_names, all_declared, all_shorthands, all_cooked, all_plain, all_types, any_constructor, joined_parts, imported_from, all_exports, exported_from}
 use Rattle.ecma_runs.specs.Expressions.{all_arguments, all_elements, all_texts, sequence, unary, binary_rest, logical_rest, compound_rest, assign, call_by}
 use Rattle.ecma_runs.specs.Patterns.{all_targets, all_matched, all_parameters}
 use Rattle.ecma_runs.specs.Statements.{all_completions, all_varied, all_hoisted, for_rounds}
@@ -87,6 +87,10 @@ all_plain_unlinked (m ∷ ms) = λ i. m.is_plain && all_plain_unlinked ms i
 all_types_unlinked : (ms : List Meaning) → all_types (all_unlinked ms) ≡ all_types ms
 all_types_unlinked [] = refl
 all_types_unlinked (m ∷ ms) = λ i. m.is_type && all_types_unlinked ms i
+
+all_exports_unlinked : (ms : List Meaning) → all_exports (all_unlinked ms) ≡ all_exports ms
+all_exports_unlinked [] = refl
+all_exports_unlinked (m ∷ ms) = λ i source. m.exports source ++ all_exports_unlinked ms i source
 
 any_constructor_unlinked : (ms : List Meaning) → any_constructor (all_unlinked ms) ≡ any_constructor ms
 any_constructor_unlinked [] = refl
@@ -155,6 +159,7 @@ list_unlinked n ms = λ i. record (meaning_by n kind.List ms) {
   declared = all_declared_unlinked ms i;
   shorthands = all_shorthands_unlinked ms i;
   imported = all_imported_unlinked ms i;
+  exports = all_exports_unlinked ms i;
   cooked = all_cooked_unlinked ms i;
   is_plain = all_plain_unlinked ms i;
   is_type = all_types_unlinked ms i;
@@ -221,6 +226,10 @@ rounds_unlinked (suc n) test update body place = λ i x. test.test (inside x pla
 imported_from_unlinked : (source : Option (List ℕ)) (m : Meaning) → imported_from source (unlinked m) ≡ imported_from source m
 imported_from_unlinked None m = refl
 imported_from_unlinked (Some source) m = refl
+
+exported_from_unlinked : (source name : Option (List ℕ)) (m : Meaning) → exported_from source name (unlinked m) ≡ exported_from source name m
+exported_from_unlinked None name m = refl
+exported_from_unlinked (Some source) name m = refl
 
 -- as many as there are shapes
 abbrev pub SameLength : List Shape → List Meaning → Type 0
@@ -362,7 +371,8 @@ layer_unlinked n kind.ImportStarAsSpecifier shape (a ∷ []) p c h = refl
 layer_unlinked n kind.ExportDecl shape (a ∷ []) p c h = refl
 layer_unlinked n (kind.NamedExport false) shape (a ∷ b ∷ d ∷ []) p c h = refl
 layer_unlinked n (kind.NamedExport true) shape (a ∷ b ∷ d ∷ []) p c h = refl
-layer_unlinked n (kind.ExportNamedSpecifier false) shape (a ∷ b ∷ []) p c h = refl
+layer_unlinked n (kind.ExportNamedSpecifier false) shape (a ∷ b ∷ []) p c h =
+    λ i. record (meaning_by n (kind.ExportNamedSpecifier false) (a ∷ b ∷ [])) { exports = λ source. exported_from_unlinked source (cond b.is_absent a.text b.text) a i }
 layer_unlinked n (kind.ExportNamedSpecifier true) shape (a ∷ b ∷ []) p c h = refl
 layer_unlinked n kind.ExportDefaultSpecifier shape (a ∷ []) p c h = refl
 layer_unlinked n kind.ExportNamespaceSpecifier shape (a ∷ []) p c h = refl

@@ -1,5 +1,5 @@
 -- Declarations that do nothing may come to the head of a module.
-use Rattle.std.proofs.Common.{◌≡◌, ◌++◌, refl, sym, ap, ap₂, ◌∙◌, subst, ℕ, List, [], ◌∷◌, map, filter, Option, Bool, true, not}
+use Rattle.std.proofs.Common.{◌≡◌, ◌++◌, refl, sym, ap, ap₂, ◌∙◌, subst, ℕ, List, [], ◌∷◌, map, filter, Option, None, Bool, true, not}
 use Rattle.std.specs.List.{list_all}
 use Rattle.ecma_kind.specs.declared.kind.Kind.TheVariants as kind
 use Rattle.ecma_kind.specs.declared.span.Span.{Span}
@@ -7,13 +7,18 @@ use Rattle.ecma_tree.specs.declared.node.Node.{Node}
 use Rattle.ecma_tree.specs.declared.node.Node.TheViews.{out-roll-Node}
 use Rattle.ecma_tree.specs.Nodes.{node_of}
 use Rattle.ecma_runs.specs.State.{Id}
-use Rattle.ecma_runs.specs.Observation.{observe}
+use Rattle.ecma_runs.specs.Declarations.{all_exports}
+use Rattle.ecma_runs.specs.Evaluation.{meaning}
+use Rattle.ecma_runs.specs.Observation.{known_of, exports_in, observe}
+use Rattle.ecma_runs.proofs.Exports.{LocalsPass}
+use Rattle.ecma_runs.proofs.Layer.{meaning-roll}
 use Rattle.ecma_runs.proofs.Kept.{AllNodes}
-use Rattle.ecma_runs.proofs.Standing.{Passes, passes_parts}
+use Rattle.ecma_runs.proofs.Standing.{Passes, passes_parts, declares}
 use Rattle.ecma_run_laws.specs.Lessened.{statement_goes, lessened, without, module_of}
 use Rattle.ecma_run_laws.specs.Laws.{WhatIsUsedStays, NewNamesMayBeDeclared}
 use Rattle.ecma_run_laws.proofs.Both.{both_true}
 use Rattle.ecma_run_laws.proofs.Dropping.{stands}
+use Rattle.ecma_run_laws.proofs.Going.{statement_exports}
 use Rattle.ecma_run_laws.proofs.Lessening.{image, list_left}
 use Rattle.ecma_run_laws.proofs.Standing.{Layer}
 use Rattle.ecma_run_laws.proofs.Staying.{statement_stays, all_stays}
@@ -48,8 +53,23 @@ module _ (gone : Id → Bool) where
     pub without_added : without gone (module_of span shebang place (added ++ items)) ≡ module_of span shebang place items
     without_added = image gone (Layer span (kind.Module shebang) (node_of place kind.List (added ++ items) ∷ [])) ∙ ap (λ l. node_of span (kind.Module shebang) (l ∷ [])) list_is
 
+-- what is added exports nothing
+module _ (gone : Id → Bool) where
+  added_export : (added items : List Node) → list_all (statement_goes gone) added ≡ true → all_exports (map meaning (added ++ items)) None ≡ all_exports (map meaning items) None
+  added_export [] items go = refl
+  added_export (n ∷ added) items go =
+      let t = both_true (statement_goes gone n) (list_all (statement_goes gone) added) go in
+      ap₂ (λ a b. a ++ b) (statement_exports gone (known_of n) n t.0 None) (added_export added items t.1)
+
+module_exports : (span place : Span) (shebang : Option (List ℕ)) (items : List Node) → exports_in (module_of span shebang place items) ≡ all_exports (map meaning items) None
+module_exports span place shebang items =
+    ap (λ m. m.exports None) (meaning-roll (Layer span (kind.Module shebang) (node_of place kind.List items ∷ [])))
+    ∙ ap (λ m. m.exports None) (meaning-roll (Layer place kind.List items))
+
 pub new_names_may_be_declared : NewNamesMayBeDeclared
-new_names_may_be_declared gone turns options script span place shebang added items go pass =
+new_names_may_be_declared gone turns options script span place shebang added items default go pass =
     let e = without_added gone span place shebang added items go pass in
-    sym (unused.unused_names_do_not_matter gone turns options (module_of span shebang place (added ++ items)) script (subst (Passes (stands gone)) (sym e) pass))
+    let same = module_exports span place shebang (added ++ items) ∙ added_export gone added items go ∙ sym (module_exports span place shebang items) in
+    let exported = (declares (stands gone) (module_of span shebang place items) pass).exports None default in
+    sym (unused.unused_kept gone turns options (module_of span shebang place (added ++ items)) script default (subst (LocalsPass (stands gone)) (sym same) exported) (subst (Passes (stands gone)) (sym e) pass))
     ∙ ap (λ m. observe turns options m script) e

@@ -13,7 +13,9 @@ use Rattle.ecma_runs.specs.Environment.{initialize, empty, undefined, import_of}
 use Rattle.ecma_runs.specs.Meaning.{Known, ExecutionContext, Evaluation, Meaning}
 use Rattle.ecma_runs.specs.Declarations.{all_names, all_imported, imported_as, imported_from, is_absent_of}
 use Rattle.ecma_runs.specs.Evaluation.{no_effect, meaning_by, meaning}
+use Rattle.ecma_runs.specs.Exports.{Exported}
 use Rattle.ecma_runs.proofs.Layer.{meaning_out}
+use Rattle.ecma_runs.proofs.Exports.{changed_exports}
 use Rattle.ecma_runs.proofs.Names.{changed_ids, changed_scope, changed_bindings, changed_ids-append, changed_bindings-append}
 use Rattle.ecma_runs.proofs.Alike.{Change, Alike, bind_alike, give_alike}
 use Rattle.ecma_runs.proofs.Environments.{initialize_alike}
@@ -24,21 +26,21 @@ use Rattle.ecma_run_laws.specs.Lessened.{are_gone, is_name_by, is_name, is_idle_
 use Rattle.ecma_run_laws.proofs.Dropping.{names_left, dropping}
 
 -- what does nothing, but for what is given
-abbrev quiet : List Id → List Id → List Binding → List Binding → (List ℕ → List Binding) → Evaluation (Unit {0}) → Evaluation (Unit {0}) → Evaluation (Unit {0}) → Meaning
-quiet names declared lexicals vars imported completion varied hoisted =
-    record (no_effect absent) { names = names; declared = declared; lexicals = lexicals; vars = vars; imported = imported; completion = completion; varied = varied; hoisted = hoisted }
+abbrev quiet : List Id → List Id → List Binding → List Binding → (List ℕ → List Binding) → (Option (List ℕ) → List Exported) → Evaluation (Unit {0}) → Evaluation (Unit {0}) → Evaluation (Unit {0}) → Meaning
+quiet names declared lexicals vars imported exports completion varied hoisted =
+    record (no_effect absent) { names = names; declared = declared; lexicals = lexicals; vars = vars; imported = imported; exports = exports; completion = completion; varied = varied; hoisted = hoisted }
 
 abbrev nothing : Evaluation (Unit {0})
 nothing x = give tt
 
 abbrev pub silent_statement : Meaning → Meaning
-silent_statement m = quiet [] m.declared m.lexicals m.vars (λ source. []) m.completion nothing m.hoisted
+silent_statement m = quiet [] m.declared m.lexicals m.vars (λ source. []) m.exports m.completion nothing m.hoisted
 
 abbrev pub silent_declarator : Meaning → Meaning
-silent_declarator m = quiet m.names m.declared [] [] (λ source. []) m.completion m.varied nothing
+silent_declarator m = quiet m.names m.declared [] [] (λ source. []) (λ source. []) m.completion m.varied nothing
 
 abbrev pub silent_specifier : Meaning → Meaning
-silent_specifier m = quiet [] m.declared [] [] m.imported nothing nothing nothing
+silent_specifier m = quiet [] m.declared [] [] m.imported (λ source. []) nothing nothing nothing
 
 module _ (gone : Id → Bool) (known : Known) where
   abbrev c : Change
@@ -53,11 +55,11 @@ module _ (gone : Id → Bool) (known : Known) where
   DoesNothing : Evaluation (Unit {0}) → Type 0
   DoesNothing e = (a : List Entered) (w : World (at c a)) → Alike (at c a) (e (first (at c a) w)) (give tt)
 
-  quiet_silent : (names ids : List Id) (lexicals vars : List Binding) (imported : List ℕ → List Binding) (completion varied hoisted : Evaluation (Unit {0}))
-      → NoneLeft names → NoneLeft ids → NoBindingLeft lexicals → NoBindingLeft vars → ((source : List ℕ) → NoBindingLeft (imported source)) → DoesNothing completion → DoesNothing varied → DoesNothing hoisted
-      → Silent c (quiet names ids lexicals vars imported completion varied hoisted)
+  quiet_silent : (names ids : List Id) (lexicals vars : List Binding) (imported : List ℕ → List Binding) (exports : Option (List ℕ) → List Exported) (completion varied hoisted : Evaluation (Unit {0}))
+      → NoneLeft names → NoneLeft ids → NoBindingLeft lexicals → NoBindingLeft vars → ((source : List ℕ) → NoBindingLeft (imported source)) → ((source : Option (List ℕ)) → exports source ≡ []) → DoesNothing completion → DoesNothing varied → DoesNothing hoisted
+      → Silent c (quiet names ids lexicals vars imported exports completion varied hoisted)
   unfolding DoesNothing
-  quiet_silent names ids lexicals vars imported completion varied hoisted n d l v i does varies hoists = record {
+  quiet_silent names ids lexicals vars imported exports completion varied hoisted n d l v i e does varies hoists = record {
     arguments = λ w. give_alike (at c _) [];
     elements = λ w. give_alike (at c _) [];
     texts = λ w. give_alike (at c _) [];
@@ -76,6 +78,7 @@ module _ (gone : Id → Bool) (known : Known) where
     parameter_names = refl;
     declared = d;
     imported = i;
+    exports = λ source. ap (changed_exports (names_left gone)) (e source);
     cooked = refl;
     is_plain = refl;
     is_type = refl;
@@ -163,7 +166,7 @@ module _ (gone : Id → Bool) (known : Known) where
   pub declarator_silent : (n : Node) → declarator_goes gone n ≡ true → Silent c (silent_declarator (meaning n))
   declarator_silent n h =
       let t = declarator n h in
-      quiet_silent (meaning n).names (meaning n).declared [] [] (λ source. []) (meaning n).completion (meaning n).varied nothing t.0.names t.1 refl refl (λ source. refl) t.0.completion t.0.varied nothing_done
+      quiet_silent (meaning n).names (meaning n).declared [] [] (λ source. []) (λ source. []) (meaning n).completion (meaning n).varied nothing t.0.names t.1 refl refl (λ source. refl) (λ source. refl) t.0.completion t.0.varied nothing_done
 
   -- specifiers
 
@@ -193,7 +196,7 @@ module _ (gone : Id → Bool) (known : Known) where
   pub specifier_silent : (n : Node) → specifier_goes gone n ≡ true → Silent c (silent_specifier (meaning n))
   specifier_silent n h =
       let t = specifier n h in
-      quiet_silent [] (meaning n).declared [] [] (meaning n).imported nothing nothing nothing refl t.1 refl refl t.0.imported nothing_done nothing_done nothing_done
+      quiet_silent [] (meaning n).declared [] [] (meaning n).imported (λ source. []) nothing nothing nothing refl t.1 refl refl t.0.imported (λ source. refl) nothing_done nothing_done nothing_done
 
   -- lists of which all go
 
@@ -241,6 +244,7 @@ module _ (gone : Id → Bool) (known : Known) where
     hoisted : DoesNothing m.hoisted
     lexicals : NoBindingLeft m.lexicals
     vars : NoBindingLeft m.vars
+    exports : (source : Option (List ℕ)) → m.exports source ≡ []
 
   imported_gone : (o : Option (List ℕ)) (m : Meaning) → IdleSpecifier m → NoBindingLeft (imported_from o m)
   imported_gone None m h = refl
@@ -249,18 +253,27 @@ module _ (gone : Id → Bool) (known : Known) where
   statement_by : (n : Node) (k : Kind) (cs : List Node) → is_idle_by gone k cs ≡ true → IdleStatement (meaning_by n k (map meaning cs))
   statement_by n (kind.VarDecl Var false) (ds ∷ []) h =
       let i = all_declarators ds h in
-      record { completion = i.varied; hoisted = nothing_done; lexicals = refl; vars = sym (undefineds c (meaning ds).names) ∙ ap (map undefined) i.names }
+      record { completion = i.varied; hoisted = nothing_done; lexicals = refl; vars = sym (undefineds c (meaning ds).names) ∙ ap (map undefined) i.names; exports = λ source. refl }
   statement_by n (kind.VarDecl Let false) (ds ∷ []) h =
       let i = all_declarators ds h in
-      record { completion = i.completion; hoisted = nothing_done; lexicals = sym (empties c false (meaning ds).names) ∙ ap (map (empty false)) i.names; vars = refl }
+      record { completion = i.completion; hoisted = nothing_done; lexicals = sym (empties c false (meaning ds).names) ∙ ap (map (empty false)) i.names; vars = refl; exports = λ source. refl }
   statement_by n (kind.ImportDecl false) (ss ∷ source ∷ attributes ∷ []) h =
-      record { completion = nothing_done; hoisted = nothing_done; lexicals = imported_gone (meaning source).text (meaning ss) (all_specifiers ss h); vars = refl }
+      record { completion = nothing_done; hoisted = nothing_done; lexicals = imported_gone (meaning source).text (meaning ss) (all_specifiers ss h); vars = refl; exports = λ source. refl }
   statement_by n _ cs h = absurd (cc)
+
+  idle_statement : (n : Node) → statement_goes gone n ≡ true → IdleStatement (meaning n)
+  idle_statement n h =
+      let t = both_true (is_idle_by gone (out-Node n).kind (out-Node n).children) (are_gone gone (meaning n).declared) h in
+      subst IdleStatement (sym (meaning_out n)) (statement_by n (out-Node n).kind (out-Node n).children t.0)
+
+  -- and exports nothing
+  pub statement_exports : (n : Node) → statement_goes gone n ≡ true → (source : Option (List ℕ)) → (meaning n).exports source ≡ []
+  statement_exports n h = (idle_statement n h).exports
 
   pub statement_silent : (n : Node) → statement_goes gone n ≡ true → Silent c (silent_statement (meaning n))
   statement_silent n h =
       let t = both_true (is_idle_by gone (out-Node n).kind (out-Node n).children) (are_gone gone (meaning n).declared) h in
       let d : list_all gone (meaning n).declared ≡ true = all_gone (meaning n).declared t.1 in
-      let i : IdleStatement (meaning n) = subst IdleStatement (sym (meaning_out n)) (statement_by n (out-Node n).kind (out-Node n).children t.0) in
-      quiet_silent [] (meaning n).declared (meaning n).lexicals (meaning n).vars (λ source. []) (meaning n).completion nothing (meaning n).hoisted refl (none_left (meaning n).declared d)
-      i.lexicals i.vars (λ source. refl) i.completion nothing_done i.hoisted
+      let i : IdleStatement (meaning n) = idle_statement n h in
+      quiet_silent [] (meaning n).declared (meaning n).lexicals (meaning n).vars (λ source. []) (meaning n).exports (meaning n).completion nothing (meaning n).hoisted refl (none_left (meaning n).declared d)
+      i.lexicals i.vars (λ source. refl) i.exports i.completion nothing_done i.hoisted

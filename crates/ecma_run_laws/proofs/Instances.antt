@@ -11,7 +11,7 @@ use Rattle.ecma_tree.specs.declared.node.Node.TheViews.{out-roll-Node}
 use Rattle.ecma_tree.specs.Nodes.{absent, node_of}
 use Rattle.ecma_config.specs.declared.config.Config.{Config}
 use Rattle.ecma_runs.specs.declared.script.Script.{Script}
-use Rattle.ecma_runs.specs.State.{Id, same_id}
+use Rattle.ecma_runs.specs.State.{Id, same_id, default_name}
 use Rattle.ecma_runs.specs.Meaning.{Meaning}
 use Rattle.ecma_runs.specs.Evaluation.{meaning_by, meaning}
 use Rattle.ecma_runs.specs.Observation.{observe}
@@ -112,6 +112,6 @@ module _ (place : Span) (key : Id) where
   let_goes =
       rw (out-roll-Node (layer (kind.VarDecl Let false) (list_of_one ∷ [])), out-roll-Node (layer kind.List (declarator_node ∷ [])), declarator_is_gone, declares_one (meaning let_node).declared let_declares) refl
 
-  pub let_may_come : (turns : ℕ) (options : Config) (script : Script) (span : Span) (shebang : Option (List ℕ)) (items : List Node) → ids_pass (λ id. not (gone id)) (module_of span shebang place items) ≡ true
+  pub let_may_come : (turns : ℕ) (options : Config) (script : Script) (span : Span) (shebang : Option (List ℕ)) (items : List Node) → not (gone default_name) ≡ true → ids_pass (λ id. not (gone id)) (module_of span shebang place items) ≡ true
       → observe turns options (module_of span shebang place (let_node ∷ items)) script ≡ observe turns options (module_of span shebang place items) script
-  let_may_come turns options script span shebang items pass = new_names_may_be_declared gone turns options script span place shebang (let_node ∷ []) items (rw let_goes refl) pass
+  let_may_come turns options script span shebang items other pass = new_names_may_be_declared gone turns options script span place shebang (let_node ∷ []) items other (rw let_goes refl) pass

@@ -326,6 +326,7 @@ module _ (known : Known) where
           declared = written_declares ∙ same.declared ∙ ap (changed_ids same_names) (sym (append-nil m.declared));
           imported = λ source. refl;
           text = λ texts. refl;
+          exports = λ source. refl;
           cooked = refl;
           is_plain = refl;
           is_computed = refl;

@@ -1,5 +1,7 @@
 -- Declarations of names that nothing uses may go.
 use Rattle.std.proofs.Common.{◌≡◌, ◌++◌, refl, sym, ap, ap₂, ◌∙◌, subst, ℕ, List, [], ◌∷◌, map, Option, Some, None, Bool, true, false, add-zero}
+use Rattle.std.specs.List.{list_all}
+use Rattle.ecma_config.specs.declared.config.Config.{Config}
 use Rattle.ecma_kind.specs.declared.kind.Kind.{Kind}
 use Rattle.ecma_kind.specs.declared.kind.Kind.TheVariants as kind
 use Rattle.ecma_kind.specs.declared.operators.VarDeclKind.{VarDeclKind}
@@ -8,13 +10,17 @@ use Rattle.ecma_kind.specs.declared.span.Span.{Span}
 use Rattle.ecma_tree.specs.declared.node.Node.{Node, Node-F, ind-Node, roll-Node, out-Node}
 use Rattle.ecma_tree.specs.declared.node.Node.TheViews.{out-roll-Node}
 use Rattle.ecma_tree.specs.Nodes.{node_of}
-use Rattle.ecma_runs.specs.State.{Id}
+use Rattle.ecma_runs.specs.State.{Id, default_name}
+use Rattle.ecma_runs.specs.Environment.{ids_of}
+use Rattle.ecma_runs.specs.Exports.{Exported, Local, Indirect, Star, local_ids, export_names}
+use Rattle.ecma_runs.proofs.Exports.{LocalsPass, keeps_plain}
+use Rattle.ecma_runs.specs.declared.script.Script.{Script}
 use Rattle.ecma_runs.specs.Run.{◌>>=◌}
 use Rattle.ecma_runs.specs.Meaning.{Known, Evaluation, Meaning}
 use Rattle.ecma_runs.specs.Statements.{all_completions, all_varied, all_hoisted}
-use Rattle.ecma_runs.specs.Declarations.{all_names, all_declared, all_vars, all_lexicals, all_imported, imported_from}
+use Rattle.ecma_runs.specs.Declarations.{all_names, all_declared, all_vars, all_lexicals, all_imported, imported_from, all_exports}
 use Rattle.ecma_runs.specs.Evaluation.{meaning_by, meaning}
-use Rattle.ecma_runs.specs.Observation.{known_of, observe}
+use Rattle.ecma_runs.specs.Observation.{known_of, exports_in, observe}
 use Rattle.ecma_runs.specs.Names.{passes_by}
 use Rattle.ecma_runs.proofs.Layer.{meaning-roll}
 use Rattle.ecma_runs.proofs.Alike.{Change}
@@ -27,14 +33,15 @@ use Rattle.ecma_runs.proofs.Standing.{Passes}
 use Rattle.ecma_run_laws.specs.Lessened.{declarator_goes, specifier_goes, statement_goes, left_of, lessened, without}
 use Rattle.ecma_run_laws.specs.Laws.{UnusedNamesDoNotMatter}
 use Rattle.ecma_run_laws.proofs.Lessening.{less_all, image}
-use Rattle.ecma_run_laws.proofs.Dropping.{stands, dropping, seen, seen_alike, role_seen}
+use Rattle.ecma_run_laws.proofs.Both.{both_true}
+use Rattle.ecma_run_laws.proofs.Dropping.{stands, names_left, dropping, seen, seen_alike, role_seen}
 use Rattle.ecma_run_laws.proofs.Going.{silent_statement, silent_declarator, silent_specifier, statement_silent, declarator_silent, specifier_silent}
 use Rattle.ecma_run_laws.proofs.Standing.{Layer, each_of, IsFine, parts_left, parts_fine, names_stand, still_clash}
 
 abbrev both_evaluations : Evaluation (Unit {0}) → Evaluation (Unit {0}) → Evaluation (Unit {0})
 both_evaluations e rest x = e x >>= λ _. rest x
 
-module _ (gone : Id → Bool) (known : Known) where
+module _ (gone : Id → Bool) (default : stands gone default_name ≡ true) (known : Known) where
   abbrev c : Change
   c = dropping gone known
 
@@ -49,6 +56,10 @@ module _ (gone : Id → Bool) (known : Known) where
 
   layer_kept : (k : Kind) (cs : List Node) → passes_by (stands gone) k ≡ true → AllNodes (IsFine gone) cs → KeptLayer c k (map meaning cs)
   layer_kept (kind.Ident text ctxt optional) cs h all = (h, refl)
+  layer_kept kind.ExportDefaultExpr cs h all = (default, refl)
+  layer_kept (kind.NamedExport type_only) (specifiers ∷ source ∷ attributes ∷ []) h all = texts_stay (meaning source).shorthands
+  layer_kept (kind.ExportNamedSpecifier is_type_only) (exported ∷ name ∷ []) h all = (texts_stay (meaning exported).shorthands, texts_stay (meaning name).shorthands)
+  layer_kept kind.ExportNamespaceSpecifier (name ∷ []) h all = texts_stay (meaning name).shorthands
   layer_kept kind.MemberExpr cs h all = refl
   layer_kept kind.SuperPropExpr cs h all = refl
   layer_kept kind.TsQualifiedName cs h all = refl
@@ -131,7 +142,7 @@ module _ (gone : Id → Bool) (known : Known) where
   -- in the roles in which the list is used it means what it means
 
   abbrev LikeStatements : Meaning → Meaning → Meaning
-  LikeStatements m m' = record m { vars = m'.vars; lexicals = m'.lexicals; hoisted = m'.hoisted; completion = m'.completion; declared = m'.declared }
+  LikeStatements m m' = record m { vars = m'.vars; lexicals = m'.lexicals; hoisted = m'.hoisted; completion = m'.completion; declared = m'.declared; exports = m'.exports }
 
   like_statements : (n : Node) → LikeStatements (meaning n) (statements_seen n) ≡ meaning n
   like_statements n = λ i. record (meaning n) {
@@ -139,6 +150,7 @@ module _ (gone : Id → Bool) (known : Known) where
     lexicals = statements_role (λ m. m.lexicals) all_lexicals (λ n ms. refl) (λ a b. a ++ b) (λ m ms. refl) (λ m. refl) n i;
     hoisted = statements_role (λ m. m.hoisted) all_hoisted (λ n ms. refl) both_evaluations (λ m ms. refl) (λ m. refl) n i;
     completion = statements_role (λ m. m.completion) all_completions (λ n ms. refl) both_evaluations (λ m ms. refl) (λ m. refl) n i;
+    exports = statements_role (λ m. m.exports) all_exports (λ n ms. refl) (λ a b source. a source ++ b source) (λ m ms. refl) (λ m. refl) n i;
     declared = statements_role (λ m. m.declared) all_declared (λ n ms. refl) (λ a b. a ++ b) (λ m ms. refl) (λ m. refl) n i;
   }
 
@@ -235,7 +247,19 @@ module _ (gone : Id → Bool) (known : Known) where
   steps : StepsAlike c
   steps x ns is fine fine' = (deep (roll-Node x)).0 fine'
 
-pub unused_names_do_not_matter : UnusedNamesDoNotMatter
-unused_names_do_not_matter gone turns options m script unused =
+-- variables that are exported stay
+pub unused_kept : (gone : Id → Bool) (turns : ℕ) (options : Config) (m : Node) (script : Script) → stands gone default_name ≡ true → LocalsPass (stands gone) (exports_in m) → Passes (stands gone) (without gone m)
+    → observe turns options (without gone m) script ≡ observe turns options m script
+unused_kept gone turns options m script default exported unused =
     ap (λ n. observe n options (without gone m) script) (sym (add-zero turns))
-    ∙ observe_unless (dropping gone (known_of m)) refl (steps gone (known_of m)) refl refl turns options m script unused refl (tt, record { free = tt }, tt) tt tt (none_excused _)
+    ∙ observe_unless (dropping gone (known_of m)) refl (steps gone default (known_of m)) refl refl turns options m script unused refl
+    (tt, record { free = tt }, tt, keeps_plain (names_left gone) refl (ids_of (meaning m).locals) (exports_in m) exported (texts_stay (export_names (exports_in m)))) tt tt (none_excused _)
+
+exported_pass : (test : Id → Bool) (entries : List Exported) → list_all test (local_ids entries) ≡ true → LocalsPass test entries
+exported_pass test [] h = tt
+exported_pass test (Local name id ∷ entries) h = let t = both_true (test id) (list_all test (local_ids entries)) h in (t.0, exported_pass test entries t.1)
+exported_pass test (Indirect name source imported ∷ entries) h = exported_pass test entries h
+exported_pass test (Star ∷ entries) h = exported_pass test entries h
+
+pub unused_names_do_not_matter : UnusedNamesDoNotMatter
+unused_names_do_not_matter gone turns options m script default exported unused = unused_kept gone turns options m script default (exported_pass (stands gone) (exports_in m) exported) unused

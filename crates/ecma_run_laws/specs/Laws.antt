@@ -5,9 +5,10 @@ use Rattle.ecma_tree.specs.declared.node.Node.{Node}
 use Rattle.ecma_config.specs.declared.config.Config.{Config}
 use Rattle.ecma_runs.specs.declared.script.Script.{Script}
 use Rattle.ecma_runs.specs.Evaluation.{meaning}
-use Rattle.ecma_runs.specs.Observation.{observe}
+use Rattle.ecma_runs.specs.Exports.{local_ids}
+use Rattle.ecma_runs.specs.Observation.{exports_in, observe}
 use Rattle.ecma_kind.specs.declared.span.Span.{Span}
-use Rattle.ecma_runs.specs.State.{Id}
+use Rattle.ecma_runs.specs.State.{Id, default_name}
 use Rattle.ecma_runs.specs.Names.{ids_pass}
 use Rattle.ecma_runs.specs.declared.observation.Ending.TheVariants as ending
 use Rattle.ecma_run_laws.specs.Lessened.{statement_goes, without, module_of}
@@ -32,10 +33,11 @@ EqualReferencesMayStandForEachOther =
     (swap : Node → Node) → ((n : Node) → RefersAlike (meaning n) (meaning (swap n))) →
     (turns : ℕ) (options : Config) (m : Node) (script : Script) → observe turns options (exchanged_references swap m) script ≡ observe turns options m script
 
--- declarations of names that no identifier of what is left has may go, and come
+-- declarations of names that no identifier of what is left has, and that are not exported, may go, and come
 abbrev pub UnusedNamesDoNotMatter : Type 0
 UnusedNamesDoNotMatter =
-    (gone : Id → Bool) (turns : ℕ) (options : Config) (m : Node) (script : Script) → ids_pass (λ id. not (gone id)) (without gone m) ≡ true →
+    (gone : Id → Bool) (turns : ℕ) (options : Config) (m : Node) (script : Script) → not (gone default_name) ≡ true → list_all (λ id. not (gone id)) (local_ids (exports_in m)) ≡ true →
+    ids_pass (λ id. not (gone id)) (without gone m) ≡ true →
     observe turns options (without gone m) script ≡ observe turns options m script
 
 -- what has no name that is to go stays as it is
@@ -45,7 +47,7 @@ WhatIsUsedStays = (gone : Id → Bool) (m : Node) → ids_pass (λ id. not (gone
 -- declarations that do nothing, of names that no identifier of a module has, may come to its head
 abbrev pub NewNamesMayBeDeclared : Type 0
 NewNamesMayBeDeclared =
-    (gone : Id → Bool) (turns : ℕ) (options : Config) (script : Script) (span place : Span) (shebang : Option (List ℕ)) (added items : List Node) →
+    (gone : Id → Bool) (turns : ℕ) (options : Config) (script : Script) (span place : Span) (shebang : Option (List ℕ)) (added items : List Node) → not (gone default_name) ≡ true →
     list_all (statement_goes gone) added ≡ true → ids_pass (λ id. not (gone id)) (module_of span shebang place items) ≡ true →
     observe turns options (module_of span shebang place (added ++ items)) script ≡ observe turns options (module_of span shebang place items) script
 

@@ -21,7 +21,7 @@ pub fn equal_references_may_stand_for_each_other()
     ensures { EqualReferencesMayStandForEachOther }
 {}
 
-/// Imports, and `var` and `let` without a value, may go and come, where no identifier of the rest has their names.
+/// Imports, and `var` and `let` without a value, may go and come, where no identifier of the rest has their names and they are not exported.
 pub fn unused_names_do_not_matter()
     ensures { UnusedNamesDoNotMatter }
 {}

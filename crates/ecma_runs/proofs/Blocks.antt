@@ -72,4 +72,4 @@ module _ (c : Change) {a : List Entered} (w : World (at c a)) (n : Node) (fine :
   pub completed_alike : (k : Kind) (ps : List (Both c)) → KeptLayer c k (firsts c ps) → Placed c w.scope k (seekers c ps)
       → Alike (at c a) (completed_of n k (firsts c ps) (first (at c a) w)) (completed_of (c.node n) (renamed_kind c k) (seconds c ps) (second (at c a) w))
   completed_alike kind.TsModuleBlock (items ∷ []) kept h = rw (items.2.is_type) (block_alike items h c.passed refl kept items.0.meaning.is_type refl)
-  completed_alike k ps kept h = completion_alike c w k ps h
+  completed_alike k ps kept h = completion_alike c w k ps kept h

@@ -4,15 +4,17 @@ use Rattle.ecma_kind.specs.declared.kind.Kind.{Kind}
 use Rattle.ecma_kind.specs.declared.kind.Kind.TheVariants as kind
 use Rattle.ecma_kind.specs.declared.operators.VarDeclKind.TheVariants.{Var, Let, Const}
 use Rattle.ecma_runs.specs.State.{Id}
-use Rattle.ecma_runs.specs.Environment.{empty, undefined, import_of}
-use Rattle.ecma_runs.specs.Declarations.{all_names, names_of, all_imported, imported_as, imported_of, imported_from, text_of, all_lexicals, lexicals_of, all_vars, vars_of, locals_of, all_parameter_names, parameter_names_of, all_declared, declared_of, shorthands_of, all_cooked, cooked_of, all_plain, is_plain_of, is_computed_of, is_super_of, is_absent_of, is_this_of, all_types, is_type_of, has_body_of, any_constructor, is_constructor_of, has_no_effect}
+use Rattle.ecma_runs.specs.Exports.{Local, local_as, indirect_as}
+use Rattle.ecma_runs.proofs.Exports.{changed_exports, locals-changed, local_as-changed, indirect_as-changed}
+use Rattle.ecma_runs.specs.Environment.{ids_of, empty, undefined, import_of}
+use Rattle.ecma_runs.specs.Declarations.{all_names, names_of, all_imported, imported_as, imported_of, imported_from, text_of, all_lexicals, lexicals_of, all_vars, vars_of, locals_of, all_parameter_names, parameter_names_of, all_declared, declared_of, shorthands_of, all_cooked, cooked_of, all_plain, is_plain_of, is_computed_of, is_super_of, is_absent_of, is_this_of, all_types, is_type_of, has_body_of, any_constructor, is_constructor_of, has_no_effect, all_exports, exported_from, exports_of}
 use Rattle.ecma_runs.specs.Sought.{meanings}
-use Rattle.ecma_runs.proofs.Names.{changed_ids, changed_bindings, changed_ids-append}
+use Rattle.ecma_runs.proofs.Names.{changed_ids, changed_bindings, changed_ids-append, ids_of-changed}
 use Rattle.ecma_runs.proofs.Alike.{Change}
 use Rattle.ecma_runs.proofs.Environments.{KeepTexts}
 use Rattle.ecma_runs.proofs.Meanings.{Both, firsts, seconds, empties, undefineds, imports}
 use Rattle.ecma_runs.proofs.Premises.{renamed_kind, KeptLayer}
-use Rattle.ecma_runs.proofs.Lists.{all_stay, all_names_same, all_declared_same, all_parameter_names_same, all_lexicals_same, all_vars_same, all_imported_same, all_cooked_same, all_plain_same, all_types_same, any_constructor_same}
+use Rattle.ecma_runs.proofs.Lists.{all_stay, all_names_same, all_declared_same, all_parameter_names_same, all_lexicals_same, all_vars_same, all_imported_same, all_exports_same, all_cooked_same, all_plain_same, all_types_same, any_constructor_same}
 use Rattle.ecma_runs.proofs.Classes.{joined}
 
 module _ (c : Change) where
@@ -71,13 +73,38 @@ module _ (c : Change) where
   lexicals_same (kind.ImportDecl false) (specifiers ∷ source ∷ attributes ∷ []) kept = imported_from_same source.0.meaning.text source.1.text (source.2.text kept) specifiers
   lexicals_same (kind.FnDecl false) (name ∷ function ∷ []) kept = ap (map (empty false)) name.2.names ∙ empties c false name.0.meaning.names
   lexicals_same (kind.ClassDecl false) (name ∷ class ∷ []) kept = ap (map (empty false)) name.2.names ∙ empties c false name.0.meaning.names
+  lexicals_same kind.ExportDecl (declaration ∷ []) kept = declaration.2.lexicals
+  lexicals_same kind.ExportDefaultExpr (e ∷ []) kept = rw (kept.0, kept.1) refl
   lexicals_same _ ps kept = refl
+
+  -- exports
+
+  exported_from_same : (source o o' : Option (List ℕ)) → o' ≡ o → (exported : Both c) → exported.1.text ≡ exported.0.meaning.text → exported_from source o' exported.1 ≡ changed_exports c.names (exported_from source o exported.0.meaning)
+  exported_from_same None o o' e exported t = ap₂ local_as e exported.2.names ∙ local_as-changed c.names o exported.0.meaning.names
+  exported_from_same (Some source) o o' e exported t = ap₂ (λ z u. indirect_as z (Some source) u) e t ∙ indirect_as-changed c.names o (Some source) exported.0.meaning.text
+
+  pub exports_same : (k : Kind) (ps : List (Both c)) → KeptLayer c k (firsts c ps) → (source : Option (List ℕ)) → exports_of (renamed_kind c k) (seconds c ps) source ≡ changed_exports c.names (exports_of k (firsts c ps) source)
+  exports_same kind.List ps kept source = all_stay c (λ ls ms'. all_exports ms' source ≡ changed_exports c.names (all_exports (meanings ls) source)) (λ items. all_exports_same c items source) ps
+  exports_same (kind.Module shebang) (body ∷ []) kept source = body.2.exports None
+  exports_same kind.ExportDecl (declaration ∷ []) kept source =
+      ap (λ bindings. map (Local None) (ids_of bindings)) (joined c _ _ declaration.2.vars declaration.2.lexicals)
+      ∙ ap (map (Local None)) (ids_of-changed c.names (declaration.0.meaning.vars ++ declaration.0.meaning.lexicals)) ∙ locals-changed c.names None (ids_of (declaration.0.meaning.vars ++ declaration.0.meaning.lexicals))
+  exports_same kind.ExportDefaultExpr (e ∷ []) kept source = rw (kept.0, kept.1) refl
+  exports_same (kind.NamedExport false) (specifiers ∷ from ∷ attributes ∷ []) kept source = ap specifiers.1.exports (from.2.text kept) ∙ specifiers.2.exports from.0.meaning.text
+  exports_same (kind.ExportNamedSpecifier false) (exported ∷ name ∷ []) kept source =
+      exported_from_same source (cond name.0.meaning.is_absent exported.0.meaning.text name.0.meaning.text) (cond name.1.is_absent exported.1.text name.1.text)
+      (either_text name.0.meaning.is_absent name.1.is_absent name.2.is_absent exported.0.meaning.text name.0.meaning.text (exported.2.text kept.0) (name.2.text kept.1)) exported (exported.2.text kept.0)
+  exports_same kind.ExportNamespaceSpecifier (name ∷ []) kept source =
+      ap (λ z. indirect_as z source (Some (codes "*"))) (name.2.text kept) ∙ indirect_as-changed c.names name.0.meaning.text source (Some (codes "*"))
+  exports_same (kind.ExportAll false) (from ∷ attributes ∷ []) kept source = refl
+  exports_same _ ps kept source = refl
 
   all_vars_stay : (ps : List (Both c)) → all_vars (seconds c ps) ≡ changed_bindings c.names (all_vars (firsts c ps))
   all_vars_stay ps = all_stay c (λ ls ms'. all_vars ms' ≡ changed_bindings c.names (all_vars (meanings ls))) (all_vars_same c) ps
 
   pub vars_same : (k : Kind) (ps : List (Both c)) → vars_of (renamed_kind c k) (seconds c ps) ≡ changed_bindings c.names (vars_of k (firsts c ps))
   vars_same kind.List ps = all_vars_stay ps
+  vars_same kind.ExportDecl (declaration ∷ []) = declaration.2.vars
   vars_same (kind.VarDecl Var false) (declarators ∷ []) = ap (map undefined) declarators.2.names ∙ undefineds c declarators.0.meaning.names
   vars_same kind.BlockStmt ps = all_vars_stay ps
   vars_same kind.IfStmt ps = all_vars_stay ps

@@ -143,7 +143,7 @@ module _ (c : Change) where
   taken_alike (shown.Handle number) = handled_alike number
   taken_alike _ = give_alike c _
 
-  taken_if_alike : (o : Option Shown) → Alike c (taken_if o) (taken_if o)
+  pub taken_if_alike : (o : Option Shown) → Alike c (taken_if o) (taken_if o)
   taken_if_alike None = outside_alike c
   taken_if_alike (Some v) = taken_alike v
 
@@ -216,7 +216,7 @@ module _ (c : Change) where
   abbrev pub AllKnown : List Entered → Type 0
   AllKnown scope = Unless c.names.plain ((es : List Environment) → AreThere c.around es → AreThere scope es)
 
-  first_known : (e : Entered) (outer : List Entered) → AllKnown (e ∷ outer) → Knows e
+  pub first_known : (e : Entered) (outer : List Entered) → AllKnown (e ∷ outer) → Knows e
   first_known e outer knows = unless_map c.names.plain (λ k es around. (k es around).0) knows
 
   outer_known : (e : Entered) (outer : List Entered) → AllKnown (e ∷ outer) → AllKnown outer

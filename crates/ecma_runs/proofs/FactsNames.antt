@@ -13,6 +13,7 @@ use Rattle.ecma_runs.specs.declared.script.Answer.TheVariants.{Return, Throw}
 use Rattle.ecma_runs.specs.declared.shown.ErrorKind.TheVariants as error
 use Rattle.ecma_runs.specs.declared.shown.Shown.TheVariants as shown
 use Rattle.ecma_runs.proofs.Trees.{End, ◌▸◌, tree, absent, list, ident, key, binding, whole, string, this', member, call, new', assign, binary, object, statement, block, returns, declare, parameter, function, declare_function, function_expression, class_method, constructor', class', meaning_node}
+use Rattle.ecma_runs.proofs.ExportTrees.{exports_node}
 use Rattle.ecma_runs.proofs.Scripts.{Does, nulls}
 
 -- let x = f(1); g(x);
@@ -147,7 +148,7 @@ shows_classes_to_the_host :
     (statement (call (ident (codes "f")) (tree kind.ClassExpr (absent ▸ class' absent (constructor' (parameter (binding (codes "a")) ▸ End) (statement (assign (member this' (codes "a")) (ident (codes "a"))) ▸ End) ▸ class_method method.Getter false (key (codes "b")) End (tree kind.ThrowStmt (member this' (codes "a") ▸ End) ▸ End) ▸ End) ▸ End) ▸ End))
     ▸ End)
     (HostCall 7 shown.Undefined (shown.Handle 0 ∷ []) ∷ []) (ending.Done (Return (shown.Handle 1) ∷ Return (shown.Num (js_number.Whole (pos 4))) ∷ Throw (shown.Num (js_number.Whole (pos 4))) ∷ Throw (shown.Error error.Kind) ∷ Return shown.Undefined ∷ []))
-shows_classes_to_the_host = simp meaning_node refl
+shows_classes_to_the_host = simp (meaning_node, exports_node) refl
 
 -- let o = {}; let p = {}; f(p, o); f(o, p);
 numbers_handles_in_the_order_of_showing :

@@ -14,13 +14,15 @@ use Rattle.ecma_runs.specs.Host.{Provided, provided_by}
 use Rattle.ecma_runs.specs.Environment.{new_environment}
 use Rattle.ecma_runs.specs.Meaning.{Known}
 use Rattle.ecma_runs.specs.Evaluation.{meaning}
-use Rattle.ecma_runs.specs.Observation.{known_of, module_context, run_body, act, run_actions, module_activation, run_module, start, observed}
+use Rattle.ecma_runs.specs.Exports.{Exported}
+use Rattle.ecma_runs.specs.Observation.{known_of, exports_in, module_context, run_body, act, run_actions, module_activation, run_module, start, observed}
 use Rattle.ecma_runs.specs.Laws.{state_behind, Extends, EventsOnlyGrow}
 use Rattle.ecma_runs.proofs.Alike.{Change, changed, Follows, Alike, each_alike}
 use Rattle.ecma_runs.proofs.Names.{changed_entered}
+use Rattle.ecma_runs.proofs.Exports.{changed_exports}
 use Rattle.ecma_runs.proofs.Meanings.{World}
 use Rattle.ecma_runs.proofs.Kept.{StepsAlike, invoke_alike, module_world, act_alike, run_body_alike}
-use Rattle.ecma_runs.proofs.Layers.{same_names, same_ids, same_known, Telling, always, nothing_excused, images, itself_layers, layers_alike}
+use Rattle.ecma_runs.proofs.Layers.{same_names, same_ids, same_known, same_exports, exports_kept, Telling, always, nothing_excused, images, itself_layers, layers_alike}
 use Rattle.ecma_runs.proofs.Depth.{same_state, fine_all}
 
 -- the same run, behind events that came before
@@ -57,10 +59,11 @@ module _ (provided : Provided) (known : Known) (entered : Entered) where
   entered_is : changed_entered same_names entered ≡ entered
   entered_is = ap (λ ids. record entered { ids = ids }) (same_ids entered.ids)
 
-  act_behind : (a : Action) (before : List Event) → Alike (behind known before) (act (module_context provided known entered) a) (act (module_context provided known entered) a)
-  act_behind a before =
-      subst₂ (λ z e. Alike (behind known before) (act (module_context provided known entered) a) (act (module_context provided z e) a)) (same_known known) entered_is
-      (act_alike (behind known before) (behind_steps known before) (behind_world before) refl a)
+  act_behind : (exports : List Exported) (a : Action) (before : List Event) → Alike (behind known before) (act (module_context provided known entered) exports a) (act (module_context provided known entered) exports a)
+  act_behind exports a before =
+      subst (λ es. Alike (behind known before) (act (module_context provided known entered) exports a) (act (module_context provided known entered) es a)) (same_exports exports)
+      (subst₂ (λ z e. Alike (behind known before) (act (module_context provided known entered) exports a) (act (module_context provided z e) (changed_exports same_names exports) a)) (same_known known) entered_is
+      (act_alike (behind known before) (behind_steps known before) (behind_world before) refl {ids = entered.ids} refl exports (exports_kept entered.ids exports) a))
 
   body_behind : (m : Node) (before : List Event) → Alike (behind known before) (run_body (module_context provided known entered) m) (run_body (module_context provided known entered) m)
   body_behind m before =
@@ -101,16 +104,16 @@ each_more : {A B : Type 0} (known : Known) (run : A → Run B) → ((a : A) (bef
 each_more known run h [] ys = record { at = λ s. grows known (each run ys) (λ before. each_alike (behind known before) run run (λ a. h a before) ys) s }
 each_more known run h (x ∷ xs) ys = bind_more (run x) (λ b. give_more (λ bs. b ∷ bs) (λ bs. b ∷ bs) _ _ (each_more known run h xs ys))
 
-actions_more : (provided : Provided) (known : Known) (entered : Entered) (actions more : List Action) (outcome : Answer)
-    → HasMore (run_actions (module_context provided known entered) actions outcome) (run_actions (module_context provided known entered) (actions ++ more) outcome)
-actions_more provided known entered actions more (answer.Return v) =
-    give_more ending.Done ending.Done _ _ (each_more known (act (module_context provided known entered)) (act_behind provided known entered) actions more)
-actions_more provided known entered actions more (answer.Throw v) = record { at = λ s. same_events s.events }
+actions_more : (provided : Provided) (known : Known) (entered : Entered) (exports : List Exported) (actions more : List Action) (outcome : Answer)
+    → HasMore (run_actions (module_context provided known entered) exports actions outcome) (run_actions (module_context provided known entered) exports (actions ++ more) outcome)
+actions_more provided known entered exports actions more (answer.Return v) =
+    give_more ending.Done ending.Done _ _ (each_more known (act (module_context provided known entered) exports) (act_behind provided known entered exports) actions more)
+actions_more provided known entered exports actions more (answer.Throw v) = record { at = λ s. same_events s.events }
 
 module_more : (m : Node) (script : Script) (more : List Action) → HasMore (run_module m script) (run_module m (record script { actions = script.actions ++ more }))
 module_more m script more =
     bind_more (new_environment (meaning m).locals (Some module_activation)) (λ place. bind_more (run_body (module_context (provided_by script) (known_of m) place) m) (λ outcome.
-    actions_more (provided_by script) (known_of m) place script.actions more outcome))
+    actions_more (provided_by script) (known_of m) place (exports_in m) script.actions more outcome))
 
 pub observed_events : (r : Outcome Ending) → (observed r).events ≡ (state_behind r).events
 observed_events (Done end s) = refl
@@ -123,7 +126,7 @@ observed_events (Ended why s) = refl
 pub events_only_grow : EventsOnlyGrow
 events_only_grow = record {
   body = λ provided known entered m s. grows known _ (body_behind provided known entered m) s;
-  action = λ provided known entered a s. grows known _ (act_behind provided known entered a) s;
+  action = λ provided known entered exports a s. grows known _ (act_behind provided known entered exports a) s;
   actions = λ turns options m script more.
       let script_more : Script = record script { actions = script.actions ++ more } in
       rw (observed_events (run_module m script (start turns script)), observed_events (run_module m script_more (start turns script)))

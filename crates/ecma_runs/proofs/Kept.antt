@@ -20,7 +20,10 @@ use Rattle.ecma_runs.specs.Meaning.{Meaning, inside, Invocation, AsCall, AsConst
 use Rattle.ecma_runs.specs.Classes.{field_activation}
 use Rattle.ecma_runs.specs.Sought.{Sought, nothing_sought, Seeker, meanings, outside_of, sought_by, sought_in}
 use Rattle.ecma_runs.specs.Evaluation.{meaning_by, meaning, entered, as_it_is, called_with, constructed_with, or_object, this_of, or_this, instance_object, construct_base, invoked, class_fields, fields_by, invoke_closure, fields_of_closure, no_fields, fields_with, functions_with, apply_at, calls, invoke}
-use Rattle.ecma_runs.specs.Observation.{known_of, module_context, outcome_shown, shown_to_host, done_by, act, run_body, run_actions, module_activation, run_module, start, ending_of, observed, observe}
+use Rattle.ecma_runs.specs.Observation.{known_of, exports_in, module_context, outcome_shown, shown_to_host, done_by, act, run_body, run_actions, module_activation, run_module, start, ending_of, observed, observe}
+use Rattle.ecma_runs.specs.Exports.{Exported}
+use Rattle.ecma_runs.proofs.Exports.{changed_exports, KeepsExports}
+use Rattle.ecma_runs.proofs.Reading.{IsFirst, read_export_alike}
 use Rattle.ecma_runs.proofs.Layer.{meaning-roll}
 use Rattle.ecma_runs.proofs.Seeking.{sought-roll}
 use Rattle.ecma_runs.proofs.Names.{Unless, unless_is, unless_map, unless_both, changed_known}
@@ -295,9 +298,9 @@ module _ (c : Change) (steps : StepsAlike c) where
   shown_to_host_alike : (a : List Entered) (m m' : Run Value) → Alike (at c a) m m' → Alike (at c a) (shown_to_host m) (shown_to_host m')
   shown_to_host_alike a m m' h = record { at = λ s g. outcome_shown_follows a (m s) (m' (changed c s)) (h.at s g) }
 
-  module _ {a : List Entered} (w : World (at c a)) (u : c.uses ≡ true) where
-    done_by_alike : (action' : Action) → Alike (at c a) (done_by (first (at c a) w) action') (done_by (second (at c a) w) action')
-    done_by_alike (action.ReadExport name) = give_alike (at c a) Undefined
+  module _ {a : List Entered} (w : World (at c a)) (u : c.uses ≡ true) {ids : List Id} (is : IsFirst w.scope ids) (es : List Exported) (keeps : KeepsExports c.names ids es) where
+    done_by_alike : (action' : Action) → Alike (at c a) (done_by (first (at c a) w) es action') (done_by (second (at c a) w) (changed_exports c.names es) action')
+    done_by_alike (action.ReadExport name) = read_export_alike c w ids is es keeps name
     done_by_alike (action.Get handle key) = bind_alike (at c a) (handled_alike (at c a) handle) (λ o. member_alike (at c a) w u o key)
     done_by_alike (action.Set handle key value) =
         bind_alike (at c a) (handled_alike (at c a) handle) (λ o. bind_alike (at c a) (taken_alike (at c a) value) (λ v. bind_alike (at c a) (set_member_alike (at c a) w u o key v) (λ _. give_alike (at c a) Undefined)))
@@ -307,7 +310,7 @@ module _ (c : Change) (steps : StepsAlike c) where
     done_by_alike (action.New handle arguments) =
         bind_alike (at c a) (handled_alike (at c a) handle) (λ f. bind_alike (at c a) (each_alike (at c a) taken taken (taken_alike (at c a)) arguments) (λ vs. construct_alike (at c a) w u f vs))
 
-    pub act_alike : (action' : Action) → Alike (at c a) (act (first (at c a) w) action') (act (second (at c a) w) action')
+    pub act_alike : (action' : Action) → Alike (at c a) (act (first (at c a) w) es action') (act (second (at c a) w) (changed_exports c.names es) action')
     act_alike action' = shown_to_host_alike a _ _ (done_by_alike action')
 
   module _ {a : List Entered} (w : World (at c a)) where
@@ -318,13 +321,14 @@ module _ (c : Change) (steps : StepsAlike c) where
     abbrev pub MayAct : List Action → Type 0
     MayAct actions = (c.uses ≡ true) ⊎ (actions ≡ [])
 
-    each_act_alike : (actions : List Action) → MayAct actions → Alike (at c a) (each (act (first (at c a) w)) actions) (each (act (second (at c a) w)) actions)
-    each_act_alike actions (inl u) = each_alike (at c a) (act (first (at c a) w)) (act (second (at c a) w)) (act_alike w u) actions
-    each_act_alike actions (inr none) = rw none (give_alike (at c a) [])
+    module _ {ids : List Id} (is : IsFirst w.scope ids) (es : List Exported) (keeps : KeepsExports c.names ids es) where
+      each_act_alike : (actions : List Action) → MayAct actions → Alike (at c a) (each (act (first (at c a) w) es) actions) (each (act (second (at c a) w) (changed_exports c.names es)) actions)
+      each_act_alike actions (inl u) = each_alike (at c a) (act (first (at c a) w) es) (act (second (at c a) w) (changed_exports c.names es)) (act_alike w u is es keeps) actions
+      each_act_alike actions (inr none) = rw none (give_alike (at c a) [])
 
-    run_actions_alike : (actions : List Action) → MayAct actions → (outcome : Answer) → Alike (at c a) (run_actions (first (at c a) w) actions outcome) (run_actions (second (at c a) w) actions outcome)
-    run_actions_alike actions may (answer.Return v) = bind_alike (at c a) (each_act_alike actions may) (λ answers. give_alike (at c a) (ending.Done answers))
-    run_actions_alike actions may (answer.Throw v) = give_alike (at c a) (ending.Thrown v)
+      run_actions_alike : (actions : List Action) → MayAct actions → (outcome : Answer) → Alike (at c a) (run_actions (first (at c a) w) es actions outcome) (run_actions (second (at c a) w) (changed_exports c.names es) actions outcome)
+      run_actions_alike actions may (answer.Return v) = bind_alike (at c a) (each_act_alike actions may) (λ answers. give_alike (at c a) (ending.Done answers))
+      run_actions_alike actions may (answer.Throw v) = give_alike (at c a) (ending.Thrown v)
 
   -- a module's run, where calls do alike
 
@@ -340,12 +344,15 @@ module _ (c : Change) (steps : StepsAlike c) where
   known_alike n fine is =
       let one : known_of (c.node n) ≡ changed_known c.names (known_of n) = λ i. record { declared = (kept n fine).declared i } in one ∙ ap (changed_known c.names) is
 
+  exports_alike : (n : Node) → c.fine n → exports_in (c.node n) ≡ changed_exports c.names (exports_in n)
+  exports_alike n fine = (kept n fine).exports None
+
   module _ (script : Script) (calls_do : CallsDoAlike (provided_by script)) where
-    pub run_module_alike : (n : Node) → c.fine n → known_of n ≡ c.known → Unless c.names.plain (Opens c.names (ids_of (meaning n).locals) (left_free c n) (seeks c n).sought) → Standing c [] (left_free c n) → (c.uses ≡ true) ⊎ (script.actions ≡ []) → Alike c (run_module n script) (run_module (c.node n) script)
-    run_module_alike n fine is opens s may =
-        rw ((kept n fine).locals, known_alike n fine is, is)
-        (enter_alike c (λ e. run_body (module_context (provided_by script) (known' (provided_by script)) e) (c.node n) >>= λ outcome. run_actions (module_context (provided_by script) (known' (provided_by script)) e) script.actions outcome) (meaning n).locals (Some module_activation) (λ e ids.
-        bind_alike (beside c e) (run_body_alike (module_world (provided_by script) calls_do e (newest c e)) n fine (opened c.names opens s e ids)) (λ outcome. run_actions_alike (module_world (provided_by script) calls_do e (newest c e)) script.actions may outcome)))
+    pub run_module_alike : (n : Node) → c.fine n → known_of n ≡ c.known → Unless c.names.plain (Opens c.names (ids_of (meaning n).locals) (left_free c n) (seeks c n).sought) → Standing c [] (left_free c n) → KeepsExports c.names (ids_of (meaning n).locals) (exports_in n) → (c.uses ≡ true) ⊎ (script.actions ≡ []) → Alike c (run_module n script) (run_module (c.node n) script)
+    run_module_alike n fine is opens s keeps may =
+        rw ((kept n fine).locals, known_alike n fine is, is, exports_alike n fine)
+        (enter_alike c (λ e. run_body (module_context (provided_by script) (known' (provided_by script)) e) (c.node n) >>= λ outcome. run_actions (module_context (provided_by script) (known' (provided_by script)) e) (changed_exports c.names (exports_in n)) script.actions outcome) (meaning n).locals (Some module_activation) (λ e ids.
+        bind_alike (beside c e) (run_body_alike (module_world (provided_by script) calls_do e (newest c e)) n fine (opened c.names opens s e ids)) (λ outcome. run_actions_alike (module_world (provided_by script) calls_do e (newest c e)) ids (exports_in n) keeps script.actions may outcome)))
 
 unless_not : {P : Type 0} (b : Bool) → b ≢ true → Unless b P → P
 unless_not true h p = absurd (h refl)
@@ -369,15 +376,15 @@ module _ (c : Change) (none_before : c.before ≡ []) where
   starts : (turns : ℕ) (script : Script) → changed c (start turns script) ≡ start (turns + c.more) script
   starts turns script = ap (λ b. record { environments = []; objects = []; handles = []; answers = script.answers; events = b ++ []; turns = turns + c.more }) none_before
 
-  -- the names that the module looks up are told from its own, and nothing is known of scopes before it runs
+  -- the names that the module looks up are told from its own, nothing is known of scopes before it runs, and its exports are kept
   abbrev pub MayStart : Node → Type 0
-  MayStart m = Unless c.names.plain (Opens c.names (ids_of (meaning m).locals) (left_free c m) (seeks c m).sought) × Standing c [] (left_free c m) × Around c []
+  MayStart m = Unless c.names.plain (Opens c.names (ids_of (meaning m).locals) (left_free c m) (seeks c m).sought) × Standing c [] (left_free c m) × Around c [] × KeepsExports c.names (ids_of (meaning m).locals) (exports_in m)
 
   pub observe_while : (steps : StepsAlike c) → c.uses ≡ true → (script : Script) → CallsDoAlike c steps (provided_by script) → (turns : ℕ) (options : Config) (m : Node) → c.fine m → known_of m ≡ c.known → MayStart m → c.holds turns → c.said []
       → IsNotExcused c.excused (observe turns options m script).ending → observe (turns + c.more) options (c.node m) script ≡ observe turns options m script
   observe_while steps u script calls_do turns options m fine is starts' holds said h =
       ap (λ s. observed (run_module (c.node m) script s)) (sym (starts turns script))
-      ∙ observed_follows _ _ ((run_module_alike c steps script calls_do m fine is starts'.0 starts'.1 (inl u)).at (start turns script) ((tt, starts'.2), holds, said)) h
+      ∙ observed_follows _ _ ((run_module_alike c steps script calls_do m fine is starts'.0 starts'.1 starts'.3 (inl u)).at (start turns script) ((tt, starts'.2), holds, said)) h
 
   pub observe_unless : StepsAlike c → c.uses ≡ true → c.passed ≡ None → (turns : ℕ) (options : Config) (m : Node) (script : Script) → c.fine m → known_of m ≡ c.known → MayStart m → c.holds turns → c.said []
       → IsNotExcused c.excused (observe turns options m script).ending → observe (turns + c.more) options (c.node m) script ≡ observe turns options m script

@@ -23,6 +23,8 @@ use Rattle.ecma_runs.proofs.Layer.{meaning-roll}
 use Rattle.ecma_runs.proofs.Names.{Naming, changed_ids, changed_known, changed_bindings}
 use Rattle.ecma_runs.proofs.Scopes.{Stands}
 use Rattle.ecma_runs.proofs.Alike.{Change}
+use Rattle.ecma_runs.specs.Exports.{Exported, Local, Indirect, Star, export_names}
+use Rattle.ecma_runs.proofs.Exports.{changed_exports, KeepsExports, LocalsPass, keeps_plain}
 use Rattle.ecma_runs.specs.Names.{TextsStay}
 use Rattle.ecma_runs.proofs.Premises.{renamed_kind, StillClash, KeptLayer}
 use Rattle.ecma_runs.proofs.Kept.{AllNodes, StepsAlike, layer_same, IsNotExcused, observe_unless}
@@ -46,6 +48,21 @@ same_bindings (b ∷ bindings) = ap (λ z. b ∷ z) (same_bindings bindings)
 pub texts_stay : (ids : List Id) → TextsStay (λ id. id) ids
 texts_stay [] = tt
 texts_stay (id ∷ ids) = (refl, texts_stay ids)
+
+pub same_exports : (entries : List Exported) → changed_exports same_names entries ≡ entries
+same_exports [] = refl
+same_exports (Local name id ∷ entries) = ap (λ rest. Local name id ∷ rest) (same_exports entries)
+same_exports (Indirect name source imported ∷ entries) = ap (λ rest. Indirect name source imported ∷ rest) (same_exports entries)
+same_exports (Star ∷ entries) = ap (λ rest. Star ∷ rest) (same_exports entries)
+
+locals_pass : (entries : List Exported) → LocalsPass (λ id. true) entries
+locals_pass [] = tt
+locals_pass (Local name id ∷ entries) = (refl, locals_pass entries)
+locals_pass (Indirect name source imported ∷ entries) = locals_pass entries
+locals_pass (Star ∷ entries) = locals_pass entries
+
+pub exports_kept : (ids : List Id) (entries : List Exported) → KeepsExports same_names ids entries
+exports_kept ids entries = keeps_plain same_names refl ids entries (locals_pass entries) (texts_stay (export_names entries))
 
 -- what is said of the other run besides: so many turns more, events before, stops behind which nothing is said, what is said of turns and of events
 pub record Telling : Type 1 where
@@ -95,8 +112,8 @@ abbrev pub images : (Node → Node) → Known → Telling → Change
 images = images_where (λ n. Unit {0})
 
 -- where names are told apart everywhere, nothing has to be known before a module runs
-abbrev pub plain_starts : {declared : List Id} {scope : List Entered} {ids : List Id} → Unit {0} × Stands same_names declared scope ids × Unit {0}
-plain_starts = (tt, record { free = tt }, tt)
+abbrev pub plain_starts : {declared : List Id} {scope : List Entered} {ids locals : List Id} {entries : List Exported} → Unit {0} × Stands same_names declared scope ids × Unit {0} × KeepsExports same_names locals entries
+plain_starts {locals = locals} {entries = entries} = (tt, record { free = tt }, tt, exports_kept locals entries)
 
 pub none_excused : (end : Ending) → IsNotExcused nothing_excused end
 none_excused end why excuse = absurd (cc)
@@ -122,6 +139,10 @@ module _ (fine : Node → Type 0) (f : Node → Node) (known : Known) (t : Telli
 
   pub kept_layer : (k : Kind) (ms : List Meaning) → KeptLayer of k ms
   kept_layer (kind.Ident text ctxt optional) ms = (refl, refl)
+  kept_layer kind.ExportDefaultExpr ms = (refl, refl)
+  kept_layer (kind.NamedExport type_only) (specifiers ∷ source ∷ attributes ∷ []) = texts_stay source.shorthands
+  kept_layer (kind.ExportNamedSpecifier is_type_only) (exported ∷ name ∷ []) = (texts_stay exported.shorthands, texts_stay name.shorthands)
+  kept_layer kind.ExportNamespaceSpecifier (name ∷ []) = texts_stay name.shorthands
   kept_layer kind.MemberExpr ms = refl
   kept_layer kind.SuperPropExpr ms = refl
   kept_layer kind.TsQualifiedName ms = refl

@@ -1,9 +1,11 @@
 pub mod Names
 pub mod Scopes
+pub mod Exports
 pub mod Alike
 pub mod Environments
 pub mod Objects
 pub mod Meanings
+pub mod Reading
 pub mod Members
 pub mod Functions
 pub mod Premises
@@ -29,6 +31,7 @@ pub mod Turns
 mod Growing
 mod Silence
 mod Trees
+mod ExportTrees
 mod Scripts
 mod FactsNames
 mod FactsOperators
@@ -51,6 +54,7 @@ mod FactsOpenKeys
 mod FactsOpenPlaces
 mod FactsOpenNames
 mod FactsAliases
+mod FactsExports
 mod FactsHeirs
 mod FactsOpenElements
 mod FactsMeeting

@@ -9,9 +9,10 @@ use Rattle.ecma_runs.specs.Expressions.{all_arguments, all_elements, all_texts}
 use Rattle.ecma_runs.specs.Patterns.{all_targets, all_matched, all_parameters}
 use Rattle.ecma_runs.specs.Classes.{all_code, all_defined, all_fields, all_statics}
 use Rattle.ecma_runs.specs.Statements.{all_completions, all_varied, all_hoisted}
-use Rattle.ecma_runs.specs.Declarations.{all_names, all_imported, all_lexicals, all_vars, all_parameter_names, all_declared, all_shorthands, joined_parts, all_cooked, all_plain, all_types, any_constructor}
+use Rattle.ecma_runs.specs.Declarations.{all_names, all_imported, all_lexicals, all_vars, all_parameter_names, all_declared, all_shorthands, all_exports, joined_parts, all_cooked, all_plain, all_types, any_constructor}
 use Rattle.ecma_runs.proofs.Names.{changed_ids, changed_bindings, changed_ids-append, changed_bindings-append}
 use Rattle.ecma_runs.proofs.Scopes.{one, rest}
+use Rattle.ecma_runs.proofs.Exports.{changed_exports, changed_exports-append}
 use Rattle.ecma_runs.proofs.Alike.{Change, Standing, Alike, bind_alike, give_alike, outside_alike, when_alike}
 use Rattle.ecma_runs.proofs.Environments.{KeepTexts, keep_first, keep_rest}
 use Rattle.ecma_runs.proofs.Meanings.{at, World, first, second, Both, seekers, seconds}
@@ -37,6 +38,7 @@ module _ (c : Change) where
     pub parameter_names : changed_ids c.names m.parameter_names ≡ []
     pub declared : changed_ids c.names m.declared ≡ []
     pub imported : (source : List ℕ) → changed_bindings c.names (m.imported source) ≡ []
+    pub exports : (source : Option (List ℕ)) → changed_exports c.names (m.exports source) ≡ []
     pub cooked : m.cooked ≡ Some []
     pub is_plain : m.is_plain ≡ true
     pub is_type : m.is_type ≡ true
@@ -111,6 +113,14 @@ module _ (c : Change) where
 
   pub all_imported_same : (items : List Item) (source : List ℕ) → all_imported (behind items) source ≡ changed_bindings c.names (all_imported (before items) source)
   all_imported_same items source = all_bindings (λ m. m.imported source) (λ ms. all_imported ms source) refl (λ m ms. refl) (λ p. p.2.imported source) (λ m silent. silent.imported source) items
+
+  pub all_exports_same : (items : List Item) (source : Option (List ℕ)) → all_exports (behind items) source ≡ changed_exports c.names (all_exports (before items) source)
+  all_exports_same [] source = refl
+  all_exports_same (Stays p ∷ items) source =
+      ap₂ (λ a b. a ++ b) (p.2.exports source) (all_exports_same items source) ∙ sym (changed_exports-append c.names (p.0.meaning.exports source) (all_exports (before items) source))
+  all_exports_same (Goes m silent ∷ items) source =
+      all_exports_same items source ∙ ap (λ z. z ++ changed_exports c.names (all_exports (before items) source)) (sym (silent.exports source))
+      ∙ sym (changed_exports-append c.names (m.exports source) (all_exports (before items) source))
 
   no_parts : (o : Option (List (List ℕ))) → joined_parts (Some []) o ≡ o
   no_parts None = refl

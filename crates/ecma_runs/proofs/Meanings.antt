@@ -10,6 +10,7 @@ use Rattle.ecma_runs.specs.Sought.{Sought, nothing_sought, Seeker, meanings}
 use Rattle.ecma_runs.specs.Evaluation.{fields_with, invoke}
 use Rattle.ecma_runs.proofs.Scopes.{Opens, always_stands}
 use Rattle.ecma_runs.proofs.Names.{Unless, unless_is, unless_map, unless_both, unless_plain, EachTold, changed_ids, changed_scope, changed_bindings, changed_bindings-map, changed_known}
+use Rattle.ecma_runs.proofs.Exports.{changed_exports}
 use Rattle.ecma_runs.proofs.Alike.{Change, Standing, AlikeBy, Alike}
 use Rattle.ecma_runs.proofs.Environments.{beside, Knows, AllKnown, KeepTexts, changed_reference, KeptReference, AlikeReference}
 
@@ -129,6 +130,7 @@ module _ (c : Change) where
     pub declared : m'.declared ≡ changed_ids c.names m.declared
     pub imported : (source : List ℕ) → m'.imported source ≡ changed_bindings c.names (m.imported source)
     pub text : KeepTexts c m.shorthands → m'.text ≡ m.text
+    pub exports : (source : Option (List ℕ)) → m'.exports source ≡ changed_exports c.names (m.exports source)
     pub cooked : m'.cooked ≡ m.cooked
     pub is_plain : m'.is_plain ≡ m.is_plain
     pub is_computed : m'.is_computed ≡ m.is_computed
@@ -185,6 +187,7 @@ module _ (c : Change) where
       declared = same.declared;
       imported = same.imported;
       text = same.text;
+      exports = same.exports;
       cooked = same.cooked;
       is_plain = same.is_plain;
       is_computed = same.is_computed;

@@ -1,5 +1,5 @@
 -- Names may meet: a map of names by which none is caught keeps runs, although it may map several to one.
-use Rattle.std.proofs.Common.{◌≡◌, ℕ, ◌++◌, ◌&&◌, ◌||◌, not, refl, sym, ap, ◌∙◌, subst, List, [], ◌∷◌, map, Bool, true, false, add-zero}
+use Rattle.std.proofs.Common.{◌≡◌, ℕ, ◌++◌, ◌&&◌, ◌||◌, not, refl, sym, ap, ◌∙◌, subst, List, [], ◌∷◌, map, Option, None, Bool, true, false, add-zero}
 use Rattle.std.specs.List.{list_all}
 use Rattle.ecma_kind.specs.declared.kind.Kind.{Kind}
 use Rattle.ecma_kind.specs.declared.kind.Kind.TheVariants as kind
@@ -12,11 +12,13 @@ use Rattle.ecma_runs.specs.Environment.{ids_of, is_among, except, have_one_of}
 use Rattle.ecma_runs.specs.Declarations.{parameter_names_of}
 use Rattle.ecma_runs.specs.Sought.{Seeker, meanings, seeker, sought_in, outside_of, code_sought_of}
 use Rattle.ecma_runs.specs.Evaluation.{meaning_by, meaning}
-use Rattle.ecma_runs.specs.Observation.{known_of, observe}
+use Rattle.ecma_runs.specs.Observation.{known_of, exports_in, observe}
+use Rattle.ecma_runs.specs.Exports.{Exported, Local, local_ids}
+use Rattle.ecma_runs.proofs.Exports.{KeepsExports, keeps_each}
 use Rattle.ecma_runs.specs.Names.{renamed_ident, renamed_node, renamed, passes_by, Keys, all_below, at_keys, keys_by, keys, keys_in, TextsStay}
-use Rattle.ecma_runs.specs.Meeting.{is_told, catches_none, body_meets, function_meets, code_meets, meets_by, Met, met_step, met, MayMeet}
+use Rattle.ecma_runs.specs.Meeting.{is_told, catches_none, body_meets, function_meets, code_meets, meets_by, Met, met_step, met, exports_meet, MayMeet}
 use Rattle.ecma_runs.specs.Laws.{NamesMayMeet}
-use Rattle.ecma_runs.proofs.Names.{Naming, same_id-equal, same_id-itself, Told, EachTold, is_among-changed, changed_ids, changed_bindings}
+use Rattle.ecma_runs.proofs.Names.{Naming, same_id-equal, same_id-itself, Told, ToldApart, EachTold, is_among-changed, changed_ids, changed_bindings}
 use Rattle.ecma_runs.proofs.Scopes.{Opens, among_right}
 use Rattle.ecma_runs.proofs.Alike.{Change}
 use Rattle.ecma_runs.proofs.Layer.{meaning-roll}
@@ -236,7 +238,7 @@ module _ (to : Id → Id) (m : Node) (may : MayMeet to m) where
   clashes ids (b ∷ bs) p told = clash_step ids b bs p.0 told.0 (clashes ids bs p.1 told.1)
 
   still : (parameters body : Node) → Passes may.stands body → body_meets to (meaning parameters).names (seeker body) ≡ true → StillClash change (meaning parameters) (meaning body)
-  still parameters body p h = clashes (meaning parameters).names (meaning body).locals (declares may.stands body p).locals (body_opens (meaning parameters).names (seeker body) h).1
+  still parameters body p h = clashes (meaning parameters).names (meaning body).locals ((declares may.stands body p).locals may.default_stays.0) (body_opens (meaning parameters).names (seeker body) h).1
 
   listed : (n : Node) → TextsStay to (keys n).here → TextsStay to (meaning n).shorthands
   listed n h = subst (TextsStay to) (sym (here_is n)) h
@@ -246,6 +248,10 @@ module _ (to : Id → Id) (m : Node) (may : MayMeet to m) where
 
   layer_kept : (k : Kind) (cs : List Node) → passes_by may.stands k ≡ true → AllNodes (Passes may.stands) cs → TextsStay to (at_keys k (map keys cs)) → meets_by to k (map seeker cs) ≡ true → KeptLayer change k (map meaning cs)
   layer_kept (kind.Ident text ctxt optional) cs h p t b = (h, may.this_stays (record { sym = text; ctxt = ctxt }) h)
+  layer_kept kind.ExportDefaultExpr cs h p t b = may.default_stays
+  layer_kept (kind.NamedExport type_only) (specifiers ∷ source ∷ attributes ∷ []) h p t b = listed source t
+  layer_kept (kind.ExportNamedSpecifier is_type_only) (exported ∷ name ∷ []) h p t b = (listed exported (stay_first to (keys exported).here (keys name).here t), listed name (stay_rest to (keys exported).here (keys name).here t))
+  layer_kept kind.ExportNamespaceSpecifier (name ∷ []) h p t b = listed name t
   layer_kept kind.MemberExpr cs h p t b = refl
   layer_kept kind.SuperPropExpr cs h p t b = refl
   layer_kept kind.TsQualifiedName cs h p t b = refl
@@ -293,12 +299,31 @@ module _ (to : Id → Id) (m : Node) (may : MayMeet to m) where
       told_inside to may.stands (meaning m).declared (outside_of (meaning m).declared (sought_in m).sought) h id
       (left_outside (meaning m).declared (sought_in m).sought id (from_outside (ids_of (meaning m).locals) (sought_in m).sought id among) away)
 
+  -- what is exported is told from the others
+
+  abbrev Apart : List Exported → Type 0
+  Apart entries = exports_meet to (ids_of (meaning m).locals) entries ≡ true
+
+  local_apart : (name : Option (List ℕ)) (id : Id) (entries : List Exported) → Apart (Local name id ∷ entries)
+      → ToldApart names (ids_of (meaning m).locals) id × EachTold names (id ∷ []) (local_ids entries) × Apart entries
+  local_apart name id entries h =
+      let ids : List Id = ids_of (meaning m).locals in
+      let t = both_true (is_told to ids id) (catches_none to (id ∷ []) (local_ids entries) && exports_meet to ids entries) h in
+      let r = both_true (catches_none to (id ∷ []) (local_ids entries)) (exports_meet to ids entries) t.1 in
+      (told_is to may.stands ids id t.0, each_is to may.stands (id ∷ []) (local_ids entries) r.0, r.1)
+
+  kept_exports : KeepsExports names (ids_of (meaning m).locals) (exports_in m)
+  kept_exports = record {
+    each = keeps_each names (ids_of (meaning m).locals) Apart local_apart (λ name source imported entries h. h) (λ entries h. h) (exports_in m)
+        ((declares may.stands m may.all_stand).exports None may.default_stays.0) may.export_texts may.exports_apart;
+  }
+
   pub meeting_kept : (turns : ℕ) (options : Config) (script : Script) → observe turns options (renamed to m) script ≡ observe turns options m script
   meeting_kept turns options script =
       let t = both_true (catches_none to (ids_of (meaning m).locals) (sought_in m).sought) (catches_none to (meaning m).declared (outside_of (meaning m).declared (sought_in m).sought)) may.in_module in
       ap (λ n. observe n options (renamed to m) script) (sym (add-zero turns))
       ∙ observe_unless change refl steps refl refl turns options m script (may.all_stand, may.key_texts, may.none_caught) refl
-      (opens (ids_of (meaning m).locals) (sought_in m).sought t.0, record { free = free_told t.1 }, tt) tt tt (none_excused _)
+      (opens (ids_of (meaning m).locals) (sought_in m).sought t.0, record { free = free_told t.1 }, tt, kept_exports) tt tt (none_excused _)
 
 pub names_may_meet : NamesMayMeet
 names_may_meet turns options m script to may = meeting_kept to m may turns options script

@@ -68,7 +68,7 @@ abbrev pub keep : {A : Type 0} → Bool → A → List A → List A
 keep true a rest = a ∷ rest
 keep false a rest = rest
 
-keep-append : {A : Type 0} (b : Bool) (a : A) (xs ys : List A) → keep b a (xs ++ ys) ≡ keep b a xs ++ ys
+pub keep-append : {A : Type 0} (b : Bool) (a : A) (xs ys : List A) → keep b a (xs ++ ys) ≡ keep b a xs ++ ys
 keep-append true a xs ys = refl
 keep-append false a xs ys = refl
 

@@ -1,16 +1,17 @@
 -- Names do not matter: a map of names that is one to one keeps runs.
-use Rattle.std.proofs.Common.{◌≡◌, ℕ, ◌++◌, refl, sym, ap, ap₂, ◌∙◌, subst, List, [], ◌∷◌, map, Bool, true, false, cond, add-zero}
+use Rattle.std.proofs.Common.{◌≡◌, ℕ, ◌++◌, refl, sym, ap, ap₂, ◌∙◌, subst, List, [], ◌∷◌, map, None, Bool, true, false, cond, add-zero}
 use Rattle.ecma_kind.specs.declared.kind.Kind.{Kind}
 use Rattle.ecma_kind.specs.declared.kind.Kind.TheVariants as kind
 use Rattle.ecma_tree.specs.declared.node.Node.{Node, Node-F, fold-roll-Node, ind-Node, roll-Node}
 use Rattle.ecma_config.specs.declared.config.Config.{Config}
 use Rattle.ecma_runs.specs.declared.script.Script.{Script}
 use Rattle.ecma_runs.specs.State.{Id, Binding}
-use Rattle.ecma_runs.specs.Environment.{have_one_of}
+use Rattle.ecma_runs.specs.Environment.{ids_of, have_one_of}
 use Rattle.ecma_runs.specs.Meaning.{Meaning}
 use Rattle.ecma_runs.specs.Declarations.{all_shorthands, has_no_effect}
 use Rattle.ecma_runs.specs.Evaluation.{role_by, no_effect, meaning_by, meaning}
-use Rattle.ecma_runs.specs.Observation.{known_of, observe}
+use Rattle.ecma_runs.specs.Observation.{known_of, exports_in, observe}
+use Rattle.ecma_runs.proofs.Exports.{keeps_plain}
 use Rattle.ecma_runs.specs.Names.{renamed_ident, renamed_node, renamed, passes_by, Keys, all_here, all_below, here_by, at_keys, keys_by, keys, keys_in, TextsStay, IsRenaming}
 use Rattle.ecma_runs.specs.Laws.{NamesDoNotMatter}
 use Rattle.ecma_runs.proofs.Layer.{meaning-roll}
@@ -97,13 +98,17 @@ module _ (to : Id → Id) (m : Node) (renaming : IsRenaming to m) where
   clashes names (b ∷ bs) p = clash_step names b bs p.0 (clashes names bs p.1)
 
   still : (parameters body : Node) → Passes renaming.stands body → StillClash renaming_change (meaning parameters) (meaning body)
-  still parameters body p = clashes (meaning parameters).names (meaning body).locals (declares renaming.stands body p).locals
+  still parameters body p = clashes (meaning parameters).names (meaning body).locals ((declares renaming.stands body p).locals renaming.default_stays.0)
 
   listed : (n : Node) → TextsStay to (keys n).here → TextsStay to (meaning n).shorthands
   listed n h = subst (TextsStay to) (sym (here_is n)) h
 
   layer_kept : (k : Kind) (cs : List Node) → passes_by renaming.stands k ≡ true → AllNodes (Passes renaming.stands) cs → TextsStay to (at_keys k (map keys cs)) → KeptLayer renaming_change k (map meaning cs)
   layer_kept (kind.Ident text ctxt optional) cs h p t = (h, renaming.this_stays (record { sym = text; ctxt = ctxt }) h)
+  layer_kept kind.ExportDefaultExpr cs h p t = renaming.default_stays
+  layer_kept (kind.NamedExport type_only) (specifiers ∷ source ∷ attributes ∷ []) h p t = listed source t
+  layer_kept (kind.ExportNamedSpecifier is_type_only) (exported ∷ name ∷ []) h p t = (listed exported (stay_first to (keys exported).here (keys name).here t), listed name (stay_rest to (keys exported).here (keys name).here t))
+  layer_kept kind.ExportNamespaceSpecifier (name ∷ []) h p t = listed name t
   layer_kept kind.MemberExpr cs h p t = refl
   layer_kept kind.SuperPropExpr cs h p t = refl
   layer_kept kind.TsQualifiedName cs h p t = refl
@@ -137,7 +142,8 @@ module _ (to : Id → Id) (m : Node) (renaming : IsRenaming to m) where
 
   pub renamed_kept : (turns : ℕ) (options : Config) (script : Script) → observe turns options (renamed to m) script ≡ observe turns options m script
   renamed_kept turns options script =
-      ap (λ n. observe n options (renamed to m) script) (sym (add-zero turns)) ∙ observe_unless renaming_change refl renaming_steps refl refl turns options m script (renaming.all_stand, renaming.key_texts) refl (tt, record { free = tt }, tt) tt tt (none_excused _)
+      ap (λ n. observe n options (renamed to m) script) (sym (add-zero turns)) ∙ observe_unless renaming_change refl renaming_steps refl refl turns options m script (renaming.all_stand, renaming.key_texts) refl
+      (tt, record { free = tt }, tt, keeps_plain new_names refl (ids_of (meaning m).locals) (exports_in m) ((declares renaming.stands m renaming.all_stand).exports None renaming.default_stays.0) renaming.export_texts) tt tt (none_excused _)
 
 pub names_do_not_matter : NamesDoNotMatter
 names_do_not_matter turns options m script to renaming = renamed_kept to m renaming turns options script

@@ -8,13 +8,14 @@ use Rattle.ecma_runs.specs.declared.script.Script.{Script}
 use Rattle.ecma_runs.specs.Run.{Outcome, Done, Thrown, Returned, Broken, Continued, Ended}
 use Rattle.ecma_runs.specs.Meaning.{Known, Meaning}
 use Rattle.ecma_runs.specs.Evaluation.{meaning_by, meaning}
-use Rattle.ecma_runs.specs.Observation.{known_of, run_module, start}
+use Rattle.ecma_runs.specs.Environment.{ids_of}
+use Rattle.ecma_runs.specs.Observation.{known_of, exports_in, run_module, start}
 use Rattle.ecma_runs.specs.Uses.{uses_nothing_by, uses_nothing_step, uses_nothing}
 use Rattle.ecma_runs.specs.Laws.{state_behind, DeclarationsAloneHaveNoEvents}
 use Rattle.ecma_runs.proofs.Alike.{Change, Follows}
 use Rattle.ecma_runs.proofs.Premises.{renamed_kind, KeptLayer}
 use Rattle.ecma_runs.proofs.Kept.{AllNodes, StepsAlike, layer_same, run_module_alike}
-use Rattle.ecma_runs.proofs.Layers.{same_names, always, nothing_excused, the_same, same_kind, kept_layer, itself_layers}
+use Rattle.ecma_runs.proofs.Layers.{same_names, exports_kept, always, nothing_excused, the_same, same_kind, kept_layer, itself_layers}
 use Rattle.ecma_runs.proofs.Growing.{observed_events}
 
 none_used : false ≡ true → ⊥
@@ -84,4 +85,4 @@ declarations_alone_have_no_events turns options m script h =
     let quiet_script : Script = record script { actions = [] } in
     let c : Change = quiet (known_of m) in
     observed_events (run_module m quiet_script (start turns quiet_script))
-    ∙ no_events (known_of m) _ _ ((run_module_alike c (quiet_steps (known_of m)) quiet_script (λ u. absurd (none_used u)) m h refl tt (record { free = tt }) (inr refl)).at (start turns quiet_script) ((tt, tt), tt, refl))
+    ∙ no_events (known_of m) _ _ ((run_module_alike c (quiet_steps (known_of m)) quiet_script (λ u. absurd (none_used u)) m h refl tt (record { free = tt }) (exports_kept (ids_of (meaning m).locals) (exports_in m)) (inr refl)).at (start turns quiet_script) ((tt, tt), tt, refl))

@@ -5,13 +5,16 @@ use Rattle.ecma_kind.specs.declared.kind.Kind.{Kind}
 use Rattle.ecma_kind.specs.declared.kind.Kind.TheVariants as kind
 use Rattle.ecma_kind.specs.declared.operators.VarDeclKind.TheVariants.{Var, Let, Const}
 use Rattle.ecma_tree.specs.declared.node.Node.{Node, Node-F, fold-roll-Node, ind-Node, roll-Node}
-use Rattle.ecma_runs.specs.State.{Id, Binding}
+use Rattle.ecma_runs.specs.State.{Id, default_name, Binding}
 use Rattle.ecma_runs.specs.Environment.{empty, undefined, import_of}
 use Rattle.ecma_runs.specs.Meaning.{Meaning}
-use Rattle.ecma_runs.specs.Declarations.{all_names, names_of, all_imported, imported_as, imported_of, imported_from, all_lexicals, lexicals_of, all_vars, vars_of, locals_of, has_no_effect}
+use Rattle.ecma_runs.specs.Declarations.{all_names, names_of, all_imported, imported_as, imported_of, imported_from, all_lexicals, lexicals_of, all_vars, vars_of, locals_of, has_no_effect, all_exports, exported_from, exports_of}
 use Rattle.ecma_runs.specs.Evaluation.{role_by, no_effect, constant_meaning, meaning_by, meaning}
 use Rattle.ecma_runs.specs.Names.{passes_by, passes_here, ids_pass}
 use Rattle.ecma_runs.proofs.Layer.{meaning-roll}
+use Rattle.ecma_runs.specs.Environment.{ids_of}
+use Rattle.ecma_runs.specs.Exports.{Exported, Local, Indirect, Star, local_as, indirect_as}
+use Rattle.ecma_runs.proofs.Exports.{LocalsPass}
 use Rattle.ecma_runs.proofs.Kept.{AllNodes}
 
 both_true : (a b : Bool) → a && b ≡ true → (a ≡ true) × (b ≡ true)
@@ -33,6 +36,10 @@ module _ (test : Id → Bool) where
       let t = both_true (passes_by test x.kind) (list_all (λ b. b) (map (ids_pass test) x.children)) (sym (fold-roll-Node Bool (passes_here test) x) ∙ h) in (t.0, all_pass x.children t.1)
 
   -- lists of names, and of variables
+
+  -- with the name of a default export without one
+  abbrev pub Default : Type 0
+  Default = test default_name ≡ true
 
   abbrev pub NamesPass : List Id → Type 0
   NamesPass [] = Unit {0}
@@ -66,10 +73,11 @@ module _ (test : Id → Bool) where
 
   pub record Declares (m : Meaning) : Type 0 where
     pub names : NamesPass m.names
-    pub lexicals : BindingsPass m.lexicals
+    pub lexicals : Default → BindingsPass m.lexicals
     pub vars : BindingsPass m.vars
-    pub locals : BindingsPass m.locals
+    pub locals : Default → BindingsPass m.locals
     pub imported : (source : List ℕ) → BindingsPass (m.imported source)
+    pub exports : (source : Option (List ℕ)) → Default → LocalsPass test (m.exports source)
 
   abbrev Part : Type 0
   Part = (m : Meaning) × Declares m
@@ -81,9 +89,9 @@ module _ (test : Id → Bool) where
   all_names_pass [] = tt
   all_names_pass (p ∷ ps) = names_append p.0.names (all_names (parts ps)) p.1.names (all_names_pass ps)
 
-  all_lexicals_pass : (ps : List Part) → BindingsPass (all_lexicals (parts ps))
-  all_lexicals_pass [] = tt
-  all_lexicals_pass (p ∷ ps) = bindings_append p.0.lexicals (all_lexicals (parts ps)) p.1.lexicals (all_lexicals_pass ps)
+  all_lexicals_pass : (ps : List Part) → Default → BindingsPass (all_lexicals (parts ps))
+  all_lexicals_pass [] default = tt
+  all_lexicals_pass (p ∷ ps) default = bindings_append p.0.lexicals (all_lexicals (parts ps)) (p.1.lexicals default) (all_lexicals_pass ps default)
 
   all_vars_pass : (ps : List Part) → BindingsPass (all_vars (parts ps))
   all_vars_pass [] = tt
@@ -123,17 +131,20 @@ module _ (test : Id → Bool) where
   imported_from_pass None specifiers = tt
   imported_from_pass (Some source) specifiers = specifiers.1.imported source
 
-  lexicals_pass : (k : Kind) (ps : List Part) → BindingsPass (lexicals_of k (parts ps))
-  lexicals_pass kind.List ps = all_lexicals_pass ps
-  lexicals_pass (kind.VarDecl Let false) (declarators ∷ []) = empties_pass false declarators.0.names declarators.1.names
-  lexicals_pass (kind.VarDecl Const false) (declarators ∷ []) = empties_pass true declarators.0.names declarators.1.names
-  lexicals_pass (kind.ImportDecl false) (specifiers ∷ source ∷ attributes ∷ []) = imported_from_pass source.0.text specifiers
-  lexicals_pass (kind.FnDecl false) (name ∷ function ∷ []) = empties_pass false name.0.names name.1.names
-  lexicals_pass (kind.ClassDecl false) (name ∷ class ∷ []) = empties_pass false name.0.names name.1.names
-  lexicals_pass _ ps = tt
+  lexicals_pass : (k : Kind) (ps : List Part) → Default → BindingsPass (lexicals_of k (parts ps))
+  lexicals_pass kind.List ps default = all_lexicals_pass ps default
+  lexicals_pass (kind.VarDecl Let false) (declarators ∷ []) default = empties_pass false declarators.0.names declarators.1.names
+  lexicals_pass (kind.VarDecl Const false) (declarators ∷ []) default = empties_pass true declarators.0.names declarators.1.names
+  lexicals_pass (kind.ImportDecl false) (specifiers ∷ source ∷ attributes ∷ []) default = imported_from_pass source.0.text specifiers
+  lexicals_pass (kind.FnDecl false) (name ∷ function ∷ []) default = empties_pass false name.0.names name.1.names
+  lexicals_pass (kind.ClassDecl false) (name ∷ class ∷ []) default = empties_pass false name.0.names name.1.names
+  lexicals_pass kind.ExportDecl (declaration ∷ []) default = declaration.1.lexicals default
+  lexicals_pass kind.ExportDefaultExpr (e ∷ []) default = (default, tt)
+  lexicals_pass _ ps default = tt
 
   vars_pass : (k : Kind) (ps : List Part) → BindingsPass (vars_of k (parts ps))
   vars_pass kind.List ps = all_vars_pass ps
+  vars_pass kind.ExportDecl (declaration ∷ []) = declaration.1.vars
   vars_pass (kind.VarDecl Var false) (declarators ∷ []) = undefineds_pass declarators.0.names declarators.1.names
   vars_pass kind.BlockStmt ps = all_vars_pass ps
   vars_pass kind.IfStmt ps = all_vars_pass ps
@@ -149,13 +160,58 @@ module _ (test : Id → Bool) where
   vars_pass kind.CatchClause ps = all_vars_pass ps
   vars_pass _ ps = tt
 
-  locals_pass : (k : Kind) (ps : List Part) → BindingsPass (locals_of k (parts ps))
-  locals_pass (kind.Module shebang) (body ∷ []) = bindings_append body.0.vars body.0.lexicals body.1.vars body.1.lexicals
-  locals_pass kind.BlockStmt (statements ∷ []) = bindings_append statements.0.vars statements.0.lexicals statements.1.vars statements.1.lexicals
-  locals_pass _ ps = tt
+  locals_pass : (k : Kind) (ps : List Part) → Default → BindingsPass (locals_of k (parts ps))
+  locals_pass (kind.Module shebang) (body ∷ []) default = bindings_append body.0.vars body.0.lexicals body.1.vars (body.1.lexicals default)
+  locals_pass kind.BlockStmt (statements ∷ []) default = bindings_append statements.0.vars statements.0.lexicals statements.1.vars (statements.1.lexicals default)
+  locals_pass _ ps default = tt
+
+  -- exports
+
+  exports_append : (xs ys : List Exported) → LocalsPass test xs → LocalsPass test ys → LocalsPass test (xs ++ ys)
+  exports_append [] ys p q = q
+  exports_append (Local name id ∷ xs) ys p q = (p.0, exports_append xs ys p.1 q)
+  exports_append (Indirect name source imported ∷ xs) ys p q = exports_append xs ys p q
+  exports_append (Star ∷ xs) ys p q = exports_append xs ys p q
+
+  locals_named : (name : Option (List ℕ)) (ids : List Id) → NamesPass ids → LocalsPass test (map (Local name) ids)
+  locals_named name [] p = tt
+  locals_named name (id ∷ ids) p = (p.0, locals_named name ids p.1)
+
+  local_as_pass : (name : Option (List ℕ)) (ids : List Id) → NamesPass ids → LocalsPass test (local_as name ids)
+  local_as_pass None ids p = tt
+  local_as_pass (Some name) ids p = locals_named (Some name) ids p
+
+  bound_pass : (bs : List Binding) → BindingsPass bs → LocalsPass test (map (Local None) (ids_of bs))
+  bound_pass [] p = tt
+  bound_pass (b ∷ bs) p = (p.0, bound_pass bs p.1)
+
+  indirect_as_pass : (name source imported : Option (List ℕ)) → LocalsPass test (indirect_as name source imported)
+  indirect_as_pass None source imported = tt
+  indirect_as_pass (Some name) None imported = tt
+  indirect_as_pass (Some name) (Some source) None = tt
+  indirect_as_pass (Some name) (Some source) (Some imported) = tt
+
+  exported_from_pass : (source name : Option (List ℕ)) (exported : Part) → LocalsPass test (exported_from source name exported.0)
+  exported_from_pass None name exported = local_as_pass name exported.0.names exported.1.names
+  exported_from_pass (Some source) name exported = indirect_as_pass name (Some source) exported.0.text
+
+  all_exports_pass : (ps : List Part) (source : Option (List ℕ)) → Default → LocalsPass test (all_exports (parts ps) source)
+  all_exports_pass [] source default = tt
+  all_exports_pass (p ∷ ps) source default = exports_append (p.0.exports source) (all_exports (parts ps) source) (p.1.exports source default) (all_exports_pass ps source default)
+
+  exports_pass : (k : Kind) (ps : List Part) (source : Option (List ℕ)) → Default → LocalsPass test (exports_of k (parts ps) source)
+  exports_pass kind.List ps source default = all_exports_pass ps source default
+  exports_pass (kind.Module shebang) (body ∷ []) source default = body.1.exports None default
+  exports_pass kind.ExportDecl (declaration ∷ []) source default = bound_pass (declaration.0.vars ++ declaration.0.lexicals) (bindings_append declaration.0.vars declaration.0.lexicals declaration.1.vars (declaration.1.lexicals default))
+  exports_pass kind.ExportDefaultExpr (e ∷ []) source default = (default, tt)
+  exports_pass (kind.NamedExport false) (specifiers ∷ from ∷ attributes ∷ []) source default = specifiers.1.exports from.0.text default
+  exports_pass (kind.ExportNamedSpecifier false) (exported ∷ name ∷ []) source default = exported_from_pass source (cond name.0.is_absent exported.0.text name.0.text) exported
+  exports_pass kind.ExportNamespaceSpecifier (name ∷ []) source default = indirect_as_pass name.0.text source (Some (codes "*"))
+  exports_pass (kind.ExportAll false) (from ∷ attributes ∷ []) source default = tt
+  exports_pass _ ps source default = tt
 
   role_declares : (n : Node) (k : Kind) (ps : List Part) → passes_by test k ≡ true → Declares (role_by n k (parts ps))
-  role_declares n k ps h = record { names = names_pass k ps h; lexicals = lexicals_pass k ps; vars = vars_pass k ps; locals = locals_pass k ps; imported = imported_pass k ps }
+  role_declares n k ps h = record { names = names_pass k ps h; lexicals = lexicals_pass k ps; vars = vars_pass k ps; locals = locals_pass k ps; imported = imported_pass k ps; exports = exports_pass k ps }
 
   abbrev role_part : Node → (k : Kind) (ps : List Part) → passes_by test k ≡ true → Part
   role_part n k ps h = (role_by n k (parts ps), role_declares n k ps h)
@@ -171,7 +227,7 @@ module _ (test : Id → Bool) where
   either_declares false m m' hm hk = hk
 
   layer_declares : (n : Node) (k : Kind) (ps : List Part) → passes_by test k ≡ true → Declares (meaning_by n k (parts ps))
-  layer_declares n kind.ParenExpr (e ∷ []) h = record { names = e.1.names; lexicals = e.1.lexicals; vars = e.1.vars; locals = e.1.locals; imported = e.1.imported }
+  layer_declares n kind.ParenExpr (e ∷ []) h = record { names = e.1.names; lexicals = e.1.lexicals; vars = e.1.vars; locals = e.1.locals; imported = e.1.imported; exports = e.1.exports }
   layer_declares n kind.TsAsExpr (e ∷ type ∷ []) h = e.1
   layer_declares n kind.TsTypeAssertion (e ∷ type ∷ []) h = e.1
   layer_declares n kind.TsConstAssertion (e ∷ []) h = e.1

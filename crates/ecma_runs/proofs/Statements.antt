@@ -5,11 +5,12 @@ use Rattle.ecma_kind.specs.declared.kind.Kind.TheVariants as kind
 use Rattle.ecma_kind.specs.declared.operators.VarDeclKind.TheVariants.{Var, Let, Const}
 use Rattle.ecma_tree.specs.declared.node.Node.{Node}
 use Rattle.ecma_runs.specs.Values.{Value, Own, truth_of}
-use Rattle.ecma_runs.specs.State.{Entered, Plain}
+use Rattle.ecma_runs.specs.State.{default_name, Entered, Plain}
 use Rattle.ecma_runs.specs.Meaning.{inside}
-use Rattle.ecma_runs.proofs.Names.{changed_entered}
+use Rattle.ecma_runs.proofs.Names.{changed_entered, changed_scope}
+use Rattle.ecma_runs.proofs.Exports.{default_ids}
 use Rattle.ecma_runs.specs.Run.{◌>>=◌, give, when, TurnsSpent, Run}
-use Rattle.ecma_runs.specs.Environment.{copy_environment, empty}
+use Rattle.ecma_runs.specs.Environment.{copy_environment, empty, initialize}
 use Rattle.ecma_runs.specs.Statements.{rounds, while, do_while, for_rounds, for_loop, block, all_completions, completion_of, effect_of, all_varied, varied_of, all_hoisted, hoisted_of, caught_of}
 use Rattle.ecma_runs.specs.State.{Id}
 use Rattle.ecma_runs.specs.Environment.{ids_of}
@@ -92,36 +93,43 @@ module _ (c : Change) {a : List Entered} (w : World (at c a)) where
       let z : Standing c (e ∷ w.scope) statements.0.seeks.sought = opened c.names opens s e is in
       bind_alike (beside d e) (statements.2.hoisted (within d w e) z) (λ _. statements.2.completion (within d w e) z)))
 
-  pub completion_alike : (k : Kind) (ps : List (Both c)) → Placed c w.scope k (seekers c ps) → Alike d (completion_of k (firsts c ps) (first d w)) (completion_of (renamed_kind c k) (seconds c ps) (second d w))
-  completion_alike kind.Absent ps h = give_alike d tt
-  completion_alike kind.List ps h = all_stay c (λ ls ms'. Standing c w.scope (all_sought ls) → Alike d (all_completions (meanings ls) (first d w)) (all_completions ms' (second d w))) (all_completions_alike c w) ps h.0
-  completion_alike (kind.Module shebang) (body ∷ []) h = body.2.completion w (one c.names _ _ h.0)
-  completion_alike kind.ExprStmt (e ∷ []) h = bind_alike d (e.2.value w (one c.names _ _ h.0)) (λ _. give_alike d tt)
-  completion_alike (kind.VarDecl Var false) (declarators ∷ []) h = declarators.2.varied w (one c.names _ _ h.0)
-  completion_alike (kind.VarDecl Let false) (declarators ∷ []) h = declarators.2.completion w (one c.names _ _ h.0)
-  completion_alike (kind.VarDecl Const false) (declarators ∷ []) h = declarators.2.completion w (one c.names _ _ h.0)
-  completion_alike (kind.VarDeclarator definite) (name ∷ init ∷ []) h = bind_alike d (init.2.initial w (two c.names _ _ _ h.0)) (λ v. name.2.bound v w (one c.names _ _ h.0))
-  completion_alike (kind.FnDecl false) ps h = give_alike d tt
-  completion_alike (kind.ClassDecl false) (name ∷ class ∷ []) h = rw (name.2.names) (bind_alike d (class.2.class_made name.0.meaning.names _ h.1 w (rest c.names (name.0.meaning.names) _ h.0)) (λ v. initialize_alike d w.scope w.there name.0.meaning.names (one c.names (name.0.meaning.names) _ h.0) v))
-  completion_alike kind.BlockStmt (statements ∷ []) h = block_alike statements _ h.1 h.0
-  completion_alike kind.IfStmt (test ∷ yes' ∷ no' ∷ []) h = bind_alike d (test.2.value w (one c.names _ _ h.0)) (λ v. when_alike d (truth_of v) (yes'.2.completion w (two c.names _ _ _ h.0)) (no'.2.completion w (three c.names _ _ _ _ h.0)))
-  completion_alike kind.WhileStmt (test ∷ body ∷ []) h = while_alike d (test.2.value w (one c.names _ _ h.0)) (body.2.completion w (two c.names _ _ _ h.0))
-  completion_alike kind.DoWhileStmt (test ∷ body ∷ []) h = do_while_alike d (test.2.value w (one c.names _ _ h.0)) (body.2.completion w (two c.names _ _ _ h.0))
-  completion_alike kind.ForStmt (init ∷ test ∷ update ∷ body ∷ []) h =
+  pub completion_alike : (k : Kind) (ps : List (Both c)) → KeptLayer c k (firsts c ps) → Placed c w.scope k (seekers c ps) → Alike d (completion_of k (firsts c ps) (first d w)) (completion_of (renamed_kind c k) (seconds c ps) (second d w))
+  completion_alike kind.Absent ps kept h = give_alike d tt
+  completion_alike kind.List ps kept h = all_stay c (λ ls ms'. Standing c w.scope (all_sought ls) → Alike d (all_completions (meanings ls) (first d w)) (all_completions ms' (second d w))) (all_completions_alike c w) ps h.0
+  completion_alike (kind.Module shebang) (body ∷ []) kept h = body.2.completion w (one c.names _ _ h.0)
+  completion_alike kind.ExprStmt (e ∷ []) kept h = bind_alike d (e.2.value w (one c.names _ _ h.0)) (λ _. give_alike d tt)
+  completion_alike (kind.VarDecl Var false) (declarators ∷ []) kept h = declarators.2.varied w (one c.names _ _ h.0)
+  completion_alike (kind.VarDecl Let false) (declarators ∷ []) kept h = declarators.2.completion w (one c.names _ _ h.0)
+  completion_alike (kind.VarDecl Const false) (declarators ∷ []) kept h = declarators.2.completion w (one c.names _ _ h.0)
+  completion_alike (kind.VarDeclarator definite) (name ∷ init ∷ []) kept h = bind_alike d (init.2.initial w (two c.names _ _ _ h.0)) (λ v. name.2.bound v w (one c.names _ _ h.0))
+  completion_alike (kind.FnDecl false) ps kept h = give_alike d tt
+  completion_alike (kind.ClassDecl false) (name ∷ class ∷ []) kept h = rw (name.2.names) (bind_alike d (class.2.class_made name.0.meaning.names _ h.1 w (rest c.names (name.0.meaning.names) _ h.0)) (λ v. initialize_alike d w.scope w.there name.0.meaning.names (one c.names (name.0.meaning.names) _ h.0) v))
+  completion_alike kind.BlockStmt (statements ∷ []) kept h = block_alike statements _ h.1 h.0
+  completion_alike kind.IfStmt (test ∷ yes' ∷ no' ∷ []) kept h = bind_alike d (test.2.value w (one c.names _ _ h.0)) (λ v. when_alike d (truth_of v) (yes'.2.completion w (two c.names _ _ _ h.0)) (no'.2.completion w (three c.names _ _ _ _ h.0)))
+  completion_alike kind.WhileStmt (test ∷ body ∷ []) kept h = while_alike d (test.2.value w (one c.names _ _ h.0)) (body.2.completion w (two c.names _ _ _ h.0))
+  completion_alike kind.DoWhileStmt (test ∷ body ∷ []) kept h = do_while_alike d (test.2.value w (one c.names _ _ h.0)) (body.2.completion w (two c.names _ _ _ h.0))
+  completion_alike kind.ForStmt (init ∷ test ∷ update ∷ body ∷ []) kept h =
       rw (init.2.lexicals)
       (enter_alike d (λ e. init.1.effect (inside (second d w) e) >>= λ _. copy_environment e >>= λ next. for_loop test.1 update.1 body.1 next (second d w)) init.0.meaning.lexicals None (λ e is.
       let z : Standing c (e ∷ w.scope) (init.0.seeks.sought ++ (test.0.seeks.sought ++ (update.0.seeks.sought ++ (body.0.seeks.sought ++ [])))) = opened c.names h.1 h.0 e is in
       bind_alike (beside d e) (init.2.effect (within d w e) (one c.names (init.0.seeks.sought) _ z)) (λ _.
       copy_alike (beside d e) (λ next. for_loop test.1 update.1 body.1 next (second d w)) e (newest d e) (λ next copied.
       for_loop_alike c test update body (later (beside d e) (later d w e) next) next (newest (beside d e) next) (for_parts c.names test.0.seeks.sought update.0.seeks.sought body.0.seeks.sought (same_ids_stand c.names e next copied (rest c.names (init.0.seeks.sought) _ z)))))))
-  completion_alike kind.ReturnStmt (e ∷ []) h = bind_alike d (e.2.initial w (one c.names _ _ h.0)) (λ v. return_alike d v)
-  completion_alike kind.ThrowStmt (e ∷ []) h = bind_alike d (e.2.value w (one c.names _ _ h.0)) (λ v. throw_alike d v)
-  completion_alike kind.BreakStmt (label ∷ []) h = rw (label.2.is_absent) (when_alike d label.0.meaning.is_absent (break_alike d) (outside_alike d))
-  completion_alike kind.ContinueStmt (label ∷ []) h = rw (label.2.is_absent) (when_alike d label.0.meaning.is_absent (continue_alike d) (outside_alike d))
-  completion_alike kind.TryStmt (body ∷ handler ∷ last ∷ []) h = finally_alike d (catching_alike d (body.2.completion w (one c.names _ _ h.0)) (λ v. handler.2.caught v w (two c.names _ _ _ h.0))) (last.2.completion w (three c.names _ _ _ _ h.0))
-  completion_alike (kind.ImportDecl false) ps h = give_alike d tt
-  completion_alike (kind.TsTypeAliasDecl declare) ps h = give_alike d tt
-  completion_alike _ ps h = outside_alike d
+  completion_alike kind.ReturnStmt (e ∷ []) kept h = bind_alike d (e.2.initial w (one c.names _ _ h.0)) (λ v. return_alike d v)
+  completion_alike kind.ThrowStmt (e ∷ []) kept h = bind_alike d (e.2.value w (one c.names _ _ h.0)) (λ v. throw_alike d v)
+  completion_alike kind.BreakStmt (label ∷ []) kept h = rw (label.2.is_absent) (when_alike d label.0.meaning.is_absent (break_alike d) (outside_alike d))
+  completion_alike kind.ContinueStmt (label ∷ []) kept h = rw (label.2.is_absent) (when_alike d label.0.meaning.is_absent (continue_alike d) (outside_alike d))
+  completion_alike kind.TryStmt (body ∷ handler ∷ last ∷ []) kept h = finally_alike d (catching_alike d (body.2.completion w (one c.names _ _ h.0)) (λ v. handler.2.caught v w (two c.names _ _ _ h.0))) (last.2.completion w (three c.names _ _ _ _ h.0))
+  completion_alike (kind.ImportDecl false) ps kept h = give_alike d tt
+  completion_alike kind.ExportDecl (declaration ∷ []) kept h = declaration.2.completion w (one c.names _ _ h.0)
+  completion_alike kind.ExportDefaultExpr (e ∷ []) kept h =
+      bind_alike d (e.2.initial w (rest c.names (default_name ∷ []) _ h.0)) (λ v.
+      subst (λ ids. Alike d (initialize w.scope (default_name ∷ []) v) (initialize (changed_scope c.names w.scope) ids v)) (default_ids c.names kept)
+      (initialize_alike d w.scope w.there (default_name ∷ []) (one c.names (default_name ∷ []) e.0.seeks.sought h.0) v))
+  completion_alike (kind.NamedExport false) ps kept h = give_alike d tt
+  completion_alike (kind.ExportAll false) ps kept h = give_alike d tt
+  completion_alike (kind.TsTypeAliasDecl declare) ps kept h = give_alike d tt
+  completion_alike _ ps kept h = outside_alike d
 
   pub varied_alike : (k : Kind) (ps : List (Both c)) → Standing c w.scope (sought_of k (seekers c ps)) → Alike d (varied_of k (firsts c ps) (first d w)) (varied_of (renamed_kind c k) (seconds c ps) (second d w))
   varied_alike kind.List ps s = all_stay c (λ ls ms'. Standing c w.scope (all_sought ls) → Alike d (all_varied (meanings ls) (first d w)) (all_varied ms' (second d w))) (all_varied_alike c w) ps s
@@ -134,6 +142,7 @@ module _ (c : Change) {a : List Entered} (w : World (at c a)) where
   pub hoisted_alike : (k : Kind) (ps : List (Both c)) → Standing c w.scope (sought_of k (seekers c ps)) → Alike d (hoisted_of k (firsts c ps) (first d w)) (hoisted_of (renamed_kind c k) (seconds c ps) (second d w))
   hoisted_alike kind.List ps s = all_stay c (λ ls ms'. Standing c w.scope (all_sought ls) → Alike d (all_hoisted (meanings ls) (first d w)) (all_hoisted ms' (second d w))) (all_hoisted_alike c w) ps s
   hoisted_alike (kind.Module shebang) (body ∷ []) s = body.2.hoisted w (one c.names _ _ s)
+  hoisted_alike kind.ExportDecl (declaration ∷ []) s = declaration.2.hoisted w (one c.names _ _ s)
   hoisted_alike (kind.FnDecl false) (name ∷ function ∷ []) s = rw (name.2.names) (bind_alike d (function.2.made Plain None w (rest c.names (name.0.meaning.names) _ s)) (λ f. initialize_alike d w.scope w.there name.0.meaning.names (one c.names (name.0.meaning.names) _ s) (Own f)))
   hoisted_alike _ ps s = give_alike d tt
 
@@ -148,5 +157,5 @@ module _ (c : Change) {a : List Entered} (w : World (at c a)) where
 
   pub effect_alike : (n : Node) → c.fine n → (k : Kind) (ps : List (Both c)) → KeptLayer c k (firsts c ps) → PlacedNode c n w.scope k (seekers c ps) → Alike d (effect_of n k (firsts c ps) (first d w)) (effect_of (c.node n) (renamed_kind c k) (seconds c ps) (second d w))
   effect_alike n fine kind.Absent ps kept h = give_alike d tt
-  effect_alike n fine (kind.VarDecl word declare) ps kept h = completion_alike (kind.VarDecl word declare) ps h.0
+  effect_alike n fine (kind.VarDecl word declare) ps kept h = completion_alike (kind.VarDecl word declare) ps kept h.0
   effect_alike n fine k ps kept h = bind_alike d (value_alike c w n fine k ps kept h) (λ _. give_alike d tt)

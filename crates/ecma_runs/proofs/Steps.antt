@@ -17,13 +17,13 @@ use Rattle.ecma_runs.proofs.Alike.{Change, bind_by, bind_alike, give_by, give_al
 use Rattle.ecma_runs.proofs.Environments.{AlikeReference}
 use Rattle.ecma_runs.proofs.Meanings.{at, World, SameSeeking, Same, any_seeking, Both, seekers, firsts, seconds}
 use Rattle.ecma_runs.proofs.Premises.{renamed_kind, KeptLayer, OpensLayer, Outlined}
-use Rattle.ecma_runs.proofs.Lists.{Item, seekers_before, before, behind, all_arguments_alike, all_elements_alike, all_texts_alike, all_completions_alike, all_varied_alike, all_hoisted_alike, all_matched_alike, all_targets_alike, all_parameters_alike, all_fields_alike, all_statics_alike, all_defined_alike, all_code_alike, all_names_same, all_declared_same, all_parameter_names_same, all_lexicals_same, all_vars_same, all_imported_same, all_cooked_same, all_plain_same, all_types_same, any_constructor_same}
+use Rattle.ecma_runs.proofs.Lists.{Item, seekers_before, before, behind, all_arguments_alike, all_elements_alike, all_texts_alike, all_completions_alike, all_varied_alike, all_hoisted_alike, all_matched_alike, all_targets_alike, all_parameters_alike, all_fields_alike, all_statics_alike, all_defined_alike, all_code_alike, all_names_same, all_declared_same, all_parameter_names_same, all_lexicals_same, all_vars_same, all_imported_same, all_exports_same, all_cooked_same, all_plain_same, all_types_same, any_constructor_same}
 use Rattle.ecma_runs.proofs.Expressions.{link_alike, value_alike, reference_alike, chain_alike, test_alike, initial_alike, arguments_alike, elements_alike, texts_alike, key_alike}
 use Rattle.ecma_runs.proofs.Patterns.{assigned_alike, targets_alike, matched_alike, bound_alike, parameters_alike}
 use Rattle.ecma_runs.proofs.Classes.{made_alike, body_alike, code_alike, class_made_alike, defined_alike, fields_alike, statics_alike}
 use Rattle.ecma_runs.proofs.Blocks.{completed_alike}
 use Rattle.ecma_runs.proofs.Statements.{varied_alike, hoisted_alike, caught_alike, effect_alike}
-use Rattle.ecma_runs.proofs.Declarations.{names_same, imported_same, text_same, lexicals_same, vars_same, locals_same, parameter_names_same, declared_same, cooked_same, is_plain_same, is_computed_same, is_super_same, is_absent_same, is_this_same, is_type_same, has_body_same, is_constructor_same, has_no_effect_same}
+use Rattle.ecma_runs.proofs.Declarations.{names_same, imported_same, text_same, lexicals_same, vars_same, locals_same, parameter_names_same, declared_same, cooked_same, is_plain_same, is_computed_same, is_super_same, is_absent_same, is_this_same, is_type_same, has_body_same, is_constructor_same, has_no_effect_same, exports_same}
 
 module _ (c : Change) where
   role_same : (n : Node) → c.fine n → (k : Kind) (ps : List (Both c)) → KeptLayer c k (firsts c ps) → Unless c.names.plain (OpensLayer c k (seekers c ps)) → Unless c.names.plain (Outlined c n k (seekers c ps))
@@ -64,6 +64,7 @@ module _ (c : Change) where
     declared = declared_same c k ps;
     imported = imported_same c k ps kept;
     text = text_same c k ps;
+    exports = exports_same c k ps kept;
     cooked = cooked_same c k ps;
     is_plain = is_plain_same c k ps;
     is_computed = is_computed_same c k;
@@ -111,6 +112,7 @@ module _ (c : Change) where
     declared = same.declared;
     imported = same.imported;
     text = same.text;
+    exports = same.exports;
     cooked = same.cooked;
     is_plain = same.is_plain;
     is_computed = same.is_computed;
@@ -215,6 +217,7 @@ module _ (c : Change) where
     declared = all_declared_same c items;
     imported = all_imported_same c items;
     text = λ texts. refl;
+    exports = all_exports_same c items;
     cooked = all_cooked_same c items;
     is_plain = all_plain_same c items;
     is_computed = refl;

@@ -82,6 +82,7 @@ alias_silent c n' m texts same = record {
   parameter_names = sym same.parameter_names;
   declared = sym same.declared;
   imported = λ source. sym (same.imported source);
+  exports = λ source. sym (same.exports source);
   cooked = sym same.cooked;
   is_plain = sym same.is_plain;
   is_type = sym same.is_type;

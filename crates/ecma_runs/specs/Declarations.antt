@@ -3,8 +3,9 @@ use Rattle.std.specs.Prelude.{ℕ, List, [], ◌∷◌, ◌++◌, map, Bool, tru
 use Rattle.ecma_kind.specs.declared.kind.Kind.{Kind}
 use Rattle.ecma_kind.specs.declared.kind.Kind.TheVariants as kind
 use Rattle.ecma_kind.specs.declared.operators.VarDeclKind.TheVariants.{Var, Let, Const}
-use Rattle.ecma_runs.specs.State.{Id, Binding}
-use Rattle.ecma_runs.specs.Environment.{empty, undefined, import_of}
+use Rattle.ecma_runs.specs.State.{Id, default_name, Binding}
+use Rattle.ecma_runs.specs.Exports.{Exported, Local, Star, local_as, indirect_as}
+use Rattle.ecma_runs.specs.Environment.{ids_of, empty, undefined, import_of}
 use Rattle.ecma_runs.specs.Meaning.{Meaning}
 
 -- names
@@ -70,6 +71,8 @@ lexicals_of (kind.VarDecl Const false) (declarators ∷ []) = map (empty true) d
 lexicals_of (kind.ImportDecl false) (specifiers ∷ source ∷ attributes ∷ []) = imported_from source.text specifiers
 lexicals_of (kind.FnDecl false) (name ∷ function ∷ []) = map (empty false) name.names
 lexicals_of (kind.ClassDecl false) (name ∷ class ∷ []) = map (empty false) name.names
+lexicals_of kind.ExportDecl (declaration ∷ []) = declaration.lexicals
+lexicals_of kind.ExportDefaultExpr (e ∷ []) = empty false default_name ∷ []
 lexicals_of _ children = []
 
 abbrev pub all_vars : List Meaning → List Binding
@@ -80,6 +83,7 @@ all_vars (m ∷ ms) = m.vars ++ all_vars ms
 abbrev pub vars_of : Kind → List Meaning → List Binding
 vars_of kind.List items = all_vars items
 vars_of (kind.VarDecl Var false) (declarators ∷ []) = map undefined declarators.names
+vars_of kind.ExportDecl (declaration ∷ []) = declaration.vars
 vars_of kind.BlockStmt children = all_vars children
 vars_of kind.IfStmt children = all_vars children
 vars_of kind.WhileStmt children = all_vars children
@@ -99,6 +103,29 @@ abbrev pub locals_of : Kind → List Meaning → List Binding
 locals_of (kind.Module shebang) (body ∷ []) = body.vars ++ body.lexicals
 locals_of kind.BlockStmt (statements ∷ []) = statements.vars ++ statements.lexicals
 locals_of _ children = []
+
+-- exports
+
+abbrev pub all_exports : List Meaning → Option (List ℕ) → List Exported
+all_exports [] source = []
+all_exports (m ∷ ms) source = m.exports source ++ all_exports ms source
+
+-- a name, from a source or of the module's own
+abbrev pub exported_from : Option (List ℕ) → Option (List ℕ) → Meaning → List Exported
+exported_from None name exported = local_as name exported.names
+exported_from (Some source) name exported = indirect_as name (Some source) exported.text
+
+-- 16.2.3.4 ExportEntries; a declaration exports its names
+abbrev pub exports_of : Kind → List Meaning → Option (List ℕ) → List Exported
+exports_of kind.List items source = all_exports items source
+exports_of (kind.Module shebang) (body ∷ []) source = body.exports None
+exports_of kind.ExportDecl (declaration ∷ []) source = map (Local None) (ids_of (declaration.vars ++ declaration.lexicals))
+exports_of kind.ExportDefaultExpr (e ∷ []) source = Local (Some (codes "default")) default_name ∷ []
+exports_of (kind.NamedExport false) (specifiers ∷ from ∷ attributes ∷ []) source = specifiers.exports from.text
+exports_of (kind.ExportNamedSpecifier false) (exported ∷ name ∷ []) source = exported_from source (cond name.is_absent exported.text name.text) exported
+exports_of kind.ExportNamespaceSpecifier (name ∷ []) source = indirect_as name.text source (Some (codes "*"))
+exports_of (kind.ExportAll false) (from ∷ attributes ∷ []) source = Star ∷ []
+exports_of _ children source = []
 
 abbrev pub all_parameter_names : List Meaning → List Id
 all_parameter_names [] = []

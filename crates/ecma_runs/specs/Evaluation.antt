@@ -17,7 +17,7 @@ use Rattle.ecma_runs.specs.Expressions.{value_of, reference_of, initial_of, argu
 use Rattle.ecma_runs.specs.Patterns.{assigned_of, bound_of, matched_of, targets_of, parameters_of}
 use Rattle.ecma_runs.specs.Classes.{made_of, class_made_of, defined_of, fields_of, statics_of, code_of, body_of, field_activation}
 use Rattle.ecma_runs.specs.Statements.{completion_of, varied_of, hoisted_of, effect_of, caught_of}
-use Rattle.ecma_runs.specs.Declarations.{names_of, lexicals_of, vars_of, locals_of, parameter_names_of, declared_of, shorthands_of, imported_of, text_of, cooked_of, is_plain_of, is_computed_of, is_super_of, is_absent_of, is_this_of, is_type_of, has_body_of, is_constructor_of, has_no_effect}
+use Rattle.ecma_runs.specs.Declarations.{names_of, lexicals_of, vars_of, locals_of, parameter_names_of, declared_of, shorthands_of, imported_of, text_of, cooked_of, is_plain_of, is_computed_of, is_super_of, is_absent_of, is_this_of, is_type_of, has_body_of, is_constructor_of, has_no_effect, exports_of}
 
 -- code runs in a record of its own
 abbrev pub in_record : List Binding → Option Activation → Evaluation (Unit {0}) → (ℕ → Value → Run Value) → ExecutionContext → Run Value
@@ -81,6 +81,7 @@ role_by node k children = record {
   shorthands = shorthands_of k children;
   imported = imported_of k children;
   text = text_of k children;
+  exports = exports_of k children;
   cooked = cooked_of k children;
   is_plain = is_plain_of k children;
   is_computed = is_computed_of k;

@@ -9,6 +9,7 @@ use Rattle.ecma_runs.specs.declared.script.Action.{Action}
 use Rattle.ecma_runs.specs.declared.script.Script.{Script}
 use Rattle.ecma_runs.specs.Values.{Value}
 use Rattle.ecma_runs.specs.State.{Id, Entered, State}
+use Rattle.ecma_runs.specs.Exports.{Exported}
 use Rattle.ecma_runs.specs.Run.{Outcome, Done, Thrown, Returned, Broken, Continued, Ended}
 use Rattle.ecma_runs.specs.Host.{Provided}
 use Rattle.ecma_runs.specs.Meaning.{Invocation, Known}
@@ -74,7 +75,7 @@ pub record EventsOnlyGrow : Type 0 where
   -- while a module's body runs
   pub body : (provided : Provided) (known : Known) (entered : Entered) (m : Node) (s : State) → Extends s.events (state_behind (run_body (module_context provided known entered) m s)).events
   -- while an action is done
-  pub action : (provided : Provided) (known : Known) (entered : Entered) (a : Action) (s : State) → Extends s.events (state_behind (act (module_context provided known entered) a s)).events
+  pub action : (provided : Provided) (known : Known) (entered : Entered) (exports : List Exported) (a : Action) (s : State) → Extends s.events (state_behind (act (module_context provided known entered) exports a s)).events
   -- with more actions behind those of a script
   pub actions : (turns : ℕ) (options : Config) (m : Node) (script : Script) (more : List Action) →
       Extends (observe turns options m script).events (observe turns options m (record script { actions = script.actions ++ more })).events

@@ -1,5 +1,6 @@
 pub mod Values
 pub mod State
+pub mod Exports
 pub mod Run
 pub mod Host
 pub mod Environment

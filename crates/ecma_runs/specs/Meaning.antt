@@ -2,6 +2,7 @@
 use Rattle.std.specs.Prelude.{ℕ, List, ◌∷◌, Option, Bool}
 use Rattle.ecma_runs.specs.Values.{Value}
 use Rattle.ecma_runs.specs.State.{Id, Entered, Binding, Sort}
+use Rattle.ecma_runs.specs.Exports.{Exported}
 use Rattle.ecma_runs.specs.Run.{Run}
 use Rattle.ecma_runs.specs.Host.{Provided}
 use Rattle.ecma_runs.specs.Environment.{Reference}
@@ -107,6 +108,8 @@ pub record Meaning : Type 0 where
   -- the variables of imports from a source, and the text of it or of an imported name
   pub imported : List ℕ → List Binding
   pub text : Option (List ℕ)
+  -- what it exports, behind `from` that source
+  pub exports : Option (List ℕ) → List Exported
   -- of text parts of a template: what they say, if all their escapes are well formed
   pub cooked : Option (List (List ℕ))
   -- parameters that are names without defaults

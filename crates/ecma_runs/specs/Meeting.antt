@@ -5,11 +5,13 @@ use Rattle.ecma_kind.specs.declared.kind.Kind.{Kind}
 use Rattle.ecma_kind.specs.declared.kind.Kind.TheVariants as kind
 use Rattle.ecma_tree.specs.declared.node.Node.{Node, Node-F, fold-Node}
 use Rattle.ecma_tree.specs.Nodes.{node_of}
-use Rattle.ecma_runs.specs.State.{Id, same_id}
+use Rattle.ecma_runs.specs.State.{Id, same_id, default_name}
+use Rattle.ecma_runs.specs.Exports.{Exported, Local, Indirect, Star, local_ids, export_names}
 use Rattle.ecma_runs.specs.Environment.{ids_of, is_among, except}
 use Rattle.ecma_runs.specs.Declarations.{parameter_names_of}
 use Rattle.ecma_runs.specs.Sought.{Seeker, meanings, outside_of, all_sought, code_sought_of, seeker}
 use Rattle.ecma_runs.specs.Evaluation.{meaning}
+use Rattle.ecma_runs.specs.Observation.{exports_in}
 use Rattle.ecma_runs.specs.Names.{ids_pass, keys_in, TextsStay}
 
 -- no other of these names becomes what this one does
@@ -67,8 +69,16 @@ met to = fold-Node Met (met_step to)
 abbrev pub module_meets : (Id → Id) → Seeker → Bool
 module_meets to m = catches_none to (ids_of m.meaning.locals) m.seeks.sought && catches_none to m.meaning.declared (outside_of m.meaning.declared m.seeks.sought)
 
+-- no variable that is exported becomes another one that is, or another one of the module's scope
+abbrev pub exports_meet : (Id → Id) → List Id → List Exported → Bool
+exports_meet to ids [] = true
+exports_meet to ids (Local name id ∷ entries) = is_told to ids id && (catches_none to (id ∷ []) (local_ids entries) && exports_meet to ids entries)
+exports_meet to ids (Indirect name source imported ∷ entries) = exports_meet to ids entries
+exports_meet to ids (Star ∷ entries) = exports_meet to ids entries
+
 -- a map of names under which names may become one where no identifier is caught; it keeps the texts of keys and of names that the tree declares nowhere,
--- and which names are the `this` of a parameter that types it
+-- and which names are the `this` of a parameter that types it; what is exported under its own name keeps its text, and the variable of a default export
+-- without a name its name
 pub record MayMeet (to : Id → Id) (m : Node) : Type 0 where
   pub stands : Id → Bool
   pub all_stand : ids_pass stands m ≡ true
@@ -77,3 +87,6 @@ pub record MayMeet (to : Id → Id) (m : Node) : Type 0 where
   pub key_texts : TextsStay to (keys_in m)
   pub free_texts : (id : Id) → stands id ≡ true → is_among id (meaning m).declared ≡ false → (to id).sym ≡ id.sym
   pub this_stays : (id : Id) → stands id ≡ true → bytes_eq (to id).sym (codes "this") ≡ bytes_eq id.sym (codes "this")
+  pub exports_apart : exports_meet to (ids_of (meaning m).locals) (exports_in m) ≡ true
+  pub export_texts : TextsStay to (export_names (exports_in m))
+  pub default_stays : (stands default_name ≡ true) × (to default_name ≡ default_name)

@@ -6,9 +6,11 @@ use Rattle.ecma_kind.specs.declared.kind.Kind.TheVariants as kind
 use Rattle.ecma_tree.specs.declared.node.Node.{Node, Node-F, fold-Node}
 use Rattle.ecma_tree.specs.Nodes.{node_of}
 use Rattle.ecma_tree.specs.Rewritten.{rewritten}
-use Rattle.ecma_runs.specs.State.{Id}
+use Rattle.ecma_runs.specs.State.{Id, default_name}
+use Rattle.ecma_runs.specs.Exports.{export_names}
 use Rattle.ecma_runs.specs.Environment.{is_among}
 use Rattle.ecma_runs.specs.Evaluation.{meaning}
+use Rattle.ecma_runs.specs.Observation.{exports_in}
 
 -- the kind with its name changed
 abbrev pub renamed_ident : (Id → Id) → Kind → Kind
@@ -33,7 +35,7 @@ passes_here test parts = passes_by test parts.kind && list_all (λ b. b) parts.c
 abbrev pub ids_pass : (Id → Bool) → Node → Bool
 ids_pass test = fold-Node Bool (passes_here test)
 
--- the ids whose texts are keys: shorthands, names in patterns, and names in imports
+-- the ids whose texts are keys: shorthands, names in patterns, and names in imports and in lists of exports
 
 -- the identifiers that a node is or lists, and those that stand as keys in it
 pub record Keys : Type 0 where
@@ -67,6 +69,9 @@ at_keys (kind.Class is_abstract) (super ∷ body ∷ types ∷ super_types ∷ i
 at_keys kind.AssignPatProp (name ∷ default ∷ []) = name.here
 at_keys (kind.ImportDecl type_only) (specifiers ∷ source ∷ attributes ∷ []) = source.here
 at_keys (kind.ImportNamedSpecifier is_type_only) (local ∷ name ∷ []) = local.here ++ name.here
+at_keys (kind.NamedExport type_only) (specifiers ∷ source ∷ attributes ∷ []) = source.here
+at_keys (kind.ExportNamedSpecifier is_type_only) (exported ∷ name ∷ []) = exported.here ++ name.here
+at_keys kind.ExportNamespaceSpecifier (name ∷ []) = name.here
 at_keys k parts = []
 
 abbrev pub keys_by : Node-F Keys → Keys
@@ -85,7 +90,8 @@ TextsStay to [] = Unit {0}
 TextsStay to (id ∷ ids) = ((to id).sym ≡ id.sym) × TextsStay to ids
 
 -- a map of names that is one to one on a set of names in which each identifier of the tree stands; it keeps the texts of keys
--- and of names that the tree declares nowhere, and which names are the `this` of a parameter that types it
+-- and of names that the tree declares nowhere, and which names are the `this` of a parameter that types it; what is exported under its own name keeps
+-- its text, and the variable of a default export without a name its name
 pub record IsRenaming (to : Id → Id) (m : Node) : Type 0 where
   pub stands : Id → Bool
   pub all_stand : ids_pass stands m ≡ true
@@ -93,3 +99,5 @@ pub record IsRenaming (to : Id → Id) (m : Node) : Type 0 where
   pub key_texts : TextsStay to (keys_in m)
   pub free_texts : (id : Id) → stands id ≡ true → is_among id (meaning m).declared ≡ false → (to id).sym ≡ id.sym
   pub this_stays : (id : Id) → stands id ≡ true → bytes_eq (to id).sym (codes "this") ≡ bytes_eq id.sym (codes "this")
+  pub export_texts : TextsStay to (export_names (exports_in m))
+  pub default_stays : (stands default_name ≡ true) × (to default_name ≡ default_name)

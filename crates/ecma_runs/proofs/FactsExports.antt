@@ -1,0 +1,119 @@
+-- Exports: each fact is a small module and what node observes of it, by computing. Written by compare/facts.mjs.
+use Rattle.std.proofs.Common.{refl, pos, [], ◌∷◌, true, false, codes}
+use Rattle.ecma_number.specs.declared.js_number.JsNumber.TheVariants as js_number
+use Rattle.ecma_kind.specs.declared.kind.Kind.TheVariants as kind
+use Rattle.ecma_kind.specs.declared.operators.VarDeclKind.TheVariants.{Var, Let, Const}
+use Rattle.ecma_runs.specs.declared.observation.Event.TheVariants.{HostCall}
+use Rattle.ecma_runs.specs.declared.observation.Ending.TheVariants as ending
+use Rattle.ecma_runs.specs.declared.script.Action.TheVariants as action
+use Rattle.ecma_runs.specs.declared.script.Answer.TheVariants.{Return}
+use Rattle.ecma_runs.specs.declared.shown.Shown.TheVariants as shown
+use Rattle.ecma_runs.proofs.Trees.{End, ◌▸◌, tree, absent, list, ident, key, binding, whole, string, call, assign, object, property, statement, declare_pattern, declare, declare_function, constructor', declare_class, meaning_node}
+use Rattle.ecma_runs.proofs.ExportTrees.{exports_node}
+use Rattle.ecma_runs.proofs.Scripts.{Does, nulls}
+
+-- export let a = 1; export function h() { a = 2; }
+reads_exported_variables_then :
+    Does 9 nulls (action.ReadExport (codes "a") ∷ action.ReadExport (codes "h") ∷ action.Call 0 shown.Undefined [] ∷ action.ReadExport (codes "a") ∷ [])
+    (tree kind.ExportDecl (declare Let (codes "a") (whole 1) ▸ End)
+    ▸ tree kind.ExportDecl (declare_function (codes "h") End (statement (assign (ident (codes "a")) (whole 2)) ▸ End) ▸ End)
+    ▸ End)
+    [] (ending.Done (Return (shown.Num (js_number.Whole (pos 1))) ∷ Return (shown.Handle 0) ∷ Return shown.Undefined ∷ Return (shown.Num (js_number.Whole (pos 2))) ∷ []))
+reads_exported_variables_then = simp (meaning_node, exports_node) refl
+
+-- let a = 1; function h() { a = f(a); } export { a as b, h as "c d" };
+exports_under_other_names :
+    Does 9 nulls (action.ReadExport (codes "b") ∷ action.ReadExport (codes "c d") ∷ action.Call 0 shown.Undefined [] ∷ action.ReadExport (codes "b") ∷ action.ReadExport (codes "a") ∷ [])
+    (declare Let (codes "a") (whole 1)
+    ▸ declare_function (codes "h") End (statement (assign (ident (codes "a")) (call (ident (codes "f")) (ident (codes "a") ▸ End))) ▸ End)
+    ▸ tree (kind.NamedExport false) (list (tree (kind.ExportNamedSpecifier false) (ident (codes "a") ▸ ident (codes "b") ▸ End) ▸ tree (kind.ExportNamedSpecifier false) (ident (codes "h") ▸ string (codes "c d") ▸ End) ▸ End) ▸ absent ▸ absent ▸ End)
+    ▸ End)
+    (HostCall 7 shown.Undefined (shown.Num (js_number.Whole (pos 1)) ∷ []) ∷ []) (ending.Done (Return (shown.Num (js_number.Whole (pos 1))) ∷ Return (shown.Handle 0) ∷ Return shown.Undefined ∷ Return shown.Null ∷ Return shown.Undefined ∷ []))
+exports_under_other_names = simp (meaning_node, exports_node) refl
+
+-- export const { a, b: c } = { a: 1, b: 2 };
+exports_the_names_of_a_pattern :
+    Does 9 nulls (action.ReadExport (codes "a") ∷ action.ReadExport (codes "b") ∷ action.ReadExport (codes "c") ∷ [])
+    (tree kind.ExportDecl (declare_pattern Const (tree (kind.ObjectPat false) (list (tree kind.AssignPatProp (binding (codes "a") ▸ absent ▸ End) ▸ tree kind.KeyValuePatProp (key (codes "b") ▸ binding (codes "c") ▸ End) ▸ End) ▸ absent ▸ End)) (object (property (key (codes "a")) (whole 1) ▸ property (key (codes "b")) (whole 2) ▸ End)) ▸ End)
+    ▸ End)
+    [] (ending.Done (Return (shown.Num (js_number.Whole (pos 1))) ∷ Return shown.Undefined ∷ Return (shown.Num (js_number.Whole (pos 2))) ∷ []))
+exports_the_names_of_a_pattern = simp (meaning_node, exports_node) refl
+
+-- export class A { constructor() { v = 3; } } export var v;
+exports_classes_and_var :
+    Does 9 nulls (action.ReadExport (codes "v") ∷ action.ReadExport (codes "A") ∷ action.New 0 [] ∷ action.ReadExport (codes "v") ∷ [])
+    (tree kind.ExportDecl (declare_class (codes "A") absent (constructor' End (statement (assign (ident (codes "v")) (whole 3)) ▸ End) ▸ End) ▸ End)
+    ▸ tree kind.ExportDecl (declare Var (codes "v") absent ▸ End)
+    ▸ End)
+    [] (ending.Done (Return shown.Undefined ∷ Return (shown.Handle 0) ∷ Return (shown.Handle 1) ∷ Return (shown.Num (js_number.Whole (pos 3))) ∷ []))
+exports_classes_and_var = simp (meaning_node, exports_node) refl
+
+-- let a = 1; export default a; export { a }; a = f;
+exports_a_default_value :
+    Does 9 nulls (action.ReadExport (codes "default") ∷ action.ReadExport (codes "a") ∷ [])
+    (declare Let (codes "a") (whole 1)
+    ▸ tree kind.ExportDefaultExpr (ident (codes "a") ▸ End)
+    ▸ tree (kind.NamedExport false) (list (tree (kind.ExportNamedSpecifier false) (ident (codes "a") ▸ absent ▸ End) ▸ End) ▸ absent ▸ absent ▸ End)
+    ▸ statement (assign (ident (codes "a")) (ident (codes "f")))
+    ▸ End)
+    [] (ending.Done (Return (shown.Num (js_number.Whole (pos 1))) ∷ Return (shown.Host 7) ∷ []))
+exports_a_default_value = simp (meaning_node, exports_node) refl
+
+-- import { a as q } from "m"; export { q }; export { a as b, default } from "m"; f(q);
+exports_imports :
+    Does 9 nulls (action.ReadExport (codes "q") ∷ action.ReadExport (codes "b") ∷ action.ReadExport (codes "default") ∷ [])
+    (tree (kind.ImportDecl false) (list (tree (kind.ImportNamedSpecifier false) (ident (codes "q") ▸ ident (codes "a") ▸ End) ▸ End) ▸ string (codes "m") ▸ absent ▸ End)
+    ▸ tree (kind.NamedExport false) (list (tree (kind.ExportNamedSpecifier false) (ident (codes "q") ▸ absent ▸ End) ▸ End) ▸ absent ▸ absent ▸ End)
+    ▸ tree (kind.NamedExport false) (list (tree (kind.ExportNamedSpecifier false) (ident (codes "a") ▸ ident (codes "b") ▸ End) ▸ tree (kind.ExportNamedSpecifier false) (ident (codes "default") ▸ absent ▸ End) ▸ End) ▸ string (codes "m") ▸ absent ▸ End)
+    ▸ statement (call (ident (codes "f")) (ident (codes "q") ▸ End))
+    ▸ End)
+    (HostCall 7 shown.Undefined (shown.Num (js_number.Whole (pos 5)) ∷ []) ∷ []) (ending.Done (Return (shown.Num (js_number.Whole (pos 5))) ∷ Return (shown.Num (js_number.Whole (pos 5))) ∷ Return (shown.Host 9) ∷ []))
+exports_imports = simp (meaning_node, exports_node) refl
+
+-- f(1);
+exports_no_types :
+    Does 9 nulls (action.ReadExport (codes "J") ∷ action.ReadExport (codes "q") ∷ [])
+    (tree kind.ExportDecl (tree (kind.TsInterfaceDecl false) (ident (codes "J") ▸ End) ▸ End)
+    ▸ tree (kind.NamedExport true) (list (tree (kind.ExportNamedSpecifier false) (ident (codes "q") ▸ absent ▸ End) ▸ End) ▸ absent ▸ absent ▸ End)
+    ▸ statement (call (ident (codes "f")) (whole 1 ▸ End))
+    ▸ End)
+    (HostCall 7 shown.Undefined (shown.Num (js_number.Whole (pos 1)) ∷ []) ∷ []) (ending.Done (Return shown.Undefined ∷ Return shown.Undefined ∷ []))
+exports_no_types = simp (meaning_node, exports_node) refl
+
+-- export let a = 1;
+exports_a_variable_twice_under_a_name :
+    Does 9 nulls (action.ReadExport (codes "a") ∷ [])
+    (tree kind.ExportDecl (declare Let (codes "a") (whole 1) ▸ End)
+    ▸ tree (kind.NamedExport false) (list (tree (kind.ExportNamedSpecifier false) (ident (codes "a") ▸ absent ▸ End) ▸ End) ▸ absent ▸ absent ▸ End)
+    ▸ End)
+    [] (ending.Done (Return (shown.Num (js_number.Whole (pos 1))) ∷ []))
+exports_a_variable_twice_under_a_name = simp (meaning_node, exports_node) refl
+
+-- f(1);
+exports_no_two_under_a_name :
+    Does 9 nulls (action.ReadExport (codes "a") ∷ [])
+    (tree kind.ExportDecl (declare Let (codes "a") (whole 1) ▸ End)
+    ▸ declare Let (codes "q") (whole 2)
+    ▸ tree (kind.NamedExport false) (list (tree (kind.ExportNamedSpecifier false) (ident (codes "q") ▸ ident (codes "a") ▸ End) ▸ End) ▸ absent ▸ absent ▸ End)
+    ▸ statement (call (ident (codes "f")) (whole 1 ▸ End))
+    ▸ End)
+    (HostCall 7 shown.Undefined (shown.Num (js_number.Whole (pos 1)) ∷ []) ∷ []) (ending.Outside)
+exports_no_two_under_a_name = simp (meaning_node, exports_node) refl
+
+-- export * from "m"; export let b = 1;
+reads_its_own_exports_beside_all_of_another_module :
+    Does 9 nulls (action.ReadExport (codes "b") ∷ [])
+    (tree (kind.ExportAll false) (string (codes "m") ▸ absent ▸ End)
+    ▸ tree kind.ExportDecl (declare Let (codes "b") (whole 1) ▸ End)
+    ▸ End)
+    [] (ending.Done (Return (shown.Num (js_number.Whole (pos 1))) ∷ []))
+reads_its_own_exports_beside_all_of_another_module = simp (meaning_node, exports_node) refl
+
+-- f(1);
+knows_no_others_beside_all_of_another_module :
+    Does 9 nulls (action.ReadExport (codes "q") ∷ [])
+    (tree (kind.ExportAll false) (string (codes "m") ▸ absent ▸ End)
+    ▸ statement (call (ident (codes "f")) (whole 1 ▸ End))
+    ▸ End)
+    (HostCall 7 shown.Undefined (shown.Num (js_number.Whole (pos 1)) ∷ []) ∷ []) (ending.Outside)
+knows_no_others_beside_all_of_another_module = simp (meaning_node, exports_node) refl
