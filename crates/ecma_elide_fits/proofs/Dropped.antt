@@ -53,11 +53,11 @@ module _ {S : Type 0} (d : Dropping S) where
 
   kept : (stays : Node → Bool) (ns : List Node) → staying stays ns (map (left d) ns) ≡ map (left d) (filter stays ns)
   kept stays [] = refl
-  kept stays (n ∷ ns) = by (stays n)
+  kept stays (n ∷ ns) = by (stays n) (kept stays ns)
     where
-      by : (b : Bool) → cond b (left d n ∷ staying stays ns (map (left d) ns)) (staying stays ns (map (left d) ns)) ≡ map (left d) (cond b (n ∷ filter stays ns) (filter stays ns))
-      by true = ap (λ z. left d n ∷ z) (kept stays ns)
-      by false = kept stays ns
+      by : (b : Bool) → staying stays ns (map (left d) ns) ≡ map (left d) (filter stays ns) → cond b (left d n ∷ staying stays ns (map (left d) ns)) (staying stays ns (map (left d) ns)) ≡ map (left d) (cond b (n ∷ filter stays ns) (filter stays ns))
+      by true rest = ap (λ z. left d n ∷ z) rest
+      by false rest = rest
 
   remain : (loses : Bool) (s : S) (n : Node) → remaining_by d loses s (kind_of n) (below n) (map (left d) (below n)) ≡ map (left d) (stay loses s n)
   remain loses s n = by (loses && is_list (kind_of n))

@@ -189,15 +189,15 @@ module _ {S : Type 0} (d : Dropping S) where
 
   found : (f : ℕ → Bool) (g : ℕ → S) (ns : List Node) → length (filter is_full_constructor (each d f g ns)) ≡ length (filter is_full_constructor ns)
   found f g [] = refl
-  found f g (n ∷ ns) = by (is_full_constructor (to d (f 0) (g 0) n)) (is_full_constructor n) (full_same (f 0) (g 0) n)
+  found f g (n ∷ ns) = by (is_full_constructor (to d (f 0) (g 0) n)) (is_full_constructor n) (full_same (f 0) (g 0) n) (found (λ i. f (suc i)) (λ i. g (suc i)) ns)
     where
-      by : (a b : Bool) → a ≡ b
+      by : (a b : Bool) → a ≡ b → length (filter is_full_constructor (each d (λ i. f (suc i)) (λ i. g (suc i)) ns)) ≡ length (filter is_full_constructor ns)
           → length (cond a (to d (f 0) (g 0) n ∷ filter is_full_constructor (each d (λ i. f (suc i)) (λ i. g (suc i)) ns)) (filter is_full_constructor (each d (λ i. f (suc i)) (λ i. g (suc i)) ns)))
           ≡ length (cond b (n ∷ filter is_full_constructor ns) (filter is_full_constructor ns))
-      by true true e = ap suc (found (λ i. f (suc i)) (λ i. g (suc i)) ns)
-      by false false e = found (λ i. f (suc i)) (λ i. g (suc i)) ns
-      by true false e = cc
-      by false true e = cc
+      by true true e rest = ap suc rest
+      by false false e rest = rest
+      by true false e rest = cc
+      by false true e rest = cc
 
   -- whether there is a second of as many
   second_alike : (ms ns : List Node) → length ms ≡ length ns → is_some (second_of ms) ≡ is_some (second_of ns)

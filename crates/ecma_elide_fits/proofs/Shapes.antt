@@ -40,11 +40,11 @@ module _ {S : Type 0} (d : Dropping S) where
 
   some_kept : (p : Node → Bool) (u : Shape) (ns : List Node) → AllKept ns → (f : ℕ → Bool) (g : ℕ → S) → AreItems u ns → AreItems u (each d f g (filter p ns))
   some_kept p u [] kept f g h = tt
-  some_kept p u (n ∷ ns) kept f g h = by (p n)
+  some_kept p u (n ∷ ns) kept f g h = by (p n) (λ f' g'. some_kept p u ns (λ i. kept (suc i)) f' g' h.1)
     where
-      by : (b : Bool) → AreItems u (each d f g (cond b (n ∷ filter p ns) (filter p ns)))
-      by true = (kept 0 n refl (f 0) (g 0) u h.0, some_kept p u ns (λ i. kept (suc i)) (λ i. f (suc i)) (λ i. g (suc i)) h.1)
-      by false = some_kept p u ns (λ i. kept (suc i)) f g h.1
+      by : (b : Bool) → ((f' : ℕ → Bool) (g' : ℕ → S) → AreItems u (each d f' g' (filter p ns))) → AreItems u (each d f g (cond b (n ∷ filter p ns) (filter p ns)))
+      by true rest = (kept 0 n refl (f 0) (g 0) u h.0, rest (λ i. f (suc i)) (λ i. g (suc i)))
+      by false rest = rest f g
 
   node_kept : (n : Node) → AllKept (below n) → Kept n
   node_kept n kept loses s t h = subst (HasShape t) (sym (to_is d loses s n)) (by (loses && is_list (kind_of n)) refl)

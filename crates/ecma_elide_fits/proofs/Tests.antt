@@ -41,11 +41,11 @@ and_true false b h g = cc
 
 fewer_all : (test : Node → Bool) (stays : Node → Bool) (ns : List Node) → list_all test ns ≡ true → list_all test (filter stays ns) ≡ true
 fewer_all test stays [] h = refl
-fewer_all test stays (n ∷ ns) h = by (stays n) (both (test n) (list_all test ns) h)
+fewer_all test stays (n ∷ ns) h = let v = both (test n) (list_all test ns) h in by (stays n) v.0 (fewer_all test stays ns v.1)
   where
-    by : (b : Bool) → (test n ≡ true) × (list_all test ns ≡ true) → list_all test (cond b (n ∷ filter stays ns) (filter stays ns)) ≡ true
-    by true v = and_true (test n) (list_all test (filter stays ns)) v.0 (fewer_all test stays ns v.1)
-    by false v = fewer_all test stays ns v.1
+    by : (b : Bool) → test n ≡ true → list_all test (filter stays ns) ≡ true → list_all test (cond b (n ∷ filter stays ns) (filter stays ns)) ≡ true
+    by true here rest = and_true (test n) (list_all test (filter stays ns)) here rest
+    by false here rest = rest
 
 names_few : (ns : List Node) → are is_named_import ns ≡ true → are_stars_or_names ns ≡ true
 names_few [] h = refl

@@ -80,16 +80,19 @@ module _ {S : Type 0} (d : Dropping S) (A : Type 0) (inside : A → Node → ℕ
   some_tell : (p : Node → Bool) (ns : List Node) → AllReady ns → (around other : ℕ → A) (f : ℕ → Bool) (g : ℕ → S) → AgreeAll around other (length ns) (length (filter p ns)) → NoneTells around ns
       → NoneTells other (each d f g (filter p ns))
   some_tell p [] ready around other f g agree h = refl
-  some_tell p (n ∷ ns) ready around other f g agree h = by (p n) (next_tells around n ns h) agree
+  some_tell p (n ∷ ns) ready around other f g agree h =
+      let v = next_tells around n ns h in
+      by (p n) v.0 agree
+      (λ other' f' g' agree'. some_tell p ns (λ i. ready (suc i)) (λ i. around (suc i)) other' f' g' agree' v.1)
     where
-      by : (b : Bool) → (first n (around 0) ≡ None) × NoneTells (λ i. around (suc i)) ns → AgreeAll around other (suc (length ns)) (length (cond b (n ∷ filter p ns) (filter p ns)))
+      by : (b : Bool) → first n (around 0) ≡ None → AgreeAll around other (suc (length ns)) (length (cond b (n ∷ filter p ns) (filter p ns)))
+          → ((other' : ℕ → A) (f' : ℕ → Bool) (g' : ℕ → S) → AgreeAll (λ i. around (suc i)) other' (length ns) (length (filter p ns)) → NoneTells other' (each d f' g' (filter p ns)))
           → NoneTells other (each d f g (cond b (n ∷ filter p ns) (filter p ns)))
-      by true v agree =
+      by true here agree rest =
           add_tells other (to d (f 0) (g 0) n) (each d (λ i. f (suc i)) (λ i. g (suc i)) (filter p ns))
-          (ready 0 n refl (f 0) (g 0) (around 0) (other 0) (agree 0 0 (λ e. ap suc (none_left p ns (pred 0 (length ns) e)))) v.0)
-          (some_tell p ns (λ i. ready (suc i)) (λ i. around (suc i)) (λ i. other (suc i)) (λ i. f (suc i)) (λ i. g (suc i)) (λ i j last. agree (suc i) (suc j) (λ e. ap suc (last (pred (suc i) (length ns) e)))) v.1)
-      by false v agree =
-          some_tell p ns (λ i. ready (suc i)) (λ i. around (suc i)) other f g (λ i j last. agree (suc i) j (λ e. last (pred (suc i) (length ns) e))) v.1
+          (ready 0 n refl (f 0) (g 0) (around 0) (other 0) (agree 0 0 (λ e. ap suc (none_left p ns (pred 0 (length ns) e)))) here)
+          (rest (λ i. other (suc i)) (λ i. f (suc i)) (λ i. g (suc i)) (λ i j last. agree (suc i) (suc j) (λ e. ap suc (last (pred (suc i) (length ns) e)))))
+      by false here agree rest = rest other f g (λ i j last. agree (suc i) j (λ e. last (pred (suc i) (length ns) e)))
 
   module _ (carries : Carries) where
     second : (a b : Bool) → (a && b) ≡ true → b ≡ true
