@@ -5,3 +5,4 @@ pub mod Rules
 pub mod Around
 pub mod Shapes
 pub mod FitsKept
+pub mod Elided
