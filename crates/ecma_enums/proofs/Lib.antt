@@ -3,3 +3,4 @@ pub mod Joining
 pub mod Naming
 pub mod Kids
 pub mod Recording
+pub mod Walking

@@ -5,3 +5,4 @@ pub mod Records
 pub mod Names
 pub mod Folding
 pub mod Declarations
+pub mod Walks

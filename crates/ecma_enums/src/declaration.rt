@@ -62,7 +62,7 @@ fn automatic(at: u32, next: Option<TsEnumRecordValue>) -> Result<TsEnumRecordVal
 }
 
 /// The value of a member, of which the automatic value is told.
-fn member_value(
+pub(crate) fn member_value(
     alloc: Global,
     computer: &EnumValueComputer,
     next: Option<TsEnumRecordValue>,
@@ -76,7 +76,7 @@ fn member_value(
     }
 }
 
-fn entry_of(
+pub(crate) fn entry_of(
     alloc: Global,
     id: &Id,
     member: &Node,
@@ -94,6 +94,13 @@ fn entry_of(
 }
 
 /// The members that stand before, with those of a list behind them.
+/// The automatic value of the first member.
+pub(crate) fn first_value() -> Option<TsEnumRecordValue>
+    ensures { result ≡ first_value }
+{
+    Some(TsEnumRecordValue::Number(JsNumber::from(0u32)))
+}
+
 #[tactic(auto, using(crate::proofs::Recording::recording))]
 fn with_members(
     alloc: Global,
@@ -103,7 +110,7 @@ fn with_members(
     ensures { Answers result (table.with_members computer first_value members.now) }
 {
     let mut computer = computer;
-    let mut next = Some(TsEnumRecordValue::Number(JsNumber::from(0u32)));
+    let mut next = first_value();
     for member in members {
         let value = member_value(alloc, &computer, next, member)?;
         next = value.inc();

@@ -11,12 +11,14 @@ mod names;
 mod operators;
 mod record;
 mod value;
+mod walk;
 
 pub use computer::EnumValueComputer;
 pub use declaration::record_enum;
 pub use error::EnumError;
 pub use record::{TsEnumRecord, TsEnumRecordEntry, TsEnumRecordKey};
 pub use value::TsEnumRecordValue;
+pub use walk::record_enums;
 
 #[cfg(test)]
 mod tests;
