@@ -9,7 +9,7 @@ use ecma_tree::{
     SyntaxContext, VarDeclKind,
 };
 use ecma_utils::{
-    ExprFactory, FunctionFactory, IntoIndirectCall, default_constructor, expr_of_ident,
+    Callee, ExprFactory, FunctionFactory, IntoIndirectCall, default_constructor, expr_of_ident,
     opt_chain_test, prepend_stmt, prepend_stmts, prop_name_to_expr, prop_name_to_expr_value,
     prop_name_to_member_prop,
 };
@@ -61,6 +61,15 @@ fn class_of(alloc: Global, member: Node) -> Result<Class, NoMemory> {
 fn indirect(alloc: Global) -> Result<Expr, NoMemory> {
     let call = name(alloc, "x")?.as_call(alloc, DUMMY_SP, args(alloc)?)?;
     call.into_indirect(alloc)
+}
+
+/// `0, x`
+#[tactic(auto, using(ecma_utils::proofs::Calling::calling))]
+fn indirect_value(alloc: Global) -> Result<Expr, NoMemory> {
+    let callee = Callee {
+        node: name(alloc, "x")?,
+    };
+    Ok(callee.into_indirect(alloc)?.node)
 }
 
 /// `({ x })` with `y` for `x`
@@ -134,6 +143,7 @@ fn other_expression(alloc: Global, row: usize) -> Result<Expr, NoMemory> {
         5 => Ok(prop_name_to_expr(key(alloc, "k")?)),
         6 => bind_of_function(alloc),
         7 => replaced(alloc),
+        8 => indirect_value(alloc),
         _ => Ok(ecma_utils::quote_expr!(alloc, DUMMY_SP, null)),
     }
 }
@@ -249,7 +259,7 @@ fn print_expression(alloc: Global, row: usize) -> Result<Vec<u8>, NoMemory> {
 
 #[test]
 fn expressions_print_as_they_are_written(rt: HostRuntime) -> Result<(), Fail> {
-    let rows: [&str; 24] = [
+    let rows: [&str; 25] = [
         "x;\n",
         "x();\n",
         "x(a);\n",
@@ -273,6 +283,7 @@ fn expressions_print_as_they_are_written(rt: HostRuntime) -> Result<(), Fail> {
         "k;\n",
         "Function.prototype.bind;\n",
         "({ x: y });\n",
+        "0, x;\n",
         "null;\n",
     ];
     for (row, want) in rows.iter().enumerate() {

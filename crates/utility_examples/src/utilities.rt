@@ -1,15 +1,16 @@
 //! What the calls of `ecma_find`, `ecma_utils` and `ecma_renamers` answer: one row a call.
-use ecma_find::{StmtExt, collect_decls_with_ctxt};
+use ecma_find::{BindingCollector, DestructuringFinder, Hoister, StmtExt, collect_decls_with_ctxt};
 use ecma_number::JsNumber;
 use ecma_print::print_module;
-use ecma_renamers::{IdentRenamer, Remapper};
+use ecma_renamers::{IdentRenamer, IdentReplacer, Remapper};
 use ecma_text::read_plain;
 use ecma_tree::{
     DUMMY_SP, Id, Ident, JsWord, Kind, Module, NoMemory, Node, NodeRef, Nodes, Session, Stmt,
     SyntaxContext,
 };
 use ecma_utils::{
-    ExprFactory, IdentLike, NodeIgnoringSpan, expr_of_ident, id, is_valid_ident,
+    ExprFactory, IdentLike, NodeIgnoringSpan, Statement, alias_ident_for,
+    alias_ident_for_simple_assign_tatget, alias_if_required, expr_of_ident, id, is_valid_ident,
     is_valid_prop_ident, prop_name_eq,
 };
 use std::alloc::Global;
@@ -235,6 +236,127 @@ fn expressions_are_keys_without_their_spans(rt: HostRuntime) -> Result<(), Fail>
     ];
     for row in rows.iter() {
         assert_eq!(rt; kept_for(rt.alloc(), row.0, row.1)?, row.2);
+    }
+    Ok(())
+}
+
+/// Makes what is lent an empty statement.
+fn empty<T: ecma_utils::StmtOrModuleItem>(item: &mut T) {
+    match item.as_stmt_mut() {
+        Ok(stmt) => stmt.kind = Kind::EmptyStmt,
+        Err(decl) => decl.kind = Kind::EmptyStmt,
+    }
+}
+
+#[test]
+fn what_is_written_is_held(rt: HostRuntime) -> Result<(), Fail> {
+    let alloc = rt.alloc();
+    let mut statement = Statement::from(name(alloc, "a")?.into_stmt(alloc)?);
+    empty(&mut statement);
+    assert!(rt; matches!(statement.node.kind, Kind::EmptyStmt));
+    let mut stmt = name(alloc, "a")?.into_stmt(alloc)?;
+    empty(&mut stmt);
+    assert!(rt; matches!(stmt.kind, Kind::EmptyStmt));
+    let mut decl = Node::export_default_expr(alloc, DUMMY_SP, name(alloc, "a")?)?;
+    empty(&mut decl);
+    assert!(rt; matches!(decl.kind, Kind::EmptyStmt));
+    Ok(())
+}
+
+#[test]
+fn variables_are_named_by_their_values(rt: HostRuntime) -> Result<(), Fail> {
+    let alloc = rt.alloc();
+    let mut session = Session::new(3);
+    let key = ecma_utils::quote_ident!(alloc, "bar")?;
+    let member = name(alloc, "foo")?.make_member(alloc, key)?;
+    let value = Some(JsNumber::from(1i32));
+    let one = Node::leaf(alloc, DUMMY_SP, Kind::Number { value, raw: None });
+    let of_member = alias_ident_for(alloc, &mut session, &member, "ref")?;
+    assert_eq!(rt; of_member.sym.as_str(), "_foo_bar");
+    let of_one = alias_ident_for(alloc, &mut session, &one, "ref")?;
+    assert_eq!(rt; of_one.sym.as_str(), "_ref");
+    let of_target = alias_ident_for_simple_assign_tatget(alloc, &mut session, &member, "ref")?;
+    assert_eq!(rt; of_target.sym.as_str(), "_foo_bar");
+    let of_name = alias_if_required(alloc, &mut session, &name(alloc, "x")?, "ref")?;
+    assert_eq!(rt; of_name.0.sym.as_str(), "x");
+    assert!(rt; !of_name.1);
+    Ok(())
+}
+
+/// The names of a list, each with a space behind it.
+fn listed(alloc: Global, names: &[JsWord]) -> Result<String, NoMemory> {
+    let mut text = String::new(alloc);
+    for name in names {
+        text.push_str(name.as_str())?;
+        text.push_str(" ")?;
+    }
+    Ok(text)
+}
+
+/// What finders that go over two modules collect: of patterns, of `var`, and how many names are declared.
+fn collected(
+    alloc: Global,
+    first: NodeRef<'_>,
+    second: NodeRef<'_>,
+) -> Result<(String, usize, usize), NoMemory> {
+    let mut pattern: DestructuringFinder<JsWord> = DestructuringFinder::new(alloc);
+    pattern.visit_node(first)?;
+    pattern.visit_node(second)?;
+    let mut vars = Hoister::new(alloc);
+    vars.visit_node(first)?;
+    vars.visit_node(second)?;
+    let mut declared: BindingCollector<JsWord> = BindingCollector::new(alloc, None);
+    declared.visit_node(first)?;
+    declared.visit_node(second)?;
+    let names = listed(alloc, pattern.result().as_slice())?;
+    Ok((names, vars.result().len(), declared.result().len()))
+}
+
+#[test]
+fn finders_go_over_several_modules(rt: HostRuntime) -> Result<(), Fail> {
+    let alloc = rt.alloc();
+    let texts = ("var a; let b;", "function c(d) { var e; }");
+    let (Some(first), Some(second)) = (read(alloc, texts.0), read(alloc, texts.1)) else {
+        assert_eq!(rt; "nothing", "two modules");
+        return Ok(());
+    };
+    let (names, vars, declared) = collected(
+        alloc,
+        NodeRef::Module(&first),
+        NodeRef::Module(&second),
+    )?;
+    assert_eq!(rt; names.as_str(), "a b c d e ");
+    assert_eq!(rt; (vars, declared), (2, 5));
+    Ok(())
+}
+
+/// `x`, by a call of a renamer that makes `y` of it.
+fn renamed_by(alloc: Global, row: usize) -> Result<Node, NoMemory> {
+    let mut ids: HashMap<Id, Id> = HashMap::new(alloc);
+    ids.insert(id_of(alloc, "x")?, id_of(alloc, "y")?)?;
+    let to = ecma_utils::quote_ident!(alloc, SyntaxContext::empty(), "y")?;
+    let mut renamer = IdentRenamer::new(&ids);
+    let mut replacer = IdentReplacer::new(id_of(alloc, "x")?, &to);
+    let mut x = name(alloc, "x")?;
+    match row {
+        0 => renamer.visit_mut_stmt(alloc, &mut x)?,
+        1 => renamer.visit_mut_expr(alloc, &mut x)?,
+        2 => renamer.visit_mut_pat(alloc, &mut x)?,
+        3 => replacer.visit_mut_module(alloc, &mut x)?,
+        4 => replacer.visit_mut_stmt(alloc, &mut x)?,
+        5 => replacer.visit_mut_expr(alloc, &mut x)?,
+        _ => replacer.visit_mut_pat(alloc, &mut x)?,
+    }
+    Ok(x)
+}
+
+#[test]
+fn each_call_of_a_renamer_renames(rt: HostRuntime) -> Result<(), Fail> {
+    for row in 0..7usize {
+        match renamed_by(rt.alloc(), row)?.to_ident()? {
+            Some(ident) => assert_eq!(rt; ident.sym.as_str(), "y"),
+            None => assert_eq!(rt; "nothing", "a name"),
+        }
     }
     Ok(())
 }
