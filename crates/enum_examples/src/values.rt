@@ -87,7 +87,7 @@ fn told(alloc: Global, text: &str) -> Result<String, Fail> {
 
 /// Enums, and the values of their members: a text behind `'`, `void` behind what is no number, `opaque` for what is not known before it runs; or where the
 /// first number is that is beyond those that are computed.
-const VALUES: [(&str, &str); 71] = [
+const VALUES: [(&str, &str); 72] = [
     ("enum E { A = 1 << 3 }", "8"),
     ("enum E { A = -0 }", "-0"),
     ("enum E { A = -7 % 4 }", "-3"),
@@ -108,6 +108,7 @@ const VALUES: [(&str, &str); 71] = [
     ("enum E { A = +3 }", "3"),
     ("enum E { A = NaN }", "NaN"),
     ("enum E { A = -Infinity }", "-Infinity"),
+    ("let NaN = 1; enum E { A = NaN }", "opaque"),
     ("enum E { A = \"t\" }", "'t"),
     ("enum E { A = `t` }", "'t"),
     ("enum E { A = \"a\" + \"b\" }", "'ab"),
