@@ -74,3 +74,38 @@ inside gone node i = gone || goes_at node i
 -- the least place at which a node begins that is of a form that is not taken, and does not go with the types; none where each is of one that is taken, or goes
 abbrev pub first_untaken : Node → Option ℕ
 first_untaken node = first_failing Bool untaken_here inside node false
+
+-- ---- forms that another pass has to lower
+
+-- enums, namespaces, `import a =`, `export =` and parameter properties; and `export a from "m"`, which is no ECMAScript
+--   import a from "m"; export { a };   // none
+--   import a = b.c; enum D { } class E { constructor(private f) { } }   // each of them
+abbrev pub is_unlowered_kind : Kind → Bool
+is_unlowered_kind kind.ExportDefaultSpecifier = true
+is_unlowered_kind (kind.TsImportEqualsDecl is_export is_type_only) = true
+is_unlowered_kind kind.TsExternalModuleRef = true
+is_unlowered_kind kind.TsQualifiedName = true
+is_unlowered_kind kind.TsExportAssignment = true
+is_unlowered_kind (kind.TsEnumDecl declare is_const) = true
+is_unlowered_kind kind.TsEnumMember = true
+is_unlowered_kind (kind.TsModuleDecl declare global) = true
+is_unlowered_kind kind.TsModuleBlock = true
+is_unlowered_kind (kind.TsNamespaceDecl declare global) = true
+is_unlowered_kind (kind.TsParamProp accessibility is_override readonly) = true
+is_unlowered_kind _ = false
+
+abbrev pub is_unlowered : Node → Bool
+is_unlowered node = is_unlowered_kind (kind_of node) || is_odd_by (kind_of node) node
+
+abbrev pub goes_from_list : Node → ℕ → Bool
+goes_from_list node i = is_list (kind_of node) && child_holds (λ item. not (stays item)) node i
+
+abbrev pub unlowered_here : Bool → Node → Option ℕ
+unlowered_here gone node = failing_here (not gone && is_unlowered node) node
+
+abbrev pub gone_inside : Bool → Node → ℕ → Bool
+gone_inside gone node i = gone || goes_from_list node i
+
+-- the least place at which a node begins that is of such a form, and does not go with the types
+abbrev pub first_unlowered : Node → Option ℕ
+first_unlowered node = first_failing Bool unlowered_here gone_inside node false
