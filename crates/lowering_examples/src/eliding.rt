@@ -48,7 +48,7 @@ fn written(alloc: Global, config: &Config, text: &str) -> Result<Vec<u8>, ReadEr
 
 /// What TypeScript 4.8.4 leaves of imports and exports (target and module `ESNext`), but for the `export {}` that it adds, and for `import {} from "n"`, which it
 /// drops.
-const ROWS: [(&str, &str); 31] = [
+const ROWS: [(&str, &str); 60] = [
     ("import { A } from \"m\"; let x: A", "let x;\n"),
     (
         "import { A, type B } from \"m\"; A()",
@@ -148,6 +148,113 @@ const ROWS: [(&str, &str); 31] = [
     (
         "import a = require(\"m\"); import type b = require(\"n\")",
         "",
+    ),
+    (
+        "import a from \"m\"; import * as b from \"n\"; b.c()",
+        "import * as b from \"n\";\nb.c();\n",
+    ),
+    (
+        "import a, { b } from \"m\"; a(b)",
+        "import a, { b } from \"m\";\na(b);\n",
+    ),
+    (
+        "import a, * as b from \"m\"; b",
+        "import * as b from \"m\";\nb;\n",
+    ),
+    (
+        "import a, { b } from \"m\"; b",
+        "import { b } from \"m\";\nb;\n",
+    ),
+    (
+        "import { a as b } from \"m\"; b; let a",
+        "import { a as b } from \"m\";\nb;\nlet a;\n",
+    ),
+    (
+        "import { default as a } from \"m\"; a",
+        "import { default as a } from \"m\";\na;\n",
+    ),
+    (
+        "import { a } from \"m\"; typeof a",
+        "import { a } from \"m\";\ntypeof a;\n",
+    ),
+    ("import { a } from \"m\"; let b: typeof a", "let b;\n"),
+    (
+        "import { a } from \"m\"; class C { [a] = 1 }",
+        "import { a } from \"m\";\nclass C {\n    [a] = 1;\n}\n",
+    ),
+    (
+        "import { a } from \"m\"; let { [a]: b } = c",
+        "import { a } from \"m\";\nlet { [a]: b } = c;\n",
+    ),
+    (
+        "import { a } from \"m\"; function f(b = a) {}",
+        "import { a } from \"m\";\nfunction f(b = a) {}\n",
+    ),
+    (
+        "import { a, B } from \"m\"; a as B",
+        "import { a } from \"m\";\na;\n",
+    ),
+    ("import { B } from \"m\"; f<B>()", "f();\n"),
+    (
+        "import { a } from \"m\"; export default a",
+        "import { a } from \"m\";\nexport default a;\n",
+    ),
+    (
+        "import { A } from \"m\"; export type B = A; export const c = 1",
+        "export const c = 1;\n",
+    ),
+    (
+        "import { a } from \"m\"; export const b = a",
+        "import { a } from \"m\";\nexport const b = a;\n",
+    ),
+    (
+        "import { a } from \"m\"; export { a, a as b }",
+        "import { a } from \"m\";\nexport { a, a as b };\n",
+    ),
+    ("export declare const a: any; a", "a;\n"),
+    (
+        "export function f(): void; export function f() {}",
+        "export function f() {}\n",
+    ),
+    (
+        "import { a } from \"m\"; b.a; ({ a: 1 })",
+        "b.a;\n({ a: 1 });\n",
+    ),
+    (
+        "import { a } from \"m\"; ({ [a]: 1 })",
+        "import { a } from \"m\";\n({ [a]: 1 });\n",
+    ),
+    (
+        "import { a } from \"m\"; function f() { let a; a }",
+        "function f() {\n    let a;\n    a;\n}\n",
+    ),
+    (
+        "import { a } from \"m\"; function f(a) { a }",
+        "function f(a) {\n    a;\n}\n",
+    ),
+    (
+        "import { a } from \"m\"; try {} catch (a) { a }",
+        "try {} catch (a) {\n    a;\n}\n",
+    ),
+    (
+        "import { a } from \"m\"; a.b = 1; a++",
+        "import { a } from \"m\";\na.b = 1;\na++;\n",
+    ),
+    (
+        "import { a } from \"m\"; (class a { b = a })",
+        "(class a {\n    b = a;\n});\n",
+    ),
+    (
+        "import { a } from \"m\"; function* g() { yield a }",
+        "import { a } from \"m\";\nfunction* g() {\n    yield a;\n}\n",
+    ),
+    (
+        "import { a } from \"m\"; a: for (;;) break a",
+        "a: for (;;) break a;\n",
+    ),
+    (
+        "import { A } from \"m\"; class B { c: A; d(e: A): A { return e } }",
+        "class B {\n    c;\n    d(e) {\n        return e;\n    }\n}\n",
     ),
 ];
 
