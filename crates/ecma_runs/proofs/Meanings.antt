@@ -114,6 +114,8 @@ module _ (c : Change) where
     pub test : {a : List Entered} → EvaluatesAlike a s.sought m.test m'.test
     pub caught : {a : List Entered} (v : Value) → EvaluatesAlike a s.sought (m.caught v) (m'.caught v)
     pub made : {a : List Entered} (sort : Sort) (home : Option ℕ) → EvaluatesAlike a s.sought (m.made sort home) (m'.made sort home)
+    -- in the scope that its name is one of
+    pub default_made : {a : List Entered} → EvaluatesAlike a (m.names ++ s.sought) m.default_made m'.default_made
     -- with its inner name in a record of its own
     pub class_made : {a : List Entered} (names outer : List Id) → Unless c.names.plain (Opens c.names names outer (names ++ s.sought)) → EvaluatesAlike a outer (m.class_made names) (m'.class_made (changed_ids c.names names))
     -- where shorthands keep their texts
@@ -173,6 +175,7 @@ module _ (c : Change) where
       test = λ w z. same.test w stand;
       caught = λ v w z. same.caught v w stand;
       made = λ sort home w z. same.made sort home w stand;
+      default_made = λ w z. same.default_made w stand;
       class_made = λ names outer opens w z. same.class_made names outer (unless_plain c.names.plain plain (Opens c.names names outer (names ++ s.sought))) w z;
       defined = λ texts class object w z. same.defined texts class object w stand;
       fields = λ keys object w z. same.fields keys object w stand;

@@ -5,7 +5,7 @@ use Rattle.ecma_kind.specs.declared.kind.Kind.{Kind}
 use Rattle.ecma_kind.specs.declared.kind.Kind.TheVariants as kind
 use Rattle.ecma_kind.specs.declared.operators.VarDeclKind.TheVariants.{Var, Let, Const}
 use Rattle.ecma_tree.specs.declared.node.Node.{Node, Node-F, fold-roll-Node, ind-Node, roll-Node}
-use Rattle.ecma_runs.specs.State.{Id, default_name, Binding}
+use Rattle.ecma_runs.specs.State.{Id, default_name, or_default, Binding}
 use Rattle.ecma_runs.specs.Environment.{empty, undefined, import_of}
 use Rattle.ecma_runs.specs.Meaning.{Meaning}
 use Rattle.ecma_runs.specs.Declarations.{all_names, names_of, all_imported, imported_as, imported_of, imported_from, all_lexicals, lexicals_of, all_vars, vars_of, locals_of, has_no_effect, all_exports, exported_from, exports_of}
@@ -14,7 +14,7 @@ use Rattle.ecma_runs.specs.Names.{passes_by, passes_here, ids_pass}
 use Rattle.ecma_runs.proofs.Layer.{meaning-roll}
 use Rattle.ecma_runs.specs.Environment.{ids_of}
 use Rattle.ecma_runs.specs.Exports.{Exported, Local, Indirect, Star, local_as, indirect_as}
-use Rattle.ecma_runs.proofs.Exports.{LocalsPass}
+use Rattle.ecma_runs.proofs.Exports.{EachPasses, LocalsPass}
 use Rattle.ecma_runs.proofs.Kept.{AllNodes}
 
 both_true : (a b : Bool) → a && b ≡ true → (a ≡ true) × (b ≡ true)
@@ -42,8 +42,7 @@ module _ (test : Id → Bool) where
   Default = test default_name ≡ true
 
   abbrev pub NamesPass : List Id → Type 0
-  NamesPass [] = Unit {0}
-  NamesPass (id ∷ ids) = (test id ≡ true) × NamesPass ids
+  NamesPass ids = EachPasses test ids
 
   abbrev pub BindingsPass : List Binding → Type 0
   BindingsPass [] = Unit {0}
@@ -114,7 +113,13 @@ module _ (test : Id → Bool) where
   names_pass kind.Param (pattern' ∷ []) h = pattern'.1.names
   names_pass (kind.TsParamProp accessibility is_override readonly) (pattern' ∷ []) h = pattern'.1.names
   names_pass kind.List ps h = all_names_pass ps
+  names_pass kind.FnExpr (name ∷ function ∷ []) h = name.1.names
+  names_pass kind.ClassExpr (name ∷ class ∷ []) h = name.1.names
   names_pass _ ps h = tt
+
+  or_default_pass : (ids : List Id) → Default → NamesPass ids → NamesPass (or_default ids)
+  or_default_pass [] default p = (default, tt)
+  or_default_pass (id ∷ ids) default p = p
 
   imported_as_pass : (o : Option (List ℕ)) (source : List ℕ) (ids : List Id) → NamesPass ids → BindingsPass (imported_as o source ids)
   imported_as_pass None source ids p = tt
@@ -140,6 +145,7 @@ module _ (test : Id → Bool) where
   lexicals_pass (kind.ClassDecl false) (name ∷ class ∷ []) default = empties_pass false name.0.names name.1.names
   lexicals_pass kind.ExportDecl (declaration ∷ []) default = declaration.1.lexicals default
   lexicals_pass kind.ExportDefaultExpr (e ∷ []) default = (default, tt)
+  lexicals_pass kind.ExportDefaultDecl (declaration ∷ []) default = empties_pass false (or_default declaration.0.names) (or_default_pass declaration.0.names default declaration.1.names)
   lexicals_pass _ ps default = tt
 
   vars_pass : (k : Kind) (ps : List Part) → BindingsPass (vars_of k (parts ps))
@@ -204,6 +210,7 @@ module _ (test : Id → Bool) where
   exports_pass (kind.Module shebang) (body ∷ []) source default = body.1.exports None default
   exports_pass kind.ExportDecl (declaration ∷ []) source default = bound_pass (declaration.0.vars ++ declaration.0.lexicals) (bindings_append declaration.0.vars declaration.0.lexicals declaration.1.vars (declaration.1.lexicals default))
   exports_pass kind.ExportDefaultExpr (e ∷ []) source default = (default, tt)
+  exports_pass kind.ExportDefaultDecl (declaration ∷ []) source default = locals_named (Some (codes "default")) (or_default declaration.0.names) (or_default_pass declaration.0.names default declaration.1.names)
   exports_pass (kind.NamedExport false) (specifiers ∷ from ∷ attributes ∷ []) source default = specifiers.1.exports from.0.text default
   exports_pass (kind.ExportNamedSpecifier false) (exported ∷ name ∷ []) source default = exported_from_pass source (cond name.0.is_absent exported.0.text name.0.text) exported
   exports_pass kind.ExportNamespaceSpecifier (name ∷ []) source default = indirect_as_pass name.0.text source (Some (codes "*"))
