@@ -1,14 +1,9 @@
 -- What a map of names does to exports, and what it has to keep of them.
-use Rattle.std.proofs.Common.{◌≡◌, ℕ, refl, ap, ◌∙◌, List, [], ◌∷◌, ◌++◌, map, Option, Some, None, Bool, true, false}
-use Rattle.ecma_runs.specs.State.{Id, default_name, or_default}
+use Rattle.std.proofs.Common.{◌≡◌, ℕ, refl, sym, ap, ◌∙◌, List, [], ◌∷◌, ◌++◌, map, Option, Some, None, Bool, true, false, cond}
+use Rattle.ecma_runs.specs.State.{Id, default_name}
 use Rattle.ecma_runs.specs.Names.{TextsStay}
 use Rattle.ecma_runs.specs.Exports.{Exported, Local, Indirect, Star, local_name, local_as, indirect_as, local_ids, export_names, has_star}
 use Rattle.ecma_runs.proofs.Names.{Naming, unless_plain, Told, ToldApart, EachTold, keep, keep-append, changed_ids}
-
--- these names pass a test
-abbrev pub EachPasses : (Id → Bool) → List Id → Type 0
-EachPasses test [] = Unit {0}
-EachPasses test (id ∷ ids) = (test id ≡ true) × EachPasses test ids
 
 module _ (names : Naming) where
   abbrev pub changed_entry : Exported → Exported
@@ -58,10 +53,10 @@ module _ (names : Naming) where
   pub default_ids : KeepsDefault → changed_ids names (default_name ∷ []) ≡ default_name ∷ []
   default_ids kept = rw (kept.0, kept.1) refl
 
-  -- and one with names that stay has the new ones
-  pub or_default-changed : (ids : List Id) → KeepsDefault → EachPasses names.kept ids → changed_ids names (or_default ids) ≡ or_default (changed_ids names ids)
-  or_default-changed [] default kept = default_ids default
-  or_default-changed (id ∷ ids) default kept = rw (kept.0) refl
+  -- where it is missing
+  pub default_if : KeepsDefault → (b b' : Bool) → b' ≡ b → cond b' (default_name ∷ []) [] ≡ changed_ids names (cond b (default_name ∷ []) [])
+  default_if kept true b' e = rw e (sym (default_ids kept))
+  default_if kept false b' e = rw e refl
 
   -- what has to be kept of exports: variables that are exported stay, told from each other and from those with these names, and what names exports keeps its text
   abbrev pub KeepsEach : List Id → List Exported → Type 0

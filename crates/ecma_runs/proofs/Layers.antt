@@ -24,7 +24,7 @@ use Rattle.ecma_runs.proofs.Names.{Naming, changed_ids, changed_known, changed_b
 use Rattle.ecma_runs.proofs.Scopes.{Stands}
 use Rattle.ecma_runs.proofs.Alike.{Change}
 use Rattle.ecma_runs.specs.Exports.{Exported, Local, Indirect, Star, export_names}
-use Rattle.ecma_runs.proofs.Exports.{EachPasses, changed_exports, KeepsExports, LocalsPass, keeps_plain}
+use Rattle.ecma_runs.proofs.Exports.{changed_exports, KeepsExports, LocalsPass, keeps_plain}
 use Rattle.ecma_runs.specs.Names.{TextsStay}
 use Rattle.ecma_runs.proofs.Premises.{renamed_kind, StillClash, KeptLayer}
 use Rattle.ecma_runs.proofs.Kept.{AllNodes, StepsAlike, layer_same, IsNotExcused, observe_unless}
@@ -60,10 +60,6 @@ locals_pass [] = tt
 locals_pass (Local name id ∷ entries) = (refl, locals_pass entries)
 locals_pass (Indirect name source imported ∷ entries) = locals_pass entries
 locals_pass (Star ∷ entries) = locals_pass entries
-
-pub all_kept : (ids : List Id) → EachPasses (λ id. true) ids
-all_kept [] = tt
-all_kept (id ∷ ids) = (refl, all_kept ids)
 
 pub exports_kept : (ids : List Id) (entries : List Exported) → KeepsExports same_names ids entries
 exports_kept ids entries = keeps_plain same_names refl ids entries (locals_pass entries) (texts_stay (export_names entries))
@@ -144,7 +140,8 @@ module _ (fine : Node → Type 0) (f : Node → Node) (known : Known) (t : Telli
   pub kept_layer : (k : Kind) (ms : List Meaning) → KeptLayer of k ms
   kept_layer (kind.Ident text ctxt optional) ms = (refl, refl)
   kept_layer kind.ExportDefaultExpr ms = (refl, refl)
-  kept_layer kind.ExportDefaultDecl (declaration ∷ []) = ((refl, refl), all_kept declaration.names)
+  kept_layer kind.FnExpr ms = (refl, refl)
+  kept_layer kind.ClassExpr ms = (refl, refl)
   kept_layer (kind.NamedExport type_only) (specifiers ∷ source ∷ attributes ∷ []) = texts_stay source.shorthands
   kept_layer (kind.ExportNamedSpecifier is_type_only) (exported ∷ name ∷ []) = (texts_stay exported.shorthands, texts_stay name.shorthands)
   kept_layer kind.ExportNamespaceSpecifier (name ∷ []) = texts_stay name.shorthands

@@ -11,7 +11,7 @@ use Rattle.ecma_runs.specs.Evaluation.{role_by, meaning}
 use Rattle.ecma_runs.specs.Meaning.{Meaning}
 use Rattle.ecma_runs.proofs.Names.{Unless, changed_ids, changed_bindings}
 use Rattle.ecma_runs.proofs.Scopes.{Opens}
-use Rattle.ecma_runs.proofs.Exports.{EachPasses, KeepsDefault}
+use Rattle.ecma_runs.proofs.Exports.{KeepsDefault}
 use Rattle.ecma_runs.proofs.Alike.{Change, Standing, seeks}
 use Rattle.ecma_runs.proofs.Meanings.{BodyOpens}
 use Rattle.ecma_runs.proofs.Environments.{KeepTexts}
@@ -54,7 +54,8 @@ module _ (c : Change) where
   KeptLayer (kind.Constructor accessibility is_optional) (key ∷ parameters ∷ body ∷ []) = StillClash parameters body
   KeptLayer kind.TsModuleBlock ms = PassesToo c.passed ms
   KeptLayer kind.ExportDefaultExpr ms = KeepsDefault c.names
-  KeptLayer kind.ExportDefaultDecl (declaration ∷ []) = KeepsDefault c.names × EachPasses c.names.kept declaration.names
+  KeptLayer kind.FnExpr ms = KeepsDefault c.names
+  KeptLayer kind.ClassExpr ms = KeepsDefault c.names
   KeptLayer (kind.NamedExport type_only) (specifiers ∷ source ∷ attributes ∷ []) = KeepTexts c source.shorthands
   KeptLayer (kind.ExportNamedSpecifier is_type_only) (exported ∷ name ∷ []) = KeepTexts c exported.shorthands × KeepTexts c name.shorthands
   KeptLayer kind.ExportNamespaceSpecifier (name ∷ []) = KeepTexts c name.shorthands

@@ -5,10 +5,10 @@ use Rattle.ecma_kind.specs.declared.kind.Kind.TheVariants as kind
 use Rattle.ecma_kind.specs.declared.operators.VarDeclKind.TheVariants.{Var, Let, Const}
 use Rattle.ecma_tree.specs.declared.node.Node.{Node}
 use Rattle.ecma_runs.specs.Values.{Value, Own, truth_of}
-use Rattle.ecma_runs.specs.State.{default_name, or_default, Entered, Plain}
+use Rattle.ecma_runs.specs.State.{default_name, Entered, Plain}
 use Rattle.ecma_runs.specs.Meaning.{inside}
 use Rattle.ecma_runs.proofs.Names.{changed_entered, changed_scope}
-use Rattle.ecma_runs.proofs.Exports.{EachPasses, KeepsDefault, default_ids, or_default-changed}
+use Rattle.ecma_runs.proofs.Exports.{default_ids}
 use Rattle.ecma_runs.specs.Run.{◌>>=◌, give, when, TurnsSpent, Run}
 use Rattle.ecma_runs.specs.Environment.{copy_environment, empty, initialize}
 use Rattle.ecma_runs.specs.Statements.{rounds, while, do_while, for_rounds, for_loop, block, all_completions, completion_of, effect_of, all_varied, varied_of, all_hoisted, hoisted_of, caught_of}
@@ -94,16 +94,9 @@ module _ (c : Change) {a : List Entered} (w : World (at c a)) where
       bind_alike (beside d e) (statements.2.hoisted (within d w e) z) (λ _. statements.2.completion (within d w e) z)))
 
   -- the variables of a default export are set
-  default_alike : (declaration : Both c) → KeepsDefault c.names × EachPasses c.names.kept declaration.0.meaning.names → Standing c w.scope (or_default declaration.0.meaning.names) → (v : Value)
-      → Alike d (initialize w.scope (or_default declaration.0.meaning.names) v) (initialize (changed_scope c.names w.scope) (or_default declaration.1.names) v)
-  default_alike declaration kept s v =
-      subst (λ ids. Alike d (initialize w.scope (or_default declaration.0.meaning.names) v) (initialize (changed_scope c.names w.scope) ids v))
-      (or_default-changed c.names declaration.0.meaning.names kept.0 kept.1 ∙ ap or_default (sym declaration.2.names))
-      (initialize_alike d w.scope w.there (or_default declaration.0.meaning.names) s v)
-
-  named_parts : (ids sought : List Id) → Standing c w.scope (or_default ids ++ sought) → Standing c w.scope (ids ++ sought)
-  named_parts [] sought s = rest c.names (default_name ∷ []) sought s
-  named_parts (id ∷ ids) sought s = s
+  default_alike : (declaration : Both c) → Standing c w.scope declaration.0.meaning.default_names → (v : Value)
+      → Alike d (initialize w.scope declaration.0.meaning.default_names v) (initialize (changed_scope c.names w.scope) declaration.1.default_names v)
+  default_alike declaration s v = rw (declaration.2.default_names) (initialize_alike d w.scope w.there declaration.0.meaning.default_names s v)
 
   pub completion_alike : (k : Kind) (ps : List (Both c)) → KeptLayer c k (firsts c ps) → Placed c w.scope k (seekers c ps) → Alike d (completion_of k (firsts c ps) (first d w)) (completion_of (renamed_kind c k) (seconds c ps) (second d w))
   completion_alike kind.Absent ps kept h = give_alike d tt
@@ -140,7 +133,7 @@ module _ (c : Change) {a : List Entered} (w : World (at c a)) where
       (initialize_alike d w.scope w.there (default_name ∷ []) (one c.names (default_name ∷ []) e.0.seeks.sought h.0) v))
   completion_alike kind.ExportDefaultDecl (declaration ∷ []) kept h =
       rw (declaration.2.has_body) (when_alike d declaration.0.meaning.has_body (give_alike d tt)
-      (bind_alike d (declaration.2.value w (rest c.names (or_default declaration.0.meaning.names) _ h.0)) (λ v. default_alike declaration kept (one c.names (or_default declaration.0.meaning.names) declaration.0.seeks.sought h.0) v)))
+      (bind_alike d (declaration.2.value w (rest c.names declaration.0.meaning.default_names declaration.0.seeks.sought h.0)) (λ v. default_alike declaration (one c.names declaration.0.meaning.default_names declaration.0.seeks.sought h.0) v)))
   completion_alike (kind.NamedExport false) ps kept h = give_alike d tt
   completion_alike (kind.ExportAll false) ps kept h = give_alike d tt
   completion_alike (kind.TsTypeAliasDecl declare) ps kept h = give_alike d tt
@@ -154,15 +147,15 @@ module _ (c : Change) {a : List Entered} (w : World (at c a)) where
   varied_alike (kind.TsTypeAliasDecl declare) ps s = give_alike d tt
   varied_alike _ ps s = outside_alike d
 
-  pub hoisted_alike : (k : Kind) (ps : List (Both c)) → KeptLayer c k (firsts c ps) → Standing c w.scope (sought_of k (seekers c ps)) → Alike d (hoisted_of k (firsts c ps) (first d w)) (hoisted_of (renamed_kind c k) (seconds c ps) (second d w))
-  hoisted_alike kind.List ps kept s = all_stay c (λ ls ms'. Standing c w.scope (all_sought ls) → Alike d (all_hoisted (meanings ls) (first d w)) (all_hoisted ms' (second d w))) (all_hoisted_alike c w) ps s
-  hoisted_alike (kind.Module shebang) (body ∷ []) kept s = body.2.hoisted w (one c.names _ _ s)
-  hoisted_alike kind.ExportDecl (declaration ∷ []) kept s = declaration.2.hoisted w (one c.names _ _ s)
-  hoisted_alike kind.ExportDefaultDecl (declaration ∷ []) kept s =
+  pub hoisted_alike : (k : Kind) (ps : List (Both c)) → Standing c w.scope (sought_of k (seekers c ps)) → Alike d (hoisted_of k (firsts c ps) (first d w)) (hoisted_of (renamed_kind c k) (seconds c ps) (second d w))
+  hoisted_alike kind.List ps s = all_stay c (λ ls ms'. Standing c w.scope (all_sought ls) → Alike d (all_hoisted (meanings ls) (first d w)) (all_hoisted ms' (second d w))) (all_hoisted_alike c w) ps s
+  hoisted_alike (kind.Module shebang) (body ∷ []) s = body.2.hoisted w (one c.names _ _ s)
+  hoisted_alike kind.ExportDecl (declaration ∷ []) s = declaration.2.hoisted w (one c.names _ _ s)
+  hoisted_alike kind.ExportDefaultDecl (declaration ∷ []) s =
       rw (declaration.2.has_body) (when_alike d declaration.0.meaning.has_body
-      (bind_alike d (declaration.2.default_made w (named_parts declaration.0.meaning.names declaration.0.seeks.sought s)) (λ f. default_alike declaration kept (one c.names (or_default declaration.0.meaning.names) declaration.0.seeks.sought s) (Own f))) (give_alike d tt))
-  hoisted_alike (kind.FnDecl false) (name ∷ function ∷ []) kept s = rw (name.2.names) (bind_alike d (function.2.made Plain None w (rest c.names (name.0.meaning.names) _ s)) (λ f. initialize_alike d w.scope w.there name.0.meaning.names (one c.names (name.0.meaning.names) _ s) (Own f)))
-  hoisted_alike _ ps kept s = give_alike d tt
+      (bind_alike d (declaration.2.default_made w s) (λ f. default_alike declaration (one c.names declaration.0.meaning.default_names declaration.0.seeks.sought s) (Own f))) (give_alike d tt))
+  hoisted_alike (kind.FnDecl false) (name ∷ function ∷ []) s = rw (name.2.names) (bind_alike d (function.2.made Plain None w (rest c.names (name.0.meaning.names) _ s)) (λ f. initialize_alike d w.scope w.there name.0.meaning.names (one c.names (name.0.meaning.names) _ s) (Own f)))
+  hoisted_alike _ ps s = give_alike d tt
 
   pub caught_alike : (k : Kind) (ps : List (Both c)) → Placed c w.scope k (seekers c ps) → (v : Value) → Alike d (caught_of k (firsts c ps) v (first d w)) (caught_of (renamed_kind c k) (seconds c ps) v (second d w))
   caught_alike kind.Absent ps h v = throw_alike d v

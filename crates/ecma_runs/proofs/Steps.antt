@@ -23,7 +23,7 @@ use Rattle.ecma_runs.proofs.Patterns.{assigned_alike, targets_alike, matched_ali
 use Rattle.ecma_runs.proofs.Classes.{made_alike, default_made_alike, body_alike, code_alike, class_made_alike, defined_alike, fields_alike, statics_alike}
 use Rattle.ecma_runs.proofs.Blocks.{completed_alike}
 use Rattle.ecma_runs.proofs.Statements.{varied_alike, hoisted_alike, caught_alike, effect_alike}
-use Rattle.ecma_runs.proofs.Declarations.{names_same, imported_same, text_same, lexicals_same, vars_same, locals_same, parameter_names_same, declared_same, cooked_same, is_plain_same, is_computed_same, is_super_same, is_absent_same, is_this_same, is_type_same, has_body_same, is_constructor_same, has_no_effect_same, exports_same}
+use Rattle.ecma_runs.proofs.Declarations.{names_same, default_names_same, imported_same, text_same, lexicals_same, vars_same, locals_same, parameter_names_same, declared_same, cooked_same, is_plain_same, is_computed_same, is_super_same, is_absent_same, is_this_same, is_type_same, has_body_same, is_constructor_same, has_no_effect_same, exports_same}
 
 module _ (c : Change) where
   role_same : (n : Node) → c.fine n → (k : Kind) (ps : List (Both c)) → KeptLayer c k (firsts c ps) → Unless c.names.plain (OpensLayer c k (seekers c ps)) → Unless c.names.plain (Outlined c n k (seekers c ps))
@@ -45,7 +45,7 @@ module _ (c : Change) where
     parameters = λ arguments w s. parameters_alike c w k ps s arguments;
     completion = λ w s. completed_alike c w n fine k ps kept (s, o);
     varied = λ w s. varied_alike c w k ps s;
-    hoisted = λ w s. hoisted_alike c w k ps kept s;
+    hoisted = λ w s. hoisted_alike c w k ps s;
     effect = λ w s. effect_alike c w n fine k ps kept ((s, o), l);
     test = λ w s. test_alike c w n fine k ps kept ((s, o), l);
     caught = λ v w s. caught_alike c w k ps (s, o) v;
@@ -58,6 +58,7 @@ module _ (c : Change) where
     code = λ u arguments w s. code_alike c w k ps kept o s u arguments;
     body = λ names outer opens w s. body_alike c w n fine k ps kept (unless_both c.names.plain (λ p q. (p, q)) o l) names outer opens s;
     names = names_same c k ps kept;
+    default_names = default_names_same c k ps kept;
     lexicals = lexicals_same c k ps kept;
     vars = vars_same c k ps;
     locals = locals_same c k ps;
@@ -107,6 +108,7 @@ module _ (c : Change) where
     code = same.code;
     body = same.body;
     names = same.names;
+    default_names = same.default_names;
     lexicals = same.lexicals;
     vars = same.vars;
     locals = same.locals;
@@ -213,6 +215,7 @@ module _ (c : Change) where
     code = λ u arguments w s. all_code_alike c w u items s arguments;
     body = λ names outer opens w s. bind_alike (at c _) {A = Value} (outside_alike (at c _)) (λ v. return_alike (at c _) v);
     names = all_names_same c items;
+    default_names = refl;
     lexicals = all_lexicals_same c items;
     vars = all_vars_same c items;
     locals = refl;

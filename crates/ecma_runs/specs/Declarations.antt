@@ -3,7 +3,7 @@ use Rattle.std.specs.Prelude.{ℕ, List, [], ◌∷◌, ◌++◌, map, Bool, tru
 use Rattle.ecma_kind.specs.declared.kind.Kind.{Kind}
 use Rattle.ecma_kind.specs.declared.kind.Kind.TheVariants as kind
 use Rattle.ecma_kind.specs.declared.operators.VarDeclKind.TheVariants.{Var, Let, Const}
-use Rattle.ecma_runs.specs.State.{Id, default_name, or_default, Binding}
+use Rattle.ecma_runs.specs.State.{Id, default_name, Binding}
 use Rattle.ecma_runs.specs.Exports.{Exported, Local, Star, local_as, indirect_as}
 use Rattle.ecma_runs.specs.Environment.{ids_of, empty, undefined, import_of}
 use Rattle.ecma_runs.specs.Meaning.{Meaning}
@@ -28,10 +28,17 @@ names_of kind.AssignPatProp (name ∷ default ∷ []) = name.names
 names_of kind.Param (pattern' ∷ []) = pattern'.names
 names_of (kind.TsParamProp accessibility is_override readonly) (pattern' ∷ []) = pattern'.names
 names_of kind.List items = all_names items
--- as a default export
-names_of kind.FnExpr (name ∷ function ∷ []) = name.names
-names_of kind.ClassExpr (name ∷ class ∷ []) = name.names
 names_of _ children = []
+
+-- a name, or `*default*` where it is missing
+abbrev pub name_or_default : Meaning → List Id
+name_or_default name = cond name.is_absent (default_name ∷ []) [] ++ name.names
+
+-- the variable of a function or a class that is exported as the default
+abbrev pub default_names_of : Kind → List Meaning → List Id
+default_names_of kind.FnExpr (name ∷ function ∷ []) = name_or_default name
+default_names_of kind.ClassExpr (name ∷ class ∷ []) = name_or_default name
+default_names_of _ children = []
 
 -- variables
 
@@ -76,7 +83,7 @@ lexicals_of (kind.FnDecl false) (name ∷ function ∷ []) = map (empty false) n
 lexicals_of (kind.ClassDecl false) (name ∷ class ∷ []) = map (empty false) name.names
 lexicals_of kind.ExportDecl (declaration ∷ []) = declaration.lexicals
 lexicals_of kind.ExportDefaultExpr (e ∷ []) = empty false default_name ∷ []
-lexicals_of kind.ExportDefaultDecl (declaration ∷ []) = map (empty false) (or_default declaration.names)
+lexicals_of kind.ExportDefaultDecl (declaration ∷ []) = map (empty false) declaration.default_names
 lexicals_of _ children = []
 
 abbrev pub all_vars : List Meaning → List Binding
@@ -125,7 +132,7 @@ exports_of kind.List items source = all_exports items source
 exports_of (kind.Module shebang) (body ∷ []) source = body.exports None
 exports_of kind.ExportDecl (declaration ∷ []) source = map (Local None) (ids_of (declaration.vars ++ declaration.lexicals))
 exports_of kind.ExportDefaultExpr (e ∷ []) source = Local (Some (codes "default")) default_name ∷ []
-exports_of kind.ExportDefaultDecl (declaration ∷ []) source = map (Local (Some (codes "default"))) (or_default declaration.names)
+exports_of kind.ExportDefaultDecl (declaration ∷ []) source = map (Local (Some (codes "default"))) declaration.default_names
 exports_of (kind.NamedExport false) (specifiers ∷ from ∷ attributes ∷ []) source = specifiers.exports from.text
 exports_of (kind.ExportNamedSpecifier false) (exported ∷ name ∷ []) source = exported_from source (cond name.is_absent exported.text name.text) exported
 exports_of kind.ExportNamespaceSpecifier (name ∷ []) source = indirect_as name.text source (Some (codes "*"))

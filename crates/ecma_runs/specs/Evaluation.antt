@@ -17,7 +17,7 @@ use Rattle.ecma_runs.specs.Expressions.{value_of, reference_of, initial_of, argu
 use Rattle.ecma_runs.specs.Patterns.{assigned_of, bound_of, matched_of, targets_of, parameters_of}
 use Rattle.ecma_runs.specs.Classes.{made_of, default_made_of, class_made_of, defined_of, fields_of, statics_of, code_of, body_of, field_activation}
 use Rattle.ecma_runs.specs.Statements.{completion_of, varied_of, hoisted_of, effect_of, caught_of}
-use Rattle.ecma_runs.specs.Declarations.{names_of, lexicals_of, vars_of, locals_of, parameter_names_of, declared_of, shorthands_of, imported_of, text_of, cooked_of, is_plain_of, is_computed_of, is_super_of, is_absent_of, is_this_of, is_type_of, has_body_of, is_constructor_of, has_no_effect, exports_of}
+use Rattle.ecma_runs.specs.Declarations.{names_of, default_names_of, lexicals_of, vars_of, locals_of, parameter_names_of, declared_of, shorthands_of, imported_of, text_of, cooked_of, is_plain_of, is_computed_of, is_super_of, is_absent_of, is_this_of, is_type_of, has_body_of, is_constructor_of, has_no_effect, exports_of}
 
 -- code runs in a record of its own
 abbrev pub in_record : List Binding → Option Activation → Evaluation (Unit {0}) → (ℕ → Value → Run Value) → ExecutionContext → Run Value
@@ -74,6 +74,7 @@ role_by node k children = record {
   code = code_of k children;
   body = body_of node k children;
   names = names_of k children;
+  default_names = default_names_of k children;
   lexicals = lexicals_of k children;
   vars = vars_of k children;
   locals = locals_of k children;

@@ -96,6 +96,8 @@ pub record Meaning : Type 0 where
   pub body : List Id → Evaluation (Unit {0})
   -- the names that it binds (8.2.1 BoundNames)
   pub names : List Id
+  -- the names of its variable where it is exported as the default
+  pub default_names : List Id
   -- the variables that its scope has of it (8.2.5 LexicallyScopedDeclarations), and the function around (8.2.6 VarDeclaredNames)
   pub lexicals : List Binding
   pub vars : List Binding

@@ -5,7 +5,7 @@ use Rattle.ecma_kind.specs.declared.kind.Kind.{Kind}
 use Rattle.ecma_kind.specs.declared.kind.Kind.TheVariants as kind
 use Rattle.ecma_tree.specs.declared.node.Node.{Node, Node-F, fold-Node}
 use Rattle.ecma_tree.specs.Nodes.{node_of}
-use Rattle.ecma_runs.specs.State.{Id, default_name, or_default}
+use Rattle.ecma_runs.specs.State.{Id, default_name}
 use Rattle.ecma_runs.specs.Environment.{ids_of, is_among, except}
 use Rattle.ecma_runs.specs.Meaning.{Meaning}
 use Rattle.ecma_runs.specs.Declarations.{parameter_names_of, has_no_effect}
@@ -78,7 +78,7 @@ sought_of (kind.ArrowExpr is_async is_generator) children = sought_by_code (kind
 sought_of kind.GetterProp (key ∷ type ∷ body ∷ []) = key.seeks.sought ++ sought_by_code kind.GetterProp (key ∷ type ∷ body ∷ [])
 sought_of kind.SetterProp (key ∷ this_parameter ∷ parameter ∷ body ∷ []) = key.seeks.sought ++ sought_by_code kind.SetterProp (key ∷ this_parameter ∷ parameter ∷ body ∷ [])
 sought_of kind.ExportDefaultExpr (e ∷ []) = default_name ∷ e.seeks.sought
-sought_of kind.ExportDefaultDecl (declaration ∷ []) = or_default declaration.meaning.names ++ declaration.seeks.sought
+sought_of kind.ExportDefaultDecl (declaration ∷ []) = declaration.meaning.default_names ++ declaration.seeks.sought
 sought_of (kind.TsImportEqualsDecl is_export false) (name ∷ source ∷ []) = (name.meaning.names ++ name.seeks.sought) ++ source.seeks.sought
 -- names that are looked up in no scope: labels, and those of imports
 sought_of (kind.Constructor accessibility is_optional) children = []

@@ -1,5 +1,5 @@
 -- The state of a run: variables, objects, what host and script have left.
-use Rattle.std.specs.Prelude.{ℕ, List, [], ◌∷◌, Option, Bool, nat_eq, ◌&&◌, bytes_eq, codes}
+use Rattle.std.specs.Prelude.{ℕ, List, Option, Bool, nat_eq, ◌&&◌, bytes_eq, codes}
 use Rattle.ecma_tree.specs.declared.node.Node.{Node}
 use Rattle.ecma_runs.specs.declared.observation.Event.{Event}
 use Rattle.ecma_runs.specs.declared.script.Answer.{Answer}
@@ -16,11 +16,6 @@ same_id a b = bytes_eq a.sym b.sym && nat_eq a.ctxt b.ctxt
 -- the variable of a default export that has no name (ECMAScript, 8.2.1 BoundNames)
 abbrev pub default_name : Id
 default_name = record { sym = codes "*default*"; ctxt = 0 }
-
--- the variables of a default export: those that it names, or this one
-abbrev pub or_default : List Id → List Id
-or_default [] = default_name ∷ []
-or_default (id ∷ ids) = id ∷ ids
 
 -- what a variable holds: nothing until it is initialized, a value, or the import of a name from a source, whose value the script gives at its use
 pub data Content : Type 0 where

@@ -5,7 +5,7 @@ use Rattle.ecma_kind.specs.declared.kind.Kind.TheVariants as kind
 use Rattle.ecma_kind.specs.declared.operators.VarDeclKind.TheVariants.{Var, Let, Const}
 use Rattle.ecma_tree.specs.declared.node.Node.{Node}
 use Rattle.ecma_runs.specs.Values.{Value, Own, truth_of}
-use Rattle.ecma_runs.specs.State.{default_name, or_default, Entered, Plain}
+use Rattle.ecma_runs.specs.State.{default_name, Entered, Plain}
 use Rattle.ecma_runs.specs.Run.{TurnsSpent, Run, ◌>>=◌, give, throw, return, break, continue, stop, outside, when, catching, finally, round, loop, spend}
 use Rattle.ecma_runs.specs.Environment.{initialize, empty, new_environment, copy_environment}
 use Rattle.ecma_runs.specs.Meaning.{inside, Evaluation, Meaning}
@@ -83,7 +83,7 @@ completion_of (kind.ImportDecl false) children x = give tt
 completion_of kind.ExportDecl (declaration ∷ []) x = declaration.completion x
 completion_of kind.ExportDefaultExpr (e ∷ []) x = e.initial x >>= λ v. initialize x.scope (default_name ∷ []) v
 completion_of kind.ExportDefaultDecl (declaration ∷ []) x =
-    when declaration.has_body (give tt) (declaration.value x >>= λ v. initialize x.scope (or_default declaration.names) v)
+    when declaration.has_body (give tt) (declaration.value x >>= λ v. initialize x.scope declaration.default_names v)
 completion_of (kind.NamedExport false) children x = give tt
 completion_of (kind.ExportAll false) children x = give tt
 completion_of (kind.TsTypeAliasDecl declare) children x = give tt
@@ -115,7 +115,7 @@ hoisted_of kind.List items x = all_hoisted items x
 hoisted_of (kind.Module shebang) (body ∷ []) x = body.hoisted x
 hoisted_of kind.ExportDecl (declaration ∷ []) x = declaration.hoisted x
 hoisted_of kind.ExportDefaultDecl (declaration ∷ []) x =
-    when declaration.has_body (declaration.default_made x >>= λ f. initialize x.scope (or_default declaration.names) (Own f)) (give tt)
+    when declaration.has_body (declaration.default_made x >>= λ f. initialize x.scope declaration.default_names (Own f)) (give tt)
 hoisted_of (kind.FnDecl false) (name ∷ function ∷ []) x = function.made Plain None x >>= λ f. initialize x.scope name.names (Own f)
 hoisted_of _ children x = give tt
 
