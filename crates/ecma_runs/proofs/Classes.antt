@@ -55,7 +55,8 @@ module _ (c : Change) {a : List Entered} (w : World (at c a)) where
   pub default_made_alike : (k : Kind) (ps : List (Both c)) → Unless c.names.plain (OpensLayer c k (seekers c ps)) → Standing c w.scope (default_names_of k (firsts c ps) ++ sought_of k (seekers c ps))
       → Alike d (default_made_of k (firsts c ps) (first d w)) (default_made_of (renamed_kind c k) (seconds c ps) (second d w))
   default_made_alike kind.FnExpr (name ∷ function ∷ []) o s =
-      function.2.made Plain None w (named_stand c.names name.0.meaning.names function.0.seeks.sought o (without_default name.0.meaning.is_absent name.0.meaning.names (sought_of kind.FnExpr (name.0 ∷ function.0 ∷ [])) s))
+      let outer : List Id = sought_of kind.FnExpr (name.0 ∷ function.0 ∷ []) in
+      function.2.made Plain None w (named_stand c.names name.0.meaning.names outer function.0.seeks.sought o (without_default name.0.meaning.is_absent name.0.meaning.names outer s))
   default_made_alike _ ps o s = outside_alike d
 
   -- what is told of a body, or nothing has to be

@@ -104,8 +104,8 @@ module _ (names : Naming) where
   among_cases id ids outer false e f = among_right id ids outer (f e)
 
   -- where a record with these ids may be made, what is looked up inside stands outside with them
-  pub named_stand : {declared : List Id} {scope : List Entered} {outer : List Id} (ids inner : List Id) → Unless names.plain (Opens ids outer (ids ++ inner)) → Stands declared scope (ids ++ outer) → Stands declared scope inner
-  named_stand {declared} {scope} {outer} ids inner opens stands = record {
+  pub named_stand : {declared : List Id} {scope : List Entered} (ids outer inner : List Id) → Unless names.plain (Opens ids outer (ids ++ inner)) → Stands declared scope (ids ++ outer) → Stands declared scope inner
+  named_stand {declared} {scope} ids outer inner opens stands = record {
     free = unless_both names.plain (λ o f id sought. f id (among_cases id ids outer (is_among id ids) refl (λ away. o.left id (among_right id ids inner sought) away))) opens stands.free;
   }
 
